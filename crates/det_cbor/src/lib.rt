@@ -2,9 +2,13 @@
 #![tactic(auto)]
 
 mod bytes;
+mod cursor;
+mod head;
 mod names;
 mod text;
 
 pub use bytes::Bytes;
+pub use cursor::Cursor;
+pub use head::{Head, HeadKind};
 pub use names::Names;
 pub use text::Text;

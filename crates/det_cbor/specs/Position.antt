@@ -1,0 +1,28 @@
+-- What a cursor stands for, and what its calls take.
+use Rattle.std.specs.Prelude.{◌≡◌, ℕ, ◌+◌, ◌-◌, List, ◌++◌, length, take, drop, Option, Some, None, option_and_then, nat_lt, if◌then◌else◌}
+use Rattle.det_cbor.specs.declared.head.Head.{Head}
+use Rattle.det_cbor.specs.HeadSpelling.{spelled, BeginsWith}
+use Rattle.det_cbor.specs.HeadReading.{head_at}
+
+-- the bytes that are left, and the place of the first of them
+pub record Position : Type 0 where
+  pub left : List ℕ
+  pub place : ℕ
+
+-- from old to new these bytes were taken
+pub record Takes (old new : Position) (taken : List ℕ) : Type 0 where
+  pub parts : old.left ≡ taken ++ new.left
+  pub place : new.place ≡ old.place + length taken
+
+-- from old to new this head was read
+pub record Reads (old new : Position) (h : Head) : Type 0 where
+  pub begins : BeginsWith old.left h new.left
+  pub place : new.place ≡ old.place + length (spelled h)
+
+-- the next head, and where reading goes on
+abbrev pub next_head : Position → Option (Head × Position)
+next_head p = option_and_then (λ x. Some (x.0, record { left = x.1; place = p.place + (length p.left - length x.1) })) (head_at p.left)
+
+-- the next n bytes, and where reading goes on
+abbrev pub next_bytes : ℕ → Position → Option (List ℕ × Position)
+next_bytes n p = if nat_lt (length p.left) n then None else Some (take n p.left, record { left = drop n p.left; place = p.place + n })
