@@ -1,0 +1,36 @@
+-- The procedures of a manifest of the flat form, as trees.
+use Rattle.std.specs.Prelude.{ℕ, [], ◌∷◌, Option, Some, None}
+use Rattle.path_checker.specs.declared.commands.TestKind.TheVariants as tests
+use Rattle.path_checker.specs.declared.commands.ActKind.TheVariants as acts
+use Rattle.path_checker.specs.declared.param.Param.TheVariants as params
+use Rattle.path_checker.specs.declared.plan.Procedure.{Procedure}
+use Rattle.path_checker.specs.declared.plan.Procedure.TheVariants as procedures
+use Rattle.path_checker.specs.declared.plan.FlatPlan.{FlatPlan}
+use Rattle.path_checker.specs.Tree.{Test, Act, Override, Sequence, NoSteps, StepThen, Plan}
+
+-- an override has no event that tells its place
+abbrev pub shared_of : FlatPlan → Sequence
+shared_of plan = StepThen 0 (Override (params.Digest plan.digest ∷ params.Size plan.size ∷ [])) NoSteps
+
+abbrev pub validate_at : Option ℕ → Sequence
+validate_at None = NoSteps
+validate_at (Some place) = StepThen place (Test tests.ImageMatch) NoSteps
+
+abbrev pub invoke_at : ℕ → Sequence
+invoke_at place = StepThen place (Act acts.Invoke) NoSteps
+
+-- update runs payload-fetch, install and validate, and invocation runs validate, load and invoke
+abbrev pub procedure_of : Procedure → FlatPlan → Plan
+procedure_of procedures.Update plan =
+    record { shared = shared_of plan; first = NoSteps; second = NoSteps; third = validate_at plan.match_place; count = 1 }
+procedure_of procedures.Invocation plan =
+    record {
+      shared = shared_of plan;
+      first = validate_at plan.match_place;
+      second = NoSteps;
+      third = invoke_at plan.invoke_place;
+      count = 1;
+    }
+
+abbrev pub tree_of : FlatPlan → Plan
+tree_of plan = procedure_of plan.procedure plan

@@ -1,0 +1,12 @@
+pub mod Kinds
+pub mod Keys
+pub mod Tree
+pub mod Parameters
+pub mod Behaviour
+pub mod Conditions
+pub mod Directives
+pub mod Runs
+pub mod Path
+pub mod Safe
+pub mod Flat
+pub mod Verdict

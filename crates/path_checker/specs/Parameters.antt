@@ -1,0 +1,75 @@
+-- The parameters in force (draft-ietf-suit-manifest-25, sections 6.4.1 and 8.4.8), as one value: for each of
+-- eight components and twelve keys an option. Where the same values are in force, it is the same list.
+use Rattle.std.specs.Prelude.{ℕ, ◌+◌, ◌*◌, Bool, List, Option, Some, None, slice_get, slice_set}
+use Rattle.std.proofs.Math.ListN.{replicate}
+use Rattle.path_checker.specs.declared.digest.Digest.{Digest}
+use Rattle.path_checker.specs.declared.param.Param.{Param}
+use Rattle.path_checker.specs.declared.param.Param.TheVariants as params
+use Rattle.path_checker.specs.declared.param.ParamKey.{ParamKey}
+use Rattle.path_checker.specs.declared.param.ParamKey.TheVariants as keys
+use Rattle.path_checker.specs.Keys.{key_of}
+
+abbrev pub Parameters : Type 0
+Parameters = List (Option Param)
+
+-- at which of the twelve a key stands, in the order of their numbers
+abbrev pub rank : ParamKey → ℕ
+rank keys.Vendor = 0
+rank keys.Class = 1
+rank keys.Digest = 2
+rank keys.Slot = 3
+rank keys.Strict = 4
+rank keys.Soft = 5
+rank keys.Size = 6
+rank keys.Content = 7
+rank keys.Uri = 8
+rank keys.Source = 9
+rank keys.Args = 10
+rank keys.Device = 11
+
+abbrev pub cell : ℕ → ParamKey → ℕ
+cell component key = 12 * component + rank key
+
+unfoldable pub none_in_force : Parameters
+none_in_force = replicate 96 None
+
+-- overriding a parameter replaces the one that is there
+abbrev pub with_param : Parameters → ℕ → Param → Parameters
+with_param parameters component param = slice_set parameters (cell component (key_of param)) (Some param)
+
+abbrev pub joined : Option (Option Param) → Option Param
+joined None = None
+joined (Some held) = held
+
+abbrev pub in_force : Parameters → ℕ → ParamKey → Option Param
+in_force parameters component key = joined (slice_get parameters (cell component key))
+
+-- ---- their values
+
+abbrev pub identifier_of : Option Param → Option (List ℕ)
+identifier_of (Some (params.Vendor id)) = Some id
+identifier_of (Some (params.Class id)) = Some id
+identifier_of (Some (params.Device id)) = Some id
+identifier_of _ = None
+
+abbrev pub number_of : Option Param → Option ℕ
+number_of (Some (params.Slot number)) = Some number
+number_of (Some (params.Size size)) = Some size
+number_of (Some (params.Source component)) = Some component
+number_of _ = None
+
+abbrev pub digest_of : Option Param → Option Digest
+digest_of (Some (params.Digest digest)) = Some digest
+digest_of _ = None
+
+abbrev pub bytes_of : Option Param → Option (List ℕ)
+bytes_of (Some (params.Content bytes)) = Some bytes
+bytes_of (Some (params.Uri text)) = Some text
+bytes_of (Some (params.Args bytes)) = Some bytes
+bytes_of _ = None
+
+abbrev pub digest_in : Parameters → ℕ → Option Digest
+digest_in parameters component = digest_of (in_force parameters component keys.Digest)
+
+abbrev pub size_in : Parameters → ℕ → Option ℕ
+size_in parameters component = number_of (in_force parameters component keys.Size)

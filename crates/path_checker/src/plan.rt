@@ -1,0 +1,25 @@
+//! Procedures of the flat form.
+
+use crate::Digest;
+
+/// Which of the two procedures of a manifest.
+#[derive(Clone, Copy, Debug, PartialEq, Eq)]
+pub enum Procedure {
+    /// Payload-fetch, install and validate.
+    Update,
+    /// Validate, load and invoke.
+    Invocation,
+}
+
+/// A procedure of a manifest with one component, whose shared sequence sets a digest and a size, whose
+/// validate, where it is there, is one image match, and whose invoke is one invoke.
+#[derive(Clone, Copy, Debug, PartialEq, Eq)]
+pub struct FlatPlan {
+    pub procedure: Procedure,
+    pub digest: Digest,
+    pub size: u64,
+    /// The place of the image match in the envelope, or `None` without validate.
+    pub match_place: Option<u64>,
+    /// The place of the invoke in the envelope.
+    pub invoke_place: u64,
+}
