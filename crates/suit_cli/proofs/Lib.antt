@@ -1,0 +1,4 @@
+pub mod FlatSteps
+pub mod FlatTakes
+pub mod FlatAgain
+pub mod FlatLaw

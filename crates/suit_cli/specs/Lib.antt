@@ -1,0 +1,3 @@
+pub mod FlatForm
+pub mod FlatReading
+pub mod FlatPlan
