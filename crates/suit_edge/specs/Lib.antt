@@ -1,1 +1,4 @@
 pub mod Faults
+pub mod Host
+pub mod Sink
+pub mod Take
