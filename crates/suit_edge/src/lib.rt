@@ -1,6 +1,15 @@
 //! The outside: files, output, flash and launched images, as traits, as objects in memory and as real adapters.
 #![tactic(auto)]
 
+mod calls;
 mod edge;
+mod host;
+mod memory_sink;
+mod sink;
+mod take;
 
 pub use edge::Edge;
+pub use host::{Host, Pulled, Started};
+pub use memory_sink::MemorySink;
+pub use sink::Sink;
+pub use take::{Taken, take_all};

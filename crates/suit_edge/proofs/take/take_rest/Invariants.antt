@@ -1,0 +1,18 @@
+use Rattle.std.proofs.Common.{◌≡◌, ◌+◌, ◌-◌, ◌≤◌, ◌++◌, length, IsTrue}
+use Rattle.suit_edge.proofs.take.take_rest.Given as goal
+
+-- the bytes taken so far stood in front of those that are left, and were pulled
+abbrev pub invariant-loop-taken : goal.invariant-loop-taken
+invariant-loop-taken g l =
+    let h = g.H.Host in
+    record {
+      files : IsTrue h.told → h.file l.host ≡ h.file l.fn.host;
+      parts : IsTrue h.told → h.rest l.fn.host ≡ l.taken ++ h.rest l.host;
+      pulled : IsTrue h.told → h.pulled l.host ≡ h.pulled l.fn.host + length l.taken;
+      counts : h.faults l.host ≡ h.faults l.fn.host;
+      fits : length l.taken ≤ l.limit;
+      room : length l.piece ≡ 4096;
+    }
+
+abbrev pub decreases-loop-taken : goal.decreases-loop-taken
+decreases-loop-taken g l = (l.limit + 1) - length l.taken

@@ -1,0 +1,40 @@
+-- The calls on an object in memory, counted from 0, some of which fail by their numbers.
+use Rattle.std.specs.Prelude.{◌≡◌, ◌⊎◌, ℕ, List, Contains}
+use Rattle.suit_edge.specs.Faults.{Faulted, counted}
+
+-- the numbers of the calls that fail, the number of the next call, and the counts of faults and of wants of memory
+pub record CallCounts : Type 0 where
+  pub fails : List ℕ
+  pub number : ℕ
+  pub faults : ℕ
+  pub starved : ℕ
+
+-- no call was made
+abbrev pub uncalled : List ℕ → CallCounts
+uncalled fails = record { fails = fails; number = 0; faults = 0; starved = 0 }
+
+-- the next call is one of those that fail
+abbrev pub IsListed : CallCounts → Type 0
+IsListed calls = Contains calls.fails calls.number
+
+-- a call that does not fail is not in the list, and counts itself alone
+pub record Passes (before now : CallCounts) : Type 0 where
+  pub unlisted : ¬ IsListed before
+  pub counts : now ≡ record before { number = counted before.number }
+
+-- a call of the list counts a fault
+pub record FailsByList (before now : CallCounts) : Type 0 where
+  pub listed : IsListed before
+  pub counts : now ≡ record before { number = counted before.number; faults = counted before.faults }
+  pub faulted : Faulted before.faults now.faults
+
+-- a call whose memory was wanting counts a fault and its want
+pub record Starves (before now : CallCounts) : Type 0 where
+  pub unlisted : ¬ IsListed before
+  pub counts : now ≡ record before { number = counted before.number; faults = counted before.faults; starved = counted before.starved }
+  pub faulted : Faulted before.faults now.faults
+  pub rose : Faulted before.starved now.starved
+
+-- a call fails by its number or for want of memory, and for nothing else
+abbrev pub Fails : CallCounts → CallCounts → Type 0
+Fails before now = FailsByList before now ⊎ Starves before now

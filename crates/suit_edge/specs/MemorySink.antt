@@ -1,0 +1,15 @@
+-- What a sink in memory holds, and what a call makes of it.
+use Rattle.std.specs.Prelude.{◌≡◌, ℕ, List, ◌++◌}
+use Rattle.suit_edge.specs.declared.edge.Edge.{Edge}
+use Rattle.suit_edge.specs.declared.edge.Edge.TheVariants as edge
+use Rattle.suit_edge.specs.Calls.{CallCounts, Passes, Fails}
+
+-- the bytes that were put
+pub record SinkState : Type 0 where
+  pub put : List ℕ
+  pub calls : CallCounts
+
+-- a put that is done puts the piece, and one that fails nothing
+abbrev pub PutsExactly : Edge → SinkState → SinkState → List ℕ → Type 0
+PutsExactly edge.Done before now piece = Passes before.calls now.calls × (now.put ≡ before.put ++ piece)
+PutsExactly edge.Failed before now piece = Fails before.calls now.calls × (now.put ≡ before.put)

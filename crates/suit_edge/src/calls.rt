@@ -1,0 +1,72 @@
+//! The calls on an object in memory.
+
+ghost use Rattle.std.specs.Prelude.{◌≡◌, IfOk};
+ghost use Rattle.std.specs.Bool.{OnTrue, OnFalse};
+
+use std::alloc::{AllocError, Global};
+use std::marker::Model;
+
+/// The numbers of the calls that fail, counted from 0, and what was counted so far.
+#[derive(Debug, Drop)]
+pub(crate) struct Calls {
+    fails: Vec<u64>,
+    number: u64,
+    faults: u64,
+    starved: u64,
+}
+
+impl Model for Calls {
+    ghost use Rattle.suit_edge.specs.Calls.{CallCounts};
+
+    ghost Value = { CallCounts };
+
+    ghost view = { λ c. record { fails = c.fails.items; number = c.number; faults = c.faults; starved = c.starved } };
+}
+
+impl Calls {
+    ghost use Rattle.suit_edge.specs.Faults.{Faulted, counted};
+    ghost use Rattle.suit_edge.specs.Calls.{uncalled, IsListed, Passes, FailsByList, Starves};
+
+    /// No call yet, and these to fail.
+    pub(crate) fn new(alloc: Global, fails: &[u64]) -> Result<Calls, AllocError>
+        ensures { IfOk result (λ calls. calls ≡ uncalled fails.now) }
+    {
+        Ok(Calls {
+            fails: fails.to_vec(alloc)?,
+            number: 0,
+            faults: 0,
+            starved: 0,
+        })
+    }
+
+    /// Counts a call, and answers whether it is one that fails.
+    pub(crate) fn next_fails(&mut self) -> bool
+        ensures passes { OnFalse result (Passes self.old self.new) }
+        ensures fails { OnTrue result (FailsByList self.old self.new) }
+    {
+        let number = self.number;
+        self.number = number.saturating_add(1);
+        let fails = self.fails.contains(&number);
+        if fails {
+            self.faults = self.faults.saturating_add(1);
+        }
+        fails
+    }
+
+    /// Counts a want of memory in the call that was counted last.
+    pub(crate) fn starve(&mut self)
+        ensures counts { self.new ≡ record self.old { faults = counted self.old.faults; starved = counted self.old.starved } }
+        ensures faulted { Faulted self.old.faults self.new.faults }
+        ensures rose { Faulted self.old.starved self.new.starved }
+    {
+        self.faults = self.faults.saturating_add(1);
+        self.starved = self.starved.saturating_add(1);
+    }
+
+    /// How often memory was wanting.
+    pub(crate) fn starved(&self) -> u64
+        ensures { result ≡ self.now.starved }
+    {
+        self.starved
+    }
+}
