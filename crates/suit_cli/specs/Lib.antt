@@ -1,3 +1,10 @@
 pub mod FlatForm
 pub mod FlatReading
 pub mod FlatPlan
+pub mod Lines
+pub mod Words
+pub mod Outcome
+pub mod Answer
+pub mod Replying
+pub mod Put
+pub mod Run

@@ -1,0 +1,113 @@
+-- What the program answers: a status and a text, for the words and the files that the host tells of.
+use Rattle.std.specs.Prelude.{◌≡◌, ◌<◌, ◌≤◌, ◌⊎◌, ℕ, Bool, IsTrue, List, ◌++◌, length, Option, Some, None, codes}
+use Rattle.suit_edge.specs.Faults.{Faulted}
+use Rattle.path_checker.specs.declared.plan.Procedure.{Procedure}
+use Rattle.path_checker.specs.declared.plan.Procedure.TheVariants as procedures
+use Rattle.path_checker.specs.declared.judge.BadPath.{BadPath}
+use Rattle.path_checker.specs.Tree.{Plan}
+use Rattle.path_checker.specs.Flat.{tree_of}
+use Rattle.path_checker.specs.Safe.{Safe}
+use Rattle.path_checker.specs.Verdict.{IsBadPath}
+use Rattle.suit_cli.specs.declared.flat.FlatForm.{FlatForm}
+use Rattle.suit_cli.specs.FlatForm.{FlatEnvelope, IsFlat}
+use Rattle.suit_cli.specs.FlatPlan.{plan_of, form_of}
+use Rattle.suit_cli.specs.Lines.{path_lines}
+use Rattle.suit_cli.specs.Words.{checked_file}
+
+-- ---- lines
+
+abbrev pub usage_line : List ℕ
+usage_line = codes "usage: suit make DESCRIPTION KEY OUT | show FILE [KEY] | check FILE | run init DEVICE KEY | run update FILE [URI=NAME]... | run boot | run status | drill NUMBER\n"
+
+abbrev pub not_built_line : List ℕ
+not_built_line = codes "not built\n"
+
+abbrev pub absent_line : List ℕ → List ℕ
+absent_line name = codes "absent " ++ name ++ codes "\n"
+
+abbrev pub too_long_line : List ℕ → List ℕ
+too_long_line name = codes "too long " ++ name ++ codes "\n"
+
+abbrev pub safe_lines : List ℕ
+safe_lines = codes "update safe\ninvocation safe\n"
+
+abbrev pub update_unsafe_line : List ℕ
+update_unsafe_line = codes "update unsafe\n"
+
+abbrev pub invocation_unsafe_lines : List ℕ
+invocation_unsafe_lines = codes "update safe\ninvocation unsafe\n"
+
+abbrev pub host_fault_line : List ℕ
+host_fault_line = codes "host fault\n"
+
+abbrev pub out_of_memory_line : List ℕ
+out_of_memory_line = codes "out of memory\n"
+
+-- ---- the judgement of a file
+
+-- what is judged of a procedure is its command tree
+abbrev pub form_tree : Procedure → FlatForm → Plan
+form_tree procedure form = tree_of (plan_of procedure form)
+
+abbrev pub procedure_tree : Procedure → FlatEnvelope → Plan
+procedure_tree procedure f = form_tree procedure (form_of f)
+
+-- each invoke of the procedure is covered on every path, for all identities
+abbrev pub IsSafe : Procedure → FlatEnvelope → Type 0
+IsSafe procedure f = Safe (procedure_tree procedure f)
+
+-- a path of the procedure for its identities, whose last event is its first invoke that is not covered
+abbrev pub IsUnsafeBy : Procedure → FlatEnvelope → BadPath → Type 0
+IsUnsafeBy procedure f bad = IsBadPath (procedure_tree procedure f) bad
+
+-- the update is judged first
+pub data FormJudgement (form : FlatForm) (status : ℕ) (text : List ℕ) : Type 0 where
+  BothSafe : Safe (form_tree procedures.Update form) → Safe (form_tree procedures.Invocation form)
+      → status ≡ 0 → text ≡ safe_lines → FormJudgement form status text
+  UpdateUnsafe : (bad : BadPath) → IsBadPath (form_tree procedures.Update form) bad
+      → status ≡ 1 → text ≡ update_unsafe_line ++ path_lines bad → FormJudgement form status text
+  InvocationUnsafe : (bad : BadPath) → Safe (form_tree procedures.Update form) → IsBadPath (form_tree procedures.Invocation form) bad
+      → status ≡ 1 → text ≡ invocation_unsafe_lines ++ path_lines bad → FormJudgement form status text
+
+pub data Judgement (bytes : List ℕ) (status : ℕ) (text : List ℕ) : Type 0 where
+  NotBuilt : ((f : FlatEnvelope) → IsFlat bytes f → ⊥) → status ≡ 3 → text ≡ not_built_line → Judgement bytes status text
+  Built : (f : FlatEnvelope) → IsFlat bytes f → FormJudgement (form_of f) status text → Judgement bytes status text
+
+-- ---- the answer to `check NAME`
+
+-- the longest file that is read, in bytes
+abbrev pub longest_file : ℕ
+longest_file = 1048576
+
+-- what the host tells of the file decides, where it tells
+pub data CheckAnswer (told : Bool) (file : Option (List ℕ)) (name : List ℕ) (status : ℕ) (text : List ℕ) : Type 0 where
+  Absent : (IsTrue told → file ≡ None) → status ≡ 20 → text ≡ absent_line name → CheckAnswer told file name status text
+  TooLong : (IsTrue told → (bytes : List ℕ) × (file ≡ Some bytes) × (longest_file < length bytes))
+      → status ≡ 21 → text ≡ too_long_line name → CheckAnswer told file name status text
+  Judged : (bytes : List ℕ) → (IsTrue told → file ≡ Some bytes) → length bytes ≤ longest_file
+      → Judgement bytes status text → CheckAnswer told file name status text
+
+-- ---- the reply to the words
+
+-- want of memory is the one answer that needs no cause
+pub record LacksMemory (status : ℕ) (text : List ℕ) : Type 0 where
+  pub status_is : status ≡ 11
+  pub text_is : text ≡ out_of_memory_line
+
+pub record IsUsage (status : ℕ) (text : List ℕ) : Type 0 where
+  pub status_is : status ≡ 2
+  pub text_is : text ≡ usage_line
+
+pub record IsHostFault (status : ℕ) (text : List ℕ) : Type 0 where
+  pub status_is : status ≡ 7
+  pub text_is : text ≡ host_fault_line
+
+-- the answer; or a fault of the host, which its count tells; or want of memory
+pub data CheckReply (told : Bool) (file : Option (List ℕ)) (name : List ℕ) (before now : ℕ) (status : ℕ) (text : List ℕ) : Type 0 where
+  Answers : CheckAnswer told file name status text → now ≡ before → CheckReply told file name before now status text
+  HostFaults : Faulted before now → IsHostFault status text → CheckReply told file name before now status text
+  CheckLacksMemory : (now ≡ before) ⊎ Faulted before now → LacksMemory status text → CheckReply told file name before now status text
+
+pub data Replies (told : Bool) (file : List ℕ → Option (List ℕ)) (words : List (List ℕ)) (before now : ℕ) (status : ℕ) (text : List ℕ) : Type 0 where
+  Uses : checked_file words ≡ None → now ≡ before → IsUsage status text ⊎ LacksMemory status text → Replies told file words before now status text
+  Checks : (name : List ℕ) → checked_file words ≡ Some name → CheckReply told (file name) name before now status text → Replies told file words before now status text
