@@ -1,7 +1,7 @@
 -- The procedures of a manifest of the flat form, as trees.
 use Rattle.std.specs.Prelude.{ℕ, [], ◌∷◌, Option, Some, None}
-use Rattle.path_checker.specs.declared.commands.TestKind.TheVariants as tests
-use Rattle.path_checker.specs.declared.commands.ActKind.TheVariants as acts
+use Rattle.path_checker.specs.declared.kinds.TestKind.TheVariants as tests
+use Rattle.path_checker.specs.declared.kinds.ActKind.TheVariants as acts
 use Rattle.path_checker.specs.declared.param.Param.TheVariants as params
 use Rattle.path_checker.specs.declared.plan.Procedure.{Procedure}
 use Rattle.path_checker.specs.declared.plan.Procedure.TheVariants as procedures
