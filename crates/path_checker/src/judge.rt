@@ -79,3 +79,6 @@ fn push_shared(events: &mut Events, plan: &FlatPlan) -> Result<(), AllocError>
         param: Param::Size(plan.size),
     })
 }
+
+#[cfg(test)]
+mod tests;
