@@ -1,12 +1,12 @@
 -- Covered invokes, along a list of events.
-use Rattle.std.proofs.Common.{◌≡◌, ℕ, zero, suc, List, [], ◌∷◌, ◌++◌, take, Option, Some, None, refl, sym, ap, subst, ◌∙◌, append_assoc}
+use Rattle.std.proofs.Common.{ℕ, zero, suc, List, [], ◌∷◌, ◌++◌, take, Option, sym, ap, subst, ◌∙◌, append_assoc}
 use Rattle.std.specs.Prelude.{IfSome, slice_get}
 use Rattle.std.specs.List.{AllByRecursion}
 use Rattle.std.proofs.lemmas.List.{append-nil}
 use Rattle.path_checker.specs.declared.event.Event.{Event}
-use Rattle.path_checker.specs.declared.event.Event.TheVariants.{Set, Tried, Matched, Missed, Wrote, Invoked, Failed}
+use Rattle.path_checker.specs.declared.event.Event.TheVariants.{Matched}
 use Rattle.path_checker.specs.declared.digest.Digest.{Digest}
-use Rattle.path_checker.specs.Safe.{WritesTo, HasMatched, IsCovered, Covered, AllCovered}
+use Rattle.path_checker.specs.Safe.{WritesTo, HasMatched, IsCovered, AllCovered}
 
 -- each invoke of these events is covered, by them and by those before
 abbrev pub CoveredFrom : List Event → List Event → Type 0

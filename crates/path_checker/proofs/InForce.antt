@@ -1,5 +1,5 @@
 -- What is in force after an override.
-use Rattle.std.proofs.Common.{◌≡◌, ℕ, ◌<◌, List, length, Option, Some, None, arith, length-set, get_or, get_or-set_same, get_or-set_other, ◌≢◌, ◌∙◌, ap}
+use Rattle.std.proofs.Common.{◌≡◌, ℕ, ◌<◌, List, length, Option, Some, None, arith, length-set, get_or-set_same, get_or-set_other, ◌≢◌, ◌∙◌, ap}
 use Rattle.std.specs.Prelude.{slice_get, slice_set}
 use Rattle.path_checker.specs.declared.digest.Digest.{Digest}
 use Rattle.path_checker.specs.declared.param.Param.{Param}

@@ -1,22 +1,23 @@
 -- Plans of the flat form on which each invoke is covered: without an invoke, or with a match before it.
-use Rattle.std.proofs.Common.{◌≡◌, ℕ, Bool, true, false, List, [], ◌∷◌, ◌++◌, ◌⊎◌, inl, inr, length, Option, Some, None, refl, sym, ap, subst, ◌∙◌}
+use Rattle.std.proofs.Common.{◌≡◌, ℕ, Bool, true, false, List, [], ◌∷◌, ◌++◌, inl, inr, length, Option, Some, None, refl, sym, ap, subst, ◌∙◌}
 use Rattle.path_checker.specs.declared.digest.Digest.{Digest}
 use Rattle.path_checker.specs.declared.identity.Identity.{Identity}
 use Rattle.path_checker.specs.declared.kinds.TestKind.TheVariants as tests
 use Rattle.path_checker.specs.declared.kinds.ActKind.TheVariants as acts
 use Rattle.path_checker.specs.declared.param.Param.TheVariants as params
 use Rattle.path_checker.specs.declared.event.Event.{Event}
-use Rattle.path_checker.specs.declared.event.Event.TheVariants.{Set, Matched, Missed, Invoked, Failed}
+use Rattle.path_checker.specs.declared.event.Event.TheVariants.{Matched, Missed, Invoked, Failed}
 use Rattle.path_checker.specs.declared.plan.FlatPlan.{FlatPlan}
+use Rattle.path_checker.specs.declared.plan.Procedure.{Procedure}
 use Rattle.path_checker.specs.declared.plan.Procedure.TheVariants as procedures
 use Rattle.path_checker.specs.Parameters.{digest_in, size_in}
 use Rattle.path_checker.specs.Tree.{Plan, NoSteps}
-use Rattle.path_checker.specs.Behaviour.{State, Behaviour, Ending, Done, Then}
+use Rattle.path_checker.specs.Behaviour.{State, Behaviour, Ending, Then}
 use Rattle.path_checker.specs.Conditions.{Tests, Matches}
 use Rattle.path_checker.specs.Directives.{Acts, Overrides, sets, with_params}
-use Rattle.path_checker.specs.Path.{Starts, RunsPlan, Path, at_first}
+use Rattle.path_checker.specs.Path.{Starts, RunsPlan, at_first}
 use Rattle.path_checker.specs.Safe.{Safe, HasMatched}
-use Rattle.path_checker.specs.Flat.{shared_of, validate_at, invoke_at, procedure_of}
+use Rattle.path_checker.specs.Flat.{shared_of, validate_at, invoke_at, procedure_of, tree_of, runs_match_first, matches_first}
 use Rattle.path_checker.proofs.InForce.{length-none_in_force, length-both_set, digest_in-both_set, size_in-both_set}
 use Rattle.path_checker.proofs.Covering.{CoveredFrom, CoveredFrom-AllCovered, CoveredFrom-front, IsQuiet, HasMatched-append}
 use Rattle.path_checker.proofs.Keeping.{OnDone, Fact, Keeps, AtFirst, keeps_then, keeps_adapt, keeps_sole, keeps_starts, keeps_absent}
@@ -167,7 +168,7 @@ validate_any d n (Some place) tree ids =
     keeps_adapt (Ready d n) (Ready d n) (Both d n) Any (Starts (validate_at (Some place)) tree ids) (λ s past p. p) (λ s past p. tt)
     (match_both d n place tree ids)
 
-pub update_safe : (plan : FlatPlan) → Safe (procedure_of procedures.Update plan)
+update_safe : (plan : FlatPlan) → Safe (procedure_of procedures.Update plan)
 update_safe plan =
     let d = plan.digest in
     let n = plan.size in
@@ -183,8 +184,8 @@ update_safe plan =
     six IsFull ready ready ready ready ready Any _ _ _ _ _ _
     (shared_ready plan tree ids) none again none again (validate_any d n plan.match_place tree ids))
 
-pub matched_safe : (plan : FlatPlan) (place : ℕ) → plan.match_place ≡ Some place → Safe (procedure_of procedures.Invocation plan)
-matched_safe plan place is =
+invocation_safe : (plan : FlatPlan) (place : ℕ) → plan.match_place ≡ Some place → Safe (procedure_of procedures.Invocation plan)
+invocation_safe plan place is =
     let d = plan.digest in
     let n = plan.size in
     let tree : Plan = procedure_of procedures.Invocation plan in
@@ -203,3 +204,11 @@ matched_safe plan place is =
     in
     six IsFull ready both both both both Any _ _ _ _ _ _
     (shared_ready plan tree ids) first again none again (invoke_any d n plan.invoke_place tree ids))
+
+by_procedure : (procedure : Procedure) (place : Option ℕ) (plan : FlatPlan) → plan.match_place ≡ place → runs_match_first procedure place ≡ true → Safe (procedure_of procedure plan)
+by_procedure procedures.Update place plan is first = update_safe plan
+by_procedure procedures.Invocation None plan is first = absurd (cc)
+by_procedure procedures.Invocation (Some place) plan is first = invocation_safe plan place is
+
+pub matched_safe : (plan : FlatPlan) → matches_first plan ≡ true → Safe (tree_of plan)
+matched_safe plan first = by_procedure plan.procedure plan.match_place plan refl first

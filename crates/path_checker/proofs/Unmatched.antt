@@ -1,6 +1,5 @@
 -- Where nothing matches before the invoke, there is a path on which it is not covered.
-use Rattle.std.proofs.Common.{◌≡◌, ℕ, Bool, true, false, List, [], ◌∷◌, ◌++◌, ◌⊎◌, inl, inr, Option, Some, None, refl, sym, ap, subst, ◌∙◌, arith, length}
-use Rattle.std.specs.List.{AllByRecursion}
+use Rattle.std.proofs.Common.{◌≡◌, ℕ, true, false, List, [], ◌∷◌, ◌++◌, inl, inr, Option, Some, None, refl, sym, ap, subst, ◌∙◌, arith, length}
 use Rattle.std.proofs.lemmas.List.{append-nil}
 use Rattle.path_checker.specs.declared.digest.Digest.{Digest}
 use Rattle.path_checker.specs.declared.identity.Identity.{Identity}
@@ -8,17 +7,19 @@ use Rattle.path_checker.specs.declared.param.Param.TheVariants as params
 use Rattle.path_checker.specs.declared.event.Event.{Event}
 use Rattle.path_checker.specs.declared.event.Event.TheVariants.{Invoked}
 use Rattle.path_checker.specs.declared.plan.FlatPlan.{FlatPlan}
+use Rattle.path_checker.specs.declared.plan.Procedure.{Procedure}
 use Rattle.path_checker.specs.declared.plan.Procedure.TheVariants as procedures
 use Rattle.path_checker.specs.declared.judge.BadPath.{BadPath}
 use Rattle.path_checker.specs.Parameters.{none_in_force, digest_in, size_in}
 use Rattle.path_checker.specs.Tree.{Plan, NoSteps}
-use Rattle.path_checker.specs.Behaviour.{State, Behaviour, Ending, Done, Then}
+use Rattle.path_checker.specs.Behaviour.{State, Done}
 use Rattle.path_checker.specs.Directives.{with_params}
-use Rattle.path_checker.specs.Path.{started, Starts, RunsPlan, Path, AreIdentities, at_first}
-use Rattle.path_checker.specs.Safe.{EndsUncovered}
-use Rattle.path_checker.specs.Flat.{shared_of, validate_at, invoke_at, procedure_of}
-use Rattle.path_checker.specs.Verdict.{IsBadPath, IsUnmatchedPath, unknown, shared_events, unmatched_events}
+use Rattle.path_checker.specs.Path.{started, Starts, RunsPlan, AreIdentities, at_first}
+use Rattle.path_checker.specs.Safe.{Safe, EndsUncovered}
+use Rattle.path_checker.specs.Flat.{shared_of, validate_at, invoke_at, procedure_of, tree_of, runs_match_first, matches_first}
+use Rattle.path_checker.specs.Verdict.{IsBadPath, IsUnmatchedPath, shared_events, unmatched_events}
 use Rattle.path_checker.proofs.InForce.{length-none_in_force, length-both_set, digest_in-both_set, size_in-both_set}
+use Rattle.path_checker.proofs.Refuting.{IsBadPath-not_safe}
 use Rattle.path_checker.proofs.Covering.{CoveredFrom-AllCovered, unmatched}
 
 -- after the shared sequence
@@ -136,8 +137,8 @@ is_bad plan bad is = record {
   ends = subst EndsUncovered (sym is.events) (ends_uncovered plan);
 }
 
-pub unmatched_bad : (plan : FlatPlan) (bad : BadPath) → plan.match_place ≡ None → IsUnmatchedPath plan bad → IsBadPath (procedure_of procedures.Invocation plan) bad
-unmatched_bad plan bad none is =
+invocation_bad : (plan : FlatPlan) (bad : BadPath) → plan.match_place ≡ None → IsUnmatchedPath plan bad → IsBadPath (procedure_of procedures.Invocation plan) bad
+invocation_bad plan bad none is =
     subst (λ (m : Option ℕ). IsBadPath (record {
       shared = shared_of plan;
       first = validate_at m;
@@ -145,3 +146,14 @@ unmatched_bad plan bad none is =
       third = invoke_at plan.invoke_place;
       count = 1;
     }) bad) (sym none) (is_bad plan bad is)
+
+by_procedure : (procedure : Procedure) (place : Option ℕ) (plan : FlatPlan) (bad : BadPath) → plan.match_place ≡ place → runs_match_first procedure place ≡ false → IsUnmatchedPath plan bad → IsBadPath (procedure_of procedure plan) bad
+by_procedure procedures.Update place plan bad is never told = absurd (cc)
+by_procedure procedures.Invocation None plan bad is never told = invocation_bad plan bad is told
+by_procedure procedures.Invocation (Some place) plan bad is never told = absurd (cc)
+
+pub unmatched_bad : (plan : FlatPlan) (bad : BadPath) → matches_first plan ≡ false → IsUnmatchedPath plan bad → IsBadPath (tree_of plan) bad
+unmatched_bad plan bad never told = by_procedure plan.procedure plan.match_place plan bad refl never told
+
+pub unmatched_not_safe : (plan : FlatPlan) (bad : BadPath) → matches_first plan ≡ false → IsUnmatchedPath plan bad → Safe (tree_of plan) → ⊥
+unmatched_not_safe plan bad never told = IsBadPath-not_safe (tree_of plan) bad (unmatched_bad plan bad never told)
