@@ -1,0 +1,6 @@
+pub mod InForce
+pub mod Covering
+pub mod Keeping
+pub mod Refuting
+pub mod Matched
+pub mod Unmatched

@@ -2,8 +2,8 @@
 use Rattle.std.specs.Prelude.{◌≡◌, ℕ, ◌⊎◌, true, false, List, [], ◌∷◌, Option, Some, None, slice_get}
 use Rattle.path_checker.specs.declared.digest.Digest.{Digest}
 use Rattle.path_checker.specs.declared.identity.Identity.{Identity}
-use Rattle.path_checker.specs.declared.commands.TestKind.{TestKind}
-use Rattle.path_checker.specs.declared.commands.TestKind.TheVariants as tests
+use Rattle.path_checker.specs.declared.kinds.TestKind.{TestKind}
+use Rattle.path_checker.specs.declared.kinds.TestKind.TheVariants as tests
 use Rattle.path_checker.specs.declared.param.ParamKey.TheVariants as keys
 use Rattle.path_checker.specs.declared.event.Event.{Event}
 use Rattle.path_checker.specs.declared.event.Event.TheVariants.{Tried, Matched, Missed, Failed}

@@ -3,8 +3,8 @@ use Rattle.std.specs.Prelude.{◌≡◌, ℕ, ◌⊎◌, Bool, true, false, List
 use Rattle.path_checker.specs.declared.param.Param.{Param}
 use Rattle.path_checker.specs.declared.param.Param.TheVariants as params
 use Rattle.path_checker.specs.declared.param.ParamKey.TheVariants as keys
-use Rattle.path_checker.specs.declared.commands.ActKind.{ActKind}
-use Rattle.path_checker.specs.declared.commands.ActKind.TheVariants as acts
+use Rattle.path_checker.specs.declared.kinds.ActKind.{ActKind}
+use Rattle.path_checker.specs.declared.kinds.ActKind.TheVariants as acts
 use Rattle.path_checker.specs.declared.event.Event.{Event}
 use Rattle.path_checker.specs.declared.event.Event.TheVariants.{Set, Wrote, Invoked, Failed}
 use Rattle.path_checker.specs.Parameters.{Parameters, in_force, with_param, number_of, bytes_of, digest_in, size_in}

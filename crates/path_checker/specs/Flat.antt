@@ -1,7 +1,7 @@
 -- The procedures of a manifest of the flat form, as trees.
-use Rattle.std.specs.Prelude.{ℕ, [], ◌∷◌, Option, Some, None}
-use Rattle.path_checker.specs.declared.commands.TestKind.TheVariants as tests
-use Rattle.path_checker.specs.declared.commands.ActKind.TheVariants as acts
+use Rattle.std.specs.Prelude.{ℕ, Bool, true, false, [], ◌∷◌, Option, Some, None}
+use Rattle.path_checker.specs.declared.kinds.TestKind.TheVariants as tests
+use Rattle.path_checker.specs.declared.kinds.ActKind.TheVariants as acts
 use Rattle.path_checker.specs.declared.param.Param.TheVariants as params
 use Rattle.path_checker.specs.declared.plan.Procedure.{Procedure}
 use Rattle.path_checker.specs.declared.plan.Procedure.TheVariants as procedures
@@ -34,3 +34,14 @@ procedure_of procedures.Invocation plan =
 
 abbrev pub tree_of : FlatPlan → Plan
 tree_of plan = procedure_of plan.procedure plan
+
+-- ---- what decides
+
+-- whether nothing is invoked, or the image match runs first
+abbrev pub runs_match_first : Procedure → Option ℕ → Bool
+runs_match_first procedures.Update place = true
+runs_match_first procedures.Invocation None = false
+runs_match_first procedures.Invocation (Some place) = true
+
+abbrev pub matches_first : FlatPlan → Bool
+matches_first plan = runs_match_first plan.procedure plan.match_place

@@ -1,9 +1,9 @@
 -- Codes of conditions and directives (draft-ietf-suit-manifest-25, sections 8.4.9 and 8.4.10).
 use Rattle.std.specs.Prelude.{ℕ}
-use Rattle.path_checker.specs.declared.commands.TestKind.{TestKind}
-use Rattle.path_checker.specs.declared.commands.TestKind.TheVariants as tests
-use Rattle.path_checker.specs.declared.commands.ActKind.{ActKind}
-use Rattle.path_checker.specs.declared.commands.ActKind.TheVariants as acts
+use Rattle.path_checker.specs.declared.kinds.TestKind.{TestKind}
+use Rattle.path_checker.specs.declared.kinds.TestKind.TheVariants as tests
+use Rattle.path_checker.specs.declared.kinds.ActKind.{ActKind}
+use Rattle.path_checker.specs.declared.kinds.ActKind.TheVariants as acts
 
 abbrev pub test_code : TestKind → ℕ
 test_code tests.Vendor = 1

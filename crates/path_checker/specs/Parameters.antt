@@ -1,6 +1,6 @@
 -- The parameters in force (draft-ietf-suit-manifest-25, sections 6.4.1 and 8.4.8), as one value: for each of
 -- eight components and twelve keys an option. Where the same values are in force, it is the same list.
-use Rattle.std.specs.Prelude.{ℕ, ◌+◌, ◌*◌, Bool, List, Option, Some, None, slice_get, slice_set}
+use Rattle.std.specs.Prelude.{ℕ, ◌+◌, ◌*◌, List, Option, Some, None, slice_get, slice_set}
 use Rattle.std.proofs.Math.ListN.{replicate}
 use Rattle.path_checker.specs.declared.digest.Digest.{Digest}
 use Rattle.path_checker.specs.declared.param.Param.{Param}

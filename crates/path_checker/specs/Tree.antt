@@ -1,8 +1,8 @@
 -- Command sequences as trees (draft-ietf-suit-manifest-25, section 8.4.6).
 use Rattle.std.specs.Prelude.{ℕ, List}
 use Rattle.path_checker.specs.declared.param.Param.{Param}
-use Rattle.path_checker.specs.declared.commands.TestKind.{TestKind}
-use Rattle.path_checker.specs.declared.commands.ActKind.{ActKind}
+use Rattle.path_checker.specs.declared.kinds.TestKind.{TestKind}
+use Rattle.path_checker.specs.declared.kinds.ActKind.{ActKind}
 
 -- which components are selected (section 6.5): one by its index, all, or those that a list has
 pub data Selection : Type 0 where

@@ -1,6 +1,8 @@
 //! The judgement of a procedure.
 
 ghost use Rattle.std.specs.Prelude.{◌≡◌, [], ◌∷◌, ◌++◌, IfOk, OnOk};
+ghost use Rattle.path_checker.specs.declared.event.Event.TheVariants.{Set};
+ghost use Rattle.path_checker.specs.Flat.{matches_first};
 ghost use Rattle.path_checker.specs.Verdict.{Judges, Refutes, TellsPath, IsUnmatchedPath, unknown, shared_events, unmatched_events};
 
 use crate::{Event, Events, FlatPlan, Identities, Identity, Param, Procedure};
@@ -25,20 +27,28 @@ pub enum CheckVerdict {
 }
 
 /// Judges a procedure of the flat form. Only a path that is handed out takes memory.
+#[tactic(auto, using(crate::proofs::Matched::matched_safe))]
 pub fn check(alloc: Global, plan: &FlatPlan) -> CheckVerdict
     ensures judged { Judges plan.now result }
     ensures refuted { Refutes plan.now result }
     ensures told { TellsPath plan.now result }
 {
+    if matches_first(plan) {
+        return CheckVerdict::Safe;
+    }
+    match unmatched_path(alloc, plan) {
+        Ok(bad) => CheckVerdict::Unsafe(bad),
+        Err(_) => CheckVerdict::NoMemory,
+    }
+}
+
+// Whether nothing is invoked, or an image match runs first.
+fn matches_first(plan: &FlatPlan) -> bool
+    ensures { result ≡ matches_first plan.now }
+{
     match plan.procedure {
-        Procedure::Update => CheckVerdict::Safe,
-        Procedure::Invocation => match plan.match_place {
-            Some(_) => CheckVerdict::Safe,
-            None => match unmatched_path(alloc, plan) {
-                Ok(bad) => CheckVerdict::Unsafe(bad),
-                Err(_) => CheckVerdict::NoMemory,
-            },
-        },
+        Procedure::Update => true,
+        Procedure::Invocation => plan.match_place.is_some(),
     }
 }
 
@@ -66,16 +76,22 @@ fn unmatched_path(alloc: Global, plan: &FlatPlan) -> Result<BadPath, AllocError>
     Ok(BadPath { identities, events })
 }
 
-// The events of the shared sequence.
+// Adds the events of the shared sequence.
 fn push_shared(events: &mut Events, plan: &FlatPlan) -> Result<(), AllocError>
     ensures { OnOk result (events.new ≡ events.old ++ shared_events plan.now) }
 {
+    push_set(events, Param::Digest(plan.digest))?;
+    push_set(events, Param::Size(plan.size))
+}
+
+fn push_set(events: &mut Events, param: Param) -> Result<(), AllocError>
+    ensures { OnOk result (events.new ≡ events.old ++ Set 0 param ∷ []) }
+{
     events.push(Event::Set {
         component: 0,
-        param: Param::Digest(plan.digest),
-    })?;
-    events.push(Event::Set {
-        component: 0,
-        param: Param::Size(plan.size),
+        param,
     })
 }
+
+#[cfg(test)]
+mod tests;

@@ -110,3 +110,36 @@ impl ParamKey {
         }
     }
 }
+
+#[cfg(test)]
+mod tests {
+    use super::*;
+    use std::test::Fail;
+
+    #[test]
+    fn copies_are_equal_and_keys_are_those_of_the_draft(rt: HostRuntime) -> Result<(), Fail> {
+        let alloc = rt.alloc();
+        let table = [
+            (Param::Vendor([1; 16]), 1),
+            (Param::Class([2; 16]), 2),
+            (Param::Digest(Digest { bytes: [3; 32] }), 3),
+            (Param::Slot(5), 5),
+            (Param::Strict(true), 12),
+            (Param::Soft(true), 13),
+            (Param::Size(14), 14),
+            (Param::Content(Bytes::from_slice(alloc, b"abc")?), 18),
+            (Param::Uri(Text::from_str(alloc, "#img")?), 21),
+            (Param::Source(7), 22),
+            (Param::Args(Bytes::from_slice(alloc, b"-v")?), 23),
+            (Param::Device([24; 16]), 24),
+        ];
+        for (param, number) in &table {
+            let copy = param.copy(alloc)?;
+            let shown = format!(in alloc; "{copy:?}")?;
+            let original = format!(in alloc; "{param:?}")?;
+            assert_eq!(rt; shown.as_str(), original.as_str());
+            assert_eq!(rt; copy.key().number(), *number);
+        }
+        Ok(())
+    }
+}

@@ -1,0 +1,55 @@
+-- What is in force after an override.
+use Rattle.std.proofs.Common.{◌≡◌, ℕ, ◌<◌, List, length, Option, Some, None, arith, length-set, get_or-set_same, get_or-set_other, ◌≢◌, ◌∙◌, ap}
+use Rattle.std.specs.Prelude.{slice_get, slice_set}
+use Rattle.path_checker.specs.declared.digest.Digest.{Digest}
+use Rattle.path_checker.specs.declared.param.Param.{Param}
+use Rattle.path_checker.specs.declared.param.Param.TheVariants as params
+use Rattle.path_checker.specs.Keys.{key_of}
+use Rattle.path_checker.specs.Parameters.{Parameters, cell, none_in_force, with_param, joined, digest_of, number_of, digest_in, size_in}
+use Rattle.std.proofs.lemmas.List.{length-replicate}
+use Rattle.std.proofs.lemmas.Option.{slice_get-get_or, get_or_from_slice_get}
+
+pub slice_get-set_same : {A : Type 0} (xs : List A) (i : ℕ) (x : A) → i < length xs → slice_get (slice_set xs i x) i ≡ Some x
+slice_get-set_same xs i x within =
+    let inside : i < length (slice_set xs i x) = omega (arith, length-set xs i x) in
+    slice_get-get_or (slice_set xs i x) i x inside ∙ ap Some (get_or-set_same xs i x x within)
+
+pub slice_get-set_other : {A : Type 0} (xs : List A) (i j : ℕ) (x y : A) → j ≢ i → j < length xs → slice_get xs j ≡ Some y → slice_get (slice_set xs i x) j ≡ Some y
+slice_get-set_other xs i j x y other within is =
+    let inside : j < length (slice_set xs i x) = omega (arith, length-set xs i x) in
+    slice_get-get_or (slice_set xs i x) j y inside
+    ∙ ap Some (get_or-set_other xs i j x y other ∙ get_or_from_slice_get xs j y y is)
+
+-- ---- a digest and a size that an override sets
+
+pub length-with_param : (parameters : Parameters) (component : ℕ) (param : Param) → length (with_param parameters component param) ≡ length parameters
+length-with_param parameters component param = length-set parameters (cell component (key_of param)) (Some param)
+
+abbrev pub both_set : Parameters → Digest → ℕ → Parameters
+both_set parameters digest size = with_param (with_param parameters 0 (params.Digest digest)) 0 (params.Size size)
+
+pub length-both_set : (parameters : Parameters) (digest : Digest) (size : ℕ) → length (both_set parameters digest size) ≡ length parameters
+length-both_set parameters digest size =
+    length-with_param (with_param parameters 0 (params.Digest digest)) 0 (params.Size size) ∙ length-with_param parameters 0 (params.Digest digest)
+
+pub digest_in-both_set : (parameters : Parameters) (digest : Digest) (size : ℕ) → length parameters ≡ 96 → digest_in (both_set parameters digest size) 0 ≡ Some digest
+digest_in-both_set parameters digest size full =
+    let before : Parameters = with_param parameters 0 (params.Digest digest) in
+    let room : 2 < length parameters = omega arith in
+    let more : 2 < length before = omega (arith, length-with_param parameters 0 (params.Digest digest)) in
+    let apart : 2 ≢ 6 = omega arith in
+    let there : slice_get (slice_set before 6 (Some (params.Size size))) 2 ≡ Some (Some (params.Digest digest)) =
+    slice_get-set_other before 6 2 (Some (params.Size size)) (Some (params.Digest digest)) apart more
+    (slice_get-set_same parameters 2 (Some (params.Digest digest)) room)
+    in
+    ap (λ (o : Option (Option Param)). digest_of (joined o)) there
+
+pub size_in-both_set : (parameters : Parameters) (digest : Digest) (size : ℕ) → length parameters ≡ 96 → size_in (both_set parameters digest size) 0 ≡ Some size
+size_in-both_set parameters digest size full =
+    let before : Parameters = with_param parameters 0 (params.Digest digest) in
+    let more : 6 < length before = omega (arith, length-with_param parameters 0 (params.Digest digest)) in
+    ap (λ (o : Option (Option Param)). number_of (joined o)) (slice_get-set_same before 6 (Some (params.Size size)) more)
+
+pub length-none_in_force : length none_in_force ≡ 96
+unfolding none_in_force
+length-none_in_force = let none : Option Param = None in length-replicate 96 none
