@@ -3,13 +3,17 @@
 
 mod calls;
 mod edge;
+mod file_table;
 mod host;
+mod memory_host;
 mod memory_sink;
+mod rest;
 mod sink;
 mod take;
 
 pub use edge::Edge;
 pub use host::{Host, Pulled, Started};
+pub use memory_host::MemoryHost;
 pub use memory_sink::MemorySink;
 pub use sink::Sink;
 pub use take::{Taken, take_all};
