@@ -6,6 +6,8 @@ mod edge;
 mod file_host;
 mod file_table;
 mod host;
+#[cfg(test)]
+mod host_and_sink_tests;
 mod memory_host;
 mod memory_sink;
 mod rest;
