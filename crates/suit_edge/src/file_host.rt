@@ -1,8 +1,11 @@
 //! Real files.
 
+ghost use Rattle.std.specs.Prelude.{◌≡◌};
+
 use crate::{Edge, Host, Pulled, Started};
 use std::fs;
 use std::io::{ErrorKind, Read};
+use std::marker::Model;
 use std::rt::Files;
 
 /// The files of the system, by their paths. It tells nothing of what they hold.
@@ -13,9 +16,20 @@ pub struct FileHost<R: Files + Drop> {
     faults: u64,
 }
 
+impl<R: Files + Drop> Model for FileHost<R> {
+    ghost use Rattle.std.specs.Prelude.{ℕ};
+
+    // the count of faults
+    ghost Value = { ℕ };
+
+    ghost view = { λ h. h.faults };
+}
+
 impl<R: Files + Drop> FileHost<R> {
     /// The files that a runtime reaches. No call on the outside is made.
-    pub fn new(rt: R) -> FileHost<R> {
+    pub fn new(rt: R) -> FileHost<R>
+        ensures { result ≡ 0 }
+    {
         FileHost {
             rt,
             started: None,
@@ -35,7 +49,7 @@ impl<R: Files + Drop> Host for FileHost<R> {
 
     ghost pulled = { λ _. 0 };
 
-    ghost faults = { λ h. h.faults };
+    ghost faults = { λ h. h };
 
     /// A name of which a part is missing is `Absent`. A directory is started, and fails at its first pull.
     fn start(&mut self, name: &str) -> Started {

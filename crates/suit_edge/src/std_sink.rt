@@ -1,6 +1,9 @@
 //! Standard output.
 
+ghost use Rattle.std.specs.Prelude.{◌≡◌};
+
 use crate::{Edge, Sink};
+use std::marker::Model;
 
 /// The standard output of the system. It tells nothing of what was put.
 #[derive(Drop)]
@@ -9,9 +12,20 @@ pub struct StdSink<R: Print + Drop> {
     faults: u64,
 }
 
+impl<R: Print + Drop> Model for StdSink<R> {
+    ghost use Rattle.std.specs.Prelude.{ℕ};
+
+    // the count of faults
+    ghost Value = { ℕ };
+
+    ghost view = { λ s. s.faults };
+}
+
 impl<R: Print + Drop> StdSink<R> {
     /// The standard output that a runtime reaches. No call on the outside is made.
-    pub fn new(rt: R) -> StdSink<R> {
+    pub fn new(rt: R) -> StdSink<R>
+        ensures { result ≡ 0 }
+    {
         StdSink { rt, faults: 0 }
     }
 }
@@ -23,7 +37,7 @@ impl<R: Print + Drop> Sink for StdSink<R> {
 
     ghost put_bytes = { λ _. [] };
 
-    ghost faults = { λ s. s.faults };
+    ghost faults = { λ s. s };
 
     fn put(&mut self, piece: &[u8]) -> Edge {
         match self.rt.write_all(piece) {
