@@ -4,3 +4,4 @@ pub mod Sink
 pub mod Take
 pub mod Calls
 pub mod MemorySink
+pub mod MemoryHost

@@ -3,13 +3,23 @@
 
 mod calls;
 mod edge;
+mod file_host;
+mod file_table;
 mod host;
+#[cfg(test)]
+mod host_and_sink_tests;
+mod memory_host;
 mod memory_sink;
+mod rest;
 mod sink;
+mod std_sink;
 mod take;
 
 pub use edge::Edge;
+pub use file_host::FileHost;
 pub use host::{Host, Pulled, Started};
+pub use memory_host::MemoryHost;
 pub use memory_sink::MemorySink;
 pub use sink::Sink;
+pub use std_sink::StdSink;
 pub use take::{Taken, take_all};

@@ -1,0 +1,64 @@
+-- What a host in memory holds, and what a call makes of it.
+use Rattle.std.specs.Prelude.{◌≡◌, ◌+◌, ℕ, min, List, [], ◌∷◌, ◌++◌, length, take, drop, Option, Some, None, if◌then◌else◌}
+use Rattle.std.specs.Str.{bytes_eq}
+use Rattle.suit_edge.specs.declared.edge.Edge.{Edge}
+use Rattle.suit_edge.specs.declared.edge.Edge.TheVariants as edge
+use Rattle.suit_edge.specs.declared.host.Started.{Started}
+use Rattle.suit_edge.specs.declared.host.Started.TheVariants as started
+use Rattle.suit_edge.specs.declared.host.Pulled.{Pulled}
+use Rattle.suit_edge.specs.declared.host.Pulled.TheVariants as pulled
+use Rattle.suit_edge.specs.Calls.{CallCounts, uncalled, Passes, Fails}
+
+-- ---- files by name
+
+-- the bytes of a name
+abbrev pub file_in : List (List ℕ × List ℕ) → List ℕ → Option (List ℕ)
+file_in [] name = None
+file_in (file ∷ files) name = if bytes_eq file.0 name then Some file.1 else file_in files name
+
+-- the files where a name has these bytes: in the place of its old ones, or as a new file at the end
+abbrev pub with_file : List (List ℕ × List ℕ) → List ℕ → List ℕ → List (List ℕ × List ℕ)
+with_file [] name bytes = (name, bytes) ∷ []
+with_file (file ∷ files) name bytes =
+    if bytes_eq file.0 name then (file.0, bytes) ∷ files else file ∷ with_file files name bytes
+
+-- ---- the host
+
+-- the files, what is left of the file that was started last, and the number of bytes handed out
+pub record HostState : Type 0 where
+  pub files : List (List ℕ × List ℕ)
+  pub rest : List ℕ
+  pub pulled : ℕ
+  pub calls : CallCounts
+
+-- no file, and no call yet
+abbrev pub empty_host : List ℕ → HostState
+empty_host fails = record { files = []; rest = []; pulled = 0; calls = uncalled fails }
+
+-- a call that does not fail makes this of the host
+abbrev pub PassesTo : HostState → HostState → HostState → Type 0
+PassesTo before now made = Passes before.calls now.calls × (now ≡ record made { calls = now.calls })
+
+-- a call that fails changes nothing that the host holds
+abbrev pub FailsAlone : HostState → HostState → Type 0
+FailsAlone before now = Fails before.calls now.calls × (now ≡ record before { calls = now.calls })
+
+abbrev pub StartsExactly : Started → HostState → HostState → List ℕ → Type 0
+StartsExactly started.Done before now name =
+    PassesTo before now (record before { rest = now.rest }) × (file_in before.files name ≡ Some now.rest)
+StartsExactly started.Absent before now name =
+    PassesTo before now (record before { rest = [] }) × (file_in before.files name ≡ None)
+StartsExactly started.Failed before now name = FailsAlone before now
+
+-- a pull gives as many bytes as are left and have room, and leaves the other places of the room
+abbrev pub PullsExactly : Pulled → HostState → HostState → List ℕ → List ℕ → Type 0
+PullsExactly (pulled.Got n) before now room filled =
+    PassesTo before now (record before { rest = drop n before.rest; pulled = before.pulled + n })
+    × (n ≡ min (length before.rest) (length room))
+    × (filled ≡ take n before.rest ++ drop n room)
+PullsExactly pulled.Failed before now room filled = FailsAlone before now
+
+abbrev pub StoresExactly : Edge → HostState → HostState → List ℕ → List ℕ → Type 0
+StoresExactly edge.Done before now name bytes =
+    PassesTo before now (record before { files = with_file before.files name bytes })
+StoresExactly edge.Failed before now name bytes = FailsAlone before now

@@ -1,0 +1,51 @@
+//! Standard output.
+
+ghost use Rattle.std.specs.Prelude.{◌≡◌};
+
+use crate::{Edge, Sink};
+use std::marker::Model;
+
+/// The standard output of the system. It tells nothing of what was put.
+#[derive(Drop)]
+pub struct StdSink<R: Print + Drop> {
+    rt: R,
+    faults: u64,
+}
+
+impl<R: Print + Drop> Model for StdSink<R> {
+    ghost use Rattle.std.specs.Prelude.{ℕ};
+
+    // the count of faults
+    ghost Value = { ℕ };
+
+    ghost view = { λ s. s.faults };
+}
+
+impl<R: Print + Drop> StdSink<R> {
+    /// The standard output that a runtime reaches. No call on the outside is made.
+    pub fn new(rt: R) -> StdSink<R>
+        ensures { result ≡ 0 }
+    {
+        StdSink { rt, faults: 0 }
+    }
+}
+
+impl<R: Print + Drop> Sink for StdSink<R> {
+    ghost use Rattle.std.specs.Prelude.{false, []};
+
+    ghost told = { false };
+
+    ghost put_bytes = { λ _. [] };
+
+    ghost faults = { λ s. s };
+
+    fn put(&mut self, piece: &[u8]) -> Edge {
+        match self.rt.write_all(piece) {
+            Ok(()) => Edge::Done,
+            Err(_) => {
+                self.faults = self.faults.saturating_add(1);
+                Edge::Failed
+            }
+        }
+    }
+}
