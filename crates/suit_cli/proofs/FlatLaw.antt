@@ -16,3 +16,7 @@ found_is_flat bytes None fits e = tt
 found_is_flat bytes (Some form) fits e =
     let flat = envelope_takes (record { left = bytes; place = 0 }) form fits (sym e) in
     (flat.0, flat.1, same_Some form (form_of flat.0) (e ∙ flat_again bytes flat.0 flat.1))
+
+-- a file says one thing
+pub one_form : (bytes : List ℕ) (f g : FlatEnvelope) → IsFlat bytes f → IsFlat bytes g → form_of f ≡ form_of g
+one_form bytes f g flat other = same_Some (form_of f) (form_of g) (sym (flat_again bytes f flat) ∙ flat_again bytes g other)

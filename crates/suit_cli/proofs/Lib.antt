@@ -2,3 +2,5 @@ pub mod FlatSteps
 pub mod FlatTakes
 pub mod FlatAgain
 pub mod FlatLaw
+pub mod Replying
+pub mod Runs
