@@ -1,0 +1,24 @@
+//! The program `suit`: it hands the words of the command line and the real outside to the top call, and ends with
+//! the status of that call.
+#![tactic(auto)]
+
+mod words;
+
+use std::process::ExitCode;
+use suit_cli::{Status, run};
+use suit_edge::{FileHost, StdSink};
+use words::command_line;
+
+/// The status where there is no memory for the words.
+const OUT_OF_MEMORY: u8 = 11;
+
+fn main(rt: HostRuntime) -> ExitCode {
+    let alloc = rt.alloc();
+    let Ok(words) = command_line(&rt, alloc) else {
+        return ExitCode::from(OUT_OF_MEMORY);
+    };
+    let mut host = FileHost::new(&rt);
+    let mut out = StdSink::new(&rt);
+    let Status(code) = run(alloc, &words, &mut host, &mut out);
+    ExitCode::from(code)
+}
