@@ -77,7 +77,7 @@ number_takes kind p n q plain fits e =
     let plain_head : IsPlain head.kind = omega arith in
     let step = next_head_takes p head next fits is in
     let bytes : spelled head ≡ head_bytes (major_of kind) head.value =
-        ap (λ (m : ℕ). head_bytes m (argument_of head.kind head.value)) major ∙ ap (head_bytes (major_of kind)) (argument_plain head.kind head.value plain_head) in
+    ap (λ (m : ℕ). head_bytes m (argument_of head.kind head.value)) major ∙ ap (head_bytes (major_of kind)) (argument_plain head.kind head.value plain_head) in
     let found : ℕ × Position = (head.value, next) in
     subst (λ (r : ℕ × Position). Steps p r.1 (head_bytes (major_of kind) r.0) × (r.0 < 2 ^ 64)) t.1
     (subst (Steps p next) bytes step.0, value_fits head.kind head.value plain_head step.1))
@@ -93,7 +93,7 @@ expected_takes kind value p q plain fits e =
     let plain_head : IsPlain head.kind = omega arith in
     let step = next_head_takes p head next fits is in
     let bytes : spelled head ≡ head_bytes (major_of kind) value =
-        ap (λ (m : ℕ). head_bytes m (argument_of head.kind head.value)) major ∙ ap (head_bytes (major_of kind)) (argument_plain head.kind head.value plain_head ∙ number) in
+    ap (λ (m : ℕ). head_bytes m (argument_of head.kind head.value)) major ∙ ap (head_bytes (major_of kind)) (argument_plain head.kind head.value plain_head ∙ number) in
     subst (λ (r : Position). Steps p r (head_bytes (major_of kind) value)) t.1 (subst (Steps p next) bytes step.0))
 
 -- a position further on
