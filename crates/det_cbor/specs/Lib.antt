@@ -3,3 +3,7 @@ pub mod HeadSpelling
 pub mod HeadReading
 pub mod Position
 pub mod DataItem
+pub mod DataLists
+pub mod DataCode
+pub mod ItemTree
+pub mod ItemDepth

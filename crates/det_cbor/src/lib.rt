@@ -4,11 +4,17 @@
 mod bytes;
 mod cursor;
 mod head;
+mod item;
+mod items;
 mod names;
+mod pairs;
 mod text;
 
 pub use bytes::Bytes;
 pub use cursor::Cursor;
 pub use head::{Head, HeadKind};
+pub use item::{Inner, Item};
+pub use items::Items;
 pub use names::Names;
+pub use pairs::Pairs;
 pub use text::Text;
