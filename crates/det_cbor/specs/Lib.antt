@@ -2,6 +2,7 @@ pub mod Heads
 pub mod HeadSpelling
 pub mod HeadReading
 pub mod Position
+pub mod Faults
 pub mod DataItem
 pub mod DataLists
 pub mod DataCode

@@ -8,6 +8,7 @@ mod item;
 mod items;
 mod names;
 mod pairs;
+mod reason;
 mod text;
 
 pub use bytes::Bytes;
@@ -17,4 +18,5 @@ pub use item::{Inner, Item};
 pub use items::Items;
 pub use names::Names;
 pub use pairs::Pairs;
+pub use reason::{CborRefusal, Reason};
 pub use text::Text;
