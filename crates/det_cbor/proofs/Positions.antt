@@ -11,7 +11,7 @@ use Rattle.det_cbor.specs.Position.{Position, next_head, next_bytes}
 use Rattle.det_cbor.proofs.Heads.{IsBytes, head_takes, head_again}
 use Rattle.det_cbor.proofs.Results.{chosen}
 
-IsBytes-drop : (n : ℕ) (bytes : List ℕ) → IsBytes bytes → IsBytes (drop n bytes)
+pub IsBytes-drop : (n : ℕ) (bytes : List ℕ) → IsBytes bytes → IsBytes (drop n bytes)
 IsBytes-drop n bytes h i = rw get_or-drop (h (n + i))
 
 pub IsBytes-rest : (front rest : List ℕ) → IsBytes (front ++ rest) → IsBytes rest

@@ -3,6 +3,7 @@ pub mod HeadSpelling
 pub mod HeadReading
 pub mod Position
 pub mod Faults
+pub mod ItemReading
 pub mod DataItem
 pub mod DataLists
 pub mod DataCode

@@ -27,3 +27,10 @@ pub struct CborRefusal {
     pub place: u64,
     pub reason: Reason,
 }
+
+/// Why a reader stopped, and how many bytes there are from the fault to the end.
+#[derive(Clone, Copy, Debug, PartialEq, Eq)]
+pub(crate) struct Stop {
+    pub(crate) left: usize,
+    pub(crate) reason: Reason,
+}
