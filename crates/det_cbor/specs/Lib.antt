@@ -9,3 +9,6 @@ pub mod DataLists
 pub mod DataCode
 pub mod ItemTree
 pub mod ItemDepth
+pub mod Growth
+pub mod HeadWriting
+pub mod ItemOrder
