@@ -10,5 +10,4 @@ pub mod DataCode
 pub mod ItemTree
 pub mod ItemDepth
 pub mod Growth
-pub mod HeadWriting
 pub mod ItemOrder

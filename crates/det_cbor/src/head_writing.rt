@@ -2,8 +2,7 @@
 
 ghost use Rattle.std.specs.Prelude.{◌≡◌, ◌∷◌, ◌++◌, ◌<◌, OnOk, OnErr};
 ghost use Rattle.det_cbor.specs.Growth.{BeginsWithAll};
-ghost use Rattle.det_cbor.specs.HeadSpelling.{major_of, argument_of, spelled};
-ghost use Rattle.det_cbor.specs.HeadWriting.{IsWhole};
+ghost use Rattle.det_cbor.specs.HeadSpelling.{major_of, argument_of, spelled, IsValueOf};
 ghost use Rattle.det_cbor.specs.Heads.{head_bytes};
 
 use crate::{Bytes, Head, HeadKind};
@@ -27,7 +26,7 @@ pub(crate) fn major_type(kind: HeadKind) -> u8
 
 // The number that stands in the head: false is 20, true 21 and null 22.
 pub(crate) fn argument(head: Head) -> u64
-    requires { IsWhole head.kind head.value }
+    requires { IsValueOf head.kind head.value }
     ensures { result ≡ argument_of head.kind head.value }
 {
     match head.kind {
@@ -69,7 +68,7 @@ fn push_shortest(out: &mut Bytes, major: u8, argument: u64) -> Result<(), AllocE
 
 /// Adds a head in its shortest form. Where memory runs out, a part of the head may have been added.
 pub fn push_head(out: &mut Bytes, head: Head) -> Result<(), AllocError>
-    requires { IsWhole head.kind head.value }
+    requires { IsValueOf head.kind head.value }
     ensures ok { OnOk result (out.new ≡ out.old ++ spelled head) }
     ensures err { OnErr result (BeginsWithAll out.old out.new) }
 {

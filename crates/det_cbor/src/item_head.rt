@@ -1,8 +1,7 @@
 //! The head that an item begins with.
 
 ghost use Rattle.std.specs.Prelude.{◌≡◌};
-ghost use Rattle.det_cbor.specs.HeadSpelling.{major_of, argument_of};
-ghost use Rattle.det_cbor.specs.HeadWriting.{IsWhole};
+ghost use Rattle.det_cbor.specs.HeadSpelling.{major_of, argument_of, IsValueOf};
 ghost use Rattle.det_cbor.specs.ItemOrder.{major_type, head_argument};
 ghost use Rattle.det_cbor.specs.ItemTree.{tree_of};
 
@@ -10,7 +9,7 @@ use crate::{Head, HeadKind, Item};
 
 #[tactic(auto, using(crate::proofs::Counts::items_counted, crate::proofs::Counts::pairs_counted))]
 pub(crate) fn head_of(item: &Item) -> Head
-    ensures whole { IsWhole result.kind result.value }
+    ensures whole { IsValueOf result.kind result.value }
     ensures major { major_of result.kind ≡ major_type (tree_of item.now) }
     ensures argument { argument_of result.kind result.value ≡ head_argument (tree_of item.now) }
 {
