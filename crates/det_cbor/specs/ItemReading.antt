@@ -74,7 +74,7 @@ pairs_by read before (suc count) bytes = do
 -- ---- items
 
 -- the reader of parts, where a level is left
-abbrev pub nested : List ℕ → Option Reader → Result Reader Stop
+abbrev pub nested : {A : Type 0} → List ℕ → Option A → Result A Stop
 nested bytes None = Err (stop_at bytes TooDeep)
 nested bytes (Some read) = Ok read
 
