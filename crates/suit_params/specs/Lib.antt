@@ -1,0 +1,5 @@
+pub mod Refusing
+pub mod Digests
+pub mod Judging
+pub mod Reading
+pub mod DigestReading

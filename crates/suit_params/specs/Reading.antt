@@ -1,0 +1,47 @@
+-- How heads, strings and items are read at a position, with the refusal of what is faulty.
+use Rattle.std.specs.Prelude.{ℕ, ◌+◌, ◌-◌, ◌==◌, nat_lt, if◌then◌else◌, List, length, take, drop, Result, Ok, Err}
+use Rattle.det_cbor.specs.DataItem.{DataItem}
+use Rattle.det_cbor.specs.declared.head.Head.{Head}
+use Rattle.det_cbor.specs.declared.reason.Reason.{Reason}
+use Rattle.det_cbor.specs.declared.reason.Reason.TheVariants.{Truncated}
+use Rattle.det_cbor.specs.declared.reason.CborRefusal.{CborRefusal}
+use Rattle.det_cbor.specs.HeadReading.{◌>>=◌, head_at, place_in}
+use Rattle.det_cbor.specs.ItemReading.{Read, item_at}
+use Rattle.det_cbor.specs.Position.{Position}
+use Rattle.suit_params.specs.declared.refusal.Refusal.{Refusal}
+use Rattle.suit_params.specs.declared.refusal.Why.TheVariants.{Cbor, Trailing}
+use Rattle.suit_params.specs.Refusing.{refused}
+
+abbrev pub of_cbor : CborRefusal → Refusal
+of_cbor e = refused e.place (Cbor e.reason)
+
+-- the position where this rest is left
+abbrev pub resting : Position → List ℕ → Position
+resting p rest = record { left = rest; place = p.place + (length p.left - length rest) }
+
+abbrev pub found_head : Position → Result (Head × List ℕ) Reason → Result (Head × Position) Refusal
+found_head p (Ok x) = Ok (x.0, resting p x.1)
+found_head p (Err reason) = Err (refused (p.place + place_in p.left reason) (Cbor reason))
+
+unfoldable pub head_from : Position → Result (Head × Position) Refusal
+head_from p = found_head p (head_at p.left)
+
+unfoldable pub bytes_from : ℕ → Position → Result (List ℕ × Position) Refusal
+bytes_from n p = if nat_lt (length p.left) n then Err (refused (p.place + length p.left) (Cbor Truncated)) else Ok (take n p.left, record { left = drop n p.left; place = p.place + n })
+
+abbrev pub found_item : Position → Read DataItem → Result (DataItem × Position) Refusal
+found_item p (Ok x) = Ok (x.0, resting p x.1)
+found_item p (Err s) = Err (refused (p.place + (length p.left - s.left)) (Cbor s.reason))
+
+unfoldable pub item_from : Position → Result (DataItem × Position) Refusal
+item_from p = found_item p (item_at 16 p.left)
+
+-- ---- items that are judged
+
+-- the next item, judged from its place on
+abbrev pub next_judged : {A : Type 0} → (ℕ → DataItem → Result A Refusal) → Position → Result (A × Position) Refusal
+next_judged judge p = item_from p >>= λ x. judge p.place x.0 >>= λ said. Ok (said, x.1)
+
+-- bytes that are to hold one item and nothing more
+abbrev pub whole_judged : {A : Type 0} → (ℕ → DataItem → Result A Refusal) → ℕ → List ℕ → Result A Refusal
+whole_judged judge place bytes = item_from (record { left = bytes; place = place }) >>= λ x. if length x.1.left == 0 then judge place x.0 else Err (refused x.1.place Trailing)
