@@ -1,10 +1,91 @@
 //! SUIT_Digest.
 
-use crate::Refusal;
-use det_cbor::Cursor;
+ghost use Rattle.std.specs.Prelude.{◌≡◌, Err, OnErr};
+ghost use Rattle.det_cbor.specs.DataItem.{spell};
+ghost use Rattle.det_cbor.specs.HeadReading.{map_ok};
+ghost use Rattle.suit_params.specs.Reading.{bytes_from};
+ghost use Rattle.suit_params.specs.DigestReading.{value_at, algorithm_at, digest_at};
+
+use crate::{Refusal, Why, read_bytes, read_head};
+use det_cbor::{Cursor, HeadKind};
 
 /// A SHA-256.
 #[derive(Clone, Copy, Debug, PartialEq, Eq)]
 pub struct Digest {
     pub bytes: [u8; 32],
+}
+
+fn refused<T: Drop>(place: u64, why: Why) -> Result<T, Refusal>
+    ensures { result ≡ Err (record { place = place; why = why }) }
+{
+    Err(Refusal { place, why })
+}
+
+// The next 32 bytes.
+fn digest_bytes(item: &mut Cursor<'_>) -> Result<Digest, Refusal>
+    ensures { map_ok (λ d. (d.bytes, item.new)) result ≡ bytes_from 32 item.old }
+{
+    let bytes = read_bytes(item, 32)?;
+    let mut digest = Digest { bytes: [0; 32] };
+    digest.bytes.copy_from_slice(bytes);
+    Ok(digest)
+}
+
+// The second element of a digest, whose array stands at a place.
+#[tactic(auto, unfolding(crate::specs::DigestReading::value_at))]
+fn value(item: &mut Cursor<'_>, array: u64) -> Result<Digest, Refusal>
+    ensures { map_ok (λ d. (d.bytes, item.new)) result ≡ value_at array item.old }
+{
+    let place = item.place();
+    let head = read_head(item)?;
+    match head.kind {
+        HeadKind::Bytes => {
+            if head.value == 32 {
+                digest_bytes(item)
+            } else {
+                refused(array, Why::Algorithm)
+            }
+        }
+        _ => refused(place, Why::Shape),
+    }
+}
+
+// The first element of a digest, whose array stands at a place.
+#[tactic(auto, unfolding(crate::specs::DigestReading::algorithm_at))]
+fn algorithm(item: &mut Cursor<'_>, array: u64) -> Result<(), Refusal>
+    ensures { map_ok (λ _. item.new) result ≡ algorithm_at array item.old }
+{
+    let place = item.place();
+    let head = read_head(item)?;
+    match head.kind {
+        HeadKind::Negative => {
+            if head.value == 15 {
+                Ok(())
+            } else {
+                refused(array, Why::Algorithm)
+            }
+        }
+        HeadKind::Unsigned => refused(array, Why::Algorithm),
+        _ => refused(place, Why::Shape),
+    }
+}
+
+// An item that is a whole one, as a digest.
+#[tactic(auto, unfolding(crate::specs::DigestReading::digest_at))]
+fn digest_of(mut item: Cursor<'_>) -> Result<Digest, Refusal>
+    ensures { map_ok (λ d. d.bytes) result ≡ digest_at item.entry }
+{
+    let array = item.place();
+    let head = read_head(&mut item)?;
+    match head.kind {
+        HeadKind::Array => {
+            if head.value == 2 {
+                algorithm(&mut item, array)?;
+                value(&mut item, array)
+            } else {
+                refused(array, Why::Shape)
+            }
+        }
+        _ => refused(array, Why::Shape),
+    }
 }
