@@ -9,7 +9,9 @@ mod items;
 mod law;
 mod names;
 mod pairs;
+mod parts;
 mod reason;
+mod skip;
 mod text;
 
 pub use bytes::Bytes;
