@@ -1,1 +1,5 @@
 pub mod Readings
+pub mod ItemHeads
+pub mod DigestCases
+pub mod DigestJudging
+pub mod Judgements
