@@ -4,11 +4,21 @@
 mod bytes;
 mod cursor;
 mod head;
+mod item;
+mod items;
+mod law;
 mod names;
+mod pairs;
+mod reason;
 mod text;
 
 pub use bytes::Bytes;
 pub use cursor::Cursor;
 pub use head::{Head, HeadKind};
+pub use item::{Inner, Item};
+pub use items::Items;
+pub use law::one_reading;
 pub use names::Names;
+pub use pairs::Pairs;
+pub use reason::{CborRefusal, Reason};
 pub use text::Text;
