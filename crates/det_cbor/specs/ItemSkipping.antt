@@ -27,15 +27,24 @@ pair_skips_by skip before (suc count) bytes = do
   rest ← skip after
   pair_skips_by skip (Some (read_of bytes after)) count rest
 
+abbrev pub array_skip : Option Skipper → List ℕ → ℕ → List ℕ → Result (List ℕ) Stop
+array_skip parts bytes count rest = nested bytes parts >>= λ skip. skips_by skip count rest
+
+abbrev pub map_skip : Option Skipper → List ℕ → ℕ → List ℕ → Result (List ℕ) Stop
+map_skip parts bytes count rest = nested bytes parts >>= λ skip. pair_skips_by skip None count rest
+
+abbrev pub tagged_skip : Option Skipper → List ℕ → List ℕ → Result (List ℕ) Stop
+tagged_skip parts bytes rest = nested bytes parts >>= λ skip. skip rest
+
 -- what follows a head
 abbrev pub skip_body : Option Skipper → List ℕ → ℕ → List ℕ → HeadKind → Result (List ℕ) Stop
 skip_body parts bytes value rest kinds.Unsigned = Ok rest
 skip_body parts bytes value rest kinds.Negative = Ok rest
 skip_body parts bytes value rest kinds.Bytes = rest_of (stopped bytes (string_at value rest))
 skip_body parts bytes value rest kinds.Text = rest_of (stopped bytes (text_at value rest))
-skip_body parts bytes value rest kinds.Array = nested bytes parts >>= λ skip. skips_by skip value rest
-skip_body parts bytes value rest kinds.Map = nested bytes parts >>= λ skip. pair_skips_by skip None value rest
-skip_body parts bytes value rest kinds.Tag = nested bytes parts >>= λ skip. skip rest
+skip_body parts bytes value rest kinds.Array = array_skip parts bytes value rest
+skip_body parts bytes value rest kinds.Map = map_skip parts bytes value rest
+skip_body parts bytes value rest kinds.Tag = tagged_skip parts bytes rest
 skip_body parts bytes value rest kinds.Bool = Ok rest
 skip_body parts bytes value rest kinds.Null = Ok rest
 

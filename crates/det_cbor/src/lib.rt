@@ -13,7 +13,9 @@ mod items;
 mod law;
 mod names;
 mod pairs;
+mod parts;
 mod reason;
+mod skip;
 mod text;
 mod validity;
 
