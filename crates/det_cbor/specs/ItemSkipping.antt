@@ -1,7 +1,8 @@
 -- How an item is passed over: it is judged as it is when it is read, and the rest is kept.
-use Rattle.std.specs.Prelude.{ℕ, zero, suc, List, Option, Some, None, Result, Ok, Err}
+use Rattle.std.specs.Prelude.{ℕ, zero, suc, ◌-◌, List, length, take, drop, Option, Some, None, Result, Ok, Err}
 use Rattle.det_cbor.specs.declared.head.HeadKind.{HeadKind}
 use Rattle.det_cbor.specs.declared.head.HeadKind.TheVariants as kinds
+use Rattle.det_cbor.specs.declared.reason.CborRefusal.{CborRefusal}
 use Rattle.det_cbor.specs.declared.reason.Stop.{Stop}
 use Rattle.det_cbor.specs.HeadReading.{◌>>=◌, map_ok, head_at}
 use Rattle.det_cbor.specs.ItemReading.{Read, stopped, string_at, text_at, read_of, in_order, nested}
@@ -60,3 +61,13 @@ skip_at (suc levels) bytes = skip_with (Some (skip_at levels)) bytes
 abbrev pub parts_at : ℕ → Option Skipper
 parts_at zero = None
 parts_at (suc levels) = Some (skip_at levels)
+
+-- ---- the first item of bytes, at most 16 levels deep
+
+abbrev pub split_by : List ℕ → Result (List ℕ) Stop → Result (List ℕ × List ℕ) CborRefusal
+split_by bytes (Ok rest) = Ok (take (length bytes - length rest) bytes, drop (length bytes - length rest) bytes)
+split_by bytes (Err s) = Err (record { place = length bytes - s.left; reason = s.reason })
+
+-- its bytes and those after it, or the place of the fault among the bytes
+unfoldable pub item_split : List ℕ → Result (List ℕ × List ℕ) CborRefusal
+item_split bytes = split_by bytes (skip_at 16 bytes)

@@ -5,6 +5,10 @@ use Rattle.det_cbor.specs.declared.reason.Reason.{Reason}
 use Rattle.det_cbor.specs.DataItem.{DataItem, IsByte, Spells}
 use Rattle.det_cbor.specs.Faults.{Faulty}
 
+-- the bytes are the spelling of an item
+abbrev pub IsItem : List ℕ → Type 0
+IsItem bytes = (x : DataItem) × Spells x bytes
+
 -- the first so many bytes spell the item
 pub record StartsWithItem (bytes : List ℕ) (x : DataItem) (used : ℕ) : Type 0 where
   pub spells : Spells x (take used bytes)
