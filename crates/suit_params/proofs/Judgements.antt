@@ -7,7 +7,9 @@ use Rattle.det_cbor.specs.DataItem.{DataItem, spell, IsValid, Spells}
 use Rattle.det_cbor.specs.Faults.{Faulty}
 use Rattle.det_cbor.specs.HeadReading.{◌>>=◌}
 use Rattle.det_cbor.specs.ItemReading.{Read, item_at}
-use Rattle.det_cbor.specs.Position.{Position, Takes}
+use Rattle.det_cbor.specs.OneReading.{IsItem}
+use Rattle.det_cbor.specs.Position.{Position, Takes, IsRefusal}
+use Rattle.det_cbor.specs.declared.reason.CborRefusal.{CborRefusal}
 use Rattle.det_cbor.proofs.Results.{chosen, bind_ok, bind_err, same_ok, ok_pair, same_err}
 use Rattle.det_cbor.proofs.Arguments.{IsBytes}
 use Rattle.det_cbor.proofs.ItemTakes.{item_takes}
@@ -17,8 +19,11 @@ use Rattle.det_cbor.proofs.ItemRefused.{item_refused}
 use Rattle.suit_params.specs.declared.refusal.Refusal.{Refusal}
 use Rattle.suit_params.specs.declared.refusal.Why.TheVariants.{Cbor, Trailing}
 use Rattle.suit_params.specs.Refusing.{refused, Refuses, Says, RefusesNext, FaultyNext, RefusedNext, TakesNext, RefusesWhole, FaultyItem, BytesAfter, RefusedItem, SaysWhole}
-use Rattle.suit_params.specs.Reading.{resting, found_item, item_from, next_judged, whole_judged}
+use Rattle.suit_params.specs.Reading.{of_cbor, inside, inner_from, resting, found_item, item_from, next_judged, whole_judged}
 use Rattle.suit_params.proofs.ItemHeads.{after}
+
+abbrev at_place : List ℕ → ℕ → Position
+at_place left place = record { left = left; place = place }
 
 -- ---- items
 
@@ -73,6 +78,22 @@ item_faulty p at reason faulty =
     let place : p.place + (length p.left - stops.left) ≡ p.place + at = omega arith in
     ap (found_item p) stops.is ∙ ap (λ (n : ℕ). Err (refused n (Cbor reason))) place
 
+-- ---- what passing over an item answers
+
+abbrev on_item : Position → DataItem × Position → Result (Position × Position) Refusal
+on_item p x = Ok (inside p x.0, x.1)
+
+pub skip_ok : (p q : Position) (piece : List ℕ) → IsItem piece → Takes p q piece → inner_from p ≡ Ok (at_place piece p.place, q)
+skip_ok p q piece item taken =
+    let x = item.0 in
+    let is : piece ≡ spell x = item.1.is in
+    let whole : p.left ≡ spell x ++ q.left = taken.parts ∙ ap (λ (l : List ℕ). l ++ q.left) is in
+    let place : p.place + length (spell x) ≡ q.place = ap (λ (l : List ℕ). p.place + length l) (sym is) ∙ sym taken.place in
+    ap (λ (r : Result (DataItem × Position) Refusal). r >>= on_item p) (item_read p x q.left item.1.valid whole) ∙ ap (λ (n : ℕ). Ok (inside p x, at_place q.left n)) place ∙ ap (λ (l : List ℕ). Ok (at_place l p.place, q)) (sym is)
+
+pub skip_err : (p : Position) (e : CborRefusal) → IsRefusal p (Faulty 0) e → inner_from p ≡ Err (of_cbor e)
+skip_err p e refusal = ap (λ (r : Result (DataItem × Position) Refusal). r >>= on_item p) (item_faulty p refusal.at e.reason refusal.fault) ∙ ap (λ (n : ℕ). Err (refused n (Cbor e.reason))) (sym refusal.place)
+
 -- ---- judgements
 
 -- the judgement is that of the grammar and of the refusals, both ways
@@ -110,12 +131,9 @@ next_refused judge says form law p r (RefusedNext x rest s valid is f) = rw (ite
 
 -- ---- the whole of some bytes
 
-abbrev at_place : List ℕ → ℕ → Position
-at_place left place = record { left = left; place = place }
-
 pub whole_ok : {A : Type 0} (judge : ℕ → DataItem → Result A Refusal) (says : Says A) (form : Refuses) → Judges judge says form → (place : ℕ) (bytes : List ℕ) (a : A) → IsBytes bytes → whole_judged judge place bytes ≡ Ok a → SaysWhole says place bytes a
 whole_ok {A} judge says form law place bytes a fits e =
-    bind_ok _ _ _ e (λ x x-is e. elim (chosen {A = Result A Refusal} (eqb (length x.1.left) 0) (judge place x.0) (Err (refused x.1.place Trailing)) (Ok a) e) [
+    bind_ok (item_from (at_place bytes place)) _ _ e (λ x x-is e. elim (chosen {A = Result A Refusal} (eqb (length x.1.left) 0) (judge place x.0) (Err (refused x.1.place Trailing)) (Ok a) e) [
       | inl (end, f) ↦
           let item = item_ok (at_place bytes place) x.0 x.1 fits x-is in
           let nothing : x.1.left ≡ [] = nil_from_length x.1.left (eqb-true _ _ end) in

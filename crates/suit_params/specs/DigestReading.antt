@@ -7,7 +7,7 @@ use Rattle.det_cbor.specs.Position.{Position}
 use Rattle.suit_params.specs.declared.refusal.Refusal.{Refusal}
 use Rattle.suit_params.specs.declared.refusal.Why.TheVariants.{Shape, Algorithm}
 use Rattle.suit_params.specs.Refusing.{refused}
-use Rattle.suit_params.specs.Reading.{head_from, bytes_from}
+use Rattle.suit_params.specs.Reading.{head_from, bytes_from, inner_from}
 
 abbrev pub value_after : ℕ → ℕ → ℕ → Position → HeadKind → Result (List ℕ × Position) Refusal
 value_after array place n p kinds.Bytes = if n == 32 then bytes_from n p else Err (refused array Algorithm)
@@ -31,3 +31,7 @@ elements_after place n p _ = Err (refused place Shape)
 -- a whole item, as a digest
 unfoldable pub digest_at : Position → Result (List ℕ) Refusal
 digest_at p = head_from p >>= λ h. elements_after p.place h.0.value h.1 h.0.kind
+
+-- the next item, as a digest
+abbrev pub next_digest : Position → Result (List ℕ × Position) Refusal
+next_digest p = inner_from p >>= λ x. digest_at x.0 >>= λ d. Ok (d, x.1)

@@ -1,6 +1,6 @@
 -- How heads, strings and items are read at a position, with the refusal of what is faulty.
 use Rattle.std.specs.Prelude.{ℕ, ◌+◌, ◌-◌, ◌==◌, nat_lt, if◌then◌else◌, List, length, take, drop, Result, Ok, Err}
-use Rattle.det_cbor.specs.DataItem.{DataItem}
+use Rattle.det_cbor.specs.DataItem.{DataItem, spell}
 use Rattle.det_cbor.specs.declared.head.Head.{Head}
 use Rattle.det_cbor.specs.declared.reason.Reason.{Reason}
 use Rattle.det_cbor.specs.declared.reason.Reason.TheVariants.{Truncated}
@@ -35,6 +35,13 @@ found_item p (Err s) = Err (refused (p.place + (length p.left - s.left)) (Cbor s
 
 unfoldable pub item_from : Position → Result (DataItem × Position) Refusal
 item_from p = found_item p (item_at 16 p.left)
+
+-- the item that stands at a position, by itself
+abbrev pub inside : Position → DataItem → Position
+inside p x = record { left = spell x; place = p.place }
+
+abbrev pub inner_from : Position → Result (Position × Position) Refusal
+inner_from p = item_from p >>= λ x. Ok (inside p x.0, x.1)
 
 -- ---- items that are judged
 

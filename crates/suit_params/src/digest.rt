@@ -1,12 +1,11 @@
 //! SUIT_Digest.
 
 ghost use Rattle.std.specs.Prelude.{◌≡◌, Err, OnErr};
-ghost use Rattle.det_cbor.specs.DataItem.{spell};
 ghost use Rattle.det_cbor.specs.HeadReading.{map_ok};
 ghost use Rattle.suit_params.specs.Reading.{bytes_from};
-ghost use Rattle.suit_params.specs.DigestReading.{value_at, algorithm_at, digest_at};
+ghost use Rattle.suit_params.specs.DigestReading.{value_at, algorithm_at, digest_at, next_digest};
 
-use crate::{Refusal, Why, read_bytes, read_head};
+use crate::{Refusal, Why, read_bytes, read_head, read_item, same_place};
 use det_cbor::{Cursor, HeadKind};
 
 /// A SHA-256.
@@ -88,4 +87,23 @@ fn digest_of(mut item: Cursor<'_>) -> Result<Digest, Refusal>
         }
         _ => refused(array, Why::Shape),
     }
+}
+
+fn next_digest(cursor: &mut Cursor<'_>) -> Result<Digest, Refusal>
+    ensures { map_ok (λ d. (d.bytes, cursor.new)) result ≡ next_digest cursor.old }
+{
+    let item = read_item(cursor)?;
+    digest_of(item)
+}
+
+/// Reads a SUIT_Digest (draft-ietf-suit-manifest-25, section 8.2) by SHA-256. It is judged as one
+/// item first. After a refusal the cursor stands where it stood.
+pub fn read_digest(cursor: &mut Cursor<'_>) -> Result<Digest, Refusal>
+    ensures exact { map_ok (λ d. (d.bytes, cursor.new)) result ≡ next_digest cursor.old }
+    ensures same { OnErr result (cursor.new ≡ cursor.old) }
+{
+    let mut ahead = same_place(cursor);
+    let digest = next_digest(&mut ahead)?;
+    *cursor = ahead;
+    Ok(digest)
 }

@@ -5,6 +5,6 @@ mod digest;
 mod reading;
 mod refusal;
 
-pub use digest::Digest;
-pub use reading::{read_bytes, read_head};
+pub use digest::{Digest, read_digest};
+pub use reading::{read_bytes, read_head, read_item, same_place};
 pub use refusal::{Fault, Refusal, Why};
