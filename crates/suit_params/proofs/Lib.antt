@@ -3,3 +3,4 @@ pub mod ItemHeads
 pub mod DigestCases
 pub mod DigestJudging
 pub mod Judgements
+pub mod DigestAnswers

@@ -1,7 +1,11 @@
 //! SUIT_Digest.
 
-ghost use Rattle.std.specs.Prelude.{◌≡◌, Err, OnErr};
+ghost use Rattle.std.specs.Prelude.{◌≡◌, ◌<◌, ℕ, List, get_or, Ok, Err, IfOk, IfErr, OnErr};
 ghost use Rattle.det_cbor.specs.HeadReading.{map_ok};
+ghost use Rattle.det_cbor.specs.Position.{Position};
+ghost use Rattle.suit_params.specs.declared.refusal.Refusal.{Refusal};
+ghost use Rattle.suit_params.specs.Refusing.{RefusesNext, TakesNext};
+ghost use Rattle.suit_params.specs.Digests.{IsDigest, RefusesDigest};
 ghost use Rattle.suit_params.specs.Reading.{bytes_from};
 ghost use Rattle.suit_params.specs.DigestReading.{value_at, algorithm_at, digest_at, next_digest};
 
@@ -96,14 +100,27 @@ fn next_digest(cursor: &mut Cursor<'_>) -> Result<Digest, Refusal>
     digest_of(item)
 }
 
-/// Reads a SUIT_Digest (draft-ietf-suit-manifest-25, section 8.2) by SHA-256. It is judged as one
-/// item first. After a refusal the cursor stands where it stood.
-pub fn read_digest(cursor: &mut Cursor<'_>) -> Result<Digest, Refusal>
+// As `read_digest`, which says what this means.
+fn digest_ahead(cursor: &mut Cursor<'_>) -> Result<Digest, Refusal>
     ensures exact { map_ok (λ d. (d.bytes, cursor.new)) result ≡ next_digest cursor.old }
     ensures same { OnErr result (cursor.new ≡ cursor.old) }
+    ensures bytes { (i : ℕ) → get_or cursor.old.left i 0 < 256 }
 {
     let mut ahead = same_place(cursor);
     let digest = next_digest(&mut ahead)?;
     *cursor = ahead;
     Ok(digest)
+}
+
+/// Reads a SUIT_Digest (draft-ietf-suit-manifest-25, section 8.2) by SHA-256. It is judged as one
+/// item first. After a refusal the cursor stands where it stood.
+pub fn read_digest(cursor: &mut Cursor<'_>) -> Result<Digest, Refusal>
+    ensures exact { map_ok (λ d. (d.bytes, cursor.new)) result ≡ next_digest cursor.old }
+    ensures ok { IfOk result (λ d. TakesNext IsDigest cursor.old cursor.new d.bytes) }
+    ensures refused { IfErr result (RefusesNext RefusesDigest cursor.old) }
+    ensures same { OnErr result (cursor.new ≡ cursor.old) }
+    ensures every_digest { (new : Position) (d : List ℕ) → TakesNext IsDigest cursor.old new d → map_ok (λ d. d.bytes) result ≡ Ok d }
+    ensures every_refusal { (r : Refusal) → RefusesNext RefusesDigest cursor.old r → result ≡ Err r }
+{
+    digest_ahead(cursor)
 }
