@@ -17,7 +17,7 @@ use Rattle.suit_params.proofs.Judgements.{Judges, item_ok, next_ok, next_err, ne
 use Rattle.suit_params.proofs.DigestJudging.{digest_read, digest_ok, digest_again, digest_err, digest_refused}
 
 pub digest_judges : Judges judge_digest IsDigest RefusesDigest
-digest_judges = record { ok = digest_ok; again = digest_again; err = digest_err; refuses = digest_refused }
+digest_judges = record { ok = λ levels place x d valid. digest_ok place x d; again = digest_again; err = λ levels place x r valid. digest_err place x r; refuses = digest_refused }
 
 abbrev pub ReadsDigest : Position → Position → Result Digest Refusal → Type 0
 ReadsDigest p q r = map_ok {B = List ℕ × Position} (λ d. (d.bytes, q)) r ≡ next_digest p

@@ -5,8 +5,8 @@ use Rattle.det_cbor.specs.DataItem.{DataItem, UnsignedInteger, NegativeInteger, 
 use Rattle.det_cbor.specs.Position.{Position}
 use Rattle.suit_params.specs.declared.refusal.Refusal.{Refusal}
 use Rattle.suit_params.specs.declared.refusal.Why.TheVariants.{Shape, Algorithm}
-use Rattle.suit_params.specs.Refusing.{refused}
-use Rattle.suit_params.specs.Digests.{IsPair, IsNumber, IsByteString, pair_item, first_place}
+use Rattle.suit_params.specs.Refusing.{refused, IsByteString}
+use Rattle.suit_params.specs.Digests.{IsPair, IsNumber, pair_item, first_place}
 use Rattle.suit_params.specs.Judging.{judge_value, judge_elements, judge_digest}
 use Rattle.suit_params.specs.DigestReading.{value_after, algorithm_after, elements_after}
 use Rattle.suit_params.proofs.ItemHeads.{item_kind, item_value}

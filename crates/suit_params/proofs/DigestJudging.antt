@@ -10,8 +10,8 @@ use Rattle.det_cbor.specs.Position.{Position}
 use Rattle.det_cbor.proofs.Results.{chosen, same_ok, same_err}
 use Rattle.suit_params.specs.declared.refusal.Refusal.{Refusal}
 use Rattle.suit_params.specs.declared.refusal.Why.TheVariants.{Shape, Algorithm}
-use Rattle.suit_params.specs.Refusing.{refused}
-use Rattle.suit_params.specs.Digests.{pair_item, sha_256, digest_item, IsDigest, IsPair, IsNumber, IsByteString, first_place, second_place, RefusesDigest, NoPair, NoNumber, OtherAlgorithm, NoByteString, OtherLength}
+use Rattle.suit_params.specs.Refusing.{refused, IsByteString}
+use Rattle.suit_params.specs.Digests.{pair_item, sha_256, digest_item, IsDigest, IsPair, IsNumber, first_place, second_place, RefusesDigest, NoPair, NoNumber, OtherAlgorithm, NoByteString, OtherLength}
 use Rattle.suit_params.specs.Judging.{judge_value, judge_elements, judge_digest}
 use Rattle.suit_params.specs.Reading.{head_from, bytes_from}
 use Rattle.suit_params.specs.DigestReading.{value_after, value_at, algorithm_after, algorithm_at, elements_after, digest_at}

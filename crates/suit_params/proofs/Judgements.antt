@@ -3,7 +3,7 @@ use Rattle.std.proofs.Common.{◌≡◌, ◌≢◌, ℕ, ◌+◌, ◌-◌, ◌<�
 use Rattle.std.proofs.lemmas.Bool.{eqb-true, eqb-false, ne_eqb}
 use Rattle.std.proofs.lemmas.List.{append-nil, nil_from_length, length-append}
 use Rattle.det_cbor.specs.declared.reason.Reason.{Reason}
-use Rattle.det_cbor.specs.DataItem.{DataItem, spell, IsValid, Spells}
+use Rattle.det_cbor.specs.DataItem.{DataItem, spell, IsValid, IsValidWithin, Spells}
 use Rattle.det_cbor.specs.Faults.{Faulty}
 use Rattle.det_cbor.specs.HeadReading.{◌>>=◌}
 use Rattle.det_cbor.specs.ItemReading.{Read, item_at}
@@ -98,9 +98,9 @@ skip_err p e refusal = ap (λ (r : Result (DataItem × Position) Refusal). r >>=
 
 -- the judgement is that of the grammar and of the refusals, both ways
 pub record Judges {A : Type 0} (judge : ℕ → DataItem → Result A Refusal) (says : Says A) (form : Refuses) : Type 0 where
-  pub ok : (place : ℕ) (x : DataItem) (a : A) → judge place x ≡ Ok a → says place x a
+  pub ok : (levels place : ℕ) (x : DataItem) (a : A) → IsValidWithin levels x → judge place x ≡ Ok a → says place x a
   pub again : (place : ℕ) (x : DataItem) (a : A) → says place x a → judge place x ≡ Ok a
-  pub err : (place : ℕ) (x : DataItem) (r : Refusal) → judge place x ≡ Err r → form place x r
+  pub err : (levels place : ℕ) (x : DataItem) (r : Refusal) → IsValidWithin levels x → judge place x ≡ Err r → form place x r
   pub refuses : (place : ℕ) (x : DataItem) (r : Refusal) → form place x r → judge place x ≡ Err r
 
 -- ---- the next item
@@ -110,7 +110,7 @@ next_ok {A} judge says form law p a q fits e =
     bind_ok _ _ _ e (λ x x-is e. bind_ok _ _ _ e (λ b b-is e.
     let item = item_ok p x.0 x.1 fits x-is in
     let parts = ok_pair b a x.1 q e in
-    let all : TakesNext says p x.1 b = record { item = x.0; valid = item.valid; says_so = law.ok p.place x.0 b b-is; taken = item.taken } in
+    let all : TakesNext says p x.1 b = record { item = x.0; valid = item.valid; says_so = law.ok 0 p.place x.0 b item.valid b-is; taken = item.taken } in
     subst (λ (c : A). TakesNext says p q c) parts.0 (subst (λ (r : Position). TakesNext says p r b) parts.1 all)))
 
 pub next_err : {A : Type 0} (judge : ℕ → DataItem → Result A Refusal) (says : Says A) (form : Refuses) → Judges judge says form → (p : Position) (r : Refusal) → IsBytes p.left → next_judged judge p ≡ Err r → RefusesNext form p r
@@ -118,7 +118,7 @@ next_err judge says form law p r fits e =
     bind_err _ _ _ e
     (λ f. let fault = item_err p r fits f in subst (RefusesNext form p) (sym fault.is) (FaultyNext fault.at fault.reason fault.faulty))
     (λ x x-is e. bind_err _ _ _ e
-    (λ f. let item = item_ok p x.0 x.1 fits x-is in RefusedNext x.0 x.1.left r item.valid item.taken.parts (law.err p.place x.0 r f))
+    (λ f. let item = item_ok p x.0 x.1 fits x-is in RefusedNext x.0 x.1.left r item.valid item.taken.parts (law.err 0 p.place x.0 r item.valid f))
     (λ b b-is never. absurd cc))
 
 pub next_read : {A : Type 0} (judge : ℕ → DataItem → Result A Refusal) (says : Says A) (form : Refuses) → Judges judge says form → (p : Position) (x : DataItem) (rest : List ℕ) (a : A) → IsValid x → p.left ≡ spell x ++ rest → says p.place x a
@@ -138,7 +138,7 @@ whole_ok {A} judge says form law place bytes a fits e =
           let item = item_ok (at_place bytes place) x.0 x.1 fits x-is in
           let nothing : x.1.left ≡ [] = nil_from_length x.1.left (eqb-true _ _ end) in
           let is : bytes ≡ spell x.0 = item.taken.parts ∙ ap (λ (l : List ℕ). spell x.0 ++ l) nothing ∙ append-nil (spell x.0) in
-          record { item = x.0; spells = record { valid = item.valid; is = is }; says_so = law.ok place x.0 a f }
+          record { item = x.0; spells = record { valid = item.valid; is = is }; says_so = law.ok 0 place x.0 a item.valid f }
       | inr (more, f) ↦ absurd cc
     ])
 
@@ -153,7 +153,7 @@ whole_err {A} judge says form law place bytes r fits e =
       | inl (end, f) ↦
           let nothing : x.1.left ≡ [] = nil_from_length x.1.left (eqb-true _ _ end) in
           let is : bytes ≡ spell x.0 = item.taken.parts ∙ ap (λ (l : List ℕ). spell x.0 ++ l) nothing ∙ append-nil (spell x.0) in
-          RefusedItem x.0 r (record { valid = item.valid; is = is }) (law.err place x.0 r f)
+          RefusedItem x.0 r (record { valid = item.valid; is = is }) (law.err 0 place x.0 r item.valid f)
       | inr (more, f) ↦
           let some : x.1.left ≢ [] = λ empty. eqb-false _ _ more (ap length empty) in
           let at : refused (place + length (spell x.0)) Trailing ≡ r = ap (λ (n : ℕ). refused n Trailing) (sym item.taken.place) ∙ same_err _ r f in

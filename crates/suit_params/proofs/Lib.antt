@@ -4,3 +4,4 @@ pub mod DigestCases
 pub mod DigestJudging
 pub mod Judgements
 pub mod DigestAnswers
+pub mod Held

@@ -1,10 +1,10 @@
--- SUIT_Digest (draft-ietf-suit-manifest-25, section 8.2): an array of the algorithm and the digest.
+-- SUIT_Digest (draft-ietf-suit-manifest-25, section 10): an array of the algorithm and the digest.
 use Rattle.std.specs.Prelude.{◌≡◌, ◌≢◌, ℕ, ◌+◌, List, length}
 use Rattle.det_cbor.specs.Heads.{head_bytes}
 use Rattle.det_cbor.specs.DataItem.{DataItem, UnsignedInteger, NegativeInteger, ByteString, ArrayOf, NoItems, ItemThen, spell}
 use Rattle.suit_params.specs.declared.refusal.Refusal.{Refusal}
 use Rattle.suit_params.specs.declared.refusal.Why.TheVariants.{Shape, Algorithm}
-use Rattle.suit_params.specs.Refusing.{refused}
+use Rattle.suit_params.specs.Refusing.{refused, IsByteString}
 
 abbrev pub pair_item : DataItem → DataItem → DataItem
 pair_item a b = ArrayOf (ItemThen a (ItemThen b NoItems))
@@ -30,10 +30,6 @@ abbrev pub IsNumber : DataItem → Type 0
 IsNumber (UnsignedInteger n) = Unit {0}
 IsNumber (NegativeInteger n) = Unit {0}
 IsNumber _ = ⊥
-
-abbrev pub IsByteString : DataItem → Type 0
-IsByteString (ByteString bytes) = Unit {0}
-IsByteString _ = ⊥
 
 -- the places of the two elements of a pair that is spelled from a place on
 abbrev pub first_place : ℕ → ℕ

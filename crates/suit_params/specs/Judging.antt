@@ -1,10 +1,29 @@
--- How an item is judged as a digest, by cases: what it says, or the first refusal.
-use Rattle.std.specs.Prelude.{ℕ, ◌+◌, ◌==◌, if◌then◌else◌, List, length, Result, Ok, Err}
+-- How items are judged, by cases: what they say, or the first refusal.
+use Rattle.std.specs.Prelude.{ℕ, ◌+◌, ◌==◌, if◌then◌else◌, List, [], ◌∷◌, length, Result, Ok, Err}
 use Rattle.det_cbor.specs.DataItem.{DataItem, UnsignedInteger, NegativeInteger, ByteString, ArrayOf, NoItems, ItemThen}
 use Rattle.suit_params.specs.declared.refusal.Refusal.{Refusal}
 use Rattle.suit_params.specs.declared.refusal.Why.TheVariants.{Shape, Algorithm}
-use Rattle.suit_params.specs.Refusing.{refused}
+use Rattle.suit_params.specs.Refusing.{refused, content_place}
+use Rattle.suit_params.specs.Reading.{whole_judged}
+use Rattle.det_cbor.specs.HeadReading.{◌>>=◌}
+use Rattle.det_cbor.specs.Position.{Position}
 use Rattle.suit_params.specs.Digests.{first_place, second_place}
+
+-- a byte string, as its content at its place
+abbrev pub judge_string : ℕ → DataItem → Result Position Refusal
+judge_string place (ByteString content) = Ok (record { left = content; place = content_place place content })
+judge_string place _ = Err (refused place Shape)
+
+-- a byte string that is to hold one item
+abbrev pub judge_held : {A : Type 0} → (ℕ → DataItem → Result A Refusal) → ℕ → DataItem → Result A Refusal
+judge_held judge place x = judge_string place x >>= λ content. whole_judged judge content.place content.left
+
+-- each of a list in its order
+abbrev pub judge_each : {A : Type 0} → (A → Result Unit Refusal) → List A → Result Unit Refusal
+judge_each judge [] = Ok tt
+judge_each judge (a ∷ rest) = judge a >>= λ _. judge_each judge rest
+
+-- ---- digests
 
 abbrev pub judge_value : ℕ → ℕ → DataItem → Result (List ℕ) Refusal
 judge_value array place (ByteString digest) = if length digest == 32 then Ok digest else Err (refused array Algorithm)

@@ -2,6 +2,8 @@
 use Rattle.std.specs.Prelude.{ℕ, ◌+◌, ◌-◌, ◌==◌, nat_lt, if◌then◌else◌, List, length, take, drop, Result, Ok, Err}
 use Rattle.det_cbor.specs.DataItem.{DataItem, spell}
 use Rattle.det_cbor.specs.declared.head.Head.{Head}
+use Rattle.det_cbor.specs.declared.head.HeadKind.{HeadKind}
+use Rattle.det_cbor.specs.declared.head.HeadKind.TheVariants as kinds
 use Rattle.det_cbor.specs.declared.reason.Reason.{Reason}
 use Rattle.det_cbor.specs.declared.reason.Reason.TheVariants.{Truncated}
 use Rattle.det_cbor.specs.declared.reason.CborRefusal.{CborRefusal}
@@ -9,7 +11,7 @@ use Rattle.det_cbor.specs.HeadReading.{◌>>=◌, head_at, place_in}
 use Rattle.det_cbor.specs.ItemReading.{Read, item_at}
 use Rattle.det_cbor.specs.Position.{Position}
 use Rattle.suit_params.specs.declared.refusal.Refusal.{Refusal}
-use Rattle.suit_params.specs.declared.refusal.Why.TheVariants.{Cbor, Trailing}
+use Rattle.suit_params.specs.declared.refusal.Why.TheVariants.{Cbor, Trailing, Shape}
 use Rattle.suit_params.specs.Refusing.{refused}
 
 abbrev pub of_cbor : CborRefusal → Refusal
@@ -42,6 +44,24 @@ inside p x = record { left = spell x; place = p.place }
 
 abbrev pub inner_from : Position → Result (Position × Position) Refusal
 inner_from p = item_from p >>= λ x. Ok (inside p x.0, x.1)
+
+-- the one item that stands at a position, after which nothing is left
+abbrev pub only_from : Position → Result Position Refusal
+only_from p = inner_from p >>= λ x. if length x.1.left == 0 then Ok x.0 else Err (refused x.1.place Trailing)
+
+-- ---- byte strings
+
+-- the next bytes, at their place
+abbrev pub string_from : ℕ → Position → Result (Position × Position) Refusal
+string_from n p = bytes_from n p >>= λ c. Ok (record { left = c.0; place = p.place }, c.1)
+
+abbrev pub content_after : ℕ → ℕ → Position → HeadKind → Result (Position × Position) Refusal
+content_after place n p kinds.Bytes = string_from n p
+content_after place n p _ = Err (refused place Shape)
+
+-- the next item as a byte string, as its content at its place
+unfoldable pub content_from : Position → Result (Position × Position) Refusal
+content_from p = head_from p >>= λ h. content_after p.place h.0.value h.1 h.0.kind
 
 -- ---- items that are judged
 

@@ -1,12 +1,13 @@
 -- What is refused of bytes that hold CBOR: they are judged as one item first, and then by a form of items.
-use Rattle.std.specs.Prelude.{◌≡◌, ◌≢◌, ℕ, ◌+◌, List, [], ◌++◌, length}
-use Rattle.det_cbor.specs.DataItem.{DataItem, spell, IsValid, Spells}
+use Rattle.std.specs.Prelude.{◌≡◌, ◌≢◌, ℕ, ◌+◌, List, [], ◌∷◌, ◌++◌, length}
+use Rattle.det_cbor.specs.DataItem.{DataItem, ByteString, spell, IsValid, Spells}
+use Rattle.det_cbor.specs.Heads.{head_bytes}
 use Rattle.det_cbor.specs.Faults.{Faulty}
 use Rattle.det_cbor.specs.Position.{Position, Takes}
 use Rattle.det_cbor.specs.declared.reason.Reason.{Reason}
 use Rattle.suit_params.specs.declared.refusal.Refusal.{Refusal}
 use Rattle.suit_params.specs.declared.refusal.Why.{Why}
-use Rattle.suit_params.specs.declared.refusal.Why.TheVariants.{Cbor, Trailing}
+use Rattle.suit_params.specs.declared.refusal.Why.TheVariants.{Cbor, Trailing, Shape}
 
 abbrev pub refused : ℕ → Why → Refusal
 refused place why = record { place = place; why = why }
@@ -43,3 +44,29 @@ pub record SaysWhole {A : Type 0} (says : Says A) (place : ℕ) (bytes : List �
   pub item : DataItem
   pub spells : Spells item bytes
   pub says_so : says place item said
+
+-- ---- byte strings that hold one item
+
+abbrev pub IsByteString : DataItem → Type 0
+IsByteString (ByteString bytes) = Unit {0}
+IsByteString _ = ⊥
+
+-- the place of the content of a byte string that is spelled from a place on
+abbrev pub content_place : ℕ → List ℕ → ℕ
+content_place place content = place + length (head_bytes 2 (length content))
+
+pub data RefusesHeld (form : Refuses) (place : ℕ) : DataItem → Refusal → Type 0 where
+  NoString : (x : DataItem) → (IsByteString x → ⊥) → RefusesHeld form place x (refused place Shape)
+  BadContent : (content : List ℕ) (r : Refusal) → RefusesWhole form (content_place place content) content r → RefusesHeld form place (ByteString content) r
+
+-- a byte string whose content spells an item that says this
+pub record SaysHeld {A : Type 0} (says : Says A) (place : ℕ) (x : DataItem) (said : A) : Type 0 where
+  pub content : List ℕ
+  pub is : x ≡ ByteString content
+  pub holds : SaysWhole says (content_place place content) content said
+
+-- ---- lists, which are judged in their order up to the first that is refused
+
+pub data RefusesFirst {A : Type 0} (bad : A → Refusal → Type 0) (good : A → Type 0) : List A → Refusal → Type 0 where
+  Here : (a : A) (rest : List A) (r : Refusal) → bad a r → RefusesFirst bad good (a ∷ rest) r
+  Later : (a : A) (rest : List A) (r : Refusal) → good a → RefusesFirst bad good rest r → RefusesFirst bad good (a ∷ rest) r

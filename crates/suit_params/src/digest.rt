@@ -9,6 +9,7 @@ ghost use Rattle.suit_params.specs.Digests.{IsDigest, RefusesDigest};
 ghost use Rattle.suit_params.specs.Reading.{bytes_from};
 ghost use Rattle.suit_params.specs.DigestReading.{value_at, algorithm_at, digest_at, next_digest};
 
+use crate::refusal::refused;
 use crate::{Refusal, Why, read_bytes, read_head, read_item, same_place};
 use det_cbor::{Cursor, HeadKind};
 
@@ -16,12 +17,6 @@ use det_cbor::{Cursor, HeadKind};
 #[derive(Clone, Copy, Debug, PartialEq, Eq)]
 pub struct Digest {
     pub bytes: [u8; 32],
-}
-
-fn refused<T: Drop>(place: u64, why: Why) -> Result<T, Refusal>
-    ensures { result ≡ Err (record { place = place; why = why }) }
-{
-    Err(Refusal { place, why })
 }
 
 // The next 32 bytes.
@@ -73,9 +68,9 @@ fn algorithm(item: &mut Cursor<'_>, array: u64) -> Result<(), Refusal>
     }
 }
 
-// An item that is a whole one, as a digest.
+/// A whole item, which was judged as one before, as a digest.
 #[tactic(auto, unfolding(crate::specs::DigestReading::digest_at))]
-fn digest_of(mut item: Cursor<'_>) -> Result<Digest, Refusal>
+pub fn digest_of(mut item: Cursor<'_>) -> Result<Digest, Refusal>
     ensures { map_ok (λ d. d.bytes) result ≡ digest_at item.entry }
 {
     let array = item.place();
@@ -112,7 +107,7 @@ fn digest_ahead(cursor: &mut Cursor<'_>) -> Result<Digest, Refusal>
     Ok(digest)
 }
 
-/// Reads a SUIT_Digest (draft-ietf-suit-manifest-25, section 8.2) by SHA-256. It is judged as one
+/// Reads a SUIT_Digest (draft-ietf-suit-manifest-25, section 10) by SHA-256. It is judged as one
 /// item first. After a refusal the cursor stands where it stood.
 pub fn read_digest(cursor: &mut Cursor<'_>) -> Result<Digest, Refusal>
     ensures exact { map_ok (λ d. (d.bytes, cursor.new)) result ≡ next_digest cursor.old }

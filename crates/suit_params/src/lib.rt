@@ -5,6 +5,6 @@ mod digest;
 mod reading;
 mod refusal;
 
-pub use digest::{Digest, read_digest};
-pub use reading::{read_bytes, read_head, read_item, same_place};
-pub use refusal::{Fault, Refusal, Why};
+pub use digest::{Digest, digest_of, read_digest};
+pub use reading::{only_item, read_bytes, read_content, read_head, read_item, same_place};
+pub use refusal::{Fault, Refusal, Why, refused};

@@ -2,10 +2,12 @@
 
 ghost use Rattle.std.specs.Prelude.{◌≡◌, ℕ, ◌<◌, length, get_or, IfOk, OnErr};
 ghost use Rattle.det_cbor.specs.HeadReading.{map_ok};
-ghost use Rattle.suit_params.specs.Reading.{head_from, bytes_from, inner_from};
+ghost use Rattle.det_cbor.specs.Position.{Takes};
+ghost use Rattle.suit_params.specs.Reading.{head_from, bytes_from, inner_from, only_from, string_from, content_from};
 
-use crate::Refusal;
-use det_cbor::{Cursor, Head};
+use crate::refusal::refused;
+use crate::{Refusal, Why};
+use det_cbor::{Cursor, Head, HeadKind};
 
 // The bytes of a slice are below 256.
 fn bounded(bytes: &[u8])
@@ -45,6 +47,7 @@ pub fn read_head(cursor: &mut Cursor<'_>) -> Result<Head, Refusal>
 pub fn read_bytes<'a>(cursor: &mut Cursor<'a>, count: u64) -> Result<&'a [u8], Refusal>
     ensures exact { map_ok (λ piece. (piece.now, cursor.new)) result ≡ bytes_from count cursor.old }
     ensures length { IfOk result (λ piece. length piece.now ≡ count) }
+    ensures taken { IfOk result (λ piece. Takes cursor.old cursor.new piece.now) }
     ensures same { OnErr result (cursor.new ≡ cursor.old) }
 {
     Ok(cursor.bytes(count)?)
@@ -60,4 +63,39 @@ pub fn read_item<'a>(cursor: &mut Cursor<'a>) -> Result<Cursor<'a>, Refusal>
     let place = cursor.place();
     let item = cursor.skip()?;
     Ok(Cursor::new(item, place))
+}
+
+/// The one item that the cursor's bytes are to hold, as a cursor on its bytes. It is judged as one
+/// item, and then bytes after it are refused.
+pub fn only_item(mut content: Cursor<'_>) -> Result<Cursor<'_>, Refusal>
+    ensures { result ≡ only_from content.entry }
+{
+    let item = read_item(&mut content)?;
+    if content.left() == 0 {
+        Ok(item)
+    } else {
+        refused(content.place(), Why::Trailing)
+    }
+}
+
+/// The next item, which was judged as one before, as a byte string: a cursor on its content.
+#[tactic(auto, unfolding(crate::specs::Reading::content_from))]
+pub fn read_content<'a>(cursor: &mut Cursor<'a>) -> Result<Cursor<'a>, Refusal>
+    ensures { map_ok (λ inner. (inner, cursor.new)) result ≡ content_from cursor.old }
+{
+    let place = cursor.place();
+    let head = read_head(cursor)?;
+    match head.kind {
+        HeadKind::Bytes => content(cursor, head.value),
+        _ => refused(place, Why::Shape),
+    }
+}
+
+// The next bytes, as a cursor on them.
+fn content<'a>(cursor: &mut Cursor<'a>, count: u64) -> Result<Cursor<'a>, Refusal>
+    ensures { map_ok (λ inner. (inner, cursor.new)) result ≡ string_from count cursor.old }
+{
+    let place = cursor.place();
+    let content = read_bytes(cursor, count)?;
+    Ok(Cursor::new(content, place))
 }

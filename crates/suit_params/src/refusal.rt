@@ -1,5 +1,7 @@
 //! Why a manifest or an envelope was refused.
 
+ghost use Rattle.std.specs.Prelude.{◌≡◌, Err};
+
 use det_cbor::{CborRefusal, Reason};
 
 /// Why an item is refused. Items are those of draft-ietf-suit-manifest-25, section 8.
@@ -65,4 +67,11 @@ impl From<CborRefusal> for Refusal {
             why: Why::Cbor(refusal.reason),
         }
     }
+}
+
+/// The answer of a decoder that refuses its input.
+pub fn refused<T: Drop>(place: u64, why: Why) -> Result<T, Refusal>
+    ensures { result ≡ Err (record { place = place; why = why }) }
+{
+    Err(Refusal { place, why })
 }
