@@ -1,13 +1,10 @@
-// A library with one function.
+//! SUIT envelopes (draft-ietf-suit-manifest-25, section 8.2): their grammar, without memory.
 #![tactic(auto)]
 
-ghost use Rattle.std.specs.Prelude.{◌≡◌};
-ghost use Rattle.suit_envelope.specs.Echo.{echo_of};
+mod decode;
+mod envelope;
+mod key;
+mod map;
+mod wrapper;
 
-// The `ensures` clause is the contract: what `echo` returns is `echo_of` of its argument, a definition
-// in `specs/Echo.antt`, which a caller's clause can cite too.
-pub fn echo(x: usize) -> usize
-    ensures { result ≡ echo_of x }
-{
-    x
-}
+pub use envelope::Envelope;

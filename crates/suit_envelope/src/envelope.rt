@@ -1,0 +1,24 @@
+//! An envelope, as its parts in the bytes that spell it.
+
+/// The parts of an envelope (draft-ietf-suit-manifest-25, section 8.2). Each slice but the first is
+/// the content of a byte string, and a place is that of the content, from the envelope's first byte.
+/// The place of a member that is not there is 0.
+#[derive(Clone, Copy, Debug)]
+pub struct Envelope<'a> {
+    /// All bytes of the envelope.
+    pub whole: &'a [u8],
+    /// Whether it stands behind tag 107.
+    pub tagged: bool,
+    /// The authentication wrapper.
+    pub wrapper: &'a [u8],
+    pub wrapper_place: u64,
+    /// The manifest.
+    pub manifest: &'a [u8],
+    pub manifest_place: u64,
+    /// The severed members, as far as they are there.
+    pub payload_fetch: Option<&'a [u8]>,
+    pub install: Option<&'a [u8]>,
+    pub text: Option<&'a [u8]>,
+    pub payload_fetch_place: u64,
+    pub install_place: u64,
+}

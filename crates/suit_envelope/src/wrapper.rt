@@ -1,0 +1,47 @@
+//! The authentication wrapper.
+
+ghost use Rattle.std.specs.Prelude.{◌≡◌};
+ghost use Rattle.det_cbor.specs.HeadReading.{map_ok};
+ghost use Rattle.suit_envelope.specs.WrapperReading.{blocks_from, digest_held_from, wrapper_at};
+
+use det_cbor::{Cursor, HeadKind};
+use suit_params::{Digest, Refusal, Why, digest_of, only_item, read_content, read_head, refused};
+
+// The next byte string, as the digest that it holds.
+fn digest_held(elements: &mut Cursor<'_>) -> Result<Digest, Refusal>
+    ensures { map_ok (λ d. (d.bytes, elements.new)) result ≡ digest_held_from elements.old }
+{
+    let content = read_content(elements)?;
+    let item = only_item(content)?;
+    digest_of(item)
+}
+
+// The next byte strings, as many as there are blocks.
+fn blocks(mut elements: Cursor<'_>, count: u64) -> Result<(), Refusal>
+    ensures { result ≡ blocks_from count elements.entry }
+{
+    for _ in 0..count {
+        read_content(&mut elements)?;
+    }
+    Ok(())
+}
+
+/// A whole item, which was judged as one before, as a wrapper: its digest.
+#[tactic(auto, unfolding(crate::specs::WrapperReading::wrapper_at))]
+pub(crate) fn wrapper_of(mut item: Cursor<'_>) -> Result<Digest, Refusal>
+    ensures { map_ok (λ d. d.bytes) result ≡ wrapper_at item.entry }
+{
+    let place = item.place();
+    let head = read_head(&mut item)?;
+    match head.kind {
+        HeadKind::Array => {
+            if head.value == 0 {
+                return refused(place, Why::Shape);
+            }
+            let digest = digest_held(&mut item)?;
+            blocks(item, head.value - 1)?;
+            Ok(digest)
+        }
+        _ => refused(place, Why::Shape),
+    }
+}
