@@ -77,6 +77,32 @@ whole_is {A} read judge law p fits = by_answer (item_from p) refl
     by_answer (Ok x) is = by_end (eqb (length x.1.left) 0) x.0 x.1.place (law 0 p.place x.0 (item_ok p x.0 x.1 fits is).valid)
     by_answer (Err r) is = refl
 
+then_then : {A B C : Type 0} (r : Result A Refusal) (f : A → Result B Refusal) (g : B → Result C Refusal) → (r >>= λ a. f a >>= g) ≡ ((r >>= f) >>= g)
+then_then (Ok a) f g = refl
+then_then (Err e) f g = refl
+
+-- what a byte string holds is read as it is judged
+pub content_is : {A : Type 0} (read : Position → Result A Refusal) (judge : ℕ → DataItem → Result A Refusal) → ReadsAs read judge → (levels place : ℕ) (bytes : List ℕ) → IsValidWithin levels (ByteString bytes)
+    → (only_from (record { left = bytes; place = content_place place bytes }) >>= read) ≡ judge_held judge place (ByteString bytes)
+content_is read judge law levels place bytes valid = whole_is read judge law (record { left = bytes; place = content_place place bytes }) (bytes_of_all bytes valid.1)
+
+-- what was found, and the position after it
+abbrev pub with_rest : {A : Type 0} → Position → A → Result (A × Position) Refusal
+with_rest q a = Ok (a, q)
+
+pub held_read : {A : Type 0} (read : Position → Result A Refusal) (judge : ℕ → DataItem → Result A Refusal) → ReadsAs read judge → (levels : ℕ) (p : Position) (x : DataItem) (rest : List ℕ) → IsValidWithin levels x → p.left ≡ spell x ++ rest
+    → (content_from p >>= λ c. only_from c.0 >>= λ item. read item >>= with_rest c.1) ≡ (judge_held judge p.place x >>= with_rest (after p (spell x) rest))
+held_read {A} read judge law levels p x rest valid is =
+    let q = after p (spell x) rest in
+    let reads : Position × Position → Result (A × Position) Refusal = λ c. only_from c.0 >>= λ item. read item >>= with_rest c.1 in
+    ap (λ (r : Result (Position × Position) Refusal). r >>= reads) (content_read levels p x rest valid is)
+    ∙ by_string (λ (y : DataItem). IsValidWithin levels y → ((judge_string p.place y >>= with_rest q) >>= reads) ≡ (judge_held judge p.place y >>= with_rest q))
+    (λ bytes v.
+    let c : Position = record { left = bytes; place = content_place p.place bytes } in
+    then_then (only_from c) read (with_rest q) ∙ ap (λ (r : Result A Refusal). r >>= with_rest q) (content_is read judge law levels p.place bytes v))
+    (λ y other v. rw (other.judged p.place) refl)
+    x valid
+
 -- ---- judgements of byte strings that hold an item
 
 string_ok : (place : ℕ) (x : DataItem) (content : Position) → judge_string place x ≡ Ok content → (x ≡ ByteString content.left) × (content.place ≡ content_place place content.left)
