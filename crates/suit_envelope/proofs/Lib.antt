@@ -1,2 +1,6 @@
 pub mod Loops
 pub mod WrapperJudging
+pub mod KeyLaws
+pub mod EnvelopeReads
+pub mod EnvelopeJudging
+pub mod EnvelopeAnswers

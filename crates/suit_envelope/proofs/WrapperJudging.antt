@@ -1,6 +1,5 @@
 -- A wrapper that is read is judged so, and the judgement is that of the grammar and the refusals.
-use Rattle.std.proofs.Common.{◌≡◌, ℕ, zero, suc, ◌+◌, ◌-◌, ◌^◌, ◌<◌, Bool, true, false, cond, eqb, List, [], ◌∷◌, ◌++◌, length, Result, Ok, Err, refl, sym, ap, subst, ◌∙◌, append_assoc, arith}
-use Rattle.std.specs.List.{AllByRecursion}
+use Rattle.std.proofs.Common.{◌≡◌, ℕ, suc, ◌+◌, ◌-◌, false, eqb, List, [], ◌++◌, Result, Ok, Err, refl, sym, ap, subst, ◌∙◌, append_assoc, arith}
 use Rattle.std.proofs.lemmas.Bool.{ne_eqb}
 use Rattle.std.proofs.lemmas.List.{append-nil}
 use Rattle.det_cbor.specs.Heads.{head_bytes}
@@ -10,16 +9,15 @@ use Rattle.det_cbor.specs.Position.{Position}
 use Rattle.det_cbor.proofs.Results.{bind_ok, bind_err, same_ok, same_err}
 use Rattle.suit_params.specs.declared.refusal.Refusal.{Refusal}
 use Rattle.suit_params.specs.declared.refusal.Why.TheVariants.{Shape}
-use Rattle.suit_params.specs.Refusing.{refused, IsByteString, RefusesHeld, SaysHeld, RefusesFirst}
+use Rattle.suit_params.specs.Refusing.{refused, IsByteString, RefusesHeld, SaysHeld}
 use Rattle.suit_params.specs.Digests.{IsDigest, RefusesDigest}
 use Rattle.suit_params.specs.Judging.{judge_string, judge_held, judge_each, judge_digest}
-use Rattle.suit_params.specs.Reading.{head_from, only_from, content_from}
 use Rattle.suit_params.specs.DigestReading.{digest_at}
 use Rattle.suit_params.proofs.ItemHeads.{item_kind, item_value, item_head_read, after}
 use Rattle.suit_params.proofs.Judgements.{Judges}
 use Rattle.suit_params.proofs.DigestJudging.{digest_read}
 use Rattle.suit_params.proofs.DigestAnswers.{digest_judges}
-use Rattle.suit_params.proofs.Held.{ReadsAs, by_string, content_read, with_rest, held_read, held_judges, JudgesEach, each_ok, each_again, each_err, each_refused}
+use Rattle.suit_params.proofs.Held.{ReadsAs, by_string, content_read, with_rest, held_read, held_judges, JudgesEach, Anything, all_anything, each_ok, each_again, each_err, each_refused}
 use Rattle.suit_envelope.specs.Wrapper.{placed, elements_place, blocks_of, IsBlock, IsWrapper, HasElements, RefusesBlock, NoBlock, RefusesWrapper, NoElements, BadDigest, BadBlock}
 use Rattle.suit_envelope.specs.Judging.{judge_block, judge_wrapper}
 use Rattle.suit_envelope.specs.WrapperReading.{blocks_from, digest_held_from, elements_after, wrapper_at}
@@ -95,11 +93,11 @@ wrapper_read levels place x valid =
 
 -- ---- what is judged
 
-block_judges : JudgesEach judge_block IsBlock RefusesBlock
+block_judges : JudgesEach Anything judge_block IsBlock RefusesBlock
 block_judges = record {
-  ok = λ b e. by_string (λ (y : DataItem). judge_block (b.0, y) ≡ Ok tt → IsByteString y) (λ bytes f. tt) (λ y other f. block_never b.0 y (other.judged b.0) f) b.1 e;
+  ok = λ b fits e. by_string (λ (y : DataItem). judge_block (b.0, y) ≡ Ok tt → IsByteString y) (λ bytes f. tt) (λ y other f. block_never b.0 y (other.judged b.0) f) b.1 e;
   again = λ b so. by_string (λ (y : DataItem). IsByteString y → judge_block (b.0, y) ≡ Ok tt) (λ bytes f. refl) (λ y other f. absurd (other.other f)) b.1 so;
-  err = λ b r e. by_string (λ (y : DataItem). judge_block (b.0, y) ≡ Err r → RefusesBlock (b.0, y) r) (λ bytes f. absurd cc) (λ y other f. subst (RefusesBlock (b.0, y)) (block_err b.0 y r (other.judged b.0) f) (NoBlock other.other)) b.1 e;
+  err = λ b r fits e. by_string (λ (y : DataItem). judge_block (b.0, y) ≡ Err r → RefusesBlock (b.0, y) r) (λ bytes f. absurd cc) (λ y other f. subst (RefusesBlock (b.0, y)) (block_err b.0 y r (other.judged b.0) f) (NoBlock other.other)) b.1 e;
   refuses = λ b r bad. block_refused b r bad;
 }
   where
@@ -121,13 +119,13 @@ wrapper_ok levels place x d valid e =
     (λ first blocks v f. bind_ok (judge_held judge_digest (elements_place place blocks) first) _ d f (λ a a-is f. bind_ok (judge_each judge_block (blocks_of place first blocks)) _ d f (λ done done-is f.
     let same : a ≡ d = same_ok a d f in
     let holds = first_judges.ok (levels + 1) (elements_place place blocks) first a v.2.0 a-is in
-    record { first = first; blocks = blocks; is = refl; holds = subst (SaysHeld IsDigest (elements_place place blocks) first) same holds; rest = each_ok judge_block IsBlock RefusesBlock block_judges (blocks_of place first blocks) done-is })))
+    record { first = first; blocks = blocks; is = refl; holds = subst (SaysHeld IsDigest (elements_place place blocks) first) same holds; rest = each_ok Anything judge_block IsBlock RefusesBlock block_judges (blocks_of place first blocks) (all_anything (blocks_of place first blocks)) done-is })))
     (λ y other v f. let never = sym (other.judged place) ∙ f in absurd cc)
     x valid e
 
 wrapper_again : (place : ℕ) (x : DataItem) (d : List ℕ) → IsWrapper place x d → judge_wrapper place x ≡ Ok d
 wrapper_again place x d so =
-    ap (judge_wrapper place) so.is ∙ rw (first_judges.again (elements_place place so.blocks) so.first d so.holds, each_again judge_block IsBlock RefusesBlock block_judges (blocks_of place so.first so.blocks) so.rest) refl
+    ap (judge_wrapper place) so.is ∙ rw (first_judges.again (elements_place place so.blocks) so.first d so.holds, each_again Anything judge_block IsBlock RefusesBlock block_judges (blocks_of place so.first so.blocks) so.rest) refl
 
 wrapper_err : (levels place : ℕ) (x : DataItem) (r : Refusal) → IsValidWithin levels x → judge_wrapper place x ≡ Err r → RefusesWrapper place x r
 wrapper_err levels place x r valid e =
@@ -135,7 +133,7 @@ wrapper_err levels place x r valid e =
     (λ first blocks v f. bind_err (judge_held judge_digest (elements_place place blocks) first) _ r f
     (λ bad. BadDigest first blocks r (first_judges.err (levels + 1) (elements_place place blocks) first r v.2.0 bad))
     (λ a a-is f. bind_err (judge_each judge_block (blocks_of place first blocks)) _ r f
-    (λ bad. BadBlock first blocks a r (first_judges.ok (levels + 1) (elements_place place blocks) first a v.2.0 a-is) (each_err judge_block IsBlock RefusesBlock block_judges (blocks_of place first blocks) r bad))
+    (λ bad. BadBlock first blocks a r (first_judges.ok (levels + 1) (elements_place place blocks) first a v.2.0 a-is) (each_err Anything judge_block IsBlock RefusesBlock block_judges (blocks_of place first blocks) r (all_anything (blocks_of place first blocks)) bad))
     (λ done done-is never. absurd cc)))
     (λ y other v f. subst (RefusesWrapper place y) (same_err _ r (sym (other.judged place) ∙ f)) (NoElements y other.other))
     x valid e
@@ -143,7 +141,7 @@ wrapper_err levels place x r valid e =
 wrapper_refuses : (place : ℕ) (x : DataItem) (r : Refusal) → RefusesWrapper place x r → judge_wrapper place x ≡ Err r
 wrapper_refuses place x r (NoElements y empty) = by_elements (λ (z : DataItem). (HasElements z → ⊥) → judge_wrapper place z ≡ Err (refused place Shape)) (λ first blocks f. absurd (f tt)) (λ z other f. other.judged place) y empty
 wrapper_refuses place x r (BadDigest first blocks s bad) = rw (first_judges.refuses (elements_place place blocks) first s bad) refl
-wrapper_refuses place x r (BadBlock first blocks d s so bad) = rw (first_judges.again (elements_place place blocks) first d so, each_refused judge_block IsBlock RefusesBlock block_judges (blocks_of place first blocks) s bad) refl
+wrapper_refuses place x r (BadBlock first blocks d s so bad) = rw (first_judges.again (elements_place place blocks) first d so, each_refused Anything judge_block IsBlock RefusesBlock block_judges (blocks_of place first blocks) s bad) refl
 
 pub wrapper_judges : Judges judge_wrapper IsWrapper RefusesWrapper
 wrapper_judges = record { ok = wrapper_ok; again = wrapper_again; err = wrapper_err; refuses = wrapper_refuses }

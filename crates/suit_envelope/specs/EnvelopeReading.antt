@@ -1,18 +1,18 @@
 -- How an envelope's map is read, of an item that was judged before.
-use Rattle.std.specs.Prelude.{ℕ, zero, suc, ◌==◌, Bool, true, false, if◌then◌else◌, List, Result, Ok, Err}
+use Rattle.std.specs.Prelude.{ℕ, zero, suc, ◌==◌, true, false, if◌then◌else◌, List, Result, Ok, Err}
 use Rattle.det_cbor.specs.declared.head.HeadKind.{HeadKind}
 use Rattle.det_cbor.specs.declared.head.HeadKind.TheVariants as kinds
 use Rattle.det_cbor.specs.HeadReading.{◌>>=◌}
 use Rattle.det_cbor.specs.Position.{Position}
 use Rattle.suit_params.specs.declared.refusal.Refusal.{Refusal}
-use Rattle.suit_params.specs.declared.refusal.Why.TheVariants.{Shape, UnknownKey, Missing}
+use Rattle.suit_params.specs.declared.refusal.Why.TheVariants.{Shape, Missing}
 use Rattle.suit_params.specs.Refusing.{refused}
 use Rattle.suit_params.specs.Reading.{head_from, inner_from, only_from, content_from}
 use Rattle.suit_envelope.specs.Envelopes.{EnvelopeSays, numbered_key, says_nothing, put}
 use Rattle.suit_envelope.specs.Judging.{known_key}
 use Rattle.suit_envelope.specs.WrapperReading.{wrapper_at}
 use Rattle.suit_envelope.specs.declared.key.Key.{Key}
-use Rattle.suit_envelope.specs.declared.key.Key.TheVariants.{Wrapper, Manifest, PayloadFetch, Install, Text, Payload, Unknown}
+use Rattle.suit_envelope.specs.declared.key.Key.TheVariants.{Wrapper, Manifest, Payload, Unknown}
 use Rattle.suit_envelope.specs.declared.key.Seen.{Seen}
 
 -- what a head says of the key that it begins

@@ -1,5 +1,5 @@
 -- How wrapper and envelope are judged, by cases: what they say, or the first refusal.
-use Rattle.std.specs.Prelude.{ℕ, Bool, true, false, if◌then◌else◌, List, [], ◌∷◌, Option, Some, None, Result, Ok, Err}
+use Rattle.std.specs.Prelude.{ℕ, if◌then◌else◌, List, [], ◌∷◌, Option, Some, None, Result, Ok, Err}
 use Rattle.det_cbor.specs.DataItem.{DataItem, ArrayOf, ItemThen}
 use Rattle.det_cbor.specs.HeadReading.{◌>>=◌}
 use Rattle.suit_params.specs.declared.refusal.Refusal.{Refusal}
@@ -9,7 +9,7 @@ use Rattle.suit_params.specs.Judging.{judge_string, judge_held, judge_each, judg
 use Rattle.suit_envelope.specs.Wrapper.{elements_place, blocks_of}
 use Rattle.suit_envelope.specs.Envelopes.{Entry, EnvelopeMap, EnvelopeSays, key_of, map_entries, untagged, envelope_map, has_key, says_nothing, put_all}
 use Rattle.suit_envelope.specs.declared.key.Key.{Key}
-use Rattle.suit_envelope.specs.declared.key.Key.TheVariants.{Wrapper, Manifest, PayloadFetch, Install, Text, Payload, Unknown}
+use Rattle.suit_envelope.specs.declared.key.Key.TheVariants.{Wrapper, Unknown}
 
 abbrev pub judge_block : ℕ × DataItem → Result Unit Refusal
 judge_block b = judge_string b.0 b.1 >>= λ _. Ok tt

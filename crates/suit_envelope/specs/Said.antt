@@ -1,6 +1,8 @@
 -- What an envelope of the code says.
-use Rattle.std.specs.Prelude.{List, ℕ, Option, option_map}
-use Rattle.suit_envelope.specs.Envelopes.{EnvelopeSays}
+use Rattle.std.specs.Prelude.{List, ℕ, option_map}
+use Rattle.suit_params.specs.declared.refusal.Refusal.{Refusal}
+use Rattle.suit_params.specs.Refusing.{SaysWhole, RefusesWhole}
+use Rattle.suit_envelope.specs.Envelopes.{EnvelopeSays, IsEnvelope, RefusesEnvelope}
 use Rattle.suit_envelope.specs.declared.envelope.Envelope.{Envelope}
 
 abbrev pub said_by : Envelope → EnvelopeSays
@@ -16,3 +18,11 @@ said_by e = record {
   install_place = e.install_place;
   text = option_map (λ s. s.now) e.text;
 }
+
+-- the bytes spell an envelope that says this
+abbrev pub EnvelopeOf : List ℕ → EnvelopeSays → Type 0
+EnvelopeOf bytes said = SaysWhole IsEnvelope 0 bytes said
+
+-- the bytes are refused as an envelope, for this reason
+abbrev pub RefusesBytes : List ℕ → Refusal → Type 0
+RefusesBytes bytes r = RefusesWhole RefusesEnvelope 0 bytes r

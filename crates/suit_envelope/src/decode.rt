@@ -1,9 +1,11 @@
 //! Decoding an envelope.
 
-ghost use Rattle.std.specs.Prelude.{◌≡◌, IfOk};
+ghost use Rattle.std.specs.Prelude.{◌≡◌, Ok, Err, IfOk, IfErr};
 ghost use Rattle.det_cbor.specs.HeadReading.{map_ok};
+ghost use Rattle.suit_params.specs.declared.refusal.Refusal.{Refusal};
+ghost use Rattle.suit_envelope.specs.Envelopes.{EnvelopeSays};
 ghost use Rattle.suit_envelope.specs.EnvelopeReading.{envelope_from};
-ghost use Rattle.suit_envelope.specs.Said.{said_by};
+ghost use Rattle.suit_envelope.specs.Said.{said_by, EnvelopeOf, RefusesBytes};
 
 use crate::Envelope;
 use crate::map::envelope_of;
@@ -16,4 +18,19 @@ fn read_envelope(bytes: &[u8]) -> Result<Envelope<'_>, Refusal>
 {
     let item = only_item(Cursor::new(bytes, 0))?;
     envelope_of(item, bytes)
+}
+
+/// The envelope that the bytes spell (draft-ietf-suit-manifest-25, section 8.2), tagged or not.
+///
+/// The bytes are judged as one item first, and the envelope's map then: unknown keys, missing keys,
+/// and values in their order. The wrapper and its digest are judged with the values; no block,
+/// manifest or member is entered. Takes no memory.
+pub fn decode_envelope(bytes: &[u8]) -> Result<Envelope<'_>, Refusal>
+    ensures ok { IfOk result (λ e. EnvelopeOf bytes.now (said_by e)) }
+    ensures whole { IfOk result (λ e. e.whole.now ≡ bytes.now) }
+    ensures refused { IfErr result (RefusesBytes bytes.now) }
+    ensures every_envelope { (said : EnvelopeSays) → EnvelopeOf bytes.now said → map_ok said_by result ≡ Ok said }
+    ensures every_refusal { (r : Refusal) → RefusesBytes bytes.now r → result ≡ Err r }
+{
+    read_envelope(bytes)
 }

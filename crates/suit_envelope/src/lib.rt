@@ -7,4 +7,5 @@ mod key;
 mod map;
 mod wrapper;
 
+pub use decode::decode_envelope;
 pub use envelope::Envelope;

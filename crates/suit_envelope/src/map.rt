@@ -78,7 +78,11 @@ fn value_turn<'a>(map: &mut Cursor<'a>, envelope: Envelope<'a>) -> Result<Envelo
 }
 
 // The values of a map of so many pairs, each put into the envelope where it belongs.
-fn values<'a>(mut map: Cursor<'a>, count: u64, mut envelope: Envelope<'a>) -> Result<Envelope<'a>, Refusal>
+fn values<'a>(
+    mut map: Cursor<'a>,
+    count: u64,
+    mut envelope: Envelope<'a>,
+) -> Result<Envelope<'a>, Refusal>
     ensures says { map_ok said_by result ≡ values_from count map.entry (said_by envelope.entry) }
     ensures whole { IfOk result (λ e. e.whole.now ≡ envelope.entry.whole.now) }
 {
@@ -109,7 +113,12 @@ fn nothing(whole: &[u8], tagged: bool) -> Envelope<'_>
 }
 
 // The map that stands at a place, of so many pairs.
-fn map<'a>(mut map: Cursor<'a>, count: u64, place: u64, start: Envelope<'a>) -> Result<Envelope<'a>, Refusal>
+fn map<'a>(
+    mut map: Cursor<'a>,
+    count: u64,
+    place: u64,
+    start: Envelope<'a>,
+) -> Result<Envelope<'a>, Refusal>
     ensures says { map_ok said_by result ≡ map_from count place map.entry (said_by start.entry) }
     ensures whole { IfOk result (λ e. e.whole.now ≡ start.entry.whole.now) }
 {
@@ -134,7 +143,10 @@ fn behind_tag<'a>(mut item: Cursor<'a>, whole: &'a [u8]) -> Result<Envelope<'a>,
 
 /// A whole item, which was judged as one before, as an envelope of these bytes.
 #[tactic(auto, unfolding(crate::specs::EnvelopeReading::envelope_at))]
-pub(crate) fn envelope_of<'a>(mut item: Cursor<'a>, whole: &'a [u8]) -> Result<Envelope<'a>, Refusal>
+pub(crate) fn envelope_of<'a>(
+    mut item: Cursor<'a>,
+    whole: &'a [u8],
+) -> Result<Envelope<'a>, Refusal>
     ensures says { map_ok said_by result ≡ envelope_at item.entry }
     ensures whole { IfOk result (λ e. e.whole.now ≡ whole.now) }
 {

@@ -1,7 +1,7 @@
 -- What a call that reads a digest answered, by the grammar and the refusals.
-use Rattle.std.proofs.Common.{◌≡◌, ℕ, ◌<◌, List, ◌++◌, length, Result, Ok, Err, refl, sym, ap, subst, ◌∙◌}
+use Rattle.std.proofs.Common.{◌≡◌, ℕ, List, Result, Ok, Err, refl, sym, ap, ◌∙◌}
 use Rattle.std.specs.Prelude.{IfOk, IfErr}
-use Rattle.det_cbor.specs.DataItem.{DataItem, spell}
+use Rattle.det_cbor.specs.DataItem.{DataItem}
 use Rattle.det_cbor.specs.HeadReading.{◌>>=◌, map_ok}
 use Rattle.det_cbor.specs.Position.{Position}
 use Rattle.det_cbor.proofs.Arguments.{IsBytes}

@@ -1,10 +1,9 @@
 -- What an item is, as far as a digest's reader looks at it.
-use Rattle.std.proofs.Common.{◌≡◌, ℕ, ◌+◌, ◌<◌, Bool, true, false, cond, eqb, List, length, Result, Ok, Err, refl, arith}
+use Rattle.std.proofs.Common.{◌≡◌, ℕ, ◌+◌, false, eqb, List, Err, refl, arith}
 use Rattle.std.proofs.lemmas.Bool.{ne_eqb}
-use Rattle.det_cbor.specs.DataItem.{DataItem, UnsignedInteger, NegativeInteger, ByteString, TextString, ArrayOf, MapOf, TaggedItem, Boolean, NullItem, DataItems, NoItems, ItemThen, item_count}
+use Rattle.det_cbor.specs.DataItem.{DataItem, UnsignedInteger, NegativeInteger, ByteString, TextString, ArrayOf, MapOf, TaggedItem, Boolean, NullItem, NoItems, ItemThen, item_count}
 use Rattle.det_cbor.specs.Position.{Position}
-use Rattle.suit_params.specs.declared.refusal.Refusal.{Refusal}
-use Rattle.suit_params.specs.declared.refusal.Why.TheVariants.{Shape, Algorithm}
+use Rattle.suit_params.specs.declared.refusal.Why.TheVariants.{Shape}
 use Rattle.suit_params.specs.Refusing.{refused, IsByteString}
 use Rattle.suit_params.specs.Digests.{IsPair, IsNumber, pair_item, first_place}
 use Rattle.suit_params.specs.Judging.{judge_value, judge_elements, judge_digest}

@@ -1,9 +1,9 @@
 -- An item that is read as a digest is judged so, and the judgement is that of the grammar and the refusals.
-use Rattle.std.proofs.Common.{◌≡◌, ◌≢◌, ℕ, ◌+◌, ◌^◌, ◌<◌, Bool, true, false, cond, eqb, List, [], ◌∷◌, ◌++◌, length, Result, Ok, Err, refl, sym, ap, subst, ◌∙◌, append_assoc, arith, inl, inr}
+use Rattle.std.proofs.Common.{◌≡◌, ◌≢◌, ℕ, ◌+◌, Bool, true, false, cond, eqb, List, [], ◌++◌, length, Result, Ok, Err, refl, sym, ap, subst, ◌∙◌, inl, inr}
 use Rattle.std.proofs.lemmas.Bool.{eqb-true, eqb-false, ne_eqb}
 use Rattle.std.proofs.lemmas.List.{append-nil}
 use Rattle.det_cbor.specs.Heads.{head_bytes}
-use Rattle.det_cbor.specs.DataItem.{DataItem, UnsignedInteger, NegativeInteger, ByteString, ArrayOf, NoItems, ItemThen, spell, IsValidWithin}
+use Rattle.det_cbor.specs.DataItem.{DataItem, UnsignedInteger, NegativeInteger, ByteString, spell, IsValidWithin}
 use Rattle.det_cbor.specs.HeadReading.{◌>>=◌}
 use Rattle.det_cbor.specs.ItemOrder.{spell_parts}
 use Rattle.det_cbor.specs.Position.{Position}
@@ -11,11 +11,11 @@ use Rattle.det_cbor.proofs.Results.{chosen, same_ok, same_err}
 use Rattle.suit_params.specs.declared.refusal.Refusal.{Refusal}
 use Rattle.suit_params.specs.declared.refusal.Why.TheVariants.{Shape, Algorithm}
 use Rattle.suit_params.specs.Refusing.{refused, IsByteString}
-use Rattle.suit_params.specs.Digests.{pair_item, sha_256, digest_item, IsDigest, IsPair, IsNumber, first_place, second_place, RefusesDigest, NoPair, NoNumber, OtherAlgorithm, NoByteString, OtherLength}
+use Rattle.suit_params.specs.Digests.{pair_item, sha_256, IsDigest, IsPair, IsNumber, first_place, second_place, RefusesDigest, NoPair, NoNumber, OtherAlgorithm, NoByteString, OtherLength}
 use Rattle.suit_params.specs.Judging.{judge_value, judge_elements, judge_digest}
-use Rattle.suit_params.specs.Reading.{head_from, bytes_from}
-use Rattle.suit_params.specs.DigestReading.{value_after, value_at, algorithm_after, algorithm_at, elements_after, digest_at}
-use Rattle.suit_params.proofs.ItemHeads.{item_head, item_head_read, bytes_again, after}
+use Rattle.suit_params.specs.Reading.{bytes_from}
+use Rattle.suit_params.specs.DigestReading.{value_at, algorithm_at, digest_at}
+use Rattle.suit_params.proofs.ItemHeads.{item_head_read, bytes_again, after}
 use Rattle.suit_params.proofs.DigestCases.{by_pair, by_number, by_bytes}
 
 -- ---- what is read

@@ -1,5 +1,5 @@
 -- Byte strings, and the items that they hold.
-use Rattle.std.proofs.Common.{◌≡◌, ℕ, ◌+◌, ◌<◌, Bool, true, false, cond, eqb, List, [], ◌∷◌, ◌++◌, length, Result, Ok, Err, refl, sym, ap, subst, ◌∙◌, append_assoc, arith}
+use Rattle.std.proofs.Common.{◌≡◌, ℕ, ◌+◌, Bool, true, false, cond, eqb, List, [], ◌∷◌, ◌++◌, length, Result, Ok, Err, refl, sym, ap, subst, ◌∙◌, arith}
 use Rattle.std.specs.List.{AllByRecursion}
 use Rattle.std.proofs.lemmas.List.{length-append}
 use Rattle.det_cbor.specs.Heads.{head_bytes}
@@ -13,7 +13,7 @@ use Rattle.suit_params.specs.declared.refusal.Refusal.{Refusal}
 use Rattle.suit_params.specs.declared.refusal.Why.TheVariants.{Shape, Trailing}
 use Rattle.suit_params.specs.Refusing.{refused, Refuses, Says, IsByteString, content_place, SaysWhole, RefusesWhole, RefusesHeld, NoString, BadContent, SaysHeld, RefusesFirst, Here, Later}
 use Rattle.suit_params.specs.Judging.{judge_string, judge_held, judge_each}
-use Rattle.suit_params.specs.Reading.{head_from, bytes_from, inside, item_from, only_from, string_from, content_after, content_from, whole_judged}
+use Rattle.suit_params.specs.Reading.{inside, item_from, only_from, string_from, content_after, content_from, whole_judged}
 use Rattle.suit_params.proofs.ItemHeads.{item_kind, item_value, item_head_read, bytes_again, after}
 use Rattle.suit_params.proofs.Judgements.{Judges, item_ok, whole_ok, whole_err, whole_read, whole_refused}
 
@@ -142,24 +142,32 @@ held_judges {A} judge says form law = record {
 
 -- ---- lists
 
-pub record JudgesEach {A : Type 0} (judge : A → Result Unit Refusal) (good : A → Type 0) (bad : A → Refusal → Type 0) : Type 0 where
-  pub ok : (a : A) → judge a ≡ Ok tt → good a
+-- the judgement of each that fits is that of what is good and what is bad, both ways
+pub record JudgesEach {A : Type 0} (fits : A → Type 0) (judge : A → Result Unit Refusal) (good : A → Type 0) (bad : A → Refusal → Type 0) : Type 0 where
+  pub ok : (a : A) → fits a → judge a ≡ Ok tt → good a
   pub again : (a : A) → good a → judge a ≡ Ok tt
-  pub err : (a : A) (r : Refusal) → judge a ≡ Err r → bad a r
+  pub err : (a : A) (r : Refusal) → fits a → judge a ≡ Err r → bad a r
   pub refuses : (a : A) (r : Refusal) → bad a r → judge a ≡ Err r
 
-pub each_ok : {A : Type 0} (judge : A → Result Unit Refusal) (good : A → Type 0) (bad : A → Refusal → Type 0) → JudgesEach judge good bad → (xs : List A) → judge_each judge xs ≡ Ok tt → AllByRecursion good xs
-each_ok judge good bad law [] e = tt
-each_ok judge good bad law (x ∷ xs) e = bind_ok (judge x) _ tt e (λ done is f. (law.ok x is, each_ok judge good bad law xs f))
+abbrev pub Anything : {A : Type 0} → A → Type 0
+Anything a = Unit {0}
 
-pub each_again : {A : Type 0} (judge : A → Result Unit Refusal) (good : A → Type 0) (bad : A → Refusal → Type 0) → JudgesEach judge good bad → (xs : List A) → AllByRecursion good xs → judge_each judge xs ≡ Ok tt
-each_again judge good bad law [] all = refl
-each_again judge good bad law (x ∷ xs) all = rw (law.again x all.0) (each_again judge good bad law xs all.1)
+pub all_anything : {A : Type 0} (xs : List A) → AllByRecursion Anything xs
+all_anything [] = tt
+all_anything (x ∷ xs) = (tt, all_anything xs)
 
-pub each_err : {A : Type 0} (judge : A → Result Unit Refusal) (good : A → Type 0) (bad : A → Refusal → Type 0) → JudgesEach judge good bad → (xs : List A) (r : Refusal) → judge_each judge xs ≡ Err r → RefusesFirst bad good xs r
-each_err judge good bad law [] r e = absurd cc
-each_err judge good bad law (x ∷ xs) r e = bind_err (judge x) _ r e (λ f. Here x xs r (law.err x r f)) (λ done is f. Later x xs r (law.ok x is) (each_err judge good bad law xs r f))
+pub each_ok : {A : Type 0} (fits : A → Type 0) (judge : A → Result Unit Refusal) (good : A → Type 0) (bad : A → Refusal → Type 0) → JudgesEach fits judge good bad → (xs : List A) → AllByRecursion fits xs → judge_each judge xs ≡ Ok tt → AllByRecursion good xs
+each_ok fits judge good bad law [] all e = tt
+each_ok fits judge good bad law (x ∷ xs) all e = bind_ok (judge x) _ tt e (λ done is f. (law.ok x all.0 is, each_ok fits judge good bad law xs all.1 f))
 
-pub each_refused : {A : Type 0} (judge : A → Result Unit Refusal) (good : A → Type 0) (bad : A → Refusal → Type 0) → JudgesEach judge good bad → (xs : List A) (r : Refusal) → RefusesFirst bad good xs r → judge_each judge xs ≡ Err r
-each_refused judge good bad law xs r (Here x rest s b) = rw (law.refuses x s b) refl
-each_refused judge good bad law xs r (Later x rest s g later) = rw (law.again x g) (each_refused judge good bad law rest s later)
+pub each_again : {A : Type 0} (fits : A → Type 0) (judge : A → Result Unit Refusal) (good : A → Type 0) (bad : A → Refusal → Type 0) → JudgesEach fits judge good bad → (xs : List A) → AllByRecursion good xs → judge_each judge xs ≡ Ok tt
+each_again fits judge good bad law [] all = refl
+each_again fits judge good bad law (x ∷ xs) all = rw (law.again x all.0) (each_again fits judge good bad law xs all.1)
+
+pub each_err : {A : Type 0} (fits : A → Type 0) (judge : A → Result Unit Refusal) (good : A → Type 0) (bad : A → Refusal → Type 0) → JudgesEach fits judge good bad → (xs : List A) (r : Refusal) → AllByRecursion fits xs → judge_each judge xs ≡ Err r → RefusesFirst bad good xs r
+each_err fits judge good bad law [] r all e = absurd cc
+each_err fits judge good bad law (x ∷ xs) r all e = bind_err (judge x) _ r e (λ f. Here x xs r (law.err x r all.0 f)) (λ done is f. Later x xs r (law.ok x all.0 is) (each_err fits judge good bad law xs r all.1 f))
+
+pub each_refused : {A : Type 0} (fits : A → Type 0) (judge : A → Result Unit Refusal) (good : A → Type 0) (bad : A → Refusal → Type 0) → JudgesEach fits judge good bad → (xs : List A) (r : Refusal) → RefusesFirst bad good xs r → judge_each judge xs ≡ Err r
+each_refused fits judge good bad law xs r (Here x rest s b) = rw (law.refuses x s b) refl
+each_refused fits judge good bad law xs r (Later x rest s g later) = rw (law.again x g) (each_refused fits judge good bad law rest s later)

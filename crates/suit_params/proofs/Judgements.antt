@@ -1,16 +1,16 @@
 -- Items that are read at a position and judged: what is read says what is spelled, and what is refused is refused so.
-use Rattle.std.proofs.Common.{◌≡◌, ◌≢◌, ℕ, ◌+◌, ◌-◌, ◌<◌, ◌≤◌, Bool, true, false, cond, eqb, List, [], ◌∷◌, ◌++◌, length, get_or, Result, Ok, Err, refl, sym, ap, subst, ◌∙◌, append_assoc, arith, inl, inr}
+use Rattle.std.proofs.Common.{◌≡◌, ◌≢◌, ℕ, ◌+◌, ◌-◌, false, eqb, List, [], ◌++◌, length, Result, Ok, Err, refl, sym, ap, subst, ◌∙◌, arith, inl, inr}
 use Rattle.std.proofs.lemmas.Bool.{eqb-true, eqb-false, ne_eqb}
 use Rattle.std.proofs.lemmas.List.{append-nil, nil_from_length, length-append}
 use Rattle.det_cbor.specs.declared.reason.Reason.{Reason}
-use Rattle.det_cbor.specs.DataItem.{DataItem, spell, IsValid, IsValidWithin, Spells}
+use Rattle.det_cbor.specs.DataItem.{DataItem, spell, IsValid, IsValidWithin}
 use Rattle.det_cbor.specs.Faults.{Faulty}
 use Rattle.det_cbor.specs.HeadReading.{◌>>=◌}
 use Rattle.det_cbor.specs.ItemReading.{Read, item_at}
 use Rattle.det_cbor.specs.OneReading.{IsItem}
 use Rattle.det_cbor.specs.Position.{Position, Takes, IsRefusal}
 use Rattle.det_cbor.specs.declared.reason.CborRefusal.{CborRefusal}
-use Rattle.det_cbor.proofs.Results.{chosen, bind_ok, bind_err, same_ok, ok_pair, same_err}
+use Rattle.det_cbor.proofs.Results.{chosen, bind_ok, bind_err, ok_pair, same_err}
 use Rattle.det_cbor.proofs.Arguments.{IsBytes}
 use Rattle.det_cbor.proofs.ItemTakes.{item_takes}
 use Rattle.det_cbor.proofs.ItemAgain.{item_again}

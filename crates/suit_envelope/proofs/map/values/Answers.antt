@@ -1,4 +1,4 @@
-use Rattle.std.proofs.Common.{◌≡◌, ◌∙◌}
+use Rattle.std.proofs.Common.{◌∙◌}
 use Rattle.suit_envelope.specs.Said.{said_by}
 use Rattle.suit_envelope.proofs.Loops.{values_step}
 use Rattle.suit_envelope.proofs.map.values.Goals as goal
