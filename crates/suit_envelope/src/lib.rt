@@ -9,3 +9,6 @@ mod wrapper;
 
 pub use decode::decode_envelope;
 pub use envelope::Envelope;
+
+#[cfg(test)]
+mod tests;

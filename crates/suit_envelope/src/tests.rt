@@ -1,0 +1,360 @@
+//! Tests of envelopes: what is refused, where and why, and what is read.
+
+use crate::decode_envelope;
+use det_cbor::Reason;
+use std::test::Fail;
+use suit_params::{Refusal, Why};
+
+/// Bytes that are no envelope, and the refusal.
+#[derive(Clone, Copy)]
+struct Row {
+    shows: &'static str,
+    bytes: &'static str,
+    place: u64,
+    why: Why,
+}
+
+const ROWS: [Row; 46] = [
+    Row {
+        shows: "no bytes",
+        bytes: "",
+        place: 0,
+        why: Why::Cbor(Reason::Truncated),
+    },
+    Row {
+        shows: "an envelope that lacks its last byte",
+        bytes: "d86ba2025827815824822f582000000000000000000000000000000000000000000000000000000000000000000341",
+        place: 47,
+        why: Why::Cbor(Reason::Truncated),
+    },
+    Row {
+        shows: "a reserved head",
+        bytes: "fc",
+        place: 0,
+        why: Why::Cbor(Reason::Kind),
+    },
+    Row {
+        shows: "a key that is repeated",
+        bytes: "a203400340",
+        place: 3,
+        why: Why::Cbor(Reason::Repeated),
+    },
+    Row {
+        shows: "a byte after the envelope",
+        bytes: "d86ba2025827815824822f582000000000000000000000000000000000000000000000000000000000000000000341a000",
+        place: 48,
+        why: Why::Trailing,
+    },
+    Row {
+        shows: "a byte after an item that is no map",
+        bytes: "8000",
+        place: 1,
+        why: Why::Trailing,
+    },
+    Row {
+        shows: "no map",
+        bytes: "80",
+        place: 0,
+        why: Why::Shape,
+    },
+    Row {
+        shows: "no map behind the tag",
+        bytes: "d86b80",
+        place: 2,
+        why: Why::Shape,
+    },
+    Row {
+        shows: "another tag",
+        bytes: "d86aa2025827815824822f582000000000000000000000000000000000000000000000000000000000000000000341a0",
+        place: 0,
+        why: Why::Shape,
+    },
+    Row {
+        shows: "a tag behind the tag",
+        bytes: "d86bd86ba2025827815824822f582000000000000000000000000000000000000000000000000000000000000000000341a0",
+        place: 2,
+        why: Why::Shape,
+    },
+    Row {
+        shows: "an unknown number",
+        bytes: "a3025827815824822f582000000000000000000000000000000000000000000000000000000000000000000341a00440",
+        place: 46,
+        why: Why::UnknownKey,
+    },
+    Row {
+        shows: "a key that is a byte string",
+        bytes: "a3025827815824822f582000000000000000000000000000000000000000000000000000000000000000000341a04040",
+        place: 46,
+        why: Why::UnknownKey,
+    },
+    Row {
+        shows: "a key that is null",
+        bytes: "a3025827815824822f582000000000000000000000000000000000000000000000000000000000000000000341a0f640",
+        place: 46,
+        why: Why::UnknownKey,
+    },
+    Row {
+        shows: "an unknown key before a missing one",
+        bytes: "a10440",
+        place: 1,
+        why: Why::UnknownKey,
+    },
+    Row {
+        shows: "an unknown key before a value",
+        bytes: "a3020003000400",
+        place: 5,
+        why: Why::UnknownKey,
+    },
+    Row {
+        shows: "the first of two unknown keys",
+        bytes: "a200400140",
+        place: 1,
+        why: Why::UnknownKey,
+    },
+    Row {
+        shows: "no key",
+        bytes: "a0",
+        place: 0,
+        why: Why::Missing(2),
+    },
+    Row {
+        shows: "no key behind the tag",
+        bytes: "d86ba0",
+        place: 2,
+        why: Why::Missing(2),
+    },
+    Row {
+        shows: "no wrapper",
+        bytes: "a10341a0",
+        place: 0,
+        why: Why::Missing(2),
+    },
+    Row {
+        shows: "no manifest",
+        bytes: "a1025827815824822f58200000000000000000000000000000000000000000000000000000000000000000",
+        place: 0,
+        why: Why::Missing(3),
+    },
+    Row {
+        shows: "no manifest before a value",
+        bytes: "a10200",
+        place: 0,
+        why: Why::Missing(3),
+    },
+    Row {
+        shows: "a wrapper that is no byte string, before a manifest that is none",
+        bytes: "a202000300",
+        place: 2,
+        why: Why::Shape,
+    },
+    Row {
+        shows: "a manifest that is no byte string",
+        bytes: "a2025827815824822f582000000000000000000000000000000000000000000000000000000000000000000300",
+        place: 44,
+        why: Why::Shape,
+    },
+    Row {
+        shows: "a payload-fetch that is no byte string",
+        bytes: "a3025827815824822f582000000000000000000000000000000000000000000000000000000000000000000341a01000",
+        place: 47,
+        why: Why::Shape,
+    },
+    Row {
+        shows: "an install that is no byte string",
+        bytes: "a3025827815824822f582000000000000000000000000000000000000000000000000000000000000000000341a01400",
+        place: 47,
+        why: Why::Shape,
+    },
+    Row {
+        shows: "a text that is no byte string",
+        bytes: "a3025827815824822f582000000000000000000000000000000000000000000000000000000000000000000341a01700",
+        place: 47,
+        why: Why::Shape,
+    },
+    Row {
+        shows: "a payload that is no byte string",
+        bytes: "a3025827815824822f582000000000000000000000000000000000000000000000000000000000000000000341a0612300",
+        place: 48,
+        why: Why::Shape,
+    },
+    Row {
+        shows: "a wrapper that is cut short",
+        bytes: "a20241180341a0",
+        place: 4,
+        why: Why::Cbor(Reason::Truncated),
+    },
+    Row {
+        shows: "a byte after the wrapper",
+        bytes: "a2024280000341a0",
+        place: 4,
+        why: Why::Trailing,
+    },
+    Row {
+        shows: "a wrapper that is no array",
+        bytes: "a20241a00341a0",
+        place: 3,
+        why: Why::Shape,
+    },
+    Row {
+        shows: "a wrapper without elements",
+        bytes: "a20241800341a0",
+        place: 3,
+        why: Why::Shape,
+    },
+    Row {
+        shows: "a wrapper that is refused before the manifest",
+        bytes: "a20241800300",
+        place: 3,
+        why: Why::Shape,
+    },
+    Row {
+        shows: "a wrapper whose first element is no byte string",
+        bytes: "a2024281000341a0",
+        place: 4,
+        why: Why::Shape,
+    },
+    Row {
+        shows: "a digest that is cut short",
+        bytes: "a202438141180341a0",
+        place: 6,
+        why: Why::Cbor(Reason::Truncated),
+    },
+    Row {
+        shows: "a byte after the digest",
+        bytes: "a20244814280000341a0",
+        place: 6,
+        why: Why::Trailing,
+    },
+    Row {
+        shows: "a digest that is no array",
+        bytes: "a202438141000341a0",
+        place: 5,
+        why: Why::Shape,
+    },
+    Row {
+        shows: "a digest of one element",
+        bytes: "a202448142812f0341a0",
+        place: 5,
+        why: Why::Shape,
+    },
+    Row {
+        shows: "a digest of three elements",
+        bytes: "a202468144832f40400341a0",
+        place: 5,
+        why: Why::Shape,
+    },
+    Row {
+        shows: "a digest by another algorithm",
+        bytes: "a2024581438200400341a0",
+        place: 5,
+        why: Why::Algorithm,
+    },
+    Row {
+        shows: "another algorithm, and no byte string",
+        bytes: "a202458143822e000341a0",
+        place: 5,
+        why: Why::Algorithm,
+    },
+    Row {
+        shows: "an algorithm that is no number",
+        bytes: "a2024581438240000341a0",
+        place: 6,
+        why: Why::Shape,
+    },
+    Row {
+        shows: "a digest that is no byte string",
+        bytes: "a202458143822f000341a0",
+        place: 7,
+        why: Why::Shape,
+    },
+    Row {
+        shows: "a digest of no bytes",
+        bytes: "a202458143822f400341a0",
+        place: 5,
+        why: Why::Algorithm,
+    },
+    Row {
+        shows: "a digest of 31 bytes",
+        bytes: "a2025826815823822f581f000000000000000000000000000000000000000000000000000000000000000341a0",
+        place: 7,
+        why: Why::Algorithm,
+    },
+    Row {
+        shows: "a block that is no byte string",
+        bytes: "a2025829835824822f5820000000000000000000000000000000000000000000000000000000000000000040000341a0",
+        place: 44,
+        why: Why::Shape,
+    },
+    Row {
+        shows: "a digest before a block",
+        bytes: "a20244824100000341a0",
+        place: 5,
+        why: Why::Shape,
+    },
+];
+
+#[test]
+fn each_fault_has_its_place_and_comes_in_its_order(rt: HostRuntime) -> Result<(), Fail> {
+    let alloc = rt.alloc();
+    for row in &ROWS {
+        let bytes = hex::decode(alloc, row.bytes)?;
+        let shows = row.shows;
+        match decode_envelope(bytes.as_slice()) {
+            Ok(_) => return Err(Fail::from(shows)),
+            Err(refusal) => {
+                let expected = Refusal {
+                    place: row.place,
+                    why: row.why,
+                };
+                assert_eq!(rt; refusal, expected, "{shows}");
+            }
+        }
+    }
+    Ok(())
+}
+
+/// The stored envelope of the program: tagged, with a wrapper without blocks and a manifest of 71 bytes.
+const STORED: &str =
+    "d86ba2025827815824822f58200000000000000000000000000000000000000000000000000000000000000000035847a501010201035835a2028181410004582c8214a2035824822f5820ba7816bf8f01cfea414140de5dae2223b00361a396177a9cb410ff61f20015ad0e03074382030f094382170f";
+
+#[test]
+fn the_stored_envelope_is_read(rt: HostRuntime) -> Result<(), Fail> {
+    let alloc = rt.alloc();
+    let bytes = hex::decode(alloc, STORED)?;
+    let bytes = bytes.as_slice();
+    match decode_envelope(bytes) {
+        Ok(envelope) => {
+            assert!(rt; envelope.tagged);
+            assert_eq!(rt; envelope.whole, bytes);
+            assert_eq!(rt; envelope.wrapper_place, 6);
+            assert_eq!(rt; envelope.wrapper.len(), 39);
+            assert_eq!(rt; envelope.manifest_place, 48);
+            assert_eq!(rt; envelope.manifest.len(), 71);
+            assert!(rt; envelope.payload_fetch.is_none());
+        }
+        Err(_) => return Err(Fail::from("the stored envelope is refused")),
+    }
+    Ok(())
+}
+
+/// An untagged envelope with two blocks, each severed member and a payload.
+const FULL: &str =
+    "a602582a835824822f582000000000000000000000000000000000000000000000000000000000000000004041000341a0104180144281001741a0612343616263";
+
+#[test]
+fn severed_members_and_payloads_are_read(rt: HostRuntime) -> Result<(), Fail> {
+    let alloc = rt.alloc();
+    let bytes = hex::decode(alloc, FULL)?;
+    match decode_envelope(bytes.as_slice()) {
+        Ok(envelope) => {
+            assert!(rt; !envelope.tagged);
+            assert_eq!(rt; envelope.payload_fetch, Some(b"\x80".as_slice()));
+            assert_eq!(rt; envelope.install, Some(b"\x81\x00".as_slice()));
+            assert_eq!(rt; envelope.text, Some(b"\xa0".as_slice()));
+            assert_eq!(rt; envelope.payload_fetch_place, 51);
+            assert_eq!(rt; envelope.install_place, 54);
+        }
+        Err(_) => return Err(Fail::from("the envelope is refused")),
+    }
+    Ok(())
+}
