@@ -4,3 +4,4 @@ pub mod KeyLaws
 pub mod EnvelopeReads
 pub mod EnvelopeJudging
 pub mod EnvelopeAnswers
+pub mod WrapperLaws

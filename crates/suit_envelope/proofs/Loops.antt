@@ -4,6 +4,7 @@ use Rattle.det_cbor.specs.Position.{Position}
 use Rattle.suit_params.specs.declared.refusal.Refusal.{Refusal}
 use Rattle.suit_params.specs.Reading.{content_from}
 use Rattle.suit_envelope.specs.Envelopes.{EnvelopeSays}
+use Rattle.suit_envelope.specs.WrapperParts.{passed_from}
 use Rattle.suit_envelope.specs.WrapperReading.{blocks_from}
 use Rattle.suit_envelope.specs.EnvelopeReading.{key_turn, keys_from, value_turn, values_from}
 use Rattle.suit_envelope.specs.declared.key.Seen.{Seen}
@@ -24,4 +25,10 @@ pub values_step : (count i : ℕ) (p q : Position) (s t : EnvelopeSays) (total :
 values_step count i p q s t total lt e so_far =
     let one : count - i ≡ suc (count - (i + 1)) = omega arith in
     let step : values_from (count - i) p s ≡ values_from (count - (i + 1)) q t = rw (one, ← e) refl in
+    sym step ∙ so_far
+
+pub pass_step : (count i : ℕ) (p q inner : Position) (total : Result Position Refusal) → i < count → Ok (inner, q) ≡ content_from p → passed_from (count - i) p ≡ total → passed_from (count - (i + 1)) q ≡ total
+pass_step count i p q inner total lt e so_far =
+    let one : count - i ≡ suc (count - (i + 1)) = omega arith in
+    let step : passed_from (count - i) p ≡ passed_from (count - (i + 1)) q = rw (one, ← e) refl in
     sym step ∙ so_far

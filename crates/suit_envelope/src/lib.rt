@@ -1,6 +1,7 @@
 //! SUIT envelopes (draft-ietf-suit-manifest-25, section 8.2): their grammar, without memory.
 #![tactic(auto)]
 
+mod blocks;
 mod decode;
 mod envelope;
 mod key;

@@ -12,8 +12,8 @@ use crate::wrapper::wrapper_of;
 use det_cbor::{Cursor, HeadKind};
 use suit_params::{Refusal, Why, only_item, read_content, read_head, refused, same_place};
 
-// The bytes that are left.
-fn bytes_left<'a>(mut content: Cursor<'a>) -> &'a [u8]
+/// The bytes that are left.
+pub(crate) fn bytes_left<'a>(mut content: Cursor<'a>) -> &'a [u8]
     ensures { result.now ≡ content.entry.left }
 {
     match content.bytes(content.left() as u64) {

@@ -1,0 +1,106 @@
+-- The parts of a wrapper that is spelled are read.
+use Rattle.std.proofs.Common.{◌≡◌, ℕ, zero, suc, ◌+◌, ◌-◌, ◌<◌, Bool, true, false, List, [], ◌∷◌, ◌++◌, length, Option, Some, None, Result, Ok, Err, refl, sym, ap, subst, ◌∙◌, append_assoc, arith}
+use Rattle.std.specs.List.{AllByRecursion, slice_get}
+use Rattle.std.specs.Prelude.{option_map}
+use Rattle.std.specs.Result.{result_ok}
+use Rattle.std.proofs.lemmas.List.{append-nil}
+use Rattle.det_cbor.specs.Heads.{head_bytes}
+use Rattle.det_cbor.specs.DataItem.{DataItem, ByteString, ArrayOf, DataItems, NoItems, ItemThen, item_count, spell, spell_items, IsValid, IsValidWithin, AreValidWithin, Spells}
+use Rattle.det_cbor.specs.HeadReading.{◌>>=◌}
+use Rattle.det_cbor.specs.Position.{Position}
+use Rattle.suit_params.specs.declared.refusal.Refusal.{Refusal}
+use Rattle.suit_params.specs.Refusing.{IsByteString, content_place, SaysHeld, SaysWhole}
+use Rattle.suit_params.specs.Digests.{IsDigest, digest_item}
+use Rattle.suit_params.specs.Reading.{inside, item_from, only_from, head_from, content_from}
+use Rattle.suit_params.proofs.ItemHeads.{item_head_read, after}
+use Rattle.suit_params.proofs.Judgements.{item_read}
+use Rattle.suit_params.proofs.Held.{by_string, content_read}
+use Rattle.suit_envelope.specs.Wrapper.{placed, elements_place, blocks_of, IsBlock, IsWrapper}
+use Rattle.suit_envelope.specs.Judging.{judge_wrapper}
+use Rattle.suit_envelope.specs.WrapperReading.{wrapper_at}
+use Rattle.suit_envelope.specs.WrapperParts.{strings_of, wrapper_item, WrapperSays, HasWrapper, start_of, digest_from, count_from, passed_from, block_from}
+use Rattle.suit_envelope.proofs.WrapperJudging.{wrapper_read, wrapper_judges}
+
+-- ---- the digest
+
+strings_blocks : (place : ℕ) (blocks : List (List ℕ)) → AllByRecursion IsBlock (placed place (strings_of blocks))
+strings_blocks place [] = tt
+strings_blocks place (block ∷ blocks) = (tt, strings_blocks (place + length (spell (ByteString block))) blocks)
+
+says_wrapper : (wrapper digest : List ℕ) (blocks : List (List ℕ)) → WrapperSays wrapper digest blocks → IsWrapper 0 (wrapper_item digest blocks) digest
+says_wrapper wrapper digest blocks so =
+    let first = ByteString (spell (digest_item digest)) in
+    let place = elements_place 0 (strings_of blocks) in
+    let inner : SaysWhole IsDigest (content_place place (spell (digest_item digest))) (spell (digest_item digest)) digest = record { item = digest_item digest; spells = record { valid = so.digest_valid; is = refl }; says_so = record { is = refl; long = so.long } } in
+    record { first = first; blocks = strings_of blocks; is = refl; holds = record { content = spell (digest_item digest); is = refl; holds = inner }; rest = strings_blocks (place + length (spell first)) blocks }
+
+only_read : (p : Position) (x : DataItem) → IsValid x → p.left ≡ spell x → only_from p ≡ Ok (inside p x)
+only_read p x valid is = rw (item_read p x [] valid (is ∙ sym (append-nil (spell x)))) refl
+
+pub digest_read : (wrapper digest : List ℕ) (blocks : List (List ℕ)) → WrapperSays wrapper digest blocks → digest_from wrapper ≡ Ok digest
+digest_read wrapper digest blocks so =
+    let x = wrapper_item digest blocks in
+    rw (only_read (start_of wrapper) x so.spells.valid so.spells.is) (wrapper_read 0 0 x so.spells.valid ∙ wrapper_judges.again 0 x digest (says_wrapper wrapper digest blocks so))
+
+-- ---- the blocks
+
+strings_count : (blocks : List (List ℕ)) → item_count (strings_of blocks) ≡ length blocks
+strings_count [] = refl
+strings_count (block ∷ blocks) = omega (arith, strings_count blocks)
+
+pub count_read : (wrapper digest : List ℕ) (blocks : List (List ℕ)) → WrapperSays wrapper digest blocks → count_from wrapper ≡ length blocks
+count_read wrapper digest blocks so =
+    let x = wrapper_item digest blocks in
+    let count : item_count (strings_of blocks) + 1 - 1 ≡ length blocks = omega (arith, strings_count blocks) in
+    rw (item_head_read 0 (start_of wrapper) x [] so.spells.valid (so.spells.is ∙ sym (append-nil (spell x)))) count
+
+abbrev third : Position → Result Position Refusal
+third p = content_from p >>= λ c. Ok c.0
+
+-- the block of a number, from the first on
+nth_read : (levels n : ℕ) (p : Position) (blocks : List (List ℕ)) → AreValidWithin levels (strings_of blocks) → p.left ≡ spell_items (strings_of blocks) → n < length blocks
+    → option_map (λ (c : Position). c.left) (result_ok (passed_from n p >>= third)) ≡ slice_get blocks n
+nth_read levels n p [] valid is lt = absurd (omega arith)
+nth_read levels zero p (block ∷ blocks) valid is lt = rw (content_read levels p (ByteString block) (spell_items (strings_of blocks)) valid.0 is) refl
+nth_read levels (suc n) p (block ∷ blocks) valid is lt =
+    let q = after p (spell (ByteString block)) (spell_items (strings_of blocks)) in
+    rw (content_read levels p (ByteString block) (spell_items (strings_of blocks)) valid.0 is) (nth_read levels n q blocks valid.1 refl (omega arith))
+
+pub block_read : (wrapper digest : List ℕ) (blocks : List (List ℕ)) (n : ℕ) → WrapperSays wrapper digest blocks → n < length blocks → option_map (λ (c : Position). c.left) (result_ok (block_from n wrapper)) ≡ slice_get blocks n
+block_read wrapper digest blocks n so lt =
+    let x = wrapper_item digest blocks in
+    let p = start_of wrapper in
+    let first = ByteString (spell (digest_item digest)) in
+    let left = spell_items (strings_of blocks) in
+    let q = after p (head_bytes 4 (item_count (strings_of blocks) + 1)) ((spell first ++ left) ++ []) in
+    let r = after q (spell first) left in
+    let whole : (spell first ++ left) ++ [] ≡ spell first ++ left = append-nil (spell first ++ left) in
+    rw (item_head_read 0 p x [] so.spells.valid (so.spells.is ∙ sym (append-nil (spell x))), content_read 1 q first left so.spells.valid.2.0 whole)
+    (nth_read 1 n r blocks so.spells.valid.2.1 refl lt)
+
+-- ---- an item that is a wrapper has these parts
+
+strings_again : (place : ℕ) (xs : DataItems) → AllByRecursion IsBlock (placed place xs) → (blocks : List (List ℕ)) × (xs ≡ strings_of blocks)
+strings_again place NoItems all = ([], refl)
+strings_again place (ItemThen x xs) all =
+    let rest = strings_again (place + length (spell x)) xs all.1 in
+    by_string (λ (y : DataItem). IsByteString y → (blocks : List (List ℕ)) × (ItemThen y xs ≡ strings_of blocks))
+    (λ bytes f. (bytes ∷ rest.0, ap (ItemThen (ByteString bytes)) rest.1))
+    (λ y other f. absurd (other.other f))
+    x all.0
+
+pub has_wrapper : (place : ℕ) (wrapper digest : List ℕ) → SaysWhole IsWrapper place wrapper digest → HasWrapper wrapper
+has_wrapper place wrapper digest so =
+    let w = so.says_so in
+    let held = w.holds in
+    let inner = held.holds in
+    let strings = strings_again _ w.blocks w.rest in
+    let digest_is = inner.says_so.is in
+    let content : held.content ≡ spell (digest_item digest) = inner.spells.is ∙ ap spell digest_is in
+    let first : w.first ≡ ByteString (spell (digest_item digest)) = held.is ∙ ap ByteString content in
+    let whole : so.item ≡ wrapper_item digest strings.0 = w.is ∙ ap (λ (y : DataItem). ArrayOf (ItemThen y w.blocks)) first ∙ ap (λ (ys : DataItems). ArrayOf (ItemThen (ByteString (spell (digest_item digest))) ys)) strings.1 in
+    (digest, strings.0, record {
+      spells = subst (λ (y : DataItem). Spells y wrapper) whole so.spells;
+      digest_valid = subst IsValid digest_is inner.spells.valid;
+      long = inner.says_so.long;
+    })

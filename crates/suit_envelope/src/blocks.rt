@@ -1,0 +1,48 @@
+//! The parts of an envelope's wrapper: the digest that it states, and its blocks.
+
+ghost use Rattle.std.specs.Prelude.{◌≡◌, ◌-◌, ℕ, List, length, option_map, map, Ok};
+ghost use Rattle.std.specs.List.{slice_get};
+ghost use Rattle.det_cbor.specs.HeadReading.{map_ok};
+ghost use Rattle.suit_envelope.specs.WrapperParts.{WrapperSays, HasWrapper, digest_from, count_from, passed_from, block_from};
+
+use crate::Envelope;
+use crate::map::bytes_left;
+use crate::wrapper::wrapper_of;
+use det_cbor::Cursor;
+use suit_params::{Digest, Refusal, only_item, read_content, read_head};
+
+fn digest_of_wrapper(wrapper: &[u8]) -> Result<Digest, Refusal>
+    ensures { map_ok (λ d. d.bytes) result ≡ digest_from wrapper.now }
+{
+    let item = only_item(Cursor::new(wrapper, 0))?;
+    wrapper_of(item)
+}
+
+fn count(wrapper: &[u8]) -> u64
+    ensures { result ≡ count_from wrapper.now }
+{
+    let mut elements = Cursor::new(wrapper, 0);
+    match read_head(&mut elements) {
+        Ok(head) => head.value.saturating_sub(1),
+        Err(_) => 0,
+    }
+}
+
+fn pass(mut elements: Cursor<'_>, number: u64) -> Result<Cursor<'_>, Refusal>
+    ensures { result ≡ passed_from number elements.entry }
+{
+    for _ in 0..number {
+        read_content(&mut elements)?;
+    }
+    Ok(elements)
+}
+
+fn nth(wrapper: &[u8], number: u64) -> Result<Cursor<'_>, Refusal>
+    ensures { result ≡ block_from number wrapper.now }
+{
+    let mut elements = Cursor::new(wrapper, 0);
+    read_head(&mut elements)?;
+    read_content(&mut elements)?;
+    let mut rest = pass(elements, number)?;
+    read_content(&mut rest)
+}
