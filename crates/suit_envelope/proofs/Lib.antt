@@ -5,3 +5,4 @@ pub mod EnvelopeReads
 pub mod EnvelopeJudging
 pub mod EnvelopeAnswers
 pub mod WrapperLaws
+pub mod PutWrapper

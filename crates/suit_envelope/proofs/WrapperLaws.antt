@@ -1,5 +1,5 @@
 -- The parts of a wrapper that is spelled are read.
-use Rattle.std.proofs.Common.{◌≡◌, ℕ, zero, suc, ◌+◌, ◌-◌, ◌<◌, Bool, true, false, List, [], ◌∷◌, ◌++◌, length, Option, Some, None, Result, Ok, Err, refl, sym, ap, subst, ◌∙◌, append_assoc, arith}
+use Rattle.std.proofs.Common.{◌≡◌, ℕ, zero, suc, ◌+◌, ◌-◌, ◌<◌, ◌≤◌, Bool, true, false, List, [], ◌∷◌, ◌++◌, length, Option, Some, None, Result, Ok, Err, refl, sym, ap, subst, ◌∙◌, append_assoc, arith}
 use Rattle.std.specs.List.{AllByRecursion, slice_get}
 use Rattle.std.specs.Prelude.{option_map}
 use Rattle.std.specs.Result.{result_ok}
@@ -7,6 +7,8 @@ use Rattle.std.proofs.lemmas.List.{append-nil}
 use Rattle.det_cbor.specs.Heads.{head_bytes}
 use Rattle.det_cbor.specs.DataItem.{DataItem, ByteString, ArrayOf, DataItems, NoItems, ItemThen, item_count, spell, spell_items, IsValid, IsValidWithin, AreValidWithin, Spells}
 use Rattle.det_cbor.specs.HeadReading.{◌>>=◌}
+use Rattle.std.proofs.lemmas.Option.{slice_get_past}
+use Rattle.det_cbor.proofs.Results.{same_ok, not_both}
 use Rattle.det_cbor.specs.Position.{Position}
 use Rattle.suit_params.specs.declared.refusal.Refusal.{Refusal}
 use Rattle.suit_params.specs.Refusing.{IsByteString, content_place, SaysHeld, SaysWhole}
@@ -104,3 +106,28 @@ has_wrapper place wrapper digest so =
       digest_valid = subst IsValid digest_is inner.spells.valid;
       long = inner.says_so.long;
     })
+
+-- ---- what calls answered
+
+pub stated_is : (wrapper digest found : List ℕ) (blocks : List (List ℕ)) → WrapperSays wrapper digest blocks → Ok found ≡ digest_from wrapper → found ≡ digest
+stated_is wrapper digest found blocks so e = same_ok found digest (e ∙ digest_read wrapper digest blocks so)
+
+pub stated_never : (wrapper : List ℕ) (r : Refusal) → HasWrapper wrapper → Err r ≡ digest_from wrapper → ⊥
+stated_never wrapper r has e = not_both (digest_from wrapper) has.0 r (digest_read wrapper has.0 has.1 has.2) (sym e)
+
+pub block_past : (wrapper : List ℕ) (count n : ℕ) → count ≡ count_from wrapper → count ≤ n → (digest : List ℕ) (blocks : List (List ℕ)) → WrapperSays wrapper digest blocks → None ≡ slice_get blocks n
+block_past wrapper count n is le digest blocks so =
+    let long : count ≡ length blocks = is ∙ count_read wrapper digest blocks so in
+    sym (slice_get_past blocks n (omega arith))
+
+pub block_found : (wrapper : List ℕ) (count n : ℕ) (content : Position) → count ≡ count_from wrapper → n < count → Ok content ≡ block_from n wrapper
+    → (digest : List ℕ) (blocks : List (List ℕ)) → WrapperSays wrapper digest blocks → Some content.left ≡ slice_get blocks n
+block_found wrapper count n content is lt e digest blocks so =
+    let long : count ≡ length blocks = is ∙ count_read wrapper digest blocks so in
+    ap (λ (r : Result Position Refusal). option_map (λ (c : Position). c.left) (result_ok r)) e ∙ block_read wrapper digest blocks n so (omega arith)
+
+pub block_never : (wrapper : List ℕ) (count n : ℕ) (r : Refusal) → count ≡ count_from wrapper → n < count → Err r ≡ block_from n wrapper
+    → (digest : List ℕ) (blocks : List (List ℕ)) → WrapperSays wrapper digest blocks → None ≡ slice_get blocks n
+block_never wrapper count n r is lt e digest blocks so =
+    let long : count ≡ length blocks = is ∙ count_read wrapper digest blocks so in
+    ap (λ (a : Result Position Refusal). option_map (λ (c : Position). c.left) (result_ok a)) e ∙ block_read wrapper digest blocks n so (omega arith)

@@ -5,6 +5,7 @@ ghost use Rattle.det_cbor.specs.HeadReading.{map_ok};
 ghost use Rattle.suit_params.specs.declared.refusal.Refusal.{Refusal};
 ghost use Rattle.suit_envelope.specs.Envelopes.{EnvelopeSays};
 ghost use Rattle.suit_envelope.specs.EnvelopeReading.{envelope_from};
+ghost use Rattle.suit_envelope.specs.WrapperParts.{HasWrapper};
 ghost use Rattle.suit_envelope.specs.Said.{said_by, EnvelopeOf, RefusesBytes};
 
 use crate::Envelope;
@@ -28,6 +29,7 @@ fn read_envelope(bytes: &[u8]) -> Result<Envelope<'_>, Refusal>
 pub fn decode_envelope(bytes: &[u8]) -> Result<Envelope<'_>, Refusal>
     ensures ok { IfOk result (λ e. EnvelopeOf bytes.now (said_by e)) }
     ensures whole { IfOk result (λ e. e.whole.now ≡ bytes.now) }
+    ensures wrapper { IfOk result (λ e. HasWrapper e.wrapper.now) }
     ensures refused { IfErr result (RefusesBytes bytes.now) }
     ensures every_envelope { (said : EnvelopeSays) → EnvelopeOf bytes.now said → map_ok said_by result ≡ Ok said }
     ensures every_refusal { (r : Refusal) → RefusesBytes bytes.now r → result ≡ Err r }

@@ -1,4 +1,5 @@
 use Rattle.std.proofs.Common.{arith}
+use Rattle.suit_envelope.proofs.PutWrapper.{ok_wrapper}
 use Rattle.suit_envelope.proofs.EnvelopeAnswers.{ok_says, err_refuses, every_envelope, every_refusal}
 use Rattle.suit_envelope.proofs.decode.decode_envelope.Goals as goal
 
@@ -13,3 +14,6 @@ returns-clause-every_envelope c = every_envelope c.args.bytes.now c.read_envelop
 
 pub returns-clause-every_refusal : goal.returns-clause-every_refusal
 returns-clause-every_refusal c = every_refusal c.args.bytes.now c.read_envelope.result (λ i. omega (arith, c.type_inv.bytes i)) c.read_envelope.ensures.says
+
+pub returns-clause-wrapper : goal.returns-clause-wrapper
+returns-clause-wrapper c = ok_wrapper c.args.bytes.now c.read_envelope.result (returns-clause-ok c)

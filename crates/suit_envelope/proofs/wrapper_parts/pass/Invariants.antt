@@ -1,6 +1,6 @@
 use Rattle.std.proofs.Common.{◌≡◌, ◌-◌}
 use Rattle.suit_envelope.specs.WrapperParts.{passed_from}
-use Rattle.suit_envelope.proofs.blocks.pass.Given as goal
+use Rattle.suit_envelope.proofs.wrapper_parts.pass.Given as goal
 
 -- what is left to be read decides the answer
 abbrev pub invariant-loop : goal.invariant-loop

@@ -1,6 +1,6 @@
 //! The parts of an envelope's wrapper: the digest that it states, and its blocks.
 
-ghost use Rattle.std.specs.Prelude.{◌≡◌, ◌-◌, ℕ, List, length, option_map, map, Ok};
+ghost use Rattle.std.specs.Prelude.{◌≡◌, ℕ, List, length, option_map};
 ghost use Rattle.std.specs.List.{slice_get};
 ghost use Rattle.det_cbor.specs.HeadReading.{map_ok};
 ghost use Rattle.suit_envelope.specs.WrapperParts.{WrapperSays, HasWrapper, digest_from, count_from, passed_from, block_from};
@@ -45,4 +45,37 @@ fn nth(wrapper: &[u8], number: u64) -> Result<Cursor<'_>, Refusal>
     read_content(&mut elements)?;
     let mut rest = pass(elements, number)?;
     read_content(&mut rest)
+}
+
+/// The digest that the envelope's wrapper states, of the manifest's whole byte string.
+pub fn stated_digest(envelope: &Envelope<'_>) -> Digest
+    requires { HasWrapper envelope.now.wrapper.now }
+    ensures { (digest : List ℕ) (blocks : List (List ℕ)) → WrapperSays envelope.now.wrapper.now digest blocks → result.bytes ≡ digest }
+{
+    match digest_of_wrapper(envelope.wrapper) {
+        Ok(digest) => digest,
+        Err(_) => unreachable!(),
+    }
+}
+
+/// The number of authentication blocks.
+#[tactic(auto, using(crate::proofs::WrapperLaws::count_read))]
+pub fn blocks(envelope: &Envelope<'_>) -> u64
+    ensures { (digest : List ℕ) (blocks : List (List ℕ)) → WrapperSays envelope.now.wrapper.now digest blocks → result ≡ length blocks }
+{
+    count(envelope.wrapper)
+}
+
+/// The authentication block of a number, counted from 0; none past the last.
+pub fn block<'a>(envelope: &Envelope<'a>, number: u64) -> Option<&'a [u8]>
+    ensures { (digest : List ℕ) (blocks : List (List ℕ)) → WrapperSays envelope.now.wrapper.now digest blocks
+        → option_map (λ b. b.now) result ≡ slice_get blocks number }
+{
+    if number >= count(envelope.wrapper) {
+        return None;
+    }
+    match nth(envelope.wrapper, number) {
+        Ok(content) => Some(bytes_left(content)),
+        Err(_) => None,
+    }
 }
