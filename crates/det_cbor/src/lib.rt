@@ -32,3 +32,6 @@ pub use pairs::Pairs;
 pub use reason::{CborRefusal, Reason};
 pub use text::Text;
 pub use validity::valid;
+
+#[cfg(test)]
+mod writing_tests;
