@@ -1,1 +1,3 @@
 pub mod FileTables
+pub mod Runs
+pub mod Written

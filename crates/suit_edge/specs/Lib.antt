@@ -1,7 +1,10 @@
+pub mod Calls
+pub mod Edge
 pub mod Faults
+pub mod Flash
 pub mod Host
+pub mod MemoryHost
+pub mod MemorySink
+pub mod Ranges
 pub mod Sink
 pub mod Take
-pub mod Calls
-pub mod MemorySink
-pub mod MemoryHost

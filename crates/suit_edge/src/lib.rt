@@ -2,6 +2,7 @@
 #![tactic(auto)]
 
 mod calls;
+mod disk;
 mod edge;
 mod file_host;
 mod file_table;
@@ -15,6 +16,7 @@ mod sink;
 mod std_sink;
 mod take;
 
+pub use disk::Disk;
 pub use edge::Edge;
 pub use file_host::FileHost;
 pub use host::{Host, Pulled, Started};
