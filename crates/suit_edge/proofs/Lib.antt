@@ -1,3 +1,4 @@
 pub mod FileTables
+pub mod Gates
 pub mod Runs
 pub mod Written

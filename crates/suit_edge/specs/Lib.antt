@@ -2,6 +2,7 @@ pub mod Calls
 pub mod Edge
 pub mod Faults
 pub mod Flash
+pub mod Gate
 pub mod Host
 pub mod MemoryHost
 pub mod MemorySink
