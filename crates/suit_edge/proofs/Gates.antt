@@ -1,10 +1,10 @@
 -- What a power loss leaves in each step of a write behind a gate.
-use Rattle.std.proofs.Common.{◌≡◌, ◌≢◌, ◌⊎◌, inl, inr, ⊎_elim, ◌<◌, ◌≤◌, ℕ, ◌+◌, List, [], ◌∷◌, length, get_or, refl, sym, ◌∙◌, ap, subst, arith}
+use Rattle.std.proofs.Common.{◌≡◌, ◌≢◌, inl, inr, ⊎_elim, ◌≤◌, ℕ, ◌+◌, List, [], ◌∷◌, length, get_or, sym, ◌∙◌, ap, subst, arith}
 use Rattle.std.proofs.lemmas.Bool.{cases_eq}
 use Rattle.suit_edge.specs.declared.page.TheConstants.{OPEN}
 use Rattle.suit_edge.specs.Ranges.{Outside, Within, SameOn, written}
 use Rattle.suit_edge.specs.Flash.{Flash, Now, Passes, ImageOn, Keeps, IsSame, IsSettled, IsFirmOn, IsFlash}
-use Rattle.suit_edge.specs.Gate.{IsOpen, behind, IsGated}
+use Rattle.suit_edge.specs.Gate.{behind, IsGated}
 use Rattle.suit_edge.proofs.Written.{same_range, written_outside, written_range, written_one, same_then, same_fewer, outside_within}
 use Rattle.suit_edge.proofs.Runs.{joined, weakens, each_now, image_on, image_fewer}
 

@@ -1,4 +1,6 @@
 pub mod FileTables
 pub mod Gates
+pub mod MemoryImages
+pub mod Moments
 pub mod Runs
 pub mod Written

@@ -1,5 +1,5 @@
 -- How runs of calls on a disk are composed.
-use Rattle.std.proofs.Common.{◌≡◌, ◌⊎◌, inl, inr, ⊎_elim, ◌≤◌, ℕ, List, refl, sym, ◌∙◌, subst, arith}
+use Rattle.std.proofs.Common.{inl, inr, ⊎_elim, ◌≤◌, ℕ, List, refl, sym, ◌∙◌, subst, arith}
 use Rattle.suit_edge.specs.Ranges.{SameOn}
 use Rattle.suit_edge.specs.Flash.{Flash, Now, Grows, Passes, ImageOn, Keeps, IsSame, IsSettled, IsFirmOn, IsFlash}
 use Rattle.suit_edge.proofs.Written.{same_start, same_then, same_fewer}

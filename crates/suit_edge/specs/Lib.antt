@@ -4,8 +4,11 @@ pub mod Faults
 pub mod Flash
 pub mod Gate
 pub mod Host
+pub mod MemoryDisk
 pub mod MemoryHost
+pub mod MemoryLaws
 pub mod MemorySink
+pub mod Moment
 pub mod Ranges
 pub mod Sink
 pub mod Take

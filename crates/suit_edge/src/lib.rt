@@ -9,18 +9,21 @@ mod file_table;
 mod host;
 #[cfg(test)]
 mod host_and_sink_tests;
+mod memory_disk;
 mod memory_host;
 mod memory_sink;
 mod page;
 mod rest;
 mod sink;
 mod std_sink;
+mod step;
 mod take;
 
 pub use disk::Disk;
 pub use edge::Edge;
 pub use file_host::FileHost;
 pub use host::{Host, Pulled, Started};
+pub use memory_disk::MemoryDisk;
 pub use memory_host::MemoryHost;
 pub use memory_sink::MemorySink;
 pub use page::{CLOSED, OPEN, write_and_sync, write_gated};
