@@ -1,7 +1,9 @@
 pub mod Calls
 pub mod Edge
 pub mod Faults
+pub mod FileDisk
 pub mod Flash
+pub mod FuseDisk
 pub mod Gate
 pub mod Host
 pub mod MemoryDisk

@@ -4,8 +4,10 @@
 mod calls;
 mod disk;
 mod edge;
+mod file_disk;
 mod file_host;
 mod file_table;
+mod fuse_disk;
 mod host;
 #[cfg(test)]
 mod host_and_sink_tests;
@@ -21,7 +23,9 @@ mod take;
 
 pub use disk::Disk;
 pub use edge::Edge;
+pub use file_disk::FileDisk;
 pub use file_host::FileHost;
+pub use fuse_disk::FuseDisk;
 pub use host::{Host, Pulled, Started};
 pub use memory_disk::MemoryDisk;
 pub use memory_host::MemoryHost;
