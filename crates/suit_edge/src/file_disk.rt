@@ -1,10 +1,14 @@
 //! A disk in a file.
 
-ghost use Rattle.std.specs.Prelude.{false, ℕ};
+ghost use Rattle.std.proofs.Common.{rules};
+ghost use Rattle.std.specs.Prelude.{◌≡◌, false};
+ghost use Rattle.suit_edge.specs.Faults.{EdgeCounts};
 ghost use Rattle.suit_edge.specs.FileDisk.{untold};
+ghost use Rattle.suit_edge.specs.declared.file_disk.TheConstants.{SIZE};
 
 use crate::{Disk, Edge};
 use std::fs::{File, OpenOptions};
+use std::io;
 use std::os::unix::fs::FileExt;
 
 /// The name of the file, in the working directory.
@@ -32,10 +36,47 @@ impl<'a> FileDisk<'a> {
             faults: 0,
         }
     }
+
+    // Takes the file out, opened at the first call.
+    fn take_file(&mut self) -> io::Result<File>
+        ensures { self.new.faults ≡ self.old.faults }
+    {
+        match self.file.take() {
+            Some(file) => Ok(file),
+            None => open(self.rt),
+        }
+    }
+
+    fn read(&mut self, place: u64, room: &mut [u8]) -> io::Result<()>
+        ensures { self.new.faults ≡ self.old.faults }
+    {
+        let file = self.take_file()?;
+        let done = file.read_exact_at(room, place);
+        self.file = Some(file);
+        done
+    }
+
+    fn write(&mut self, place: u64, bytes: &[u8]) -> io::Result<()>
+        ensures { self.new.faults ≡ self.old.faults }
+    {
+        let file = self.take_file()?;
+        let done = file.write_all_at(bytes, place);
+        self.file = Some(file);
+        done
+    }
+
+    fn flush(&mut self) -> io::Result<()>
+        ensures { self.new.faults ≡ self.old.faults }
+    {
+        let file = self.take_file()?;
+        let done = file.sync_all();
+        self.file = Some(file);
+        done
+    }
 }
 
 // Opens the file, and makes it as long as the disk.
-fn open(rt: &HostRuntime) -> std::io::Result<File> {
+fn open(rt: &HostRuntime) -> io::Result<File> {
     let file = OpenOptions::new()
         .read(true)
         .write(true)
@@ -45,4 +86,48 @@ fn open(rt: &HostRuntime) -> std::io::Result<File> {
         file.set_len(SIZE)?;
     }
     Ok(file)
+}
+
+// Counts an error.
+fn counts(faults: &mut u64, done: io::Result<()>) -> Edge
+    ensures { EdgeCounts result faults.old faults.new }
+{
+    match done {
+        Ok(()) => Edge::Done,
+        Err(_) => {
+            *faults = faults.saturating_add(1);
+            Edge::Failed
+        }
+    }
+}
+
+impl<'a> Disk for FileDisk<'a> {
+    ghost told = { false };
+
+    ghost flash = { λ _. untold };
+
+    ghost extent = { λ _. SIZE };
+
+    ghost faults = { λ d. d.faults };
+
+    ghost obeys = { λ d told. absurd (Prim.search rules) };
+
+    fn size(&self) -> u64 {
+        SIZE
+    }
+
+    fn read_at(&mut self, place: u64, room: &mut [u8]) -> Edge {
+        let done = self.read(place, room);
+        counts(&mut self.faults, done)
+    }
+
+    fn write_at(&mut self, place: u64, bytes: &[u8]) -> Edge {
+        let done = self.write(place, bytes);
+        counts(&mut self.faults, done)
+    }
+
+    fn sync(&mut self) -> Edge {
+        let done = self.flush();
+        counts(&mut self.faults, done)
+    }
 }
