@@ -1,15 +1,14 @@
 //! A disk in a file.
 
-ghost use Rattle.std.proofs.Common.{rules};
-ghost use Rattle.std.specs.Prelude.{◌≡◌, false};
+ghost use Rattle.std.specs.Prelude.{◌≡◌};
 ghost use Rattle.suit_edge.specs.Faults.{EdgeCounts};
-ghost use Rattle.suit_edge.specs.FileDisk.{untold};
-ghost use Rattle.suit_edge.specs.declared.file_disk.TheConstants.{SIZE};
 
 use crate::{Disk, Edge};
 use std::fs::{File, OpenOptions};
 use std::io;
+use std::marker::Model;
 use std::os::unix::fs::FileExt;
+use std::rt::Files;
 
 /// The name of the file, in the working directory.
 const NAME: &str = "suit.flash";
@@ -21,62 +20,36 @@ const SIZE: u64 = 4_194_304;
 /// call. One that is missing is made of zeros, a shorter one is filled with zeros, and of a longer one the rest is
 /// left alone. It tells nothing of what it holds.
 #[derive(Drop)]
-pub struct FileDisk<'a> {
-    rt: &'a HostRuntime,
+pub struct FileDisk<R: Files<File = File> + Drop> {
+    rt: R,
     file: Option<File>,
     faults: u64,
 }
 
-impl<'a> FileDisk<'a> {
-    /// The disk, which makes no call on the outside yet.
-    pub fn new(rt: &'a HostRuntime) -> FileDisk<'a> {
+impl<R: Files<File = File> + Drop> Model for FileDisk<R> {
+    ghost use Rattle.std.specs.Prelude.{ℕ};
+
+    // the count of faults
+    ghost Value = { ℕ };
+
+    ghost view = { λ d. d.faults };
+}
+
+impl<R: Files<File = File> + Drop> FileDisk<R> {
+    /// The disk in the files that a runtime reaches. No call on the outside is made.
+    pub fn new(rt: R) -> FileDisk<R>
+        ensures { result ≡ 0 }
+    {
         FileDisk {
             rt,
             file: None,
             faults: 0,
         }
     }
-
-    // Takes the file out, opened at the first call.
-    fn take_file(&mut self) -> io::Result<File>
-        ensures { self.new.faults ≡ self.old.faults }
-    {
-        match self.file.take() {
-            Some(file) => Ok(file),
-            None => open(self.rt),
-        }
-    }
-
-    fn read(&mut self, place: u64, room: &mut [u8]) -> io::Result<()>
-        ensures { self.new.faults ≡ self.old.faults }
-    {
-        let file = self.take_file()?;
-        let done = file.read_exact_at(room, place);
-        self.file = Some(file);
-        done
-    }
-
-    fn write(&mut self, place: u64, bytes: &[u8]) -> io::Result<()>
-        ensures { self.new.faults ≡ self.old.faults }
-    {
-        let file = self.take_file()?;
-        let done = file.write_all_at(bytes, place);
-        self.file = Some(file);
-        done
-    }
-
-    fn flush(&mut self) -> io::Result<()>
-        ensures { self.new.faults ≡ self.old.faults }
-    {
-        let file = self.take_file()?;
-        let done = file.sync_all();
-        self.file = Some(file);
-        done
-    }
 }
 
 // Opens the file, and makes it as long as the disk.
-fn open(rt: &HostRuntime) -> io::Result<File> {
+fn open<R: Files<File = File>>(rt: &R) -> io::Result<File> {
     let file = OpenOptions::new()
         .read(true)
         .write(true)
@@ -86,6 +59,45 @@ fn open(rt: &HostRuntime) -> io::Result<File> {
         file.set_len(SIZE)?;
     }
     Ok(file)
+}
+
+// The file, which is opened at the first call.
+fn take<R: Files<File = File>>(rt: &R, file: &mut Option<File>) -> io::Result<File> {
+    match file.take() {
+        Some(file) => Ok(file),
+        None => open(rt),
+    }
+}
+
+fn read<R: Files<File = File>>(
+    rt: &R,
+    file: &mut Option<File>,
+    place: u64,
+    room: &mut [u8],
+) -> io::Result<()> {
+    let opened = take(rt, file)?;
+    let done = opened.read_exact_at(room, place);
+    *file = Some(opened);
+    done
+}
+
+fn write<R: Files<File = File>>(
+    rt: &R,
+    file: &mut Option<File>,
+    place: u64,
+    bytes: &[u8],
+) -> io::Result<()> {
+    let opened = take(rt, file)?;
+    let done = opened.write_all_at(bytes, place);
+    *file = Some(opened);
+    done
+}
+
+fn flush<R: Files<File = File>>(rt: &R, file: &mut Option<File>) -> io::Result<()> {
+    let opened = take(rt, file)?;
+    let done = opened.sync_all();
+    *file = Some(opened);
+    done
 }
 
 // Counts an error.
@@ -101,14 +113,19 @@ fn counts(faults: &mut u64, done: io::Result<()>) -> Edge
     }
 }
 
-impl<'a> Disk for FileDisk<'a> {
+impl<R: Files<File = File> + Drop> Disk for FileDisk<R> {
+    ghost use Rattle.std.proofs.Common.{rules};
+    ghost use Rattle.std.specs.Prelude.{false};
+    ghost use Rattle.suit_edge.specs.FileDisk.{untold};
+    ghost use Rattle.suit_edge.specs.declared.file_disk.TheConstants.{SIZE};
+
     ghost told = { false };
 
     ghost flash = { λ _. untold };
 
     ghost extent = { λ _. SIZE };
 
-    ghost faults = { λ d. d.faults };
+    ghost faults = { λ d. d };
 
     ghost obeys = { λ d told. absurd (Prim.search rules) };
 
@@ -117,17 +134,17 @@ impl<'a> Disk for FileDisk<'a> {
     }
 
     fn read_at(&mut self, place: u64, room: &mut [u8]) -> Edge {
-        let done = self.read(place, room);
+        let done = read(&self.rt, &mut self.file, place, room);
         counts(&mut self.faults, done)
     }
 
     fn write_at(&mut self, place: u64, bytes: &[u8]) -> Edge {
-        let done = self.write(place, bytes);
+        let done = write(&self.rt, &mut self.file, place, bytes);
         counts(&mut self.faults, done)
     }
 
     fn sync(&mut self) -> Edge {
-        let done = self.flush();
+        let done = flush(&self.rt, &mut self.file);
         counts(&mut self.faults, done)
     }
 }
