@@ -6,6 +6,7 @@ pub mod Flash
 pub mod FuseDisk
 pub mod Gate
 pub mod Host
+pub mod Launch
 pub mod MemoryDisk
 pub mod MemoryHost
 pub mod MemoryLaws

@@ -11,6 +11,8 @@ mod fuse_disk;
 mod host;
 #[cfg(test)]
 mod host_and_sink_tests;
+mod launch;
+mod launcher;
 mod memory_disk;
 mod memory_host;
 mod memory_sink;
@@ -27,6 +29,8 @@ pub use file_disk::FileDisk;
 pub use file_host::FileHost;
 pub use fuse_disk::FuseDisk;
 pub use host::{Host, Pulled, Started};
+pub use launch::{Launch, Launches};
+pub use launcher::{Image, Launched, Launcher};
 pub use memory_disk::MemoryDisk;
 pub use memory_host::MemoryHost;
 pub use memory_sink::MemorySink;
