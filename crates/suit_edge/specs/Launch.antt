@@ -26,10 +26,10 @@ pub record IsLaunch (what : Image) (told : Bool) (reads : List ℕ) (index : ℕ
   pub args : launch.args ≡ named_args
 
 -- the list grows by the launch that was asked for where it was done, and stays otherwise
-abbrev pub Launches : Launched → List Launch → List Launch → (Launch → Type 0) → Type 0
-Launches launched.Done before now IsAsked = (launch : Launch) × (now ≡ before ++ launch ∷ []) × IsAsked launch
-Launches launched.DiskFailed before now IsAsked = now ≡ before
-Launches launched.Failed before now IsAsked = now ≡ before
+abbrev pub AddsLaunch : Launched → List Launch → List Launch → (Launch → Type 0) → Type 0
+AddsLaunch launched.Done before now IsAsked = (launch : Launch) × (now ≡ before ++ launch ∷ []) × IsAsked launch
+AddsLaunch launched.DiskFailed before now IsAsked = now ≡ before
+AddsLaunch launched.Failed before now IsAsked = now ≡ before
 
 -- The launcher's count before and now, and the disk's. Failed comes only where the launcher's rose, DiskFailed only
 -- where the disk's rose, and a launch that is done leaves both as they were.

@@ -9,9 +9,11 @@ pub mod Host
 pub mod Launch
 pub mod MemoryDisk
 pub mod MemoryHost
+pub mod MemoryLauncher
 pub mod MemoryLaws
 pub mod MemorySink
 pub mod Moment
 pub mod Ranges
 pub mod Sink
 pub mod Take
+pub mod TakenImage
