@@ -2,6 +2,7 @@ pub mod Calls
 pub mod Edge
 pub mod Faults
 pub mod FileDisk
+pub mod FileLauncher
 pub mod Flash
 pub mod FuseDisk
 pub mod Gate
