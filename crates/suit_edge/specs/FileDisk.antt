@@ -1,5 +1,5 @@
 -- The disk of a file.
-use Rattle.std.specs.Prelude.{ℕ, []}
+use Rattle.std.specs.Prelude.{[]}
 use Rattle.suit_edge.specs.Flash.{Flash}
 
 -- it tells nothing of what it holds

@@ -1,4 +1,5 @@
 pub mod Calls
+pub mod Client
 pub mod Edge
 pub mod Faults
 pub mod FileDisk

@@ -2,6 +2,7 @@
 #![tactic(auto)]
 
 mod calls;
+mod client;
 mod disk;
 mod edge;
 mod file_disk;
