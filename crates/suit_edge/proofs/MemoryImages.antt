@@ -7,7 +7,7 @@ use Rattle.suit_edge.specs.declared.step.Step.{Step}
 use Rattle.suit_edge.specs.declared.step.Step.TheVariants.{Synced}
 use Rattle.suit_edge.specs.Ranges.{Outside, SameOn, written}
 use Rattle.suit_edge.specs.Flash.{Now, Grows, Passes, ImageOn, Keeps, IsSame, IsSettled}
-use Rattle.suit_edge.specs.Moment.{Moment, OutsideAll, IsImage, moment_of}
+use Rattle.suit_edge.specs.Moment.{Moment, OutsideAll, IsImage, after_steps, moment_of}
 use Rattle.suit_edge.specs.MemoryDisk.{MayLeave, flash_of, write_of}
 use Rattle.suit_edge.specs.MemoryLaws.{length-moment_of, length-written}
 use Rattle.suit_edge.proofs.Written.{written_outside, written_within, same_back}
@@ -152,3 +152,9 @@ module _ (first : List ℕ) (steps new_steps : List Step) (more : new_steps ≡ 
     images = passes_step first steps new_steps Synced more (Now (flash_of first steps)) (λ image now. now)
         (λ image is. subst (λ (l : List ℕ). Now (flash_of first steps) l) (sym (alone image is)) (now_to first steps (moment_of first steps).reads (record { size = refl; same = λ i out. refl })));
   }
+
+-- ---- no step yet
+
+pub settled_start : (first : List ℕ) → IsSettled (flash_of first [])
+unfolding moment_of after_steps
+settled_start first image now = let is = now_from first [] image now in ext_get_or 0 image first is.size (λ i h. is.same i tt)

@@ -4,6 +4,8 @@
 mod calls;
 mod client;
 mod disk;
+#[cfg(test)]
+mod disk_tests;
 mod edge;
 mod file_disk;
 mod file_host;
@@ -15,6 +17,8 @@ mod host;
 mod host_and_sink_tests;
 mod launch;
 mod launcher;
+#[cfg(test)]
+mod launcher_tests;
 mod memory_disk;
 mod memory_host;
 mod memory_launcher;

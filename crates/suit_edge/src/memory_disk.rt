@@ -45,7 +45,8 @@ impl MemoryDisk {
     /// A disk of zero bytes with nothing pending. The calls with these numbers fail: each call but `size` is
     /// counted, from 0.
     pub fn new(alloc: Global, size: usize, fails: &[u64]) -> Result<MemoryDisk, AllocError>
-        ensures { IfOk result (λ disk. disk ≡ record { first = replicate size 0; steps = []; calls = uncalled fails.now }) }
+        ensures state { IfOk result (λ disk. disk ≡ record { first = replicate size 0; steps = []; calls = uncalled fails.now }) }
+        ensures settled { IfOk result (λ disk. IsSettled (memory_flash disk)) }
     {
         let bytes = vec![in alloc; 0; size]?;
         let calls = Calls::new(alloc, fails)?;
@@ -54,7 +55,8 @@ impl MemoryDisk {
 
     // A disk of these bytes with nothing pending.
     fn of(alloc: Global, bytes: Vec<u8>, calls: Calls) -> Result<MemoryDisk, AllocError>
-        ensures { IfOk result (λ disk. disk ≡ record { first = bytes.items; steps = []; calls = calls }) }
+        ensures state { IfOk result (λ disk. disk ≡ record { first = bytes.items; steps = []; calls = calls }) }
+        ensures settled { IfOk result (λ disk. IsSettled (memory_flash disk)) }
     {
         let first = bytes.to_vec(alloc)?;
         let settled = bytes.to_vec(alloc)?;
@@ -74,6 +76,8 @@ impl MemoryDisk {
     pub fn after_loss(&self, alloc: Global, choice: u64) -> Result<MemoryDisk, AllocError>
         ensures left { IfOk result (λ disk. disk ≡ record { first = lost choice (moment_now self.now); steps = []; calls = uncalled [] }) }
         ensures may { IfOk result (λ disk. Now (memory_flash self.now) disk.first) }
+        ensures size { IfOk result (λ disk. length disk.first ≡ length self.now.first) }
+        ensures settled { IfOk result (λ disk. IsSettled (memory_flash disk)) }
     {
         let mut bytes = self.settled.to_vec(alloc)?;
         keep(&mut bytes, &self.steps[self.since..], choice);

@@ -5,6 +5,7 @@ use Rattle.suit_edge.specs.declared.step.Step.{Step}
 use Rattle.suit_edge.specs.Calls.{CallCounts, uncalled}
 use Rattle.suit_edge.specs.Flash.{Now}
 use Rattle.suit_edge.specs.Moment.{kept, lost}
+use Rattle.suit_edge.specs.MemoryLaws.{memory_obeys}
 use Rattle.suit_edge.specs.MemoryDisk.{DiskState, moment_now, memory_flash, writes_of}
 use Rattle.suit_edge.proofs.Moments.{lost-kept, lost_image}
 use Rattle.suit_edge.proofs.MemoryImages.{now_to}
@@ -23,7 +24,7 @@ returns-clause-left c =
     ∙ lost-kept c.args.choice _ _ _ _ _ c.self.invariant ∙ ap (λ (s : DiskState). lost c.args.choice (moment_now s)) c.self.view_is in
     IfOk-weaker c.of.result _ _
     (λ disk is. is ∙ ap (λ (l : List ℕ). record { first = l; steps = []; calls = c.in_ok-calls.calls }) left ∙ ap (λ (k : CallCounts). record { first = lost c.args.choice (moment_now c.args.self.now); steps = []; calls = k }) calls)
-    c.of.ensures
+    c.of.ensures.state
 
 pub returns-clause-may : goal.returns-clause-may
 returns-clause-may c =
@@ -31,3 +32,8 @@ returns-clause-may c =
     IfOk-weaker c.of.result _ _
     (λ disk is. subst (λ (l : List ℕ). Now (memory_flash s) l) (sym (ap (λ (d : DiskState). d.first) is)) (now_to s.first s.steps (lost c.args.choice (moment_now s)) (lost_image c.args.choice s.first s.steps)))
     (returns-clause-left c)
+
+pub returns-clause-size : goal.returns-clause-size
+returns-clause-size c =
+    let s = c.args.self.now in
+    IfOk-weaker c.of.result _ _ (λ disk now. (memory_obeys s).sized (length s.steps) disk.first (omega arith) now) (returns-clause-may c)
