@@ -1,0 +1,164 @@
+//! What no clause says: that calls come to an end well, what a cut write leaves, and what the real file holds.
+
+ghost use Rattle.std.specs.Prelude.{◌≡◌, IfOk, length};
+ghost use Rattle.suit_edge.specs.Flash.{IsSettled};
+ghost use Rattle.suit_edge.specs.MemoryDisk.{memory_flash};
+
+use crate::client::vouch;
+use crate::{Disk, Edge, FileDisk, FuseDisk, MemoryDisk, write_gated};
+use std::alloc::{AllocError, Global};
+use std::fs;
+use std::test::Fail;
+
+const SIZE: usize = 64;
+
+const PLACE: u64 = 40;
+
+const CHOICES: [u64; 3] = [0, u64::MAX, 0xAAAA_AAAA_AAAA_AAAA];
+
+#[derive(Clone, Copy, Debug, PartialEq, Eq)]
+enum Page {
+    Old,
+    Closed,
+    New,
+    Torn,
+}
+
+// The page that these bytes hold.
+fn page_of(bytes: &[u8; SIZE]) -> Page {
+    if bytes[40] != 0xA5 {
+        return Page::Closed;
+    }
+    match &bytes[41..45] {
+        b"old." => Page::Old,
+        b"new." => Page::New,
+        _ => Page::Torn,
+    }
+}
+
+// A disk that holds the old page.
+fn with_old_page(alloc: Global) -> Result<MemoryDisk, AllocError>
+    ensures size { IfOk result (λ disk. length disk.first ≡ SIZE) }
+    ensures settled { IfOk result (λ disk. IsSettled (memory_flash disk)) }
+{
+    let mut disk = MemoryDisk::new(alloc, SIZE, &[])?;
+    match write_gated(&mut disk, PLACE, b"old.") {
+        Edge::Done => disk.after_loss(alloc, 0),
+        Edge::Failed => Err(AllocError),
+    }
+}
+
+// What a power loss leaves.
+fn left_of(disk: &MemoryDisk, alloc: Global, choice: u64) -> Result<[u8; SIZE], AllocError>
+    requires { length disk.now.first ≡ SIZE }
+{
+    let mut left = disk.after_loss(alloc, choice)?;
+    let mut bytes = [0; SIZE];
+    match left.read_at(0, &mut bytes) {
+        Edge::Done => Ok(bytes),
+        Edge::Failed => Err(AllocError),
+    }
+}
+
+#[test]
+fn a_gated_write_is_cut_at_each_call(rt: HostRuntime) -> Result<(), Fail> {
+    let wanted = [
+        [Page::Old, Page::Old, Page::Old],
+        [Page::Old, Page::Old, Page::Old],
+        [Page::Old, Page::Closed, Page::Old],
+        [Page::Closed, Page::Closed, Page::Closed],
+        [Page::Closed, Page::Closed, Page::Closed],
+        [Page::Closed, Page::Closed, Page::Closed],
+        [Page::Closed, Page::New, Page::Closed],
+        [Page::New, Page::New, Page::New],
+    ];
+    for (passes, pages) in wanted.iter().enumerate() {
+        let mut fuse = FuseDisk::new(with_old_page(rt.alloc())?, passes as u64);
+        let edge = write_gated(&mut fuse, PLACE, b"new.");
+        assert_eq!(rt; edge == Edge::Done, passes == 7);
+        assert_eq!(rt; fuse.starved(), 0);
+        let disk = fuse.into_disk();
+        for (page, choice) in pages.iter().zip(CHOICES.iter()) {
+            let bytes = left_of(&disk, rt.alloc(), *choice)?;
+            assert_eq!(rt; page_of(&bytes), *page, "{passes} calls, {choice}");
+            assert!(rt; bytes[..40] == [0; 40]);
+            assert!(rt; bytes[45..] == [0; 19]);
+        }
+    }
+    Ok(())
+}
+
+#[test]
+fn a_page_vouches_for_bytes_at_each_cut(rt: HostRuntime) -> Result<(), Fail> {
+    for passes in 0..12u64 {
+        let mut fuse = FuseDisk::new(with_old_page(rt.alloc())?, passes);
+        let edge = vouch(&mut fuse, 0, &[7; 40], PLACE, b"new.");
+        assert_eq!(rt; edge == Edge::Done, passes == 11);
+        let disk = fuse.into_disk();
+        for choice in CHOICES {
+            let bytes = left_of(&disk, rt.alloc(), choice)?;
+            let page = page_of(&bytes);
+            assert!(rt; page != Page::Torn);
+            assert!(rt; page != Page::New || bytes[..40] == [7; 40]);
+            assert!(rt; passes < 11 || page == Page::New);
+        }
+    }
+    Ok(())
+}
+
+#[test]
+fn a_disk_fails_at_each_call_in_turn(rt: HostRuntime) -> Result<(), Fail> {
+    for failing in 0..4u64 {
+        let mut disk = MemoryDisk::new(rt.alloc(), SIZE, &[failing])?;
+        let mut room = [9; 2];
+        let write = disk.write_at(3, b"ab");
+        let read = disk.read_at(3, &mut room);
+        let size = disk.size();
+        let sync = disk.sync();
+        assert_eq!(rt; write == Edge::Failed, failing == 0);
+        assert_eq!(rt; read == Edge::Failed, failing == 1);
+        assert_eq!(rt; sync == Edge::Failed, failing == 2);
+        assert_eq!(rt; size, 64);
+        assert_eq!(rt; disk.starved(), 0);
+        let held = match failing {
+            0 => [0, 0],
+            1 => [9, 9],
+            _ => [97, 98],
+        };
+        assert_eq!(rt; room, held);
+        let bytes = left_of(&disk, rt.alloc(), 0)?;
+        let kept = failing == 1 || failing == 3;
+        assert_eq!(rt; bytes[3] == 97, kept);
+    }
+    Ok(())
+}
+
+#[test]
+fn a_real_disk_is_made_filled_and_left_alone(rt: HostRuntime) -> Result<(), Fail> {
+    let mut room = [1; 4];
+    // missing
+    let mut disk = FileDisk::new(&rt);
+    assert_eq!(rt; disk.read_at(4_194_300, &mut room), Edge::Done);
+    assert_eq!(rt; room, [0; 4]);
+    assert_eq!(rt; disk.write_at(4_194_300, b"abcd"), Edge::Done);
+    assert_eq!(rt; disk.sync(), Edge::Done);
+    assert_eq!(rt; disk.size(), 4_194_304);
+    let mut again = FileDisk::new(&rt);
+    assert_eq!(rt; again.read_at(4_194_300, &mut room), Edge::Done);
+    assert_eq!(rt; &room, b"abcd");
+    // shorter
+    fs::write(&rt, "suit.flash", b"xyz")?;
+    let mut shorter = FileDisk::new(&rt);
+    assert_eq!(rt; shorter.read_at(1, &mut room), Edge::Done);
+    assert_eq!(rt; &room, b"yz\0\0");
+    // longer
+    let mut longer = vec![in rt.alloc(); 5u8; 4_194_306]?;
+    fs::write(&rt, "suit.flash", longer.as_slice())?;
+    let mut disk = FileDisk::new(&rt);
+    assert_eq!(rt; disk.write_at(0, b"abcd"), Edge::Done);
+    let file = fs::read(&rt, "suit.flash")?;
+    longer[..4].copy_from_slice(b"abcd");
+    assert!(rt; file == longer);
+    fs::remove_file(&rt, "suit.flash")?;
+    Ok(())
+}
