@@ -6,6 +6,7 @@ pub mod Faults
 pub mod ItemReading
 pub mod ItemSkipping
 pub mod OneReading
+pub mod Decoding
 pub mod DataItem
 pub mod DataLists
 pub mod DataCode

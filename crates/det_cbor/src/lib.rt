@@ -4,6 +4,7 @@
 mod bytes;
 mod compare;
 mod cursor;
+mod decoding;
 mod encoding;
 mod head;
 mod head_writing;
@@ -21,6 +22,7 @@ mod validity;
 
 pub use bytes::Bytes;
 pub use cursor::Cursor;
+pub use decoding::decode;
 pub use encoding::{encode, push_item};
 pub use head::{Head, HeadKind};
 pub use head_writing::push_head;
@@ -29,7 +31,7 @@ pub use items::Items;
 pub use law::one_reading;
 pub use names::Names;
 pub use pairs::Pairs;
-pub use reason::{CborRefusal, Reason};
+pub use reason::{CborFault, CborRefusal, Reason};
 pub use text::Text;
 pub use validity::valid;
 
