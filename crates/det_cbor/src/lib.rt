@@ -36,4 +36,10 @@ pub use text::Text;
 pub use validity::valid;
 
 #[cfg(test)]
+mod appendix_a;
+#[cfg(test)]
+mod notation;
+#[cfg(test)]
+mod reading_tests;
+#[cfg(test)]
 mod writing_tests;
