@@ -11,7 +11,7 @@ ghost use Rattle.det_cbor.specs.OneReading.{StartsWithItem};
 
 use crate::parts::{first_head, order, read_before, stop, string_in, text_in};
 use crate::reason::Stop;
-use crate::skip::MAX_LEVELS;
+use crate::validity::MAX_LEVELS;
 use crate::{Bytes, CborFault, HeadKind, Inner, Item, Items, Pairs, Reason, Text};
 use std::alloc::{AllocError, Global};
 

@@ -50,14 +50,21 @@ fn write_text(out: &mut String, text: &str) -> Result<(), AllocError> {
     out.push_str("\"")
 }
 
+fn write_separator(out: &mut String, is_first: bool) -> Result<(), AllocError> {
+    if is_first {
+        return Ok(());
+    }
+    out.push_str(", ")
+}
+
 #[cycle(write)]
 fn write_items(alloc: Global, out: &mut String, items: &Items) -> Result<(), AllocError> {
     out.push_str("[")?;
-    let mut between = "";
+    let mut is_first = true;
     for item in &items.held {
-        out.push_str(between)?;
+        write_separator(out, is_first)?;
         write_item(alloc, out, item)?;
-        between = ", ";
+        is_first = false;
     }
     out.push_str("]")
 }
@@ -65,13 +72,13 @@ fn write_items(alloc: Global, out: &mut String, items: &Items) -> Result<(), All
 #[cycle(write)]
 fn write_pairs(alloc: Global, out: &mut String, pairs: &Pairs) -> Result<(), AllocError> {
     out.push_str("{")?;
-    let mut between = "";
+    let mut is_first = true;
     for (key, value) in &pairs.held {
-        out.push_str(between)?;
+        write_separator(out, is_first)?;
         write_item(alloc, out, key)?;
         out.push_str(": ")?;
         write_item(alloc, out, value)?;
-        between = ", ";
+        is_first = false;
     }
     out.push_str("}")
 }

@@ -11,7 +11,7 @@ use crate::{Item, Items, Pairs};
 use std::cmp::Ordering;
 
 // How many arrays, maps and tags may stand round one another.
-const MAX_LEVELS: u8 = 16;
+pub(crate) const MAX_LEVELS: u8 = 16;
 
 /// Whether the keys of each map ascend in the bytewise order of their spellings, and at most 16 arrays, maps and
 /// tags stand round any item.
