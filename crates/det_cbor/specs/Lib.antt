@@ -12,5 +12,5 @@ pub mod DataLists
 pub mod DataCode
 pub mod ItemTree
 pub mod ItemDepth
-pub mod Growth
+pub mod Prefix
 pub mod ItemOrder
