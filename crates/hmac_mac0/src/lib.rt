@@ -1,0 +1,7 @@
+//! HMAC-SHA-256 (RFC 2104), and the COSE_Mac0 blocks that carry it (RFC 9052, section 6).
+#![tactic(auto)]
+
+mod key;
+mod mac;
+
+pub use mac::{Mac, hmac};
