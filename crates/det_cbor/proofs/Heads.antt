@@ -1,315 +1,136 @@
 -- What is read as a head is spelled so, and what is spelled so is read.
-use Rattle.std.proofs.Common.{◌≡◌, ℕ, suc, ◌+◌, ◌*◌, ◌/◌, ◌%◌, ◌^◌, ◌<◌, ◌≤◌, Bool, true, false, cond, ltb, eqb, List, [], ◌∷◌, ◌++◌, length, get_or, take, drop, Option, Some, None, refl, sym, ap, subst, ◌∙◌, arith, inl, inr, ◌⊎◌, Bor}
-use Rattle.std.specs.Prelude.{option_map, IfSome, IfNone}
-use Rattle.std.specs.List.{AllByRecursion}
-use Rattle.std.specs.Int.{Width, w8, w16, w32, w64, byte_len, from_be_bytes, to_be_bytes}
-use Rattle.std.proofs.lemmas.Bool.{cases_lt, ltb-false, ltb-true, eqb-true, le-ltb, lt-ltb}
-use Rattle.std.proofs.lemmas.List.{take_at, drop_at, take-append-drop, length-append, length-take, get_or-take, get_or_past}
-use Rattle.std.proofs.lemmas.Nat.{be_bytes_2, be_bytes_4, be_bytes_8, from_be_bytes-to_be_bytes_2, from_be_bytes-to_be_bytes_4, from_be_bytes-to_be_bytes_8}
-use Rattle.std.proofs.lemmas.Option.{some_pair_parts, same_Some, option_and_then_some}
+use Rattle.std.proofs.Common.{◌≡◌, ℕ, zero, suc, ◌+◌, ◌*◌, ◌/◌, ◌%◌, ◌^◌, ◌<◌, true, false, eqb, List, [], ◌∷◌, ◌++◌, length, Result, Ok, Err, refl, sym, ap, subst, ◌∙◌, arith, inl, inr, Bor}
+use Rattle.std.specs.Prelude.{IfOk}
+use Rattle.std.proofs.lemmas.Bool.{eqb-true, eqb-false, ne_eqb}
+use Rattle.std.proofs.lemmas.List.{length-append}
 use Rattle.det_cbor.specs.declared.head.HeadKind.{HeadKind}
 use Rattle.det_cbor.specs.declared.head.HeadKind.TheVariants as kinds
 use Rattle.det_cbor.specs.declared.head.Head.{Head}
+use Rattle.det_cbor.specs.declared.reason.Reason.{Reason}
 use Rattle.det_cbor.specs.Heads.{head_bytes}
-use Rattle.det_cbor.specs.DataItem.{IsByte}
 use Rattle.det_cbor.specs.HeadSpelling.{major_of, argument_of, spelled, IsValueOf, BeginsWith}
-use Rattle.det_cbor.specs.HeadReading.{kind_at, number_at, argument_at, head_at}
+use Rattle.det_cbor.specs.HeadReading.{map_ok, kind_of_major, argument_at, simple_value, head_at}
+pub use Rattle.det_cbor.proofs.Results.{chosen}
+use Rattle.det_cbor.proofs.Results.{bind_ok, ok_pair}
+pub use Rattle.det_cbor.proofs.Arguments.{IsBytes, all_bytes, head_length}
+use Rattle.det_cbor.proofs.Arguments.{head_small, argument_takes, argument_again}
 
-abbrev pub IsBytes : List ℕ → Type 0
-IsBytes bytes = (i : ℕ) → get_or bytes i 0 < 256
+-- ---- kinds
 
-pub IsBytes-take : (n : ℕ) (bytes : List ℕ) → IsBytes bytes → IsBytes (take n bytes)
-IsBytes-take n bytes h i =
-    elim (cases_lt i n) [
-      | inl lt ↦ rw (get_or-take n bytes i 0 lt) (h i)
-      | inr le ↦ rw (get_or_past (take n bytes) i 0 (omega (arith, length-take n bytes))) (omega arith)
-    ]
+pub below_7 : (P : ℕ → Type 0) → P 0 → P 1 → P 2 → P 3 → P 4 → P 5 → P 6 → (n : ℕ) → n < 7 → P n
+below_7 P p0 p1 p2 p3 p4 p5 p6 zero lt = p0
+below_7 P p0 p1 p2 p3 p4 p5 p6 (suc zero) lt = p1
+below_7 P p0 p1 p2 p3 p4 p5 p6 (suc (suc zero)) lt = p2
+below_7 P p0 p1 p2 p3 p4 p5 p6 (suc (suc (suc zero))) lt = p3
+below_7 P p0 p1 p2 p3 p4 p5 p6 (suc (suc (suc (suc zero)))) lt = p4
+below_7 P p0 p1 p2 p3 p4 p5 p6 (suc (suc (suc (suc (suc zero))))) lt = p5
+below_7 P p0 p1 p2 p3 p4 p5 p6 (suc (suc (suc (suc (suc (suc zero)))))) lt = p6
+below_7 P p0 p1 p2 p3 p4 p5 p6 (suc (suc (suc (suc (suc (suc (suc n))))))) lt = absurd (omega arith)
 
--- bytes as the definitions of items have them
-pub all_bytes : (bytes : List ℕ) → IsBytes bytes → AllByRecursion IsByte bytes
-all_bytes [] fits = tt
-all_bytes (b ∷ bytes) fits = (fits 0, all_bytes bytes (λ i. fits (suc i)))
-
--- which way a test went
-pub chosen : {A : Type 0} (b : Bool) (x y z : A) → cond b x y ≡ z → ((b ≡ true) × (x ≡ z)) ⊎ ((b ≡ false) × (y ≡ z))
-chosen true x y z e = inl (refl, e)
-chosen false x y z e = inr (refl, e)
-
--- ---- numbers
-
-pub record IsWide (w : Width) (limit : ℕ) : Type 0 where
-  pub len : (n : ℕ) → length (to_be_bytes w n) ≡ byte_len w
-  pub back : (bytes : List ℕ) → length bytes ≡ byte_len w → IsBytes bytes → to_be_bytes w (from_be_bytes w bytes) ≡ bytes
-  pub again : (n : ℕ) → n < limit → from_be_bytes w (to_be_bytes w n) ≡ n
-  pub below : (bytes : List ℕ) → IsBytes bytes → from_be_bytes w bytes < limit
-
-pub wide16 : IsWide w16 (2 ^ 16)
-wide16 = record {
-  len = λ n. refl;
-  back = λ bytes len fits. be_bytes_2 bytes _ len fits refl;
-  again = λ n lt. from_be_bytes-to_be_bytes_2 n lt;
-  below = λ bytes fits. omega (arith, fits 0, fits 1);
-}
-
-pub wide32 : IsWide w32 (2 ^ 32)
-wide32 = record {
-  len = λ n. refl;
-  back = λ bytes len fits. be_bytes_4 bytes _ len fits refl;
-  again = λ n lt. from_be_bytes-to_be_bytes_4 n lt;
-  below = λ bytes fits. omega (arith, fits 0, fits 1, fits 2, fits 3);
-}
-
-pub wide64 : IsWide w64 (2 ^ 64)
-wide64 = record {
-  len = λ n. refl;
-  back = λ bytes len fits. be_bytes_8 bytes _ len fits refl;
-  again = λ n lt. from_be_bytes-to_be_bytes_8 n lt;
-  below = λ bytes fits. omega (arith, fits 0, fits 1, fits 2, fits 3, fits 4, fits 5, fits 6, fits 7);
-}
-
-back8 : (bytes : List ℕ) → length bytes ≡ 1 → IsBytes bytes → to_be_bytes w8 (from_be_bytes w8 bytes) ≡ bytes
-back8 [] len fits = absurd (omega arith)
-back8 (b ∷ []) len fits = let lt : b < 256 = fits 0 in ap (λ (x : ℕ). x ∷ []) (omega arith)
-back8 (b ∷ c ∷ bytes) len fits = absurd (omega arith)
-
-pub wide8 : IsWide w8 (2 ^ 8)
-wide8 = record {
-  len = λ n. refl;
-  back = back8;
-  again = λ n lt. omega arith;
-  below = λ bytes fits. omega (arith, fits 0);
-}
-
-pub number_takes : (w : Width) (limit least : ℕ) (wide : IsWide w limit) (bytes : List ℕ) (n : ℕ) (rest : List ℕ) → IsBytes bytes → number_at w least bytes ≡ Some (n, rest) → (bytes ≡ to_be_bytes w n ++ rest) × (n < limit) × (least ≤ n)
-number_takes w limit least wide bytes n rest fits e =
-    elim (chosen (ltb (length bytes) (byte_len w)) _ _ _ e) [
-      | inl (short, none) ↦ absurd cc
-      | inr (short, e1) ↦ elim (chosen (ltb (from_be_bytes w (take (byte_len w) bytes)) least) _ _ _ e1) [
-        | inl (low, none) ↦ absurd cc
-        | inr (low, e2) ↦
-            let long : byte_len w ≤ length bytes = ltb-false _ _ short in
-            let parts = some_pair_parts _ _ _ _ e2 in
-            let n-is : from_be_bytes w (take (byte_len w) bytes) ≡ n = parts.0 in
-            let rest-is : drop (byte_len w) bytes ≡ rest = parts.1 in
-            let front : to_be_bytes w n ≡ take (byte_len w) bytes = rw (← n-is) (wide.back (take (byte_len w) bytes) (omega (arith, length-take (byte_len w) bytes)) (IsBytes-take (byte_len w) bytes fits)) in
-            let below : from_be_bytes w (take (byte_len w) bytes) < limit = wide.below (take (byte_len w) bytes) (IsBytes-take (byte_len w) bytes fits) in
-            let above : least ≤ from_be_bytes w (take (byte_len w) bytes) = ltb-false _ _ low in
-            (rw (front, ← rest-is) (sym (take-append-drop (byte_len w) bytes)), rw (← n-is) below, rw (← n-is) above)
-      ]
-    ]
-
-pub number_again : (w : Width) (limit least : ℕ) (wide : IsWide w limit) (n : ℕ) (rest : List ℕ) → n < limit → least ≤ n → number_at w least (to_be_bytes w n ++ rest) ≡ Some (n, rest)
-number_again w limit least wide n rest lt le =
-    let len = wide.len n in
-    let long : ltb (length (to_be_bytes w n ++ rest)) (byte_len w) ≡ false = le-ltb _ _ (omega (arith, length-append (to_be_bytes w n) rest)) in
-    let high : ltb n least ≡ false = le-ltb _ _ le in
-    rw (long, take_at (to_be_bytes w n) rest (byte_len w) len, drop_at (to_be_bytes w n) rest (byte_len w) len, wide.again n lt, high) refl
-
--- ---- arguments
-
-head_small : (major n : ℕ) → n < 24 → head_bytes major n ≡ (32 * major + n) ∷ []
-unfolding head_bytes
-head_small major n lt = let a : ltb n 24 ≡ true = lt-ltb _ _ lt in rw a refl
-
-head_8 : (major n : ℕ) → 24 ≤ n → n < 2 ^ 8 → head_bytes major n ≡ (32 * major + 24) ∷ to_be_bytes w8 n
-unfolding head_bytes
-head_8 major n ge lt =
-    let a : ltb n 24 ≡ false = le-ltb _ _ ge in
-    let b : ltb n (2 ^ 8) ≡ true = lt-ltb _ _ lt in
-    rw (a, b) refl
-
-head_16 : (major n : ℕ) → 2 ^ 8 ≤ n → n < 2 ^ 16 → head_bytes major n ≡ (32 * major + 25) ∷ to_be_bytes w16 n
-unfolding head_bytes
-head_16 major n ge lt =
-    let a : ltb n 24 ≡ false = le-ltb _ _ (omega arith) in
-    let b : ltb n (2 ^ 8) ≡ false = le-ltb _ _ ge in
-    let c : ltb n (2 ^ 16) ≡ true = lt-ltb _ _ lt in
-    rw (a, b, c) refl
-
-head_32 : (major n : ℕ) → 2 ^ 16 ≤ n → n < 2 ^ 32 → head_bytes major n ≡ (32 * major + 26) ∷ to_be_bytes w32 n
-unfolding head_bytes
-head_32 major n ge lt =
-    let a : ltb n 24 ≡ false = le-ltb _ _ (omega arith) in
-    let b : ltb n (2 ^ 8) ≡ false = le-ltb _ _ (omega arith) in
-    let c : ltb n (2 ^ 16) ≡ false = le-ltb _ _ ge in
-    let d : ltb n (2 ^ 32) ≡ true = lt-ltb _ _ lt in
-    rw (a, b, c, d) refl
-
-head_64 : (major n : ℕ) → 2 ^ 32 ≤ n → n < 2 ^ 64 → head_bytes major n ≡ (32 * major + 27) ∷ to_be_bytes w64 n
-unfolding head_bytes
-head_64 major n ge lt =
-    let a : ltb n 24 ≡ false = le-ltb _ _ (omega arith) in
-    let b : ltb n (2 ^ 8) ≡ false = le-ltb _ _ (omega arith) in
-    let c : ltb n (2 ^ 16) ≡ false = le-ltb _ _ (omega arith) in
-    let d : ltb n (2 ^ 32) ≡ false = le-ltb _ _ ge in
-    rw (a, b, c, d) refl
-
--- what is read as an argument of a width
-wide_takes : (w : Width) (limit least code major low : ℕ) (wide : IsWide w limit) → limit ≤ 2 ^ 64 → ((v : ℕ) → least ≤ v → v < limit → head_bytes major v ≡ (32 * major + code) ∷ to_be_bytes w v)
-    → (bytes : List ℕ) (n : ℕ) (rest : List ℕ) → IsBytes bytes → low ≡ code → number_at w least bytes ≡ Some (n, rest) → ((32 * major + low) ∷ bytes ≡ head_bytes major n ++ rest) × (n < 2 ^ 64)
-wide_takes w limit least code major low wide small shape bytes n rest fits is e =
-    let t = number_takes w limit least wide bytes n rest fits e in
-    let head : head_bytes major n ≡ (32 * major + code) ∷ to_be_bytes w n = shape n t.2 t.1 in
-    let parts : bytes ≡ to_be_bytes w n ++ rest = t.0 in
-    let below : n < limit = t.1 in
-    (rw (head, is, ← parts) refl, omega arith)
-
--- the argument that is read is spelled so, behind a first byte of any major type
-pub argument_takes : (major low : ℕ) (bytes : List ℕ) (n : ℕ) (rest : List ℕ) → IsBytes bytes → argument_at low bytes ≡ Some (n, rest) → ((32 * major + low) ∷ bytes ≡ head_bytes major n ++ rest) × (n < 2 ^ 64)
-unfolding argument_at
-argument_takes major low bytes n rest fits e =
-    elim (chosen (ltb low 24) _ _ _ e) [
-      | inl (is, e1) ↦
-          let parts = some_pair_parts _ _ _ _ e1 in
-          let small : low < 24 = ltb-true _ _ is in
-          let head : head_bytes major low ≡ (32 * major + low) ∷ [] = head_small major low small in
-          (rw (← parts.0, ← parts.1, head) refl, rw (← parts.0) (omega arith))
-      | inr (other, e1) ↦ elim (chosen (eqb low 24) _ _ _ e1) [
-        | inl (is, e2) ↦ wide_takes w8 (2 ^ 8) 24 24 major low wide8 (omega arith) (head_8 major) bytes n rest fits (eqb-true _ _ is) e2
-        | inr (other, e2) ↦ elim (chosen (eqb low 25) _ _ _ e2) [
-          | inl (is, e3) ↦ wide_takes w16 (2 ^ 16) (2 ^ 8) 25 major low wide16 (omega arith) (head_16 major) bytes n rest fits (eqb-true _ _ is) e3
-          | inr (other, e3) ↦ elim (chosen (eqb low 26) _ _ _ e3) [
-            | inl (is, e4) ↦ wide_takes w32 (2 ^ 32) (2 ^ 16) 26 major low wide32 (omega arith) (head_32 major) bytes n rest fits (eqb-true _ _ is) e4
-            | inr (other, e4) ↦ elim (chosen (eqb low 27) _ _ _ e4) [
-              | inl (is, e5) ↦ wide_takes w64 (2 ^ 64) (2 ^ 32) 27 major low wide64 (omega arith) (head_64 major) bytes n rest fits (eqb-true _ _ is) e5
-              | inr (other, e5) ↦ absurd cc
-            ]
-          ]
-        ]
-      ]
-    ]
-
--- how a head of these kinds begins, and how it is read again
-pub record ReadsAgain (major n : ℕ) (rest : List ℕ) : Type 0 where
-  pub low : ℕ
-  pub bytes : List ℕ
-  pub low_fits : low < 32
-  pub is : head_bytes major n ++ rest ≡ (32 * major + low) ∷ bytes
-  pub again : argument_at low bytes ≡ Some (n, rest)
-
-pub argument_again : (major n : ℕ) (rest : List ℕ) → n < 2 ^ 64 → ReadsAgain major n rest
-unfolding argument_at
-argument_again major n rest lt =
-    elim (cases_lt n 24) [
-      | inl a ↦ let t : ltb n 24 ≡ true = lt-ltb _ _ a in record { low = n; bytes = rest; low_fits = omega arith; is = rw (head_small major n a) refl; again = rw t refl }
-      | inr a ↦ elim (cases_lt n (2 ^ 8)) [
-        | inl b ↦ record { low = 24; bytes = to_be_bytes w8 n ++ rest; low_fits = omega arith; is = rw (head_8 major n a b) refl; again = number_again w8 (2 ^ 8) 24 wide8 n rest b a }
-        | inr b ↦ elim (cases_lt n (2 ^ 16)) [
-          | inl c ↦ record { low = 25; bytes = to_be_bytes w16 n ++ rest; low_fits = omega arith; is = rw (head_16 major n b c) refl; again = number_again w16 (2 ^ 16) (2 ^ 8) wide16 n rest c b }
-          | inr c ↦ elim (cases_lt n (2 ^ 32)) [
-            | inl d ↦ record { low = 26; bytes = to_be_bytes w32 n ++ rest; low_fits = omega arith; is = rw (head_32 major n c d) refl; again = number_again w32 (2 ^ 32) (2 ^ 16) wide32 n rest d c }
-            | inr d ↦ record { low = 27; bytes = to_be_bytes w64 n ++ rest; low_fits = omega arith; is = rw (head_64 major n d lt) refl; again = number_again w64 (2 ^ 64) (2 ^ 32) wide64 n rest lt d }
-          ]
-        ]
-      ]
-    ]
-
--- ---- heads
-
--- what a kind that is read has: its major type, and its values as arguments
+-- what the kind of a major type below 7 has: that major type, and its values as arguments
 pub record IsKindOf (major : ℕ) (kind : HeadKind) : Type 0 where
   pub is_major : major_of kind ≡ major
   pub argument : (value : ℕ) → argument_of kind value ≡ value
   pub fits : (value : ℕ) → value < 2 ^ 64 → IsValueOf kind value
 
-kind_case : (major : ℕ) (k kind : HeadKind) {m : ℕ} → Some k ≡ Some kind → major ≡ m → IsKindOf m k → IsKindOf major kind
-kind_case major k kind e is fits = subst (λ (q : HeadKind). IsKindOf major q) (same_Some _ _ e) (subst (λ (n : ℕ). IsKindOf n k) (sym is) fits)
+pub kind_takes : (major : ℕ) → major < 7 → IsKindOf major (kind_of_major major)
+kind_takes = below_7 (λ major. IsKindOf major (kind_of_major major)) (record { is_major = refl; argument = λ v. refl; fits = λ v lt. lt }) (record { is_major = refl; argument = λ v. refl; fits = λ v lt. lt }) (record { is_major = refl; argument = λ v. refl; fits = λ v lt. lt }) (record { is_major = refl; argument = λ v. refl; fits = λ v lt. lt }) (record { is_major = refl; argument = λ v. refl; fits = λ v lt. lt }) (record { is_major = refl; argument = λ v. refl; fits = λ v lt. lt }) (record { is_major = refl; argument = λ v. refl; fits = λ v lt. lt })
 
-plain : (kind : HeadKind) → ((value : ℕ) → argument_of kind value ≡ value) → ((value : ℕ) → value < 2 ^ 64 → IsValueOf kind value) → IsKindOf (major_of kind) kind
-plain kind argument value = record { is_major = refl; argument = argument; fits = value }
+-- ---- simple values
 
-pub kind_takes : (major : ℕ) (kind : HeadKind) → kind_at major ≡ Some kind → IsKindOf major kind
-kind_takes major kind e =
-    elim (chosen (eqb major 0) _ _ _ e) [
-      | inl (is, f) ↦ kind_case major kinds.Unsigned kind f (eqb-true _ _ is) (plain kinds.Unsigned (λ v. refl) (λ v lt. lt))
-      | inr (other, e) ↦ elim (chosen (eqb major 1) _ _ _ e) [
-        | inl (is, f) ↦ kind_case major kinds.Negative kind f (eqb-true _ _ is) (plain kinds.Negative (λ v. refl) (λ v lt. lt))
-        | inr (other, e) ↦ elim (chosen (eqb major 2) _ _ _ e) [
-          | inl (is, f) ↦ kind_case major kinds.Bytes kind f (eqb-true _ _ is) (plain kinds.Bytes (λ v. refl) (λ v lt. lt))
-          | inr (other, e) ↦ elim (chosen (eqb major 4) _ _ _ e) [
-            | inl (is, f) ↦ kind_case major kinds.Array kind f (eqb-true _ _ is) (plain kinds.Array (λ v. refl) (λ v lt. lt))
-            | inr (other, e) ↦ elim (chosen (eqb major 5) _ _ _ e) [
-              | inl (is, f) ↦ kind_case major kinds.Map kind f (eqb-true _ _ is) (plain kinds.Map (λ v. refl) (λ v lt. lt))
-              | inr (other, e) ↦ elim (chosen (eqb major 6) _ _ _ e) [
-                | inl (is, f) ↦ kind_case major kinds.Tag kind f (eqb-true _ _ is) (plain kinds.Tag (λ v. refl) (λ v lt. lt))
-                | inr (other, f) ↦ absurd cc
-              ]
-            ]
+pub simple_takes : (low : ℕ) (h : Head) → simple_value low ≡ Ok h → (major_of h.kind ≡ 7) × (argument_of h.kind h.value ≡ low) × (low < 24) × IsValueOf h.kind h.value
+simple_takes low h e =
+    elim (chosen (eqb low 20) _ _ _ e) [
+      | inl (is, f) ↦ simple_is low 20 (record { kind = kinds.Bool; value = 0 }) h f (eqb-true _ _ is) (refl, refl, omega arith, omega arith)
+      | inr (other, e) ↦ elim (chosen (eqb low 21) _ _ _ e) [
+        | inl (is, f) ↦ simple_is low 21 (record { kind = kinds.Bool; value = 1 }) h f (eqb-true _ _ is) (refl, refl, omega arith, omega arith)
+        | inr (other, e) ↦ elim (chosen (eqb low 22) _ _ _ e) [
+          | inl (is, f) ↦ simple_is low 22 (record { kind = kinds.Null; value = 0 }) h f (eqb-true _ _ is) (refl, refl, omega arith, refl)
+          | inr (other, e) ↦ elim (chosen (eqb low 31) _ _ _ e) [
+            | inl (is, never) ↦ absurd cc
+            | inr (other, never) ↦ absurd cc
           ]
         ]
       ]
     ]
+  where
+    simple_is : (low n : ℕ) (g h : Head) → ◌≡◌ {A = Result Head Reason} (Ok g) (Ok h) → low ≡ n → (major_of g.kind ≡ 7) × (argument_of g.kind g.value ≡ n) × (n < 24) × IsValueOf g.kind g.value → (major_of h.kind ≡ 7) × (argument_of h.kind h.value ≡ low) × (low < 24) × IsValueOf h.kind h.value
+    simple_is low n g h e is fits =
+        let same : g ≡ h = cc in
+        subst (λ (k : Head). (major_of k.kind ≡ 7) × (argument_of k.kind k.value ≡ low) × (low < 24) × IsValueOf k.kind k.value) same
+        (subst (λ (m : ℕ). (major_of g.kind ≡ 7) × (argument_of g.kind g.value ≡ m) × (m < 24) × IsValueOf g.kind g.value) (sym is) fits)
 
-pub record KindAgain (kind : HeadKind) (value : ℕ) : Type 0 where
-  pub read : kind_at (major_of kind) ≡ Some kind
-  pub argument : argument_of kind value ≡ value
-  pub fits : value < 2 ^ 64
+-- ---- heads
 
-pub kind_again : (kind : HeadKind) (value : ℕ) → IsValueOf kind value → KindAgain kind value
-kind_again kinds.Unsigned value fits = record { read = refl; argument = refl; fits = fits }
-kind_again kinds.Negative value fits = record { read = refl; argument = refl; fits = fits }
-kind_again kinds.Bytes value fits = record { read = refl; argument = refl; fits = fits }
-kind_again kinds.Text value fits = absurd fits
-kind_again kinds.Array value fits = record { read = refl; argument = refl; fits = fits }
-kind_again kinds.Map value fits = record { read = refl; argument = refl; fits = fits }
-kind_again kinds.Tag value fits = record { read = refl; argument = refl; fits = fits }
-kind_again kinds.Bool value fits = absurd fits
-kind_again kinds.Null value fits = absurd fits
-
-pub head_takes : (bytes : List ℕ) (h : Head) (rest : List ℕ) → IsBytes bytes → head_at bytes ≡ Some (h, rest) → BeginsWith bytes h rest
+pub head_takes : (bytes : List ℕ) (h : Head) (rest : List ℕ) → IsBytes bytes → head_at bytes ≡ Ok (h, rest) → BeginsWith bytes h rest
 unfolding head_at
 head_takes [] h rest fits e = absurd cc
 head_takes (first ∷ bytes) h rest fits e =
-    option_and_then_some _ _ _ e (λ kind k-is e1. option_and_then_some _ _ _ e1 (λ x x-is e2.
-    let k = kind_takes (first / 32) kind k-is in
-    let a = argument_takes (first / 32) (first % 32) bytes x.0 x.1 (λ i. fits (suc i)) x-is in
     let whole : first ≡ 32 * (first / 32) + first % 32 = omega arith in
-    let read : Head = record { kind = kind; value = x.0 } in
-    let parts = some_pair_parts read h x.1 rest e2 in
-    let head : head_bytes (first / 32) x.0 ≡ spelled read = rw (k.is_major, k.argument x.0) refl in
-    let begins : BeginsWith (first ∷ bytes) read x.1 = record { value = k.fits x.0 a.1; parts = ap (λ (b : ℕ). b ∷ bytes) whole ∙ a.0 ∙ ap (λ (l : List ℕ). l ++ x.1) head } in
-    subst (λ (r : List ℕ). BeginsWith (first ∷ bytes) h r) parts.1 (subst (λ (g : Head). BeginsWith (first ∷ bytes) g x.1) parts.0 begins)))
+    elim (chosen (eqb (first / 32) 7) _ _ _ e) [
+      | inl (is, e) ↦ bind_ok _ _ _ e (λ g g-is e.
+          let parts = ok_pair g h bytes rest e in
+          let s = simple_takes (first % 32) g g-is in
+          let major : first / 32 ≡ 7 = eqb-true _ _ is in
+          let head : spelled g ≡ (32 * 7 + first % 32) ∷ [] = rw (s.0, s.1) (head_small 7 (first % 32) s.2) in
+          let begins : BeginsWith (first ∷ bytes) g bytes = record { value = s.3; parts = ap (λ (b : ℕ). b ∷ bytes) (whole ∙ ap (λ (m : ℕ). 32 * m + first % 32) major) ∙ sym (ap (λ (l : List ℕ). l ++ bytes) head) } in
+          subst (λ (r : List ℕ). BeginsWith (first ∷ bytes) h r) parts.1 (subst (λ (k : Head). BeginsWith (first ∷ bytes) k bytes) parts.0 begins))
+      | inr (other, e) ↦ bind_ok _ _ _ e (λ x x-is e.
+          let low : first < 256 = fits 0 in
+          let not_7 : first / 32 ≡ 7 → ⊥ = eqb-false _ _ other in
+          let major : first / 32 < 7 = omega arith in
+          let k = kind_takes (first / 32) major in
+          let a = argument_takes (first / 32) (first % 32) bytes x.0 x.1 (λ i. fits (suc i)) x-is in
+          let read : Head = record { kind = kind_of_major (first / 32); value = x.0 } in
+          let parts = ok_pair read h x.1 rest e in
+          let head : head_bytes (first / 32) x.0 ≡ spelled read = rw (k.is_major, k.argument x.0) refl in
+          let begins : BeginsWith (first ∷ bytes) read x.1 = record { value = k.fits x.0 a.1; parts = ap (λ (b : ℕ). b ∷ bytes) whole ∙ a.0 ∙ ap (λ (l : List ℕ). l ++ x.1) head } in
+          subst (λ (r : List ℕ). BeginsWith (first ∷ bytes) h r) parts.1 (subst (λ (g : Head). BeginsWith (first ∷ bytes) g x.1) parts.0 begins))
+    ]
 
-pub head_again : (h : Head) (rest : List ℕ) → IsValueOf h.kind h.value → head_at (spelled h ++ rest) ≡ Some (h, rest)
+-- a head of a major type below 7
+pub plain_again : (kind : HeadKind) (value : ℕ) (rest : List ℕ) → major_of kind < 7 → kind_of_major (major_of kind) ≡ kind → value < 2 ^ 64 → head_at (head_bytes (major_of kind) value ++ rest) ≡ Ok (record { kind = kind; value = value }, rest)
 unfolding head_at
-head_again h rest fits =
-    let k = kind_again h.kind h.value fits in
-    let r = argument_again (major_of h.kind) h.value rest k.fits in
+plain_again kind value rest lt is fits =
+    let r = argument_again (major_of kind) value rest fits in
     let r-low : r.low < 32 = r.low_fits in
-    let high : (32 * major_of h.kind + r.low) / 32 ≡ major_of h.kind = omega arith in
-    let low : (32 * major_of h.kind + r.low) % 32 ≡ r.low = omega arith in
-    ap (λ (n : ℕ). head_at (head_bytes (major_of h.kind) n ++ rest)) k.argument ∙ ap head_at r.is ∙ rw (high, low, k.read, r.again) refl
+    let high : (32 * major_of kind + r.low) / 32 ≡ major_of kind = omega arith in
+    let low : (32 * major_of kind + r.low) % 32 ≡ r.low = omega arith in
+    let other : eqb (major_of kind) 7 ≡ false = ne_eqb (major_of kind) 7 (omega arith) in
+    ap head_at r.is ∙ rw (high, low, other, r.again, is) refl
+
+pub head_again : (h : Head) (rest : List ℕ) → IsValueOf h.kind h.value → head_at (spelled h ++ rest) ≡ Ok (h, rest)
+unfolding head_at
+head_again h rest fits = by_kind h.kind h.value fits
+  where
+    simple : (kind : HeadKind) (value argument : ℕ) (rest : List ℕ) → argument < 24 → simple_value argument ≡ Ok (record { kind = kind; value = value }) → head_at (head_bytes 7 argument ++ rest) ≡ Ok (record { kind = kind; value = value }, rest)
+    simple kind value argument rest lt is =
+        let high : (32 * 7 + argument) / 32 ≡ 7 = omega arith in
+        let low : (32 * 7 + argument) % 32 ≡ argument = omega arith in
+        ap (λ (l : List ℕ). head_at (l ++ rest)) (head_small 7 argument lt) ∙ rw (high, low, is) refl
+
+    truth : (value : ℕ) → value < 2 → head_at (head_bytes 7 (20 + value) ++ rest) ≡ Ok (record { kind = kinds.Bool; value = value }, rest)
+    truth zero lt = simple kinds.Bool 0 20 rest (omega arith) refl
+    truth (suc zero) lt = simple kinds.Bool 1 21 rest (omega arith) refl
+    truth (suc (suc value)) lt = absurd (omega arith)
+
+    by_kind : (kind : HeadKind) (value : ℕ) → IsValueOf kind value → head_at (head_bytes (major_of kind) (argument_of kind value) ++ rest) ≡ Ok (record { kind = kind; value = value }, rest)
+    by_kind kinds.Unsigned value fits = plain_again kinds.Unsigned value rest (omega arith) refl fits
+    by_kind kinds.Negative value fits = plain_again kinds.Negative value rest (omega arith) refl fits
+    by_kind kinds.Bytes value fits = plain_again kinds.Bytes value rest (omega arith) refl fits
+    by_kind kinds.Text value fits = plain_again kinds.Text value rest (omega arith) refl fits
+    by_kind kinds.Array value fits = plain_again kinds.Array value rest (omega arith) refl fits
+    by_kind kinds.Map value fits = plain_again kinds.Map value rest (omega arith) refl fits
+    by_kind kinds.Tag value fits = plain_again kinds.Tag value rest (omega arith) refl fits
+    by_kind kinds.Bool value fits = truth value fits
+    by_kind kinds.Null value fits = subst (λ (v : ℕ). head_at (head_bytes 7 (22 + v) ++ rest) ≡ Ok (record { kind = kinds.Null; value = v }, rest)) (sym fits) (simple kinds.Null 0 22 rest (omega arith) refl)
 
 -- ---- what a call of the reading function returned
 
-pub found_begins : (bytes : List ℕ) (r : Option (Head × Bor (List ℕ))) → IsBytes bytes → option_map (λ f. (f.0, f.1.now)) r ≡ head_at bytes → IfSome r (λ f. BeginsWith bytes f.0 f.1.now)
-found_begins bytes (Some f) fits e = head_takes bytes f.0 f.1.now fits (sym e)
-found_begins bytes None fits e = tt
+pub found_begins : (bytes : List ℕ) (r : Result (Head × Bor (List ℕ)) Reason) → IsBytes bytes → map_ok (λ f. (f.0, f.1.now)) r ≡ head_at bytes → IfOk r (λ f. BeginsWith bytes f.0 f.1.now)
+found_begins bytes (Ok f) fits e = head_takes bytes f.0 f.1.now fits (sym e)
+found_begins bytes (Err reason) fits e = tt
 
-pub found_length : (bytes : List ℕ) (r : Option (Head × Bor (List ℕ))) → IfSome r (λ f. BeginsWith bytes f.0 f.1.now) → IfSome r (λ f. length bytes ≡ length (spelled f.0) + length f.1.now)
-found_length bytes (Some f) begins = ap length begins.parts ∙ length-append (spelled f.0) f.1.now
-found_length bytes None begins = tt
-
-pub none_begins : (bytes : List ℕ) (r : Option (Head × Bor (List ℕ))) → option_map (λ f. (f.0, f.1.now)) r ≡ head_at bytes → IfNone r ((h : Head) (rest : List ℕ) → BeginsWith bytes h rest → ⊥)
-none_begins bytes (Some f) e = tt
-none_begins bytes None e = λ h rest begins.
-    let again : head_at bytes ≡ Some (h, rest) = ap head_at begins.parts ∙ head_again h rest begins.value in
-    let never : None ≡ Some (h, rest) = e ∙ again in
-    cc
-
--- a head is of one to nine bytes
-pub head_length : (major n : ℕ) → n < 2 ^ 64 → (1 ≤ length (head_bytes major n)) × (length (head_bytes major n) ≤ 9)
-head_length major n lt =
-    elim (cases_lt n 24) [
-      | inl a ↦ rw (head_small major n a) (omega arith, omega arith)
-      | inr a ↦ elim (cases_lt n (2 ^ 8)) [
-        | inl b ↦ rw (head_8 major n a b) (omega arith, omega arith)
-        | inr b ↦ elim (cases_lt n (2 ^ 16)) [
-          | inl c ↦ rw (head_16 major n b c) (omega arith, omega arith)
-          | inr c ↦ elim (cases_lt n (2 ^ 32)) [
-            | inl d ↦ rw (head_32 major n c d) (omega arith, omega arith)
-            | inr d ↦ rw (head_64 major n d lt) (omega arith, omega arith)
-          ]
-        ]
-      ]
-    ]
+pub found_length : (bytes : List ℕ) (r : Result (Head × Bor (List ℕ)) Reason) → IfOk r (λ f. BeginsWith bytes f.0 f.1.now) → IfOk r (λ f. length bytes ≡ length (spelled f.0) + length f.1.now)
+found_length bytes (Ok f) begins = ap length begins.parts ∙ length-append (spelled f.0) f.1.now
+found_length bytes (Err reason) begins = tt

@@ -1,5 +1,6 @@
 -- What is read at a position is what stands there, and what stands there is read.
-use Rattle.std.proofs.Common.{◌≡◌, ℕ, ◌+◌, ◌-◌, ◌≤◌, false, ltb, List, ◌++◌, length, take, drop, Some, refl, sym, ap, subst, ◌∙◌, arith, inl, inr}
+use Rattle.std.proofs.Common.{◌≡◌, ℕ, ◌+◌, ◌-◌, ◌≤◌, false, ltb, List, ◌++◌, length, take, drop, Some, Result, Ok, Err, refl, sym, ap, subst, ◌∙◌, arith, inl, inr}
+use Rattle.std.specs.Result.{result_ok}
 use Rattle.std.proofs.lemmas.Bool.{ltb-false, le-ltb}
 use Rattle.std.proofs.lemmas.List.{take_at, drop_at, take-append-drop, length-append, length-take, get_or-drop}
 use Rattle.std.proofs.lemmas.Option.{some_pair_parts, option_and_then_some}
@@ -7,9 +8,10 @@ use Rattle.det_cbor.specs.declared.head.Head.{Head}
 use Rattle.det_cbor.specs.HeadSpelling.{spelled, IsValueOf}
 use Rattle.det_cbor.specs.HeadReading.{head_at}
 use Rattle.det_cbor.specs.Position.{Position, next_head, next_bytes}
-use Rattle.det_cbor.proofs.Heads.{IsBytes, chosen, head_takes, head_again}
+use Rattle.det_cbor.proofs.Heads.{IsBytes, head_takes, head_again}
+use Rattle.det_cbor.proofs.Results.{chosen}
 
-IsBytes-drop : (n : ℕ) (bytes : List ℕ) → IsBytes bytes → IsBytes (drop n bytes)
+pub IsBytes-drop : (n : ℕ) (bytes : List ℕ) → IsBytes bytes → IsBytes (drop n bytes)
 IsBytes-drop n bytes h i = rw get_or-drop (h (n + i))
 
 pub IsBytes-rest : (front rest : List ℕ) → IsBytes (front ++ rest) → IsBytes rest
@@ -21,10 +23,14 @@ pub record Steps (p q : Position) (taken : List ℕ) : Type 0 where
   pub place : q.place ≡ p.place + length taken
   pub left : IsBytes q.left
 
+ok_was : {A E : Type 0} (r : Result A E) (x : A) → result_ok r ≡ Some x → r ≡ Ok x
+ok_was (Ok y) x e = cc
+ok_was (Err s) x e = absurd cc
+
 pub next_head_takes : (p : Position) (h : Head) (q : Position) → IsBytes p.left → next_head p ≡ Some (h, q) → Steps p q (spelled h) × IsValueOf h.kind h.value
 next_head_takes p h q fits e =
     option_and_then_some _ _ _ e (λ x x-is e1.
-    let begins = head_takes p.left x.0 x.1 fits x-is in
+    let begins = head_takes p.left x.0 x.1 fits (ok_was (head_at p.left) x x-is) in
     let long : length p.left ≡ length (spelled x.0) + length x.1 = ap length begins.parts ∙ length-append (spelled x.0) x.1 in
     let after : Position = record { left = x.1; place = p.place + (length p.left - length x.1) } in
     let place : p.place + (length p.left - length x.1) ≡ p.place + length (spelled x.0) = omega arith in
@@ -35,7 +41,7 @@ next_head_takes p h q fits e =
 
 pub next_head_again : (p : Position) (h : Head) (rest : List ℕ) → IsValueOf h.kind h.value → p.left ≡ spelled h ++ rest → next_head p ≡ Some (h, record { left = rest; place = p.place + length (spelled h) })
 next_head_again p h rest fits is =
-    let read : head_at p.left ≡ Some (h, rest) = ap head_at is ∙ head_again h rest fits in
+    let read : head_at p.left ≡ Ok (h, rest) = ap head_at is ∙ head_again h rest fits in
     let long : length p.left ≡ length (spelled h) + length rest = ap length is ∙ length-append (spelled h) rest in
     let place : p.place + (length p.left - length rest) ≡ p.place + length (spelled h) = omega arith in
     rw read (ap (λ (n : ℕ). Some (h, record { left = rest; place = n })) place)

@@ -1,38 +1,68 @@
 -- How a head is read.
-use Rattle.std.specs.Prelude.{ℕ, ◌/◌, ◌%◌, ◌^◌, ◌==◌, nat_lt, if◌then◌else◌, List, [], ◌∷◌, length, take, drop, Option, Some, None, option_and_then}
+use Rattle.std.specs.Prelude.{ℕ, ◌+◌, ◌/◌, ◌%◌, ◌^◌, ◌==◌, nat_lt, if◌then◌else◌, List, [], ◌∷◌, length, take, drop, Result, Ok, Err}
 use Rattle.std.specs.Int.{Width, w8, w16, w32, w64, byte_len, from_be_bytes}
 use Rattle.det_cbor.specs.declared.head.Head.{Head}
 use Rattle.det_cbor.specs.declared.head.HeadKind.{HeadKind}
 use Rattle.det_cbor.specs.declared.head.HeadKind.TheVariants as kinds
+use Rattle.det_cbor.specs.declared.reason.Reason.{Reason}
+use Rattle.det_cbor.specs.declared.reason.Reason.TheVariants.{Truncated, Indefinite, Kind, NotShortest}
 
-abbrev pub kind_at : ℕ → Option HeadKind
-kind_at major =
-    if major == 0 then Some kinds.Unsigned
-    else if major == 1 then Some kinds.Negative
-    else if major == 2 then Some kinds.Bytes
-    else if major == 4 then Some kinds.Array
-    else if major == 5 then Some kinds.Map
-    else if major == 6 then Some kinds.Tag
-    else None
+infixl 10 ◌>>=◌
+abbrev pub ◌>>=◌ : {A B E : Type 0} → Result A E → (A → Result B E) → Result B E
+(Ok x) >>= f = f x
+(Err e) >>= f = Err e
 
--- a number of a width that is not below the least, and the bytes after it
-abbrev pub number_at : Width → ℕ → List ℕ → Option (ℕ × List ℕ)
+abbrev pub map_ok : {A B E : Type 0} → (A → B) → Result A E → Result B E
+map_ok f (Ok x) = Ok (f x)
+map_ok f (Err e) = Err e
+
+-- the kind of a major type below 7
+abbrev pub kind_of_major : ℕ → HeadKind
+kind_of_major major =
+    if major == 0 then kinds.Unsigned
+    else if major == 1 then kinds.Negative
+    else if major == 2 then kinds.Bytes
+    else if major == 3 then kinds.Text
+    else if major == 4 then kinds.Array
+    else if major == 5 then kinds.Map
+    else kinds.Tag
+
+-- a number that is not below the least of its width, and the bytes after it
+abbrev pub shortest_from : ℕ → ℕ → List ℕ → Result (ℕ × List ℕ) Reason
+shortest_from least number rest = if nat_lt number least then Err NotShortest else Ok (number, rest)
+
+abbrev pub number_at : Width → ℕ → List ℕ → Result (ℕ × List ℕ) Reason
 number_at w least bytes =
-    if nat_lt (length bytes) (byte_len w) then None
-    else if nat_lt (from_be_bytes w (take (byte_len w) bytes)) least then None
-    else Some (from_be_bytes w (take (byte_len w) bytes), drop (byte_len w) bytes)
+    if nat_lt (length bytes) (byte_len w) then Err Truncated
+    else shortest_from least (from_be_bytes w (take (byte_len w) bytes)) (drop (byte_len w) bytes)
 
--- the argument behind the low five bits of a first byte
-unfoldable pub argument_at : ℕ → List ℕ → Option (ℕ × List ℕ)
+-- the argument behind the lower five bits of a first byte
+unfoldable pub argument_at : ℕ → List ℕ → Result (ℕ × List ℕ) Reason
 argument_at low bytes =
-    if nat_lt low 24 then Some (low, bytes)
+    if nat_lt low 24 then Ok (low, bytes)
     else if low == 24 then number_at w8 24 bytes
     else if low == 25 then number_at w16 (2 ^ 8) bytes
     else if low == 26 then number_at w32 (2 ^ 16) bytes
     else if low == 27 then number_at w64 (2 ^ 32) bytes
-    else None
+    else if low == 31 then Err Indefinite
+    else Err Kind
 
-unfoldable pub head_at : List ℕ → Option (Head × List ℕ)
-head_at [] = None
+-- what major type 7 has: false, true and null
+abbrev pub simple_value : ℕ → Result Head Reason
+simple_value low =
+    if low == 20 then Ok (record { kind = kinds.Bool; value = 0 })
+    else if low == 21 then Ok (record { kind = kinds.Bool; value = 1 })
+    else if low == 22 then Ok (record { kind = kinds.Null; value = 0 })
+    else if low == 31 then Err Indefinite
+    else Err Kind
+
+unfoldable pub head_at : List ℕ → Result (Head × List ℕ) Reason
+head_at [] = Err Truncated
 head_at (first ∷ rest) =
-    option_and_then (λ kind. option_and_then (λ x. Some (record { kind = kind; value = x.0 }, x.1)) (argument_at (first % 32) rest)) (kind_at (first / 32))
+    if first / 32 == 7 then (simple_value (first % 32) >>= λ h. Ok (h, rest))
+    else (argument_at (first % 32) rest >>= λ x. Ok (record { kind = kind_of_major (first / 32); value = x.0 }, x.1))
+
+-- where a fault of a head or a string is: at the end where the input ends, and else at the head
+abbrev pub place_in : List ℕ → Reason → ℕ
+place_in bytes Truncated = length bytes
+place_in bytes _ = 0

@@ -26,11 +26,10 @@ argument_of _ value = value
 abbrev pub spelled : Head → List ℕ
 spelled h = head_bytes (major_of h.kind) (argument_of h.kind h.value)
 
--- the values of a kind, of those kinds that are read
+-- the values of a kind
 abbrev pub IsValueOf : HeadKind → ℕ → Type 0
-IsValueOf kinds.Text value = ⊥
-IsValueOf kinds.Bool value = ⊥
-IsValueOf kinds.Null value = ⊥
+IsValueOf kinds.Bool value = value < 2
+IsValueOf kinds.Null value = value ≡ 0
 IsValueOf _ value = value < 2 ^ 64
 
 -- the bytes are a head, and then the rest

@@ -2,4 +2,12 @@ pub mod Heads
 pub mod HeadSpelling
 pub mod HeadReading
 pub mod Position
+pub mod Faults
+pub mod ItemReading
 pub mod DataItem
+pub mod DataLists
+pub mod DataCode
+pub mod ItemTree
+pub mod ItemDepth
+pub mod Growth
+pub mod ItemOrder

@@ -1,6 +1,9 @@
 -- What a cursor stands for, and what its calls take.
 use Rattle.std.specs.Prelude.{◌≡◌, ℕ, ◌+◌, ◌-◌, List, ◌++◌, length, take, drop, Option, Some, None, option_and_then, nat_lt, if◌then◌else◌}
+use Rattle.std.specs.Result.{result_ok}
 use Rattle.det_cbor.specs.declared.head.Head.{Head}
+use Rattle.det_cbor.specs.declared.reason.Reason.{Reason}
+use Rattle.det_cbor.specs.declared.reason.CborRefusal.{CborRefusal}
 use Rattle.det_cbor.specs.HeadSpelling.{spelled, BeginsWith}
 use Rattle.det_cbor.specs.HeadReading.{head_at}
 
@@ -19,9 +22,19 @@ pub record Reads (old new : Position) (h : Head) : Type 0 where
   pub begins : BeginsWith old.left h new.left
   pub place : new.place ≡ old.place + length (spelled h)
 
+-- a refusal, so many bytes after the position
+abbrev pub refusal_at : Position → ℕ → Reason → CborRefusal
+refusal_at p at reason = record { place = p.place + at; reason = reason }
+
+-- what is refused at a position is a fault of the bytes that are left
+pub record IsRefusal (p : Position) (Fault : List ℕ → ℕ → Reason → Type 0) (e : CborRefusal) : Type 0 where
+  pub at : ℕ
+  pub fault : Fault p.left at e.reason
+  pub place : e.place ≡ p.place + at
+
 -- the next head, and where reading goes on
 abbrev pub next_head : Position → Option (Head × Position)
-next_head p = option_and_then (λ x. Some (x.0, record { left = x.1; place = p.place + (length p.left - length x.1) })) (head_at p.left)
+next_head p = option_and_then (λ x. Some (x.0, record { left = x.1; place = p.place + (length p.left - length x.1) })) (result_ok (head_at p.left))
 
 -- the next n bytes, and where reading goes on
 abbrev pub next_bytes : ℕ → Position → Option (List ℕ × Position)

@@ -1,12 +1,17 @@
 //! A place in bytes that are read from left to right.
 
-ghost use Rattle.std.specs.Prelude.{◌≡◌, ◌+◌, ◌<◌, ◌^◌, List, ℕ, length, IfSome, IfNone, option_map};
+ghost use Rattle.std.specs.Prelude.{◌≡◌, ◌+◌, ◌<◌, ◌^◌, List, ℕ, length, Ok, Err, IfOk, IfErr, OnErr, option_map};
+ghost use Rattle.std.specs.Result.{result_ok};
 ghost use Rattle.det_cbor.specs.declared.head.Head.{Head};
+ghost use Rattle.det_cbor.specs.declared.reason.Reason.{Reason};
+ghost use Rattle.det_cbor.specs.declared.reason.Reason.TheVariants.{Truncated};
+ghost use Rattle.det_cbor.specs.Faults.{BadHead};
+ghost use Rattle.det_cbor.specs.HeadReading.{place_in};
 ghost use Rattle.det_cbor.specs.HeadSpelling.{BeginsWith};
-ghost use Rattle.det_cbor.specs.Position.{Takes, Reads, next_head, next_bytes};
+ghost use Rattle.det_cbor.specs.Position.{Takes, Reads, next_head, next_bytes, refusal_at, IsRefusal};
 
-use crate::Head;
 use crate::head::split_head;
+use crate::{CborRefusal, Head, Reason};
 use std::marker::Model;
 
 /// Bytes that are read from left to right, and the place of the first that is left.
@@ -55,32 +60,50 @@ impl<'a> Cursor<'a> {
         self.rest.len()
     }
 
-    /// The next head.
-    pub fn head(&mut self) -> Option<Head>
-        ensures exact { option_map (λ head. (head, self.new)) result ≡ next_head self.old }
-        ensures some { IfSome result (Reads self.old self.new) }
-        ensures none { IfNone result ((h : Head) (rest : List ℕ) → BeginsWith self.old.left h rest → ⊥) }
-        ensures same { IfNone result (self.new ≡ self.old) }
+    /// The next head. Counts no levels.
+    pub fn head(&mut self) -> Result<Head, CborRefusal>
+        ensures exact { option_map (λ head. (head, self.new)) (result_ok result) ≡ next_head self.old }
+        ensures ok { IfOk result (Reads self.old self.new) }
+        ensures refused { IfErr result (IsRefusal self.old BadHead) }
+        ensures same { OnErr result (self.new ≡ self.old) }
+        ensures every_head { (h : Head) (rest : List ℕ) → BeginsWith self.old.left h rest → result ≡ Ok h }
+        ensures every_fault { (at : ℕ) (reason : Reason) → BadHead self.old.left at reason → result ≡ Err (refusal_at self.old at reason) }
     {
-        let (head, rest) = split_head(self.rest)?;
-        self.at += (self.rest.len() - rest.len()) as u64;
-        self.rest = rest;
-        Some(head)
+        match split_head(self.rest) {
+            Ok((head, rest)) => {
+                self.at += (self.rest.len() - rest.len()) as u64;
+                self.rest = rest;
+                Ok(head)
+            }
+            Err(reason) => Err(self.refusal(reason)),
+        }
+    }
+
+    // A fault of a head or a string that was to stand here.
+    fn refusal(&self, reason: Reason) -> CborRefusal
+        ensures { result ≡ refusal_at self.now (place_in self.now.left reason) reason }
+    {
+        let place = match reason {
+            Reason::Truncated => self.at + self.rest.len() as u64,
+            _ => self.at,
+        };
+        CborRefusal { place, reason }
     }
 
     /// The next bytes, as many as are asked for, lent for as long as the input lives.
-    pub fn bytes(&mut self, count: u64) -> Option<&'a [u8]>
-        ensures exact { option_map (λ piece. (piece.now, self.new)) result ≡ next_bytes count self.old }
-        ensures some { IfSome result (λ piece. (length piece.now ≡ count) × Takes self.old self.new piece.now) }
-        ensures none { IfNone result (length self.old.left < count) }
-        ensures same { IfNone result (self.new ≡ self.old) }
+    pub fn bytes(&mut self, count: u64) -> Result<&'a [u8], CborRefusal>
+        ensures exact { option_map (λ piece. (piece.now, self.new)) (result_ok result) ≡ next_bytes count self.old }
+        ensures ok { IfOk result (λ piece. (length piece.now ≡ count) × Takes self.old self.new piece.now) }
+        ensures short { IfErr result (λ e. (length self.old.left < count)
+            × (e ≡ refusal_at self.old (length self.old.left) Truncated)) }
+        ensures same { OnErr result (self.new ≡ self.old) }
     {
         if (self.rest.len() as u64) < count {
-            return None;
+            return Err(self.refusal(Reason::Truncated));
         }
         let (piece, rest) = self.rest.split_at(count as usize);
         self.at += count;
         self.rest = rest;
-        Some(piece)
+        Ok(piece)
     }
 }

@@ -2,13 +2,29 @@
 #![tactic(auto)]
 
 mod bytes;
+mod compare;
 mod cursor;
+mod encoding;
 mod head;
+mod head_writing;
+mod item;
+mod item_head;
+mod items;
 mod names;
+mod pairs;
+mod reason;
 mod text;
+mod validity;
 
 pub use bytes::Bytes;
 pub use cursor::Cursor;
+pub use encoding::{encode, push_item};
 pub use head::{Head, HeadKind};
+pub use head_writing::push_head;
+pub use item::{Inner, Item};
+pub use items::Items;
 pub use names::Names;
+pub use pairs::Pairs;
+pub use reason::{CborRefusal, Reason};
 pub use text::Text;
+pub use validity::valid;

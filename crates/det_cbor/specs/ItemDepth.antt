@@ -1,0 +1,28 @@
+-- A part of an item is smaller than the item.
+use Rattle.std.specs.Prelude.{ℕ, ◌+◌, ◌≤◌, max, List, [], ◌∷◌}
+use Rattle.std.proofs.Common.{arith}
+use denote.Param.Weighed.{most}
+use Rattle.det_cbor.specs.declared.item.Item.{Item}
+use Rattle.det_cbor.specs.declared.item.Item.TheVariants as item
+use Rattle.det_cbor.specs.declared.item.Inner.TheDeep.{deep-Item}
+use Rattle.det_cbor.specs.DataLists.{item_size, list_size, pair_list_size}
+use Rattle.det_cbor.specs.ItemTree.{tree_of, trees_of, pair_trees_of}
+
+pub item_falls : (x : Item) → max (deep-Item x) 0 ≤ item_size (tree_of x)
+item_falls (item.Unsigned n) = omega arith
+item_falls (item.Negative n) = omega arith
+item_falls (item.Bytes bytes) = omega arith
+item_falls (item.Text text) = omega arith
+item_falls (item.Array items) = omega arith
+item_falls (item.Map pairs) = omega arith
+item_falls (item.Tagged tag inner) = omega arith
+item_falls (item.Bool truth) = omega arith
+item_falls item.Null = omega arith
+
+pub items_fall : (xs : List Item) → max (most deep-Item xs) 0 ≤ list_size (trees_of xs)
+items_fall [] = omega arith
+items_fall (x ∷ xs) = omega (arith, item_falls x, items_fall xs)
+
+pub pairs_fall : (ps : List (Item × Item)) → max (most (λ p. max (deep-Item p.0) (max (deep-Item p.1) 0)) ps) 0 ≤ pair_list_size (pair_trees_of ps)
+pairs_fall [] = omega arith
+pairs_fall (p ∷ ps) = omega (arith, item_falls p.0, item_falls p.1, pairs_fall ps)

@@ -1,0 +1,99 @@
+-- How an item is read: from left to right, up to the first fault.
+use Rattle.std.specs.Prelude.{ℕ, zero, suc, ◌-◌, ◌==◌, nat_lt, if◌then◌else◌, List, [], ◌∷◌, length, take, drop, Option, Some, None, Result, Ok, Err}
+use Rattle.std.specs.Str.{is_utf8}
+use Rattle.std.specs.declared.cmp.Ordering.{Ordering}
+use Rattle.std.specs.declared.cmp.Ordering.TheVariants.{Less, Equal, Greater}
+use Rattle.std.specs.Ordering.{nat_cmp}
+use Rattle.std.specs.Cmp.Lexicographic.{slice_cmp}
+use Rattle.det_cbor.specs.declared.head.Head.{Head}
+use Rattle.det_cbor.specs.declared.head.HeadKind.{HeadKind}
+use Rattle.det_cbor.specs.declared.head.HeadKind.TheVariants as kinds
+use Rattle.det_cbor.specs.declared.reason.Reason.{Reason}
+use Rattle.det_cbor.specs.declared.reason.Reason.TheVariants.{Truncated, TooDeep, BadText, Repeated, Order}
+use Rattle.det_cbor.specs.declared.reason.Stop.{Stop}
+use Rattle.det_cbor.specs.DataItem.{DataItem, UnsignedInteger, NegativeInteger, ByteString, TextString, ArrayOf, MapOf, TaggedItem, Boolean, NullItem}
+use Rattle.det_cbor.specs.DataLists.{items_of, pairs_of}
+use Rattle.det_cbor.specs.HeadReading.{◌>>=◌, head_at}
+
+abbrev pub Read : Type 0 → Type 0
+Read A = Result (A × List ℕ) Stop
+
+abbrev pub Reader : Type 0
+Reader = List ℕ → Read DataItem
+
+-- a fault of a head or a string: at the end where the input ends, and else at the head
+abbrev pub stop_at : List ℕ → Reason → Stop
+stop_at bytes Truncated = record { left = 0; reason = Truncated }
+stop_at bytes reason = record { left = length bytes; reason = reason }
+
+abbrev pub stopped : {A : Type 0} → List ℕ → Result A Reason → Result A Stop
+stopped bytes (Ok x) = Ok x
+stopped bytes (Err reason) = Err (stop_at bytes reason)
+
+-- ---- strings
+
+abbrev pub string_at : ℕ → List ℕ → Result (List ℕ × List ℕ) Reason
+string_at count rest = if nat_lt (length rest) count then Err Truncated else Ok (take count rest, drop count rest)
+
+abbrev pub text_at : ℕ → List ℕ → Result (List ℕ × List ℕ) Reason
+text_at count rest = string_at count rest >>= λ s. if is_utf8 s.0 then Ok s else Err BadText
+
+-- ---- the parts of an array, a map and a tag, by a reader for each
+
+abbrev pub items_by : Reader → ℕ → List ℕ → Read (List DataItem)
+items_by read zero bytes = Ok ([], bytes)
+items_by read (suc count) bytes = do
+  first ← read bytes
+  others ← items_by read count first.1
+  Ok (first.0 ∷ others.0, others.1)
+
+-- the bytes that stand before the rest
+abbrev pub read_of : List ℕ → List ℕ → List ℕ
+read_of bytes rest = take (length bytes - length rest) bytes
+
+-- how a key compares with the one that is to be above it
+abbrev pub ascending : Ordering → Result Unit Reason
+ascending Less = Ok tt
+ascending Equal = Err Repeated
+ascending Greater = Err Order
+
+-- a key after the key before it
+abbrev pub in_order : Option (List ℕ) → List ℕ → Result Unit Reason
+in_order None key = Ok tt
+in_order (Some before) key = ascending (slice_cmp nat_cmp before key)
+
+abbrev pub pairs_by : Reader → Option (List ℕ) → ℕ → List ℕ → Read (List (DataItem × DataItem))
+pairs_by read before zero bytes = Ok ([], bytes)
+pairs_by read before (suc count) bytes = do
+  key ← read bytes
+  sorted ← stopped bytes (in_order before (read_of bytes key.1))
+  value ← read key.1
+  others ← pairs_by read (Some (read_of bytes key.1)) count value.1
+  Ok ((key.0, value.0) ∷ others.0, others.1)
+
+-- ---- items
+
+-- the reader of parts, where a level is left
+abbrev pub nested : List ℕ → Option Reader → Result Reader Stop
+nested bytes None = Err (stop_at bytes TooDeep)
+nested bytes (Some read) = Ok read
+
+-- an item after its head
+abbrev pub body_with : Option Reader → List ℕ → ℕ → List ℕ → HeadKind → Read DataItem
+body_with parts bytes value rest kinds.Unsigned = Ok (UnsignedInteger value, rest)
+body_with parts bytes value rest kinds.Negative = Ok (NegativeInteger value, rest)
+body_with parts bytes value rest kinds.Bytes = stopped bytes (string_at value rest) >>= λ s. Ok (ByteString s.0, s.1)
+body_with parts bytes value rest kinds.Text = stopped bytes (text_at value rest) >>= λ s. Ok (TextString s.0, s.1)
+body_with parts bytes value rest kinds.Array = nested bytes parts >>= λ read. items_by read value rest >>= λ xs. Ok (ArrayOf (items_of xs.0), xs.1)
+body_with parts bytes value rest kinds.Map = nested bytes parts >>= λ read. pairs_by read None value rest >>= λ ps. Ok (MapOf (pairs_of ps.0), ps.1)
+body_with parts bytes value rest kinds.Tag = nested bytes parts >>= λ read. read rest >>= λ x. Ok (TaggedItem value x.0, x.1)
+body_with parts bytes value rest kinds.Bool = Ok (Boolean (value == 1), rest)
+body_with parts bytes value rest kinds.Null = Ok (NullItem, rest)
+
+abbrev pub item_with : Option Reader → Reader
+item_with parts bytes = stopped bytes (head_at bytes) >>= λ h. body_with parts bytes h.0.value h.1 h.0.kind
+
+-- an item with at most so many levels
+unfoldable pub item_at : ℕ → Reader
+item_at zero bytes = item_with None bytes
+item_at (suc levels) bytes = item_with (Some (item_at levels)) bytes

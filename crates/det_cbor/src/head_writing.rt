@@ -1,0 +1,76 @@
+//! Writing heads at the end of a list of bytes.
+
+ghost use Rattle.std.specs.Prelude.{◌≡◌, ◌∷◌, ◌++◌, ◌<◌, OnOk, OnErr};
+ghost use Rattle.det_cbor.specs.Growth.{BeginsWithAll};
+ghost use Rattle.det_cbor.specs.HeadSpelling.{major_of, argument_of, spelled, IsValueOf};
+ghost use Rattle.det_cbor.specs.Heads.{head_bytes};
+
+use crate::{Bytes, Head, HeadKind};
+use std::alloc::AllocError;
+
+pub(crate) fn major_type(kind: HeadKind) -> u8
+    ensures is { result ≡ major_of kind }
+    ensures small { result < 8 }
+{
+    match kind {
+        HeadKind::Unsigned => 0,
+        HeadKind::Negative => 1,
+        HeadKind::Bytes => 2,
+        HeadKind::Text => 3,
+        HeadKind::Array => 4,
+        HeadKind::Map => 5,
+        HeadKind::Tag => 6,
+        HeadKind::Bool | HeadKind::Null => 7,
+    }
+}
+
+// The number that stands in the head: false is 20, true 21 and null 22.
+pub(crate) fn argument(head: Head) -> u64
+    requires { IsValueOf head.kind head.value }
+    ensures { result ≡ argument_of head.kind head.value }
+{
+    match head.kind {
+        HeadKind::Bool => 20 + head.value,
+        HeadKind::Null => 22 + head.value,
+        _ => head.value,
+    }
+}
+
+// Adds a first byte and what follows it.
+fn push_parts(out: &mut Bytes, first: u8, rest: &[u8]) -> Result<(), AllocError>
+    ensures ok { OnOk result (out.new ≡ out.old ++ first ∷ rest.now) }
+    ensures err { OnErr result (BeginsWithAll out.old out.new) }
+{
+    out.push(first)?;
+    out.extend(rest)
+}
+
+// Adds the head of a major type and an argument, in its shortest form.
+#[tactic(auto, unfolding(crate::specs::Heads::head_bytes))]
+fn push_shortest(out: &mut Bytes, major: u8, argument: u64) -> Result<(), AllocError>
+    requires { major < 8 }
+    ensures ok { OnOk result (out.new ≡ out.old ++ head_bytes major argument) }
+    ensures err { OnErr result (BeginsWithAll out.old out.new) }
+{
+    let first = 32 * major;
+    if argument < 24 {
+        out.push(first + argument as u8)
+    } else if argument < 1 << 8 {
+        push_parts(out, first + 24, &(argument as u8).to_be_bytes())
+    } else if argument < 1 << 16 {
+        push_parts(out, first + 25, &(argument as u16).to_be_bytes())
+    } else if argument < 1 << 32 {
+        push_parts(out, first + 26, &(argument as u32).to_be_bytes())
+    } else {
+        push_parts(out, first + 27, &argument.to_be_bytes())
+    }
+}
+
+/// Adds a head in its shortest form. Where memory runs out, a part of the head may have been added.
+pub fn push_head(out: &mut Bytes, head: Head) -> Result<(), AllocError>
+    requires { IsValueOf head.kind head.value }
+    ensures ok { OnOk result (out.new ≡ out.old ++ spelled head) }
+    ensures err { OnErr result (BeginsWithAll out.old out.new) }
+{
+    push_shortest(out, major_type(head.kind), argument(head))
+}

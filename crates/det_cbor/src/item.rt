@@ -1,0 +1,76 @@
+//! Data items of CBOR (RFC 8949, section 2).
+
+ghost use Rattle.std.specs.Prelude.{◌≡◌, IfOk};
+ghost use Rattle.det_cbor.specs.ItemTree.{tree_of};
+
+use crate::{Bytes, Items, Pairs, Text};
+use std::alloc::{AllocError, Global};
+use std::marker::Model;
+
+/// A data item. `Negative(n)` stands for the integer -1 - n.
+#[cycle(item)]
+#[derive(Debug, Drop)]
+pub enum Item {
+    Unsigned(u64),
+    Negative(u64),
+    Bytes(Bytes),
+    Text(Text),
+    Array(Items),
+    Map(Pairs),
+    Tagged(u64, Inner),
+    Bool(bool),
+    Null,
+}
+
+/// The item that a tag stands before, in memory of its own.
+#[cycle(item)]
+#[derive(Debug, Drop)]
+pub struct Inner {
+    pub(crate) held: Box<Item>,
+}
+
+impl Model for Inner {
+    ghost use Rattle.det_cbor.specs.DataItem.{DataItem};
+
+    ghost Value = { DataItem };
+
+    ghost use Rattle.det_cbor.specs.DataCode.{coded_item};
+
+    ghost coded = { coded_item };
+
+    ghost use Rattle.det_cbor.specs.ItemTree.{tree_of};
+
+    ghost view = { λ a. tree_of a.held.value };
+
+    ghost use Rattle.det_cbor.specs.DataLists.{item_size};
+
+    ghost size = { item_size };
+
+    ghost use Rattle.det_cbor.specs.ItemDepth.{item_falls};
+
+    ghost size_decreases = { λ a h. item_falls a.held.value };
+}
+
+impl Inner {
+    /// Puts an item into memory of its own.
+    pub fn new(alloc: Global, item: Item) -> Result<Inner, AllocError>
+        ensures { IfOk result (λ inner. inner ≡ tree_of item) }
+    {
+        let held = Box::new(alloc, item)?;
+        Ok(Inner { held })
+    }
+
+    /// The item, lent.
+    pub fn as_item(&self) -> &Item
+        ensures { tree_of result.now ≡ self.now }
+    {
+        &self.held
+    }
+
+    /// The item, taken out of its memory. Takes no memory.
+    pub fn into_item(self) -> Item
+        ensures { tree_of result ≡ self }
+    {
+        Box::into_inner(self.held)
+    }
+}

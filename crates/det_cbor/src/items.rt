@@ -1,0 +1,92 @@
+//! Lists of data items.
+
+ghost use Rattle.std.specs.Prelude.{◌≡◌, [], ◌∷◌, ◌++◌, length, OnOk, OnErr, IsTrue, ◌↔◌};
+ghost use Rattle.det_cbor.specs.ItemTree.{tree_of, trees_of};
+
+use crate::Item;
+use std::alloc::{AllocError, Global};
+use std::marker::Model;
+
+/// The items of an array.
+#[cycle(item)]
+#[derive(Debug, Drop)]
+pub struct Items {
+    pub(crate) held: Vec<Item>,
+}
+
+impl Model for Items {
+    ghost use Rattle.std.specs.Prelude.{List};
+    ghost use Rattle.det_cbor.specs.DataItem.{DataItem};
+
+    ghost Value = { List DataItem };
+
+    ghost use Rattle.det_cbor.specs.DataCode.{coded_items};
+
+    ghost coded = { coded_items };
+
+    ghost use Rattle.det_cbor.specs.ItemTree.{trees_of};
+
+    ghost view = { λ a. trees_of a.held.items };
+
+    ghost use Rattle.det_cbor.specs.DataLists.{list_size};
+
+    ghost size = { list_size };
+
+    ghost use Rattle.det_cbor.specs.ItemDepth.{items_fall};
+
+    ghost size_decreases = { λ a h. items_fall a.held.items };
+}
+
+impl Items {
+    /// A list of no items, which grows by this allocator. Takes no memory.
+    pub fn new(alloc: Global) -> Items
+        ensures { result ≡ [] }
+    {
+        Items {
+            held: Vec::new(alloc),
+        }
+    }
+
+    /// The list that a vector holds. Takes no memory and copies nothing.
+    pub fn from_vec(items: Vec<Item>) -> Items
+        ensures { result ≡ trees_of items.items }
+    {
+        Items { held: items }
+    }
+
+    /// The vector that the list was made of. Takes no memory and copies nothing.
+    pub fn into_vec(self) -> Vec<Item>
+        ensures { trees_of result.items ≡ self }
+    {
+        self.held
+    }
+
+    /// Adds an item at the end. An item for which there is no memory is dropped.
+    pub fn push(&mut self, item: Item) -> Result<(), AllocError>
+        ensures ok { OnOk result (self.new ≡ self.old ++ tree_of item ∷ []) }
+        ensures err { OnErr result (self.new ≡ self.old) }
+    {
+        Ok(self.held.push(item)?)
+    }
+
+    /// The number of items.
+    pub fn len(&self) -> usize
+        ensures { result ≡ length self.now }
+    {
+        self.held.len()
+    }
+
+    /// Whether there are no items.
+    pub fn is_empty(&self) -> bool
+        ensures { IsTrue result ↔ (self.now ≡ []) }
+    {
+        self.held.is_empty()
+    }
+
+    /// The items, lent.
+    pub fn as_slice(&self) -> &[Item]
+        ensures { trees_of result.now ≡ self.now }
+    {
+        self.held.as_slice()
+    }
+}
