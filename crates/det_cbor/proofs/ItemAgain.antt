@@ -129,7 +129,7 @@ headed parts h inner rest fits =
     let read : head_at bytes ≡ Ok (h, inner ++ rest) = ap head_at (append_assoc (spelled h) inner rest) ∙ head_again h (inner ++ rest) fits in
     rw read refl
 
-headed_alone : (parts : Option Reader) (h : Head) (rest : List ℕ) → IsValueOf h.kind h.value → item_with parts (spelled h ++ rest) ≡ body_with parts (spelled h ++ rest) h.value rest h.kind
+pub headed_alone : (parts : Option Reader) (h : Head) (rest : List ℕ) → IsValueOf h.kind h.value → item_with parts (spelled h ++ rest) ≡ body_with parts (spelled h ++ rest) h.value rest h.kind
 headed_alone parts h rest fits = let read : head_at (spelled h ++ rest) ≡ Ok (h, rest) = head_again h rest fits in rw read refl
 
 whole_again : (levels : ℕ) (parts : Option Reader) → PartsReadAgain levels parts → ReadsAgain levels (item_with parts)
