@@ -1,2 +1,3 @@
 pub mod Hmac
 pub mod MacState
+pub mod Mac0

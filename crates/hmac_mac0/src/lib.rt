@@ -3,5 +3,6 @@
 
 mod key;
 mod mac;
+mod structure;
 
 pub use mac::{Mac, hmac};
