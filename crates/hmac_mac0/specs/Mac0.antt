@@ -1,5 +1,5 @@
 -- COSE_Mac0 (RFC 9052, section 6), with HMAC 256/256 as the algorithm.
-use Rattle.std.specs.Prelude.{◌≡◌, ℕ, List, [], Option, Some, None, codes}
+use Rattle.std.specs.Prelude.{◌≡◌, ℕ, List, [], ◌∷◌, Option, Some, None, codes}
 use Rattle.det_cbor.specs.DataItem.{DataItem, UnsignedInteger, ByteString, TextString, ArrayOf, MapOf, TaggedItem, NullItem, NoItems, ItemThen, DataPairs, NoPairs, PairThen, spell, Spells}
 use Rattle.hmac_mac0.specs.Hmac.{hmac_of}
 
@@ -52,3 +52,13 @@ pub record Mismatches (block key payload expected found : List ℕ) : Type 0 whe
   pub is_block : IsMac0 block protected found
   pub computed : expected ≡ tag_of key protected payload
   pub other : found ≡ expected → ⊥
+
+-- ---- the blocks that are made
+
+-- the map of 1 (alg) to 5 (HMAC 256/256), spelled
+abbrev pub made_header : List ℕ
+made_header = 0xa1 ∷ 0x01 ∷ 0x05 ∷ []
+
+-- with that header, the kid unprotected, and the tag of the key and the payload
+abbrev pub made_item : List ℕ → Option (List ℕ) → List ℕ → DataItem
+made_item key kid payload = mac0_item made_header (kid_pairs kid) (tag_of key made_header payload)

@@ -3,6 +3,8 @@
 
 mod key;
 mod mac;
+mod make;
 mod structure;
 
 pub use mac::{Mac, hmac};
+pub use make::make_block;
