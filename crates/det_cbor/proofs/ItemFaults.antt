@@ -21,10 +21,9 @@ use Rattle.det_cbor.specs.HeadSpelling.{major_of, argument_of, IsValueOf}
 use Rattle.det_cbor.specs.HeadReading.{◌>>=◌, head_at, place_in}
 use Rattle.det_cbor.specs.ItemReading.{Reader, stop_at, stopped, string_at, text_at, items_by, read_of, ascending, in_order, pairs_by, nested, body_with, item_with, item_at}
 use Rattle.det_cbor.proofs.Results.{chosen, bind_err, same_err, not_both}
-use Rattle.det_cbor.proofs.Arguments.{IsBytes}
+use Rattle.det_cbor.proofs.Arguments.{IsBytes, IsBytes-rest}
 use Rattle.det_cbor.proofs.Heads.{head_takes}
 use Rattle.det_cbor.proofs.BadHeads.{head_bad}
-use Rattle.det_cbor.proofs.Positions.{IsBytes-rest}
 use Rattle.det_cbor.proofs.KeyOrder.{equal_keys, above_is_below}
 use Rattle.det_cbor.proofs.ItemTakes.{ReadsSpelled, stopped_ok, string_takes, in_order_ok, read_of_front, item_takes}
 

@@ -5,7 +5,6 @@ use Rattle.std.specs.declared.cmp.Ordering.TheVariants.{Less, Equal, Greater}
 use Rattle.std.specs.Ordering.{nat_cmp}
 use Rattle.std.specs.Cmp.Lexicographic.{slice_cmp}
 use Rattle.std.proofs.lemmas.Bool.{cases_lt, lt-ltb}
-use Rattle.std.proofs.lemmas.Str.{IsUtf8-from_is_utf8}
 use Rattle.std.proofs.lemmas.List.{length-append}
 use Rattle.det_cbor.specs.declared.head.Head.{Head}
 use Rattle.det_cbor.specs.declared.head.HeadKind.{HeadKind}
@@ -19,6 +18,7 @@ use Rattle.det_cbor.specs.Heads.{head_bytes}
 use Rattle.det_cbor.specs.HeadReading.{◌>>=◌, head_at, place_in}
 use Rattle.det_cbor.specs.ItemReading.{Reader, stop_at, stopped, string_at, text_at, items_by, read_of, ascending, in_order, pairs_by, nested, body_with, item_with, item_at}
 use Rattle.det_cbor.proofs.BadHeads.{bad_head}
+use Rattle.det_cbor.proofs.Utf8.{bad_utf8}
 use Rattle.det_cbor.proofs.KeyOrder.{same_key, below_is_above}
 use Rattle.det_cbor.proofs.ItemTakes.{read_of_front}
 use Rattle.det_cbor.proofs.ItemAgain.{ReadsAgain, with_front, list_of, pair_list_of, items_first, pairs_first, in_order_again, string_again, headed, headed_alone, item_again}
@@ -138,12 +138,8 @@ deep_refused major argument rest ge le fits =
 text_refused : (parts : Option Reader) (text rest : List ℕ) → length text < 2 ^ 64 → ¬ (IsUtf8 text)
     → item_with parts (head_bytes 3 (length text) ++ (text ++ rest)) ≡ Err (stop_at (head_bytes 3 (length text) ++ (text ++ rest)) BadText)
 text_refused parts text rest fits other =
-    let bad : is_utf8 text ≡ false = not_true (is_utf8 text) (λ e. other (IsUtf8-from_is_utf8 text e)) in
+    let bad : is_utf8 text ≡ false = bad_utf8 text other in
     headed_alone parts (record { kind = kinds.Text; value = length text }) (text ++ rest) fits ∙ rw (string_again text rest, bad) refl
-  where
-    not_true : (b : _) → (b ≡ true → ⊥) → b ≡ false
-    not_true true f = absurd (f refl)
-    not_true false f = refl
 
 -- ---- items
 

@@ -21,9 +21,8 @@ use Rattle.det_cbor.specs.HeadSpelling.{major_of, argument_of, IsValueOf, Begins
 use Rattle.det_cbor.specs.HeadReading.{◌>>=◌, head_at}
 use Rattle.det_cbor.specs.ItemReading.{Reader, stopped, string_at, text_at, items_by, read_of, ascending, in_order, pairs_by, nested, body_with, item_with, item_at}
 use Rattle.det_cbor.proofs.Results.{chosen, bind_ok, ok_pair, same_ok, not_both}
-use Rattle.det_cbor.proofs.Arguments.{IsBytes, IsBytes-take, all_bytes, head_small}
+use Rattle.det_cbor.proofs.Arguments.{IsBytes, IsBytes-rest, IsBytes-drop, IsBytes-take, all_bytes, head_small}
 use Rattle.det_cbor.proofs.Heads.{head_takes}
-use Rattle.det_cbor.proofs.Positions.{IsBytes-rest, IsBytes-drop}
 
 -- the bytes are an item that is valid within so many levels, and then the rest
 pub record StartsWith (levels : ℕ) (x : DataItem) (bytes rest : List ℕ) : Type 0 where

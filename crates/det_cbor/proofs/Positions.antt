@@ -7,15 +7,14 @@ use Rattle.std.proofs.lemmas.Option.{some_pair_parts, option_and_then_some}
 use Rattle.det_cbor.specs.declared.head.Head.{Head}
 use Rattle.det_cbor.specs.HeadSpelling.{spelled, IsValueOf}
 use Rattle.det_cbor.specs.HeadReading.{head_at}
-use Rattle.det_cbor.specs.Position.{Position, next_head, next_bytes}
+use Rattle.det_cbor.specs.Position.{Position, next_head, next_bytes, next_item}
+use Rattle.det_cbor.specs.DataItem.{DataItem, spell, IsValid}
+use Rattle.det_cbor.specs.ItemSkipping.{item_split}
+use Rattle.det_cbor.specs.OneReading.{IsItem, StartsWithItem}
+use Rattle.det_cbor.proofs.SplitLaws.{split_ok, split_again}
 use Rattle.det_cbor.proofs.Heads.{IsBytes, head_takes, head_again}
+pub use Rattle.det_cbor.proofs.Arguments.{IsBytes-rest, IsBytes-drop}
 use Rattle.det_cbor.proofs.Results.{chosen}
-
-pub IsBytes-drop : (n : ℕ) (bytes : List ℕ) → IsBytes bytes → IsBytes (drop n bytes)
-IsBytes-drop n bytes h i = rw get_or-drop (h (n + i))
-
-pub IsBytes-rest : (front rest : List ℕ) → IsBytes (front ++ rest) → IsBytes rest
-IsBytes-rest front rest h = subst IsBytes (drop_at front rest (length front) refl) (IsBytes-drop (length front) (front ++ rest) h)
 
 -- what a step took, and that bytes are left
 pub record Steps (p q : Position) (taken : List ℕ) : Type 0 where
@@ -63,3 +62,21 @@ pub next_bytes_again : (p : Position) (taken rest : List ℕ) → p.left ≡ tak
 next_bytes_again p taken rest is =
     let long : ltb (length p.left) (length taken) ≡ false = le-ltb _ _ (omega (arith, ap length is, length-append taken rest)) in
     rw (long, is, take_at taken rest (length taken) refl, drop_at taken rest (length taken) refl) refl
+
+pub next_item_takes : (p : Position) (taken : List ℕ) (q : Position) → IsBytes p.left → next_item p ≡ Some (taken, q) → Steps p q taken × IsItem taken
+next_item_takes p taken q fits e =
+    option_and_then_some _ _ _ e (λ f f-is e1.
+    let split = split_ok p.left f fits (ok_was (item_split p.left) f f-is) in
+    let after : Position = record { left = f.1; place = p.place + length f.0 } in
+    let steps : Steps p after f.0 = record { parts = split.parts; place = refl; left = IsBytes-rest f.0 f.1 (subst IsBytes split.parts fits) } in
+    let parts = some_pair_parts f.0 taken after q e1 in
+    subst (λ (t : List ℕ). Steps p q t × IsItem t) parts.0 (subst (λ (r : Position). Steps p r f.0 × IsItem f.0) parts.1 (steps, split.item)))
+
+pub next_item_again : (p : Position) (x : DataItem) (rest : List ℕ) → IsValid x → p.left ≡ spell x ++ rest → next_item p ≡ Some (spell x, record { left = rest; place = p.place + length (spell x) })
+next_item_again p x rest valid is =
+    let used = length (spell x) in
+    let front : take used p.left ≡ spell x = ap (take used) is ∙ take_at (spell x) rest used refl in
+    let after : drop used p.left ≡ rest = ap (drop used) is ∙ drop_at (spell x) rest used refl in
+    let starts : StartsWithItem p.left x used = record { spells = record { valid = valid; is = front }; within = omega (arith, ap length is, length-append (spell x) rest) } in
+    let split : item_split p.left ≡ Ok (take used p.left, drop used p.left) = split_again p.left x used starts in
+    rw (split, front, after) refl

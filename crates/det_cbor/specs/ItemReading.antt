@@ -35,6 +35,9 @@ stopped bytes (Err reason) = Err (stop_at bytes reason)
 abbrev pub string_at : ℕ → List ℕ → Result (List ℕ × List ℕ) Reason
 string_at count rest = if nat_lt (length rest) count then Err Truncated else Ok (take count rest, drop count rest)
 
+abbrev pub utf8_text : List ℕ → Option (List ℕ)
+utf8_text bytes = if is_utf8 bytes then Some bytes else None
+
 abbrev pub text_at : ℕ → List ℕ → Result (List ℕ × List ℕ) Reason
 text_at count rest = string_at count rest >>= λ s. if is_utf8 s.0 then Ok s else Err BadText
 
@@ -74,7 +77,7 @@ pairs_by read before (suc count) bytes = do
 -- ---- items
 
 -- the reader of parts, where a level is left
-abbrev pub nested : List ℕ → Option Reader → Result Reader Stop
+abbrev pub nested : {A : Type 0} → List ℕ → Option A → Result A Stop
 nested bytes None = Err (stop_at bytes TooDeep)
 nested bytes (Some read) = Ok read
 

@@ -4,6 +4,8 @@ pub mod HeadReading
 pub mod Position
 pub mod Faults
 pub mod ItemReading
+pub mod ItemSkipping
+pub mod OneReading
 pub mod DataItem
 pub mod DataLists
 pub mod DataCode

@@ -6,6 +6,7 @@ use Rattle.det_cbor.specs.declared.reason.Reason.{Reason}
 use Rattle.det_cbor.specs.declared.reason.CborRefusal.{CborRefusal}
 use Rattle.det_cbor.specs.HeadSpelling.{spelled, BeginsWith}
 use Rattle.det_cbor.specs.HeadReading.{head_at}
+use Rattle.det_cbor.specs.ItemSkipping.{item_split}
 
 -- the bytes that are left, and the place of the first of them
 pub record Position : Type 0 where
@@ -39,3 +40,7 @@ next_head p = option_and_then (λ x. Some (x.0, record { left = x.1; place = p.p
 -- the next n bytes, and where reading goes on
 abbrev pub next_bytes : ℕ → Position → Option (List ℕ × Position)
 next_bytes n p = if nat_lt (length p.left) n then None else Some (take n p.left, record { left = drop n p.left; place = p.place + n })
+
+-- the bytes of the next item, and where reading goes on
+abbrev pub next_item : Position → Option (List ℕ × Position)
+next_item p = option_and_then (λ f. Some (f.0, record { left = f.1; place = p.place + length f.0 })) (result_ok (item_split p.left))

@@ -1,16 +1,19 @@
 //! A place in bytes that are read from left to right.
 
-ghost use Rattle.std.specs.Prelude.{◌≡◌, ◌+◌, ◌<◌, ◌^◌, List, ℕ, length, Ok, Err, IfOk, IfErr, OnErr, option_map};
+ghost use Rattle.std.specs.Prelude.{◌≡◌, ◌+◌, ◌<◌, ◌^◌, List, ℕ, length, take, Ok, Err, IfOk, IfErr, OnErr, option_map};
 ghost use Rattle.std.specs.Result.{result_ok};
 ghost use Rattle.det_cbor.specs.declared.head.Head.{Head};
 ghost use Rattle.det_cbor.specs.declared.reason.Reason.{Reason};
 ghost use Rattle.det_cbor.specs.declared.reason.Reason.TheVariants.{Truncated};
-ghost use Rattle.det_cbor.specs.Faults.{BadHead};
-ghost use Rattle.det_cbor.specs.HeadReading.{place_in};
+ghost use Rattle.det_cbor.specs.DataItem.{DataItem};
+ghost use Rattle.det_cbor.specs.Faults.{BadHead, Faulty};
+ghost use Rattle.det_cbor.specs.HeadReading.{map_ok, place_in};
 ghost use Rattle.det_cbor.specs.HeadSpelling.{BeginsWith};
-ghost use Rattle.det_cbor.specs.Position.{Takes, Reads, next_head, next_bytes, refusal_at, IsRefusal};
+ghost use Rattle.det_cbor.specs.OneReading.{IsItem, StartsWithItem};
+ghost use Rattle.det_cbor.specs.Position.{Takes, Reads, next_head, next_bytes, next_item, refusal_at, IsRefusal};
 
 use crate::head::split_head;
+use crate::skip::split_item;
 use crate::{CborRefusal, Head, Reason};
 use std::marker::Model;
 
@@ -23,6 +26,7 @@ pub struct Cursor<'a> {
 
 impl<'a> Model for Cursor<'a> {
     ghost use Rattle.std.specs.Prelude.{◌+◌, ◌<◌, ◌^◌, length};
+    ghost use Rattle.det_cbor.specs.OneReading.{IsItem, StartsWithItem};
     ghost use Rattle.det_cbor.specs.Position.{Position};
 
     ghost Value = { Position };
@@ -105,5 +109,30 @@ impl<'a> Cursor<'a> {
         self.at += count;
         self.rest = rest;
         Ok(piece)
+    }
+
+    /// Passes over one whole item, and hands out its bytes. It is judged as `decode` judges it:
+    /// levels are counted from this item. Takes no memory.
+    pub fn skip(&mut self) -> Result<&'a [u8], CborRefusal>
+        ensures exact { option_map (λ piece. (piece.now, self.new)) (result_ok result) ≡ next_item self.old }
+        ensures ok { IfOk result (λ piece. IsItem piece.now × Takes self.old self.new piece.now) }
+        ensures refused { IfErr result (IsRefusal self.old (Faulty 0)) }
+        ensures same { OnErr result (self.new ≡ self.old) }
+        ensures every_item { (x : DataItem) (used : ℕ) → StartsWithItem self.old.left x used
+            → map_ok (λ piece. piece.now) result ≡ Ok (take used self.old.left) }
+        ensures every_fault { (at : ℕ) (reason : Reason) → Faulty 0 self.old.left at reason
+            → result ≡ Err (refusal_at self.old at reason) }
+    {
+        match split_item(self.rest) {
+            Ok((item, rest)) => {
+                self.at += item.len() as u64;
+                self.rest = rest;
+                Ok(item)
+            }
+            Err(refusal) => Err(CborRefusal {
+                place: self.at + refusal.place,
+                reason: refusal.reason,
+            }),
+        }
     }
 }

@@ -5,7 +5,7 @@ use Rattle.path_checker.specs.declared.digest.Digest.{Digest}
 use Rattle.path_checker.specs.declared.param.Param.{Param}
 use Rattle.path_checker.specs.declared.param.Param.TheVariants as params
 use Rattle.path_checker.specs.Keys.{key_of}
-use Rattle.path_checker.specs.Parameters.{Parameters, cell, none_in_force, with_param, joined, digest_of, number_of, digest_in, size_in}
+use Rattle.path_checker.specs.Parameters.{Parameters, cell, none_in_force, with_param, held_at, digest_of, number_of, digest_in, size_in}
 use Rattle.std.proofs.lemmas.List.{length-replicate}
 use Rattle.std.proofs.lemmas.Option.{slice_get-get_or, get_or_from_slice_get}
 
@@ -42,13 +42,13 @@ digest_in-both_set parameters digest size full =
     slice_get-set_other before 6 2 (Some (params.Size size)) (Some (params.Digest digest)) apart more
     (slice_get-set_same parameters 2 (Some (params.Digest digest)) room)
     in
-    ap (λ (o : Option (Option Param)). digest_of (joined o)) there
+    ap (λ (o : Option (Option Param)). digest_of (held_at o)) there
 
 pub size_in-both_set : (parameters : Parameters) (digest : Digest) (size : ℕ) → length parameters ≡ 96 → size_in (both_set parameters digest size) 0 ≡ Some size
 size_in-both_set parameters digest size full =
     let before : Parameters = with_param parameters 0 (params.Digest digest) in
     let more : 6 < length before = omega (arith, length-with_param parameters 0 (params.Digest digest)) in
-    ap (λ (o : Option (Option Param)). number_of (joined o)) (slice_get-set_same before 6 (Some (params.Size size)) more)
+    ap (λ (o : Option (Option Param)). number_of (held_at o)) (slice_get-set_same before 6 (Some (params.Size size)) more)
 
 pub length-none_in_force : length none_in_force ≡ 96
 unfolding none_in_force

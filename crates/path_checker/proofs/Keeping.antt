@@ -6,7 +6,7 @@ use Rattle.path_checker.specs.declared.event.Event.{Event}
 use Rattle.path_checker.specs.Behaviour.{State, Behaviour, Ending, Done, Condition, Directive, IsFailure, Then, Becomes, Each, EachSelected}
 use Rattle.path_checker.specs.Tree.{Sequence, NoSteps, Plan}
 use Rattle.path_checker.specs.Runs.{Runs}
-use Rattle.path_checker.specs.Path.{Starts, started}
+use Rattle.path_checker.specs.Path.{Starts, start_state}
 use Rattle.path_checker.proofs.Covering.{CoveredFrom, CoveredFrom-append}
 
 abbrev pub OnDone : Ending → (State → Type 0) → Type 0
@@ -88,11 +88,11 @@ keeps_sole P Q at k =
 
 -- a sequence from its start
 abbrev pub IsKept : Fact → Type 0
-IsKept P = (s : State) (past : List Event) → P s past → P (started s) past
+IsKept P = (s : State) (past : List Event) → P s past → P (start_state s) past
 
 pub keeps_starts : (P Q : Fact) (sequence : Sequence) (plan : Plan) (identities : List Identity) → IsKept P → Keeps (AtFirst P) (Runs sequence identities plan.count) Q → Keeps P (Starts sequence plan identities) Q
 keeps_starts P Q sequence plan identities kept k = record {
-  run = λ s past events ending p run. k.run (started s) past events ending (refl, kept s past p) run;
+  run = λ s past events ending p run. k.run (start_state s) past events ending (refl, kept s past p) run;
 }
 
 pub keeps_absent : (P : Fact) (plan : Plan) (identities : List Identity) → IsKept P → Keeps P (Starts NoSteps plan identities) P

@@ -14,8 +14,8 @@ use Rattle.path_checker.specs.Parameters.{digest_in, size_in}
 use Rattle.path_checker.specs.Tree.{Plan, NoSteps}
 use Rattle.path_checker.specs.Behaviour.{State, Behaviour, Ending, Then}
 use Rattle.path_checker.specs.Conditions.{Tests, Matches}
-use Rattle.path_checker.specs.Directives.{Acts, Overrides, sets, with_params}
-use Rattle.path_checker.specs.Path.{Starts, RunsPlan, at_first}
+use Rattle.path_checker.specs.Directives.{Acts, Overrides, set_events, after_override}
+use Rattle.path_checker.specs.Path.{Starts, RunsPlan, first_state}
 use Rattle.path_checker.specs.Safe.{Safe, HasMatched}
 use Rattle.path_checker.specs.Flat.{shared_of, validate_at, invoke_at, procedure_of, tree_of, runs_match_first, matches_first}
 use Rattle.path_checker.proofs.InForce.{length-none_in_force, length-both_set, digest_in-both_set, size_in-both_set}
@@ -50,7 +50,7 @@ Any s past = Unit {0}
 -- ---- the shared sequence
 
 abbrev set_at : FlatPlan → State → State
-set_at plan s = with_params s 0 (params.Digest plan.digest ∷ params.Size plan.size ∷ [])
+set_at plan s = after_override s 0 (params.Digest plan.digest ∷ params.Size plan.size ∷ [])
 
 is_ready : (plan : FlatPlan) (s : State) → length s.parameters ≡ 96 → IsReady plan.digest plan.size (set_at plan s)
 is_ready plan s full = record {
@@ -63,7 +63,7 @@ abbrev both_params : FlatPlan → ℕ → Behaviour
 both_params plan = Overrides (params.Digest plan.digest ∷ params.Size plan.size ∷ [])
 
 abbrev shared_events : FlatPlan → List Event
-shared_events plan = sets 0 (params.Digest plan.digest ∷ params.Size plan.size ∷ [])
+shared_events plan = set_events 0 (params.Digest plan.digest ∷ params.Size plan.size ∷ [])
 
 override_keeps : (plan : FlatPlan) (P Q : Fact) → ((s : State) (past : List Event) → P s past → Q (set_at plan s) (past ++ shared_events plan)) → Keeps (AtFirst P) (both_params plan 0) Q
 override_keeps plan P Q goes = record {
@@ -153,7 +153,7 @@ safe_from : (tree : Plan) (Q : Fact) → ((ids : List Identity) → Keeps IsFull
 safe_from tree Q k = record {
   covered = λ ids events are path.
       CoveredFrom-AllCovered events
-      (CoveredFrom-front [] events path.rest ((k ids).run at_first [] (events ++ path.rest) path.ending length-none_in_force path.run).0);
+      (CoveredFrom-front [] events path.rest ((k ids).run first_state [] (events ++ path.rest) path.ending length-none_in_force path.run).0);
 }
 
 abbrev six : (A B C D E F G : Fact) (a b c d e f : Behaviour) → Keeps A a B → Keeps B b C → Keeps C c D → Keeps D d E → Keeps E e F → Keeps F f G → Keeps A (Then a (Then b (Then c (Then d (Then e f))))) G

@@ -13,8 +13,8 @@ use Rattle.path_checker.specs.declared.judge.BadPath.{BadPath}
 use Rattle.path_checker.specs.Parameters.{none_in_force, digest_in, size_in}
 use Rattle.path_checker.specs.Tree.{Plan, NoSteps}
 use Rattle.path_checker.specs.Behaviour.{State, Done}
-use Rattle.path_checker.specs.Directives.{with_params}
-use Rattle.path_checker.specs.Path.{started, Starts, RunsPlan, AreIdentities, at_first}
+use Rattle.path_checker.specs.Directives.{after_override}
+use Rattle.path_checker.specs.Path.{start_state, Starts, RunsPlan, AreIdentities, first_state}
 use Rattle.path_checker.specs.Safe.{Safe, EndsUncovered}
 use Rattle.path_checker.specs.Flat.{shared_of, validate_at, invoke_at, procedure_of, tree_of, runs_match_first, matches_first}
 use Rattle.path_checker.specs.Verdict.{IsBadPath, IsUnmatchedPath, shared_events, unmatched_events}
@@ -24,25 +24,25 @@ use Rattle.path_checker.proofs.Covering.{CoveredFrom-AllCovered, unmatched}
 
 -- after the shared sequence
 abbrev set_in : FlatPlan → State → State
-set_in plan s = with_params (started s) 0 (params.Digest plan.digest ∷ params.Size plan.size ∷ [])
+set_in plan s = after_override (start_state s) 0 (params.Digest plan.digest ∷ params.Size plan.size ∷ [])
 
 shared_runs : (plan : FlatPlan) (tree : Plan) (ids : List Identity) (s : State) → Starts (shared_of plan) tree ids s (shared_events plan) (Done (set_in plan s))
 shared_runs plan tree ids s =
     inr (set_in plan s, shared_events plan, [], refl, inr (set_in plan s, shared_events plan, [], refl, (refl, refl), (refl, refl)), (refl, refl))
 
-absent_runs : (tree : Plan) (ids : List Identity) (s : State) → Starts NoSteps tree ids s [] (Done (started s))
+absent_runs : (tree : Plan) (ids : List Identity) (s : State) → Starts NoSteps tree ids s [] (Done (start_state s))
 absent_runs tree ids s = (refl, refl)
 
 abbrev told : FlatPlan → Event
 told plan = Invoked 0 (Some plan.digest) (Some plan.size) true
 
-invoke_runs : (plan : FlatPlan) (tree : Plan) (ids : List Identity) (s : State) → digest_in s.parameters 0 ≡ Some plan.digest → size_in s.parameters 0 ≡ Some plan.size → Starts (invoke_at plan.invoke_place) tree ids s (told plan ∷ []) (Done (started s))
+invoke_runs : (plan : FlatPlan) (tree : Plan) (ids : List Identity) (s : State) → digest_in s.parameters 0 ≡ Some plan.digest → size_in s.parameters 0 ≡ Some plan.size → Starts (invoke_at plan.invoke_place) tree ids s (told plan ∷ []) (Done (start_state s))
 invoke_runs plan tree ids s digest size =
     let is : told plan ∷ [] ≡ Invoked 0 (digest_in s.parameters 0) (size_in s.parameters 0) true ∷ [] =
     ap (λ (o : Option Digest). Invoked 0 o (Some plan.size) true ∷ []) (sym digest)
     ∙ ap (λ (z : Option ℕ). Invoked 0 (digest_in s.parameters 0) z true ∷ []) (sym size)
     in
-    inr (started s, told plan ∷ [], [], refl, inr (started s, told plan ∷ [], [], refl, inl (is, refl), (refl, refl)), (refl, refl))
+    inr (start_state s, told plan ∷ [], [], refl, inr (start_state s, told plan ∷ [], [], refl, inl (is, refl), (refl, refl)), (refl, refl))
 
 -- ---- the whole run
 
@@ -51,13 +51,13 @@ without_match plan =
     record { shared = shared_of plan; first = NoSteps; second = NoSteps; third = invoke_at plan.invoke_place; count = 1 }
 
 abbrev state_1 : FlatPlan → State
-state_1 plan = set_in plan at_first
+state_1 plan = set_in plan first_state
 
 abbrev state_2 : FlatPlan → State
-state_2 plan = set_in plan (started (state_1 plan))
+state_2 plan = set_in plan (start_state (state_1 plan))
 
 abbrev state_3 : FlatPlan → State
-state_3 plan = set_in plan (started (state_2 plan))
+state_3 plan = set_in plan (start_state (state_2 plan))
 
 full_1 : (plan : FlatPlan) → length (state_1 plan).parameters ≡ 96
 full_1 plan = length-both_set none_in_force plan.digest plan.size ∙ length-none_in_force
@@ -65,7 +65,7 @@ full_1 plan = length-both_set none_in_force plan.digest plan.size ∙ length-non
 full_2 : (plan : FlatPlan) → length (state_2 plan).parameters ≡ 96
 full_2 plan = length-both_set (state_1 plan).parameters plan.digest plan.size ∙ full_1 plan
 
-whole_run : (plan : FlatPlan) (ids : List Identity) → RunsPlan (without_match plan) ids at_first (unmatched_events plan) (Done (started (state_3 plan)))
+whole_run : (plan : FlatPlan) (ids : List Identity) → RunsPlan (without_match plan) ids first_state (unmatched_events plan) (Done (start_state (state_3 plan)))
 whole_run plan ids =
     let tree : Plan = without_match plan in
     let l : List Event = shared_events plan in
@@ -77,9 +77,9 @@ whole_run plan ids =
       l,
       l ++ l ++ last,
       refl,
-      shared_runs plan tree ids at_first,
+      shared_runs plan tree ids first_state,
       inr (
-        started (state_1 plan),
+        start_state (state_1 plan),
         [],
         l ++ l ++ last,
         refl,
@@ -89,9 +89,9 @@ whole_run plan ids =
           l,
           l ++ last,
           refl,
-          shared_runs plan tree ids (started (state_1 plan)),
+          shared_runs plan tree ids (start_state (state_1 plan)),
           inr (
-            started (state_2 plan),
+            start_state (state_2 plan),
             [],
             l ++ last,
             refl,
@@ -101,7 +101,7 @@ whole_run plan ids =
               l,
               last,
               refl,
-              shared_runs plan tree ids (started (state_2 plan)),
+              shared_runs plan tree ids (start_state (state_2 plan)),
               invoke_runs plan tree ids (state_3 plan) digest size,
             ),
           ),
@@ -129,9 +129,9 @@ is_bad plan bad is = record {
       (record { count = refl; each = (record { vendor = tt; class = tt; device = tt; slot = omega arith }, tt) });
   path = record {
     rest = [];
-    ending = Done (started (state_3 plan));
+    ending = Done (start_state (state_3 plan));
     run =
-        subst (λ (es : List Event). RunsPlan (without_match plan) bad.identities at_first es (Done (started (state_3 plan))))
+        subst (λ (es : List Event). RunsPlan (without_match plan) bad.identities first_state es (Done (start_state (state_3 plan))))
         (sym (append-nil bad.events ∙ is.events)) (whole_run plan bad.identities);
   };
   ends = subst EndsUncovered (sym is.events) (ends_uncovered plan);

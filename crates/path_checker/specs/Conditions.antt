@@ -19,7 +19,7 @@ abbrev pub Fails : ℕ → Event → Behaviour
 Fails place event state events ending =
     (events ≡ event ∷ Failed place ∷ []) × (ending ≡ Condition place state.soft_failure)
 
--- ---- conditions on the identity (section 8.4.9.1): passed exactly where the parameter is there and the identity
+-- ---- conditions on the identity: passed exactly where the parameter is there and the identity
 -- has the same
 
 abbrev pub IsSame : {A : Type 0} → Option A → Option A → Type 0

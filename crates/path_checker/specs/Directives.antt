@@ -12,18 +12,18 @@ use Rattle.path_checker.specs.Behaviour.{State, Behaviour, Done, Directive}
 
 -- ---- override parameters: each is set in the order of the list, and soft failure is that of the running sequence
 
-abbrev pub sets : ℕ → List Param → List Event
-sets component [] = []
-sets component (param ∷ list) = Set component param ∷ sets component list
+abbrev pub set_events : ℕ → List Param → List Event
+set_events component [] = []
+set_events component (param ∷ list) = Set component param ∷ set_events component list
 
 abbrev pub soft_after : Bool → Param → Bool
 soft_after soft_failure (params.Soft value) = value
 soft_after soft_failure _ = soft_failure
 
-abbrev pub with_params : State → ℕ → List Param → State
-with_params state component [] = state
-with_params state component (param ∷ list) =
-    with_params (record {
+abbrev pub after_override : State → ℕ → List Param → State
+after_override state component [] = state
+after_override state component (param ∷ list) =
+    after_override (record {
       parameters = with_param state.parameters component param;
       selection = state.selection;
       soft_failure = soft_after state.soft_failure param;
@@ -31,7 +31,7 @@ with_params state component (param ∷ list) =
 
 abbrev pub Overrides : List Param → ℕ → Behaviour
 Overrides list component state events ending =
-    (events ≡ sets component list) × (ending ≡ Done (with_params state component list))
+    (events ≡ set_events component list) × (ending ≡ Done (after_override state component list))
 
 -- ---- write, fetch, copy and swap: without their parameter they only fail, and with it they may end either way.
 -- A component counts as written also where the directive failed.
@@ -44,14 +44,14 @@ Writes place (Some parameter) written state events ending =
 
 -- ---- invoke, with the digest and size in force
 
-abbrev pub invoked : ℕ → Parameters → Bool → Event
-invoked component parameters passed =
+abbrev pub invoke_event : ℕ → Parameters → Bool → Event
+invoke_event component parameters passed =
     Invoked component (digest_in parameters component) (size_in parameters component) passed
 
 abbrev pub Invokes : ℕ → ℕ → Behaviour
 Invokes place component state events ending =
-    ((events ≡ invoked component state.parameters true ∷ []) × (ending ≡ Done state))
-    ⊎ ((events ≡ invoked component state.parameters false ∷ Failed place ∷ []) × (ending ≡ Directive place))
+    ((events ≡ invoke_event component state.parameters true ∷ []) × (ending ≡ Done state))
+    ⊎ ((events ≡ invoke_event component state.parameters false ∷ Failed place ∷ []) × (ending ≡ Directive place))
 
 -- ---- each directive that acts on a content
 

@@ -37,12 +37,12 @@ none_in_force = replicate 96 None
 abbrev pub with_param : Parameters → ℕ → Param → Parameters
 with_param parameters component param = slice_set parameters (cell component (key_of param)) (Some param)
 
-abbrev pub joined : Option (Option Param) → Option Param
-joined None = None
-joined (Some held) = held
+abbrev pub held_at : Option (Option Param) → Option Param
+held_at None = None
+held_at (Some held) = held
 
 abbrev pub in_force : Parameters → ℕ → ParamKey → Option Param
-in_force parameters component key = joined (slice_get parameters (cell component key))
+in_force parameters component key = held_at (slice_get parameters (cell component key))
 
 -- ---- their values
 

@@ -26,11 +26,11 @@ pub record AreIdentities (plan : Plan) (identities : List Identity) : Type 0 whe
 -- ---- runs
 
 -- a shared sequence or a member starts with component 0 selected and soft failure false; parameters are kept
-abbrev pub started : State → State
-started state = record state { selection = 0 ∷ []; soft_failure = false }
+abbrev pub start_state : State → State
+start_state state = record state { selection = 0 ∷ []; soft_failure = false }
 
 abbrev pub Starts : Sequence → Plan → List Identity → Behaviour
-Starts sequence plan identities state = Runs sequence identities plan.count (started state)
+Starts sequence plan identities state = Runs sequence identities plan.count (start_state state)
 
 -- the shared sequence and then the member, for each member, absent ones too; a failed condition ends the procedure,
 -- whatever soft failure is
@@ -40,11 +40,11 @@ RunsPlan plan identities =
     (Then (Starts plan.shared plan identities) (Then (Starts plan.second plan identities)
     (Then (Starts plan.shared plan identities) (Starts plan.third plan identities)))))
 
-abbrev pub at_first : State
-at_first = record { parameters = none_in_force; selection = 0 ∷ []; soft_failure = false }
+abbrev pub first_state : State
+first_state = record { parameters = none_in_force; selection = 0 ∷ []; soft_failure = false }
 
 -- the events that a run of the plan begins with
 pub record Path (plan : Plan) (identities : List Identity) (events : List Event) : Type 0 where
   pub rest : List Event
   pub ending : Ending
-  pub run : RunsPlan plan identities at_first (events ++ rest) ending
+  pub run : RunsPlan plan identities first_state (events ++ rest) ending

@@ -10,34 +10,34 @@ use Rattle.path_checker.specs.Directives.{Overrides, Acts}
 
 -- ---- set component index (section 6.5)
 
-abbrev pub selected : Selection → ℕ → List ℕ
-selected (One component) count = component ∷ []
-selected All count = range_with_len 0 count
-selected (Listed components) count = components
+abbrev pub selection_of : Selection → ℕ → List ℕ
+selection_of (One component) count = component ∷ []
+selection_of All count = range_with_len 0 count
+selection_of (Listed components) count = components
 
 abbrev pub Selects : Selection → ℕ → Behaviour
-Selects selection count state = Becomes (record state { selection = selected selection count })
+Selects selection count state = Becomes (record state { selection = selection_of selection count })
 
 -- ---- inner sequences. These values of soft failure, and what goes back, are this project's own choice.
 
 -- an inner sequence begins with the one component selected
-abbrev pub entered : State → ℕ → Bool → State
-entered state component soft_failure = record state { selection = component ∷ []; soft_failure = soft_failure }
+abbrev pub entry_state : State → ℕ → Bool → State
+entry_state state component soft_failure = record state { selection = component ∷ []; soft_failure = soft_failure }
 
 -- where it completes, its parameters stay; the selection and the outer soft failure go back
-abbrev pub completed : State → State → State
-completed outer inner = record outer { parameters = inner.parameters }
+abbrev pub completed_state : State → State → State
+completed_state outer inner = record outer { parameters = inner.parameters }
 
 -- run sequence: where the inner sequence fails softly, the next command follows with all as it was at the entry
 abbrev pub after_run : State → Ending → Ending
-after_run outer (Done inner) = Done (completed outer inner)
+after_run outer (Done inner) = Done (completed_state outer inner)
 after_run outer (Condition place true) = Done outer
 after_run outer (Condition place false) = Condition place outer.soft_failure
 after_run outer (Directive place) = Directive place
 
 abbrev pub RunsInner : Behaviour → ℕ → Behaviour
 RunsInner inner component state events ending =
-    (end : Ending) × inner (entered state component false) events end × (ending ≡ after_run state end)
+    (end : Ending) × inner (entry_state state component false) events end × (ending ≡ after_run state end)
 
 -- try each: where a branch fails softly, the next one starts with all as it was at the entry
 abbrev pub FailsSoftly : Ending → Type 0
@@ -47,15 +47,15 @@ FailsSoftly (Condition place false) = ⊥
 FailsSoftly (Directive place) = ⊥
 
 abbrev pub after_branch : State → Ending → Ending
-after_branch outer (Done inner) = Done (completed outer inner)
+after_branch outer (Done inner) = Done (completed_state outer inner)
 after_branch outer (Condition place soft_failure) = Condition place outer.soft_failure
 after_branch outer (Directive place) = Directive place
 
 abbrev pub TriesBranch : Behaviour → (ℕ → Behaviour) → ℕ → Behaviour
 TriesBranch inner others component state events ending =
-    ((end : Ending) × inner (entered state component true) events end × (FailsSoftly end → ⊥) × (ending ≡ after_branch state end))
+    ((end : Ending) × inner (entry_state state component true) events end × (FailsSoftly end → ⊥) × (ending ≡ after_branch state end))
     ⊎ ((end : Ending) × (before : List Event) × (after : List Event) × (events ≡ before ++ after)
-    × inner (entered state component true) before end × FailsSoftly end × others component state after ending)
+    × inner (entry_state state component true) before end × FailsSoftly end × others component state after ending)
 
 -- ---- whole sequences
 

@@ -27,8 +27,8 @@ Judges plan verdicts.NoMemory = Unit {0}
 -- ---- the path that is told of a plan which matches nothing before its invoke
 
 -- a component of which nothing is known, at slot 0
-abbrev pub unknown : Identity
-unknown = record { vendor = None; class = None; device = None; slot = 0 }
+abbrev pub unknown_identity : Identity
+unknown_identity = record { vendor = None; class = None; device = None; slot = 0 }
 
 -- what the shared sequence sets
 abbrev pub shared_events : FlatPlan → List Event
@@ -41,7 +41,7 @@ unmatched_events plan =
     ++ Invoked 0 (Some plan.digest) (Some plan.size) true ∷ []
 
 pub record IsUnmatchedPath (plan : FlatPlan) (bad : BadPath) : Type 0 where
-  pub identities : bad.identities ≡ unknown ∷ []
+  pub identities : bad.identities ≡ unknown_identity ∷ []
   pub events : bad.events ≡ unmatched_events plan
 
 abbrev pub TellsPath : FlatPlan → CheckVerdict → Type 0

@@ -3,7 +3,7 @@
 ghost use Rattle.std.specs.Prelude.{◌≡◌, [], ◌∷◌, ◌++◌, IfOk, OnOk};
 ghost use Rattle.path_checker.specs.declared.event.Event.TheVariants.{Set};
 ghost use Rattle.path_checker.specs.Flat.{matches_first};
-ghost use Rattle.path_checker.specs.Verdict.{Judges, Refutes, TellsPath, IsUnmatchedPath, unknown, shared_events, unmatched_events};
+ghost use Rattle.path_checker.specs.Verdict.{Judges, Refutes, TellsPath, IsUnmatchedPath, unknown_identity, shared_events, unmatched_events};
 
 use crate::{Event, Events, FlatPlan, Identities, Identity, Param, Procedure};
 use std::alloc::{AllocError, Global};

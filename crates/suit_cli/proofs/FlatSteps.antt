@@ -1,5 +1,5 @@
 -- The steps of reading the flat form: what is taken is spelled so (takes), and what is spelled so is taken (again).
-use Rattle.std.proofs.Common.{◌≡◌, ℕ, suc, ◌+◌, ◌*◌, ◌^◌, ◌<◌, ◌≤◌, Bool, true, false, cond, eqb, List, [], ◌∷◌, ◌++◌, length, get_or, Option, Some, None, refl, sym, ap, subst, ◌∙◌, append_assoc, rules, arith}
+use Rattle.std.proofs.Common.{◌≡◌, ℕ, suc, min, ◌+◌, ◌*◌, ◌^◌, ◌<◌, ◌≤◌, Bool, true, false, cond, eqb, List, [], ◌∷◌, ◌++◌, length, get_or, Option, Some, None, refl, sym, ap, subst, ◌∙◌, append_assoc, rules, arith}
 use Rattle.std.specs.Prelude.{◌&&◌}
 use Rattle.std.specs.List.{AllByRecursion}
 use Rattle.std.proofs.lemmas.Bool.{eqb-true}
@@ -12,9 +12,10 @@ use Rattle.det_cbor.specs.Heads.{head_bytes}
 use Rattle.det_cbor.specs.HeadSpelling.{major_of, argument_of, IsValueOf, spelled}
 use Rattle.det_cbor.specs.DataItem.{IsByte}
 use Rattle.det_cbor.specs.Position.{Position, Takes, next_head, next_bytes}
-use Rattle.det_cbor.proofs.Heads.{IsBytes, IsBytes-take}
+use Rattle.det_cbor.proofs.Heads.{IsBytes}
+use Rattle.det_cbor.proofs.Arguments.{IsBytes-take}
 use Rattle.det_cbor.proofs.Positions.{Steps, IsBytes-rest, next_head_takes, next_head_again, next_bytes_takes, next_bytes_again}
-use Rattle.suit_cli.specs.FlatReading.{◌>>=◌, expected_at, number_at, string_at, at_end}
+use Rattle.suit_cli.specs.FlatReading.{◌>>=◌, kind_number, expected_at, number_at, string_at, at_end}
 
 -- what follows from a step that found something
 pub bind_then : {A B P : Type 0} (o : Option A) (f : A → Option B) (y : B) → (o >>= f) ≡ Some y → ((x : A) → o ≡ Some x → f x ≡ Some y → P) → P
@@ -63,21 +64,35 @@ value_fits kinds.Null value plain is = absurd (omega arith)
 value_fits kinds.Unsigned value plain is = is
 value_fits kinds.Negative value plain is = is
 value_fits kinds.Bytes value plain is = is
-value_fits kinds.Text value plain is = absurd is
+value_fits kinds.Text value plain is = is
 value_fits kinds.Array value plain is = is
 value_fits kinds.Map value plain is = is
 value_fits kinds.Tag value plain is = is
+
+major_number : (kind : HeadKind) → major_of kind ≡ min (kind_number kind) 7
+major_number kinds.Unsigned = refl
+major_number kinds.Negative = refl
+major_number kinds.Bytes = refl
+major_number kinds.Text = refl
+major_number kinds.Array = refl
+major_number kinds.Map = refl
+major_number kinds.Tag = refl
+major_number kinds.Bool = refl
+major_number kinds.Null = refl
+
+same_major : (a b : HeadKind) → kind_number a ≡ kind_number b → major_of a ≡ major_of b
+same_major a b e = major_number a ∙ ap (λ (n : ℕ). min n 7) e ∙ sym (major_number b)
 
 pub number_takes : (kind : HeadKind) (p : Position) (n : ℕ) (q : Position) → IsPlain kind → IsBytes p.left → number_at kind p ≡ Some (n, q) → Steps p q (head_bytes (major_of kind) n) × (n < 2 ^ 64)
 unfolding number_at
 number_takes kind p n q plain fits e =
     bind_then _ _ _ e (λ (head, next) is e1.
     let t = passed _ _ _ e1 in
-    let major : major_of head.kind ≡ major_of kind = eqb-true _ _ t.0 in
+    let major = same_major head.kind kind (eqb-true _ _ t.0) in
     let plain_head : IsPlain head.kind = omega arith in
     let step = next_head_takes p head next fits is in
     let bytes : spelled head ≡ head_bytes (major_of kind) head.value =
-        ap (λ (m : ℕ). head_bytes m (argument_of head.kind head.value)) major ∙ ap (head_bytes (major_of kind)) (argument_plain head.kind head.value plain_head) in
+    ap (λ (m : ℕ). head_bytes m (argument_of head.kind head.value)) major ∙ ap (head_bytes (major_of kind)) (argument_plain head.kind head.value plain_head) in
     let found : ℕ × Position = (head.value, next) in
     subst (λ (r : ℕ × Position). Steps p r.1 (head_bytes (major_of kind) r.0) × (r.0 < 2 ^ 64)) t.1
     (subst (Steps p next) bytes step.0, value_fits head.kind head.value plain_head step.1))
@@ -88,12 +103,12 @@ expected_takes kind value p q plain fits e =
     bind_then _ _ _ e (λ (head, next) is e1.
     let t = passed _ _ _ e1 in
     let same = both_true _ _ t.0 in
-    let major : major_of head.kind ≡ major_of kind = eqb-true _ _ same.0 in
+    let major = same_major head.kind kind (eqb-true _ _ same.0) in
     let number : head.value ≡ value = eqb-true _ _ same.1 in
     let plain_head : IsPlain head.kind = omega arith in
     let step = next_head_takes p head next fits is in
     let bytes : spelled head ≡ head_bytes (major_of kind) value =
-        ap (λ (m : ℕ). head_bytes m (argument_of head.kind head.value)) major ∙ ap (head_bytes (major_of kind)) (argument_plain head.kind head.value plain_head ∙ number) in
+    ap (λ (m : ℕ). head_bytes m (argument_of head.kind head.value)) major ∙ ap (head_bytes (major_of kind)) (argument_plain head.kind head.value plain_head ∙ number) in
     subst (λ (r : Position). Steps p r (head_bytes (major_of kind) value)) t.1 (subst (Steps p next) bytes step.0))
 
 -- a position further on
@@ -110,13 +125,13 @@ pub expected_again : (kind : HeadKind) (value : ℕ) (p : Position) (rest : List
 unfolding expected_at
 expected_again kind value p rest plain fits is =
     let read = head_again kind value p rest plain fits is in
-    rw (read, eqb_same (major_of kind), eqb_same value) refl
+    rw (read, eqb_same (kind_number kind), eqb_same value) refl
 
 pub number_again : (kind : HeadKind) (n : ℕ) (p : Position) (rest : List ℕ) → IsPlain kind → IsValueOf kind n → p.left ≡ head_bytes (major_of kind) n ++ rest → number_at kind p ≡ Some (n, after p (head_bytes (major_of kind) n) rest)
 unfolding number_at
 number_again kind n p rest plain fits is =
     let read = head_again kind n p rest plain fits is in
-    rw (read, eqb_same (major_of kind)) refl
+    rw (read, eqb_same (kind_number kind)) refl
 
 -- ---- byte strings
 

@@ -97,8 +97,14 @@ shared_takes p x fits e =
     let named = all ∙ ap (λ (y : List ℕ). head_bytes 4 2 ++ (head_bytes 0 20 ++ (head_bytes 5 2 ++ (head_bytes 0 3 ++ (string y ++ (head_bytes 0 14 ++ head_bytes 0 size)))))) found.is in
     let body : p.left ≡ spell (shared_item (of_shared found.digest size)) = named ∙ shared_parts (spell (digest_item found.digest)) size in
     let text : IsString (spell (digest_item found.digest)) = strings d inner s (spell (digest_item found.digest)) content found.is in
-    record { digest = found.digest; size = size; long = found.long; parameter = found.valid; is = body;
-      valid = (omega arith, omega arith, (omega arith, ((omega arith, omega arith, (omega arith, tt, text, (omega arith, above_3_14, sn.1, tt))), tt))) }))))))))
+    record {
+      digest = found.digest;
+      size = size;
+      long = found.long;
+      parameter = found.valid;
+      is = body;
+      valid = (omega arith, omega arith, (omega arith, ((omega arith, omega arith, (omega arith, tt, text, (omega arith, above_3_14, sn.1, tt))), tt)));
+    }))))))))
 
 -- ---- common
 
@@ -140,8 +146,13 @@ common_takes p x fits e =
     let named = all ∙ ap (λ (t : List ℕ). head_bytes 5 2 ++ (head_bytes 0 2 ++ (head_bytes 4 1 ++ ((head_bytes 4 1 ++ string name.left) ++ (head_bytes 0 4 ++ string t))))) found.is in
     let text : IsString (spell (shared_item (of_shared found.digest found.size))) = strings f inner g (spell (shared_item (of_shared found.digest found.size))) content found.is in
     let word : IsString name.left = (id.fits, all_bytes name.left id.bytes) in
-    record { identifier = name.left; shared = (inner, found); short = short; is = named ∙ common_parts name.left (spell (shared_item (of_shared found.digest found.size)));
-      valid = (omega arith, omega arith, (omega arith, tt, (omega arith, omega arith, ((omega arith, omega arith, (word, tt)), tt)), (omega arith, above_2_4, text, tt))) })))))))))
+    record {
+      identifier = name.left;
+      shared = (inner, found);
+      short = short;
+      is = named ∙ common_parts name.left (spell (shared_item (of_shared found.digest found.size)));
+      valid = (omega arith, omega arith, (omega arith, tt, (omega arith, omega arith, ((omega arith, omega arith, (word, tt)), tt)), (omega arith, above_2_4, text, tt)));
+    })))))))))
 
 -- ---- the members
 
@@ -203,8 +214,17 @@ members_take count x p r fits e =
       | inl (is, e1) ↦
           let i = invoke_takes x None p r fits e1 in
           let four : count ≡ 4 = eqb-true _ _ is in
-          record { matched = None; invoked = i.invoked; count_is = four; match_policy = tt; match_valid = tt; policy = i.policy; valid = i.valid; is = i.is;
-            sound = (omega arith, above_3_9, i.text, tt) }
+          record {
+            matched = None;
+            invoked = i.invoked;
+            count_is = four;
+            match_policy = tt;
+            match_valid = tt;
+            policy = i.policy;
+            valid = i.valid;
+            is = i.is;
+            sound = (omega arith, above_3_9, i.text, tt);
+          }
       | inr (other, e1) ↦ kept _ _ _ e1 (λ five e2. bind_then _ _ _ e2 (λ a a-is e3. bind_then _ _ _ e3 (λ (inner, s) s-is e4. bind_then _ _ _ e4 (λ place place-is e5.
           let sa = expected_takes kinds.Unsigned 7 p a (omega arith) fits a-is in
           let content = string_takes a inner s sa.left s-is in
@@ -215,8 +235,17 @@ members_take count x p r fits e =
           let named = steps.parts ∙ ap (λ (t : List ℕ). (head_bytes 0 7 ++ string inner.left) ++ t) i.is ∙ ap (λ (t : List ℕ). (head_bytes 0 7 ++ string t) ++ pairs None i.invoked) command.is in
           let body : p.left ≡ pairs (Some command.report) i.invoked = named ∙ match_parts spelling (pairs None i.invoked) in
           let count_is : count ≡ 5 = eqb-true _ _ five in
-          record { matched = Some command.report; invoked = i.invoked; count_is = count_is; match_policy = command.policy; match_valid = command.valid; policy = i.policy; valid = i.valid; is = body;
-            sound = (omega arith, above_3_7, strings a inner s spelling content command.is, (omega arith, above_7_9, i.text, tt)) }))))
+          record {
+            matched = Some command.report;
+            invoked = i.invoked;
+            count_is = count_is;
+            match_policy = command.policy;
+            match_valid = command.valid;
+            policy = i.policy;
+            valid = i.valid;
+            is = body;
+            sound = (omega arith, above_3_7, strings a inner s spelling content command.is, (omega arith, above_7_9, i.text, tt));
+          }))))
     ]
 
 -- ---- the manifest and the envelope
@@ -265,8 +294,13 @@ manifest_takes p r fits e =
     let body = front.parts ∙ ap (λ (y : List ℕ). whole count inner.left ++ y) m.is ∙ ap (λ (k : ℕ). whole k inner.left ++ tail) count_is ∙ ap (λ (t : List ℕ). whole total t ++ tail) found.is in
     let few : total < 2 ^ 64 = omega (arith, few_members m.matched m.invoked) in
     let text : IsString spelling = strings f inner s spelling content found.is in
-    record { n = n; common = (inner, found); members = (count, s, m); is = body ∙ manifest_parts total n spelling tail;
-      valid = (omega arith, few, (omega arith, tt, omega arith, (omega arith, above_1_2, sn.1, (omega arith, above_2_3, text, m.sound)))) }))))))))
+    record {
+      n = n;
+      common = (inner, found);
+      members = (count, s, m);
+      is = body ∙ manifest_parts total n spelling tail;
+      valid = (omega arith, few, (omega arith, tt, omega arith, (omega arith, above_1_2, sn.1, (omega arith, above_2_3, text, m.sound))));
+    }))))))))
 
 envelope_parts : (w m : List ℕ) → head_bytes 6 107 ++ (head_bytes 5 2 ++ (head_bytes 0 2 ++ (string w ++ (head_bytes 0 3 ++ string m)))) ≡ spell (TaggedItem 107 (MapOf (PairThen (UnsignedInteger 2) (ByteString w) (PairThen (UnsignedInteger 3) (ByteString m) NoPairs))))
 envelope_parts w m = simp (append_assoc, append-nil)
@@ -288,18 +322,19 @@ envelope_takes p r fits e =
     let spelling = spell (manifest_item (flat [] m.n k.identifier k.shared.1.digest k.shared.1.size members.matched members.invoked)) in
     let body = all ∙ ap (λ (t : List ℕ). head_bytes 6 107 ++ (head_bytes 5 2 ++ (head_bytes 0 2 ++ (string w.left ++ (head_bytes 0 3 ++ string t))))) m.is ∙ envelope_parts w.left spelling in
     let cover : IsString w.left = (wrapper.fits, all_bytes w.left wrapper.bytes) in
-    let text : IsString spelling = strings f inner s spelling content m.is in
-    (flat w.left m.n k.identifier k.shared.1.digest k.shared.1.size members.matched members.invoked,
-    record {
-      envelope = record { valid = (omega arith, omega arith, (omega arith, omega arith, (omega arith, tt, cover, (omega arith, above_2_3, text, tt)))); is = body };
-      manifest = m.valid;
-      common = k.valid;
-      shared = k.shared.1.valid;
-      parameter = k.shared.1.parameter;
-      validate = members.match_valid;
-      invoke = members.valid;
-      digest_length = k.shared.1.long;
-      identifier_length = k.short;
-      match_policy = members.match_policy;
-      invoke_policy = members.policy;
-    }))))))))
+    let text : IsString spelling = strings f inner s spelling content m.is in (
+      flat w.left m.n k.identifier k.shared.1.digest k.shared.1.size members.matched members.invoked,
+      record {
+        envelope = record { valid = (omega arith, omega arith, (omega arith, omega arith, (omega arith, tt, cover, (omega arith, above_2_3, text, tt)))); is = body };
+        manifest = m.valid;
+        common = k.valid;
+        shared = k.shared.1.valid;
+        parameter = k.shared.1.parameter;
+        validate = members.match_valid;
+        invoke = members.valid;
+        digest_length = k.shared.1.long;
+        identifier_length = k.short;
+        match_policy = members.match_policy;
+        invoke_policy = members.policy;
+      },
+    ))))))))

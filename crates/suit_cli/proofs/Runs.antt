@@ -113,9 +113,11 @@ module _ (host_told : Bool) (file : List ℕ → Option (List ℕ)) (words : Lis
   of_reply t status text one (Checks name word (Answers (Absent none s x) still)) = absurd (omega arith)
   of_reply t status text one (Checks name word (Answers (TooLong long s x) still)) = absurd (omega arith)
   of_reply t status text one (Checks name word (Answers (Judged bytes is fits (NotBuilt other s x)) still)) = absurd (omega arith)
-  of_reply t status text one (Checks name word (Answers (Judged bytes is fits (Built f flat judged)) still)) =
-      (f, record { bytes = bytes; checks = record { name = name; word = word; holds = is t }; fits = fits; flat = flat },
-      λ safe. refuted (form_of f) status text judged one safe.update safe.invocation)
+  of_reply t status text one (Checks name word (Answers (Judged bytes is fits (Built f flat judged)) still)) = (
+    f,
+    record { bytes = bytes; checks = record { name = name; word = word; holds = is t }; fits = fits; flat = flat },
+    λ safe. refuted (form_of f) status text judged one safe.update safe.invocation,
+  )
 
   of_put : IsTrue host_told → result ≡ 1 → Put sink_told old new sb sn run.status run.text result → (f : FlatEnvelope) × ChecksFlat file words f × (AreSafe f → ⊥)
   of_put t one (Whole is still put) = of_reply t run.status run.text (sym is ∙ one) run.replies

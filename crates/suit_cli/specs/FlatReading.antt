@@ -2,7 +2,6 @@
 use Rattle.std.specs.Prelude.{◌≡◌, ◌+◌, ◌==◌, ◌&&◌, nat_le, ℕ, List, length, Option, Some, None, if◌then◌else◌}
 use Rattle.det_cbor.specs.declared.head.HeadKind.{HeadKind}
 use Rattle.det_cbor.specs.declared.head.HeadKind.TheVariants as kinds
-use Rattle.det_cbor.specs.HeadSpelling.{major_of}
 use Rattle.det_cbor.specs.Position.{Position, next_head, next_bytes}
 use Rattle.suit_cli.specs.declared.flat.FlatForm.{FlatForm}
 
@@ -11,17 +10,29 @@ abbrev pub ◌>>=◌ : {A B : Type 0} → Option A → (A → Option B) → Opti
 None >>= f = None
 (Some x) >>= f = f x
 
+-- kinds are told apart by a number
+abbrev pub kind_number : HeadKind → ℕ
+kind_number kinds.Unsigned = 0
+kind_number kinds.Negative = 1
+kind_number kinds.Bytes = 2
+kind_number kinds.Text = 3
+kind_number kinds.Array = 4
+kind_number kinds.Map = 5
+kind_number kinds.Tag = 6
+kind_number kinds.Bool = 7
+kind_number kinds.Null = 8
+
 -- a head of this kind and value, and where reading goes on
 unfoldable pub expected_at : HeadKind → ℕ → Position → Option Position
 expected_at kind value p = do
   head ← next_head p
-  if (major_of head.0.kind == major_of kind) && (head.0.value == value) then Some head.1 else None
+  if (kind_number head.0.kind == kind_number kind) && (head.0.value == value) then Some head.1 else None
 
 -- a head of this kind, as its value, and where reading goes on
 unfoldable pub number_at : HeadKind → Position → Option (ℕ × Position)
 number_at kind p = do
   head ← next_head p
-  if major_of head.0.kind == major_of kind then Some (head.0.value, head.1) else None
+  if kind_number head.0.kind == kind_number kind then Some (head.0.value, head.1) else None
 
 -- a byte string, as its content at its place, and where reading goes on
 unfoldable pub string_at : Position → Option (Position × Position)

@@ -1,12 +1,12 @@
 //! The flat form of an envelope, read without memory.
 
 ghost use Rattle.std.specs.Prelude.{◌≡◌, ◌<◌, ◌^◌, length, option_map, IfSome, Some};
-ghost use Rattle.det_cbor.specs.Position.{next_bytes};
+ghost use Rattle.det_cbor.specs.Position.{next_head, next_bytes};
 ghost use Rattle.suit_cli.specs.FlatReading.{expected_at, number_at, string_at, at_end, command_at, digest_at, shared_at, common_at, invoke_at, members_at, manifest_at, envelope_at};
 ghost use Rattle.suit_cli.specs.FlatForm.{FlatEnvelope, IsFlat};
 ghost use Rattle.suit_cli.specs.FlatPlan.{form_of};
 
-use det_cbor::{Cursor, HeadKind};
+use det_cbor::{Cursor, Head, HeadKind};
 use path_checker::Digest;
 
 /// What the judgement needs of an envelope of the flat form.
@@ -22,12 +22,31 @@ pub struct FlatForm {
     pub invoke_place: u64,
 }
 
+fn next_head(cursor: &mut Cursor<'_>) -> Option<Head>
+    ensures { option_map (λ head. (head, cursor.new)) result ≡ next_head cursor.old }
+{
+    match cursor.head() {
+        Ok(head) => Some(head),
+        Err(_) => None,
+    }
+}
+
+fn next_bytes<'a>(cursor: &mut Cursor<'a>, count: u64) -> Option<&'a [u8]>
+    ensures exact { option_map (λ piece. (piece.now, cursor.new)) result ≡ next_bytes count cursor.old }
+    ensures length { IfSome result (λ piece. length piece.now ≡ count) }
+{
+    match cursor.bytes(count) {
+        Ok(piece) => Some(piece),
+        Err(_) => None,
+    }
+}
+
 // Takes a head of this kind and value.
 #[tactic(auto, unfolding(crate::specs::FlatReading::expected_at))]
 fn expect_head(cursor: &mut Cursor<'_>, kind: HeadKind, value: u64) -> Option<()>
     ensures { option_map (λ _. cursor.new) result ≡ expected_at kind value cursor.old }
 {
-    let head = cursor.head()?;
+    let head = next_head(cursor)?;
     if head.kind == kind && head.value == value {
         Some(())
     } else {
@@ -40,7 +59,7 @@ fn expect_head(cursor: &mut Cursor<'_>, kind: HeadKind, value: u64) -> Option<()
 fn number(cursor: &mut Cursor<'_>, kind: HeadKind) -> Option<u64>
     ensures { option_map (λ n. (n, cursor.new)) result ≡ number_at kind cursor.old }
 {
-    let head = cursor.head()?;
+    let head = next_head(cursor)?;
     if head.kind == kind {
         Some(head.value)
     } else {
@@ -55,7 +74,7 @@ fn byte_string<'a>(cursor: &mut Cursor<'a>) -> Option<Cursor<'a>>
 {
     let count = number(cursor, HeadKind::Bytes)?;
     let place = cursor.place();
-    let content = cursor.bytes(count)?;
+    let content = next_bytes(cursor, count)?;
     Some(Cursor::new(content, place))
 }
 
@@ -88,7 +107,7 @@ fn command_place(mut content: Cursor<'_>, code: u64) -> Option<u64>
 fn digest_bytes(cursor: &mut Cursor<'_>) -> Option<Digest>
     ensures { option_map (λ d. (d.bytes, cursor.new)) result ≡ next_bytes 32 cursor.old }
 {
-    let bytes = cursor.bytes(32)?;
+    let bytes = next_bytes(cursor, 32)?;
     let bytes = *bytes.first_chunk::<32>()?;
     Some(Digest { bytes })
 }

@@ -4,9 +4,12 @@
 mod check;
 mod flat;
 mod lines;
-mod reply;
 mod program;
+mod reply;
 
 pub use flat::{FlatForm, flat_form};
-pub use reply::Outcome;
 pub use program::{Status, run};
+pub use reply::Outcome;
+
+#[cfg(test)]
+mod tests;

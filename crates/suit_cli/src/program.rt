@@ -19,7 +19,8 @@ use suit_edge::{Edge, Host, Sink};
 #[derive(Clone, Copy, Debug, PartialEq, Eq)]
 pub struct Status(pub u8);
 
-const USAGE: &str = "usage: suit make DESCRIPTION KEY OUT | show FILE [KEY] | check FILE | run init DEVICE KEY | run update FILE [URI=NAME]... | run boot | run status | drill NUMBER\n";
+const USAGE: &str =
+    "usage: suit make DESCRIPTION KEY OUT | show FILE [KEY] | check FILE | run init DEVICE KEY | run update FILE [URI=NAME]... | run boot | run status | drill NUMBER\n";
 
 // The file that the words `check FILE` name.
 fn checked_file(words: &Names) -> Option<&str>

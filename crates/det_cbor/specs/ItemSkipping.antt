@@ -1,0 +1,73 @@
+-- How an item is passed over: it is judged as it is when it is read, and the rest is kept.
+use Rattle.std.specs.Prelude.{ℕ, zero, suc, ◌-◌, List, length, take, drop, Option, Some, None, Result, Ok, Err}
+use Rattle.det_cbor.specs.declared.head.HeadKind.{HeadKind}
+use Rattle.det_cbor.specs.declared.head.HeadKind.TheVariants as kinds
+use Rattle.det_cbor.specs.declared.reason.CborRefusal.{CborRefusal}
+use Rattle.det_cbor.specs.declared.reason.Stop.{Stop}
+use Rattle.det_cbor.specs.HeadReading.{◌>>=◌, map_ok, head_at}
+use Rattle.det_cbor.specs.ItemReading.{Read, stopped, string_at, text_at, read_of, in_order, nested}
+
+abbrev pub Skipper : Type 0
+Skipper = List ℕ → Result (List ℕ) Stop
+
+-- the rest, after what was read
+abbrev pub rest_of : {A : Type 0} → Read A → Result (List ℕ) Stop
+rest_of r = map_ok (λ x. x.1) r
+
+abbrev pub skips_by : Skipper → ℕ → Skipper
+skips_by skip zero bytes = Ok bytes
+skips_by skip (suc count) bytes = do
+  rest ← skip bytes
+  skips_by skip count rest
+
+abbrev pub pair_skips_by : Skipper → Option (List ℕ) → ℕ → Skipper
+pair_skips_by skip before zero bytes = Ok bytes
+pair_skips_by skip before (suc count) bytes = do
+  after ← skip bytes
+  sorted ← stopped bytes (in_order before (read_of bytes after))
+  rest ← skip after
+  pair_skips_by skip (Some (read_of bytes after)) count rest
+
+abbrev pub array_skip : Option Skipper → List ℕ → ℕ → List ℕ → Result (List ℕ) Stop
+array_skip parts bytes count rest = nested bytes parts >>= λ skip. skips_by skip count rest
+
+abbrev pub map_skip : Option Skipper → List ℕ → ℕ → List ℕ → Result (List ℕ) Stop
+map_skip parts bytes count rest = nested bytes parts >>= λ skip. pair_skips_by skip None count rest
+
+abbrev pub tagged_skip : Option Skipper → List ℕ → List ℕ → Result (List ℕ) Stop
+tagged_skip parts bytes rest = nested bytes parts >>= λ skip. skip rest
+
+-- what follows a head
+abbrev pub skip_body : Option Skipper → List ℕ → ℕ → List ℕ → HeadKind → Result (List ℕ) Stop
+skip_body parts bytes value rest kinds.Unsigned = Ok rest
+skip_body parts bytes value rest kinds.Negative = Ok rest
+skip_body parts bytes value rest kinds.Bytes = rest_of (stopped bytes (string_at value rest))
+skip_body parts bytes value rest kinds.Text = rest_of (stopped bytes (text_at value rest))
+skip_body parts bytes value rest kinds.Array = array_skip parts bytes value rest
+skip_body parts bytes value rest kinds.Map = map_skip parts bytes value rest
+skip_body parts bytes value rest kinds.Tag = tagged_skip parts bytes rest
+skip_body parts bytes value rest kinds.Bool = Ok rest
+skip_body parts bytes value rest kinds.Null = Ok rest
+
+abbrev pub skip_with : Option Skipper → Skipper
+skip_with parts bytes = stopped bytes (head_at bytes) >>= λ h. skip_body parts bytes h.0.value h.1 h.0.kind
+
+-- an item with at most so many levels
+unfoldable pub skip_at : ℕ → Skipper
+skip_at zero bytes = skip_with None bytes
+skip_at (suc levels) bytes = skip_with (Some (skip_at levels)) bytes
+
+-- the skipper of parts, where a level is left
+abbrev pub parts_at : ℕ → Option Skipper
+parts_at zero = None
+parts_at (suc levels) = Some (skip_at levels)
+
+-- ---- the first item of bytes, at most 16 levels deep
+
+abbrev pub split_by : List ℕ → Result (List ℕ) Stop → Result (List ℕ × List ℕ) CborRefusal
+split_by bytes (Ok rest) = Ok (take (length bytes - length rest) bytes, drop (length bytes - length rest) bytes)
+split_by bytes (Err s) = Err (record { place = length bytes - s.left; reason = s.reason })
+
+-- its bytes and those after it, or the place of the fault among the bytes
+unfoldable pub item_split : List ℕ → Result (List ℕ × List ℕ) CborRefusal
+item_split bytes = split_by bytes (skip_at 16 bytes)

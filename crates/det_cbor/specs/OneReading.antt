@@ -1,0 +1,34 @@
+-- The law of reading: bytes begin with one item or have one first fault, and never both.
+use Rattle.std.specs.Prelude.{◌≡◌, ◌≤◌, ◌⊎◌, ℕ, List, length, take}
+use Rattle.std.specs.List.{AllByRecursion}
+use Rattle.det_cbor.specs.declared.reason.Reason.{Reason}
+use Rattle.det_cbor.specs.DataItem.{DataItem, IsByte, Spells}
+use Rattle.det_cbor.specs.Faults.{Faulty}
+
+-- the bytes are the spelling of an item
+abbrev pub IsItem : List ℕ → Type 0
+IsItem bytes = (x : DataItem) × Spells x bytes
+
+-- the first so many bytes spell the item
+pub record StartsWithItem (bytes : List ℕ) (x : DataItem) (used : ℕ) : Type 0 where
+  pub spells : Spells x (take used bytes)
+  pub within : used ≤ length bytes
+
+-- just one prefix spells an item, and just one item, and the bytes are not faulty
+pub record HasOneItem (bytes : List ℕ) : Type 0 where
+  pub item : DataItem
+  pub used : ℕ
+  pub starts : StartsWithItem bytes item used
+  pub only : (x : DataItem) (n : ℕ) → StartsWithItem bytes x n → (x ≡ item) × (n ≡ used)
+  pub sound : (place : ℕ) (reason : Reason) → Faulty 0 bytes place reason → ⊥
+
+-- the bytes are faulty at just one place and for one reason, and no prefix spells an item
+pub record HasOneFault (bytes : List ℕ) : Type 0 where
+  pub place : ℕ
+  pub reason : Reason
+  pub faulty : Faulty 0 bytes place reason
+  pub only : (p : ℕ) (r : Reason) → Faulty 0 bytes p r → (p ≡ place) × (r ≡ reason)
+  pub empty : (x : DataItem) (n : ℕ) → StartsWithItem bytes x n → ⊥
+
+abbrev pub OneReading : Type 0
+OneReading = (bytes : List ℕ) → AllByRecursion IsByte bytes → HasOneItem bytes ⊎ HasOneFault bytes

@@ -1,0 +1,109 @@
+//! Parts of items that hold no items: heads, strings, and the order of keys.
+
+ghost use Rattle.std.specs.Prelude.{◌≡◌, ◌≤◌, length, option_map};
+ghost use Rattle.det_cbor.specs.HeadReading.{map_ok, head_at};
+ghost use Rattle.det_cbor.specs.ItemReading.{stop_at, stopped, string_at, utf8_text, text_at, read_of, in_order};
+
+use crate::head::split_head;
+use crate::reason::Stop;
+use crate::{Head, HeadKind, Reason};
+
+/// A fault of a head or a string: at the end where the input ends, and else at the head.
+pub(crate) fn stop(bytes: &[u8], reason: Reason) -> Stop
+    ensures { result ≡ stop_at bytes.now reason }
+{
+    let left = match reason {
+        Reason::Truncated => 0,
+        _ => bytes.len(),
+    };
+    Stop { left, reason }
+}
+
+/// The head at the front, and the bytes after it.
+pub(crate) fn first_head(bytes: &[u8]) -> Result<(Head, &[u8]), Stop>
+    ensures { map_ok (λ f. (f.0, f.1.now)) result ≡ stopped bytes.now (head_at bytes.now) }
+{
+    match split_head(bytes) {
+        Ok(found) => Ok(found),
+        Err(reason) => Err(stop(bytes, reason)),
+    }
+}
+
+// The bytes of a string after its head, and what follows them.
+fn string(count: u64, rest: &[u8]) -> Result<(&[u8], &[u8]), Reason>
+    ensures { map_ok (λ s. (s.0.now, s.1.now)) result ≡ string_at count rest.now }
+{
+    if (rest.len() as u64) < count {
+        return Err(Reason::Truncated);
+    }
+    Ok(rest.split_at(count as usize))
+}
+
+// The bytes as a text.
+#[tactic(auto, using(crate::proofs::Utf8::good_utf8, crate::proofs::Utf8::bad_utf8))]
+fn utf8(bytes: &[u8]) -> Option<&str>
+    ensures { option_map (λ t. t.now) result ≡ utf8_text bytes.now }
+{
+    std::str::from_utf8(bytes).ok()
+}
+
+fn text(count: u64, rest: &[u8]) -> Result<(&str, &[u8]), Reason>
+    ensures { map_ok (λ s. (s.0.now, s.1.now)) result ≡ text_at count rest.now }
+{
+    let (bytes, rest) = string(count, rest)?;
+    match utf8(bytes) {
+        Some(text) => Ok((text, rest)),
+        None => Err(Reason::BadText),
+    }
+}
+
+/// The bytes of a string whose head stands first among the bytes, and what follows them.
+pub(crate) fn string_in<'a>(
+    bytes: &[u8],
+    count: u64,
+    rest: &'a [u8],
+) -> Result<(&'a [u8], &'a [u8]), Stop>
+    ensures { map_ok (λ s. (s.0.now, s.1.now)) result ≡ stopped bytes.now (string_at count rest.now) }
+{
+    match string(count, rest) {
+        Ok(found) => Ok(found),
+        Err(reason) => Err(stop(bytes, reason)),
+    }
+}
+
+/// The same of a text.
+pub(crate) fn text_in<'a>(
+    bytes: &[u8],
+    count: u64,
+    rest: &'a [u8],
+) -> Result<(&'a str, &'a [u8]), Stop>
+    ensures { map_ok (λ s. (s.0.now, s.1.now)) result ≡ stopped bytes.now (text_at count rest.now) }
+{
+    match text(count, rest) {
+        Ok(found) => Ok(found),
+        Err(reason) => Err(stop(bytes, reason)),
+    }
+}
+
+/// The bytes that were read before the rest, which stands at their end.
+pub(crate) fn read_before<'a>(bytes: &'a [u8], rest: &[u8]) -> &'a [u8]
+    ensures { result.now ≡ read_of bytes.now rest.now }
+{
+    &bytes[..bytes.len().saturating_sub(rest.len())]
+}
+
+/// Judges a key that stands first among these bytes, after the key before it.
+pub(crate) fn order(bytes: &[u8], before: Option<&[u8]>, key: &[u8]) -> Result<(), Stop>
+    ensures { result ≡ stopped bytes.now (in_order (option_map (λ b. b.now) before.entry) key.now) }
+{
+    use std::cmp::Ordering;
+
+    let Some(before) = before else {
+        return Ok(());
+    };
+    match before.cmp(key) {
+        Ordering::Less => Ok(()),
+        Ordering::Equal => Err(stop(bytes, Reason::Repeated)),
+        Ordering::Greater => Err(stop(bytes, Reason::Order)),
+    }
+}

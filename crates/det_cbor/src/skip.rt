@@ -1,0 +1,132 @@
+//! Passing over one whole item, which is judged as it is when it is read.
+
+ghost use Rattle.std.specs.Prelude.{◌≡◌, ◌≤◌, ◌+◌, ◌++◌, ℕ, take, length, None, Ok, Err, IfOk, IfErr};
+ghost use Rattle.det_cbor.specs.declared.reason.Reason.{Reason};
+ghost use Rattle.det_cbor.specs.DataItem.{DataItem};
+ghost use Rattle.det_cbor.specs.Faults.{Faulty};
+ghost use Rattle.det_cbor.specs.HeadReading.{map_ok};
+ghost use Rattle.det_cbor.specs.ItemSkipping.{skips_by, pair_skips_by, array_skip, map_skip, tagged_skip, skip_at, parts_at, item_split};
+ghost use Rattle.det_cbor.specs.OneReading.{IsItem, StartsWithItem};
+
+use crate::parts::{first_head, order, read_before, stop, string_in, text_in};
+use crate::reason::Stop;
+use crate::{CborRefusal, HeadKind, Reason};
+
+/// How many arrays, maps and tags stand round one another at most.
+pub(crate) const MAX_LEVELS: u8 = 16;
+
+/// The bytes after the first item, which has at most so many levels.
+#[cycle(skip)]
+#[tactic(auto, using(crate::proofs::Skipping::skip_at_is))]
+pub(crate) fn skip_item(bytes: &[u8], levels: u8) -> Result<&[u8], Stop>
+    ensures { map_ok (λ rest. rest.now) result ≡ skip_at levels bytes.now }
+{
+    let (head, rest) = first_head(bytes)?;
+    match head.kind {
+        HeadKind::Unsigned | HeadKind::Negative | HeadKind::Bool | HeadKind::Null => Ok(rest),
+        HeadKind::Bytes => {
+            let (_, rest) = string_in(bytes, head.value, rest)?;
+            Ok(rest)
+        }
+        HeadKind::Text => {
+            let (_, rest) = text_in(bytes, head.value, rest)?;
+            Ok(rest)
+        }
+        HeadKind::Array => skip_array(bytes, head.value, rest, levels),
+        HeadKind::Map => skip_map(bytes, head.value, rest, levels),
+        HeadKind::Tag => skip_tagged(bytes, rest, levels),
+    }
+}
+
+#[cycle(skip)]
+#[tactic(auto, using(crate::proofs::Skipping::parts_above, crate::proofs::Skipping::parts_none))]
+fn skip_array<'a>(bytes: &[u8], count: u64, rest: &'a [u8], levels: u8) -> Result<&'a [u8], Stop>
+    ensures { map_ok (λ rest. rest.now) result ≡ array_skip (parts_at levels) bytes.now count rest.now }
+{
+    if levels == 0 {
+        return Err(stop(bytes, Reason::TooDeep));
+    }
+    skip_items(count, rest, levels - 1)
+}
+
+#[cycle(skip)]
+fn skip_items(count: u64, bytes: &[u8], levels: u8) -> Result<&[u8], Stop>
+    ensures { map_ok (λ rest. rest.now) result ≡ skips_by (skip_at levels) count bytes.now }
+{
+    let mut rest = bytes;
+    for _ in 0..count {
+        rest = skip_item(rest, levels)?;
+    }
+    Ok(rest)
+}
+
+#[cycle(skip)]
+#[tactic(auto, using(crate::proofs::Skipping::parts_above, crate::proofs::Skipping::parts_none))]
+fn skip_map<'a>(bytes: &[u8], count: u64, rest: &'a [u8], levels: u8) -> Result<&'a [u8], Stop>
+    ensures { map_ok (λ rest. rest.now) result ≡ map_skip (parts_at levels) bytes.now count rest.now }
+{
+    if levels == 0 {
+        return Err(stop(bytes, Reason::TooDeep));
+    }
+    skip_pairs(count, rest, levels - 1)
+}
+
+#[cycle(skip)]
+fn skip_pairs(count: u64, bytes: &[u8], levels: u8) -> Result<&[u8], Stop>
+    ensures { map_ok (λ rest. rest.now) result ≡ pair_skips_by (skip_at levels) None count bytes.now }
+{
+    let mut rest = bytes;
+    let mut before = None;
+    for _ in 0..count {
+        let after = skip_item(rest, levels)?;
+        let key = read_before(rest, after);
+        order(rest, before, key)?;
+        before = Some(key);
+        rest = skip_item(after, levels)?;
+    }
+    Ok(rest)
+}
+
+#[cycle(skip)]
+#[tactic(auto, using(crate::proofs::Skipping::parts_above, crate::proofs::Skipping::parts_none))]
+fn skip_tagged<'a>(bytes: &[u8], rest: &'a [u8], levels: u8) -> Result<&'a [u8], Stop>
+    ensures { map_ok (λ rest. rest.now) result ≡ tagged_skip (parts_at levels) bytes.now rest.now }
+{
+    if levels == 0 {
+        return Err(stop(bytes, Reason::TooDeep));
+    }
+    skip_item(rest, levels - 1)
+}
+
+// The bytes of the first item and those after it, or the fault, with its place among the bytes.
+#[tactic(auto, unfolding(crate::specs::ItemSkipping::item_split))]
+fn split(bytes: &[u8]) -> Result<(&[u8], &[u8]), CborRefusal>
+    ensures { map_ok (λ f. (f.0.now, f.1.now)) result ≡ item_split bytes.now }
+{
+    match skip_item(bytes, MAX_LEVELS) {
+        Ok(rest) => Ok(bytes.split_at(bytes.len().saturating_sub(rest.len()))),
+        Err(stop) => {
+            let place = bytes.len().saturating_sub(stop.left) as u64;
+            Err(CborRefusal {
+                place,
+                reason: stop.reason,
+            })
+        }
+    }
+}
+
+/// The bytes of the first item and those after it, or the fault, with its place among the bytes.
+pub(crate) fn split_item(bytes: &[u8]) -> Result<(&[u8], &[u8]), CborRefusal>
+    ensures exact { map_ok (λ f. (f.0.now, f.1.now)) result ≡ item_split bytes.now }
+    ensures parts { IfOk result (λ f. bytes.now ≡ f.0.now ++ f.1.now) }
+    ensures length { IfOk result (λ f. length bytes.now ≡ length f.0.now + length f.1.now) }
+    ensures item { IfOk result (λ f. IsItem f.0.now) }
+    ensures fault { IfErr result (λ e. Faulty 0 bytes.now e.place e.reason) }
+    ensures within { IfErr result (λ e. e.place ≤ length bytes.now) }
+    ensures every_item { (x : DataItem) (used : ℕ) → StartsWithItem bytes.now x used
+        → map_ok (λ f. f.0.now) result ≡ Ok (take used bytes.now) }
+    ensures every_fault { (at : ℕ) (reason : Reason) → Faulty 0 bytes.now at reason
+        → map_ok (λ f. f.0.now) result ≡ Err (record { place = at; reason = reason }) }
+{
+    split(bytes)
+}

@@ -1,0 +1,469 @@
+//! Tests of the program on objects in memory.
+
+use crate::{Status, run};
+use det_cbor::{Names, Text};
+use std::alloc::{AllocError, Global};
+use std::test::Fail;
+use suit_edge::{MemoryHost, MemorySink};
+
+/// The stored envelope: 119 bytes, whose manifest matches the image `abc` and invokes it.
+const STORED: &str =
+    "d86ba2025827815824822f58200000000000000000000000000000000000000000000000000000000000000000035847a501010201035835a2028181410004582c8214a2035824822f5820ba7816bf8f01cfea414140de5dae2223b00361a396177a9cb410ff61f20015ad0e03074382030f094382170f";
+
+const SAFE: &str = "update safe\ninvocation safe\n";
+
+const USAGE: &str =
+    "usage: suit make DESCRIPTION KEY OUT | show FILE [KEY] | check FILE | run init DEVICE KEY | run update FILE [URI=NAME]... | run boot | run status | drill NUMBER\n";
+
+/// An edit of the stored envelope: so many bytes from a place on give way to others.
+#[derive(Clone, Copy)]
+struct Row {
+    shows: &'static str,
+    at: usize,
+    removed: usize,
+    added: &'static str,
+    flat: bool,
+}
+
+/// Values on both sides of each bound of the flat form.
+const ROWS: [Row; 43] = [
+    Row {
+        shows: "the stored envelope",
+        at: 119,
+        removed: 0,
+        added: "",
+        flat: true,
+    },
+    Row {
+        shows: "reporting policy 0 of the match",
+        at: 113,
+        removed: 1,
+        added: "00",
+        flat: true,
+    },
+    Row {
+        shows: "reporting policy 16 of the match",
+        at: 113,
+        removed: 1,
+        added: "10",
+        flat: false,
+    },
+    Row {
+        shows: "reporting policy 0 of the invoke",
+        at: 118,
+        removed: 1,
+        added: "00",
+        flat: true,
+    },
+    Row {
+        shows: "reporting policy 16 of the invoke",
+        at: 118,
+        removed: 1,
+        added: "10",
+        flat: false,
+    },
+    Row {
+        shows: "an identifier spelled in 64 bytes",
+        at: 47,
+        removed: 15,
+        added: "84a501010201035872a2028181583d07070707070707070707070707070707070707070707070707070707070707070707070707070707070707070707070707070707070707070707070707",
+        flat: true,
+    },
+    Row {
+        shows: "an identifier spelled in 65 bytes",
+        at: 47,
+        removed: 15,
+        added: "85a501010201035873a2028181583e0707070707070707070707070707070707070707070707070707070707070707070707070707070707070707070707070707070707070707070707070707",
+        flat: false,
+    },
+    Row {
+        shows: "an empty identifier",
+        at: 47,
+        removed: 15,
+        added: "46a501010201035834a202818140",
+        flat: true,
+    },
+    Row {
+        shows: "an empty wrapper",
+        at: 4,
+        removed: 41,
+        added: "40",
+        flat: true,
+    },
+    Row {
+        shows: "sequence number 23",
+        at: 52,
+        removed: 1,
+        added: "17",
+        flat: true,
+    },
+    Row {
+        shows: "sequence number 24",
+        at: 47,
+        removed: 6,
+        added: "48a50101021818",
+        flat: true,
+    },
+    Row {
+        shows: "sequence number 255",
+        at: 47,
+        removed: 6,
+        added: "48a501010218ff",
+        flat: true,
+    },
+    Row {
+        shows: "sequence number 256",
+        at: 47,
+        removed: 6,
+        added: "49a5010102190100",
+        flat: true,
+    },
+    Row {
+        shows: "sequence number 65535",
+        at: 47,
+        removed: 6,
+        added: "49a501010219ffff",
+        flat: true,
+    },
+    Row {
+        shows: "sequence number 65536",
+        at: 47,
+        removed: 6,
+        added: "4ba50101021a00010000",
+        flat: true,
+    },
+    Row {
+        shows: "sequence number 4294967295",
+        at: 47,
+        removed: 6,
+        added: "4ba50101021affffffff",
+        flat: true,
+    },
+    Row {
+        shows: "sequence number 4294967296",
+        at: 47,
+        removed: 6,
+        added: "4fa50101021b0000000100000000",
+        flat: true,
+    },
+    Row {
+        shows: "sequence number 18446744073709551615",
+        at: 47,
+        removed: 6,
+        added: "4fa50101021bffffffffffffffff",
+        flat: true,
+    },
+    Row {
+        shows: "size 0",
+        at: 108,
+        removed: 1,
+        added: "00",
+        flat: true,
+    },
+    Row {
+        shows: "size 23",
+        at: 108,
+        removed: 1,
+        added: "17",
+        flat: true,
+    },
+    Row {
+        shows: "size 24",
+        at: 47,
+        removed: 62,
+        added: "48a501010201035836a2028181410004582d8214a2035824822f5820ba7816bf8f01cfea414140de5dae2223b00361a396177a9cb410ff61f20015ad0e1818",
+        flat: true,
+    },
+    Row {
+        shows: "size 255",
+        at: 47,
+        removed: 62,
+        added: "48a501010201035836a2028181410004582d8214a2035824822f5820ba7816bf8f01cfea414140de5dae2223b00361a396177a9cb410ff61f20015ad0e18ff",
+        flat: true,
+    },
+    Row {
+        shows: "size 256",
+        at: 47,
+        removed: 62,
+        added: "49a501010201035837a2028181410004582e8214a2035824822f5820ba7816bf8f01cfea414140de5dae2223b00361a396177a9cb410ff61f20015ad0e190100",
+        flat: true,
+    },
+    Row {
+        shows: "size 18446744073709551615",
+        at: 47,
+        removed: 62,
+        added: "4fa50101020103583da202818141000458348214a2035824822f5820ba7816bf8f01cfea414140de5dae2223b00361a396177a9cb410ff61f20015ad0e1bffffffffffffffff",
+        flat: true,
+    },
+    Row {
+        shows: "a long head",
+        at: 47,
+        removed: 5,
+        added: "48a501010218",
+        flat: false,
+    },
+    Row {
+        shows: "a byte after the digest",
+        at: 47,
+        removed: 60,
+        added: "48a501010201035836a2028181410004582d8214a2035825822f5820ba7816bf8f01cfea414140de5dae2223b00361a396177a9cb410ff61f20015ad00",
+        flat: false,
+    },
+    Row {
+        shows: "a byte after the shared sequence",
+        at: 47,
+        removed: 62,
+        added: "48a501010201035836a2028181410004582d8214a2035824822f5820ba7816bf8f01cfea414140de5dae2223b00361a396177a9cb410ff61f20015ad0e0300",
+        flat: false,
+    },
+    Row {
+        shows: "a byte after common",
+        at: 47,
+        removed: 62,
+        added: "48a501010201035836a2028181410004582c8214a2035824822f5820ba7816bf8f01cfea414140de5dae2223b00361a396177a9cb410ff61f20015ad0e0300",
+        flat: false,
+    },
+    Row {
+        shows: "a byte after validate",
+        at: 47,
+        removed: 67,
+        added: "48a501010201035835a2028181410004582c8214a2035824822f5820ba7816bf8f01cfea414140de5dae2223b00361a396177a9cb410ff61f20015ad0e03074482030f00",
+        flat: false,
+    },
+    Row {
+        shows: "a byte after invoke",
+        at: 47,
+        removed: 72,
+        added: "48a501010201035835a2028181410004582c8214a2035824822f5820ba7816bf8f01cfea414140de5dae2223b00361a396177a9cb410ff61f20015ad0e03074382030f094482170f00",
+        flat: false,
+    },
+    Row {
+        shows: "a byte after the manifest",
+        at: 47,
+        removed: 72,
+        added: "48a501010201035835a2028181410004582c8214a2035824822f5820ba7816bf8f01cfea414140de5dae2223b00361a396177a9cb410ff61f20015ad0e03074382030f094382170f00",
+        flat: false,
+    },
+    Row {
+        shows: "a byte after the envelope",
+        at: 119,
+        removed: 0,
+        added: "00",
+        flat: false,
+    },
+    Row {
+        shows: "another algorithm",
+        at: 47,
+        removed: 26,
+        added: "48a501010201035836a2028181410004582d8214a203582582382b",
+        flat: false,
+    },
+    Row {
+        shows: "a digest of 31 bytes",
+        at: 47,
+        removed: 60,
+        added: "46a501010201035834a2028181410004582b8214a2035823822f581fba7816bf8f01cfea414140de5dae2223b00361a396177a9cb410ff61f20015",
+        flat: false,
+    },
+    Row {
+        shows: "a digest of 33 bytes",
+        at: 47,
+        removed: 60,
+        added: "48a501010201035836a2028181410004582d8214a2035825822f5821ba7816bf8f01cfea414140de5dae2223b00361a396177a9cb410ff61f20015ad00",
+        flat: false,
+    },
+    Row {
+        shows: "no tag",
+        at: 0,
+        removed: 2,
+        added: "",
+        flat: false,
+    },
+    Row {
+        shows: "another tag",
+        at: 1,
+        removed: 1,
+        added: "6c",
+        flat: false,
+    },
+    Row {
+        shows: "version 2",
+        at: 50,
+        removed: 1,
+        added: "02",
+        flat: false,
+    },
+    Row {
+        shows: "another condition",
+        at: 112,
+        removed: 1,
+        added: "0e",
+        flat: false,
+    },
+    Row {
+        shows: "another directive",
+        at: 117,
+        removed: 1,
+        added: "15",
+        flat: false,
+    },
+    Row {
+        shows: "no invoke",
+        at: 47,
+        removed: 71,
+        added: "42a401010201035835a2028181410004582c8214a2035824822f5820ba7816bf8f01cfea414140de5dae2223b00361a396177a9cb410ff61f20015ad0e0307438203",
+        flat: false,
+    },
+    Row {
+        shows: "a further member",
+        at: 47,
+        removed: 72,
+        added: "49a601010201035835a2028181410004582c8214a2035824822f5820ba7816bf8f01cfea414140de5dae2223b00361a396177a9cb410ff61f20015ad0e03074382030f094382170f1040",
+        flat: false,
+    },
+    Row {
+        shows: "no bytes",
+        at: 0,
+        removed: 119,
+        added: "",
+        flat: false,
+    },
+];
+
+fn edited(alloc: Global, row: &Row) -> Result<Vec<u8>, Fail> {
+    let stored = hex::decode(alloc, STORED)?;
+    let end = row.at.saturating_add(row.removed);
+    let mut bytes = Vec::new(alloc);
+    bytes.extend_from_slice(stored.get(..row.at).ok_or("the edit begins past the end")?)?;
+    bytes.extend_from_slice(hex::decode(alloc, row.added)?.as_slice())?;
+    bytes.extend_from_slice(stored.get(end..).ok_or("the edit ends past the end")?)?;
+    Ok(bytes)
+}
+
+fn names(alloc: Global, words: &[&str]) -> Result<Names, AllocError> {
+    let mut names = Names::new(alloc);
+    for word in words {
+        names.push(Text::from_str(alloc, word)?)?;
+    }
+    Ok(names)
+}
+
+/// What a run over one file put, and its status.
+fn ran(
+    alloc: Global,
+    words: &[&str],
+    file: &[u8],
+    host_fails: &[u64],
+    sink_fails: &[u64],
+) -> Result<(u8, Vec<u8>), AllocError> {
+    let words = names(alloc, words)?;
+    let mut host = MemoryHost::new(alloc, host_fails)?;
+    host.add("e1.suit", file)?;
+    let mut sink = MemorySink::new(alloc, sink_fails)?;
+    let Status(status) = run(alloc, &words, &mut host, &mut sink);
+    Ok((status, sink.bytes().to_vec(alloc)?))
+}
+
+const CHECK: [&str; 2] = ["check", "e1.suit"];
+
+#[test]
+fn the_flat_form_has_these_bounds(rt: HostRuntime) -> Result<(), Fail> {
+    let alloc = rt.alloc();
+    for row in &ROWS {
+        let file = edited(alloc, row)?;
+        let (status, text) = ran(alloc, &CHECK, file.as_slice(), &[], &[])?;
+        let shows = row.shows;
+        if row.flat {
+            assert_eq!(rt; status, 0, "{shows}");
+            assert_eq!(rt; text.as_slice(), SAFE.as_bytes(), "{shows}");
+        } else {
+            assert_eq!(rt; status, 3, "{shows}");
+            assert_eq!(rt; text.as_slice(), b"not built\n".as_slice(), "{shows}");
+        }
+    }
+    Ok(())
+}
+
+#[test]
+fn without_a_match_the_invocation_is_unsafe(rt: HostRuntime) -> Result<(), Fail> {
+    let alloc = rt.alloc();
+    let row = Row {
+        shows: "no validate",
+        at: 47,
+        removed: 67,
+        added: "42a401010201035835a2028181410004582c8214a2035824822f5820ba7816bf8f01cfea414140de5dae2223b00361a396177a9cb410ff61f20015ad0e03",
+        flat: true,
+    };
+    let file = edited(alloc, &row)?;
+    let (status, text) = ran(alloc, &CHECK, file.as_slice(), &[], &[])?;
+    let expected =
+        "update safe\ninvocation unsafe\nidentity 0 vendor none class none device none slot 0\nset 0 3\nset 0 14\nset 0 3\nset 0 14\nset 0 3\nset 0 14\ninvoked 0 ba7816bf8f01cfea414140de5dae2223b00361a396177a9cb410ff61f20015ad 3\n";
+    assert_eq!(rt; text.as_slice(), expected.as_bytes());
+    assert_eq!(rt; status, 1);
+    Ok(())
+}
+
+#[test]
+fn other_words_are_usage(rt: HostRuntime) -> Result<(), Fail> {
+    let alloc = rt.alloc();
+    let lines: [&[&str]; 7] = [
+        &[],
+        &["check"],
+        &["check", "a", "b"],
+        &["check", "-v"],
+        &["check", "-"],
+        &["help"],
+        &["e1.suit", "check"],
+    ];
+    for words in &lines {
+        let (status, text) = ran(alloc, words, b"", &[], &[])?;
+        assert_eq!(rt; status, 2);
+        assert_eq!(rt; text.as_slice(), USAGE.as_bytes());
+    }
+    Ok(())
+}
+
+#[test]
+fn a_file_is_absent_or_too_long(rt: HostRuntime) -> Result<(), Fail> {
+    let alloc = rt.alloc();
+    let (status, text) = ran(alloc, &["check", "nofile"], b"", &[], &[])?;
+    assert_eq!(rt; status, 20);
+    assert_eq!(rt; text.as_slice(), b"absent nofile\n".as_slice());
+
+    let long = vec![in alloc; 0u8; 1_048_577]?;
+    let (status, text) = ran(alloc, &CHECK, long.as_slice(), &[], &[])?;
+    assert_eq!(rt; status, 21);
+    assert_eq!(rt; text.as_slice(), b"too long e1.suit\n".as_slice());
+
+    let longest = long.as_slice().get(1..).ok_or("no byte")?;
+    let (status, _text) = ran(alloc, &CHECK, longest, &[], &[])?;
+    assert_eq!(rt; status, 3);
+    Ok(())
+}
+
+#[test]
+fn each_call_of_the_host_may_fail(rt: HostRuntime) -> Result<(), Fail> {
+    let alloc = rt.alloc();
+    let stored = hex::decode(alloc, STORED)?;
+    for call in 0..3u64 {
+        let (status, text) = ran(alloc, &CHECK, stored.as_slice(), &[call], &[])?;
+        assert_eq!(rt; status, 7, "call {call}");
+        assert_eq!(rt; text.as_slice(), b"host fault\n".as_slice(), "call {call}");
+    }
+    let (status, _text) = ran(alloc, &CHECK, stored.as_slice(), &[3], &[])?;
+    assert_eq!(rt; status, 0);
+    Ok(())
+}
+
+#[test]
+fn the_sink_may_fail(rt: HostRuntime) -> Result<(), Fail> {
+    let alloc = rt.alloc();
+    let stored = hex::decode(alloc, STORED)?;
+    let (status, text) = ran(alloc, &CHECK, stored.as_slice(), &[], &[0])?;
+    assert_eq!(rt; status, 9);
+    assert_eq!(rt; text.len(), 0);
+    let (status, text) = ran(alloc, &CHECK, stored.as_slice(), &[], &[1])?;
+    assert_eq!(rt; status, 0);
+    assert_eq!(rt; text.as_slice(), SAFE.as_bytes());
+    Ok(())
+}
