@@ -16,7 +16,12 @@ const HEADER: [u8; 3] = [0xa1, 0x01, 0x05];
 /// The block whose tag is that of the key and the payload.
 ///
 /// The protected header holds the algorithm alone; a kid, which is a name for the key, stands unprotected.
-pub fn make_block(alloc: Global, key: &[u8], kid: Option<&[u8]>, payload: &[u8]) -> Result<Bytes, AllocError>
+pub fn make_block(
+    alloc: Global,
+    key: &[u8],
+    kid: Option<&[u8]>,
+    payload: &[u8],
+) -> Result<Bytes, AllocError>
     ensures spells { IfOk result (λ block. Spells (made_item key.now (option_map (λ k. k.now) kid.entry) payload.now) block) }
     ensures verifies { IfOk result (λ block. Verifies block key.now payload.now) }
     ensures alone { IfOk result (λ block. (protected tag : List ℕ) → IsMac0 block protected tag
