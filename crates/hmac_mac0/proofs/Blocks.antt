@@ -99,10 +99,10 @@ in_array NullItem count rest v h e = let k : kinds.Null ≡ kinds.Array = ap (λ
 items_of_block : (block rest : List ℕ) → IsItem block → block ≡ front ++ rest → InArray 4 rest
 items_of_block block rest x e =
     let outer = one_head block _ (record { kind = kinds.Tag; value = 17 }) _ (head_bytes 4 4 ++ rest)
-        (item_begins 0 x.0 block [] x.1.valid (x.1.is ∙ sym (append-nil (spell x.0)))) (record { value = lit< tt; parts = e ∙ sym (front_is rest) }) in
+    (item_begins 0 x.0 block [] x.1.valid (x.1.is ∙ sym (append-nil (spell x.0)))) (record { value = lit< tt; parts = e ∙ sym (front_is rest) }) in
     let tagged = in_tag x.0 17 (head_bytes 4 4 ++ rest) x.1.valid outer.0 outer.1 in
     let inner = one_head (head_bytes 4 4 ++ rest) _ (record { kind = kinds.Array; value = 4 }) _ rest
-        (item_begins 1 tagged.inner (head_bytes 4 4 ++ rest) [] tagged.valid (tagged.parts ∙ sym (append-nil (spell tagged.inner)))) (record { value = lit< tt; parts = refl }) in
+    (item_begins 1 tagged.inner (head_bytes 4 4 ++ rest) [] tagged.valid (tagged.parts ∙ sym (append-nil (spell tagged.inner)))) (record { value = lit< tt; parts = refl }) in
     in_array tagged.inner 4 rest tagged.valid inner.0 inner.1
 
 second_valid : (xs : DataItems) (first second : DataItem) (rest : List ℕ) → AreValidWithin 2 xs → item_count xs ≡ 4 → IsValid first → IsValid second
@@ -121,7 +121,7 @@ parts_spell block protected tag fits x h =
     let at = parts_front block protected tag h in
     let bytes : IsBytes rest = IsBytes-rest front rest (subst IsBytes at fits) in
     let tail_bytes : IsBytes (spell (ByteString tag) ++ []) =
-        IsBytes-rest (spell NullItem) _ (IsBytes-rest (spell (MapOf h.unprotected)) _ (IsBytes-rest (spell (ByteString protected)) (tail_of h.unprotected tag) bytes)) in
+    IsBytes-rest (spell NullItem) _ (IsBytes-rest (spell (MapOf h.unprotected)) _ (IsBytes-rest (spell (ByteString protected)) (tail_of h.unprotected tag) bytes)) in
     let header : IsString protected = (h.short_header, content_bytes rest protected (tail_of h.unprotected tag) bytes refl) in
     let last : IsString tag = (h.short_tag, content_bytes (spell (ByteString tag) ++ []) tag [] tail_bytes refl) in
     let array = items_of_block block rest x at in
@@ -138,3 +138,11 @@ mac0_parts block protected tag m =
 
 pub mac0_item_is : (block protected tag : List ℕ) → IsMac0 block protected tag → IsItem block
 mac0_item_is block protected tag m = (mac0_item protected m.unprotected tag, m.spells)
+
+-- ---- the law
+
+-- a block has one protected header and one tag
+pub one_mac0 : (block p q s t : List ℕ) → IsMac0 block p s → IsMac0 block q t → (p ≡ q) × (s ≡ t)
+one_mac0 block p q s t a b =
+    let same = (one_spelling 0 0 (mac0_item p a.unprotected s) (mac0_item q b.unprotected t) [] [] a.spells.valid b.spells.valid (ap (λ x. x ++ []) (sym a.spells.is ∙ b.spells.is))).0 in
+    (cc, cc)

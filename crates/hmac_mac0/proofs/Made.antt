@@ -5,6 +5,7 @@ use Rattle.std.specs.Prelude.{option_map, IfSome}
 use Rattle.det_cbor.specs.DataItem.{DataItem, ByteString, MapOf, spell, IsValidWithin, IsString, Spells}
 use Rattle.det_cbor.specs.Heads.{head_bytes}
 use Rattle.det_cbor.proofs.OneSpelling.{one_spelling}
+use Rattle.hmac_mac0.proofs.Blocks.{one_mac0}
 use Rattle.hmac_mac0.specs.Mac0.{mac_header, mac0_item, kid_pairs, made_header, made_item, tag_of, IsHeader, IsMac0, Verifies}
 
 -- the kid of a call
@@ -54,12 +55,6 @@ is_made key payload kid out h = record { header = record { kid = None; spells = 
 
 pub made_verifies : (key payload : List ℕ) (kid : Option (List ℕ)) (out : List ℕ) → Spells (made_item key kid payload) out → Verifies out key payload
 made_verifies key payload kid out h = record { protected = made_header; tag = tag_of key made_header payload; is_block = is_made key payload kid out h; matches = refl }
-
--- a block has one protected header and one tag
-pub one_mac0 : (block p q s t : List ℕ) → IsMac0 block p s → IsMac0 block q t → (p ≡ q) × (s ≡ t)
-one_mac0 block p q s t a b =
-    let same = (one_spelling 0 0 (mac0_item p a.unprotected s) (mac0_item q b.unprotected t) [] [] a.spells.valid b.spells.valid (ap (λ x. x ++ []) (sym a.spells.is ∙ b.spells.is))).0 in
-    (cc, cc)
 
 pub made_alone : (key payload : List ℕ) (kid : Option (List ℕ)) (out : List ℕ) → Spells (made_item key kid payload) out
     → (protected tag : List ℕ) → IsMac0 out protected tag → (protected ≡ made_header) × (tag ≡ tag_of key made_header payload)

@@ -1,21 +1,16 @@
 //! Which bytes are a Mac0 block (RFC 9052, section 6.1).
 
-ghost use Rattle.std.specs.Prelude.{◌≡◌, ◌↔◌, [], IsTrue, List, ℕ, IfSome, IfNone};
+ghost use Rattle.std.specs.Prelude.{◌↔◌, IsTrue, List, ℕ, IfSome, IfNone};
 ghost use Rattle.det_cbor.specs.OneReading.{IsItem};
-ghost use Rattle.hmac_mac0.specs.Mac0.{IsHeader, IsMac0};
+ghost use Rattle.hmac_mac0.specs.Mac0.{IsMac0};
 ghost use Rattle.hmac_mac0.specs.Layout.{HasParts};
 
-use crate::layout::{is_string, last_tag, string};
+use crate::header::is_header;
+use crate::layout::{last_tag, string};
 use det_cbor::Cursor;
 
 // The heads of tag 17 and of an array of four.
 const FRONT: [u8; 2] = [0xd1, 0x84];
-
-// The map of 1 (alg) to 5 (HMAC 256/256), spelled.
-const HEADER: [u8; 3] = [0xa1, 0x01, 0x05];
-
-// The same with a second key, 4 (kid), up to its value.
-const HEADER_WITH_KID: [u8; 4] = [0xa2, 0x01, 0x05, 0x04];
 
 /// What a Mac0 block holds: the content of its protected header, and its tag.
 #[derive(Clone, Copy)]
@@ -55,20 +50,4 @@ fn split_block(block: &[u8]) -> Option<Parts<'_>>
     let protected = string(&mut cursor)?;
     let tag = last_tag(&mut cursor)?;
     Some(Parts { protected, tag })
-}
-
-// Whether the bytes are a protected header: the algorithm, and maybe a kid.
-fn is_header(protected: &[u8]) -> bool
-    ensures { IsTrue result ↔ IsHeader protected.now }
-{
-    match protected.strip_prefix(&HEADER_WITH_KID) {
-        Some(kid) => is_string(kid),
-        None => are_equal(protected, &HEADER),
-    }
-}
-
-fn are_equal(bytes: &[u8], expected: &[u8]) -> bool
-    ensures { IsTrue result ↔ (bytes.now ≡ expected.now) }
-{
-    bytes == expected
 }

@@ -2,6 +2,7 @@
 #![tactic(auto)]
 
 mod block;
+mod header;
 mod key;
 mod layout;
 mod mac;

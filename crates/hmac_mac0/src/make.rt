@@ -6,12 +6,10 @@ ghost use Rattle.det_cbor.specs.Heads.{head_bytes};
 ghost use Rattle.det_cbor.specs.HeadSpelling.{IsValueOf, major_of, argument_of};
 ghost use Rattle.hmac_mac0.specs.Mac0.{made_header, made_item, kid_pairs, tag_of, IsMac0, Verifies};
 
+use crate::header::HEADER;
 use crate::structure::tag;
 use det_cbor::{Bytes, Head, HeadKind, push_head};
 use std::alloc::{AllocError, Global};
-
-// The map of 1 (alg) to 5 (HMAC 256/256), spelled.
-const HEADER: [u8; 3] = [0xa1, 0x01, 0x05];
 
 /// The block whose tag is that of the key and the payload.
 ///
