@@ -1,8 +1,9 @@
 //! The protected header of a Mac0 block (RFC 9052, section 3.1).
 
-ghost use Rattle.std.specs.Prelude.{◌≡◌, ◌↔◌, IsTrue};
+ghost use Rattle.std.specs.Prelude.{◌↔◌, IsTrue};
 ghost use Rattle.hmac_mac0.specs.Mac0.{IsHeader};
 
+use crate::compare::are_equal;
 use crate::layout::is_string;
 
 /// The map of 1 (alg) to 5 (HMAC 256/256), spelled.
@@ -19,10 +20,4 @@ pub(crate) fn is_header(protected: &[u8]) -> bool
         Some(kid) => is_string(kid),
         None => are_equal(protected, &HEADER),
     }
-}
-
-fn are_equal(bytes: &[u8], expected: &[u8]) -> bool
-    ensures { IsTrue result ↔ (bytes.now ≡ expected.now) }
-{
-    bytes == expected
 }

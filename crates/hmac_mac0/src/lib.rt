@@ -2,6 +2,7 @@
 #![tactic(auto)]
 
 mod block;
+mod compare;
 mod header;
 mod key;
 mod layout;

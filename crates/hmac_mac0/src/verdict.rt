@@ -8,6 +8,7 @@ ghost use Rattle.hmac_mac0.specs.Verdict.{IsJustified};
 mod tests;
 
 use crate::block::read_block;
+use crate::compare::are_equal;
 use crate::structure::tag;
 
 /// Whether a block verifies under a key, for a payload that stands apart from it.
@@ -31,7 +32,7 @@ pub fn verify<'a>(block: &'a [u8], key: &[u8], payload: &[u8]) -> MacVerdict<'a>
         None => MacVerdict::OtherKind,
         Some(parts) => {
             let expected = tag(key, parts.protected, payload);
-            if parts.tag == expected.as_slice() {
+            if are_equal(parts.tag, &expected) {
                 MacVerdict::Verified
             } else {
                 MacVerdict::Differs {
