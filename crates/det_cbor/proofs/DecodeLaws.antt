@@ -1,7 +1,6 @@
 -- What decoding answers, from what the reading function gives.
-use Rattle.std.proofs.Common.{◌≡◌, ℕ, ◌+◌, ◌-◌, List, length, drop, Result, Ok, Err, refl, sym, ap, subst, ◌∙◌, arith, inl, ◌⊎◌}
+use Rattle.std.proofs.Common.{◌≡◌, ℕ, ◌-◌, List, length, drop, Ok, Err, refl, sym, ap, subst, ◌∙◌, arith, inl, ◌⊎◌}
 use Rattle.det_cbor.specs.declared.reason.Reason.{Reason}
-use Rattle.det_cbor.specs.declared.reason.CborFault.{CborFault}
 use Rattle.det_cbor.specs.declared.reason.CborFault.TheVariants.{Refused, NoMemory}
 use Rattle.det_cbor.specs.declared.reason.Stop.{Stop}
 use Rattle.det_cbor.specs.DataItem.{DataItem}

@@ -5,7 +5,6 @@ use Rattle.std.specs.declared.cmp.Ordering.{Ordering}
 use Rattle.std.specs.declared.cmp.Ordering.TheVariants.{Less, Equal, Greater}
 use Rattle.std.specs.Ordering.{nat_cmp}
 use Rattle.std.specs.Cmp.Lexicographic.{slice_cmp}
-use Rattle.det_cbor.specs.declared.head.Head.{Head}
 use Rattle.det_cbor.specs.declared.head.HeadKind.{HeadKind}
 use Rattle.det_cbor.specs.declared.head.HeadKind.TheVariants as kinds
 use Rattle.det_cbor.specs.declared.reason.Reason.{Reason}
