@@ -1,7 +1,7 @@
 -- What decoding answers.
 use Rattle.std.specs.Prelude.{◌≡◌, ◌⊎◌, ℕ, List, Result, Ok, Err}
-use Rattle.det_cbor.specs.declared.decoding.ReadFault.{ReadFault}
-use Rattle.det_cbor.specs.declared.decoding.ReadFault.TheVariants as faults
+use Rattle.det_cbor.specs.declared.read_fault.ReadFault.{ReadFault}
+use Rattle.det_cbor.specs.declared.read_fault.ReadFault.TheVariants as faults
 use Rattle.det_cbor.specs.declared.item.Item.{Item}
 use Rattle.det_cbor.specs.declared.reason.CborFault.{CborFault}
 use Rattle.det_cbor.specs.declared.reason.CborFault.TheVariants.{Refused, NoMemory}

@@ -10,39 +10,10 @@ ghost use Rattle.det_cbor.specs.ItemTree.{tree_of};
 ghost use Rattle.det_cbor.specs.OneReading.{StartsWithItem};
 
 use crate::parts::{first_head, order, read_before, stop, string_in, text_in};
-use crate::reason::Stop;
+use crate::read_fault::ReadFault;
 use crate::validity::MAX_LEVELS;
 use crate::{Bytes, CborFault, HeadKind, Inner, Item, Items, Pairs, Reason, Text};
-use std::alloc::{AllocError, Global};
-
-/// Why nothing was read.
-#[derive(Clone, Copy, Debug, PartialEq, Eq)]
-enum ReadFault {
-    Stopped(Stop),
-    NoMemory,
-}
-
-impl From<AllocError> for ReadFault {
-    ghost use Rattle.std.specs.Prelude.{◌≡◌};
-    ghost use Rattle.det_cbor.specs.declared.decoding.ReadFault.TheVariants.{NoMemory};
-
-    ghost from_gives = { λ _ e. e ≡ NoMemory };
-
-    fn from(_: AllocError) -> ReadFault {
-        ReadFault::NoMemory
-    }
-}
-
-impl From<Stop> for ReadFault {
-    ghost use Rattle.std.specs.Prelude.{◌≡◌};
-    ghost use Rattle.det_cbor.specs.declared.decoding.ReadFault.TheVariants.{Stopped};
-
-    ghost from_gives = { λ s e. e ≡ Stopped s };
-
-    fn from(stop: Stop) -> ReadFault {
-        ReadFault::Stopped(stop)
-    }
-}
+use std::alloc::Global;
 
 fn read_string<'a>(
     alloc: Global,

@@ -15,6 +15,7 @@ mod law;
 mod names;
 mod pairs;
 mod parts;
+mod read_fault;
 mod reason;
 mod skip;
 mod text;

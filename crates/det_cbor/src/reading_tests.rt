@@ -37,6 +37,7 @@ pub(crate) fn is_read(
             assert_eq!(rt; cursor.place(), 100);
             Ok(())
         }
+        (Err(CborFault::NoMemory), _) => Err(AllocError),
         (_, _) => {
             assert!(rt; false, "{bytes:?}");
             Ok(())
