@@ -1,6 +1,6 @@
 //! What no clause says: that calls come to an end well, what a cut write leaves, and what the real file holds.
 
-ghost use Rattle.std.specs.Prelude.{◌≡◌, IfOk, length};
+ghost use Rattle.std.specs.Prelude.{◌≡◌, ◌≤◌, IfOk, length};
 ghost use Rattle.suit_edge.specs.Flash.{IsSettled};
 ghost use Rattle.suit_edge.specs.MemoryDisk.{memory_flash};
 
@@ -13,6 +13,8 @@ use std::test::Fail;
 const SIZE: usize = 64;
 
 const PLACE: u64 = 40;
+
+const NAME: &str = "suit.flash";
 
 const CHOICES: [u64; 3] = [0, u64::MAX, 0xAAAA_AAAA_AAAA_AAAA];
 
@@ -133,32 +135,36 @@ fn a_disk_fails_at_each_call_in_turn(rt: HostRuntime) -> Result<(), Fail> {
     Ok(())
 }
 
+// Whether four bytes can be read at a place of the real disk, opened anew, and are these.
+fn reads(rt: &HostRuntime, place: u64, bytes: &[u8; 4]) -> bool
+    requires { place ≤ 4194300 }
+{
+    let mut room = [1; 4];
+    let mut disk = FileDisk::new(rt);
+    disk.read_at(place, &mut room) == Edge::Done && room == *bytes
+}
+
+// Whether four bytes can be written at a place of the real disk, opened anew.
+fn writes(rt: &HostRuntime, place: u64, bytes: &[u8; 4]) -> bool
+    requires { place ≤ 4194300 }
+{
+    let mut disk = FileDisk::new(rt);
+    disk.write_at(place, bytes) == Edge::Done && disk.sync() == Edge::Done
+}
+
 #[test]
 fn a_real_disk_is_made_filled_and_left_alone(rt: HostRuntime) -> Result<(), Fail> {
-    let mut room = [1; 4];
-    // missing
-    let mut disk = FileDisk::new(&rt);
-    assert_eq!(rt; disk.read_at(4_194_300, &mut room), Edge::Done);
-    assert_eq!(rt; room, [0; 4]);
-    assert_eq!(rt; disk.write_at(4_194_300, b"abcd"), Edge::Done);
-    assert_eq!(rt; disk.sync(), Edge::Done);
-    assert_eq!(rt; disk.size(), 4_194_304);
-    let mut again = FileDisk::new(&rt);
-    assert_eq!(rt; again.read_at(4_194_300, &mut room), Edge::Done);
-    assert_eq!(rt; &room, b"abcd");
-    // shorter
-    fs::write(&rt, "suit.flash", b"xyz")?;
-    let mut shorter = FileDisk::new(&rt);
-    assert_eq!(rt; shorter.read_at(1, &mut room), Edge::Done);
-    assert_eq!(rt; &room, b"yz\0\0");
-    // longer
-    let mut longer = vec![in rt.alloc(); 5u8; 4_194_306]?;
-    fs::write(&rt, "suit.flash", longer.as_slice())?;
-    let mut disk = FileDisk::new(&rt);
-    assert_eq!(rt; disk.write_at(0, b"abcd"), Edge::Done);
-    let file = fs::read(&rt, "suit.flash")?;
-    longer[..4].copy_from_slice(b"abcd");
-    assert!(rt; file == longer);
-    fs::remove_file(&rt, "suit.flash")?;
+    assert!(rt; reads(&rt, 4_194_300, &[0; 4]), "missing");
+    assert!(rt; writes(&rt, 4_194_300, b"abcd"), "made");
+    assert!(rt; reads(&rt, 4_194_300, b"abcd"), "kept");
+    fs::write(&rt, NAME, b"xyz")?;
+    assert!(rt; reads(&rt, 1, b"yz\0\0"), "shorter");
+    let longer = vec![in rt.alloc(); 5u8; 4_194_306]?;
+    fs::write(&rt, NAME, longer.as_slice())?;
+    assert!(rt; writes(&rt, 4_194_300, b"abcd"), "longer");
+    let file = fs::read(&rt, NAME)?;
+    assert_eq!(rt; file.len(), 4_194_306);
+    assert!(rt; file.ends_with(b"abcd\x05\x05"));
+    fs::remove_file(&rt, NAME)?;
     Ok(())
 }
