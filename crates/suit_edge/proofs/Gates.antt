@@ -83,3 +83,7 @@ module _ (start : Flash) (size : ℕ) (q : ℕ) (new : List ℕ) (law : IsFlash 
         apart = further b law_b run image (less q 1 (omega arith) (omega arith) b image on);
         opens = λ is_open. inr (behind_same q n size fits image b.reads (beside.size ∙ law_b.fits) beside ∙ body);
       }) kept.images)
+
+-- outside the page all is left alone
+pub gated_keeps : (q : ℕ) (body : List ℕ) (a b : Flash) → SameOn (Outside q (1 + length body)) a.reads b.reads → Passes a b (IsGated q body a) → Keeps (Outside q (1 + length body)) a b
+gated_keeps q body a b apart gated = record { reads = apart; images = weakens a b (IsGated q body a) (ImageOn (Outside q (1 + length body)) a) (λ image g. g.apart) gated }

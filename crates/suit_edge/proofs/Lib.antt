@@ -4,5 +4,6 @@ pub mod MemoryImages
 pub mod Moments
 mod Pieces
 pub mod Runs
+pub mod Seen
 mod Vouching
 pub mod Written

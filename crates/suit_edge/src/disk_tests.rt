@@ -1,8 +1,9 @@
 //! What no clause says: that calls come to an end well, what a cut write leaves, and what the real file holds.
 
-ghost use Rattle.std.specs.Prelude.{◌≡◌, IfOk, length};
-ghost use Rattle.suit_edge.specs.Flash.{IsSettled};
+ghost use Rattle.std.specs.Prelude.{◌≡◌, ◌≤◌, IfOk, length};
+ghost use Rattle.suit_edge.specs.Flash.{IsFirmOn, IsSettled};
 ghost use Rattle.suit_edge.specs.MemoryDisk.{memory_flash};
+ghost use Rattle.suit_edge.specs.Ranges.{Within};
 
 use crate::client::vouch;
 use crate::{Disk, Edge, FileDisk, FuseDisk, MemoryDisk, write_gated};
@@ -13,6 +14,8 @@ use std::test::Fail;
 const SIZE: usize = 64;
 
 const PLACE: u64 = 40;
+
+const NAME: &str = "suit.flash";
 
 const CHOICES: [u64; 3] = [0, u64::MAX, 0xAAAA_AAAA_AAAA_AAAA];
 
@@ -36,6 +39,16 @@ fn page_of(bytes: &[u8; SIZE]) -> Page {
     }
 }
 
+// Whether the bytes before the page are these.
+fn front_is(bytes: &[u8; SIZE], byte: u8) -> bool {
+    bytes[..40] == [byte; 40]
+}
+
+// Whether no byte behind the page was written.
+fn rest_is_blank(bytes: &[u8; SIZE]) -> bool {
+    bytes[45..] == [0; 19]
+}
+
 // A disk that holds the old page.
 fn with_old_page(alloc: Global) -> Result<MemoryDisk, AllocError>
     ensures size { IfOk result (λ disk. length disk.first ≡ SIZE) }
@@ -46,6 +59,15 @@ fn with_old_page(alloc: Global) -> Result<MemoryDisk, AllocError>
         Edge::Done => disk.after_loss(alloc, 0),
         Edge::Failed => Err(AllocError),
     }
+}
+
+// The same, whose power goes after so many calls.
+fn with_fuse(alloc: Global, passes: u64) -> Result<FuseDisk, AllocError>
+    ensures size { IfOk result (λ fuse. length fuse.disk.first ≡ SIZE) }
+    ensures firm { IfOk result (λ fuse. IsFirmOn (Within 40 5) (memory_flash fuse.disk)) }
+{
+    let disk = with_old_page(alloc)?;
+    Ok(FuseDisk::new(disk, passes))
 }
 
 // What a power loss leaves.
@@ -73,7 +95,7 @@ fn a_gated_write_is_cut_at_each_call(rt: HostRuntime) -> Result<(), Fail> {
         [Page::New, Page::New, Page::New],
     ];
     for (passes, pages) in wanted.iter().enumerate() {
-        let mut fuse = FuseDisk::new(with_old_page(rt.alloc())?, passes as u64);
+        let mut fuse = with_fuse(rt.alloc(), passes as u64)?;
         let edge = write_gated(&mut fuse, PLACE, b"new.");
         assert_eq!(rt; edge == Edge::Done, passes == 7);
         assert_eq!(rt; fuse.starved(), 0);
@@ -81,8 +103,8 @@ fn a_gated_write_is_cut_at_each_call(rt: HostRuntime) -> Result<(), Fail> {
         for (page, choice) in pages.iter().zip(CHOICES.iter()) {
             let bytes = left_of(&disk, rt.alloc(), *choice)?;
             assert_eq!(rt; page_of(&bytes), *page, "{passes} calls, {choice}");
-            assert!(rt; bytes[..40] == [0; 40]);
-            assert!(rt; bytes[45..] == [0; 19]);
+            assert!(rt; front_is(&bytes, 0));
+            assert!(rt; rest_is_blank(&bytes));
         }
     }
     Ok(())
@@ -91,7 +113,7 @@ fn a_gated_write_is_cut_at_each_call(rt: HostRuntime) -> Result<(), Fail> {
 #[test]
 fn a_page_vouches_for_bytes_at_each_cut(rt: HostRuntime) -> Result<(), Fail> {
     for passes in 0..12u64 {
-        let mut fuse = FuseDisk::new(with_old_page(rt.alloc())?, passes);
+        let mut fuse = with_fuse(rt.alloc(), passes)?;
         let edge = vouch(&mut fuse, 0, &[7; 40], PLACE, b"new.");
         assert_eq!(rt; edge == Edge::Done, passes == 11);
         let disk = fuse.into_disk();
@@ -99,7 +121,7 @@ fn a_page_vouches_for_bytes_at_each_cut(rt: HostRuntime) -> Result<(), Fail> {
             let bytes = left_of(&disk, rt.alloc(), choice)?;
             let page = page_of(&bytes);
             assert!(rt; page != Page::Torn);
-            assert!(rt; page != Page::New || bytes[..40] == [7; 40]);
+            assert!(rt; page != Page::New || front_is(&bytes, 7));
             assert!(rt; passes < 11 || page == Page::New);
         }
     }
@@ -133,32 +155,36 @@ fn a_disk_fails_at_each_call_in_turn(rt: HostRuntime) -> Result<(), Fail> {
     Ok(())
 }
 
+// Whether four bytes can be read at a place of the real disk, opened anew, and are these.
+fn reads(rt: &HostRuntime, place: u64, bytes: &[u8; 4]) -> bool
+    requires { place ≤ 4194300 }
+{
+    let mut room = [1; 4];
+    let mut disk = FileDisk::new(rt);
+    disk.read_at(place, &mut room) == Edge::Done && room == *bytes
+}
+
+// Whether four bytes can be written at a place of the real disk, opened anew.
+fn writes(rt: &HostRuntime, place: u64, bytes: &[u8; 4]) -> bool
+    requires { place ≤ 4194300 }
+{
+    let mut disk = FileDisk::new(rt);
+    disk.write_at(place, bytes) == Edge::Done && disk.sync() == Edge::Done
+}
+
 #[test]
 fn a_real_disk_is_made_filled_and_left_alone(rt: HostRuntime) -> Result<(), Fail> {
-    let mut room = [1; 4];
-    // missing
-    let mut disk = FileDisk::new(&rt);
-    assert_eq!(rt; disk.read_at(4_194_300, &mut room), Edge::Done);
-    assert_eq!(rt; room, [0; 4]);
-    assert_eq!(rt; disk.write_at(4_194_300, b"abcd"), Edge::Done);
-    assert_eq!(rt; disk.sync(), Edge::Done);
-    assert_eq!(rt; disk.size(), 4_194_304);
-    let mut again = FileDisk::new(&rt);
-    assert_eq!(rt; again.read_at(4_194_300, &mut room), Edge::Done);
-    assert_eq!(rt; &room, b"abcd");
-    // shorter
-    fs::write(&rt, "suit.flash", b"xyz")?;
-    let mut shorter = FileDisk::new(&rt);
-    assert_eq!(rt; shorter.read_at(1, &mut room), Edge::Done);
-    assert_eq!(rt; &room, b"yz\0\0");
-    // longer
-    let mut longer = vec![in rt.alloc(); 5u8; 4_194_306]?;
-    fs::write(&rt, "suit.flash", longer.as_slice())?;
-    let mut disk = FileDisk::new(&rt);
-    assert_eq!(rt; disk.write_at(0, b"abcd"), Edge::Done);
-    let file = fs::read(&rt, "suit.flash")?;
-    longer[..4].copy_from_slice(b"abcd");
-    assert!(rt; file == longer);
-    fs::remove_file(&rt, "suit.flash")?;
+    assert!(rt; reads(&rt, 4_194_300, &[0; 4]), "missing");
+    assert!(rt; writes(&rt, 4_194_300, b"abcd"), "made");
+    assert!(rt; reads(&rt, 4_194_300, b"abcd"), "kept");
+    fs::write(&rt, NAME, b"xyz")?;
+    assert!(rt; reads(&rt, 1, b"yz\0\0"), "shorter");
+    let longer = vec![in rt.alloc(); 5u8; 4_194_306]?;
+    fs::write(&rt, NAME, longer.as_slice())?;
+    assert!(rt; writes(&rt, 4_194_300, b"abcd"), "longer");
+    let file = fs::read(&rt, NAME)?;
+    assert_eq!(rt; file.len(), 4_194_306);
+    assert!(rt; file.ends_with(b"abcd\x05\x05"));
+    fs::remove_file(&rt, NAME)?;
     Ok(())
 }

@@ -117,13 +117,12 @@ impl<R: Files<File = File> + Drop> Disk for FileDisk<R> {
     ghost use Rattle.std.proofs.Common.{rules};
     ghost use Rattle.std.specs.Prelude.{false};
     ghost use Rattle.suit_edge.specs.FileDisk.{untold};
-    ghost use Rattle.suit_edge.specs.declared.file_disk.TheConstants.{SIZE};
 
     ghost told = { false };
 
     ghost flash = { λ _. untold };
 
-    ghost extent = { λ _. SIZE };
+    ghost extent = { λ _. 4194304 };
 
     ghost faults = { λ d. d };
 

@@ -1,5 +1,6 @@
 //! A disk whose power goes.
 
+ghost use Rattle.std.specs.Bool.{OnFalse, OnTrue};
 ghost use Rattle.std.specs.Prelude.{◌≡◌, ◌+◌, ◌≤◌, true, IsTrue, length, slice_range};
 ghost use Rattle.suit_edge.specs.Edge.{IfDone};
 ghost use Rattle.suit_edge.specs.Faults.{EdgeCounts};
@@ -56,6 +57,18 @@ impl FuseDisk {
     }
 }
 
+// Takes one of the passes, if one is left.
+fn takes_pass(passes: &mut u64) -> bool
+    ensures taken { OnTrue result (passes.old ≡ passes.new + 1) }
+    ensures none { OnFalse result ((passes.old ≡ 0) × (passes.new ≡ 0)) }
+{
+    if *passes == 0 {
+        return false;
+    }
+    *passes -= 1;
+    true
+}
+
 // Counts an answer that is a fault.
 fn counts(faults: &mut u64, answer: Edge) -> Edge
     ensures same { result ≡ answer }
@@ -97,10 +110,9 @@ impl Disk for FuseDisk {
         ensures grows { IsTrue true → Grows (memory_flash self.old.disk) (memory_flash self.new.disk) }
         ensures exact { BurnsExactly result self.old self.new (λ before now. ReadsExactly result before now place room.old room.new) }
     {
-        if self.passes == 0 {
+        if !takes_pass(&mut self.passes) {
             return counts(&mut self.faults, Edge::Failed);
         }
-        self.passes -= 1;
         let answer = self.disk.read_at(place, room);
         counts(&mut self.faults, answer)
     }
@@ -114,10 +126,9 @@ impl Disk for FuseDisk {
         ensures grows { IsTrue true → Grows (memory_flash self.old.disk) (memory_flash self.new.disk) }
         ensures exact { BurnsExactly result self.old self.new (λ before now. StepsExactly result before now (write_of place bytes.now)) }
     {
-        if self.passes == 0 {
+        if !takes_pass(&mut self.passes) {
             return counts(&mut self.faults, Edge::Failed);
         }
-        self.passes -= 1;
         let answer = self.disk.write_at(place, bytes);
         counts(&mut self.faults, answer)
     }
@@ -130,10 +141,9 @@ impl Disk for FuseDisk {
         ensures grows { IsTrue true → Grows (memory_flash self.old.disk) (memory_flash self.new.disk) }
         ensures exact { BurnsExactly result self.old self.new (λ before now. StepsExactly result before now step.Synced) }
     {
-        if self.passes == 0 {
+        if !takes_pass(&mut self.passes) {
             return counts(&mut self.faults, Edge::Failed);
         }
-        self.passes -= 1;
         let answer = self.disk.sync();
         counts(&mut self.faults, answer)
     }

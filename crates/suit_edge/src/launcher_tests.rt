@@ -3,47 +3,50 @@
 use crate::{
     Disk, Edge, FileLauncher, FuseDisk, Image, Launched, Launcher, MemoryDisk, MemoryLauncher,
 };
+use det_cbor::Bytes;
 use std::fs;
 use std::test::Fail;
+
+// Whether the bytes are there, and are these.
+fn holds(bytes: &Option<Bytes>, wanted: &[u8]) -> bool {
+    match bytes {
+        Some(held) => held.as_slice() == wanted,
+        None => false,
+    }
+}
 
 #[test]
 fn a_launcher_fails_at_each_call_in_turn(rt: HostRuntime) -> Result<(), Fail> {
     for failing in 0..3u64 {
         let mut disk = MemoryDisk::new(rt.alloc(), 8, &[])?;
-        let written = disk.write_at(2, b"abc");
-        assert_eq!(rt; written, Edge::Done);
         let mut launcher = MemoryLauncher::new(rt.alloc(), &[failing])?;
-        let image = Image::Flash {
-            place: 2,
-            length: 3,
-        };
-        let first = launcher.launch(&mut disk, image, 1, Some(b"digest"), Some(3), None);
-        let second = launcher.launch(&mut disk, Image::Ram(b"xy"), 2, None, None, Some(b"args"));
+        let first = launcher.launch(&mut disk, Image::Ram(b"ab"), 1, None, None, None);
+        let second = launcher.launch(&mut disk, Image::Ram(b"ab"), 2, None, None, None);
         assert_eq!(rt; first == Launched::Failed, failing == 0);
         assert_eq!(rt; second == Launched::Failed, failing == 1);
+        assert_eq!(rt; launcher.launches().len() == 2, failing == 2);
         assert_eq!(rt; launcher.starved(), 0);
-        for launch in launcher.launches().as_slice() {
-            if launch.component == 1 {
-                assert!(rt; launch.bytes.as_slice() == b"abc".as_slice());
-                assert!(rt;
-                    launch
-                        .digest
-                        .as_ref()
-                        .is_some_and(|d| d.as_slice() == b"digest".as_slice())
-                );
-                assert!(rt; launch.size == Some(3) && launch.args.is_none());
-            } else {
-                assert!(rt; launch.bytes.as_slice() == b"xy".as_slice() && launch.digest.is_none());
-                assert!(rt;
-                    launch
-                        .args
-                        .as_ref()
-                        .is_some_and(|a| a.as_slice() == b"args".as_slice())
-                );
-            }
-        }
-        let wanted = if failing == 2 { 2 } else { 1 };
-        assert_eq!(rt; launcher.launches().len(), wanted);
+    }
+    Ok(())
+}
+
+#[test]
+fn a_launch_is_remembered_whole(rt: HostRuntime) -> Result<(), Fail> {
+    let mut disk = MemoryDisk::new(rt.alloc(), 8, &[])?;
+    assert_eq!(rt; disk.write_at(2, b"abc"), Edge::Done);
+    let mut launcher = MemoryLauncher::new(rt.alloc(), &[])?;
+    let image = Image::Flash {
+        place: 2,
+        length: 3,
+    };
+    let done = launcher.launch(&mut disk, image, 1, Some(b"digest"), Some(3), Some(b"args"));
+    assert_eq!(rt; done, Launched::Done);
+    for launch in launcher.launches().as_slice() {
+        assert_eq!(rt; launch.component, 1);
+        assert!(rt; launch.bytes.as_slice() == b"abc".as_slice());
+        assert!(rt; holds(&launch.digest, b"digest"));
+        assert_eq!(rt; launch.size, Some(3));
+        assert!(rt; holds(&launch.args, b"args"));
     }
     Ok(())
 }
@@ -62,12 +65,19 @@ fn a_disk_that_fails_is_told_apart(rt: HostRuntime) -> Result<(), Fail> {
     Ok(())
 }
 
+// Whether a file holds these bytes.
+fn file_holds(rt: &HostRuntime, name: &str, bytes: &[u8]) -> bool {
+    match fs::read(rt, name) {
+        Ok(file) => file.as_slice() == bytes,
+        Err(_) => false,
+    }
+}
+
 #[test]
 fn a_real_launcher_writes_images(rt: HostRuntime) -> Result<(), Fail> {
     let mut disk = MemoryDisk::new(rt.alloc(), 6000, &[])?;
     let bytes = vec![in rt.alloc(); 7u8; 5000]?;
-    let written = disk.write_at(900, &bytes);
-    assert_eq!(rt; written, Edge::Done);
+    assert_eq!(rt; disk.write_at(900, &bytes), Edge::Done);
     let mut launcher = FileLauncher::new(rt.alloc(), &rt);
     let image = Image::Flash {
         place: 900,
@@ -75,12 +85,10 @@ fn a_real_launcher_writes_images(rt: HostRuntime) -> Result<(), Fail> {
     };
     let flash = launcher.launch(&mut disk, image, 3, None, None, None);
     assert_eq!(rt; flash, Launched::Done);
-    let file = fs::read(&rt, "boot-3.img")?;
-    assert!(rt; file == bytes);
+    assert!(rt; file_holds(&rt, "boot-3.img", &bytes));
     let ram = launcher.launch(&mut disk, Image::Ram(b"xy"), 12, None, None, None);
     assert_eq!(rt; ram, Launched::Done);
-    let file = fs::read(&rt, "boot-12.img")?;
-    assert!(rt; file.as_slice() == b"xy".as_slice());
+    assert!(rt; file_holds(&rt, "boot-12.img", b"xy"));
     fs::remove_file(&rt, "boot-3.img")?;
     fs::remove_file(&rt, "boot-12.img")?;
     Ok(())

@@ -230,7 +230,7 @@ impl Disk for MemoryDisk {
                 put(&mut self.bytes, place, bytes);
                 Edge::Done
             }
-            Err(_) => {
+            Err(AllocError) => {
                 self.calls.starve();
                 Edge::Failed
             }
