@@ -10,7 +10,6 @@ use suit_edge::{MemoryHost, MemorySink};
 const STORED: &str =
     "d86ba2025827815824822f58200000000000000000000000000000000000000000000000000000000000000000035847a501010201035835a2028181410004582c8214a2035824822f5820ba7816bf8f01cfea414140de5dae2223b00361a396177a9cb410ff61f20015ad0e03074382030f094382170f";
 
-
 const USAGE: &str =
     "usage: suit make DESCRIPTION KEY OUT | show FILE [KEY] | check FILE | run init DEVICE KEY | run update FILE [URI=NAME]... | run boot | run status | drill NUMBER\n";
 
@@ -446,7 +445,10 @@ fn each_fault_of_an_item_is_told(rt: HostRuntime) -> Result<(), Fail> {
         ("61ff", "refused at 0: bad text\n"),
         ("a203010201", "refused at 3: order\n"),
         ("a203010301", "refused at 3: repeated\n"),
-        ("8181818181818181818181818181818180", "refused at 16: too deep\n"),
+        (
+            "8181818181818181818181818181818180",
+            "refused at 16: too deep\n",
+        ),
         ("81818181818181818181818181818180", "not built\n"),
         ("0000", "refused at 1: trailing\n"),
         ("1a0001", "refused at 3: truncated\n"),
