@@ -1,10 +1,9 @@
 -- A block is laid out in one way.
-use Rattle.std.proofs.Common.{◌≡◌, ℕ, ◌+◌, ◌<◌, ◌^◌, List, [], ◌∷◌, ◌++◌, length, Bool, true, false, refl, sym, ap, subst, ◌∙◌, append_assoc, arith, lit<}
+use Rattle.std.proofs.Common.{◌≡◌, ℕ, List, [], ◌∷◌, ◌++◌, true, false, refl, sym, ap, subst, ◌∙◌, arith, lit<}
 use Rattle.std.proofs.lemmas.List.{append-nil}
 use Rattle.det_cbor.specs.declared.head.Head.{Head}
 use Rattle.det_cbor.specs.declared.head.HeadKind.TheVariants as kinds
 use Rattle.det_cbor.specs.Heads.{head_bytes}
-use Rattle.det_cbor.specs.HeadSpelling.{BeginsWith}
 use Rattle.det_cbor.specs.DataItem.{DataItem, UnsignedInteger, NegativeInteger, ByteString, TextString, ArrayOf, MapOf, TaggedItem, Boolean, NullItem, DataItems, NoItems, ItemThen, DataPairs, item_count, spell, spell_items, IsString, IsValid, IsValidWithin, AreValidWithin, Spells}
 use Rattle.det_cbor.specs.ItemOrder.{spell_parts}
 use Rattle.det_cbor.specs.OneReading.{IsItem}
@@ -14,7 +13,7 @@ use Rattle.det_cbor.proofs.OneSpelling.{one_spelling}
 use Rattle.det_cbor.proofs.Positions.{IsBytes-rest}
 use Rattle.hmac_mac0.specs.Mac0.{mac0_item, IsHeader, IsMac0}
 use Rattle.hmac_mac0.specs.Layout.{StartsWithString, EndsWithTag, HasParts}
-use Rattle.hmac_mac0.proofs.Headers.{content_bytes, bytes_front}
+use Rattle.hmac_mac0.proofs.Headers.{content_bytes}
 use Rattle.hmac_mac0.proofs.Layouts.{head_of, item_begins, one_head, one_string}
 
 abbrev pub front : List ℕ

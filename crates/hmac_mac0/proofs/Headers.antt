@@ -1,9 +1,9 @@
 -- The two spellings of a protected header.
-use Rattle.std.proofs.Common.{◌≡◌, ℕ, ◌+◌, ◌<◌, List, [], ◌∷◌, ◌++◌, length, take, Option, Some, None, refl, sym, ap, subst, ◌∙◌, append_assoc, lit<}
-use Rattle.std.proofs.lemmas.List.{append-nil, take_at}
+use Rattle.std.proofs.Common.{◌≡◌, ℕ, List, [], ◌∷◌, ◌++◌, length, Option, Some, None, refl, sym, ap, subst, ◌∙◌, lit<}
+use Rattle.std.proofs.lemmas.List.{take_at}
 use Rattle.std.specs.List.{AllByRecursion}
 use Rattle.det_cbor.specs.Heads.{head_bytes}
-use Rattle.det_cbor.specs.DataItem.{UnsignedInteger, ByteString, spell, IsAbove, IsByte, IsString, IsValid, Spells}
+use Rattle.det_cbor.specs.DataItem.{UnsignedInteger, ByteString, spell, IsAbove, IsByte, IsString, Spells}
 use Rattle.det_cbor.proofs.Arguments.{IsBytes, all_bytes}
 use Rattle.det_cbor.proofs.Arguments.{IsBytes-take}
 use Rattle.det_cbor.proofs.Positions.{IsBytes-rest}

@@ -1,12 +1,11 @@
 -- What is made is a block that verifies.
-use Rattle.std.proofs.Common.{◌≡◌, ℕ, ◌<◌, ◌^◌, List, ◌++◌, ◌∷◌, [], length, Option, Some, None, append_assoc, refl, sym, ap, subst, ◌∙◌, lit<, Bor}
+use Rattle.std.proofs.Common.{◌≡◌, ℕ, List, ◌++◌, ◌∷◌, [], Option, Some, None, append_assoc, refl, ap, subst, ◌∙◌, lit<, Bor}
 use Rattle.std.proofs.lemmas.List.{append-nil}
 use Rattle.std.specs.Prelude.{option_map, IfSome}
-use Rattle.det_cbor.specs.DataItem.{DataItem, ByteString, MapOf, spell, IsValidWithin, IsString, Spells}
+use Rattle.det_cbor.specs.DataItem.{ByteString, MapOf, spell, IsValidWithin, IsString, Spells}
 use Rattle.det_cbor.specs.Heads.{head_bytes}
-use Rattle.det_cbor.proofs.OneSpelling.{one_spelling}
 use Rattle.hmac_mac0.proofs.Blocks.{one_mac0}
-use Rattle.hmac_mac0.specs.Mac0.{mac_header, mac0_item, kid_pairs, made_header, made_item, tag_of, IsHeader, IsMac0, Verifies}
+use Rattle.hmac_mac0.specs.Mac0.{mac_header, mac0_item, kid_pairs, made_header, made_item, tag_of, IsMac0, Verifies}
 
 -- the kid of a call
 abbrev pub kid_of : Option (Bor (List ℕ)) → Option (List ℕ)

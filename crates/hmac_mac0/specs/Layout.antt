@@ -1,9 +1,8 @@
 -- How the parts of a COSE_Mac0 stand one after another.
 use Rattle.std.specs.Prelude.{◌≡◌, ◌<◌, ◌^◌, ℕ, List, [], ◌++◌, length}
-use Rattle.det_cbor.specs.DataItem.{DataItem, ByteString, MapOf, NullItem, DataPairs, spell, IsValid}
+use Rattle.det_cbor.specs.DataItem.{ByteString, MapOf, NullItem, DataPairs, spell, IsValid}
 use Rattle.det_cbor.specs.HeadSpelling.{BeginsWith}
 use Rattle.det_cbor.specs.declared.head.HeadKind.{HeadKind}
-use Rattle.det_cbor.specs.declared.head.HeadKind.TheVariants as kinds
 use Rattle.hmac_mac0.specs.Mac0.{mac0_item}
 
 -- the bytes begin with a head of this kind

@@ -1,9 +1,7 @@
-use Rattle.std.proofs.Common.{◌≡◌, ap, sym, ◌∙◌, subst, Some, None, ◌++◌}
-use Rattle.std.specs.Prelude.{IfNone}
+use Rattle.std.proofs.Common.{◌≡◌, ap, sym, ◌∙◌, Some, None, ◌++◌}
 use Rattle.std.proofs.lemmas.Bool.Decides.{Decides-eqb}
 use Rattle.std.proofs.lemmas.Slice.Eq.{strip_prefix_is}
 use Rattle.det_cbor.specs.Position.{Position}
-use Rattle.hmac_mac0.specs.Layout.{StartsWithString}
 use Rattle.hmac_mac0.proofs.Layouts.{none_is}
 use Rattle.hmac_mac0.proofs.Blocks.{front, parts_found, parts_front, parts_string, parts_tag}
 use Rattle.hmac_mac0.proofs.block.split_block.Goals as goal

@@ -1,6 +1,4 @@
-use Rattle.std.proofs.Common.{◌≡◌, ap, ◌∙◌, true, false, sym}
-use denote.Enum.Bare.{sameb}
-use Rattle.det_cbor.specs.contracts.head.HeadKind.{the_type}
+use Rattle.std.proofs.Common.{ap}
 use Rattle.det_cbor.proofs.Results.{same_ok}
 use Rattle.hmac_mac0.proofs.Layouts.{kind_itself}
 use Rattle.hmac_mac0.proofs.layout.head.Goals as goal

@@ -1,5 +1,4 @@
-use Rattle.std.proofs.Common.{◌≡◌, refl}
-use Rattle.std.specs.Prelude.{IsTrue}
+use Rattle.std.proofs.Common.{refl}
 use Rattle.hmac_mac0.proofs.Layouts.{tail_map, tail_null, tail_string, none_map}
 use Rattle.hmac_mac0.proofs.layout.last_tag.Goals as goal
 use Rattle.hmac_mac0.proofs.layout.last_tag.Goals.{then-not-map-via-then-not-map, then-not-map-via-else-not-map+then-not-null}

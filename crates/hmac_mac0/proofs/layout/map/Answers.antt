@@ -1,6 +1,6 @@
-use Rattle.std.proofs.Common.{◌≡◌, sym, ap, subst, length, take}
+use Rattle.std.proofs.Common.{◌≡◌, sym, ap, subst}
 use Rattle.det_cbor.specs.declared.head.HeadKind.TheVariants as kinds
-use Rattle.det_cbor.specs.DataItem.{MapOf, spell}
+use Rattle.det_cbor.specs.DataItem.{MapOf}
 use Rattle.det_cbor.specs.Position.{Position}
 use Rattle.det_cbor.proofs.Results.{same_ok}
 use Rattle.hmac_mac0.specs.Layout.{BeginsWithKind}

@@ -1,5 +1,4 @@
 use Rattle.std.proofs.Common.{◌≡◌}
-use Rattle.std.specs.Prelude.{option_map}
 use Rattle.det_cbor.specs.DataItem.{MapOf, Spells, spell}
 use Rattle.hmac_mac0.specs.Mac0.{made_item, kid_pairs}
 use Rattle.hmac_mac0.proofs.Made.{kid_of, written, made_spells, made_verifies, made_alone}
