@@ -1,15 +1,15 @@
 -- A head that is refused is bad, and a bad head is refused so.
-use Rattle.std.proofs.Common.{◌≡◌, ◌≢◌, ℕ, zero, suc, ◌+◌, ◌*◌, ◌/◌, ◌%◌, ◌^◌, ◌<◌, ◌≤◌, Bool, true, false, cond, ltb, eqb, List, [], ◌∷◌, ◌++◌, length, take, drop, Result, Ok, Err, refl, sym, ap, subst, ◌∙◌, arith, inl, inr, Bor}
+use Rattle.std.proofs.Common.{◌≡◌, ◌≢◌, ℕ, suc, ◌+◌, ◌*◌, ◌/◌, ◌%◌, ◌^◌, ◌<◌, ◌≤◌, Bool, true, false, cond, ltb, eqb, List, [], ◌∷◌, ◌++◌, length, take, drop, Result, Ok, Err, refl, sym, ap, subst, ◌∙◌, arith, inl, inr, Bor}
 use Rattle.std.specs.Prelude.{IfErr}
-use Rattle.std.specs.Int.{Width, w8, w16, w32, w64, byte_len, from_be_bytes, to_be_bytes}
+use Rattle.std.specs.Int.{Width, byte_len, from_be_bytes, to_be_bytes}
 use Rattle.std.proofs.lemmas.Bool.{cases_lt, ltb-false, ltb-true, eqb-true, eqb-false, ne_eqb, le-ltb, lt-ltb}
 use Rattle.std.proofs.lemmas.List.{take_at, drop_at, take-append-drop, length-append, length-take}
 use Rattle.det_cbor.specs.declared.head.Head.{Head}
 use Rattle.det_cbor.specs.declared.reason.Reason.{Reason}
 use Rattle.det_cbor.specs.declared.reason.Reason.TheVariants.{Truncated, Indefinite, Kind, NotShortest}
 use Rattle.det_cbor.specs.Heads.{head_bytes}
-use Rattle.det_cbor.specs.HeadSpelling.{spelled, BeginsWith}
-use Rattle.det_cbor.specs.HeadReading.{◌>>=◌, map_ok, shortest_from, number_at, argument_at, simple_value, head_at, place_in}
+use Rattle.det_cbor.specs.HeadSpelling.{BeginsWith}
+use Rattle.det_cbor.specs.HeadReading.{map_ok, number_at, argument_at, simple_value, head_at, place_in}
 use Rattle.det_cbor.specs.Faults.{width_of, BadHead, NothingThere, LeftOpen, Reserved, OtherSimple, CutShort, NotTheShortest}
 use Rattle.det_cbor.proofs.Results.{chosen, bind_err, ok_pair, same_err, not_both}
 use Rattle.det_cbor.proofs.Arguments.{IsBytes, IsBytes-take, IsWide, wide8, wide16, wide32, wide64, head_small, head_8, head_16, head_32, head_64}

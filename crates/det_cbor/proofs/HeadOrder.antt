@@ -1,12 +1,11 @@
 -- Heads are ordered bytewise as their major types and arguments are.
-use Rattle.std.proofs.Common.{◌≡◌, ℕ, ◌+◌, ◌*◌, ◌%◌, ◌^◌, ◌<◌, ◌≤◌, Ordering, Less, Equal, Greater, List, [], ◌∷◌, ◌++◌, Bool, true, false, ltb, refl, sym, ap, subst, ◌∙◌, arith, inl, inr, ◌⊎◌}
+use Rattle.std.proofs.Common.{◌≡◌, ℕ, ◌+◌, ◌*◌, ◌%◌, ◌^◌, ◌<◌, ◌≤◌, Ordering, ◌∷◌, refl, sym, ap, subst, ◌∙◌, arith, inl, inr}
 use Rattle.std.specs.Int.{bytes_high_first}
 use Rattle.std.specs.Ordering.{ordering_then, nat_cmp}
 use Rattle.std.proofs.lemmas.Bool.{cases_lt, le-ltb, lt-ltb}
-use Rattle.std.proofs.lemmas.Bool.Decides.{nat_tests}
 use Rattle.std.proofs.Math.Nat.{mod-eq_of_lt, mul_comm}
 use Rattle.det_cbor.specs.Heads.{head_bytes}
-use Rattle.det_cbor.proofs.Cuts.{bytewise, Cuts, Cuts-number, Cuts-append, Cuts-string, Cuts-first, digits, then_assoc, cmp_same, cmp_less, cmp_greater}
+use Rattle.det_cbor.proofs.Cuts.{Cuts, Cuts-number, Cuts-first, digits, then_assoc, cmp_same, cmp_less, cmp_greater}
 
 -- an argument in its shortest form: the low five bits of the first byte, and how many bytes follow
 data Shape (n low width : ℕ) : Type 0 where

@@ -1,5 +1,5 @@
 -- What is read as a head is spelled so, and what is spelled so is read.
-use Rattle.std.proofs.Common.{◌≡◌, ℕ, zero, suc, ◌+◌, ◌*◌, ◌/◌, ◌%◌, ◌^◌, ◌<◌, true, false, eqb, List, [], ◌∷◌, ◌++◌, length, Result, Ok, Err, refl, sym, ap, subst, ◌∙◌, arith, inl, inr, Bor}
+use Rattle.std.proofs.Common.{◌≡◌, ℕ, zero, suc, ◌+◌, ◌*◌, ◌/◌, ◌%◌, ◌^◌, ◌<◌, false, eqb, List, [], ◌∷◌, ◌++◌, length, Result, Ok, Err, refl, sym, ap, subst, ◌∙◌, arith, inl, inr, Bor}
 use Rattle.std.specs.Prelude.{IfOk}
 use Rattle.std.proofs.lemmas.Bool.{eqb-true, eqb-false, ne_eqb}
 use Rattle.std.proofs.lemmas.List.{length-append}
@@ -9,7 +9,7 @@ use Rattle.det_cbor.specs.declared.head.Head.{Head}
 use Rattle.det_cbor.specs.declared.reason.Reason.{Reason}
 use Rattle.det_cbor.specs.Heads.{head_bytes}
 use Rattle.det_cbor.specs.HeadSpelling.{major_of, argument_of, spelled, IsValueOf, BeginsWith}
-use Rattle.det_cbor.specs.HeadReading.{map_ok, kind_of_major, argument_at, simple_value, head_at}
+use Rattle.det_cbor.specs.HeadReading.{map_ok, kind_of_major, simple_value, head_at}
 pub use Rattle.det_cbor.proofs.Results.{chosen}
 use Rattle.det_cbor.proofs.Results.{bind_ok, ok_pair}
 pub use Rattle.det_cbor.proofs.Arguments.{IsBytes, all_bytes, head_length}

@@ -1,14 +1,13 @@
 -- An item that is refused is faulty.
-use Rattle.std.proofs.Common.{◌≡◌, ℕ, zero, suc, ◌+◌, ◌-◌, ◌^◌, ◌<◌, ◌≤◌, Bool, true, false, ltb, List, [], ◌∷◌, ◌++◌, length, take, drop, Option, Some, None, Result, Ok, Err, refl, sym, ap, subst, ◌∙◌, append_assoc, arith, inl, inr, ◌⊎◌}
+use Rattle.std.proofs.Common.{◌≡◌, ℕ, zero, suc, ◌+◌, ◌^◌, ◌<◌, ◌≤◌, true, false, ltb, List, ◌++◌, length, Option, Some, None, Result, Ok, Err, refl, sym, ap, subst, ◌∙◌, append_assoc, arith, inl, inr}
 use Rattle.std.specs.Str.{IsUtf8, is_utf8}
 use Rattle.std.specs.declared.cmp.Ordering.{Ordering}
 use Rattle.std.specs.declared.cmp.Ordering.TheVariants.{Less, Equal, Greater}
-use Rattle.std.specs.Ordering.{is_lt, nat_cmp}
+use Rattle.std.specs.Ordering.{nat_cmp}
 use Rattle.std.specs.Cmp.Lexicographic.{slice_cmp}
 use Rattle.std.proofs.lemmas.Bool.{ltb-true}
 use Rattle.std.proofs.lemmas.Str.{is_utf8-from_IsUtf8}
-use Rattle.std.proofs.lemmas.List.{append-nil, length-append}
-use Rattle.det_cbor.specs.declared.head.Head.{Head}
+use Rattle.std.proofs.lemmas.List.{length-append}
 use Rattle.det_cbor.specs.declared.head.HeadKind.{HeadKind}
 use Rattle.det_cbor.specs.declared.head.HeadKind.TheVariants as kinds
 use Rattle.det_cbor.specs.declared.reason.Reason.{Reason}
@@ -18,9 +17,9 @@ use Rattle.det_cbor.specs.DataItem.{DataItem, DataItems, NoItems, ItemThen, Data
 use Rattle.det_cbor.specs.Faults.{last_key, StartsMap, FirstParts, OfArray, OfMap, OfKey, OfTag, Faulty, FaultyHead, DeepHead, ShortString, NoText, FaultyPart, SameKey, LowKey}
 use Rattle.det_cbor.specs.Heads.{head_bytes}
 use Rattle.det_cbor.specs.HeadSpelling.{major_of, argument_of, IsValueOf}
-use Rattle.det_cbor.specs.HeadReading.{◌>>=◌, head_at, place_in}
-use Rattle.det_cbor.specs.ItemReading.{Reader, stop_at, stopped, string_at, text_at, items_by, read_of, ascending, in_order, pairs_by, nested, body_with, item_with, item_at}
-use Rattle.det_cbor.proofs.Results.{chosen, bind_err, same_err, not_both}
+use Rattle.det_cbor.specs.HeadReading.{head_at, place_in}
+use Rattle.det_cbor.specs.ItemReading.{Reader, stop_at, stopped, string_at, text_at, items_by, read_of, ascending, in_order, pairs_by, body_with, item_with, item_at}
+use Rattle.det_cbor.proofs.Results.{chosen, bind_err, same_err}
 use Rattle.det_cbor.proofs.Arguments.{IsBytes, IsBytes-rest}
 use Rattle.det_cbor.proofs.Heads.{head_takes}
 use Rattle.det_cbor.proofs.BadHeads.{head_bad}

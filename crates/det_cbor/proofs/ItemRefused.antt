@@ -1,13 +1,8 @@
 -- An item that is faulty is refused, for that reason and at that place.
-use Rattle.std.proofs.Common.{◌≡◌, ℕ, zero, suc, ◌+◌, ◌-◌, ◌^◌, ◌<◌, ◌≤◌, true, false, ltb, List, [], ◌∷◌, ◌++◌, length, take, drop, Option, Some, None, Result, Ok, Err, refl, sym, ap, subst, ◌∙◌, append_assoc, arith, inl, inr}
+use Rattle.std.proofs.Common.{◌≡◌, ℕ, zero, suc, ◌+◌, ◌-◌, ◌^◌, ◌<◌, ◌≤◌, true, false, ltb, List, ◌++◌, length, Option, Some, None, Ok, Err, refl, ap, subst, ◌∙◌, append_assoc, arith, inl, inr}
 use Rattle.std.specs.Str.{IsUtf8, is_utf8}
-use Rattle.std.specs.declared.cmp.Ordering.TheVariants.{Less, Equal, Greater}
-use Rattle.std.specs.Ordering.{nat_cmp}
-use Rattle.std.specs.Cmp.Lexicographic.{slice_cmp}
 use Rattle.std.proofs.lemmas.Bool.{cases_lt, lt-ltb}
 use Rattle.std.proofs.lemmas.List.{length-append}
-use Rattle.det_cbor.specs.declared.head.Head.{Head}
-use Rattle.det_cbor.specs.declared.head.HeadKind.{HeadKind}
 use Rattle.det_cbor.specs.declared.head.HeadKind.TheVariants as kinds
 use Rattle.det_cbor.specs.declared.reason.Reason.{Reason}
 use Rattle.det_cbor.specs.declared.reason.Reason.TheVariants.{Truncated, TooDeep, BadText, Repeated, Order}
@@ -15,13 +10,13 @@ use Rattle.det_cbor.specs.declared.reason.Stop.{Stop}
 use Rattle.det_cbor.specs.DataItem.{DataItem, DataItems, DataPairs, item_count, pair_count, spell, spell_items, spell_pairs, IsAbove, IsValidWithin, AreValidWithin, ArePairsWithin}
 use Rattle.det_cbor.specs.Faults.{last_key, StartsMap, FirstParts, OfArray, OfMap, OfKey, OfTag, Faulty, FaultyHead, DeepHead, ShortString, NoText, FaultyPart, SameKey, LowKey}
 use Rattle.det_cbor.specs.Heads.{head_bytes}
-use Rattle.det_cbor.specs.HeadReading.{◌>>=◌, head_at, place_in}
-use Rattle.det_cbor.specs.ItemReading.{Reader, stop_at, stopped, string_at, text_at, items_by, read_of, ascending, in_order, pairs_by, nested, body_with, item_with, item_at}
+use Rattle.det_cbor.specs.HeadReading.{head_at, place_in}
+use Rattle.det_cbor.specs.ItemReading.{Reader, stop_at, string_at, items_by, read_of, ascending, in_order, pairs_by, item_with, item_at}
 use Rattle.det_cbor.proofs.BadHeads.{bad_head}
 use Rattle.det_cbor.proofs.Utf8.{bad_utf8}
 use Rattle.det_cbor.proofs.KeyOrder.{same_key, below_is_above}
 use Rattle.det_cbor.proofs.ItemTakes.{read_of_front}
-use Rattle.det_cbor.proofs.ItemAgain.{ReadsAgain, with_front, list_of, pair_list_of, items_first, pairs_first, in_order_again, string_again, headed, headed_alone, item_again}
+use Rattle.det_cbor.proofs.ItemAgain.{ReadsAgain, with_front, pair_list_of, items_first, pairs_first, in_order_again, string_again, headed, headed_alone, item_again}
 use Rattle.det_cbor.proofs.ItemFaults.{stop_place}
 
 -- the reader stops for a reason, at a place

@@ -1,5 +1,5 @@
 -- An item that is read is spelled so.
-use Rattle.std.proofs.Common.{◌≡◌, ℕ, zero, suc, ◌+◌, ◌-◌, ◌^◌, ◌<◌, ◌≤◌, Bool, true, false, ltb, eqb, List, [], ◌∷◌, ◌++◌, length, take, drop, Option, Some, None, Result, Ok, Err, refl, sym, ap, subst, ◌∙◌, append_assoc, arith, inl, inr}
+use Rattle.std.proofs.Common.{◌≡◌, ℕ, zero, suc, ◌+◌, ◌-◌, ◌^◌, ◌<◌, ◌≤◌, true, ltb, eqb, List, [], ◌∷◌, ◌++◌, length, take, drop, Option, Some, None, Result, Ok, Err, refl, sym, ap, subst, ◌∙◌, append_assoc, arith, inl, inr}
 use Rattle.std.specs.Str.{IsUtf8, is_utf8}
 use Rattle.std.specs.declared.cmp.Ordering.{Ordering}
 use Rattle.std.specs.declared.cmp.Ordering.TheVariants.{Less, Equal, Greater}
@@ -8,19 +8,17 @@ use Rattle.std.specs.Cmp.Lexicographic.{slice_cmp}
 use Rattle.std.proofs.lemmas.Bool.{ltb-false}
 use Rattle.std.proofs.lemmas.Str.{IsUtf8-from_is_utf8}
 use Rattle.std.proofs.lemmas.List.{take_at, take-append-drop, length-append, length-take}
-use Rattle.det_cbor.specs.declared.head.Head.{Head}
 use Rattle.det_cbor.specs.declared.head.HeadKind.{HeadKind}
 use Rattle.det_cbor.specs.declared.head.HeadKind.TheVariants as kinds
 use Rattle.det_cbor.specs.declared.reason.Reason.{Reason}
 use Rattle.det_cbor.specs.declared.reason.Reason.TheVariants.{BadText}
 use Rattle.det_cbor.specs.declared.reason.Stop.{Stop}
-use Rattle.det_cbor.specs.DataItem.{DataItem, UnsignedInteger, NegativeInteger, ByteString, TextString, ArrayOf, MapOf, TaggedItem, Boolean, NullItem, DataItems, NoItems, ItemThen, DataPairs, NoPairs, PairThen, item_count, pair_count, spell, spell_items, spell_pairs, IsString, IsAbove, IsValidWithin, AreValidWithin, ArePairsWithin}
+use Rattle.det_cbor.specs.DataItem.{DataItem, UnsignedInteger, NegativeInteger, ByteString, TextString, ArrayOf, MapOf, TaggedItem, Boolean, NullItem, DataItems, NoItems, DataPairs, NoPairs, item_count, pair_count, spell, spell_items, spell_pairs, IsString, IsAbove, IsValidWithin, AreValidWithin, ArePairsWithin}
 use Rattle.det_cbor.specs.DataLists.{items_of, pairs_of}
 use Rattle.det_cbor.specs.Heads.{head_bytes}
-use Rattle.det_cbor.specs.HeadSpelling.{major_of, argument_of, IsValueOf, BeginsWith}
-use Rattle.det_cbor.specs.HeadReading.{◌>>=◌, head_at}
-use Rattle.det_cbor.specs.ItemReading.{Reader, stopped, string_at, text_at, items_by, read_of, ascending, in_order, pairs_by, nested, body_with, item_with, item_at}
-use Rattle.det_cbor.proofs.Results.{chosen, bind_ok, ok_pair, same_ok, not_both}
+use Rattle.det_cbor.specs.HeadSpelling.{major_of, argument_of, IsValueOf}
+use Rattle.det_cbor.specs.ItemReading.{Reader, stopped, string_at, text_at, items_by, read_of, ascending, in_order, pairs_by, body_with, item_with, item_at}
+use Rattle.det_cbor.proofs.Results.{chosen, bind_ok, ok_pair, same_ok}
 use Rattle.det_cbor.proofs.Arguments.{IsBytes, IsBytes-rest, IsBytes-drop, IsBytes-take, all_bytes, head_small}
 use Rattle.det_cbor.proofs.Heads.{head_takes}
 

@@ -1,10 +1,10 @@
 -- Bytes begin with one item or have one first fault, and never both.
-use Rattle.std.proofs.Common.{◌≡◌, ℕ, zero, suc, ◌+◌, ◌-◌, ◌<◌, ◌≤◌, List, [], ◌∷◌, ◌++◌, length, get_or, take, drop, Result, Ok, Err, refl, sym, ap, subst, ◌∙◌, arith, inl, inr, ◌⊎◌}
+use Rattle.std.proofs.Common.{◌≡◌, ℕ, zero, suc, ◌+◌, ◌-◌, ◌≤◌, List, [], ◌∷◌, ◌++◌, length, take, drop, Ok, Err, refl, sym, ap, subst, ◌∙◌, arith, inl, inr, ◌⊎◌}
 use Rattle.std.specs.List.{AllByRecursion}
 use Rattle.std.proofs.lemmas.List.{take_at, take-append-drop, length-append, length-drop}
 use Rattle.det_cbor.specs.declared.reason.Reason.{Reason}
 use Rattle.det_cbor.specs.declared.reason.Stop.{Stop}
-use Rattle.det_cbor.specs.DataItem.{DataItem, IsByte, IsValidWithin, spell, Spells}
+use Rattle.det_cbor.specs.DataItem.{DataItem, IsByte, spell}
 use Rattle.det_cbor.specs.Faults.{Faulty}
 use Rattle.det_cbor.specs.ItemReading.{Read, item_at}
 use Rattle.det_cbor.specs.OneReading.{StartsWithItem, HasOneItem, HasOneFault, OneReading}
@@ -12,8 +12,8 @@ use Rattle.det_cbor.proofs.Results.{ok_pair, same_err, not_both}
 use Rattle.det_cbor.proofs.Arguments.{IsBytes}
 use Rattle.det_cbor.proofs.ItemTakes.{StartsWith, item_takes}
 use Rattle.det_cbor.proofs.ItemAgain.{item_again}
-use Rattle.det_cbor.proofs.ItemFaults.{IsFault, item_fault}
-use Rattle.det_cbor.proofs.ItemRefused.{StopsAt, item_refused}
+use Rattle.det_cbor.proofs.ItemFaults.{item_fault}
+use Rattle.det_cbor.proofs.ItemRefused.{item_refused}
 
 pub bytes_of_all : (bytes : List ℕ) → AllByRecursion IsByte bytes → IsBytes bytes
 bytes_of_all [] all i = omega arith
@@ -34,26 +34,22 @@ read_again bytes x used starts =
     let whole : spell x ++ drop used bytes ≡ bytes = ap (λ (l : List ℕ). l ++ drop used bytes) (sym starts.spells.is) ∙ take-append-drop used bytes in
     subst (λ (l : List ℕ). item_at 16 l ≡ Ok (x, drop used bytes)) whole (item_again 16 0 refl x (drop used bytes) starts.spells.valid)
 
-pub used_is : (bytes : List ℕ) (n m : ℕ) → n ≤ length bytes → m ≤ length bytes → drop n bytes ≡ drop m bytes → n ≡ m
-used_is bytes n m a b e = omega (arith, ap length e, length-drop n bytes, length-drop m bytes)
+-- ---- what an item that was read says of its bytes
 
--- the reader's answer, as a relation
+pub item_starts : (bytes : List ℕ) (x : DataItem) (rest : List ℕ) → IsBytes bytes → item_at 16 bytes ≡ Ok (x, rest) → StartsWithItem bytes x (length bytes - length rest)
+item_starts bytes x rest fits e = starts_from bytes x rest (item_takes 16 0 refl bytes x rest fits e)
+
+pub item_only : (bytes : List ℕ) (x : DataItem) (rest : List ℕ) → item_at 16 bytes ≡ Ok (x, rest) → (y : DataItem) (n : ℕ) → StartsWithItem bytes y n → (y ≡ x) × (n ≡ length bytes - length rest)
+item_only bytes x rest e y n other =
+    let both = ok_pair y x (drop n bytes) rest (sym (read_again bytes y n other) ∙ e) in
+    let within : n ≤ length bytes = other.within in
+    (both.0, omega (arith, ap length both.1, length-drop n bytes))
+
+pub item_sound : (bytes : List ℕ) (x : DataItem) (rest : List ℕ) → item_at 16 bytes ≡ Ok (x, rest) → (place : ℕ) (reason : Reason) → Faulty 0 bytes place reason → ⊥
+item_sound bytes x rest e place reason faulty = let stops = item_refused 16 0 refl bytes place reason faulty in not_both (item_at 16 bytes) (x, rest) _ e stops.is
+
 pub one_item : (bytes : List ℕ) (x : DataItem) (rest : List ℕ) → IsBytes bytes → item_at 16 bytes ≡ Ok (x, rest) → HasOneItem bytes
-one_item bytes x rest fits e =
-    let starts = item_takes 16 0 refl bytes x rest fits e in
-    let used = length bytes - length rest in
-    let long : length bytes ≡ length (spell x) + length rest = ap length starts.parts ∙ length-append (spell x) rest in
-    let item = starts_from bytes x rest starts in
-    record {
-      item = x;
-      used = used;
-      starts = item;
-      only = λ y n other.
-          let both = ok_pair y x (drop n bytes) rest (sym (read_again bytes y n other) ∙ e) in
-          let within : n ≤ length bytes = other.within in
-          (both.0, omega (arith, ap length both.1, length-drop n bytes));
-      sound = λ place reason faulty. let stops = item_refused 16 0 refl bytes place reason faulty in not_both (item_at 16 bytes) (x, rest) _ e stops.is;
-    }
+one_item bytes x rest fits e = record { item = x; used = length bytes - length rest; starts = item_starts bytes x rest fits e; only = item_only bytes x rest e; sound = item_sound bytes x rest e }
 
 pub one_fault : (bytes : List ℕ) (s : Stop) → IsBytes bytes → item_at 16 bytes ≡ Err s → HasOneFault bytes
 one_fault bytes s fits e =

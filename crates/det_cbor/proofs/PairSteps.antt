@@ -1,5 +1,5 @@
 -- A step of a loop over the pairs of two maps.
-use Rattle.std.proofs.Common.{◌≡◌, ℕ, ◌+◌, ◌<◌, Ordering, Equal, List, [], ◌∷◌, length, get_or, drop, drop-cons, add-one, refl, sym, ap, subst, ◌∙◌, ◌↔◌, Option, Some}
+use Rattle.std.proofs.Common.{◌≡◌, ℕ, ◌+◌, ◌<◌, Ordering, Equal, List, ◌∷◌, length, get_or, drop, drop-cons, add-one, refl, sym, ap, subst, ◌∙◌, ◌↔◌, Option, Some}
 use Rattle.std.specs.Ordering.{ordering_then}
 use Rattle.det_cbor.specs.declared.item.Item.{Item}
 use Rattle.det_cbor.specs.DataItem.{spell, IsAbove, IsValid, IsValidWithin, ArePairsWithin}

@@ -1,16 +1,15 @@
 -- An item is passed over just as it is read.
 use Rattle.det_cbor.proofs.Results.{same_ok, same_err}
-use Rattle.std.proofs.Common.{◌≡◌, ℕ, zero, suc, ◌+◌, ◌-◌, ◌≤◌, List, [], ◌∷◌, ◌++◌, length, take, drop, Option, Some, None, Result, Ok, Err, refl, sym, ap, subst, ◌∙◌, arith}
+use Rattle.std.proofs.Common.{◌≡◌, ℕ, zero, suc, List, ◌∷◌, Option, Some, None, Result, Ok, Err, refl, sym, ap, ◌∙◌}
 use Rattle.det_cbor.specs.declared.head.HeadKind.{HeadKind}
 use Rattle.det_cbor.specs.declared.head.HeadKind.TheVariants as kinds
-use Rattle.det_cbor.specs.declared.reason.Reason.{Reason}
 use Rattle.det_cbor.specs.declared.reason.Stop.{Stop}
 use Rattle.det_cbor.specs.declared.head.Head.{Head}
 use Rattle.det_cbor.specs.DataItem.{DataItem, ByteString, TextString, ArrayOf, MapOf, TaggedItem}
 use Rattle.det_cbor.specs.DataLists.{items_of, pairs_of}
-use Rattle.det_cbor.specs.HeadReading.{◌>>=◌, map_ok, head_at}
-use Rattle.det_cbor.specs.ItemReading.{Read, Reader, stopped, string_at, text_at, items_by, read_of, in_order, pairs_by, nested, body_with, item_with, item_at}
-use Rattle.det_cbor.specs.ItemSkipping.{Skipper, rest_of, skips_by, pair_skips_by, array_skip, map_skip, tagged_skip, skip_body, skip_with, skip_at}
+use Rattle.det_cbor.specs.HeadReading.{◌>>=◌, head_at}
+use Rattle.det_cbor.specs.ItemReading.{Read, Reader, stopped, string_at, text_at, items_by, read_of, in_order, pairs_by, body_with, item_with, item_at}
+use Rattle.det_cbor.specs.ItemSkipping.{Skipper, rest_of, skips_by, pair_skips_by, skip_body, skip_with, skip_at}
 
 abbrev pub SkipsAs : Skipper → Reader → Type 0
 SkipsAs skip read = (bytes : List ℕ) → skip bytes ≡ rest_of (read bytes)

@@ -1,7 +1,6 @@
 -- Passing over an item, level by level.
-use Rattle.std.proofs.Common.{◌≡◌, ℕ, zero, suc, ◌+◌, ◌-◌, ◌<◌, List, Option, Some, None, Result, Ok, Err, refl, sym, ◌∙◌, arith}
+use Rattle.std.proofs.Common.{◌≡◌, ℕ, zero, suc, ◌+◌, ◌-◌, ◌<◌, List, Option, Some, None, Result, Ok, refl, sym, ◌∙◌, arith}
 use Rattle.det_cbor.specs.declared.reason.Stop.{Stop}
-use Rattle.det_cbor.specs.HeadReading.{◌>>=◌}
 use Rattle.det_cbor.specs.ItemReading.{stopped, read_of, in_order}
 use Rattle.det_cbor.specs.ItemSkipping.{Skipper, skips_by, pair_skips_by, skip_with, skip_at, parts_at}
 

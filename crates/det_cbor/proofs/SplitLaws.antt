@@ -8,7 +8,6 @@ use Rattle.det_cbor.specs.declared.reason.Stop.{Stop}
 use Rattle.det_cbor.specs.DataItem.{DataItem}
 use Rattle.det_cbor.specs.Faults.{Faulty}
 use Rattle.det_cbor.specs.HeadReading.{map_ok}
-use Rattle.det_cbor.specs.ItemReading.{item_at}
 use Rattle.det_cbor.specs.ItemSkipping.{rest_of, split_by, item_split, skip_at}
 use Rattle.det_cbor.specs.OneReading.{IsItem, StartsWithItem}
 use Rattle.det_cbor.proofs.Results.{ok_pair, same_ok, same_err}

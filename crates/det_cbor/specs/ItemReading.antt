@@ -5,7 +5,6 @@ use Rattle.std.specs.declared.cmp.Ordering.{Ordering}
 use Rattle.std.specs.declared.cmp.Ordering.TheVariants.{Less, Equal, Greater}
 use Rattle.std.specs.Ordering.{nat_cmp}
 use Rattle.std.specs.Cmp.Lexicographic.{slice_cmp}
-use Rattle.det_cbor.specs.declared.head.Head.{Head}
 use Rattle.det_cbor.specs.declared.head.HeadKind.{HeadKind}
 use Rattle.det_cbor.specs.declared.head.HeadKind.TheVariants as kinds
 use Rattle.det_cbor.specs.declared.reason.Reason.{Reason}
@@ -81,15 +80,31 @@ abbrev pub nested : {A : Type 0} → List ℕ → Option A → Result A Stop
 nested bytes None = Err (stop_at bytes TooDeep)
 nested bytes (Some read) = Ok read
 
+-- items of each kind that has parts
+abbrev pub string_item : List ℕ → ℕ → List ℕ → Read DataItem
+string_item bytes count rest = stopped bytes (string_at count rest) >>= λ s. Ok (ByteString s.0, s.1)
+
+abbrev pub text_item : List ℕ → ℕ → List ℕ → Read DataItem
+text_item bytes count rest = stopped bytes (text_at count rest) >>= λ s. Ok (TextString s.0, s.1)
+
+abbrev pub array_item : Option Reader → List ℕ → ℕ → List ℕ → Read DataItem
+array_item parts bytes count rest = nested bytes parts >>= λ read. items_by read count rest >>= λ xs. Ok (ArrayOf (items_of xs.0), xs.1)
+
+abbrev pub map_item : Option Reader → List ℕ → ℕ → List ℕ → Read DataItem
+map_item parts bytes count rest = nested bytes parts >>= λ read. pairs_by read None count rest >>= λ ps. Ok (MapOf (pairs_of ps.0), ps.1)
+
+abbrev pub tagged_item : Option Reader → List ℕ → ℕ → List ℕ → Read DataItem
+tagged_item parts bytes tag rest = nested bytes parts >>= λ read. read rest >>= λ x. Ok (TaggedItem tag x.0, x.1)
+
 -- an item after its head
 abbrev pub body_with : Option Reader → List ℕ → ℕ → List ℕ → HeadKind → Read DataItem
 body_with parts bytes value rest kinds.Unsigned = Ok (UnsignedInteger value, rest)
 body_with parts bytes value rest kinds.Negative = Ok (NegativeInteger value, rest)
-body_with parts bytes value rest kinds.Bytes = stopped bytes (string_at value rest) >>= λ s. Ok (ByteString s.0, s.1)
-body_with parts bytes value rest kinds.Text = stopped bytes (text_at value rest) >>= λ s. Ok (TextString s.0, s.1)
-body_with parts bytes value rest kinds.Array = nested bytes parts >>= λ read. items_by read value rest >>= λ xs. Ok (ArrayOf (items_of xs.0), xs.1)
-body_with parts bytes value rest kinds.Map = nested bytes parts >>= λ read. pairs_by read None value rest >>= λ ps. Ok (MapOf (pairs_of ps.0), ps.1)
-body_with parts bytes value rest kinds.Tag = nested bytes parts >>= λ read. read rest >>= λ x. Ok (TaggedItem value x.0, x.1)
+body_with parts bytes value rest kinds.Bytes = string_item bytes value rest
+body_with parts bytes value rest kinds.Text = text_item bytes value rest
+body_with parts bytes value rest kinds.Array = array_item parts bytes value rest
+body_with parts bytes value rest kinds.Map = map_item parts bytes value rest
+body_with parts bytes value rest kinds.Tag = tagged_item parts bytes value rest
 body_with parts bytes value rest kinds.Bool = Ok (Boolean (value == 1), rest)
 body_with parts bytes value rest kinds.Null = Ok (NullItem, rest)
 
@@ -100,3 +115,8 @@ item_with parts bytes = stopped bytes (head_at bytes) >>= λ h. body_with parts 
 unfoldable pub item_at : ℕ → Reader
 item_at zero bytes = item_with None bytes
 item_at (suc levels) bytes = item_with (Some (item_at levels)) bytes
+
+-- the reader of parts, where a level is left
+abbrev pub reader_at : ℕ → Option Reader
+reader_at zero = None
+reader_at (suc levels) = Some (item_at levels)

@@ -1,5 +1,5 @@
 -- The data item that an item of the code stands for.
-use Rattle.std.specs.Prelude.{ℕ, List, map}
+use Rattle.std.specs.Prelude.{List, map}
 use Rattle.det_cbor.specs.DataItem.{DataItem, UnsignedInteger, NegativeInteger, ByteString, TextString, ArrayOf, MapOf, TaggedItem, Boolean, NullItem}
 use Rattle.det_cbor.specs.DataLists.{items_of, pairs_of}
 use Rattle.det_cbor.specs.declared.item.Item.{Item}

@@ -6,10 +6,11 @@ pub mod Faults
 pub mod ItemReading
 pub mod ItemSkipping
 pub mod OneReading
+pub mod Decoding
 pub mod DataItem
 pub mod DataLists
 pub mod DataCode
 pub mod ItemTree
 pub mod ItemDepth
-pub mod Growth
+pub mod Prefix
 pub mod ItemOrder

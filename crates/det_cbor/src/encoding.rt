@@ -3,7 +3,7 @@
 ghost use Rattle.std.specs.Prelude.{◌≡◌, ◌++◌, OnOk, OnErr, IfOk};
 ghost use Rattle.det_cbor.specs.DataItem.{spell, spell_items, spell_pairs, IsValid, Spells};
 ghost use Rattle.det_cbor.specs.DataLists.{items_of, pairs_of};
-ghost use Rattle.det_cbor.specs.Growth.{BeginsWithAll};
+ghost use Rattle.det_cbor.specs.Prefix.{IsPrefix};
 ghost use Rattle.det_cbor.specs.Heads.{head_bytes};
 ghost use Rattle.det_cbor.specs.ItemOrder.{major_type, head_argument, spell_parts};
 ghost use Rattle.det_cbor.specs.ItemTree.{tree_of};
@@ -26,7 +26,7 @@ pub fn encode(alloc: Global, item: &Item) -> Result<Bytes, AllocError>
 // Adds the head that an item begins with.
 fn push_item_head(out: &mut Bytes, item: &Item) -> Result<(), AllocError>
     ensures ok { OnOk result (out.new ≡ out.old ++ head_bytes (major_type (tree_of item.now)) (head_argument (tree_of item.now))) }
-    ensures err { OnErr result (BeginsWithAll out.old out.new) }
+    ensures err { OnErr result (IsPrefix out.old out.new) }
 {
     push_head(out, head_of(item))
 }
@@ -37,7 +37,7 @@ fn push_item_head(out: &mut Bytes, item: &Item) -> Result<(), AllocError>
 #[cycle(push)]
 pub fn push_item(out: &mut Bytes, item: &Item) -> Result<(), AllocError>
     ensures ok { OnOk result (out.new ≡ out.old ++ spell (tree_of item.now)) }
-    ensures err { OnErr result (BeginsWithAll out.old out.new) }
+    ensures err { OnErr result (IsPrefix out.old out.new) }
 {
     push_item_head(out, item)?;
     push_parts(out, item)
@@ -47,7 +47,7 @@ pub fn push_item(out: &mut Bytes, item: &Item) -> Result<(), AllocError>
 #[cycle(push)]
 fn push_parts(out: &mut Bytes, item: &Item) -> Result<(), AllocError>
     ensures ok { OnOk result (out.new ≡ out.old ++ spell_parts (tree_of item.now)) }
-    ensures err { OnErr result (BeginsWithAll out.old out.new) }
+    ensures err { OnErr result (IsPrefix out.old out.new) }
 {
     match item {
         Item::Bytes(bytes) => out.extend(bytes.as_slice()),
@@ -62,7 +62,7 @@ fn push_parts(out: &mut Bytes, item: &Item) -> Result<(), AllocError>
 #[cycle(push)]
 fn push_items(out: &mut Bytes, items: &Items) -> Result<(), AllocError>
     ensures ok { OnOk result (out.new ≡ out.old ++ spell_items (items_of items.now)) }
-    ensures err { OnErr result (BeginsWithAll out.old out.new) }
+    ensures err { OnErr result (IsPrefix out.old out.new) }
 {
     for item in &items.held {
         push_item(out, item)?;
@@ -73,7 +73,7 @@ fn push_items(out: &mut Bytes, items: &Items) -> Result<(), AllocError>
 #[cycle(push)]
 fn push_pairs(out: &mut Bytes, pairs: &Pairs) -> Result<(), AllocError>
     ensures ok { OnOk result (out.new ≡ out.old ++ spell_pairs (pairs_of pairs.now)) }
-    ensures err { OnErr result (BeginsWithAll out.old out.new) }
+    ensures err { OnErr result (IsPrefix out.old out.new) }
 {
     for (key, value) in &pairs.held {
         push_item(out, key)?;

@@ -1,7 +1,7 @@
 //! Writing heads at the end of a list of bytes.
 
 ghost use Rattle.std.specs.Prelude.{◌≡◌, ◌∷◌, ◌++◌, ◌<◌, OnOk, OnErr};
-ghost use Rattle.det_cbor.specs.Growth.{BeginsWithAll};
+ghost use Rattle.det_cbor.specs.Prefix.{IsPrefix};
 ghost use Rattle.det_cbor.specs.HeadSpelling.{major_of, argument_of, spelled, IsValueOf};
 ghost use Rattle.det_cbor.specs.Heads.{head_bytes};
 
@@ -39,7 +39,7 @@ pub(crate) fn argument(head: Head) -> u64
 // Adds a first byte and what follows it.
 fn push_parts(out: &mut Bytes, first: u8, rest: &[u8]) -> Result<(), AllocError>
     ensures ok { OnOk result (out.new ≡ out.old ++ first ∷ rest.now) }
-    ensures err { OnErr result (BeginsWithAll out.old out.new) }
+    ensures err { OnErr result (IsPrefix out.old out.new) }
 {
     out.push(first)?;
     out.extend(rest)
@@ -50,7 +50,7 @@ fn push_parts(out: &mut Bytes, first: u8, rest: &[u8]) -> Result<(), AllocError>
 fn push_shortest(out: &mut Bytes, major: u8, argument: u64) -> Result<(), AllocError>
     requires { major < 8 }
     ensures ok { OnOk result (out.new ≡ out.old ++ head_bytes major argument) }
-    ensures err { OnErr result (BeginsWithAll out.old out.new) }
+    ensures err { OnErr result (IsPrefix out.old out.new) }
 {
     let first = 32 * major;
     if argument < 24 {
@@ -70,7 +70,7 @@ fn push_shortest(out: &mut Bytes, major: u8, argument: u64) -> Result<(), AllocE
 pub fn push_head(out: &mut Bytes, head: Head) -> Result<(), AllocError>
     requires { IsValueOf head.kind head.value }
     ensures ok { OnOk result (out.new ≡ out.old ++ spelled head) }
-    ensures err { OnErr result (BeginsWithAll out.old out.new) }
+    ensures err { OnErr result (IsPrefix out.old out.new) }
 {
     push_shortest(out, major_type(head.kind), argument(head))
 }

@@ -7,6 +7,14 @@ ghost use Rattle.det_cbor.specs.ItemTree.{tree_of};
 
 use crate::{Head, HeadKind, Item};
 
+// A head of its parts, so that each kind of item stands on one line.
+fn head(kind: HeadKind, value: u64) -> Head
+    ensures { result ≡ record { kind = kind; value = value } }
+{
+    Head { kind, value }
+}
+
+/// The head that an item begins with.
 #[tactic(auto, using(crate::proofs::Counts::items_counted, crate::proofs::Counts::pairs_counted))]
 pub(crate) fn head_of(item: &Item) -> Head
     ensures whole { IsValueOf result.kind result.value }
@@ -14,45 +22,15 @@ pub(crate) fn head_of(item: &Item) -> Head
     ensures argument { argument_of result.kind result.value ≡ head_argument (tree_of item.now) }
 {
     match item {
-        Item::Unsigned(number) => Head {
-            kind: HeadKind::Unsigned,
-            value: *number,
-        },
-        Item::Negative(number) => Head {
-            kind: HeadKind::Negative,
-            value: *number,
-        },
-        Item::Bytes(bytes) => Head {
-            kind: HeadKind::Bytes,
-            value: bytes.len() as u64,
-        },
-        Item::Text(text) => Head {
-            kind: HeadKind::Text,
-            value: text.len() as u64,
-        },
-        Item::Array(items) => Head {
-            kind: HeadKind::Array,
-            value: items.len() as u64,
-        },
-        Item::Map(pairs) => Head {
-            kind: HeadKind::Map,
-            value: pairs.len() as u64,
-        },
-        Item::Tagged(tag, _) => Head {
-            kind: HeadKind::Tag,
-            value: *tag,
-        },
-        Item::Bool(false) => Head {
-            kind: HeadKind::Bool,
-            value: 0,
-        },
-        Item::Bool(true) => Head {
-            kind: HeadKind::Bool,
-            value: 1,
-        },
-        Item::Null => Head {
-            kind: HeadKind::Null,
-            value: 0,
-        },
+        Item::Unsigned(number) => head(HeadKind::Unsigned, *number),
+        Item::Negative(number) => head(HeadKind::Negative, *number),
+        Item::Bytes(bytes) => head(HeadKind::Bytes, bytes.len() as u64),
+        Item::Text(text) => head(HeadKind::Text, text.len() as u64),
+        Item::Array(items) => head(HeadKind::Array, items.len() as u64),
+        Item::Map(pairs) => head(HeadKind::Map, pairs.len() as u64),
+        Item::Tagged(tag, _) => head(HeadKind::Tag, *tag),
+        Item::Bool(false) => head(HeadKind::Bool, 0),
+        Item::Bool(true) => head(HeadKind::Bool, 1),
+        Item::Null => head(HeadKind::Null, 0),
     }
 }

@@ -4,6 +4,7 @@
 mod bytes;
 mod compare;
 mod cursor;
+mod decoding;
 mod encoding;
 mod head;
 mod head_writing;
@@ -14,6 +15,7 @@ mod law;
 mod names;
 mod pairs;
 mod parts;
+mod read_fault;
 mod reason;
 mod skip;
 mod text;
@@ -21,6 +23,7 @@ mod validity;
 
 pub use bytes::Bytes;
 pub use cursor::Cursor;
+pub use decoding::decode;
 pub use encoding::{encode, push_item};
 pub use head::{Head, HeadKind};
 pub use head_writing::push_head;
@@ -29,6 +32,15 @@ pub use items::Items;
 pub use law::one_reading;
 pub use names::Names;
 pub use pairs::Pairs;
-pub use reason::{CborRefusal, Reason};
+pub use reason::{CborFault, CborRefusal, Reason};
 pub use text::Text;
 pub use validity::valid;
+
+#[cfg(test)]
+mod appendix_a;
+#[cfg(test)]
+mod notation;
+#[cfg(test)]
+mod reading_tests;
+#[cfg(test)]
+mod writing_tests;

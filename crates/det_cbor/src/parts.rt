@@ -6,7 +6,8 @@ ghost use Rattle.det_cbor.specs.ItemReading.{stop_at, stopped, string_at, utf8_t
 
 use crate::head::split_head;
 use crate::reason::Stop;
-use crate::{Head, HeadKind, Reason};
+use crate::{Head, Reason};
+use std::cmp::Ordering;
 
 /// A fault of a head or a string: at the end where the input ends, and else at the head.
 pub(crate) fn stop(bytes: &[u8], reason: Reason) -> Stop
@@ -96,8 +97,6 @@ pub(crate) fn read_before<'a>(bytes: &'a [u8], rest: &[u8]) -> &'a [u8]
 pub(crate) fn order(bytes: &[u8], before: Option<&[u8]>, key: &[u8]) -> Result<(), Stop>
     ensures { result ≡ stopped bytes.now (in_order (option_map (λ b. b.now) before.entry) key.now) }
 {
-    use std::cmp::Ordering;
-
     let Some(before) = before else {
         return Ok(());
     };

@@ -28,6 +28,13 @@ pub struct CborRefusal {
     pub reason: Reason,
 }
 
+/// Why bytes were not decoded. A place is counted from the first of the bytes.
+#[derive(Clone, Copy, Debug, PartialEq, Eq)]
+pub enum CborFault {
+    Refused { place: u64, reason: Reason },
+    NoMemory,
+}
+
 /// Why a reader stopped, and how many bytes there are from the fault to the end.
 #[derive(Clone, Copy, Debug, PartialEq, Eq)]
 pub(crate) struct Stop {

@@ -10,10 +10,8 @@ ghost use Rattle.det_cbor.specs.OneReading.{IsItem, StartsWithItem};
 
 use crate::parts::{first_head, order, read_before, stop, string_in, text_in};
 use crate::reason::Stop;
+use crate::validity::MAX_LEVELS;
 use crate::{CborRefusal, HeadKind, Reason};
-
-/// How many arrays, maps and tags stand round one another at most.
-pub(crate) const MAX_LEVELS: u8 = 16;
 
 /// The bytes after the first item, which has at most so many levels.
 #[cycle(skip)]

@@ -11,7 +11,7 @@ use crate::{Item, Items, Pairs};
 use std::cmp::Ordering;
 
 // How many arrays, maps and tags may stand round one another.
-const MAX_LEVELS: u8 = 16;
+pub(crate) const MAX_LEVELS: u8 = 16;
 
 /// Whether the keys of each map ascend in the bytewise order of their spellings, and at most 16 arrays, maps and
 /// tags stand round any item.
@@ -23,14 +23,14 @@ pub fn valid(item: &Item) -> bool
     is_valid_within(0, item)
 }
 
-// That a number fits its type.
+// Whether a head can hold a number. Its type has that range, so this is said for the proof alone.
 fn is_number(number: u64) -> bool
     ensures { IsTrue result ↔ (number < 2 ^ 64) }
 {
     number <= u64::MAX
 }
 
-// That bytes fit their type, and their count fits a head.
+// Whether these are bytes whose count a head can hold, which they are by their type.
 fn is_string(bytes: &[u8]) -> bool
     ensures { IsTrue result ↔ IsString bytes.now }
 {
@@ -43,7 +43,7 @@ fn is_text(text: &str) -> bool
     is_string(text.as_bytes())
 }
 
-// That a head can hold the count of these items.
+// Whether a head can hold the count of these items, as above.
 #[tactic(auto, using(crate::proofs::Counts::items_counted))]
 fn is_item_count(items: &Items) -> bool
     ensures { IsTrue result ↔ (item_count (items_of items.now) < 2 ^ 64) }

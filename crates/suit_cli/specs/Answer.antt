@@ -1,5 +1,12 @@
 -- What the program answers: a status and a text, for the words and the files that the host tells of.
-use Rattle.std.specs.Prelude.{◌≡◌, ◌<◌, ◌≤◌, ◌⊎◌, ℕ, Bool, IsTrue, List, ◌++◌, length, Option, Some, None, codes}
+use Rattle.std.specs.Prelude.{◌≡◌, ◌<◌, ◌≤◌, ◌⊎◌, ℕ, Bool, IsTrue, List, [], ◌∷◌, ◌++◌, length, Option, Some, None, codes}
+use Rattle.std.specs.List.{AllByRecursion}
+use Rattle.std.specs.Fmt.{decimal}
+use Rattle.det_cbor.specs.declared.reason.Reason.{Reason}
+use Rattle.det_cbor.specs.declared.reason.Reason.TheVariants as reasons
+use Rattle.det_cbor.specs.DataItem.{DataItem, IsByte, Spells}
+use Rattle.det_cbor.specs.Faults.{Faulty}
+use Rattle.det_cbor.specs.OneReading.{StartsWithItem}
 use Rattle.suit_edge.specs.Faults.{Faulted}
 use Rattle.path_checker.specs.declared.plan.Procedure.{Procedure}
 use Rattle.path_checker.specs.declared.plan.Procedure.TheVariants as procedures
@@ -11,7 +18,7 @@ use Rattle.path_checker.specs.Verdict.{IsBadPath}
 use Rattle.suit_cli.specs.declared.flat.FlatForm.{FlatForm}
 use Rattle.suit_cli.specs.FlatForm.{FlatEnvelope, IsFlat}
 use Rattle.suit_cli.specs.FlatPlan.{plan_of, form_of}
-use Rattle.suit_cli.specs.Lines.{path_lines}
+use Rattle.suit_cli.specs.Lines.{joined, path_lines}
 use Rattle.suit_cli.specs.Words.{checked_file}
 
 -- ---- lines
@@ -21,6 +28,23 @@ usage_line = codes "usage: suit make DESCRIPTION KEY OUT | show FILE [KEY] | che
 
 abbrev pub not_built_line : List ℕ
 not_built_line = codes "not built\n"
+
+-- the place of a fault in the file, and what is wrong there
+abbrev pub refused_line : ℕ → List ℕ → List ℕ
+refused_line place why = joined (codes "refused at " ∷ decimal place ∷ codes ": " ∷ why ∷ codes "\n" ∷ [])
+
+abbrev pub reason_text : Reason → List ℕ
+reason_text reasons.Truncated = codes "truncated"
+reason_text reasons.Indefinite = codes "indefinite"
+reason_text reasons.Kind = codes "kind"
+reason_text reasons.NotShortest = codes "not shortest"
+reason_text reasons.TooDeep = codes "too deep"
+reason_text reasons.BadText = codes "bad text"
+reason_text reasons.Repeated = codes "repeated"
+reason_text reasons.Order = codes "order"
+
+abbrev pub trailing_text : List ℕ
+trailing_text = codes "trailing"
 
 abbrev pub absent_line : List ℕ → List ℕ
 absent_line name = codes "absent " ++ name ++ codes "\n"
@@ -69,8 +93,14 @@ pub data FormJudgement (form : FlatForm) (status : ℕ) (text : List ℕ) : Type
   InvocationUnsafe : (bad : BadPath) → Safe (form_tree procedures.Update form) → IsBadPath (form_tree procedures.Invocation form) bad
       → status ≡ 1 → text ≡ invocation_unsafe_lines ++ path_lines bad → FormJudgement form status text
 
+-- why a file is not accepted: its first fault; bytes after the item that begins it; or another form
+pub data IsRefused (bytes text : List ℕ) : Type 0 where
+  HasFault : (place : ℕ) (reason : Reason) → Faulty 0 bytes place reason → text ≡ refused_line place (reason_text reason) → IsRefused bytes text
+  Trails : (x : DataItem) (used : ℕ) → StartsWithItem bytes x used → used < length bytes → text ≡ refused_line used trailing_text → IsRefused bytes text
+  OtherForm : (x : DataItem) → Spells x bytes → ((f : FlatEnvelope) → IsFlat bytes f → ⊥) → text ≡ not_built_line → IsRefused bytes text
+
 pub data Judgement (bytes : List ℕ) (status : ℕ) (text : List ℕ) : Type 0 where
-  NotBuilt : ((f : FlatEnvelope) → IsFlat bytes f → ⊥) → status ≡ 3 → text ≡ not_built_line → Judgement bytes status text
+  Refused : IsRefused bytes text → status ≡ 3 → Judgement bytes status text
   Built : (f : FlatEnvelope) → IsFlat bytes f → FormJudgement (form_of f) status text → Judgement bytes status text
 
 -- ---- the answer to `check NAME`
@@ -84,7 +114,7 @@ pub data CheckAnswer (told : Bool) (file : Option (List ℕ)) (name : List ℕ) 
   Absent : (IsTrue told → file ≡ None) → status ≡ 20 → text ≡ absent_line name → CheckAnswer told file name status text
   TooLong : (IsTrue told → (bytes : List ℕ) × (file ≡ Some bytes) × (longest_file < length bytes))
       → status ≡ 21 → text ≡ too_long_line name → CheckAnswer told file name status text
-  Judged : (bytes : List ℕ) → (IsTrue told → file ≡ Some bytes) → length bytes ≤ longest_file
+  Judged : (bytes : List ℕ) → (IsTrue told → file ≡ Some bytes) → length bytes ≤ longest_file → AllByRecursion IsByte bytes
       → Judgement bytes status text → CheckAnswer told file name status text
 
 -- ---- the reply to the words

@@ -5,7 +5,7 @@ use Rattle.path_checker.specs.declared.judge.BadPath.{BadPath}
 use Rattle.suit_cli.specs.FlatForm.{FlatEnvelope, IsFlat}
 use Rattle.suit_cli.specs.Lines.{path_lines}
 use Rattle.suit_cli.specs.Words.{checked_file}
-use Rattle.suit_cli.specs.Answer.{Replies, IsSafe, IsUnsafeBy, longest_file, update_unsafe_line, invocation_unsafe_lines}
+use Rattle.suit_cli.specs.Answer.{Replies, IsRefused, IsSafe, IsUnsafeBy, longest_file, update_unsafe_line, invocation_unsafe_lines}
 use Rattle.suit_cli.specs.Put.{Put}
 
 -- the words and the told files had a reply, and it was put
@@ -51,12 +51,12 @@ pub record ChecksFlat (file : List ℕ → Option (List ℕ)) (words : List (Lis
   pub fits : length bytes ≤ longest_file
   pub flat : IsFlat bytes f
 
--- the words check a file within the limit that is not of the flat form
-pub record ChecksOther (file : List ℕ → Option (List ℕ)) (words : List (List ℕ)) : Type 0 where
+-- the words check a file within the limit that is not accepted, which this text says
+pub record ChecksRefused (file : List ℕ → Option (List ℕ)) (words : List (List ℕ)) (text : List ℕ) : Type 0 where
   pub bytes : List ℕ
   pub checks : ChecksFile file words bytes
   pub fits : length bytes ≤ longest_file
-  pub other : (f : FlatEnvelope) → IsFlat bytes f → ⊥
+  pub refused : IsRefused bytes text
 
 -- the words check a file above the limit
 pub record ChecksLong (file : List ℕ → Option (List ℕ)) (words : List (List ℕ)) : Type 0 where
@@ -82,4 +82,10 @@ pub record PutsUnsafe (file : List ℕ → Option (List ℕ)) (words : List (Lis
   pub text : List ℕ
   pub checks : ChecksFlat file words f
   pub shows : ShowsUnsafe f text
+  pub put : new ≡ old ++ text
+
+-- the checked file is not accepted, and the line that says why came behind what was put
+pub record PutsRefused (file : List ℕ → Option (List ℕ)) (words : List (List ℕ)) (old new : List ℕ) : Type 0 where
+  pub text : List ℕ
+  pub checks : ChecksRefused file words text
   pub put : new ≡ old ++ text

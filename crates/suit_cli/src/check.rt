@@ -1,13 +1,16 @@
 //! The command `check`: the judgement of a file.
 
 ghost use Rattle.std.specs.Prelude.{◌≡◌, ◌≤◌, ◌<◌, ◌^◌, ◌+◌, IsTrue, IfOk, length, Some};
+ghost use Rattle.det_cbor.specs.DataItem.{DataItem, IsByte, Spells};
+ghost use Rattle.std.specs.List.{AllByRecursion};
 ghost use Rattle.suit_cli.specs.Outcome.{status_of};
 ghost use Rattle.suit_cli.specs.FlatPlan.{plan_of};
 ghost use Rattle.suit_cli.specs.Answer.{FormJudgement, Judgement, CheckReply};
 ghost use Rattle.suit_cli.specs.Replying.{reply_status, reply_text};
 
 use crate::flat::{FlatForm, flat_form};
-use crate::reply::{Outcome, Reply};
+use crate::reply::{Outcome, Reply, reason_text};
+use det_cbor::Cursor;
 use path_checker::{CheckVerdict, FlatPlan, Procedure};
 use std::alloc::{AllocError, Global};
 use suit_edge::{Host, Taken, take_all};
@@ -50,14 +53,33 @@ fn judge_form(alloc: Global, form: &FlatForm) -> Result<Reply, AllocError>
     }
 }
 
-// The judgement of a file's bytes.
-fn judge(alloc: Global, bytes: &[u8]) -> Result<Reply, AllocError>
+// The judgement of one whole item.
+fn judge_item(alloc: Global, bytes: &[u8]) -> Result<Reply, AllocError>
     requires { length bytes.now < 2 ^ 64 }
-    ensures { IfOk result (λ reply. Judgement bytes.now (status_of reply.outcome) reply.text) }
+    ensures { IfOk result (λ reply. (x : DataItem) → Spells x bytes.now → Judgement bytes.now (status_of reply.outcome) reply.text) }
 {
     match flat_form(bytes) {
         None => Reply::fixed(alloc, Outcome::Refused, "not built\n"),
         Some(form) => judge_form(alloc, &form),
+    }
+}
+
+// The judgement of a file's bytes, as one item first.
+fn judge(alloc: Global, bytes: &[u8]) -> Result<Reply, AllocError>
+    requires { length bytes.now < 2 ^ 64 }
+    ensures judged { IfOk result (λ reply. Judgement bytes.now (status_of reply.outcome) reply.text) }
+    ensures bytes { AllByRecursion IsByte bytes.now }
+{
+    let mut cursor = Cursor::new(bytes, 0);
+    match cursor.skip() {
+        Err(refusal) => Reply::refused(alloc, refusal.place, reason_text(refusal.reason)),
+        Ok(_) => {
+            if cursor.left() > 0 {
+                Reply::refused(alloc, cursor.place(), "trailing")
+            } else {
+                judge_item(alloc, bytes)
+            }
+        }
     }
 }
 

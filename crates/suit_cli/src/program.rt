@@ -7,7 +7,7 @@ ghost use Rattle.suit_cli.specs.Words.{checked_file};
 ghost use Rattle.suit_cli.specs.Answer.{Replies, safe_lines, host_fault_line, out_of_memory_line};
 ghost use Rattle.suit_cli.specs.Replying.{reply_status, reply_text};
 ghost use Rattle.suit_cli.specs.Put.{Put};
-ghost use Rattle.suit_cli.specs.Run.{Runs, IsStatus, EndsIn, ChecksNothing, ChecksFlat, ChecksOther, ChecksLong, AreSafe, PutsUnsafe};
+ghost use Rattle.suit_cli.specs.Run.{Runs, IsStatus, EndsIn, ChecksNothing, ChecksFlat, ChecksRefused, ChecksLong, AreSafe, PutsUnsafe, PutsRefused};
 
 use crate::check::check;
 use crate::reply::{Outcome, Reply};
@@ -85,8 +85,9 @@ pub fn run<H: Host, K: Sink>(alloc: Global, words: &Names, host: &mut H, out: &m
     // Each refusal, both ways.
     ensures usage { result.0 ≡ 2 → checked_file words.now ≡ None }
     ensures only_usage { checked_file words.now ≡ None → (result.0 ≡ 2) ⊎ (result.0 ≡ 9) ⊎ (result.0 ≡ 11) }
-    ensures not_built { IsTrue H.told → result.0 ≡ 3 → ChecksOther (H.file host.old) words.now }
-    ensures only_not_built { IsTrue H.told → ChecksOther (H.file host.old) words.now → EndsIn 3 result.0 }
+    ensures refused { IsTrue H.told → IsTrue K.told → result.0 ≡ 3 → PutsRefused (H.file host.old) words.now (K.put_bytes out.old) (K.put_bytes out.new) }
+    ensures only_refused { IsTrue H.told → (text : List ℕ) → ChecksRefused (H.file host.old) words.now text → EndsIn 3 result.0 }
+    ensures puts_refused { IsTrue H.told → IsTrue K.told → (text : List ℕ) → ChecksRefused (H.file host.old) words.now text → result.0 ≡ 3 → K.put_bytes out.new ≡ K.put_bytes out.old ++ text }
     ensures absent { IsTrue H.told → result.0 ≡ 20 → ChecksNothing (H.file host.old) words.now }
     ensures only_absent { IsTrue H.told → ChecksNothing (H.file host.old) words.now → EndsIn 20 result.0 }
     ensures too_long { IsTrue H.told → result.0 ≡ 21 → ChecksLong (H.file host.old) words.now }

@@ -10,8 +10,6 @@ use suit_edge::{MemoryHost, MemorySink};
 const STORED: &str =
     "d86ba2025827815824822f58200000000000000000000000000000000000000000000000000000000000000000035847a501010201035835a2028181410004582c8214a2035824822f5820ba7816bf8f01cfea414140de5dae2223b00361a396177a9cb410ff61f20015ad0e03074382030f094382170f";
 
-const SAFE: &str = "update safe\ninvocation safe\n";
-
 const USAGE: &str =
     "usage: suit make DESCRIPTION KEY OUT | show FILE [KEY] | check FILE | run init DEVICE KEY | run update FILE [URI=NAME]... | run boot | run status | drill NUMBER\n";
 
@@ -22,7 +20,32 @@ struct Row {
     at: usize,
     removed: usize,
     added: &'static str,
-    flat: bool,
+    says: Says,
+}
+
+/// What `check` says of a file.
+#[derive(Clone, Copy)]
+enum Says {
+    Safe,
+    NotBuilt,
+    Refused(&'static str),
+}
+
+impl Says {
+    fn status(self) -> u8 {
+        match self {
+            Says::Safe => 0,
+            Says::NotBuilt | Says::Refused(_) => 3,
+        }
+    }
+
+    fn text(self) -> &'static str {
+        match self {
+            Says::Safe => "update safe\ninvocation safe\n",
+            Says::NotBuilt => "not built\n",
+            Says::Refused(line) => line,
+        }
+    }
 }
 
 /// Values on both sides of each bound of the flat form.
@@ -32,301 +55,301 @@ const ROWS: [Row; 43] = [
         at: 119,
         removed: 0,
         added: "",
-        flat: true,
+        says: Says::Safe,
     },
     Row {
         shows: "reporting policy 0 of the match",
         at: 113,
         removed: 1,
         added: "00",
-        flat: true,
+        says: Says::Safe,
     },
     Row {
         shows: "reporting policy 16 of the match",
         at: 113,
         removed: 1,
         added: "10",
-        flat: false,
+        says: Says::NotBuilt,
     },
     Row {
         shows: "reporting policy 0 of the invoke",
         at: 118,
         removed: 1,
         added: "00",
-        flat: true,
+        says: Says::Safe,
     },
     Row {
         shows: "reporting policy 16 of the invoke",
         at: 118,
         removed: 1,
         added: "10",
-        flat: false,
+        says: Says::NotBuilt,
     },
     Row {
         shows: "an identifier spelled in 64 bytes",
         at: 47,
         removed: 15,
         added: "84a501010201035872a2028181583d07070707070707070707070707070707070707070707070707070707070707070707070707070707070707070707070707070707070707070707070707",
-        flat: true,
+        says: Says::Safe,
     },
     Row {
         shows: "an identifier spelled in 65 bytes",
         at: 47,
         removed: 15,
         added: "85a501010201035873a2028181583e0707070707070707070707070707070707070707070707070707070707070707070707070707070707070707070707070707070707070707070707070707",
-        flat: false,
+        says: Says::NotBuilt,
     },
     Row {
         shows: "an empty identifier",
         at: 47,
         removed: 15,
         added: "46a501010201035834a202818140",
-        flat: true,
+        says: Says::Safe,
     },
     Row {
         shows: "an empty wrapper",
         at: 4,
         removed: 41,
         added: "40",
-        flat: true,
+        says: Says::Safe,
     },
     Row {
         shows: "sequence number 23",
         at: 52,
         removed: 1,
         added: "17",
-        flat: true,
+        says: Says::Safe,
     },
     Row {
         shows: "sequence number 24",
         at: 47,
         removed: 6,
         added: "48a50101021818",
-        flat: true,
+        says: Says::Safe,
     },
     Row {
         shows: "sequence number 255",
         at: 47,
         removed: 6,
         added: "48a501010218ff",
-        flat: true,
+        says: Says::Safe,
     },
     Row {
         shows: "sequence number 256",
         at: 47,
         removed: 6,
         added: "49a5010102190100",
-        flat: true,
+        says: Says::Safe,
     },
     Row {
         shows: "sequence number 65535",
         at: 47,
         removed: 6,
         added: "49a501010219ffff",
-        flat: true,
+        says: Says::Safe,
     },
     Row {
         shows: "sequence number 65536",
         at: 47,
         removed: 6,
         added: "4ba50101021a00010000",
-        flat: true,
+        says: Says::Safe,
     },
     Row {
         shows: "sequence number 4294967295",
         at: 47,
         removed: 6,
         added: "4ba50101021affffffff",
-        flat: true,
+        says: Says::Safe,
     },
     Row {
         shows: "sequence number 4294967296",
         at: 47,
         removed: 6,
         added: "4fa50101021b0000000100000000",
-        flat: true,
+        says: Says::Safe,
     },
     Row {
         shows: "sequence number 18446744073709551615",
         at: 47,
         removed: 6,
         added: "4fa50101021bffffffffffffffff",
-        flat: true,
+        says: Says::Safe,
     },
     Row {
         shows: "size 0",
         at: 108,
         removed: 1,
         added: "00",
-        flat: true,
+        says: Says::Safe,
     },
     Row {
         shows: "size 23",
         at: 108,
         removed: 1,
         added: "17",
-        flat: true,
+        says: Says::Safe,
     },
     Row {
         shows: "size 24",
         at: 47,
         removed: 62,
         added: "48a501010201035836a2028181410004582d8214a2035824822f5820ba7816bf8f01cfea414140de5dae2223b00361a396177a9cb410ff61f20015ad0e1818",
-        flat: true,
+        says: Says::Safe,
     },
     Row {
         shows: "size 255",
         at: 47,
         removed: 62,
         added: "48a501010201035836a2028181410004582d8214a2035824822f5820ba7816bf8f01cfea414140de5dae2223b00361a396177a9cb410ff61f20015ad0e18ff",
-        flat: true,
+        says: Says::Safe,
     },
     Row {
         shows: "size 256",
         at: 47,
         removed: 62,
         added: "49a501010201035837a2028181410004582e8214a2035824822f5820ba7816bf8f01cfea414140de5dae2223b00361a396177a9cb410ff61f20015ad0e190100",
-        flat: true,
+        says: Says::Safe,
     },
     Row {
         shows: "size 18446744073709551615",
         at: 47,
         removed: 62,
         added: "4fa50101020103583da202818141000458348214a2035824822f5820ba7816bf8f01cfea414140de5dae2223b00361a396177a9cb410ff61f20015ad0e1bffffffffffffffff",
-        flat: true,
+        says: Says::Safe,
     },
     Row {
         shows: "a long head",
         at: 47,
         removed: 5,
         added: "48a501010218",
-        flat: false,
+        says: Says::NotBuilt,
     },
     Row {
         shows: "a byte after the digest",
         at: 47,
         removed: 60,
         added: "48a501010201035836a2028181410004582d8214a2035825822f5820ba7816bf8f01cfea414140de5dae2223b00361a396177a9cb410ff61f20015ad00",
-        flat: false,
+        says: Says::NotBuilt,
     },
     Row {
         shows: "a byte after the shared sequence",
         at: 47,
         removed: 62,
         added: "48a501010201035836a2028181410004582d8214a2035824822f5820ba7816bf8f01cfea414140de5dae2223b00361a396177a9cb410ff61f20015ad0e0300",
-        flat: false,
+        says: Says::NotBuilt,
     },
     Row {
         shows: "a byte after common",
         at: 47,
         removed: 62,
         added: "48a501010201035836a2028181410004582c8214a2035824822f5820ba7816bf8f01cfea414140de5dae2223b00361a396177a9cb410ff61f20015ad0e0300",
-        flat: false,
+        says: Says::NotBuilt,
     },
     Row {
         shows: "a byte after validate",
         at: 47,
         removed: 67,
         added: "48a501010201035835a2028181410004582c8214a2035824822f5820ba7816bf8f01cfea414140de5dae2223b00361a396177a9cb410ff61f20015ad0e03074482030f00",
-        flat: false,
+        says: Says::NotBuilt,
     },
     Row {
         shows: "a byte after invoke",
         at: 47,
         removed: 72,
         added: "48a501010201035835a2028181410004582c8214a2035824822f5820ba7816bf8f01cfea414140de5dae2223b00361a396177a9cb410ff61f20015ad0e03074382030f094482170f00",
-        flat: false,
+        says: Says::NotBuilt,
     },
     Row {
         shows: "a byte after the manifest",
         at: 47,
         removed: 72,
         added: "48a501010201035835a2028181410004582c8214a2035824822f5820ba7816bf8f01cfea414140de5dae2223b00361a396177a9cb410ff61f20015ad0e03074382030f094382170f00",
-        flat: false,
+        says: Says::NotBuilt,
     },
     Row {
         shows: "a byte after the envelope",
         at: 119,
         removed: 0,
         added: "00",
-        flat: false,
+        says: Says::Refused("refused at 119: trailing\n"),
     },
     Row {
         shows: "another algorithm",
         at: 47,
         removed: 26,
         added: "48a501010201035836a2028181410004582d8214a203582582382b",
-        flat: false,
+        says: Says::NotBuilt,
     },
     Row {
         shows: "a digest of 31 bytes",
         at: 47,
         removed: 60,
         added: "46a501010201035834a2028181410004582b8214a2035823822f581fba7816bf8f01cfea414140de5dae2223b00361a396177a9cb410ff61f20015",
-        flat: false,
+        says: Says::NotBuilt,
     },
     Row {
         shows: "a digest of 33 bytes",
         at: 47,
         removed: 60,
         added: "48a501010201035836a2028181410004582d8214a2035825822f5821ba7816bf8f01cfea414140de5dae2223b00361a396177a9cb410ff61f20015ad00",
-        flat: false,
+        says: Says::NotBuilt,
     },
     Row {
         shows: "no tag",
         at: 0,
         removed: 2,
         added: "",
-        flat: false,
+        says: Says::NotBuilt,
     },
     Row {
         shows: "another tag",
         at: 1,
         removed: 1,
         added: "6c",
-        flat: false,
+        says: Says::NotBuilt,
     },
     Row {
         shows: "version 2",
         at: 50,
         removed: 1,
         added: "02",
-        flat: false,
+        says: Says::NotBuilt,
     },
     Row {
         shows: "another condition",
         at: 112,
         removed: 1,
         added: "0e",
-        flat: false,
+        says: Says::NotBuilt,
     },
     Row {
         shows: "another directive",
         at: 117,
         removed: 1,
         added: "15",
-        flat: false,
+        says: Says::NotBuilt,
     },
     Row {
         shows: "no invoke",
         at: 47,
         removed: 71,
         added: "42a401010201035835a2028181410004582c8214a2035824822f5820ba7816bf8f01cfea414140de5dae2223b00361a396177a9cb410ff61f20015ad0e0307438203",
-        flat: false,
+        says: Says::NotBuilt,
     },
     Row {
         shows: "a further member",
         at: 47,
         removed: 72,
         added: "49a601010201035835a2028181410004582c8214a2035824822f5820ba7816bf8f01cfea414140de5dae2223b00361a396177a9cb410ff61f20015ad0e03074382030f094382170f1040",
-        flat: false,
+        says: Says::NotBuilt,
     },
     Row {
         shows: "no bytes",
         at: 0,
         removed: 119,
         added: "",
-        flat: false,
+        says: Says::Refused("refused at 0: truncated\n"),
     },
 ];
 
@@ -373,13 +396,8 @@ fn the_flat_form_has_these_bounds(rt: HostRuntime) -> Result<(), Fail> {
         let file = edited(alloc, row)?;
         let (status, text) = ran(alloc, &CHECK, file.as_slice(), &[], &[])?;
         let shows = row.shows;
-        if row.flat {
-            assert_eq!(rt; status, 0, "{shows}");
-            assert_eq!(rt; text.as_slice(), SAFE.as_bytes(), "{shows}");
-        } else {
-            assert_eq!(rt; status, 3, "{shows}");
-            assert_eq!(rt; text.as_slice(), b"not built\n".as_slice(), "{shows}");
-        }
+        assert_eq!(rt; status, row.says.status(), "{shows}");
+        assert_eq!(rt; text.as_slice(), row.says.text().as_bytes(), "{shows}");
     }
     Ok(())
 }
@@ -392,7 +410,7 @@ fn without_a_match_the_invocation_is_unsafe(rt: HostRuntime) -> Result<(), Fail>
         at: 47,
         removed: 67,
         added: "42a401010201035835a2028181410004582c8214a2035824822f5820ba7816bf8f01cfea414140de5dae2223b00361a396177a9cb410ff61f20015ad0e03",
-        flat: true,
+        says: Says::NotBuilt,
     };
     let file = edited(alloc, &row)?;
     let (status, text) = ran(alloc, &CHECK, file.as_slice(), &[], &[])?;
@@ -400,6 +418,47 @@ fn without_a_match_the_invocation_is_unsafe(rt: HostRuntime) -> Result<(), Fail>
         "update safe\ninvocation unsafe\nidentity 0 vendor none class none device none slot 0\nset 0 3\nset 0 14\nset 0 3\nset 0 14\nset 0 3\nset 0 14\ninvoked 0 ba7816bf8f01cfea414140de5dae2223b00361a396177a9cb410ff61f20015ad 3\n";
     assert_eq!(rt; text.as_slice(), expected.as_bytes());
     assert_eq!(rt; status, 1);
+    Ok(())
+}
+
+#[test]
+fn a_prefix_of_an_envelope_is_truncated(rt: HostRuntime) -> Result<(), Fail> {
+    let alloc = rt.alloc();
+    let stored = hex::decode(alloc, STORED)?;
+    for length in 0..119usize {
+        let prefix = stored.as_slice().get(..length).ok_or("no prefix")?;
+        let (status, text) = ran(alloc, &CHECK, prefix, &[], &[])?;
+        let line = format!(in alloc; "refused at {length}: truncated\n")?;
+        assert_eq!(rt; status, 3, "length {length}");
+        assert_eq!(rt; text.as_slice(), line.as_bytes(), "length {length}");
+    }
+    Ok(())
+}
+
+#[test]
+fn each_fault_of_an_item_is_told(rt: HostRuntime) -> Result<(), Fail> {
+    let alloc = rt.alloc();
+    let rows = [
+        ("1817", "refused at 0: not shortest\n"),
+        ("821f00", "refused at 1: indefinite\n"),
+        ("81fb", "refused at 1: kind\n"),
+        ("61ff", "refused at 0: bad text\n"),
+        ("a203010201", "refused at 3: order\n"),
+        ("a203010301", "refused at 3: repeated\n"),
+        (
+            "8181818181818181818181818181818180",
+            "refused at 16: too deep\n",
+        ),
+        ("81818181818181818181818181818180", "not built\n"),
+        ("0000", "refused at 1: trailing\n"),
+        ("1a0001", "refused at 3: truncated\n"),
+    ];
+    for (file, line) in &rows {
+        let bytes = hex::decode(alloc, file)?;
+        let (status, text) = ran(alloc, &CHECK, bytes.as_slice(), &[], &[])?;
+        assert_eq!(rt; status, 3, "{file}");
+        assert_eq!(rt; text.as_slice(), line.as_bytes(), "{file}");
+    }
     Ok(())
 }
 
@@ -464,6 +523,6 @@ fn the_sink_may_fail(rt: HostRuntime) -> Result<(), Fail> {
     assert_eq!(rt; text.len(), 0);
     let (status, text) = ran(alloc, &CHECK, stored.as_slice(), &[], &[1])?;
     assert_eq!(rt; status, 0);
-    assert_eq!(rt; text.as_slice(), SAFE.as_bytes());
+    assert_eq!(rt; text.as_slice(), Says::Safe.text().as_bytes());
     Ok(())
 }

@@ -1,5 +1,5 @@
 -- A table of files after a name got its bytes.
-use Rattle.std.proofs.Common.{suc, zero, not, ◌≡◌, ◌≢◌, ◌<◌, ◌≤◌, ◌+◌, ℕ, List, [], ◌∷◌, ◌++◌, length, Option, Some, None, Bool, true, false, cond, refl, arith, ap, sym, ◌∙◌, if◌then◌else◌, get_or, set}
+use Rattle.std.proofs.Common.{suc, zero, not, ◌≡◌, ◌≢◌, ◌<◌, ◌≤◌, ◌+◌, ℕ, List, [], ◌∷◌, ◌++◌, length, Some, None, Bool, true, false, cond, refl, arith, ap, sym, ◌∙◌, if◌then◌else◌, get_or, set}
 use Rattle.std.specs.List.{position, position_or_len}
 use Rattle.std.specs.Prelude.{nat_lt}
 use Rattle.std.proofs.lemmas.List.Quantifiers.{position-Some}

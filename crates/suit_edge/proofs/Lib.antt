@@ -1,1 +1,9 @@
 pub mod FileTables
+pub mod Gates
+pub mod MemoryImages
+pub mod Moments
+mod Pieces
+pub mod Runs
+pub mod Seen
+mod Vouching
+pub mod Written

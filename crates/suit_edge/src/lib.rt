@@ -2,24 +2,48 @@
 #![tactic(auto)]
 
 mod calls;
+mod client;
+mod disk;
+#[cfg(test)]
+mod disk_tests;
 mod edge;
+mod file_disk;
 mod file_host;
+mod file_launcher;
 mod file_table;
+mod fuse_disk;
 mod host;
 #[cfg(test)]
 mod host_and_sink_tests;
+mod launch;
+mod launcher;
+#[cfg(test)]
+mod launcher_tests;
+mod memory_disk;
 mod memory_host;
+mod memory_launcher;
 mod memory_sink;
+mod page;
 mod rest;
 mod sink;
 mod std_sink;
+mod step;
 mod take;
 
+pub use disk::Disk;
 pub use edge::Edge;
+pub use file_disk::FileDisk;
 pub use file_host::FileHost;
+pub use file_launcher::FileLauncher;
+pub use fuse_disk::FuseDisk;
 pub use host::{Host, Pulled, Started};
+pub use launch::{Launch, Launches};
+pub use launcher::{Image, Launched, Launcher};
+pub use memory_disk::MemoryDisk;
 pub use memory_host::MemoryHost;
+pub use memory_launcher::MemoryLauncher;
 pub use memory_sink::MemorySink;
+pub use page::{CLOSED, OPEN, write_and_sync, write_gated};
 pub use sink::Sink;
 pub use std_sink::StdSink;
 pub use take::{Taken, take_all};

@@ -1,4 +1,3 @@
-use Rattle.std.proofs.Common.{◌<◌, length, rules, arith}
 use Rattle.det_cbor.specs.DataLists.{pairs_of}
 use Rattle.det_cbor.specs.ItemOrder.{pairs_order}
 use Rattle.det_cbor.specs.ItemTree.{pair_trees_of}

@@ -1,7 +1,7 @@
 use Rattle.std.proofs.Common.{◌≡◌, ◌++◌, drop}
 use Rattle.det_cbor.specs.DataItem.{spell_items, spell_pairs}
 use Rattle.det_cbor.specs.DataLists.{items_of, pairs_of}
-use Rattle.det_cbor.specs.Growth.{BeginsWithAll}
+use Rattle.det_cbor.specs.Prefix.{IsPrefix}
 use Rattle.det_cbor.specs.ItemTree.{trees_of, pair_trees_of}
 use Rattle.det_cbor.proofs.encoding.+push.Given as goal
 
@@ -9,9 +9,9 @@ use Rattle.det_cbor.proofs.encoding.+push.Given as goal
 abbrev pub invariant-push_items-loop-item : goal.invariant-push_items-loop-item
 invariant-push_items-loop-item l =
     (l.out ++ spell_items (items_of (trees_of (drop l.item-index l.item-items))) ≡ l.fn.out ++ spell_items (items_of (trees_of l.item-items)))
-    × BeginsWithAll l.fn.out l.out
+    × IsPrefix l.fn.out l.out
 
 abbrev pub invariant-push_pairs-loop-key : goal.invariant-push_pairs-loop-key
 invariant-push_pairs-loop-key l =
     (l.out ++ spell_pairs (pairs_of (pair_trees_of (drop l.key-index l.key-items))) ≡ l.fn.out ++ spell_pairs (pairs_of (pair_trees_of l.key-items)))
-    × BeginsWithAll l.fn.out l.out
+    × IsPrefix l.fn.out l.out

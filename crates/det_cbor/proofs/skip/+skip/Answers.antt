@@ -1,6 +1,5 @@
-use Rattle.std.proofs.Common.{◌≡◌}
 use Rattle.std.specs.Prelude.{option_map}
-use Rattle.det_cbor.specs.ItemSkipping.{skips_by, pair_skips_by, skip_at}
+use Rattle.det_cbor.specs.ItemSkipping.{skip_at}
 use Rattle.det_cbor.proofs.Skipping.{skips_step, pair_skips_step}
 use Rattle.det_cbor.proofs.skip.+skip.Goals as goal
 

@@ -1,4 +1,4 @@
-use Rattle.std.proofs.Common.{◌≡◌, ◌++◌, ◌∷◌, [], None}
+use Rattle.std.proofs.Common.{◌≡◌, None}
 use Rattle.std.specs.List.{position}
 use Rattle.suit_edge.proofs.FileTables.{has_name, pushed_where_missing}
 use Rattle.suit_edge.proofs.file_table.FileTable.set.Goals as goal

@@ -1,0 +1,178 @@
+//! Decoding of one item.
+
+ghost use Rattle.std.specs.Prelude.{◌≡◌, ℕ, None, IfOk, IfErr};
+ghost use Rattle.det_cbor.specs.declared.reason.Reason.{Reason};
+ghost use Rattle.det_cbor.specs.DataItem.{DataItem, TaggedItem};
+ghost use Rattle.det_cbor.specs.Decoding.{Gives, IsFaultOf, IsDecoded, IsRefusedAt};
+ghost use Rattle.det_cbor.specs.Faults.{Faulty};
+ghost use Rattle.det_cbor.specs.ItemReading.{items_by, pairs_by, string_item, text_item, array_item, map_item, tagged_item, item_at, reader_at};
+ghost use Rattle.det_cbor.specs.ItemTree.{tree_of};
+ghost use Rattle.det_cbor.specs.OneReading.{StartsWithItem};
+
+use crate::parts::{first_head, order, read_before, stop, string_in, text_in};
+use crate::read_fault::ReadFault;
+use crate::validity::MAX_LEVELS;
+use crate::{Bytes, CborFault, HeadKind, Inner, Item, Items, Pairs, Reason, Text};
+use std::alloc::Global;
+
+fn read_string<'a>(
+    alloc: Global,
+    bytes: &[u8],
+    count: u64,
+    rest: &'a [u8],
+) -> Result<(Item, &'a [u8]), ReadFault>
+    ensures { Gives (λ x. (tree_of x.0, x.1.now)) result (string_item bytes.now count rest.now) }
+{
+    let (string, rest) = string_in(bytes, count, rest)?;
+    let held = Bytes::from_slice(alloc, string)?;
+    Ok((Item::Bytes(held), rest))
+}
+
+fn read_text<'a>(
+    alloc: Global,
+    bytes: &[u8],
+    count: u64,
+    rest: &'a [u8],
+) -> Result<(Item, &'a [u8]), ReadFault>
+    ensures { Gives (λ x. (tree_of x.0, x.1.now)) result (text_item bytes.now count rest.now) }
+{
+    let (text, rest) = text_in(bytes, count, rest)?;
+    let held = Text::from_str(alloc, text)?;
+    Ok((Item::Text(held), rest))
+}
+
+// Reads an item with at most so many levels.
+#[cycle(read)]
+#[tactic(auto, using(crate::proofs::ReadingSteps::item_at_is))]
+fn read_item(alloc: Global, bytes: &[u8], levels: u8) -> Result<(Item, &[u8]), ReadFault>
+    ensures { Gives (λ x. (tree_of x.0, x.1.now)) result (item_at levels bytes.now) }
+{
+    let (head, rest) = first_head(bytes)?;
+    match head.kind {
+        HeadKind::Unsigned => Ok((Item::Unsigned(head.value), rest)),
+        HeadKind::Negative => Ok((Item::Negative(head.value), rest)),
+        HeadKind::Bytes => read_string(alloc, bytes, head.value, rest),
+        HeadKind::Text => read_text(alloc, bytes, head.value, rest),
+        HeadKind::Array => read_array(alloc, bytes, head.value, rest, levels),
+        HeadKind::Map => read_map(alloc, bytes, head.value, rest, levels),
+        HeadKind::Tag => read_tagged(alloc, bytes, head.value, rest, levels),
+        HeadKind::Bool => Ok((Item::Bool(head.value == 1), rest)),
+        HeadKind::Null => Ok((Item::Null, rest)),
+    }
+}
+
+#[cycle(read)]
+#[tactic(auto, using(crate::proofs::ReadingSteps::reader_above, crate::proofs::ReadingSteps::reader_none))]
+fn read_array<'a>(
+    alloc: Global,
+    bytes: &[u8],
+    count: u64,
+    rest: &'a [u8],
+    levels: u8,
+) -> Result<(Item, &'a [u8]), ReadFault>
+    ensures { Gives (λ x. (tree_of x.0, x.1.now)) result (array_item (reader_at levels) bytes.now count rest.now) }
+{
+    if levels == 0 {
+        return Err(ReadFault::Stopped(stop(bytes, Reason::TooDeep)));
+    }
+    let (items, rest) = read_items(alloc, count, rest, levels - 1)?;
+    Ok((Item::Array(items), rest))
+}
+
+#[cycle(read)]
+fn read_items(
+    alloc: Global,
+    count: u64,
+    bytes: &[u8],
+    levels: u8,
+) -> Result<(Items, &[u8]), ReadFault>
+    ensures { Gives (λ x. (x.0, x.1.now)) result (items_by (item_at levels) count bytes.now) }
+{
+    let mut items = Items::new(alloc);
+    let mut rest = bytes;
+    for _ in 0..count {
+        let (item, after) = read_item(alloc, rest, levels)?;
+        items.push(item)?;
+        rest = after;
+    }
+    Ok((items, rest))
+}
+
+#[cycle(read)]
+#[tactic(auto, using(crate::proofs::ReadingSteps::reader_above, crate::proofs::ReadingSteps::reader_none))]
+fn read_map<'a>(
+    alloc: Global,
+    bytes: &[u8],
+    count: u64,
+    rest: &'a [u8],
+    levels: u8,
+) -> Result<(Item, &'a [u8]), ReadFault>
+    ensures { Gives (λ x. (tree_of x.0, x.1.now)) result (map_item (reader_at levels) bytes.now count rest.now) }
+{
+    if levels == 0 {
+        return Err(ReadFault::Stopped(stop(bytes, Reason::TooDeep)));
+    }
+    let (pairs, rest) = read_pairs(alloc, count, rest, levels - 1)?;
+    Ok((Item::Map(pairs), rest))
+}
+
+#[cycle(read)]
+fn read_pairs(
+    alloc: Global,
+    count: u64,
+    bytes: &[u8],
+    levels: u8,
+) -> Result<(Pairs, &[u8]), ReadFault>
+    ensures { Gives (λ x. (x.0, x.1.now)) result (pairs_by (item_at levels) None count bytes.now) }
+{
+    let mut pairs = Pairs::new(alloc);
+    let mut rest = bytes;
+    let mut before = None;
+    for _ in 0..count {
+        let (key, after_key) = read_item(alloc, rest, levels)?;
+        let spelled = read_before(rest, after_key);
+        order(rest, before, spelled)?;
+        let (value, after) = read_item(alloc, after_key, levels)?;
+        pairs.push(key, value)?;
+        before = Some(spelled);
+        rest = after;
+    }
+    Ok((pairs, rest))
+}
+
+#[cycle(read)]
+#[tactic(auto, using(crate::proofs::ReadingSteps::reader_above, crate::proofs::ReadingSteps::reader_none))]
+fn read_tagged<'a>(
+    alloc: Global,
+    bytes: &[u8],
+    tag: u64,
+    rest: &'a [u8],
+    levels: u8,
+) -> Result<(Item, &'a [u8]), ReadFault>
+    ensures { Gives (λ x. (tree_of x.0, x.1.now)) result (tagged_item (reader_at levels) bytes.now tag rest.now) }
+{
+    if levels == 0 {
+        return Err(ReadFault::Stopped(stop(bytes, Reason::TooDeep)));
+    }
+    let (item, rest) = read_item(alloc, rest, levels - 1)?;
+    Ok((Item::Tagged(tag, Inner::new(alloc, item)?), rest))
+}
+
+/// The item that a prefix of the bytes spells, and the length of that prefix (RFC 8949, section
+/// 4.2.1). Bytes after it are not looked at.
+pub fn decode(alloc: Global, bytes: &[u8]) -> Result<(Item, usize), CborFault>
+    ensures item { IfOk result (λ r. StartsWithItem bytes.now (tree_of r.0) r.1) }
+    ensures fault { IfErr result (IsFaultOf bytes.now) }
+    ensures every_item { (x : DataItem) (used : ℕ) → StartsWithItem bytes.now x used → IsDecoded x used result }
+    ensures every_fault { (place : ℕ) (reason : Reason) → Faulty 0 bytes.now place reason
+        → IsRefusedAt place reason result }
+{
+    match read_item(alloc, bytes, MAX_LEVELS) {
+        Ok((item, rest)) => Ok((item, bytes.len().saturating_sub(rest.len()))),
+        Err(ReadFault::Stopped(stop)) => Err(CborFault::Refused {
+            place: bytes.len().saturating_sub(stop.left) as u64,
+            reason: stop.reason,
+        }),
+        Err(ReadFault::NoMemory) => Err(CborFault::NoMemory),
+    }
+}

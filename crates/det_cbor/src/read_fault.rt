@@ -1,0 +1,33 @@
+//! Why a reader that takes memory stopped.
+
+use crate::reason::Stop;
+use std::alloc::AllocError;
+
+/// Why nothing was read.
+#[derive(Clone, Copy, Debug, PartialEq, Eq)]
+pub(crate) enum ReadFault {
+    Stopped(Stop),
+    NoMemory,
+}
+
+impl From<AllocError> for ReadFault {
+    ghost use Rattle.std.specs.Prelude.{◌≡◌};
+    ghost use Rattle.det_cbor.specs.declared.read_fault.ReadFault.TheVariants.{NoMemory};
+
+    ghost from_gives = { λ _ e. e ≡ NoMemory };
+
+    fn from(_: AllocError) -> ReadFault {
+        ReadFault::NoMemory
+    }
+}
+
+impl From<Stop> for ReadFault {
+    ghost use Rattle.std.specs.Prelude.{◌≡◌};
+    ghost use Rattle.det_cbor.specs.declared.read_fault.ReadFault.TheVariants.{Stopped};
+
+    ghost from_gives = { λ s e. e ≡ Stopped s };
+
+    fn from(stop: Stop) -> ReadFault {
+        ReadFault::Stopped(stop)
+    }
+}

@@ -1,0 +1,147 @@
+-- A block is laid out in one way.
+use Rattle.std.proofs.Common.{◌≡◌, ℕ, List, [], ◌∷◌, ◌++◌, true, false, refl, sym, ap, subst, ◌∙◌, arith, lit<}
+use Rattle.std.proofs.lemmas.List.{append-nil}
+use Rattle.det_cbor.specs.declared.head.Head.{Head}
+use Rattle.det_cbor.specs.declared.head.HeadKind.TheVariants as kinds
+use Rattle.det_cbor.specs.Heads.{head_bytes}
+use Rattle.det_cbor.specs.DataItem.{DataItem, UnsignedInteger, NegativeInteger, ByteString, TextString, ArrayOf, MapOf, TaggedItem, Boolean, NullItem, DataItems, NoItems, ItemThen, DataPairs, item_count, spell, spell_items, IsString, IsValid, IsValidWithin, AreValidWithin, Spells}
+use Rattle.det_cbor.specs.ItemOrder.{spell_parts}
+use Rattle.det_cbor.specs.OneReading.{IsItem}
+use Rattle.det_cbor.proofs.Arguments.{IsBytes}
+use Rattle.det_cbor.proofs.Levels.{valid_alone}
+use Rattle.det_cbor.proofs.OneSpelling.{one_spelling}
+use Rattle.det_cbor.proofs.Positions.{IsBytes-rest}
+use Rattle.hmac_mac0.specs.Mac0.{mac0_item, IsHeader, IsMac0}
+use Rattle.hmac_mac0.specs.Layout.{StartsWithString, EndsWithTag, HasParts}
+use Rattle.hmac_mac0.proofs.Headers.{content_bytes}
+use Rattle.hmac_mac0.proofs.Layouts.{head_of, item_begins, one_head, one_string}
+
+abbrev pub front : List ℕ
+front = 0xd1 ∷ 0x84 ∷ []
+
+-- the unprotected header, null and the tag
+abbrev tail_of : DataPairs → List ℕ → List ℕ
+tail_of unprotected tag = spell (MapOf unprotected) ++ (spell NullItem ++ (spell (ByteString tag) ++ []))
+
+front_is : (rest : List ℕ) → head_bytes 6 17 ++ (head_bytes 4 4 ++ rest) ≡ front ++ rest
+unfolding head_bytes
+front_is rest = refl
+
+-- ---- the layout
+
+pub parts_found : (block rest after protected tag : List ℕ) → block ≡ front ++ rest → StartsWithString rest protected after → EndsWithTag after tag → HasParts block protected tag
+parts_found block rest after protected tag e s t =
+    record {
+      unprotected = t.unprotected;
+      map = t.map;
+      short_header = s.short;
+      short_tag = t.short;
+      parts = e ∙ ap (λ r. front ++ r) (s.parts ∙ ap (λ r. spell (ByteString protected) ++ r) t.parts) ∙ sym (front_is (spell (ByteString protected) ++ tail_of t.unprotected tag));
+    }
+
+pub parts_front : (block protected tag : List ℕ) (h : HasParts block protected tag) → block ≡ front ++ (spell (ByteString protected) ++ tail_of h.unprotected tag)
+parts_front block protected tag h = h.parts ∙ front_is (spell (ByteString protected) ++ tail_of h.unprotected tag)
+
+same_rest : (a b : List ℕ) → front ++ a ≡ front ++ b → a ≡ b
+same_rest a b e = cc
+
+pub parts_string : (block rest protected tag : List ℕ) (h : HasParts block protected tag) → block ≡ front ++ rest → StartsWithString rest protected (tail_of h.unprotected tag)
+parts_string block rest protected tag h e = record { short = h.short_header; parts = same_rest rest _ (sym e ∙ parts_front block protected tag h) }
+
+pub parts_tag : (block rest protected tag found after : List ℕ) → HasParts block protected tag → block ≡ front ++ rest → StartsWithString rest found after → EndsWithTag after tag
+parts_tag block rest protected tag found after h e s =
+    record { unprotected = h.unprotected; map = h.map; short = h.short_tag; parts = (one_string rest found protected after _ s (parts_string block rest protected tag h e)).1 }
+
+pub one_header : (block p q s t : List ℕ) → HasParts block p s → HasParts block q t → p ≡ q
+one_header block p q s t a b =
+    let rest = spell (ByteString p) ++ tail_of a.unprotected s in
+    (one_string rest p q _ _ (parts_string block rest p s a (parts_front block p s a)) (parts_string block rest q t b (parts_front block p s a))).0
+
+-- ---- the levels: of a whole item, the map in the array in the tag is valid there
+
+record InTag (rest : List ℕ) : Type 0 where
+  inner : DataItem
+  valid : IsValidWithin 1 inner
+  parts : rest ≡ spell inner
+
+in_tag : (x : DataItem) (number : ℕ) (rest : List ℕ) → IsValid x → head_of x ≡ record { kind = kinds.Tag; value = number } → spell_parts x ++ [] ≡ rest → InTag rest
+in_tag (TaggedItem tag inner) number rest v h e = record { inner = inner; valid = v.2; parts = sym e ∙ append-nil (spell inner) }
+in_tag (UnsignedInteger m) number rest v h e = let k : kinds.Unsigned ≡ kinds.Tag = ap (λ (g : Head). g.kind) h in absurd cc
+in_tag (NegativeInteger m) number rest v h e = let k : kinds.Negative ≡ kinds.Tag = ap (λ (g : Head). g.kind) h in absurd cc
+in_tag (ByteString bytes) number rest v h e = let k : kinds.Bytes ≡ kinds.Tag = ap (λ (g : Head). g.kind) h in absurd cc
+in_tag (TextString bytes) number rest v h e = let k : kinds.Text ≡ kinds.Tag = ap (λ (g : Head). g.kind) h in absurd cc
+in_tag (ArrayOf xs) number rest v h e = let k : kinds.Array ≡ kinds.Tag = ap (λ (g : Head). g.kind) h in absurd cc
+in_tag (MapOf ps) number rest v h e = let k : kinds.Map ≡ kinds.Tag = ap (λ (g : Head). g.kind) h in absurd cc
+in_tag (Boolean false) number rest v h e = let k : kinds.Bool ≡ kinds.Tag = ap (λ (g : Head). g.kind) h in absurd cc
+in_tag (Boolean true) number rest v h e = let k : kinds.Bool ≡ kinds.Tag = ap (λ (g : Head). g.kind) h in absurd cc
+in_tag NullItem number rest v h e = let k : kinds.Null ≡ kinds.Tag = ap (λ (g : Head). g.kind) h in absurd cc
+
+record InArray (count : ℕ) (rest : List ℕ) : Type 0 where
+  items : DataItems
+  valid : AreValidWithin 2 items
+  size : item_count items ≡ count
+  parts : rest ≡ spell_items items
+
+in_array : (x : DataItem) (count : ℕ) (rest : List ℕ) → IsValidWithin 1 x → head_of x ≡ record { kind = kinds.Array; value = count } → spell_parts x ++ [] ≡ rest → InArray count rest
+in_array (ArrayOf xs) count rest v h e = record { items = xs; valid = v.2; size = ap (λ (g : Head). g.value) h; parts = sym e ∙ append-nil (spell_items xs) }
+in_array (UnsignedInteger m) count rest v h e = let k : kinds.Unsigned ≡ kinds.Array = ap (λ (g : Head). g.kind) h in absurd cc
+in_array (NegativeInteger m) count rest v h e = let k : kinds.Negative ≡ kinds.Array = ap (λ (g : Head). g.kind) h in absurd cc
+in_array (ByteString bytes) count rest v h e = let k : kinds.Bytes ≡ kinds.Array = ap (λ (g : Head). g.kind) h in absurd cc
+in_array (TextString bytes) count rest v h e = let k : kinds.Text ≡ kinds.Array = ap (λ (g : Head). g.kind) h in absurd cc
+in_array (MapOf ps) count rest v h e = let k : kinds.Map ≡ kinds.Array = ap (λ (g : Head). g.kind) h in absurd cc
+in_array (TaggedItem tag inner) count rest v h e = let k : kinds.Tag ≡ kinds.Array = ap (λ (g : Head). g.kind) h in absurd cc
+in_array (Boolean false) count rest v h e = let k : kinds.Bool ≡ kinds.Array = ap (λ (g : Head). g.kind) h in absurd cc
+in_array (Boolean true) count rest v h e = let k : kinds.Bool ≡ kinds.Array = ap (λ (g : Head). g.kind) h in absurd cc
+in_array NullItem count rest v h e = let k : kinds.Null ≡ kinds.Array = ap (λ (g : Head). g.kind) h in absurd cc
+
+-- the items of a block's array
+items_of_block : (block rest : List ℕ) → IsItem block → block ≡ front ++ rest → InArray 4 rest
+items_of_block block rest x e =
+    let outer = one_head block _ (record { kind = kinds.Tag; value = 17 }) _ (head_bytes 4 4 ++ rest)
+    (item_begins 0 x.0 block [] x.1.valid (x.1.is ∙ sym (append-nil (spell x.0)))) (record { value = lit< tt; parts = e ∙ sym (front_is rest) }) in
+    let tagged = in_tag x.0 17 (head_bytes 4 4 ++ rest) x.1.valid outer.0 outer.1 in
+    let inner = one_head (head_bytes 4 4 ++ rest) _ (record { kind = kinds.Array; value = 4 }) _ rest
+    (item_begins 1 tagged.inner (head_bytes 4 4 ++ rest) [] tagged.valid (tagged.parts ∙ sym (append-nil (spell tagged.inner)))) (record { value = lit< tt; parts = refl }) in
+    in_array tagged.inner 4 rest tagged.valid inner.0 inner.1
+
+second_valid : (xs : DataItems) (first second : DataItem) (rest : List ℕ) → AreValidWithin 2 xs → item_count xs ≡ 4 → IsValid first → IsValid second
+    → spell_items xs ≡ spell first ++ (spell second ++ rest) → IsValidWithin 2 second
+second_valid NoItems first second rest v n f s e = absurd (omega (arith, n))
+second_valid (ItemThen a NoItems) first second rest v n f s e = absurd (omega (arith, n))
+second_valid (ItemThen a (ItemThen b xs)) first second rest v n f s e =
+    let after = (one_spelling 2 0 a first (spell b ++ spell_items xs) (spell second ++ rest) v.0 f e).1 in
+    let same = (one_spelling 2 0 b second (spell_items xs) rest v.1.0 s after).0 in
+    subst (IsValidWithin 2) same v.1.0
+
+-- what is laid out as a block, and is an item, is the block's item
+pub parts_spell : (block protected tag : List ℕ) → IsBytes block → IsItem block → (h : HasParts block protected tag) → Spells (mac0_item protected h.unprotected tag) block
+parts_spell block protected tag fits x h =
+    let rest = spell (ByteString protected) ++ tail_of h.unprotected tag in
+    let at = parts_front block protected tag h in
+    let bytes : IsBytes rest = IsBytes-rest front rest (subst IsBytes at fits) in
+    let tail_bytes : IsBytes (spell (ByteString tag) ++ []) =
+    IsBytes-rest (spell NullItem) _ (IsBytes-rest (spell (MapOf h.unprotected)) _ (IsBytes-rest (spell (ByteString protected)) (tail_of h.unprotected tag) bytes)) in
+    let header : IsString protected = (h.short_header, content_bytes rest protected (tail_of h.unprotected tag) bytes refl) in
+    let last : IsString tag = (h.short_tag, content_bytes (spell (ByteString tag) ++ []) tag [] tail_bytes refl) in
+    let array = items_of_block block rest x at in
+    let map = second_valid array.items (ByteString protected) (MapOf h.unprotected) (spell NullItem ++ (spell (ByteString tag) ++ [])) array.valid array.size header h.map (sym array.parts) in
+    record { valid = (lit< tt, lit< tt, (lit< tt, lit< tt, (header, (map, (tt, (last, tt)))))); is = h.parts }
+
+pub parts_mac0 : (block protected tag : List ℕ) → IsBytes block → IsItem block → HasParts block protected tag → IsHeader protected → IsMac0 block protected tag
+parts_mac0 block protected tag fits x h header = record { header = header; unprotected = h.unprotected; spells = parts_spell block protected tag fits x h }
+
+pub mac0_parts : (block protected tag : List ℕ) → IsMac0 block protected tag → HasParts block protected tag
+mac0_parts block protected tag m =
+    let v = m.spells.valid.2.2 in
+    record { unprotected = m.unprotected; map = valid_alone 2 (MapOf m.unprotected) v.1.0; short_header = v.0.0; short_tag = v.1.1.1.0.0; parts = m.spells.is }
+
+pub mac0_item_is : (block protected tag : List ℕ) → IsMac0 block protected tag → IsItem block
+mac0_item_is block protected tag m = (mac0_item protected m.unprotected tag, m.spells)
+
+-- ---- the law
+
+-- a block has one protected header and one tag
+pub one_mac0 : (block p q s t : List ℕ) → IsMac0 block p s → IsMac0 block q t → (p ≡ q) × (s ≡ t)
+one_mac0 block p q s t a b =
+    let same = (one_spelling 0 0 (mac0_item p a.unprotected s) (mac0_item q b.unprotected t) [] [] a.spells.valid b.spells.valid (ap (λ x. x ++ []) (sym a.spells.is ∙ b.spells.is))).0 in
+    (cc, cc)

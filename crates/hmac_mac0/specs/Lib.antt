@@ -1,0 +1,5 @@
+pub mod Hmac
+pub mod MacState
+pub mod Mac0
+pub mod Layout
+pub mod Verdict

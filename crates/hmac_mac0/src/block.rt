@@ -1,0 +1,53 @@
+//! Which bytes are a Mac0 block (RFC 9052, section 6.1).
+
+ghost use Rattle.std.specs.Prelude.{◌↔◌, IsTrue, List, ℕ, IfSome, IfNone};
+ghost use Rattle.det_cbor.specs.OneReading.{IsItem};
+ghost use Rattle.hmac_mac0.specs.Mac0.{IsMac0};
+ghost use Rattle.hmac_mac0.specs.Layout.{HasParts};
+
+use crate::header::is_header;
+use crate::layout::{last_tag, string};
+use det_cbor::Cursor;
+
+// The heads of tag 17 and of an array of four.
+const FRONT: [u8; 2] = [0xd1, 0x84];
+
+/// What a Mac0 block holds: the content of its protected header, and its tag.
+#[derive(Clone, Copy)]
+pub(crate) struct Parts<'a> {
+    pub(crate) protected: &'a [u8],
+    pub(crate) tag: &'a [u8],
+}
+
+/// The parts of a Mac0 block, or `None` where the bytes are of another kind.
+pub(crate) fn read_block(block: &[u8]) -> Option<Parts<'_>>
+    ensures some { IfSome result (λ parts. IsMac0 block.now parts.protected.now parts.tag.now) }
+    ensures none { IfNone result ((protected tag : List ℕ) → IsMac0 block.now protected tag → ⊥) }
+{
+    let parts = split_block(block)?;
+    if is_item(block) && is_header(parts.protected) {
+        Some(parts)
+    } else {
+        None
+    }
+}
+
+// Whether the bytes are one whole item.
+fn is_item(bytes: &[u8]) -> bool
+    ensures { IsTrue result ↔ IsItem bytes.now }
+{
+    let mut cursor = Cursor::new(bytes, 0);
+    cursor.skip().is_ok() && cursor.left() == 0
+}
+
+// The parts of bytes that are laid out as a block.
+fn split_block(block: &[u8]) -> Option<Parts<'_>>
+    ensures some { IfSome result (λ parts. HasParts block.now parts.protected.now parts.tag.now) }
+    ensures none { IfNone result ((protected tag : List ℕ) → HasParts block.now protected tag → ⊥) }
+{
+    let rest = block.strip_prefix(&FRONT)?;
+    let mut cursor = Cursor::new(rest, 0);
+    let protected = string(&mut cursor)?;
+    let tag = last_tag(&mut cursor)?;
+    Some(Parts { protected, tag })
+}

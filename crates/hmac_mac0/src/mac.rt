@@ -1,0 +1,64 @@
+//! HMAC-SHA-256 of pieces, one after another.
+
+ghost use Rattle.std.specs.Prelude.{◌≡◌, ◌++◌, [], List, ℕ};
+ghost use Rattle.hmac_mac0.specs.Hmac.{hmac_of};
+
+#[cfg(test)]
+mod tests;
+
+use crate::key::{padded, xored};
+use sha2::{Digest, Sha256};
+
+/// A MAC that is being computed: the pieces so far, under a key.
+#[derive(Drop)]
+pub struct Mac {
+    inner: Sha256,
+    outer: [u8; 64],
+}
+
+impl Mac {
+    ghost use Rattle.hmac_mac0.specs.MacState.{HasTaken};
+
+    /// A MAC under this key, of no bytes yet.
+    #[tactic(auto, unfolding(crate::specs::MacState::HasTaken))]
+    pub fn new(key: &[u8]) -> Mac
+        ensures { HasTaken result key.now [] }
+    {
+        let block = padded(key);
+        let mut inner = Sha256::new();
+        inner.update(xored(block, 0x36));
+        Mac {
+            inner,
+            outer: xored(block, 0x5c),
+        }
+    }
+
+    /// Adds a piece of the message.
+    #[tactic(auto, unfolding(crate::specs::MacState::HasTaken))]
+    pub fn add(&mut self, piece: &[u8])
+        ensures { (key message : List ℕ) → HasTaken self.old key message → HasTaken self.new key (message ++ piece.now) }
+    {
+        self.inner.update(piece);
+    }
+
+    /// The MAC of the pieces, one after another.
+    #[tactic(auto, unfolding(crate::specs::MacState::HasTaken, crate::specs::Hmac::hmac_of))]
+    pub fn finish(self) -> [u8; 32]
+        ensures { (key message : List ℕ) → HasTaken self key message → result ≡ hmac_of key message }
+    {
+        let digest = self.inner.finalize();
+        let mut outer = Sha256::new();
+        outer.update(self.outer);
+        outer.update(digest);
+        outer.finalize()
+    }
+}
+
+/// The MAC of a message in one piece.
+pub fn hmac(key: &[u8], message: &[u8]) -> [u8; 32]
+    ensures { result ≡ hmac_of key.now message.now }
+{
+    let mut mac = Mac::new(key);
+    mac.add(message);
+    mac.finish()
+}

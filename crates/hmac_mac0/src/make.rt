@@ -1,0 +1,75 @@
+//! Making a Mac0 block.
+
+ghost use Rattle.std.specs.Prelude.{◌≡◌, ◌++◌, List, ℕ, IfOk, IfSome, OnOk, option_map};
+ghost use Rattle.det_cbor.specs.DataItem.{ByteString, MapOf, IsString, Spells, spell};
+ghost use Rattle.det_cbor.specs.Heads.{head_bytes};
+ghost use Rattle.det_cbor.specs.HeadSpelling.{IsValueOf, major_of, argument_of};
+ghost use Rattle.hmac_mac0.specs.Mac0.{made_header, made_item, kid_pairs, tag_of, IsMac0, Verifies};
+
+use crate::header::HEADER;
+use crate::structure::tag;
+use det_cbor::{Bytes, Head, HeadKind, push_head};
+use std::alloc::{AllocError, Global};
+
+/// The block whose tag is that of the key and the payload.
+///
+/// The protected header holds the algorithm alone; a kid, which is a name for the key, stands unprotected.
+pub fn make_block(
+    alloc: Global,
+    key: &[u8],
+    kid: Option<&[u8]>,
+    payload: &[u8],
+) -> Result<Bytes, AllocError>
+    ensures spells { IfOk result (λ block. Spells (made_item key.now (option_map (λ k. k.now) kid.entry) payload.now) block) }
+    ensures verifies { IfOk result (λ block. Verifies block key.now payload.now) }
+    ensures alone { IfOk result (λ block. (protected tag : List ℕ) → IsMac0 block protected tag
+        → (protected ≡ made_header) × (tag ≡ tag_of key.now made_header payload.now)) }
+{
+    let mut block = Bytes::new(alloc);
+    push_header(&mut block)?;
+    push_unprotected(&mut block, kid)?;
+    push(&mut block, HeadKind::Null, 0)?;
+    push_string(&mut block, &tag(key, &HEADER, payload))?;
+    Ok(block)
+}
+
+// Adds a head.
+fn push(block: &mut Bytes, kind: HeadKind, value: u64) -> Result<(), AllocError>
+    requires { IsValueOf kind value }
+    ensures { OnOk result (block.new ≡ block.old ++ head_bytes (major_of kind) (argument_of kind value)) }
+{
+    push_head(block, Head { kind, value })
+}
+
+// Adds the spelling of a byte string.
+fn push_string(block: &mut Bytes, content: &[u8]) -> Result<(), AllocError>
+    ensures is_string { IsString content.now }
+    ensures ok { OnOk result (block.new ≡ block.old ++ spell (ByteString content.now)) }
+{
+    push(block, HeadKind::Bytes, content.len() as u64)?;
+    block.extend(content)
+}
+
+// Adds the heads of tag 17 and of an array of four, and the protected header.
+fn push_header(block: &mut Bytes) -> Result<(), AllocError>
+    ensures { OnOk result (block.new ≡ block.old ++ head_bytes 6 17 ++ head_bytes 4 4 ++ spell (ByteString made_header)) }
+{
+    push(block, HeadKind::Tag, 17)?;
+    push(block, HeadKind::Array, 4)?;
+    push_string(block, &HEADER)
+}
+
+// Adds the map of 4 to a kid, or the empty map.
+fn push_unprotected(block: &mut Bytes, kid: Option<&[u8]>) -> Result<(), AllocError>
+    ensures is_string { OnOk result (IfSome kid.entry (λ k. IsString k.now)) }
+    ensures ok { OnOk result (block.new ≡ block.old ++ spell (MapOf (kid_pairs (option_map (λ k. k.now) kid.entry)))) }
+{
+    match kid {
+        None => push(block, HeadKind::Map, 0),
+        Some(kid) => {
+            push(block, HeadKind::Map, 1)?;
+            push(block, HeadKind::Unsigned, 4)?;
+            push_string(block, kid)
+        }
+    }
+}

@@ -1,0 +1,61 @@
+//! The MAC structure (RFC 9052, section 6.3), fed to a MAC piece by piece.
+
+ghost use Rattle.std.specs.Prelude.{◌≡◌, ◌<◌, ◌++◌, ◌∷◌, List, ℕ};
+ghost use Rattle.det_cbor.specs.DataItem.{ByteString, spell};
+ghost use Rattle.det_cbor.specs.Heads.{head_bytes};
+ghost use Rattle.hmac_mac0.specs.Mac0.{tag_of};
+ghost use Rattle.hmac_mac0.specs.MacState.{HasTaken};
+
+use crate::Mac;
+
+// An array of four, and its first element.
+const CONTEXT: [u8; 6] = *b"\x84\x64MAC0";
+
+// The byte string of no external data.
+const NO_EXTERNAL: [u8; 1] = [0x40];
+
+/// The tag of a protected header and a payload.
+pub(crate) fn tag(key: &[u8], protected: &[u8], payload: &[u8]) -> [u8; 32]
+    ensures { result ≡ tag_of key.now protected.now payload.now }
+{
+    let mut mac = Mac::new(key);
+    mac.add(&CONTEXT);
+    add_string(&mut mac, protected);
+    mac.add(&NO_EXTERNAL);
+    add_string(&mut mac, payload);
+    mac.finish()
+}
+
+// Adds the spelling of a byte string.
+fn add_string(mac: &mut Mac, content: &[u8])
+    ensures { (key message : List ℕ) → HasTaken mac.old key message → HasTaken mac.new key (message ++ spell (ByteString content.now)) }
+{
+    add_head(mac, content.len() as u64);
+    mac.add(content);
+}
+
+// Adds a first byte and what follows it.
+fn add_parts(mac: &mut Mac, first: u8, rest: &[u8])
+    ensures { (key message : List ℕ) → HasTaken mac.old key message → HasTaken mac.new key (message ++ first ∷ rest.now) }
+{
+    mac.add(&[first]);
+    mac.add(rest);
+}
+
+// Adds the head of a byte string, in its shortest form.
+#[tactic(auto, unfolding(det_cbor::specs::Heads::head_bytes))]
+fn add_head(mac: &mut Mac, length: u64)
+    ensures { (key message : List ℕ) → HasTaken mac.old key message → HasTaken mac.new key (message ++ head_bytes 2 length) }
+{
+    if length < 24 {
+        mac.add(&[0x40 + length as u8]);
+    } else if length < 1 << 8 {
+        add_parts(mac, 0x58, &(length as u8).to_be_bytes());
+    } else if length < 1 << 16 {
+        add_parts(mac, 0x59, &(length as u16).to_be_bytes());
+    } else if length < 1 << 32 {
+        add_parts(mac, 0x5a, &(length as u32).to_be_bytes());
+    } else {
+        add_parts(mac, 0x5b, &length.to_be_bytes());
+    }
+}

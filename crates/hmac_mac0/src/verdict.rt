@@ -1,0 +1,45 @@
+//! Verifying a Mac0 block.
+
+ghost use Rattle.std.specs.Prelude.{◌≡◌, ◌↔◌, List, ℕ};
+ghost use Rattle.hmac_mac0.specs.Mac0.{IsMac0, Verifies};
+ghost use Rattle.hmac_mac0.specs.Verdict.{IsJustified};
+
+#[cfg(test)]
+mod tests;
+
+use crate::block::read_block;
+use crate::compare::are_equal;
+use crate::structure::tag;
+
+/// Whether a block verifies under a key, for a payload that stands apart from it.
+#[derive(Clone, Copy, Debug, PartialEq, Eq)]
+pub enum MacVerdict<'a> {
+    /// The block's tag is that of the key and the payload.
+    Verified,
+    /// The block is no Mac0 block, and may be of any other kind.
+    OtherKind,
+    /// A Mac0 block with another tag, of any length: the tag that was computed, and the block's.
+    Differs { expected: [u8; 32], found: &'a [u8] },
+}
+
+/// Verifies a block. Takes no memory.
+pub fn verify<'a>(block: &'a [u8], key: &[u8], payload: &[u8]) -> MacVerdict<'a>
+    ensures verified { (result ≡ MacVerdict.Verified) ↔ Verifies block.now key.now payload.now }
+    ensures other_kind { (result ≡ MacVerdict.OtherKind) ↔ ((protected tag : List ℕ) → IsMac0 block.now protected tag → ⊥) }
+    ensures differs { IsJustified result block.now key.now payload.now }
+{
+    match read_block(block) {
+        None => MacVerdict::OtherKind,
+        Some(parts) => {
+            let expected = tag(key, parts.protected, payload);
+            if are_equal(parts.tag, &expected) {
+                MacVerdict::Verified
+            } else {
+                MacVerdict::Differs {
+                    expected,
+                    found: parts.tag,
+                }
+            }
+        }
+    }
+}

@@ -1,0 +1,10 @@
+use Rattle.std.proofs.Common.{◌≡◌, None, Some, Option}
+use Rattle.suit_cli.specs.FlatPlan.{form_of}
+use Rattle.suit_cli.proofs.Replying.{built, not_built}
+use Rattle.suit_cli.proofs.check.judge_item.Goals as goal
+
+pub returns-in-None : goal.returns-in-None
+returns-in-None c = not_built c.args.bytes.now c.fixed.result (λ f flat. let never : None ≡ Some (form_of f) = c.in-None.ensures.read f flat in absurd cc) c.fixed.ensures.outcome c.fixed.ensures.text
+
+pub returns-in-Some : goal.returns-in-Some
+returns-in-Some c = built c.args.bytes.now c.in-Some.form c.judge_form.result c.in-Some.ensures.spelled c.judge_form.ensures

@@ -1,0 +1,30 @@
+use Rattle.std.proofs.Common.{sym, arith, rules}
+use Rattle.suit_edge.proofs.Pieces.{piece_kept, piece_written}
+use Rattle.suit_edge.proofs.Runs.{keeps_start}
+use Rattle.suit_edge.proofs.Written.{written-none}
+use Rattle.suit_edge.proofs.client.write_pieces.Goals as goal
+
+pub loop-done-init : goal.loop-done-init
+loop-done-init g c = record {
+  within = omega arith;
+  size = search rules;
+  faults = search rules;
+  written = λ t. let law = g.met.D.Disk.obeys c.args.disk.now t in sym (written-none _ c.args.place (omega (arith, law.fits)));
+  keeps = λ t. keeps_start _ _;
+}
+
+pub returns-in-Failed-clause-keeps : goal.returns-in-Failed-clause-keeps
+returns-in-Failed-clause-keeps g c t =
+    piece_kept c.args.bytes.now c.args.place c.loop-done.done c.min.result (omega arith) _ _ _ _ (g.met.D.Disk.obeys c.loop-done.disk t) (c.loop-done.invariant.keeps t) (c.write_at.ensures.keeps t)
+
+pub loop-done-preserved : goal.loop-done-preserved
+loop-done-preserved g c = record {
+  within = omega arith;
+  size = search rules;
+  faults = search rules;
+  written = λ t.
+      let law = g.met.D.Disk.obeys c.args.disk.now t in
+      piece_written c.args.bytes.now c.args.place c.loop-done.done c.min.result (omega arith) _ _ _ (omega (arith, law.fits)) (c.loop-done.invariant.written t) (c.in-Done.ensures.written t);
+  keeps = λ t.
+      piece_kept c.args.bytes.now c.args.place c.loop-done.done c.min.result (omega arith) _ _ _ _ (g.met.D.Disk.obeys c.loop-done.disk t) (c.loop-done.invariant.keeps t) (c.write_at.ensures.keeps t);
+}

@@ -1,0 +1,149 @@
+//! A disk in a file.
+
+ghost use Rattle.std.specs.Prelude.{◌≡◌};
+ghost use Rattle.suit_edge.specs.Faults.{EdgeCounts};
+
+use crate::{Disk, Edge};
+use std::fs::{File, OpenOptions};
+use std::io;
+use std::marker::Model;
+use std::os::unix::fs::FileExt;
+use std::rt::Files;
+
+/// The name of the file, in the working directory.
+const NAME: &str = "suit.flash";
+
+/// The number of bytes of the disk.
+const SIZE: u64 = 4_194_304;
+
+/// A disk of 4,194,304 bytes in the file `suit.flash` of the working directory. The file is opened at the first
+/// call. One that is missing is made of zeros, a shorter one is filled with zeros, and of a longer one the rest is
+/// left alone. It tells nothing of what it holds.
+#[derive(Drop)]
+pub struct FileDisk<R: Files<File = File> + Drop> {
+    rt: R,
+    file: Option<File>,
+    faults: u64,
+}
+
+impl<R: Files<File = File> + Drop> Model for FileDisk<R> {
+    ghost use Rattle.std.specs.Prelude.{ℕ};
+
+    // the count of faults
+    ghost Value = { ℕ };
+
+    ghost view = { λ d. d.faults };
+}
+
+impl<R: Files<File = File> + Drop> FileDisk<R> {
+    /// The disk in the files that a runtime reaches. No call on the outside is made.
+    pub fn new(rt: R) -> FileDisk<R>
+        ensures { result ≡ 0 }
+    {
+        FileDisk {
+            rt,
+            file: None,
+            faults: 0,
+        }
+    }
+}
+
+// Opens the file, and makes it as long as the disk.
+fn open<R: Files<File = File>>(rt: &R) -> io::Result<File> {
+    let file = OpenOptions::new()
+        .read(true)
+        .write(true)
+        .create(true)
+        .open(rt, NAME)?;
+    if file.metadata()?.len() < SIZE {
+        file.set_len(SIZE)?;
+    }
+    Ok(file)
+}
+
+// The file, which is opened at the first call.
+fn take<R: Files<File = File>>(rt: &R, file: &mut Option<File>) -> io::Result<File> {
+    match file.take() {
+        Some(file) => Ok(file),
+        None => open(rt),
+    }
+}
+
+fn read<R: Files<File = File>>(
+    rt: &R,
+    file: &mut Option<File>,
+    place: u64,
+    room: &mut [u8],
+) -> io::Result<()> {
+    let opened = take(rt, file)?;
+    let done = opened.read_exact_at(room, place);
+    *file = Some(opened);
+    done
+}
+
+fn write<R: Files<File = File>>(
+    rt: &R,
+    file: &mut Option<File>,
+    place: u64,
+    bytes: &[u8],
+) -> io::Result<()> {
+    let opened = take(rt, file)?;
+    let done = opened.write_all_at(bytes, place);
+    *file = Some(opened);
+    done
+}
+
+fn flush<R: Files<File = File>>(rt: &R, file: &mut Option<File>) -> io::Result<()> {
+    let opened = take(rt, file)?;
+    let done = opened.sync_all();
+    *file = Some(opened);
+    done
+}
+
+// Counts an error.
+fn counts(faults: &mut u64, done: io::Result<()>) -> Edge
+    ensures { EdgeCounts result faults.old faults.new }
+{
+    match done {
+        Ok(()) => Edge::Done,
+        Err(_) => {
+            *faults = faults.saturating_add(1);
+            Edge::Failed
+        }
+    }
+}
+
+impl<R: Files<File = File> + Drop> Disk for FileDisk<R> {
+    ghost use Rattle.std.proofs.Common.{rules};
+    ghost use Rattle.std.specs.Prelude.{false};
+    ghost use Rattle.suit_edge.specs.FileDisk.{untold};
+
+    ghost told = { false };
+
+    ghost flash = { λ _. untold };
+
+    ghost extent = { λ _. 4194304 };
+
+    ghost faults = { λ d. d };
+
+    ghost obeys = { λ d told. absurd (Prim.search rules) };
+
+    fn size(&self) -> u64 {
+        SIZE
+    }
+
+    fn read_at(&mut self, place: u64, room: &mut [u8]) -> Edge {
+        let done = read(&self.rt, &mut self.file, place, room);
+        counts(&mut self.faults, done)
+    }
+
+    fn write_at(&mut self, place: u64, bytes: &[u8]) -> Edge {
+        let done = write(&self.rt, &mut self.file, place, bytes);
+        counts(&mut self.faults, done)
+    }
+
+    fn sync(&mut self) -> Edge {
+        let done = flush(&self.rt, &mut self.file);
+        counts(&mut self.faults, done)
+    }
+}

@@ -1,0 +1,139 @@
+//! A launcher that writes images into files.
+
+ghost use Rattle.std.specs.Prelude.{◌≡◌, ◌+◌, ◌≤◌, IsTrue};
+ghost use Rattle.suit_edge.specs.Flash.{Grows, IsSame};
+ghost use Rattle.suit_edge.specs.Launch.{LaunchCounts, LiesWithin};
+ghost use Rattle.suit_edge.specs.FileLauncher.{StepCounts};
+
+use crate::{Disk, Edge, Image, Launched, Launcher};
+use std::alloc::Global;
+use std::fs::File;
+use std::io::Write;
+use std::marker::Model;
+use std::rt::Files;
+use std::{fs, io};
+
+/// How many bytes of an image are read at once.
+const PIECE: usize = 4096;
+
+/// A launcher that writes the image of component C into the file `boot-C.img` of the working directory, and starts
+/// nothing. Where it fails, the file may hold a part of the image. It tells nothing of what it launched.
+#[derive(Drop)]
+pub struct FileLauncher<R: Files<File = File> + Drop> {
+    alloc: Global,
+    rt: R,
+    faults: u64,
+}
+
+impl<R: Files<File = File> + Drop> Model for FileLauncher<R> {
+    ghost use Rattle.std.specs.Prelude.{ℕ};
+
+    // the count of faults
+    ghost Value = { ℕ };
+
+    ghost view = { λ l. l.faults };
+}
+
+impl<R: Files<File = File> + Drop> FileLauncher<R> {
+    /// The launcher into the files that a runtime reaches. No call on the outside is made.
+    pub fn new(alloc: Global, rt: R) -> FileLauncher<R>
+        ensures { result ≡ 0 }
+    {
+        FileLauncher {
+            alloc,
+            rt,
+            faults: 0,
+        }
+    }
+}
+
+// The file of a component, emptied.
+fn create<R: Files<File = File>>(alloc: Global, rt: &R, component: u32) -> io::Result<File> {
+    let name = format!(in alloc; "boot-{component}.img")?;
+    fs::create(rt, name.as_str())
+}
+
+// Writes bytes to the end of a file.
+fn append(file: &mut File, bytes: &[u8]) -> Edge {
+    match file.write_all(bytes) {
+        Ok(()) => Edge::Done,
+        Err(_) => Edge::Failed,
+    }
+}
+
+// Copies a range of the disk to the end of a file. `Failed` says that the file failed.
+fn copy_range<D: Disk>(disk: &mut D, place: u64, length: u64, file: &mut File) -> Launched
+    requires { place + length ≤ D.extent disk.old }
+    ensures size { D.extent disk.new ≡ D.extent disk.old }
+    ensures counts { StepCounts result (D.faults disk.old) (D.faults disk.new) }
+    ensures same { IsTrue D.told → IsSame (D.flash disk.old) (D.flash disk.new) }
+    ensures grows { IsTrue D.told → Grows (D.flash disk.old) (D.flash disk.new) }
+{
+    // Each place fits a u64, since the size does.
+    let _size = disk.size();
+    let mut room = [0u8; PIECE];
+    let mut done: u64 = 0;
+    while done < length {
+        let count = (length - done).min(PIECE as u64);
+        match disk.read_at(place + done, &mut room[..count as usize]) {
+            Edge::Done => {}
+            Edge::Failed => return Launched::DiskFailed,
+        }
+        match append(file, &room[..count as usize]) {
+            Edge::Done => {}
+            Edge::Failed => return Launched::Failed,
+        }
+        done += count;
+    }
+    Launched::Done
+}
+
+// Writes an image into a file.
+fn write_image<D: Disk>(disk: &mut D, image: Image<'_>, file: &mut File) -> Launched
+    requires { LiesWithin (D.extent disk.old) image }
+    ensures size { D.extent disk.new ≡ D.extent disk.old }
+    ensures counts { StepCounts result (D.faults disk.old) (D.faults disk.new) }
+    ensures same { IsTrue D.told → IsSame (D.flash disk.old) (D.flash disk.new) }
+    ensures grows { IsTrue D.told → Grows (D.flash disk.old) (D.flash disk.new) }
+{
+    match image {
+        Image::Flash { place, length } => copy_range(disk, place, length, file),
+        Image::Ram(bytes) => match append(file, bytes) {
+            Edge::Done => Launched::Done,
+            Edge::Failed => Launched::Failed,
+        },
+    }
+}
+
+impl<R: Files<File = File> + Drop> Launcher for FileLauncher<R> {
+    ghost use Rattle.std.specs.Prelude.{false, []};
+
+    ghost told = { false };
+
+    ghost launches = { λ _. [] };
+
+    ghost faults = { λ l. l };
+
+    fn launch<D: Disk>(
+        &mut self,
+        disk: &mut D,
+        image: Image<'_>,
+        component: u32,
+        _digest: Option<&[u8]>,
+        _size: Option<u64>,
+        _args: Option<&[u8]>,
+    ) -> Launched {
+        let Ok(mut file) = create(self.alloc, &self.rt, component) else {
+            self.faults = self.faults.saturating_add(1);
+            return Launched::Failed;
+        };
+        match write_image(disk, image, &mut file) {
+            Launched::Done => Launched::Done,
+            Launched::DiskFailed => Launched::DiskFailed,
+            Launched::Failed => {
+                self.faults = self.faults.saturating_add(1);
+                Launched::Failed
+            }
+        }
+    }
+}

@@ -1,0 +1,58 @@
+//! The starting of images.
+
+ghost use Rattle.std.specs.Prelude.{◌≡◌, ℕ, Bool, List, IsTrue};
+ghost use Rattle.std.specs.Option.{option_copied};
+ghost use Rattle.suit_edge.specs.Flash.{Grows, IsSame};
+ghost use Rattle.suit_edge.specs.Launch.{AddsLaunch, IsLaunch, LaunchCounts, LiesWithin};
+ghost use Rattle.suit_edge.specs.declared.launch.Launch.{Launch};
+
+use crate::Disk;
+
+/// An image that can be launched.
+#[derive(Clone, Copy, Debug)]
+pub enum Image<'a> {
+    /// So many bytes of the disk from the place on.
+    Flash { place: u64, length: u64 },
+    /// Bytes in memory.
+    Ram(&'a [u8]),
+}
+
+/// What a launch came to.
+#[derive(Clone, Copy, Debug, PartialEq, Eq)]
+pub enum Launched {
+    /// The image was launched, and what it started has ended.
+    Done,
+    /// The disk failed, and its count of faults rose. Nothing was launched.
+    DiskFailed,
+    /// The launcher failed, and its count of faults rose. Nothing was launched.
+    Failed,
+}
+
+/// What starts images.
+pub trait Launcher {
+    /// Whether launchers of this type tell what they launched.
+    ghost told: { Bool };
+
+    /// What was launched.
+    ghost launches: { Self → List Launch };
+
+    /// How often a call has failed.
+    ghost faults: { Self → ℕ };
+
+    /// Launches the image for a component, with what its parameters name.
+    fn launch<D: Disk>(
+        &mut self,
+        disk: &mut D,
+        image: Image<'_>,
+        component: u32,
+        digest: Option<&[u8]>,
+        size: Option<u64>,
+        args: Option<&[u8]>,
+    ) -> Launched
+        requires { LiesWithin (D.extent disk.old) image }
+        ensures size { D.extent disk.new ≡ D.extent disk.old }
+        ensures counts { LaunchCounts result (faults self.old) (faults self.new) (D.faults disk.old) (D.faults disk.new) }
+        ensures launches { IsTrue told → AddsLaunch result (launches self.old) (launches self.new) (IsLaunch image.entry D.told (D.flash disk.old).reads component (option_copied digest.entry) size (option_copied args.entry)) }
+        ensures same { IsTrue D.told → IsSame (D.flash disk.old) (D.flash disk.new) }
+        ensures grows { IsTrue D.told → Grows (D.flash disk.old) (D.flash disk.new) };
+}
