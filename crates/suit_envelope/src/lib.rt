@@ -1,16 +1,19 @@
-//! SUIT envelopes (draft-ietf-suit-manifest-25, section 8.2): their grammar, without memory.
+//! SUIT envelopes (draft-ietf-suit-manifest-25, section 8.2): their grammar and their parts.
 #![tactic(auto)]
 
 mod decode;
 mod envelope;
 mod key;
 mod map;
+mod severed;
+mod string_hash;
 mod wrapper;
 mod wrapper_parts;
 
-pub use wrapper_parts::{block, blocks, stated_digest};
 pub use decode::decode_envelope;
 pub use envelope::Envelope;
+pub use severed::{MemberBytes, MemberName, member};
+pub use wrapper_parts::{block, blocks, stated_digest};
 
 #[cfg(test)]
 mod tests;

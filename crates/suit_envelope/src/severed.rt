@@ -1,0 +1,59 @@
+//! Severed members of an envelope, taken by their digests.
+
+ghost use Rattle.std.specs.Prelude.{◌≡◌, option_map};
+ghost use Rattle.suit_envelope.specs.Members.{member_of, AnswersMember};
+ghost use Rattle.suit_envelope.specs.Said.{said_by};
+
+use crate::Envelope;
+use crate::string_hash::string_digest;
+use suit_params::Digest;
+
+/// The members that may stand in the envelope apart from the manifest.
+#[derive(Clone, Copy, Debug, PartialEq, Eq)]
+pub enum MemberName {
+    PayloadFetch,
+    Install,
+    Text,
+}
+
+/// A severed member, or why there is none.
+#[derive(Clone, Copy, Debug, PartialEq, Eq)]
+pub enum MemberBytes<'a> {
+    /// The content of its byte string.
+    Got(&'a [u8]),
+    /// The envelope has no such member.
+    Severed,
+    /// The digest that was stated, and the one of the member's byte string.
+    Differs { stated: Digest, found: Digest },
+}
+
+fn content<'a>(envelope: &Envelope<'a>, name: MemberName) -> Option<&'a [u8]>
+    ensures { option_map (λ s. s.now) result ≡ member_of (said_by envelope.now) name }
+{
+    match name {
+        MemberName::PayloadFetch => envelope.payload_fetch,
+        MemberName::Install => envelope.install,
+        MemberName::Text => envelope.text,
+    }
+}
+
+/// The severed member whose digest the manifest states (draft-ietf-suit-manifest-25, section 8.3).
+/// The digest is that of the whole byte string, its head and its content.
+pub fn member<'a>(envelope: &Envelope<'a>, name: MemberName, stated: &Digest) -> MemberBytes<'a>
+    ensures { AnswersMember (member_of (said_by envelope.now) name) stated.now.bytes result }
+{
+    match content(envelope, name) {
+        None => MemberBytes::Severed,
+        Some(bytes) => {
+            let found = string_digest(bytes);
+            if found == *stated {
+                MemberBytes::Got(bytes)
+            } else {
+                MemberBytes::Differs {
+                    stated: *stated,
+                    found,
+                }
+            }
+        }
+    }
+}

@@ -1,0 +1,47 @@
+//! The SHA-256 of a byte string, its head and its content, without memory.
+
+ghost use Rattle.std.specs.Prelude.{◌≡◌, ◌++◌, ◌∷◌, List, ℕ};
+ghost use Rattle.sha2.specs.Hashers.{Holds256};
+ghost use Rattle.det_cbor.specs.Heads.{head_bytes};
+ghost use Rattle.suit_envelope.specs.Members.{string_digest};
+
+use sha2::{Digest as _, Sha256};
+use suit_params::Digest;
+
+// Adds a first byte and what follows it.
+fn add_parts(hasher: &mut Sha256, first: u8, rest: &[u8])
+    ensures { (message : List ℕ) → Holds256 hasher.old message → Holds256 hasher.new (message ++ first ∷ rest.now) }
+{
+    hasher.update([first]);
+    hasher.update(rest);
+}
+
+// Adds the head of a byte string, in its shortest form.
+#[tactic(auto, unfolding(det_cbor::specs::Heads::head_bytes))]
+fn add_head(hasher: &mut Sha256, length: u64)
+    ensures { (message : List ℕ) → Holds256 hasher.old message → Holds256 hasher.new (message ++ head_bytes 2 length) }
+{
+    if length < 24 {
+        hasher.update([0x40 + length as u8]);
+    } else if length < 1 << 8 {
+        add_parts(hasher, 0x58, &(length as u8).to_be_bytes());
+    } else if length < 1 << 16 {
+        add_parts(hasher, 0x59, &(length as u16).to_be_bytes());
+    } else if length < 1 << 32 {
+        add_parts(hasher, 0x5a, &(length as u32).to_be_bytes());
+    } else {
+        add_parts(hasher, 0x5b, &length.to_be_bytes());
+    }
+}
+
+/// The SHA-256 of the byte string of this content.
+pub(crate) fn string_digest(content: &[u8]) -> Digest
+    ensures { result.bytes ≡ string_digest content.now }
+{
+    let mut hasher = Sha256::new();
+    add_head(&mut hasher, content.len() as u64);
+    hasher.update(content);
+    Digest {
+        bytes: hasher.finalize(),
+    }
+}
