@@ -6,3 +6,4 @@ pub mod EnvelopeJudging
 pub mod EnvelopeAnswers
 pub mod WrapperLaws
 pub mod PutWrapper
+pub mod TrimLaws

@@ -33,7 +33,7 @@ put_wrapper s e value is =
     let found = value.1 is in
     let held = found.1 in
     let same : put_value s (key_of e.key) e.value_place e.value ≡ put_value s Wrapper e.value_place (ByteString held.content) =
-        ap (λ (k : Key). put_value s k e.value_place e.value) is ∙ ap (put_value s Wrapper e.value_place) held.is in
+    ap (λ (k : Key). put_value s k e.value_place e.value) is ∙ ap (put_value s Wrapper e.value_place) held.is in
     subst Good (sym same) (found.0, held.holds)
 
 wrapper_or : (key : Key) → (key ≡ Wrapper) ⊎ (key ≢ Wrapper)

@@ -100,12 +100,15 @@ has_wrapper place wrapper digest so =
     let digest_is = inner.says_so.is in
     let content : held.content ≡ spell (digest_item digest) = inner.spells.is ∙ ap spell digest_is in
     let first : w.first ≡ ByteString (spell (digest_item digest)) = held.is ∙ ap ByteString content in
-    let whole : so.item ≡ wrapper_item digest strings.0 = w.is ∙ ap (λ (y : DataItem). ArrayOf (ItemThen y w.blocks)) first ∙ ap (λ (ys : DataItems). ArrayOf (ItemThen (ByteString (spell (digest_item digest))) ys)) strings.1 in
-    (digest, strings.0, record {
-      spells = subst (λ (y : DataItem). Spells y wrapper) whole so.spells;
-      digest_valid = subst IsValid digest_is inner.spells.valid;
-      long = inner.says_so.long;
-    })
+    let whole : so.item ≡ wrapper_item digest strings.0 = w.is ∙ ap (λ (y : DataItem). ArrayOf (ItemThen y w.blocks)) first ∙ ap (λ (ys : DataItems). ArrayOf (ItemThen (ByteString (spell (digest_item digest))) ys)) strings.1 in (
+      digest,
+      strings.0,
+      record {
+        spells = subst (λ (y : DataItem). Spells y wrapper) whole so.spells;
+        digest_valid = subst IsValid digest_is inner.spells.valid;
+        long = inner.says_so.long;
+      },
+    )
 
 -- ---- what calls answered
 

@@ -7,12 +7,14 @@ mod key;
 mod map;
 mod severed;
 mod string_hash;
+mod trimming;
 mod wrapper;
 mod wrapper_parts;
 
 pub use decode::decode_envelope;
 pub use envelope::Envelope;
 pub use severed::{MemberBytes, MemberName, member};
+pub use trimming::{trim, trimmed_length};
 pub use wrapper_parts::{block, blocks, stated_digest};
 
 #[cfg(test)]
