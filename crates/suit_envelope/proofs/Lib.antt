@@ -7,3 +7,4 @@ pub mod EnvelopeAnswers
 pub mod WrapperLaws
 pub mod PutWrapper
 pub mod TrimLaws
+pub mod MacScan

@@ -4,6 +4,7 @@
 mod decode;
 mod envelope;
 mod key;
+mod macs;
 mod map;
 mod severed;
 mod string_hash;
