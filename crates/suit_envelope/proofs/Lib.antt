@@ -8,3 +8,4 @@ pub mod WrapperLaws
 pub mod PutWrapper
 pub mod TrimLaws
 pub mod MacScan
+pub mod AuthenticLaws

@@ -1,6 +1,7 @@
 //! SUIT envelopes (draft-ietf-suit-manifest-25, section 8.2): their grammar and their parts.
 #![tactic(auto)]
 
+mod authenticity;
 mod decode;
 mod envelope;
 mod key;
@@ -12,6 +13,7 @@ mod trimming;
 mod wrapper;
 mod wrapper_parts;
 
+pub use authenticity::{Authenticity, authentic};
 pub use decode::decode_envelope;
 pub use envelope::Envelope;
 pub use severed::{MemberBytes, MemberName, member};

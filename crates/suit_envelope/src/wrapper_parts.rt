@@ -18,7 +18,7 @@ fn digest_of_wrapper(wrapper: &[u8]) -> Result<Digest, Refusal>
     wrapper_of(item)
 }
 
-fn count(wrapper: &[u8]) -> u64
+pub(crate) fn count(wrapper: &[u8]) -> u64
     ensures { result ≡ count_from wrapper.now }
 {
     let mut elements = Cursor::new(wrapper, 0);

@@ -1,0 +1,38 @@
+-- Whether an envelope is authentic under a key (draft-ietf-suit-manifest-25, section 8.3; RFC 9052, section 6).
+use Rattle.std.specs.Prelude.{◌≡◌, ◌≢◌, ℕ, List, Result, Ok, Err}
+use Rattle.std.specs.List.{AllByRecursion}
+use Rattle.det_cbor.specs.DataItem.{spell}
+use Rattle.det_cbor.specs.HeadReading.{◌>>=◌}
+use Rattle.det_cbor.specs.Position.{Position}
+use Rattle.suit_params.specs.declared.refusal.Refusal.{Refusal}
+use Rattle.suit_params.specs.Digests.{digest_item}
+use Rattle.suit_params.specs.Reading.{head_from, content_from}
+use Rattle.suit_envelope.specs.Macs.{IsOther, FailsToVerify, SomeVerifies, FirstDiffers}
+use Rattle.suit_envelope.specs.Members.{string_digest}
+use Rattle.suit_envelope.specs.WrapperParts.{WrapperSays, start_of}
+use Rattle.suit_envelope.specs.declared.authenticity.Authenticity.{Authenticity}
+use Rattle.suit_envelope.specs.declared.authenticity.Authenticity.TheVariants as answers
+
+-- the content of the wrapper's first byte string is the payload of each block
+abbrev pub payload_of : List ℕ → List ℕ
+payload_of digest = spell (digest_item digest)
+
+-- the wrapper's digest is that of the manifest's whole byte string, and some block verifies
+pub record IsAuthentic (wrapper manifest key : List ℕ) : Type 0 where
+  pub digest : List ℕ
+  pub blocks : List (List ℕ)
+  pub says : WrapperSays wrapper digest blocks
+  pub stated : digest ≡ string_digest manifest
+  pub verifies : SomeVerifies key (payload_of digest) blocks
+
+-- the answer to a wrapper that states this digest and has these blocks; the digest is judged first
+abbrev pub AnswersAuthentic : List ℕ → List (List ℕ) → List ℕ → List ℕ → Authenticity → Type 0
+AnswersAuthentic digest blocks manifest key answers.Yes = (digest ≡ string_digest manifest) × SomeVerifies key (payload_of digest) blocks
+AnswersAuthentic digest blocks manifest key (answers.DigestDiffers stated found) = (stated.bytes ≡ digest) × (found.bytes ≡ string_digest manifest) × (digest ≢ string_digest manifest)
+AnswersAuthentic digest blocks manifest key answers.NoMac = (digest ≡ string_digest manifest) × AllByRecursion IsOther blocks
+AnswersAuthentic digest blocks manifest key (answers.MacDiffers expected found) =
+    (digest ≡ string_digest manifest) × AllByRecursion (FailsToVerify key (payload_of digest)) blocks × FirstDiffers key (payload_of digest) expected found.now blocks
+
+-- the content of the wrapper's first byte string, and what follows it
+abbrev pub first_from : List ℕ → Result (Position × Position) Refusal
+first_from wrapper = head_from (start_of wrapper) >>= λ h. content_from h.1

@@ -1,0 +1,77 @@
+//! Whether an envelope is authentic under a key.
+
+ghost use Rattle.std.specs.Prelude.{◌≡◌, List, ℕ, IfOk, IfErr};
+ghost use Rattle.suit_envelope.specs.Macs.{BlocksSay};
+ghost use Rattle.suit_envelope.specs.Authentic.{AnswersAuthentic, payload_of, first_from};
+ghost use Rattle.suit_envelope.specs.WrapperParts.{WrapperSays, HasWrapper};
+
+use crate::macs::scan;
+use crate::map::bytes_left;
+use crate::string_hash::string_digest;
+use crate::wrapper_parts::{count, stated_digest};
+use crate::Envelope;
+use det_cbor::Cursor;
+use hmac_mac0::MacVerdict;
+use suit_params::{Digest, Refusal, read_content, read_head};
+
+/// Whether an envelope is authentic, or why not.
+#[derive(Clone, Copy, Debug, PartialEq, Eq)]
+pub enum Authenticity<'a> {
+    /// The wrapper's digest is the manifest's, and some block verifies.
+    Yes,
+    /// The digest that the wrapper states, and that of the manifest's byte string.
+    DigestDiffers { stated: Digest, found: Digest },
+    /// No block is a Mac0 block.
+    NoMac,
+    /// No block verifies: of the first Mac0 block the tag that was computed, and the block's.
+    MacDiffers { expected: [u8; 32], found: &'a [u8] },
+}
+
+// The first byte string of a wrapper, and the blocks after it.
+fn first_string(wrapper: &[u8]) -> Result<(Cursor<'_>, Cursor<'_>), Refusal>
+    ensures { result ≡ first_from wrapper.now }
+{
+    let mut elements = Cursor::new(wrapper, 0);
+    read_head(&mut elements)?;
+    let content = read_content(&mut elements)?;
+    Ok((content, elements))
+}
+
+// What the blocks say, for the first byte string as their payload.
+fn macs<'a>(wrapper: &'a [u8], key: &[u8]) -> Result<MacVerdict<'a>, Refusal>
+    ensures says { IfOk result (λ answer. (digest : List ℕ) (blocks : List (List ℕ)) → WrapperSays wrapper.now digest blocks → BlocksSay key.now (payload_of digest) blocks answer) }
+    ensures read { IfErr result (λ _. HasWrapper wrapper.now → ⊥) }
+{
+    match first_string(wrapper) {
+        Ok((content, rest)) => {
+            let payload = bytes_left(content);
+            match scan(rest, count(wrapper), key, payload) {
+                Ok(answer) => Ok(answer),
+                Err(refusal) => Err(refusal),
+            }
+        }
+        Err(refusal) => Err(refusal),
+    }
+}
+
+/// Whether the envelope is authentic under a key (draft-ietf-suit-manifest-25, section 8.3).
+///
+/// The wrapper's digest is judged first, against the manifest's whole byte string, and then the
+/// blocks, whose payload is the content of the wrapper's first byte string. Takes no memory.
+pub fn authentic<'a>(envelope: &Envelope<'a>, key: &[u8]) -> Authenticity<'a>
+    requires { HasWrapper envelope.now.wrapper.now }
+    ensures { (digest : List ℕ) (blocks : List (List ℕ)) → WrapperSays envelope.now.wrapper.now digest blocks
+        → AnswersAuthentic digest blocks envelope.now.manifest.now key.now result }
+{
+    let stated = stated_digest(envelope);
+    let found = string_digest(envelope.manifest);
+    if stated != found {
+        return Authenticity::DigestDiffers { stated, found };
+    }
+    match macs(envelope.wrapper, key) {
+        Ok(MacVerdict::Verified) => Authenticity::Yes,
+        Ok(MacVerdict::OtherKind) => Authenticity::NoMac,
+        Ok(MacVerdict::Differs { expected, found }) => Authenticity::MacDiffers { expected, found },
+        Err(_) => unreachable!(),
+    }
+}
