@@ -1,199 +1,30 @@
 -- An item that is refused is faulty.
-use Rattle.std.proofs.Common.{◌≡◌, ℕ, zero, suc, ◌+◌, ◌^◌, ◌<◌, ◌≤◌, true, false, ltb, List, ◌++◌, length, Option, Some, None, Result, Ok, Err, refl, sym, ap, subst, ◌∙◌, append_assoc, arith, inl, inr}
-use Rattle.std.specs.Str.{IsUtf8, is_utf8}
+use Rattle.std.proofs.Common.{◌≡◌, ℕ, zero, suc, ◌+◌, ◌^◌, ◌<◌, ◌≤◌, List, ◌++◌, length, Option, Some, None, Err, refl, sym, ap, subst, ◌∙◌, append_assoc, arith}
 use Rattle.std.specs.declared.cmp.Ordering.{Ordering}
 use Rattle.std.specs.declared.cmp.Ordering.TheVariants.{Less, Equal, Greater}
 use Rattle.std.specs.Ordering.{nat_cmp}
 use Rattle.std.specs.Cmp.Lexicographic.{slice_cmp}
-use Rattle.std.proofs.lemmas.Bool.{ltb-true}
-use Rattle.std.proofs.lemmas.Str.{is_utf8-from_IsUtf8}
 use Rattle.std.proofs.lemmas.List.{length-append}
 use Rattle.det_cbor.specs.declared.head.HeadKind.{HeadKind}
 use Rattle.det_cbor.specs.declared.head.HeadKind.TheVariants as kinds
 use Rattle.det_cbor.specs.declared.reason.Reason.{Reason}
-use Rattle.det_cbor.specs.declared.reason.Reason.TheVariants.{Truncated, Indefinite, Kind, NotShortest, TooDeep, BadText, Repeated, Order}
+use Rattle.det_cbor.specs.declared.reason.Reason.TheVariants.{TooDeep}
 use Rattle.det_cbor.specs.declared.reason.Stop.{Stop}
-use Rattle.det_cbor.specs.DataItem.{DataItem, DataItems, NoItems, ItemThen, DataPairs, NoPairs, PairThen, item_count, pair_count, spell, spell_items, spell_pairs, IsAbove, IsValidWithin, AreValidWithin, ArePairsWithin}
-use Rattle.det_cbor.specs.Faults.{last_key, StartsMap, FirstParts, OfArray, OfMap, OfKey, OfTag, Faulty, FaultyHead, DeepHead, ShortString, NoText, FaultyPart, SameKey, LowKey}
+use Rattle.det_cbor.specs.DataItem.{DataItem, DataPairs, spell, spell_items, spell_pairs, IsValidWithin}
+use Rattle.det_cbor.specs.Faults.{last_key, StartsMap, OfArray, OfMap, OfKey, OfTag, Faulty, FaultyHead, DeepHead, SameKey, LowKey}
 use Rattle.det_cbor.specs.Heads.{head_bytes}
 use Rattle.det_cbor.specs.HeadSpelling.{major_of, argument_of, IsValueOf}
 use Rattle.det_cbor.specs.HeadReading.{head_at, place_in}
-use Rattle.det_cbor.specs.ItemReading.{Reader, stop_at, stopped, string_at, text_at, items_by, read_of, ascending, in_order, pairs_by, body_with, item_with, item_at}
-use Rattle.det_cbor.proofs.Results.{chosen, bind_err, same_err}
+use Rattle.det_cbor.specs.ItemReading.{Reader, stop_at, string_at, text_at, ascending, body_with, item_with, item_at}
+use Rattle.det_cbor.proofs.Results.{bind_err, same_err}
 use Rattle.det_cbor.proofs.Arguments.{IsBytes, IsBytes-rest}
 use Rattle.det_cbor.proofs.Heads.{head_takes}
-use Rattle.det_cbor.proofs.BadHeads.{head_bad}
+use Rattle.det_cbor.proofs.HeadFaults.{head_bad}
 use Rattle.det_cbor.proofs.KeyOrder.{equal_keys, above_is_below}
-use Rattle.det_cbor.proofs.ItemTakes.{ReadsSpelled, stopped_ok, string_takes, in_order_ok, read_of_front, item_takes}
-
--- where a reader stopped the bytes are faulty
-pub record IsFault (levels : ℕ) (bytes : List ℕ) (s : Stop) : Type 0 where
-  pub place : ℕ
-  pub faulty : Faulty levels bytes place s.reason
-  pub sum : place + s.left ≡ length bytes
-
-abbrev pub StopsFaulty : ℕ → Reader → Type 0
-StopsFaulty levels read = (bytes : List ℕ) (s : Stop) → IsBytes bytes → read bytes ≡ Err s → IsFault levels bytes s
-
--- ---- faults of a head or a string
-
-pub stop_place : (bytes : List ℕ) (reason : Reason) → (place_in bytes reason + (stop_at bytes reason).left ≡ length bytes) × ((stop_at bytes reason).reason ≡ reason)
-stop_place bytes Truncated = (omega arith, refl)
-stop_place bytes Indefinite = (omega arith, refl)
-stop_place bytes Kind = (omega arith, refl)
-stop_place bytes NotShortest = (omega arith, refl)
-stop_place bytes TooDeep = (omega arith, refl)
-stop_place bytes BadText = (omega arith, refl)
-stop_place bytes Repeated = (omega arith, refl)
-stop_place bytes Order = (omega arith, refl)
-
-fault_here : (levels : ℕ) (bytes : List ℕ) (reason : Reason) (s : Stop) → Faulty levels bytes (place_in bytes reason) reason → stop_at bytes reason ≡ s → IsFault levels bytes s
-fault_here levels bytes reason s faulty is =
-    let at = stop_place bytes reason in
-    subst (λ (t : Stop). IsFault levels bytes t) is (record { place = place_in bytes reason; faulty = subst (λ (r : Reason). Faulty levels bytes (place_in bytes reason) r) (sym at.1) faulty; sum = at.0 })
-
-stopped_err : {A : Type 0} (bytes : List ℕ) (r : Result A Reason) (s : Stop) → stopped bytes r ≡ Err s → (reason : Reason) × (r ≡ Err reason) × (stop_at bytes reason ≡ s)
-stopped_err bytes (Ok x) s e = absurd cc
-stopped_err {A} bytes (Err reason) s e = (reason, refl, same_err {A = A} (stop_at bytes reason) s e)
-
-string_fault : (levels : ℕ) (bytes : List ℕ) (major count : ℕ) (rest : List ℕ) (reason : Reason) (s : Stop) → 2 ≤ major → major ≤ 3 → count < 2 ^ 64 → bytes ≡ head_bytes major count ++ rest
-    → string_at count rest ≡ Err reason → stop_at bytes reason ≡ s → IsFault levels bytes s
-string_fault levels bytes major count rest reason s ge le lt is e stop =
-    elim (chosen (ltb (length rest) count) _ _ _ e) [
-      | inl (short, f) ↦
-          let truncated : Truncated ≡ reason = same_err _ _ f in
-          let faulty : Faulty levels bytes (length bytes) Truncated = subst (λ (l : List ℕ). Faulty levels l (length l) Truncated) (sym is) (ShortString levels major count rest ge le lt (ltb-true _ _ short)) in
-          fault_here levels bytes Truncated s faulty (ap (stop_at bytes) truncated ∙ stop)
-      | inr (long, never) ↦ absurd cc
-    ]
-
-text_fault : (levels : ℕ) (bytes : List ℕ) (count : ℕ) (rest : List ℕ) (reason : Reason) (s : Stop) → IsBytes rest → count < 2 ^ 64 → bytes ≡ head_bytes 3 count ++ rest
-    → text_at count rest ≡ Err reason → stop_at bytes reason ≡ s → IsFault levels bytes s
-text_fault levels bytes count rest reason s fits lt is e stop =
-    bind_err _ _ _ e
-    (λ f. string_fault levels bytes 3 count rest reason s (omega arith) (omega arith) lt is f stop)
-    (λ t t-is e. elim (chosen {A = Result (List ℕ × List ℕ) Reason} (is_utf8 t.0) (Ok t) (Err BadText) (Err reason) e) [
-      | inl (good, never) ↦ absurd cc
-      | inr (bad, f) ↦
-          let at = string_takes count rest t fits t-is in
-          let reason_is : BadText ≡ reason = same_err _ _ f in
-          let long : length t.0 < 2 ^ 64 = subst (λ (n : ℕ). n < 2 ^ 64) (sym at.long) lt in
-          let other : ¬ (IsUtf8 t.0) = λ text. true_false (sym (is_utf8-from_IsUtf8 t.0 text) ∙ bad) in
-          let parts : head_bytes 3 (length t.0) ++ (t.0 ++ t.1) ≡ bytes = sym (is ∙ ap (λ (l : List ℕ). head_bytes 3 count ++ l) at.parts ∙ ap (λ (n : ℕ). head_bytes 3 n ++ (t.0 ++ t.1)) (sym at.long)) in
-          let faulty : Faulty levels bytes 0 BadText = subst (λ (l : List ℕ). Faulty levels l 0 BadText) parts (NoText levels t.0 t.1 long other) in
-          fault_here levels bytes BadText s faulty (ap (stop_at bytes) reason_is ∙ stop)
-    ])
-  where
-    true_false : true ≡ false → ⊥
-    true_false e = absurd cc
-
--- ---- faults of a part
-
-pub part_fault : (levels : ℕ) (bytes front rest : List ℕ) (s : Stop) → levels < 16 → FirstParts (levels + 1) front → bytes ≡ front ++ rest → IsFault (levels + 1) rest s → IsFault levels bytes s
-part_fault levels bytes front rest s lt first is fault =
-    let sum = fault.sum in
-    record {
-      place = length front + fault.place;
-      faulty = subst (λ (l : List ℕ). Faulty levels l (length front + fault.place) s.reason) (sym is) (FaultyPart levels front rest fault.place s.reason lt first fault.faulty);
-      sum = omega (arith, ap length is, length-append front rest);
-    }
-
--- of so many items the first were read, and the next is faulty
-pub record ItemsFault (levels count : ℕ) (bytes : List ℕ) (s : Stop) : Type 0 where
-  pub before : DataItems
-  pub rest : List ℕ
-  pub valid : AreValidWithin levels before
-  pub more : item_count before < count
-  pub parts : bytes ≡ spell_items before ++ rest
-  pub fault : IsFault levels rest s
-
-pub items_fault : (levels : ℕ) (read : Reader) → ReadsSpelled levels read → StopsFaulty levels read → (count : ℕ) (bytes : List ℕ) (s : Stop) → IsBytes bytes → items_by read count bytes ≡ Err s → ItemsFault levels count bytes s
-items_fault levels read takes stops zero bytes s fits e = absurd cc
-items_fault levels read takes stops (suc count) bytes s fits e =
-    bind_err _ _ _ e
-    (λ f. record { before = NoItems; rest = bytes; valid = tt; more = omega arith; parts = refl; fault = stops bytes s fits f })
-    (λ first first-is e. bind_err _ _ _ e
-    (λ f.
-    let a = takes bytes first.0 first.1 fits first-is in
-    let b = items_fault levels read takes stops count first.1 s a.left f in
-    let fewer : item_count b.before + 1 < suc count = omega (arith, b.more) in
-    record { before = ItemThen first.0 b.before; rest = b.rest; valid = (a.valid, b.valid); more = fewer; parts = a.parts ∙ ap (λ (l : List ℕ). spell first.0 ++ l) b.parts ∙ sym (append_assoc (spell first.0) (spell_items b.before) b.rest); fault = b.fault })
-    (λ others others-is never. absurd cc))
-
--- so many pairs, of which the first were read
-pub record PairsBefore (levels : ℕ) (start : Option (List ℕ)) (count : ℕ) (before : DataPairs) : Type 0 where
-  pub valid : ArePairsWithin levels start before
-  pub more : pair_count before < count
-
-pub data PairsFault (levels : ℕ) (start : Option (List ℕ)) (count : ℕ) (bytes : List ℕ) (s : Stop) : Type 0 where
-  InKey : (before : DataPairs) (rest : List ℕ) → PairsBefore levels start count before → bytes ≡ spell_pairs before ++ rest → IsFault levels rest s → PairsFault levels start count bytes s
-  InValue : (before : DataPairs) (key : DataItem) (rest : List ℕ) → PairsBefore levels start count before → IsValidWithin levels key → IsAbove (last_key start before) (spell key)
-      → bytes ≡ spell_pairs before ++ (spell key ++ rest) → IsFault levels rest s → PairsFault levels start count bytes s
-  Disorder : (before : DataPairs) (key : DataItem) (rest last : List ℕ) → PairsBefore levels start count before → IsValidWithin levels key → last_key start before ≡ Some last
-      → ascending (slice_cmp nat_cmp last (spell key)) ≡ Err s.reason → s.left ≡ length (spell key ++ rest)
-      → bytes ≡ spell_pairs before ++ (spell key ++ rest) → PairsFault levels start count bytes s
-
-one_more : (levels : ℕ) (start : Option (List ℕ)) (count : ℕ) (key value : DataItem) (before : DataPairs) → IsValidWithin levels key → IsAbove start (spell key) → IsValidWithin levels value
-    → PairsBefore levels (Some (spell key)) count before → PairsBefore levels start (suc count) (PairThen key value before)
-one_more levels start count key value before k-ok above v-ok b = let more = b.more in record { valid = (k-ok, above, v-ok, b.valid); more = omega arith }
-
-joined : (bytes key value pairs after rest : List ℕ) → bytes ≡ key ++ (value ++ after) → after ≡ pairs ++ rest → bytes ≡ (key ++ (value ++ pairs)) ++ rest
-joined bytes key value pairs after rest a b = a ∙ ap (λ (l : List ℕ). key ++ (value ++ l)) b ∙ simp append_assoc
-
--- a pair was read before
-later_fault : (levels : ℕ) (start : Option (List ℕ)) (count : ℕ) (bytes : List ℕ) (s : Stop) (key value : DataItem) (after : List ℕ) → IsValidWithin levels key → IsAbove start (spell key) → IsValidWithin levels value
-    → bytes ≡ spell key ++ (spell value ++ after) → PairsFault levels (Some (spell key)) count after s → PairsFault levels start (suc count) bytes s
-later_fault levels start count bytes s key value after k-ok above v-ok parts (InKey before rest b is fault) =
-    InKey (PairThen key value before) rest (one_more levels start count key value before k-ok above v-ok b) (joined bytes (spell key) (spell value) (spell_pairs before) after rest parts is) fault
-later_fault levels start count bytes s key value after k-ok above v-ok parts (InValue before k rest b valid up is fault) =
-    InValue (PairThen key value before) k rest (one_more levels start count key value before k-ok above v-ok b) valid up (joined bytes (spell key) (spell value) (spell_pairs before) after (spell k ++ rest) parts is) fault
-later_fault levels start count bytes s key value after k-ok above v-ok parts (Disorder before k rest last b valid last-is order left is) =
-    Disorder (PairThen key value before) k rest last (one_more levels start count key value before k-ok above v-ok b) valid last-is order left (joined bytes (spell key) (spell value) (spell_pairs before) after (spell k ++ rest) parts is)
-
-in_order_err : (start : Option (List ℕ)) (key : List ℕ) (reason : Reason) → in_order start key ≡ Err reason → (last : List ℕ) × (start ≡ Some last) × (ascending (slice_cmp nat_cmp last key) ≡ Err reason)
-in_order_err None key reason e = absurd cc
-in_order_err (Some last) key reason e = (last, refl, e)
-
--- a key out of order is a fault at that key
-ascending_stop : (bytes : List ℕ) (o : Ordering) (reason : Reason) → ascending o ≡ Err reason → stop_at bytes reason ≡ record { left = length bytes; reason = reason }
-ascending_stop bytes Less reason e = absurd cc
-ascending_stop bytes Equal reason e = let is : Repeated ≡ reason = same_err _ _ e in subst (λ (r : Reason). stop_at bytes r ≡ record { left = length bytes; reason = r }) is refl
-ascending_stop bytes Greater reason e = let is : Order ≡ reason = same_err _ _ e in subst (λ (r : Reason). stop_at bytes r ≡ record { left = length bytes; reason = r }) is refl
-
-disorder : (levels : ℕ) (start : Option (List ℕ)) (count : ℕ) (bytes : List ℕ) (s : Stop) (key : DataItem) (rest : List ℕ) → IsValidWithin levels key → bytes ≡ spell key ++ rest
-    → stopped bytes (in_order start (read_of bytes rest)) ≡ Err s → PairsFault levels start (suc count) bytes s
-disorder levels start count bytes s key rest valid is e =
-    let spelled : read_of bytes rest ≡ spell key = ap (λ (l : List ℕ). read_of l rest) is ∙ read_of_front (spell key) rest in
-    let stop = stopped_err bytes (in_order start (read_of bytes rest)) s e in
-    let order = in_order_err start (spell key) stop.0 (ap (in_order start) (sym spelled) ∙ stop.1) in
-    let s-is : s ≡ record { left = length bytes; reason = stop.0 } = sym stop.2 ∙ ascending_stop bytes (slice_cmp nat_cmp order.0 (spell key)) stop.0 order.2 in
-    let reason : stop.0 ≡ s.reason = sym (ap (λ (t : Stop). t.reason) s-is) in
-    Disorder NoPairs key rest order.0 (record { valid = tt; more = omega arith }) valid order.1 (order.2 ∙ ap Err reason) (ap (λ (t : Stop). t.left) s-is ∙ ap length is) is
-
-pub pairs_fault : (levels : ℕ) (read : Reader) → ReadsSpelled levels read → StopsFaulty levels read → (start : Option (List ℕ)) (count : ℕ) (bytes : List ℕ) (s : Stop) → IsBytes bytes → pairs_by read start count bytes ≡ Err s → PairsFault levels start count bytes s
-pairs_fault levels read takes stops start zero bytes s fits e = absurd cc
-pairs_fault levels read takes stops start (suc count) bytes s fits e =
-    bind_err _ _ _ e
-    (λ f. InKey NoPairs bytes (record { valid = tt; more = omega arith }) refl (stops bytes s fits f))
-    (λ key key-is e.
-    let k = takes bytes key.0 key.1 fits key-is in
-    let spelled : read_of bytes key.1 ≡ spell key.0 = ap (λ (l : List ℕ). read_of l key.1) k.parts ∙ read_of_front (spell key.0) key.1 in
-    bind_err _ _ _ e
-    (λ f. disorder levels start count bytes s key.0 key.1 k.valid k.parts f)
-    (λ done done-is e.
-    let above : IsAbove start (spell key.0) = subst (λ (l : List ℕ). IsAbove start l) spelled (in_order_ok start (read_of bytes key.1) done (stopped_ok bytes _ done done-is)) in
-    bind_err _ _ _ e
-    (λ f. InValue NoPairs key.0 key.1 (record { valid = tt; more = omega arith }) k.valid above k.parts (stops key.1 s k.left f))
-    (λ value value-is e.
-    let v = takes key.1 value.0 value.1 k.left value-is in
-    bind_err _ _ _ e
-    (λ f.
-    let later = pairs_fault levels read takes stops (Some (read_of bytes key.1)) count value.1 s v.left f in
-    let later : PairsFault levels (Some (spell key.0)) count value.1 s = subst (λ (l : List ℕ). PairsFault levels (Some l) count value.1 s) spelled later in
-    later_fault levels start count bytes s key.0 value.0 value.1 k.valid above v.valid (k.parts ∙ ap (λ (l : List ℕ). spell key.0 ++ l) v.parts) later)
-    (λ others others-is never. absurd cc))))
-
--- ---- faults of an item
+use Rattle.det_cbor.proofs.ItemTakes.{ReadsSpelled, stopped_ok, item_takes}
+use Rattle.det_cbor.proofs.StringFaults.{fault_here, stopped_err, string_fault, text_fault}
+pub use Rattle.det_cbor.proofs.StringFaults.{IsFault, StopsFaulty, stop_place}
+use Rattle.det_cbor.proofs.PartFaults.{part_fault, items_fault, PairsFault, InKey, InValue, Disorder, pairs_fault}
 
 abbrev pub PartsStop : ℕ → Option Reader → Type 0
 PartsStop levels None = 16 ≤ levels

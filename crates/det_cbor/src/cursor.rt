@@ -18,6 +18,8 @@ use crate::{CborRefusal, Head, Reason};
 use std::marker::Model;
 
 /// Bytes that are read from left to right, and the place of the first that is left.
+///
+/// A call that is refused leaves the cursor where it stood.
 #[derive(Debug, Drop)]
 pub struct Cursor<'a> {
     rest: &'a [u8],
@@ -26,7 +28,6 @@ pub struct Cursor<'a> {
 
 impl<'a> Model for Cursor<'a> {
     ghost use Rattle.std.specs.Prelude.{◌+◌, ◌<◌, ◌^◌, length};
-    ghost use Rattle.det_cbor.specs.OneReading.{IsItem, StartsWithItem};
     ghost use Rattle.det_cbor.specs.Position.{Position};
 
     ghost Value = { Position };
@@ -64,14 +65,15 @@ impl<'a> Cursor<'a> {
         self.rest.len()
     }
 
-    /// The next head. Counts no levels.
+    /// The next head (RFC 8949, section 3). Counts no levels.
     pub fn head(&mut self) -> Result<Head, CborRefusal>
         ensures exact { option_map (λ head. (head, self.new)) (result_ok result) ≡ next_head self.old }
         ensures ok { IfOk result (Reads self.old self.new) }
         ensures refused { IfErr result (IsRefusal self.old BadHead) }
         ensures same { OnErr result (self.new ≡ self.old) }
         ensures every_head { (h : Head) (rest : List ℕ) → BeginsWith self.old.left h rest → result ≡ Ok h }
-        ensures every_fault { (at : ℕ) (reason : Reason) → BadHead self.old.left at reason → result ≡ Err (refusal_at self.old at reason) }
+        ensures every_fault { (at : ℕ) (reason : Reason) → BadHead self.old.left at reason
+            → result ≡ Err (refusal_at self.old at reason) }
     {
         match split_head(self.rest) {
             Ok((head, rest)) => {
@@ -94,7 +96,8 @@ impl<'a> Cursor<'a> {
         CborRefusal { place, reason }
     }
 
-    /// The next bytes, as many as are asked for, lent for as long as the input lives.
+    /// The next bytes, as many as are asked for, lent for as long as the input lives. Fewer are
+    /// refused as truncated, at the end of the input.
     pub fn bytes(&mut self, count: u64) -> Result<&'a [u8], CborRefusal>
         ensures exact { option_map (λ piece. (piece.now, self.new)) (result_ok result) ≡ next_bytes count self.old }
         ensures ok { IfOk result (λ piece. (length piece.now ≡ count) × Takes self.old self.new piece.now) }

@@ -159,7 +159,8 @@ fn read_tagged<'a>(
 }
 
 /// The item that a prefix of the bytes spells, and the length of that prefix (RFC 8949, section
-/// 4.2.1). Bytes after it are not looked at.
+/// 4.2.1). Bytes after it are not looked at. Takes memory for the item alone, and none is kept
+/// after a fault.
 pub fn decode(alloc: Global, bytes: &[u8]) -> Result<(Item, usize), CborFault>
     ensures item { IfOk result (λ r. StartsWithItem bytes.now (tree_of r.0) r.1) }
     ensures fault { IfErr result (IsFaultOf bytes.now) }

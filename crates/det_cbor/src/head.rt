@@ -140,7 +140,8 @@ fn read_head(bytes: &[u8]) -> Result<(Head, &[u8]), Reason>
     }
 }
 
-/// The head at the front and the bytes after it, or why there is none.
+/// The head at the front and the bytes after it, or why there is none. Indefinite and reserved
+/// heads are told by their first byte, before what is cut short.
 pub(crate) fn split_head(bytes: &[u8]) -> Result<(Head, &[u8]), Reason>
     ensures exact { map_ok (λ f. (f.0, f.1.now)) result ≡ head_at bytes.now }
     ensures begins { IfOk result (λ f. BeginsWith bytes.now f.0 f.1.now) }
