@@ -5,12 +5,12 @@ use Rattle.std.proofs.lemmas.Bool.{le-leb}
 use Rattle.std.proofs.lemmas.List.{append-nil, length-append}
 use Rattle.det_cbor.specs.declared.head.HeadKind.TheVariants as kinds
 use Rattle.det_cbor.specs.Heads.{head_bytes}
-use Rattle.det_cbor.specs.DataItem.{spell, spell_pairs, pair_count, UnsignedInteger, ByteString, MapOf, TaggedItem, NoPairs, PairThen, IsString, ArePairsWithin}
+use Rattle.det_cbor.specs.DataItem.{spell, spell_pairs, pair_count, UnsignedInteger, ByteString, MapOf, NoPairs, PairThen, IsString, ArePairsWithin}
 use Rattle.det_cbor.specs.Position.{Position, next_bytes}
 use Rattle.det_cbor.proofs.Positions.{next_bytes_again}
-use Rattle.suit_cli.specs.FlatForm.{FlatEnvelope, IsFlat, command_item, digest_item, shared_item, identifier_item, common_item, match_item, invoke_item, invoke_pair, member_pairs, members, manifest_item, envelope_item, before_manifest, before_members, before_code, validate_bytes, match_place_from}
+use Rattle.suit_cli.specs.FlatForm.{FlatManifest, IsFlat, command_item, digest_item, shared_item, identifier_item, common_item, match_item, invoke_item, invoke_pair, member_pairs, members, manifest_item, before_members, before_code, validate_bytes, match_place_from}
 use Rattle.suit_cli.specs.FlatPlan.{form_of}
-use Rattle.suit_cli.specs.FlatReading.{◌>>=◌, expected_at, number_at, string_at, command_at, digest_at, shared_at, common_at, invoke_at, members_at, manifest_at, envelope_at, at_end}
+use Rattle.suit_cli.specs.FlatReading.{◌>>=◌, expected_at, number_at, string_at, command_at, digest_at, shared_at, common_at, invoke_at, members_at, manifest_at, at_end}
 use Rattle.suit_cli.specs.declared.flat.FlatForm.{FlatForm}
 use Rattle.suit_cli.proofs.FlatSteps.{after, expected_again, number_again, string_again, string}
 
@@ -51,7 +51,7 @@ digest_again d place long =
 shared_parts : (inner : List ℕ) (size : ℕ) → head_bytes 4 2 ++ (head_bytes 0 20 ++ ((head_bytes 5 2 ++ (head_bytes 0 3 ++ ((head_bytes 2 (length inner) ++ inner) ++ (head_bytes 0 14 ++ (head_bytes 0 size ++ []))))) ++ [])) ≡ head_bytes 4 2 ++ (head_bytes 0 20 ++ (head_bytes 5 2 ++ (head_bytes 0 3 ++ (string inner ++ (head_bytes 0 14 ++ head_bytes 0 size)))))
 shared_parts inner size = simp (append_assoc, append-nil)
 
-shared_again : (f : FlatEnvelope) (place : ℕ) → length f.digest ≡ 32 → f.size < 2 ^ 64 → length (spell (digest_item f.digest)) < 2 ^ 64 → shared_at (at_place (spell (shared_item f)) place) ≡ Some (f.digest, f.size)
+shared_again : (f : FlatManifest) (place : ℕ) → length f.digest ≡ 32 → f.size < 2 ^ 64 → length (spell (digest_item f.digest)) < 2 ^ 64 → shared_at (at_place (spell (shared_item f)) place) ≡ Some (f.digest, f.size)
 unfolding shared_at
 shared_again f place long lt small =
     let inner = spell (digest_item f.digest) in
@@ -84,7 +84,7 @@ shared_again f place long lt small =
 common_parts : (id inner : List ℕ) → head_bytes 5 2 ++ (head_bytes 0 2 ++ ((head_bytes 4 1 ++ ((head_bytes 4 1 ++ ((head_bytes 2 (length id) ++ id) ++ [])) ++ [])) ++ (head_bytes 0 4 ++ ((head_bytes 2 (length inner) ++ inner) ++ [])))) ≡ head_bytes 5 2 ++ (head_bytes 0 2 ++ (head_bytes 4 1 ++ (head_bytes 4 1 ++ (string id ++ (head_bytes 0 4 ++ string inner)))))
 common_parts id inner = simp (append_assoc, append-nil)
 
-common_again : (f : FlatEnvelope) (place : ℕ) → length (spell (identifier_item f.identifier)) ≤ 64 → length f.identifier < 2 ^ 64 → length f.digest ≡ 32 → f.size < 2 ^ 64 → length (spell (digest_item f.digest)) < 2 ^ 64 → length (spell (shared_item f)) < 2 ^ 64 → common_at (at_place (spell (common_item f)) place) ≡ Some (f.digest, f.size)
+common_again : (f : FlatManifest) (place : ℕ) → length (spell (identifier_item f.identifier)) ≤ 64 → length f.identifier < 2 ^ 64 → length f.digest ≡ 32 → f.size < 2 ^ 64 → length (spell (digest_item f.digest)) < 2 ^ 64 → length (spell (shared_item f)) < 2 ^ 64 → common_at (at_place (spell (common_item f)) place) ≡ Some (f.digest, f.size)
 unfolding common_at
 common_again f place short lt long fits small-digest small =
     let id = f.identifier in
@@ -144,7 +144,7 @@ invoke_again x matched invoked place le small =
     rw (e1, e2, e3) (ap (λ (k : ℕ). Some (form x matched k)) place-is)
 
 -- where a manifest's members begin
-abbrev form_at : ℕ → FlatEnvelope → FlatForm
+abbrev form_at : ℕ → FlatManifest → FlatForm
 form_at start f = form (f.digest, f.size) (match_place_from start f.match_report) (start + length (validate_bytes f.match_report) + length (before_code 9 (invoke_item f.invoke_report)))
 
 members_again : (matched : Option ℕ) (invoked : ℕ) (x : List ℕ × ℕ) (place : ℕ) → IfSome matched (λ n. n ≤ 15) → IfSome matched (λ n. length (spell (match_item n)) < 2 ^ 64) → invoked ≤ 15 → length (spell (invoke_item invoked)) < 2 ^ 64
@@ -182,9 +182,8 @@ few_pairs : (matched : Option ℕ) (invoked : ℕ) → pair_count (member_pairs 
 few_pairs None invoked = omega arith
 few_pairs (Some report) invoked = omega arith
 
--- what an envelope of the flat form keeps to
-pub record Fits (f : FlatEnvelope) : Type 0 where
-  pub wrapper : length f.wrapper < 2 ^ 64
+-- what a manifest of the flat form keeps to
+pub record Fits (f : FlatManifest) : Type 0 where
   pub number : f.sequence_number < 2 ^ 64
   pub identifier : length f.identifier < 2 ^ 64
   pub short : length (spell (identifier_item f.identifier)) ≤ 64
@@ -197,9 +196,8 @@ pub record Fits (f : FlatEnvelope) : Type 0 where
   pub common : length (spell (common_item f)) < 2 ^ 64
   pub validate : IfSome f.match_report (λ report. length (spell (match_item report)) < 2 ^ 64)
   pub invoke : length (spell (invoke_item f.invoke_report)) < 2 ^ 64
-  pub manifest : length (spell (manifest_item f)) < 2 ^ 64
 
-manifest_again : (f : FlatEnvelope) (place : ℕ) → Fits f → manifest_at (at_place (spell (manifest_item f)) place) ≡ Some (form_at (place + length (before_members f)) f)
+manifest_again : (f : FlatManifest) (place : ℕ) → Fits f → manifest_at (at_place (spell (manifest_item f)) place) ≡ Some (form_at (place + length (before_members f)) f)
 unfolding manifest_at
 manifest_again f place fits =
     let inner = spell (common_item f) in
@@ -237,52 +235,19 @@ manifest_again f place fits =
     let place-is : p7.place ≡ place + length (before_members f) = omega (arith, front, heads, whole) in
     rw (e1, e2, e3, e4, e5, e6, e7, e8) (last ∙ ap (λ (k : ℕ). Some (form_at k f)) place-is)
 
-envelope_parts : (w m : List ℕ) → spell (TaggedItem 107 (MapOf (PairThen (UnsignedInteger 2) (ByteString w) (PairThen (UnsignedInteger 3) (ByteString m) NoPairs)))) ≡ head_bytes 6 107 ++ (head_bytes 5 2 ++ (head_bytes 0 2 ++ (string w ++ (head_bytes 0 3 ++ string m))))
-envelope_parts w m = simp (append_assoc, append-nil)
-
-pub envelope_again : (f : FlatEnvelope) → Fits f → envelope_at (at_place (spell (envelope_item f)) 0) ≡ Some (form_of f)
-unfolding envelope_at
-envelope_again f fits =
-    let m = spell (manifest_item f) in
-    let r5 = string m in
-    let r4 = head_bytes 0 3 ++ r5 in
-    let r3 = string f.wrapper ++ r4 in
-    let r2 = head_bytes 0 2 ++ r3 in
-    let r1 = head_bytes 5 2 ++ r2 in
-    let p0 = at_place (spell (envelope_item f)) 0 in
-    let p1 = after p0 (head_bytes 6 107) r1 in
-    let p2 = after p1 (head_bytes 5 2) r2 in
-    let p3 = after p2 (head_bytes 0 2) r3 in
-    let p4 = after p3 (string f.wrapper) r4 in
-    let p5 = after p4 (head_bytes 0 3) r5 in
-    let p6 = after p5 r5 [] in
-    let content = after p5 (head_bytes 2 (length m)) m in
-    let e1 : expected_at kinds.Tag 107 p0 ≡ Some p1 = expected_again kinds.Tag 107 p0 r1 (omega arith) (omega arith) (envelope_parts f.wrapper m) in
-    let e2 : expected_at kinds.Map 2 p1 ≡ Some p2 = expected_again kinds.Map 2 p1 r2 (omega arith) (omega arith) refl in
-    let e3 : expected_at kinds.Unsigned 2 p2 ≡ Some p3 = expected_again kinds.Unsigned 2 p2 r3 (omega arith) (omega arith) refl in
-    let e4 : string_at p3 ≡ Some (after p3 (head_bytes 2 (length f.wrapper)) f.wrapper, p4) = string_again p3 f.wrapper r4 fits.wrapper refl in
-    let e5 : expected_at kinds.Unsigned 3 p4 ≡ Some p5 = expected_again kinds.Unsigned 3 p4 r5 (omega arith) (omega arith) refl in
-    let e6 : string_at p5 ≡ Some (content, p6) = string_again p5 m [] fits.manifest (sym (append-nil r5)) in
-    let e7 = manifest_again f content.place fits in
-    let front = front_length (head_bytes 6 107) (head_bytes 5 2) (head_bytes 0 2) (string f.wrapper) (head_bytes 0 3) (head_bytes 2 (length m)) in
-    let place-is : content.place ≡ length (before_manifest f) = omega (arith, front) in
-    rw (e1, e2, e3, e4, e5, e6) (rw e7 (ap (λ (k : ℕ). Some (form_at (k + length (before_members f)) f)) place-is))
-
 -- ---- what the grammar says of each part
 
 match_fits : (matched : Option ℕ) (invoked : ℕ) (before : Option (List ℕ)) → ArePairsWithin 1 before (member_pairs matched invoked) → IfSome matched (λ report. length (spell (match_item report)) < 2 ^ 64) × (length (spell (invoke_item invoked)) < 2 ^ 64)
 match_fits None invoked before pairs = (tt, pairs.2.0)
 match_fits (Some report) invoked before pairs = (pairs.2.0, pairs.3.2.0)
 
-pub flat_fits : (bytes : List ℕ) (f : FlatEnvelope) → IsFlat bytes f → Fits f
+pub flat_fits : (bytes : List ℕ) (f : FlatManifest) → IsFlat bytes f → Fits f
 flat_fits bytes f flat =
-    let outer = flat.envelope.valid.2.2 in
-    let pairs = flat.manifest.2 in
+    let pairs = flat.manifest.valid.2 in
     let members = match_fits f.match_report f.invoke_report _ pairs.3.3.3 in
     let components = flat.common.2 in
     let parameters = flat.shared.2.1.0.2 in
     record {
-      wrapper = outer.2.0;
       number = pairs.3.2;
       identifier = components.2.2.0.2.0.0;
       short = flat.identifier_length;
@@ -295,8 +260,7 @@ flat_fits bytes f flat =
       common = pairs.3.3.2.0;
       validate = members.0;
       invoke = members.1;
-      manifest = outer.3.2.0;
     }
 
-pub flat_again : (bytes : List ℕ) (f : FlatEnvelope) → IsFlat bytes f → envelope_at (at_place bytes 0) ≡ Some (form_of f)
-flat_again bytes f flat = ap (λ (b : List ℕ). envelope_at (at_place b 0)) flat.envelope.is ∙ envelope_again f (flat_fits bytes f flat)
+pub flat_again : (bytes : List ℕ) (place : ℕ) (f : FlatManifest) → IsFlat bytes f → manifest_at (at_place bytes place) ≡ Some (form_of place f)
+flat_again bytes place f flat = ap (λ (b : List ℕ). manifest_at (at_place b place)) flat.manifest.is ∙ manifest_again f place (flat_fits bytes f flat)

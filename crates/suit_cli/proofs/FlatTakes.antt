@@ -6,17 +6,17 @@ use Rattle.std.proofs.lemmas.Bool.{eqb-true, leb-true}
 use Rattle.std.proofs.lemmas.List.{append-nil, length-append}
 use Rattle.det_cbor.specs.declared.head.HeadKind.TheVariants as kinds
 use Rattle.det_cbor.specs.Heads.{head_bytes}
-use Rattle.det_cbor.specs.DataItem.{IsByte, spell, spell_pairs, pair_count, UnsignedInteger, ByteString, MapOf, TaggedItem, NoPairs, PairThen, IsString, IsAbove, IsValid, ArePairsWithin, Spells}
+use Rattle.det_cbor.specs.DataItem.{IsByte, spell, spell_pairs, pair_count, UnsignedInteger, ByteString, MapOf, NoPairs, PairThen, IsString, IsAbove, IsValid, ArePairsWithin, Spells}
 use Rattle.det_cbor.specs.Position.{Position}
 use Rattle.det_cbor.proofs.Heads.{IsBytes, chosen}
 use Rattle.det_cbor.proofs.Positions.{next_bytes_takes}
-use Rattle.suit_cli.specs.FlatForm.{FlatEnvelope, IsFlat, command_item, digest_item, shared_item, identifier_item, common_item, match_item, invoke_item, member_pairs, manifest_item, envelope_item}
-use Rattle.suit_cli.specs.FlatReading.{◌>>=◌, command_at, digest_at, shared_at, common_at, invoke_at, members_at, manifest_at, envelope_at, at_end}
+use Rattle.suit_cli.specs.FlatForm.{FlatManifest, IsFlat, command_item, digest_item, shared_item, identifier_item, common_item, match_item, invoke_item, member_pairs, manifest_item}
+use Rattle.suit_cli.specs.FlatReading.{◌>>=◌, command_at, digest_at, shared_at, common_at, invoke_at, members_at, manifest_at, at_end}
 use Rattle.suit_cli.specs.declared.flat.FlatForm.{FlatForm}
 use Rattle.suit_cli.proofs.FlatSteps.{bind_then, kept, all_bytes, expected_takes, number_takes, string_takes, steps_then, Content, at_end_takes, all_taken, string}
 
-abbrev flat : List ℕ → ℕ → List ℕ → List ℕ → ℕ → Option ℕ → ℕ → FlatEnvelope
-flat wrapper n identifier digest size matched invoked = record { wrapper = wrapper; sequence_number = n; identifier = identifier; digest = digest; size = size; match_report = matched; invoke_report = invoked }
+abbrev flat : ℕ → List ℕ → List ℕ → ℕ → Option ℕ → ℕ → FlatManifest
+flat n identifier digest size matched invoked = record { sequence_number = n; identifier = identifier; digest = digest; size = size; match_report = matched; invoke_report = invoked }
 
 -- the content of a byte string is the spelling of its item
 strings : (p inner q : Position) (spelling : List ℕ) → Content p inner q → inner.left ≡ spelling → IsString spelling
@@ -67,8 +67,8 @@ above_3_14 : IsAbove (Some (spell (UnsignedInteger 3))) (spell (UnsignedInteger 
 unfolding head_bytes
 above_3_14 = refl
 
-abbrev of_shared : List ℕ → ℕ → FlatEnvelope
-of_shared digest size = flat [] 0 [] digest size None 0
+abbrev of_shared : List ℕ → ℕ → FlatManifest
+of_shared digest size = flat 0 [] digest size None 0
 
 record IsShared (p : Position) : Type 0 where
   digest : List ℕ
@@ -108,8 +108,8 @@ shared_takes p x fits e =
 
 -- ---- common
 
-abbrev of_common : List ℕ → List ℕ → ℕ → FlatEnvelope
-of_common identifier digest size = flat [] 0 identifier digest size None 0
+abbrev of_common : List ℕ → List ℕ → ℕ → FlatManifest
+of_common identifier digest size = flat 0 identifier digest size None 0
 
 above_2_4 : IsAbove (Some (spell (UnsignedInteger 2))) (spell (UnsignedInteger 4))
 unfolding head_bytes
@@ -262,8 +262,8 @@ record IsManifest (p : Position) : Type 0 where
   n : ℕ
   common : (inner : Position) × IsCommon inner
   members : (count : ℕ) × (rest : Position) × AreMembers count rest
-  is : p.left ≡ spell (manifest_item (flat [] n common.1.identifier common.1.shared.1.digest common.1.shared.1.size members.2.matched members.2.invoked))
-  valid : IsValid (manifest_item (flat [] n common.1.identifier common.1.shared.1.digest common.1.shared.1.size members.2.matched members.2.invoked))
+  is : p.left ≡ spell (manifest_item (flat n common.1.identifier common.1.shared.1.digest common.1.shared.1.size members.2.matched members.2.invoked))
+  valid : IsValid (manifest_item (flat n common.1.identifier common.1.shared.1.digest common.1.shared.1.size members.2.matched members.2.invoked))
 
 few_members : (matched : Option ℕ) (invoked : ℕ) → pair_count (member_pairs matched invoked) ≤ 2
 few_members None invoked = omega arith
@@ -302,39 +302,21 @@ manifest_takes p r fits e =
       valid = (omega arith, few, (omega arith, tt, omega arith, (omega arith, above_1_2, sn.1, (omega arith, above_2_3, text, m.sound))));
     }))))))))
 
-envelope_parts : (w m : List ℕ) → head_bytes 6 107 ++ (head_bytes 5 2 ++ (head_bytes 0 2 ++ (string w ++ (head_bytes 0 3 ++ string m)))) ≡ spell (TaggedItem 107 (MapOf (PairThen (UnsignedInteger 2) (ByteString w) (PairThen (UnsignedInteger 3) (ByteString m) NoPairs))))
-envelope_parts w m = simp (append_assoc, append-nil)
-
-pub envelope_takes : (p : Position) (r : FlatForm) → IsBytes p.left → envelope_at p ≡ Some r → (f : FlatEnvelope) × IsFlat p.left f
-unfolding envelope_at
-envelope_takes p r fits e =
-    bind_then _ _ _ e (λ a a-is e1. bind_then _ _ _ e1 (λ b b-is e2. bind_then _ _ _ e2 (λ c c-is e3. bind_then _ _ _ e3 (λ (w, g) w-is e4. bind_then _ _ _ e4 (λ f f-is e5. bind_then _ _ _ e5 (λ (inner, s) s-is e6. bind_then _ _ _ e6 (λ found found-is e7.
-    let sa = expected_takes kinds.Tag 107 p a (omega arith) fits a-is in
-    let sb = expected_takes kinds.Map 2 a b (omega arith) sa.left b-is in
-    let sc = expected_takes kinds.Unsigned 2 b c (omega arith) sb.left c-is in
-    let wrapper = string_takes c w g sc.left w-is in
-    let sf = expected_takes kinds.Unsigned 3 g f (omega arith) wrapper.steps.left f-is in
-    let content = string_takes f inner s sf.left s-is in
-    let m = manifest_takes inner found content.bytes found-is in
-    let all = all_taken p s _ (steps_then p a s _ _ sa (steps_then a b s _ _ sb (steps_then b c s _ _ sc (steps_then c g s _ _ wrapper.steps (steps_then g f s _ _ sf content.steps))))) (at_end_takes s found r e7) in
+pub flat_takes : (p : Position) (r : FlatForm) → IsBytes p.left → manifest_at p ≡ Some r → (f : FlatManifest) × IsFlat p.left f
+flat_takes p r fits e =
+    let m = manifest_takes p r fits e in
     let k = m.common.1 in
     let members = m.members.2 in
-    let spelling = spell (manifest_item (flat [] m.n k.identifier k.shared.1.digest k.shared.1.size members.matched members.invoked)) in
-    let body = all ∙ ap (λ (t : List ℕ). head_bytes 6 107 ++ (head_bytes 5 2 ++ (head_bytes 0 2 ++ (string w.left ++ (head_bytes 0 3 ++ string t))))) m.is ∙ envelope_parts w.left spelling in
-    let cover : IsString w.left = (wrapper.fits, all_bytes w.left wrapper.bytes) in
-    let text : IsString spelling = strings f inner s spelling content m.is in (
-      flat w.left m.n k.identifier k.shared.1.digest k.shared.1.size members.matched members.invoked,
-      record {
-        envelope = record { valid = (omega arith, omega arith, (omega arith, omega arith, (omega arith, tt, cover, (omega arith, above_2_3, text, tt)))); is = body };
-        manifest = m.valid;
-        common = k.valid;
-        shared = k.shared.1.valid;
-        parameter = k.shared.1.parameter;
-        validate = members.match_valid;
-        invoke = members.valid;
-        digest_length = k.shared.1.long;
-        identifier_length = k.short;
-        match_policy = members.match_policy;
-        invoke_policy = members.policy;
-      },
-    ))))))))
+    (flat m.n k.identifier k.shared.1.digest k.shared.1.size members.matched members.invoked,
+    record {
+      manifest = record { valid = m.valid; is = m.is };
+      common = k.valid;
+      shared = k.shared.1.valid;
+      parameter = k.shared.1.parameter;
+      validate = members.match_valid;
+      invoke = members.valid;
+      digest_length = k.shared.1.long;
+      identifier_length = k.short;
+      match_policy = members.match_policy;
+      invoke_policy = members.policy;
+    })

@@ -1,59 +1,62 @@
--- A file is refused for one cause, and no file of the flat form is.
-use Rattle.std.proofs.Common.{◌≡◌, ℕ, Bool, true, false, cond, ltb, List, ◌⊎◌, inl, inr, refl, sym, ap, subst, ◌∙◌, ◌<◌, ◌≤◌, ◌+◌, length, take, arith}
-use Rattle.std.specs.List.{AllByRecursion}
-use Rattle.std.specs.Prelude.{nat_lt, if◌then◌else◌}
-use Rattle.std.proofs.lemmas.Bool.{lt-ltb, le-ltb}
-use Rattle.std.proofs.lemmas.List.{take_all}
-use Rattle.det_cbor.specs.declared.reason.Reason.{Reason}
-use Rattle.det_cbor.specs.DataItem.{DataItem, IsByte, Spells}
-use Rattle.det_cbor.specs.Faults.{Faulty}
-use Rattle.det_cbor.specs.OneReading.{StartsWithItem, HasOneItem, HasOneFault}
-use Rattle.det_cbor.proofs.OneReadingLaw.{one_reading_law}
-use Rattle.suit_cli.specs.FlatForm.{FlatEnvelope, IsFlat}
-use Rattle.suit_cli.specs.Answer.{IsRefused, HasFault, Trails, OtherForm, refused_line, reason_text, trailing_text, not_built_line}
+-- A file is refused for one cause, and says one thing.
+use Rattle.std.proofs.Common.{◌≡◌, ℕ, List, Result, Ok, Err, refl, sym, ap, subst, ◌∙◌, ◌<◌, ◌≤◌, arith}
+use Rattle.suit_params.specs.declared.refusal.Refusal.{Refusal}
+use Rattle.suit_params.specs.Refusing.{SaysWhole, RefusesWhole}
+use Rattle.suit_params.specs.Reading.{whole_judged}
+use Rattle.suit_params.proofs.Judgements.{whole_read, whole_refused}
+use Rattle.suit_envelope.specs.Envelopes.{EnvelopeSays, IsEnvelope, RefusesEnvelope}
+use Rattle.suit_envelope.specs.Judging.{judge_envelope}
+use Rattle.suit_envelope.proofs.EnvelopeJudging.{envelope_judges}
+use Rattle.suit_cli.specs.declared.flat.FlatForm.{FlatForm}
+use Rattle.suit_cli.specs.FlatPlan.{form_of}
+use Rattle.suit_cli.specs.FlatForm.{FlatManifest, IsFlat}
+use Rattle.suit_cli.specs.Answer.{IsAccepted, HasForm, IsRefused, HasRefusal, LongEnvelope, OtherForm, refused_line, why_text, longest_trimmed, trimmed_size}
+use Rattle.suit_cli.proofs.FlatLaw.{one_form}
 
--- an item that the bytes spell is one that they start with
-starts_whole : (bytes : List ℕ) (x : DataItem) → Spells x bytes → StartsWithItem bytes x (length bytes)
-starts_whole bytes x spells = record { spells = subst (Spells x) (sym (take_all (length bytes) bytes (omega arith))) spells; within = omega arith }
+says_is : (bytes : List ℕ) (said : EnvelopeSays) → SaysWhole IsEnvelope 0 bytes said → whole_judged judge_envelope 0 bytes ≡ Ok said
+says_is bytes said so = whole_read judge_envelope IsEnvelope RefusesEnvelope envelope_judges 0 bytes said so
 
--- the one text of a file that is refused
-abbrev text_by : (bytes : List ℕ) → HasOneItem bytes ⊎ HasOneFault bytes → List ℕ
-text_by bytes (inl item) = if nat_lt item.used (length bytes) then refused_line item.used trailing_text else not_built_line
-text_by bytes (inr fault) = refused_line fault.place (reason_text fault.reason)
+refuses_is : (bytes : List ℕ) (r : Refusal) → RefusesWhole RefusesEnvelope 0 bytes r → whole_judged judge_envelope 0 bytes ≡ Err r
+refuses_is bytes r bad = whole_refused judge_envelope IsEnvelope RefusesEnvelope envelope_judges 0 bytes r bad
 
-fault_text : (p q : ℕ) (r s : Reason) → p ≡ q → r ≡ s → refused_line p (reason_text r) ≡ refused_line q (reason_text s)
-fault_text p q r s place reason = ap (λ (k : ℕ). refused_line k (reason_text r)) place ∙ ap (λ (t : Reason). refused_line q (reason_text t)) reason
+-- bytes spell one envelope, or have one refusal, and never both
+pub one_envelope : (bytes : List ℕ) (said other : EnvelopeSays) → SaysWhole IsEnvelope 0 bytes said → SaysWhole IsEnvelope 0 bytes other → said ≡ other
+one_envelope bytes said other first second = let same = sym (says_is bytes said first) ∙ says_is bytes other second in cc
 
-text_is : (bytes text : List ℕ) (law : HasOneItem bytes ⊎ HasOneFault bytes) → IsRefused bytes text → text ≡ text_by bytes law
-text_is bytes text (inl item) (HasFault place reason faulty is) = absurd (item.sound place reason faulty)
-text_is bytes text (inl item) (Trails x used starts past is) =
-    let used-is : used ≡ item.used = (item.only x used starts).1 in
-    let short : nat_lt item.used (length bytes) ≡ true = lt-ltb _ _ (omega arith) in
-    rw short (is ∙ ap (λ (k : ℕ). refused_line k trailing_text) used-is)
-text_is bytes text (inl item) (OtherForm x spells other is) =
-    let used-is : length bytes ≡ item.used = (item.only x (length bytes) (starts_whole bytes x spells)).1 in
-    let long : nat_lt item.used (length bytes) ≡ false = le-ltb _ _ (omega arith) in
-    rw long is
-text_is bytes text (inr fault) (HasFault place reason faulty is) =
-    let same = fault.only place reason faulty in
-    is ∙ fault_text place fault.place reason fault.reason same.0 same.1
-text_is bytes text (inr fault) (Trails x used starts past is) = absurd (fault.empty x used starts)
-text_is bytes text (inr fault) (OtherForm x spells other is) = absurd (fault.empty x (length bytes) (starts_whole bytes x spells))
+one_refusal : (bytes : List ℕ) (r s : Refusal) → RefusesWhole RefusesEnvelope 0 bytes r → RefusesWhole RefusesEnvelope 0 bytes s → r ≡ s
+one_refusal bytes r s first second = let same = sym (refuses_is bytes r first) ∙ refuses_is bytes s second in cc
 
-pub one_text : (bytes text other : List ℕ) → AllByRecursion IsByte bytes → IsRefused bytes text → IsRefused bytes other → text ≡ other
-one_text bytes text other each first second =
-    let law = one_reading_law bytes each in
-    text_is bytes text law first ∙ sym (text_is bytes other law second)
+not_both : (bytes : List ℕ) (said : EnvelopeSays) (r : Refusal) → SaysWhole IsEnvelope 0 bytes said → RefusesWhole RefusesEnvelope 0 bytes r → ⊥
+not_both bytes said r so bad = let same = sym (says_is bytes said so) ∙ refuses_is bytes r bad in absurd cc
 
-accepted_by : (bytes text : List ℕ) (f : FlatEnvelope) (law : HasOneItem bytes ⊎ HasOneFault bytes) → IsFlat bytes f → IsRefused bytes text → ⊥
-accepted_by bytes text f (inl item) flat (HasFault place reason faulty is) = item.sound place reason faulty
-accepted_by bytes text f (inr fault) flat (HasFault place reason faulty is) = fault.empty _ (length bytes) (starts_whole bytes _ flat.envelope)
-accepted_by bytes text f (inl item) flat (Trails x used starts past is) =
-    let used-is : used ≡ item.used = (item.only x used starts).1 in
-    let all-is : length bytes ≡ item.used = (item.only _ (length bytes) (starts_whole bytes _ flat.envelope)).1 in
+-- an envelope has one form
+pub has_one_form : (said : EnvelopeSays) (form other : FlatForm) → HasForm said form → HasForm said other → form ≡ other
+has_one_form said form other first second =
+    first.says ∙ one_form said.manifest said.manifest_place first.manifest second.manifest first.flat second.flat ∙ sym second.says
+
+too_long : (bytes : List ℕ) (said other : EnvelopeSays) → SaysWhole IsEnvelope 0 bytes said → longest_trimmed < trimmed_size said → IsAccepted bytes other → ⊥
+too_long bytes said other so long accepted =
+    let same = one_envelope bytes said other so accepted.envelope in
+    let above : longest_trimmed < trimmed_size other = subst (λ (e : EnvelopeSays). longest_trimmed < trimmed_size e) same long in
+    let within : trimmed_size other ≤ longest_trimmed = accepted.short in
     omega arith
-accepted_by bytes text f (inr fault) flat (Trails x used starts past is) = fault.empty x used starts
-accepted_by bytes text f law flat (OtherForm x spells other is) = other f flat
 
-pub flat_accepted : (bytes text : List ℕ) (f : FlatEnvelope) → AllByRecursion IsByte bytes → IsFlat bytes f → IsRefused bytes text → ⊥
-flat_accepted bytes text f each flat why = accepted_by bytes text f (one_reading_law bytes each) flat why
+-- what is refused is refused for one cause
+pub one_answer : (bytes : List ℕ) (s t : ℕ) (a b : List ℕ) → IsRefused bytes s a → IsRefused bytes t b → (s ≡ t) × (a ≡ b)
+one_answer bytes s t a b (HasRefusal r bad is text) (HasRefusal q worse is' text') =
+    let same = one_refusal bytes r q bad worse in
+    (is ∙ sym is', text ∙ ap (λ (x : Refusal). refused_line x.place (why_text x.why)) same ∙ sym text')
+one_answer bytes s t a b (HasRefusal r bad is text) (LongEnvelope said so long is' text') = absurd (not_both bytes said r so bad)
+one_answer bytes s t a b (HasRefusal r bad is text) (OtherForm said accepted other is' text') = absurd (not_both bytes said r accepted.envelope bad)
+one_answer bytes s t a b (LongEnvelope said so long is text) (HasRefusal r bad is' text') = absurd (not_both bytes said r so bad)
+one_answer bytes s t a b (LongEnvelope said so long is text) (LongEnvelope said' so' long' is' text') = (is ∙ sym is', text ∙ sym text')
+one_answer bytes s t a b (LongEnvelope said so long is text) (OtherForm said' accepted other is' text') = absurd (too_long bytes said said' so long accepted)
+one_answer bytes s t a b (OtherForm said accepted other is text) (HasRefusal r bad is' text') = absurd (not_both bytes said r accepted.envelope bad)
+one_answer bytes s t a b (OtherForm said accepted other is text) (LongEnvelope said' so long is' text') = absurd (too_long bytes said' said so long accepted)
+one_answer bytes s t a b (OtherForm said accepted other is text) (OtherForm said' accepted' other' is' text') = (is ∙ sym is', text ∙ sym text')
+
+-- an accepted envelope of the flat form is not refused
+pub form_accepted : (bytes : List ℕ) (said : EnvelopeSays) (form : FlatForm) (status : ℕ) (text : List ℕ) → IsAccepted bytes said → HasForm said form → IsRefused bytes status text → ⊥
+form_accepted bytes said form status text accepted has (HasRefusal r bad is t) = not_both bytes said r accepted.envelope bad
+form_accepted bytes said form status text accepted has (LongEnvelope other so long is t) = too_long bytes other said so long accepted
+form_accepted bytes said form status text accepted has (OtherForm other ok none_has is t) = none_has form (subst (λ (e : EnvelopeSays). HasForm e form) (one_envelope bytes said other accepted.envelope ok.envelope) has)

@@ -1,12 +1,14 @@
 -- What the program answers: a status and a text, for the words and the files that the host tells of.
 use Rattle.std.specs.Prelude.{◌≡◌, ◌<◌, ◌≤◌, ◌⊎◌, ℕ, Bool, IsTrue, List, [], ◌∷◌, ◌++◌, length, Option, Some, None, codes}
-use Rattle.std.specs.List.{AllByRecursion}
 use Rattle.std.specs.Fmt.{decimal}
 use Rattle.det_cbor.specs.declared.reason.Reason.{Reason}
 use Rattle.det_cbor.specs.declared.reason.Reason.TheVariants as reasons
-use Rattle.det_cbor.specs.DataItem.{DataItem, IsByte, Spells}
-use Rattle.det_cbor.specs.Faults.{Faulty}
-use Rattle.det_cbor.specs.OneReading.{StartsWithItem}
+use Rattle.suit_params.specs.declared.refusal.Refusal.{Refusal}
+use Rattle.suit_params.specs.declared.refusal.Why.{Why}
+use Rattle.suit_params.specs.declared.refusal.Why.TheVariants as whys
+use Rattle.suit_params.specs.Refusing.{SaysWhole, RefusesWhole}
+use Rattle.suit_envelope.specs.Envelopes.{EnvelopeSays, IsEnvelope, RefusesEnvelope}
+use Rattle.suit_envelope.specs.Trimmed.{trimmed}
 use Rattle.suit_edge.specs.Faults.{Faulted}
 use Rattle.path_checker.specs.declared.plan.Procedure.{Procedure}
 use Rattle.path_checker.specs.declared.plan.Procedure.TheVariants as procedures
@@ -16,7 +18,7 @@ use Rattle.path_checker.specs.Flat.{tree_of}
 use Rattle.path_checker.specs.Safe.{Safe}
 use Rattle.path_checker.specs.Verdict.{IsBadPath}
 use Rattle.suit_cli.specs.declared.flat.FlatForm.{FlatForm}
-use Rattle.suit_cli.specs.FlatForm.{FlatEnvelope, IsFlat}
+use Rattle.suit_cli.specs.FlatForm.{FlatManifest, IsFlat}
 use Rattle.suit_cli.specs.FlatPlan.{plan_of, form_of}
 use Rattle.suit_cli.specs.Lines.{joined, path_lines}
 use Rattle.suit_cli.specs.Words.{checked_file}
@@ -43,8 +45,30 @@ reason_text reasons.BadText = codes "bad text"
 reason_text reasons.Repeated = codes "repeated"
 reason_text reasons.Order = codes "order"
 
-abbrev pub trailing_text : List ℕ
-trailing_text = codes "trailing"
+-- a word and a number
+abbrev pub numbered : List ℕ → ℕ → List ℕ
+numbered word n = joined (word ∷ codes " " ∷ decimal n ∷ [])
+
+abbrev pub index_text : ℕ → ℕ → List ℕ
+index_text index count = joined (codes "index " ∷ decimal index ∷ codes " of " ∷ decimal count ∷ [])
+
+abbrev pub why_text : Why → List ℕ
+why_text (whys.Cbor reason) = reason_text reason
+why_text whys.Trailing = codes "trailing"
+why_text whys.Shape = codes "shape"
+why_text whys.UnknownKey = codes "unknown key"
+why_text (whys.Missing key) = numbered (codes "missing") key
+why_text whys.Algorithm = codes "algorithm"
+why_text (whys.Version n) = numbered (codes "version") n
+why_text (whys.TooMany n) = joined (decimal n ∷ codes " components" ∷ [])
+why_text whys.LongIdentifier = codes "long identifier"
+why_text (whys.TwoAlike i j) = joined (codes "components " ∷ decimal i ∷ codes " and " ∷ decimal j ∷ codes " are alike" ∷ [])
+why_text whys.UnknownParam = codes "unknown parameter"
+why_text whys.BadParam = codes "bad parameter"
+why_text whys.Unsupported = codes "unsupported"
+why_text whys.BadArgument = codes "bad argument"
+why_text (whys.BadIndex i n) = index_text i n
+why_text whys.Nested = codes "nested"
 
 abbrev pub absent_line : List ℕ → List ℕ
 absent_line name = codes "absent " ++ name ++ codes "\n"
@@ -73,17 +97,6 @@ out_of_memory_line = codes "out of memory\n"
 abbrev pub form_tree : Procedure → FlatForm → Plan
 form_tree procedure form = tree_of (plan_of procedure form)
 
-abbrev pub procedure_tree : Procedure → FlatEnvelope → Plan
-procedure_tree procedure f = form_tree procedure (form_of f)
-
--- each invoke of the procedure is covered on every path, for all identities
-abbrev pub IsSafe : Procedure → FlatEnvelope → Type 0
-IsSafe procedure f = Safe (procedure_tree procedure f)
-
--- a path of the procedure for its identities, whose last event is its first invoke that is not covered
-abbrev pub IsUnsafeBy : Procedure → FlatEnvelope → BadPath → Type 0
-IsUnsafeBy procedure f bad = IsBadPath (procedure_tree procedure f) bad
-
 -- the update is judged first
 pub data FormJudgement (form : FlatForm) (status : ℕ) (text : List ℕ) : Type 0 where
   BothSafe : Safe (form_tree procedures.Update form) → Safe (form_tree procedures.Invocation form)
@@ -93,15 +106,36 @@ pub data FormJudgement (form : FlatForm) (status : ℕ) (text : List ℕ) : Type
   InvocationUnsafe : (bad : BadPath) → Safe (form_tree procedures.Update form) → IsBadPath (form_tree procedures.Invocation form) bad
       → status ≡ 1 → text ≡ invocation_unsafe_lines ++ path_lines bad → FormJudgement form status text
 
--- why a file is not accepted: its first fault; bytes after the item that begins it; or another form
-pub data IsRefused (bytes text : List ℕ) : Type 0 where
-  HasFault : (place : ℕ) (reason : Reason) → Faulty 0 bytes place reason → text ≡ refused_line place (reason_text reason) → IsRefused bytes text
-  Trails : (x : DataItem) (used : ℕ) → StartsWithItem bytes x used → used < length bytes → text ≡ refused_line used trailing_text → IsRefused bytes text
-  OtherForm : (x : DataItem) → Spells x bytes → ((f : FlatEnvelope) → IsFlat bytes f → ⊥) → text ≡ not_built_line → IsRefused bytes text
+-- the longest envelope with its manifest and wrapper alone, in bytes
+abbrev pub longest_trimmed : ℕ
+longest_trimmed = 16384
+
+abbrev pub trimmed_size : EnvelopeSays → ℕ
+trimmed_size said = length (trimmed said.wrapper said.manifest)
+
+-- the bytes spell an envelope, whose manifest and wrapper are not too long
+pub record IsAccepted (bytes : List ℕ) (said : EnvelopeSays) : Type 0 where
+  pub envelope : SaysWhole IsEnvelope 0 bytes said
+  pub short : trimmed_size said ≤ longest_trimmed
+
+-- the manifest is of the flat form, and says this
+pub record HasForm (said : EnvelopeSays) (form : FlatForm) : Type 0 where
+  pub manifest : FlatManifest
+  pub flat : IsFlat said.manifest manifest
+  pub says : form ≡ form_of said.manifest_place manifest
+
+-- why a file is not judged: its first refusal; a trimmed envelope that is too long; or another form
+pub data IsRefused (bytes : List ℕ) (status : ℕ) (text : List ℕ) : Type 0 where
+  HasRefusal : (r : Refusal) → RefusesWhole RefusesEnvelope 0 bytes r
+      → status ≡ 3 → text ≡ refused_line r.place (why_text r.why) → IsRefused bytes status text
+  LongEnvelope : (said : EnvelopeSays) → SaysWhole IsEnvelope 0 bytes said → longest_trimmed < trimmed_size said
+      → status ≡ 21 → text ≡ too_long_line (codes "envelope") → IsRefused bytes status text
+  OtherForm : (said : EnvelopeSays) → IsAccepted bytes said → ((form : FlatForm) → HasForm said form → ⊥)
+      → status ≡ 3 → text ≡ not_built_line → IsRefused bytes status text
 
 pub data Judgement (bytes : List ℕ) (status : ℕ) (text : List ℕ) : Type 0 where
-  Refused : IsRefused bytes text → status ≡ 3 → Judgement bytes status text
-  Built : (f : FlatEnvelope) → IsFlat bytes f → FormJudgement (form_of f) status text → Judgement bytes status text
+  Refused : IsRefused bytes status text → Judgement bytes status text
+  Built : (said : EnvelopeSays) (form : FlatForm) → IsAccepted bytes said → HasForm said form → FormJudgement form status text → Judgement bytes status text
 
 -- ---- the answer to `check NAME`
 
@@ -114,7 +148,7 @@ pub data CheckAnswer (told : Bool) (file : Option (List ℕ)) (name : List ℕ) 
   Absent : (IsTrue told → file ≡ None) → status ≡ 20 → text ≡ absent_line name → CheckAnswer told file name status text
   TooLong : (IsTrue told → (bytes : List ℕ) × (file ≡ Some bytes) × (longest_file < length bytes))
       → status ≡ 21 → text ≡ too_long_line name → CheckAnswer told file name status text
-  Judged : (bytes : List ℕ) → (IsTrue told → file ≡ Some bytes) → length bytes ≤ longest_file → AllByRecursion IsByte bytes
+  Judged : (bytes : List ℕ) → (IsTrue told → file ≡ Some bytes) → length bytes ≤ longest_file
       → Judgement bytes status text → CheckAnswer told file name status text
 
 -- ---- the reply to the words

@@ -1,12 +1,11 @@
--- The flat form: the envelopes that are judged so far (draft-ietf-suit-manifest-25, sections 8.1 to 8.4).
+-- The flat form: the manifests that are judged so far (draft-ietf-suit-manifest-25, section 8.4).
 -- One component, a shared sequence that overrides its digest and size, perhaps a match in validate, and an invoke.
 use Rattle.std.specs.Prelude.{◌≡◌, ◌≤◌, ◌+◌, ℕ, List, [], ◌∷◌, ◌++◌, length, Option, Some, None, IfSome}
 use Rattle.det_cbor.specs.Heads.{head_bytes}
-use Rattle.det_cbor.specs.DataItem.{DataItem, DataItems, DataPairs, UnsignedInteger, NegativeInteger, ByteString, ArrayOf, MapOf, TaggedItem, NoItems, ItemThen, NoPairs, PairThen, spell, spell_pairs, pair_count, IsValid, Spells}
+use Rattle.det_cbor.specs.DataItem.{DataItem, DataItems, DataPairs, UnsignedInteger, NegativeInteger, ByteString, ArrayOf, MapOf, NoItems, ItemThen, NoPairs, PairThen, spell, spell_pairs, pair_count, IsValid, Spells}
 
--- what an envelope of the flat form says; a report is a command's reporting policy
-pub record FlatEnvelope : Type 0 where
-  pub wrapper : List ℕ
+-- what a manifest of the flat form says; a report is a command's reporting policy
+pub record FlatManifest : Type 0 where
   pub sequence_number : ℕ
   pub identifier : List ℕ
   pub digest : List ℕ
@@ -28,7 +27,7 @@ abbrev pub digest_item : List ℕ → DataItem
 digest_item digest = two (NegativeInteger 15) (ByteString digest)
 
 -- override parameters: image digest and image size
-abbrev pub shared_item : FlatEnvelope → DataItem
+abbrev pub shared_item : FlatManifest → DataItem
 shared_item f = two (UnsignedInteger 20)
     (MapOf (PairThen (UnsignedInteger 3) (ByteString (spell (digest_item f.digest)))
     (PairThen (UnsignedInteger 14) (UnsignedInteger f.size) NoPairs)))
@@ -37,7 +36,7 @@ abbrev pub identifier_item : List ℕ → DataItem
 identifier_item identifier = ArrayOf (ItemThen (ByteString identifier) NoItems)
 
 -- the components and the shared sequence
-abbrev pub common_item : FlatEnvelope → DataItem
+abbrev pub common_item : FlatManifest → DataItem
 common_item f = MapOf
     (PairThen (UnsignedInteger 2) (ArrayOf (ItemThen (identifier_item f.identifier) NoItems))
     (PairThen (UnsignedInteger 4) (ByteString (spell (shared_item f))) NoPairs))
@@ -56,25 +55,19 @@ abbrev pub member_pairs : Option ℕ → ℕ → DataPairs
 member_pairs None invoked = invoke_pair invoked
 member_pairs (Some matched) invoked = PairThen (UnsignedInteger 7) (ByteString (spell (match_item matched))) (invoke_pair invoked)
 
-abbrev pub members : FlatEnvelope → DataPairs
+abbrev pub members : FlatManifest → DataPairs
 members f = member_pairs f.match_report f.invoke_report
 
 -- version 1, the sequence number, common, and the members
-abbrev pub manifest_item : FlatEnvelope → DataItem
+abbrev pub manifest_item : FlatManifest → DataItem
 manifest_item f = MapOf
     (PairThen (UnsignedInteger 1) (UnsignedInteger 1)
     (PairThen (UnsignedInteger 2) (UnsignedInteger f.sequence_number)
     (PairThen (UnsignedInteger 3) (ByteString (spell (common_item f))) (members f))))
 
-abbrev pub envelope_item : FlatEnvelope → DataItem
-envelope_item f = TaggedItem 107 (MapOf
-    (PairThen (UnsignedInteger 2) (ByteString f.wrapper)
-    (PairThen (UnsignedInteger 3) (ByteString (spell (manifest_item f))) NoPairs)))
-
--- The bytes spell this envelope. Each byte string that holds CBOR holds one valid item.
-pub record IsFlat (bytes : List ℕ) (f : FlatEnvelope) : Type 0 where
-  pub envelope : Spells (envelope_item f) bytes
-  pub manifest : IsValid (manifest_item f)
+-- The bytes spell this manifest. Each byte string that holds CBOR holds one valid item.
+pub record IsFlat (bytes : List ℕ) (f : FlatManifest) : Type 0 where
+  pub manifest : Spells (manifest_item f) bytes
   pub common : IsValid (common_item f)
   pub shared : IsValid (shared_item f)
   pub parameter : IsValid (digest_item f.digest)
@@ -85,16 +78,10 @@ pub record IsFlat (bytes : List ℕ) (f : FlatEnvelope) : Type 0 where
   pub match_policy : IfSome f.match_report (λ report. report ≤ 15)
   pub invoke_policy : f.invoke_report ≤ 15
 
--- ---- places in the file
-
--- what stands before the manifest's first byte
-abbrev pub before_manifest : FlatEnvelope → List ℕ
-before_manifest f =
-    head_bytes 6 107 ++ (head_bytes 5 2 ++ (spell (UnsignedInteger 2) ++ (spell (ByteString f.wrapper)
-    ++ (spell (UnsignedInteger 3) ++ head_bytes 2 (length (spell (manifest_item f)))))))
+-- ---- places, of a manifest whose first byte stands at a place
 
 -- what stands in the manifest before its members
-abbrev pub before_members : FlatEnvelope → List ℕ
+abbrev pub before_members : FlatManifest → List ℕ
 before_members f =
     head_bytes 5 (pair_count (members f) + 3) ++ (spell (UnsignedInteger 1) ++ (spell (UnsignedInteger 1)
     ++ (spell (UnsignedInteger 2) ++ (spell (UnsignedInteger f.sequence_number)
@@ -108,17 +95,14 @@ abbrev pub validate_bytes : Option ℕ → List ℕ
 validate_bytes None = []
 validate_bytes (Some report) = spell (UnsignedInteger 7) ++ spell (ByteString (spell (match_item report)))
 
-abbrev pub members_place : FlatEnvelope → ℕ
-members_place f = length (before_manifest f) + length (before_members f)
-
 abbrev pub match_place_from : ℕ → Option ℕ → Option ℕ
 match_place_from start None = None
 match_place_from start (Some report) = Some (start + length (before_code 7 (match_item report)))
 
 -- the place of the match's code, where there is a match
-abbrev pub match_place : FlatEnvelope → Option ℕ
-match_place f = match_place_from (members_place f) f.match_report
+abbrev pub match_place : ℕ → FlatManifest → Option ℕ
+match_place place f = match_place_from (place + length (before_members f)) f.match_report
 
 -- the place of the invoke's code
-abbrev pub invoke_place : FlatEnvelope → ℕ
-invoke_place f = members_place f + length (validate_bytes f.match_report) + length (before_code 9 (invoke_item f.invoke_report))
+abbrev pub invoke_place : ℕ → FlatManifest → ℕ
+invoke_place place f = place + length (before_members f) + length (validate_bytes f.match_report) + length (before_code 9 (invoke_item f.invoke_report))

@@ -120,15 +120,3 @@ manifest_at p = do
   common ← string_at key''
   parameters ← common_at common.0
   members_at map.0 parameters common.1
-
--- a whole envelope
-unfoldable pub envelope_at : Position → Option FlatForm
-envelope_at p = do
-  tag ← expected_at kinds.Tag 107 p
-  map ← expected_at kinds.Map 2 tag
-  key ← expected_at kinds.Unsigned 2 map
-  wrapper ← string_at key
-  key' ← expected_at kinds.Unsigned 3 wrapper.1
-  manifest ← string_at key'
-  found ← manifest_at manifest.0
-  at_end manifest.1 found

@@ -6,5 +6,6 @@ pub mod Words
 pub mod Outcome
 pub mod Answer
 pub mod Replying
+pub mod Judged
 pub mod Put
 pub mod Run

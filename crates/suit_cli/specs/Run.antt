@@ -2,10 +2,13 @@
 use Rattle.std.specs.Prelude.{◌≡◌, ◌<◌, ◌≤◌, ◌⊎◌, ℕ, Bool, IsTrue, List, ◌++◌, length, Option, Some, None}
 use Rattle.path_checker.specs.declared.plan.Procedure.TheVariants as procedures
 use Rattle.path_checker.specs.declared.judge.BadPath.{BadPath}
-use Rattle.suit_cli.specs.FlatForm.{FlatEnvelope, IsFlat}
+use Rattle.path_checker.specs.Safe.{Safe}
+use Rattle.path_checker.specs.Verdict.{IsBadPath}
+use Rattle.suit_envelope.specs.Envelopes.{EnvelopeSays}
+use Rattle.suit_cli.specs.declared.flat.FlatForm.{FlatForm}
 use Rattle.suit_cli.specs.Lines.{path_lines}
 use Rattle.suit_cli.specs.Words.{checked_file}
-use Rattle.suit_cli.specs.Answer.{Replies, IsRefused, IsSafe, IsUnsafeBy, longest_file, update_unsafe_line, invocation_unsafe_lines}
+use Rattle.suit_cli.specs.Answer.{Replies, IsAccepted, HasForm, IsRefused, form_tree, longest_file, update_unsafe_line, invocation_unsafe_lines}
 use Rattle.suit_cli.specs.Put.{Put}
 
 -- the words and the told files had a reply, and it was put
@@ -44,19 +47,21 @@ pub record ChecksNothing (file : List ℕ → Option (List ℕ)) (words : List (
   pub word : checked_file words ≡ Some name
   pub holds : file name ≡ None
 
--- the words check a file of the flat form, within the limit
-pub record ChecksFlat (file : List ℕ → Option (List ℕ)) (words : List (List ℕ)) (f : FlatEnvelope) : Type 0 where
+-- the words check a file within the limit that spells an accepted envelope of the flat form
+pub record ChecksForm (file : List ℕ → Option (List ℕ)) (words : List (List ℕ)) (form : FlatForm) : Type 0 where
   pub bytes : List ℕ
   pub checks : ChecksFile file words bytes
   pub fits : length bytes ≤ longest_file
-  pub flat : IsFlat bytes f
+  pub said : EnvelopeSays
+  pub accepted : IsAccepted bytes said
+  pub has : HasForm said form
 
--- the words check a file within the limit that is not accepted, which this text says
-pub record ChecksRefused (file : List ℕ → Option (List ℕ)) (words : List (List ℕ)) (text : List ℕ) : Type 0 where
+-- the words check a file within the limit that is not judged, which this status and text say
+pub record ChecksRefused (file : List ℕ → Option (List ℕ)) (words : List (List ℕ)) (status : ℕ) (text : List ℕ) : Type 0 where
   pub bytes : List ℕ
   pub checks : ChecksFile file words bytes
   pub fits : length bytes ≤ longest_file
-  pub refused : IsRefused bytes text
+  pub refused : IsRefused bytes status text
 
 -- the words check a file above the limit
 pub record ChecksLong (file : List ℕ → Option (List ℕ)) (words : List (List ℕ)) : Type 0 where
@@ -67,25 +72,25 @@ pub record ChecksLong (file : List ℕ → Option (List ℕ)) (words : List (Lis
 -- ---- the judgement
 
 -- on every path of both procedures each invoke is covered
-pub record AreSafe (f : FlatEnvelope) : Type 0 where
-  pub update : IsSafe procedures.Update f
-  pub invocation : IsSafe procedures.Invocation f
+pub record AreSafe (form : FlatForm) : Type 0 where
+  pub update : Safe (form_tree procedures.Update form)
+  pub invocation : Safe (form_tree procedures.Invocation form)
 
 -- the text is the lines of a path of one procedure on which an invoke is not covered, the first such procedure
-abbrev pub ShowsUnsafe : FlatEnvelope → List ℕ → Type 0
-ShowsUnsafe f text = (bad : BadPath) × ((IsUnsafeBy procedures.Update f bad × (text ≡ update_unsafe_line ++ path_lines bad))
-    ⊎ (IsSafe procedures.Update f × IsUnsafeBy procedures.Invocation f bad × (text ≡ invocation_unsafe_lines ++ path_lines bad)))
+abbrev pub ShowsUnsafe : FlatForm → List ℕ → Type 0
+ShowsUnsafe form text = (bad : BadPath) × ((IsBadPath (form_tree procedures.Update form) bad × (text ≡ update_unsafe_line ++ path_lines bad))
+    ⊎ (Safe (form_tree procedures.Update form) × IsBadPath (form_tree procedures.Invocation form) bad × (text ≡ invocation_unsafe_lines ++ path_lines bad)))
 
--- the checked file is of the flat form, and the lines of an uncovered path of it came behind what was put
+-- the checked file has the flat form, and the lines of an uncovered path of it came behind what was put
 pub record PutsUnsafe (file : List ℕ → Option (List ℕ)) (words : List (List ℕ)) (old new : List ℕ) : Type 0 where
-  pub f : FlatEnvelope
+  pub form : FlatForm
   pub text : List ℕ
-  pub checks : ChecksFlat file words f
-  pub shows : ShowsUnsafe f text
+  pub checks : ChecksForm file words form
+  pub shows : ShowsUnsafe form text
   pub put : new ≡ old ++ text
 
--- the checked file is not accepted, and the line that says why came behind what was put
-pub record PutsRefused (file : List ℕ → Option (List ℕ)) (words : List (List ℕ)) (old new : List ℕ) : Type 0 where
+-- the checked file is not judged, and the line that says why came behind what was put
+pub record PutsRefused (file : List ℕ → Option (List ℕ)) (words : List (List ℕ)) (status : ℕ) (old new : List ℕ) : Type 0 where
   pub text : List ℕ
-  pub checks : ChecksRefused file words text
+  pub checks : ChecksRefused file words status text
   pub put : new ≡ old ++ text

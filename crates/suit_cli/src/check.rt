@@ -1,22 +1,25 @@
 //! The command `check`: the judgement of a file.
 
 ghost use Rattle.std.specs.Prelude.{◌≡◌, ◌≤◌, ◌<◌, ◌^◌, ◌+◌, IsTrue, IfOk, length, Some};
-ghost use Rattle.det_cbor.specs.DataItem.{DataItem, IsByte, Spells};
-ghost use Rattle.std.specs.List.{AllByRecursion};
+ghost use Rattle.suit_envelope.specs.Said.{said_by};
 ghost use Rattle.suit_cli.specs.Outcome.{status_of};
 ghost use Rattle.suit_cli.specs.FlatPlan.{plan_of};
 ghost use Rattle.suit_cli.specs.Answer.{FormJudgement, Judgement, CheckReply};
+ghost use Rattle.suit_cli.specs.Judged.{ManifestJudged};
 ghost use Rattle.suit_cli.specs.Replying.{reply_status, reply_text};
 
 use crate::flat::{FlatForm, flat_form};
-use crate::reply::{Outcome, Reply, reason_text};
-use det_cbor::Cursor;
+use crate::reply::{Outcome, Reply};
 use path_checker::{CheckVerdict, FlatPlan, Procedure};
 use std::alloc::{AllocError, Global};
 use suit_edge::{Host, Taken, take_all};
+use suit_envelope::{Envelope, decode_envelope, trimmed_length};
 
 /// The longest file that is read, in bytes.
 const LONGEST_FILE: u64 = 1_048_576;
+
+/// The longest envelope with its manifest and wrapper alone, in bytes.
+const LONGEST_TRIMMED: u64 = 16_384;
 
 impl FlatForm {
     // The plan of one procedure.
@@ -53,31 +56,29 @@ fn judge_form(alloc: Global, form: &FlatForm) -> Result<Reply, AllocError>
     }
 }
 
-// The judgement of one whole item.
-fn judge_item(alloc: Global, bytes: &[u8]) -> Result<Reply, AllocError>
-    requires { length bytes.now < 2 ^ 64 }
-    ensures { IfOk result (λ reply. (x : DataItem) → Spells x bytes.now → Judgement bytes.now (status_of reply.outcome) reply.text) }
+// The judgement of an envelope whose manifest and wrapper are not too long.
+fn judge_manifest(alloc: Global, envelope: &Envelope<'_>) -> Result<Reply, AllocError>
+    requires { envelope.now.manifest_place + length envelope.now.manifest.now < 2 ^ 64 }
+    ensures { ManifestJudged (said_by envelope.now) result }
 {
-    match flat_form(bytes) {
+    match flat_form(envelope.manifest, envelope.manifest_place) {
         None => Reply::fixed(alloc, Outcome::Refused, "not built\n"),
         Some(form) => judge_form(alloc, &form),
     }
 }
 
-// The judgement of a file's bytes, as one item first.
+// The judgement of a file's bytes.
 fn judge(alloc: Global, bytes: &[u8]) -> Result<Reply, AllocError>
-    requires { length bytes.now < 2 ^ 64 }
-    ensures judged { IfOk result (λ reply. Judgement bytes.now (status_of reply.outcome) reply.text) }
-    ensures bytes { AllByRecursion IsByte bytes.now }
+    requires { length bytes.now ≤ 1048576 }
+    ensures { IfOk result (λ reply. Judgement bytes.now (status_of reply.outcome) reply.text) }
 {
-    let mut cursor = Cursor::new(bytes, 0);
-    match cursor.skip() {
-        Err(refusal) => Reply::refused(alloc, refusal.place, reason_text(refusal.reason)),
-        Ok(_) => {
-            if cursor.left() > 0 {
-                Reply::refused(alloc, cursor.place(), "trailing")
+    match decode_envelope(bytes) {
+        Err(refusal) => Reply::refused(alloc, &refusal),
+        Ok(envelope) => {
+            if trimmed_length(&envelope) > LONGEST_TRIMMED {
+                Reply::named(alloc, Outcome::TooLong, "too long ", "envelope")
             } else {
-                judge_item(alloc, bytes)
+                judge_manifest(alloc, &envelope)
             }
         }
     }

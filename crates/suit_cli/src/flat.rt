@@ -1,15 +1,15 @@
-//! The flat form of an envelope, read without memory.
+//! The flat form of a manifest, read without memory.
 
-ghost use Rattle.std.specs.Prelude.{◌≡◌, ◌<◌, ◌^◌, length, option_map, IfSome, Some};
+ghost use Rattle.std.specs.Prelude.{◌≡◌, ◌<◌, ◌+◌, ◌^◌, length, option_map, IfSome, Some};
 ghost use Rattle.det_cbor.specs.Position.{next_head, next_bytes};
-ghost use Rattle.suit_cli.specs.FlatReading.{expected_at, number_at, string_at, at_end, command_at, digest_at, shared_at, common_at, invoke_at, members_at, manifest_at, envelope_at};
-ghost use Rattle.suit_cli.specs.FlatForm.{FlatEnvelope, IsFlat};
+ghost use Rattle.suit_cli.specs.FlatReading.{expected_at, number_at, string_at, at_end, command_at, digest_at, shared_at, common_at, invoke_at, members_at, manifest_at};
+ghost use Rattle.suit_cli.specs.FlatForm.{FlatManifest, IsFlat};
 ghost use Rattle.suit_cli.specs.FlatPlan.{form_of};
 
 use det_cbor::{Cursor, Head, HeadKind};
 use path_checker::Digest;
 
-/// What the judgement needs of an envelope of the flat form.
+/// What the judgement needs of a manifest of the flat form.
 #[derive(Clone, Copy, Debug, PartialEq, Eq)]
 pub struct FlatForm {
     /// The component's image digest.
@@ -214,25 +214,12 @@ fn manifest(mut content: Cursor<'_>) -> Option<FlatForm>
     members(content, count, parameters)
 }
 
-#[tactic(auto, unfolding(crate::specs::FlatReading::envelope_at))]
-fn envelope(mut content: Cursor<'_>) -> Option<FlatForm>
-    ensures { result ≡ envelope_at content.entry }
+/// What a manifest of the flat form says, whose first byte stands at a place in the file, or `None` where it is not of
+/// that form.
+pub fn flat_form(bytes: &[u8], place: u64) -> Option<FlatForm>
+    requires { place + length bytes.now < 2 ^ 64 }
+    ensures spelled { IfSome result (λ form. (f : FlatManifest) × IsFlat bytes.now f × (form ≡ form_of place f)) }
+    ensures read { (f : FlatManifest) → IsFlat bytes.now f → result ≡ Some (form_of place f) }
 {
-    expect_head(&mut content, HeadKind::Tag, 107)?;
-    expect_head(&mut content, HeadKind::Map, 2)?;
-    expect_head(&mut content, HeadKind::Unsigned, 2)?;
-    byte_string(&mut content)?;
-    expect_head(&mut content, HeadKind::Unsigned, 3)?;
-    let inner = byte_string(&mut content)?;
-    let found = manifest(inner)?;
-    at_end(&content, found)
-}
-
-/// What a file of the flat form says, or `None` where it is not of that form.
-pub fn flat_form(bytes: &[u8]) -> Option<FlatForm>
-    requires { length bytes.now < 2 ^ 64 }
-    ensures spelled { IfSome result (λ form. (f : FlatEnvelope) × IsFlat bytes.now f × (form ≡ form_of f)) }
-    ensures read { (f : FlatEnvelope) → IsFlat bytes.now f → result ≡ Some (form_of f) }
-{
-    envelope(Cursor::new(bytes, 0))
+    manifest(Cursor::new(bytes, place))
 }

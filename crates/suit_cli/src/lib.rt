@@ -6,6 +6,7 @@ mod flat;
 mod lines;
 mod program;
 mod reply;
+mod why;
 
 pub use flat::{FlatForm, flat_form};
 pub use program::{Status, run};

@@ -2,12 +2,12 @@
 
 ghost use Rattle.std.specs.Prelude.{◌≡◌, ◌≢◌, ◌≤◌, ◌+◌, ◌⊎◌, ◌++◌, ℕ, List, None, IsTrue, option_map};
 ghost use Rattle.suit_edge.specs.Faults.{Faulted};
-ghost use Rattle.suit_cli.specs.FlatForm.{FlatEnvelope};
+ghost use Rattle.suit_cli.specs.declared.flat.FlatForm.{FlatForm};
 ghost use Rattle.suit_cli.specs.Words.{checked_file};
 ghost use Rattle.suit_cli.specs.Answer.{Replies, safe_lines, host_fault_line, out_of_memory_line};
 ghost use Rattle.suit_cli.specs.Replying.{reply_status, reply_text};
 ghost use Rattle.suit_cli.specs.Put.{Put};
-ghost use Rattle.suit_cli.specs.Run.{Runs, IsStatus, EndsIn, ChecksNothing, ChecksFlat, ChecksRefused, ChecksLong, AreSafe, PutsUnsafe, PutsRefused};
+ghost use Rattle.suit_cli.specs.Run.{Runs, IsStatus, EndsIn, ChecksNothing, ChecksForm, ChecksRefused, ChecksLong, AreSafe, PutsUnsafe, PutsRefused};
 
 use crate::check::check;
 use crate::reply::{Outcome, Reply};
@@ -75,22 +75,22 @@ pub fn run<H: Host, K: Sink>(alloc: Global, words: &Names, host: &mut H, out: &m
     ensures runs { Runs H.told (H.file host.old) words.now (H.faults host.old) (H.faults host.new) K.told (K.put_bytes out.old) (K.put_bytes out.new) (K.faults out.old) (K.faults out.new) result.0 }
 
     // The headline: yes exactly where each invoke is covered on every path, and otherwise a path where one is not.
-    ensures yes { IsTrue H.told → result.0 ≡ 0 → (f : FlatEnvelope) × ChecksFlat (H.file host.old) words.now f × AreSafe f }
-    ensures only_yes { IsTrue H.told → (f : FlatEnvelope) → ChecksFlat (H.file host.old) words.now f → AreSafe f → EndsIn 0 result.0 }
+    ensures yes { IsTrue H.told → result.0 ≡ 0 → (form : FlatForm) × ChecksForm (H.file host.old) words.now form × AreSafe form }
+    ensures only_yes { IsTrue H.told → (form : FlatForm) → ChecksForm (H.file host.old) words.now form → AreSafe form → EndsIn 0 result.0 }
     ensures puts_yes { IsTrue K.told → result.0 ≡ 0 → K.put_bytes out.new ≡ K.put_bytes out.old ++ safe_lines }
-    ensures no { IsTrue H.told → result.0 ≡ 1 → (f : FlatEnvelope) × ChecksFlat (H.file host.old) words.now f × (AreSafe f → ⊥) }
-    ensures only_no { IsTrue H.told → (f : FlatEnvelope) → ChecksFlat (H.file host.old) words.now f → (AreSafe f → ⊥) → EndsIn 1 result.0 }
+    ensures no { IsTrue H.told → result.0 ≡ 1 → (form : FlatForm) × ChecksForm (H.file host.old) words.now form × (AreSafe form → ⊥) }
+    ensures only_no { IsTrue H.told → (form : FlatForm) → ChecksForm (H.file host.old) words.now form → (AreSafe form → ⊥) → EndsIn 1 result.0 }
     ensures puts_no { IsTrue H.told → IsTrue K.told → result.0 ≡ 1 → PutsUnsafe (H.file host.old) words.now (K.put_bytes out.old) (K.put_bytes out.new) }
 
     // Each refusal, both ways.
     ensures usage { result.0 ≡ 2 → checked_file words.now ≡ None }
     ensures only_usage { checked_file words.now ≡ None → (result.0 ≡ 2) ⊎ (result.0 ≡ 9) ⊎ (result.0 ≡ 11) }
-    ensures refused { IsTrue H.told → IsTrue K.told → result.0 ≡ 3 → PutsRefused (H.file host.old) words.now (K.put_bytes out.old) (K.put_bytes out.new) }
-    ensures only_refused { IsTrue H.told → (text : List ℕ) → ChecksRefused (H.file host.old) words.now text → EndsIn 3 result.0 }
-    ensures puts_refused { IsTrue H.told → IsTrue K.told → (text : List ℕ) → ChecksRefused (H.file host.old) words.now text → result.0 ≡ 3 → K.put_bytes out.new ≡ K.put_bytes out.old ++ text }
+    ensures refused { IsTrue H.told → IsTrue K.told → result.0 ≡ 3 → PutsRefused (H.file host.old) words.now 3 (K.put_bytes out.old) (K.put_bytes out.new) }
+    ensures only_refused { IsTrue H.told → (status : ℕ) (text : List ℕ) → ChecksRefused (H.file host.old) words.now status text → EndsIn status result.0 }
+    ensures puts_refused { IsTrue H.told → IsTrue K.told → (status : ℕ) (text : List ℕ) → ChecksRefused (H.file host.old) words.now status text → result.0 ≡ status → K.put_bytes out.new ≡ K.put_bytes out.old ++ text }
     ensures absent { IsTrue H.told → result.0 ≡ 20 → ChecksNothing (H.file host.old) words.now }
     ensures only_absent { IsTrue H.told → ChecksNothing (H.file host.old) words.now → EndsIn 20 result.0 }
-    ensures too_long { IsTrue H.told → result.0 ≡ 21 → ChecksLong (H.file host.old) words.now }
+    ensures too_long { IsTrue H.told → result.0 ≡ 21 → ChecksLong (H.file host.old) words.now ⊎ ((text : List ℕ) × ChecksRefused (H.file host.old) words.now 21 text) }
     ensures only_too_long { IsTrue H.told → ChecksLong (H.file host.old) words.now → EndsIn 21 result.0 }
 
     // Statuses, faults and want of memory.

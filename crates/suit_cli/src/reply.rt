@@ -3,10 +3,12 @@
 ghost use Rattle.std.specs.Prelude.{◌≡◌, ◌++◌, codes, IfOk};
 ghost use Rattle.suit_cli.specs.Outcome.{status_of};
 ghost use Rattle.suit_cli.specs.Lines.{path_lines};
-ghost use Rattle.suit_cli.specs.Answer.{refused_line, reason_text};
+ghost use Rattle.suit_cli.specs.Answer.{refused_line, why_text};
 
 use crate::lines::push_path;
-use det_cbor::{Reason, Text};
+use crate::why::{refused_line, why_text};
+use det_cbor::Text;
+use suit_params::Refusal;
 use path_checker::BadPath;
 use std::alloc::{AllocError, Global};
 
@@ -79,12 +81,13 @@ impl Reply {
         Ok(Reply { outcome, text })
     }
 
-    /// A reply of one line, with the place of a fault in the file and what is wrong there.
-    pub(crate) fn refused(alloc: Global, place: u64, why: &str) -> Result<Reply, AllocError>
+    /// A reply of one line, with the place of a refusal in the file and what is wrong there.
+    pub(crate) fn refused(alloc: Global, refusal: &Refusal) -> Result<Reply, AllocError>
         ensures outcome { IfOk result (λ reply. status_of reply.outcome ≡ 3) }
-        ensures text { IfOk result (λ reply. reply.text ≡ refused_line place why.now) }
+        ensures text { IfOk result (λ reply. reply.text ≡ refused_line refusal.now.place (why_text refusal.now.why)) }
     {
-        let line = format!(in alloc; "refused at {place}: {why}\n")?;
+        let why = why_text(alloc, refusal.why)?;
+        let line = refused_line(alloc, refusal.place, why.as_str())?;
         Ok(Reply {
             outcome: Outcome::Refused,
             text: Text::from_string(line),
@@ -102,21 +105,5 @@ impl Reply {
             outcome: Outcome::Unsafe,
             text,
         })
-    }
-}
-
-/// Why bytes spell no item, in a line.
-pub(crate) fn reason_text(reason: Reason) -> &'static str
-    ensures { result.now ≡ reason_text reason }
-{
-    match reason {
-        Reason::Truncated => "truncated",
-        Reason::Indefinite => "indefinite",
-        Reason::Kind => "kind",
-        Reason::NotShortest => "not shortest",
-        Reason::TooDeep => "too deep",
-        Reason::BadText => "bad text",
-        Reason::Repeated => "repeated",
-        Reason::Order => "order",
     }
 }

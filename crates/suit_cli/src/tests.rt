@@ -49,7 +49,7 @@ impl Says {
 }
 
 /// Values on both sides of each bound of the flat form.
-const ROWS: [Row; 43] = [
+const ROWS: [Row; 58] = [
     Row {
         shows: "the stored envelope",
         at: 119,
@@ -111,7 +111,7 @@ const ROWS: [Row; 43] = [
         at: 4,
         removed: 41,
         added: "40",
-        says: Says::Safe,
+        says: Says::Refused("refused at 5: truncated\n"),
     },
     Row {
         shows: "sequence number 23",
@@ -300,14 +300,14 @@ const ROWS: [Row; 43] = [
         at: 0,
         removed: 2,
         added: "",
-        says: Says::NotBuilt,
+        says: Says::Safe,
     },
     Row {
         shows: "another tag",
         at: 1,
         removed: 1,
         added: "6c",
-        says: Says::NotBuilt,
+        says: Says::Refused("refused at 0: shape\n"),
     },
     Row {
         shows: "version 2",
@@ -350,6 +350,111 @@ const ROWS: [Row; 43] = [
         removed: 119,
         added: "",
         says: Says::Refused("refused at 0: truncated\n"),
+    },
+    Row {
+        shows: "a severed member",
+        at: 2,
+        removed: 117,
+        added: "a3025827815824822f58200000000000000000000000000000000000000000000000000000000000000000035847a501010201035835a2028181410004582c8214a2035824822f5820ba7816bf8f01cfea414140de5dae2223b00361a396177a9cb410ff61f20015ad0e03074382030f094382170f14420102",
+        says: Says::Safe,
+    },
+    Row {
+        shows: "an integrated payload",
+        at: 2,
+        removed: 117,
+        added: "a3025827815824822f58200000000000000000000000000000000000000000000000000000000000000000035847a501010201035835a2028181410004582c8214a2035824822f5820ba7816bf8f01cfea414140de5dae2223b00361a396177a9cb410ff61f20015ad0e03074382030f094382170f6423696d6743616263",
+        says: Says::Safe,
+    },
+    Row {
+        shows: "a payload that is no byte string",
+        at: 2,
+        removed: 117,
+        added: "a3025827815824822f58200000000000000000000000000000000000000000000000000000000000000000035847a501010201035835a2028181410004582c8214a2035824822f5820ba7816bf8f01cfea414140de5dae2223b00361a396177a9cb410ff61f20015ad0e03074382030f094382170f6423696d6701",
+        says: Says::Refused("refused at 124: shape\n"),
+    },
+    Row {
+        shows: "a further block",
+        at: 5,
+        removed: 39,
+        added: "29825824822f5820000000000000000000000000000000000000000000000000000000000000000041",
+        says: Says::Safe,
+    },
+    Row {
+        shows: "a block that is no byte string",
+        at: 5,
+        removed: 8,
+        added: "28825824822f582000",
+        says: Says::Refused("refused at 45: shape\n"),
+    },
+    Row {
+        shows: "an unknown key",
+        at: 2,
+        removed: 117,
+        added: "a3025827815824822f58200000000000000000000000000000000000000000000000000000000000000000035847a501010201035835a2028181410004582c8214a2035824822f5820ba7816bf8f01cfea414140de5dae2223b00361a396177a9cb410ff61f20015ad0e03074382030f094382170f0400",
+        says: Says::Refused("refused at 119: unknown key\n"),
+    },
+    Row {
+        shows: "an unknown key, and no manifest",
+        at: 45,
+        removed: 74,
+        added: "0400",
+        says: Says::Refused("refused at 45: unknown key\n"),
+    },
+    Row {
+        shows: "no manifest",
+        at: 2,
+        removed: 117,
+        added: "a1025827815824822f58200000000000000000000000000000000000000000000000000000000000000000",
+        says: Says::Refused("refused at 2: missing 3\n"),
+    },
+    Row {
+        shows: "no wrapper",
+        at: 2,
+        removed: 43,
+        added: "a1",
+        says: Says::Refused("refused at 2: missing 2\n"),
+    },
+    Row {
+        shows: "neither",
+        at: 2,
+        removed: 117,
+        added: "a0",
+        says: Says::Refused("refused at 2: missing 2\n"),
+    },
+    Row {
+        shows: "a wrapper of no elements",
+        at: 4,
+        removed: 41,
+        added: "4180",
+        says: Says::Refused("refused at 5: shape\n"),
+    },
+    Row {
+        shows: "a byte after the wrapper",
+        at: 5,
+        removed: 8,
+        added: "28815824822f582000",
+        says: Says::Refused("refused at 45: trailing\n"),
+    },
+    Row {
+        shows: "another algorithm of the envelope's digest",
+        at: 5,
+        removed: 6,
+        added: "2881582582382b",
+        says: Says::Refused("refused at 9: algorithm\n"),
+    },
+    Row {
+        shows: "a digest of the envelope of 31 bytes",
+        at: 5,
+        removed: 9,
+        added: "26815823822f581f",
+        says: Says::Refused("refused at 9: algorithm\n"),
+    },
+    Row {
+        shows: "a manifest that is no byte string",
+        at: 46,
+        removed: 73,
+        added: "00",
+        says: Says::Refused("refused at 46: shape\n"),
     },
 ];
 
@@ -436,6 +541,26 @@ fn a_prefix_of_an_envelope_is_truncated(rt: HostRuntime) -> Result<(), Fail> {
 }
 
 #[test]
+fn an_envelope_without_its_other_members_has_16384_bytes(rt: HostRuntime) -> Result<(), Fail> {
+    let alloc = rt.alloc();
+    let rows = [
+        (16_335, 3, "not built\n"),
+        (16_336, 21, "too long envelope\n"),
+    ];
+    for (zeros, says_status, says) in &rows {
+        let mut bytes = hex::decode(alloc, &STORED[..90])?;
+        bytes.push(0x03)?;
+        bytes.push(0x59)?;
+        bytes.extend_from_slice(&u16::to_be_bytes(*zeros))?;
+        bytes.resize(bytes.len() + usize::from(*zeros), 0)?;
+        let (status, text) = ran(alloc, &CHECK, bytes.as_slice(), &[], &[])?;
+        assert_eq!(rt; status, *says_status);
+        assert_eq!(rt; text.as_slice(), says.as_bytes());
+    }
+    Ok(())
+}
+
+#[test]
 fn each_fault_of_an_item_is_told(rt: HostRuntime) -> Result<(), Fail> {
     let alloc = rt.alloc();
     let rows = [
@@ -449,7 +574,7 @@ fn each_fault_of_an_item_is_told(rt: HostRuntime) -> Result<(), Fail> {
             "8181818181818181818181818181818180",
             "refused at 16: too deep\n",
         ),
-        ("81818181818181818181818181818180", "not built\n"),
+        ("81818181818181818181818181818180", "refused at 0: shape\n"),
         ("0000", "refused at 1: trailing\n"),
         ("1a0001", "refused at 3: truncated\n"),
     ];

@@ -9,3 +9,4 @@ pub mod PutWrapper
 pub mod TrimLaws
 pub mod MacScan
 pub mod AuthenticLaws
+pub mod ManifestPlace

@@ -1,7 +1,5 @@
 use Rattle.std.proofs.Common.{List, ℕ, subst}
 use Rattle.std.specs.Prelude.{IfOk}
-use Rattle.std.specs.List.{AllByRecursion}
-use Rattle.det_cbor.specs.DataItem.{IsByte}
 use Rattle.suit_cli.specs.Outcome.{status_of}
 use Rattle.suit_cli.specs.Answer.{Judgement}
 use Rattle.suit_cli.proofs.Replying.{checked}
@@ -9,7 +7,6 @@ use Rattle.suit_cli.proofs.check.check.Goals as goal
 
 pub returns-in-Got-clause-replies : goal.returns-in-Got-clause-replies
 returns-in-Got-clause-replies g c =
-    let judged = subst (λ (bytes : List ℕ). IfOk c.judge.result (λ reply. Judgement bytes (status_of reply.outcome) reply.text)) c.as_slice.ensures c.judge.ensures.judged in
-    let each = subst (AllByRecursion IsByte) c.as_slice.ensures c.judge.ensures.bytes in
+    let judged = subst (λ (bytes : List ℕ). IfOk c.judge.result (λ reply. Judgement bytes (status_of reply.outcome) reply.text)) c.as_slice.ensures c.judge.ensures in
     checked g.H.Host.told (g.H.Host.file c.args.host.now c.args.name.now) c.args.name.now c.in-Got.bytes (g.H.Host.faults c.args.host.now) (g.H.Host.faults c.take_all.new.host) c.judge.result
-    c.in-Got.ensures.takes c.in-Got.ensures.limits each c.in-Got.ensures.counts judged
+    c.in-Got.ensures.takes c.in-Got.ensures.limits c.in-Got.ensures.counts judged
