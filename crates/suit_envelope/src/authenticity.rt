@@ -5,11 +5,11 @@ ghost use Rattle.suit_envelope.specs.Macs.{BlocksSay};
 ghost use Rattle.suit_envelope.specs.Authentic.{AnswersAuthentic, payload_of, first_from};
 ghost use Rattle.suit_envelope.specs.WrapperParts.{WrapperSays, HasWrapper};
 
+use crate::Envelope;
 use crate::macs::scan;
 use crate::map::bytes_left;
 use crate::string_hash::string_digest;
 use crate::wrapper_parts::{count, stated_digest};
-use crate::Envelope;
 use det_cbor::Cursor;
 use hmac_mac0::MacVerdict;
 use suit_params::{Digest, Refusal, read_content, read_head};

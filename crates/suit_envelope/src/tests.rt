@@ -1,9 +1,12 @@
 //! Tests of envelopes: what is refused, where and why, and what is read.
 
-use crate::decode_envelope;
+use crate::{
+    Authenticity, MemberBytes, MemberName, authentic, block, blocks, decode_envelope, member,
+    stated_digest, trim, trimmed_length,
+};
 use det_cbor::Reason;
 use std::test::Fail;
-use suit_params::{Refusal, Why};
+use suit_params::{Digest, Refusal, Why};
 
 /// Bytes that are no envelope, and the refusal.
 #[derive(Clone, Copy)]
@@ -341,6 +344,16 @@ fn the_stored_envelope_is_read(rt: HostRuntime) -> Result<(), Fail> {
 const FULL: &str =
     "a602582a835824822f582000000000000000000000000000000000000000000000000000000000000000004041000341a0104180144281001741a0612343616263";
 
+/// The same envelope, trimmed.
+const TRIMMED: &str =
+    "d86ba202582a835824822f582000000000000000000000000000000000000000000000000000000000000000004041000341a0";
+
+/// The SHA-256 of the install member's byte string, which another program made.
+const INSTALL_DIGEST: [u8; 32] = [
+    0xed, 0x2d, 0x5c, 0x17, 0x85, 0x67, 0x41, 0x45, 0x8f, 0x1b, 0x04, 0x23, 0xb3, 0xba, 0x9a, 0xaf,
+    0xe5, 0x44, 0x25, 0xae, 0x9f, 0x15, 0x68, 0x1b, 0xc1, 0x1a, 0x90, 0x86, 0x72, 0x22, 0x67, 0xfa,
+];
+
 #[test]
 fn severed_members_and_payloads_are_read(rt: HostRuntime) -> Result<(), Fail> {
     let alloc = rt.alloc();
@@ -352,9 +365,71 @@ fn severed_members_and_payloads_are_read(rt: HostRuntime) -> Result<(), Fail> {
             assert_eq!(rt; envelope.install, Some(b"\x81\x00".as_slice()));
             assert_eq!(rt; envelope.text, Some(b"\xa0".as_slice()));
             assert_eq!(rt; envelope.payload_fetch_place, 51);
+            assert_eq!(rt; blocks(&envelope), 2);
+            assert_eq!(rt; block(&envelope, 0), Some(b"".as_slice()));
+            assert_eq!(rt; block(&envelope, 1), Some(b"\x00".as_slice()));
+            assert_eq!(rt; block(&envelope, 2), None);
+            assert_eq!(rt; stated_digest(&envelope), Digest { bytes: [0; 32] });
+            let zero = Digest { bytes: [0; 32] };
+            assert!(rt;
+                matches!(
+                    member(&envelope, MemberName::Install, &zero),
+                    MemberBytes::Differs { .. }
+                )
+            );
+            let stated = Digest {
+                bytes: INSTALL_DIGEST,
+            };
+            assert_eq!(rt;
+                member(&envelope, MemberName::Install, &stated),
+                MemberBytes::Got(b"\x81\x00".as_slice())
+            );
+            let trimmed = trim(alloc, &envelope)?;
+            assert_eq!(rt; trimmed.len() as u64, trimmed_length(&envelope));
+            assert_eq!(rt; trimmed.as_slice(), hex::decode(alloc, TRIMMED)?.as_slice());
             assert_eq!(rt; envelope.install_place, 54);
         }
         Err(_) => return Err(Fail::from("the envelope is refused")),
     }
+    Ok(())
+}
+
+/// Whether the envelope that these digits spell is authentic, by a name for each answer.
+fn answer(rt: HostRuntime, digits: &str, key: &[u8]) -> Result<&'static str, Fail> {
+    let bytes = hex::decode(rt.alloc(), digits)?;
+    match decode_envelope(bytes.as_slice()) {
+        Ok(envelope) => Ok(match authentic(&envelope, key) {
+            Authenticity::Yes => "yes",
+            Authenticity::DigestDiffers { .. } => "digest differs",
+            Authenticity::NoMac => "no mac",
+            Authenticity::MacDiffers { .. } => "mac differs",
+        }),
+        Err(_) => Err(Fail::from("the envelope is refused")),
+    }
+}
+
+/// Envelopes of the manifest a0, whose digests and tags another program made.
+const AUTHENTIC: &str =
+    "d86ba2025853825824822f5820ba59ea8f4f88a2fcd9aaf9a83d236bb75f1f528637b999a25866124a877ffb15582ad18443a10105a0f6582089a72060e8788e488ba26f183e0dd63dcb68fa4d134192df13ed039f44bc916b0341a0";
+
+const OTHER_FIRST: &str =
+    "d86ba202585d835824822f5820ba59ea8f4f88a2fcd9aaf9a83d236bb75f1f528637b999a25866124a877ffb1549d28443a10126a0f640582ad18443a10105a0f6582089a72060e8788e488ba26f183e0dd63dcb68fa4d134192df13ed039f44bc916b0341a0";
+
+const OTHER_ALONE: &str =
+    "d86ba2025831825824822f5820ba59ea8f4f88a2fcd9aaf9a83d236bb75f1f528637b999a25866124a877ffb1549d28443a10126a0f6400341a0";
+
+const LAST_BYTE: &str =
+    "d86ba2025853825824822f5820ba59ea8f4f88a2fcd9aaf9a83d236bb75f1f528637b999a25866124a877ffb15582ad18443a10105a0f6582089a72060e8788e488ba26f183e0dd63dcb68fa4d134192df13ed039f44bc916a0341a0";
+
+const KEY: &[u8] = b"key of the test";
+
+#[test]
+fn digests_and_tags_of_another_program_are_judged(rt: HostRuntime) -> Result<(), Fail> {
+    assert_eq!(rt; answer(rt, AUTHENTIC, KEY)?, "yes");
+    assert_eq!(rt; answer(rt, OTHER_FIRST, KEY)?, "yes");
+    assert_eq!(rt; answer(rt, OTHER_ALONE, KEY)?, "no mac");
+    assert_eq!(rt; answer(rt, LAST_BYTE, KEY)?, "mac differs");
+    assert_eq!(rt; answer(rt, AUTHENTIC, b"another key")?, "mac differs");
+    assert_eq!(rt; answer(rt, STORED, KEY)?, "digest differs");
     Ok(())
 }
