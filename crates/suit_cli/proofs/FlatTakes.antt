@@ -306,17 +306,18 @@ pub flat_takes : (p : Position) (r : FlatForm) → IsBytes p.left → manifest_a
 flat_takes p r fits e =
     let m = manifest_takes p r fits e in
     let k = m.common.1 in
-    let members = m.members.2 in
-    (flat m.n k.identifier k.shared.1.digest k.shared.1.size members.matched members.invoked,
-    record {
-      manifest = record { valid = m.valid; is = m.is };
-      common = k.valid;
-      shared = k.shared.1.valid;
-      parameter = k.shared.1.parameter;
-      validate = members.match_valid;
-      invoke = members.valid;
-      digest_length = k.shared.1.long;
-      identifier_length = k.short;
-      match_policy = members.match_policy;
-      invoke_policy = members.policy;
-    })
+    let members = m.members.2 in (
+      flat m.n k.identifier k.shared.1.digest k.shared.1.size members.matched members.invoked,
+      record {
+        manifest = record { valid = m.valid; is = m.is };
+        common = k.valid;
+        shared = k.shared.1.valid;
+        parameter = k.shared.1.parameter;
+        validate = members.match_valid;
+        invoke = members.valid;
+        digest_length = k.shared.1.long;
+        identifier_length = k.short;
+        match_policy = members.match_policy;
+        invoke_policy = members.policy;
+      },
+    )

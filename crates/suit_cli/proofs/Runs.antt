@@ -129,9 +129,11 @@ module _ (host_told : Bool) (file : List ℕ → Option (List ℕ)) (words : Lis
   unsafe_by t status text one (Checks name word (Answers (Absent none s x) still)) = absurd (omega arith)
   unsafe_by t status text one (Checks name word (Answers (TooLong long s x) still)) = absurd (omega arith)
   unsafe_by t status text one (Checks name word (Answers (Judged bytes is fits (Refused why)) still)) = absurd (⊎_elim (λ (s : status ≡ 3). omega arith) (λ (s : status ≡ 21). omega arith) (refused_status bytes status text why))
-  unsafe_by t status text one (Checks name word (Answers (Judged bytes is fits (Built said form accepted has judged)) still)) =
-      (form, record { bytes = bytes; checks = record { name = name; word = word; holds = is t }; fits = fits; said = said; accepted = accepted; has = has },
-      λ safe. not_both form status text judged one safe.update safe.invocation)
+  unsafe_by t status text one (Checks name word (Answers (Judged bytes is fits (Built said form accepted has judged)) still)) = (
+    form,
+    record { bytes = bytes; checks = record { name = name; word = word; holds = is t }; fits = fits; said = said; accepted = accepted; has = has },
+    λ safe. not_both form status text judged one safe.update safe.invocation,
+  )
 
   put_whole : (status : ℕ) → (status ≡ 3) ⊎ (status ≡ 21) ⊎ (status ≡ 1) → result ≡ status → Put sink_told old new sb sn run.status run.text result → (run.status ≡ status) × (IsTrue sink_told → new ≡ old ++ run.text)
   put_whole status kind same (Whole is still put) = (sym is ∙ same, put)

@@ -8,9 +8,9 @@ ghost use Rattle.suit_cli.specs.Answer.{refused_line, why_text};
 use crate::lines::push_path;
 use crate::why::{refused_line, why_text};
 use det_cbor::Text;
-use suit_params::Refusal;
 use path_checker::BadPath;
 use std::alloc::{AllocError, Global};
+use suit_params::Refusal;
 
 /// What a command came to.
 #[derive(Clone, Copy, Debug, PartialEq, Eq)]

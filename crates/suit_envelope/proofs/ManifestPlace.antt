@@ -45,7 +45,7 @@ entries_within : (end place : ℕ) (ps : DataPairs) → place + length (spell_pa
 entries_within end place NoPairs fits = tt
 entries_within end place (PairThen key value ps) fits =
     let sum : length (spell_pairs (PairThen key value ps)) ≡ length (spell key) + (length (spell value) + length (spell_pairs ps)) =
-        length-append (spell key) (spell value ++ spell_pairs ps) ∙ ap (λ (n : ℕ). length (spell key) + n) (length-append (spell value) (spell_pairs ps)) in
+    length-append (spell key) (spell value ++ spell_pairs ps) ∙ ap (λ (n : ℕ). length (spell key) + n) (length-append (spell value) (spell_pairs ps)) in
     (omega (arith, sum), entries_within end (place + length (spell key) + length (spell value)) ps (omega (arith, sum)))
 
 -- ---- the map ends where the item does
