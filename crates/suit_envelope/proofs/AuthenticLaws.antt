@@ -1,17 +1,13 @@
 -- The blocks of a wrapper that is spelled are read, with their payload.
-use Rattle.std.proofs.Common.{◌≡◌, ◌≢◌, ℕ, zero, suc, ◌+◌, ◌-◌, ◌<◌, List, [], ◌∷◌, ◌++◌, length, Result, Ok, Err, refl, sym, ap, subst, ◌∙◌, arith}
-use Rattle.std.specs.List.{AllByRecursion}
+use Rattle.std.proofs.Common.{◌≡◌, ℕ, ◌+◌, List, [], ◌∷◌, ◌++◌, length, Ok, Err, refl, sym, ap, subst, ◌∙◌}
 use Rattle.std.proofs.lemmas.List.{append-nil}
 use Rattle.det_cbor.specs.Heads.{head_bytes}
-use Rattle.det_cbor.specs.DataItem.{ByteString, item_count, spell, spell_items, IsValidWithin, AreValidWithin}
-use Rattle.det_cbor.specs.HeadReading.{◌>>=◌}
+use Rattle.det_cbor.specs.DataItem.{ByteString, item_count, spell, spell_items, AreValidWithin}
 use Rattle.det_cbor.specs.Position.{Position}
 use Rattle.det_cbor.proofs.Results.{ok_pair, not_both}
 use Rattle.hmac_mac0.specs.declared.verdict.MacVerdict.{MacVerdict}
-use Rattle.hmac_mac0.specs.declared.verdict.MacVerdict.TheVariants as verdict
 use Rattle.suit_params.specs.declared.refusal.Refusal.{Refusal}
 use Rattle.suit_params.specs.Digests.{digest_item}
-use Rattle.suit_params.specs.Reading.{head_from, content_from}
 use Rattle.suit_params.proofs.ItemHeads.{item_head_read, after}
 use Rattle.suit_params.proofs.Held.{content_read}
 use Rattle.suit_envelope.specs.Macs.{BlocksSay, contents_from}

@@ -10,3 +10,7 @@ pub mod TrimLaws
 pub mod MacScan
 pub mod AuthenticLaws
 pub mod ManifestPlace
+pub mod MadePairs
+pub mod MadeValid
+pub mod MadeSays
+pub mod AuthenticYes

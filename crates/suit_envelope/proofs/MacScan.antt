@@ -1,17 +1,17 @@
 -- Going over the blocks of a wrapper, with the first difference so far.
-use Rattle.std.proofs.Common.{◌≡◌, ◌≢◌, ℕ, zero, suc, ◌+◌, ◌-◌, ◌<◌, ◌↔◌, List, [], ◌∷◌, Option, Some, None, Result, Ok, Err, refl, sym, ap, subst, ◌∙◌, arith}
+use Rattle.std.proofs.Common.{◌≡◌, ◌≢◌, ℕ, suc, ◌+◌, ◌-◌, ◌<◌, ◌↔◌, List, [], ◌∷◌, Option, Some, None, Ok, Err, refl, sym, subst, ◌∙◌, arith}
 use Rattle.std.specs.List.{AllByRecursion}
 use Rattle.det_cbor.specs.HeadReading.{◌>>=◌}
 use Rattle.det_cbor.specs.Position.{Position}
 use Rattle.det_cbor.proofs.Results.{bind_ok, same_ok, not_both}
-use Rattle.hmac_mac0.specs.Mac0.{IsMac0, Verifies, Mismatches}
+use Rattle.hmac_mac0.specs.Mac0.{Verifies, Mismatches}
 use Rattle.hmac_mac0.specs.Verdict.{IsJustified}
 use Rattle.hmac_mac0.specs.declared.verdict.MacVerdict.{MacVerdict}
 use Rattle.hmac_mac0.specs.declared.verdict.MacVerdict.TheVariants as verdict
 use Rattle.suit_params.specs.declared.refusal.Refusal.{Refusal}
 use Rattle.suit_params.specs.Reading.{content_from}
 use Rattle.suit_envelope.specs.declared.macs.Difference.{Difference}
-use Rattle.suit_envelope.specs.Macs.{IsOther, FailsToVerify, SomeVerifies, ThisVerifies, ALaterVerifies, FirstDiffers, ThisDiffers, ALaterDiffers, BlocksSay, contents_from, kept, last_answer}
+use Rattle.suit_envelope.specs.Macs.{IsOther, FailsToVerify, SomeVerifies, ThisVerifies, ALaterVerifies, ThisDiffers, ALaterDiffers, BlocksSay, contents_from, kept, last_answer}
 
 -- what is to be answered of the blocks that are left, after the first difference so far
 abbrev pub Ends : List ℕ → List ℕ → Option Difference → List (List ℕ) → MacVerdict → Type 0

@@ -1,25 +1,23 @@
 -- The parts of a wrapper that is spelled are read.
-use Rattle.std.proofs.Common.{◌≡◌, ℕ, zero, suc, ◌+◌, ◌-◌, ◌<◌, ◌≤◌, Bool, true, false, List, [], ◌∷◌, ◌++◌, length, Option, Some, None, Result, Ok, Err, refl, sym, ap, subst, ◌∙◌, append_assoc, arith}
+use Rattle.std.proofs.Common.{◌≡◌, ℕ, zero, suc, ◌+◌, ◌-◌, ◌<◌, ◌≤◌, List, [], ◌∷◌, ◌++◌, length, Some, None, Result, Ok, Err, refl, sym, ap, subst, ◌∙◌, arith}
 use Rattle.std.specs.List.{AllByRecursion, slice_get}
 use Rattle.std.specs.Prelude.{option_map}
 use Rattle.std.specs.Result.{result_ok}
 use Rattle.std.proofs.lemmas.List.{append-nil}
 use Rattle.det_cbor.specs.Heads.{head_bytes}
-use Rattle.det_cbor.specs.DataItem.{DataItem, ByteString, ArrayOf, DataItems, NoItems, ItemThen, item_count, spell, spell_items, IsValid, IsValidWithin, AreValidWithin, Spells}
+use Rattle.det_cbor.specs.DataItem.{DataItem, ByteString, ArrayOf, DataItems, NoItems, ItemThen, item_count, spell, spell_items, IsValid, AreValidWithin, Spells}
 use Rattle.det_cbor.specs.HeadReading.{◌>>=◌}
 use Rattle.std.proofs.lemmas.Option.{slice_get_past}
 use Rattle.det_cbor.proofs.Results.{same_ok, not_both}
 use Rattle.det_cbor.specs.Position.{Position}
 use Rattle.suit_params.specs.declared.refusal.Refusal.{Refusal}
-use Rattle.suit_params.specs.Refusing.{IsByteString, content_place, SaysHeld, SaysWhole}
+use Rattle.suit_params.specs.Refusing.{IsByteString, content_place, SaysWhole}
 use Rattle.suit_params.specs.Digests.{IsDigest, digest_item}
-use Rattle.suit_params.specs.Reading.{inside, item_from, only_from, head_from, content_from}
+use Rattle.suit_params.specs.Reading.{inside, only_from, content_from}
 use Rattle.suit_params.proofs.ItemHeads.{item_head_read, after}
 use Rattle.suit_params.proofs.Judgements.{item_read}
 use Rattle.suit_params.proofs.Held.{by_string, content_read}
-use Rattle.suit_envelope.specs.Wrapper.{placed, elements_place, blocks_of, IsBlock, IsWrapper}
-use Rattle.suit_envelope.specs.Judging.{judge_wrapper}
-use Rattle.suit_envelope.specs.WrapperReading.{wrapper_at}
+use Rattle.suit_envelope.specs.Wrapper.{placed, elements_place, IsBlock, IsWrapper}
 use Rattle.suit_envelope.specs.WrapperParts.{strings_of, wrapper_item, WrapperSays, HasWrapper, start_of, digest_from, count_from, passed_from, block_from}
 use Rattle.suit_envelope.proofs.WrapperJudging.{wrapper_read, wrapper_judges}
 
@@ -29,10 +27,10 @@ strings_blocks : (place : ℕ) (blocks : List (List ℕ)) → AllByRecursion IsB
 strings_blocks place [] = tt
 strings_blocks place (block ∷ blocks) = (tt, strings_blocks (place + length (spell (ByteString block))) blocks)
 
-says_wrapper : (wrapper digest : List ℕ) (blocks : List (List ℕ)) → WrapperSays wrapper digest blocks → IsWrapper 0 (wrapper_item digest blocks) digest
-says_wrapper wrapper digest blocks so =
+pub says_wrapper : (at : ℕ) (wrapper digest : List ℕ) (blocks : List (List ℕ)) → WrapperSays wrapper digest blocks → IsWrapper at (wrapper_item digest blocks) digest
+says_wrapper at wrapper digest blocks so =
     let first = ByteString (spell (digest_item digest)) in
-    let place = elements_place 0 (strings_of blocks) in
+    let place = elements_place at (strings_of blocks) in
     let inner : SaysWhole IsDigest (content_place place (spell (digest_item digest))) (spell (digest_item digest)) digest = record { item = digest_item digest; spells = record { valid = so.digest_valid; is = refl }; says_so = record { is = refl; long = so.long } } in
     record { first = first; blocks = strings_of blocks; is = refl; holds = record { content = spell (digest_item digest); is = refl; holds = inner }; rest = strings_blocks (place + length (spell first)) blocks }
 
@@ -42,7 +40,7 @@ only_read p x valid is = rw (item_read p x [] valid (is ∙ sym (append-nil (spe
 pub digest_read : (wrapper digest : List ℕ) (blocks : List (List ℕ)) → WrapperSays wrapper digest blocks → digest_from wrapper ≡ Ok digest
 digest_read wrapper digest blocks so =
     let x = wrapper_item digest blocks in
-    rw (only_read (start_of wrapper) x so.spells.valid so.spells.is) (wrapper_read 0 0 x so.spells.valid ∙ wrapper_judges.again 0 x digest (says_wrapper wrapper digest blocks so))
+    rw (only_read (start_of wrapper) x so.spells.valid so.spells.is) (wrapper_read 0 0 x so.spells.valid ∙ wrapper_judges.again 0 x digest (says_wrapper 0 wrapper digest blocks so))
 
 -- ---- the blocks
 

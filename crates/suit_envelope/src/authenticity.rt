@@ -2,7 +2,8 @@
 
 ghost use Rattle.std.specs.Prelude.{◌≡◌, List, ℕ, IfOk, IfErr};
 ghost use Rattle.suit_envelope.specs.Macs.{BlocksSay};
-ghost use Rattle.suit_envelope.specs.Authentic.{AnswersAuthentic, payload_of, first_from};
+ghost use Rattle.suit_envelope.specs.Authentic.{IsAuthentic, AnswersAuthentic, payload_of, first_from};
+ghost use Rattle.suit_envelope.specs.declared.authenticity.Authenticity.TheVariants.{Yes};
 ghost use Rattle.suit_envelope.specs.WrapperParts.{WrapperSays, HasWrapper};
 
 use crate::Envelope;
@@ -54,11 +55,7 @@ fn macs<'a>(wrapper: &'a [u8], key: &[u8]) -> Result<MacVerdict<'a>, Refusal>
     }
 }
 
-/// Whether the envelope is authentic under a key (draft-ietf-suit-manifest-25, section 8.3).
-///
-/// The wrapper's digest is judged first, against the manifest's whole byte string, and then the
-/// blocks, whose payload is the content of the wrapper's first byte string. Takes no memory.
-pub fn authentic<'a>(envelope: &Envelope<'a>, key: &[u8]) -> Authenticity<'a>
+fn answer<'a>(envelope: &Envelope<'a>, key: &[u8]) -> Authenticity<'a>
     requires { HasWrapper envelope.now.wrapper.now }
     ensures { (digest : List ℕ) (blocks : List (List ℕ)) → WrapperSays envelope.now.wrapper.now digest blocks
         → AnswersAuthentic digest blocks envelope.now.manifest.now key.now result }
@@ -74,4 +71,18 @@ pub fn authentic<'a>(envelope: &Envelope<'a>, key: &[u8]) -> Authenticity<'a>
         Ok(MacVerdict::Differs { expected, found }) => Authenticity::MacDiffers { expected, found },
         Err(_) => unreachable!(),
     }
+}
+
+/// Whether the envelope is authentic under a key (draft-ietf-suit-manifest-25, section 8.3).
+///
+/// The wrapper's digest is judged first, against the manifest's whole byte string, and then the
+/// blocks, whose payload is the content of the wrapper's first byte string. Takes no memory.
+pub fn authentic<'a>(envelope: &Envelope<'a>, key: &[u8]) -> Authenticity<'a>
+    requires { HasWrapper envelope.now.wrapper.now }
+    ensures yes { result ≡ Yes → IsAuthentic envelope.now.wrapper.now envelope.now.manifest.now key.now }
+    ensures every_yes { IsAuthentic envelope.now.wrapper.now envelope.now.manifest.now key.now → result ≡ Yes }
+    ensures answers { (digest : List ℕ) (blocks : List (List ℕ)) → WrapperSays envelope.now.wrapper.now digest blocks
+        → AnswersAuthentic digest blocks envelope.now.manifest.now key.now result }
+{
+    answer(envelope, key)
 }

@@ -3,19 +3,24 @@
 
 mod authenticity;
 mod decode;
+mod encode;
 mod envelope;
 mod key;
 mod macs;
 mod map;
+mod parts;
 mod severed;
 mod string_hash;
 mod trimming;
 mod wrapper;
 mod wrapper_parts;
+mod writing;
 
 pub use authenticity::{Authenticity, authentic};
 pub use decode::decode_envelope;
+pub use encode::encode_envelope;
 pub use envelope::Envelope;
+pub use parts::{EnvelopeParts, PayloadList};
 pub use severed::{MemberBytes, MemberName, member};
 pub use trimming::{trim, trimmed_length};
 pub use wrapper_parts::{block, blocks, stated_digest};

@@ -1,30 +1,14 @@
 //! The trimmed envelope, of the wrapper and the manifest alone.
 
-ghost use Rattle.std.specs.Prelude.{◌≡◌, ◌++◌, ◌-◌, ◌^◌, [], length, min, IfOk, OnOk};
+ghost use Rattle.std.specs.Prelude.{◌≡◌, ◌-◌, ◌^◌, length, min, IfOk};
 ghost use Rattle.det_cbor.specs.Heads.{head_bytes};
 ghost use Rattle.det_cbor.specs.DataItem.{ByteString, spell};
-ghost use Rattle.det_cbor.specs.HeadSpelling.{spelled, IsValueOf};
 ghost use Rattle.suit_envelope.specs.Trimmed.{trimmed};
 
 use crate::Envelope;
-use det_cbor::{Bytes, Head, HeadKind, push_head};
+use crate::writing::{push_pair, push_start};
+use det_cbor::Bytes;
 use std::alloc::{AllocError, Global};
-
-fn push_kind(out: &mut Bytes, kind: HeadKind, value: u64) -> Result<(), AllocError>
-    requires { IsValueOf kind value }
-    ensures { OnOk result (out.new ≡ out.old ++ spelled (record { kind = kind; value = value })) }
-{
-    push_head(out, Head { kind, value })
-}
-
-// Adds a pair: a number, and a byte string of this content.
-fn push_pair(out: &mut Bytes, key: u64, content: &[u8]) -> Result<(), AllocError>
-    ensures { OnOk result (out.new ≡ out.old ++ (head_bytes 0 key ++ spell (ByteString content.now))) }
-{
-    push_kind(out, HeadKind::Unsigned, key)?;
-    push_kind(out, HeadKind::Bytes, content.len() as u64)?;
-    out.extend(content)
-}
 
 /// The trimmed envelope: tag 107 round the map of the wrapper and the manifest alone.
 #[tactic(auto, using(crate::proofs::TrimLaws::trimmed_parts))]
@@ -32,18 +16,10 @@ pub fn trim(alloc: Global, envelope: &Envelope<'_>) -> Result<Bytes, AllocError>
     ensures { IfOk result (λ bytes. bytes ≡ trimmed envelope.now.wrapper.now envelope.now.manifest.now) }
 {
     let mut out = Bytes::new(alloc);
-    push_start(&mut out)?;
+    push_start(&mut out, 2)?;
     push_pair(&mut out, 2, envelope.wrapper)?;
     push_pair(&mut out, 3, envelope.manifest)?;
     Ok(out)
-}
-
-// Adds tag 107, and the head of a map of two pairs.
-fn push_start(out: &mut Bytes) -> Result<(), AllocError>
-    ensures { OnOk result (out.new ≡ out.old ++ (head_bytes 6 107 ++ head_bytes 5 2)) }
-{
-    push_kind(out, HeadKind::Tag, 107)?;
-    push_kind(out, HeadKind::Map, 2)
 }
 
 // The length of a byte string's head.

@@ -1,4 +1,4 @@
-use Rattle.std.proofs.Common.{◌≡◌, ◌∙◌, sym, ap, List, ℕ, Some, arith}
+use Rattle.std.proofs.Common.{◌∙◌, ap, List, ℕ, Some, arith}
 use Rattle.suit_envelope.proofs.WrapperLaws.{block_past, block_found, block_never}
 use Rattle.suit_envelope.proofs.wrapper_parts.block.Goals as goal
 

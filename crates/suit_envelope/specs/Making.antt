@@ -1,0 +1,50 @@
+-- The envelope that is made of its parts (draft-ietf-suit-manifest-25, section 8.2).
+use Rattle.std.specs.Prelude.{◌≡◌, ℕ, true, List, [], ◌∷◌, Option, Some, None}
+use Rattle.std.specs.Str.{IsUtf8}
+use Rattle.det_cbor.specs.DataItem.{DataItem, UnsignedInteger, ByteString, TextString, MapOf, TaggedItem, DataPairs, NoPairs, PairThen, spell, IsAbove, IsString}
+use Rattle.suit_envelope.specs.Envelopes.{EnvelopeSays}
+use Rattle.suit_envelope.specs.declared.parts.EnvelopeParts.{EnvelopeParts}
+
+-- a member that is there stands before the other pairs
+abbrev pub member_then : ℕ → Option (List ℕ) → DataPairs → DataPairs
+member_then key None ps = ps
+member_then key (Some content) ps = PairThen (UnsignedInteger key) (ByteString content) ps
+
+abbrev pub payload_pairs : List (List ℕ × List ℕ) → DataPairs
+payload_pairs [] = NoPairs
+payload_pairs (p ∷ ps) = PairThen (TextString p.0) (ByteString p.1) (payload_pairs ps)
+
+abbrev pub pairs_made : EnvelopeParts → DataPairs
+pairs_made parts =
+    PairThen (UnsignedInteger 2) (ByteString parts.wrapper)
+    (PairThen (UnsignedInteger 3) (ByteString parts.manifest)
+    (member_then 16 parts.payload_fetch
+    (member_then 20 parts.install
+    (member_then 23 parts.text
+    (payload_pairs parts.payloads)))))
+
+abbrev pub envelope_made : EnvelopeParts → DataItem
+envelope_made parts = TaggedItem 107 (MapOf (pairs_made parts))
+
+-- ---- what parts an envelope is made of
+
+-- a text, and a payload with its key, as the types of the code hold them
+abbrev pub IsText : List ℕ → Type 0
+IsText text = IsString text × IsUtf8 text
+
+abbrev pub IsPayload : List ℕ × List ℕ → Type 0
+IsPayload p = IsText p.0 × IsString p.1
+
+-- each key stands above the one before it, in the order of their spellings
+abbrev pub AreAscending : Option (List ℕ) → List (List ℕ × List ℕ) → Type 0
+AreAscending before [] = Unit {0}
+AreAscending before (p ∷ ps) = IsAbove before (spell (TextString p.0)) × AreAscending (Some (spell (TextString p.0))) ps
+
+-- an envelope that says what the parts are
+pub record SaysParts (parts : EnvelopeParts) (said : EnvelopeSays) : Type 0 where
+  pub tagged : said.tagged ≡ true
+  pub wrapper : said.wrapper ≡ parts.wrapper
+  pub manifest : said.manifest ≡ parts.manifest
+  pub payload_fetch : said.payload_fetch ≡ parts.payload_fetch
+  pub install : said.install ≡ parts.install
+  pub text : said.text ≡ parts.text

@@ -1,0 +1,79 @@
+//! Encoding an envelope.
+
+ghost use Rattle.std.specs.Prelude.{◌≡◌, ◌+◌, ◌≤◌, ◌++◌, ℕ, None, IfOk, IfSome, OnOk};
+ghost use Rattle.std.specs.List.{AllByRecursion};
+ghost use Rattle.det_cbor.specs.DataItem.{DataPairs, TextString, ByteString, spell, spell_pairs, pair_count, IsString};
+ghost use Rattle.suit_envelope.specs.Envelopes.{EnvelopeSays};
+ghost use Rattle.suit_envelope.specs.Said.{EnvelopeOf};
+ghost use Rattle.suit_envelope.specs.WrapperParts.{HasWrapper};
+ghost use Rattle.suit_envelope.specs.Making.{member_then, payload_pairs, pairs_made, envelope_made, AreAscending, IsPayload, SaysParts};
+
+#[cfg(test)]
+mod tests;
+
+use crate::writing::{push_pair, push_start, push_string, push_text};
+use crate::{EnvelopeParts, PayloadList};
+use det_cbor::Bytes;
+use std::alloc::{AllocError, Global};
+
+// How many members there are: one or none.
+fn count(member: &Option<Bytes>) -> u64
+    ensures is { (key : ℕ) (others : DataPairs) → pair_count (member_then key member.now others) ≡ pair_count others + result }
+    ensures small { result ≤ 1 }
+{
+    match member {
+        Some(_) => 1,
+        None => 0,
+    }
+}
+
+fn pairs(parts: &EnvelopeParts) -> u64
+    ensures { result ≡ pair_count (pairs_made parts.now) }
+{
+    let members = count(&parts.payload_fetch) + count(&parts.install) + count(&parts.text);
+    2 + members + parts.payloads.as_slice().len() as u64
+}
+
+// Adds the pair of a member that is there, after which others may follow.
+fn push_member(out: &mut Bytes, key: u64, member: &Option<Bytes>) -> Result<(), AllocError>
+    ensures ok { (others : DataPairs) → OnOk result (out.new ++ spell_pairs others ≡ out.old ++ spell_pairs (member_then key member.now others)) }
+    ensures string { IfSome member.now IsString }
+{
+    match member {
+        Some(content) => push_pair(out, key, content.as_slice()),
+        None => Ok(()),
+    }
+}
+
+fn push_payloads(out: &mut Bytes, payloads: &PayloadList) -> Result<(), AllocError>
+    ensures ok { OnOk result (out.new ≡ out.old ++ spell_pairs (payload_pairs payloads.now)) }
+    ensures payloads { OnOk result (AllByRecursion IsPayload payloads.now) }
+{
+    for (key, payload) in &payloads.held {
+        push_text(out, key.as_str())?;
+        push_string(out, payload.as_slice())?;
+    }
+    Ok(())
+}
+
+/// The envelope of these parts behind tag 107, in its one spelling
+/// (draft-ietf-suit-manifest-25, section 8.2).
+///
+/// The wrapper is to be one, and the payloads' keys are to ascend in the order of their spellings,
+/// none twice. Manifest and members are taken as they are.
+pub fn encode_envelope(alloc: Global, parts: &EnvelopeParts) -> Result<Bytes, AllocError>
+    requires wrapper { HasWrapper parts.now.wrapper }
+    requires payloads { AreAscending None parts.now.payloads }
+    ensures spelling { IfOk result (λ bytes. bytes ≡ spell (envelope_made parts.now)) }
+    ensures envelope { IfOk result (λ bytes. (said : EnvelopeSays) × (EnvelopeOf bytes said × SaysParts parts.now said)) }
+{
+    let mut out = Bytes::new(alloc);
+    push_start(&mut out, pairs(parts))?;
+    push_pair(&mut out, 2, parts.wrapper.as_slice())?;
+    push_pair(&mut out, 3, parts.manifest.as_slice())?;
+    push_member(&mut out, 16, &parts.payload_fetch)?;
+    push_member(&mut out, 20, &parts.install)?;
+    push_member(&mut out, 23, &parts.text)?;
+    push_payloads(&mut out, &parts.payloads)?;
+    Ok(out)
+}
