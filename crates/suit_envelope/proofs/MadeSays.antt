@@ -2,7 +2,7 @@
 use Rattle.std.proofs.Common.{◌≡◌, ◌≢◌, ℕ, ◌+◌, true, List, [], ◌∷◌, length, Option, Some, None, refl, sym, subst}
 use Rattle.std.specs.List.{AllByRecursion}
 use Rattle.det_cbor.specs.Heads.{head_bytes}
-use Rattle.det_cbor.specs.DataItem.{DataItem, UnsignedInteger, ByteString, TextString, DataPairs, NoPairs, PairThen, pair_count, spell}
+use Rattle.det_cbor.specs.DataItem.{UnsignedInteger, ByteString, TextString, DataPairs, pair_count, spell}
 use Rattle.suit_params.specs.Refusing.{content_place}
 use Rattle.suit_envelope.specs.Envelopes.{Entry, EnvelopeMap, EnvelopeSays, entries, map_entries, key_of, says_nothing, put_all, IsKnown, IsValue, IsEnvelope}
 use Rattle.suit_envelope.specs.declared.key.Key.TheVariants.{Wrapper, Unknown}

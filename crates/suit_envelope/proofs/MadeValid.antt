@@ -1,11 +1,11 @@
 -- An envelope that is made of its parts is a valid item.
-use Rattle.std.proofs.Common.{◌≡◌, ℕ, ◌+◌, ◌<◌, ◌≤◌, ◌^◌, true, List, [], ◌∷◌, ◌++◌, length, Option, Some, None, refl, ap, sym, ◌∙◌, arith}
+use Rattle.std.proofs.Common.{◌≡◌, ℕ, ◌<◌, ◌≤◌, ◌^◌, true, List, [], ◌∷◌, Option, Some, None, refl, ap, ◌∙◌, arith}
 use Rattle.std.specs.Prelude.{IfSome}
 use Rattle.std.specs.List.{AllByRecursion}
-use Rattle.std.specs.Ordering.{is_lt, nat_cmp, ordering_then}
+use Rattle.std.specs.Ordering.{is_lt, nat_cmp}
 use Rattle.std.specs.Cmp.Lexicographic.{slice_cmp}
 use Rattle.std.specs.declared.cmp.Ordering.TheVariants.{Less}
-use Rattle.det_cbor.specs.DataItem.{DataItem, UnsignedInteger, ByteString, TextString, DataPairs, NoPairs, PairThen, pair_count, spell, IsString, IsValid, IsValidWithin, ArePairsWithin}
+use Rattle.det_cbor.specs.DataItem.{DataItem, UnsignedInteger, TextString, DataPairs, pair_count, spell, IsString, IsValid, ArePairsWithin}
 use Rattle.det_cbor.specs.ItemOrder.{item_order}
 use Rattle.det_cbor.proofs.Cuts.{Cuts-order, cmp_less}
 use Rattle.det_cbor.proofs.ItemCuts.{items_cut_apart}

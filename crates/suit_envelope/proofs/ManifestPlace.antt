@@ -1,5 +1,5 @@
 -- An envelope's manifest lies within the bytes that spell it.
-use Rattle.std.proofs.Common.{◌≡◌, ℕ, Bool, true, false, cond, eqb, List, [], ◌∷◌, ◌++◌, length, Option, Some, None, refl, sym, ap, subst, ◌∙◌, ◌+◌, ◌<◌, ◌^◌, ◌≤◌, arith}
+use Rattle.std.proofs.Common.{◌≡◌, ℕ, Bool, true, false, cond, eqb, List, [], ◌∷◌, ◌++◌, length, Some, sym, ap, subst, ◌∙◌, ◌+◌, ◌≤◌, arith}
 use Rattle.std.specs.List.{AllByRecursion}
 use Rattle.std.proofs.lemmas.List.{length-append}
 use Rattle.det_cbor.specs.Heads.{head_bytes}
@@ -7,7 +7,7 @@ use Rattle.det_cbor.specs.DataItem.{DataItem, UnsignedInteger, NegativeInteger, 
 use Rattle.suit_envelope.specs.Said.{EnvelopeOf}
 use Rattle.suit_envelope.specs.declared.key.Key.{Key}
 use Rattle.suit_envelope.specs.declared.key.Key.TheVariants as keys
-use Rattle.suit_envelope.specs.Envelopes.{Entry, entries, EnvelopeMap, map_entries, untagged, as_map, envelope_map, EnvelopeSays, says_nothing, put, put_value, put_all, key_of}
+use Rattle.suit_envelope.specs.Envelopes.{Entry, entries, EnvelopeMap, map_entries, as_map, envelope_map, EnvelopeSays, says_nothing, put, put_value, put_all, key_of}
 
 abbrev Within : ℕ → EnvelopeSays → Type 0
 Within end said = said.manifest_place + length said.manifest ≤ end

@@ -1,5 +1,5 @@
 -- Whether an envelope is authentic under a key (draft-ietf-suit-manifest-25, section 8.3; RFC 9052, section 6).
-use Rattle.std.specs.Prelude.{◌≡◌, ◌≢◌, ℕ, List, Result, Ok, Err}
+use Rattle.std.specs.Prelude.{◌≡◌, ◌≢◌, ℕ, List, Result}
 use Rattle.std.specs.List.{AllByRecursion}
 use Rattle.det_cbor.specs.DataItem.{spell}
 use Rattle.det_cbor.specs.HeadReading.{◌>>=◌}

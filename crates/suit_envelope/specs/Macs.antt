@@ -1,10 +1,9 @@
 -- What the blocks of a wrapper say together, under a key and for a payload (RFC 9052, section 6).
-use Rattle.std.specs.Prelude.{◌≡◌, ℕ, zero, suc, List, [], ◌∷◌, Option, Some, None, Result, Ok, Err}
+use Rattle.std.specs.Prelude.{ℕ, zero, suc, List, [], ◌∷◌, Option, Some, None, Result, Ok}
 use Rattle.std.specs.List.{AllByRecursion}
 use Rattle.det_cbor.specs.HeadReading.{◌>>=◌}
 use Rattle.det_cbor.specs.Position.{Position}
 use Rattle.hmac_mac0.specs.Mac0.{IsMac0, Verifies}
-use Rattle.hmac_mac0.specs.Verdict.{IsJustified}
 use Rattle.hmac_mac0.specs.Mac0 as mac0
 use Rattle.hmac_mac0.specs.declared.verdict.MacVerdict.{MacVerdict}
 use Rattle.hmac_mac0.specs.declared.verdict.MacVerdict.TheVariants as verdict

@@ -1,6 +1,6 @@
-use Rattle.std.proofs.Common.{◌≡◌, ◌++◌, ◌<◌, ◌^◌, None, append_assoc, sym, ◌∙◌, subst, arith}
+use Rattle.std.proofs.Common.{◌<◌, ◌^◌, append_assoc, ◌∙◌, arith}
 use Rattle.det_cbor.specs.DataItem.{pair_count}
-use Rattle.suit_envelope.specs.Making.{payload_pairs, member_then, pairs_made, AreAscending}
+use Rattle.suit_envelope.specs.Making.{payload_pairs, member_then, pairs_made}
 use Rattle.suit_envelope.proofs.MadeValid.{made_valid}
 use Rattle.suit_envelope.proofs.MadeSays.{made_says}
 use Rattle.suit_envelope.proofs.encode.encode_envelope.Goals as goal

@@ -1,4 +1,4 @@
-use Rattle.std.proofs.Common.{◌≡◌, ◌+◌, length, ap, arith}
+use Rattle.std.proofs.Common.{length, ap, arith}
 use Rattle.suit_envelope.specs.Making.{payload_pairs, member_then}
 use Rattle.suit_envelope.proofs.MadePairs.{payload_count}
 use Rattle.suit_envelope.proofs.encode.pairs.Goals as goal
