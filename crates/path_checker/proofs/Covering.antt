@@ -5,7 +5,7 @@ use Rattle.std.specs.List.{AllByRecursion}
 use Rattle.std.proofs.lemmas.List.{append-nil}
 use Rattle.path_checker.specs.declared.event.Event.{Event}
 use Rattle.path_checker.specs.declared.event.Event.TheVariants.{Matched}
-use Rattle.path_checker.specs.declared.digest.Digest.{Digest}
+use Rattle.suit_params.specs.declared.digest.Digest.{Digest}
 use Rattle.path_checker.specs.Safe.{WritesTo, HasMatched, IsCovered, AllCovered}
 
 -- each invoke of these events is covered, by them and by those before

@@ -1,7 +1,7 @@
 -- What is in force after an override.
 use Rattle.std.proofs.Common.{◌≡◌, ℕ, ◌<◌, List, length, Option, Some, None, arith, length-set, get_or-set_same, get_or-set_other, ◌≢◌, ◌∙◌, ap}
 use Rattle.std.specs.Prelude.{slice_get, slice_set}
-use Rattle.path_checker.specs.declared.digest.Digest.{Digest}
+use Rattle.suit_params.specs.declared.digest.Digest.{Digest}
 use Rattle.path_checker.specs.declared.param.Param.{Param}
 use Rattle.path_checker.specs.declared.param.Param.TheVariants as params
 use Rattle.path_checker.specs.Keys.{key_of}

@@ -1,6 +1,6 @@
 -- Plans of the flat form on which each invoke is covered: without an invoke, or with a match before it.
 use Rattle.std.proofs.Common.{◌≡◌, ℕ, Bool, true, false, List, [], ◌∷◌, ◌++◌, inl, inr, length, Option, Some, None, refl, sym, ap, subst, ◌∙◌}
-use Rattle.path_checker.specs.declared.digest.Digest.{Digest}
+use Rattle.suit_params.specs.declared.digest.Digest.{Digest}
 use Rattle.path_checker.specs.declared.identity.Identity.{Identity}
 use Rattle.path_checker.specs.declared.kinds.TestKind.TheVariants as tests
 use Rattle.path_checker.specs.declared.kinds.ActKind.TheVariants as acts

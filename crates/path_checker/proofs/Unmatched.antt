@@ -1,7 +1,7 @@
 -- Where nothing matches before the invoke, there is a path on which it is not covered.
 use Rattle.std.proofs.Common.{◌≡◌, ℕ, true, false, List, [], ◌∷◌, ◌++◌, inl, inr, Option, Some, None, refl, sym, ap, subst, ◌∙◌, arith, length}
 use Rattle.std.proofs.lemmas.List.{append-nil}
-use Rattle.path_checker.specs.declared.digest.Digest.{Digest}
+use Rattle.suit_params.specs.declared.digest.Digest.{Digest}
 use Rattle.path_checker.specs.declared.identity.Identity.{Identity}
 use Rattle.path_checker.specs.declared.param.Param.TheVariants as params
 use Rattle.path_checker.specs.declared.event.Event.{Event}

@@ -1,6 +1,6 @@
 -- Conditions at one component (draft-ietf-suit-manifest-25, sections 6.4 and 8.4.9).
 use Rattle.std.specs.Prelude.{◌≡◌, ℕ, ◌⊎◌, true, false, List, [], ◌∷◌, Option, Some, None, slice_get}
-use Rattle.path_checker.specs.declared.digest.Digest.{Digest}
+use Rattle.suit_params.specs.declared.digest.Digest.{Digest}
 use Rattle.path_checker.specs.declared.identity.Identity.{Identity}
 use Rattle.path_checker.specs.declared.kinds.TestKind.{TestKind}
 use Rattle.path_checker.specs.declared.kinds.TestKind.TheVariants as tests

@@ -2,7 +2,7 @@
 -- eight components and twelve keys an option. Where the same values are in force, it is the same list.
 use Rattle.std.specs.Prelude.{ℕ, ◌+◌, ◌*◌, List, Option, Some, None, slice_get, slice_set}
 use Rattle.std.proofs.Math.ListN.{replicate}
-use Rattle.path_checker.specs.declared.digest.Digest.{Digest}
+use Rattle.suit_params.specs.declared.digest.Digest.{Digest}
 use Rattle.path_checker.specs.declared.param.Param.{Param}
 use Rattle.path_checker.specs.declared.param.Param.TheVariants as params
 use Rattle.path_checker.specs.declared.param.ParamKey.{ParamKey}

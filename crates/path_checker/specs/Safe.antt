@@ -1,7 +1,7 @@
 -- When each invoke of each path is covered. These definitions are this project's own.
 use Rattle.std.specs.Prelude.{◌≡◌, ℕ, List, [], ◌∷◌, ◌++◌, Option, Some, None, IfSome, take, slice_get}
 use Rattle.std.specs.List.{AllByRecursion}
-use Rattle.path_checker.specs.declared.digest.Digest.{Digest}
+use Rattle.suit_params.specs.declared.digest.Digest.{Digest}
 use Rattle.path_checker.specs.declared.identity.Identity.{Identity}
 use Rattle.path_checker.specs.declared.event.Event.{Event}
 use Rattle.path_checker.specs.declared.event.Event.TheVariants.{Matched, Wrote, Invoked}

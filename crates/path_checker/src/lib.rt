@@ -1,7 +1,6 @@
 //! Whether each invoke of a procedure is covered on every path (draft-ietf-suit-manifest-25, section 6).
 #![tactic(auto)]
 
-mod digest;
 mod event;
 mod identity;
 mod judge;
@@ -9,10 +8,10 @@ mod kinds;
 mod param;
 mod plan;
 
-pub use digest::Digest;
 pub use event::{Event, Events};
 pub use identity::{Identities, Identity};
 pub use judge::{BadPath, CheckVerdict, check};
 pub use kinds::{ActKind, TestKind};
 pub use param::{Param, ParamKey};
 pub use plan::{FlatPlan, Procedure};
+pub use suit_params::Digest;

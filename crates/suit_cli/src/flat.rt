@@ -7,7 +7,7 @@ ghost use Rattle.suit_cli.specs.FlatForm.{FlatManifest, IsFlat};
 ghost use Rattle.suit_cli.specs.FlatPlan.{form_of};
 
 use det_cbor::{Cursor, Head, HeadKind};
-use path_checker::Digest;
+use suit_params::Digest;
 
 /// What the judgement needs of a manifest of the flat form.
 #[derive(Clone, Copy, Debug, PartialEq, Eq)]
