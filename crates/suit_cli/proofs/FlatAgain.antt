@@ -1,16 +1,16 @@
 -- What is spelled in the flat form is read, and its places are those of the spelling.
-use Rattle.std.proofs.Common.{◌≡◌, ℕ, ◌+◌, ◌*◌, ◌^◌, ◌<◌, ◌≤◌, Bool, true, false, cond, eqb, List, [], ◌∷◌, ◌++◌, length, Option, Some, None, refl, sym, ap, subst, ◌∙◌, append_assoc, rules, arith}
+use Rattle.std.proofs.Common.{◌≡◌, ℕ, ◌+◌, ◌^◌, ◌<◌, ◌≤◌, true, List, [], ◌++◌, length, Option, Some, None, refl, sym, ap, subst, ◌∙◌, append_assoc, arith}
 use Rattle.std.specs.Prelude.{nat_le, IfSome}
 use Rattle.std.proofs.lemmas.Bool.{le-leb}
 use Rattle.std.proofs.lemmas.List.{append-nil, length-append}
 use Rattle.det_cbor.specs.declared.head.HeadKind.TheVariants as kinds
 use Rattle.det_cbor.specs.Heads.{head_bytes}
-use Rattle.det_cbor.specs.DataItem.{spell, spell_pairs, pair_count, UnsignedInteger, ByteString, MapOf, NoPairs, PairThen, IsString, ArePairsWithin}
+use Rattle.det_cbor.specs.DataItem.{spell, spell_pairs, pair_count, ArePairsWithin}
 use Rattle.det_cbor.specs.Position.{Position, next_bytes}
 use Rattle.det_cbor.proofs.Positions.{next_bytes_again}
 use Rattle.suit_cli.specs.FlatForm.{FlatManifest, IsFlat, command_item, digest_item, shared_item, identifier_item, common_item, match_item, invoke_item, invoke_pair, member_pairs, members, manifest_item, before_members, before_code, validate_bytes, match_place_from}
 use Rattle.suit_cli.specs.FlatPlan.{form_of}
-use Rattle.suit_cli.specs.FlatReading.{◌>>=◌, expected_at, number_at, string_at, command_at, digest_at, shared_at, common_at, invoke_at, members_at, manifest_at, at_end}
+use Rattle.suit_cli.specs.FlatReading.{expected_at, number_at, string_at, command_at, digest_at, shared_at, common_at, invoke_at, members_at, manifest_at}
 use Rattle.suit_cli.specs.declared.flat.FlatForm.{FlatForm}
 use Rattle.suit_cli.proofs.FlatSteps.{after, expected_again, number_again, string_again, string}
 

@@ -1,20 +1,19 @@
 -- The steps of reading the flat form: what is taken is spelled so (takes), and what is spelled so is taken (again).
-use Rattle.std.proofs.Common.{◌≡◌, ℕ, suc, min, ◌+◌, ◌*◌, ◌^◌, ◌<◌, ◌≤◌, Bool, true, false, cond, eqb, List, [], ◌∷◌, ◌++◌, length, get_or, Option, Some, None, refl, sym, ap, subst, ◌∙◌, append_assoc, rules, arith}
+use Rattle.std.proofs.Common.{◌≡◌, ℕ, suc, min, ◌+◌, ◌^◌, ◌<◌, Bool, true, false, cond, eqb, List, [], ◌∷◌, ◌++◌, length, Option, Some, None, refl, sym, ap, subst, ◌∙◌, append_assoc, rules, arith}
 use Rattle.std.specs.Prelude.{◌&&◌}
 use Rattle.std.specs.List.{AllByRecursion}
 use Rattle.std.proofs.lemmas.Bool.{eqb-true}
 use Rattle.std.proofs.lemmas.List.{append-nil, nil_from_length, length-append, take_at}
 use Rattle.std.proofs.lemmas.Option.{some_pair_parts, same_Some}
-use Rattle.det_cbor.specs.declared.head.Head.{Head}
 use Rattle.det_cbor.specs.declared.head.HeadKind.{HeadKind}
 use Rattle.det_cbor.specs.declared.head.HeadKind.TheVariants as kinds
 use Rattle.det_cbor.specs.Heads.{head_bytes}
 use Rattle.det_cbor.specs.HeadSpelling.{major_of, argument_of, IsValueOf, spelled}
 use Rattle.det_cbor.specs.DataItem.{IsByte}
-use Rattle.det_cbor.specs.Position.{Position, Takes, next_head, next_bytes}
+use Rattle.det_cbor.specs.Position.{Position, next_head, next_bytes}
 use Rattle.det_cbor.proofs.Heads.{IsBytes}
 use Rattle.det_cbor.proofs.Arguments.{IsBytes-take}
-use Rattle.det_cbor.proofs.Positions.{Steps, IsBytes-rest, next_head_takes, next_head_again, next_bytes_takes, next_bytes_again}
+use Rattle.det_cbor.proofs.Positions.{Steps, next_head_takes, next_head_again, next_bytes_takes, next_bytes_again}
 use Rattle.suit_cli.specs.FlatReading.{◌>>=◌, kind_number, expected_at, number_at, string_at, at_end}
 
 -- what follows from a step that found something

@@ -1,17 +1,16 @@
 -- What is read as the flat form is spelled so.
-use Rattle.std.proofs.Common.{◌≡◌, ℕ, ◌+◌, ◌*◌, ◌^◌, ◌<◌, ◌≤◌, Bool, true, false, cond, eqb, List, [], ◌∷◌, ◌++◌, length, Option, Some, None, refl, sym, ap, subst, ◌∙◌, append_assoc, rules, arith, inl, inr, ◌⊎◌}
-use Rattle.std.specs.Prelude.{nat_le, IfSome}
-use Rattle.std.specs.List.{AllByRecursion}
+use Rattle.std.proofs.Common.{◌≡◌, ℕ, ◌+◌, ◌^◌, ◌<◌, ◌≤◌, eqb, List, [], ◌++◌, length, Option, Some, None, refl, sym, ap, subst, ◌∙◌, append_assoc, arith, inl, inr}
+use Rattle.std.specs.Prelude.{IfSome}
 use Rattle.std.proofs.lemmas.Bool.{eqb-true, leb-true}
 use Rattle.std.proofs.lemmas.List.{append-nil, length-append}
 use Rattle.det_cbor.specs.declared.head.HeadKind.TheVariants as kinds
 use Rattle.det_cbor.specs.Heads.{head_bytes}
-use Rattle.det_cbor.specs.DataItem.{IsByte, spell, spell_pairs, pair_count, UnsignedInteger, ByteString, MapOf, NoPairs, PairThen, IsString, IsAbove, IsValid, ArePairsWithin, Spells}
+use Rattle.det_cbor.specs.DataItem.{spell, spell_pairs, pair_count, UnsignedInteger, IsString, IsAbove, IsValid, ArePairsWithin}
 use Rattle.det_cbor.specs.Position.{Position}
 use Rattle.det_cbor.proofs.Heads.{IsBytes, chosen}
 use Rattle.det_cbor.proofs.Positions.{next_bytes_takes}
-use Rattle.suit_cli.specs.FlatForm.{FlatManifest, IsFlat, command_item, digest_item, shared_item, identifier_item, common_item, match_item, invoke_item, member_pairs, manifest_item}
-use Rattle.suit_cli.specs.FlatReading.{◌>>=◌, command_at, digest_at, shared_at, common_at, invoke_at, members_at, manifest_at, at_end}
+use Rattle.suit_cli.specs.FlatForm.{FlatManifest, IsFlat, command_item, digest_item, shared_item, identifier_item, common_item, match_item, member_pairs, manifest_item}
+use Rattle.suit_cli.specs.FlatReading.{command_at, digest_at, shared_at, common_at, invoke_at, members_at, manifest_at}
 use Rattle.suit_cli.specs.declared.flat.FlatForm.{FlatForm}
 use Rattle.suit_cli.proofs.FlatSteps.{bind_then, kept, all_bytes, expected_takes, number_takes, string_takes, steps_then, Content, at_end_takes, all_taken, string}
 

@@ -3,5 +3,8 @@ pub mod FlatTakes
 pub mod FlatAgain
 pub mod FlatLaw
 pub mod Replying
+pub mod BlockLoop
 pub mod Refusals
+pub mod OneWrapper
+pub mod OneAnswer
 pub mod Runs

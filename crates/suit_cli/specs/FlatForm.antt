@@ -1,8 +1,8 @@
 -- The flat form: the manifests that are judged so far (draft-ietf-suit-manifest-25, section 8.4).
 -- One component, a shared sequence that overrides its digest and size, perhaps a match in validate, and an invoke.
-use Rattle.std.specs.Prelude.{◌≡◌, ◌≤◌, ◌+◌, ℕ, List, [], ◌∷◌, ◌++◌, length, Option, Some, None, IfSome}
+use Rattle.std.specs.Prelude.{◌≡◌, ◌≤◌, ◌+◌, ℕ, List, [], ◌++◌, length, Option, Some, None, IfSome}
 use Rattle.det_cbor.specs.Heads.{head_bytes}
-use Rattle.det_cbor.specs.DataItem.{DataItem, DataItems, DataPairs, UnsignedInteger, NegativeInteger, ByteString, ArrayOf, MapOf, NoItems, ItemThen, NoPairs, PairThen, spell, spell_pairs, pair_count, IsValid, Spells}
+use Rattle.det_cbor.specs.DataItem.{DataItem, DataPairs, UnsignedInteger, NegativeInteger, ByteString, ArrayOf, MapOf, NoItems, ItemThen, NoPairs, PairThen, spell, pair_count, IsValid, Spells}
 
 -- what a manifest of the flat form says; a report is a command's reporting policy
 pub record FlatManifest : Type 0 where

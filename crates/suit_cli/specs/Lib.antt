@@ -2,10 +2,13 @@ pub mod FlatForm
 pub mod FlatReading
 pub mod FlatPlan
 pub mod Lines
+pub mod Texts
 pub mod Words
 pub mod Outcome
+pub mod Inputs
+pub mod Accepted
+pub mod Shown
 pub mod Answer
 pub mod Replying
-pub mod Judged
 pub mod Put
 pub mod Run

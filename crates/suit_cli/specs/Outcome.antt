@@ -8,6 +8,7 @@ status_of outcomes.Done = 0
 status_of outcomes.Unsafe = 1
 status_of outcomes.Usage = 2
 status_of outcomes.Refused = 3
+status_of outcomes.NotAuthentic = 4
 status_of outcomes.HostFault = 7
 status_of outcomes.Absent = 20
 status_of outcomes.TooLong = 21

@@ -1,12 +1,27 @@
 -- The words of the command line.
 use Rattle.std.specs.Prelude.{ℕ, Bool, false, ◌&&◌, ◌==◌, not, List, [], ◌∷◌, Option, Some, None, codes, if◌then◌else◌}
 use Rattle.std.specs.Str.{bytes_eq}
+use Rattle.suit_cli.specs.declared.words.Command.{Command}
+use Rattle.suit_cli.specs.declared.words.Command.TheVariants as commands
+
+-- what the words ask for, with the names of its files
+pub data Task : Type 0 where
+  Check : List ℕ → Task
+  Show : List ℕ → List ℕ → Task
 
 abbrev pub begins_with_dash : List ℕ → Bool
 begins_with_dash [] = false
 begins_with_dash (byte ∷ bytes) = byte == 45
 
--- the file that the words `check FILE` name; all other words are usage
-abbrev pub checked_file : List (List ℕ) → Option (List ℕ)
-checked_file (command ∷ name ∷ []) = if bytes_eq command (codes "check") && not (begins_with_dash name) then Some name else None
-checked_file _ = None
+abbrev pub is_name : List ℕ → Bool
+is_name word = not (begins_with_dash word)
+
+-- `check FILE` and `show FILE KEY`; all other words are usage
+abbrev pub task_of : List (List ℕ) → Option Task
+task_of (command ∷ file ∷ []) = if bytes_eq command (codes "check") && is_name file then Some (Check file) else None
+task_of (command ∷ file ∷ key ∷ []) = if bytes_eq command (codes "show") && (is_name file && is_name key) then Some (Show file key) else None
+task_of _ = None
+
+abbrev pub task_said : Command → Task
+task_said (commands.Check file) = Check file.now
+task_said (commands.Show file key) = Show file.now key.now

@@ -3,10 +3,13 @@
 
 mod check;
 mod flat;
+mod input;
 mod lines;
 mod program;
 mod reply;
+mod show;
 mod why;
+mod words;
 
 pub use flat::{FlatForm, flat_form};
 pub use program::{Status, run};

@@ -3,7 +3,7 @@
 ghost use Rattle.std.specs.Prelude.{◌≡◌, ◌++◌, codes, IfOk};
 ghost use Rattle.suit_cli.specs.Outcome.{status_of};
 ghost use Rattle.suit_cli.specs.Lines.{path_lines};
-ghost use Rattle.suit_cli.specs.Answer.{refused_line, why_text};
+ghost use Rattle.suit_cli.specs.Texts.{refused_line, why_text};
 
 use crate::lines::push_path;
 use crate::why::{refused_line, why_text};
@@ -23,6 +23,8 @@ pub enum Outcome {
     Usage,
     /// The input is not accepted.
     Refused,
+    /// An envelope is not authentic under a key.
+    NotAuthentic,
     /// A call on the host failed.
     HostFault,
     /// A file that the words name is not there.
@@ -41,6 +43,7 @@ impl Outcome {
             Outcome::Unsafe => 1,
             Outcome::Usage => 2,
             Outcome::Refused => 3,
+            Outcome::NotAuthentic => 4,
             Outcome::HostFault => 7,
             Outcome::Absent => 20,
             Outcome::TooLong => 21,

@@ -7,7 +7,7 @@ use std::test::Fail;
 use suit_edge::{MemoryHost, MemorySink};
 
 /// The stored envelope: 119 bytes, whose manifest matches the image `abc` and invokes it.
-const STORED: &str =
+pub(crate) const STORED: &str =
     "d86ba2025827815824822f58200000000000000000000000000000000000000000000000000000000000000000035847a501010201035835a2028181410004582c8214a2035824822f5820ba7816bf8f01cfea414140de5dae2223b00361a396177a9cb410ff61f20015ad0e03074382030f094382170f";
 
 const USAGE: &str =
@@ -468,7 +468,7 @@ fn edited(alloc: Global, row: &Row) -> Result<Vec<u8>, Fail> {
     Ok(bytes)
 }
 
-fn names(alloc: Global, words: &[&str]) -> Result<Names, AllocError> {
+pub(crate) fn names(alloc: Global, words: &[&str]) -> Result<Names, AllocError> {
     let mut names = Names::new(alloc);
     for word in words {
         names.push(Text::from_str(alloc, word)?)?;

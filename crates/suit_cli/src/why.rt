@@ -1,7 +1,7 @@
 //! Why input is refused, in a line.
 
 ghost use Rattle.std.specs.Prelude.{◌≡◌, IfOk, string_bytes};
-ghost use Rattle.suit_cli.specs.Answer.{refused_line, reason_text, numbered, index_text, why_text};
+ghost use Rattle.suit_cli.specs.Texts.{refused_line, reason_text, numbered, index_text, why_text};
 
 use det_cbor::Reason;
 use std::alloc::{AllocError, Global};

@@ -1,0 +1,40 @@
+-- The lines of the blocks, one after another.
+use Rattle.std.proofs.Common.{◌≡◌, ℕ, suc, ◌+◌, ◌≤◌, Bool, List, [], ◌∷◌, ◌++◌, length, drop, Some, refl, sym, ap, subst, ◌∙◌}
+use Rattle.std.specs.List.{slice_get}
+use Rattle.std.proofs.Math.Seq.{drop-cons}
+use Rattle.std.proofs.Math.Numerals.{suc-eq-add-one}
+use Rattle.std.proofs.lemmas.Option.{slice_get_within, get_or_from_slice_get}
+use Rattle.std.proofs.lemmas.List.{append-nil, append_assoc, drop_all}
+use Rattle.suit_envelope.specs.WrapperParts.{WrapperSays}
+use Rattle.suit_cli.specs.Texts.{block_line}
+use Rattle.suit_cli.specs.Shown.{HasKind, kind_text, BlockLines, NoLines, LineThen}
+
+drop_is : (xs : List (List ℕ)) (n : ℕ) (x : List ℕ) → Some x ≡ slice_get xs n → drop n xs ≡ x ∷ drop (n + 1) xs
+drop_is xs n x is =
+    drop-cons xs n x (slice_get_within xs n x (sym is)) ∙ ap (λ (y : List ℕ). y ∷ drop (suc n) xs) (get_or_from_slice_get xs n x x (sym is))
+    ∙ ap (λ (k : ℕ). x ∷ drop k xs) (suc-eq-add-one n)
+
+-- with the lines of the blocks that are left, the text is the old one and the lines of all blocks
+abbrev pub Goes : List ℕ → List ℕ → ℕ → List ℕ → Type 0
+Goes wrapper old number text = (digest : List ℕ) (all : List (List ℕ)) → WrapperSays wrapper digest all → (rest : List ℕ) → BlockLines number (drop number all) rest
+    → (lines : List ℕ) × BlockLines 0 all lines × (text ++ rest ≡ old ++ lines)
+
+pub goes_start : (wrapper old : List ℕ) → Goes wrapper old 0 old
+goes_start wrapper old digest all says rest lines = (rest, lines, refl)
+
+pub goes_on : (wrapper old text new : List ℕ) (number : ℕ) (block : List ℕ) (is_mac : Bool) → Goes wrapper old number text
+    → ((digest : List ℕ) (all : List (List ℕ)) → WrapperSays wrapper digest all → Some block ≡ slice_get all number) → HasKind block is_mac
+    → new ≡ text ++ block_line number (kind_text is_mac) → Goes wrapper old (number + 1) new
+goes_on wrapper old text new number block is_mac before found kind is digest all says rest lines =
+    let line = block_line number (kind_text is_mac) in
+    let whole : BlockLines number (drop number all) (line ++ rest) =
+    subst (λ (bs : List (List ℕ)). BlockLines number bs (line ++ rest)) (sym (drop_is all number block (found digest all says))) (LineThen number block (drop (number + 1) all) is_mac rest kind lines) in
+    let by = before digest all says (line ++ rest) whole in
+    (by.0, by.1, ap (λ (t : List ℕ). t ++ rest) is ∙ append_assoc text line rest ∙ by.2)
+
+pub goes_end : (wrapper old text : List ℕ) (count : ℕ) → Goes wrapper old count text → ((digest : List ℕ) (all : List (List ℕ)) → WrapperSays wrapper digest all → length all ≤ count)
+    → (digest : List ℕ) (all : List (List ℕ)) → WrapperSays wrapper digest all → (lines : List ℕ) × BlockLines 0 all lines × (text ≡ old ++ lines)
+goes_end wrapper old text count goes counted digest all says =
+    let none : drop count all ≡ [] = drop_all count all (counted digest all says) in
+    let by = goes digest all says [] (subst (λ (bs : List (List ℕ)). BlockLines count bs []) (sym none) (NoLines count)) in
+    (by.0, by.1, sym (append-nil text) ∙ by.2)

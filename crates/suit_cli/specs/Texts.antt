@@ -1,0 +1,95 @@
+-- The lines of the program's answers.
+use Rattle.std.specs.Prelude.{ℕ, Bool, true, false, List, [], ◌∷◌, ◌++◌, codes}
+use Rattle.std.specs.Fmt.{decimal}
+use Rattle.det_cbor.specs.declared.reason.Reason.{Reason}
+use Rattle.det_cbor.specs.declared.reason.Reason.TheVariants as reasons
+use Rattle.suit_params.specs.declared.refusal.Why.{Why}
+use Rattle.suit_params.specs.declared.refusal.Why.TheVariants as whys
+use Rattle.suit_envelope.specs.declared.authenticity.Authenticity.{Authenticity}
+use Rattle.suit_envelope.specs.declared.authenticity.Authenticity.TheVariants as authenticities
+use Rattle.suit_cli.specs.Lines.{joined}
+
+abbrev pub usage_line : List ℕ
+usage_line = codes "usage: suit make DESCRIPTION KEY OUT | show FILE [KEY] | check FILE | run init DEVICE KEY | run update FILE [URI=NAME]... | run boot | run status | drill NUMBER\n"
+
+abbrev pub not_built_line : List ℕ
+not_built_line = codes "not built\n"
+
+-- the place of a fault in the file, and what is wrong there
+abbrev pub refused_line : ℕ → List ℕ → List ℕ
+refused_line place why = joined (codes "refused at " ∷ decimal place ∷ codes ": " ∷ why ∷ codes "\n" ∷ [])
+
+abbrev pub reason_text : Reason → List ℕ
+reason_text reasons.Truncated = codes "truncated"
+reason_text reasons.Indefinite = codes "indefinite"
+reason_text reasons.Kind = codes "kind"
+reason_text reasons.NotShortest = codes "not shortest"
+reason_text reasons.TooDeep = codes "too deep"
+reason_text reasons.BadText = codes "bad text"
+reason_text reasons.Repeated = codes "repeated"
+reason_text reasons.Order = codes "order"
+
+-- a word and a number
+abbrev pub numbered : List ℕ → ℕ → List ℕ
+numbered word n = joined (word ∷ codes " " ∷ decimal n ∷ [])
+
+abbrev pub index_text : ℕ → ℕ → List ℕ
+index_text index count = joined (codes "index " ∷ decimal index ∷ codes " of " ∷ decimal count ∷ [])
+
+abbrev pub why_text : Why → List ℕ
+why_text (whys.Cbor reason) = reason_text reason
+why_text whys.Trailing = codes "trailing"
+why_text whys.Shape = codes "shape"
+why_text whys.UnknownKey = codes "unknown key"
+why_text (whys.Missing key) = numbered (codes "missing") key
+why_text whys.Algorithm = codes "algorithm"
+why_text (whys.Version n) = numbered (codes "version") n
+why_text (whys.TooMany n) = joined (decimal n ∷ codes " components" ∷ [])
+why_text whys.LongIdentifier = codes "long identifier"
+why_text (whys.TwoAlike i j) = joined (codes "components " ∷ decimal i ∷ codes " and " ∷ decimal j ∷ codes " are alike" ∷ [])
+why_text whys.UnknownParam = codes "unknown parameter"
+why_text whys.BadParam = codes "bad parameter"
+why_text whys.Unsupported = codes "unsupported"
+why_text whys.BadArgument = codes "bad argument"
+why_text (whys.BadIndex i n) = index_text i n
+why_text whys.Nested = codes "nested"
+
+abbrev pub absent_line : List ℕ → List ℕ
+absent_line name = codes "absent " ++ name ++ codes "\n"
+
+abbrev pub too_long_line : List ℕ → List ℕ
+too_long_line name = codes "too long " ++ name ++ codes "\n"
+
+abbrev pub safe_lines : List ℕ
+safe_lines = codes "update safe\ninvocation safe\n"
+
+abbrev pub update_unsafe_line : List ℕ
+update_unsafe_line = codes "update unsafe\n"
+
+abbrev pub invocation_unsafe_lines : List ℕ
+invocation_unsafe_lines = codes "update safe\ninvocation unsafe\n"
+
+abbrev pub host_fault_line : List ℕ
+host_fault_line = codes "host fault\n"
+
+abbrev pub out_of_memory_line : List ℕ
+out_of_memory_line = codes "out of memory\n"
+
+abbrev pub empty_key_line : List ℕ
+empty_key_line = codes "empty key\n"
+
+-- ---- what an envelope is shown by
+
+abbrev pub tagged_line : Bool → List ℕ
+tagged_line true = codes "tagged yes\n"
+tagged_line false = codes "tagged no\n"
+
+-- the number of a block, and its kind
+abbrev pub block_line : ℕ → List ℕ → List ℕ
+block_line number kind = joined (codes "block " ∷ decimal number ∷ codes " " ∷ kind ∷ codes "\n" ∷ [])
+
+abbrev pub authenticity_line : Authenticity → List ℕ
+authenticity_line authenticities.Yes = codes "authentic\n"
+authenticity_line (authenticities.DigestDiffers stated found) = codes "not authentic: digest differs\n"
+authenticity_line authenticities.NoMac = codes "not authentic: no mac\n"
+authenticity_line (authenticities.MacDiffers expected found) = codes "not authentic: mac differs\n"

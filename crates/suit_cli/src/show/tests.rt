@@ -1,0 +1,190 @@
+//! Tests of `show FILE KEY` on objects in memory. The digest and the tags were computed by another program.
+
+use crate::tests::{STORED, names};
+use crate::{Status, run};
+use std::alloc::{AllocError, Global};
+use std::test::Fail;
+use suit_edge::{MemoryHost, MemorySink};
+
+/// The manifest of the stored envelope behind a wrapper with its digest, a block of another kind, and a
+/// Mac0 block under the key of 32 bytes 01.
+const AUTHENTIC: &str =
+    "d86ba202585d835824822f58201a9560565e58d0ad019dae827e1def7755aad759c564dcc11446bb8629c035b149d28443a10126a0f640582ad18443a10105a0f65820055b27ca6b099fbac7a8048515e284d999febbededb58ca886b84e78e424d271035847a501010201035835a2028181410004582c8214a2035824822f5820ba7816bf8f01cfea414140de5dae2223b00361a396177a9cb410ff61f20015ad0e03074382030f094382170f";
+
+/// The same with the block of another kind alone.
+const WITHOUT_MAC: &str =
+    "d86ba2025831825824822f58201a9560565e58d0ad019dae827e1def7755aad759c564dcc11446bb8629c035b149d28443a10126a0f640035847a501010201035835a2028181410004582c8214a2035824822f5820ba7816bf8f01cfea414140de5dae2223b00361a396177a9cb410ff61f20015ad0e03074382030f094382170f";
+
+/// The same with one Mac0 block under a key of 64 bytes 02.
+const UNDER_LONGEST_KEY: &str =
+    "d86ba2025853825824822f58201a9560565e58d0ad019dae827e1def7755aad759c564dcc11446bb8629c035b1582ad18443a10105a0f6582020001ee9cb22db25998abbe9471a37c15c0c3a1cd9f52371604d8dfcc6923456035847a501010201035835a2028181410004582c8214a2035824822f5820ba7816bf8f01cfea414140de5dae2223b00361a396177a9cb410ff61f20015ad0e03074382030f094382170f";
+
+const KEY: [u8; 32] = [1; 32];
+
+const SHOW: [&str; 3] = ["show", "e.suit", "k"];
+
+/// The place of the last byte of the tag.
+const TAG_END: usize = 96;
+
+/// What a run over an envelope and a key put, and its status. The files stay.
+fn shown(
+    alloc: Global,
+    words: &[&str],
+    envelope: &[u8],
+    key: &[u8],
+    host_fails: &[u64],
+) -> Result<(u8, Vec<u8>), AllocError> {
+    let words = names(alloc, words)?;
+    let mut host = MemoryHost::new(alloc, host_fails)?;
+    host.add("e.suit", envelope)?;
+    host.add("k", key)?;
+    let mut sink = MemorySink::new(alloc, &[])?;
+    let Status(status) = run(alloc, &words, &mut host, &mut sink);
+    Ok((status, sink.bytes().to_vec(alloc)?))
+}
+
+/// A file, a key, and what comes of them.
+struct Row {
+    envelope: &'static str,
+    key: &'static [u8],
+    status: u8,
+    text: &'static str,
+}
+
+const ROWS: [Row; 9] = [
+    Row {
+        envelope: AUTHENTIC,
+        key: &[1; 32],
+        status: 0,
+        text: "tagged yes\nblock 0 other\nblock 1 mac0\nauthentic\n",
+    },
+    Row {
+        envelope: AUTHENTIC,
+        key: &[1; 31],
+        status: 4,
+        text: "tagged yes\nblock 0 other\nblock 1 mac0\nnot authentic: mac differs\n",
+    },
+    Row {
+        envelope: WITHOUT_MAC,
+        key: &[1; 32],
+        status: 4,
+        text: "tagged yes\nblock 0 other\nnot authentic: no mac\n",
+    },
+    Row {
+        envelope: STORED,
+        key: &[1; 32],
+        status: 4,
+        text: "tagged yes\nnot authentic: digest differs\n",
+    },
+    Row {
+        envelope: UNDER_LONGEST_KEY,
+        key: &[2; 64],
+        status: 0,
+        text: "tagged yes\nblock 0 mac0\nauthentic\n",
+    },
+    Row {
+        envelope: UNDER_LONGEST_KEY,
+        key: &[2; 65],
+        status: 21,
+        text: "too long k\n",
+    },
+    Row {
+        envelope: AUTHENTIC,
+        key: &[],
+        status: 3,
+        text: "empty key\n",
+    },
+    Row {
+        envelope: "d86b",
+        key: &[],
+        status: 3,
+        text: "refused at 2: truncated\n",
+    },
+    Row {
+        envelope: "d86b80",
+        key: &[1; 65],
+        status: 3,
+        text: "refused at 2: shape\n",
+    },
+];
+
+#[test]
+fn an_envelope_is_shown_under_a_key(rt: HostRuntime) -> Result<(), Fail> {
+    let alloc = rt.alloc();
+    for row in &ROWS {
+        let envelope = hex::decode(alloc, row.envelope)?;
+        let (status, text) = shown(alloc, &SHOW, envelope.as_slice(), row.key, &[])?;
+        let says = row.text;
+        assert_eq!(rt; text.as_slice(), row.text.as_bytes(), "{says}");
+        assert_eq!(rt; status, row.status, "{says}");
+    }
+    Ok(())
+}
+
+#[test]
+fn another_tag_differs_and_no_tag_is_told(rt: HostRuntime) -> Result<(), Fail> {
+    let alloc = rt.alloc();
+    let envelope = hex::decode(alloc, AUTHENTIC)?;
+    let mut changed = envelope.as_slice().to_vec(alloc)?;
+    *changed.get_mut(TAG_END).ok_or("no tag")? = 0x70;
+    let (status, text) = shown(alloc, &SHOW, changed.as_slice(), &KEY, &[])?;
+    let differs = "tagged yes\nblock 0 other\nblock 1 mac0\nnot authentic: mac differs\n";
+    assert_eq!(rt; text.as_slice(), differs.as_bytes());
+    assert_eq!(rt; status, 4);
+
+    let untagged = envelope.as_slice().get(2..).ok_or("no bytes")?;
+    let (status, text) = shown(alloc, &SHOW, untagged, &KEY, &[])?;
+    let plain = "tagged no\nblock 0 other\nblock 1 mac0\nauthentic\n";
+    assert_eq!(rt; text.as_slice(), plain.as_bytes());
+    assert_eq!(rt; status, 0);
+    Ok(())
+}
+
+#[test]
+fn a_file_or_a_key_is_absent(rt: HostRuntime) -> Result<(), Fail> {
+    let alloc = rt.alloc();
+    let envelope = hex::decode(alloc, AUTHENTIC)?;
+    let rows = [
+        (["show", "e.suit", "no key"], 20, "absent no key\n"),
+        (["show", "no file", "no key"], 20, "absent no file\n"),
+        (["show", "k", "no key"], 3, "refused at 1: trailing\n"),
+    ];
+    for (words, says_status, says) in &rows {
+        let (status, text) = shown(alloc, words, envelope.as_slice(), &KEY, &[])?;
+        assert_eq!(rt; text.as_slice(), says.as_bytes(), "{says}");
+        assert_eq!(rt; status, *says_status, "{says}");
+    }
+    Ok(())
+}
+
+#[test]
+fn other_words_are_usage(rt: HostRuntime) -> Result<(), Fail> {
+    let alloc = rt.alloc();
+    let lines: [&[&str]; 5] = [
+        &["show"],
+        &["show", "e.suit"],
+        &["show", "-e", "k"],
+        &["show", "e.suit", "-k"],
+        &["show", "e.suit", "k", "k"],
+    ];
+    for words in &lines {
+        let (status, text) = shown(alloc, words, b"", &KEY, &[])?;
+        assert_eq!(rt; status, 2);
+        assert!(rt; text.as_slice().starts_with(b"usage: suit make"));
+    }
+    Ok(())
+}
+
+#[test]
+fn each_call_of_the_host_may_fail(rt: HostRuntime) -> Result<(), Fail> {
+    let alloc = rt.alloc();
+    let envelope = hex::decode(alloc, AUTHENTIC)?;
+    for call in 0..6u64 {
+        let (status, text) = shown(alloc, &SHOW, envelope.as_slice(), &KEY, &[call])?;
+        assert_eq!(rt; status, 7, "call {call}");
+        assert_eq!(rt; text.as_slice(), b"host fault\n".as_slice(), "call {call}");
+    }
+    let (status, _text) = shown(alloc, &SHOW, envelope.as_slice(), &KEY, &[6])?;
+    assert_eq!(rt; status, 0);
+    Ok(())
+}
