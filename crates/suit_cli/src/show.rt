@@ -19,7 +19,7 @@ use det_cbor::Text;
 use hmac_mac0::{MacVerdict, verify};
 use std::alloc::{AllocError, Global};
 use suit_edge::Host;
-use suit_envelope::{Authenticity, Envelope, authentic, block, blocks};
+use suit_envelope::{Authenticity, BlockWalk, Envelope, authentic, blocks};
 
 fn tagged_line(tagged: bool) -> &'static str
     ensures { result.now ≡ tagged_line tagged }
@@ -78,8 +78,9 @@ fn push_blocks(alloc: Global, text: &mut Text, envelope: &Envelope<'_>) -> Resul
     requires { HasWrapper envelope.now.wrapper.now }
     ensures { OnOk result ((digest : List ℕ) (all : List (List ℕ)) → WrapperSays envelope.now.wrapper.now digest all → (lines : List ℕ) × BlockLines 0 all lines × (text.new ≡ text.old ++ lines)) }
 {
+    let mut rest = BlockWalk::new(envelope);
     for number in 0..blocks(envelope) {
-        let Some(block) = block(envelope, number) else {
+        let Some(block) = rest.next_block() else {
             unreachable!()
         };
         let line = block_line(alloc, number, kind_text(is_mac(block)))?;

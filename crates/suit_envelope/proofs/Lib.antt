@@ -14,3 +14,4 @@ pub mod MadePairs
 pub mod MadeValid
 pub mod MadeSays
 pub mod AuthenticYes
+pub mod WalkLaws

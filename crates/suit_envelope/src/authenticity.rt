@@ -28,8 +28,8 @@ pub enum Authenticity<'a> {
     MacDiffers { expected: [u8; 32], found: &'a [u8] },
 }
 
-// The first byte string of a wrapper, and the blocks after it.
-fn first_string(wrapper: &[u8]) -> Result<(Cursor<'_>, Cursor<'_>), Refusal>
+/// The first byte string of a wrapper, and the blocks after it.
+pub(crate) fn first_string(wrapper: &[u8]) -> Result<(Cursor<'_>, Cursor<'_>), Refusal>
     ensures { result ≡ first_from wrapper.now }
 {
     let mut elements = Cursor::new(wrapper, 0);

@@ -12,6 +12,7 @@ mod parts;
 mod severed;
 mod string_hash;
 mod trimming;
+mod walk;
 mod wrapper;
 mod wrapper_parts;
 mod writing;
@@ -23,6 +24,7 @@ pub use envelope::Envelope;
 pub use parts::{EnvelopeParts, PayloadList};
 pub use severed::{MemberBytes, MemberName, member};
 pub use trimming::{trim, trimmed_length};
+pub use walk::BlockWalk;
 pub use wrapper_parts::{block, blocks, stated_digest};
 
 #[cfg(test)]

@@ -1,8 +1,8 @@
 //! Tests of envelopes: what is refused, where and why, and what is read.
 
 use crate::{
-    Authenticity, MemberBytes, MemberName, authentic, block, blocks, decode_envelope, member,
-    stated_digest, trim, trimmed_length,
+    Authenticity, BlockWalk, MemberBytes, MemberName, authentic, block, blocks, decode_envelope,
+    member, stated_digest, trim, trimmed_length,
 };
 use det_cbor::Reason;
 use std::test::Fail;
@@ -369,6 +369,11 @@ fn severed_members_and_payloads_are_read(rt: HostRuntime) -> Result<(), Fail> {
             assert_eq!(rt; block(&envelope, 0), Some(b"".as_slice()));
             assert_eq!(rt; block(&envelope, 1), Some(b"\x00".as_slice()));
             assert_eq!(rt; block(&envelope, 2), None);
+            let mut walk = BlockWalk::new(&envelope);
+            assert_eq!(rt; walk.next_block(), Some(b"".as_slice()));
+            assert_eq!(rt; walk.next_block(), Some(b"\x00".as_slice()));
+            assert_eq!(rt; walk.next_block(), None);
+            assert_eq!(rt; walk.next_block(), None);
             assert_eq!(rt; stated_digest(&envelope), Digest { bytes: [0; 32] });
             let zero = Digest { bytes: [0; 32] };
             assert!(rt;
