@@ -14,3 +14,5 @@ pub mod MadePairs
 pub mod MadeValid
 pub mod MadeSays
 pub mod AuthenticYes
+pub mod PayloadKeys
+pub mod PayloadLaws
