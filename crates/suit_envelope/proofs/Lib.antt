@@ -15,3 +15,5 @@ pub mod MadeValid
 pub mod MadeSays
 pub mod AuthenticYes
 pub mod WalkLaws
+pub mod PayloadKeys
+pub mod PayloadLaws

@@ -1,5 +1,5 @@
 -- What an envelope that is made of its parts says.
-use Rattle.std.proofs.Common.{◌≡◌, ◌≢◌, ℕ, ◌+◌, true, List, [], ◌∷◌, length, Option, Some, None, refl, sym, subst}
+use Rattle.std.proofs.Common.{◌≡◌, ◌≢◌, ℕ, ◌+◌, true, List, [], ◌∷◌, length, Option, Some, None, refl, sym, ap, subst}
 use Rattle.std.specs.List.{AllByRecursion}
 use Rattle.det_cbor.specs.Heads.{head_bytes}
 use Rattle.det_cbor.specs.DataItem.{UnsignedInteger, ByteString, TextString, DataPairs, pair_count, spell}
@@ -8,6 +8,7 @@ use Rattle.suit_envelope.specs.Envelopes.{Entry, EnvelopeMap, EnvelopeSays, entr
 use Rattle.suit_envelope.specs.declared.key.Key.TheVariants.{Wrapper, Unknown}
 use Rattle.suit_envelope.specs.declared.parts.EnvelopeParts.{EnvelopeParts}
 use Rattle.suit_envelope.specs.Making.{member_then, payload_pairs, pairs_made, envelope_made, SaysParts}
+use Rattle.suit_envelope.specs.Payloads.{integrated_payloads}
 use Rattle.suit_envelope.specs.WrapperParts.{HasWrapper, wrapper_item}
 use Rattle.suit_envelope.proofs.WrapperLaws.{says_wrapper}
 
@@ -59,28 +60,52 @@ put_says place w m (Some f) (Some i) (Some t) ps = by_put _ _ _ (record { tagged
 abbrev made_map : EnvelopeParts → EnvelopeMap
 made_map parts = record { tagged = true; place = 0 + length (head_bytes 6 107); pairs = pairs_made parts }
 
--- the grammar takes what is made, and it says what the parts are
-pub made_says : (parts : EnvelopeParts) → HasWrapper parts.wrapper → (said : EnvelopeSays) × (IsEnvelope 0 (envelope_made parts) said × SaysParts parts said)
+-- ---- which payloads there are
+
+payloads_made : (place : ℕ) (ps : List (List ℕ × List ℕ)) → integrated_payloads (entries place (payload_pairs ps)) ≡ ps
+payloads_made place [] = refl
+payloads_made place (p ∷ ps) = ap (λ (rest : List (List ℕ × List ℕ)). p ∷ rest) (payloads_made (place + length (spell (TextString p.0)) + length (spell (ByteString p.1))) ps)
+
+-- a member is no payload
+member_beside : (place n : ℕ) (member : Option (List ℕ)) (ps : DataPairs) (payloads : List (List ℕ × List ℕ)) → ((at : ℕ) → integrated_payloads (entries at ps) ≡ payloads)
+    → integrated_payloads (entries place (member_then n member ps)) ≡ payloads
+member_beside place n None ps payloads rest = rest place
+member_beside place n (Some content) ps payloads rest = rest _
+
+all_payloads : (place : ℕ) (parts : EnvelopeParts) → integrated_payloads (entries place (member_then 16 parts.payload_fetch (member_then 20 parts.install (member_then 23 parts.text (payload_pairs parts.payloads))))) ≡ parts.payloads
+all_payloads place parts =
+    member_beside place 16 parts.payload_fetch _ parts.payloads
+    (λ at. member_beside at 20 parts.install _ parts.payloads
+    (λ at. member_beside at 23 parts.text _ parts.payloads (λ at. payloads_made at parts.payloads)))
+
+-- the grammar takes what is made, it says what the parts are, and it has their payloads
+pub record Made (parts : EnvelopeParts) : Type 0 where
+  pub said : EnvelopeSays
+  pub is : IsEnvelope 0 (envelope_made parts) said
+  pub says : SaysParts parts said
+  pub payloads : parts.payloads ≡ integrated_payloads (map_entries is.map)
+
+pub made_says : (parts : EnvelopeParts) → HasWrapper parts.wrapper → Made parts
 made_says parts holds =
     let m = made_map parts in
     let start = m.place + length (head_bytes 5 (pair_count m.pairs)) in
-    let key = start + length (spell (UnsignedInteger 2)) in (
-      put_all (says_nothing true) (map_entries m),
-      (
-        record {
-          map = m;
-          shape = refl;
-          known = (λ e. absurd cc, (λ e. absurd cc, members_all IsKnown _ parts (λ n known other at value_at content. known) (λ at. payloads_known at parts.payloads)));
-          required = (refl, (refl, tt));
-          values = (
-            (tt, λ e. (holds.0, record { content = parts.wrapper; is = refl; holds = record { item = wrapper_item holds.0 holds.1; spells = holds.2.spells; says_so = says_wrapper (content_place key parts.wrapper) parts.wrapper holds.0 holds.1 holds.2 } })),
-            (
-              (tt, λ e. absurd cc),
-              members_all IsValue _ parts (λ n known other at value_at content. (tt, λ e. absurd (other e))) (λ at. payload_values at parts.payloads),
-            ),
-          );
-          says = refl;
-        },
-        put_says start parts.wrapper parts.manifest parts.payload_fetch parts.install parts.text parts.payloads,
-      ),
-    )
+    let key = start + length (spell (UnsignedInteger 2)) in
+    record {
+      said = put_all (says_nothing true) (map_entries m);
+      is = record {
+        map = m;
+        shape = refl;
+        known = (λ e. absurd cc, (λ e. absurd cc, members_all IsKnown _ parts (λ n known other at value_at content. known) (λ at. payloads_known at parts.payloads)));
+        required = (refl, (refl, tt));
+        values = (
+          (tt, λ e. (holds.0, record { content = parts.wrapper; is = refl; holds = record { item = wrapper_item holds.0 holds.1; spells = holds.2.spells; says_so = says_wrapper (content_place key parts.wrapper) parts.wrapper holds.0 holds.1 holds.2 } })),
+          (
+            (tt, λ e. absurd cc),
+            members_all IsValue _ parts (λ n known other at value_at content. (tt, λ e. absurd (other e))) (λ at. payload_values at parts.payloads),
+          ),
+        );
+        says = refl;
+      };
+      says = put_says start parts.wrapper parts.manifest parts.payload_fetch parts.install parts.text parts.payloads;
+      payloads = sym (all_payloads _ parts);
+    }

@@ -5,6 +5,7 @@ ghost use Rattle.std.specs.List.{AllByRecursion};
 ghost use Rattle.det_cbor.specs.DataItem.{DataPairs, TextString, ByteString, spell, spell_pairs, pair_count, IsString};
 ghost use Rattle.suit_envelope.specs.Envelopes.{EnvelopeSays};
 ghost use Rattle.suit_envelope.specs.Said.{EnvelopeOf};
+ghost use Rattle.suit_envelope.specs.Payloads.{HasPayloads};
 ghost use Rattle.suit_envelope.specs.WrapperParts.{HasWrapper};
 ghost use Rattle.suit_envelope.specs.Making.{member_then, payload_pairs, pairs_made, envelope_made, AreAscending, IsPayload, SaysParts};
 
@@ -66,6 +67,7 @@ pub fn encode_envelope(alloc: Global, parts: &EnvelopeParts) -> Result<Bytes, Al
     requires payloads { AreAscending None parts.now.payloads }
     ensures spelling { IfOk result (λ bytes. bytes ≡ spell (envelope_made parts.now)) }
     ensures envelope { IfOk result (λ bytes. (said : EnvelopeSays) × (EnvelopeOf bytes said × SaysParts parts.now said)) }
+    ensures payloads { IfOk result (λ bytes. HasPayloads bytes parts.now.payloads) }
 {
     let mut out = Bytes::new(alloc);
     push_start(&mut out, pairs(parts))?;

@@ -21,9 +21,9 @@ returns-clause-spelling c =
 pub returns-clause-envelope : goal.returns-clause-envelope
 returns-clause-envelope c =
     let parts = c.args.parts.now in
-    let says = made_says parts c.requires.wrapper in
+    let made = made_says parts c.requires.wrapper in
     let count : pair_count (pairs_made parts) < 2 ^ 64 = rw (← c.pairs.ensures) (omega (arith, c.pairs.type_inv)) in (
-      says.0,
+      made.said,
       (
         record {
           item = _;
@@ -41,8 +41,14 @@ returns-clause-envelope c =
                 c.requires.payloads;
             is = returns-clause-spelling c;
           };
-          says_so = says.1.0;
+          says_so = made.is;
         },
-        says.1.1,
+        made.says,
       ),
     )
+
+pub returns-clause-payloads : goal.returns-clause-payloads
+unfolding returns-clause-envelope
+returns-clause-payloads c =
+    let made = made_says c.args.parts.now c.requires.wrapper in
+    record { said = made.said; envelope = (returns-clause-envelope c).1.0; are = made.payloads }

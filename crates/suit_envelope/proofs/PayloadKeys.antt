@@ -1,0 +1,130 @@
+-- No two payloads of an envelope have one key, so looking a key up finds the payload that has it.
+use Rattle.std.proofs.Common.{◌≡◌, ◌≢◌, ℕ, zero, suc, ◌+◌, Bool, true, false, List, [], ◌∷◌, length, Option, Some, refl, sym, ap, subst, ◌∙◌, inl, inr, arith}
+use Rattle.std.specs.List.{AllByRecursion, Contains}
+use Rattle.std.specs.Ordering.{is_lt, nat_cmp}
+use Rattle.std.specs.Str.{bytes_eq}
+use Rattle.std.specs.Cmp.Lexicographic.{slice_cmp, nat_list_cmp_total, bytes_decides}
+use Rattle.std.specs.declared.cmp.Ordering.{Ordering}
+use Rattle.std.specs.declared.cmp.Ordering.TheVariants.{Less, Equal, Greater}
+use Rattle.std.proofs.lemmas.List.Elements.{Contains-append_right}
+use Rattle.det_cbor.specs.DataItem.{DataItem, UnsignedInteger, NegativeInteger, ByteString, TextString, ArrayOf, MapOf, TaggedItem, Boolean, NullItem, DataPairs, NoPairs, PairThen, spell, IsAbove, ArePairsWithin}
+use Rattle.det_cbor.proofs.KeyOrder.{same_key}
+use Rattle.det_cbor.proofs.Results.{chosen}
+use Rattle.suit_envelope.specs.Envelopes.{entries}
+use Rattle.suit_envelope.specs.Payloads.{payload_then, integrated_payloads, payload_under}
+
+abbrev Payloads : Type 0
+Payloads = List (List ℕ × List ℕ)
+
+-- ---- the order of keys
+
+less : (o : Ordering) → is_lt o ≡ true → o ≡ Less
+less Less e = refl
+less Equal e = absurd cc
+less Greater e = absurd cc
+
+above_trans : (a b c : List ℕ) → IsAbove (Some a) b → IsAbove (Some b) c → IsAbove (Some a) c
+above_trans a b c p q = ap is_lt (nat_list_cmp_total.trans a b c (less (slice_cmp nat_cmp a b) p) (less (slice_cmp nat_cmp b c) q))
+
+not_above_itself : (a : List ℕ) → IsAbove (Some a) a → ⊥
+not_above_itself a p = let never : is_lt Equal ≡ true = ap is_lt (sym (same_key a)) ∙ p in absurd cc
+
+-- each payload's key is above a spelling
+abbrev AreAbove : List ℕ → Payloads → Type 0
+AreAbove a ps = AllByRecursion (λ (p : List ℕ × List ℕ). IsAbove (Some a) (spell (TextString p.0))) ps
+
+-- no key comes again
+abbrev pub AreApart : Payloads → Type 0
+AreApart [] = Unit {0}
+AreApart (p ∷ ps) = AllByRecursion (λ (q : List ℕ × List ℕ). p.0 ≢ q.0) ps × AreApart ps
+
+then_above : (a : List ℕ) (key value : DataItem) (others : Payloads) → IsAbove (Some a) (spell key) → AreAbove a others → AreAbove a (payload_then key value others)
+then_above a (TextString text) (ByteString content) others above rest = (above, rest)
+then_above a (TextString text) (UnsignedInteger n) others above rest = rest
+then_above a (TextString text) (NegativeInteger n) others above rest = rest
+then_above a (TextString text) (TextString t) others above rest = rest
+then_above a (TextString text) (ArrayOf xs) others above rest = rest
+then_above a (TextString text) (MapOf ps) others above rest = rest
+then_above a (TextString text) (TaggedItem tag x) others above rest = rest
+then_above a (TextString text) (Boolean b) others above rest = rest
+then_above a (TextString text) NullItem others above rest = rest
+then_above a (UnsignedInteger n) value others above rest = rest
+then_above a (NegativeInteger n) value others above rest = rest
+then_above a (ByteString bytes) value others above rest = rest
+then_above a (ArrayOf xs) value others above rest = rest
+then_above a (MapOf ps) value others above rest = rest
+then_above a (TaggedItem tag x) value others above rest = rest
+then_above a (Boolean b) value others above rest = rest
+then_above a NullItem value others above rest = rest
+
+-- whatever is above b is above a
+all_above : (levels place : ℕ) (a b : List ℕ) (ps : DataPairs) → ((c : List ℕ) → IsAbove (Some b) c → IsAbove (Some a) c) → ArePairsWithin levels (Some b) ps → AreAbove a (integrated_payloads (entries place ps))
+all_above levels place a b NoPairs further valid = tt
+all_above levels place a b (PairThen key value ps) further valid =
+    let here = further (spell key) valid.1 in
+    then_above a key value _ here (all_above levels (place + length (spell key) + length (spell value)) a (spell key) ps (λ c above. above_trans a (spell key) c here above) valid.3)
+
+other_keys : (text : List ℕ) (ps : Payloads) → AreAbove (spell (TextString text)) ps → AllByRecursion (λ (q : List ℕ × List ℕ). text ≢ q.0) ps
+other_keys text [] above = tt
+other_keys text (p ∷ ps) above = (λ e. not_above_itself (spell (TextString text)) (subst (λ (t : List ℕ). IsAbove (Some (spell (TextString text))) (spell (TextString t))) (sym e) above.0), other_keys text ps above.1)
+
+then_apart : (key value : DataItem) (others : Payloads) → AreAbove (spell key) others → AreApart others → AreApart (payload_then key value others)
+then_apart (TextString text) (ByteString content) others above rest = (other_keys text others above, rest)
+then_apart (TextString text) (UnsignedInteger n) others above rest = rest
+then_apart (TextString text) (NegativeInteger n) others above rest = rest
+then_apart (TextString text) (TextString t) others above rest = rest
+then_apart (TextString text) (ArrayOf xs) others above rest = rest
+then_apart (TextString text) (MapOf ps) others above rest = rest
+then_apart (TextString text) (TaggedItem tag x) others above rest = rest
+then_apart (TextString text) (Boolean b) others above rest = rest
+then_apart (TextString text) NullItem others above rest = rest
+then_apart (UnsignedInteger n) value others above rest = rest
+then_apart (NegativeInteger n) value others above rest = rest
+then_apart (ByteString bytes) value others above rest = rest
+then_apart (ArrayOf xs) value others above rest = rest
+then_apart (MapOf ps) value others above rest = rest
+then_apart (TaggedItem tag x) value others above rest = rest
+then_apart (Boolean b) value others above rest = rest
+then_apart NullItem value others above rest = rest
+
+pub payloads_apart : (levels place : ℕ) (before : Option (List ℕ)) (ps : DataPairs) → ArePairsWithin levels before ps → AreApart (integrated_payloads (entries place ps))
+payloads_apart levels place before NoPairs valid = tt
+payloads_apart levels place before (PairThen key value ps) valid =
+    let next = place + length (spell key) + length (spell value) in
+    then_apart key value _ (all_above levels next (spell key) (spell key) ps (λ c above. above) valid.3) (payloads_apart levels next (Some (spell key)) ps valid.3)
+
+-- ---- looking up
+
+other_key : (text key content : List ℕ) (ps : Payloads) → AllByRecursion (λ (q : List ℕ × List ℕ). text ≢ q.0) ps → Contains ps (key, content) → text ≢ key
+other_key text key content [] others (k, lt, is) = absurd (omega arith)
+other_key text key content (p ∷ ps) others (zero, lt, is) = λ e. others.0 (e ∙ sym (ap (λ (q : List ℕ × List ℕ). q.0) is))
+other_key text key content (p ∷ ps) others (suc k, lt, is) = other_key text key content ps others.1 (k, omega arith, is)
+
+false_test : (a b : List ℕ) → a ≢ b → bytes_eq a b ≡ false
+false_test a b other = by_test (bytes_eq a b) refl
+  where
+    by_test : (t : Bool) → bytes_eq a b ≡ t → t ≡ false
+    by_test true e = absurd (other ((bytes_decides a b).0 e))
+    by_test false e = refl
+
+pub contained_under : (ps : Payloads) (key content : List ℕ) → AreApart ps → Contains ps (key, content) → payload_under ps key ≡ Some content
+contained_under [] key content apart (k, lt, is) = absurd (omega arith)
+contained_under (p ∷ ps) key content apart (zero, lt, is) =
+    let same : p.0 ≡ key = ap (λ (q : List ℕ × List ℕ). q.0) is in
+    let test : bytes_eq p.0 key ≡ true = (bytes_decides p.0 key).1 same in
+    rw test (ap (λ (q : List ℕ × List ℕ). Some q.1) is)
+contained_under (p ∷ ps) key content apart (suc k, lt, is) =
+    let rest : Contains ps (key, content) = (k, omega arith, is) in
+    let test : bytes_eq p.0 key ≡ false = false_test p.0 key (other_key p.0 key content ps apart.0 rest) in
+    rw test (contained_under ps key content apart.1 rest)
+
+pub under_contained : (ps : Payloads) (key content : List ℕ) → payload_under ps key ≡ Some content → Contains ps (key, content)
+under_contained [] key content e = absurd cc
+under_contained (p ∷ ps) key content e =
+    elim (chosen (bytes_eq p.0 key) (Some p.1) (payload_under ps key) (Some content) e) [
+      | inl (test, is) ↦
+          let same : p.0 ≡ key = (bytes_decides p.0 key).0 test in
+          let value : p.1 ≡ content = cc in
+          (0, omega arith, λ i. (same i, value i))
+      | inr (test, is) ↦ Contains-append_right (p ∷ []) ps (key, content) (under_contained ps key content is)
+    ]

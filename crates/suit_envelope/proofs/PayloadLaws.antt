@@ -1,0 +1,194 @@
+-- The payloads of an envelope that is spelled are found by their keys.
+use Rattle.std.proofs.Common.{◌≡◌, ◌≢◌, ℕ, suc, ◌+◌, ◌-◌, ◌<◌, Bool, true, false, cond, eqb, List, [], ◌++◌, length, Option, Some, None, Result, Ok, Err, refl, sym, ap, subst, ◌∙◌, append_assoc, arith}
+use Rattle.std.specs.Prelude.{IfSome, option_map}
+use Rattle.std.specs.List.{AllByRecursion, Contains}
+use Rattle.std.specs.Str.{bytes_eq}
+use Rattle.std.proofs.lemmas.List.{append-nil, length-append}
+use Rattle.det_cbor.specs.Heads.{head_bytes}
+use Rattle.det_cbor.specs.DataItem.{DataItem, UnsignedInteger, NegativeInteger, ByteString, TextString, ArrayOf, MapOf, TaggedItem, Boolean, NullItem, DataPairs, NoPairs, PairThen, pair_count, spell, spell_pairs, IsValid, IsValidWithin, ArePairsWithin}
+use Rattle.det_cbor.specs.HeadReading.{◌>>=◌}
+use Rattle.det_cbor.specs.Position.{Position}
+use Rattle.det_cbor.proofs.Results.{same_ok, not_both}
+use Rattle.suit_params.specs.declared.refusal.Refusal.{Refusal}
+use Rattle.suit_params.specs.Refusing.{IsByteString}
+use Rattle.suit_params.specs.Judging.{judge_string}
+use Rattle.suit_params.proofs.ItemHeads.{item_head_read, bytes_again, after}
+use Rattle.suit_params.proofs.Held.{by_string, content_read, with_rest}
+use Rattle.suit_envelope.specs.Envelopes.{Entry, EnvelopeMap, entries, map_entries, key_of, as_map, envelope_map, IsKnown, IsValue}
+use Rattle.suit_envelope.specs.Payloads.{payload_then, integrated_payloads, HasPayloads, payload_under}
+use Rattle.suit_envelope.specs.PayloadReading.{text_from, is_wanted, content_where, pair_from, or_later, found_from, pairs_from, payload_from}
+use Rattle.suit_envelope.specs.WrapperParts.{start_of}
+use Rattle.suit_envelope.specs.declared.key.Key.TheVariants.{Unknown}
+use Rattle.suit_envelope.proofs.PayloadKeys.{AreApart, payloads_apart, contained_under, under_contained}
+
+-- ---- keys
+
+abbrev text_of : DataItem → Option (List ℕ)
+text_of (TextString text) = Some text
+text_of _ = None
+
+text_read : (levels : ℕ) (p : Position) (k : DataItem) (rest : List ℕ) → key_of k ≢ Unknown → IsValidWithin levels k → p.left ≡ spell k ++ rest → text_from p ≡ Ok (text_of k, after p (spell k) rest)
+unfolding text_from
+text_read levels p (UnsignedInteger n) rest known valid is = rw (item_head_read levels p (UnsignedInteger n) rest valid is) refl
+text_read levels p (TextString text) rest known valid is =
+    let head = head_bytes 3 (length text) in
+    let q = after p head (text ++ rest) in
+    let last : q.place + length text ≡ p.place + length (head ++ text) = omega (arith, length-append head text) in
+    rw (item_head_read levels p (TextString text) rest valid is, bytes_again q text rest refl) (ap (λ (n : ℕ). Ok (Some text, record { left = rest; place = n })) last)
+text_read levels p (NegativeInteger n) rest known valid is = absurd (known refl)
+text_read levels p (ByteString bytes) rest known valid is = absurd (known refl)
+text_read levels p (ArrayOf xs) rest known valid is = absurd (known refl)
+text_read levels p (MapOf ps) rest known valid is = absurd (known refl)
+text_read levels p (TaggedItem tag x) rest known valid is = absurd (known refl)
+text_read levels p (Boolean b) rest known valid is = absurd (known refl)
+text_read levels p NullItem rest known valid is = absurd (known refl)
+
+-- ---- pairs
+
+-- a pair whose value is this byte string is the first payload, or it is none
+first_or_later : (wanted : List ℕ) (k : DataItem) (content : List ℕ) (others : List (List ℕ × List ℕ)) → key_of k ≢ Unknown
+    → or_later (content_where (is_wanted (text_of k) wanted) content) (Ok (payload_under others wanted)) ≡ Ok (payload_under (payload_then k (ByteString content) others) wanted)
+first_or_later wanted (TextString text) content others known = by_test (bytes_eq text wanted)
+  where
+    by_test : (t : Bool) → or_later (content_where t content) (Ok (payload_under others wanted)) ≡ Ok (cond t (Some content) (payload_under others wanted))
+    by_test true = refl
+    by_test false = refl
+first_or_later wanted (UnsignedInteger n) content others known = refl
+first_or_later wanted (NegativeInteger n) content others known = absurd (known refl)
+first_or_later wanted (ByteString bytes) content others known = absurd (known refl)
+first_or_later wanted (ArrayOf xs) content others known = absurd (known refl)
+first_or_later wanted (MapOf ps) content others known = absurd (known refl)
+first_or_later wanted (TaggedItem tag x) content others known = absurd (known refl)
+first_or_later wanted (Boolean b) content others known = absurd (known refl)
+first_or_later wanted NullItem content others known = absurd (known refl)
+
+found_read : (wanted : List ℕ) (levels : ℕ) (p : Position) (before : Option (List ℕ)) (ps : DataPairs) (rest : List ℕ) → AllByRecursion IsKnown (entries p.place ps) → AllByRecursion IsValue (entries p.place ps)
+    → ArePairsWithin levels before ps → p.left ≡ spell_pairs ps ++ rest → found_from wanted (pair_count ps) p ≡ Ok (payload_under (integrated_payloads (entries p.place ps)) wanted)
+found_read wanted levels p before NoPairs rest known values valid is = refl
+found_read wanted levels p before (PairThen key value ps) rest known values valid is =
+    let count : pair_count ps + 1 ≡ suc (pair_count ps) = omega arith in
+    let after_value = spell_pairs ps ++ rest in
+    let after_key = spell value ++ after_value in
+    let q = after p (spell key) after_key in
+    let r = after q (spell value) after_value in
+    let whole : p.left ≡ spell key ++ after_key = is ∙ simp append_assoc in
+    let later : found_from wanted (pair_count ps) r ≡ Ok (payload_under (integrated_payloads (entries r.place ps)) wanted) = found_read wanted levels r (Some (spell key)) ps rest known.1 values.1 valid.3 refl in
+    let others = integrated_payloads (entries r.place ps) in
+    let turn : Position × Position → Result (Option (List ℕ) × Position) Refusal = λ c. Ok (content_where (is_wanted (text_of key) wanted) c.0.left, c.1) in
+    let go_on : Option (List ℕ) × Position → Result (Option (List ℕ)) Refusal = λ f. or_later f.0 (found_from wanted (pair_count ps) f.1) in
+    rw (count, text_read levels p key after_key known.0 valid.0 whole, content_read levels q value after_value valid.2 refl)
+    (by_string (λ (y : DataItem). IsByteString y → (((judge_string q.place y >>= with_rest r) >>= turn) >>= go_on) ≡ Ok (payload_under (payload_then key y others) wanted))
+    (λ bytes b. ap (or_later (content_where (is_wanted (text_of key) wanted) bytes)) later ∙ first_or_later wanted key bytes others known.0)
+    (λ y other b. absurd (other.other b))
+    value values.0.0)
+
+-- ---- the map
+
+-- where the pairs of an envelope's map begin
+record MapRead (x : DataItem) (m : EnvelopeMap) : Type 0 where
+  levels : ℕ
+  valid : ArePairsWithin levels None m.pairs
+  start : Position
+  read : pairs_from (start_of (spell x)) ≡ Ok (pair_count m.pairs, start)
+  left : start.left ≡ spell_pairs m.pairs ++ []
+  place : start.place ≡ m.place + length (head_bytes 5 (pair_count m.pairs))
+
+tagged_read : (tag : ℕ) (y : DataItem) (m : EnvelopeMap) → IsValid (TaggedItem tag y) → as_map true (0 + length (head_bytes 6 tag)) y ≡ Some m → MapRead (TaggedItem tag y) m
+unfolding pairs_from
+tagged_read tag (MapOf ps) m valid is =
+    let x = TaggedItem tag (MapOf ps) in
+    let p = start_of (spell x) in
+    let q = after p (head_bytes 6 tag) (spell (MapOf ps) ++ []) in
+    let same : ◌≡◌ {A = EnvelopeMap} (record { tagged = true; place = 0 + length (head_bytes 6 tag); pairs = ps }) m = cc in
+    subst (MapRead x) same (record {
+      levels = 2;
+      valid = valid.2.2;
+      start = after q (head_bytes 5 (pair_count ps)) (spell_pairs ps ++ []);
+      read = rw (item_head_read 0 p x [] valid (sym (append-nil (spell x))), item_head_read 1 q (MapOf ps) [] valid.2 refl) refl;
+      left = refl;
+      place = refl;
+    })
+tagged_read tag (UnsignedInteger n) m valid is = absurd cc
+tagged_read tag (NegativeInteger n) m valid is = absurd cc
+tagged_read tag (ByteString b) m valid is = absurd cc
+tagged_read tag (TextString b) m valid is = absurd cc
+tagged_read tag (ArrayOf xs) m valid is = absurd cc
+tagged_read tag (TaggedItem t y) m valid is = absurd cc
+tagged_read tag (Boolean b) m valid is = absurd cc
+tagged_read tag NullItem m valid is = absurd cc
+
+behind_tag_read : (b : Bool) (tag : ℕ) (y : DataItem) (m : EnvelopeMap) → IsValid (TaggedItem tag y)
+    → (let u : Bool × ℕ × DataItem = cond b (true, 0 + length (head_bytes 6 tag), y) (false, 0, TaggedItem tag y) in as_map u.0 u.1 u.2 ≡ Some m) → MapRead (TaggedItem tag y) m
+behind_tag_read true tag y m valid is = tagged_read tag y m valid is
+behind_tag_read false tag y m valid is = absurd cc
+
+map_read : (x : DataItem) (m : EnvelopeMap) → IsValid x → envelope_map 0 x ≡ Some m → MapRead x m
+unfolding pairs_from
+map_read (MapOf ps) m valid is =
+    let x = MapOf ps in
+    let p = start_of (spell x) in
+    let same : ◌≡◌ {A = EnvelopeMap} (record { tagged = false; place = 0; pairs = ps }) m = cc in
+    subst (MapRead x) same (record {
+      levels = 1;
+      valid = valid.2;
+      start = after p (head_bytes 5 (pair_count ps)) (spell_pairs ps ++ []);
+      read = rw (item_head_read 0 p x [] valid (sym (append-nil (spell x)))) refl;
+      left = refl;
+      place = refl;
+    })
+map_read (TaggedItem tag y) m valid is = behind_tag_read (eqb tag 107) tag y m valid is
+map_read (UnsignedInteger n) m valid is = absurd cc
+map_read (NegativeInteger n) m valid is = absurd cc
+map_read (ByteString b) m valid is = absurd cc
+map_read (TextString b) m valid is = absurd cc
+map_read (ArrayOf xs) m valid is = absurd cc
+map_read (Boolean b) m valid is = absurd cc
+map_read NullItem m valid is = absurd cc
+
+-- ---- the envelope
+
+pub payload_read : (bytes : List ℕ) (payloads : List (List ℕ × List ℕ)) (key : List ℕ) → HasPayloads bytes payloads → payload_from key bytes ≡ Ok (payload_under payloads key)
+payload_read bytes payloads key has =
+    let x = has.envelope.item in
+    let is = has.envelope.says_so in
+    let m = is.map in
+    let r = map_read x m has.envelope.spells.valid is.shape in
+    let es : entries r.start.place m.pairs ≡ map_entries m = ap (λ (n : ℕ). entries n m.pairs) r.place in
+    let known = subst (AllByRecursion IsKnown) (sym es) is.known in
+    let values = subst (AllByRecursion IsValue) (sym es) is.values in
+    let found = found_read key r.levels r.start None m.pairs [] known values r.valid r.left in
+    let read : pairs_from (start_of bytes) ≡ Ok (pair_count m.pairs, r.start) = ap (λ (l : List ℕ). pairs_from (start_of l)) has.envelope.spells.is ∙ r.read in
+    rw read (found ∙ ap (λ (l : List Entry). Ok (payload_under (integrated_payloads l) key)) es ∙ ap (λ (ps : List (List ℕ × List ℕ)). Ok (payload_under ps key)) (sym has.are))
+
+pub apart : (bytes : List ℕ) (payloads : List (List ℕ × List ℕ)) → HasPayloads bytes payloads → AreApart payloads
+apart bytes payloads has =
+    let is = has.envelope.says_so in
+    let m = is.map in
+    let r = map_read has.envelope.item m has.envelope.spells.valid is.shape in
+    subst AreApart (sym has.are) (payloads_apart r.levels _ None m.pairs r.valid)
+
+-- ---- what a call answered
+
+pub looked_up : (bytes : List ℕ) (found : Option (List ℕ)) (payloads : List (List ℕ × List ℕ)) (key : List ℕ) → Ok found ≡ payload_from key bytes → HasPayloads bytes payloads → found ≡ payload_under payloads key
+looked_up bytes found payloads key e has = same_ok found (payload_under payloads key) (e ∙ payload_read bytes payloads key has)
+
+pub never_refused : (bytes : List ℕ) (r : Refusal) (payloads : List (List ℕ × List ℕ)) (key : List ℕ) → Err r ≡ payload_from key bytes → HasPayloads bytes payloads → None ≡ payload_under payloads key
+never_refused bytes r payloads key e has = not_both (payload_from key bytes) (payload_under payloads key) r (payload_read bytes payloads key has) (sym e)
+
+pub every_found : (bytes : List ℕ) (payloads : List (List ℕ × List ℕ)) (key content : List ℕ) (found : Option (List ℕ)) → HasPayloads bytes payloads → found ≡ payload_under payloads key → Contains payloads (key, content) → found ≡ Some content
+every_found bytes payloads key content found has is there = is ∙ contained_under payloads key content (apart bytes payloads has) there
+
+pub found_there : {T : Type 0} (content : T → List ℕ) (bytes key : List ℕ) (found : Option T) → ((payloads : List (List ℕ × List ℕ)) → HasPayloads bytes payloads → option_map content found ≡ payload_under payloads key)
+    → IfSome found (λ x. (payloads : List (List ℕ × List ℕ)) → HasPayloads bytes payloads → Contains payloads (key, content x))
+found_there content bytes key None is = tt
+found_there content bytes key (Some x) is = λ payloads has. under_contained payloads key (content x) (sym (is payloads has))
+
+-- ---- one more turn of the loop
+
+pub found_step : {T : Type 0} (content : T → List ℕ) (key : List ℕ) (count i : ℕ) (p q : Position) (found : Option T) (total : Result (Option (List ℕ)) Refusal) → i < count → found ≡ None → Ok (option_map content found, q) ≡ pair_from key p
+    → found_from key (count - i) p ≡ total → found_from key (count - (i + 1)) q ≡ total
+found_step {T} content key count i p q found total lt none e so_far =
+    let one : count - i ≡ suc (count - (i + 1)) = omega arith in
+    let pair : pair_from key p ≡ Ok (None, q) = sym e ∙ ap (λ (o : Option T). Ok (option_map content o, q)) none in
+    let step : found_from key (count - i) p ≡ found_from key (count - (i + 1)) q = rw (one, pair) refl in
+    sym step ∙ so_far
