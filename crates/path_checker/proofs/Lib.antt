@@ -4,3 +4,6 @@ pub mod Keeping
 pub mod Refuting
 pub mod Matched
 pub mod Unmatched
+pub mod ParameterLaws
+pub mod CommandLaws
+pub mod PathLaws

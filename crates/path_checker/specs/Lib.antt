@@ -10,3 +10,6 @@ pub mod Path
 pub mod Safe
 pub mod Flat
 pub mod Verdict
+pub mod ParameterLaws
+pub mod CommandLaws
+pub mod PathLaws
