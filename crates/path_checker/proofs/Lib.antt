@@ -6,4 +6,6 @@ pub mod Matched
 pub mod Unmatched
 pub mod ParameterLaws
 pub mod CommandLaws
+pub mod RunLaws
 pub mod PathLaws
+pub mod CoverLaws

@@ -12,4 +12,6 @@ pub mod Flat
 pub mod Verdict
 pub mod ParameterLaws
 pub mod CommandLaws
+pub mod RunLaws
 pub mod PathLaws
+pub mod CoverLaws

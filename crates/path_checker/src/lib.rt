@@ -14,7 +14,8 @@ pub use identity::{Identities, Identity};
 pub use judge::{BadPath, CheckVerdict, check};
 pub use kinds::{ActKind, TestKind};
 pub use law::{
-    conditions, directives, identity_bounds, inner_sequences, overriding, path_beginnings,
+    conditions, covered_invokes, directives, identity_bounds, inner_sequences, overriding,
+    path_beginnings, selecting,
 };
 pub use param::{Param, ParamKey};
 pub use plan::{FlatPlan, Procedure};

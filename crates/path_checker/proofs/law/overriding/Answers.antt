@@ -1,4 +1,5 @@
 use Rattle.path_checker.proofs.ParameterLaws.{stays_whole, starts_empty, override_replaces, override_keeps, is_canonical}
+use Rattle.path_checker.proofs.RunLaws.{overrides_step}
 use Rattle.path_checker.proofs.law.overriding.Goals as goal
 
 pub returns-clause-whole : goal.returns-clause-whole
@@ -15,3 +16,6 @@ returns-clause-keeps c = override_keeps
 
 pub returns-clause-canonical : goal.returns-clause-canonical
 returns-clause-canonical c = is_canonical
+
+pub returns-clause-steps : goal.returns-clause-steps
+returns-clause-steps c = overrides_step
