@@ -84,8 +84,8 @@ pub record IsRefused (bytes : List ℕ) (at : ℕ) (reason : Reason) : Type 0 wh
 pub bad_head : (bytes : List ℕ) (at : ℕ) (reason : Reason) → BadHead bytes at reason → IsRefused bytes at reason
 unfolding head_at
 bad_head bytes at reason NothingThere = record { read = refl; place = refl }
-bad_head bytes at reason (LeftOpen major rest) = record { read = at_any major 31 rest Indefinite (omega arith) refl (argument_open rest); place = refl }
-bad_head bytes at reason (Reserved major low rest ge le) = record { read = at_any major low rest Kind (omega arith) (simple_other low (omega arith) (omega arith) (omega arith) (omega arith)) (argument_reserved low rest ge le); place = refl }
+bad_head bytes at reason (LeftOpen major rest lt) = record { read = at_any major 31 rest Indefinite (omega arith) refl (argument_open rest); place = refl }
+bad_head bytes at reason (Reserved major low rest lt ge le) = record { read = at_any major low rest Kind (omega arith) (simple_other low (omega arith) (omega arith) (omega arith) (omega arith)) (argument_reserved low rest ge le); place = refl }
 bad_head bytes at reason (OtherSimple low rest lt not_20 not_21 not_22) = record { read = at_simple low rest Kind (omega arith) (simple_other low not_20 not_21 not_22 (omega arith)); place = refl }
 bad_head bytes at reason (CutShort major low rest lt ge le short) =
     let code = argument_code low rest ge le in

@@ -37,11 +37,11 @@ number_bad major low least code bytes reason fits lt e =
     ]
 
 -- a first byte with other lower five bits
-open_bad : (major : ℕ) (bytes : List ℕ) (reason : Reason) → Indefinite ≡ reason → BadHead ((32 * major + 31) ∷ bytes) (place_in ((32 * major + 31) ∷ bytes) reason) reason
-open_bad major bytes reason is = let whole = (32 * major + 31) ∷ bytes in subst (λ (r : Reason). BadHead whole (place_in whole r) r) is (LeftOpen major bytes)
+open_bad : (major : ℕ) (bytes : List ℕ) (reason : Reason) → major < 8 → Indefinite ≡ reason → BadHead ((32 * major + 31) ∷ bytes) (place_in ((32 * major + 31) ∷ bytes) reason) reason
+open_bad major bytes reason lt is = let whole = (32 * major + 31) ∷ bytes in subst (λ (r : Reason). BadHead whole (place_in whole r) r) is (LeftOpen major bytes lt)
 
-reserved_bad : (major low : ℕ) (bytes : List ℕ) (reason : Reason) → 28 ≤ low → low ≤ 30 → Kind ≡ reason → BadHead ((32 * major + low) ∷ bytes) (place_in ((32 * major + low) ∷ bytes) reason) reason
-reserved_bad major low bytes reason ge le is = let whole = (32 * major + low) ∷ bytes in subst (λ (r : Reason). BadHead whole (place_in whole r) r) is (Reserved major low bytes ge le)
+reserved_bad : (major low : ℕ) (bytes : List ℕ) (reason : Reason) → major < 8 → 28 ≤ low → low ≤ 30 → Kind ≡ reason → BadHead ((32 * major + low) ∷ bytes) (place_in ((32 * major + low) ∷ bytes) reason) reason
+reserved_bad major low bytes reason lt ge le is = let whole = (32 * major + low) ∷ bytes in subst (λ (r : Reason). BadHead whole (place_in whole r) r) is (Reserved major low bytes lt ge le)
 
 argument_bad : (major low : ℕ) (bytes : List ℕ) (reason : Reason) → IsBytes bytes → major < 7 → low < 32 → argument_at low bytes ≡ Err reason
     → BadHead ((32 * major + low) ∷ bytes) (place_in ((32 * major + low) ∷ bytes) reason) reason
@@ -59,7 +59,7 @@ argument_bad major low bytes reason fits lt small e =
             | inr (other_26, e) ↦ elim (chosen (eqb low 27) _ _ _ e) [
               | inl (is, e) ↦ subst Bad (sym (eqb-true _ _ is)) (number_bad major 27 (2 ^ 32) code_27 bytes reason fits lt e)
               | inr (other_27, e) ↦ elim (chosen (eqb low 31) _ _ _ e) [
-                | inl (is, f) ↦ subst Bad (sym (eqb-true _ _ is)) (open_bad major bytes reason (same_err _ _ f))
+                | inl (is, f) ↦ subst Bad (sym (eqb-true _ _ is)) (open_bad major bytes reason (omega arith) (same_err _ _ f))
                 | inr (other_31, f) ↦
                     let a : 24 ≤ low = ltb-false _ _ not_24 in
                     let b : low ≡ 24 → ⊥ = eqb-false _ _ other_24 in
@@ -67,7 +67,7 @@ argument_bad major low bytes reason fits lt small e =
                     let d : low ≡ 26 → ⊥ = eqb-false _ _ other_26 in
                     let g : low ≡ 27 → ⊥ = eqb-false _ _ other_27 in
                     let h : low ≡ 31 → ⊥ = eqb-false _ _ other_31 in
-                    reserved_bad major low bytes reason (omega arith) (omega arith) (same_err _ _ f)
+                    reserved_bad major low bytes reason (omega arith) (omega arith) (omega arith) (same_err _ _ f)
               ]
             ]
           ]
@@ -84,13 +84,13 @@ simple_bad low bytes reason small e =
         | inr (not_21, e) ↦ elim (chosen (eqb low 22) _ _ _ e) [
           | inl (is, never) ↦ absurd cc
           | inr (not_22, e) ↦ elim (chosen (eqb low 31) _ _ _ e) [
-            | inl (is, f) ↦ subst (λ (k : ℕ). BadHead ((32 * 7 + k) ∷ bytes) (place_in ((32 * 7 + k) ∷ bytes) reason) reason) (sym (eqb-true _ _ is)) (open_bad 7 bytes reason (same_err _ _ f))
+            | inl (is, f) ↦ subst (λ (k : ℕ). BadHead ((32 * 7 + k) ∷ bytes) (place_in ((32 * 7 + k) ∷ bytes) reason) reason) (sym (eqb-true _ _ is)) (open_bad 7 bytes reason (omega arith) (same_err _ _ f))
             | inr (not_31, f) ↦
                 let h : low ≡ 31 → ⊥ = eqb-false _ _ not_31 in
                 let whole = (32 * 7 + low) ∷ bytes in
                 elim (cases_lt low 28) [
                   | inl less ↦ subst (λ (r : Reason). BadHead whole (place_in whole r) r) (same_err _ _ f) (OtherSimple low bytes less (eqb-false _ _ not_20) (eqb-false _ _ not_21) (eqb-false _ _ not_22))
-                  | inr more ↦ reserved_bad 7 low bytes reason more (omega arith) (same_err _ _ f)
+                  | inr more ↦ reserved_bad 7 low bytes reason (omega arith) more (omega arith) (same_err _ _ f)
                 ]
           ]
         ]

@@ -147,7 +147,7 @@ whole_refused levels None law bytes place reason (DeepHead l major argument rest
 whole_refused levels (Some read) law bytes place reason (DeepHead l major argument rest full ge le fits) = let lt : l < 16 = law.0 in absurd (omega arith)
 whole_refused levels parts law bytes place reason (ShortString l major count rest ge le fits short) =
     stops_here (item_with parts) (head_bytes major count ++ rest) (length (head_bytes major count ++ rest)) Truncated refl (short_refused parts major count rest ge le fits short)
-whole_refused levels parts law bytes place reason (NoText l text rest fits other) = stops_here (item_with parts) (head_bytes 3 (length text) ++ (text ++ rest)) 0 BadText refl (text_refused parts text rest fits other)
+whole_refused levels parts law bytes place reason (NoText l text rest fits other) = stops_here (item_with parts) (head_bytes 3 (length text) ++ (text ++ rest)) 0 BadText refl (text_refused parts text rest fits.0 other)
 whole_refused levels None law bytes place reason (FaultyPart l front rest at r lt first fault) = absurd (omega arith)
 whole_refused levels None law bytes place reason (SameKey l before front key rest lt starts valid last) = absurd (omega arith)
 whole_refused levels None law bytes place reason (LowKey l before front key rest last lt starts valid last-is low) = absurd (omega arith)

@@ -11,7 +11,7 @@ use Rattle.det_cbor.specs.Heads.{head_bytes}
 use Rattle.det_cbor.specs.HeadReading.{place_in}
 use Rattle.det_cbor.specs.ItemReading.{Reader, stop_at, stopped, string_at, text_at}
 use Rattle.det_cbor.proofs.Results.{chosen, bind_err, same_err}
-use Rattle.det_cbor.proofs.Arguments.{IsBytes}
+use Rattle.det_cbor.proofs.Arguments.{IsBytes, all_bytes}
 use Rattle.det_cbor.proofs.ItemTakes.{string_takes}
 
 -- where a reader stopped the bytes are faulty
@@ -68,7 +68,7 @@ text_fault levels bytes count rest reason s fits lt is e stop =
           let long : length t.0 < 2 ^ 64 = subst (λ (n : ℕ). n < 2 ^ 64) (sym at.long) lt in
           let other : ¬ (IsUtf8 t.0) = λ text. true_false (sym (is_utf8-from_IsUtf8 t.0 text) ∙ bad) in
           let parts : head_bytes 3 (length t.0) ++ (t.0 ++ t.1) ≡ bytes = sym (is ∙ ap (λ (l : List ℕ). head_bytes 3 count ++ l) at.parts ∙ ap (λ (n : ℕ). head_bytes 3 n ++ (t.0 ++ t.1)) (sym at.long)) in
-          let faulty : Faulty levels bytes 0 BadText = subst (λ (l : List ℕ). Faulty levels l 0 BadText) parts (NoText levels t.0 t.1 long other) in
+          let faulty : Faulty levels bytes 0 BadText = subst (λ (l : List ℕ). Faulty levels l 0 BadText) parts (NoText levels t.0 t.1 (long, all_bytes t.0 at.bytes) other) in
           fault_here levels bytes BadText s faulty (ap (stop_at bytes) reason_is ∙ stop)
     ])
   where

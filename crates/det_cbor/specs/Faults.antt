@@ -7,7 +7,7 @@ use Rattle.std.specs.Cmp.Lexicographic.{slice_cmp}
 use Rattle.std.specs.Int.{Width, w8, w16, w32, w64, byte_len, to_be_bytes}
 use Rattle.det_cbor.specs.declared.reason.Reason.{Reason}
 use Rattle.det_cbor.specs.declared.reason.Reason.TheVariants.{Truncated, Indefinite, Kind, NotShortest, TooDeep, BadText, Repeated, Order}
-use Rattle.det_cbor.specs.DataItem.{DataItem, DataItems, DataPairs, NoPairs, PairThen, item_count, pair_count, spell, spell_items, spell_pairs, IsAbove, IsValidWithin, AreValidWithin, ArePairsWithin}
+use Rattle.det_cbor.specs.DataItem.{DataItem, DataItems, DataPairs, NoPairs, PairThen, item_count, pair_count, spell, spell_items, spell_pairs, IsString, IsAbove, IsValidWithin, AreValidWithin, ArePairsWithin}
 use Rattle.det_cbor.specs.Heads.{head_bytes}
 
 -- the width of the argument behind a first byte with lower five bits 24 to 27
@@ -19,9 +19,9 @@ pub data BadHead : List ℕ → ℕ → Reason → Type 0 where
   -- the input ends before it
   NothingThere : BadHead [] 0 Truncated
   -- the length is left open
-  LeftOpen : (major : ℕ) (rest : List ℕ) → BadHead ((32 * major + 31) ∷ rest) 0 Indefinite
+  LeftOpen : (major : ℕ) (rest : List ℕ) → major < 8 → BadHead ((32 * major + 31) ∷ rest) 0 Indefinite
   -- reserved values, and simple values other than false, true and null
-  Reserved : (major low : ℕ) (rest : List ℕ) → 28 ≤ low → low ≤ 30 → BadHead ((32 * major + low) ∷ rest) 0 Kind
+  Reserved : (major low : ℕ) (rest : List ℕ) → major < 8 → 28 ≤ low → low ≤ 30 → BadHead ((32 * major + low) ∷ rest) 0 Kind
   OtherSimple : (low : ℕ) (rest : List ℕ) → low < 28 → low ≢ 20 → low ≢ 21 → low ≢ 22 → BadHead ((32 * 7 + low) ∷ rest) 0 Kind
   -- the input ends inside the argument
   CutShort : (major low : ℕ) (rest : List ℕ) → major < 7 → 24 ≤ low → low ≤ 27 → length rest < byte_len (width_of low)
@@ -66,7 +66,7 @@ pub data Faulty : ℕ → List ℕ → ℕ → Reason → Type 0 where
   ShortString : (levels major count : ℕ) (rest : List ℕ) → 2 ≤ major → major ≤ 3 → count < 2 ^ 64 → length rest < count
       → Faulty levels (head_bytes major count ++ rest) (length (head_bytes major count ++ rest)) Truncated
   -- a text that is not UTF-8
-  NoText : (levels : ℕ) (text rest : List ℕ) → length text < 2 ^ 64 → ¬ (IsUtf8 text)
+  NoText : (levels : ℕ) (text rest : List ℕ) → IsString text → ¬ (IsUtf8 text)
       → Faulty levels (head_bytes 3 (length text) ++ (text ++ rest)) 0 BadText
   -- after the first parts the next one is faulty, or missing
   FaultyPart : (levels : ℕ) (front rest : List ℕ) (place : ℕ) (reason : Reason) → levels < 16 → FirstParts (levels + 1) front → Faulty (levels + 1) rest place reason

@@ -1,5 +1,5 @@
 -- The law of reading: bytes begin with one item or have one first fault, and never both.
-use Rattle.std.specs.Prelude.{◌≡◌, ◌≤◌, ◌⊎◌, ℕ, List, length, take}
+use Rattle.std.specs.Prelude.{◌≡◌, ◌≤◌, ◌⊎◌, ℕ, List, ◌++◌, length, take}
 use Rattle.std.specs.List.{AllByRecursion}
 use Rattle.det_cbor.specs.declared.reason.Reason.{Reason}
 use Rattle.det_cbor.specs.DataItem.{DataItem, IsByte, Spells}
@@ -13,6 +13,10 @@ IsItem bytes = (x : DataItem) × Spells x bytes
 pub record StartsWithItem (bytes : List ℕ) (x : DataItem) (used : ℕ) : Type 0 where
   pub spells : Spells x (take used bytes)
   pub within : used ≤ length bytes
+
+-- whatever follows them, these bytes are the item that is read
+abbrev pub ReadsBack : DataItem → List ℕ → Type 0
+ReadsBack x bytes = (rest : List ℕ) → StartsWithItem (bytes ++ rest) x (length bytes)
 
 -- just one prefix spells an item, and just one item, and the bytes are not faulty
 pub record HasOneItem (bytes : List ℕ) : Type 0 where

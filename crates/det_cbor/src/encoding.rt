@@ -3,6 +3,7 @@
 ghost use Rattle.std.specs.Prelude.{◌≡◌, ◌++◌, OnOk, OnErr, IfOk};
 ghost use Rattle.det_cbor.specs.DataItem.{spell, spell_items, spell_pairs, IsValid, Spells};
 ghost use Rattle.det_cbor.specs.DataLists.{items_of, pairs_of};
+ghost use Rattle.det_cbor.specs.OneReading.{ReadsBack};
 ghost use Rattle.det_cbor.specs.Prefix.{IsPrefix};
 ghost use Rattle.det_cbor.specs.Heads.{head_bytes};
 ghost use Rattle.det_cbor.specs.ItemOrder.{major_type, head_argument, spell_parts};
@@ -12,11 +13,13 @@ use crate::item_head::head_of;
 use crate::{Bytes, Item, Items, Pairs, push_head};
 use std::alloc::{AllocError, Global};
 
-/// The one spelling of a valid item.
+/// The one spelling of a valid item. `decode` gives the item back, whatever follows the spelling.
+#[tactic(auto, using(crate::proofs::ReadingBack::reads_back))]
 pub fn encode(alloc: Global, item: &Item) -> Result<Bytes, AllocError>
     requires { IsValid (tree_of item.now) }
     ensures spells { IfOk result (λ bytes. Spells (tree_of item.now) bytes) }
     ensures spelling { IfOk result (λ bytes. bytes ≡ spell (tree_of item.now)) }
+    ensures reads_back { IfOk result (ReadsBack (tree_of item.now)) }
 {
     let mut out = Bytes::new(alloc);
     push_item(&mut out, item)?;

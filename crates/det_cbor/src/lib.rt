@@ -39,6 +39,8 @@ pub use validity::valid;
 #[cfg(test)]
 mod appendix_a;
 #[cfg(test)]
+mod list_tests;
+#[cfg(test)]
 mod notation;
 #[cfg(test)]
 mod reading_tests;

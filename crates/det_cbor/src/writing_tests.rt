@@ -103,7 +103,7 @@ fn keys_are_compared_by_their_spellings(rt: HostRuntime) -> Result<(), Fail> {
 #[test]
 fn sixteen_levels_are_valid_and_seventeen_are_not(rt: HostRuntime) -> Result<(), Fail> {
     let alloc = rt.alloc();
-    for (levels, is_valid) in [(15, true), (16, false)] {
+    for (levels, is_valid) in [(15, true), (16, false), (255, false)] {
         let item = pair(alloc, Item::Null, nested(alloc, levels)?)?;
         assert_eq!(rt; valid(&item), is_valid);
     }

@@ -4,3 +4,8 @@ pub mod Keeping
 pub mod Refuting
 pub mod Matched
 pub mod Unmatched
+pub mod ParameterLaws
+pub mod CommandLaws
+pub mod RunLaws
+pub mod PathLaws
+pub mod CoverLaws

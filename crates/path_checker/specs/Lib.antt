@@ -10,3 +10,8 @@ pub mod Path
 pub mod Safe
 pub mod Flat
 pub mod Verdict
+pub mod ParameterLaws
+pub mod CommandLaws
+pub mod RunLaws
+pub mod PathLaws
+pub mod CoverLaws
