@@ -60,6 +60,13 @@ impl Bytes {
         Ok(self.held.push(byte)?)
     }
 
+    /// Makes room for so many bytes more at once, so that the list is not moved while they are added.
+    pub fn reserve(&mut self, more: usize) -> Result<(), AllocError>
+        ensures { self.new ≡ self.old }
+    {
+        self.held.reserve(more)
+    }
+
     /// Adds bytes at the end.
     pub fn extend(&mut self, bytes: &[u8]) -> Result<(), AllocError>
         ensures ok { OnOk result (self.new ≡ self.old ++ bytes.now) }

@@ -1,11 +1,11 @@
 //! A whole file.
 
-ghost use Rattle.std.specs.Prelude.{◌≡◌, ◌≤◌, ◌+◌, IsTrue};
+ghost use Rattle.std.specs.Prelude.{◌≡◌, ◌≤◌, ◌+◌, ◌++◌, IsTrue, OnOk};
 ghost use Rattle.suit_edge.specs.Take.{TakesAll, KeepsLimit, TakeCounts, TakesRest};
 
 use crate::{Host, Pulled, Started};
 use det_cbor::Bytes;
-use std::alloc::Global;
+use std::alloc::{AllocError, Global};
 
 /// What the taking of a whole file came to.
 #[derive(Debug, Drop)]
@@ -24,6 +24,9 @@ pub enum Taken {
 
 /// The bytes asked for in one pull.
 const PIECE: usize = 4096;
+
+/// The room that is made for a file which is longer than a piece, in bytes. A list of this size grows in place.
+const ROOM: usize = 262_144;
 
 /// The whole file with a name, where it has at most `limit` bytes. It asks for no more than one byte beyond the limit.
 pub fn take_all<H: Host>(alloc: Global, host: &mut H, name: &str, limit: u64) -> Taken
@@ -60,10 +63,20 @@ fn take_rest<H: Host>(alloc: Global, host: &mut H, limit: u64) -> Taken
                 if left < count as u64 {
                     return Taken::TooLong(limit);
                 }
-                if taken.extend(&piece[..count]).is_err() {
+                if add(&mut taken, &piece[..count]).is_err() {
                     return Taken::NoMemory;
                 }
             }
         }
     }
+}
+
+// Adds a piece. Where the first piece is whole, room for many is made at once.
+fn add(taken: &mut Bytes, piece: &[u8]) -> Result<(), AllocError>
+    ensures { OnOk result (taken.new ≡ taken.old ++ piece.now) }
+{
+    if taken.is_empty() && piece.len() == PIECE {
+        taken.reserve(ROOM)?;
+    }
+    taken.extend(piece)
 }
