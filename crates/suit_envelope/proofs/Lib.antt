@@ -14,5 +14,6 @@ pub mod MadePairs
 pub mod MadeValid
 pub mod MadeSays
 pub mod AuthenticYes
+pub mod EntryOrder
 pub mod PayloadKeys
 pub mod PayloadLaws

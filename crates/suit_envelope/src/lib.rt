@@ -8,6 +8,7 @@ mod envelope;
 mod key;
 mod macs;
 mod map;
+mod pairs;
 mod parts;
 mod payloads;
 mod severed;
