@@ -15,5 +15,6 @@ pub mod MadeValid
 pub mod MadeSays
 pub mod AuthenticYes
 pub mod EntryOrder
+pub mod EntryLaws
 pub mod PayloadKeys
 pub mod PayloadLaws

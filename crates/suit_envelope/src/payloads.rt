@@ -98,7 +98,7 @@ fn look_up<'a>(envelope: &Envelope<'a>, key: &str) -> Option<&'a [u8]>
 /// The integrated payload of this key, the content of its byte string; none where the envelope has
 /// no such key (draft-ietf-suit-manifest-25, section 8.2). Takes no memory.
 ///
-/// It is looked for in the envelope's bytes, of which those that are no envelope promise nothing.
+/// It is looked for in `whole`. Where those bytes spell no envelope, nothing is promised.
 pub fn payload<'a>(envelope: &Envelope<'a>, key: &str) -> Option<&'a [u8]>
     ensures found { IfSome result (λ content. (payloads : List (List ℕ × List ℕ)) → HasPayloads envelope.now.whole.now payloads
         → Contains payloads (key.now, content.now)) }
