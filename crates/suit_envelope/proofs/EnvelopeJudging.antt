@@ -235,11 +235,11 @@ envelope_refuses place x r (BadValue m s is known required bad) =
     map_judged place x m is ∙ rw (each_again Anything judge_key IsKnown RefusesKey keys_judge es known, each_again Anything (judge_lack m.place es) (Required m) (RefusesLack m.place es) (lacks_judge m.place es) (2 ∷ 3 ∷ []) required, each_refused (FitsWithin 0) judge_value IsValue RefusesValue (values_judge 0) es s bad) refl
 
 -- the pairs of an envelope's map are valid within a level or two more
-record PairsFit (levels : ℕ) (m : EnvelopeMap) : Type 0 where
-  within : ℕ
-  valid : ArePairsWithin within None m.pairs
+pub record PairsFit (levels : ℕ) (m : EnvelopeMap) : Type 0 where
+  pub within : ℕ
+  pub valid : ArePairsWithin within None m.pairs
 
-map_fits : (levels place : ℕ) (x : DataItem) (m : EnvelopeMap) → IsValidWithin levels x → envelope_map place x ≡ Some m → PairsFit levels m
+pub map_fits : (levels place : ℕ) (x : DataItem) (m : EnvelopeMap) → IsValidWithin levels x → envelope_map place x ≡ Some m → PairsFit levels m
 map_fits levels place (MapOf ps) m valid e = let same : record { tagged = false; place = place; pairs = ps } ≡ m = cc in subst (PairsFit levels) same (record { within = levels + 1; valid = valid.2 })
 map_fits levels place (TaggedItem tag x) m valid e = by_tag (◌==◌ tag 107) x m valid.2 e
   where

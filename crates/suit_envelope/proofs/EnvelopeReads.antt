@@ -1,5 +1,6 @@
 -- An envelope that is read is judged so.
-use Rattle.std.proofs.Common.{◌≡◌, ℕ, suc, ◌+◌, Bool, true, false, cond, eqb, List, [], ◌++◌, Option, Some, None, Result, Ok, Err, refl, sym, ap, ◌∙◌, append_assoc, arith}
+use Rattle.std.proofs.Common.{◌≡◌, ℕ, suc, ◌+◌, Bool, true, false, cond, eqb, List, [], ◌∷◌, ◌++◌, Option, Some, None, Result, Ok, Err, refl, sym, ap, ◌∙◌, append_assoc, arith}
+use Rattle.std.specs.Result.{result_ok}
 use Rattle.std.proofs.lemmas.List.{append-nil}
 use Rattle.det_cbor.specs.Heads.{head_bytes}
 use Rattle.det_cbor.specs.DataItem.{DataItem, UnsignedInteger, NegativeInteger, ByteString, TextString, ArrayOf, MapOf, TaggedItem, Boolean, NullItem, DataPairs, NoPairs, PairThen, pair_count, spell, spell_pairs, IsValidWithin, ArePairsWithin}
@@ -14,41 +15,14 @@ use Rattle.suit_params.specs.Judging.{judge_string, judge_each}
 use Rattle.suit_params.specs.Reading.{only_from}
 use Rattle.suit_params.proofs.ItemHeads.{item_kind, item_value, item_head, item_head_read, after}
 use Rattle.suit_params.proofs.Held.{ReadsAs, by_string, content_read, with_rest, content_is}
-use Rattle.suit_envelope.specs.Envelopes.{EnvelopeSays, entries, key_of, as_map, says_nothing, put, put_value, put_all}
+use Rattle.suit_envelope.specs.Envelopes.{Entry, EnvelopeSays, entries, key_of, as_map, says_nothing, put_value, put_all}
 use Rattle.suit_envelope.specs.Judging.{known_key, judge_key, judge_content, judge_value, judge_wrapper, judge_map, judge_shape, judge_envelope}
 use Rattle.suit_envelope.specs.WrapperReading.{wrapper_at}
-use Rattle.suit_envelope.specs.EnvelopeReading.{see, keys_from, all_seen, content_judged, values_from, map_from, tagged_after, behind_tag, item_after, envelope_at}
+use Rattle.suit_envelope.specs.EnvelopeReading.{PairsSay, see, all_seen, value_from, first_refusal, wrapper_held, content_judged, value_judged, put_content, pair_more, pairs_from, no_pairs, map_from, tagged_after, behind_tag, item_after, envelope_at}
 use Rattle.suit_envelope.specs.declared.key.Key.{Key}
 use Rattle.suit_envelope.specs.declared.key.Key.TheVariants.{Wrapper, Manifest, PayloadFetch, Install, Text, Payload, Unknown}
-use Rattle.suit_envelope.specs.declared.key.Seen.{Seen}
 use Rattle.suit_envelope.proofs.KeyLaws.{inner_read, key_read, see_all, lacks_is}
 use Rattle.suit_envelope.proofs.WrapperJudging.{wrapper_read}
-
--- ---- keys
-
-known_step : {A : Type 0} (r : Result Unit Refusal) (t : A) (q : Position) → (r >>= λ _. Ok (t, q)) ≡ (r >>= λ _. with_rest q t)
-known_step (Ok done) t q = refl
-known_step (Err e) t q = refl
-
-keys_step : (known : Result Unit Refusal) (t : Seen) (q : Position) (f : Seen × Position → Result Seen Refusal) (others : Result Unit Refusal) (z : Seen) → f (t, q) ≡ (others >>= λ _. Ok z)
-    → ((known >>= λ _. with_rest q t) >>= f) ≡ ((known >>= λ _. others) >>= λ _. Ok z)
-keys_step (Ok done) t q f others z e = e
-keys_step (Err s) t q f others z e = refl
-
-pub keys_read : (levels : ℕ) (p : Position) (before : Option (List ℕ)) (ps : DataPairs) (rest : List ℕ) (s : Seen) → ArePairsWithin levels before ps → p.left ≡ spell_pairs ps ++ rest
-    → keys_from (pair_count ps) p s ≡ (judge_each judge_key (entries p.place ps) >>= λ _. Ok (see_all s (entries p.place ps)))
-keys_read levels p before NoPairs rest s valid is = refl
-keys_read levels p before (PairThen key value ps) rest s valid is =
-    let count : pair_count ps + 1 ≡ suc (pair_count ps) = omega arith in
-    let after_value = spell_pairs ps ++ rest in
-    let after_key = spell value ++ after_value in
-    let q = after p (spell key) after_key in
-    let r = after q (spell value) after_value in
-    let whole : p.left ≡ spell key ++ after_key = is ∙ simp append_assoc in
-    let t = see s (key_of key) in
-    let others : keys_from (pair_count ps) r t ≡ (judge_each judge_key (entries r.place ps) >>= λ _. Ok (see_all t (entries r.place ps))) = keys_read levels r (Some (spell key)) ps rest t valid.3 refl in
-    rw (count, key_read levels p key after_key valid.0 whole, inner_read levels q value after_value valid.2 refl)
-    (keys_step (known_key p.place (key_of key)) t r (λ u. keys_from (pair_count ps) u.1 u.0) (judge_each judge_key (entries r.place ps)) (see_all t (entries r.place ps)) others)
 
 -- ---- values
 
@@ -59,17 +33,25 @@ regroup : (r : Result Position Refusal) (f : Position → Result (List ℕ) Refu
 regroup (Ok item) f = refl
 regroup (Err e) f = refl
 
--- a value's content is judged by its key
-content_says : (levels place : ℕ) (bytes : List ℕ) (key : Key) → IsValidWithin levels (ByteString bytes) → content_judged (record { left = bytes; place = content_place place bytes }) key ≡ judge_content place (ByteString bytes) key
-content_says levels place bytes Wrapper valid =
+-- the wrapper's content is judged as it is read
+wrapper_says : (levels place : ℕ) (bytes : List ℕ) → IsValidWithin levels (ByteString bytes) → wrapper_held (record { left = bytes; place = content_place place bytes }) ≡ judge_content place (ByteString bytes) Wrapper
+wrapper_says levels place bytes valid =
     let c : Position = record { left = bytes; place = content_place place bytes } in
     regroup (only_from c) wrapper_at ∙ ap (λ (r : Result (List ℕ) Refusal). r >>= passed) (content_is wrapper_at judge_wrapper wrapper_read levels place bytes valid)
-content_says levels place bytes Manifest valid = refl
-content_says levels place bytes PayloadFetch valid = refl
-content_says levels place bytes Install valid = refl
-content_says levels place bytes Text valid = refl
-content_says levels place bytes Payload valid = refl
-content_says levels place bytes Unknown valid = refl
+
+first_then : (a b c : Result Unit Refusal) → (first_refusal a b >>= λ _. c) ≡ (a >>= λ _. b >>= λ _. c)
+first_then (Ok done) b c = refl
+first_then (Err r) b c = refl
+
+content_then : (levels place : ℕ) (bytes : List ℕ) (key : Key) (before rest : Result Unit Refusal) → IsValidWithin levels (ByteString bytes)
+    → (content_judged before key (record { left = bytes; place = content_place place bytes }) >>= λ _. rest) ≡ (before >>= λ _. judge_content place (ByteString bytes) key >>= λ _. rest)
+content_then levels place bytes Wrapper before rest valid = first_then before _ rest ∙ ap (λ (r : Result Unit Refusal). before >>= λ _. r >>= λ _. rest) (wrapper_says levels place bytes valid)
+content_then levels place bytes Manifest before rest valid = refl
+content_then levels place bytes PayloadFetch before rest valid = refl
+content_then levels place bytes Install before rest valid = refl
+content_then levels place bytes Text before rest valid = refl
+content_then levels place bytes Payload before rest valid = refl
+content_then levels place bytes Unknown before rest valid = refl
 
 no_content : (place : ℕ) (x : DataItem) (r : Refusal) (key : Key) → judge_string place x ≡ Err r → judge_content place x key ≡ Err r
 no_content place x r Wrapper e = rw e refl
@@ -80,37 +62,76 @@ no_content place x r Text e = rw e refl
 no_content place x r Payload e = rw e refl
 no_content place x r Unknown e = rw e refl
 
-values_step : (judged : Result Unit Refusal) (t : EnvelopeSays) (q : Position) (f : EnvelopeSays × Position → Result EnvelopeSays Refusal) (others : Result Unit Refusal) (z : EnvelopeSays) → f (t, q) ≡ (others >>= λ _. Ok z)
-    → ((judged >>= λ _. with_rest q t) >>= f) ≡ ((judged >>= λ _. others) >>= λ _. Ok z)
-values_step (Ok done) t q f others z e = e
-values_step (Err s) t q f others z e = refl
+-- the content of an item that is a byte string
+abbrev value_is : ℕ → DataItem → Option Position
+value_is place x = result_ok (judge_string place x)
 
-abbrev turn : Key → EnvelopeSays → Position × Position → Result (EnvelopeSays × Position) Refusal
-turn key s c = content_judged c.0 key >>= λ _. with_rest c.1 (put s key c.0.left c.0.place)
+value_read : (levels : ℕ) (p : Position) (x : DataItem) (rest : List ℕ) → IsValidWithin levels x → p.left ≡ spell x ++ rest → value_from p ≡ Ok (value_is p.place x, after p (spell x) rest)
+value_read levels p x rest valid is =
+    by_string (λ (y : DataItem). IsValidWithin levels y → p.left ≡ spell y ++ rest → value_from p ≡ Ok (value_is p.place y, after p (spell y) rest))
+    (λ bytes v i. rw (content_read levels p (ByteString bytes) rest v i) refl)
+    (λ y other v i. rw (content_read levels p y rest v i, other.judged p.place, inner_read levels p y rest v i) refl)
+    x valid is
 
-pub values_read : (levels : ℕ) (p : Position) (before : Option (List ℕ)) (ps : DataPairs) (rest : List ℕ) (s : EnvelopeSays) → ArePairsWithin levels before ps → p.left ≡ spell_pairs ps ++ rest
-    → values_from (pair_count ps) p s ≡ (judge_each judge_value (entries p.place ps) >>= λ _. Ok (put_all s (entries p.place ps)))
-values_read levels p before NoPairs rest s valid is = refl
-values_read levels p before (PairThen key value ps) rest s valid is =
+value_then : (levels place : ℕ) (x : DataItem) (key : Key) (before rest : Result Unit Refusal) → IsValidWithin levels x
+    → (value_judged before place key (value_is place x) >>= λ _. rest) ≡ (before >>= λ _. judge_content place x key >>= λ _. rest)
+value_then levels place x key before rest valid =
+    by_string (λ (y : DataItem). IsValidWithin levels y → (value_judged before place key (value_is place y) >>= λ _. rest) ≡ (before >>= λ _. judge_content place y key >>= λ _. rest))
+    (λ bytes v. content_then levels place bytes key before rest v)
+    (λ y other v. rw (other.judged place, no_content place y (refused place Shape) key (other.judged place)) (first_then before (Err (refused place Shape)) rest))
+    x valid
+
+value_put : (s : EnvelopeSays) (key : Key) (place : ℕ) (x : DataItem) → put_content s key (value_is place x) ≡ put_value s key place x
+value_put s key place (ByteString bytes) = refl
+value_put s key place (UnsignedInteger n) = refl
+value_put s key place (NegativeInteger n) = refl
+value_put s key place (TextString text) = refl
+value_put s key place (ArrayOf xs) = refl
+value_put s key place (MapOf ps) = refl
+value_put s key place (TaggedItem tag x) = refl
+value_put s key place (Boolean b) = refl
+value_put s key place NullItem = refl
+
+-- ---- pairs
+
+-- what entries say after pairs that said this
+abbrev more : PairsSay → List Entry → PairsSay
+more s es = record { seen = see_all s.seen es; said = put_all s.said es; judged = s.judged >>= λ _. judge_each judge_value es }
+
+then_nothing : (a : Result Unit Refusal) → a ≡ (a >>= λ _. Ok tt)
+then_nothing (Ok done) = refl
+then_nothing (Err r) = refl
+
+one_more : (levels : ℕ) (s : PairsSay) (e : Entry) (es : List Entry) → IsValidWithin levels e.value → more (pair_more s (key_of e.key) e.value_place (value_is e.value_place e.value)) es ≡ more s (e ∷ es)
+one_more levels s e es valid =
+    let said : put_all (put_content s.said (key_of e.key) (value_is e.value_place e.value)) es ≡ put_all s.said (e ∷ es) = ap (λ (t : EnvelopeSays). put_all t es) (value_put s.said (key_of e.key) e.value_place e.value) in
+    let judged = value_then levels e.value_place e.value (key_of e.key) s.judged (judge_each judge_value es) valid in
+    λ i. record { seen = see_all (see s.seen (key_of e.key)) es; said = said i; judged = judged i }
+
+step : (known : Result Unit Refusal) (t : PairsSay) (q : Position) (f : PairsSay × Position → Result PairsSay Refusal) (others : Result Unit Refusal) (z : PairsSay) → f (t, q) ≡ (others >>= λ _. Ok z)
+    → ((known >>= λ _. with_rest q t) >>= f) ≡ ((known >>= λ _. others) >>= λ _. Ok z)
+step (Ok done) t q f others z e = e
+step (Err s) t q f others z e = refl
+
+pub pairs_read : (levels : ℕ) (p : Position) (before : Option (List ℕ)) (ps : DataPairs) (rest : List ℕ) (s : PairsSay) → ArePairsWithin levels before ps → p.left ≡ spell_pairs ps ++ rest
+    → pairs_from (pair_count ps) p s ≡ (judge_each judge_key (entries p.place ps) >>= λ _. Ok (more s (entries p.place ps)))
+pairs_read levels p before NoPairs rest s valid is = λ i. Ok (record { seen = s.seen; said = s.said; judged = then_nothing s.judged i })
+pairs_read levels p before (PairThen key value ps) rest s valid is =
     let count : pair_count ps + 1 ≡ suc (pair_count ps) = omega arith in
     let after_value = spell_pairs ps ++ rest in
     let after_key = spell value ++ after_value in
     let q = after p (spell key) after_key in
     let r = after q (spell value) after_value in
     let whole : p.left ≡ spell key ++ after_key = is ∙ simp append_assoc in
-    let f : EnvelopeSays × Position → Result EnvelopeSays Refusal = λ u. values_from (pair_count ps) u.1 u.0 in
-    let z : EnvelopeSays → EnvelopeSays = λ t. put_all t (entries r.place ps) in
-    let each = judge_each judge_value (entries r.place ps) in
-    rw (count, key_read levels p key after_key valid.0 whole, content_read levels q value after_value valid.2 refl)
-    (by_string (λ (y : DataItem). IsValidWithin levels y →
-    (((judge_string q.place y >>= with_rest r) >>= turn (key_of key) s) >>= f)
-    ≡ ((judge_content q.place y (key_of key) >>= λ _. each) >>= λ _. Ok (z (put_value s (key_of key) q.place y))))
-    (λ bytes v.
-    let t = put s (key_of key) bytes (content_place q.place bytes) in
-    rw (content_says levels q.place bytes (key_of key) v)
-    (values_step (judge_content q.place (ByteString bytes) (key_of key)) t r f each (z t) (values_read levels r (Some (spell key)) ps rest t valid.3 refl)))
-    (λ y other v. rw (other.judged q.place, no_content q.place y _ (key_of key) (other.judged q.place)) refl)
-    value valid.2)
+    let e : Entry = record { key = key; key_place = p.place; value = value; value_place = q.place } in
+    let es = entries r.place ps in
+    let t = pair_more s (key_of key) q.place (value_is q.place value) in
+    let others : pairs_from (pair_count ps) r t ≡ (judge_each judge_key es >>= λ _. Ok (more s (e ∷ es))) =
+    pairs_read levels r (Some (spell key)) ps rest t valid.3 refl ∙ ap (λ (z : PairsSay). judge_each judge_key es >>= λ _. Ok z) (one_more levels s e es valid.2) in
+    let value_of : Key × Position → Result (PairsSay × Position) Refusal = λ k. value_from k.1 >>= λ v. Ok (pair_more s k.0 k.1.place v.0, v.1) in
+    let go_on : PairsSay × Position → Result PairsSay Refusal = λ u. pairs_from (pair_count ps) u.1 u.0 in
+    rw (count, key_read levels p.place p key after_key value_of valid.0 whole, value_read levels q value after_value valid.2 refl)
+    (step (known_key p.place (key_of key)) t r go_on (judge_each judge_key es) (more s (e ∷ es)) others)
 
 -- ---- the map
 
@@ -119,15 +140,14 @@ pub map_read : (levels : ℕ) (p : Position) (ps : DataPairs) (tagged : Bool) (r
 map_read levels p ps tagged rest valid =
     let q = after p (head_bytes 5 (pair_count ps)) (spell_pairs ps ++ rest) in
     let es = entries q.place ps in
-    let none : Seen = record { wrapper = false; manifest = false } in
     let nothing = says_nothing tagged in
-    rw (keys_read (levels + 1) q None ps rest none valid.2 refl, values_read (levels + 1) q None ps rest nothing valid.2 refl)
-    (by_keys (judge_each judge_key es) (see_all none es) (judge_each judge_value es >>= λ _. Ok (put_all nothing es)) (lacks_is p.place es))
+    rw (pairs_read (levels + 1) q None ps rest (no_pairs nothing) valid.2 refl)
+    (by_keys (judge_each judge_key es) (more (no_pairs nothing) es) (lacks_is p.place es))
   where
-    by_keys : (r : Result Unit Refusal) (seen : Seen) (last : Result EnvelopeSays Refusal) {lacks : Result Unit Refusal} → all_seen p.place seen ≡ lacks
-        → ((r >>= λ _. Ok seen) >>= λ s. all_seen p.place s >>= λ _. last) ≡ (r >>= λ _. lacks >>= λ _. last)
-    by_keys (Ok done) seen last e = rw e refl
-    by_keys (Err s) seen last e = refl
+    by_keys : (r : Result Unit Refusal) (s : PairsSay) {lacks : Result Unit Refusal} → all_seen p.place s.seen ≡ lacks
+        → ((r >>= λ _. Ok s) >>= λ t. all_seen p.place t.seen >>= λ _. t.judged >>= λ _. Ok t.said) ≡ (r >>= λ _. lacks >>= λ _. s.judged >>= λ _. Ok s.said)
+    by_keys (Ok done) s e = rw e refl
+    by_keys (Err r) s e = refl
 
 -- ---- the whole item
 

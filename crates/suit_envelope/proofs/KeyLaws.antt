@@ -1,8 +1,9 @@
 -- Keys: how they are read, which of them are seen, and what lacks.
-use Rattle.std.proofs.Common.{◌≡◌, ℕ, Bool, true, false, cond, eqb, List, [], ◌∷◌, ◌++◌, Result, Ok, Err, refl, sym, ap, subst, ◌∙◌, inl, inr, ◌⊎◌}
+use Rattle.std.proofs.Common.{◌≡◌, ℕ, ◌+◌, Bool, true, false, cond, eqb, List, [], ◌∷◌, ◌++◌, length, Result, Ok, Err, refl, sym, ap, subst, ◌∙◌, inl, inr, ◌⊎◌, arith}
 use Rattle.std.specs.Prelude.{◌||◌}
 use Rattle.std.proofs.lemmas.Bool.{eqb-true}
-use Rattle.std.proofs.lemmas.List.{append-nil}
+use Rattle.std.proofs.lemmas.List.{length-append}
+use Rattle.det_cbor.specs.Heads.{head_bytes}
 use Rattle.det_cbor.specs.DataItem.{DataItem, UnsignedInteger, NegativeInteger, ByteString, TextString, ArrayOf, MapOf, TaggedItem, Boolean, NullItem, spell, IsValidWithin}
 use Rattle.det_cbor.specs.HeadReading.{◌>>=◌}
 use Rattle.det_cbor.specs.Position.{Position}
@@ -12,35 +13,37 @@ use Rattle.suit_params.specs.declared.refusal.Why.TheVariants.{Missing}
 use Rattle.suit_params.specs.Refusing.{refused}
 use Rattle.suit_params.specs.Judging.{judge_each}
 use Rattle.suit_params.specs.Reading.{inside, inner_from}
-use Rattle.suit_params.proofs.ItemHeads.{item_kind, item_value, item_head_read, after}
+use Rattle.suit_params.proofs.ItemHeads.{item_head_read, bytes_again, after}
 use Rattle.suit_params.proofs.Judgements.{item_read}
 use Rattle.suit_envelope.specs.Envelopes.{Entry, key_of, numbered_key, is_number, has_key}
-use Rattle.suit_envelope.specs.Judging.{judge_lack}
-use Rattle.suit_envelope.specs.EnvelopeReading.{headed_key, key_from, see, all_seen}
+use Rattle.suit_envelope.specs.Judging.{known_key, judge_lack}
+use Rattle.suit_envelope.specs.EnvelopeReading.{key_from, see, all_seen}
 use Rattle.suit_envelope.specs.declared.key.Key.{Key}
+use Rattle.suit_envelope.specs.declared.key.Key.TheVariants.{Payload}
 use Rattle.suit_envelope.specs.declared.key.Seen.{Seen}
 
 -- ---- one key
 
-headed_is : (k : DataItem) → headed_key (item_value k) (item_kind k) ≡ key_of k
-headed_is (UnsignedInteger n) = refl
-headed_is (NegativeInteger n) = refl
-headed_is (ByteString bytes) = refl
-headed_is (TextString text) = refl
-headed_is (ArrayOf xs) = refl
-headed_is (MapOf ps) = refl
-headed_is (TaggedItem tag x) = refl
-headed_is (Boolean b) = refl
-headed_is NullItem = refl
-
 pub inner_read : (levels : ℕ) (p : Position) (x : DataItem) (rest : List ℕ) → IsValidWithin levels x → p.left ≡ spell x ++ rest → inner_from p ≡ Ok (inside p x, after p (spell x) rest)
 inner_read levels p x rest valid is = rw (item_read p x rest (valid_alone levels x valid) is) refl
 
-pub key_read : (levels : ℕ) (p : Position) (k : DataItem) (rest : List ℕ) → IsValidWithin levels k → p.left ≡ spell k ++ rest → key_from p ≡ Ok (key_of k, after p (spell k) rest)
+-- a key that is known is passed over; of any other it is told by its head that it is not
+pub key_read : {A : Type 0} (levels place : ℕ) (p : Position) (k : DataItem) (rest : List ℕ) (f : Key × Position → Result A Refusal) → IsValidWithin levels k → p.left ≡ spell k ++ rest
+    → (key_from p >>= λ found. known_key place found.0 >>= λ _. f found) ≡ (known_key place (key_of k) >>= λ _. f (key_of k, after p (spell k) rest))
 unfolding key_from
-key_read levels p k rest valid is =
-    rw (inner_read levels p k rest valid is, item_head_read levels (inside p k) k [] valid (sym (append-nil (spell k))))
-    (ap (λ (key : Key). Ok (key, after p (spell k) rest)) (headed_is k))
+key_read levels place p (UnsignedInteger n) rest f valid is = rw (item_head_read levels p (UnsignedInteger n) rest valid is) refl
+key_read levels place p (TextString text) rest f valid is =
+    let head = head_bytes 3 (length text) in
+    let q = after p head (text ++ rest) in
+    let last : q.place + length text ≡ p.place + length (head ++ text) = omega (arith, length-append head text) in
+    rw (item_head_read levels p (TextString text) rest valid is, bytes_again q text rest refl) (ap (λ (n : ℕ). f (Payload, record { left = rest; place = n })) last)
+key_read levels place p (NegativeInteger n) rest f valid is = rw (item_head_read levels p (NegativeInteger n) rest valid is) refl
+key_read levels place p (ByteString bytes) rest f valid is = rw (item_head_read levels p (ByteString bytes) rest valid is) refl
+key_read levels place p (ArrayOf xs) rest f valid is = rw (item_head_read levels p (ArrayOf xs) rest valid is) refl
+key_read levels place p (MapOf ps) rest f valid is = rw (item_head_read levels p (MapOf ps) rest valid is) refl
+key_read levels place p (TaggedItem tag x) rest f valid is = rw (item_head_read levels p (TaggedItem tag x) rest valid is) refl
+key_read levels place p (Boolean b) rest f valid is = rw (item_head_read levels p (Boolean b) rest valid is) refl
+key_read levels place p NullItem rest f valid is = rw (item_head_read levels p NullItem rest valid is) refl
 
 -- ---- which keys are seen
 

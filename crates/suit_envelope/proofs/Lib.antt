@@ -15,5 +15,7 @@ pub mod MadeValid
 pub mod MadeSays
 pub mod AuthenticYes
 pub mod WalkLaws
+pub mod EntryOrder
+pub mod EntryLaws
 pub mod PayloadKeys
 pub mod PayloadLaws

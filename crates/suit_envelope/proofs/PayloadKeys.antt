@@ -1,44 +1,30 @@
 -- No two payloads of an envelope have one key, so looking a key up finds the payload that has it.
-use Rattle.std.proofs.Common.{◌≡◌, ◌≢◌, ℕ, zero, suc, ◌+◌, Bool, true, false, List, [], ◌∷◌, length, Option, Some, refl, sym, ap, subst, ◌∙◌, inl, inr, arith}
+use Rattle.std.proofs.Common.{◌≡◌, ◌≢◌, ℕ, zero, suc, Bool, true, false, List, [], ◌∷◌, Some, refl, sym, ap, subst, ◌∙◌, inl, inr, arith}
 use Rattle.std.specs.List.{AllByRecursion, Contains}
-use Rattle.std.specs.Ordering.{is_lt, nat_cmp}
 use Rattle.std.specs.Str.{bytes_eq}
-use Rattle.std.specs.Cmp.Lexicographic.{slice_cmp, nat_list_cmp_total, bytes_decides}
-use Rattle.std.specs.declared.cmp.Ordering.{Ordering}
-use Rattle.std.specs.declared.cmp.Ordering.TheVariants.{Less, Equal, Greater}
+use Rattle.std.specs.Cmp.Lexicographic.{bytes_decides}
 use Rattle.std.proofs.lemmas.List.Elements.{Contains-append_right}
-use Rattle.det_cbor.specs.DataItem.{DataItem, UnsignedInteger, NegativeInteger, ByteString, TextString, ArrayOf, MapOf, TaggedItem, Boolean, NullItem, DataPairs, NoPairs, PairThen, spell, IsAbove, ArePairsWithin}
-use Rattle.det_cbor.proofs.KeyOrder.{same_key}
+use Rattle.det_cbor.specs.DataItem.{DataItem, UnsignedInteger, NegativeInteger, ByteString, TextString, ArrayOf, MapOf, TaggedItem, Boolean, NullItem, spell, IsAbove}
 use Rattle.det_cbor.proofs.Results.{chosen}
-use Rattle.suit_envelope.specs.Envelopes.{entries}
+use Rattle.suit_envelope.specs.Envelopes.{Entry}
 use Rattle.suit_envelope.specs.Payloads.{payload_then, integrated_payloads, payload_under}
+use Rattle.suit_envelope.proofs.EntryOrder.{not_above_itself, AreAbove, AreAscending}
 
 abbrev Payloads : Type 0
 Payloads = List (List ℕ × List ℕ)
 
 -- ---- the order of keys
 
-less : (o : Ordering) → is_lt o ≡ true → o ≡ Less
-less Less e = refl
-less Equal e = absurd cc
-less Greater e = absurd cc
-
-above_trans : (a b c : List ℕ) → IsAbove (Some a) b → IsAbove (Some b) c → IsAbove (Some a) c
-above_trans a b c p q = ap is_lt (nat_list_cmp_total.trans a b c (less (slice_cmp nat_cmp a b) p) (less (slice_cmp nat_cmp b c) q))
-
-not_above_itself : (a : List ℕ) → IsAbove (Some a) a → ⊥
-not_above_itself a p = let never : is_lt Equal ≡ true = ap is_lt (sym (same_key a)) ∙ p in absurd cc
-
 -- each payload's key is above a spelling
-abbrev AreAbove : List ℕ → Payloads → Type 0
-AreAbove a ps = AllByRecursion (λ (p : List ℕ × List ℕ). IsAbove (Some a) (spell (TextString p.0))) ps
+abbrev KeysAbove : List ℕ → Payloads → Type 0
+KeysAbove a ps = AllByRecursion (λ (p : List ℕ × List ℕ). IsAbove (Some a) (spell (TextString p.0))) ps
 
 -- no key comes again
 abbrev pub AreApart : Payloads → Type 0
 AreApart [] = Unit {0}
 AreApart (p ∷ ps) = AllByRecursion (λ (q : List ℕ × List ℕ). p.0 ≢ q.0) ps × AreApart ps
 
-then_above : (a : List ℕ) (key value : DataItem) (others : Payloads) → IsAbove (Some a) (spell key) → AreAbove a others → AreAbove a (payload_then key value others)
+then_above : (a : List ℕ) (key value : DataItem) (others : Payloads) → IsAbove (Some a) (spell key) → KeysAbove a others → KeysAbove a (payload_then key value others)
 then_above a (TextString text) (ByteString content) others above rest = (above, rest)
 then_above a (TextString text) (UnsignedInteger n) others above rest = rest
 then_above a (TextString text) (NegativeInteger n) others above rest = rest
@@ -57,18 +43,15 @@ then_above a (TaggedItem tag x) value others above rest = rest
 then_above a (Boolean b) value others above rest = rest
 then_above a NullItem value others above rest = rest
 
--- whatever is above b is above a
-all_above : (levels place : ℕ) (a b : List ℕ) (ps : DataPairs) → ((c : List ℕ) → IsAbove (Some b) c → IsAbove (Some a) c) → ArePairsWithin levels (Some b) ps → AreAbove a (integrated_payloads (entries place ps))
-all_above levels place a b NoPairs further valid = tt
-all_above levels place a b (PairThen key value ps) further valid =
-    let here = further (spell key) valid.1 in
-    then_above a key value _ here (all_above levels (place + length (spell key) + length (spell value)) a (spell key) ps (λ c above. above_trans a (spell key) c here above) valid.3)
+keys_above : (a : List ℕ) (es : List Entry) → AreAbove a es → KeysAbove a (integrated_payloads es)
+keys_above a [] above = tt
+keys_above a (e ∷ es) above = then_above a e.key e.value _ above.0 (keys_above a es above.1)
 
-other_keys : (text : List ℕ) (ps : Payloads) → AreAbove (spell (TextString text)) ps → AllByRecursion (λ (q : List ℕ × List ℕ). text ≢ q.0) ps
+other_keys : (text : List ℕ) (ps : Payloads) → KeysAbove (spell (TextString text)) ps → AllByRecursion (λ (q : List ℕ × List ℕ). text ≢ q.0) ps
 other_keys text [] above = tt
 other_keys text (p ∷ ps) above = (λ e. not_above_itself (spell (TextString text)) (subst (λ (t : List ℕ). IsAbove (Some (spell (TextString text))) (spell (TextString t))) (sym e) above.0), other_keys text ps above.1)
 
-then_apart : (key value : DataItem) (others : Payloads) → AreAbove (spell key) others → AreApart others → AreApart (payload_then key value others)
+then_apart : (key value : DataItem) (others : Payloads) → KeysAbove (spell key) others → AreApart others → AreApart (payload_then key value others)
 then_apart (TextString text) (ByteString content) others above rest = (other_keys text others above, rest)
 then_apart (TextString text) (UnsignedInteger n) others above rest = rest
 then_apart (TextString text) (NegativeInteger n) others above rest = rest
@@ -87,11 +70,9 @@ then_apart (TaggedItem tag x) value others above rest = rest
 then_apart (Boolean b) value others above rest = rest
 then_apart NullItem value others above rest = rest
 
-pub payloads_apart : (levels place : ℕ) (before : Option (List ℕ)) (ps : DataPairs) → ArePairsWithin levels before ps → AreApart (integrated_payloads (entries place ps))
-payloads_apart levels place before NoPairs valid = tt
-payloads_apart levels place before (PairThen key value ps) valid =
-    let next = place + length (spell key) + length (spell value) in
-    then_apart key value _ (all_above levels next (spell key) (spell key) ps (λ c above. above) valid.3) (payloads_apart levels next (Some (spell key)) ps valid.3)
+pub payloads_apart : (es : List Entry) → AreAscending es → AreApart (integrated_payloads es)
+payloads_apart [] ascend = tt
+payloads_apart (e ∷ es) ascend = then_apart e.key e.value _ (keys_above (spell e.key) es ascend.0) (payloads_apart es ascend.1)
 
 -- ---- looking up
 

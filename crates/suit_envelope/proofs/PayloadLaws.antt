@@ -16,9 +16,10 @@ use Rattle.suit_params.proofs.ItemHeads.{item_head_read, bytes_again, after}
 use Rattle.suit_params.proofs.Held.{by_string, content_read, with_rest}
 use Rattle.suit_envelope.specs.Envelopes.{Entry, EnvelopeMap, entries, map_entries, key_of, as_map, envelope_map, IsKnown, IsValue}
 use Rattle.suit_envelope.specs.Payloads.{payload_then, integrated_payloads, HasPayloads, payload_under}
-use Rattle.suit_envelope.specs.PayloadReading.{text_from, is_wanted, content_where, pair_from, or_later, found_from, pairs_from, payload_from}
+use Rattle.suit_envelope.specs.PayloadReading.{text_from, is_wanted, content_where, pair_from, or_later, found_from, counted_from, payload_from}
 use Rattle.suit_envelope.specs.WrapperParts.{start_of}
 use Rattle.suit_envelope.specs.declared.key.Key.TheVariants.{Unknown}
+use Rattle.suit_envelope.proofs.EntryOrder.{entries_ascend}
 use Rattle.suit_envelope.proofs.PayloadKeys.{AreApart, payloads_apart, contained_under, under_contained}
 
 -- ---- keys
@@ -89,12 +90,12 @@ record MapRead (x : DataItem) (m : EnvelopeMap) : Type 0 where
   levels : ℕ
   valid : ArePairsWithin levels None m.pairs
   start : Position
-  read : pairs_from (start_of (spell x)) ≡ Ok (pair_count m.pairs, start)
+  read : counted_from (start_of (spell x)) ≡ Ok (pair_count m.pairs, start)
   left : start.left ≡ spell_pairs m.pairs ++ []
   place : start.place ≡ m.place + length (head_bytes 5 (pair_count m.pairs))
 
 tagged_read : (tag : ℕ) (y : DataItem) (m : EnvelopeMap) → IsValid (TaggedItem tag y) → as_map true (0 + length (head_bytes 6 tag)) y ≡ Some m → MapRead (TaggedItem tag y) m
-unfolding pairs_from
+unfolding counted_from
 tagged_read tag (MapOf ps) m valid is =
     let x = TaggedItem tag (MapOf ps) in
     let p = start_of (spell x) in
@@ -123,7 +124,7 @@ behind_tag_read true tag y m valid is = tagged_read tag y m valid is
 behind_tag_read false tag y m valid is = absurd cc
 
 map_read : (x : DataItem) (m : EnvelopeMap) → IsValid x → envelope_map 0 x ≡ Some m → MapRead x m
-unfolding pairs_from
+unfolding counted_from
 map_read (MapOf ps) m valid is =
     let x = MapOf ps in
     let p = start_of (spell x) in
@@ -157,7 +158,7 @@ payload_read bytes payloads key has =
     let known = subst (AllByRecursion IsKnown) (sym es) is.known in
     let values = subst (AllByRecursion IsValue) (sym es) is.values in
     let found = found_read key r.levels r.start None m.pairs [] known values r.valid r.left in
-    let read : pairs_from (start_of bytes) ≡ Ok (pair_count m.pairs, r.start) = ap (λ (l : List ℕ). pairs_from (start_of l)) has.envelope.spells.is ∙ r.read in
+    let read : counted_from (start_of bytes) ≡ Ok (pair_count m.pairs, r.start) = ap (λ (l : List ℕ). counted_from (start_of l)) has.envelope.spells.is ∙ r.read in
     rw read (found ∙ ap (λ (l : List Entry). Ok (payload_under (integrated_payloads l) key)) es ∙ ap (λ (ps : List (List ℕ × List ℕ)). Ok (payload_under ps key)) (sym has.are))
 
 pub apart : (bytes : List ℕ) (payloads : List (List ℕ × List ℕ)) → HasPayloads bytes payloads → AreApart payloads
@@ -165,7 +166,7 @@ apart bytes payloads has =
     let is = has.envelope.says_so in
     let m = is.map in
     let r = map_read has.envelope.item m has.envelope.spells.valid is.shape in
-    subst AreApart (sym has.are) (payloads_apart r.levels _ None m.pairs r.valid)
+    subst AreApart (sym has.are) (payloads_apart (map_entries m) (entries_ascend r.levels _ None m.pairs r.valid))
 
 -- ---- what a call answered
 

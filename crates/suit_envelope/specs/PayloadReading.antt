@@ -44,13 +44,13 @@ found_from key (suc n) p = pair_from key p >>= λ f. or_later f.0 (found_from ke
 
 -- ---- the map
 
-abbrev pub pairs_after : ℕ → Position → HeadKind → Result (ℕ × Position) Refusal
-pairs_after n p kinds.Tag = head_from p >>= λ h. Ok (h.0.value, h.1)
-pairs_after n p _ = Ok (n, p)
+abbrev pub counted_after : ℕ → Position → HeadKind → Result (ℕ × Position) Refusal
+counted_after n p kinds.Tag = head_from p >>= λ h. Ok (h.0.value, h.1)
+counted_after n p _ = Ok (n, p)
 
 -- how many pairs a map has, which may stand behind a tag, and the first of them
-unfoldable pub pairs_from : Position → Result (ℕ × Position) Refusal
-pairs_from p = head_from p >>= λ h. pairs_after h.0.value h.1 h.0.kind
+unfoldable pub counted_from : Position → Result (ℕ × Position) Refusal
+counted_from p = head_from p >>= λ h. counted_after h.0.value h.1 h.0.kind
 
 abbrev pub payload_from : List ℕ → List ℕ → Result (Option (List ℕ)) Refusal
-payload_from key whole = pairs_from (start_of whole) >>= λ m. found_from key m.0 m.1
+payload_from key whole = counted_from (start_of whole) >>= λ m. found_from key m.0 m.1

@@ -3,7 +3,9 @@ use Rattle.std.specs.Prelude.{List, ℕ, option_map}
 use Rattle.suit_params.specs.declared.refusal.Refusal.{Refusal}
 use Rattle.suit_params.specs.Refusing.{SaysWhole, RefusesWhole}
 use Rattle.suit_envelope.specs.Envelopes.{EnvelopeSays, IsEnvelope, RefusesEnvelope}
+use Rattle.suit_envelope.specs.EnvelopeReading.{PairsSay}
 use Rattle.suit_envelope.specs.declared.envelope.Envelope.{Envelope}
+use Rattle.suit_envelope.specs.declared.pairs.Found.{Found}
 
 abbrev pub said_by : Envelope → EnvelopeSays
 said_by e = record {
@@ -18,6 +20,10 @@ said_by e = record {
   install_place = e.install_place;
   text = option_map (λ s. s.now) e.text;
 }
+
+-- what the pairs that the code passed say
+abbrev pub pairs_say : Found → PairsSay
+pairs_say f = record { seen = f.seen; said = said_by f.envelope; judged = f.judged }
 
 -- the bytes spell an envelope that says this
 abbrev pub EnvelopeOf : List ℕ → EnvelopeSays → Type 0

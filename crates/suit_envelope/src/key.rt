@@ -1,13 +1,13 @@
 //! The keys of an envelope's map.
 
-ghost use Rattle.std.specs.Prelude.{◌≡◌, false};
+ghost use Rattle.std.specs.Prelude.{◌≡◌};
 ghost use Rattle.det_cbor.specs.HeadReading.{map_ok};
 ghost use Rattle.suit_envelope.specs.Envelopes.{numbered_key};
-ghost use Rattle.suit_envelope.specs.EnvelopeReading.{headed_key, key_from, see, key_turn, all_seen, keys_from};
+ghost use Rattle.suit_envelope.specs.EnvelopeReading.{key_from, see, all_seen};
 ghost use Rattle.suit_envelope.specs.Judging.{known_key};
 
 use det_cbor::{Cursor, HeadKind};
-use suit_params::{Refusal, Why, read_head, read_item, refused};
+use suit_params::{Refusal, Why, read_bytes, read_head, refused};
 
 /// What a key of an envelope's map names.
 #[derive(Clone, Copy, Debug, PartialEq, Eq)]
@@ -41,27 +41,25 @@ fn numbered(number: u64) -> Key
     }
 }
 
-fn headed(kind: HeadKind, value: u64) -> Key
-    ensures { result ≡ headed_key value kind }
-{
-    match kind {
-        HeadKind::Unsigned => numbered(value),
-        HeadKind::Text => Key::Payload,
-        _ => Key::Unknown,
-    }
-}
-
-/// The next item, which was judged as one before, as a key.
+/// The next key, of an item that was judged before, by its head. The bytes of a text are passed
+/// over; a key that is not known is passed no further than its head.
 #[tactic(auto, unfolding(crate::specs::EnvelopeReading::key_from))]
 pub(crate) fn read_key(map: &mut Cursor<'_>) -> Result<Key, Refusal>
     ensures { map_ok (λ key. (key, map.new)) result ≡ key_from map.old }
 {
-    let mut item = read_item(map)?;
-    let head = read_head(&mut item)?;
-    Ok(headed(head.kind, head.value))
+    let head = read_head(map)?;
+    match head.kind {
+        HeadKind::Unsigned => Ok(numbered(head.value)),
+        HeadKind::Text => {
+            read_bytes(map, head.value)?;
+            Ok(Key::Payload)
+        }
+        _ => Ok(Key::Unknown),
+    }
 }
 
-fn known(place: u64, key: Key) -> Result<(), Refusal>
+/// Refuses a key, which stands at a place, that is not known.
+pub(crate) fn known(place: u64, key: Key) -> Result<(), Refusal>
     ensures { result ≡ known_key place key }
 {
     match key {
@@ -70,7 +68,8 @@ fn known(place: u64, key: Key) -> Result<(), Refusal>
     }
 }
 
-fn see(seen: Seen, key: Key) -> Seen
+/// The keys that are seen, with one more.
+pub(crate) fn see(seen: Seen, key: Key) -> Seen
     ensures { result ≡ see seen key }
 {
     match key {
@@ -84,31 +83,6 @@ fn see(seen: Seen, key: Key) -> Seen
         },
         _ => seen,
     }
-}
-
-// Passes a pair whose key is known.
-fn key_turn(map: &mut Cursor<'_>, seen: Seen) -> Result<Seen, Refusal>
-    ensures { map_ok (λ s. (s, map.new)) result ≡ key_turn map.old seen }
-{
-    let place = map.place();
-    let key = read_key(map)?;
-    known(place, key)?;
-    read_item(map)?;
-    Ok(see(seen, key))
-}
-
-/// The keys of a map of so many pairs: which of the required ones there are.
-pub(crate) fn read_keys(mut map: Cursor<'_>, count: u64) -> Result<Seen, Refusal>
-    ensures { result ≡ keys_from count map.entry (record { wrapper = false; manifest = false }) }
-{
-    let mut seen = Seen {
-        wrapper: false,
-        manifest: false,
-    };
-    for _ in 0..count {
-        seen = key_turn(&mut map, seen)?;
-    }
-    Ok(seen)
 }
 
 /// Refuses a map, which stands at a place, where a required key is missing.

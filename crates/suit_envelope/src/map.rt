@@ -2,15 +2,15 @@
 
 ghost use Rattle.std.specs.Prelude.{◌≡◌, IfOk};
 ghost use Rattle.det_cbor.specs.HeadReading.{map_ok};
-ghost use Rattle.suit_envelope.specs.Envelopes.{says_nothing, put};
-ghost use Rattle.suit_envelope.specs.EnvelopeReading.{content_judged, value_turn, values_from, map_from, behind_tag, envelope_at};
+ghost use Rattle.suit_envelope.specs.Envelopes.{says_nothing};
+ghost use Rattle.suit_envelope.specs.EnvelopeReading.{map_from, behind_tag, envelope_at};
 ghost use Rattle.suit_envelope.specs.Said.{said_by};
 
 use crate::Envelope;
-use crate::key::{Key, read_key, read_keys, require};
-use crate::wrapper::wrapper_of;
+use crate::key::require;
+use crate::pairs::pairs;
 use det_cbor::{Cursor, HeadKind};
-use suit_params::{Refusal, Why, only_item, read_content, read_head, refused, same_place};
+use suit_params::{Refusal, Why, read_head, refused};
 
 /// The bytes that are left.
 pub(crate) fn bytes_left<'a>(mut content: Cursor<'a>) -> &'a [u8]
@@ -20,76 +20,6 @@ pub(crate) fn bytes_left<'a>(mut content: Cursor<'a>) -> &'a [u8]
         Ok(bytes) => bytes,
         Err(_) => unreachable!(),
     }
-}
-
-// The content of a value, by its key: the wrapper is judged, and no other.
-fn judged(content: Cursor<'_>, key: Key) -> Result<(), Refusal>
-    ensures { result ≡ content_judged content.entry key }
-{
-    match key {
-        Key::Wrapper => {
-            let item = only_item(content)?;
-            wrapper_of(item)?;
-            Ok(())
-        }
-        _ => Ok(()),
-    }
-}
-
-// The envelope with a value's content where its key puts it.
-fn put<'a>(mut envelope: Envelope<'a>, key: Key, content: Cursor<'a>) -> Envelope<'a>
-    ensures says { said_by result ≡ put (said_by envelope.entry) key content.entry.left content.entry.place }
-    ensures whole { result.whole.now ≡ envelope.entry.whole.now }
-{
-    let place = content.place();
-    let bytes = bytes_left(content);
-    match key {
-        Key::Wrapper => {
-            envelope.wrapper = bytes;
-            envelope.wrapper_place = place;
-        }
-        Key::Manifest => {
-            envelope.manifest = bytes;
-            envelope.manifest_place = place;
-        }
-        Key::PayloadFetch => {
-            envelope.payload_fetch = Some(bytes);
-            envelope.payload_fetch_place = place;
-        }
-        Key::Install => {
-            envelope.install = Some(bytes);
-            envelope.install_place = place;
-        }
-        Key::Text => envelope.text = Some(bytes),
-        Key::Payload | Key::Unknown => {}
-    }
-    envelope
-}
-
-// Passes a pair, and puts its value into the envelope where it belongs.
-fn value_turn<'a>(map: &mut Cursor<'a>, envelope: Envelope<'a>) -> Result<Envelope<'a>, Refusal>
-    ensures says { map_ok (λ e. (said_by e, map.new)) result ≡ value_turn map.old (said_by envelope.entry) }
-    ensures whole { IfOk result (λ e. e.whole.now ≡ envelope.entry.whole.now) }
-{
-    let key = read_key(map)?;
-    let mut content = read_content(map)?;
-    judged(same_place(&mut content), key)?;
-    Ok(put(envelope, key, content))
-}
-
-// The values of a map of so many pairs, each put into the envelope where it belongs.
-fn values<'a>(
-    mut map: Cursor<'a>,
-    count: u64,
-    mut envelope: Envelope<'a>,
-) -> Result<Envelope<'a>, Refusal>
-    ensures says { map_ok said_by result ≡ values_from count map.entry (said_by envelope.entry) }
-    ensures whole { IfOk result (λ e. e.whole.now ≡ envelope.entry.whole.now) }
-{
-    for _ in 0..count {
-        envelope = value_turn(&mut map, envelope)?;
-    }
-    Ok(envelope)
 }
 
 // An envelope of these bytes that says nothing yet.
@@ -112,9 +42,10 @@ fn nothing(whole: &[u8], tagged: bool) -> Envelope<'_>
     }
 }
 
-// The map that stands at a place, of so many pairs.
+// The map that stands at a place, of so many pairs: keys that are not known are refused first, then
+// one that is missing, and then the first value that is refused.
 fn map<'a>(
-    mut map: Cursor<'a>,
+    map: Cursor<'a>,
     count: u64,
     place: u64,
     start: Envelope<'a>,
@@ -122,9 +53,10 @@ fn map<'a>(
     ensures says { map_ok said_by result ≡ map_from count place map.entry (said_by start.entry) }
     ensures whole { IfOk result (λ e. e.whole.now ≡ start.entry.whole.now) }
 {
-    let seen = read_keys(same_place(&mut map), count)?;
-    require(place, seen)?;
-    values(map, count, start)
+    let found = pairs(map, count, start)?;
+    require(place, found.seen)?;
+    found.judged?;
+    Ok(found.envelope)
 }
 
 // The item that stands behind tag 107, as an envelope.

@@ -4,7 +4,7 @@ ghost use Rattle.std.specs.Prelude.{◌≡◌, ℕ, List, Some, IfSome, option_m
 ghost use Rattle.std.specs.List.{Contains};
 ghost use Rattle.det_cbor.specs.HeadReading.{map_ok};
 ghost use Rattle.suit_envelope.specs.Payloads.{HasPayloads, payload_under};
-ghost use Rattle.suit_envelope.specs.PayloadReading.{text_from, is_wanted, pair_from, found_from, pairs_from, payload_from};
+ghost use Rattle.suit_envelope.specs.PayloadReading.{text_from, is_wanted, pair_from, found_from, counted_from, payload_from};
 
 #[cfg(test)]
 mod tests;
@@ -64,9 +64,9 @@ fn find<'a>(mut map: Cursor<'a>, count: u64, key: &[u8]) -> Result<Option<&'a [u
 }
 
 // How many pairs a map has, which may stand behind a tag, and the first of them.
-#[tactic(auto, unfolding(crate::specs::PayloadReading::pairs_from))]
-fn pairs(mut item: Cursor<'_>) -> Result<(u64, Cursor<'_>), Refusal>
-    ensures { result ≡ pairs_from item.entry }
+#[tactic(auto, unfolding(crate::specs::PayloadReading::counted_from))]
+fn counted(mut item: Cursor<'_>) -> Result<(u64, Cursor<'_>), Refusal>
+    ensures { result ≡ counted_from item.entry }
 {
     let head = read_head(&mut item)?;
     match head.kind {
@@ -81,7 +81,7 @@ fn pairs(mut item: Cursor<'_>) -> Result<(u64, Cursor<'_>), Refusal>
 fn payload_in<'a>(whole: &'a [u8], key: &[u8]) -> Result<Option<&'a [u8]>, Refusal>
     ensures { map_ok (option_map (λ c. c.now)) result ≡ payload_from key.now whole.now }
 {
-    let (count, map) = pairs(Cursor::new(whole, 0))?;
+    let (count, map) = counted(Cursor::new(whole, 0))?;
     find(map, count, key)
 }
 
@@ -98,7 +98,7 @@ fn look_up<'a>(envelope: &Envelope<'a>, key: &str) -> Option<&'a [u8]>
 /// The integrated payload of this key, the content of its byte string; none where the envelope has
 /// no such key (draft-ietf-suit-manifest-25, section 8.2). Takes no memory.
 ///
-/// It is looked for in the envelope's bytes, of which those that are no envelope promise nothing.
+/// It is looked for in `whole`. Where those bytes spell no envelope, nothing is promised.
 pub fn payload<'a>(envelope: &Envelope<'a>, key: &str) -> Option<&'a [u8]>
     ensures found { IfSome result (λ content. (payloads : List (List ℕ × List ℕ)) → HasPayloads envelope.now.whole.now payloads
         → Contains payloads (key.now, content.now)) }

@@ -17,7 +17,7 @@ struct Row {
     why: Why,
 }
 
-const ROWS: [Row; 46] = [
+const ROWS: [Row; 48] = [
     Row {
         shows: "no bytes",
         bytes: "",
@@ -178,6 +178,18 @@ const ROWS: [Row; 46] = [
         shows: "a payload that is no byte string",
         bytes: "a3025827815824822f582000000000000000000000000000000000000000000000000000000000000000000341a0612300",
         place: 48,
+        why: Why::Shape,
+    },
+    Row {
+        shows: "an unknown number after values of other kinds",
+        bytes: "a4028201a101020362616210c180181800",
+        place: 14,
+        why: Why::UnknownKey,
+    },
+    Row {
+        shows: "a payload that is no byte string, under a key of 24 bytes",
+        bytes: "a3025827815824822f582000000000000000000000000000000000000000000000000000000000000000000341a0781861616161616161616161616161616161616161616161616100",
+        place: 72,
         why: Why::Shape,
     },
     Row {
