@@ -1,5 +1,6 @@
 pub mod FileTables
 pub mod Gates
+mod Losses
 pub mod MemoryImages
 pub mod Moments
 mod Pieces

@@ -1,39 +1,56 @@
--- A disk over another one, which shows what that holds through a function of its bytes: what a disk over a device is.
-use Rattle.std.proofs.Common.{◌≡◌, inl, inr, ⊎_elim, ℕ, List, length, refl, sym, ◌∙◌, ap, subst}
-use Rattle.suit_edge.specs.Flash.{Flash, Now, Grows, Passes, IsSame, IsSettled, IsFlash}
+-- A disk over another one. It reads what that holds through a function of its bytes, or from a state of its own; a power
+-- loss leaves what the one below then shows, or what it reads. So is a disk over a device.
+use Rattle.std.proofs.Common.{◌≡◌, ◌⊎◌, inl, inr, ⊎_elim, ◌≤◌, ℕ, List, length, refl, sym, ◌∙◌, ap, subst, arith}
+use Rattle.suit_edge.specs.Ranges.{SameOn}
+use Rattle.suit_edge.specs.Flash.{Flash, Now, Grows, Passes, ImageOn, Keeps, IsSame, IsSettled, IsFlash}
 
--- it reads as the one below, shown, and a power loss leaves what is left below, shown
-abbrev pub seen : (List ℕ → List ℕ) → Flash → Flash
-seen shows f = record {
-  reads = shows f.reads;
+abbrev pub seen : (List ℕ → List ℕ) → List ℕ → Flash → Flash
+seen shows reads f = record {
+  reads = reads;
   clock = f.clock;
-  may = λ t image. (below : List ℕ) × f.may t below × (image ≡ shows below);
+  may = λ t image. ((below : List ℕ) × f.may t below × (image ≡ shows below)) ⊎ ((t ≤ f.clock) × (image ≡ reads));
 }
 
-pub seen_obeys : (shows : List ℕ → List ℕ) (f : Flash) (size n : ℕ) → ((l : List ℕ) → length l ≡ size → length (shows l) ≡ n) → IsFlash f size → IsFlash (seen shows f) n
-seen_obeys shows f size n long law = record {
-  fits = long f.reads law.fits;
-  sized = λ t image le may. ap length may.2 ∙ long may.0 (law.sized t may.0 le may.1);
-  reads_may = (f.reads, law.reads_may, refl);
-  sooner = λ t u image le high may. (may.0, law.sooner t u may.0 le high may.1, may.2);
+pub seen_obeys : (shows : List ℕ → List ℕ) (reads : List ℕ) (f : Flash) (size n : ℕ) → ((l : List ℕ) → length l ≡ size → length (shows l) ≡ n) → length reads ≡ n → IsFlash f size
+    → IsFlash (seen shows reads f) n
+seen_obeys shows reads f size n long fits law = record {
+  fits = fits;
+  sized = λ t image le may. ⊎_elim (λ m. ap length m.2 ∙ long m.0 (law.sized t m.0 le m.1)) (λ m. ap length m.1 ∙ fits) may;
+  reads_may = inr (omega arith, refl);
+  sooner = λ t u image le high may. ⊎_elim (λ m. inl (m.0, law.sooner t u m.0 le high m.1, m.2)) (λ m. inr (omega (arith, le, high), m.1)) may;
 }
 
-pub seen_grows : (shows : List ℕ → List ℕ) (a b : Flash) → Grows a b → Grows (seen shows a) (seen shows b)
-seen_grows shows a b grows t image le may = (may.0, grows t may.0 le may.1, may.2)
+module _ (shows : List ℕ → List ℕ) (old new : List ℕ) (a b : Flash) where
+  -- The images of a moment stay, where the disk still reads what it read, or the one below has shown it since.
+  pub seen_grows : (size : ℕ) → IsFlash b size → a.clock ≤ b.clock → Grows a b → (old ≡ new) ⊎ ((below : List ℕ) × b.may a.clock below × (old ≡ shows below))
+      → Grows (seen shows old a) (seen shows new b)
+  seen_grows size law later grows stays t image le may = ⊎_elim
+      (λ m. inl (m.0, grows t m.0 le m.1, m.2))
+      (λ m. ⊎_elim (λ same. inr (omega (arith, le, later), m.1 ∙ same)) (λ s. inl (s.0, law.sooner t a.clock s.0 le later s.1, m.1 ∙ s.2)) stays)
+      may
 
--- any number of calls below make one call
-pub seen_passes : (shows : List ℕ → List ℕ) (a b : Flash) (P Q : List ℕ → Type 0) → ((image : List ℕ) → P image → Q (shows image)) → Passes a b P → Passes (seen shows a) (seen shows b) Q
-seen_passes shows a b P Q to run = record {
-  later = run.later;
-  each = λ image may. subst Q (sym may.2) (to may.0 (run.each may.0 may.1));
-  before = λ t image le may. ⊎_elim (λ old. inl (may.0, old, may.2)) (λ p. inr (subst Q (sym may.2) (to may.0 p))) (run.before t may.0 le may.1);
-}
+  -- any number of calls below make one call
+  pub seen_passes : (P Q : List ℕ → Type 0) → ((below : List ℕ) → P below → Q (shows below)) → Q new → Passes a b P → Passes (seen shows old a) (seen shows new b) Q
+  seen_passes P Q to read run = record {
+    later = run.later;
+    each = λ image may. ⊎_elim (λ m. subst Q (sym m.2) (to m.0 (run.each m.0 m.1))) (λ m. subst Q (sym m.1) read) may;
+    before = λ t image le may. ⊎_elim
+        (λ m. ⊎_elim (λ was. inl (inl (m.0, was, m.2))) (λ p. inr (subst Q (sym m.2) (to m.0 p))) (run.before t m.0 le m.1))
+        (λ m. inr (subst Q (sym m.1) read))
+        may;
+  }
 
-pub seen_same : (shows : List ℕ → List ℕ) (a b : Flash) → IsSame a b → IsSame (seen shows a) (seen shows b)
-seen_same shows a b same = record {
-  reads = ap shows same.reads;
-  images = seen_passes shows a b (Now a) (Now (seen shows a)) (λ image now. (image, now, refl)) same.images;
-}
+  pub seen_same : new ≡ old → IsSame a b → IsSame (seen shows old a) (seen shows new b)
+  seen_same same below = record {
+    reads = same;
+    images = seen_passes (Now a) (Now (seen shows old a)) (λ image now. inl (image, now, refl)) (inr (omega arith, same)) below.images;
+  }
 
-pub seen_settled : (shows : List ℕ → List ℕ) (f : Flash) → IsSettled f → IsSettled (seen shows f)
-seen_settled shows f settled image now = now.2 ∙ ap shows (settled now.0 now.1)
+  pub seen_keeps : (K : ℕ → Type 0) → SameOn K old new → Passes a b (λ below. ImageOn K (seen shows old a) (shows below)) → Keeps K (seen shows old a) (seen shows new b)
+  seen_keeps K same below = record {
+    reads = same;
+    images = seen_passes (λ l. ImageOn K (seen shows old a) (shows l)) (ImageOn K (seen shows old a)) (λ l on. on) (record { from = old; was = inr (omega arith, refl); same = same }) below;
+  }
+
+pub seen_settled : (shows : List ℕ → List ℕ) (reads : List ℕ) (f : Flash) → IsSettled f → reads ≡ shows f.reads → IsSettled (seen shows reads f)
+seen_settled shows reads f settled is image now = ⊎_elim (λ m. m.2 ∙ ap shows (settled m.0 m.1) ∙ sym is) (λ m. m.1) now

@@ -9,6 +9,7 @@ pub mod FuseDisk
 pub mod Gate
 pub mod Host
 pub mod Launch
+pub mod LossLaw
 pub mod MemoryDisk
 pub mod MemoryHost
 pub mod MemoryLauncher

@@ -1,7 +1,8 @@
 //! A disk in a file.
 
-ghost use Rattle.std.specs.Prelude.{◌≡◌};
+ghost use Rattle.std.specs.Prelude.{◌≡◌, OnErr, OnOk};
 ghost use Rattle.suit_edge.specs.Faults.{EdgeCounts};
+ghost use Rattle.suit_edge.specs.declared.edge.Edge.TheVariants as edge;
 
 use crate::{Disk, Edge};
 use std::fs::{File, OpenOptions};
@@ -100,9 +101,11 @@ fn flush<R: Files<File = File>>(rt: &R, file: &mut Option<File>) -> io::Result<(
     done
 }
 
-// Counts an error.
+// Counts an error, and tells it as a fault.
 fn counts(faults: &mut u64, done: io::Result<()>) -> Edge
-    ensures { EdgeCounts result faults.old faults.new }
+    ensures counts { EdgeCounts result faults.old faults.new }
+    ensures ok { OnOk done (result ≡ edge.Done) }
+    ensures err { OnErr done (result ≡ edge.Failed) }
 {
     match done {
         Ok(()) => Edge::Done,

@@ -127,6 +127,7 @@ fn real_files_are_stored_and_taken(rt: HostRuntime) -> Result<(), Fail> {
     );
     assert!(rt; matches!(take_all(rt.alloc(), &mut host, ".", 9), Taken::HostFault));
     assert_eq!(rt; host.store("no_such/file", b"some bytes"), Edge::Failed);
+    assert_eq!(rt; host.start("host_test_file/x"), Started::Failed);
     fs::remove_file(&rt, "host_test_file")?;
     Ok(())
 }

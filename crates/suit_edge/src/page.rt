@@ -31,55 +31,6 @@ pub fn write_and_sync<D: Disk>(disk: &mut D, place: u64, bytes: &[u8]) -> Edge
     }
 }
 
-// Closes a gate that reads open, and makes sure of it.
-fn close<D: Disk>(disk: &mut D, place: u64) -> Edge
-    requires { place + 1 ≤ D.extent disk.old }
-    ensures size { D.extent disk.new ≡ D.extent disk.old }
-    ensures counts { EdgeCounts result (D.faults disk.old) (D.faults disk.new) }
-    ensures keeps { IsTrue D.told → Keeps (Outside place 1) (D.flash disk.old) (D.flash disk.new) }
-    ensures shut { IsTrue D.told → slice_index (D.flash disk.old).reads place ≢ OPEN → IsSame (D.flash disk.old) (D.flash disk.new) }
-    ensures closed { IsTrue D.told → IfDone result (slice_index (D.flash disk.new).reads place ≢ OPEN) }
-    ensures firm { IsTrue D.told → IsFirmOn (Within place 1) (D.flash disk.old) → IfDone result (IsFirmOn (Within place 1) (D.flash disk.new)) }
-    ensures grows { IsTrue D.told → Grows (D.flash disk.old) (D.flash disk.new) }
-{
-    let mut gate = [0u8; 1];
-    match disk.read_at(place, &mut gate) {
-        Edge::Failed => return Edge::Failed,
-        Edge::Done => {}
-    }
-    if gate[0] != OPEN {
-        return Edge::Done;
-    }
-    match write_and_sync(disk, place, &[CLOSED]) {
-        Edge::Failed => Edge::Failed,
-        Edge::Done => Edge::Done,
-    }
-}
-
-// Closes the gate, and then writes the body behind it.
-fn fill<D: Disk>(disk: &mut D, place: u64, body: &[u8]) -> Edge
-    requires fits { place + 1 + length body.now ≤ D.extent disk.old }
-    requires firm { IsTrue D.told → IsFirmOn (Within place (1 + length body.now)) (D.flash disk.old) }
-    ensures size { D.extent disk.new ≡ D.extent disk.old }
-    ensures counts { EdgeCounts result (D.faults disk.old) (D.faults disk.new) }
-    ensures body { IsTrue D.told → IfDone result (behind (D.flash disk.new).reads place (length body.now) ≡ body.now) }
-    ensures settled { IsTrue D.told → IfDone result (IsSettled (D.flash disk.new)) }
-    ensures apart { IsTrue D.told → SameOn (Outside place (1 + length body.now)) (D.flash disk.old).reads (D.flash disk.new).reads }
-    ensures any_moment { IsTrue D.told → Passes (D.flash disk.old) (D.flash disk.new) (IsGated place body.now (D.flash disk.old)) }
-    ensures grows { IsTrue D.told → Grows (D.flash disk.old) (D.flash disk.new) }
-{
-    // The place behind the gate fits a u64, since the size does.
-    let _size = disk.size();
-    match close(disk, place) {
-        Edge::Failed => return Edge::Failed,
-        Edge::Done => {}
-    }
-    match write_and_sync(disk, place + 1, body) {
-        Edge::Failed => Edge::Failed,
-        Edge::Done => Edge::Done,
-    }
-}
-
 /// Writes the body of a page behind its gate, which is closed meanwhile, so that a power loss at any moment leaves
 /// the old page, the new one, or none. The page must be sure before. Where it fails, the page is the old one, the
 /// new one, or closed.
@@ -95,7 +46,20 @@ pub fn write_gated<D: Disk>(disk: &mut D, place: u64, body: &[u8]) -> Edge
     ensures any_moment { IsTrue D.told → Passes (D.flash disk.old) (D.flash disk.new) (IsGated place body.now (D.flash disk.old)) }
     ensures grows { IsTrue D.told → Grows (D.flash disk.old) (D.flash disk.new) }
 {
-    match fill(disk, place, body) {
+    // The place behind the gate fits a u64, since the size does.
+    let _size = disk.size();
+    let mut gate = [0u8; 1];
+    match disk.read_at(place, &mut gate) {
+        Edge::Failed => return Edge::Failed,
+        Edge::Done => {}
+    }
+    if gate[0] == OPEN {
+        match write_and_sync(disk, place, &[CLOSED]) {
+            Edge::Failed => return Edge::Failed,
+            Edge::Done => {}
+        }
+    }
+    match write_and_sync(disk, place + 1, body) {
         Edge::Failed => return Edge::Failed,
         Edge::Done => {}
     }
