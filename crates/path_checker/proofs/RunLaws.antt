@@ -17,7 +17,7 @@ use Rattle.path_checker.specs.Tree.{TryEach, RunSequence, Sequence, Branches, No
 use Rattle.path_checker.specs.Behaviour.{State, Ending, Done, Condition, Directive, Behaviour, IsFailure, EachSelected, Each}
 use Rattle.path_checker.specs.Directives.{set_events, soft_after, after_override}
 use Rattle.path_checker.specs.Runs.{RunsInner, Runs, Tries, Does}
-use Rattle.path_checker.specs.RunLaws.{Selections, MemberStarts, OverrideSteps, OverridesStep, RunRules, RunSequenceRules, BranchRules, BranchesRules, LastRules, LastBranchRules}
+use Rattle.path_checker.specs.RunLaws.{Selections, MemberStarts, SequenceRules, OverrideSteps, OverridesStep, RunRules, RunSequenceRules, BranchRules, BranchesRules, LastRules, LastBranchRules}
 
 -- ---- selections
 
@@ -74,6 +74,18 @@ overrides_step s c list param =
       soft = λ value soft. ap (λ (t : State). t.soft_failure) is ∙ ap (soft_after (after_override s c list).soft_failure) soft;
       other = λ other. ap (λ (t : State). t.soft_failure) is ∙ other_soft (after_override s c list).soft_failure param other;
     }
+
+-- ---- sequences
+
+pub sequence_rules : SequenceRules
+sequence_rules = record {
+  none = λ ids count s. (refl, refl);
+  step = λ place command rest ids count s. record {
+    done = λ middle before after e run others. inr (middle, before, after, refl, run, others);
+    failed = λ at soft es run. inl (tt, run);
+    ended = λ at es run. inl (tt, run);
+  };
+}
 
 -- ---- one selected component
 

@@ -1,4 +1,4 @@
--- Laws of selections, overrides, run sequence and try each: how the whole runs, from how its parts do
+-- Laws of selections, overrides, sequences, run sequence and try each: how the whole runs, from how its parts do
 -- (draft-ietf-suit-manifest-25, sections 6.5 and 8.4.10, and this project's choices on soft failure).
 use Rattle.std.specs.Prelude.{◌≡◌, ◌≢◌, ◌↔◌, ◌<◌, ℕ, Bool, true, false, List, [], ◌∷◌, ◌++◌, length, Some, slice_get}
 use Rattle.path_checker.specs.declared.identity.Identity.{Identity}
@@ -9,7 +9,7 @@ use Rattle.path_checker.specs.declared.event.Event.{Event}
 use Rattle.path_checker.specs.declared.event.Event.TheVariants.{Set}
 use Rattle.path_checker.specs.Keys.{key_of}
 use Rattle.path_checker.specs.Parameters.{with_param}
-use Rattle.path_checker.specs.Tree.{One, All, Listed, Index, Override, TryEach, RunSequence, Sequence, Branches, NoBranches, BranchThen, NullThen}
+use Rattle.path_checker.specs.Tree.{One, All, Listed, Command, TryEach, RunSequence, Sequence, NoSteps, StepThen, Branches, NoBranches, BranchThen, NullThen}
 use Rattle.path_checker.specs.Behaviour.{State, Ending, Done, Condition, Directive}
 use Rattle.path_checker.specs.Directives.{set_events, after_override}
 use Rattle.path_checker.specs.Runs.{selection_of, Runs, Does}
@@ -44,6 +44,21 @@ pub record OverrideSteps (state : State) (component : ℕ) (list : List Param) (
 
 abbrev pub OverridesStep : Type 0
 OverridesStep = (state : State) (component : ℕ) (list : List Param) (param : Param) → OverrideSteps state component list param
+
+-- ---- sequences: steps follow one another, and the first that fails ends it
+
+pub record StepRules (place : ℕ) (command : Command) (rest : Sequence) (identities : List Identity) (count : ℕ) (state : State) : Type 0 where
+  pub done : (middle : State) (before after : List Event) (ending : Ending) → Does command identities count place state before (Done middle)
+      → Runs rest identities count middle after ending → Runs (StepThen place command rest) identities count state (before ++ after) ending
+  pub failed : (at : ℕ) (soft : Bool) (events : List Event) → Does command identities count place state events (Condition at soft)
+      → Runs (StepThen place command rest) identities count state events (Condition at soft)
+  pub ended : (at : ℕ) (events : List Event) → Does command identities count place state events (Directive at)
+      → Runs (StepThen place command rest) identities count state events (Directive at)
+
+pub record SequenceRules : Type 0 where
+  pub none : (identities : List Identity) (count : ℕ) (state : State) → Runs NoSteps identities count state [] (Done state)
+  pub step : (place : ℕ) (command : Command) (rest : Sequence) (identities : List Identity) (count : ℕ) (state : State)
+      → StepRules place command rest identities count state
 
 -- ---- run sequence, where one component is selected
 

@@ -2,7 +2,7 @@
 
 ghost use Rattle.path_checker.specs.ParameterLaws.{StaysWhole, StartsEmpty, OverrideReplaces, OverrideKeeps, IsCanonical};
 ghost use Rattle.path_checker.specs.CommandLaws.{ConditionsEnd, AbortFails, ConditionsNeed, IdentityDecides, IdentityFollowed, MatchIsFree, ContentIsFree, DirectivesWrite, DirectivesNeed, InvokesTell};
-ghost use Rattle.path_checker.specs.RunLaws.{Selections, MemberStarts, OverridesStep, RunSequenceRules, BranchesRules, LastBranchRules};
+ghost use Rattle.path_checker.specs.RunLaws.{Selections, MemberStarts, SequenceRules, OverridesStep, RunSequenceRules, BranchesRules, LastBranchRules};
 ghost use Rattle.path_checker.specs.PathLaws.{InnerGoesBack, PathsBegin, IdentitiesBounded};
 ghost use Rattle.path_checker.specs.CoverLaws.{NothingMatched, MatchStands, WriteEnds, OthersLeave, InvokeCovered, AbsentUncovered};
 
@@ -40,6 +40,11 @@ pub fn directives()
 pub fn selecting()
     ensures index { Selections }
     ensures member { MemberStarts }
+{}
+
+/// Steps follow one another, and the first that fails ends its sequence (section 6.4).
+pub fn sequences()
+    ensures { SequenceRules }
 {}
 
 /// How try each and run sequence end, from how their inner sequences do. After them the selection and soft

@@ -15,7 +15,7 @@ pub use judge::{BadPath, CheckVerdict, check};
 pub use kinds::{ActKind, TestKind};
 pub use law::{
     conditions, covered_invokes, directives, identity_bounds, inner_sequences, overriding,
-    path_beginnings, selecting,
+    path_beginnings, selecting, sequences,
 };
 pub use param::{Param, ParamKey};
 pub use plan::{FlatPlan, Procedure};
