@@ -186,5 +186,8 @@ fn a_real_disk_is_made_filled_and_left_alone(rt: HostRuntime) -> Result<(), Fail
     assert_eq!(rt; file.len(), 4_194_306);
     assert!(rt; file.ends_with(b"abcd\x05\x05"));
     fs::remove_file(&rt, NAME)?;
+    fs::create_dir(&rt, NAME)?;
+    assert!(rt; !reads(&rt, 0, &[1; 4]), "a folder");
+    fs::remove_dir(&rt, NAME)?;
     Ok(())
 }

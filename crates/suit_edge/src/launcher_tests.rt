@@ -89,6 +89,10 @@ fn a_real_launcher_writes_images(rt: HostRuntime) -> Result<(), Fail> {
     let ram = launcher.launch(&mut disk, Image::Ram(b"xy"), 12, None, None, None);
     assert_eq!(rt; ram, Launched::Done);
     assert!(rt; file_holds(&rt, "boot-12.img", b"xy"));
+    fs::create_dir(&rt, "boot-4.img")?;
+    let failed = launcher.launch(&mut disk, image, 4, None, None, None);
+    assert_eq!(rt; failed, Launched::Failed, "a folder");
+    fs::remove_dir(&rt, "boot-4.img")?;
     fs::remove_file(&rt, "boot-3.img")?;
     fs::remove_file(&rt, "boot-12.img")?;
     Ok(())
