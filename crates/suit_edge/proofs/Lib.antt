@@ -8,3 +8,4 @@ pub mod Runs
 pub mod Seen
 mod Vouching
 pub mod Written
+mod Wrong

@@ -1,5 +1,6 @@
 pub mod Calls
 pub mod Client
+pub mod DiskLaw
 pub mod Edge
 pub mod Faults
 pub mod FileDisk

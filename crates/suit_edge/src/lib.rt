@@ -40,7 +40,7 @@ pub use fuse_disk::FuseDisk;
 pub use host::{Host, Pulled, Started};
 pub use launch::{Launch, Launches};
 pub use launcher::{Image, Launched, Launcher};
-pub use law::power_loss;
+pub use law::{disk_law, power_loss};
 pub use memory_disk::MemoryDisk;
 pub use memory_host::MemoryHost;
 pub use memory_launcher::MemoryLauncher;
