@@ -5,3 +5,13 @@ pub mod DigestJudging
 pub mod Judgements
 pub mod DigestAnswers
 pub mod Held
+pub mod ParamKeyLaws
+pub mod ParamValues
+pub mod ParamJudging
+pub mod Texts
+pub mod ParamSteps
+pub mod ParamReads
+pub mod ParamAnswers
+pub mod ParamOrder
+pub mod ParamWritten
+pub mod ParamLawProofs

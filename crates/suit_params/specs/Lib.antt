@@ -3,3 +3,10 @@ pub mod Digests
 pub mod Judging
 pub mod Reading
 pub mod DigestReading
+pub mod ParamKeys
+pub mod Params
+pub mod ParamJudging
+pub mod Answering
+pub mod ParamReading
+pub mod ParamMaking
+pub mod ParamLaws

@@ -1,13 +1,25 @@
-//! What the readers of SUIT manifests share: refusals with their places, and digests.
+//! What the readers of SUIT manifests share: refusals with their places, digests and parameters.
 #![tactic(auto)]
 
 mod digest;
+mod fault;
+mod law;
+mod param;
+mod param_list;
+mod param_map;
+mod param_value;
 mod reading;
 mod refusal;
 
 pub use digest::{Digest, digest_of, read_digest};
+pub use law::param_laws;
+pub use param::{Param, ParamKey};
+pub use param_list::ParamList;
+pub use param_map::{params_of, read_params};
 pub use reading::{only_item, read_bytes, read_content, read_head, read_item, same_place};
 pub use refusal::{Fault, Refusal, Why, refused};
 
+#[cfg(test)]
+mod param_tests;
 #[cfg(test)]
 mod tests;

@@ -1,0 +1,84 @@
+-- Maps of parameters say one list or have one refusal, and lists ascend.
+use Rattle.std.proofs.Common.{◌≡◌, ℕ, ◌<◌, List, Some, None, Result, Ok, Err, refl, sym, ◌∙◌, arith, inl, inr, ◌⊎◌}
+use Rattle.det_cbor.specs.DataItem.{DataItem, DataPairs, spell, IsAbove, IsValid, ArePairsWithin}
+use Rattle.det_cbor.proofs.Results.{same_ok, same_err, not_both}
+use Rattle.suit_params.specs.declared.param.Param.{Param}
+use Rattle.suit_params.specs.declared.param.ParamKey.{ParamKey}
+use Rattle.suit_params.specs.declared.param.ParamKey.TheVariants as keys
+use Rattle.suit_params.specs.declared.refusal.Refusal.{Refusal}
+use Rattle.suit_params.specs.ParamKeys.{key_of, key_number, key_item}
+use Rattle.suit_params.specs.Params.{SaysValue, SaysVendor, SaysClass, SaysDevice, SaysDigest, SaysSlot, SaysStrict, SaysSoft, SaysSize, SaysContent, SaysUri, SaysSource, SaysArgs, SayParams, NoMore, ParamThen, IsParams, ParamMap}
+use Rattle.suit_params.specs.ParamJudging.{judge_params}
+use Rattle.suit_params.specs.ParamLaws.{HasOneList, HasOneRefusal, AreAbove, AreAscending, ParamLaws}
+use Rattle.suit_params.proofs.ParamJudging.{params_judge}
+use Rattle.suit_params.proofs.ParamOrder.{number_above, key_small}
+use Rattle.suit_params.proofs.ParamWritten.{written_says, written_valid}
+
+one_reading : (count place : ℕ) (x : DataItem) → IsValid x → HasOneList count place x ⊎ HasOneRefusal count place x
+one_reading count place x valid = by_answer (judge_params count place x) refl
+  where
+    by_answer : (a : Result (List Param) Refusal) → judge_params count place x ≡ a → HasOneList count place x ⊎ HasOneRefusal count place x
+    by_answer (Ok ps) is = inl (record {
+      list = ps;
+      says = (params_judge count).ok 0 place x ps valid is;
+      only = λ qs said. same_ok qs ps (sym ((params_judge count).again place x qs said) ∙ is);
+      sound = λ r refuses. not_both (judge_params count place x) ps r is ((params_judge count).refuses place x r refuses);
+    })
+    by_answer (Err r) is = inr (record {
+      refusal = r;
+      refuses = (params_judge count).err 0 place x r valid is;
+      only = λ s refuses. same_err s r (sym ((params_judge count).refuses place x s refuses) ∙ is);
+      empty = λ ps said. not_both (judge_params count place x) ps r ((params_judge count).again place x ps said) is;
+    })
+
+-- ---- lists ascend
+
+-- a value says a parameter of its key
+pub said_key : (count place : ℕ) (key : ParamKey) (x : DataItem) (p : Param) → SaysValue count place key x p → key_of p ≡ key
+said_key count place key x p (SaysVendor id long) = refl
+said_key count place key x p (SaysClass id long) = refl
+said_key count place key x p (SaysDevice id long) = refl
+said_key count place key x p (SaysDigest content digest whole) = refl
+said_key count place key x p (SaysSlot n) = refl
+said_key count place key x p (SaysStrict b) = refl
+said_key count place key x p (SaysSoft b) = refl
+said_key count place key x p (SaysSize n) = refl
+said_key count place key x p (SaysContent bytes) = refl
+said_key count place key x p (SaysUri text) = refl
+said_key count place key x p (SaysSource i lt) = refl
+said_key count place key x p (SaysArgs bytes) = refl
+
+key_positive : (key : ParamKey) → 0 < key_number key
+key_positive keys.Vendor = omega arith
+key_positive keys.Class = omega arith
+key_positive keys.Device = omega arith
+key_positive keys.Digest = omega arith
+key_positive keys.Slot = omega arith
+key_positive keys.Strict = omega arith
+key_positive keys.Soft = omega arith
+key_positive keys.Size = omega arith
+key_positive keys.Content = omega arith
+key_positive keys.Uri = omega arith
+key_positive keys.Source = omega arith
+key_positive keys.Args = omega arith
+
+above_key : (low key : ParamKey) → IsAbove (Some (spell (key_item low))) (spell (key_item key)) → key_number low < key_number key
+above_key low key above = number_above (key_number low) (key_number key) (key_small low) (key_small key) above
+
+pairs_above : (count levels place : ℕ) (low : ParamKey) (pairs : DataPairs) (ps : List Param) → ArePairsWithin levels (Some (spell (key_item low))) pairs → SayParams count place pairs ps → AreAbove (key_number low) ps
+pairs_above count levels place low pairs ps valid (NoMore at) = tt
+pairs_above count levels place low pairs ps valid (ParamThen at key value others p qs said rest) =
+    let same : key_of p ≡ key = said_key count _ key value p said in
+    rw same (above_key low key valid.1, pairs_above count levels _ key others qs valid.3 rest)
+
+pairs_ascend : (count levels place : ℕ) (pairs : DataPairs) (ps : List Param) → ArePairsWithin levels None pairs → SayParams count place pairs ps → AreAscending ps
+pairs_ascend count levels place pairs ps valid (NoMore at) = tt
+pairs_ascend count levels place pairs ps valid (ParamThen at key value others p qs said rest) =
+    let same : key_of p ≡ key = said_key count _ key value p said in
+    rw same (key_positive key, pairs_above count levels _ key others qs valid.3 rest)
+
+ascending : (count place : ℕ) (x : DataItem) (ps : List Param) → IsValid x → IsParams count place x ps → AreAscending ps
+ascending count place x ps valid (ParamMap pairs qs said) = pairs_ascend count 1 _ pairs qs valid.2 said
+
+pub param_laws : ParamLaws
+param_laws = record { one_reading = one_reading; ascending = ascending; written = written_says; valid = written_valid }

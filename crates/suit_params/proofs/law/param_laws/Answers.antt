@@ -1,0 +1,5 @@
+use Rattle.suit_params.proofs.ParamLawProofs.{param_laws}
+use Rattle.suit_params.proofs.law.param_laws.Goals as goal
+
+pub returns : goal.returns
+returns c = param_laws

@@ -1,0 +1,167 @@
+//! Maps of parameters.
+
+ghost use Rattle.std.specs.Prelude.{◌≡◌, ℕ, ◌<◌, List, get_or, Result, Ok, Err, IfOk, IfErr, OnErr};
+ghost use Rattle.det_cbor.specs.HeadReading.{map_ok};
+ghost use Rattle.det_cbor.specs.Position.{Position};
+ghost use Rattle.suit_params.specs.declared.param.Param.{Param};
+ghost use Rattle.suit_params.specs.declared.refusal.Refusal.{Refusal};
+ghost use Rattle.suit_params.specs.Refusing.{RefusesNext, TakesNext};
+ghost use Rattle.suit_params.specs.Answering.{Gives, IsFaultBy, IsReadAs, IsRefusedAs};
+ghost use Rattle.suit_params.specs.ParamKeys.{numbered};
+ghost use Rattle.suit_params.specs.Params.{IsParams, RefusesParams};
+ghost use Rattle.suit_params.specs.ParamJudging.{known_param};
+ghost use Rattle.suit_params.specs.ParamReading.{key_from, bytes_value_from, value_from, param_from, params_from, params_at, next_params};
+
+use crate::param_value::{
+    read_flag, read_held, read_held_digest, read_id, read_index, read_number, read_text,
+};
+use crate::reading::{read_head, read_item, same_place};
+use crate::refusal::refused;
+use crate::{Fault, Param, ParamKey, ParamList, Refusal, Why};
+use det_cbor::{Bytes, Cursor, HeadKind, Text};
+use std::alloc::{AllocError, Global};
+
+// The parameter that has a number, which stands at a place.
+fn numbered(place: u64, number: u64) -> Result<ParamKey, Refusal>
+    ensures { result ≡ known_param place (numbered number) }
+{
+    match number {
+        1 => Ok(ParamKey::Vendor),
+        2 => Ok(ParamKey::Class),
+        3 => Ok(ParamKey::Digest),
+        5 => Ok(ParamKey::Slot),
+        12 => Ok(ParamKey::Strict),
+        13 => Ok(ParamKey::Soft),
+        14 => Ok(ParamKey::Size),
+        18 => Ok(ParamKey::Content),
+        21 => Ok(ParamKey::Uri),
+        22 => Ok(ParamKey::Source),
+        23 => Ok(ParamKey::Args),
+        24 => Ok(ParamKey::Device),
+        _ => refused(place, Why::UnknownParam),
+    }
+}
+
+#[tactic(auto, unfolding(crate::specs::ParamReading::key_from))]
+fn read_key(map: &mut Cursor<'_>) -> Result<ParamKey, Refusal>
+    ensures { map_ok (λ key. (key, map.new)) result ≡ key_from map.old }
+{
+    let place = map.place();
+    let head = read_head(map)?;
+    match head.kind {
+        HeadKind::Unsigned => numbered(place, head.value),
+        _ => refused(place, Why::UnknownParam),
+    }
+}
+
+// The bytes that are left, copied.
+fn copy_left(alloc: Global, mut content: Cursor<'_>) -> Result<Bytes, AllocError>
+    ensures { IfOk result (λ b. b ≡ content.entry.left) }
+{
+    match content.bytes(content.left() as u64) {
+        Ok(bytes) => Bytes::from_slice(alloc, bytes),
+        Err(_) => unreachable!(),
+    }
+}
+
+// A byte string, as its content in memory of its own.
+fn read_bytes_value(alloc: Global, map: &mut Cursor<'_>) -> Result<Bytes, Fault>
+    ensures { Gives (λ b. (b, map.new)) result (bytes_value_from map.old) }
+{
+    let content = read_held(map)?;
+    Ok(copy_left(alloc, content)?)
+}
+
+fn read_value(
+    alloc: Global,
+    map: &mut Cursor<'_>,
+    key: ParamKey,
+    count: u32,
+) -> Result<Param, Fault>
+    ensures { Gives (λ p. (p, map.new)) result (value_from count key map.old) }
+{
+    match key {
+        ParamKey::Vendor => Ok(Param::Vendor(read_id(map)?)),
+        ParamKey::Class => Ok(Param::Class(read_id(map)?)),
+        ParamKey::Device => Ok(Param::Device(read_id(map)?)),
+        ParamKey::Digest => Ok(Param::Digest(read_held_digest(map)?)),
+        ParamKey::Slot => Ok(Param::Slot(read_number(map)?)),
+        ParamKey::Strict => Ok(Param::Strict(read_flag(map)?)),
+        ParamKey::Soft => Ok(Param::Soft(read_flag(map)?)),
+        ParamKey::Size => Ok(Param::Size(read_number(map)?)),
+        ParamKey::Content => Ok(Param::Content(read_bytes_value(alloc, map)?)),
+        ParamKey::Uri => Ok(Param::Uri(Text::from_str(alloc, read_text(map)?)?)),
+        ParamKey::Source => Ok(Param::Source(read_index(map, count)?)),
+        ParamKey::Args => Ok(Param::Args(read_bytes_value(alloc, map)?)),
+    }
+}
+
+fn read_param(alloc: Global, map: &mut Cursor<'_>, count: u32) -> Result<Param, Fault>
+    ensures { Gives (λ p. (p, map.new)) result (param_from count map.old) }
+{
+    let key = read_key(map)?;
+    read_value(alloc, map, key, count)
+}
+
+// So many pairs of a map.
+fn read_pairs(
+    alloc: Global,
+    mut map: Cursor<'_>,
+    pairs: u64,
+    count: u32,
+) -> Result<ParamList, Fault>
+    ensures { Gives (λ list. list) result (params_from count pairs map.entry) }
+{
+    let mut list = ParamList::new(alloc);
+    for _ in 0..pairs {
+        let param = read_param(alloc, &mut map, count)?;
+        list.push(param)?;
+    }
+    Ok(list)
+}
+
+/// A whole item, which was judged as one before, as a map of parameters, where there are so many
+/// components.
+#[tactic(auto, unfolding(crate::specs::ParamReading::params_at))]
+pub fn params_of(alloc: Global, mut item: Cursor<'_>, count: u32) -> Result<ParamList, Fault>
+    ensures { Gives (λ list. list) result (params_at count item.entry) }
+{
+    let place = item.place();
+    let head = read_head(&mut item)?;
+    match head.kind {
+        HeadKind::Map => read_pairs(alloc, item, head.value, count),
+        _ => Ok(refused(place, Why::Shape)?),
+    }
+}
+
+fn next_params(alloc: Global, cursor: &mut Cursor<'_>, count: u32) -> Result<ParamList, Fault>
+    ensures { Gives (λ list. (list, cursor.new)) result (next_params count cursor.old) }
+{
+    let item = read_item(cursor)?;
+    params_of(alloc, item, count)
+}
+
+// As `read_params`, which says what this means.
+fn params_ahead(alloc: Global, cursor: &mut Cursor<'_>, count: u32) -> Result<ParamList, Fault>
+    ensures exact { Gives (λ list. (list, cursor.new)) result (next_params count cursor.old) }
+    ensures same { OnErr result (cursor.new ≡ cursor.old) }
+    ensures bytes { (i : ℕ) → get_or cursor.old.left i 0 < 256 }
+{
+    let mut ahead = same_place(cursor);
+    let list = next_params(alloc, &mut ahead, count)?;
+    *cursor = ahead;
+    Ok(list)
+}
+
+/// Reads a map of parameters (draft-ietf-suit-manifest-25, section 8.4.8), where there are so many
+/// components. It is judged as one item first, and then pair by pair. Takes memory for the list
+/// alone. After a fault the cursor stands where it stood.
+pub fn read_params(alloc: Global, cursor: &mut Cursor<'_>, count: u32) -> Result<ParamList, Fault>
+    ensures ok { IfOk result (λ list. TakesNext (IsParams count) cursor.old cursor.new list) }
+    ensures refused { IfErr result (IsFaultBy (RefusesNext (RefusesParams count) cursor.old)) }
+    ensures same { OnErr result (cursor.new ≡ cursor.old) }
+    ensures every_list { (new : Position) (ps : List Param) → TakesNext (IsParams count) cursor.old new ps → IsReadAs ps result }
+    ensures every_refusal { (r : Refusal) → RefusesNext (RefusesParams count) cursor.old r → IsRefusedAs r result }
+{
+    params_ahead(alloc, cursor, count)
+}

@@ -1,0 +1,152 @@
+//! Values of parameters, by their kinds. Items were judged as such before.
+
+ghost use Rattle.std.specs.Prelude.{◌≡◌, option_map};
+ghost use Rattle.det_cbor.specs.HeadReading.{map_ok};
+ghost use Rattle.det_cbor.specs.ItemReading.{utf8_text};
+ghost use Rattle.suit_params.specs.Reading.{bytes_from, string_from};
+ghost use Rattle.suit_params.specs.ParamReading.{id_from, held_from, text_bytes, text_from, number_from, flag_from, index_from, digest_from};
+ghost use Rattle.suit_params.specs.ParamJudging.{judge_index};
+
+use crate::digest::digest_of;
+use crate::reading::{only_item, read_bytes, read_head};
+use crate::refusal::refused;
+use crate::{Digest, Refusal, Why};
+use det_cbor::{Cursor, HeadKind, Reason};
+
+// The next 16 bytes.
+fn id_bytes(map: &mut Cursor<'_>) -> Result<[u8; 16], Refusal>
+    ensures { map_ok (λ id. (id, map.new)) result ≡ bytes_from 16 map.old }
+{
+    let bytes = read_bytes(map, 16)?;
+    let mut id = [0; 16];
+    id.copy_from_slice(bytes);
+    Ok(id)
+}
+
+/// An identifier of 16 bytes.
+#[tactic(auto, unfolding(crate::specs::ParamReading::id_from))]
+pub(crate) fn read_id(map: &mut Cursor<'_>) -> Result<[u8; 16], Refusal>
+    ensures { map_ok (λ id. (id, map.new)) result ≡ id_from map.old }
+{
+    let place = map.place();
+    let head = read_head(map)?;
+    match head.kind {
+        HeadKind::Bytes => {
+            if head.value == 16 {
+                id_bytes(map)
+            } else {
+                refused(place, Why::BadParam)
+            }
+        }
+        _ => refused(place, Why::BadParam),
+    }
+}
+
+// The next bytes, as a cursor on them.
+fn content<'a>(map: &mut Cursor<'a>, count: u64) -> Result<Cursor<'a>, Refusal>
+    ensures { map_ok (λ inner. (inner, map.new)) result ≡ string_from count map.old }
+{
+    let place = map.place();
+    let content = read_bytes(map, count)?;
+    Ok(Cursor::new(content, place))
+}
+
+/// A byte string: a cursor on its content.
+#[tactic(auto, unfolding(crate::specs::ParamReading::held_from))]
+pub(crate) fn read_held<'a>(map: &mut Cursor<'a>) -> Result<Cursor<'a>, Refusal>
+    ensures { map_ok (λ inner. (inner, map.new)) result ≡ held_from map.old }
+{
+    let place = map.place();
+    let head = read_head(map)?;
+    match head.kind {
+        HeadKind::Bytes => content(map, head.value),
+        _ => refused(place, Why::BadParam),
+    }
+}
+
+// The bytes as a text.
+#[tactic(auto, using(crate::proofs::Texts::good_text, crate::proofs::Texts::bad_text))]
+fn utf8(bytes: &[u8]) -> Option<&str>
+    ensures { option_map (λ t. t.now) result ≡ utf8_text bytes.now }
+{
+    std::str::from_utf8(bytes).ok()
+}
+
+// The next bytes as a text, which stands at a place.
+fn text<'a>(map: &mut Cursor<'a>, count: u64, place: u64) -> Result<&'a str, Refusal>
+    ensures { map_ok (λ t. (t.now, map.new)) result ≡ text_bytes place count map.old }
+{
+    let bytes = read_bytes(map, count)?;
+    match utf8(bytes) {
+        Some(text) => Ok(text),
+        None => refused(place, Why::Cbor(Reason::BadText)),
+    }
+}
+
+/// A text.
+#[tactic(auto, unfolding(crate::specs::ParamReading::text_from))]
+pub(crate) fn read_text<'a>(map: &mut Cursor<'a>) -> Result<&'a str, Refusal>
+    ensures { map_ok (λ t. (t.now, map.new)) result ≡ text_from map.old }
+{
+    let place = map.place();
+    let head = read_head(map)?;
+    match head.kind {
+        HeadKind::Text => text(map, head.value, place),
+        _ => refused(place, Why::BadParam),
+    }
+}
+
+/// An unsigned number.
+#[tactic(auto, unfolding(crate::specs::ParamReading::number_from))]
+pub(crate) fn read_number(map: &mut Cursor<'_>) -> Result<u64, Refusal>
+    ensures { map_ok (λ n. (n, map.new)) result ≡ number_from map.old }
+{
+    let place = map.place();
+    let head = read_head(map)?;
+    match head.kind {
+        HeadKind::Unsigned => Ok(head.value),
+        _ => refused(place, Why::BadParam),
+    }
+}
+
+/// True or false.
+#[tactic(auto, unfolding(crate::specs::ParamReading::flag_from))]
+pub(crate) fn read_flag(map: &mut Cursor<'_>) -> Result<bool, Refusal>
+    ensures { map_ok (λ b. (b, map.new)) result ≡ flag_from map.old }
+{
+    let place = map.place();
+    let head = read_head(map)?;
+    match head.kind {
+        HeadKind::Bool => Ok(head.value == 1),
+        _ => refused(place, Why::BadParam),
+    }
+}
+
+// A component's index, which stands at a place: below the number of components.
+fn index(place: u64, number: u64, count: u32) -> Result<u32, Refusal>
+    ensures { result ≡ judge_index count place number }
+{
+    if number < count as u64 {
+        Ok(number as u32)
+    } else {
+        refused(place, Why::BadIndex(number, count as u64))
+    }
+}
+
+/// The index of a component.
+pub(crate) fn read_index(map: &mut Cursor<'_>, count: u32) -> Result<u32, Refusal>
+    ensures { map_ok (λ i. (i, map.new)) result ≡ index_from count map.old }
+{
+    let place = map.place();
+    let number = read_number(map)?;
+    index(place, number, count)
+}
+
+/// A byte string that holds a digest.
+pub(crate) fn read_held_digest(map: &mut Cursor<'_>) -> Result<Digest, Refusal>
+    ensures { map_ok (λ d. (d.bytes, map.new)) result ≡ digest_from map.old }
+{
+    let content = read_held(map)?;
+    let item = only_item(content)?;
+    digest_of(item)
+}
