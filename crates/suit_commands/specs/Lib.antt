@@ -1,0 +1,13 @@
+pub mod Allowed
+pub mod Codes
+pub mod Falls
+pub mod Kinds
+pub mod Numbers
+pub mod Plans
+pub mod Selections
+pub mod SequenceFaults
+pub mod Sequences
+pub mod Size
+pub mod Targets
+pub mod Tree
+pub mod View

@@ -1,0 +1,147 @@
+//! Commands and their sequences, which hold each other.
+
+ghost use Rattle.std.specs.Prelude.{◌≡◌, OnOk, OnErr};
+ghost use Rattle.suit_commands.specs.Tree.{NoSteps, NoBranches};
+ghost use Rattle.suit_commands.specs.View.{command_tree, sequence_tree, branches_tree, step_after, branch_after};
+
+use crate::{ActKind, Selection, TestKind};
+use std::alloc::{AllocError, Global};
+use std::marker::Model;
+use suit_params::ParamList;
+
+/// A command, and the place of its code in bytes from the envelope's first.
+#[cycle(tree)]
+#[derive(Debug, Drop)]
+pub struct Step {
+    pub place: u64,
+    pub command: Command,
+}
+
+/// A condition or a directive with its argument (draft-ietf-suit-manifest-25, sections 8.4.9 and 8.4.10).
+#[cycle(tree)]
+#[derive(Debug, Drop)]
+pub enum Command {
+    /// A condition, and its reporting policy.
+    Test { kind: TestKind, report: u8 },
+    /// A directive that acts on contents, and its reporting policy.
+    Act { kind: ActKind, report: u8 },
+    /// Set component index.
+    Index(Selection),
+    /// Override parameters.
+    Override(ParamList),
+    TryEach(Branches),
+    /// Run sequence.
+    Run(Sequence),
+}
+
+/// Commands in their order.
+#[cycle(tree)]
+#[derive(Debug, Drop)]
+pub struct Sequence {
+    held: Vec<Step>,
+}
+
+/// The sequences of a try each in their order. `None` stands for null, which does nothing.
+#[cycle(tree)]
+#[derive(Debug, Drop)]
+pub struct Branches {
+    held: Vec<Option<Sequence>>,
+}
+
+impl Model for Sequence {
+    ghost use Rattle.suit_commands.specs.Tree.{SequenceTree};
+
+    ghost Value = { SequenceTree };
+
+    ghost use Rattle.suit_commands.specs.Codes.{coded_sequence};
+
+    ghost coded = { coded_sequence };
+
+    ghost use Rattle.suit_commands.specs.View.{sequence_tree};
+
+    ghost view = { λ a. sequence_tree a.held.items };
+
+    ghost use Rattle.suit_commands.specs.Size.{sequence_size};
+
+    ghost size = { sequence_size };
+
+    ghost use Rattle.suit_commands.specs.Falls.{sequence_falls};
+
+    ghost size_decreases = { λ a h. sequence_falls a.held.items };
+}
+
+impl Model for Branches {
+    ghost use Rattle.suit_commands.specs.Tree.{BranchesTree};
+
+    ghost Value = { BranchesTree };
+
+    ghost use Rattle.suit_commands.specs.Codes.{coded_branches};
+
+    ghost coded = { coded_branches };
+
+    ghost use Rattle.suit_commands.specs.View.{branches_tree};
+
+    ghost view = { λ a. branches_tree a.held.items };
+
+    ghost use Rattle.suit_commands.specs.Size.{branches_size};
+
+    ghost size = { branches_size };
+
+    ghost use Rattle.suit_commands.specs.Falls.{branches_fall};
+
+    ghost size_decreases = { λ a h. branches_fall a.held.items };
+}
+
+impl Sequence {
+    /// A sequence of no commands, which grows by this allocator. Takes no memory.
+    pub fn new(alloc: Global) -> Sequence
+        ensures { result ≡ NoSteps }
+    {
+        Sequence {
+            held: Vec::new(alloc),
+        }
+    }
+
+    /// Adds a command at the end. A command for which there is no memory is dropped.
+    #[tactic(auto, using(crate::proofs::Pushing::step_pushed))]
+    pub fn push(&mut self, step: Step) -> Result<(), AllocError>
+        ensures ok { OnOk result (self.new ≡ step_after self.old step.place (command_tree step.command)) }
+        ensures err { OnErr result (self.new ≡ self.old) }
+    {
+        Ok(self.held.push(step)?)
+    }
+
+    /// The commands, lent.
+    pub fn as_slice(&self) -> &[Step]
+        ensures { sequence_tree result.now ≡ self.now }
+    {
+        self.held.as_slice()
+    }
+}
+
+impl Branches {
+    /// No sequences. The list grows by this allocator. Takes no memory.
+    pub fn new(alloc: Global) -> Branches
+        ensures { result ≡ NoBranches }
+    {
+        Branches {
+            held: Vec::new(alloc),
+        }
+    }
+
+    /// Adds a sequence at the end. A sequence for which there is no memory is dropped.
+    #[tactic(auto, using(crate::proofs::Pushing::branch_pushed))]
+    pub fn push(&mut self, branch: Option<Sequence>) -> Result<(), AllocError>
+        ensures ok { OnOk result (self.new ≡ branch_after self.old branch) }
+        ensures err { OnErr result (self.new ≡ self.old) }
+    {
+        Ok(self.held.push(branch)?)
+    }
+
+    /// The sequences, lent.
+    pub fn as_slice(&self) -> &[Option<Sequence>]
+        ensures { branches_tree result.now ≡ self.now }
+    {
+        self.held.as_slice()
+    }
+}

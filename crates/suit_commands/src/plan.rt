@@ -1,0 +1,13 @@
+//! Procedures of a manifest.
+
+use crate::Sequence;
+
+/// A procedure: its three members in their order, the shared sequence that is run before each of them, and the
+/// number of components. An absent sequence is an empty one.
+pub struct Plan<'a> {
+    pub shared: Option<&'a Sequence>,
+    pub first: Option<&'a Sequence>,
+    pub second: Option<&'a Sequence>,
+    pub third: Option<&'a Sequence>,
+    pub count: u32,
+}
