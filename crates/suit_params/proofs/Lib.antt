@@ -14,4 +14,5 @@ pub mod ParamReads
 pub mod ParamAnswers
 pub mod ParamOrder
 pub mod ParamWritten
+pub mod ParamSpelled
 pub mod ParamLawProofs

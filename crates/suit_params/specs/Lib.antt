@@ -8,5 +8,6 @@ pub mod Params
 pub mod ParamJudging
 pub mod Answering
 pub mod ParamReading
+pub mod ParamWriting
 pub mod ParamMaking
 pub mod ParamLaws

@@ -8,6 +8,7 @@ mod param;
 mod param_list;
 mod param_map;
 mod param_value;
+mod param_writing;
 mod reading;
 mod refusal;
 
@@ -16,6 +17,7 @@ pub use law::param_laws;
 pub use param::{Param, ParamKey};
 pub use param_list::ParamList;
 pub use param_map::{params_of, read_params};
+pub use param_writing::write_params;
 pub use reading::{only_item, read_bytes, read_content, read_head, read_item, same_place};
 pub use refusal::{Fault, Refusal, Why, refused};
 

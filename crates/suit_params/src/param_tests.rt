@@ -1,6 +1,6 @@
-//! Maps of parameters read from worked bytes.
+//! Maps of parameters read from worked bytes, and written.
 
-use crate::{Digest, Fault, Param, Refusal, Why, read_params};
+use crate::{Digest, Fault, Param, Refusal, Why, read_params, write_params};
 use det_cbor::{Bytes, Cursor, Reason, Text};
 use std::alloc::{AllocError, Global};
 use std::test::Fail;
@@ -13,7 +13,7 @@ fn with_bytes_behind(alloc: Global, front: &[u8]) -> Result<Vec<u8>, AllocError>
 }
 
 #[test]
-fn each_parameter_is_read(rt: HostRuntime) -> Result<(), Fail> {
+fn each_parameter_is_read_and_written_again(rt: HostRuntime) -> Result<(), Fail> {
     let alloc = rt.alloc();
     let table: [(&[u8], u64, Param); 12] = [
         (b"\xa1\x01\x50", 119, Param::Vendor([7; 16])),
@@ -49,6 +49,10 @@ fn each_parameter_is_read(rt: HostRuntime) -> Result<(), Fail> {
                 let found = format!(in alloc; "{:?}", list.as_slice())?;
                 let wanted = format!(in alloc; "[{param:?}]")?;
                 assert_eq!(rt; found.as_str(), wanted.as_str());
+                let mut written = Bytes::from_slice(alloc, b"before")?;
+                write_params(alloc, &list, &mut written)?;
+                assert_eq!(rt; &written.as_slice()[..6], b"before".as_slice());
+                assert_eq!(rt; &written.as_slice()[6..], &bytes[..*end as usize - 100]);
             }
             Err(_) => assert!(rt; false, "{front:?}"),
         }
@@ -67,6 +71,12 @@ fn a_map_is_read_in_its_order(rt: HostRuntime) -> Result<(), Fail> {
         Ok(list) => {
             let found = format!(in alloc; "{:?}", list.as_slice())?;
             assert_eq!(rt; found.as_str(), "[Slot(1), Size(2), Source(0)]");
+            let mut written = Bytes::new(alloc);
+            write_params(alloc, &list, &mut written)?;
+            assert_eq!(rt;
+                written.as_slice(),
+                b"\xa3\x05\x01\x0e\x02\x16\x00".as_slice()
+            );
         }
         Err(_) => assert!(rt; false),
     }
@@ -183,6 +193,33 @@ fn the_first_refusal_in_the_bytes_is_the_answer(rt: HostRuntime) -> Result<(), F
     ];
     for (front, place, why) in table {
         assert!(rt; refuses(rt.alloc(), front, place, why)?, "{front:?}");
+    }
+    Ok(())
+}
+
+#[test]
+fn copies_are_equal_and_keys_are_those_of_the_draft(rt: HostRuntime) -> Result<(), Fail> {
+    let alloc = rt.alloc();
+    let table = [
+        (Param::Vendor([1; 16]), 1),
+        (Param::Class([2; 16]), 2),
+        (Param::Digest(Digest { bytes: [3; 32] }), 3),
+        (Param::Slot(5), 5),
+        (Param::Strict(true), 12),
+        (Param::Soft(true), 13),
+        (Param::Size(14), 14),
+        (Param::Content(Bytes::from_slice(alloc, b"abc")?), 18),
+        (Param::Uri(Text::from_str(alloc, "#img")?), 21),
+        (Param::Source(7), 22),
+        (Param::Args(Bytes::from_slice(alloc, b"-v")?), 23),
+        (Param::Device([24; 16]), 24),
+    ];
+    for (param, number) in &table {
+        let copy = param.copy(alloc)?;
+        let shown = format!(in alloc; "{copy:?}")?;
+        let original = format!(in alloc; "{param:?}")?;
+        assert_eq!(rt; shown.as_str(), original.as_str());
+        assert_eq!(rt; copy.key().number(), *number);
     }
     Ok(())
 }

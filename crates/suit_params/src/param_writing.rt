@@ -1,0 +1,118 @@
+//! Writing maps of parameters.
+
+ghost use Rattle.std.specs.Prelude.{◌≡◌, ◌++◌, ◌<◌, ◌^◌, ℕ, length, OnOk, OnErr};
+ghost use Rattle.std.specs.List.{AllByRecursion};
+ghost use Rattle.std.specs.Str.{IsUtf8};
+ghost use Rattle.det_cbor.specs.DataItem.{UnsignedInteger, Boolean, ByteString, TextString, spell, spell_pairs, IsString};
+ghost use Rattle.det_cbor.specs.HeadSpelling.{spelled, IsValueOf};
+ghost use Rattle.det_cbor.specs.Prefix.{IsPrefix};
+ghost use Rattle.suit_params.specs.Digests.{digest_item};
+ghost use Rattle.suit_params.specs.ParamKeys.{key_of, key_item};
+ghost use Rattle.suit_params.specs.ParamMaking.{value_item, param_pairs, params_item, IsParam};
+ghost use Rattle.suit_params.specs.ParamWriting.{IsWritten};
+
+use crate::{Digest, Param, ParamList};
+use det_cbor::{Bytes, Head, HeadKind, push_head};
+use std::alloc::{AllocError, Global};
+
+fn push_kind(out: &mut Bytes, kind: HeadKind, value: u64) -> Result<(), AllocError>
+    requires { IsValueOf kind value }
+    ensures ok { OnOk result (out.new ≡ out.old ++ spelled (record { kind = kind; value = value })) }
+    ensures err { OnErr result (IsPrefix out.old out.new) }
+{
+    push_head(out, Head { kind, value })
+}
+
+fn push_number(out: &mut Bytes, number: u64) -> Result<(), AllocError>
+    ensures ok { OnOk result (out.new ≡ out.old ++ spell (UnsignedInteger number)) }
+    ensures err { OnErr result (IsPrefix out.old out.new) }
+{
+    push_kind(out, HeadKind::Unsigned, number)
+}
+
+fn push_flag(out: &mut Bytes, flag: bool) -> Result<(), AllocError>
+    ensures ok { OnOk result (out.new ≡ out.old ++ spell (Boolean flag)) }
+    ensures err { OnErr result (IsPrefix out.old out.new) }
+{
+    out.push(if flag { 0xf5 } else { 0xf4 })
+}
+
+fn push_string(out: &mut Bytes, content: &[u8]) -> Result<(), AllocError>
+    ensures ok { OnOk result (out.new ≡ out.old ++ spell (ByteString content.now)) }
+    ensures err { OnErr result (IsPrefix out.old out.new) }
+    ensures string { IsString content.now }
+{
+    push_kind(out, HeadKind::Bytes, content.len() as u64)?;
+    out.extend(content)
+}
+
+fn push_text(out: &mut Bytes, text: &str) -> Result<(), AllocError>
+    ensures ok { OnOk result (out.new ≡ out.old ++ spell (TextString text.now)) }
+    ensures err { OnErr result (IsPrefix out.old out.new) }
+    ensures text { IsString text.now × IsUtf8 text.now }
+{
+    push_kind(out, HeadKind::Text, text.len() as u64)?;
+    out.extend(text.as_bytes())
+}
+
+/// A byte string of 36 bytes, which holds the digest's array.
+fn push_digest(out: &mut Bytes, digest: &Digest) -> Result<(), AllocError>
+    ensures ok { OnOk result (out.new ≡ out.old ++ spell (ByteString (spell (digest_item digest.now.bytes)))) }
+    ensures err { OnErr result (IsPrefix out.old out.new) }
+    ensures long { length digest.now.bytes ≡ 32 }
+    ensures string { OnOk result (IsString digest.now.bytes) }
+{
+    push_kind(out, HeadKind::Bytes, 36)?;
+    push_kind(out, HeadKind::Array, 2)?;
+    push_kind(out, HeadKind::Negative, 15)?;
+    push_string(out, &digest.bytes)?;
+    Ok(())
+}
+
+fn push_value(out: &mut Bytes, param: &Param) -> Result<(), AllocError>
+    ensures ok { OnOk result (out.new ≡ out.old ++ spell (value_item param.now)) }
+    ensures err { OnErr result (IsPrefix out.old out.new) }
+    ensures param { OnOk result (IsParam param.now) }
+{
+    match param {
+        Param::Vendor(id) | Param::Class(id) | Param::Device(id) => push_string(out, id),
+        Param::Digest(digest) => push_digest(out, digest),
+        Param::Slot(number) | Param::Size(number) => push_number(out, *number),
+        Param::Strict(flag) | Param::Soft(flag) => push_flag(out, *flag),
+        Param::Content(bytes) | Param::Args(bytes) => push_string(out, bytes.as_slice()),
+        Param::Uri(text) => push_text(out, text.as_str()),
+        Param::Source(component) => push_number(out, *component as u64),
+    }
+}
+
+fn push_param(out: &mut Bytes, param: &Param) -> Result<(), AllocError>
+    ensures ok { OnOk result (out.new ≡ out.old ++ (spell (key_item (key_of param.now)) ++ spell (value_item param.now))) }
+    ensures err { OnErr result (IsPrefix out.old out.new) }
+    ensures param { OnOk result (IsParam param.now) }
+{
+    push_number(out, param.key().number() as u64)?;
+    push_value(out, param)
+}
+
+fn push_params(out: &mut Bytes, list: &ParamList) -> Result<(), AllocError>
+    ensures ok { OnOk result (out.new ≡ out.old ++ spell_pairs (param_pairs list.now)) }
+    ensures err { OnErr result (IsPrefix out.old out.new) }
+    ensures params { OnOk result (AllByRecursion IsParam list.now) }
+{
+    for param in &list.held {
+        push_param(out, param)?;
+    }
+    Ok(())
+}
+
+/// Adds the map of these parameters at the end, in its one spelling (draft-ietf-suit-manifest-25, section 8.4.8). Where
+/// memory runs out, a part of the spelling may have been added.
+pub fn write_params(_alloc: Global, list: &ParamList, out: &mut Bytes) -> Result<(), AllocError>
+    ensures ok { OnOk result (out.new ≡ out.old ++ spell (params_item list.now)) }
+    ensures err { OnErr result (IsPrefix out.old out.new) }
+    ensures says { OnOk result (IsWritten list.now) }
+{
+    push_kind(out, HeadKind::Map, list.len() as u64)?;
+    push_params(out, list)?;
+    Ok(())
+}
