@@ -3,17 +3,17 @@ use Rattle.std.proofs.Common.{◌≡◌, ◌≢◌, ℕ, Bool, true, false, List
 use Rattle.std.specs.Prelude.{◌↔◌, ◌==◌, if◌then◌else◌, option_map, slice_get}
 use Rattle.suit_params.specs.declared.digest.Digest.{Digest}
 use Rattle.path_checker.specs.declared.identity.Identity.{Identity}
-use Rattle.path_checker.specs.declared.param.Param.{Param}
-use Rattle.path_checker.specs.declared.param.Param.TheVariants as params
-use Rattle.path_checker.specs.declared.param.ParamKey.{ParamKey}
-use Rattle.path_checker.specs.declared.param.ParamKey.TheVariants as keys
-use Rattle.path_checker.specs.declared.kinds.TestKind.{TestKind}
-use Rattle.path_checker.specs.declared.kinds.TestKind.TheVariants as tests
-use Rattle.path_checker.specs.declared.kinds.ActKind.TheVariants as acts
+use Rattle.suit_params.specs.declared.param.Param.{Param}
+use Rattle.suit_params.specs.declared.param.Param.TheVariants as params
+use Rattle.suit_params.specs.declared.param.ParamKey.{ParamKey}
+use Rattle.suit_params.specs.declared.param.ParamKey.TheVariants as keys
+use Rattle.suit_commands.specs.declared.kinds.TestKind.{TestKind}
+use Rattle.suit_commands.specs.declared.kinds.TestKind.TheVariants as tests
+use Rattle.suit_commands.specs.declared.kinds.ActKind.TheVariants as acts
 use Rattle.path_checker.specs.declared.event.Event.{Event}
 use Rattle.path_checker.specs.declared.event.Event.TheVariants.{Tried, Matched, Missed, Wrote, Invoked, Failed}
-use Rattle.path_checker.specs.Keys.{key_of, key_number}
-use Rattle.path_checker.specs.Parameters.{in_force, identifier_of, number_of, digest_of, bytes_of, digest_in, size_in}
+use Rattle.suit_params.specs.ParamKeys.{key_of, key_number}
+use Rattle.suit_params.specs.InForce.{in_force, identifier_of, number_of, digest_of, bytes_of, digest_in, size_in}
 use Rattle.path_checker.specs.Behaviour.{State, Ending, Done, Condition, Directive}
 use Rattle.path_checker.specs.Conditions.{IsSame, Compares, Matches, ChecksContent, Fails, vendor_of, class_of, device_of, slot_of}
 use Rattle.path_checker.specs.Directives.{Writes, Acts}

@@ -2,10 +2,10 @@
 use Rattle.std.proofs.Common.{◌≡◌, ℕ, ◌<◌, List, length, Option, Some, None, arith, length-set, get_or-set_same, get_or-set_other, ◌≢◌, ◌∙◌, ap}
 use Rattle.std.specs.Prelude.{slice_get, slice_set}
 use Rattle.suit_params.specs.declared.digest.Digest.{Digest}
-use Rattle.path_checker.specs.declared.param.Param.{Param}
-use Rattle.path_checker.specs.declared.param.Param.TheVariants as params
-use Rattle.path_checker.specs.Keys.{key_of}
-use Rattle.path_checker.specs.Parameters.{Parameters, cell, none_in_force, with_param, held_at, digest_of, number_of, digest_in, size_in}
+use Rattle.suit_params.specs.declared.param.Param.{Param}
+use Rattle.suit_params.specs.declared.param.Param.TheVariants as params
+use Rattle.suit_params.specs.ParamKeys.{key_of}
+use Rattle.suit_params.specs.InForce.{Parameters, cell, none_in_force, with_param, held_at, digest_of, number_of, digest_in, size_in}
 use Rattle.std.proofs.lemmas.List.{length-replicate}
 use Rattle.std.proofs.lemmas.Option.{slice_get-get_or, get_or_from_slice_get}
 

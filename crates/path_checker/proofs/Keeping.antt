@@ -4,7 +4,7 @@ use Rattle.std.proofs.lemmas.List.{append-nil}
 use Rattle.path_checker.specs.declared.identity.Identity.{Identity}
 use Rattle.path_checker.specs.declared.event.Event.{Event}
 use Rattle.path_checker.specs.Behaviour.{State, Behaviour, Ending, Done, Condition, Directive, IsFailure, Then, Becomes, Each, EachSelected}
-use Rattle.path_checker.specs.Tree.{Sequence, NoSteps, Plan}
+use Rattle.suit_commands.specs.Tree.{SequenceTree, NoSteps, PlanTree}
 use Rattle.path_checker.specs.Runs.{Runs}
 use Rattle.path_checker.specs.Path.{Starts, start_state}
 use Rattle.path_checker.proofs.Covering.{CoveredFrom, CoveredFrom-append}
@@ -90,11 +90,11 @@ keeps_sole P Q at k =
 abbrev pub IsKept : Fact → Type 0
 IsKept P = (s : State) (past : List Event) → P s past → P (start_state s) past
 
-pub keeps_starts : (P Q : Fact) (sequence : Sequence) (plan : Plan) (identities : List Identity) → IsKept P → Keeps (AtFirst P) (Runs sequence identities plan.count) Q → Keeps P (Starts sequence plan identities) Q
+pub keeps_starts : (P Q : Fact) (sequence : SequenceTree) (plan : PlanTree) (identities : List Identity) → IsKept P → Keeps (AtFirst P) (Runs sequence identities plan.count) Q → Keeps P (Starts sequence plan identities) Q
 keeps_starts P Q sequence plan identities kept k = record {
   run = λ s past events ending p run. k.run (start_state s) past events ending (refl, kept s past p) run;
 }
 
-pub keeps_absent : (P : Fact) (plan : Plan) (identities : List Identity) → IsKept P → Keeps P (Starts NoSteps plan identities) P
+pub keeps_absent : (P : Fact) (plan : PlanTree) (identities : List Identity) → IsKept P → Keeps P (Starts NoSteps plan identities) P
 keeps_absent P plan identities kept =
     keeps_starts P P NoSteps plan identities kept (keeps_becomes (AtFirst P) P (λ s. s) (λ s past p. p.1))

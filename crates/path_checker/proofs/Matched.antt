@@ -2,16 +2,16 @@
 use Rattle.std.proofs.Common.{◌≡◌, ℕ, Bool, true, false, List, [], ◌∷◌, ◌++◌, inl, inr, length, Option, Some, None, refl, sym, ap, subst, ◌∙◌}
 use Rattle.suit_params.specs.declared.digest.Digest.{Digest}
 use Rattle.path_checker.specs.declared.identity.Identity.{Identity}
-use Rattle.path_checker.specs.declared.kinds.TestKind.TheVariants as tests
-use Rattle.path_checker.specs.declared.kinds.ActKind.TheVariants as acts
-use Rattle.path_checker.specs.declared.param.Param.TheVariants as params
+use Rattle.suit_commands.specs.declared.kinds.TestKind.TheVariants as tests
+use Rattle.suit_commands.specs.declared.kinds.ActKind.TheVariants as acts
+use Rattle.suit_params.specs.declared.param.Param.TheVariants as params
 use Rattle.path_checker.specs.declared.event.Event.{Event}
 use Rattle.path_checker.specs.declared.event.Event.TheVariants.{Matched, Missed, Invoked, Failed}
 use Rattle.path_checker.specs.declared.plan.FlatPlan.{FlatPlan}
 use Rattle.path_checker.specs.declared.plan.Procedure.{Procedure}
 use Rattle.path_checker.specs.declared.plan.Procedure.TheVariants as procedures
-use Rattle.path_checker.specs.Parameters.{digest_in, size_in}
-use Rattle.path_checker.specs.Tree.{Plan, NoSteps}
+use Rattle.suit_params.specs.InForce.{digest_in, size_in}
+use Rattle.suit_commands.specs.Tree.{PlanTree, NoSteps}
 use Rattle.path_checker.specs.Behaviour.{State, Behaviour, Ending, Then}
 use Rattle.path_checker.specs.Conditions.{Tests, Matches}
 use Rattle.path_checker.specs.Directives.{Acts, Overrides, set_events, after_override}
@@ -73,13 +73,13 @@ override_keeps plan P Q goes = record {
       ((tt, (tt, tt)), goes s past p.1));
 }
 
-shared_ready : (plan : FlatPlan) (tree : Plan) (ids : List Identity) → Keeps IsFull (Starts (shared_of plan) tree ids) (Ready plan.digest plan.size)
+shared_ready : (plan : FlatPlan) (tree : PlanTree) (ids : List Identity) → Keeps IsFull (Starts (shared_of plan) tree ids) (Ready plan.digest plan.size)
 shared_ready plan tree ids =
     keeps_starts IsFull (Ready plan.digest plan.size) (shared_of plan) tree ids (λ s past p. p)
     (keeps_sole IsFull (Ready plan.digest plan.size) (both_params plan)
     (override_keeps plan IsFull (Ready plan.digest plan.size) (λ s past p. is_ready plan s p)))
 
-shared_both : (plan : FlatPlan) (tree : Plan) (ids : List Identity) → Keeps (Sure plan.digest plan.size) (Starts (shared_of plan) tree ids) (Both plan.digest plan.size)
+shared_both : (plan : FlatPlan) (tree : PlanTree) (ids : List Identity) → Keeps (Sure plan.digest plan.size) (Starts (shared_of plan) tree ids) (Both plan.digest plan.size)
 shared_both plan tree ids =
     let sure : Fact = Sure plan.digest plan.size in
     let both : Fact = Both plan.digest plan.size in
@@ -113,7 +113,7 @@ match_keeps d n place ids = record {
       ];
 }
 
-match_both : (d : Digest) (n place : ℕ) (tree : Plan) (ids : List Identity) → Keeps (Ready d n) (Starts (validate_at (Some place)) tree ids) (Both d n)
+match_both : (d : Digest) (n place : ℕ) (tree : PlanTree) (ids : List Identity) → Keeps (Ready d n) (Starts (validate_at (Some place)) tree ids) (Both d n)
 match_both d n place tree ids =
     keeps_starts (Ready d n) (Both d n) (validate_at (Some place)) tree ids (λ s past p. record { full = p.full; digest = p.digest; size = p.size })
     (keeps_sole (Ready d n) (Both d n) (Tests tests.ImageMatch ids place) (match_keeps d n place ids))
@@ -141,7 +141,7 @@ invoke_keeps d n place = record {
       ];
 }
 
-invoke_any : (d : Digest) (n place : ℕ) (tree : Plan) (ids : List Identity) → Keeps (Both d n) (Starts (invoke_at place) tree ids) Any
+invoke_any : (d : Digest) (n place : ℕ) (tree : PlanTree) (ids : List Identity) → Keeps (Both d n) (Starts (invoke_at place) tree ids) Any
 invoke_any d n place tree ids =
     keeps_starts (Both d n) Any (invoke_at place) tree ids
     (λ s past p. (record { full = p.0.full; digest = p.0.digest; size = p.0.size }, p.1))
@@ -149,7 +149,7 @@ invoke_any d n place tree ids =
 
 -- ---- whole plans
 
-safe_from : (tree : Plan) (Q : Fact) → ((ids : List Identity) → Keeps IsFull (RunsPlan tree ids) Q) → Safe tree
+safe_from : (tree : PlanTree) (Q : Fact) → ((ids : List Identity) → Keeps IsFull (RunsPlan tree ids) Q) → Safe tree
 safe_from tree Q k = record {
   covered = λ ids events are path.
       CoveredFrom-AllCovered events
@@ -160,7 +160,7 @@ abbrev six : (A B C D E F G : Fact) (a b c d e f : Behaviour) → Keeps A a B �
 six A B C D E F G a b c d e f ka kb kc kd ke kf =
     keeps_then A B G a _ ka (keeps_then B C G b _ kb (keeps_then C D G c _ kc (keeps_then D E G d _ kd (keeps_then E F G e f ke kf))))
 
-validate_any : (d : Digest) (n : ℕ) (place : Option ℕ) (tree : Plan) (ids : List Identity) → Keeps (Ready d n) (Starts (validate_at place) tree ids) Any
+validate_any : (d : Digest) (n : ℕ) (place : Option ℕ) (tree : PlanTree) (ids : List Identity) → Keeps (Ready d n) (Starts (validate_at place) tree ids) Any
 validate_any d n None tree ids =
     keeps_adapt (Ready d n) (Ready d n) (Ready d n) Any (Starts NoSteps tree ids) (λ s past p. p) (λ s past p. tt)
     (keeps_absent (Ready d n) tree ids (λ s past p. record { full = p.full; digest = p.digest; size = p.size }))
@@ -172,7 +172,7 @@ update_safe : (plan : FlatPlan) → Safe (procedure_of procedures.Update plan)
 update_safe plan =
     let d = plan.digest in
     let n = plan.size in
-    let tree : Plan = procedure_of procedures.Update plan in
+    let tree : PlanTree = procedure_of procedures.Update plan in
     let ready : Fact = Ready d n in
     safe_from tree Any (λ ids.
     let again : Keeps ready (Starts (shared_of plan) tree ids) ready =
@@ -188,7 +188,7 @@ invocation_safe : (plan : FlatPlan) (place : ℕ) → plan.match_place ≡ Some 
 invocation_safe plan place is =
     let d = plan.digest in
     let n = plan.size in
-    let tree : Plan = procedure_of procedures.Invocation plan in
+    let tree : PlanTree = procedure_of procedures.Invocation plan in
     let ready : Fact = Ready d n in
     let both : Fact = Both d n in
     safe_from tree Any (λ ids.

@@ -4,11 +4,11 @@ use Rattle.std.specs.Prelude.{slice_get}
 use Rattle.std.proofs.lemmas.Bool.{cases_lt}
 use Rattle.std.proofs.lemmas.List.{get_or-replicate, same_lists}
 use Rattle.std.proofs.lemmas.Option.{slice_get-get_or, slice_get_past}
-use Rattle.path_checker.specs.declared.param.Param.{Param}
-use Rattle.path_checker.specs.declared.param.ParamKey.{ParamKey}
-use Rattle.path_checker.specs.declared.param.ParamKey.TheVariants as keys
-use Rattle.path_checker.specs.Keys.{key_of}
-use Rattle.path_checker.specs.Parameters.{Parameters, rank, cell, none_in_force, held_at, in_force}
+use Rattle.suit_params.specs.declared.param.Param.{Param}
+use Rattle.suit_params.specs.declared.param.ParamKey.{ParamKey}
+use Rattle.suit_params.specs.declared.param.ParamKey.TheVariants as keys
+use Rattle.suit_params.specs.ParamKeys.{key_of}
+use Rattle.suit_params.specs.InForce.{Parameters, rank, cell, none_in_force, held_at, in_force}
 use Rattle.path_checker.specs.ParameterLaws.{IsWhole, StaysWhole, StartsEmpty, OverrideReplaces, OverrideKeeps, IsCanonical}
 use Rattle.path_checker.proofs.InForce.{slice_get-set_same, slice_get-set_other, length-with_param, length-none_in_force}
 

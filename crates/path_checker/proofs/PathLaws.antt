@@ -4,7 +4,7 @@ use Rattle.std.specs.Prelude.{IfSome, slice_get}
 use Rattle.std.specs.List.{AllByRecursion}
 use Rattle.path_checker.specs.declared.identity.Identity.{Identity}
 use Rattle.path_checker.specs.declared.event.Event.{Event}
-use Rattle.path_checker.specs.Tree.{Branches, NoBranches, BranchThen, NullThen, Test, Act, Index, Override, TryEach, RunSequence}
+use Rattle.suit_commands.specs.Tree.{BranchesTree, NoBranches, BranchThen, NullThen, Test, Act, Index, Override, TryEach, RunSequence}
 use Rattle.path_checker.specs.Behaviour.{State, Ending, Done, Condition, Directive, Behaviour, Each}
 use Rattle.path_checker.specs.Runs.{after_run, after_branch, RunsInner, Runs, Tries}
 use Rattle.path_checker.specs.Path.{IsIdentifier, IsIdentity, RunsPlan, first_state}
@@ -50,7 +50,7 @@ after_branch_is s (Done inner) = (refl, refl)
 after_branch_is s (Condition place soft) = refl
 after_branch_is s (Directive place) = tt
 
-try_goes_back : (branches : Branches) (ids : List Identity) (count place : ℕ) → GoesBack (Tries branches ids count place)
+try_goes_back : (branches : BranchesTree) (ids : List Identity) (count place : ℕ) → GoesBack (Tries branches ids count place)
 unfolding GoesBack
 try_goes_back NoBranches ids count place c s es e (none, failed) = subst (IsOuter s) (sym failed) refl
 try_goes_back (NullThen rest) ids count place c s es e (none, done) = subst (IsOuter s) (sym done) (refl, refl)
@@ -63,8 +63,8 @@ try_goes_back (BranchThen inner rest) ids count place c s es e run =
 pub inner_goes_back : InnerGoesBack
 inner_goes_back (TryEach branches) ids count place s es e has run = each_goes_back (Tries branches ids count place) (try_goes_back branches ids count place) s.selection s es e run
 inner_goes_back (RunSequence inner) ids count place s es e has run = each_goes_back (RunsInner (Runs inner ids count)) (run_goes_back (Runs inner ids count)) s.selection s es e run
-inner_goes_back (Test kind) ids count place s es e has run = absurd has
-inner_goes_back (Act kind) ids count place s es e has run = absurd has
+inner_goes_back (Test kind report) ids count place s es e has run = absurd has
+inner_goes_back (Act kind report) ids count place s es e has run = absurd has
 inner_goes_back (Index selection) ids count place s es e has run = absurd has
 inner_goes_back (Override list) ids count place s es e has run = absurd has
 

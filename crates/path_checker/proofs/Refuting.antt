@@ -4,7 +4,7 @@ use Rattle.std.specs.Prelude.{IfSome, slice_get}
 use Rattle.std.proofs.lemmas.List.{take_at}
 use Rattle.path_checker.specs.declared.event.Event.{Event}
 use Rattle.path_checker.specs.declared.judge.BadPath.{BadPath}
-use Rattle.path_checker.specs.Tree.{Plan}
+use Rattle.suit_commands.specs.Tree.{PlanTree}
 use Rattle.path_checker.specs.Safe.{Safe, Covered, IsCovered, EndsUncovered}
 use Rattle.path_checker.specs.Verdict.{IsBadPath}
 
@@ -22,6 +22,6 @@ EndsUncovered-not_covered events ends covered =
     in
     ends.uncovered (subst (λ (es : List Event). IsCovered es last) (take_at before (last ∷ []) (length before) refl) at)
 
-pub IsBadPath-not_safe : (plan : Plan) (bad : BadPath) → IsBadPath plan bad → Safe plan → ⊥
+pub IsBadPath-not_safe : (plan : PlanTree) (bad : BadPath) → IsBadPath plan bad → Safe plan → ⊥
 IsBadPath-not_safe plan bad is safe =
     EndsUncovered-not_covered bad.events is.ends (safe.covered bad.identities bad.events is.identities is.path (length is.ends.before))

@@ -6,14 +6,14 @@ use Rattle.std.proofs.lemmas.List.{append-nil}
 use Rattle.std.proofs.lemmas.List.FromFn.{length-range_with_len, get_or-range_with_len}
 use Rattle.std.proofs.lemmas.Option.{slice_get-get_or}
 use Rattle.path_checker.specs.declared.identity.Identity.{Identity}
-use Rattle.path_checker.specs.declared.param.Param.{Param}
-use Rattle.path_checker.specs.declared.param.Param.TheVariants as params
-use Rattle.path_checker.specs.declared.param.ParamKey.TheVariants as keys
+use Rattle.suit_params.specs.declared.param.Param.{Param}
+use Rattle.suit_params.specs.declared.param.Param.TheVariants as params
+use Rattle.suit_params.specs.declared.param.ParamKey.TheVariants as keys
 use Rattle.path_checker.specs.declared.event.Event.{Event}
 use Rattle.path_checker.specs.declared.event.Event.TheVariants.{Set}
-use Rattle.path_checker.specs.Keys.{key_of}
-use Rattle.path_checker.specs.Parameters.{with_param}
-use Rattle.path_checker.specs.Tree.{TryEach, RunSequence, Sequence, Branches, NoBranches, BranchThen, NullThen}
+use Rattle.suit_params.specs.ParamKeys.{key_of}
+use Rattle.suit_params.specs.InForce.{with_param}
+use Rattle.suit_commands.specs.Tree.{TryEach, RunSequence, SequenceTree, BranchesTree, NoBranches, BranchThen, NullThen}
 use Rattle.path_checker.specs.Behaviour.{State, Ending, Done, Condition, Directive, Behaviour, IsFailure, EachSelected, Each}
 use Rattle.path_checker.specs.Directives.{set_events, soft_after, after_override}
 use Rattle.path_checker.specs.Runs.{RunsInner, Runs, Tries, Does}

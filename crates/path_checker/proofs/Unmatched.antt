@@ -3,15 +3,15 @@ use Rattle.std.proofs.Common.{◌≡◌, ℕ, true, false, List, [], ◌∷◌, 
 use Rattle.std.proofs.lemmas.List.{append-nil}
 use Rattle.suit_params.specs.declared.digest.Digest.{Digest}
 use Rattle.path_checker.specs.declared.identity.Identity.{Identity}
-use Rattle.path_checker.specs.declared.param.Param.TheVariants as params
+use Rattle.suit_params.specs.declared.param.Param.TheVariants as params
 use Rattle.path_checker.specs.declared.event.Event.{Event}
 use Rattle.path_checker.specs.declared.event.Event.TheVariants.{Invoked}
 use Rattle.path_checker.specs.declared.plan.FlatPlan.{FlatPlan}
 use Rattle.path_checker.specs.declared.plan.Procedure.{Procedure}
 use Rattle.path_checker.specs.declared.plan.Procedure.TheVariants as procedures
 use Rattle.path_checker.specs.declared.judge.BadPath.{BadPath}
-use Rattle.path_checker.specs.Parameters.{none_in_force, digest_in, size_in}
-use Rattle.path_checker.specs.Tree.{Plan, NoSteps}
+use Rattle.suit_params.specs.InForce.{none_in_force, digest_in, size_in}
+use Rattle.suit_commands.specs.Tree.{PlanTree, NoSteps}
 use Rattle.path_checker.specs.Behaviour.{State, Done}
 use Rattle.path_checker.specs.Directives.{after_override}
 use Rattle.path_checker.specs.Path.{start_state, Starts, RunsPlan, AreIdentities, first_state}
@@ -26,17 +26,17 @@ use Rattle.path_checker.proofs.Covering.{CoveredFrom-AllCovered, unmatched}
 abbrev set_in : FlatPlan → State → State
 set_in plan s = after_override (start_state s) 0 (params.Digest plan.digest ∷ params.Size plan.size ∷ [])
 
-shared_runs : (plan : FlatPlan) (tree : Plan) (ids : List Identity) (s : State) → Starts (shared_of plan) tree ids s (shared_events plan) (Done (set_in plan s))
+shared_runs : (plan : FlatPlan) (tree : PlanTree) (ids : List Identity) (s : State) → Starts (shared_of plan) tree ids s (shared_events plan) (Done (set_in plan s))
 shared_runs plan tree ids s =
     inr (set_in plan s, shared_events plan, [], refl, inr (set_in plan s, shared_events plan, [], refl, (refl, refl), (refl, refl)), (refl, refl))
 
-absent_runs : (tree : Plan) (ids : List Identity) (s : State) → Starts NoSteps tree ids s [] (Done (start_state s))
+absent_runs : (tree : PlanTree) (ids : List Identity) (s : State) → Starts NoSteps tree ids s [] (Done (start_state s))
 absent_runs tree ids s = (refl, refl)
 
 abbrev told : FlatPlan → Event
 told plan = Invoked 0 (Some plan.digest) (Some plan.size) true
 
-invoke_runs : (plan : FlatPlan) (tree : Plan) (ids : List Identity) (s : State) → digest_in s.parameters 0 ≡ Some plan.digest → size_in s.parameters 0 ≡ Some plan.size → Starts (invoke_at plan.invoke_place) tree ids s (told plan ∷ []) (Done (start_state s))
+invoke_runs : (plan : FlatPlan) (tree : PlanTree) (ids : List Identity) (s : State) → digest_in s.parameters 0 ≡ Some plan.digest → size_in s.parameters 0 ≡ Some plan.size → Starts (invoke_at plan.invoke_place) tree ids s (told plan ∷ []) (Done (start_state s))
 invoke_runs plan tree ids s digest size =
     let is : told plan ∷ [] ≡ Invoked 0 (digest_in s.parameters 0) (size_in s.parameters 0) true ∷ [] =
     ap (λ (o : Option Digest). Invoked 0 o (Some plan.size) true ∷ []) (sym digest)
@@ -46,7 +46,7 @@ invoke_runs plan tree ids s digest size =
 
 -- ---- the whole run
 
-abbrev without_match : FlatPlan → Plan
+abbrev without_match : FlatPlan → PlanTree
 without_match plan =
     record { shared = shared_of plan; first = NoSteps; second = NoSteps; third = invoke_at plan.invoke_place; count = 1 }
 
@@ -67,7 +67,7 @@ full_2 plan = length-both_set (state_1 plan).parameters plan.digest plan.size �
 
 whole_run : (plan : FlatPlan) (ids : List Identity) → RunsPlan (without_match plan) ids first_state (unmatched_events plan) (Done (start_state (state_3 plan)))
 whole_run plan ids =
-    let tree : Plan = without_match plan in
+    let tree : PlanTree = without_match plan in
     let l : List Event = shared_events plan in
     let last : List Event = told plan ∷ [] in
     let digest = digest_in-both_set (state_2 plan).parameters plan.digest plan.size (full_2 plan) in

@@ -1,7 +1,7 @@
 -- What a state may be followed by: events, and an ending.
 use Rattle.std.specs.Prelude.{◌≡◌, ℕ, ◌⊎◌, Bool, List, [], ◌∷◌, ◌++◌}
 use Rattle.path_checker.specs.declared.event.Event.{Event}
-use Rattle.path_checker.specs.Parameters.{Parameters}
+use Rattle.suit_params.specs.InForce.{Parameters}
 
 -- the parameters in force, the selected components in order, and soft failure. It is this project's own choice
 -- that soft failure belongs to the running sequence, and not to a component.

@@ -3,19 +3,19 @@
 use Rattle.std.specs.Prelude.{◌≡◌, ◌≢◌, ◌↔◌, ◌⊎◌, ◌==◌, if◌then◌else◌, ℕ, true, false, List, [], ◌∷◌, ◌++◌, Option, Some, None, option_map, slice_get}
 use Rattle.suit_params.specs.declared.digest.Digest.{Digest}
 use Rattle.path_checker.specs.declared.identity.Identity.{Identity}
-use Rattle.path_checker.specs.declared.param.Param.{Param}
-use Rattle.path_checker.specs.declared.param.Param.TheVariants as params
-use Rattle.path_checker.specs.declared.param.ParamKey.{ParamKey}
-use Rattle.path_checker.specs.declared.param.ParamKey.TheVariants as keys
-use Rattle.path_checker.specs.declared.kinds.TestKind.{TestKind}
-use Rattle.path_checker.specs.declared.kinds.TestKind.TheVariants as tests
-use Rattle.path_checker.specs.declared.kinds.ActKind.{ActKind}
-use Rattle.path_checker.specs.declared.kinds.ActKind.TheVariants as acts
+use Rattle.suit_params.specs.declared.param.Param.{Param}
+use Rattle.suit_params.specs.declared.param.Param.TheVariants as params
+use Rattle.suit_params.specs.declared.param.ParamKey.{ParamKey}
+use Rattle.suit_params.specs.declared.param.ParamKey.TheVariants as keys
+use Rattle.suit_commands.specs.declared.kinds.TestKind.{TestKind}
+use Rattle.suit_commands.specs.declared.kinds.TestKind.TheVariants as tests
+use Rattle.suit_commands.specs.declared.kinds.ActKind.{ActKind}
+use Rattle.suit_commands.specs.declared.kinds.ActKind.TheVariants as acts
 use Rattle.path_checker.specs.declared.event.Event.{Event}
 use Rattle.path_checker.specs.declared.event.Event.TheVariants.{Tried, Matched, Missed, Wrote, Invoked, Failed}
-use Rattle.path_checker.specs.Kinds.{test_code, act_code}
-use Rattle.path_checker.specs.Keys.{key_of, key_number}
-use Rattle.path_checker.specs.Parameters.{in_force}
+use Rattle.suit_commands.specs.Kinds.{test_code, act_code}
+use Rattle.suit_params.specs.ParamKeys.{key_of, key_number}
+use Rattle.suit_params.specs.InForce.{in_force}
 use Rattle.path_checker.specs.Behaviour.{State, Ending, Done, Condition, Directive}
 use Rattle.path_checker.specs.Conditions.{Tests}
 use Rattle.path_checker.specs.Directives.{Acts}

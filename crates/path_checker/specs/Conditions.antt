@@ -2,12 +2,12 @@
 use Rattle.std.specs.Prelude.{◌≡◌, ℕ, ◌⊎◌, true, false, List, [], ◌∷◌, Option, Some, None, slice_get}
 use Rattle.suit_params.specs.declared.digest.Digest.{Digest}
 use Rattle.path_checker.specs.declared.identity.Identity.{Identity}
-use Rattle.path_checker.specs.declared.kinds.TestKind.{TestKind}
-use Rattle.path_checker.specs.declared.kinds.TestKind.TheVariants as tests
-use Rattle.path_checker.specs.declared.param.ParamKey.TheVariants as keys
+use Rattle.suit_commands.specs.declared.kinds.TestKind.{TestKind}
+use Rattle.suit_commands.specs.declared.kinds.TestKind.TheVariants as tests
+use Rattle.suit_params.specs.declared.param.ParamKey.TheVariants as keys
 use Rattle.path_checker.specs.declared.event.Event.{Event}
 use Rattle.path_checker.specs.declared.event.Event.TheVariants.{Tried, Matched, Missed, Failed}
-use Rattle.path_checker.specs.Parameters.{in_force, identifier_of, number_of, bytes_of, digest_in, size_in}
+use Rattle.suit_params.specs.InForce.{in_force, identifier_of, number_of, bytes_of, digest_in, size_in}
 use Rattle.path_checker.specs.Behaviour.{Behaviour, Done, Condition}
 
 -- it is passed: this event, and the state stays

@@ -1,13 +1,13 @@
 -- Directives at one component (draft-ietf-suit-manifest-25, sections 6.4 and 8.4.10).
 use Rattle.std.specs.Prelude.{◌≡◌, ℕ, ◌⊎◌, Bool, true, false, List, [], ◌∷◌, ◌++◌, Option, Some, None}
-use Rattle.path_checker.specs.declared.param.Param.{Param}
-use Rattle.path_checker.specs.declared.param.Param.TheVariants as params
-use Rattle.path_checker.specs.declared.param.ParamKey.TheVariants as keys
-use Rattle.path_checker.specs.declared.kinds.ActKind.{ActKind}
-use Rattle.path_checker.specs.declared.kinds.ActKind.TheVariants as acts
+use Rattle.suit_params.specs.declared.param.Param.{Param}
+use Rattle.suit_params.specs.declared.param.Param.TheVariants as params
+use Rattle.suit_params.specs.declared.param.ParamKey.TheVariants as keys
+use Rattle.suit_commands.specs.declared.kinds.ActKind.{ActKind}
+use Rattle.suit_commands.specs.declared.kinds.ActKind.TheVariants as acts
 use Rattle.path_checker.specs.declared.event.Event.{Event}
 use Rattle.path_checker.specs.declared.event.Event.TheVariants.{Set, Wrote, Invoked, Failed}
-use Rattle.path_checker.specs.Parameters.{Parameters, in_force, with_param, number_of, bytes_of, digest_in, size_in}
+use Rattle.suit_params.specs.InForce.{Parameters, in_force, with_param, number_of, bytes_of, digest_in, size_in}
 use Rattle.path_checker.specs.Behaviour.{State, Behaviour, Done, Directive}
 
 -- ---- override parameters: each is set in the order of the list, and soft failure is that of the running sequence

@@ -1,26 +1,26 @@
 -- The procedures of a manifest of the flat form, as trees.
 use Rattle.std.specs.Prelude.{ℕ, Bool, true, false, [], ◌∷◌, Option, Some, None}
-use Rattle.path_checker.specs.declared.kinds.TestKind.TheVariants as tests
-use Rattle.path_checker.specs.declared.kinds.ActKind.TheVariants as acts
-use Rattle.path_checker.specs.declared.param.Param.TheVariants as params
+use Rattle.suit_commands.specs.declared.kinds.TestKind.TheVariants as tests
+use Rattle.suit_commands.specs.declared.kinds.ActKind.TheVariants as acts
+use Rattle.suit_params.specs.declared.param.Param.TheVariants as params
 use Rattle.path_checker.specs.declared.plan.Procedure.{Procedure}
 use Rattle.path_checker.specs.declared.plan.Procedure.TheVariants as procedures
 use Rattle.path_checker.specs.declared.plan.FlatPlan.{FlatPlan}
-use Rattle.path_checker.specs.Tree.{Test, Act, Override, Sequence, NoSteps, StepThen, Plan}
+use Rattle.suit_commands.specs.Tree.{Test, Act, Override, SequenceTree, NoSteps, StepThen, PlanTree}
 
 -- an override has no event that tells its place
-abbrev pub shared_of : FlatPlan → Sequence
+abbrev pub shared_of : FlatPlan → SequenceTree
 shared_of plan = StepThen 0 (Override (params.Digest plan.digest ∷ params.Size plan.size ∷ [])) NoSteps
 
-abbrev pub validate_at : Option ℕ → Sequence
+abbrev pub validate_at : Option ℕ → SequenceTree
 validate_at None = NoSteps
-validate_at (Some place) = StepThen place (Test tests.ImageMatch) NoSteps
+validate_at (Some place) = StepThen place (Test tests.ImageMatch 0) NoSteps
 
-abbrev pub invoke_at : ℕ → Sequence
-invoke_at place = StepThen place (Act acts.Invoke) NoSteps
+abbrev pub invoke_at : ℕ → SequenceTree
+invoke_at place = StepThen place (Act acts.Invoke 0) NoSteps
 
 -- update runs payload-fetch, install and validate, and invocation runs validate, load and invoke
-abbrev pub procedure_of : Procedure → FlatPlan → Plan
+abbrev pub procedure_of : Procedure → FlatPlan → PlanTree
 procedure_of procedures.Update plan =
     record { shared = shared_of plan; first = NoSteps; second = NoSteps; third = validate_at plan.match_place; count = 1 }
 procedure_of procedures.Invocation plan =
@@ -32,7 +32,7 @@ procedure_of procedures.Invocation plan =
       count = 1;
     }
 
-abbrev pub tree_of : FlatPlan → Plan
+abbrev pub tree_of : FlatPlan → PlanTree
 tree_of plan = procedure_of plan.procedure plan
 
 -- ---- what decides

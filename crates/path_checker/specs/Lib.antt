@@ -1,7 +1,3 @@
-pub mod Kinds
-pub mod Keys
-pub mod Tree
-pub mod Parameters
 pub mod Behaviour
 pub mod Conditions
 pub mod Directives

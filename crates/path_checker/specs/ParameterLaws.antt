@@ -1,10 +1,10 @@
 -- Laws of the parameters in force. They are stated of those that have a place for each of eight components and
 -- twelve keys.
 use Rattle.std.specs.Prelude.{◌≡◌, ◌<◌, ℕ, Some, None, length}
-use Rattle.path_checker.specs.declared.param.Param.{Param}
-use Rattle.path_checker.specs.declared.param.ParamKey.{ParamKey}
-use Rattle.path_checker.specs.Keys.{key_of}
-use Rattle.path_checker.specs.Parameters.{Parameters, none_in_force, with_param, in_force}
+use Rattle.suit_params.specs.declared.param.Param.{Param}
+use Rattle.suit_params.specs.declared.param.ParamKey.{ParamKey}
+use Rattle.suit_params.specs.ParamKeys.{key_of}
+use Rattle.suit_params.specs.InForce.{Parameters, none_in_force, with_param, in_force}
 
 abbrev pub IsWhole : Parameters → Type 0
 IsWhole parameters = length parameters ≡ 96

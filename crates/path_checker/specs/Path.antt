@@ -3,8 +3,8 @@ use Rattle.std.specs.Prelude.{◌≡◌, ◌<◌, ◌^◌, ℕ, false, List, [],
 use Rattle.std.specs.List.{AllByRecursion}
 use Rattle.path_checker.specs.declared.identity.Identity.{Identity}
 use Rattle.path_checker.specs.declared.event.Event.{Event}
-use Rattle.path_checker.specs.Tree.{Sequence, Plan}
-use Rattle.path_checker.specs.Parameters.{none_in_force}
+use Rattle.suit_commands.specs.Tree.{SequenceTree, PlanTree}
+use Rattle.suit_params.specs.InForce.{none_in_force}
 use Rattle.path_checker.specs.Behaviour.{State, Ending, Behaviour, Then}
 use Rattle.path_checker.specs.Runs.{Runs}
 
@@ -19,7 +19,7 @@ pub record IsIdentity (identity : Identity) : Type 0 where
   pub device : IfSome identity.device IsIdentifier
   pub slot : identity.slot < 2 ^ 64
 
-pub record AreIdentities (plan : Plan) (identities : List Identity) : Type 0 where
+pub record AreIdentities (plan : PlanTree) (identities : List Identity) : Type 0 where
   pub count : length identities ≡ plan.count
   pub each : AllByRecursion IsIdentity identities
 
@@ -29,12 +29,12 @@ pub record AreIdentities (plan : Plan) (identities : List Identity) : Type 0 whe
 abbrev pub start_state : State → State
 start_state state = record state { selection = 0 ∷ []; soft_failure = false }
 
-abbrev pub Starts : Sequence → Plan → List Identity → Behaviour
+abbrev pub Starts : SequenceTree → PlanTree → List Identity → Behaviour
 Starts sequence plan identities state = Runs sequence identities plan.count (start_state state)
 
 -- the shared sequence and then the member, for each member, absent ones too; a failed condition ends the procedure,
 -- whatever soft failure is
-abbrev pub RunsPlan : Plan → List Identity → Behaviour
+abbrev pub RunsPlan : PlanTree → List Identity → Behaviour
 RunsPlan plan identities =
     Then (Starts plan.shared plan identities) (Then (Starts plan.first plan identities)
     (Then (Starts plan.shared plan identities) (Then (Starts plan.second plan identities)
@@ -44,7 +44,7 @@ abbrev pub first_state : State
 first_state = record { parameters = none_in_force; selection = 0 ∷ []; soft_failure = false }
 
 -- the events that a run of the plan begins with
-pub record Path (plan : Plan) (identities : List Identity) (events : List Event) : Type 0 where
+pub record Path (plan : PlanTree) (identities : List Identity) (events : List Event) : Type 0 where
   pub rest : List Event
   pub ending : Ending
   pub run : RunsPlan plan identities first_state (events ++ rest) ending

@@ -2,14 +2,14 @@
 use Rattle.std.specs.Prelude.{◌≡◌, ◌↔◌, ◌<◌, ◌^◌, ℕ, List, ◌++◌, length, get_or, Some, slice_get}
 use Rattle.path_checker.specs.declared.identity.Identity.{Identity}
 use Rattle.path_checker.specs.declared.event.Event.{Event}
-use Rattle.path_checker.specs.Tree.{Command, TryEach, RunSequence, Plan}
+use Rattle.suit_commands.specs.Tree.{CommandTree, TryEach, RunSequence, PlanTree}
 use Rattle.path_checker.specs.Behaviour.{State, Ending, Done, Condition, Directive}
 use Rattle.path_checker.specs.Runs.{Does}
 use Rattle.path_checker.specs.Path.{AreIdentities, Path}
 
 -- ---- try each and run sequence
 
-abbrev pub HasInner : Command → Type 0
+abbrev pub HasInner : CommandTree → Type 0
 HasInner (TryEach _) = Unit {0}
 HasInner (RunSequence _) = Unit {0}
 HasInner _ = ⊥
@@ -22,14 +22,14 @@ IsOuter outer (Directive place) = Unit {0}
 
 abbrev pub InnerGoesBack : Type 0
 InnerGoesBack =
-    (command : Command) (identities : List Identity) (count place : ℕ) (state : State) (events : List Event) (ending : Ending)
+    (command : CommandTree) (identities : List Identity) (count place : ℕ) (state : State) (events : List Event) (ending : Ending)
     → HasInner command → Does command identities count place state events ending → IsOuter state ending
 
 -- ---- paths
 
 -- each beginning of a path is a path
 abbrev pub PathsBegin : Type 0
-PathsBegin = (plan : Plan) (identities : List Identity) (front rest : List Event) → Path plan identities (front ++ rest) → Path plan identities front
+PathsBegin = (plan : PlanTree) (identities : List Identity) (front rest : List Event) → Path plan identities (front ++ rest) → Path plan identities front
 
 -- ---- identities
 
@@ -43,10 +43,10 @@ pub record IsBounded (identity : Identity) : Type 0 where
   pub class : (id : List ℕ) → identity.class ≡ Some id → IsSixteenBytes id
   pub device : (id : List ℕ) → identity.device ≡ Some id → IsSixteenBytes id
 
-pub record IdentitiesAre (plan : Plan) (identities : List Identity) : Type 0 where
+pub record IdentitiesAre (plan : PlanTree) (identities : List Identity) : Type 0 where
   pub count : length identities ≡ plan.count
   pub each : (component : ℕ) (identity : Identity) → slice_get identities component ≡ Some identity → IsBounded identity
 
 -- they are all lists with one for each component, of that many bytes and bits, and no others
 abbrev pub IdentitiesBounded : Type 0
-IdentitiesBounded = (plan : Plan) (identities : List Identity) → AreIdentities plan identities ↔ IdentitiesAre plan identities
+IdentitiesBounded = (plan : PlanTree) (identities : List Identity) → AreIdentities plan identities ↔ IdentitiesAre plan identities

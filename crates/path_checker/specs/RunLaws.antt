@@ -2,27 +2,29 @@
 -- (draft-ietf-suit-manifest-25, sections 6.5 and 8.4.10, and this project's choices on soft failure).
 use Rattle.std.specs.Prelude.{◌≡◌, ◌≢◌, ◌↔◌, ◌<◌, ℕ, Bool, true, false, List, [], ◌∷◌, ◌++◌, length, Some, slice_get}
 use Rattle.path_checker.specs.declared.identity.Identity.{Identity}
-use Rattle.path_checker.specs.declared.param.Param.{Param}
-use Rattle.path_checker.specs.declared.param.Param.TheVariants as params
-use Rattle.path_checker.specs.declared.param.ParamKey.TheVariants as keys
+use Rattle.suit_params.specs.declared.param.Param.{Param}
+use Rattle.suit_params.specs.declared.param.Param.TheVariants as params
+use Rattle.suit_params.specs.declared.param.ParamKey.TheVariants as keys
 use Rattle.path_checker.specs.declared.event.Event.{Event}
 use Rattle.path_checker.specs.declared.event.Event.TheVariants.{Set}
-use Rattle.path_checker.specs.Keys.{key_of}
-use Rattle.path_checker.specs.Parameters.{with_param}
-use Rattle.path_checker.specs.Tree.{One, All, Listed, Command, TryEach, RunSequence, Sequence, NoSteps, StepThen, Branches, NoBranches, BranchThen, NullThen}
+use Rattle.suit_params.specs.ParamKeys.{key_of}
+use Rattle.suit_params.specs.InForce.{with_param}
+use Rattle.suit_commands.specs.declared.selection.Selection.TheVariants.{One, All, Listed}
+use Rattle.suit_commands.specs.Tree.{CommandTree, TryEach, RunSequence, SequenceTree, NoSteps, StepThen, BranchesTree, NoBranches, BranchThen, NullThen}
 use Rattle.path_checker.specs.Behaviour.{State, Ending, Done, Condition, Directive}
 use Rattle.path_checker.specs.Directives.{set_events, after_override}
-use Rattle.path_checker.specs.Runs.{selection_of, Runs, Does}
+use Rattle.suit_commands.specs.Selections.{selected_by}
+use Rattle.path_checker.specs.Runs.{Runs, Does}
 use Rattle.path_checker.specs.Path.{start_state}
 
 -- ---- selections
 
 -- one is that one, a list is that list, and all are those below the count in ascending order
 pub record Selections : Type 0 where
-  pub one : (component count : ℕ) → selection_of (One component) count ≡ component ∷ []
-  pub listed : (components : List ℕ) (count : ℕ) → selection_of (Listed components) count ≡ components
-  pub all_number : (count : ℕ) → length (selection_of All count) ≡ count
-  pub all_ascend : (count component : ℕ) → component < count → slice_get (selection_of All count) component ≡ Some component
+  pub one : (component count : ℕ) → selected_by (One component) count ≡ component ∷ []
+  pub listed : (components : List ℕ) (count : ℕ) → selected_by (Listed components) count ≡ components
+  pub all_number : (count : ℕ) → length (selected_by All count) ≡ count
+  pub all_ascend : (count component : ℕ) → component < count → slice_get (selected_by All count) component ≡ Some component
 
 -- each member starts with the first component selected and soft failure false, and keeps the parameters
 pub record MemberStarts : Type 0 where
@@ -47,7 +49,7 @@ OverridesStep = (state : State) (component : ℕ) (list : List Param) (param : P
 
 -- ---- sequences: steps follow one another, and the first that fails ends it
 
-pub record StepRules (place : ℕ) (command : Command) (rest : Sequence) (identities : List Identity) (count : ℕ) (state : State) : Type 0 where
+pub record StepRules (place : ℕ) (command : CommandTree) (rest : SequenceTree) (identities : List Identity) (count : ℕ) (state : State) : Type 0 where
   pub done : (middle : State) (before after : List Event) (ending : Ending) → Does command identities count place state before (Done middle)
       → Runs rest identities count middle after ending → Runs (StepThen place command rest) identities count state (before ++ after) ending
   pub failed : (at : ℕ) (soft : Bool) (events : List Event) → Does command identities count place state events (Condition at soft)
@@ -57,7 +59,7 @@ pub record StepRules (place : ℕ) (command : Command) (rest : Sequence) (identi
 
 pub record SequenceRules : Type 0 where
   pub none : (identities : List Identity) (count : ℕ) (state : State) → Runs NoSteps identities count state [] (Done state)
-  pub step : (place : ℕ) (command : Command) (rest : Sequence) (identities : List Identity) (count : ℕ) (state : State)
+  pub step : (place : ℕ) (command : CommandTree) (rest : SequenceTree) (identities : List Identity) (count : ℕ) (state : State)
       → StepRules place command rest identities count state
 
 -- ---- run sequence, where one component is selected
@@ -70,7 +72,7 @@ within state component soft_failure = record { parameters = state.parameters; se
 abbrev pub keeping : State → State → State
 keeping state inner = record { parameters = inner.parameters; selection = state.selection; soft_failure = state.soft_failure }
 
-pub record RunRules (inner : Sequence) (identities : List Identity) (count place component : ℕ) (state : State) : Type 0 where
+pub record RunRules (inner : SequenceTree) (identities : List Identity) (count place component : ℕ) (state : State) : Type 0 where
   pub done : (events : List Event) (next : State) → Runs inner identities count (within state component false) events (Done next)
       → Does (RunSequence inner) identities count place state events (Done (keeping state next))
   -- a soft failure is passed over, with all as it was
@@ -83,12 +85,12 @@ pub record RunRules (inner : Sequence) (identities : List Identity) (count place
 
 abbrev pub RunSequenceRules : Type 0
 RunSequenceRules =
-    (inner : Sequence) (identities : List Identity) (count place component : ℕ) (state : State)
+    (inner : SequenceTree) (identities : List Identity) (count place component : ℕ) (state : State)
     → state.selection ≡ component ∷ [] → RunRules inner identities count place component state
 
 -- ---- try each, where one component is selected
 
-pub record BranchRules (inner : Sequence) (rest : Branches) (identities : List Identity) (count place component : ℕ) (state : State) : Type 0 where
+pub record BranchRules (inner : SequenceTree) (rest : BranchesTree) (identities : List Identity) (count place component : ℕ) (state : State) : Type 0 where
   pub done : (events : List Event) (next : State) → Runs inner identities count (within state component true) events (Done next)
       → Does (TryEach (BranchThen inner rest)) identities count place state events (Done (keeping state next))
   -- after a soft failure the others are tried, with all as it was
@@ -103,12 +105,12 @@ pub record BranchRules (inner : Sequence) (rest : Branches) (identities : List I
 
 abbrev pub BranchesRules : Type 0
 BranchesRules =
-    (inner : Sequence) (rest : Branches) (identities : List Identity) (count place component : ℕ) (state : State)
+    (inner : SequenceTree) (rest : BranchesTree) (identities : List Identity) (count place component : ℕ) (state : State)
     → state.selection ≡ component ∷ [] → BranchRules inner rest identities count place component state
 
 -- a null branch does nothing and is done; after the last one the try each fails as a condition does
 pub record LastRules (identities : List Identity) (count place component : ℕ) (state : State) : Type 0 where
-  pub null : (rest : Branches) (events : List Event) (ending : Ending)
+  pub null : (rest : BranchesTree) (events : List Event) (ending : Ending)
       → Does (TryEach (NullThen rest)) identities count place state events ending ↔ ((events ≡ []) × (ending ≡ Done state))
   pub exhausted : (events : List Event) (ending : Ending)
       → Does (TryEach NoBranches) identities count place state events ending ↔ ((events ≡ []) × (ending ≡ Condition place state.soft_failure))

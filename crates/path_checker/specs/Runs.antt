@@ -1,22 +1,18 @@
 -- How command sequences run, whichever steps fail (draft-ietf-suit-manifest-25, section 6.4).
 use Rattle.std.specs.Prelude.{◌≡◌, ℕ, ◌⊎◌, Bool, true, false, List, [], ◌∷◌, ◌++◌}
-use Rattle.std.specs.List.{range_with_len}
 use Rattle.path_checker.specs.declared.identity.Identity.{Identity}
 use Rattle.path_checker.specs.declared.event.Event.{Event}
-use Rattle.path_checker.specs.Tree.{Selection, One, All, Listed, Command, Test, Act, Index, Override, TryEach, RunSequence, Sequence, NoSteps, StepThen, Branches, NoBranches, BranchThen, NullThen}
+use Rattle.suit_commands.specs.declared.selection.Selection.{Selection}
+use Rattle.suit_commands.specs.Selections.{selected_by}
+use Rattle.suit_commands.specs.Tree.{CommandTree, Test, Act, Index, Override, TryEach, RunSequence, SequenceTree, NoSteps, StepThen, BranchesTree, NoBranches, BranchThen, NullThen}
 use Rattle.path_checker.specs.Behaviour.{State, Ending, Done, Condition, Directive, Behaviour, Becomes, Then, EachSelected}
 use Rattle.path_checker.specs.Conditions.{Tests}
 use Rattle.path_checker.specs.Directives.{Overrides, Acts}
 
 -- ---- set component index (section 6.5)
 
-abbrev pub selection_of : Selection → ℕ → List ℕ
-selection_of (One component) count = component ∷ []
-selection_of All count = range_with_len 0 count
-selection_of (Listed components) count = components
-
 abbrev pub Selects : Selection → ℕ → Behaviour
-Selects selection count state = Becomes (record state { selection = selection_of selection count })
+Selects selection count state = Becomes (record state { selection = selected_by selection count })
 
 -- ---- inner sequences. These values of soft failure, and what goes back, are this project's own choice.
 
@@ -60,21 +56,21 @@ TriesBranch inner others component state events ending =
 -- ---- whole sequences
 
 abbrev mutual
-  pub Runs : Sequence → List Identity → ℕ → Behaviour
+  pub Runs : SequenceTree → List Identity → ℕ → Behaviour
   Runs NoSteps identities count state = Becomes state
   Runs (StepThen place command rest) identities count state =
       Then (Does command identities count place) (Runs rest identities count) state
 
-  pub Does : Command → List Identity → ℕ → ℕ → Behaviour
-  Does (Test kind) identities count place state = EachSelected (Tests kind identities place) state
-  Does (Act kind) identities count place state = EachSelected (Acts kind place) state
+  pub Does : CommandTree → List Identity → ℕ → ℕ → Behaviour
+  Does (Test kind report) identities count place state = EachSelected (Tests kind identities place) state
+  Does (Act kind report) identities count place state = EachSelected (Acts kind place) state
   Does (Index selection) identities count place state = Selects selection count state
   Does (Override list) identities count place state = EachSelected (Overrides list) state
   Does (TryEach branches) identities count place state = EachSelected (Tries branches identities count place) state
   Does (RunSequence inner) identities count place state = EachSelected (RunsInner (Runs inner identities count)) state
 
   -- the branches in order; where none completes, the try each fails as a condition does
-  pub Tries : Branches → List Identity → ℕ → ℕ → ℕ → Behaviour
+  pub Tries : BranchesTree → List Identity → ℕ → ℕ → ℕ → Behaviour
   Tries NoBranches identities count place component state events ending =
       (events ≡ []) × (ending ≡ Condition place state.soft_failure)
   Tries (NullThen rest) identities count place component state events ending = Becomes state events ending

@@ -5,7 +5,7 @@ use Rattle.suit_params.specs.declared.digest.Digest.{Digest}
 use Rattle.path_checker.specs.declared.identity.Identity.{Identity}
 use Rattle.path_checker.specs.declared.event.Event.{Event}
 use Rattle.path_checker.specs.declared.event.Event.TheVariants.{Matched, Wrote, Invoked}
-use Rattle.path_checker.specs.Tree.{Plan}
+use Rattle.suit_commands.specs.Tree.{PlanTree}
 use Rattle.path_checker.specs.Path.{AreIdentities, Path}
 
 abbrev pub WritesTo : ℕ → Event → Type 0
@@ -31,7 +31,7 @@ Covered events i = IfSome (slice_get events i) (IsCovered (take i events))
 abbrev pub AllCovered : List Event → Type 0
 AllCovered events = (i : ℕ) → Covered events i
 
-pub record Safe (plan : Plan) : Type 0 where
+pub record Safe (plan : PlanTree) : Type 0 where
   pub covered : (identities : List Identity) (events : List Event)
       → AreIdentities plan identities → Path plan identities events → AllCovered events
 

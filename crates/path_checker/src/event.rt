@@ -2,9 +2,10 @@
 
 ghost use Rattle.std.specs.Prelude.{◌≡◌, [], ◌∷◌, ◌++◌, length, OnOk, OnErr, IsTrue, ◌↔◌};
 
-use crate::{Digest, Param, TestKind};
 use std::alloc::{AllocError, Global};
 use std::marker::Model;
+use suit_commands::TestKind;
+use suit_params::{Digest, Param};
 
 /// An event of a path.
 #[derive(Debug, Drop)]

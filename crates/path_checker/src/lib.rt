@@ -4,19 +4,14 @@
 mod event;
 mod identity;
 mod judge;
-mod kinds;
 mod law;
-mod param;
 mod plan;
 
 pub use event::{Event, Events};
 pub use identity::{Identities, Identity};
 pub use judge::{BadPath, CheckVerdict, check};
-pub use kinds::{ActKind, TestKind};
 pub use law::{
     conditions, covered_invokes, directives, identity_bounds, inner_sequences, overriding,
     path_beginnings, selecting, sequences,
 };
-pub use param::{Param, ParamKey};
 pub use plan::{FlatPlan, Procedure};
-pub use suit_params::Digest;

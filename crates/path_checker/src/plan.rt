@@ -1,6 +1,6 @@
 //! Procedures of the flat form.
 
-use crate::Digest;
+use suit_params::Digest;
 
 /// Which of the two procedures of a manifest.
 #[derive(Clone, Copy, Debug, PartialEq, Eq)]

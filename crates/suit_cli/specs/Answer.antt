@@ -5,7 +5,7 @@ use Rattle.suit_edge.specs.Faults.{Faulted}
 use Rattle.path_checker.specs.declared.plan.Procedure.{Procedure}
 use Rattle.path_checker.specs.declared.plan.Procedure.TheVariants as procedures
 use Rattle.path_checker.specs.declared.judge.BadPath.{BadPath}
-use Rattle.path_checker.specs.Tree.{Plan}
+use Rattle.suit_commands.specs.Tree.{PlanTree}
 use Rattle.path_checker.specs.Flat.{tree_of}
 use Rattle.path_checker.specs.Safe.{Safe}
 use Rattle.path_checker.specs.Verdict.{IsBadPath}
@@ -22,7 +22,7 @@ use Rattle.suit_cli.specs.Shown.{IsShown}
 -- ---- the judgement of a manifest
 
 -- what is judged of a procedure is its command tree
-abbrev pub form_tree : Procedure → FlatForm → Plan
+abbrev pub form_tree : Procedure → FlatForm → PlanTree
 form_tree procedure form = tree_of (plan_of procedure form)
 
 -- the update is judged first

@@ -8,8 +8,8 @@ use Rattle.path_checker.specs.declared.identity.Identity.{Identity}
 use Rattle.path_checker.specs.declared.event.Event.{Event}
 use Rattle.path_checker.specs.declared.event.Event.TheVariants.{Set, Tried, Matched, Missed, Wrote, Invoked, Failed}
 use Rattle.path_checker.specs.declared.judge.BadPath.{BadPath}
-use Rattle.path_checker.specs.Keys.{key_of, key_number}
-use Rattle.path_checker.specs.Kinds.{test_code}
+use Rattle.suit_params.specs.ParamKeys.{key_of, key_number}
+use Rattle.suit_commands.specs.Kinds.{test_code}
 
 -- pieces one after another
 abbrev pub joined : List (List ℕ) → List ℕ

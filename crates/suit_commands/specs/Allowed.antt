@@ -35,7 +35,7 @@ abbrev mutual
   IsCommand shared count levels (Act kind report) = (shared ≡ false) × (report ≤ 15)
   IsCommand shared count levels (Index selection) = IsSelectionOf count selection
   IsCommand shared count levels (Override list) = AllByRecursion IsParam list × AllByRecursion (IsBelow count) list × AreAscending list
-  IsCommand shared count levels (TryEach branches) = AreTwo branches × AreBranches shared count levels branches
+  IsCommand shared count levels (TryEach tries) = AreTwo tries × AreBranches shared count levels tries
   IsCommand shared count levels (RunSequence inner) = IsSequence shared count levels inner
 
   pub AreBranches : Bool → ℕ → ℕ → BranchesTree → Type 0

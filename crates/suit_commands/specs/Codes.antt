@@ -18,7 +18,7 @@ tag (Test kind report) = 0
 tag (Act kind report) = 1
 tag (Index selection) = 2
 tag (Override list) = 3
-tag (TryEach branches) = 4
+tag (TryEach tries) = 4
 tag (RunSequence inner) = 5
 
 abbrev mutual
@@ -31,7 +31,7 @@ abbrev mutual
   body_code (Act kind report) = gcons (act_kind.the_row.coded.code kind) (gnum report)
   body_code (Index selection) = selection_row.the_row.coded.code selection
   body_code (Override list) = list_code.code list
-  body_code (TryEach branches) = branches_code branches
+  body_code (TryEach tries) = branches_code tries
   body_code (RunSequence inner) = sequence_code inner
 
   pub branches_code : BranchesTree → Gv

@@ -16,7 +16,7 @@ command_falls (Test kind report) = omega arith
 command_falls (Act kind report) = omega arith
 command_falls (Index i) = omega arith
 command_falls (Override list) = omega arith
-command_falls (TryEach branches) = omega arith
+command_falls (TryEach tries) = omega arith
 command_falls (Run inner) = omega arith
 
 pub sequence_falls : (ss : List Step) → max (most deep-Step ss) 0 ≤ sequence_size (sequence_tree ss)

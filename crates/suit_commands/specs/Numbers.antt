@@ -27,7 +27,7 @@ abbrev mutual
   command_work (Act kind report) count selected = selected
   command_work (Index selection) count selected = 1
   command_work (Override list) count selected = selected
-  command_work (TryEach branches) count selected = selected * (1 + branches_work branches count)
+  command_work (TryEach tries) count selected = selected * (1 + branches_work tries count)
   command_work (RunSequence inner) count selected = selected * (1 + work_of inner count 1)
 
   pub branches_work : BranchesTree → ℕ → ℕ
@@ -71,7 +71,7 @@ abbrev mutual
   command_ways (Act kind report) count selected ways = ways
   command_ways (Index selection) count selected ways = ways
   command_ways (Override list) count selected ways = ways
-  command_ways (TryEach branches) count selected ways = times selected (after_tries (branches_done branches count) (branches_failed branches count)) ways
+  command_ways (TryEach tries) count selected ways = times selected (after_tries (branches_done tries count) (branches_failed tries count)) ways
   command_ways (RunSequence inner) count selected ways = times selected (after_inner (ways_of inner count 1 start_ways)) ways
 
   -- the sum over the branches of the ways to complete one after all before it failed

@@ -12,7 +12,7 @@ abbrev mutual
   command_size (Act kind report) = 1
   command_size (Index selection) = 1
   command_size (Override list) = 1
-  command_size (TryEach branches) = 1 + branches_size branches
+  command_size (TryEach tries) = 1 + branches_size tries
   command_size (RunSequence inner) = 1 + sequence_size inner
 
   pub branches_size : BranchesTree → ℕ

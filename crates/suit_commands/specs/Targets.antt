@@ -27,7 +27,7 @@ abbrev mutual
   CommandWrites (Act kind report) count selected component = IsWriting kind × Among component selected
   CommandWrites (Index selection) count selected component = ⊥
   CommandWrites (Override list) count selected component = ⊥
-  CommandWrites (TryEach branches) count selected component = (outer : ℕ) × Among outer selected × BranchesWrite branches count outer component
+  CommandWrites (TryEach tries) count selected component = (outer : ℕ) × Among outer selected × BranchesWrite tries count outer component
   CommandWrites (RunSequence inner) count selected component = (outer : ℕ) × Among outer selected × Writes inner count (outer ∷ []) component
 
   pub BranchesWrite : BranchesTree → ℕ → ℕ → ℕ → Type 0
@@ -52,7 +52,7 @@ abbrev mutual
   CommandSwaps (Act kind report) = kind ≡ acts.Swap
   CommandSwaps (Index selection) = ⊥
   CommandSwaps (Override list) = ⊥
-  CommandSwaps (TryEach branches) = BranchesSwap branches
+  CommandSwaps (TryEach tries) = BranchesSwap tries
   CommandSwaps (RunSequence inner) = Swaps inner
 
   pub BranchesSwap : BranchesTree → Type 0
@@ -70,7 +70,7 @@ abbrev mutual
   CommandSources (Act kind report) component = ⊥
   CommandSources (Index selection) component = ⊥
   CommandSources (Override list) component = NamesSource list component
-  CommandSources (TryEach branches) component = BranchesSource branches component
+  CommandSources (TryEach tries) component = BranchesSource tries component
   CommandSources (RunSequence inner) component = Sources inner component
 
   pub BranchesSource : BranchesTree → ℕ → Type 0

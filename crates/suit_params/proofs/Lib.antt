@@ -15,4 +15,5 @@ pub mod ParamAnswers
 pub mod ParamOrder
 pub mod ParamWritten
 pub mod ParamSpelled
+pub mod Overriding
 pub mod ParamLawProofs

@@ -5,6 +5,8 @@ pub mod Reading
 pub mod DigestReading
 pub mod ParamKeys
 pub mod Params
+pub mod InForce
+pub mod Lent
 pub mod ParamJudging
 pub mod Answering
 pub mod ParamReading

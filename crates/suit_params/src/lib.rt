@@ -9,6 +9,7 @@ mod param_list;
 mod param_map;
 mod param_value;
 mod param_writing;
+mod params;
 mod reading;
 mod refusal;
 
@@ -18,9 +19,12 @@ pub use param::{Param, ParamKey};
 pub use param_list::ParamList;
 pub use param_map::{params_of, read_params};
 pub use param_writing::write_params;
+pub use params::Params;
 pub use reading::{only_item, read_bytes, read_content, read_head, read_item, same_place};
 pub use refusal::{Fault, Refusal, Why, refused};
 
+#[cfg(test)]
+mod in_force_tests;
 #[cfg(test)]
 mod param_tests;
 #[cfg(test)]

@@ -1,7 +1,7 @@
 //! The verdict beside a slow program that walks every path, step by step.
 
 use super::*;
-use crate::Digest;
+use suit_params::Digest;
 use std::test::Fail;
 
 // A command of the flat form, at component 0.

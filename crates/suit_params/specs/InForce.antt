@@ -1,13 +1,13 @@
 -- The parameters in force (draft-ietf-suit-manifest-25, sections 6.4.1 and 8.4.8), as one value: for each of
 -- eight components and twelve keys an option. Where the same values are in force, it is the same list.
-use Rattle.std.specs.Prelude.{ℕ, ◌+◌, ◌*◌, List, Option, Some, None, slice_get, slice_set}
+use Rattle.std.specs.Prelude.{◌≡◌, ◌<◌, ℕ, ◌+◌, ◌*◌, ◌==◌, if◌then◌else◌, List, [], ◌∷◌, Option, Some, None, slice_get, slice_set}
 use Rattle.std.proofs.Math.ListN.{replicate}
 use Rattle.suit_params.specs.declared.digest.Digest.{Digest}
-use Rattle.path_checker.specs.declared.param.Param.{Param}
-use Rattle.path_checker.specs.declared.param.Param.TheVariants as params
-use Rattle.path_checker.specs.declared.param.ParamKey.{ParamKey}
-use Rattle.path_checker.specs.declared.param.ParamKey.TheVariants as keys
-use Rattle.path_checker.specs.Keys.{key_of}
+use Rattle.suit_params.specs.declared.param.Param.{Param}
+use Rattle.suit_params.specs.declared.param.Param.TheVariants as params
+use Rattle.suit_params.specs.declared.param.ParamKey.{ParamKey}
+use Rattle.suit_params.specs.declared.param.ParamKey.TheVariants as keys
+use Rattle.suit_params.specs.ParamKeys.{key_of}
 
 abbrev pub Parameters : Type 0
 Parameters = List (Option Param)
@@ -73,3 +73,20 @@ digest_in parameters component = digest_of (in_force parameters component keys.D
 
 abbrev pub size_in : Parameters → ℕ → Option ℕ
 size_in parameters component = number_of (in_force parameters component keys.Size)
+
+-- ---- an override of several parameters, in their order
+
+abbrev pub overridden : Parameters → ℕ → List Param → Parameters
+overridden parameters component [] = parameters
+overridden parameters component (param ∷ list) = overridden (with_param parameters component param) component list
+
+-- the last value that the list has for a key, or the one before
+abbrev pub last_of : List Param → ParamKey → Option Param → Option Param
+last_of [] key before = before
+last_of (param ∷ list) key before = last_of list key (if rank (key_of param) == rank key then Some param else before)
+
+-- for the component the last value of the list for each key, and for each other component what was in force
+abbrev pub IsOverridden : Parameters → Parameters → ℕ → List Param → Type 0
+IsOverridden before after component list =
+    (other : ℕ) (key : ParamKey) → other < 8
+    → in_force after other key ≡ (if other == component then last_of list key (in_force before component key) else in_force before other key)
