@@ -49,7 +49,7 @@ mutual
     SaysListed : (levels place : ℕ) (is : List ℕ) → is ≢ [] → AllByRecursion (λ i. i < count) is → SaysCommand shared count levels place 12 (ArrayOf (index_items is)) (Index (Listed is))
     SaysOverride : (levels place : ℕ) (x : DataItem) (list : List Param) → IsParams count place x list → SaysCommand shared count levels place 20 x (Override list)
     SaysTry : (levels place : ℕ) (items : DataItems) (branches : BranchesTree) → 2 ≤ item_count items
-        → SaysBranches shared count levels (elements_place place items) items tries → SaysCommand shared count levels place 15 (ArrayOf items) (TryEach tries)
+        → SaysBranches shared count levels (elements_place place items) items branches → SaysCommand shared count levels place 15 (ArrayOf items) (TryEach branches)
     SaysRun : (levels place : ℕ) (content : List ℕ) (s : SequenceTree) → SaysInner shared count levels place content s → SaysCommand shared count levels place 32 (ByteString content) (RunSequence s)
 
   -- the last branch may be null
