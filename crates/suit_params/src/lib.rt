@@ -3,6 +3,7 @@
 
 mod digest;
 mod fault;
+mod identifier;
 mod law;
 mod param;
 mod param_list;
@@ -14,6 +15,7 @@ mod reading;
 mod refusal;
 
 pub use digest::{Digest, digest_of, read_digest};
+pub use identifier::{Identifier, Identifiers};
 pub use law::param_laws;
 pub use param::{Param, ParamKey};
 pub use param_list::ParamList;

@@ -1,0 +1,4 @@
+pub mod Maps
+pub mod Components
+pub mod Common
+pub mod Manifests

@@ -1,0 +1,101 @@
+//! Identifiers of components.
+
+ghost use Rattle.std.specs.Prelude.{◌≡◌, [], ◌∷◌, ◌++◌, length, OnOk, OnErr, IsTrue, ◌↔◌};
+
+use det_cbor::Bytes;
+use std::alloc::{AllocError, Global};
+use std::marker::Model;
+
+/// A component identifier (draft-ietf-suit-manifest-25, section 8.4.5): byte strings in their order.
+#[derive(Debug, Drop)]
+pub struct Identifier {
+    pub(crate) held: Vec<Bytes>,
+}
+
+impl Model for Identifier {
+    ghost use Rattle.std.specs.Prelude.{List, ℕ};
+
+    ghost Value = { List (List ℕ) };
+
+    ghost view = { λ a. a.held.items };
+}
+
+impl Identifier {
+    /// An identifier of no byte strings, which grows by this allocator. Takes no memory.
+    pub fn new(alloc: Global) -> Identifier
+        ensures { result ≡ [] }
+    {
+        Identifier {
+            held: Vec::new(alloc),
+        }
+    }
+
+    /// Adds a byte string at the end. One for which there is no memory is dropped.
+    pub fn push(&mut self, part: Bytes) -> Result<(), AllocError>
+        ensures ok { OnOk result (self.new ≡ self.old ++ part ∷ []) }
+        ensures err { OnErr result (self.new ≡ self.old) }
+    {
+        Ok(self.held.push(part)?)
+    }
+
+    /// The byte strings, lent.
+    pub fn as_slice(&self) -> &[Bytes]
+        ensures { result.now ≡ self.now }
+    {
+        self.held.as_slice()
+    }
+}
+
+/// The identifiers of a manifest's components, by their indices.
+#[derive(Debug, Drop)]
+pub struct Identifiers {
+    pub(crate) held: Vec<Identifier>,
+}
+
+impl Model for Identifiers {
+    ghost use Rattle.std.specs.Prelude.{List, ℕ};
+
+    ghost Value = { List (List (List ℕ)) };
+
+    ghost view = { λ a. a.held.items };
+}
+
+impl Identifiers {
+    /// A list of no identifiers, which grows by this allocator. Takes no memory.
+    pub fn new(alloc: Global) -> Identifiers
+        ensures { result ≡ [] }
+    {
+        Identifiers {
+            held: Vec::new(alloc),
+        }
+    }
+
+    /// Adds an identifier at the end. One for which there is no memory is dropped.
+    pub fn push(&mut self, identifier: Identifier) -> Result<(), AllocError>
+        ensures ok { OnOk result (self.new ≡ self.old ++ identifier ∷ []) }
+        ensures err { OnErr result (self.new ≡ self.old) }
+    {
+        Ok(self.held.push(identifier)?)
+    }
+
+    /// The number of identifiers.
+    pub fn len(&self) -> usize
+        ensures { result ≡ length self.now }
+    {
+        self.held.len()
+    }
+
+    /// Whether there are no identifiers.
+    pub fn is_empty(&self) -> bool
+        ensures { IsTrue result ↔ (self.now ≡ []) }
+    {
+        self.held.is_empty()
+    }
+
+    /// The identifiers, lent.
+    pub fn as_slice(&self) -> &[Identifier]
+        ensures { result.now ≡ self.now }
+    {
+        self.held.as_slice()
+    }
+}
