@@ -1,4 +1,5 @@
 pub mod Allowed
+pub mod Capped
 pub mod Codes
 pub mod Falls
 pub mod Kinds
@@ -11,3 +12,4 @@ pub mod Size
 pub mod Targets
 pub mod Tree
 pub mod View
+pub mod WaysOnce

@@ -1,17 +1,27 @@
 //! Command sequences of SUIT manifests, as trees.
 #![tactic(auto)]
 
+mod capped;
 mod command;
 mod index_list;
 mod kinds;
+mod numbers;
 mod plan;
 mod selection;
+mod ways;
+mod ways_walk;
+mod work_walk;
 
 pub use command::{Branches, Command, Sequence, Step};
 pub use index_list::IndexList;
 pub use kinds::{ActKind, TestKind};
+pub use numbers::{spread, width, work};
 pub use plan::Plan;
 pub use selection::Selection;
 
+#[cfg(test)]
+mod number_tests;
+#[cfg(test)]
+mod tree_makers;
 #[cfg(test)]
 mod tree_tests;
