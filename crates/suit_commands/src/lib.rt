@@ -3,20 +3,28 @@
 
 mod capped;
 mod command;
+mod component_bits;
 mod index_list;
 mod kinds;
 mod numbers;
 mod plan;
+mod plan_targets;
+mod reach;
+mod reach_walk;
 mod selection;
+mod source_walk;
+mod swap_walk;
 mod ways;
 mod ways_walk;
 mod work_walk;
 
 pub use command::{Branches, Command, Sequence, Step};
+pub use component_bits::Targets;
 pub use index_list::IndexList;
 pub use kinds::{ActKind, TestKind};
 pub use numbers::{spread, width, work};
 pub use plan::Plan;
+pub use plan_targets::targets;
 pub use selection::Selection;
 
 #[cfg(test)]
