@@ -2,7 +2,7 @@
 use Rattle.std.specs.Prelude.{ℕ, ◌+◌, ◌≤◌, max, List, [], ◌∷◌, Option, Some, None}
 use Rattle.std.proofs.Common.{arith}
 use denote.Param.Weighed.{most}
-use Rattle.suit_commands.specs.Tree.{SequenceTree, BranchesTree}
+use Rattle.suit_commands.specs.Tree.{SequenceTree}
 use Rattle.suit_commands.specs.View.{sequence_tree, branches_tree, command_tree}
 use Rattle.suit_commands.specs.Size.{sequence_size, command_size, branches_size}
 use Rattle.suit_commands.specs.declared.command.Step.{Step}

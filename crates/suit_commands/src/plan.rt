@@ -4,6 +4,7 @@ use crate::Sequence;
 
 /// A procedure: its three members in their order, the shared sequence that is run before each of them, and the
 /// number of components. An absent sequence is an empty one.
+#[derive(Clone, Copy, Debug)]
 pub struct Plan<'a> {
     pub shared: Option<&'a Sequence>,
     pub first: Option<&'a Sequence>,

@@ -1,0 +1,68 @@
+-- Sums and products of capped numbers, capped, are those of the numbers.
+use Rattle.std.proofs.Common.{◌≡◌, ℕ, zero, suc, ◌+◌, ◌*◌, ◌-◌, ◌^◌, ◌≤◌, ◌<◌, min, ◌⊎◌, inl, inr, refl, ◌∙◌, arith, mul_comm}
+use Rattle.std.proofs.lemmas.Bool.{cases_lt}
+use Rattle.std.proofs.lemmas.Nat.{mul-le}
+use Rattle.std.proofs.Math.Nat.{le-mul_of_pos_right}
+use Rattle.suit_commands.specs.Capped.{capped}
+
+pub capped_small : (n : ℕ) → n < 2 ^ 64 → capped n ≡ n
+unfolding capped
+capped_small n small = omega arith
+
+pub capped_below : (n : ℕ) → capped n < 2 ^ 64
+unfolding capped
+capped_below n = omega arith
+
+pub capped_plus : (a b : ℕ) → capped (capped a + capped b) ≡ capped (a + b)
+unfolding capped
+capped_plus a b = omega arith
+
+pub capped_plus_right : (a b : ℕ) → capped (a + capped b) ≡ capped (a + b)
+unfolding capped
+capped_plus_right a b = omega arith
+
+pub capped_plus_left : (a b : ℕ) → capped (capped a + b) ≡ capped (a + b)
+unfolding capped
+capped_plus_left a b = omega arith
+
+-- one more of a sum of three
+pub capped_three : (a b c : ℕ) → capped (capped (a + capped b) + c) ≡ capped (a + (b + c))
+unfolding capped
+capped_three a b c = omega arith
+
+-- at a largest number of any size
+small_times : (m a b : ℕ) → a ≤ m → min (min a m * b) m ≡ min (a * b) m
+small_times m a b h = let same : min a m ≡ a = omega arith in rw same refl
+
+large_times : (m a b : ℕ) → m ≤ a → min (min a m * suc b) m ≡ min (a * suc b) m
+large_times m a b h =
+    let same : min a m ≡ m = omega arith in
+    let less : m * suc b ≤ a * suc b = mul-le m (suc b) a (suc b) h (omega arith) in
+    let more : m ≤ m * suc b = le-mul_of_pos_right m (omega arith) in
+    rw same (omega (arith, less, more))
+
+side : (a m : ℕ) → a ≤ m ⊎ m ≤ a
+side a m = elim (cases_lt a m) [ inl h ↦ inl (omega (arith, h)) | inr h ↦ inr h ]
+
+min_times_left : (m a b : ℕ) → a ≤ m ⊎ m ≤ a → min (min a m * b) m ≡ min (a * b) m
+min_times_left m a b (inl h) = small_times m a b h
+min_times_left m a zero (inr h) = omega arith
+min_times_left m a (suc b) (inr h) = large_times m a b h
+
+pub capped_times_left : (a b : ℕ) → capped (capped a * b) ≡ capped (a * b)
+unfolding capped
+capped_times_left a b = min_times_left (2 ^ 64 - 1) a b (side a (2 ^ 64 - 1))
+
+pub capped_times_right : (a b : ℕ) → capped (a * capped b) ≡ capped (a * b)
+capped_times_right a b = rw (mul_comm a (capped b), mul_comm a b) (capped_times_left b a)
+
+pub capped_times : (a b : ℕ) → capped (capped a * capped b) ≡ capped (a * b)
+capped_times a b = capped_times_left a (capped b) ∙ capped_times_right a b
+
+-- ---- what a sum and a product of answers say
+
+pub plus_is : (x y n a b : ℕ) → x ≡ capped a → y ≡ capped b → n ≡ capped (x + y) → n ≡ capped (a + b)
+plus_is x y n a b x_is y_is n_is = rw (n_is, x_is, y_is) (capped_plus a b)
+
+pub times_is : (x y n a b : ℕ) → x ≡ capped a → y ≡ capped b → n ≡ capped (x * y) → n ≡ capped (a * b)
+times_is x y n a b x_is y_is n_is = rw (n_is, x_is, y_is) (capped_times a b)

@@ -1,0 +1,63 @@
+//! How much there is to judge in a procedure: numbers of this project's own, by which it bounds its work.
+
+ghost use Rattle.std.specs.Prelude.{◌≡◌};
+ghost use Rattle.suit_commands.specs.Capped.{capped};
+ghost use Rattle.suit_commands.specs.Numbers.{work_of, ways_of, start_ways, work_number, spread_number, width_number};
+ghost use Rattle.suit_commands.specs.Plans.{lent_tree, plan_tree};
+
+use crate::capped::{plus, product};
+use crate::ways_walk::sequence_ways;
+use crate::work_walk::sequence_work;
+use crate::{Plan, Sequence};
+
+/// The work of a procedure: how many commands it does at most, where each is done once for each selected component
+/// and a set component index once. Of a run sequence and a try each it counts the command and what stands inside,
+/// of a try each all sequences. The shared sequence counts before each member. The largest number of 64 bits stands
+/// for each larger one.
+pub fn work(plan: &Plan<'_>) -> u64
+    ensures { result ≡ capped (work_number (plan_tree plan.now)) }
+{
+    let shared = lent_work(plan.shared, plan.count);
+    let first = plus(shared, lent_work(plan.first, plan.count));
+    let second = plus(shared, lent_work(plan.second, plan.count));
+    let third = plus(shared, lent_work(plan.third, plan.count));
+    plus(plus(first, second), third)
+}
+
+/// The spread of a procedure: in how many ways it completes at most, since a condition may succeed or fail and a
+/// sequence inside may end early. It is the product over the shared sequence before each member and the member. The
+/// largest number of 64 bits stands for each larger one.
+pub fn spread(plan: &Plan<'_>) -> u64
+    ensures { result ≡ capped (spread_number (plan_tree plan.now)) }
+{
+    let shared = lent_on(plan.shared, plan.count);
+    let first = product(shared, lent_on(plan.first, plan.count));
+    let second = product(shared, lent_on(plan.second, plan.count));
+    let third = product(shared, lent_on(plan.third, plan.count));
+    product(product(first, second), third)
+}
+
+/// The width of a procedure: its work times its spread, or the largest number of 64 bits where that is larger.
+pub fn width(plan: &Plan<'_>) -> u64
+    ensures { result ≡ capped (width_number (plan_tree plan.now)) }
+{
+    product(work(plan), spread(plan))
+}
+
+fn lent_work(sequence: Option<&Sequence>, count: u32) -> u64
+    ensures { result ≡ capped (work_of (lent_tree sequence.entry) count 1) }
+{
+    match sequence {
+        Some(sequence) => sequence_work(sequence, count),
+        None => 0,
+    }
+}
+
+fn lent_on(sequence: Option<&Sequence>, count: u32) -> u64
+    ensures { result ≡ capped ((ways_of (lent_tree sequence.entry) count 1 start_ways).on) }
+{
+    match sequence {
+        Some(sequence) => sequence_ways(sequence, count).on,
+        None => 1,
+    }
+}

@@ -1,0 +1,65 @@
+//! In how many ways a part of a sequence may complete, and in how many it may end by a condition.
+
+ghost use Rattle.std.specs.Prelude.{◌≡◌};
+ghost use Rattle.suit_commands.specs.Numbers.{start_ways};
+ghost use Rattle.suit_commands.specs.WaysOnce.{counted, capped_ways, ways_then, ways_else, ways_repeated, no_branch};
+
+use crate::capped::{plus, product};
+
+/// How often a part may complete, and how often it may end by a condition.
+#[derive(Clone, Copy)]
+pub(crate) struct Ways {
+    pub on: u64,
+    pub off: u64,
+}
+
+impl Ways {
+    /// Those of nothing to do: it completes.
+    pub(crate) fn start() -> Ways
+        ensures { counted result ≡ start_ways }
+    {
+        Ways { on: 1, off: 0 }
+    }
+
+    /// Those of a try each before its first sequence: none is done.
+    pub(crate) fn none_done() -> Ways
+        ensures { counted result ≡ no_branch }
+    {
+        Ways { on: 0, off: 1 }
+    }
+
+    /// Those of this part and then the next.
+    pub(crate) fn then(self, next: Ways) -> Ways
+        ensures { counted result ≡ capped_ways (ways_then (counted self) (counted next)) }
+    {
+        Ways {
+            on: product(self.on, next.on),
+            off: plus(self.off, product(self.on, next.off)),
+        }
+    }
+
+    /// Those of this part, and of the next one where this one ends by a condition.
+    pub(crate) fn or_else(self, next: Ways) -> Ways
+        ensures { counted result ≡ capped_ways (ways_else (counted self) (counted next)) }
+    {
+        Ways {
+            on: plus(self.on, product(self.off, next.on)),
+            off: product(self.off, next.off),
+        }
+    }
+
+    /// Those of this part so many times. A part that is done twice as often is the half twice.
+    pub(crate) fn repeated(self, times: u64) -> Ways
+        ensures { counted result ≡ capped_ways (ways_repeated times (counted self)) }
+    {
+        if times == 0 {
+            return Ways::start();
+        }
+        let half = self.repeated(times / 2);
+        let even = half.then(half);
+        if times % 2 == 0 {
+            return even;
+        }
+        even.then(self)
+    }
+}
