@@ -1,1 +1,4 @@
 pub mod Pushing
+pub mod Nesting
+pub mod ReadingSteps
+pub mod CodeLaws

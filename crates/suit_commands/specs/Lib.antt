@@ -1,11 +1,14 @@
 pub mod Allowed
 pub mod Codes
+pub mod CommandCodes
 pub mod Falls
 pub mod Kinds
 pub mod Numbers
 pub mod Plans
 pub mod Selections
 pub mod SequenceFaults
+pub mod SequenceJudging
+pub mod SequenceReading
 pub mod Sequences
 pub mod Size
 pub mod Targets

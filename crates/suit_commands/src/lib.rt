@@ -1,11 +1,14 @@
 //! Command sequences of SUIT manifests, as trees.
 #![tactic(auto)]
 
+mod argument;
 mod command;
+mod command_code;
 mod index_list;
 mod kinds;
 mod plan;
 mod selection;
+mod sequence_reading;
 
 pub use command::{Branches, Command, Sequence, Step};
 pub use index_list::IndexList;
