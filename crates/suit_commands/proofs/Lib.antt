@@ -5,3 +5,5 @@ pub mod CodeLaws
 pub mod ArgumentJudging
 pub mod CommandJudging
 pub mod SequenceJudging
+pub mod ArgumentReads
+pub mod SequenceReads
