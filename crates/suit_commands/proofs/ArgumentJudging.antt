@@ -1,5 +1,5 @@
 -- The judgement of an argument that holds no sequence is that of the grammar and the refusals.
-use Rattle.std.proofs.Common.{◌≡◌, ◌≢◌, ℕ, ◌+◌, ◌<◌, ◌≤◌, Bool, true, false, eqb, ltb, List, [], ◌∷◌, Result, Ok, Err, refl, sym, ap, subst, ◌∙◌, inl, inr, arith}
+use Rattle.std.proofs.Common.{◌≡◌, ◌≢◌, ℕ, ◌<◌, ◌≤◌, Bool, true, false, eqb, ltb, List, [], ◌∷◌, Result, Ok, Err, refl, sym, ap, subst, ◌∙◌, inl, inr, arith}
 use Rattle.std.specs.List.{AllByRecursion}
 use Rattle.std.proofs.lemmas.Bool.{eqb-true, eqb-false, ne_eqb, lt-ltb, le-ltb, ltb-true, ltb-false}
 use Rattle.det_cbor.specs.DataItem.{DataItem, UnsignedInteger, NegativeInteger, ByteString, TextString, ArrayOf, MapOf, TaggedItem, Boolean, NullItem, DataItems, NoItems, ItemThen, item_count, IsValidWithin}
@@ -17,7 +17,7 @@ use Rattle.suit_commands.specs.declared.selection.Selection.TheVariants.{One, Al
 use Rattle.suit_commands.specs.Sequences.{elements_place, place_after, index_items, SaysCommand, SaysOne, SaysAll, SaysListed}
 use Rattle.suit_commands.specs.SequenceFaults.{IsPolicy, IsUnsigned, IsSelection, RefusesIndices, NoIndex, IndexAbove, LaterIndex, RefusesArgument, NoSelection, NoComponent, BadIndices, NoParams, BadParams}
 use Rattle.suit_commands.specs.SequenceJudging.{judge_report, judge_element, judge_indices, judge_selection, judge_override}
-use Rattle.suit_commands.specs.Tree.{Index, Override}
+use Rattle.suit_commands.specs.Tree.{Index}
 
 -- ---- numbers of elements
 

@@ -8,22 +8,19 @@ use Rattle.det_cbor.specs.HeadSpelling.{spelled}
 use Rattle.det_cbor.specs.ItemOrder.{spell_parts}
 use Rattle.det_cbor.specs.Position.{Position}
 use Rattle.det_cbor.proofs.Levels.{valid_alone}
-use Rattle.suit_params.specs.declared.param.Param.{Param}
 use Rattle.suit_params.specs.declared.refusal.Refusal.{Refusal}
 use Rattle.suit_params.specs.declared.refusal.Why.TheVariants.{BadArgument}
 use Rattle.suit_params.specs.Refusing.{refused}
-use Rattle.suit_params.specs.Reading.{inside, item_from}
 use Rattle.suit_params.specs.ParamJudging.{judge_params}
-use Rattle.suit_params.specs.ParamReading.{params_at, next_params}
+use Rattle.suit_params.specs.ParamReading.{next_params}
 use Rattle.suit_params.proofs.Held.{with_rest}
 use Rattle.suit_params.proofs.ItemHeads.{item_head, item_spelled, item_head_read, after}
 use Rattle.suit_params.proofs.Judgements.{item_read}
 use Rattle.suit_params.proofs.ParamReads.{params_read}
-use Rattle.suit_commands.specs.declared.selection.Selection.{Selection}
 use Rattle.suit_commands.specs.declared.selection.Selection.TheVariants.{One, All, Listed}
 use Rattle.suit_commands.specs.Sequences.{elements_place}
 use Rattle.suit_commands.specs.SequenceJudging.{judge_code, judge_report, judge_element, judge_indices, judge_selection, judge_override}
-use Rattle.suit_commands.specs.SequenceReading.{code_from, report_from, element_from, indices_from, listed_from, selection_from, override_from}
+use Rattle.suit_commands.specs.SequenceReading.{code_from, report_from, element_from, indices_from, selection_from, override_from}
 
 -- ---- positions
 

@@ -155,11 +155,13 @@ IsOtherCode shared x = (n : ℕ) → x ≡ UnsignedInteger n → IsCode shared n
 
 pub code_err : (shared : Bool) (place : ℕ) (x : DataItem) (r : Refusal) → judge_code shared place x ≡ Err r → IsOtherCode shared x × (refused place Unsupported ≡ r)
 code_err shared place (UnsignedInteger m) r e =
-    let unknown = known_err place shared (numbered m) r e in
-    (λ n is known.
-    let same : m ≡ n = cc in
-    let code = is_code shared n known in
-    unknown.0 code.0 (ap numbered (same ∙ code.1) ∙ numbered_again code.0) code.2, unknown.1)
+    let unknown = known_err place shared (numbered m) r e in (
+      λ n is known.
+          let same : m ≡ n = cc in
+          let code = is_code shared n known in
+          unknown.0 code.0 (ap numbered (same ∙ code.1) ∙ numbered_again code.0) code.2,
+      unknown.1,
+    )
 code_err shared place (NegativeInteger m) r e = (λ n is known. absurd cc, same_err _ r e)
 code_err shared place (ByteString bytes) r e = (λ n is known. absurd cc, same_err _ r e)
 code_err shared place (TextString text) r e = (λ n is known. absurd cc, same_err _ r e)

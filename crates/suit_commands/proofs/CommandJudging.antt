@@ -1,6 +1,6 @@
 -- The judgement of arguments that hold sequences, and of commands, by that of the sequences inside them.
-use Rattle.std.proofs.Common.{◌≡◌, ◌≢◌, ℕ, ◌+◌, ◌≤◌, Bool, true, false, eqb, ltb, List, Option, Some, None, Result, Ok, Err, refl, sym, ap, subst, ◌∙◌, inl, inr, arith}
-use Rattle.std.proofs.lemmas.Bool.{eqb-true, eqb-false, ne_eqb, lt-ltb, le-ltb, ltb-true, ltb-false}
+use Rattle.std.proofs.Common.{◌≡◌, ℕ, ◌+◌, ◌≤◌, Bool, true, false, eqb, ltb, List, Option, Some, Result, Ok, Err, refl, sym, ap, subst, ◌∙◌, inl, inr, arith}
+use Rattle.std.proofs.lemmas.Bool.{ne_eqb, le-ltb, ltb-true, ltb-false}
 use Rattle.det_cbor.specs.DataItem.{DataItem, UnsignedInteger, NegativeInteger, ByteString, TextString, ArrayOf, MapOf, TaggedItem, Boolean, NullItem, DataItems, NoItems, ItemThen, item_count, IsValidWithin, AreValidWithin}
 use Rattle.det_cbor.specs.HeadReading.{◌>>=◌}
 use Rattle.det_cbor.proofs.Arguments.{IsBytes}
@@ -15,8 +15,8 @@ use Rattle.suit_commands.specs.CommandCodes.{code_number}
 use Rattle.suit_commands.specs.Sequences.{elements_place, place_after, SaysCommand, SaysTest, SaysAct, SaysOne, SaysAll, SaysListed, SaysOverride, SaysTry, SaysRun, SaysBranches, SaysNoBranches, SaysNull, SaysBranch, SaysInner}
 use Rattle.suit_commands.specs.SequenceFaults.{IsPolicy, IsTryArray, IsBranch, IsPolicyCode, RefusesArgument, NoPolicy, NoSelection, NoComponent, BadIndices, NoParams, BadParams, NoTries, BadBranches, NoString, BadRun, RefusesBranches, NoBranch, BadBranch, LaterBranch, RefusesInner}
 use Rattle.suit_commands.specs.SequenceJudging.{InnerJudge, judge_code, judge_report, judge_selection, judge_override, judge_run, branch_before, judge_branch, judge_branches, judge_try, judge_argument}
-use Rattle.suit_commands.specs.Tree.{CommandTree, Test, Act, Index, Override, TryEach, RunSequence, SequenceTree, BranchesTree, NoBranches, BranchThen, NullThen}
-use Rattle.suit_commands.proofs.CodeLaws.{Allows, Numbers, is_code, code_again}
+use Rattle.suit_commands.specs.Tree.{CommandTree, Test, Act, TryEach, RunSequence, SequenceTree, BranchesTree, NoBranches, BranchThen, NullThen}
+use Rattle.suit_commands.proofs.CodeLaws.{Allows, code_again}
 use Rattle.suit_commands.proofs.ArgumentJudging.{report_ok, report_again, report_err, report_other, selection_ok, one_again, listed_again, selection_err, selection_other, component_refused, listed_refused, override_ok, override_again, override_err, override_other, override_refused}
 
 -- the judgement of byte strings is that of the grammar and of the refusals, both ways
@@ -94,12 +94,12 @@ branches_err inner shared count levels deep place NoItems r law valid e = absurd
 branches_err inner shared count levels deep place (ItemThen (ByteString content) others) r law valid e =
     bind_err (judge_branch inner place (ByteString content) others) _ r e
     (λ f. bind_err (inner place content) _ r f
-      (λ g. BadBranch levels place content others r (law.err place content r (bytes_of_all content valid.0.1) g))
-      (λ s s-is g. absurd cc))
+    (λ g. BadBranch levels place content others r (law.err place content r (bytes_of_all content valid.0.1) g))
+    (λ s s-is g. absurd cc))
     (λ b b-is f. bind_err (judge_branches inner (place_after place (ByteString content)) others) _ r f
-      (λ g. bind_ok (inner place content) _ b b-is (λ s s-is h.
-        LaterBranch levels place content others s r (law.ok place content s (bytes_of_all content valid.0.1) s-is) (branches_err inner shared count levels deep (place_after place (ByteString content)) others r law valid.1 g)))
-      (λ rest rest-is g. absurd cc))
+    (λ g. bind_ok (inner place content) _ b b-is (λ s s-is h.
+    LaterBranch levels place content others s r (law.ok place content s (bytes_of_all content valid.0.1) s-is) (branches_err inner shared count levels deep (place_after place (ByteString content)) others r law valid.1 g)))
+    (λ rest rest-is g. absurd cc))
 branches_err inner shared count levels deep place (ItemThen NullItem NoItems) r law valid e = absurd cc
 branches_err inner shared count levels deep place (ItemThen NullItem (ItemThen y ys)) r law valid e =
     let judged = no_branch inner place NullItem (ItemThen y ys) (λ h. h) in

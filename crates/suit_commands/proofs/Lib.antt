@@ -7,3 +7,6 @@ pub mod CommandJudging
 pub mod SequenceJudging
 pub mod ArgumentReads
 pub mod SequenceReads
+pub mod SequenceAnswers
+pub mod SaidParams
+pub mod SequenceLawProofs

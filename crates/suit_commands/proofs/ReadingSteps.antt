@@ -67,7 +67,7 @@ branches_step inner front number done at next b total lt e so_far =
     let others : number - done - 1 ≡ number - (done + 1) = omega arith in
     let found : branch_from inner (eqb (number - (done + 1)) 0) at ≡ Ok (b, next) = ap (λ (n : ℕ). branch_from inner (eqb n 0) at) (sym others) ∙ e in
     let step : with_branches front (branches_from inner (number - done) at) ≡ with_branches (branch_after front b) (branches_from inner (number - (done + 1)) next) =
-        rw (one, found) (one_branch front b (branches_from inner (number - (done + 1)) next)) in
+    rw (one, found) (one_branch front b (branches_from inner (number - (done + 1)) next)) in
     sym step ∙ so_far
 
 -- ---- commands
@@ -105,5 +105,5 @@ pub steps_step : (inner : InnerReader) (shared : Bool) (count : ℕ) (front : Se
 steps_step inner shared count front steps done at next command total lt e so_far =
     let one : steps - done ≡ suc (steps - (done + 1)) = omega arith in
     let step : with_steps front (steps_from inner shared count (steps - done) at) ≡ with_steps (step_after front at.place command) (steps_from inner shared count (steps - (done + 1)) next) =
-        rw (one, e) (one_step front at.place command (steps_from inner shared count (steps - (done + 1)) next)) in
+    rw (one, e) (one_step front at.place command (steps_from inner shared count (steps - (done + 1)) next)) in
     sym step ∙ so_far

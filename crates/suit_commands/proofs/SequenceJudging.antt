@@ -1,9 +1,7 @@
 -- The judgement of a sequence of commands is that of the grammar and the refusals, at each level.
-use Rattle.std.proofs.Common.{◌≡◌, ◌≢◌, ℕ, zero, suc, ◌+◌, ◌%◌, Bool, true, false, cond, eqb, List, Result, Ok, Err, refl, sym, ap, subst, ◌∙◌, inl, inr, arith}
+use Rattle.std.proofs.Common.{◌≡◌, ◌≢◌, ℕ, zero, suc, ◌+◌, ◌%◌, Bool, cond, eqb, List, Result, Ok, Err, refl, sym, ap, subst, inl, inr, arith}
 use Rattle.std.proofs.lemmas.Bool.{eqb-true, eqb-false}
 use Rattle.det_cbor.specs.DataItem.{DataItem, UnsignedInteger, NegativeInteger, ByteString, TextString, ArrayOf, MapOf, TaggedItem, Boolean, NullItem, DataItems, NoItems, ItemThen, item_count, IsValidWithin, AreValidWithin}
-use Rattle.det_cbor.specs.HeadReading.{◌>>=◌}
-use Rattle.det_cbor.proofs.Arguments.{IsBytes}
 use Rattle.det_cbor.proofs.Results.{chosen, bind_ok, bind_err, same_ok, same_err}
 use Rattle.suit_params.specs.declared.refusal.Refusal.{Refusal}
 use Rattle.suit_params.specs.declared.refusal.Why.TheVariants.{Shape, Nested}
@@ -13,9 +11,9 @@ use Rattle.suit_commands.specs.declared.command_code.CommandCode.{CommandCode}
 use Rattle.suit_commands.specs.CommandCodes.{code_number}
 use Rattle.suit_commands.specs.Sequences.{elements_place, place_after, SaysSequence, SaysArray, SaysSteps, SaysNoSteps, SaysStep, SaysCommand, SaysInner, SaysHeldSequence}
 use Rattle.suit_commands.specs.SequenceFaults.{ArePairs, IsSequenceArray, RefusesSequence, NoSequence, BadSteps, RefusesSteps, OtherCode, OtherArgument, LaterStep, RefusesArgument, RefusesInner, TooNested, FaultyContent, BytesBehind, BadSequence}
-use Rattle.suit_commands.specs.SequenceJudging.{InnerJudge, judge_code, judge_argument, judge_step, judge_steps, judge_array, judge_inner, judge_sequence}
+use Rattle.suit_commands.specs.SequenceJudging.{InnerJudge, judge_code, judge_step, judge_steps, judge_array, judge_inner, judge_sequence}
 use Rattle.suit_commands.specs.Tree.{CommandTree, SequenceTree, NoSteps, StepThen}
-use Rattle.suit_commands.proofs.CodeLaws.{Allows, code_ok, code_err, code_refused}
+use Rattle.suit_commands.proofs.CodeLaws.{code_ok, code_err, code_refused}
 use Rattle.suit_commands.proofs.ArgumentJudging.{no_items, some_items, not_none}
 use Rattle.suit_commands.proofs.CommandJudging.{JudgesInner, argument_ok, argument_again, argument_err, argument_refused}
 
@@ -42,7 +40,7 @@ with_code : (shared : Bool) (count levels place : ℕ) (x argument : DataItem) (
     → SaysSteps shared count levels place (ItemThen x (ItemThen argument others)) (StepThen place command rest)
 with_code shared count levels place x argument others code command rest is said more =
     subst (λ (y : DataItem). SaysCommand shared count levels (place_after place y) (code_number code) argument command → SaysSteps shared count levels (place_after (place_after place y) argument) others rest
-        → SaysSteps shared count levels place (ItemThen y (ItemThen argument others)) (StepThen place command rest)) (sym is)
+    → SaysSteps shared count levels place (ItemThen y (ItemThen argument others)) (StepThen place command rest)) (sym is)
     (λ s t. SaysStep levels place (code_number code) argument others command rest s t)
     said more
 
@@ -77,15 +75,15 @@ steps_err inner shared count levels deep place (ItemThen x NoItems) r law valid 
 steps_err inner shared count levels deep place (ItemThen x (ItemThen argument others)) r law valid pairs e =
     bind_err (judge_step inner shared count place x argument) _ r e
     (λ f. bind_err (judge_code shared place x) _ r f
-      (λ g. let unknown = code_err shared place x r g in subst (RefusesSteps shared count levels place (ItemThen x (ItemThen argument others))) unknown.1 (OtherCode levels place x argument others unknown.0))
-      (λ code code-is g. let known = code_ok shared place x code code-is in
-      bad_argument code known.0 (argument_err inner shared count levels deep (place_after place x) code argument r law valid.1.0 known.1 g)))
+    (λ g. let unknown = code_err shared place x r g in subst (RefusesSteps shared count levels place (ItemThen x (ItemThen argument others))) unknown.1 (OtherCode levels place x argument others unknown.0))
+    (λ code code-is g. let known = code_ok shared place x code code-is in
+    bad_argument code known.0 (argument_err inner shared count levels deep (place_after place x) code argument r law valid.1.0 known.1 g)))
     (λ command command-is f. bind_err (judge_steps inner shared count (place_after (place_after place x) argument) others) _ r f
-      (λ g. bind_ok (judge_code shared place x) _ command command-is (λ code code-is h.
-      let known = code_ok shared place x code code-is in
-      bad_later code command known.0 (argument_ok inner shared count levels deep (place_after place x) code argument command law valid.1.0 known.1 h)
-      (steps_err inner shared count levels deep (place_after (place_after place x) argument) others r law valid.1.1 pairs g)))
-      (λ rest rest-is g. absurd cc))
+    (λ g. bind_ok (judge_code shared place x) _ command command-is (λ code code-is h.
+    let known = code_ok shared place x code code-is in
+    bad_later code command known.0 (argument_ok inner shared count levels deep (place_after place x) code argument command law valid.1.0 known.1 h)
+    (steps_err inner shared count levels deep (place_after (place_after place x) argument) others r law valid.1.1 pairs g)))
+    (λ rest rest-is g. absurd cc))
   where
     bad_argument : (code : CommandCode) → x ≡ UnsignedInteger (code_number code) → RefusesArgument shared count levels (place_after place x) (code_number code) argument r
         → RefusesSteps shared count levels place (ItemThen x (ItemThen argument others)) r
@@ -98,7 +96,7 @@ steps_err inner shared count levels deep place (ItemThen x (ItemThen argument ot
         → RefusesSteps shared count levels (place_after (place_after place x) argument) others r → RefusesSteps shared count levels place (ItemThen x (ItemThen argument others)) r
     bad_later code command is said bad =
         subst (λ (y : DataItem). SaysCommand shared count levels (place_after place y) (code_number code) argument command → RefusesSteps shared count levels (place_after (place_after place y) argument) others r
-            → RefusesSteps shared count levels place (ItemThen y (ItemThen argument others)) r) (sym is)
+        → RefusesSteps shared count levels place (ItemThen y (ItemThen argument others)) r) (sym is)
         (λ s b. LaterStep levels place (code_number code) argument others command r s b)
         said bad
 
@@ -123,9 +121,9 @@ counted items bad steps z e good other =
     elim (chosen {A = Judged} (eqb (item_count items) 0) (Err bad) (cond (eqb (item_count items % 2) 0) steps (Err bad)) z e) [
       | inl (none, f) ↦ other (λ some pairs. some (no_items items (eqb-true _ _ none))) f
       | inr (some, f) ↦ elim (chosen {A = Judged} (eqb (item_count items % 2) 0) steps (Err bad) z f) [
-          | inl (even, g) ↦ good (some_items items some) (even_pairs items (eqb-true _ _ even)) g
-          | inr (odd, g) ↦ other (λ some pairs. eqb-false _ _ odd (pairs_even items pairs)) g
-        ]
+        | inl (even, g) ↦ good (some_items items some) (even_pairs items (eqb-true _ _ even)) g
+        | inr (odd, g) ↦ other (λ some pairs. eqb-false _ _ odd (pairs_even items pairs)) g
+      ]
     ]
 
 array_ok : (inner : InnerJudge) (shared : Bool) (count levels deep place : ℕ) (x : DataItem) (s : SequenceTree) → JudgesInner inner shared count levels → IsValidWithin deep x → judge_array inner shared count place x ≡ Ok s

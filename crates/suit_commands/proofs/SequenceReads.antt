@@ -11,16 +11,16 @@ use Rattle.det_cbor.proofs.OneReadingLaw.{bytes_of_all}
 use Rattle.suit_params.specs.declared.refusal.Refusal.{Refusal}
 use Rattle.suit_params.specs.declared.refusal.Why.TheVariants.{Shape, BadArgument}
 use Rattle.suit_params.specs.Refusing.{refused, content_place}
-use Rattle.suit_params.specs.Reading.{string_from, only_from, whole_judged}
+use Rattle.suit_params.specs.Reading.{whole_judged}
 use Rattle.suit_params.proofs.Held.{ReadsAs, with_rest, whole_is}
 use Rattle.suit_params.proofs.ItemHeads.{item_head_read, bytes_again, after}
 use Rattle.suit_commands.specs.declared.command_code.CommandCode.{CommandCode}
 use Rattle.suit_commands.specs.declared.command_code.CommandCode.TheVariants as codes
-use Rattle.suit_commands.specs.Sequences.{elements_place, place_after}
+use Rattle.suit_commands.specs.Sequences.{elements_place}
 use Rattle.suit_commands.specs.SequenceJudging.{InnerJudge, judge_code, judge_report, judge_selection, judge_override, judge_run, branch_before, judge_branch, judge_branches, judge_try, judge_argument, judge_step, judge_steps, judge_array, judge_inner, judge_sequence}
 use Rattle.suit_commands.specs.SequenceReading.{InnerReader, held_sequence, run_from, branch_from, branches_from, try_from, argument_from, step_from, steps_from, sequence_at, nested_from, whole_sequence}
-use Rattle.suit_commands.specs.Tree.{CommandTree, Test, Act, Index, Override, TryEach, RunSequence, SequenceTree, NoSteps, StepThen, BranchesTree, NoBranches}
-use Rattle.suit_commands.proofs.ArgumentReads.{head_alone, after_both, tested, made, code_read, report_read, selection_read, override_read}
+use Rattle.suit_commands.specs.Tree.{CommandTree, Test, Act, Index, Override, TryEach, RunSequence, SequenceTree, StepThen, BranchesTree, NoBranches}
+use Rattle.suit_commands.proofs.ArgumentReads.{head_alone, after_both, made, code_read, report_read, selection_read, override_read}
 
 -- the content of a byte string at a place is read as it is judged
 abbrev pub ReadsInner : InnerReader → InnerJudge → Type 0

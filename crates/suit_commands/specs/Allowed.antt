@@ -1,5 +1,5 @@
 -- Which trees are sequences of the grammar, wherever they stand (draft-ietf-suit-manifest-25, section 8.4.6).
-use Rattle.std.specs.Prelude.{◌≡◌, ◌≢◌, ◌<◌, ◌≤◌, ◌^◌, ℕ, zero, suc, Bool, true, false, List, [], length}
+use Rattle.std.specs.Prelude.{◌≡◌, ◌≢◌, ◌<◌, ◌≤◌, ℕ, zero, suc, Bool, true, false, []}
 use Rattle.std.specs.List.{AllByRecursion}
 use Rattle.suit_params.specs.ParamMaking.{IsParam, IsBelow}
 use Rattle.suit_params.specs.ParamLaws.{AreAscending}

@@ -18,7 +18,7 @@ tag (Test kind report) = 0
 tag (Act kind report) = 1
 tag (Index selection) = 2
 tag (Override list) = 3
-tag (TryEach branches) = 4
+tag (TryEach bs) = 4
 tag (RunSequence inner) = 5
 
 abbrev mutual

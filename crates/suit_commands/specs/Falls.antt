@@ -2,7 +2,7 @@
 use Rattle.std.specs.Prelude.{ℕ, ◌+◌, ◌≤◌, max, List, [], ◌∷◌, Option, Some, None}
 use Rattle.std.proofs.Common.{arith}
 use denote.Param.Weighed.{most}
-use Rattle.suit_commands.specs.Tree.{SequenceTree, BranchesTree}
+use Rattle.suit_commands.specs.Tree.{SequenceTree}
 use Rattle.suit_commands.specs.View.{sequence_tree, branches_tree, command_tree}
 use Rattle.suit_commands.specs.Size.{sequence_size, command_size, branches_size}
 use Rattle.suit_commands.specs.declared.command.Step.{Step}
@@ -16,7 +16,7 @@ command_falls (Test kind report) = omega arith
 command_falls (Act kind report) = omega arith
 command_falls (Index i) = omega arith
 command_falls (Override list) = omega arith
-command_falls (TryEach branches) = omega arith
+command_falls (TryEach bs) = omega arith
 command_falls (Run inner) = omega arith
 
 pub sequence_falls : (ss : List Step) → max (most deep-Step ss) 0 ≤ sequence_size (sequence_tree ss)

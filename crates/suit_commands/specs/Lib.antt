@@ -8,6 +8,7 @@ pub mod Plans
 pub mod Selections
 pub mod SequenceFaults
 pub mod SequenceJudging
+pub mod SequenceLaws
 pub mod SequenceReading
 pub mod Sequences
 pub mod Size
