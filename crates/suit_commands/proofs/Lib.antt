@@ -10,3 +10,14 @@ pub mod TargetLaws
 pub mod WaysLaws
 pub mod WaysSteps
 pub mod WorkSteps
+pub mod Nesting
+pub mod ReadingSteps
+pub mod CodeLaws
+pub mod ArgumentJudging
+pub mod CommandJudging
+pub mod SequenceJudging
+pub mod ArgumentReads
+pub mod SequenceReads
+pub mod SequenceAnswers
+pub mod SaidParams
+pub mod SequenceLawProofs

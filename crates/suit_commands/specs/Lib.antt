@@ -2,6 +2,7 @@ pub mod Allowed
 pub mod Bits
 pub mod Capped
 pub mod Codes
+pub mod CommandCodes
 pub mod Falls
 pub mod Indexed
 pub mod Kinds
@@ -10,6 +11,9 @@ pub mod Plans
 pub mod Reaches
 pub mod Selections
 pub mod SequenceFaults
+pub mod SequenceJudging
+pub mod SequenceLaws
+pub mod SequenceReading
 pub mod Sequences
 pub mod Size
 pub mod Sources

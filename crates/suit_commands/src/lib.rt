@@ -1,17 +1,23 @@
-//! Command sequences of SUIT manifests, as trees.
+//! Command sequences of SUIT manifests: their trees, how they are read, how much there is to judge of them, and which
+//! components they may write.
 #![tactic(auto)]
 
+mod argument;
 mod capped;
 mod command;
+mod command_code;
 mod component_bits;
+mod decode;
 mod index_list;
 mod kinds;
+mod law;
 mod numbers;
 mod plan;
 mod plan_targets;
 mod reach;
 mod reach_walk;
 mod selection;
+mod sequence_reading;
 mod source_walk;
 mod swap_walk;
 mod ways;
@@ -20,13 +26,17 @@ mod work_walk;
 
 pub use command::{Branches, Command, Sequence, Step};
 pub use component_bits::Targets;
+pub use decode::{MAX_LEVELS, decode_sequence};
 pub use index_list::IndexList;
 pub use kinds::{ActKind, TestKind};
+pub use law::sequence_laws;
 pub use numbers::{spread, width, work};
 pub use plan::Plan;
 pub use plan_targets::targets;
 pub use selection::Selection;
 
+#[cfg(test)]
+mod decode_tests;
 #[cfg(test)]
 mod number_tests;
 #[cfg(test)]

@@ -1,0 +1,146 @@
+//! Arguments of commands that hold no sequence. Items were judged as such before.
+
+ghost use Rattle.std.specs.Prelude.{◌≡◌};
+ghost use Rattle.det_cbor.specs.HeadReading.{map_ok};
+ghost use Rattle.suit_params.specs.Answering.{Gives};
+ghost use Rattle.suit_params.specs.ParamJudging.{judge_index};
+ghost use Rattle.suit_params.specs.ParamReading.{next_params};
+ghost use Rattle.suit_commands.specs.SequenceReading.{report_from, element_from, indices_from, listed_from, selection_from, override_from};
+
+use crate::{IndexList, Selection};
+use det_cbor::{Cursor, HeadKind};
+use std::alloc::Global;
+use suit_params::{
+    Fault, ParamList, Refusal, Why, params_of, read_head, read_item, refused, same_place,
+};
+
+/// A reporting policy.
+#[tactic(auto, unfolding(crate::specs::SequenceReading::report_from))]
+pub(crate) fn read_report(cursor: &mut Cursor<'_>) -> Result<u8, Refusal>
+    ensures { map_ok (λ n. (n, cursor.new)) result ≡ report_from cursor.old }
+{
+    let place = cursor.place();
+    let head = read_head(cursor)?;
+    match head.kind {
+        HeadKind::Unsigned => {
+            if head.value < 16 {
+                Ok(head.value as u8)
+            } else {
+                refused(place, Why::BadArgument)
+            }
+        }
+        _ => refused(place, Why::BadArgument),
+    }
+}
+
+// A component's index, which stands at a place: below the number of components.
+fn index(place: u64, number: u64, count: u32) -> Result<u32, Refusal>
+    ensures { result ≡ judge_index count place number }
+{
+    if number < count as u64 {
+        Ok(number as u32)
+    } else {
+        refused(place, Why::BadIndex(number, count as u64))
+    }
+}
+
+// An element of the list of indices that stands at another place.
+#[tactic(auto, unfolding(crate::specs::SequenceReading::element_from))]
+fn read_element(cursor: &mut Cursor<'_>, list: u64, count: u32) -> Result<u32, Refusal>
+    ensures { map_ok (λ i. (i, cursor.new)) result ≡ element_from count list cursor.old }
+{
+    let place = cursor.place();
+    let head = read_head(cursor)?;
+    match head.kind {
+        HeadKind::Unsigned => index(place, head.value, count),
+        _ => refused(list, Why::BadArgument),
+    }
+}
+
+// So many elements of the list that stands at a place.
+fn read_indices(
+    alloc: Global,
+    cursor: &mut Cursor<'_>,
+    list: u64,
+    elements: u64,
+    count: u32,
+) -> Result<IndexList, Fault>
+    ensures { Gives (λ is. (is, cursor.new)) result (indices_from count list elements cursor.old) }
+{
+    let mut indices = IndexList::new(alloc);
+    for _ in 0..elements {
+        let index = read_element(cursor, list, count)?;
+        indices.push(index)?;
+    }
+    Ok(indices)
+}
+
+fn read_listed(
+    alloc: Global,
+    cursor: &mut Cursor<'_>,
+    list: u64,
+    elements: u64,
+    count: u32,
+) -> Result<Selection, Fault>
+    ensures { Gives (λ s. (s, cursor.new)) result (listed_from count list elements cursor.old) }
+{
+    let indices = read_indices(alloc, cursor, list, elements, count)?;
+    Ok(Selection::Listed(indices))
+}
+
+/// What set component index selects, where there are so many components.
+#[tactic(auto, unfolding(crate::specs::SequenceReading::selection_from))]
+pub(crate) fn read_selection(
+    alloc: Global,
+    cursor: &mut Cursor<'_>,
+    count: u32,
+) -> Result<Selection, Fault>
+    ensures { Gives (λ s. (s, cursor.new)) result (selection_from count cursor.old) }
+{
+    let place = cursor.place();
+    let head = read_head(cursor)?;
+    match head.kind {
+        HeadKind::Unsigned => Ok(Selection::One(index(place, head.value, count)?)),
+        HeadKind::Bool => {
+            if head.value == 1 {
+                Ok(Selection::All)
+            } else {
+                Ok(refused(place, Why::BadArgument)?)
+            }
+        }
+        HeadKind::Array => {
+            if head.value == 0 {
+                Ok(refused(place, Why::BadArgument)?)
+            } else {
+                read_listed(alloc, cursor, place, head.value, count)
+            }
+        }
+        _ => Ok(refused(place, Why::BadArgument)?),
+    }
+}
+
+// The next item, which is a map.
+fn read_map(alloc: Global, cursor: &mut Cursor<'_>, count: u32) -> Result<ParamList, Fault>
+    ensures { Gives (λ list. (list, cursor.new)) result (next_params count cursor.old) }
+{
+    let item = read_item(cursor)?;
+    params_of(alloc, item, count)
+}
+
+/// The parameters of an override, where there are so many components.
+#[tactic(auto, unfolding(crate::specs::SequenceReading::override_from))]
+pub(crate) fn read_override(
+    alloc: Global,
+    cursor: &mut Cursor<'_>,
+    count: u32,
+) -> Result<ParamList, Fault>
+    ensures { Gives (λ list. (list, cursor.new)) result (override_from count cursor.old) }
+{
+    let mut ahead = same_place(cursor);
+    let place = ahead.place();
+    let head = read_head(&mut ahead)?;
+    match head.kind {
+        HeadKind::Map => read_map(alloc, cursor, count),
+        _ => Ok(refused(place, Why::BadArgument)?),
+    }
+}

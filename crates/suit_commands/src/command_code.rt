@@ -1,0 +1,78 @@
+//! Codes of commands in a command sequence.
+
+ghost use Rattle.std.specs.Prelude.{◌≡◌};
+ghost use Rattle.det_cbor.specs.HeadReading.{map_ok};
+ghost use Rattle.suit_commands.specs.CommandCodes.{numbered};
+ghost use Rattle.suit_commands.specs.SequenceJudging.{known_code};
+ghost use Rattle.suit_commands.specs.SequenceReading.{code_from};
+
+use crate::{ActKind, TestKind};
+use det_cbor::{Cursor, HeadKind};
+use suit_params::{Refusal, Why, read_head, refused};
+
+/// Which command a code stands for (draft-ietf-suit-manifest-25, sections 8.4.9 and 8.4.10).
+#[derive(Clone, Copy, Debug, PartialEq, Eq)]
+pub(crate) enum CommandCode {
+    Test(TestKind),
+    Act(ActKind),
+    Index,
+    TryEach,
+    Override,
+    Run,
+}
+
+// The command that has a number.
+fn numbered(number: u64) -> Option<CommandCode>
+    ensures { result ≡ numbered number }
+{
+    match number {
+        1 => Some(CommandCode::Test(TestKind::Vendor)),
+        2 => Some(CommandCode::Test(TestKind::Class)),
+        3 => Some(CommandCode::Test(TestKind::ImageMatch)),
+        5 => Some(CommandCode::Test(TestKind::Slot)),
+        6 => Some(CommandCode::Test(TestKind::CheckContent)),
+        12 => Some(CommandCode::Index),
+        14 => Some(CommandCode::Test(TestKind::Abort)),
+        15 => Some(CommandCode::TryEach),
+        18 => Some(CommandCode::Act(ActKind::Write)),
+        20 => Some(CommandCode::Override),
+        21 => Some(CommandCode::Act(ActKind::Fetch)),
+        22 => Some(CommandCode::Act(ActKind::Copy)),
+        23 => Some(CommandCode::Act(ActKind::Invoke)),
+        24 => Some(CommandCode::Test(TestKind::Device)),
+        31 => Some(CommandCode::Act(ActKind::Swap)),
+        32 => Some(CommandCode::Run),
+        _ => None,
+    }
+}
+
+// The command that has a number, which stands at a place. A directive that acts on contents does
+// not stand in the shared sequence.
+fn known_code(place: u64, shared: bool, number: u64) -> Result<CommandCode, Refusal>
+    ensures { result ≡ known_code place shared (numbered number) }
+{
+    match numbered(number) {
+        Some(CommandCode::Act(kind)) => {
+            if shared {
+                refused(place, Why::Unsupported)
+            } else {
+                Ok(CommandCode::Act(kind))
+            }
+        }
+        Some(code) => Ok(code),
+        None => refused(place, Why::Unsupported),
+    }
+}
+
+/// The code of a command.
+#[tactic(auto, unfolding(crate::specs::SequenceReading::code_from))]
+pub(crate) fn read_code(cursor: &mut Cursor<'_>, shared: bool) -> Result<CommandCode, Refusal>
+    ensures { map_ok (λ code. (code, cursor.new)) result ≡ code_from shared cursor.old }
+{
+    let place = cursor.place();
+    let head = read_head(cursor)?;
+    match head.kind {
+        HeadKind::Unsigned => known_code(place, shared, head.value),
+        _ => refused(place, Why::Unsupported),
+    }
+}

@@ -1,0 +1,58 @@
+//! Decoding a sequence of commands.
+
+ghost use Rattle.std.specs.Prelude.{◌≡◌, ◌+◌, ◌<◌, ◌^◌, length, Result, Ok, Err, IfOk, IfErr};
+ghost use Rattle.suit_params.specs.declared.refusal.Refusal.{Refusal};
+ghost use Rattle.suit_params.specs.Refusing.{RefusesWhole, SaysWhole};
+ghost use Rattle.suit_params.specs.Answering.{Gives, IsFaultBy, IsReadAs, IsRefusedAs};
+ghost use Rattle.suit_commands.specs.Sequences.{SaysSequence};
+ghost use Rattle.suit_commands.specs.SequenceFaults.{RefusesSequence};
+ghost use Rattle.suit_commands.specs.SequenceReading.{whole_sequence};
+ghost use Rattle.suit_commands.specs.Tree.{SequenceTree};
+
+use crate::Sequence;
+use crate::sequence_reading::read_array;
+use det_cbor::Cursor;
+use std::alloc::Global;
+use suit_params::{Fault, only_item};
+
+/// How many levels of sequences a member or the shared sequence may have, itself among them.
+pub const MAX_LEVELS: u8 = 8;
+
+// As `decode_sequence`, which says what this means.
+fn whole_sequence(
+    alloc: Global,
+    bytes: &[u8],
+    place: u64,
+    shared: bool,
+    count: u32,
+) -> Result<Sequence, Fault>
+    requires { place + length bytes.now < 2 ^ 64 }
+    ensures { Gives (λ s. s) result (whole_sequence shared count 7 (record { left = bytes.now; place = place })) }
+{
+    let item = only_item(Cursor::new(bytes, place))?;
+    read_array(alloc, item, MAX_LEVELS - 1, shared, count)
+}
+
+/// The sequence of commands that the bytes spell (draft-ietf-suit-manifest-25, section 8.4.6), for
+/// so many components. The first of the bytes stands at this place in the envelope, and so count
+/// the places of commands and refusals.
+///
+/// The bytes are judged as one item first, and so is each byte string that holds a sequence when
+/// it is entered. Directives that act on contents are refused in the shared sequence, and in the
+/// sequences inside it. At most eight levels of sequences stand in one another. Takes memory for
+/// the tree alone.
+pub fn decode_sequence(
+    alloc: Global,
+    bytes: &[u8],
+    place: u64,
+    shared: bool,
+    count: u32,
+) -> Result<Sequence, Fault>
+    requires { place + length bytes.now < 2 ^ 64 }
+    ensures ok { IfOk result (λ s. SaysWhole (SaysSequence shared count 8) place bytes.now s) }
+    ensures refused { IfErr result (IsFaultBy (RefusesWhole (RefusesSequence shared count 8) place bytes.now)) }
+    ensures every_sequence { (s : SequenceTree) → SaysWhole (SaysSequence shared count 8) place bytes.now s → IsReadAs s result }
+    ensures every_refusal { (r : Refusal) → RefusesWhole (RefusesSequence shared count 8) place bytes.now r → IsRefusedAs r result }
+{
+    whole_sequence(alloc, bytes, place, shared, count)
+}
