@@ -1,1 +1,5 @@
 pub mod Pushing
+pub mod SequenceSpelled
+pub mod SequenceValid
+pub mod SequenceSays
+pub mod SequenceWritten

@@ -6,6 +6,8 @@ pub mod Numbers
 pub mod Plans
 pub mod Selections
 pub mod SequenceFaults
+pub mod SequenceMaking
+pub mod SequenceWriting
 pub mod Sequences
 pub mod Size
 pub mod Targets

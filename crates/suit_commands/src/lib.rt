@@ -2,12 +2,15 @@
 #![tactic(auto)]
 
 mod command;
+mod encode;
 mod index_list;
 mod kinds;
 mod plan;
 mod selection;
+mod writing;
 
 pub use command::{Branches, Command, Sequence, Step};
+pub use encode::encode_sequence;
 pub use index_list::IndexList;
 pub use kinds::{ActKind, TestKind};
 pub use plan::Plan;
