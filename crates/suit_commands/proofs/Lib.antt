@@ -21,3 +21,7 @@ pub mod SequenceReads
 pub mod SequenceAnswers
 pub mod SaidParams
 pub mod SequenceLawProofs
+pub mod SequenceSpelled
+pub mod SequenceValid
+pub mod SequenceSays
+pub mod SequenceWritten

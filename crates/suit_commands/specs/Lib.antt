@@ -14,6 +14,8 @@ pub mod SequenceFaults
 pub mod SequenceJudging
 pub mod SequenceLaws
 pub mod SequenceReading
+pub mod SequenceMaking
+pub mod SequenceWriting
 pub mod Sequences
 pub mod Size
 pub mod Sources

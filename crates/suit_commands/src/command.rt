@@ -38,14 +38,14 @@ pub enum Command {
 #[cycle(tree)]
 #[derive(Debug, Drop)]
 pub struct Sequence {
-    held: Vec<Step>,
+    pub(crate) held: Vec<Step>,
 }
 
 /// The sequences of a try each in their order. `None` stands for null, which does nothing.
 #[cycle(tree)]
 #[derive(Debug, Drop)]
 pub struct Branches {
-    held: Vec<Option<Sequence>>,
+    pub(crate) held: Vec<Option<Sequence>>,
 }
 
 impl Model for Sequence {

@@ -8,7 +8,7 @@ use std::marker::Model;
 /// Indices of components, in the order in which they are selected.
 #[derive(Debug, Drop)]
 pub struct IndexList {
-    held: Vec<u32>,
+    pub(crate) held: Vec<u32>,
 }
 
 impl Model for IndexList {
