@@ -13,10 +13,14 @@ pub mod WorkSteps
 pub mod Nesting
 pub mod ReadingSteps
 pub mod CodeLaws
+pub mod IndexJudging
 pub mod ArgumentJudging
+pub mod BranchJudging
 pub mod CommandJudging
+pub mod StepJudging
 pub mod SequenceJudging
 pub mod ArgumentReads
+pub mod BranchReads
 pub mod SequenceReads
 pub mod SequenceAnswers
 pub mod SaidParams

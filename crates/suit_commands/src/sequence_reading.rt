@@ -23,8 +23,8 @@ fn content<'a>(cursor: &mut Cursor<'a>, count: u64) -> Result<Cursor<'a>, Refusa
     Ok(Cursor::new(content, place))
 }
 
-/// The content of a byte string that stands at a place, as a sequence. So many levels of sequences
-/// may stand here.
+// The content of a byte string that stands at a place, as a sequence. So many levels of sequences
+// may stand here.
 #[cycle(read)]
 #[tactic(auto, using(crate::proofs::Nesting::nested_above, crate::proofs::Nesting::nested_none))]
 fn read_nested(
