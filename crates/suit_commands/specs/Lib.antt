@@ -5,6 +5,7 @@ pub mod Codes
 pub mod Falls
 pub mod Indexed
 pub mod Kinds
+pub mod NumberLaws
 pub mod Numbers
 pub mod Plans
 pub mod Reaches

@@ -6,6 +6,7 @@ mod command;
 mod component_bits;
 mod index_list;
 mod kinds;
+mod law;
 mod numbers;
 mod plan;
 mod plan_targets;
@@ -22,6 +23,7 @@ pub use command::{Branches, Command, Sequence, Step};
 pub use component_bits::Targets;
 pub use index_list::IndexList;
 pub use kinds::{ActKind, TestKind};
+pub use law::{number_laws, target_laws};
 pub use numbers::{spread, width, work};
 pub use plan::Plan;
 pub use plan_targets::targets;
@@ -29,6 +31,8 @@ pub use selection::Selection;
 
 #[cfg(test)]
 mod number_tests;
+#[cfg(test)]
+mod target_tests;
 #[cfg(test)]
 mod tree_makers;
 #[cfg(test)]
