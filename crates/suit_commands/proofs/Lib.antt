@@ -4,6 +4,7 @@ pub mod IndexedSteps
 pub mod NumberLawProofs
 pub mod Pushing
 pub mod ReachLaws
+pub mod ReachParts
 pub mod Smaller
 pub mod SourceLaws
 pub mod Steps
