@@ -52,7 +52,7 @@ range_to : (n a c : ℕ) → a ≤ c → c < a + n → Among c (range_with_len a
 range_to zero a c low high = absurd (omega arith)
 range_to (suc n) a c low high = elim (cases_eq c a) [ inl e ↦ inl e | inr e ↦ inr (range_to n (a + 1) c (omega (arith, e)) (omega arith)) ]
 
-range_from : (n a c : ℕ) → Among c (range_with_len a n) → (a ≤ c) × (c < a + n)
+pub range_from : (n a c : ℕ) → Among c (range_with_len a n) → (a ≤ c) × (c < a + n)
 range_from zero a c h = absurd h
 range_from (suc n) a c (inl e) = (omega arith, omega arith)
 range_from (suc n) a c (inr h) = let r = range_from n (a + 1) c h in (omega (arith, r.0), omega (arith, r.1))

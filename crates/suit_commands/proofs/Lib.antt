@@ -1,12 +1,15 @@
 pub mod BitLaws
 pub mod Capping
 pub mod IndexedSteps
+pub mod NumberLawProofs
 pub mod Pushing
 pub mod ReachLaws
+pub mod ReachParts
 pub mod Smaller
 pub mod SourceLaws
 pub mod Steps
 pub mod TargetLaws
+pub mod TargetLawProofs
 pub mod WaysLaws
 pub mod WaysSteps
 pub mod WorkSteps

@@ -6,6 +6,7 @@ pub mod CommandCodes
 pub mod Falls
 pub mod Indexed
 pub mod Kinds
+pub mod NumberLaws
 pub mod Numbers
 pub mod Plans
 pub mod Reaches

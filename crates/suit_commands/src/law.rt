@@ -1,9 +1,21 @@
-//! What holds of all sequences of commands, whatever reads them.
+//! What holds of all sequences of commands and all procedures, whatever reads them or computes of them.
 
+ghost use Rattle.suit_commands.specs.NumberLaws.{NumberLaws, TargetLaws};
 ghost use Rattle.suit_commands.specs.SequenceLaws.{SequenceLaws};
 
 /// Does nothing. Its contract has the laws. A valid item says one sequence or has one refusal, and
 /// never both, at each number of levels; and each sequence that is said is one of the grammar.
 pub fn sequence_laws()
     ensures { SequenceLaws }
+{}
+
+/// Does nothing. Its contract has the laws. Each sequence of a procedure completes in one way at least, so the spread
+/// is never below 1 and the width never below the work; and the width is the work times the spread.
+pub fn number_laws()
+    ensures { NumberLaws }
+{}
+
+/// Does nothing. Its contract has the law: each target of a procedure is a component of the manifest.
+pub fn target_laws()
+    ensures { TargetLaws }
 {}

@@ -32,7 +32,7 @@ pub use decode::{MAX_LEVELS, decode_sequence};
 pub use encode::encode_sequence;
 pub use index_list::IndexList;
 pub use kinds::{ActKind, TestKind};
-pub use law::sequence_laws;
+pub use law::{number_laws, sequence_laws, target_laws};
 pub use numbers::{spread, width, work};
 pub use plan::Plan;
 pub use plan_targets::targets;
@@ -42,6 +42,8 @@ pub use selection::Selection;
 mod decode_tests;
 #[cfg(test)]
 mod number_tests;
+#[cfg(test)]
+mod target_tests;
 #[cfg(test)]
 mod tree_makers;
 #[cfg(test)]

@@ -1,5 +1,10 @@
 //! Small trees for tests.
 
+ghost use Rattle.std.specs.Prelude.{◌≡◌};
+ghost use Rattle.suit_commands.specs.declared.selection.Selection.TheVariants.{One};
+ghost use Rattle.suit_commands.specs.Tree.{Act, Index};
+ghost use Rattle.suit_commands.specs.View.{command_tree};
+
 use crate::{ActKind, Branches, Command, IndexList, Plan, Selection, Sequence, Step, TestKind};
 use std::alloc::{AllocError, Global};
 use suit_params::ParamList;
@@ -8,11 +13,15 @@ pub(crate) fn tests(kind: TestKind) -> Command {
     Command::Test { kind, report: 15 }
 }
 
-pub(crate) fn act(kind: ActKind) -> Command {
+pub(crate) fn act(kind: ActKind) -> Command
+    ensures { command_tree result ≡ Act kind 15 }
+{
     Command::Act { kind, report: 15 }
 }
 
-pub(crate) fn index(component: u32) -> Command {
+pub(crate) fn index(component: u32) -> Command
+    ensures { command_tree result ≡ Index (One component) }
+{
     Command::Index(Selection::One(component))
 }
 
