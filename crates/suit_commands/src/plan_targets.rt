@@ -14,8 +14,8 @@ use crate::{Plan, Sequence, Targets};
 
 /// The components that a procedure of one to eight components may write: those that are selected at some write, fetch,
 /// copy or swap of it, where a sequence inside is taken once for each component that is selected at its command; and
-/// where a swap stands in the procedure, those that some override of it names as source. The time is linear in the
-/// procedure's length.
+/// where a swap stands in the procedure, those that some override of it names as source. Each of them is one of the
+/// procedure's components.
 pub fn targets(plan: &Plan<'_>) -> Targets
     requires { IsPlan (plan_tree plan.now) }
     ensures { (component : ℕ) → HasBit result.bits component ↔ IsTarget (plan_tree plan.now) component }
