@@ -2,3 +2,4 @@ pub mod Maps
 pub mod Components
 pub mod Common
 pub mod Manifests
+pub mod Procedures
