@@ -3,3 +3,5 @@ pub mod Components
 pub mod Common
 pub mod Manifests
 pub mod Procedures
+pub mod MembersApart
+pub mod MembersLaws
