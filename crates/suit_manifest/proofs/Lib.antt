@@ -1,0 +1,4 @@
+pub mod Taking
+pub mod MemberPlaces
+pub mod OneMember
+pub mod BothMembers

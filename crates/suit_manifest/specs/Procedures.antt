@@ -1,0 +1,39 @@
+-- The two procedures of a manifest (draft-ietf-suit-manifest-25, sections 6.3 and 6.4), as trees.
+use Rattle.std.specs.Prelude.{Option, Some, None}
+use Rattle.suit_commands.specs.Tree.{SequenceTree, NoSteps, PlanTree}
+use Rattle.suit_manifest.specs.declared.manifest.Manifest.{Manifest}
+use Rattle.suit_manifest.specs.declared.manifest.Member.{Member}
+use Rattle.suit_manifest.specs.declared.manifest.Member.TheVariants.{Empty, Here, Apart}
+use Rattle.suit_manifest.specs.declared.manifest.Members.{Members}
+use Rattle.suit_manifest.specs.Manifests.{count_said}
+
+-- an absent sequence is an empty one
+abbrev pub tree_or_empty : Option SequenceTree → SequenceTree
+tree_or_empty None = NoSteps
+tree_or_empty (Some s) = s
+
+-- a member that may stand apart: the manifest's own, or else the one that stands apart
+abbrev pub member_tree : Member → Option SequenceTree → SequenceTree
+member_tree Empty apart = NoSteps
+member_tree (Here s) apart = s
+member_tree (Apart digest) apart = tree_or_empty apart
+
+-- payload-fetch, install and validate, each behind the shared sequence
+abbrev pub update_tree : Manifest → Members → PlanTree
+update_tree manifest members = record {
+  shared = tree_or_empty manifest.shared;
+  first = member_tree manifest.payload_fetch members.payload_fetch;
+  second = member_tree manifest.install members.install;
+  third = tree_or_empty manifest.validate;
+  count = count_said manifest;
+}
+
+-- validate, load and invoke, each behind the shared sequence
+abbrev pub invocation_tree : Manifest → PlanTree
+invocation_tree manifest = record {
+  shared = tree_or_empty manifest.shared;
+  first = tree_or_empty manifest.validate;
+  second = tree_or_empty manifest.load;
+  third = tree_or_empty manifest.invoke;
+  count = count_said manifest;
+}

@@ -1,0 +1,108 @@
+//! The members that stand apart from their manifest, taken from its envelope.
+
+ghost use Rattle.std.specs.Prelude.{◌<◌, ◌^◌, length, IfOk, IfErr};
+ghost use Rattle.suit_envelope.specs.Said.{said_by};
+ghost use Rattle.suit_manifest.specs.declared.manifest.Members.{Members};
+ghost use Rattle.suit_manifest.specs.declared.members.MemberFault.{MemberFault};
+ghost use Rattle.suit_manifest.specs.MembersApart.{HasPayloadFetch, HasInstall, LacksPayloadFetch, LacksInstall, HasMembers, LacksMembers, PlacesFit, IsLackBy, IsTakenAs, IsLackedAs};
+
+use crate::plans::component_count;
+use crate::severable::apart;
+use crate::{Manifest, Members};
+use std::alloc::Global;
+use suit_commands::Sequence;
+use suit_envelope::{Envelope, MemberName};
+use suit_params::{Digest, Refusal};
+
+/// Why a member that stands apart is not there, or why there is no answer.
+#[derive(Clone, Copy, Debug, PartialEq, Eq)]
+pub enum MemberFault {
+    /// The manifest states the member's digest, and the envelope does not hold it.
+    Severed(MemberName),
+    /// The digest that the manifest states, and the one of the member's byte string in the
+    /// envelope.
+    Differs {
+        name: MemberName,
+        stated: Digest,
+        found: Digest,
+    },
+    /// The member has the stated digest, and its content is refused as a sequence. Its place is
+    /// counted from the envelope's first byte.
+    Refused(Refusal),
+    NoMemory,
+}
+
+fn payload_fetch(
+    alloc: Global,
+    envelope: &Envelope<'_>,
+    manifest: &Manifest,
+) -> Result<Option<Sequence>, MemberFault>
+    requires few { length manifest.now.components < 2 ^ 32 }
+    requires places { PlacesFit (said_by envelope.now) }
+    ensures ok { IfOk result (HasPayloadFetch (said_by envelope.now) manifest.now) }
+    ensures refused { IfErr result (IsLackBy (LacksPayloadFetch (said_by envelope.now) manifest.now)) }
+{
+    let count = component_count(manifest);
+    let place = envelope.payload_fetch_place;
+    let name = MemberName::PayloadFetch;
+    apart(alloc, envelope, name, place, &manifest.payload_fetch, count)
+}
+
+fn install(
+    alloc: Global,
+    envelope: &Envelope<'_>,
+    manifest: &Manifest,
+) -> Result<Option<Sequence>, MemberFault>
+    requires few { length manifest.now.components < 2 ^ 32 }
+    requires places { PlacesFit (said_by envelope.now) }
+    ensures ok { IfOk result (HasInstall (said_by envelope.now) manifest.now) }
+    ensures refused { IfErr result (IsLackBy (LacksInstall (said_by envelope.now) manifest.now)) }
+{
+    let count = component_count(manifest);
+    let place = envelope.install_place;
+    let name = MemberName::Install;
+    apart(alloc, envelope, name, place, &manifest.install, count)
+}
+
+// As `members_of`, which says more of the answer.
+#[tactic(auto, using(crate::proofs::BothMembers::fetch_lacks))]
+fn both(alloc: Global, envelope: &Envelope<'_>, manifest: &Manifest) -> Result<Members, MemberFault>
+    requires few { length manifest.now.components < 2 ^ 32 }
+    requires places { PlacesFit (said_by envelope.now) }
+    ensures ok { IfOk result (HasMembers (said_by envelope.now) manifest.now) }
+    ensures refused { IfErr result (IsLackBy (LacksMembers (said_by envelope.now) manifest.now)) }
+{
+    let first = payload_fetch(alloc, envelope, manifest)?;
+    match install(alloc, envelope, manifest) {
+        Ok(second) => Ok(Members {
+            payload_fetch: first,
+            install: second,
+        }),
+        Err(fault) => Err(fault),
+    }
+}
+
+/// The members whose digests the manifest states, taken from its envelope
+/// (draft-ietf-suit-manifest-25, sections 8.4 and 8.5): each has the stated digest, and its content
+/// is decoded as a sequence for the manifest's number of components, at its place in the envelope.
+/// What the envelope holds for a member whose digest the manifest does not state is passed over.
+///
+/// Payload-fetch is judged whole before install, each by its being there, then by its digest, then
+/// by the grammar. Takes memory for the sequences alone.
+///
+/// Needs fewer than 2^32 components, and an envelope whose members end at places below 2^64, as
+/// each that `decode_envelope` gives does: `members_laws` has that law.
+pub fn members_of(
+    alloc: Global,
+    envelope: &Envelope<'_>,
+    manifest: &Manifest,
+) -> Result<Members, MemberFault>
+    requires few { length manifest.now.components < 2 ^ 32 }
+    requires places { PlacesFit (said_by envelope.now) }
+    ensures ok { IfOk result (HasMembers (said_by envelope.now) manifest.now) }
+    ensures refused { IfErr result (IsLackBy (LacksMembers (said_by envelope.now) manifest.now)) }
+    ensures every_members { (members : Members) → HasMembers (said_by envelope.now) manifest.now members → IsTakenAs members result }
+    ensures every_fault { (fault : MemberFault) → LacksMembers (said_by envelope.now) manifest.now fault → IsLackedAs fault result }
+{
+    both(alloc, envelope, manifest)
+}

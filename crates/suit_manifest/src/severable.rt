@@ -1,0 +1,75 @@
+//! One member that may stand apart from its manifest.
+
+ghost use Rattle.std.specs.Prelude.{◌<◌, ◌^◌, ◌+◌, false, length, IfOk, IfErr};
+ghost use Rattle.suit_params.specs.Refusing.{SaysWhole};
+ghost use Rattle.suit_commands.specs.Sequences.{SaysSequence};
+ghost use Rattle.suit_envelope.specs.Members.{member_of};
+ghost use Rattle.suit_envelope.specs.Said.{said_by};
+ghost use Rattle.suit_manifest.specs.MembersApart.{IsTaken, HasMember, LacksTaken, LacksMember, EndsBelow, RefusesContent, IsLackBy};
+
+use crate::{Member, MemberFault};
+use std::alloc::Global;
+use suit_commands::{Sequence, decode_sequence};
+use suit_envelope::{Envelope, MemberBytes, MemberName, member};
+use suit_params::{Digest, Fault};
+
+// The sequence that a member's content spells.
+fn decoded(alloc: Global, content: &[u8], place: u64, count: u32) -> Result<Sequence, MemberFault>
+    requires { place + length content.now < 2 ^ 64 }
+    ensures ok { IfOk result (λ s. SaysWhole (SaysSequence false count 8) place content.now s) }
+    ensures refused { IfErr result (RefusesContent count place content.now) }
+{
+    match decode_sequence(alloc, content, place, false, count) {
+        Ok(sequence) => Ok(sequence),
+        Err(Fault::Refused(refusal)) => Err(MemberFault::Refused(refusal)),
+        Err(Fault::NoMemory) => Err(MemberFault::NoMemory),
+    }
+}
+
+// The sequence of a member whose digest is stated, where its content stands at this place.
+#[tactic(auto, using(crate::proofs::Taking::got_place, crate::proofs::Taking::got_taken, crate::proofs::Taking::got_refused, crate::proofs::Taking::severed, crate::proofs::Taking::differs))]
+fn taken(
+    alloc: Global,
+    envelope: &Envelope<'_>,
+    name: MemberName,
+    place: u64,
+    stated: &Digest,
+    count: u32,
+) -> Result<Sequence, MemberFault>
+    requires { EndsBelow (member_of (said_by envelope.now) name) place }
+    ensures ok { IfOk result (IsTaken count (member_of (said_by envelope.now) name) place stated.now) }
+    ensures refused { IfErr result (IsLackBy (LacksTaken name count (member_of (said_by envelope.now) name) place stated.now)) }
+{
+    match member(envelope, name, stated) {
+        MemberBytes::Got(content) => decoded(alloc, content, place, count),
+        MemberBytes::Severed => Err(MemberFault::Severed(name)),
+        MemberBytes::Differs { stated, found } => Err(MemberFault::Differs {
+            name,
+            stated,
+            found,
+        }),
+    }
+}
+
+/// A member, where it stands apart: its content stands at this place.
+pub(crate) fn apart(
+    alloc: Global,
+    envelope: &Envelope<'_>,
+    name: MemberName,
+    place: u64,
+    member: &Member,
+    count: u32,
+) -> Result<Option<Sequence>, MemberFault>
+    requires { EndsBelow (member_of (said_by envelope.now) name) place }
+    ensures ok { IfOk result (HasMember count (member_of (said_by envelope.now) name) place member.now) }
+    ensures refused { IfErr result (IsLackBy (LacksMember name count (member_of (said_by envelope.now) name) place member.now)) }
+{
+    match member {
+        Member::Empty => Ok(None),
+        Member::Here(_) => Ok(None),
+        Member::Apart(stated) => match taken(alloc, envelope, name, place, stated, count) {
+            Ok(sequence) => Ok(Some(sequence)),
+            Err(fault) => Err(fault),
+        },
+    }
+}
