@@ -1,0 +1,5 @@
+pub mod MapRows
+pub mod ManifestSpelled
+pub mod ManifestValid
+pub mod ManifestSays
+pub mod ManifestWritten
