@@ -17,8 +17,8 @@ use crate::rows::{push_held, push_reference, push_severed, push_text_member};
 use det_cbor::Bytes;
 use std::alloc::{AllocError, Global};
 
-/// A manifest's map in its one spelling (draft-ietf-suit-manifest-25, section 8.4). Its common part and each of its
-/// sequences is written to bytes of its own, and stands in a byte string.
+/// A manifest's map in its one spelling (draft-ietf-suit-manifest-25, section 8.4). The common part and each sequence
+/// are written to bytes of their own first, and stand in byte strings.
 ///
 /// Any manifest is written, also one that the grammar refuses. The places of its sequences are not looked at.
 pub fn encode_manifest(alloc: Global, manifest: &Manifest) -> Result<Bytes, AllocError>
