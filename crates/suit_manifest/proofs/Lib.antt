@@ -3,3 +3,4 @@ pub mod ManifestSpelled
 pub mod ManifestValid
 pub mod ManifestSays
 pub mod ManifestWritten
+pub mod Grammatical
