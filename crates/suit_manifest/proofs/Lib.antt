@@ -2,3 +2,9 @@ pub mod Taking
 pub mod MemberPlaces
 pub mod OneMember
 pub mod BothMembers
+pub mod MapRows
+pub mod ManifestSpelled
+pub mod ManifestValid
+pub mod ManifestSays
+pub mod ManifestWritten
+pub mod Grammatical

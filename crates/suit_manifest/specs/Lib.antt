@@ -5,3 +5,5 @@ pub mod Manifests
 pub mod Procedures
 pub mod MembersApart
 pub mod MembersLaws
+pub mod ManifestMaking
+pub mod ManifestWriting

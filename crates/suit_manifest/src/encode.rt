@@ -1,0 +1,81 @@
+//! Writing manifests.
+
+ghost use Rattle.std.specs.Prelude.{◌≡◌, ◌++◌, IfOk, OnOk};
+ghost use Rattle.det_cbor.specs.DataItem.{DataPairs, spell, spell_pairs, IsString};
+ghost use Rattle.suit_commands.specs.SequenceWriting.{IsU64};
+ghost use Rattle.suit_manifest.specs.ManifestMaking.{common_item, start_pairs, manifest_item};
+ghost use Rattle.suit_manifest.specs.ManifestWriting.{CommonFits, ManifestFits, IsWrittenManifest};
+
+#[cfg(test)]
+mod tests;
+
+use crate::Manifest;
+use crate::encode_components::push_components;
+use crate::pair_counts::{common_count, manifest_count};
+use crate::pieces::{push_map, push_number, push_number_pair, push_string_pair};
+use crate::rows::{push_held, push_reference, push_severed, push_text_member};
+use det_cbor::Bytes;
+use std::alloc::{AllocError, Global};
+
+/// A manifest's map in its one spelling (draft-ietf-suit-manifest-25, section 8.4). The common part and each sequence
+/// are written to bytes of their own first, and stand in byte strings.
+///
+/// Any manifest is written, also one that the grammar refuses. The places of its sequences are not looked at.
+pub fn encode_manifest(alloc: Global, manifest: &Manifest) -> Result<Bytes, AllocError>
+    ensures spelling { IfOk result (λ bytes. bytes ≡ spell (manifest_item manifest.now)) }
+    ensures written { IfOk result (IsWrittenManifest manifest.now) }
+{
+    let mut out = Bytes::new(alloc);
+    push_manifest(alloc, &mut out, manifest)?;
+    Ok(out)
+}
+
+fn push_manifest(alloc: Global, out: &mut Bytes, manifest: &Manifest) -> Result<(), AllocError>
+    ensures ok { OnOk result (out.new ≡ out.old ++ spell (manifest_item manifest.now)) }
+    ensures fits { OnOk result (ManifestFits manifest.now) }
+{
+    push_map(out, manifest_count(manifest))?;
+    push_start(alloc, out, manifest)?;
+    push_reference(out, 4, &manifest.reference)?;
+    push_held(alloc, out, 7, &manifest.validate)?;
+    push_held(alloc, out, 8, &manifest.load)?;
+    push_held(alloc, out, 9, &manifest.invoke)?;
+    push_severed(alloc, out, 16, &manifest.payload_fetch)?;
+    push_severed(alloc, out, 20, &manifest.install)?;
+    push_text_member(out, 23, &manifest.text)?;
+    Ok(())
+}
+
+// Adds the three pairs that each manifest has.
+fn push_start(alloc: Global, out: &mut Bytes, manifest: &Manifest) -> Result<(), AllocError>
+    ensures ok { (others : DataPairs) → OnOk result (out.new ++ spell_pairs others ≡ out.old ++ spell_pairs (start_pairs manifest.now others)) }
+    ensures fits { OnOk result (CommonFits manifest.now) }
+    ensures string { OnOk result (IsString (spell (common_item manifest.now))) }
+    ensures sequence { OnOk result (IsU64 manifest.now.sequence) }
+{
+    let common = encode_common(alloc, manifest)?;
+    push_number_pair(out, 1, 1)?;
+    push_number_pair(out, 2, manifest.sequence)?;
+    push_string_pair(out, 3, common.as_slice())?;
+    Ok(())
+}
+
+fn encode_common(alloc: Global, manifest: &Manifest) -> Result<Bytes, AllocError>
+    ensures spelling { IfOk result (λ bytes. bytes ≡ spell (common_item manifest.now)) }
+    ensures fits { IfOk result (λ bytes. CommonFits manifest.now) }
+{
+    let mut out = Bytes::new(alloc);
+    push_common(alloc, &mut out, manifest)?;
+    Ok(out)
+}
+
+fn push_common(alloc: Global, out: &mut Bytes, manifest: &Manifest) -> Result<(), AllocError>
+    ensures ok { OnOk result (out.new ≡ out.old ++ spell (common_item manifest.now)) }
+    ensures fits { OnOk result (CommonFits manifest.now) }
+{
+    push_map(out, common_count(manifest))?;
+    push_number(out, 2)?;
+    push_components(out, &manifest.components)?;
+    push_held(alloc, out, 4, &manifest.shared)?;
+    Ok(())
+}
