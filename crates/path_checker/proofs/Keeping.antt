@@ -1,13 +1,14 @@
 -- What a behaviour keeps: each invoke on the way is covered, and where it is done the next fact holds.
 use Rattle.std.proofs.Common.{◌≡◌, ℕ, List, [], ◌∷◌, ◌++◌, inl, inr, refl, sym, subst, append_assoc}
 use Rattle.std.proofs.lemmas.List.{append-nil}
-use Rattle.path_checker.specs.declared.identity.Identity.{Identity}
-use Rattle.path_checker.specs.declared.event.Event.{Event}
-use Rattle.path_checker.specs.Behaviour.{State, Behaviour, Ending, Done, Condition, Directive, IsFailure, Then, Becomes, Each, EachSelected}
+use Rattle.path_model.specs.declared.identity.Identity.{Identity}
+use Rattle.path_model.specs.declared.event.Event.{Event}
+use Rattle.path_model.specs.Behaviour.{State, Behaviour, Ending, Done, Condition, Directive, IsFailure, Then, Becomes, Each, EachSelected}
 use Rattle.suit_commands.specs.Tree.{SequenceTree, NoSteps, PlanTree}
-use Rattle.path_checker.specs.Runs.{Runs}
-use Rattle.path_checker.specs.Path.{Starts, start_state}
-use Rattle.path_checker.proofs.Covering.{CoveredFrom, CoveredFrom-append}
+use Rattle.path_model.specs.Runs.{Runs}
+use Rattle.path_model.specs.Path.{Starts, start_state}
+use Rattle.path_model.specs.Following.{CoveredFrom}
+use Rattle.path_model.proofs.Covering.{CoveredFrom-append}
 
 abbrev pub OnDone : Ending → (State → Type 0) → Type 0
 OnDone (Done state) P = P state

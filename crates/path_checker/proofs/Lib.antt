@@ -1,11 +1,3 @@
-pub mod InForce
-pub mod Covering
 pub mod Keeping
-pub mod Refuting
 pub mod Matched
 pub mod Unmatched
-pub mod ParameterLaws
-pub mod CommandLaws
-pub mod RunLaws
-pub mod PathLaws
-pub mod CoverLaws

@@ -1,25 +1,26 @@
 -- Plans of the flat form on which each invoke is covered: without an invoke, or with a match before it.
 use Rattle.std.proofs.Common.{◌≡◌, ℕ, Bool, true, false, List, [], ◌∷◌, ◌++◌, inl, inr, length, Option, Some, None, refl, sym, ap, subst, ◌∙◌}
 use Rattle.suit_params.specs.declared.digest.Digest.{Digest}
-use Rattle.path_checker.specs.declared.identity.Identity.{Identity}
+use Rattle.path_model.specs.declared.identity.Identity.{Identity}
 use Rattle.suit_commands.specs.declared.kinds.TestKind.TheVariants as tests
 use Rattle.suit_commands.specs.declared.kinds.ActKind.TheVariants as acts
 use Rattle.suit_params.specs.declared.param.Param.TheVariants as params
-use Rattle.path_checker.specs.declared.event.Event.{Event}
-use Rattle.path_checker.specs.declared.event.Event.TheVariants.{Matched, Missed, Invoked, Failed}
+use Rattle.path_model.specs.declared.event.Event.{Event}
+use Rattle.path_model.specs.declared.event.Event.TheVariants.{Matched, Missed, Invoked, Failed}
 use Rattle.path_checker.specs.declared.plan.FlatPlan.{FlatPlan}
-use Rattle.path_checker.specs.declared.plan.Procedure.{Procedure}
-use Rattle.path_checker.specs.declared.plan.Procedure.TheVariants as procedures
+use Rattle.path_model.specs.declared.procedure.Procedure.{Procedure}
+use Rattle.path_model.specs.declared.procedure.Procedure.TheVariants as procedures
 use Rattle.suit_params.specs.InForce.{digest_in, size_in}
 use Rattle.suit_commands.specs.Tree.{PlanTree, NoSteps}
-use Rattle.path_checker.specs.Behaviour.{State, Behaviour, Ending, Then}
-use Rattle.path_checker.specs.Conditions.{Tests, Matches}
-use Rattle.path_checker.specs.Directives.{Acts, Overrides, set_events, after_override}
-use Rattle.path_checker.specs.Path.{Starts, RunsPlan, first_state}
-use Rattle.path_checker.specs.Safe.{Safe, HasMatched}
+use Rattle.path_model.specs.Behaviour.{State, Behaviour, Ending, Then}
+use Rattle.path_model.specs.Conditions.{Tests, Matches}
+use Rattle.path_model.specs.Directives.{Acts, Overrides, set_events, after_override}
+use Rattle.path_model.specs.Path.{Starts, RunsPlan, first_state}
+use Rattle.path_model.specs.Safe.{Safe, HasMatched}
 use Rattle.path_checker.specs.Flat.{shared_of, validate_at, invoke_at, procedure_of, tree_of, runs_match_first, matches_first}
-use Rattle.path_checker.proofs.InForce.{length-none_in_force, length-both_set, digest_in-both_set, size_in-both_set}
-use Rattle.path_checker.proofs.Covering.{CoveredFrom, CoveredFrom-AllCovered, CoveredFrom-front, IsQuiet, HasMatched-append}
+use Rattle.path_model.proofs.InForce.{length-none_in_force, length-both_set, digest_in-both_set, size_in-both_set}
+use Rattle.path_model.specs.Following.{CoveredFrom}
+use Rattle.path_model.proofs.Covering.{CoveredFrom-AllCovered, CoveredFrom-front, IsQuiet, HasMatched-append}
 use Rattle.path_checker.proofs.Keeping.{OnDone, Fact, Keeps, AtFirst, keeps_then, keeps_adapt, keeps_sole, keeps_starts, keeps_absent}
 
 -- ---- facts

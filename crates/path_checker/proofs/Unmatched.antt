@@ -2,25 +2,26 @@
 use Rattle.std.proofs.Common.{◌≡◌, ℕ, true, false, List, [], ◌∷◌, ◌++◌, inl, inr, Option, Some, None, refl, sym, ap, subst, ◌∙◌, arith, length}
 use Rattle.std.proofs.lemmas.List.{append-nil}
 use Rattle.suit_params.specs.declared.digest.Digest.{Digest}
-use Rattle.path_checker.specs.declared.identity.Identity.{Identity}
+use Rattle.path_model.specs.declared.identity.Identity.{Identity}
 use Rattle.suit_params.specs.declared.param.Param.TheVariants as params
-use Rattle.path_checker.specs.declared.event.Event.{Event}
-use Rattle.path_checker.specs.declared.event.Event.TheVariants.{Invoked}
+use Rattle.path_model.specs.declared.event.Event.{Event}
+use Rattle.path_model.specs.declared.event.Event.TheVariants.{Invoked}
 use Rattle.path_checker.specs.declared.plan.FlatPlan.{FlatPlan}
-use Rattle.path_checker.specs.declared.plan.Procedure.{Procedure}
-use Rattle.path_checker.specs.declared.plan.Procedure.TheVariants as procedures
-use Rattle.path_checker.specs.declared.judge.BadPath.{BadPath}
+use Rattle.path_model.specs.declared.procedure.Procedure.{Procedure}
+use Rattle.path_model.specs.declared.procedure.Procedure.TheVariants as procedures
+use Rattle.path_model.specs.declared.bad_path.BadPath.{BadPath}
 use Rattle.suit_params.specs.InForce.{none_in_force, digest_in, size_in}
 use Rattle.suit_commands.specs.Tree.{PlanTree, NoSteps}
-use Rattle.path_checker.specs.Behaviour.{State, Done}
-use Rattle.path_checker.specs.Directives.{after_override}
-use Rattle.path_checker.specs.Path.{start_state, Starts, RunsPlan, AreIdentities, first_state}
-use Rattle.path_checker.specs.Safe.{Safe, EndsUncovered}
+use Rattle.path_model.specs.Behaviour.{State, Done}
+use Rattle.path_model.specs.Directives.{after_override}
+use Rattle.path_model.specs.Path.{start_state, Starts, RunsPlan, AreIdentities, first_state}
+use Rattle.path_model.specs.Safe.{Safe, EndsUncovered}
 use Rattle.path_checker.specs.Flat.{shared_of, validate_at, invoke_at, procedure_of, tree_of, runs_match_first, matches_first}
-use Rattle.path_checker.specs.Verdict.{IsBadPath, IsUnmatchedPath, shared_events, unmatched_events}
-use Rattle.path_checker.proofs.InForce.{length-none_in_force, length-both_set, digest_in-both_set, size_in-both_set}
-use Rattle.path_checker.proofs.Refuting.{IsBadPath-not_safe}
-use Rattle.path_checker.proofs.Covering.{CoveredFrom-AllCovered, unmatched}
+use Rattle.path_model.specs.BadPaths.{IsBadPath}
+use Rattle.path_checker.specs.Verdict.{IsUnmatchedPath, shared_events, unmatched_events}
+use Rattle.path_model.proofs.InForce.{length-none_in_force, length-both_set, digest_in-both_set, size_in-both_set}
+use Rattle.path_model.proofs.Refuting.{IsBadPath-not_safe}
+use Rattle.path_model.proofs.Covering.{CoveredFrom-AllCovered, unmatched}
 
 -- after the shared sequence
 abbrev set_in : FlatPlan → State → State

@@ -3,8 +3,8 @@ use Rattle.std.specs.Prelude.{ℕ, Bool, true, false, [], ◌∷◌, Option, Som
 use Rattle.suit_commands.specs.declared.kinds.TestKind.TheVariants as tests
 use Rattle.suit_commands.specs.declared.kinds.ActKind.TheVariants as acts
 use Rattle.suit_params.specs.declared.param.Param.TheVariants as params
-use Rattle.path_checker.specs.declared.plan.Procedure.{Procedure}
-use Rattle.path_checker.specs.declared.plan.Procedure.TheVariants as procedures
+use Rattle.path_model.specs.declared.procedure.Procedure.{Procedure}
+use Rattle.path_model.specs.declared.procedure.Procedure.TheVariants as procedures
 use Rattle.path_checker.specs.declared.plan.FlatPlan.{FlatPlan}
 use Rattle.suit_commands.specs.Tree.{Test, Act, Override, SequenceTree, NoSteps, StepThen, PlanTree}
 

@@ -1,13 +1,2 @@
-pub mod Behaviour
-pub mod Conditions
-pub mod Directives
-pub mod Runs
-pub mod Path
-pub mod Safe
 pub mod Flat
 pub mod Verdict
-pub mod ParameterLaws
-pub mod CommandLaws
-pub mod RunLaws
-pub mod PathLaws
-pub mod CoverLaws

@@ -1,23 +1,16 @@
 -- What a verdict says.
 use Rattle.std.specs.Prelude.{◌≡◌, List, [], ◌∷◌, ◌++◌, Some, None, true}
 use Rattle.suit_params.specs.declared.param.Param.TheVariants as params
-use Rattle.path_checker.specs.declared.identity.Identity.{Identity}
-use Rattle.path_checker.specs.declared.event.Event.{Event}
-use Rattle.path_checker.specs.declared.event.Event.TheVariants.{Set, Invoked}
+use Rattle.path_model.specs.declared.identity.Identity.{Identity}
+use Rattle.path_model.specs.declared.event.Event.{Event}
+use Rattle.path_model.specs.declared.event.Event.TheVariants.{Set, Invoked}
 use Rattle.path_checker.specs.declared.judge.CheckVerdict.{CheckVerdict}
 use Rattle.path_checker.specs.declared.judge.CheckVerdict.TheVariants as verdicts
-use Rattle.path_checker.specs.declared.judge.BadPath.{BadPath}
+use Rattle.path_model.specs.declared.bad_path.BadPath.{BadPath}
 use Rattle.path_checker.specs.declared.plan.FlatPlan.{FlatPlan}
-use Rattle.suit_commands.specs.Tree.{PlanTree}
-use Rattle.path_checker.specs.Path.{AreIdentities, Path}
-use Rattle.path_checker.specs.Safe.{Safe, EndsUncovered}
+use Rattle.path_model.specs.Safe.{Safe}
+use Rattle.path_model.specs.BadPaths.{IsBadPath}
 use Rattle.path_checker.specs.Flat.{tree_of}
-
--- a path of the plan for these identities, whose last event is its first invoke that is not covered
-pub record IsBadPath (plan : PlanTree) (bad : BadPath) : Type 0 where
-  pub identities : AreIdentities plan bad.identities
-  pub path : Path plan bad.identities bad.events
-  pub ends : EndsUncovered bad.events
 
 abbrev pub Judges : FlatPlan → CheckVerdict → Type 0
 Judges plan verdicts.Safe = Safe (tree_of plan)

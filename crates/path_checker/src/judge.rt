@@ -1,20 +1,14 @@
 //! The judgement of a procedure.
 
 ghost use Rattle.std.specs.Prelude.{◌≡◌, [], ◌∷◌, ◌++◌, IfOk, OnOk};
-ghost use Rattle.path_checker.specs.declared.event.Event.TheVariants.{Set};
+ghost use Rattle.path_model.specs.declared.event.Event.TheVariants.{Set};
 ghost use Rattle.path_checker.specs.Flat.{matches_first};
 ghost use Rattle.path_checker.specs.Verdict.{Judges, Refutes, TellsPath, IsUnmatchedPath, unknown_identity, shared_events, unmatched_events};
 
-use crate::{Event, Events, FlatPlan, Identities, Identity, Procedure};
+use crate::FlatPlan;
+use path_model::{BadPath, Event, Events, Identities, Identity, Procedure};
 use std::alloc::{AllocError, Global};
 use suit_params::Param;
-
-/// A path whose last event is its first invoke that is not covered, and the identities that it is a path for.
-#[derive(Debug, Drop)]
-pub struct BadPath {
-    pub identities: Identities,
-    pub events: Events,
-}
 
 /// What a procedure is judged to be.
 #[derive(Debug, Drop)]

@@ -1,15 +1,7 @@
 //! Procedures of the flat form.
 
+use path_model::Procedure;
 use suit_params::Digest;
-
-/// Which of the two procedures of a manifest.
-#[derive(Clone, Copy, Debug, PartialEq, Eq)]
-pub enum Procedure {
-    /// Payload-fetch, install and validate.
-    Update,
-    /// Validate, load and invoke.
-    Invocation,
-}
 
 /// A procedure of a manifest with one component, whose shared sequence sets a digest and a size, whose
 /// validate, where it is there, is one image match, and whose invoke is one invoke.

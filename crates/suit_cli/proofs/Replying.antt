@@ -2,10 +2,10 @@
 use Rattle.std.proofs.Common.{◌≡◌, ℕ, List, [], Bool, Option, Some, None, ◌⊎◌, inl, inr, Result, Ok, Err, refl, sym, ap, subst, ◌∙◌, ◌<◌, ◌++◌}
 use Rattle.std.specs.Prelude.{IfOk, IsTrue, codes}
 use Rattle.std.specs.declared.alloc.AllocError.{AllocError}
-use Rattle.path_checker.specs.declared.plan.Procedure.TheVariants as procedures
-use Rattle.path_checker.specs.declared.judge.BadPath.{BadPath}
-use Rattle.path_checker.specs.Safe.{Safe}
-use Rattle.path_checker.specs.Verdict.{IsBadPath}
+use Rattle.path_model.specs.declared.procedure.Procedure.TheVariants as procedures
+use Rattle.path_model.specs.declared.bad_path.BadPath.{BadPath}
+use Rattle.path_model.specs.Safe.{Safe}
+use Rattle.path_model.specs.BadPaths.{IsBadPath}
 use Rattle.suit_edge.specs.Faults.{Faulted}
 use Rattle.suit_params.specs.declared.refusal.Refusal.{Refusal}
 use Rattle.suit_envelope.specs.Envelopes.{EnvelopeSays}

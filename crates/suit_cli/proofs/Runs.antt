@@ -2,7 +2,7 @@
 use Rattle.std.proofs.Common.{◌≡◌, ℕ, List, Bool, true, Option, Some, None, ◌⊎◌, inl, inr, refl, sym, ap, subst, ◌∙◌, ◌++◌, arith}
 use Rattle.std.specs.Prelude.{IsTrue, codes}
 use Rattle.std.proofs.lemmas.Option.{same_Some}
-use Rattle.path_checker.proofs.Refuting.{IsBadPath-not_safe}
+use Rattle.path_model.proofs.Refuting.{IsBadPath-not_safe}
 use Rattle.suit_envelope.specs.Envelopes.{EnvelopeSays}
 use Rattle.suit_envelope.specs.Authentic.{AnswersAuthentic}
 use Rattle.suit_envelope.specs.declared.authenticity.Authenticity.{Authenticity}

@@ -2,13 +2,13 @@
 use Rattle.std.specs.Prelude.{◌≡◌, ◌⊎◌, ℕ, Bool, List, ◌++◌, Option, Some, None}
 use Rattle.suit_envelope.specs.Envelopes.{EnvelopeSays}
 use Rattle.suit_edge.specs.Faults.{Faulted}
-use Rattle.path_checker.specs.declared.plan.Procedure.{Procedure}
-use Rattle.path_checker.specs.declared.plan.Procedure.TheVariants as procedures
-use Rattle.path_checker.specs.declared.judge.BadPath.{BadPath}
+use Rattle.path_model.specs.declared.procedure.Procedure.{Procedure}
+use Rattle.path_model.specs.declared.procedure.Procedure.TheVariants as procedures
+use Rattle.path_model.specs.declared.bad_path.BadPath.{BadPath}
 use Rattle.suit_commands.specs.Tree.{PlanTree}
 use Rattle.path_checker.specs.Flat.{tree_of}
-use Rattle.path_checker.specs.Safe.{Safe}
-use Rattle.path_checker.specs.Verdict.{IsBadPath}
+use Rattle.path_model.specs.Safe.{Safe}
+use Rattle.path_model.specs.BadPaths.{IsBadPath}
 use Rattle.suit_cli.specs.declared.flat.FlatForm.{FlatForm}
 use Rattle.suit_cli.specs.FlatForm.{FlatManifest, IsFlat}
 use Rattle.suit_cli.specs.FlatPlan.{plan_of, form_of}

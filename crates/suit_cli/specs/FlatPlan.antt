@@ -1,6 +1,6 @@
 -- What is judged of a manifest of the flat form, as a function of what its bytes spell and of its place.
 use Rattle.std.specs.Prelude.{ℕ}
-use Rattle.path_checker.specs.declared.plan.Procedure.{Procedure}
+use Rattle.path_model.specs.declared.procedure.Procedure.{Procedure}
 use Rattle.path_checker.specs.declared.plan.FlatPlan.{FlatPlan}
 use Rattle.suit_cli.specs.declared.flat.FlatForm.{FlatForm}
 use Rattle.suit_cli.specs.FlatForm.{FlatManifest, match_place, invoke_place}

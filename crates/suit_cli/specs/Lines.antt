@@ -4,10 +4,10 @@ use Rattle.std.specs.Fmt.{decimal}
 use Rattle.hex.specs.Hex.{encode_lower}
 use Rattle.uuid.specs.Text.{hyphenated_text, lower}
 use Rattle.suit_params.specs.declared.digest.Digest.{Digest}
-use Rattle.path_checker.specs.declared.identity.Identity.{Identity}
-use Rattle.path_checker.specs.declared.event.Event.{Event}
-use Rattle.path_checker.specs.declared.event.Event.TheVariants.{Set, Tried, Matched, Missed, Wrote, Invoked, Failed}
-use Rattle.path_checker.specs.declared.judge.BadPath.{BadPath}
+use Rattle.path_model.specs.declared.identity.Identity.{Identity}
+use Rattle.path_model.specs.declared.event.Event.{Event}
+use Rattle.path_model.specs.declared.event.Event.TheVariants.{Set, Tried, Matched, Missed, Wrote, Invoked, Failed}
+use Rattle.path_model.specs.declared.bad_path.BadPath.{BadPath}
 use Rattle.suit_params.specs.ParamKeys.{key_of, key_number}
 use Rattle.suit_commands.specs.Kinds.{test_code}
 

@@ -3,10 +3,10 @@ use Rattle.std.specs.Prelude.{◌≡◌, ◌<◌, ◌⊎◌, ℕ, Bool, true, Li
 use Rattle.suit_params.specs.Refusing.{SaysWhole}
 use Rattle.suit_envelope.specs.Envelopes.{EnvelopeSays, IsEnvelope}
 use Rattle.suit_envelope.specs.Authentic.{IsAuthentic}
-use Rattle.path_checker.specs.declared.plan.Procedure.TheVariants as procedures
-use Rattle.path_checker.specs.declared.judge.BadPath.{BadPath}
-use Rattle.path_checker.specs.Safe.{Safe}
-use Rattle.path_checker.specs.Verdict.{IsBadPath}
+use Rattle.path_model.specs.declared.procedure.Procedure.TheVariants as procedures
+use Rattle.path_model.specs.declared.bad_path.BadPath.{BadPath}
+use Rattle.path_model.specs.Safe.{Safe}
+use Rattle.path_model.specs.BadPaths.{IsBadPath}
 use Rattle.suit_cli.specs.declared.flat.FlatForm.{FlatForm}
 use Rattle.suit_cli.specs.Lines.{path_lines}
 use Rattle.suit_cli.specs.Texts.{update_unsafe_line, invocation_unsafe_lines}

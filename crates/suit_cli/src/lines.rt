@@ -4,7 +4,7 @@ ghost use Rattle.std.specs.Prelude.{◌≡◌, ◌++◌, IfOk, OnOk, string_byte
 ghost use Rattle.suit_cli.specs.Lines.{digest_text, size_text, identifier_text, outcome_text, identity_texts, identity_line, set_line, tried_line, image_line, number_line, event_line, identity_lines, event_lines, path_lines};
 
 use det_cbor::Text;
-use path_checker::{BadPath, Event, Identity};
+use path_model::{BadPath, Event, Identity};
 use std::alloc::{AllocError, Global};
 use suit_params::Digest;
 use uuid::Uuid;

@@ -8,7 +8,7 @@ ghost use Rattle.suit_cli.specs.Texts.{refused_line, why_text};
 use crate::lines::push_path;
 use crate::why::{refused_line, why_text};
 use det_cbor::Text;
-use path_checker::BadPath;
+use path_model::BadPath;
 use std::alloc::{AllocError, Global};
 use suit_params::Refusal;
 

@@ -64,6 +64,13 @@ impl<'a> Params<'a> {
         cells[12 * component as usize + rank(key)]
     }
 
+    /// The same parameters in force, lent again.
+    pub fn copy(&self) -> Params<'a>
+        ensures { result ≡ self.now }
+    {
+        Params { held: self.held }
+    }
+
     // There is a cell for each component and key.
     fn whole(&self)
         ensures { length self.now ≡ 96 }

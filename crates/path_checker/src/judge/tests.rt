@@ -1,8 +1,8 @@
 //! The verdict beside a slow program that walks every path, step by step.
 
 use super::*;
-use suit_params::Digest;
 use std::test::Fail;
+use suit_params::Digest;
 
 // A command of the flat form, at component 0.
 #[derive(Clone, Copy)]

@@ -1,8 +1,8 @@
 use Rattle.std.proofs.Common.{subst}
 use Rattle.path_checker.specs.declared.plan.FlatPlan.{FlatPlan}
 use Rattle.path_checker.specs.Flat.{tree_of}
-use Rattle.path_checker.specs.Safe.{Safe}
-use Rattle.path_checker.specs.Verdict.{IsBadPath}
+use Rattle.path_model.specs.Safe.{Safe}
+use Rattle.path_model.specs.BadPaths.{IsBadPath}
 use Rattle.suit_cli.proofs.Replying.{both_safe, update_unsafe, invocation_unsafe}
 use Rattle.suit_cli.proofs.check.judge_form.Goals as goal
 

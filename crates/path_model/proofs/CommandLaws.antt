@@ -1,0 +1,346 @@
+-- The laws of one condition or directive.
+use Rattle.std.proofs.Common.{◌≡◌, ◌≢◌, ℕ, Bool, true, false, List, [], ◌∷◌, Option, Some, None, refl, sym, ap, subst, ◌∙◌, arith, inl, inr, ◌⊎◌}
+use Rattle.std.specs.Prelude.{◌↔◌, ◌==◌, if◌then◌else◌, option_map, slice_get}
+use Rattle.suit_params.specs.declared.digest.Digest.{Digest}
+use Rattle.path_model.specs.declared.identity.Identity.{Identity}
+use Rattle.suit_params.specs.declared.param.Param.{Param}
+use Rattle.suit_params.specs.declared.param.Param.TheVariants as params
+use Rattle.suit_params.specs.declared.param.ParamKey.{ParamKey}
+use Rattle.suit_params.specs.declared.param.ParamKey.TheVariants as keys
+use Rattle.suit_commands.specs.declared.kinds.TestKind.{TestKind}
+use Rattle.suit_commands.specs.declared.kinds.TestKind.TheVariants as tests
+use Rattle.suit_commands.specs.declared.kinds.ActKind.TheVariants as acts
+use Rattle.path_model.specs.declared.event.Event.{Event}
+use Rattle.path_model.specs.declared.event.Event.TheVariants.{Tried, Matched, Missed, Wrote, Invoked, Failed}
+use Rattle.suit_params.specs.ParamKeys.{key_of, key_number}
+use Rattle.suit_params.specs.InForce.{in_force, identifier_of, number_of, digest_of, bytes_of, digest_in, size_in}
+use Rattle.path_model.specs.Behaviour.{State, Ending, Done, Condition, Directive}
+use Rattle.path_model.specs.Conditions.{IsSame, Compares, Matches, ChecksContent, Fails, vendor_of, class_of, device_of, slot_of}
+use Rattle.path_model.specs.Directives.{Writes, Acts}
+use Rattle.path_model.specs.CommandLaws.{MatchTold, PassTold, MissTold, FailTold, EndsPassed, EndsFailed, ConditionsEnd, AbortFails, ConditionsNeed, IdentityDecides, FollowsIdentity, IdentityFollowed, MatchIsFree, ContentIsFree, EndsEitherWay, written, DirectivesWrite, DirectivesNeed, InvokesTell}
+
+-- ---- keys by their numbers
+
+key_named : ℕ → ParamKey
+key_named number =
+    if number == 1 then keys.Vendor
+    else if number == 2 then keys.Class
+    else if number == 3 then keys.Digest
+    else if number == 5 then keys.Slot
+    else if number == 12 then keys.Strict
+    else if number == 13 then keys.Soft
+    else if number == 14 then keys.Size
+    else if number == 18 then keys.Content
+    else if number == 21 then keys.Uri
+    else if number == 22 then keys.Source
+    else if number == 23 then keys.Args
+    else keys.Device
+
+key_named-key_number : (key : ParamKey) → key_named (key_number key) ≡ key
+unfolding key_named
+key_named-key_number keys.Vendor = refl
+key_named-key_number keys.Class = refl
+key_named-key_number keys.Device = refl
+key_named-key_number keys.Digest = refl
+key_named-key_number keys.Slot = refl
+key_named-key_number keys.Strict = refl
+key_named-key_number keys.Soft = refl
+key_named-key_number keys.Size = refl
+key_named-key_number keys.Content = refl
+key_named-key_number keys.Uri = refl
+key_named-key_number keys.Source = refl
+key_named-key_number keys.Args = refl
+
+same_key : (key other : ParamKey) → key_number key ≡ key_number other → key ≡ other
+same_key key other same = sym (key_named-key_number key) ∙ ap key_named same ∙ key_named-key_number other
+
+-- what is in force under the key of a number
+at_key : (s : State) (c : ℕ) (key other : ParamKey) (held : Option Param) → key_number key ≡ key_number other → in_force s.parameters c key ≡ held → in_force s.parameters c other ≡ held
+at_key s c key other held same is = subst (λ (k : ParamKey). in_force s.parameters c k ≡ held) (same_key key other same) is
+
+-- ---- endings are one of three
+
+done_not_failed : {P : Type 0} (s : State) (place : ℕ) (soft : Bool) → Done s ≡ Condition place soft → P
+done_not_failed s place soft same = absurd cc
+
+-- ---- how conditions end
+
+compares_end : {A : Type 0} (kind : TestKind) → kind ≢ tests.ImageMatch → (p c : ℕ) (wanted own : Option A) (s : State) (es : List Event) (e : Ending) → Compares p kind c wanted own s es e → EndsPassed kind c s es e ⊎ EndsFailed kind p c s es e
+compares_end kind other p c wanted own s es e run =
+    elim run [
+      | inl (same, (is, done)) ↦ inl (record { event = Tried c kind true; tells = PassTold kind c other; events_are = is; ending_is = done })
+      | inr (differs, (is, failed)) ↦ inr (record { event = Tried c kind false; tells = FailTold kind c other; events_are = is; ending_is = failed })
+    ]
+
+matches_end : (p c : ℕ) (digest : Option Digest) (size : Option ℕ) (s : State) (es : List Event) (e : Ending) → Matches p c digest size s es e → EndsPassed tests.ImageMatch c s es e ⊎ EndsFailed tests.ImageMatch p c s es e
+matches_end p c None size s es e (is, failed) = inr (record { event = Missed c; tells = MissTold c; events_are = is; ending_is = failed })
+matches_end p c (Some digest) size s es e run =
+    elim run [
+      | inl (is, done) ↦ inl (record { event = Matched c digest size; tells = MatchTold c digest size; events_are = is; ending_is = done })
+      | inr (is, failed) ↦ inr (record { event = Missed c; tells = MissTold c; events_are = is; ending_is = failed })
+    ]
+
+content_other : tests.CheckContent ≢ tests.ImageMatch
+content_other same = absurd cc
+
+content_failed : (p c : ℕ) (s : State) (es : List Event) (e : Ending) → Fails p (Tried c tests.CheckContent false) s es e → EndsFailed tests.CheckContent p c s es e
+content_failed p c s es e (is, failed) = record { event = Tried c tests.CheckContent false; tells = FailTold tests.CheckContent c content_other; events_are = is; ending_is = failed }
+
+content_ends : (p c : ℕ) (content : Option (List ℕ)) (s : State) (es : List Event) (e : Ending) → ChecksContent p c content s es e → EndsPassed tests.CheckContent c s es e ⊎ EndsFailed tests.CheckContent p c s es e
+content_ends p c None s es e run = inr (content_failed p c s es e run)
+content_ends p c (Some content) s es e run =
+    elim run [
+      | inl (is, done) ↦ inl (record { event = Tried c tests.CheckContent true; tells = PassTold tests.CheckContent c content_other; events_are = is; ending_is = done })
+      | inr failed ↦ inr (content_failed p c s es e failed)
+    ]
+
+pub conditions_end : ConditionsEnd
+conditions_end tests.Vendor ids p c s es e run = compares_end tests.Vendor (λ same. absurd cc) p c (identifier_of (in_force s.parameters c keys.Vendor)) (vendor_of (slice_get ids c)) s es e run
+conditions_end tests.Class ids p c s es e run = compares_end tests.Class (λ same. absurd cc) p c (identifier_of (in_force s.parameters c keys.Class)) (class_of (slice_get ids c)) s es e run
+conditions_end tests.Device ids p c s es e run = compares_end tests.Device (λ same. absurd cc) p c (identifier_of (in_force s.parameters c keys.Device)) (device_of (slice_get ids c)) s es e run
+conditions_end tests.Slot ids p c s es e run = compares_end tests.Slot (λ same. absurd cc) p c (number_of (in_force s.parameters c keys.Slot)) (slot_of (slice_get ids c)) s es e run
+conditions_end tests.ImageMatch ids p c s es e run = matches_end p c (digest_in s.parameters c) (size_in s.parameters c) s es e run
+conditions_end tests.CheckContent ids p c s es e run = content_ends p c (bytes_of (in_force s.parameters c keys.Content)) s es e run
+conditions_end tests.Abort ids p c s es e (is, failed) = inr (record { event = Tried c tests.Abort false; tells = FailTold tests.Abort c (λ same. absurd cc); events_are = is; ending_is = failed })
+
+pub abort_fails : AbortFails
+abort_fails ids p c s t es (is, failed) = done_not_failed t p s.soft_failure failed
+
+-- ---- what conditions need
+
+compared_needed : {A : Type 0} (kind : TestKind) (p c : ℕ) (wanted own : Option A) (s t : State) (es : List Event) → wanted ≡ None → Compares p kind c wanted own s es (Done t) → ⊥
+compared_needed {A} kind p c wanted own s t es none run =
+    elim run [
+      | inl (same, passed) ↦ subst (λ (w : Option A). IsSame w own) none same
+      | inr (differs, (is, failed)) ↦ done_not_failed t p s.soft_failure failed
+    ]
+
+match_needs : (p c : ℕ) (digest : Option Digest) (size : Option ℕ) (s t : State) (es : List Event) → digest ≡ None → Matches p c digest size s es (Done t) → ⊥
+match_needs p c None size s t es none (is, failed) = done_not_failed t p s.soft_failure failed
+match_needs p c (Some d) size s t es none run = absurd cc
+
+content_needs : (p c : ℕ) (content : Option (List ℕ)) (s t : State) (es : List Event) → content ≡ None → ChecksContent p c content s es (Done t) → ⊥
+content_needs p c None s t es none (is, failed) = done_not_failed t p s.soft_failure failed
+content_needs p c (Some content) s t es none run = absurd cc
+
+pub conditions_need : ConditionsNeed
+conditions_need tests.Vendor key ids p c s t es number none run =
+    compared_needed tests.Vendor p c (identifier_of (in_force s.parameters c keys.Vendor)) (vendor_of (slice_get ids c)) s t es (ap identifier_of (at_key s c key keys.Vendor None number none)) run
+conditions_need tests.Class key ids p c s t es number none run =
+    compared_needed tests.Class p c (identifier_of (in_force s.parameters c keys.Class)) (class_of (slice_get ids c)) s t es (ap identifier_of (at_key s c key keys.Class None number none)) run
+conditions_need tests.Device key ids p c s t es number none run =
+    compared_needed tests.Device p c (identifier_of (in_force s.parameters c keys.Device)) (device_of (slice_get ids c)) s t es (ap identifier_of (at_key s c key keys.Device None number none)) run
+conditions_need tests.Slot key ids p c s t es number none run =
+    compared_needed tests.Slot p c (number_of (in_force s.parameters c keys.Slot)) (slot_of (slice_get ids c)) s t es (ap number_of (at_key s c key keys.Slot None number none)) run
+conditions_need tests.ImageMatch key ids p c s t es number none run =
+    match_needs p c (digest_in s.parameters c) (size_in s.parameters c) s t es (ap digest_of (at_key s c key keys.Digest None number none)) run
+conditions_need tests.CheckContent key ids p c s t es number none run =
+    content_needs p c (bytes_of (in_force s.parameters c keys.Content)) s t es (ap bytes_of (at_key s c key keys.Content None number none)) run
+conditions_need tests.Abort key ids p c s t es number none run = abort_fails ids p c s t es run
+
+-- ---- the conditions on the identity
+
+compares_alike : {A : Type 0} (kind : TestKind) (p c : ℕ) (wanted own : Option A) (s : State) (es fs : List Event) (e f : Ending) → Compares p kind c wanted own s es e → Compares p kind c wanted own s fs f → (es ≡ fs) × (e ≡ f)
+compares_alike kind p c wanted own s es fs e f run other =
+    elim run [
+      | inl (same, (is, done)) ↦ elim other [
+        | inl (again, (js, end)) ↦ (is ∙ sym js, done ∙ sym end)
+        | inr (differs, failed) ↦ absurd (differs same)
+      ]
+      | inr (differs, (is, failed)) ↦ elim other [
+        | inl (same, passed) ↦ absurd (differs same)
+        | inr (again, (js, end)) ↦ (is ∙ sym js, failed ∙ sym end)
+      ]
+    ]
+
+pub identity_decides : IdentityDecides
+identity_decides tests.Vendor ids p c s es fs e f on run other = compares_alike tests.Vendor p c (identifier_of (in_force s.parameters c keys.Vendor)) (vendor_of (slice_get ids c)) s es fs e f run other
+identity_decides tests.Class ids p c s es fs e f on run other = compares_alike tests.Class p c (identifier_of (in_force s.parameters c keys.Class)) (class_of (slice_get ids c)) s es fs e f run other
+identity_decides tests.Device ids p c s es fs e f on run other = compares_alike tests.Device p c (identifier_of (in_force s.parameters c keys.Device)) (device_of (slice_get ids c)) s es fs e f run other
+identity_decides tests.Slot ids p c s es fs e f on run other = compares_alike tests.Slot p c (number_of (in_force s.parameters c keys.Slot)) (slot_of (slice_get ids c)) s es fs e f run other
+identity_decides tests.ImageMatch ids p c s es fs e f on run other = absurd on
+identity_decides tests.CheckContent ids p c s es fs e f on run other = absurd on
+identity_decides tests.Abort ids p c s es fs e f on run other = absurd on
+
+-- a comparison, where what is compared is known
+compares_both : {A : Type 0} (kind : TestKind) (p c : ℕ) (wanted own : Option A) (value : A) (held : Option A) (s : State) → wanted ≡ Some value → own ≡ held
+    → ((held ≡ Some value → Compares p kind c wanted own s (Tried c kind true ∷ []) (Done s))
+    × ((held ≡ Some value → ⊥) → Compares p kind c wanted own s (Tried c kind false ∷ Failed p ∷ []) (Condition p s.soft_failure)))
+compares_both {A} kind p c wanted own value held s w-is o-is = (
+  λ same. inl (subst (λ (w : Option A). IsSame w own) (sym w-is) (o-is ∙ same), (refl, refl)),
+  λ differs. inr (λ same. differs (sym o-is ∙ subst (λ (w : Option A). IsSame w own) w-is same), (refl, refl)),
+)
+
+-- ---- a parameter by its number
+
+vendor_param : (param : Param) → key_number (key_of param) ≡ 1 → (id : List ℕ) × (param ≡ params.Vendor id)
+vendor_param (params.Vendor id) number = (id, refl)
+vendor_param _ number = absurd (omega arith)
+
+class_param : (param : Param) → key_number (key_of param) ≡ 2 → (id : List ℕ) × (param ≡ params.Class id)
+class_param (params.Class id) number = (id, refl)
+class_param _ number = absurd (omega arith)
+
+device_param : (param : Param) → key_number (key_of param) ≡ 24 → (id : List ℕ) × (param ≡ params.Device id)
+device_param (params.Device id) number = (id, refl)
+device_param _ number = absurd (omega arith)
+
+slot_param : (param : Param) → key_number (key_of param) ≡ 5 → (slot : ℕ) × (param ≡ params.Slot slot)
+slot_param (params.Slot slot) number = (slot, refl)
+slot_param _ number = absurd (omega arith)
+
+content_param : (param : Param) → key_number (key_of param) ≡ 18 → (content : List ℕ) × (param ≡ params.Content content)
+content_param (params.Content content) number = (content, refl)
+content_param _ number = absurd (omega arith)
+
+uri_param : (param : Param) → key_number (key_of param) ≡ 21 → (uri : List ℕ) × (param ≡ params.Uri uri)
+uri_param (params.Uri uri) number = (uri, refl)
+uri_param _ number = absurd (omega arith)
+
+source_param : (param : Param) → key_number (key_of param) ≡ 22 → (source : ℕ) × (param ≡ params.Source source)
+source_param (params.Source source) number = (source, refl)
+source_param _ number = absurd (omega arith)
+
+-- what is in force under the key of a parameter that is known
+held_as : (s : State) (c : ℕ) (param known : Param) → param ≡ known → in_force s.parameters c (key_of param) ≡ Some param → in_force s.parameters c (key_of known) ≡ Some known
+held_as s c param known is held = subst (λ (p : Param). in_force s.parameters c (key_of p) ≡ Some p) is held
+
+-- ---- the conditions follow the identity
+
+vendor_followed : (ids : List Identity) (identity : Identity) (id : List ℕ) (p c : ℕ) (s : State) → slice_get ids c ≡ Some identity → in_force s.parameters c keys.Vendor ≡ Some (params.Vendor id) → FollowsIdentity tests.Vendor ids identity (params.Vendor id) p c s
+vendor_followed ids identity id p c s there held =
+    let both = compares_both tests.Vendor p c (identifier_of (in_force s.parameters c keys.Vendor)) (vendor_of (slice_get ids c)) id identity.vendor s (ap identifier_of held) (ap vendor_of there) in
+    record { passes = both.0; fails = both.1 }
+
+class_followed : (ids : List Identity) (identity : Identity) (id : List ℕ) (p c : ℕ) (s : State) → slice_get ids c ≡ Some identity → in_force s.parameters c keys.Class ≡ Some (params.Class id) → FollowsIdentity tests.Class ids identity (params.Class id) p c s
+class_followed ids identity id p c s there held =
+    let both = compares_both tests.Class p c (identifier_of (in_force s.parameters c keys.Class)) (class_of (slice_get ids c)) id identity.class s (ap identifier_of held) (ap class_of there) in
+    record { passes = both.0; fails = both.1 }
+
+device_followed : (ids : List Identity) (identity : Identity) (id : List ℕ) (p c : ℕ) (s : State) → slice_get ids c ≡ Some identity → in_force s.parameters c keys.Device ≡ Some (params.Device id) → FollowsIdentity tests.Device ids identity (params.Device id) p c s
+device_followed ids identity id p c s there held =
+    let both = compares_both tests.Device p c (identifier_of (in_force s.parameters c keys.Device)) (device_of (slice_get ids c)) id identity.device s (ap identifier_of held) (ap device_of there) in
+    record { passes = both.0; fails = both.1 }
+
+held_number : Option ℕ → ℕ
+held_number None = 0
+held_number (Some n) = n
+
+same_number : (m n : ℕ) → Some m ≡ Some n → m ≡ n
+unfolding held_number
+same_number m n same = ap held_number same
+
+slot_followed : (ids : List Identity) (identity : Identity) (slot p c : ℕ) (s : State) → slice_get ids c ≡ Some identity → in_force s.parameters c keys.Slot ≡ Some (params.Slot slot) → FollowsIdentity tests.Slot ids identity (params.Slot slot) p c s
+slot_followed ids identity slot p c s there held =
+    let both = compares_both tests.Slot p c (number_of (in_force s.parameters c keys.Slot)) (slot_of (slice_get ids c)) slot (Some identity.slot) s (ap number_of held) (ap slot_of there) in
+    record { passes = λ same. both.0 (ap Some same); fails = λ differs. both.1 (λ same. differs (same_number identity.slot slot same)) }
+
+pub identity_followed : IdentityFollowed
+identity_followed tests.Vendor ids identity param p c s on number there held =
+    let v = vendor_param param number in
+    subst (λ (q : Param). FollowsIdentity tests.Vendor ids identity q p c s) (sym v.1)
+    (vendor_followed ids identity v.0 p c s there (held_as s c param (params.Vendor v.0) v.1 held))
+identity_followed tests.Class ids identity param p c s on number there held =
+    let v = class_param param number in
+    subst (λ (q : Param). FollowsIdentity tests.Class ids identity q p c s) (sym v.1)
+    (class_followed ids identity v.0 p c s there (held_as s c param (params.Class v.0) v.1 held))
+identity_followed tests.Device ids identity param p c s on number there held =
+    let v = device_param param number in
+    subst (λ (q : Param). FollowsIdentity tests.Device ids identity q p c s) (sym v.1)
+    (device_followed ids identity v.0 p c s there (held_as s c param (params.Device v.0) v.1 held))
+identity_followed tests.Slot ids identity param p c s on number there held =
+    let v = slot_param param number in
+    subst (λ (q : Param). FollowsIdentity tests.Slot ids identity q p c s) (sym v.1)
+    (slot_followed ids identity v.0 p c s there (held_as s c param (params.Slot v.0) v.1 held))
+identity_followed tests.ImageMatch ids identity param p c s on number there held = absurd on
+identity_followed tests.CheckContent ids identity param p c s on number there held = absurd on
+identity_followed tests.Abort ids identity param p c s on number there held = absurd on
+
+-- ---- the conditions on the content
+
+sized : (size : Option ℕ) → number_of (option_map params.Size size) ≡ size
+sized None = refl
+sized (Some n) = refl
+
+digested : (digest : Option Digest) → digest_of (option_map params.Digest digest) ≡ digest
+digested None = refl
+digested (Some d) = refl
+
+pub match_is_free : MatchIsFree
+match_is_free ids p c digest size s digest-is size-is =
+    let d : digest_in s.parameters c ≡ Some digest = ap digest_of digest-is in
+    let z : size_in s.parameters c ≡ size = ap number_of size-is ∙ sized size in
+    record {
+      matches =
+          subst (λ (o : Option Digest). Matches p c o (size_in s.parameters c) s (Matched c digest size ∷ []) (Done s)) (sym d)
+          (subst (λ (n : Option ℕ). Matches p c (Some digest) n s (Matched c digest size ∷ []) (Done s)) (sym z) (inl (refl, refl)));
+      misses =
+          subst (λ (o : Option Digest). Matches p c o (size_in s.parameters c) s (Missed c ∷ Failed p ∷ []) (Condition p s.soft_failure)) (sym d)
+          (inr (refl, refl));
+    }
+
+pub content_is_free : ContentIsFree
+content_is_free ids p c content s held =
+    let is : bytes_of (in_force s.parameters c keys.Content) ≡ Some content = ap bytes_of held in
+    record {
+      passes = subst (λ (o : Option (List ℕ)). ChecksContent p c o s (Tried c tests.CheckContent true ∷ []) (Done s)) (sym is) (inl (refl, refl));
+      fails = subst (λ (o : Option (List ℕ)). ChecksContent p c o s (Tried c tests.CheckContent false ∷ Failed p ∷ []) (Condition p s.soft_failure)) (sym is) (inr (refl, refl));
+    }
+
+-- ---- directives
+
+writes_either : {A : Type 0} (p : ℕ) (held : Option A) (value : A) (w : A → List Event) (s : State) (es : List Event) (e : Ending) → held ≡ Some value → Writes p held w s es e ↔ EndsEitherWay (w value) p s es e
+writes_either {A} p held value w s es e is = (
+  λ run. subst (λ (o : Option A). Writes p o w s es e) is run,
+  λ ends. subst (λ (o : Option A). Writes p o w s es e) (sym is) ends,
+)
+
+writes_nothing : {A : Type 0} (p : ℕ) (held : Option A) (w : A → List Event) (s : State) (es : List Event) (e : Ending) → held ≡ None → Writes p held w s es e ↔ ((es ≡ Failed p ∷ []) × (e ≡ Directive p))
+writes_nothing {A} p held w s es e is = (
+  λ run. subst (λ (o : Option A). Writes p o w s es e) is run,
+  λ ends. subst (λ (o : Option A). Writes p o w s es e) (sym is) ends,
+)
+
+pub directives_write : DirectivesWrite
+directives_write acts.Write param p c s es e other number held =
+    let v = content_param param number in
+    subst (λ (q : Param). Acts acts.Write p c s es e ↔ EndsEitherWay (written acts.Write c q) p s es e) (sym v.1)
+    (writes_either p (bytes_of (in_force s.parameters c keys.Content)) v.0 (λ content. Wrote c ∷ []) s es e (ap bytes_of (held_as s c param (params.Content v.0) v.1 held)))
+directives_write acts.Fetch param p c s es e other number held =
+    let v = uri_param param number in
+    subst (λ (q : Param). Acts acts.Fetch p c s es e ↔ EndsEitherWay (written acts.Fetch c q) p s es e) (sym v.1)
+    (writes_either p (bytes_of (in_force s.parameters c keys.Uri)) v.0 (λ uri. Wrote c ∷ []) s es e (ap bytes_of (held_as s c param (params.Uri v.0) v.1 held)))
+directives_write acts.Copy param p c s es e other number held =
+    let v = source_param param number in
+    subst (λ (q : Param). Acts acts.Copy p c s es e ↔ EndsEitherWay (written acts.Copy c q) p s es e) (sym v.1)
+    (writes_either p (number_of (in_force s.parameters c keys.Source)) v.0 (λ source. Wrote c ∷ []) s es e (ap number_of (held_as s c param (params.Source v.0) v.1 held)))
+directives_write acts.Swap param p c s es e other number held =
+    let v = source_param param number in
+    subst (λ (q : Param). Acts acts.Swap p c s es e ↔ EndsEitherWay (written acts.Swap c q) p s es e) (sym v.1)
+    (writes_either p (number_of (in_force s.parameters c keys.Source)) v.0 (λ source. Wrote c ∷ Wrote source ∷ []) s es e (ap number_of (held_as s c param (params.Source v.0) v.1 held)))
+directives_write acts.Invoke param p c s es e other number held = absurd (other refl)
+
+pub directives_need : DirectivesNeed
+directives_need acts.Write key p c s es e other number none =
+    writes_nothing p (bytes_of (in_force s.parameters c keys.Content)) (λ content. Wrote c ∷ []) s es e (ap bytes_of (at_key s c key keys.Content None number none))
+directives_need acts.Fetch key p c s es e other number none =
+    writes_nothing p (bytes_of (in_force s.parameters c keys.Uri)) (λ uri. Wrote c ∷ []) s es e (ap bytes_of (at_key s c key keys.Uri None number none))
+directives_need acts.Copy key p c s es e other number none =
+    writes_nothing p (number_of (in_force s.parameters c keys.Source)) (λ source. Wrote c ∷ []) s es e (ap number_of (at_key s c key keys.Source None number none))
+directives_need acts.Swap key p c s es e other number none =
+    writes_nothing p (number_of (in_force s.parameters c keys.Source)) (λ source. Wrote c ∷ Wrote source ∷ []) s es e (ap number_of (at_key s c key keys.Source None number none))
+directives_need acts.Invoke key p c s es e other number none = absurd (other refl)
+
+-- an invoke with this digest and size
+InvokesWith : ℕ → ℕ → State → List Event → Ending → Option Digest → Option ℕ → Type 0
+InvokesWith p c s es e digest size =
+    ((es ≡ Invoked c digest size true ∷ []) × (e ≡ Done s)) ⊎ ((es ≡ Invoked c digest size false ∷ Failed p ∷ []) × (e ≡ Directive p))
+
+pub invokes_tell : InvokesTell
+unfolding InvokesWith
+invokes_tell p c digest size s es e digest-is size-is =
+    let d : digest_in s.parameters c ≡ digest = ap digest_of digest-is ∙ digested digest in
+    let z : size_in s.parameters c ≡ size = ap number_of size-is ∙ sized size in (
+      λ run. subst (λ (o : Option Digest). InvokesWith p c s es e o size) d (subst (λ (n : Option ℕ). InvokesWith p c s es e (digest_in s.parameters c) n) z run),
+      λ ends. subst (λ (n : Option ℕ). InvokesWith p c s es e (digest_in s.parameters c) n) (sym z) (subst (λ (o : Option Digest). InvokesWith p c s es e o size) (sym d) ends),
+    )

@@ -1,0 +1,10 @@
+pub mod InForce
+pub mod Covering
+pub mod Looking
+pub mod Refuting
+pub mod ParameterLaws
+pub mod CommandLaws
+pub mod RunLaws
+pub mod PathLaws
+pub mod CoverLaws
+pub mod Following

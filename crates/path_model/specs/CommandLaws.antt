@@ -1,0 +1,168 @@
+-- Laws of one condition or directive at one component: how it may end, by the numbers of the draft
+-- (draft-ietf-suit-manifest-25, sections 8.4.8 to 8.4.10).
+use Rattle.std.specs.Prelude.{◌≡◌, ◌≢◌, ◌↔◌, ◌⊎◌, ◌==◌, if◌then◌else◌, ℕ, true, false, List, [], ◌∷◌, ◌++◌, Option, Some, None, option_map, slice_get}
+use Rattle.suit_params.specs.declared.digest.Digest.{Digest}
+use Rattle.path_model.specs.declared.identity.Identity.{Identity}
+use Rattle.suit_params.specs.declared.param.Param.{Param}
+use Rattle.suit_params.specs.declared.param.Param.TheVariants as params
+use Rattle.suit_params.specs.declared.param.ParamKey.{ParamKey}
+use Rattle.suit_params.specs.declared.param.ParamKey.TheVariants as keys
+use Rattle.suit_commands.specs.declared.kinds.TestKind.{TestKind}
+use Rattle.suit_commands.specs.declared.kinds.TestKind.TheVariants as tests
+use Rattle.suit_commands.specs.declared.kinds.ActKind.{ActKind}
+use Rattle.suit_commands.specs.declared.kinds.ActKind.TheVariants as acts
+use Rattle.path_model.specs.declared.event.Event.{Event}
+use Rattle.path_model.specs.declared.event.Event.TheVariants.{Tried, Matched, Missed, Wrote, Invoked, Failed}
+use Rattle.suit_commands.specs.Kinds.{test_code, act_code}
+use Rattle.suit_params.specs.ParamKeys.{key_of, key_number}
+use Rattle.suit_params.specs.InForce.{in_force}
+use Rattle.path_model.specs.Behaviour.{State, Ending, Done, Condition, Directive}
+use Rattle.path_model.specs.Conditions.{Tests}
+use Rattle.path_model.specs.Directives.{Acts}
+
+-- ---- conditions
+
+-- the events that tell of a condition at a component
+pub data TellsPassed : TestKind → ℕ → Event → Type 0 where
+  MatchTold : (component : ℕ) (digest : Digest) (size : Option ℕ) → TellsPassed tests.ImageMatch component (Matched component digest size)
+  PassTold : (kind : TestKind) (component : ℕ) → kind ≢ tests.ImageMatch → TellsPassed kind component (Tried component kind true)
+
+pub data TellsFailed : TestKind → ℕ → Event → Type 0 where
+  MissTold : (component : ℕ) → TellsFailed tests.ImageMatch component (Missed component)
+  FailTold : (kind : TestKind) (component : ℕ) → kind ≢ tests.ImageMatch → TellsFailed kind component (Tried component kind false)
+
+pub record EndsPassed (kind : TestKind) (component : ℕ) (state : State) (events : List Event) (ending : Ending) : Type 0 where
+  pub event : Event
+  pub tells : TellsPassed kind component event
+  pub events_are : events ≡ event ∷ []
+  pub ending_is : ending ≡ Done state
+
+pub record EndsFailed (kind : TestKind) (place component : ℕ) (state : State) (events : List Event) (ending : Ending) : Type 0 where
+  pub event : Event
+  pub tells : TellsFailed kind component event
+  pub events_are : events ≡ event ∷ Failed place ∷ []
+  pub ending_is : ending ≡ Condition place state.soft_failure
+
+-- it passes and changes nothing, or it fails and tells its place
+abbrev pub ConditionsEnd : Type 0
+ConditionsEnd =
+    (kind : TestKind) (identities : List Identity) (place component : ℕ) (state : State) (events : List Event) (ending : Ending)
+    → Tests kind identities place component state events ending
+    → EndsPassed kind component state events ending ⊎ EndsFailed kind place component state events ending
+
+-- abort never passes
+abbrev pub AbortFails : Type 0
+AbortFails =
+    (identities : List Identity) (place component : ℕ) (state next : State) (events : List Event)
+    → Tests tests.Abort identities place component state events (Done next) → ⊥
+
+-- check content needs the content, and each other condition the parameter of its own number
+abbrev pub compared_number : ℕ → ℕ
+compared_number code = if code == 6 then 18 else code
+
+-- without its parameter it does not pass
+abbrev pub ConditionsNeed : Type 0
+ConditionsNeed =
+    (kind : TestKind) (key : ParamKey) (identities : List Identity) (place component : ℕ) (state next : State) (events : List Event)
+    → key_number key ≡ compared_number (test_code kind) → in_force state.parameters component key ≡ None
+    → Tests kind identities place component state events (Done next) → ⊥
+
+-- the conditions on the identity
+
+abbrev pub IsOnIdentity : TestKind → Type 0
+IsOnIdentity tests.Vendor = Unit {0}
+IsOnIdentity tests.Class = Unit {0}
+IsOnIdentity tests.Device = Unit {0}
+IsOnIdentity tests.Slot = Unit {0}
+IsOnIdentity _ = ⊥
+
+abbrev pub HasValue : Identity → Param → Type 0
+HasValue identity (params.Vendor id) = identity.vendor ≡ Some id
+HasValue identity (params.Class id) = identity.class ≡ Some id
+HasValue identity (params.Device id) = identity.device ≡ Some id
+HasValue identity (params.Slot number) = identity.slot ≡ number
+HasValue identity _ = ⊥
+
+-- for one list of identities they end in just one way
+abbrev pub IdentityDecides : Type 0
+IdentityDecides =
+    (kind : TestKind) (identities : List Identity) (place component : ℕ) (state : State) (events others : List Event) (ending other : Ending)
+    → IsOnIdentity kind → Tests kind identities place component state events ending
+    → Tests kind identities place component state others other → (events ≡ others) × (ending ≡ other)
+
+-- which is to pass where the identity has the parameter's value
+pub record FollowsIdentity (kind : TestKind) (identities : List Identity) (identity : Identity) (param : Param) (place component : ℕ) (state : State) : Type 0 where
+  pub passes : HasValue identity param → Tests kind identities place component state (Tried component kind true ∷ []) (Done state)
+  pub fails : (HasValue identity param → ⊥)
+      → Tests kind identities place component state (Tried component kind false ∷ Failed place ∷ []) (Condition place state.soft_failure)
+
+abbrev pub IdentityFollowed : Type 0
+IdentityFollowed =
+    (kind : TestKind) (identities : List Identity) (identity : Identity) (param : Param) (place component : ℕ) (state : State)
+    → IsOnIdentity kind → key_number (key_of param) ≡ test_code kind → slice_get identities component ≡ Some identity
+    → in_force state.parameters component (key_of param) ≡ Some param → FollowsIdentity kind identities identity param place component state
+
+-- the conditions on the content end either way where their parameter is in force
+
+pub record MatchEndsEitherWay (identities : List Identity) (place component : ℕ) (digest : Digest) (size : Option ℕ) (state : State) : Type 0 where
+  pub matches : Tests tests.ImageMatch identities place component state (Matched component digest size ∷ []) (Done state)
+  pub misses : Tests tests.ImageMatch identities place component state (Missed component ∷ Failed place ∷ []) (Condition place state.soft_failure)
+
+abbrev pub MatchIsFree : Type 0
+MatchIsFree =
+    (identities : List Identity) (place component : ℕ) (digest : Digest) (size : Option ℕ) (state : State)
+    → in_force state.parameters component keys.Digest ≡ Some (params.Digest digest)
+    → in_force state.parameters component keys.Size ≡ option_map params.Size size
+    → MatchEndsEitherWay identities place component digest size state
+
+pub record ContentEndsEitherWay (identities : List Identity) (place component : ℕ) (state : State) : Type 0 where
+  pub passes : Tests tests.CheckContent identities place component state (Tried component tests.CheckContent true ∷ []) (Done state)
+  pub fails : Tests tests.CheckContent identities place component state (Tried component tests.CheckContent false ∷ Failed place ∷ [])
+      (Condition place state.soft_failure)
+
+abbrev pub ContentIsFree : Type 0
+ContentIsFree =
+    (identities : List Identity) (place component : ℕ) (content : List ℕ) (state : State)
+    → in_force state.parameters component keys.Content ≡ Some (params.Content content)
+    → ContentEndsEitherWay identities place component state
+
+-- ---- directives
+
+-- these events and no change, or these events, the place and the end of the procedure
+abbrev pub EndsEitherWay : List Event → ℕ → State → List Event → Ending → Type 0
+EndsEitherWay told place state events ending =
+    ((events ≡ told) × (ending ≡ Done state)) ⊎ ((events ≡ told ++ Failed place ∷ []) × (ending ≡ Directive place))
+
+-- a swap takes the source as a copy does, and each other directive the parameter of its own number
+abbrev pub taken_number : ℕ → ℕ
+taken_number code = if code == 31 then 22 else code
+
+-- both sides of a swap are written
+abbrev pub written : ActKind → ℕ → Param → List Event
+written acts.Swap component (params.Source source) = Wrote component ∷ Wrote source ∷ []
+written _ component _ = Wrote component ∷ []
+
+-- with its parameter in force, a write, fetch, copy or swap writes, whether it fails or not
+abbrev pub DirectivesWrite : Type 0
+DirectivesWrite =
+    (kind : ActKind) (param : Param) (place component : ℕ) (state : State) (events : List Event) (ending : Ending)
+    → kind ≢ acts.Invoke → key_number (key_of param) ≡ taken_number (act_code kind)
+    → in_force state.parameters component (key_of param) ≡ Some param
+    → Acts kind place component state events ending ↔ EndsEitherWay (written kind component param) place state events ending
+
+-- without it, it fails and writes nothing
+abbrev pub DirectivesNeed : Type 0
+DirectivesNeed =
+    (kind : ActKind) (key : ParamKey) (place component : ℕ) (state : State) (events : List Event) (ending : Ending)
+    → kind ≢ acts.Invoke → key_number key ≡ taken_number (act_code kind) → in_force state.parameters component key ≡ None
+    → Acts kind place component state events ending ↔ ((events ≡ Failed place ∷ []) × (ending ≡ Directive place))
+
+-- an invoke tells the digest and size in force, as far as there are any, and whether it failed
+abbrev pub InvokesTell : Type 0
+InvokesTell =
+    (place component : ℕ) (digest : Option Digest) (size : Option ℕ) (state : State) (events : List Event) (ending : Ending)
+    → in_force state.parameters component keys.Digest ≡ option_map params.Digest digest
+    → in_force state.parameters component keys.Size ≡ option_map params.Size size
+    → Acts acts.Invoke place component state events ending
+    ↔ (((events ≡ Invoked component digest size true ∷ []) × (ending ≡ Done state))
+    ⊎ ((events ≡ Invoked component digest size false ∷ Failed place ∷ []) × (ending ≡ Directive place)))

@@ -1,0 +1,84 @@
+-- Conditions at one component (draft-ietf-suit-manifest-25, sections 6.4 and 8.4.9).
+use Rattle.std.specs.Prelude.{◌≡◌, ℕ, ◌⊎◌, true, false, List, [], ◌∷◌, Option, Some, None, slice_get}
+use Rattle.suit_params.specs.declared.digest.Digest.{Digest}
+use Rattle.path_model.specs.declared.identity.Identity.{Identity}
+use Rattle.suit_commands.specs.declared.kinds.TestKind.{TestKind}
+use Rattle.suit_commands.specs.declared.kinds.TestKind.TheVariants as tests
+use Rattle.suit_params.specs.declared.param.ParamKey.TheVariants as keys
+use Rattle.path_model.specs.declared.event.Event.{Event}
+use Rattle.path_model.specs.declared.event.Event.TheVariants.{Tried, Matched, Missed, Failed}
+use Rattle.suit_params.specs.InForce.{in_force, identifier_of, number_of, bytes_of, digest_in, size_in}
+use Rattle.path_model.specs.Behaviour.{Behaviour, Done, Condition}
+
+-- it is passed: this event, and the state stays
+abbrev pub Passes : Event → Behaviour
+Passes event state events ending = (events ≡ event ∷ []) × (ending ≡ Done state)
+
+-- it failed: this event, the place of the failure, and the sequence ends
+abbrev pub Fails : ℕ → Event → Behaviour
+Fails place event state events ending =
+    (events ≡ event ∷ Failed place ∷ []) × (ending ≡ Condition place state.soft_failure)
+
+-- ---- conditions on the identity: passed exactly where the parameter is there and the identity
+-- has the same
+
+abbrev pub IsSame : {A : Type 0} → Option A → Option A → Type 0
+IsSame None own = ⊥
+IsSame (Some wanted) own = own ≡ Some wanted
+
+abbrev pub Compares : {A : Type 0} → ℕ → TestKind → ℕ → Option A → Option A → Behaviour
+Compares place kind component wanted own state events ending =
+    (IsSame wanted own × Passes (Tried component kind true) state events ending)
+    ⊎ ((IsSame wanted own → ⊥) × Fails place (Tried component kind false) state events ending)
+
+abbrev pub vendor_of : Option Identity → Option (List ℕ)
+vendor_of None = None
+vendor_of (Some identity) = identity.vendor
+
+abbrev pub class_of : Option Identity → Option (List ℕ)
+class_of None = None
+class_of (Some identity) = identity.class
+
+abbrev pub device_of : Option Identity → Option (List ℕ)
+device_of None = None
+device_of (Some identity) = identity.device
+
+abbrev pub slot_of : Option Identity → Option ℕ
+slot_of None = None
+slot_of (Some identity) = Some identity.slot
+
+-- ---- conditions on the content, which may end either way where their parameter is there
+
+-- under the digest and size in force
+abbrev pub Matches : ℕ → ℕ → Option Digest → Option ℕ → Behaviour
+Matches place component None size state events ending = Fails place (Missed component) state events ending
+Matches place component (Some digest) size state events ending =
+    Passes (Matched component digest size) state events ending ⊎ Fails place (Missed component) state events ending
+
+abbrev pub ChecksContent : ℕ → ℕ → Option (List ℕ) → Behaviour
+ChecksContent place component None state events ending =
+    Fails place (Tried component tests.CheckContent false) state events ending
+ChecksContent place component (Some content) state events ending =
+    Passes (Tried component tests.CheckContent true) state events ending
+    ⊎ Fails place (Tried component tests.CheckContent false) state events ending
+
+-- ---- each condition
+
+abbrev pub Tests : TestKind → List Identity → ℕ → ℕ → Behaviour
+Tests tests.Vendor identities place component state =
+    Compares place tests.Vendor component
+    (identifier_of (in_force state.parameters component keys.Vendor)) (vendor_of (slice_get identities component)) state
+Tests tests.Class identities place component state =
+    Compares place tests.Class component
+    (identifier_of (in_force state.parameters component keys.Class)) (class_of (slice_get identities component)) state
+Tests tests.Device identities place component state =
+    Compares place tests.Device component
+    (identifier_of (in_force state.parameters component keys.Device)) (device_of (slice_get identities component)) state
+Tests tests.Slot identities place component state =
+    Compares place tests.Slot component
+    (number_of (in_force state.parameters component keys.Slot)) (slot_of (slice_get identities component)) state
+Tests tests.ImageMatch identities place component state =
+    Matches place component (digest_in state.parameters component) (size_in state.parameters component) state
+Tests tests.CheckContent identities place component state =
+    ChecksContent place component (bytes_of (in_force state.parameters component keys.Content)) state
+Tests tests.Abort identities place component state = Fails place (Tried component tests.Abort false) state

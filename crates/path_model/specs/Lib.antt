@@ -1,0 +1,14 @@
+pub mod Behaviour
+pub mod Conditions
+pub mod Directives
+pub mod Runs
+pub mod Path
+pub mod Safe
+pub mod Following
+pub mod FirstUncovered
+pub mod BadPaths
+pub mod ParameterLaws
+pub mod CommandLaws
+pub mod RunLaws
+pub mod PathLaws
+pub mod CoverLaws

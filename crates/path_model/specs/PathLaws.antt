@@ -1,0 +1,52 @@
+-- Laws of inner sequences, paths and identities.
+use Rattle.std.specs.Prelude.{◌≡◌, ◌↔◌, ◌<◌, ◌^◌, ℕ, List, ◌++◌, length, get_or, Some, slice_get}
+use Rattle.path_model.specs.declared.identity.Identity.{Identity}
+use Rattle.path_model.specs.declared.event.Event.{Event}
+use Rattle.suit_commands.specs.Tree.{CommandTree, TryEach, RunSequence, PlanTree}
+use Rattle.path_model.specs.Behaviour.{State, Ending, Done, Condition, Directive}
+use Rattle.path_model.specs.Runs.{Does}
+use Rattle.path_model.specs.Path.{AreIdentities, Path}
+
+-- ---- try each and run sequence
+
+abbrev pub HasInner : CommandTree → Type 0
+HasInner (TryEach _) = Unit {0}
+HasInner (RunSequence _) = Unit {0}
+HasInner _ = ⊥
+
+-- the selection and soft failure are the outer ones again
+abbrev pub IsOuter : State → Ending → Type 0
+IsOuter outer (Done state) = (state.selection ≡ outer.selection) × (state.soft_failure ≡ outer.soft_failure)
+IsOuter outer (Condition place soft_failure) = soft_failure ≡ outer.soft_failure
+IsOuter outer (Directive place) = Unit {0}
+
+abbrev pub InnerGoesBack : Type 0
+InnerGoesBack =
+    (command : CommandTree) (identities : List Identity) (count place : ℕ) (state : State) (events : List Event) (ending : Ending)
+    → HasInner command → Does command identities count place state events ending → IsOuter state ending
+
+-- ---- paths
+
+-- each beginning of a path is a path
+abbrev pub PathsBegin : Type 0
+PathsBegin = (plan : PlanTree) (identities : List Identity) (front rest : List Event) → Path plan identities (front ++ rest) → Path plan identities front
+
+-- ---- identities
+
+abbrev pub IsSixteenBytes : List ℕ → Type 0
+IsSixteenBytes id = (length id ≡ 16) × ((i : ℕ) → get_or id i 0 < 256)
+
+-- of the identity at each component
+pub record IsBounded (identity : Identity) : Type 0 where
+  pub slot : identity.slot < 2 ^ 64
+  pub vendor : (id : List ℕ) → identity.vendor ≡ Some id → IsSixteenBytes id
+  pub class : (id : List ℕ) → identity.class ≡ Some id → IsSixteenBytes id
+  pub device : (id : List ℕ) → identity.device ≡ Some id → IsSixteenBytes id
+
+pub record IdentitiesAre (plan : PlanTree) (identities : List Identity) : Type 0 where
+  pub count : length identities ≡ plan.count
+  pub each : (component : ℕ) (identity : Identity) → slice_get identities component ≡ Some identity → IsBounded identity
+
+-- they are all lists with one for each component, of that many bytes and bits, and no others
+abbrev pub IdentitiesBounded : Type 0
+IdentitiesBounded = (plan : PlanTree) (identities : List Identity) → AreIdentities plan identities ↔ IdentitiesAre plan identities

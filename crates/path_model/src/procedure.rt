@@ -1,0 +1,10 @@
+//! Which procedure of a manifest.
+
+/// Which of the two procedures of a manifest.
+#[derive(Clone, Copy, Debug, PartialEq, Eq)]
+pub enum Procedure {
+    /// Payload-fetch, install and validate.
+    Update,
+    /// Validate, load and invoke.
+    Invocation,
+}
