@@ -5,3 +5,4 @@ pub mod Manifests
 pub mod Procedures
 pub mod MembersApart
 pub mod MembersLaws
+pub mod ProcedureLaws
