@@ -8,3 +8,4 @@ pub mod ManifestValid
 pub mod ManifestSays
 pub mod ManifestWritten
 pub mod Grammatical
+pub mod ProcedureSteps

@@ -7,3 +7,4 @@ pub mod MembersApart
 pub mod MembersLaws
 pub mod ManifestMaking
 pub mod ManifestWriting
+pub mod ProcedureLaws

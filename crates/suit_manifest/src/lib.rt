@@ -11,6 +11,7 @@ mod pair_counts;
 mod pieces;
 mod plans;
 mod rows;
+mod procedure_law;
 mod severable;
 
 pub use encode::encode_manifest;
@@ -19,6 +20,7 @@ pub use manifest::{Manifest, Member, Members, TextMember};
 pub use members::{MemberFault, members_of};
 pub use members_law::members_laws;
 pub use plans::{invocation_plan, update_plan};
+pub use procedure_law::procedure_laws;
 
 #[cfg(test)]
 mod manifest_makers;

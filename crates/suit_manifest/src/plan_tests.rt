@@ -3,7 +3,7 @@
 ghost use Rattle.std.specs.Prelude.{◌≡◌, length, IfOk};
 
 use crate::manifest_makers::manifest_with;
-use crate::{Manifest, Member, Members, invocation_plan, update_plan};
+use crate::{Manifest, Member, Members, invocation_plan, procedure_laws, update_plan};
 use std::alloc::{AllocError, Global};
 use std::test::Fail;
 use suit_commands::{Command, Plan, Sequence, Step, TestKind};
@@ -53,6 +53,7 @@ fn first_places(plan: &Plan<'_>) -> (u64, u64, u64, u64) {
 
 #[test]
 fn an_update_takes_members_wherever_they_stand(rt: HostRuntime) -> Result<(), Fail> {
+    procedure_laws();
     let alloc = rt.alloc();
     let own = Member::Here(sequence(alloc, 4)?);
     let apart = Member::Apart(Digest { bytes: [0; 32] });

@@ -1,0 +1,9 @@
+//! What holds of the procedures of a manifest.
+
+ghost use Rattle.suit_manifest.specs.ProcedureLaws.{ProcedureLaws};
+
+/// Does nothing. Its contract has the laws: both procedures of a manifest of the grammar are
+/// procedures of the grammar, of one to eight components.
+pub fn procedure_laws()
+    ensures { ProcedureLaws }
+{}
