@@ -1,6 +1,6 @@
 -- What the members of a manifest have in common (draft-ietf-suit-manifest-25, section 8.4.5): the components, and the
 -- shared sequence.
-use Rattle.std.specs.Prelude.{◌≡◌, ◌≢◌, ◌⊎◌, ℕ, true, List, [], ◌∷◌, length, Option}
+use Rattle.std.specs.Prelude.{◌≡◌, ℕ, true, List, [], ◌∷◌, length, Option}
 use Rattle.det_cbor.specs.DataItem.{DataItem, UnsignedInteger}
 use Rattle.suit_params.specs.declared.refusal.Refusal.{Refusal}
 use Rattle.suit_params.specs.Refusing.{Refuses, SaysHeld, RefusesHeld}

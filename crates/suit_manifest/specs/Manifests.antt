@@ -1,6 +1,6 @@
 -- The manifest (draft-ietf-suit-manifest-25, section 8.4).
 use Rattle.std.specs.Prelude.{◌≡◌, ◌≢◌, ℕ, false, List, [], ◌∷◌, length, None}
-use Rattle.det_cbor.specs.DataItem.{DataItem, UnsignedInteger, TextString, ArrayOf, Spells}
+use Rattle.det_cbor.specs.DataItem.{DataItem, UnsignedInteger, TextString}
 use Rattle.suit_params.specs.declared.refusal.Refusal.{Refusal}
 use Rattle.suit_params.specs.declared.refusal.Why.TheVariants.{Shape, Version}
 use Rattle.suit_params.specs.Refusing.{refused, Refuses, Says, SaysHeld, RefusesHeld}
