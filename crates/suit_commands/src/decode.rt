@@ -49,6 +49,7 @@ pub fn decode_sequence(
     count: u32,
 ) -> Result<Sequence, Fault>
     requires { place + length bytes.now < 2 ^ 64 }
+    ensures exact { Gives (λ s. s) result (whole_sequence shared count 7 (record { left = bytes.now; place = place })) }
     ensures ok { IfOk result (λ s. SaysWhole (SaysSequence shared count 8) place bytes.now s) }
     ensures refused { IfErr result (IsFaultBy (RefusesWhole (RefusesSequence shared count 8) place bytes.now)) }
     ensures every_sequence { (s : SequenceTree) → SaysWhole (SaysSequence shared count 8) place bytes.now s → IsReadAs s result }
