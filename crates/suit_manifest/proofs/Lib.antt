@@ -4,3 +4,13 @@ pub mod Arrays
 pub mod Likeness
 pub mod ComponentsJudging
 pub mod ComponentsReads
+pub mod FieldSteps
+pub mod MapLaws
+pub mod CommonJudging
+pub mod CommonReads
+pub mod ValueJudging
+pub mod LaterJudging
+pub mod ManifestJudging
+pub mod ManifestReads
+pub mod ManifestAnswers
+pub mod ManifestLawProofs

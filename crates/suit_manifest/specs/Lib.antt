@@ -5,3 +5,8 @@ pub mod Manifests
 pub mod Elements
 pub mod ComponentsJudging
 pub mod ComponentsReading
+pub mod MapReading
+pub mod CommonReading
+pub mod ManifestJudging
+pub mod ManifestReading
+pub mod ManifestLaws
