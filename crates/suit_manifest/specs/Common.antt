@@ -1,7 +1,7 @@
 -- What the members of a manifest have in common (draft-ietf-suit-manifest-25, section 8.4.5): the components, and the
 -- shared sequence.
-use Rattle.std.specs.Prelude.{◌≡◌, ◌≢◌, ◌⊎◌, ℕ, true, List, [], ◌∷◌, length, Option}
-use Rattle.det_cbor.specs.DataItem.{DataItem, UnsignedInteger}
+use Rattle.std.specs.Prelude.{ℕ, true, List, [], ◌∷◌, length, Option}
+use Rattle.det_cbor.specs.DataItem.{DataItem}
 use Rattle.suit_params.specs.declared.refusal.Refusal.{Refusal}
 use Rattle.suit_params.specs.Refusing.{Refuses, SaysHeld, RefusesHeld}
 use Rattle.suit_commands.specs.Tree.{SequenceTree}
@@ -10,7 +10,7 @@ use Rattle.suit_commands.specs.Sequences.{SaysSequence}
 use Rattle.suit_commands.specs.SequenceFaults.{RefusesSequence}
 use Rattle.suit_envelope.specs.Envelopes.{Entry}
 use Rattle.suit_manifest.specs.Components.{IsComponents, RefusesComponents}
-use Rattle.suit_manifest.specs.Maps.{entries_of, HasKeys, SaysUnder, MaySayUnder, RefusesMap}
+use Rattle.suit_manifest.specs.Maps.{entries_of, HasKeys, SaysUnder, MaySayUnder, RefusesUnder, RefusesMap}
 
 pub record CommonSays : Type 0 where
   pub components : List (List (List ℕ))
@@ -29,15 +29,9 @@ pub record IsCommon (place : ℕ) (x : DataItem) (said : CommonSays) : Type 0 wh
 
 -- ---- what is refused
 
-pub data IsCommonValue (es : List Entry) (e : Entry) : Type 0 where
-  ComponentsValue : (ids : List (List (List ℕ))) → e.key ≡ UnsignedInteger 2 → IsComponents e.value_place e.value ids → IsCommonValue es e
-  SharedValue : (ids : List (List (List ℕ))) (s : SequenceTree) → e.key ≡ UnsignedInteger 4 → SaysUnder 2 IsComponents es ids
-      → SaysShared (length ids) e.value_place e.value s → IsCommonValue es e
-
-pub data RefusesCommonValue (es : List Entry) (e : Entry) : Refusal → Type 0 where
-  BadComponentsValue : (r : Refusal) → e.key ≡ UnsignedInteger 2 → RefusesComponents e.value_place e.value r → RefusesCommonValue es e r
-  BadShared : (ids : List (List (List ℕ))) (r : Refusal) → e.key ≡ UnsignedInteger 4 → SaysUnder 2 IsComponents es ids
-      → RefusesHeld (RefusesSequence true (length ids) levels_allowed) e.value_place e.value r → RefusesCommonValue es e r
+pub data RefusesCommonValues (es : List Entry) (r : Refusal) : Type 0 where
+  BadIdentifiers : RefusesUnder 2 RefusesComponents es r → RefusesCommonValues es r
+  BadShared : (ids : List (List (List ℕ))) → SaysUnder 2 IsComponents es ids → RefusesUnder 4 (RefusesHeld (RefusesSequence true (length ids) levels_allowed)) es r → RefusesCommonValues es r
 
 abbrev pub RefusesCommon : Refuses
-RefusesCommon place x r = RefusesMap common_keys (2 ∷ []) RefusesCommonValue IsCommonValue place x r
+RefusesCommon place x r = RefusesMap common_keys (2 ∷ []) RefusesCommonValues place x r

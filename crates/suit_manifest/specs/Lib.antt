@@ -8,3 +8,11 @@ pub mod MembersLaws
 pub mod ManifestMaking
 pub mod ManifestWriting
 pub mod ProcedureLaws
+pub mod Elements
+pub mod ComponentsJudging
+pub mod ComponentsReading
+pub mod MapReading
+pub mod CommonReading
+pub mod ManifestJudging
+pub mod ManifestReading
+pub mod ManifestLaws

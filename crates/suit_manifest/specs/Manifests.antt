@@ -1,9 +1,9 @@
 -- The manifest (draft-ietf-suit-manifest-25, section 8.4).
-use Rattle.std.specs.Prelude.{◌≡◌, ◌≢◌, ℕ, false, List, [], ◌∷◌, length, None}
-use Rattle.det_cbor.specs.DataItem.{DataItem, UnsignedInteger, TextString, ArrayOf, Spells}
+use Rattle.std.specs.Prelude.{◌≡◌, ◌≢◌, ℕ, false, List, [], ◌∷◌, length, Option, None}
+use Rattle.det_cbor.specs.DataItem.{DataItem, UnsignedInteger, TextString}
 use Rattle.suit_params.specs.declared.refusal.Refusal.{Refusal}
 use Rattle.suit_params.specs.declared.refusal.Why.TheVariants.{Shape, Version}
-use Rattle.suit_params.specs.Refusing.{refused, Refuses, Says, SaysHeld, RefusesHeld}
+use Rattle.suit_params.specs.Refusing.{refused, Refuses, Says, SaysHeld, RefusesHeld, RefusesFirst}
 use Rattle.suit_params.specs.Digests.{IsDigest, RefusesDigest}
 use Rattle.suit_commands.specs.Tree.{SequenceTree}
 use Rattle.suit_commands.specs.Allowed.{levels_allowed}
@@ -18,7 +18,7 @@ use Rattle.suit_manifest.specs.declared.manifest.TextMember.{TextMember}
 use Rattle.suit_manifest.specs.declared.manifest.TextMember.TheVariants as texts
 use Rattle.suit_manifest.specs.Components.{IsArray}
 use Rattle.suit_manifest.specs.Common.{CommonSays, IsCommon, RefusesCommon}
-use Rattle.suit_manifest.specs.Maps.{entries_of, entry_under, HasKeys, SaysUnder, MaySayUnder, RefusesMap}
+use Rattle.suit_manifest.specs.Maps.{entries_of, entry_under, HasKeys, SaysUnder, MaySayUnder, RefusesUnder, RefusesMap}
 
 abbrev pub manifest_keys : List ℕ
 manifest_keys = 1 ∷ 2 ∷ 3 ∷ 4 ∷ 7 ∷ 8 ∷ 9 ∷ 16 ∷ 20 ∷ 23 ∷ []
@@ -111,37 +111,44 @@ RefusesNothing place x r = ⊥
 abbrev pub RefusesItem : Refuses
 RefusesItem place x r = RefusesHeld RefusesNothing place x r
 
--- keys of sequences that the manifest alone holds, and of those that may stand apart
-pub data IsMemberKey : ℕ → Type 0 where
-  IsValidateKey : IsMemberKey 7
-  IsLoadKey : IsMemberKey 8
-  IsInvokeKey : IsMemberKey 9
+-- the values after common, which may be there
+pub data LaterKey : Type 0 where
+  ReferenceKey : LaterKey
+  ValidateKey : LaterKey
+  LoadKey : LaterKey
+  InvokeKey : LaterKey
+  PayloadFetchKey : LaterKey
+  InstallKey : LaterKey
+  TextKey : LaterKey
 
-pub data IsSeveredKey : ℕ → Type 0 where
-  IsPayloadFetchKey : IsSeveredKey 16
-  IsInstallKey : IsSeveredKey 20
+-- what is said and refused under one, where there are so many components
+abbrev pub SaysLater : ℕ → List Entry → LaterKey → Type 0
+SaysLater count es ReferenceKey = (said : Option (List ℕ)) × MaySayUnder 4 SaysText es said
+SaysLater count es ValidateKey = (said : Option SequenceTree) × MaySayUnder 7 (SaysMember count) es said
+SaysLater count es LoadKey = (said : Option SequenceTree) × MaySayUnder 8 (SaysMember count) es said
+SaysLater count es InvokeKey = (said : Option SequenceTree) × MaySayUnder 9 (SaysMember count) es said
+SaysLater count es PayloadFetchKey = (said : Member) × SeveredUnder 16 count es said
+SaysLater count es InstallKey = (said : Member) × SeveredUnder 20 count es said
+SaysLater count es TextKey = (said : TextMember) × TextUnder es said
 
-pub data IsManifestValue (es : List Entry) (e : Entry) : Type 0 where
-  VersionValue : e.key ≡ UnsignedInteger 1 → IsVersion e.value_place e.value 1 → IsManifestValue es e
-  NumberValue : (n : ℕ) → e.key ≡ UnsignedInteger 2 → SaysNumber e.value_place e.value n → IsManifestValue es e
-  CommonValue : (common : CommonSays) → e.key ≡ UnsignedInteger 3 → SaysHeld IsCommon e.value_place e.value common → IsManifestValue es e
-  ReferenceValue : (text : List ℕ) → e.key ≡ UnsignedInteger 4 → SaysText e.value_place e.value text → IsManifestValue es e
-  MemberValue : (n : ℕ) (common : CommonSays) (s : SequenceTree) → IsMemberKey n → e.key ≡ UnsignedInteger n → SaysUnder 3 (SaysHeld IsCommon) es common
-      → SaysMember (length common.components) e.value_place e.value s → IsManifestValue es e
-  SeveredValue : (n : ℕ) (common : CommonSays) (m : Member) → IsSeveredKey n → e.key ≡ UnsignedInteger n → SaysUnder 3 (SaysHeld IsCommon) es common
-      → SaysSevered (length common.components) e.value_place e.value m → IsManifestValue es e
-  TextValue : (text : TextMember) → e.key ≡ UnsignedInteger 23 → SaysTextMember e.value_place e.value text → IsManifestValue es e
+abbrev pub RefusesLater : ℕ → List Entry → LaterKey → Refusal → Type 0
+RefusesLater count es ReferenceKey r = RefusesUnder 4 RefusesText es r
+RefusesLater count es ValidateKey r = RefusesUnder 7 (RefusesMember count) es r
+RefusesLater count es LoadKey r = RefusesUnder 8 (RefusesMember count) es r
+RefusesLater count es InvokeKey r = RefusesUnder 9 (RefusesMember count) es r
+RefusesLater count es PayloadFetchKey r = RefusesUnder 16 (RefusesApart (RefusesMember count)) es r
+RefusesLater count es InstallKey r = RefusesUnder 20 (RefusesApart (RefusesMember count)) es r
+RefusesLater count es TextKey r = RefusesUnder 23 (RefusesApart RefusesItem) es r
 
-pub data RefusesManifestValue (es : List Entry) (e : Entry) : Refusal → Type 0 where
-  BadVersion : (r : Refusal) → e.key ≡ UnsignedInteger 1 → RefusesVersion e.value_place e.value r → RefusesManifestValue es e r
-  BadNumber : (r : Refusal) → e.key ≡ UnsignedInteger 2 → RefusesNumber e.value_place e.value r → RefusesManifestValue es e r
-  BadCommon : (r : Refusal) → e.key ≡ UnsignedInteger 3 → RefusesHeld RefusesCommon e.value_place e.value r → RefusesManifestValue es e r
-  BadReference : (r : Refusal) → e.key ≡ UnsignedInteger 4 → RefusesText e.value_place e.value r → RefusesManifestValue es e r
-  BadMember : (n : ℕ) (common : CommonSays) (r : Refusal) → IsMemberKey n → e.key ≡ UnsignedInteger n → SaysUnder 3 (SaysHeld IsCommon) es common
-      → RefusesMember (length common.components) e.value_place e.value r → RefusesManifestValue es e r
-  BadSevered : (n : ℕ) (common : CommonSays) (r : Refusal) → IsSeveredKey n → e.key ≡ UnsignedInteger n → SaysUnder 3 (SaysHeld IsCommon) es common
-      → RefusesApart (RefusesMember (length common.components)) e.value_place e.value r → RefusesManifestValue es e r
-  BadText : (r : Refusal) → e.key ≡ UnsignedInteger 23 → RefusesApart RefusesItem e.value_place e.value r → RefusesManifestValue es e r
+abbrev pub later_keys : List LaterKey
+later_keys = ReferenceKey ∷ ValidateKey ∷ LoadKey ∷ InvokeKey ∷ PayloadFetchKey ∷ InstallKey ∷ TextKey ∷ []
+
+pub data RefusesManifestValues (es : List Entry) (r : Refusal) : Type 0 where
+  BadVersion : RefusesUnder 1 RefusesVersion es r → RefusesManifestValues es r
+  BadNumber : SaysUnder 1 IsVersion es 1 → RefusesUnder 2 RefusesNumber es r → RefusesManifestValues es r
+  BadCommon : (n : ℕ) → SaysUnder 1 IsVersion es 1 → SaysUnder 2 SaysNumber es n → RefusesUnder 3 (RefusesHeld RefusesCommon) es r → RefusesManifestValues es r
+  BadLater : (n : ℕ) (common : CommonSays) → SaysUnder 1 IsVersion es 1 → SaysUnder 2 SaysNumber es n → SaysUnder 3 (SaysHeld IsCommon) es common
+      → RefusesFirst (RefusesLater (length common.components) es) (SaysLater (length common.components) es) later_keys r → RefusesManifestValues es r
 
 abbrev pub RefusesManifest : Refuses
-RefusesManifest place x r = RefusesMap manifest_keys required_keys RefusesManifestValue IsManifestValue place x r
+RefusesManifest place x r = RefusesMap manifest_keys required_keys RefusesManifestValues place x r

@@ -1,10 +1,10 @@
 -- Maps whose keys are numbers of a table: what is said and refused of them.
-use Rattle.std.specs.Prelude.{◌≡◌, ◌⊎◌, ℕ, true, List, [], ◌∷◌, Option, Some, None, if◌then◌else◌}
+use Rattle.std.specs.Prelude.{◌≡◌, ℕ, true, List, [], ◌∷◌, Option, Some, None, if◌then◌else◌}
 use Rattle.std.specs.List.{AllByRecursion}
 use Rattle.det_cbor.specs.DataItem.{DataItem, UnsignedInteger, MapOf, DataPairs}
 use Rattle.suit_params.specs.declared.refusal.Refusal.{Refusal}
 use Rattle.suit_params.specs.declared.refusal.Why.TheVariants.{Shape, UnknownKey}
-use Rattle.suit_params.specs.Refusing.{refused, Says, RefusesFirst}
+use Rattle.suit_params.specs.Refusing.{refused, Says, Refuses, RefusesFirst}
 use Rattle.suit_params.specs.Params.{pairs_place, IsMap}
 use Rattle.suit_commands.specs.Selections.{Among}
 use Rattle.suit_envelope.specs.Envelopes.{Entry, entries, is_number, has_key, RefusesLack}
@@ -40,17 +40,23 @@ abbrev pub MaySayUnder : {A : Type 0} → ℕ → Says A → List Entry → Opti
 MaySayUnder n form es None = entry_under n es ≡ None
 MaySayUnder n form es (Some said) = SaysUnder n form es said
 
--- ---- what is refused: unknown keys first, then missing ones, then values in their order
+-- what stands under a number is refused for this reason
+pub record RefusesUnder (n : ℕ) (bad : Refuses) (es : List Entry) (r : Refusal) : Type 0 where
+  pub entry : Entry
+  pub there : entry_under n es ≡ Some entry
+  pub refuses : bad entry.value_place entry.value r
+
+-- ---- what is refused: unknown keys first, then missing ones, then values in their order. Keys ascend in a map, so the
+-- order of the values is that of the numbers of their keys
 
 pub data RefusesOtherKey (keys : List ℕ) (e : Entry) : Refusal → Type 0 where
   OtherKey : (IsKeyAmong keys e → ⊥) → RefusesOtherKey keys e (refused e.key_place UnknownKey)
 
-pub data RefusesMap (keys required : List ℕ) (bad : List Entry → Entry → Refusal → Type 0) (good : List Entry → Entry → Type 0) (place : ℕ) : DataItem → Refusal → Type 0 where
-  NoMap : (x : DataItem) → (IsMap x → ⊥) → RefusesMap keys required bad good place x (refused place Shape)
-  BadKey : (pairs : DataPairs) (r : Refusal) → RefusesFirst (RefusesOtherKey keys) (IsKeyAmong keys) (entries_of place pairs) r → RefusesMap keys required bad good place (MapOf pairs) r
+pub data RefusesMap (keys required : List ℕ) (values : List Entry → Refusal → Type 0) (place : ℕ) : DataItem → Refusal → Type 0 where
+  NoMap : (x : DataItem) → (IsMap x → ⊥) → RefusesMap keys required values place x (refused place Shape)
+  BadKey : (pairs : DataPairs) (r : Refusal) → RefusesFirst (RefusesOtherKey keys) (IsKeyAmong keys) (entries_of place pairs) r → RefusesMap keys required values place (MapOf pairs) r
   LacksKey : (pairs : DataPairs) (r : Refusal) → AllByRecursion (IsKeyAmong keys) (entries_of place pairs)
       → RefusesFirst (RefusesLack place (entries_of place pairs)) (λ n. has_key n (entries_of place pairs) ≡ true) required r
-      → RefusesMap keys required bad good place (MapOf pairs) r
-  BadValue : (pairs : DataPairs) (r : Refusal) → HasKeys keys required place (MapOf pairs)
-      → RefusesFirst (bad (entries_of place pairs)) (good (entries_of place pairs)) (entries_of place pairs) r
-      → RefusesMap keys required bad good place (MapOf pairs) r
+      → RefusesMap keys required values place (MapOf pairs) r
+  BadValue : (pairs : DataPairs) (r : Refusal) → AllByRecursion (IsKeyAmong keys) (entries_of place pairs) → AllByRecursion (λ n. has_key n (entries_of place pairs) ≡ true) required
+      → values (entries_of place pairs) r → RefusesMap keys required values place (MapOf pairs) r

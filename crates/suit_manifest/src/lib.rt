@@ -1,21 +1,34 @@
-//! Manifests (draft-ietf-suit-manifest-25, section 8.4).
+//! Manifests (draft-ietf-suit-manifest-25, section 8.4): how they are read and written, their members that stand apart,
+//! and their two procedures.
 #![tactic(auto)]
 
+mod alike;
+mod common;
+mod components;
+mod decode;
 mod encode;
 mod encode_components;
 mod encode_law;
+mod fields;
+mod heads;
+mod later;
+mod law;
 mod manifest;
 mod members;
 mod members_law;
 mod pair_counts;
 mod pieces;
 mod plans;
-mod rows;
 mod procedure_law;
+mod rows;
 mod severable;
+mod values;
 
+pub use components::MAX_COMPONENTS;
+pub use decode::decode_manifest;
 pub use encode::encode_manifest;
 pub use encode_law::grammatical_manifests;
+pub use law::manifest_laws;
 pub use manifest::{Manifest, Member, Members, TextMember};
 pub use members::{MemberFault, members_of};
 pub use members_law::members_laws;
@@ -28,3 +41,5 @@ mod manifest_makers;
 mod member_tests;
 #[cfg(test)]
 mod plan_tests;
+#[cfg(test)]
+mod tests;

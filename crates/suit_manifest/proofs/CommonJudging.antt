@@ -1,0 +1,163 @@
+-- The judgement of the common part is that of the grammar and the refusals.
+use Rattle.std.proofs.Common.{◌≡◌, ℕ, ◌+◌, Bool, true, List, [], ◌∷◌, length, None, Result, Ok, Err, refl, sym, ap, subst, ◌∙◌}
+use Rattle.std.specs.List.{AllByRecursion}
+use Rattle.det_cbor.specs.DataItem.{DataItem, MapOf, DataPairs, IsValidWithin}
+use Rattle.det_cbor.specs.HeadReading.{◌>>=◌}
+use Rattle.det_cbor.proofs.Results.{bind_ok, bind_err, same_ok, same_err}
+use Rattle.suit_params.specs.declared.refusal.Refusal.{Refusal}
+use Rattle.suit_params.specs.declared.refusal.Why.TheVariants.{Shape}
+use Rattle.suit_params.specs.Refusing.{refused, SaysHeld, RefusesHeld, Here, Later, RefusesFirst}
+use Rattle.suit_params.specs.Params.{pairs_place, IsMap}
+use Rattle.suit_params.specs.Judging.{judge_held, judge_each}
+use Rattle.suit_params.proofs.Judgements.{Judges}
+use Rattle.suit_params.proofs.Held.{held_judges, Anything, all_anything, each_ok, each_again, each_err, each_refused}
+use Rattle.suit_commands.specs.Sequences.{SaysSequence}
+use Rattle.suit_commands.specs.SequenceFaults.{RefusesSequence}
+use Rattle.suit_commands.specs.SequenceJudging.{judge_sequence}
+use Rattle.suit_commands.specs.Tree.{SequenceTree}
+use Rattle.suit_commands.proofs.SequenceJudging.{sequence_judges}
+use Rattle.suit_envelope.specs.Envelopes.{Entry, has_key, RefusesLack, LacksKey as Lack}
+use Rattle.suit_manifest.specs.Maps.{entries_of, IsKeyAmong, entry_under, SaysUnder, MaySayUnder, RefusesOtherKey, NoMap, BadKey, LacksKey, BadValue}
+use Rattle.suit_manifest.specs.Common.{CommonSays, common_keys, SaysShared, IsCommon, RefusesCommonValues, BadIdentifiers, BadShared, RefusesCommon}
+use Rattle.suit_manifest.specs.Components.{IsComponents, RefusesComponents}
+use Rattle.suit_manifest.specs.ComponentsJudging.{judge_components}
+use Rattle.suit_manifest.specs.MapReading.{judge_entry, needed, judge_at, may}
+use Rattle.suit_manifest.specs.CommonReading.{judge_shared, judge_common_values, judge_common_pairs, judge_common}
+use Rattle.suit_manifest.proofs.Arrays.{by_map}
+use Rattle.suit_manifest.proofs.ComponentsJudging.{components_judge}
+use Rattle.suit_manifest.proofs.MapLaws.{keys_judge, none_lacks, some_has, lacks_none, needed_ok, needed_err, Fits, entries_fit, at_ok, at_err, need_again, need_refused, may_ok, may_again, may_err, may_refused}
+
+-- a byte string that holds a sequence, for so many components
+pub held_sequence_judges : (shared : Bool) (count : ℕ) → Judges (judge_held (judge_sequence shared count 7)) (SaysHeld (SaysSequence shared count 8)) (RefusesHeld (RefusesSequence shared count 8))
+held_sequence_judges shared count = held_judges (judge_sequence shared count 7) (SaysSequence shared count 8) (RefusesSequence shared count 8) (sequence_judges shared count 7)
+
+abbrev ShareSays : ℕ → ℕ → DataItem → SequenceTree → Type 0
+ShareSays count = SaysHeld (SaysSequence true count 8)
+
+abbrev ShareForm : ℕ → ℕ → DataItem → Refusal → Type 0
+ShareForm count = RefusesHeld (RefusesSequence true count 8)
+
+abbrev Known : List Entry → Type 0
+Known es = AllByRecursion (IsKeyAmong common_keys) es
+
+record ValuesSay (es : List Entry) (said : CommonSays) : Type 0 where
+  components : SaysUnder 2 IsComponents es said.components
+  shared : MaySayUnder 4 (SaysShared (length said.components)) es said.shared
+
+values_ok : (levels place : ℕ) (es : List Entry) (said : CommonSays) → AllByRecursion (Fits levels) es → judge_common_values place es ≡ Ok said → ValuesSay es said
+values_ok levels place es said all e =
+    bind_ok (needed place 2 (entry_under 2 es)) _ said e (λ a a-is f. bind_ok (judge_at judge_components a) _ said f (λ ids ids-is g. bind_ok (may (judge_at (judge_shared (length ids))) (entry_under 4 es)) _ said g (λ shared shared-is h.
+    subst (ValuesSay es) (same_ok _ said h) (record {
+      components = at_ok judge_components IsComponents RefusesComponents components_judge levels 2 es a ids all (needed_ok place 2 (entry_under 2 es) a a-is) ids-is;
+      shared = may_ok (judge_shared (length ids)) (ShareSays (length ids)) (ShareForm (length ids)) (held_sequence_judges true (length ids)) levels 4 es shared all shared-is;
+    }))))
+
+values_again : (place : ℕ) (es : List Entry) (said : CommonSays) → ValuesSay es said → judge_common_values place es ≡ Ok said
+values_again place es said so =
+    let ids = said.components in
+    let first = need_again judge_components IsComponents RefusesComponents components_judge place 2 es ids so.components in
+    let second = may_again (judge_shared (length ids)) (ShareSays (length ids)) (ShareForm (length ids)) (held_sequence_judges true (length ids)) 4 es said.shared so.shared in
+    both (needed place 2 (entry_under 2 es)) ids first ∙ rw second refl
+  where
+    rest : List (List (List ℕ)) → Result CommonSays Refusal
+    rest ids = may (judge_at (judge_shared (length ids))) (entry_under 4 es) >>= λ shared. Ok (record { components = ids; shared = shared })
+
+    both : (r : Result Entry Refusal) (ids : List (List (List ℕ))) → (r >>= judge_at judge_components) ≡ Ok ids → (r >>= λ a. judge_at judge_components a >>= rest) ≡ rest ids
+    both (Ok a) ids e = ap (λ (t : Result (List (List (List ℕ))) Refusal). t >>= rest) e
+    both (Err r) ids e = absurd cc
+
+data BadCommon (place : ℕ) (es : List Entry) (r : Refusal) : Type 0 where
+  ItLacks : RefusesFirst (RefusesLack place es) (λ n. has_key n es ≡ true) (2 ∷ []) r → BadCommon place es r
+  ItRefuses : has_key 2 es ≡ true → RefusesCommonValues es r → BadCommon place es r
+
+values_err : (levels place : ℕ) (es : List Entry) (r : Refusal) → AllByRecursion (Fits levels) es → judge_common_values place es ≡ Err r → BadCommon place es r
+values_err levels place es r all e =
+    bind_err (needed place 2 (entry_under 2 es)) _ r e
+    (λ f. let found = needed_err place 2 (entry_under 2 es) r f in subst (BadCommon place es) found.1 (ItLacks (Here 2 [] _ (Lack (none_lacks 2 es found.0)))))
+    (λ a a-is f. let there = needed_ok place 2 (entry_under 2 es) a a-is in bind_err (judge_at judge_components a) _ r f
+    (λ g. ItRefuses (some_has 2 es a there) (BadIdentifiers (at_err judge_components IsComponents RefusesComponents components_judge levels 2 es a r all there g)))
+    (λ ids ids-is g. bind_err (may (judge_at (judge_shared (length ids))) (entry_under 4 es)) _ r g
+    (λ h. ItRefuses (some_has 2 es a there) (BadShared ids (at_ok judge_components IsComponents RefusesComponents components_judge levels 2 es a ids all there ids-is)
+    (may_err (judge_shared (length ids)) (ShareSays (length ids)) (ShareForm (length ids)) (held_sequence_judges true (length ids)) levels 4 es r all h)))
+    (λ shared shared-is h. absurd cc)))
+
+-- the identifiers that were judged, and what follows
+after_ids : (place : ℕ) (es : List Entry) (z : Result CommonSays Refusal) (ids : List (List (List ℕ))) → (needed place 2 (entry_under 2 es) >>= judge_at judge_components) ≡ Ok ids
+    → (may (judge_at (judge_shared (length ids))) (entry_under 4 es) >>= λ shared. Ok (record { components = ids; shared = shared })) ≡ z → judge_common_values place es ≡ z
+after_ids place es z ids e f = both (needed place 2 (entry_under 2 es)) e ∙ f
+  where
+    rest : List (List (List ℕ)) → Result CommonSays Refusal
+    rest ids = may (judge_at (judge_shared (length ids))) (entry_under 4 es) >>= λ shared. Ok (record { components = ids; shared = shared })
+
+    both : (r : Result Entry Refusal) → (r >>= judge_at judge_components) ≡ Ok ids → (r >>= λ a. judge_at judge_components a >>= rest) ≡ rest ids
+    both (Ok a) e = ap (λ (t : Result (List (List (List ℕ))) Refusal). t >>= rest) e
+    both (Err r) e = absurd cc
+
+values_refused : (place : ℕ) (es : List Entry) (r : Refusal) → RefusesCommonValues es r → judge_common_values place es ≡ Err r
+values_refused place es r (BadIdentifiers bad) = by_need (needed place 2 (entry_under 2 es)) (need_refused judge_components IsComponents RefusesComponents components_judge place 2 es r bad)
+  where
+    rest : List (List (List ℕ)) → Result CommonSays Refusal
+    rest ids = may (judge_at (judge_shared (length ids))) (entry_under 4 es) >>= λ shared. Ok (record { components = ids; shared = shared })
+
+    by_need : (t : Result Entry Refusal) → (t >>= judge_at judge_components) ≡ Err r → (t >>= λ a. judge_at judge_components a >>= rest) ≡ Err r
+    by_need (Ok a) e = ap (λ (u : Result (List (List (List ℕ))) Refusal). u >>= rest) e
+    by_need (Err s) e = let same = same_err s r e in ap (λ (u : Refusal). Err u) same
+values_refused place es r (BadShared ids so bad) =
+    let first = need_again judge_components IsComponents RefusesComponents components_judge place 2 es ids so in
+    let second = may_refused (judge_shared (length ids)) (ShareSays (length ids)) (ShareForm (length ids)) (held_sequence_judges true (length ids)) 4 es r bad in
+    after_ids place es (Err r) ids first (rw second refl)
+
+lack_refused : (place : ℕ) (es : List Entry) (r : Refusal) → RefusesFirst (RefusesLack place es) (λ n. has_key n es ≡ true) (2 ∷ []) r → judge_common_values place es ≡ Err r
+lack_refused place es r (Here n rest s (Lack lacks)) = rw (lacks_none 2 es lacks) refl
+lack_refused place es r (Later n rest s has later) = absurd (nothing later)
+  where
+    nothing : RefusesFirst (RefusesLack place es) (λ n. has_key n es ≡ true) [] r → ⊥
+    nothing later = elim later [ ]
+
+-- ---- the map
+
+pub pairs_fit : (levels place : ℕ) (pairs : DataPairs) → IsValidWithin levels (MapOf pairs) → AllByRecursion (Fits (levels + 1)) (entries_of place pairs)
+pairs_fit levels place pairs valid = entries_fit (levels + 1) (pairs_place place pairs) None pairs valid.2
+
+known_ok : (es : List Entry) → judge_each (judge_entry common_keys) es ≡ Ok tt → Known es
+known_ok es e = each_ok Anything (judge_entry common_keys) (IsKeyAmong common_keys) (RefusesOtherKey common_keys) (keys_judge common_keys) es (all_anything es) e
+
+known_again : (es : List Entry) → Known es → judge_each (judge_entry common_keys) es ≡ Ok tt
+known_again es known = each_again Anything (judge_entry common_keys) (IsKeyAmong common_keys) (RefusesOtherKey common_keys) (keys_judge common_keys) es known
+
+common_ok : (levels place : ℕ) (x : DataItem) (said : CommonSays) → IsValidWithin levels x → judge_common place x ≡ Ok said → IsCommon place x said
+common_ok levels place x said valid e =
+    by_map CommonSays (λ (y : DataItem). IsValidWithin levels y → judge_common place y ≡ Ok said → IsCommon place y said)
+    (λ pairs v f. let es = entries_of place pairs in bind_ok (judge_each (judge_entry common_keys) es) _ said f (λ done done-is g.
+    let so = values_ok (levels + 1) place es said (pairs_fit levels place pairs v) g in
+    record { map = record { pairs = pairs; is = refl; known = known_ok es done-is; complete = (some_has 2 es so.components.entry so.components.there, tt) }; components = so.components; shared = so.shared }))
+    (λ y o v f. let never = sym (o.judged judge_common_pairs place) ∙ f in absurd cc)
+    x valid e
+
+common_again : (place : ℕ) (x : DataItem) (said : CommonSays) → IsCommon place x said → judge_common place x ≡ Ok said
+common_again place x said so =
+    let es = entries_of place so.map.pairs in
+    ap (judge_common place) so.map.is ∙ rw (known_again es so.map.known) (values_again place es said (record { components = so.components; shared = so.shared }))
+
+common_err : (levels place : ℕ) (x : DataItem) (r : Refusal) → IsValidWithin levels x → judge_common place x ≡ Err r → RefusesCommon place x r
+common_err levels place x r valid e =
+    by_map CommonSays (λ (y : DataItem). IsValidWithin levels y → judge_common place y ≡ Err r → RefusesCommon place y r)
+    (λ pairs v f. let es = entries_of place pairs in bind_err (judge_each (judge_entry common_keys) es) _ r f
+    (λ g. BadKey pairs r (each_err Anything (judge_entry common_keys) (IsKeyAmong common_keys) (RefusesOtherKey common_keys) (keys_judge common_keys) es r (all_anything es) g))
+    (λ done done-is g. by_bad pairs (known_ok es done-is) (values_err (levels + 1) place es r (pairs_fit levels place pairs v) g)))
+    (λ y o v f. subst (RefusesCommon place y) (same_err _ r (sym (o.judged judge_common_pairs place) ∙ f)) (NoMap y o.other))
+    x valid e
+  where
+    by_bad : (pairs : DataPairs) → Known (entries_of place pairs) → BadCommon place (entries_of place pairs) r → RefusesCommon place (MapOf pairs) r
+    by_bad pairs known (ItLacks lacks) = LacksKey pairs r known lacks
+    by_bad pairs known (ItRefuses has bad) = BadValue pairs r known (has, tt) bad
+
+common_refused : (place : ℕ) (x : DataItem) (r : Refusal) → RefusesCommon place x r → judge_common place x ≡ Err r
+common_refused place x r (NoMap y other) =
+    by_map CommonSays (λ (z : DataItem). (IsMap z → ⊥) → judge_common place z ≡ Err (refused place Shape)) (λ pairs f. absurd (f tt)) (λ z o f. o.judged judge_common_pairs place) y other
+common_refused place x r (BadKey pairs s bad) = rw (each_refused Anything (judge_entry common_keys) (IsKeyAmong common_keys) (RefusesOtherKey common_keys) (keys_judge common_keys) (entries_of place pairs) s bad) refl
+common_refused place x r (LacksKey pairs s known lacks) = rw (known_again (entries_of place pairs) known) (lack_refused place (entries_of place pairs) s lacks)
+common_refused place x r (BadValue pairs s known complete bad) = rw (known_again (entries_of place pairs) known) (values_refused place (entries_of place pairs) s bad)
+
+pub common_judges : Judges judge_common IsCommon RefusesCommon
+common_judges = record { ok = common_ok; again = common_again; err = common_err; refuses = common_refused }

@@ -1,0 +1,48 @@
+-- How the common part of a manifest is judged, and read of an item that was judged before.
+use Rattle.std.specs.Prelude.{ℕ, true, List, length, Result, Ok}
+use Rattle.det_cbor.specs.DataItem.{DataItem, DataPairs}
+use Rattle.det_cbor.specs.HeadReading.{◌>>=◌}
+use Rattle.det_cbor.specs.Position.{Position}
+use Rattle.suit_params.specs.declared.refusal.Refusal.{Refusal}
+use Rattle.suit_params.specs.Judging.{judge_held, judge_each}
+use Rattle.suit_commands.specs.SequenceJudging.{judge_sequence}
+use Rattle.suit_commands.specs.SequenceReading.{whole_sequence}
+use Rattle.suit_commands.specs.Tree.{SequenceTree}
+use Rattle.suit_envelope.specs.Envelopes.{Entry}
+use Rattle.suit_manifest.specs.Maps.{entries_of, entry_under}
+use Rattle.suit_manifest.specs.Common.{CommonSays, common_keys}
+use Rattle.suit_manifest.specs.Elements.{judge_map, map_from, held_at}
+use Rattle.suit_manifest.specs.ComponentsJudging.{judge_components}
+use Rattle.suit_manifest.specs.ComponentsReading.{components_at}
+use Rattle.suit_manifest.specs.MapReading.{judge_entry, needed, judge_at, may, known_from, find_from, need_from}
+
+abbrev pub judge_shared : ℕ → ℕ → DataItem → Result SequenceTree Refusal
+judge_shared count = judge_held (judge_sequence true count 7)
+
+-- by entries whose keys are known
+abbrev pub judge_common_values : ℕ → List Entry → Result CommonSays Refusal
+judge_common_values place es =
+    needed place 2 (entry_under 2 es) >>= λ a. judge_at judge_components a >>= λ ids. may (judge_at (judge_shared (length ids))) (entry_under 4 es) >>= λ shared. Ok (record { components = ids; shared = shared })
+
+abbrev pub judge_common_pairs : ℕ → DataPairs → Result CommonSays Refusal
+judge_common_pairs place pairs = judge_each (judge_entry common_keys) (entries_of place pairs) >>= λ _. judge_common_values place (entries_of place pairs)
+
+abbrev pub judge_common : ℕ → DataItem → Result CommonSays Refusal
+judge_common = judge_map judge_common_pairs
+
+-- ---- reading
+
+abbrev pub shared_at : ℕ → Position → Result SequenceTree Refusal
+shared_at count = held_at (whole_sequence true count 7)
+
+-- of a map at a place, of so many pairs
+abbrev pub common_values_from : ℕ → ℕ → Position → Result CommonSays Refusal
+common_values_from place pairs p =
+    need_from common_keys place 2 pairs p >>= λ a. components_at a >>= λ ids. find_from common_keys 4 pairs p >>= λ o. may (shared_at (length ids)) o >>= λ shared. Ok (record { components = ids; shared = shared })
+
+abbrev pub common_pairs_from : ℕ → ℕ → Position → Result CommonSays Refusal
+common_pairs_from place pairs p = known_from common_keys pairs p >>= λ _. common_values_from place pairs p
+
+-- a whole item
+abbrev pub common_at : Position → Result CommonSays Refusal
+common_at p = map_from p >>= λ h. common_pairs_from p.place h.0 h.1

@@ -1,0 +1,114 @@
+-- How a manifest is read, of an item that was judged before.
+use Rattle.std.specs.Prelude.{ℕ, false, List, Option, length, Result, Ok, Err}
+use Rattle.det_cbor.specs.declared.head.HeadKind.{HeadKind}
+use Rattle.det_cbor.specs.declared.head.HeadKind.TheVariants as kinds
+use Rattle.det_cbor.specs.HeadReading.{◌>>=◌}
+use Rattle.det_cbor.specs.Position.{Position}
+use Rattle.suit_params.specs.declared.refusal.Refusal.{Refusal}
+use Rattle.suit_params.specs.declared.refusal.Why.TheVariants.{Shape}
+use Rattle.suit_params.specs.Refusing.{refused}
+use Rattle.suit_params.specs.Reading.{head_from, only_from, content_from}
+use Rattle.suit_params.specs.DigestReading.{digest_at}
+use Rattle.suit_params.specs.ParamReading.{text_bytes}
+use Rattle.suit_commands.specs.SequenceReading.{whole_sequence}
+use Rattle.suit_commands.specs.Tree.{SequenceTree}
+use Rattle.suit_manifest.specs.declared.manifest.Manifest.{Manifest}
+use Rattle.suit_manifest.specs.declared.manifest.Member.{Member}
+use Rattle.suit_manifest.specs.declared.manifest.Member.TheVariants as members
+use Rattle.suit_manifest.specs.declared.manifest.TextMember.{TextMember}
+use Rattle.suit_manifest.specs.declared.manifest.TextMember.TheVariants as texts
+use Rattle.suit_manifest.specs.declared.later.Later.{Later}
+use Rattle.suit_manifest.specs.Manifests.{manifest_keys}
+use Rattle.suit_manifest.specs.Elements.{map_from, held_at, only_at}
+use Rattle.suit_manifest.specs.MapReading.{may, known_from, find_from, need_from}
+use Rattle.suit_manifest.specs.CommonReading.{common_at}
+use Rattle.suit_manifest.specs.ManifestJudging.{known_version, member_of, text_of, manifest_of}
+
+-- ---- values
+
+abbrev pub number_after : ℕ → ℕ → HeadKind → Result ℕ Refusal
+number_after place n kinds.Unsigned = Ok n
+number_after place n _ = Err (refused place Shape)
+
+unfoldable pub number_at : Position → Result ℕ Refusal
+number_at p = head_from p >>= λ h. number_after p.place h.0.value h.0.kind
+
+abbrev pub version_at : Position → Result ℕ Refusal
+version_at p = number_at p >>= known_version p.place
+
+abbrev pub text_after : ℕ → ℕ → Position → HeadKind → Result (List ℕ) Refusal
+text_after place n p kinds.Text = text_bytes place n p >>= λ t. Ok t.0
+text_after place n p _ = Err (refused place Shape)
+
+unfoldable pub text_at : Position → Result (List ℕ) Refusal
+text_at p = head_from p >>= λ h. text_after p.place h.0.value h.1 h.0.kind
+
+abbrev pub member_at : ℕ → Position → Result SequenceTree Refusal
+member_at count = held_at (whole_sequence false count 7)
+
+-- an array in one way, and all else in another
+abbrev pub array_or : {A : Type 0} → Result A Refusal → Result A Refusal → HeadKind → Result A Refusal
+array_or array other kinds.Array = array
+array_or array other _ = other
+
+abbrev pub apart_at : Position → Result Member Refusal
+apart_at p = digest_at p >>= λ d. Ok (members.Apart (record { bytes = d }))
+
+abbrev pub here_at : ℕ → Position → Result Member Refusal
+here_at count p = member_at count p >>= λ s. Ok (members.Here s)
+
+unfoldable pub severed_at : ℕ → Position → Result Member Refusal
+severed_at count p = head_from p >>= λ h. array_or (apart_at p) (here_at count p) h.0.kind
+
+abbrev pub text_apart_at : Position → Result TextMember Refusal
+text_apart_at p = digest_at p >>= λ d. Ok (texts.Apart (record { bytes = d }))
+
+abbrev pub text_here_at : Position → Result TextMember Refusal
+text_here_at p = content_from p >>= λ c. only_from c.0 >>= λ _. Ok (texts.Here c.0.left)
+
+unfoldable pub text_member_at : Position → Result TextMember Refusal
+text_member_at p = head_from p >>= λ h. array_or (text_apart_at p) (text_here_at p) h.0.kind
+
+-- ---- what may be there
+
+abbrev pub severed_in : ℕ → Option Position → Result Member Refusal
+severed_in count o = may (severed_at count) o >>= λ m. Ok (member_of m)
+
+abbrev pub text_in : Option Position → Result TextMember Refusal
+text_in o = may text_member_at o >>= λ m. Ok (text_of m)
+
+-- among so many pairs, where there are so many components
+abbrev pub later_from : ℕ → ℕ → Position → Result Later Refusal
+later_from count pairs p =
+    find_from manifest_keys 4 pairs p >>= λ o. may text_at o >>= λ reference.
+    find_from manifest_keys 7 pairs p >>= λ o. may (member_at count) o >>= λ validate.
+    find_from manifest_keys 8 pairs p >>= λ o. may (member_at count) o >>= λ load.
+    find_from manifest_keys 9 pairs p >>= λ o. may (member_at count) o >>= λ invoke.
+    find_from manifest_keys 16 pairs p >>= λ o. severed_in count o >>= λ payload_fetch.
+    find_from manifest_keys 20 pairs p >>= λ o. severed_in count o >>= λ install.
+    find_from manifest_keys 23 pairs p >>= λ o. text_in o >>= λ text.
+    Ok (record { reference = reference; validate = validate; load = load; invoke = invoke; payload_fetch = payload_fetch; install = install; text = text })
+
+-- ---- the map
+
+abbrev pub values_from : ℕ → ℕ → Position → Result Manifest Refusal
+values_from place pairs p =
+    need_from manifest_keys place 1 pairs p >>= λ a.
+    need_from manifest_keys place 2 pairs p >>= λ b.
+    need_from manifest_keys place 3 pairs p >>= λ c.
+    version_at a >>= λ v.
+    number_at b >>= λ n.
+    held_at (only_at common_at) c >>= λ common.
+    later_from (length common.components) pairs p >>= λ later.
+    Ok (manifest_of n common later)
+
+abbrev pub pairs_from : ℕ → ℕ → Position → Result Manifest Refusal
+pairs_from place pairs p = known_from manifest_keys pairs p >>= λ _. values_from place pairs p
+
+-- a whole item
+abbrev pub manifest_at : Position → Result Manifest Refusal
+manifest_at p = map_from p >>= λ h. pairs_from p.place h.0 h.1
+
+-- the whole of some bytes
+abbrev pub manifest_from : Position → Result Manifest Refusal
+manifest_from p = only_at manifest_at p

@@ -1,0 +1,86 @@
+//! The common part of a manifest, of an item that was judged before.
+
+ghost use Rattle.std.specs.Prelude.{◌≡◌, ◌≤◌, length, IfOk};
+ghost use Rattle.suit_params.specs.Answering.{Gives};
+ghost use Rattle.suit_manifest.specs.Elements.{held_at};
+ghost use Rattle.suit_manifest.specs.MapReading.{may};
+ghost use Rattle.suit_manifest.specs.CommonReading.{shared_at, common_values_from, common_pairs_from, common_at};
+ghost use Rattle.suit_commands.specs.SequenceReading.{whole_sequence};
+
+use crate::components::read_components;
+use crate::fields::{find, known_keys, need};
+use crate::heads::{bytes_left, read_map};
+use det_cbor::Cursor;
+use std::alloc::Global;
+use suit_commands::{Sequence, decode_sequence};
+use suit_params::{Fault, Identifiers, read_content};
+
+/// What a manifest's members have in common (draft-ietf-suit-manifest-25, section 8.4.5).
+#[derive(Debug, Drop)]
+pub(crate) struct Common {
+    pub(crate) components: Identifiers,
+    pub(crate) shared: Option<Sequence>,
+}
+
+/// A byte string that holds a sequence, for so many components.
+pub(crate) fn read_sequence(
+    alloc: Global,
+    mut item: Cursor<'_>,
+    shared: bool,
+    count: u32,
+) -> Result<Sequence, Fault>
+    ensures { Gives (λ s. s) result (held_at (whole_sequence shared count 7) item.entry) }
+{
+    let content = read_content(&mut item)?;
+    let place = content.place();
+    decode_sequence(alloc, bytes_left(content), place, shared, count)
+}
+
+/// The same, where there may be none.
+pub(crate) fn read_optional(
+    alloc: Global,
+    item: Option<Cursor<'_>>,
+    shared: bool,
+    count: u32,
+) -> Result<Option<Sequence>, Fault>
+    ensures { Gives (λ s. s) result (may (held_at (whole_sequence shared count 7)) item.entry) }
+{
+    match item {
+        Some(item) => Ok(Some(read_sequence(alloc, item, shared, count)?)),
+        None => Ok(None),
+    }
+}
+
+const KEYS: [u64; 2] = [2, 4];
+
+// Of a map at a place, of so many pairs whose keys are known.
+fn read_values(alloc: Global, mut map: Cursor<'_>, place: u64, pairs: u64) -> Result<Common, Fault>
+    ensures says { Gives (λ c. record { components = c.components; shared = c.shared }) result (common_values_from place pairs map.entry) }
+    ensures few { IfOk result (λ c. length c.components ≤ 8) }
+{
+    let item = need(&mut map, place, pairs, &KEYS, 2)?;
+    let components = read_components(alloc, item)?;
+    let item = find(&mut map, pairs, &KEYS, 4)?;
+    let shared = read_optional(alloc, item, true, components.len() as u32)?;
+    Ok(Common { components, shared })
+}
+
+// Of a map at a place, of so many pairs.
+fn read_pairs(alloc: Global, mut map: Cursor<'_>, place: u64, pairs: u64) -> Result<Common, Fault>
+    ensures says { Gives (λ c. record { components = c.components; shared = c.shared }) result (common_pairs_from place pairs map.entry) }
+    ensures few { IfOk result (λ c. length c.components ≤ 8) }
+{
+    known_keys(&mut map, pairs, &KEYS)?;
+    read_values(alloc, map, place, pairs)
+}
+
+/// A whole item, as the common part: keys that are not known are refused first, then missing
+/// ones, and then the first value that is refused.
+pub(crate) fn read_common(alloc: Global, mut item: Cursor<'_>) -> Result<Common, Fault>
+    ensures says { Gives (λ c. record { components = c.components; shared = c.shared }) result (common_at item.entry) }
+    ensures few { IfOk result (λ c. length c.components ≤ 8) }
+{
+    let place = item.place();
+    let pairs = read_map(&mut item)?;
+    read_pairs(alloc, item, place, pairs)
+}

@@ -1,0 +1,118 @@
+//! The identifiers of a manifest's components, of an item that was judged before.
+
+ghost use Rattle.std.specs.Prelude.{◌≡◌, ◌<◌, ◌≤◌, length, IfOk};
+ghost use Rattle.suit_params.specs.Answering.{Gives};
+ghost use Rattle.suit_manifest.specs.Elements.{all_from};
+ghost use Rattle.suit_manifest.specs.ComponentsReading.{part_at, identifier_at, apart_from, ids_from, counted_ids, components_at};
+
+use crate::alike::first_like;
+use crate::heads::{copy_left, read_array};
+use det_cbor::{Bytes, Cursor};
+use std::alloc::Global;
+use suit_params::{
+    Fault, Identifier, Identifiers, Refusal, Why, read_content, read_item, refused, same_place,
+};
+
+/// How many components a manifest may have.
+pub const MAX_COMPONENTS: u64 = 8;
+
+// A byte string, as its content.
+fn read_part(alloc: Global, mut item: Cursor<'_>) -> Result<Bytes, Fault>
+    ensures { Gives (λ b. b) result (part_at item.entry) }
+{
+    let content = read_content(&mut item)?;
+    Ok(copy_left(alloc, content)?)
+}
+
+// So many byte strings.
+fn read_parts(alloc: Global, mut items: Cursor<'_>, count: u64) -> Result<Identifier, Fault>
+    ensures { Gives (λ id. id) result (all_from part_at count items.entry) }
+{
+    let mut parts = Identifier::new(alloc);
+    for _ in 0..count {
+        let item = read_item(&mut items)?;
+        parts.push(read_part(alloc, item)?)?;
+    }
+    Ok(parts)
+}
+
+// A whole item, as an identifier, which has at most 64 bytes.
+fn read_identifier(alloc: Global, mut item: Cursor<'_>) -> Result<Identifier, Fault>
+    ensures { Gives (λ id. id) result (identifier_at item.entry) }
+{
+    let place = item.place();
+    let size = item.left();
+    let count = read_array(&mut item)?;
+    let parts = read_parts(alloc, item, count)?;
+    if 64 < size {
+        Ok(refused(place, Why::LongIdentifier)?)
+    } else {
+        Ok(parts)
+    }
+}
+
+// So many identifiers.
+fn read_identifiers(alloc: Global, mut items: Cursor<'_>, count: u64) -> Result<Identifiers, Fault>
+    ensures says { Gives (λ ids. ids) result (all_from identifier_at count items.entry) }
+    ensures all { IfOk result (λ ids. length ids ≡ count) }
+{
+    let mut ids = Identifiers::new(alloc);
+    for _ in 0..count {
+        let item = read_item(&mut items)?;
+        ids.push(read_identifier(alloc, item)?)?;
+    }
+    Ok(ids)
+}
+
+// Refuses two that are alike: the second is found first, and then the first that it is like.
+fn judge_apart(ids: &Identifiers, mut items: Cursor<'_>) -> Result<(), Refusal>
+    ensures { result ≡ apart_from ids.now 0 (length ids.now) items.entry }
+{
+    for last in 0..ids.len() {
+        match first_like(ids, last) {
+            Some(first) => return refused(items.place(), Why::TwoAlike(first as u64, last as u64)),
+            None => read_item(&mut items)?,
+        };
+    }
+    Ok(())
+}
+
+fn read_apart(alloc: Global, mut items: Cursor<'_>, count: u64) -> Result<Identifiers, Fault>
+    ensures says { Gives (λ ids. ids) result (ids_from count items.entry) }
+    ensures all { IfOk result (λ ids. length ids ≡ count) }
+{
+    let again = same_place(&mut items);
+    let ids = read_identifiers(alloc, items, count)?;
+    judge_apart(&ids, again)?;
+    Ok(ids)
+}
+
+// So many identifiers of an array, which stands at a place.
+fn read_counted(
+    alloc: Global,
+    items: Cursor<'_>,
+    place: u64,
+    count: u64,
+) -> Result<Identifiers, Fault>
+    ensures says { Gives (λ ids. ids) result (counted_ids place count items.entry) }
+    ensures few { IfOk result (λ ids. length ids ≤ 8) }
+{
+    if count == 0 {
+        Ok(refused(place, Why::Shape)?)
+    } else if MAX_COMPONENTS < count {
+        Ok(refused(place, Why::TooMany(count))?)
+    } else {
+        read_apart(alloc, items, count)
+    }
+}
+
+/// A whole item, as the identifiers of components: too many are refused first, then the first
+/// that is no identifier or too long, and then two that are alike.
+pub(crate) fn read_components(alloc: Global, mut item: Cursor<'_>) -> Result<Identifiers, Fault>
+    ensures says { Gives (λ ids. ids) result (components_at item.entry) }
+    ensures few { IfOk result (λ ids. length ids ≤ 8) }
+{
+    let place = item.place();
+    let count = read_array(&mut item)?;
+    read_counted(alloc, item, place, count)
+}

@@ -1,0 +1,111 @@
+//! Decoding a manifest.
+
+ghost use Rattle.std.specs.Prelude.{◌≡◌, ◌≤◌, ◌+◌, ◌<◌, ◌^◌, length, Result, Ok, Err, IfOk, IfErr};
+ghost use Rattle.suit_params.specs.declared.refusal.Refusal.{Refusal};
+ghost use Rattle.suit_params.specs.Refusing.{RefusesWhole, SaysWhole};
+ghost use Rattle.suit_params.specs.Answering.{Gives, IsFaultBy, IsReadAs, IsRefusedAs};
+ghost use Rattle.suit_manifest.specs.declared.manifest.Manifest.{Manifest};
+ghost use Rattle.suit_manifest.specs.Elements.{held_at, only_at};
+ghost use Rattle.suit_manifest.specs.CommonReading.{common_at};
+ghost use Rattle.suit_manifest.specs.Manifests.{IsManifest, RefusesManifest};
+ghost use Rattle.suit_manifest.specs.ManifestJudging.{manifest_of};
+ghost use Rattle.suit_manifest.specs.ManifestReading.{values_from, pairs_from, manifest_at, manifest_from};
+
+use crate::Manifest;
+use crate::common::{Common, read_common};
+use crate::fields::{known_keys, need};
+use crate::heads::read_map;
+use crate::later::{KEYS, Later, read_later};
+use crate::values::{read_number, read_version};
+use det_cbor::Cursor;
+use std::alloc::Global;
+use suit_params::{Fault, only_item, read_content};
+
+// The common part, which a byte string holds.
+fn held_common(alloc: Global, mut item: Cursor<'_>) -> Result<Common, Fault>
+    ensures says { Gives (λ c. record { components = c.components; shared = c.shared }) result (held_at (only_at common_at) item.entry) }
+    ensures few { IfOk result (λ c. length c.components ≤ 8) }
+{
+    let content = read_content(&mut item)?;
+    let item = only_item(content)?;
+    read_common(alloc, item)
+}
+
+// What the parts say together.
+fn manifest_of(sequence: u64, common: Common, later: Later) -> Manifest
+    ensures { result ≡ manifest_of sequence (record { components = common.components; shared = common.shared }) later }
+{
+    Manifest {
+        sequence,
+        components: common.components,
+        shared: common.shared,
+        reference: later.reference,
+        validate: later.validate,
+        load: later.load,
+        invoke: later.invoke,
+        payload_fetch: later.payload_fetch,
+        install: later.install,
+        text: later.text,
+    }
+}
+
+// Of a map at a place, of so many pairs whose keys are known.
+fn read_values(
+    alloc: Global,
+    mut map: Cursor<'_>,
+    place: u64,
+    pairs: u64,
+) -> Result<Manifest, Fault>
+    ensures { Gives (λ m. m) result (values_from place pairs map.entry) }
+{
+    let version = need(&mut map, place, pairs, &KEYS, 1)?;
+    let sequence = need(&mut map, place, pairs, &KEYS, 2)?;
+    let common = need(&mut map, place, pairs, &KEYS, 3)?;
+    read_version(version)?;
+    let sequence = read_number(sequence)?;
+    let common = held_common(alloc, common)?;
+    let later = read_later(alloc, map, pairs, common.components.len() as u32)?;
+    Ok(manifest_of(sequence, common, later))
+}
+
+// Of a map at a place, of so many pairs.
+fn read_pairs(alloc: Global, mut map: Cursor<'_>, place: u64, pairs: u64) -> Result<Manifest, Fault>
+    ensures { Gives (λ m. m) result (pairs_from place pairs map.entry) }
+{
+    known_keys(&mut map, pairs, &KEYS)?;
+    read_values(alloc, map, place, pairs)
+}
+
+// A whole item, as a manifest.
+fn read_manifest(alloc: Global, mut item: Cursor<'_>) -> Result<Manifest, Fault>
+    ensures { Gives (λ m. m) result (manifest_at item.entry) }
+{
+    let place = item.place();
+    let pairs = read_map(&mut item)?;
+    read_pairs(alloc, item, place, pairs)
+}
+
+// As `decode_manifest`, which says what this means.
+fn whole_manifest(alloc: Global, bytes: &[u8], place: u64) -> Result<Manifest, Fault>
+    requires { place + length bytes.now < 2 ^ 64 }
+    ensures { Gives (λ m. m) result (manifest_from (record { left = bytes.now; place = place })) }
+{
+    let item = only_item(Cursor::new(bytes, place))?;
+    read_manifest(alloc, item)
+}
+
+/// The manifest that the bytes spell (draft-ietf-suit-manifest-25, section 8.4). The first of the
+/// bytes stands at this place in the envelope, and so count the places of commands and refusals.
+///
+/// The bytes are judged as one item first, and the map then: unknown keys, missing keys, and values
+/// in their order. Takes memory for what the manifest says alone; what was taken is given back
+/// after a fault.
+pub fn decode_manifest(alloc: Global, bytes: &[u8], place: u64) -> Result<Manifest, Fault>
+    requires { place + length bytes.now < 2 ^ 64 }
+    ensures ok { IfOk result (λ m. SaysWhole IsManifest place bytes.now m) }
+    ensures refused { IfErr result (IsFaultBy (RefusesWhole RefusesManifest place bytes.now)) }
+    ensures every_manifest { (m : Manifest) → SaysWhole IsManifest place bytes.now m → IsReadAs m result }
+    ensures every_refusal { (r : Refusal) → RefusesWhole RefusesManifest place bytes.now r → IsRefusedAs r result }
+{
+    whole_manifest(alloc, bytes, place)
+}
