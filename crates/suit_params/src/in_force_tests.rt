@@ -1,10 +1,14 @@
 //! Parameters in force, after overrides.
 
+ghost use Rattle.std.specs.Prelude.{◌<◌};
+
 use crate::{Param, ParamKey, ParamList, Params};
 use std::test::Fail;
 
 // The number of a slot or a size in force.
-fn number(params: &Params<'_>, component: u32, key: ParamKey) -> Option<u64> {
+fn number(params: &Params<'_>, component: u32, key: ParamKey) -> Option<u64>
+    requires { component < 8 }
+{
     match params.get(component, key) {
         Some(Param::Slot(number)) => Some(*number),
         Some(Param::Size(number)) => Some(*number),
