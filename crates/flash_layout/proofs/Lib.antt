@@ -1,0 +1,6 @@
+pub mod Spellings
+pub mod Allowing
+pub mod Steps
+pub mod Laws
+pub mod Found
+pub mod Loading
