@@ -4,3 +4,4 @@ pub mod Steps
 pub mod Laws
 pub mod Found
 pub mod Loading
+pub mod OneAnswers

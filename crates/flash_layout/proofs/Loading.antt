@@ -27,9 +27,10 @@ closed_blank reads room is closed = inr (λ opens. closed (gate_read reads room 
 page_same : (reads room : List ℕ) → room ≡ slice_range reads 0 1204 → room ≡ page_of (head_of reads)
 page_same reads room is = is ∙ sym (take-take 1204 49152 reads (omega arith))
 
-pub configured : (s size : ℕ) → s ≡ size → (reads room : List ℕ) (layout : List Entry) (key : Key) → length reads ≡ size → 49152 ≤ size → room ≡ slice_range reads 0 1204 → IsConfigPage s room layout key → IsConfigured size (head_of reads) layout key
-configured s size same reads room layout key long large is page = record {
+pub configured : (s size : ℕ) → s ≡ size → (reads room : List ℕ) (layout : List Entry) (key : Key) → length reads ≡ size → 49152 ≤ size → room ≡ slice_range reads 0 1204 → AreTyped layout key → IsConfigPage s room layout key → IsConfigured size (head_of reads) layout key
+configured s size same reads room layout key long large is typed page = record {
   whole = omega (arith, head_long reads (omega (arith, long, large)));
+  typed = typed;
   page = subst (λ (n : ℕ). IsConfigPage n (page_of (head_of reads)) layout key) same (subst (λ (l : List ℕ). IsConfigPage s l layout key) (page_same reads room is) page);
 }
 

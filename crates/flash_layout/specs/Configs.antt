@@ -27,6 +27,7 @@ IsBlank head = (length head < 49152) ⊎ (slice_index head 0 ≢ 0xA5)
 
 pub record IsConfigured (size : ℕ) (head : List ℕ) (layout : List Entry) (key : Key) : Type 0 where
   pub whole : 49152 ≤ length head
+  pub typed : AreTyped layout key
   pub page : IsConfigPage size (page_of head) layout key
 
 -- an open gate before the page of no layout and key

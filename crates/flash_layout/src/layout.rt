@@ -1,6 +1,7 @@
 //! Layouts: which components a device has, and where.
 
-ghost use Rattle.std.specs.Prelude.{◌≡◌, [], ◌∷◌, ◌++◌, length, OnOk, OnErr};
+ghost use Rattle.std.specs.Prelude.{◌≡◌, [], ◌∷◌, ◌++◌, length, All, OnOk, OnErr};
+ghost use Rattle.flash_layout.specs.Layouts.{IsTypedEntry};
 
 use std::alloc::{AllocError, Global};
 use std::marker::Model;

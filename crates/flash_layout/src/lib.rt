@@ -13,6 +13,7 @@ mod place;
 mod placing;
 mod rules;
 mod spelling;
+mod typing;
 
 pub use key::{Key, is_key};
 pub use law::config_laws;

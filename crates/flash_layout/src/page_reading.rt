@@ -12,6 +12,7 @@ use crate::id_reading::read_identifier;
 use crate::key::is_key;
 use crate::page_writing::write_page;
 use crate::rules::is_layout;
+use crate::typing::typed;
 use crate::{Entry, Key, Layout, Memory};
 use std::alloc::{AllocError, Global};
 use suit_params::{Fault, Why, refused};
@@ -134,10 +135,12 @@ pub(crate) fn decode_page(
 ) -> Result<Option<(Layout, Key)>, AllocError>
     requires { length page.now ≡ 1204 }
     ensures ok { IfOk result (λ r. IfSome r (λ c. IsConfigPage size page.now c.0 c.1)) }
+    ensures typed { IfOk result (λ r. IfSome r (λ c. AreTyped c.0 c.1)) }
     ensures every { (layout : List Entry) (key : Key) → AreTyped layout key → IsConfigPage size page.now layout key → IfOk result (λ r. r ≡ Some (layout, key)) }
 {
     match read_page(alloc, page) {
         Ok((layout, key)) => {
+            typed(&layout, &key);
             if spells(size, page, &layout, &key) {
                 Ok(Some((layout, key)))
             } else {

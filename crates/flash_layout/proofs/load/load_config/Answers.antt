@@ -13,7 +13,7 @@ pub returns-in-Ok-Some-clause-exact : goal.returns-in-Ok-Some-clause-exact
 returns-in-Ok-Some-clause-exact g c t =
     let large : 49152 ≤ g.D.Disk.extent c.args.disk.now = omega (arith, c.size-size.ensures, c.if-size-lt-SLOTS_START.false) in
     configured c.size-size.result (g.D.Disk.extent c.args.disk.now) c.size-size.ensures (g.D.Disk.flash c.args.disk.now).reads c.read_at.new.room c.in-Ok-Some.layout c.in-Ok-Some.key
-    (g.met.D.Disk.obeys c.args.disk.now t).fits large (c.in-Done.ensures.bytes t) (rw c.in-Ok-Some.field-0-is at c.in-Ok-Some.ensures.ok)
+    (g.met.D.Disk.obeys c.args.disk.now t).fits large (c.in-Done.ensures.bytes t) (rw c.in-Ok-Some.field-0-is at c.in-Ok-Some.ensures.typed) (rw c.in-Ok-Some.field-0-is at c.in-Ok-Some.ensures.ok)
 
 pub returns-in-Ok-None-clause-exact : goal.returns-in-Ok-None-clause-exact
 returns-in-Ok-None-clause-exact g c t =
