@@ -1,0 +1,16 @@
+-- What holds of each configuration page.
+use Rattle.std.specs.Prelude.{◌≡◌, ℕ, List}
+use Rattle.flash_layout.specs.declared.layout.Entry.{Entry}
+use Rattle.flash_layout.specs.declared.key.Key.{Key}
+use Rattle.flash_layout.specs.Layouts.{AreTyped}
+use Rattle.flash_layout.specs.ConfigPage.{IsConfigPage}
+use Rattle.flash_layout.specs.Configs.{Config, ConfigOf}
+
+-- at most one layout and key
+abbrev pub OneConfig : Type 0
+OneConfig = (size : ℕ) (bytes : List ℕ) (layout : List Entry) (key : Key) (others : List Entry) (other : Key)
+    → AreTyped layout key → AreTyped others other → IsConfigPage size bytes layout key → IsConfigPage size bytes others other → (layout ≡ others) × (key ≡ other)
+
+-- the head of an image says one configuration at most, on a flash of a size
+abbrev pub OneAnswer : Type 0
+OneAnswer = (size : ℕ) (head : List ℕ) (a b : Config) → ConfigOf size head a → ConfigOf size head b → a ≡ b

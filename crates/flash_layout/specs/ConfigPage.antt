@@ -1,0 +1,56 @@
+-- The configuration page of the flash, layout version 1. All numbers are big-endian.
+use Rattle.std.specs.Prelude.{◌≡◌, ℕ, ◌-◌, List, [], ◌∷◌, ◌++◌, length, replicate, slice_index, Option, Some, None}
+use Rattle.std.specs.Int.{w64, to_be_bytes}
+use Rattle.flash_layout.specs.declared.layout.Entry.{Entry}
+use Rattle.flash_layout.specs.declared.layout.Memory.{Memory}
+use Rattle.flash_layout.specs.declared.layout.Memory.TheVariants as memory
+use Rattle.flash_layout.specs.declared.key.Key.{Key}
+use Rattle.flash_layout.specs.Identifiers.{spelled_id}
+use Rattle.flash_layout.specs.Layouts.{IsLayout, IsKey}
+
+-- with zeros after the bytes, so many in all
+abbrev pub padded : ℕ → List ℕ → List ℕ
+padded n bytes = bytes ++ replicate (n - length bytes) 0
+
+abbrev pub memory_byte : Memory → ℕ
+memory_byte memory.Flash = 0
+memory_byte memory.Ram = 1
+
+-- whether there is one, and its 16 bytes
+abbrev pub optional_id : Option (List ℕ) → List ℕ
+optional_id None = replicate 17 0
+optional_id (Some id) = 1 ∷ id
+
+abbrev pub identifier_field : List (List ℕ) → List ℕ
+identifier_field id = length (spelled_id id) ∷ padded 64 (spelled_id id)
+
+abbrev pub ids_field : Entry → List ℕ
+ids_field e = optional_id e.vendor ++ (optional_id e.class ++ optional_id e.device)
+
+unfoldable pub number_bytes : ℕ → List ℕ
+number_bytes n = to_be_bytes w64 n
+
+abbrev pub numbers_field : Entry → List ℕ
+numbers_field e = number_bytes e.capacity ++ (number_bytes (slice_index e.starts 0) ++ number_bytes (slice_index e.starts 1))
+
+-- the 142 bytes of a component
+unfoldable pub entry_bytes : Entry → List ℕ
+entry_bytes e = memory_byte e.memory ∷ e.slots ∷ (identifier_field e.identifier ++ (ids_field e ++ numbers_field e))
+
+abbrev pub entries_bytes : List Entry → List ℕ
+entries_bytes [] = []
+entries_bytes (e ∷ rest) = entry_bytes e ++ entries_bytes rest
+
+-- the open gate, the version, the lengths and the key
+abbrev pub page_front : List Entry → Key → List ℕ
+page_front layout key = 0xA5 ∷ 1 ∷ key.length ∷ length layout ∷ key.bytes
+
+-- bytes 0 to 1,203 of the page
+unfoldable pub config_page : List Entry → Key → List ℕ
+config_page layout key = page_front layout key ++ padded 1136 (entries_bytes layout)
+
+-- the bytes are the page of a layout and a key that the rules allow on a flash of this size
+pub record IsConfigPage (size : ℕ) (bytes : List ℕ) (layout : List Entry) (key : Key) : Type 0 where
+  pub allowed : IsLayout size layout
+  pub sound : IsKey key
+  pub is : bytes ≡ config_page layout key

@@ -1,0 +1,95 @@
+-- Which layouts a flash of a size may have, and which keys.
+use Rattle.std.specs.Prelude.{◌≡◌, ◌≢◌, ◌<◌, ◌≤◌, ◌+◌, ◌^◌, ℕ, List, [], length, take, slice_index, IfSome, All, AllPairs}
+use Rattle.flash_layout.specs.declared.layout.Entry.{Entry}
+use Rattle.flash_layout.specs.declared.layout.Memory.{Memory}
+use Rattle.flash_layout.specs.declared.layout.Memory.TheVariants as memory
+use Rattle.flash_layout.specs.declared.key.Key.{Key}
+use Rattle.flash_layout.specs.Identifiers.{spelled_id}
+
+-- ---- slots
+
+abbrev pub starts_in : Memory → List ℕ → List ℕ
+starts_in memory.Flash starts = starts
+starts_in memory.Ram starts = []
+
+-- where a component's slots in the flash start
+abbrev pub slot_starts : Entry → List ℕ
+slot_starts e = starts_in e.memory (take e.slots e.starts)
+
+-- a slot has eight bytes of length before its content
+abbrev pub slot_size : Entry → ℕ
+slot_size e = 8 + e.capacity
+
+-- of two ranges the lower one ends before the higher one begins
+abbrev pub AreClear : ℕ → ℕ → ℕ → ℕ → Type 0
+AreClear p m q n = (p ≤ q → p + m ≤ q) × (q ≤ p → q + n ≤ p)
+
+-- the range lies behind the head of the flash, and within it
+abbrev pub IsBehindHead : ℕ → ℕ → ℕ → Type 0
+IsBehindHead size p n = (49152 ≤ p) × (p + n ≤ size)
+
+-- a range shares no byte with those that start there
+abbrev pub IsClearOf : ℕ → ℕ → List ℕ → ℕ → Type 0
+IsClearOf p m starts n = All (λ q. AreClear p m q n) starts
+
+abbrev pub AreAllClear : List ℕ → ℕ → List ℕ → ℕ → Type 0
+AreAllClear ps m qs n = All (λ p. IsClearOf p m qs n) ps
+
+-- ---- components
+
+-- working memory has one slot, which starts nowhere
+abbrev pub IsRam : Entry → Type 0
+IsRam e = (e.slots ≡ 1) × (slice_index e.starts 0 ≡ 0) × (slice_index e.starts 1 ≡ 0) × (e.capacity ≤ 1048576)
+
+-- one or two slots, apart, within the flash of this size
+abbrev pub IsFlash : ℕ → Entry → Type 0
+IsFlash size e =
+    (1 ≤ e.slots) × (e.slots ≤ 2) × (e.slots ≡ 1 → slice_index e.starts 1 ≡ 0)
+    × (e.slots ≡ 2 → AreClear (slice_index e.starts 0) (slot_size e) (slice_index e.starts 1) (slot_size e))
+    × All (λ p. IsBehindHead size p (slot_size e)) (slot_starts e)
+
+abbrev pub IsOfMemory : ℕ → Entry → Memory → Type 0
+IsOfMemory size e memory.Flash = IsFlash size e
+IsOfMemory size e memory.Ram = IsRam e
+
+pub record IsEntry (size : ℕ) (e : Entry) : Type 0 where
+  pub short : length (spelled_id e.identifier) ≤ 64
+  pub some : 1 ≤ e.capacity
+  pub held : IsOfMemory size e e.memory
+
+-- two components have other identifiers, and share no byte
+pub record AreApart (a b : Entry) : Type 0 where
+  pub other : a.identifier ≢ b.identifier
+  pub clear : AreAllClear (slot_starts a) (slot_size a) (slot_starts b) (slot_size b)
+
+pub record IsLayout (size : ℕ) (layout : List Entry) : Type 0 where
+  pub some : 1 ≤ length layout
+  pub few : length layout ≤ 8
+  pub each : All (IsEntry size) layout
+  pub apart : AllPairs AreApart layout
+
+-- ---- keys
+
+-- 1 to 64 bytes, and zeros after them
+pub record IsKey (key : Key) : Type 0 where
+  pub some : 1 ≤ key.length
+  pub few : key.length ≤ 64
+  pub rest : (i : ℕ) → key.length ≤ i → i < 64 → slice_index key.bytes i ≡ 0
+
+-- ---- what the types of the fields say
+
+abbrev pub IsUuid : List ℕ → Type 0
+IsUuid id = length id ≡ 16
+
+pub record IsTypedEntry (e : Entry) : Type 0 where
+  pub starts : length e.starts ≡ 2
+  pub first : slice_index e.starts 0 < 2 ^ 64
+  pub second : slice_index e.starts 1 < 2 ^ 64
+  pub capacity : e.capacity < 2 ^ 64
+  pub vendor : IfSome e.vendor IsUuid
+  pub class : IfSome e.class IsUuid
+  pub device : IfSome e.device IsUuid
+
+pub record AreTyped (layout : List Entry) (key : Key) : Type 0 where
+  pub entries : All IsTypedEntry layout
+  pub room : length key.bytes ≡ 64

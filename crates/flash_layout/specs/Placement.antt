@@ -1,0 +1,23 @@
+-- Where in a layout the components of a manifest stand.
+use Rattle.std.specs.Prelude.{◌≡◌, ◌<◌, ◌≤◌, ℕ, List, length, slice_index, slice_index_or}
+use Rattle.flash_layout.specs.declared.layout.Entry.{Entry}
+use Rattle.flash_layout.specs.declared.place.Places.{Places}
+
+-- the component of this identifier has that index in the layout
+abbrev pub HasPlace : List Entry → List (List ℕ) → ℕ → Type 0
+HasPlace layout id i = (i < length layout) × ((d : Entry) → (slice_index_or layout i d).identifier ≡ id)
+
+abbrev pub IsUnknown : List Entry → List (List ℕ) → Type 0
+IsUnknown layout id = (i : ℕ) → HasPlace layout id i → ⊥
+
+-- each component has its place, and what is not needed is 0
+pub record ArePlaces (layout : List Entry) (ids : List (List (List ℕ))) (p : Places) : Type 0 where
+  pub count : p.count ≡ length ids
+  pub each : (k : ℕ) (d : List (List ℕ)) → k < length ids → HasPlace layout (slice_index_or ids k d) (slice_index p.layout_index k)
+  pub rest : (k : ℕ) → length ids ≤ k → slice_index p.layout_index k ≡ 0
+
+-- the layout lacks this component, and none before it
+pub record IsFirstUnknown (layout : List Entry) (ids : List (List (List ℕ))) (component : ℕ) : Type 0 where
+  pub inside : component < length ids
+  pub lacks : (d : List (List ℕ)) → IsUnknown layout (slice_index_or ids component d)
+  pub before : (k : ℕ) (d : List (List ℕ)) → k < component → (i : ℕ) × HasPlace layout (slice_index_or ids k d) i

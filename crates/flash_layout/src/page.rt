@@ -1,0 +1,66 @@
+//! The bytes of the configuration page, and how they are put together without memory.
+
+ghost use Rattle.std.specs.Prelude.{◌≡◌, ◌≤◌, ◌+◌, ◌*◌, [], ◌∷◌, ◌++◌, length, replicate};
+
+use std::marker::Model;
+
+/// How many bytes of the configuration page are read: all others are left as they are.
+pub const PAGE_SIZE: usize = 1204;
+
+/// Up to so many bytes.
+#[derive(Drop)]
+pub(crate) struct Page {
+    room: [u8; 1204],
+    used: usize,
+}
+
+impl Model for Page {
+    ghost use Rattle.std.specs.Prelude.{List, ℕ, ◌≤◌, take};
+
+    ghost Value = { List ℕ };
+
+    ghost view = { λ p. take p.used p.room };
+
+    ghost invariant = { λ p. p.used ≤ 1204 };
+}
+
+impl Page {
+    /// No bytes.
+    pub(crate) fn new() -> Page
+        ensures { result ≡ [] }
+    {
+        Page {
+            room: [0; 1204],
+            used: 0,
+        }
+    }
+
+    /// Adds bytes at the end.
+    pub(crate) fn put(&mut self, bytes: &[u8])
+        requires { length self.old + length bytes.now ≤ 1204 }
+        ensures bytes { self.new ≡ self.old ++ bytes.now }
+        ensures long { length self.new ≡ length self.old + length bytes.now }
+    {
+        let end = self.used + bytes.len();
+        self.room[self.used..end].copy_from_slice(bytes);
+        self.used = end;
+    }
+
+    /// Adds zeros at the end.
+    pub(crate) fn put_zeros(&mut self, count: usize)
+        requires few { count ≤ 1136 }
+        requires room { length self.old + count ≤ 1204 }
+        ensures bytes { self.new ≡ self.old ++ replicate count 0 }
+        ensures long { length self.new ≡ length self.old + count }
+    {
+        let zeros = [0; 1136];
+        self.put(&zeros[..count]);
+    }
+
+    /// The bytes, lent.
+    pub(crate) fn as_slice(&self) -> &[u8]
+        ensures { result.now ≡ self.now }
+    {
+        &self.room[..self.used]
+    }
+}

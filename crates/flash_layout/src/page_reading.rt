@@ -1,0 +1,153 @@
+//! How the configuration page is read.
+
+ghost use Rattle.std.specs.Prelude.{◌≡◌, ◌↔◌, ◌≤◌, ◌+◌, ◌*◌, ℕ, List, Some, IfOk, IfSome, IsTrue, length};
+ghost use Rattle.suit_params.specs.Answering.{Gives};
+ghost use Rattle.flash_layout.specs.declared.layout.Entry.{Entry};
+ghost use Rattle.flash_layout.specs.declared.key.Key.{Key};
+ghost use Rattle.flash_layout.specs.ConfigPage.{IsConfigPage};
+ghost use Rattle.flash_layout.specs.Layouts.{AreTyped};
+ghost use Rattle.flash_layout.specs.PageReading.{entries_at, entry_at, id_at, key_at, memory_at, number_at, page_at};
+
+use crate::id_reading::read_identifier;
+use crate::key::is_key;
+use crate::page_writing::write_page;
+use crate::rules::is_layout;
+use crate::typing::typed;
+use crate::{Entry, Key, Layout, Memory};
+use std::alloc::{AllocError, Global};
+use suit_params::{Fault, Why, refused};
+
+fn read_memory(byte: u8) -> Memory
+    ensures { result ≡ memory_at byte }
+{
+    if byte == 0 {
+        Memory::Flash
+    } else {
+        Memory::Ram
+    }
+}
+
+// A UUID, if there is one.
+fn read_id(bytes: &[u8]) -> Option<[u8; 16]>
+    requires { length bytes.now ≡ 17 }
+    ensures { result ≡ id_at bytes.now }
+{
+    if bytes[0] == 0 {
+        return None;
+    }
+    let mut id = [0; 16];
+    id.copy_from_slice(&bytes[1..17]);
+    Some(id)
+}
+
+#[tactic(auto, unfolding(crate::specs::PageReading::number_at))]
+fn read_number(bytes: &[u8]) -> u64
+    requires { length bytes.now ≡ 8 }
+    ensures { result ≡ number_at bytes.now }
+{
+    let mut number = [0; 8];
+    number.copy_from_slice(bytes);
+    u64::from_be_bytes(number)
+}
+
+// A component.
+#[tactic(auto, unfolding(crate::specs::PageReading::entry_at))]
+fn read_entry(alloc: Global, bytes: &[u8]) -> Result<Entry, Fault>
+    requires { length bytes.now ≡ 142 }
+    ensures { Gives (λ e. e) result (entry_at bytes.now) }
+{
+    let size = bytes[2] as usize;
+    if 64 < size {
+        return Ok(refused(2, Why::Shape)?);
+    }
+    let identifier = read_identifier(alloc, &bytes[3..3 + size])?;
+    Ok(Entry {
+        identifier,
+        memory: read_memory(bytes[0]),
+        slots: bytes[1],
+        starts: [read_number(&bytes[126..134]), read_number(&bytes[134..142])],
+        capacity: read_number(&bytes[118..126]),
+        vendor: read_id(&bytes[67..84]),
+        class: read_id(&bytes[84..101]),
+        device: read_id(&bytes[101..118]),
+    })
+}
+
+// So many components.
+fn read_entries(alloc: Global, bytes: &[u8], count: usize) -> Result<Layout, Fault>
+    requires { 142 * count ≤ length bytes.now }
+    ensures { Gives (λ l. l) result (entries_at count bytes.now) }
+{
+    let mut layout = Layout::new(alloc);
+    for i in 0..count {
+        let from = 142 * i;
+        match read_entry(alloc, &bytes[from..from + 142]) {
+            Ok(entry) => layout.push(entry)?,
+            Err(fault) => return Err(fault),
+        }
+    }
+    Ok(layout)
+}
+
+// The key.
+fn read_key(page: &[u8]) -> Key
+    requires { length page.now ≡ 1204 }
+    ensures { result ≡ key_at page.now }
+{
+    let mut key = Key {
+        bytes: [0; 64],
+        length: page[2],
+    };
+    key.bytes.copy_from_slice(&page[4..68]);
+    key
+}
+
+// The layout and the key, without a judgement.
+#[tactic(auto, unfolding(crate::specs::PageReading::page_at))]
+fn read_page(alloc: Global, page: &[u8]) -> Result<(Layout, Key), Fault>
+    requires { length page.now ≡ 1204 }
+    ensures { Gives (λ c. c) result (page_at page.now) }
+{
+    let count = page[3] as usize;
+    if 8 < count {
+        return Ok(refused(3, Why::Shape)?);
+    }
+    let layout = read_entries(alloc, &page[68..1204], count)?;
+    Ok((layout, read_key(page)))
+}
+
+// Whether the bytes are the page of a layout and a key that the rules allow.
+fn spells(size: u64, page: &[u8], layout: &Layout, key: &Key) -> bool
+    ensures { IsTrue result ↔ IsConfigPage size page.now layout.now key.now }
+{
+    if !is_key(key) || !is_layout(size, layout) {
+        return false;
+    }
+    write_page(layout, key).as_slice() == page
+}
+
+/// The layout and the key of a page, where the rules allow them on a flash of this size, or `None` where it
+/// is the page of none.
+pub(crate) fn decode_page(
+    alloc: Global,
+    size: u64,
+    page: &[u8],
+) -> Result<Option<(Layout, Key)>, AllocError>
+    requires { length page.now ≡ 1204 }
+    ensures ok { IfOk result (λ r. IfSome r (λ c. IsConfigPage size page.now c.0 c.1)) }
+    ensures typed { IfOk result (λ r. IfSome r (λ c. AreTyped c.0 c.1)) }
+    ensures every { (layout : List Entry) (key : Key) → AreTyped layout key → IsConfigPage size page.now layout key → IfOk result (λ r. r ≡ Some (layout, key)) }
+{
+    match read_page(alloc, page) {
+        Ok((layout, key)) => {
+            typed(&layout, &key);
+            if spells(size, page, &layout, &key) {
+                Ok(Some((layout, key)))
+            } else {
+                Ok(None)
+            }
+        }
+        Err(Fault::Refused(_)) => Ok(None),
+        Err(Fault::NoMemory) => Err(AllocError),
+    }
+}

@@ -1,0 +1,154 @@
+//! How the configuration page is spelled.
+
+ghost use Rattle.std.specs.Prelude.{◌≡◌, ◌≤◌, ◌+◌, ◌*◌, ◌∷◌, ◌++◌, All, length, slice_index};
+ghost use Rattle.flash_layout.specs.Identifiers.{spelled_id};
+ghost use Rattle.flash_layout.specs.ConfigPage.{config_page, entries_bytes, entry_bytes, identifier_field, ids_field, memory_byte, number_bytes, numbers_field, optional_id, padded, page_front};
+
+use crate::page::Page;
+use crate::spelling::spell_id;
+use crate::{Entry, Key, Layout, Memory};
+use suit_params::Identifier;
+
+/// The byte of layout version 1.
+const VERSION: u8 = 1;
+
+// Adds the length of an identifier's spelling, and the spelling with zeros after it.
+fn put_spelling(page: &mut Page, spelling: &[u8])
+    requires short { length spelling.now ≤ 64 }
+    requires room { length page.old + 65 ≤ 1204 }
+    ensures bytes { page.new ≡ page.old ++ length spelling.now ∷ padded 64 spelling.now }
+    ensures long { length page.new ≡ length page.old + 65 }
+{
+    page.put(&[spelling.len() as u8]);
+    page.put(spelling);
+    page.put_zeros(64 - spelling.len());
+}
+
+// Adds an identifier.
+fn put_identifier(page: &mut Page, identifier: &Identifier)
+    requires short { length (spelled_id identifier.now) ≤ 64 }
+    requires room { length page.old + 65 ≤ 1204 }
+    ensures bytes { page.new ≡ page.old ++ identifier_field identifier.now }
+    ensures long { length page.new ≡ length page.old + 65 }
+{
+    match spell_id(identifier) {
+        Ok(spelling) => put_spelling(page, spelling.as_slice()),
+        Err(_) => unreachable!(),
+    }
+}
+
+// Adds a UUID.
+fn put_uuid(page: &mut Page, id: &[u8; 16])
+    requires { length page.old + 17 ≤ 1204 }
+    ensures bytes { page.new ≡ page.old ++ 1 ∷ id.now }
+    ensures long { length page.new ≡ length page.old + 17 }
+{
+    page.put(&[1]);
+    page.put(id);
+}
+
+// Adds a UUID, or that there is none.
+fn put_id(page: &mut Page, id: &Option<[u8; 16]>)
+    requires { length page.old + 17 ≤ 1204 }
+    ensures bytes { page.new ≡ page.old ++ optional_id id.now }
+    ensures long { length page.new ≡ length page.old + 17 }
+{
+    match id {
+        None => page.put_zeros(17),
+        Some(id) => put_uuid(page, id),
+    }
+}
+
+// Adds the three UUIDs of a component.
+fn put_ids(page: &mut Page, entry: &Entry)
+    requires { length page.old + 51 ≤ 1204 }
+    ensures bytes { page.new ≡ page.old ++ ids_field entry.now }
+    ensures long { length page.new ≡ length page.old + 51 }
+{
+    put_id(page, &entry.vendor);
+    put_id(page, &entry.class);
+    put_id(page, &entry.device);
+}
+
+// Adds a number in eight bytes.
+#[tactic(auto, unfolding(crate::specs::ConfigPage::number_bytes))]
+fn put_number(page: &mut Page, number: u64)
+    requires { length page.old + 8 ≤ 1204 }
+    ensures bytes { page.new ≡ page.old ++ number_bytes number }
+    ensures long { length page.new ≡ length page.old + 8 }
+{
+    page.put(&number.to_be_bytes());
+}
+
+// Adds a component's capacity, and where its slots start.
+fn put_numbers(page: &mut Page, entry: &Entry)
+    requires { length page.old + 24 ≤ 1204 }
+    ensures bytes { page.new ≡ page.old ++ numbers_field entry.now }
+    ensures long { length page.new ≡ length page.old + 24 }
+{
+    put_number(page, entry.capacity);
+    put_number(page, entry.starts[0]);
+    put_number(page, entry.starts[1]);
+}
+
+// The byte of a memory.
+fn memory_byte(memory: Memory) -> u8
+    ensures { result ≡ memory_byte memory }
+{
+    match memory {
+        Memory::Flash => 0,
+        Memory::Ram => 1,
+    }
+}
+
+// Adds a component.
+#[tactic(auto, unfolding(crate::specs::ConfigPage::entry_bytes))]
+fn put_entry(page: &mut Page, entry: &Entry)
+    requires short { length (spelled_id entry.now.identifier) ≤ 64 }
+    requires room { length page.old + 142 ≤ 1204 }
+    ensures bytes { page.new ≡ page.old ++ entry_bytes entry.now }
+    ensures long { length page.new ≡ length page.old + 142 }
+{
+    page.put(&[memory_byte(entry.memory), entry.slots]);
+    put_identifier(page, &entry.identifier);
+    put_ids(page, entry);
+    put_numbers(page, entry);
+}
+
+// Adds components.
+fn put_entries(page: &mut Page, entries: &[Entry])
+    requires short { All (λ e. length (spelled_id e.identifier) ≤ 64) entries.now }
+    requires room { length page.old + 142 * length entries.now ≤ 1204 }
+    ensures bytes { page.new ≡ page.old ++ entries_bytes entries.now }
+    ensures long { length page.new ≡ length page.old + 142 * length entries.now }
+{
+    for entry in entries {
+        put_entry(page, entry);
+    }
+}
+
+// Adds the open gate, the version, the lengths and the key.
+fn put_front(page: &mut Page, count: u8, key: &Key)
+    requires { length page.old + 68 ≤ 1204 }
+    ensures bytes { page.new ≡ page.old ++ 0xA5 ∷ 1 ∷ key.now.length ∷ count ∷ key.now.bytes }
+    ensures long { length page.new ≡ length page.old + 68 }
+{
+    page.put(&[suit_edge::OPEN, VERSION, key.length, count]);
+    page.put(&key.bytes);
+}
+
+/// The page of a layout and a key, with its gate open. Takes no memory.
+#[tactic(auto, unfolding(crate::specs::ConfigPage::config_page))]
+pub(crate) fn write_page(layout: &Layout, key: &Key) -> Page
+    requires few { length layout.now ≤ 8 }
+    requires short { All (λ e. length (spelled_id e.identifier) ≤ 64) layout.now }
+    ensures bytes { result ≡ config_page layout.now key.now }
+    ensures long { length result ≡ 1204 }
+{
+    let entries = layout.as_slice();
+    let mut page = Page::new();
+    put_front(&mut page, entries.len() as u8, key);
+    put_entries(&mut page, entries);
+    page.put_zeros(1136 - 142 * entries.len());
+    page
+}

@@ -1,0 +1,15 @@
+//! The places of components in a layout.
+
+/// The index in the layout of each of a manifest's components, and 0 after the last.
+#[derive(Clone, Copy, Debug, PartialEq, Eq)]
+pub struct Places {
+    /// How many components the manifest has.
+    pub count: u32,
+    pub layout_index: [u32; 8],
+}
+
+/// A component that the layout lacks, by its index in the manifest.
+#[derive(Clone, Copy, Debug, PartialEq, Eq)]
+pub struct Unknown {
+    pub component: u32,
+}

@@ -1,0 +1,44 @@
+//! Where a manifest's components stand in a layout.
+
+ghost use Rattle.std.specs.Prelude.{◌≤◌, length, IfOk, IfErr, MatchOption};
+ghost use Rattle.flash_layout.specs.Placement.{ArePlaces, HasPlace, IsFirstUnknown, IsUnknown};
+
+use crate::rules::alike;
+use crate::{Entry, Layout, Places, Unknown};
+use suit_params::{Identifier, Identifiers};
+
+// The index of the component with this identifier.
+fn find(entries: &[Entry], identifier: &Identifier) -> Option<usize>
+    ensures { MatchOption result (IsUnknown entries.now identifier.now) (HasPlace entries.now identifier.now) }
+{
+    for i in 0..entries.len() {
+        if alike(&entries[i].identifier, identifier) {
+            return Some(i);
+        }
+    }
+    None
+}
+
+/// The places of a manifest's components in a layout, or the first component that the layout lacks.
+pub fn places(layout: &Layout, components: &Identifiers) -> Result<Places, Unknown>
+    requires entries { length layout.now ≤ 8 }
+    requires components { length components.now ≤ 8 }
+    ensures ok { IfOk result (ArePlaces layout.now components.now) }
+    ensures unknown { IfErr result (λ u. IsFirstUnknown layout.now components.now u.component) }
+{
+    let entries = layout.as_slice();
+    let ids = components.as_slice();
+    let mut layout_index = [0u32; 8];
+    for k in 0..ids.len() {
+        match find(entries, &ids[k]) {
+            Some(i) => layout_index[k] = i as u32,
+            None => return Err(Unknown {
+                component: k as u32,
+            }),
+        }
+    }
+    Ok(Places {
+        count: ids.len() as u32,
+        layout_index,
+    })
+}

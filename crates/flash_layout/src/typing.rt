@@ -1,0 +1,68 @@
+//! What the types of a component's fields say of them.
+
+ghost use Rattle.std.specs.Prelude.{◌≡◌, ◌<◌, ◌^◌, All, IfSome, length, slice_index};
+ghost use Rattle.flash_layout.specs.Layouts.{AreTyped, IsTypedEntry, IsUuid};
+
+use crate::{Entry, Key, Layout};
+
+fn in_range(number: u64)
+    ensures { number < 2 ^ 64 }
+{
+    let _ = number;
+}
+
+fn sized(id: &[u8; 16])
+    ensures { length id.now ≡ 16 }
+{
+    let _ = id;
+}
+
+fn is_uuid(id: &Option<[u8; 16]>)
+    ensures { IfSome id.now IsUuid }
+{
+    match id {
+        Some(id) => sized(id),
+        None => {}
+    }
+}
+
+fn starts(starts: &[u64; 2])
+    ensures long { length starts.now ≡ 2 }
+    ensures first { slice_index starts.now 0 < 2 ^ 64 }
+    ensures second { slice_index starts.now 1 < 2 ^ 64 }
+{
+    in_range(starts[0]);
+    in_range(starts[1]);
+}
+
+fn entry(entry: &Entry)
+    ensures { IsTypedEntry entry.now }
+{
+    starts(&entry.starts);
+    in_range(entry.capacity);
+    is_uuid(&entry.vendor);
+    is_uuid(&entry.class);
+    is_uuid(&entry.device);
+}
+
+fn entries(layout: &Layout)
+    ensures { All IsTypedEntry layout.now }
+{
+    for each in layout.as_slice() {
+        entry(each);
+    }
+}
+
+fn room(bytes: &[u8; 64])
+    ensures { length bytes.now ≡ 64 }
+{
+    let _ = bytes;
+}
+
+/// A layout and a key of the code have fields of the lengths and ranges of their types.
+pub(crate) fn typed(layout: &Layout, key: &Key)
+    ensures { AreTyped layout.now key.now }
+{
+    entries(layout);
+    room(&key.bytes);
+}
