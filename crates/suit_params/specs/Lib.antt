@@ -1,5 +1,6 @@
 pub mod Refusing
 pub mod Digests
+pub mod Identifiers
 pub mod Judging
 pub mod Reading
 pub mod DigestReading
