@@ -163,13 +163,7 @@ code_err shared place (UnsignedInteger m) r e =
       unknown.1,
     )
 code_err shared place (NegativeInteger m) r e = (λ n is known. absurd cc, same_err _ r e)
-code_err shared place (ByteString bytes) r e = (λ n is known. absurd cc, same_err _ r e)
-code_err shared place (TextString text) r e = (λ n is known. absurd cc, same_err _ r e)
-code_err shared place (ArrayOf xs) r e = (λ n is known. absurd cc, same_err _ r e)
-code_err shared place (MapOf ps) r e = (λ n is known. absurd cc, same_err _ r e)
-code_err shared place (TaggedItem tag y) r e = (λ n is known. absurd cc, same_err _ r e)
-code_err shared place (Boolean b) r e = (λ n is known. absurd cc, same_err _ r e)
-code_err shared place NullItem r e = (λ n is known. absurd cc, same_err _ r e)
+code_err shared place x r e = (λ n is known. absurd cc, same_err _ r e)
 
 pub code_refused : (shared : Bool) (place : ℕ) (x : DataItem) → IsOtherCode shared x → judge_code shared place x ≡ Err (refused place Unsupported)
 code_refused shared place (UnsignedInteger n) other = known_refused place shared (numbered n) (λ code is allowed. other n refl (code_is shared n code (numbered_ok n code is) allowed))

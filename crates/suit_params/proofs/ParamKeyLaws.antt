@@ -85,14 +85,7 @@ unknown_number n none known is =
 
 pub key_err : (place : ℕ) (x : DataItem) (r : Refusal) → judge_key place x ≡ Err r → IsOtherKey x × (refused place UnknownParam ≡ r)
 key_err place (UnsignedInteger n) r e = let none = none_found (numbered n) place r e in (unknown_number n none.0, none.1)
-key_err place (NegativeInteger n) r e = (λ known is. absurd cc, same_err _ r e)
-key_err place (ByteString bytes) r e = (λ known is. absurd cc, same_err _ r e)
-key_err place (TextString bytes) r e = (λ known is. absurd cc, same_err _ r e)
-key_err place (ArrayOf xs) r e = (λ known is. absurd cc, same_err _ r e)
-key_err place (MapOf ps) r e = (λ known is. absurd cc, same_err _ r e)
-key_err place (TaggedItem tag x) r e = (λ known is. absurd cc, same_err _ r e)
-key_err place (Boolean b) r e = (λ known is. absurd cc, same_err _ r e)
-key_err place NullItem r e = (λ known is. absurd cc, same_err _ r e)
+key_err place x r e = (λ known is. absurd cc, same_err _ r e)
 
 pub key_refused : (place : ℕ) (x : DataItem) → IsOtherKey x → judge_key place x ≡ Err (refused place UnknownParam)
 key_refused place (UnsignedInteger n) other = let none : numbered n ≡ None = found_or (numbered n) (λ key is. other key (ap UnsignedInteger (numbered_ok n key is))) in rw none refl
