@@ -1,5 +1,4 @@
 pub mod Taking
-pub mod MemberPlaces
 pub mod OneMember
 pub mod BothMembers
 pub mod MapRows

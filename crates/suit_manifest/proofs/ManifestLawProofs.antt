@@ -6,12 +6,14 @@ use Rattle.det_cbor.proofs.Results.{same_ok, same_err, not_both}
 use Rattle.suit_params.specs.declared.refusal.Refusal.{Refusal}
 use Rattle.suit_params.specs.Params.{pairs_place}
 use Rattle.suit_params.proofs.ParamOrder.{number_above}
+use Rattle.suit_commands.specs.SequenceLaws.{SequenceLaws}
 use Rattle.suit_envelope.specs.Envelopes.{Entry, entries}
 use Rattle.suit_envelope.proofs.EntryOrder.{AreAbove, AreAscending, entries_ascend}
 use Rattle.suit_manifest.specs.declared.manifest.Manifest.{Manifest}
 use Rattle.suit_manifest.specs.ManifestJudging.{judge_manifest}
 use Rattle.suit_manifest.specs.ManifestLaws.{HasOneManifest, HasOneRefusal, IsAboveNumber, NumbersAscend, ManifestLaws}
 use Rattle.suit_manifest.specs.Maps.{entries_of}
+use Rattle.suit_manifest.proofs.Grammatical.{grammatical}
 use Rattle.suit_manifest.proofs.ManifestJudging.{manifest_judges}
 
 one_reading : (place : ℕ) (x : DataItem) → IsValid x → HasOneManifest place x ⊎ HasOneRefusal place x
@@ -53,5 +55,5 @@ in_order levels (e ∷ es) fits ascend =
 ordered : (place : ℕ) (pairs : DataPairs) → IsValid (MapOf pairs) → NumbersAscend (entries_of place pairs)
 ordered place pairs valid = in_order 1 (entries_of place pairs) (keys_fit 1 (pairs_place place pairs) None pairs valid.2) (entries_ascend 1 (pairs_place place pairs) None pairs valid.2)
 
-pub manifest_laws : ManifestLaws
-manifest_laws = record { one_reading = one_reading; ordered = ordered }
+pub manifest_laws : SequenceLaws → ManifestLaws
+manifest_laws laws = record { one_reading = one_reading; grammatical = grammatical laws; ordered = ordered }

@@ -7,6 +7,7 @@ use Rattle.suit_manifest.specs.declared.manifest.Manifest.{Manifest}
 use Rattle.suit_envelope.specs.Envelopes.{Entry}
 use Rattle.suit_manifest.specs.Maps.{entries_of}
 use Rattle.suit_manifest.specs.Manifests.{IsManifest, RefusesManifest}
+use Rattle.suit_manifest.specs.ManifestWriting.{IsGrammatical}
 
 -- just one manifest is said, and nothing is refused
 pub record HasOneManifest (place : ℕ) (x : DataItem) : Type 0 where
@@ -31,7 +32,9 @@ abbrev pub NumbersAscend : List Entry → Type 0
 NumbersAscend [] = Unit {0}
 NumbersAscend (e ∷ es) = ((n : ℕ) → e.key ≡ UnsignedInteger n → AllByRecursion (IsAboveNumber n) es) × NumbersAscend es
 
--- the laws: each valid item says one manifest or has one refusal, and never both; and the keys of a map are in order
+-- the laws: each valid item says one manifest or has one refusal, and never both; what is said is a manifest that the
+-- grammar allows, so that what was read is written to be read again; and the keys of a map are in order
 pub record ManifestLaws : Type 0 where
   pub one_reading : (place : ℕ) (x : DataItem) → IsValid x → HasOneManifest place x ⊎ HasOneRefusal place x
+  pub grammatical : (place : ℕ) (x : DataItem) (m : Manifest) → IsManifest place x m → IsGrammatical m
   pub ordered : (place : ℕ) (pairs : DataPairs) → IsValid (MapOf pairs) → NumbersAscend (entries_of place pairs)

@@ -2,9 +2,14 @@
 
 ghost use Rattle.suit_manifest.specs.ManifestLaws.{ManifestLaws};
 
+use suit_commands::sequence_laws;
+
 /// Does nothing. Its contract has the laws. A valid item says one manifest or has one refusal, and
-/// never both; and the numbers of the keys of a map ascend, so that values judged by their numbers
-/// are judged in the order of their bytes.
+/// never both; what it says is a manifest that the grammar allows, wherever the item stands; and
+/// the numbers of the keys of a map ascend, so that values judged by their numbers are judged in
+/// the order of their bytes.
 pub fn manifest_laws()
     ensures { ManifestLaws }
-{}
+{
+    sequence_laws();
+}
