@@ -12,4 +12,6 @@ pub mod Answering
 pub mod ParamReading
 pub mod ParamWriting
 pub mod ParamMaking
+pub mod OneWhole
 pub mod ParamLaws
+pub mod InForceLaws

@@ -16,7 +16,7 @@ mod refusal;
 
 pub use digest::{Digest, digest_of, read_digest};
 pub use identifier::{Identifier, Identifiers};
-pub use law::param_laws;
+pub use law::{in_force_laws, param_laws};
 pub use param::{Param, ParamKey};
 pub use param_list::ParamList;
 pub use param_map::{params_of, read_params};
