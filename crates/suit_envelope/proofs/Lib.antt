@@ -19,3 +19,6 @@ pub mod EntryOrder
 pub mod EntryLaws
 pub mod PayloadKeys
 pub mod PayloadLaws
+pub mod MemberAnswers
+pub mod OneAuthenticity
+pub mod TrimSays
