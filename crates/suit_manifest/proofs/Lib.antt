@@ -23,4 +23,7 @@ pub mod LaterJudging
 pub mod ManifestJudging
 pub mod ManifestReads
 pub mod ManifestAnswers
+pub mod KeyNumbers
+pub mod RowsAgain
+pub mod ManifestMade
 pub mod ManifestLawProofs
