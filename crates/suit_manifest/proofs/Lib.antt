@@ -15,6 +15,7 @@ pub mod Likeness
 pub mod ComponentsJudging
 pub mod ComponentsReads
 pub mod FieldSteps
+pub mod ValuesPassed
 pub mod MapLaws
 pub mod CommonJudging
 pub mod CommonReads
