@@ -1,5 +1,4 @@
 pub mod Taking
-pub mod MemberPlaces
 pub mod OneMember
 pub mod BothMembers
 pub mod MapRows
@@ -16,6 +15,7 @@ pub mod Likeness
 pub mod ComponentsJudging
 pub mod ComponentsReads
 pub mod FieldSteps
+pub mod ValuesPassed
 pub mod MapLaws
 pub mod CommonJudging
 pub mod CommonReads
@@ -24,4 +24,7 @@ pub mod LaterJudging
 pub mod ManifestJudging
 pub mod ManifestReads
 pub mod ManifestAnswers
+pub mod KeyNumbers
+pub mod RowsAgain
+pub mod ManifestMade
 pub mod ManifestLawProofs

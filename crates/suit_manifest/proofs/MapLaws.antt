@@ -14,16 +14,16 @@ use Rattle.suit_params.specs.declared.refusal.Refusal.{Refusal}
 use Rattle.suit_params.specs.declared.refusal.Why.TheVariants.{UnknownKey, Missing}
 use Rattle.suit_params.specs.Refusing.{refused, Says, Refuses, content_place}
 use Rattle.suit_params.specs.Judging.{judge_held, judge_each}
-use Rattle.suit_params.specs.Reading.{inside, inner_from, whole_judged}
+use Rattle.suit_params.specs.Reading.{inside, whole_judged}
 use Rattle.suit_params.proofs.Judgements.{Judges}
 use Rattle.suit_params.proofs.Held.{ReadsAs, with_rest, by_string, content_read, JudgesEach, Anything}
 use Rattle.suit_params.proofs.ItemHeads.{item_head_read, after}
 use Rattle.suit_commands.specs.Selections.{Among}
 use Rattle.suit_envelope.specs.Envelopes.{Entry, entries, is_number, has_key}
-use Rattle.suit_envelope.proofs.KeyLaws.{inner_read}
 use Rattle.suit_manifest.specs.Maps.{IsKeyAmong, entry_under, SaysUnder, MaySayUnder, RefusesUnder, RefusesOtherKey, OtherKey}
 use Rattle.suit_manifest.specs.Elements.{held_at}
-use Rattle.suit_manifest.specs.MapReading.{among, judge_key, judge_entry, needed, judge_at, may, key_from, known_from, find_from, value_of}
+use Rattle.suit_manifest.proofs.ValuesPassed.{value_read}
+use Rattle.suit_manifest.specs.MapReading.{among, judge_key, judge_entry, needed, judge_at, may, key_from, value_from, known_from, find_from, value_of}
 
 -- ---- keys
 
@@ -221,10 +221,10 @@ known_read keys levels p before (PairThen key value ps) rest valid is =
     let q = after p (spell key) after_key in
     let r = after q (spell value) after_value in
     let whole : p.left ≡ spell key ++ after_key = is ∙ simp append_assoc in
-    rw (count, key_read keys levels p key after_key valid.0 whole) (by_key (judge_key keys p.place key) q r (inside q value) (judge_each (judge_entry keys) (entries r.place ps)) (inner_read levels q value after_value valid.2 refl) (known_read keys levels r (Some (spell key)) ps rest valid.3 refl))
+    rw (count, key_read keys levels p key after_key valid.0 whole) (by_key (judge_key keys p.place key) q r (inside q value) (judge_each (judge_entry keys) (entries r.place ps)) (value_read levels q value after_value valid.2 refl) (known_read keys levels r (Some (spell key)) ps rest valid.3 refl))
   where
-    by_key : (a : Result ℕ Refusal) (q r inner : Position) (others : Result Unit Refusal) → inner_from q ≡ Ok (inner, r) → known_from keys (pair_count ps) r ≡ others
-        → ((a >>= with_rest q) >>= λ k. inner_from k.1 >>= λ v. known_from keys (pair_count ps) v.1) ≡ ((a >>= known_one) >>= λ _. others)
+    by_key : (a : Result ℕ Refusal) (q r inner : Position) (others : Result Unit Refusal) → value_from q ≡ Ok (inner, r) → known_from keys (pair_count ps) r ≡ others
+        → ((a >>= with_rest q) >>= λ k. value_from k.1 >>= λ v. known_from keys (pair_count ps) v.1) ≡ ((a >>= known_one) >>= λ _. others)
     by_key (Ok n) q r inner others first rest = rw first rest
     by_key (Err e) q r inner others first rest = refl
 
@@ -241,7 +241,7 @@ find_read keys n levels p before (PairThen key value ps) rest valid is known =
     let m = known.0.0 in
     let number : judge_key keys p.place key ≡ Ok m = ap (judge_key keys p.place) known.0.2 ∙ key_again keys p.place m known.0.1 in
     let same : is_number n key ≡ eqb m n = ap (is_number n) known.0.2 in
-    rw (count, key_read keys levels p key after_key valid.0 whole, number, inner_read levels q value after_value valid.2 refl, find_read keys n levels r (Some (spell key)) ps rest valid.3 refl known.1, same) (by_test (eqb m n) (record { key = key; key_place = p.place; value = value; value_place = q.place }) (entry_under n (entries r.place ps)))
+    rw (count, key_read keys levels p key after_key valid.0 whole, number, value_read levels q value after_value valid.2 refl, find_read keys n levels r (Some (spell key)) ps rest valid.3 refl known.1, same) (by_test (eqb m n) (record { key = key; key_place = p.place; value = value; value_place = q.place }) (entry_under n (entries r.place ps)))
   where
     by_test : (t : Bool) (a : Entry) (o : Option Entry) → cond {A = Result (Option Position) Refusal} t (Ok (Some (value_of a))) (Ok (option_map value_of o)) ≡ Ok (option_map value_of (cond t (Some a) o))
     by_test true a o = refl

@@ -1,5 +1,5 @@
 -- How maps of numbered keys are judged, and read of an item that was judged before.
-use Rattle.std.specs.Prelude.{ℕ, zero, suc, ◌==◌, if◌then◌else◌, Bool, List, Option, Some, None, Result, Ok, Err}
+use Rattle.std.specs.Prelude.{ℕ, zero, suc, ◌-◌, ◌==◌, if◌then◌else◌, Bool, List, length, Option, Some, None, Result, Ok, Err}
 use Rattle.std.specs.List.{list_any}
 use Rattle.det_cbor.specs.DataItem.{DataItem, UnsignedInteger, spell}
 use Rattle.det_cbor.specs.declared.head.HeadKind.{HeadKind}
@@ -9,7 +9,7 @@ use Rattle.det_cbor.specs.Position.{Position}
 use Rattle.suit_params.specs.declared.refusal.Refusal.{Refusal}
 use Rattle.suit_params.specs.declared.refusal.Why.TheVariants.{UnknownKey, Missing}
 use Rattle.suit_params.specs.Refusing.{refused}
-use Rattle.suit_params.specs.Reading.{head_from, inner_from}
+use Rattle.suit_params.specs.Reading.{head_from, bytes_from, inner_from, string_from}
 use Rattle.suit_envelope.specs.Envelopes.{Entry}
 
 -- ---- judging
@@ -50,15 +50,29 @@ key_after keys place n p _ = Err (refused place UnknownKey)
 unfoldable pub key_from : List ℕ → Position → Result (ℕ × Position) Refusal
 key_from keys p = head_from p >>= λ h. key_after keys p.place h.0.value h.1 h.0.kind
 
+-- what stands from one position up to another, by itself
+abbrev pub up_to : Position → Position → Result (Position × Position) Refusal
+up_to p q = string_from (length p.left - length q.left) p
+
+-- the next value, of a map that was judged before: a number or a string is passed by its head, and no other
+abbrev pub value_after : Position → ℕ → Position → HeadKind → Result (Position × Position) Refusal
+value_after p n q kinds.Unsigned = up_to p q
+value_after p n q kinds.Bytes = bytes_from n q >>= λ b. up_to p b.1
+value_after p n q kinds.Text = bytes_from n q >>= λ b. up_to p b.1
+value_after p n q _ = inner_from p
+
+unfoldable pub value_from : Position → Result (Position × Position) Refusal
+value_from p = head_from p >>= λ h. value_after p h.0.value h.1 h.0.kind
+
 -- the keys of so many pairs
 abbrev pub known_from : List ℕ → ℕ → Position → Result Unit Refusal
 known_from keys zero p = Ok tt
-known_from keys (suc pairs) p = key_from keys p >>= λ k. inner_from k.1 >>= λ v. known_from keys pairs v.1
+known_from keys (suc pairs) p = key_from keys p >>= λ k. value_from k.1 >>= λ v. known_from keys pairs v.1
 
 -- the value under a number, among so many pairs
 abbrev pub find_from : List ℕ → ℕ → ℕ → Position → Result (Option Position) Refusal
 find_from keys n zero p = Ok None
-find_from keys n (suc pairs) p = key_from keys p >>= λ k. inner_from k.1 >>= λ v. if k.0 == n then Ok (Some v.0) else find_from keys n pairs v.1
+find_from keys n (suc pairs) p = key_from keys p >>= λ k. value_from k.1 >>= λ v. if k.0 == n then Ok (Some v.0) else find_from keys n pairs v.1
 
 abbrev pub need_from : List ℕ → ℕ → ℕ → ℕ → Position → Result Position Refusal
 need_from keys place n pairs p = find_from keys n pairs p >>= needed place n

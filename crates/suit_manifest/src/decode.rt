@@ -103,6 +103,8 @@ fn whole_manifest(alloc: Global, bytes: &[u8], place: u64) -> Result<Manifest, F
 pub fn decode_manifest(alloc: Global, bytes: &[u8], place: u64) -> Result<Manifest, Fault>
     requires { place + length bytes.now < 2 ^ 64 }
     ensures ok { IfOk result (λ m. SaysWhole IsManifest place bytes.now m) }
+    ensures some { IfOk result (λ m. 1 ≤ length m.components) }
+    ensures few { IfOk result (λ m. length m.components ≤ 8) }
     ensures refused { IfErr result (IsFaultBy (RefusesWhole RefusesManifest place bytes.now)) }
     ensures every_manifest { (m : Manifest) → SaysWhole IsManifest place bytes.now m → IsReadAs m result }
     ensures every_refusal { (r : Refusal) → RefusesWhole RefusesManifest place bytes.now r → IsRefusedAs r result }
