@@ -107,7 +107,7 @@ abort_fails ids p c s es e = (λ run. run, λ failed. failed)
 
 none_wanted : {A : Type 0} (kind : TestKind) (p c : ℕ) (wanted own : Option A) (s : State) (es : List Event) (e : Ending) → wanted ≡ None → Compares p kind c wanted own s es e ↔ Fails p (Tried c kind false) s es e
 none_wanted kind p c None own s es e none = (
-  λ run. elim run [ | inl (same, passed) ↦ absurd same | inr (differs, failed) ↦ failed ],
+  λ run. elim run [ inl (same, passed) ↦ absurd same | inr (differs, failed) ↦ failed ],
   λ failed. inr (λ same. same, failed),
 )
 none_wanted kind p c (Some wanted) own s es e none = absurd cc
@@ -116,7 +116,7 @@ none_own : {A : Type 0} (kind : TestKind) (p c : ℕ) (wanted own : Option A) (s
 none_own kind p c None own s es e none = none_wanted kind p c None own s es e refl
 none_own kind p c (Some wanted) None s es e none =
     let differs : None ≡ Some wanted → ⊥ = λ same. absurd cc in (
-      λ run. elim run [ | inl (same, passed) ↦ absurd (differs same) | inr (not_same, failed) ↦ failed ],
+      λ run. elim run [ inl (same, passed) ↦ absurd (differs same) | inr (not_same, failed) ↦ failed ],
       λ failed. inr (differs, failed),
     )
 none_own kind p c (Some wanted) (Some own) s es e none = absurd cc

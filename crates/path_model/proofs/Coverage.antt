@@ -1,6 +1,6 @@
 -- The laws of cover by indices, and of what follows.
-use Rattle.std.proofs.Common.{◌≡◌, ◌≢◌, ◌<◌, ◌≤◌, ◌+◌, ℕ, zero, suc, Bool, List, [], ◌∷◌, ◌++◌, length, take, Option, Some, None, refl, sym, ap, subst, ◌∙◌, arith, inl, inr, append_assoc, length-append}
-use Rattle.std.specs.Prelude.{◌↔◌, IfSome, slice_get}
+use Rattle.std.proofs.Common.{◌≡◌, ◌≢◌, ◌<◌, ◌≤◌, ℕ, zero, suc, Bool, List, [], ◌∷◌, ◌++◌, length, take, Option, Some, None, refl, sym, ap, subst, ◌∙◌, arith, inl, inr, append_assoc, length-append}
+use Rattle.std.specs.Prelude.{IfSome, slice_get}
 use Rattle.std.specs.List.{AllByRecursion}
 use Rattle.std.proofs.lemmas.Bool.{cases_lt}
 use Rattle.std.proofs.lemmas.List.{append-nil}
@@ -8,9 +8,8 @@ use Rattle.suit_params.specs.declared.digest.Digest.{Digest}
 use Rattle.path_model.specs.declared.event.Event.{Event}
 use Rattle.path_model.specs.declared.event.Event.TheVariants.{Set, Tried, Matched, Missed, Wrote, Invoked, Failed}
 use Rattle.path_model.specs.Safe.{WritesTo, HasMatched, IsCovered, Covered, AllCovered, EndsUncovered}
-use Rattle.path_model.specs.FirstUncovered.{IsUncoveredFirst}
-use Rattle.path_model.specs.Following.{CoveredFrom, SameMatches}
-use Rattle.path_model.specs.CoverLaws.{MatchedAt, MatchByIndices, InvokeMatched, CoveredByIndices, AllAreCovered, CoveredByStanding, IsLastUncovered, EndsAtFirst, FollowsAlike, SameFollows, PartsCovered, SafetyIs, BadPathIs, BadPathRefutes}
+use Rattle.path_model.specs.Following.{CoveredFrom}
+use Rattle.path_model.specs.CoverLaws.{MatchedAt, MatchByIndices, CoveredByIndices, AllAreCovered, CoveredByStanding, IsLastUncovered, EndsAtFirst, SameFollows, PartsCovered, SafetyIs, BadPathIs, BadPathRefutes}
 use Rattle.path_model.proofs.CoverLaws.{unwritten}
 use Rattle.path_model.proofs.Covering.{CoveredFrom-AllCovered, CoveredFrom-front, CoveredFrom-append}
 use Rattle.path_model.proofs.Following.{CoveredFrom-same, same_append}
@@ -114,7 +113,7 @@ from_each past [] each = tt
 from_each past (event ∷ events) each = (
   subst (λ (p : List Event). IsCovered p event) (append-nil past) (each 0),
   from_each (past ++ event ∷ []) events (λ i.
-    subst (λ (p : List Event). IfSome (slice_get events i) (IsCovered p)) (sym (append_assoc past (event ∷ []) (take i events))) (each (suc i))),
+      subst (λ (p : List Event). IfSome (slice_get events i) (IsCovered p)) (sym (append_assoc past (event ∷ []) (take i events))) (each (suc i))),
 )
 
 pub covered_by_standing : CoveredByStanding

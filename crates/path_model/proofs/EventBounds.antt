@@ -1,5 +1,5 @@
 -- The events of a path are at most three times the work.
-use Rattle.std.proofs.Common.{◌≡◌, ℕ, suc, ◌+◌, ◌*◌, ◌≤◌, Bool, true, false, List, [], ◌∷◌, ◌++◌, length, Option, Some, None, refl, sym, ap, subst, ◌∙◌, arith, inl, inr}
+use Rattle.std.proofs.Common.{◌≡◌, ℕ, suc, ◌+◌, ◌*◌, ◌≤◌, true, false, List, [], ◌∷◌, ◌++◌, length, Option, Some, None, refl, ap, subst, ◌∙◌, arith, inl, inr}
 use Rattle.std.specs.Prelude.{slice_get}
 use Rattle.std.proofs.lemmas.List.FromFn.{length-range_with_len}
 use Rattle.suit_params.specs.declared.digest.Digest.{Digest}
@@ -13,16 +13,15 @@ use Rattle.suit_commands.specs.declared.kinds.TestKind.{TestKind}
 use Rattle.suit_commands.specs.declared.kinds.TestKind.TheVariants as tests
 use Rattle.suit_commands.specs.declared.kinds.ActKind.{ActKind}
 use Rattle.suit_commands.specs.declared.kinds.ActKind.TheVariants as acts
-use Rattle.suit_commands.specs.declared.selection.Selection.{Selection}
 use Rattle.suit_commands.specs.declared.selection.Selection.TheVariants.{One, All, Listed}
 use Rattle.suit_commands.specs.Selections.{selected_after}
 use Rattle.suit_commands.specs.Tree.{CommandTree, Test, Act, Index, Override, TryEach, RunSequence, SequenceTree, NoSteps, StepThen, BranchesTree, NoBranches, BranchThen, NullThen, PlanTree}
 use Rattle.suit_commands.specs.Numbers.{count_after, work_of, command_work, branches_work, work_number}
-use Rattle.path_model.specs.Behaviour.{State, Ending, Done, Behaviour, Then, EachSelected, Each}
+use Rattle.path_model.specs.Behaviour.{State, Ending, Done, Behaviour, Then, Each}
 use Rattle.path_model.specs.Conditions.{Compares, Matches, ChecksContent, Tests, vendor_of, class_of, device_of, slot_of}
 use Rattle.path_model.specs.Directives.{set_events, Overrides, Writes, Acts}
 use Rattle.path_model.specs.Runs.{entry_state, RunsInner, Runs, Does, Tries}
-use Rattle.path_model.specs.Path.{start_state, Starts, RunsPlan, Path, first_state}
+use Rattle.path_model.specs.Path.{start_state, Starts, RunsPlan, first_state}
 use Rattle.path_model.specs.EventBounds.{told_number, PathsBounded}
 use Rattle.path_model.proofs.SelectionLaws.{selection_kept}
 

@@ -14,3 +14,4 @@ pub mod EventBounds
 pub mod Coverage
 pub mod Following
 pub mod TwoComponents
+pub mod OneRun

@@ -1,13 +1,12 @@
 -- The laws of procedures.
-use Rattle.std.proofs.Common.{◌≡◌, ℕ, List, [], ◌∷◌, ◌++◌}
+use Rattle.std.proofs.Common.{ℕ, List, [], ◌∷◌, ◌++◌}
 use Rattle.std.specs.Prelude.{◌↔◌}
 use Rattle.path_model.specs.declared.identity.Identity.{Identity}
 use Rattle.path_model.specs.declared.event.Event.{Event}
 use Rattle.suit_commands.specs.Tree.{SequenceTree, PlanTree}
 use Rattle.path_model.specs.Behaviour.{State, Ending, Behaviour, Then, Each}
-use Rattle.path_model.specs.Runs.{Runs}
 use Rattle.path_model.specs.Path.{Starts, RunsPlan, first_state}
-use Rattle.path_model.specs.ProcedureLaws.{sequences_of, starting, AllInTurn, PlanRuns, BeginsRun, PathRules}
+use Rattle.path_model.specs.ProcedureLaws.{sequences_of, AllInTurn, PlanRuns, PathRules}
 use Rattle.path_model.proofs.Turns.{of_then, to_then, turn_map}
 use Rattle.path_model.proofs.RunLaws.{once, of_once}
 use Rattle.path_model.proofs.ParameterLaws.{starts_empty}

@@ -1,5 +1,5 @@
 -- The laws of selections, and of commands that are done for each selected component.
-use Rattle.std.proofs.Common.{◌≡◌, ℕ, Bool, true, false, List, [], ◌∷◌, ◌++◌, get_or, Option, Some, None, refl, sym, ap, subst, ◌∙◌, arith, inl, inr}
+use Rattle.std.proofs.Common.{◌≡◌, ℕ, Bool, true, false, List, [], ◌∷◌, get_or, Option, Some, None, refl, sym, ap, subst, ◌∙◌, arith, inl, inr}
 use Rattle.std.specs.Prelude.{◌↔◌, slice_get}
 use Rattle.std.specs.List.{range_with_len}
 use Rattle.std.proofs.lemmas.List.FromFn.{length-range_with_len, get_or-range_with_len}
@@ -18,7 +18,7 @@ use Rattle.suit_commands.specs.declared.kinds.ActKind.TheVariants as acts
 use Rattle.suit_commands.specs.Tree.{Test, Act, Index, Override, TryEach, RunSequence, BranchesTree, NoBranches, BranchThen, NullThen}
 use Rattle.path_model.specs.Behaviour.{State, Ending, Done, Condition, Directive, IsFailure, Behaviour, EachSelected, Each}
 use Rattle.path_model.specs.Conditions.{Passes, Fails, Compares, Matches, ChecksContent, Tests, vendor_of, class_of, device_of, slot_of}
-use Rattle.path_model.specs.Directives.{soft_after, after_override, Overrides, Writes, Invokes, Acts}
+use Rattle.path_model.specs.Directives.{soft_after, after_override, Overrides, Writes, Acts}
 use Rattle.path_model.specs.Runs.{after_run, after_branch, RunsInner, Runs, Tries}
 use Rattle.path_model.specs.Turns.{Course, InTurn, with_selected, putting_back}
 use Rattle.path_model.specs.SelectionLaws.{Selections, IndexSelects, SelectionKept, OneSelected, NoneSelected, MoreSelected}

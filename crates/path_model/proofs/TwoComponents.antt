@@ -1,8 +1,7 @@
 -- The runs of the procedure of two components.
-use Rattle.std.proofs.Common.{◌≡◌, ◌<◌, ℕ, suc, Bool, true, false, List, [], ◌∷◌, ◌++◌, Option, Some, None, refl, sym, ap, subst, ◌∙◌, arith, inl, inr, ◌⊎◌}
+use Rattle.std.proofs.Common.{◌≡◌, ◌<◌, ℕ, suc, true, false, List, [], ◌∷◌, ◌++◌, Some, None, refl, sym, ap, subst, ◌∙◌, arith, inl, inr, ◌⊎◌}
 use Rattle.std.specs.Prelude.{◌↔◌}
 use Rattle.suit_params.specs.declared.digest.Digest.{Digest}
-use Rattle.suit_params.specs.declared.param.Param.{Param}
 use Rattle.suit_params.specs.declared.param.Param.TheVariants as params
 use Rattle.suit_params.specs.declared.param.ParamKey.TheVariants as keys
 use Rattle.suit_params.specs.InForce.{Parameters, none_in_force, with_param, in_force}
@@ -18,7 +17,7 @@ use Rattle.path_model.specs.Directives.{Overrides, Acts}
 use Rattle.path_model.specs.Runs.{Runs}
 use Rattle.path_model.specs.Path.{start_state, Starts, RunsPlan, first_state}
 use Rattle.path_model.specs.ParameterLaws.{IsWhole}
-use Rattle.path_model.specs.TwoComponents.{set_both, match_first, invoke_second, two_components, both_told, missed_run, matched_run, launched_run, unlaunched_run, IsDone, RunsExactly, TwoComponentsRun}
+use Rattle.path_model.specs.TwoComponents.{set_both, match_first, invoke_second, two_components, both_told, missed_run, matched_run, launched_run, unlaunched_run, IsDone, TwoComponentsRun}
 use Rattle.path_model.proofs.ParameterLaws.{stays_whole, starts_empty, override_replaces, override_keeps}
 use Rattle.path_model.proofs.CommandLaws.{match_is_free, invokes_tell}
 use Rattle.path_model.proofs.RunLaws.{once, of_once}
@@ -107,9 +106,28 @@ module _ (d : Digest) (ids : List Identity) where
       let both : State = record { parameters = t.parameters; selection = 0 ∷ 1 ∷ []; soft_failure = false } in
       let one : State = record { parameters = with_param t.parameters 0 (params.Digest d); selection = 0 ∷ 1 ∷ []; soft_failure = false } in
       let two = after_shared d s in
-      inr (both, [], both_told d, refl, (refl, refl), inr (two, both_told d, [], refl,
-      inr (one, Set 0 (params.Digest d) ∷ [], Set 1 (params.Digest d) ∷ [], refl, (refl, refl),
-      inr (two, Set 1 (params.Digest d) ∷ [], [], refl, (refl, refl), (refl, refl))), (refl, refl)))
+      inr (
+        both,
+        [],
+        both_told d,
+        refl,
+        (refl, refl),
+        inr (
+          two,
+          both_told d,
+          [],
+          refl,
+          inr (
+            one,
+            Set 0 (params.Digest d) ∷ [],
+            Set 1 (params.Digest d) ∷ [],
+            refl,
+            (refl, refl),
+            inr (two, Set 1 (params.Digest d) ∷ [], [], refl, (refl, refl), (refl, refl)),
+          ),
+          (refl, refl),
+        ),
+      )
 
   shared_only : (s : State) → Only (Starts (set_both d) (two_components d) ids s) (both_told d) (after_shared d s)
   unfolding Only Rest after_shared both_in
@@ -121,9 +139,9 @@ module _ (d : Digest) (ids : List Identity) where
       let two = after_shared d s in
       let steps = then_only (λ x. λ xs. λ end. (xs ≡ []) × (end ≡ Done both)) (λ x. Then (λ y. Each at y.selection y) (Runs NoSteps ids 2) x) t [] both (λ xs end is. is) es e run in
       let each_only : Only (Each at (0 ∷ 1 ∷ []) both) (both_told d) two = λ xs end all.
-          let first = then_only (at 0) (Each at (1 ∷ [])) both (Set 0 (params.Digest d) ∷ []) one (λ ys f is. is) xs end all in
-          let last = of_once at 1 one first.0 end first.2 in
-          (first.1 ∙ ap (λ (more : List Event). Set 0 (params.Digest d) ∷ more) last.0, last.1)
+      let first = then_only (at 0) (Each at (1 ∷ [])) both (Set 0 (params.Digest d) ∷ []) one (λ ys f is. is) xs end all in
+      let last = of_once at 1 one first.0 end first.2 in
+      (first.1 ∙ ap (λ (more : List Event). Set 0 (params.Digest d) ∷ more) last.0, last.1)
       in
       let whole = then_only (λ y. Each at y.selection y) (Runs NoSteps ids 2) both (both_told d) two each_only steps.0 e steps.2 in
       (steps.1 ∙ whole.1 ∙ ap (λ (more : List Event). both_told d ++ more) whole.2.0, whole.2.1)
@@ -221,17 +239,40 @@ module _ (d : Digest) (ids : List Identity) where
   invoked_after : (told : List Event) (e : Ending) → Acts acts.Invoke 50 1 (at_second s5) told e → r3 (start_state s1) (both_told d ++ (both_told d ++ told)) e
   unfolding r3 r4 r5 Shared s3 s5
   invoked_after told e run =
-      inr (s3, both_told d, both_told d ++ told, refl, shared_run (start_state s1),
-      inr (start_state s3, [], both_told d ++ told, refl, (refl, refl),
-      inr (s5, both_told d, told, refl, shared_run (start_state s3), third_act s5 told e run)))
+      inr (
+        s3,
+        both_told d,
+        both_told d ++ told,
+        refl,
+        shared_run (start_state s1),
+        inr (
+          start_state s3,
+          [],
+          both_told d ++ told,
+          refl,
+          (refl, refl),
+          inr (s5, both_told d, told, refl, shared_run (start_state s3), third_act s5 told e run),
+        ),
+      )
 
   whole_invoked : (told : List Event) (e : Ending) → Acts acts.Invoke 50 1 (at_second s5) told e → RunsPlan (two_components d) ids first_state (matched_run d ++ told) e
   unfolding r3 r4 r5 Shared s1
   whole_invoked told e run =
-      inr (s1, both_told d, Matched 0 d None ∷ (both_told d ++ (both_told d ++ told)), refl, shared_run first_state,
-      inr (start_state s1, Matched 0 d None ∷ [], both_told d ++ (both_told d ++ told), refl,
-      first_test s1 (Matched 0 d None ∷ []) (Done (start_state s1)) ((first_ends (Matched 0 d None ∷ []) (Done (start_state s1))).1 (inl (refl, refl))),
-      invoked_after told e run))
+      inr (
+        s1,
+        both_told d,
+        Matched 0 d None ∷ (both_told d ++ (both_told d ++ told)),
+        refl,
+        shared_run first_state,
+        inr (
+          start_state s1,
+          Matched 0 d None ∷ [],
+          both_told d ++ (both_told d ++ told),
+          refl,
+          first_test s1 (Matched 0 d None ∷ []) (Done (start_state s1)) ((first_ends (Matched 0 d None ∷ []) (Done (start_state s1))).1 (inl (refl, refl))),
+          invoked_after told e run,
+        ),
+      )
 
   whole_missed : RunsPlan (two_components d) ids first_state (missed_run d) (Condition 30 false)
   unfolding s1
@@ -293,7 +334,7 @@ two_components_run d ids = record {
   launched = (
     Done (at_second d ids (s5 d ids)),
     whole_invoked d ids (Invoked 1 (Some d) None true ∷ []) (Done (at_second d ids (s5 d ids)))
-    ((third_ends d ids (Invoked 1 (Some d) None true ∷ []) (Done (at_second d ids (s5 d ids)))).1 (inl (refl, refl))),
+        ((third_ends d ids (Invoked 1 (Some d) None true ∷ []) (Done (at_second d ids (s5 d ids)))).1 (inl (refl, refl))),
     tt,
   );
   unlaunched =

@@ -17,3 +17,4 @@ pub mod SelectionLaws
 pub mod ProcedureLaws
 pub mod EventBounds
 pub mod TwoComponents
+pub mod OneRun

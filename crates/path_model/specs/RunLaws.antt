@@ -103,7 +103,7 @@ BranchesRules =
     → state.selection ≡ component ∷ []
     → Does (TryEach (BranchThen inner rest)) identities count place state events ending
     ↔ BranchEnds state (Runs inner identities count (within state component true))
-      (Does (TryEach rest) identities count place state) events ending
+    (Does (TryEach rest) identities count place state) events ending
 
 -- a null branch does nothing and is done; after the last one the try each fails as a condition does
 pub record LastRules (identities : List Identity) (count place component : ℕ) (state : State) : Type 0 where

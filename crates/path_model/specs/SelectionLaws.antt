@@ -79,4 +79,4 @@ MoreSelected =
     → IsDoneForEach command → state.selection ≡ component ∷ rest
     → Does command identities count place state events ending
     ↔ InTurn (DoneFor command identities count place (component ∷ []) state.selection state)
-      (DoneFor command identities count place rest state.selection) events ending
+    (DoneFor command identities count place rest state.selection) events ending

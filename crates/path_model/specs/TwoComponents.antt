@@ -1,6 +1,6 @@
 -- The runs of one procedure of two components, all of them. Its shared sequence selects both and overrides their
 -- digest. Its first member matches an image, its second is absent, and its third invokes component 1.
-use Rattle.std.specs.Prelude.{◌≡◌, ◌↔◌, ◌⊎◌, true, false, List, [], ◌∷◌, ◌++◌, None, Some}
+use Rattle.std.specs.Prelude.{◌≡◌, ◌⊎◌, true, false, List, [], ◌∷◌, ◌++◌, None, Some}
 use Rattle.suit_params.specs.declared.digest.Digest.{Digest}
 use Rattle.suit_params.specs.declared.param.Param.TheVariants as params
 use Rattle.suit_commands.specs.declared.kinds.TestKind.TheVariants as tests

@@ -7,6 +7,7 @@ ghost use Rattle.path_model.specs.RunLaws.{OverridesNothing, OverridesStep, Sequ
 ghost use Rattle.path_model.specs.ProcedureLaws.{PlanRuns, PathRules};
 ghost use Rattle.path_model.specs.PathLaws.{InnerGoesBack, PathsBegin, IdentitiesBounded};
 ghost use Rattle.path_model.specs.EventBounds.{PathsBounded};
+ghost use Rattle.path_model.specs.OneRun.{OneRun};
 ghost use Rattle.path_model.specs.TwoComponents.{TwoComponentsRun};
 ghost use Rattle.path_model.specs.CoverLaws.{NothingMatched, MatchStands, WriteEnds, OthersLeave, InvokeCovered, AbsentUncovered, MatchByIndices, CoveredByIndices, AllAreCovered, CoveredByStanding, EndsAtFirst, SameFollows, PartsCovered, SafetyIs, BadPathIs, BadPathRefutes};
 
@@ -107,6 +108,11 @@ pub fn safety_laws()
     ensures last { EndsAtFirst }
     ensures bad { BadPathIs }
     ensures refutes { BadPathRefutes }
+{}
+
+/// There is one run for one list of identities and one way for each free step to end.
+pub fn one_run_laws()
+    ensures { OneRun }
 {}
 
 /// All runs of one procedure of two components, whose shared sequence selects both, and which matches one of them and
