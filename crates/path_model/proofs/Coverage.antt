@@ -8,8 +8,9 @@ use Rattle.suit_params.specs.declared.digest.Digest.{Digest}
 use Rattle.path_model.specs.declared.event.Event.{Event}
 use Rattle.path_model.specs.declared.event.Event.TheVariants.{Set, Tried, Matched, Missed, Wrote, Invoked, Failed}
 use Rattle.path_model.specs.Safe.{WritesTo, HasMatched, IsCovered, Covered, AllCovered, EndsUncovered}
-use Rattle.path_model.specs.Following.{CoveredFrom}
-use Rattle.path_model.specs.CoverLaws.{MatchedAt, MatchByIndices, CoveredByIndices, AllAreCovered, CoveredByStanding, IsLastUncovered, EndsAtFirst, SameFollows, PartsCovered, SafetyIs, BadPathIs, BadPathRefutes}
+use Rattle.path_model.specs.FirstUncovered.{IsUncoveredFirst}
+use Rattle.path_model.specs.Following.{CoveredFrom, SameMatches}
+use Rattle.path_model.specs.CoverLaws.{MatchedAt, MatchByIndices, CoveredByIndices, AllAreCovered, CoveredByStanding, IsLastUncovered, EndsAtFirst, FirstIsOne, SameFollows, PartsCovered, SafetyIs, BadPathIs, BadPathRefutes}
 use Rattle.path_model.proofs.CoverLaws.{unwritten}
 use Rattle.path_model.proofs.Covering.{CoveredFrom-AllCovered, CoveredFrom-front, CoveredFrom-append}
 use Rattle.path_model.proofs.Following.{CoveredFrom-same, same_append}
@@ -209,10 +210,32 @@ module _ (events : List Event) (ends : IsLastUncovered events) where
 pub ends_at_first : EndsAtFirst
 ends_at_first events = (λ ends. to_last events ends, λ ends. from_last events ends)
 
+no_earlier : (events : List Event) (i j : ℕ) → IsUncoveredFirst events i → IsUncoveredFirst events j → i < j → ⊥
+no_earlier events i j first other lt = first.uncovered (other.earlier i lt)
+
+one_index : (events : List Event) (i j : ℕ) → IsUncoveredFirst events i → IsUncoveredFirst events j → i ≡ j
+one_index events i j first other =
+    elim (cases_lt i j) [
+      | inl lt ↦ absurd (no_earlier events i j first other lt)
+      | inr le ↦ elim (cases_lt j i) [
+        | inl gt ↦ absurd (no_earlier events j i other first gt)
+        | inr ge ↦ omega arith
+      ]
+    ]
+
+pub first_is_one : FirstIsOne
+first_is_one events None None first other = refl
+first_is_one events None (Some j) first other = absurd (other.uncovered (first j))
+first_is_one events (Some i) None first other = absurd (first.uncovered (other i))
+first_is_one events (Some i) (Some j) first other = ap Some (one_index events i j first other)
+
 -- ---- what follows
 
+turned : (a b : List Event) → SameMatches a b → SameMatches b a
+turned a b same c d s = ((same c d s).1, (same c d s).0)
+
 pub same_follows : SameFollows
-same_follows a b more same = record { covered = λ h. CoveredFrom-same a b more same h; matches = same_append a b more same }
+same_follows a b more same = record { covered = (λ h. CoveredFrom-same a b more same h, λ h. CoveredFrom-same b a more (turned a b same) h); matches = same_append a b more same }
 
 back_covered : (past front back : List Event) → CoveredFrom past (front ++ back) → CoveredFrom (past ++ front) back
 back_covered past [] back h = subst (λ (p : List Event). CoveredFrom p back) (sym (append-nil past)) h

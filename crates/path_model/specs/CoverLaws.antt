@@ -8,7 +8,7 @@ use Rattle.path_model.specs.declared.bad_path.BadPath.{BadPath}
 use Rattle.suit_commands.specs.Tree.{PlanTree}
 use Rattle.path_model.specs.Path.{AreIdentities, Path}
 use Rattle.path_model.specs.Safe.{HasMatched, IsCovered, Covered, AllCovered, Safe, EndsUncovered}
-use Rattle.path_model.specs.FirstUncovered.{IsUncoveredFirst}
+use Rattle.path_model.specs.FirstUncovered.{IsUncoveredFirst, IsFirstUncovered}
 use Rattle.path_model.specs.Following.{CoveredFrom, SameMatches}
 use Rattle.path_model.specs.BadPaths.{IsBadPath}
 
@@ -86,11 +86,15 @@ pub record IsLastUncovered (events : List Event) : Type 0 where
 abbrev pub EndsAtFirst : Type 0
 EndsAtFirst = (events : List Event) → EndsUncovered events ↔ IsLastUncovered events
 
+-- which invoke is the first that is not covered, if any, has one answer
+abbrev pub FirstIsOne : Type 0
+FirstIsOne = (events : List Event) (first other : Option ℕ) → IsFirstUncovered events first → IsFirstUncovered events other → first ≡ other
+
 -- ---- what follows
 
 -- where the same matches stand, the same that follows is covered, and afterwards the same matches stand
 pub record FollowsAlike (events others more : List Event) : Type 0 where
-  pub covered : CoveredFrom events more → CoveredFrom others more
+  pub covered : CoveredFrom events more ↔ CoveredFrom others more
   pub matches : SameMatches (events ++ more) (others ++ more)
 
 abbrev pub SameFollows : Type 0

@@ -33,7 +33,7 @@ IndexSelects =
     → Does (Index selection) identities count place state events ending
     ↔ ((events ≡ []) × (ending ≡ Done (with_selected state (selected_by selection count))))
 
--- no other command changes it
+-- afterwards those are selected that the command names, and else those before
 abbrev pub SelectionKept : Type 0
 SelectionKept =
     (command : CommandTree) (identities : List Identity) (count place : ℕ) (state next : State) (events : List Event)

@@ -9,7 +9,7 @@ ghost use Rattle.path_model.specs.PathLaws.{InnerGoesBack, PathsBegin, Identitie
 ghost use Rattle.path_model.specs.EventBounds.{PathsBounded};
 ghost use Rattle.path_model.specs.OneRun.{OneRun};
 ghost use Rattle.path_model.specs.TwoComponents.{TwoComponentsRun};
-ghost use Rattle.path_model.specs.CoverLaws.{NothingMatched, MatchStands, WriteEnds, OthersLeave, InvokeCovered, AbsentUncovered, MatchByIndices, CoveredByIndices, AllAreCovered, CoveredByStanding, EndsAtFirst, SameFollows, PartsCovered, SafetyIs, BadPathIs, BadPathRefutes};
+ghost use Rattle.path_model.specs.CoverLaws.{NothingMatched, MatchStands, WriteEnds, OthersLeave, InvokeCovered, AbsentUncovered, MatchByIndices, CoveredByIndices, AllAreCovered, CoveredByStanding, EndsAtFirst, FirstIsOne, SameFollows, PartsCovered, SafetyIs, BadPathIs, BadPathRefutes};
 
 /// What is in force (draft-ietf-suit-manifest-25, section 8.4.8): nothing at first, and after an override the
 /// parameters that it gives, for its component and their keys alone. Where the same is in force, it is the same value.
@@ -106,6 +106,7 @@ pub fn following_laws()
 pub fn safety_laws()
     ensures safe { SafetyIs }
     ensures last { EndsAtFirst }
+    ensures first { FirstIsOne }
     ensures bad { BadPathIs }
     ensures refutes { BadPathRefutes }
 {}
