@@ -15,3 +15,4 @@ pub mod Coverage
 pub mod Following
 pub mod TwoComponents
 pub mod OneRun
+pub mod Unsafe

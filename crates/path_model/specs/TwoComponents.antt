@@ -12,6 +12,7 @@ use Rattle.path_model.specs.declared.event.Event.TheVariants.{Set, Matched, Miss
 use Rattle.suit_commands.specs.Tree.{Test, Act, Index, Override, SequenceTree, NoSteps, StepThen, PlanTree}
 use Rattle.path_model.specs.Behaviour.{Ending, Done, Condition, Directive}
 use Rattle.path_model.specs.Path.{RunsPlan, first_state}
+use Rattle.path_model.specs.Safe.{Safe}
 
 abbrev pub set_both : Digest → SequenceTree
 set_both digest = StepThen 10 (Index All) (StepThen 20 (Override (params.Digest digest ∷ [])) NoSteps)
@@ -59,3 +60,7 @@ pub record RunsExactly (digest : Digest) (identities : List Identity) : Type 0 w
 
 abbrev pub TwoComponentsRun : Type 0
 TwoComponentsRun = (digest : Digest) (identities : List Identity) → RunsExactly digest identities
+
+-- it is not safe, since it invokes a component that it did not match
+abbrev pub TwoComponentsUnsafe : Type 0
+TwoComponentsUnsafe = (digest : Digest) → Safe (two_components digest) → ⊥

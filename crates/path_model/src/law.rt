@@ -8,7 +8,7 @@ ghost use Rattle.path_model.specs.ProcedureLaws.{PlanRuns, PathRules};
 ghost use Rattle.path_model.specs.PathLaws.{InnerGoesBack, PathsBegin, IdentitiesBounded};
 ghost use Rattle.path_model.specs.EventBounds.{PathsBounded};
 ghost use Rattle.path_model.specs.OneRun.{OneRun};
-ghost use Rattle.path_model.specs.TwoComponents.{TwoComponentsRun};
+ghost use Rattle.path_model.specs.TwoComponents.{TwoComponentsRun, TwoComponentsUnsafe};
 ghost use Rattle.path_model.specs.CoverLaws.{NothingMatched, MatchStands, WriteEnds, OthersLeave, InvokeCovered, AbsentUncovered, MatchByIndices, CoveredByIndices, AllAreCovered, CoveredByStanding, EndsAtFirst, FirstIsOne, SameFollows, PartsCovered, SafetyIs, BadPathIs, BadPathRefutes};
 
 /// What is in force (draft-ietf-suit-manifest-25, section 8.4.8): nothing at first, and after an override the
@@ -117,9 +117,10 @@ pub fn one_run_laws()
 {}
 
 /// All runs of one procedure of two components, whose shared sequence selects both, and which matches one of them and
-/// invokes the other.
+/// invokes the other, so that it is not safe.
 pub fn example_laws()
-    ensures { TwoComponentsRun }
+    ensures runs { TwoComponentsRun }
+    ensures not_safe { TwoComponentsUnsafe }
 {}
 
 /// The identities that a path is judged for: all lists with one for each component, whose identifiers, as far
