@@ -1,5 +1,5 @@
 use Rattle.path_model.proofs.CommandLaws.{directives_write, directives_need, invokes_tell}
-use Rattle.path_model.proofs.law.directives.Goals as goal
+use Rattle.path_model.proofs.law.directive_laws.Goals as goal
 
 pub returns-clause-writes : goal.returns-clause-writes
 returns-clause-writes c = directives_write

@@ -1,6 +1,6 @@
 use Rattle.path_model.proofs.RunLaws.{run_sequence_rules, branches_rules, last_branch_rules}
 use Rattle.path_model.proofs.PathLaws.{inner_goes_back}
-use Rattle.path_model.proofs.law.inner_sequences.Goals as goal
+use Rattle.path_model.proofs.law.inner_sequence_laws.Goals as goal
 
 pub returns-clause-run : goal.returns-clause-run
 returns-clause-run c = run_sequence_rules

@@ -1,6 +1,6 @@
 use Rattle.path_model.proofs.ParameterLaws.{stays_whole, starts_empty, override_replaces, override_keeps, is_canonical}
-use Rattle.path_model.proofs.RunLaws.{overrides_step}
-use Rattle.path_model.proofs.law.overriding.Goals as goal
+use Rattle.path_model.proofs.RunLaws.{overrides_nothing, overrides_step}
+use Rattle.path_model.proofs.law.overriding_laws.Goals as goal
 
 pub returns-clause-whole : goal.returns-clause-whole
 returns-clause-whole c = stays_whole
@@ -16,6 +16,9 @@ returns-clause-keeps c = override_keeps
 
 pub returns-clause-canonical : goal.returns-clause-canonical
 returns-clause-canonical c = is_canonical
+
+pub returns-clause-nothing : goal.returns-clause-nothing
+returns-clause-nothing c = overrides_nothing
 
 pub returns-clause-steps : goal.returns-clause-steps
 returns-clause-steps c = overrides_step
