@@ -26,5 +26,9 @@ in_order levels [] fits ascend = tt
 in_order levels (e ∷ es) fits ascend =
     (λ n is. above_number levels n es (subst (IsValidWithin levels) is fits.0) fits.1 (subst (λ (k : DataItem). AreAbove (spell k) es) is ascend.0), in_order levels es fits.1 ascend.1)
 
+pub ordered_within : (levels place : ℕ) (pairs : DataPairs) → IsValidWithin levels (MapOf pairs) → NumbersAscend (entries_of place pairs)
+ordered_within levels place pairs valid =
+    in_order (levels + 1) (entries_of place pairs) (keys_fit (levels + 1) (pairs_place place pairs) None pairs valid.2) (entries_ascend (levels + 1) (pairs_place place pairs) None pairs valid.2)
+
 pub ordered : (place : ℕ) (pairs : DataPairs) → IsValid (MapOf pairs) → NumbersAscend (entries_of place pairs)
 ordered place pairs valid = in_order 1 (entries_of place pairs) (keys_fit 1 (pairs_place place pairs) None pairs valid.2) (entries_ascend 1 (pairs_place place pairs) None pairs valid.2)

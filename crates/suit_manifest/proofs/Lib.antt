@@ -14,8 +14,9 @@ pub mod Arrays
 pub mod Likeness
 pub mod ComponentsJudging
 pub mod ComponentsReads
-pub mod FieldSteps
 pub mod ValuesPassed
+pub mod PairsTaken
+pub mod Picked
 pub mod MapLaws
 pub mod CommonJudging
 pub mod CommonReads

@@ -224,15 +224,15 @@ module _ (laws : SequenceLaws) where
       let install = severed_alike m.install n.install (ap (λ (k : Manifest). k.install) e) in
       let text : m.text ≡ n.text = ap (λ (k : Manifest). k.text) e in
       λ i. MapOf (row_pairs (
-        (1, Some (UnsignedInteger 1))
-        ∷ (2, Some (UnsignedInteger (sequence i)))
-        ∷ (3, Some (ByteString (spell (MapOf (row_pairs ((2, Some (ArrayOf (identifier_items (components i)))) ∷ (4, shared i) ∷ []))))))
-        ∷ (4, text_item (reference i))
-        ∷ (7, validate i)
-        ∷ (8, load i)
-        ∷ (9, invoke i)
-        ∷ (16, payload_fetch i)
-        ∷ (20, install i)
-        ∷ (23, text_member_item (text i))
-        ∷ []
+      (1, Some (UnsignedInteger 1))
+      ∷ (2, Some (UnsignedInteger (sequence i)))
+      ∷ (3, Some (ByteString (spell (MapOf (row_pairs ((2, Some (ArrayOf (identifier_items (components i)))) ∷ (4, shared i) ∷ []))))))
+      ∷ (4, text_item (reference i))
+      ∷ (7, validate i)
+      ∷ (8, load i)
+      ∷ (9, invoke i)
+      ∷ (16, payload_fetch i)
+      ∷ (20, install i)
+      ∷ (23, text_member_item (text i))
+      ∷ []
       ))

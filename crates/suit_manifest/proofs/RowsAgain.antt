@@ -36,14 +36,14 @@ AreKeyed keys low (PairThen key value ps) = (n : ℕ) × IsKeyed keys low key n 
 
 -- ---- numbers
 
-not_same : (a b : ℕ) → (a ≡ b → ⊥) → (a == b) ≡ false
+pub not_same : (a b : ℕ) → (a ≡ b → ⊥) → (a == b) ≡ false
 not_same a b other = by_test (a == b) refl
   where
     by_test : (t : Bool) → (a == b) ≡ t → (a == b) ≡ false
     by_test true e = absurd (other (eqb-true a b e))
     by_test false e = e
 
-among_above : (low n : ℕ) (keys : List ℕ) → KeysAscend low keys → Among n keys → low < n
+pub among_above : (low n : ℕ) (keys : List ℕ) → KeysAscend low keys → Among n keys → low < n
 among_above low n [] up among = absurd among
 among_above low n (k ∷ ks) up (inl same) = omega (arith, same, up.0)
 among_above low n (k ∷ ks) up (inr later) = omega (arith, up.0, among_above k n ks up.1 later)
