@@ -1,6 +1,6 @@
 -- Keys have cells of their own, and parameters in force have their values.
-use Rattle.std.proofs.Common.{◌≡◌, ◌≢◌, ◌<◌, ℕ, List, length, Option, Some, None, refl, sym, ap, ◌∙◌, arith, inl, inr, ⊎_elim}
-use Rattle.std.specs.Prelude.{◌↔◌, ◌==◌, if◌then◌else◌}
+use Rattle.std.proofs.Common.{◌≡◌, ◌≢◌, ◌<◌, ℕ, List, length, Option, Some, None, refl, sym, ap, ◌∙◌, arith, inl, inr}
+use Rattle.std.specs.Prelude.{◌==◌, if◌then◌else◌}
 use Rattle.std.proofs.lemmas.List.{get_or-replicate, length-replicate}
 use Rattle.std.proofs.lemmas.Option.{same_Some}
 use Rattle.suit_params.specs.declared.digest.Digest.{Digest}
@@ -8,7 +8,7 @@ use Rattle.suit_params.specs.declared.param.Param.{Param}
 use Rattle.suit_params.specs.declared.param.Param.TheVariants as params
 use Rattle.suit_params.specs.declared.param.ParamKey.{ParamKey}
 use Rattle.suit_params.specs.declared.param.ParamKey.TheVariants as keys
-use Rattle.suit_params.specs.InForce.{Parameters, rank, cell, none_in_force, with_param, in_force, identifier_of, number_of, digest_of, bytes_of, digest_in, size_in}
+use Rattle.suit_params.specs.InForce.{Parameters, rank, cell, none_in_force, with_param, in_force, identifier_of, number_of, digest_of, bytes_of}
 use Rattle.suit_params.specs.InForceLaws.{HasIdentifier, HasNumber, HasDigest, HasBytes, InForceLaws}
 use Rattle.suit_params.specs.ParamKeys.{key_of}
 use Rattle.suit_params.proofs.Overriding.{within, in_force_is, at_same, at_other}

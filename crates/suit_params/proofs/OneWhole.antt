@@ -1,7 +1,6 @@
 -- A form whose items are judged both ways gives all bytes one answer.
-use Rattle.std.proofs.Common.{◌≡◌, ◌⊎◌, ℕ, List, Result, Ok, Err, refl, sym, ◌∙◌, inl, inr}
-use Rattle.std.specs.List.{AllByRecursion}
-use Rattle.det_cbor.specs.DataItem.{DataItem, IsByte}
+use Rattle.std.proofs.Common.{◌≡◌, ◌⊎◌, ℕ, Result, Ok, Err, refl, sym, ◌∙◌, inl, inr}
+use Rattle.det_cbor.specs.DataItem.{DataItem}
 use Rattle.det_cbor.proofs.OneReadingLaw.{bytes_of_all}
 use Rattle.det_cbor.proofs.Results.{same_ok, same_err, not_both}
 use Rattle.suit_params.specs.declared.refusal.Refusal.{Refusal}

@@ -1,7 +1,7 @@
 -- The judgement of a parameter's value is that of the grammar and the refusals.
 use Rattle.std.proofs.Common.{◌≡◌, ℕ, ◌<◌, ◌≤◌, Bool, true, false, eqb, ltb, List, length, Result, Ok, Err, refl, sym, ap, subst, ◌∙◌, inl, inr}
 use Rattle.std.proofs.lemmas.Bool.{eqb-true, eqb-false, ne_eqb, lt-ltb, le-ltb, ltb-true, ltb-false}
-use Rattle.det_cbor.specs.DataItem.{DataItem, UnsignedInteger, NegativeInteger, ByteString, TextString, ArrayOf, MapOf, TaggedItem, Boolean, NullItem, IsValidWithin}
+use Rattle.det_cbor.specs.DataItem.{DataItem, UnsignedInteger, ByteString, TextString, Boolean, IsValidWithin}
 use Rattle.det_cbor.specs.HeadReading.{◌>>=◌}
 use Rattle.det_cbor.proofs.Results.{chosen, bind_ok, bind_err, same_ok, same_err}
 use Rattle.det_cbor.proofs.Arguments.{IsBytes}
