@@ -1,5 +1,5 @@
 -- A member is got exactly where its digest is the stated one.
-use Rattle.std.proofs.Common.{◌≡◌, ◌↔◌, ◌∙◌, sym, ℕ, List, Option, Some, None, subst}
+use Rattle.std.proofs.Common.{◌≡◌, ◌↔◌, ◌∙◌, ℕ, List, Option, Some, subst}
 use Rattle.suit_envelope.specs.Members.{string_digest, AnswersMember, IsGot}
 use Rattle.suit_envelope.specs.declared.severed.MemberBytes.{MemberBytes}
 use Rattle.suit_envelope.specs.declared.severed.MemberBytes.TheVariants as answers

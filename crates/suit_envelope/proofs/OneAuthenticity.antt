@@ -1,5 +1,5 @@
 -- Of a wrapper, a manifest and a key one answer is told.
-use Rattle.std.proofs.Common.{◌≡◌, ℕ, List, [], ◌∷◌, ◌++◌, Ok, refl, sym, ap, subst, ◌∙◌}
+use Rattle.std.proofs.Common.{◌≡◌, ℕ, List, [], ◌∷◌, Ok, refl, sym, ap, subst, ◌∙◌}
 use Rattle.std.specs.List.{AllByRecursion}
 use Rattle.std.proofs.lemmas.List.{append-nil}
 use Rattle.det_cbor.specs.DataItem.{DataItem, Spells, spell}
@@ -9,7 +9,7 @@ use Rattle.det_cbor.proofs.Results.{ok_pair}
 use Rattle.hmac_mac0.specs.Mac0.{IsMac0, Mismatches, mac0_item, tag_of}
 use Rattle.suit_params.specs.declared.digest.Digest.{Digest}
 use Rattle.suit_envelope.specs.Macs.{IsOther, FirstDiffers, ThisDiffers, ALaterDiffers}
-use Rattle.suit_envelope.specs.Authentic.{AnswersAuthentic, TellsDifference, TellSame, payload_of}
+use Rattle.suit_envelope.specs.Authentic.{AnswersAuthentic, TellsDifference, payload_of}
 use Rattle.suit_envelope.specs.EnvelopeLaws.{AuthenticityLaw}
 use Rattle.suit_envelope.specs.declared.authenticity.Authenticity.{Authenticity}
 use Rattle.suit_envelope.specs.declared.authenticity.Authenticity.TheVariants as answers

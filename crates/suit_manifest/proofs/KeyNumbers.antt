@@ -1,5 +1,5 @@
 -- The numbers of the keys of a map ascend.
-use Rattle.std.proofs.Common.{◌≡◌, ℕ, ◌+◌, ◌<◌, ◌^◌, List, [], ◌∷◌, length, Option, Some, None, subst}
+use Rattle.std.proofs.Common.{ℕ, ◌+◌, ◌<◌, ◌^◌, List, [], ◌∷◌, length, Option, Some, None, subst}
 use Rattle.std.specs.List.{AllByRecursion}
 use Rattle.det_cbor.specs.DataItem.{DataItem, UnsignedInteger, MapOf, DataPairs, NoPairs, PairThen, spell, IsAbove, IsValid, IsValidWithin, ArePairsWithin}
 use Rattle.suit_params.specs.Params.{pairs_place}

@@ -1,18 +1,12 @@
 -- Items say one manifest or have one refusal, and keys are in order.
-use Rattle.std.proofs.Common.{◌≡◌, ℕ, ◌+◌, ◌<◌, ◌^◌, List, [], ◌∷◌, length, Option, Some, None, Result, Ok, Err, refl, sym, subst, ◌∙◌, inl, inr, ◌⊎◌}
-use Rattle.std.specs.List.{AllByRecursion}
-use Rattle.det_cbor.specs.DataItem.{DataItem, UnsignedInteger, MapOf, DataPairs, NoPairs, PairThen, spell, IsAbove, IsValid, IsValidWithin, ArePairsWithin}
+use Rattle.std.proofs.Common.{◌≡◌, ℕ, Result, Ok, Err, refl, sym, ◌∙◌, inl, inr, ◌⊎◌}
+use Rattle.det_cbor.specs.DataItem.{DataItem, IsValid}
 use Rattle.det_cbor.proofs.Results.{same_ok, same_err, not_both}
 use Rattle.suit_params.specs.declared.refusal.Refusal.{Refusal}
-use Rattle.suit_params.specs.Params.{pairs_place}
-use Rattle.suit_params.proofs.ParamOrder.{number_above}
 use Rattle.suit_commands.specs.SequenceLaws.{SequenceLaws}
-use Rattle.suit_envelope.specs.Envelopes.{Entry, entries}
-use Rattle.suit_envelope.proofs.EntryOrder.{AreAbove, AreAscending, entries_ascend}
 use Rattle.suit_manifest.specs.declared.manifest.Manifest.{Manifest}
 use Rattle.suit_manifest.specs.ManifestJudging.{judge_manifest}
-use Rattle.suit_manifest.specs.ManifestLaws.{HasOneManifest, HasOneRefusal, IsAboveNumber, NumbersAscend, ManifestLaws}
-use Rattle.suit_manifest.specs.Maps.{entries_of}
+use Rattle.suit_manifest.specs.ManifestLaws.{HasOneManifest, HasOneRefusal, ManifestLaws}
 use Rattle.suit_manifest.specs.Manifests.{IsManifest, RefusesManifest}
 use Rattle.suit_params.proofs.OneWhole.{one_answer}
 use Rattle.suit_manifest.proofs.Grammatical.{grammatical}

@@ -7,7 +7,7 @@ use Rattle.suit_params.specs.Params.{pairs_place}
 use Rattle.suit_params.specs.declared.digest.Digest.{Digest}
 use Rattle.suit_params.specs.Digests.{digest_item}
 use Rattle.suit_commands.specs.SequenceLaws.{SequenceLaws}
-use Rattle.suit_commands.specs.SequenceMaking.{step_items, sequence_item, inner_item, placed, unplaced, first_code}
+use Rattle.suit_commands.specs.SequenceMaking.{step_items, inner_item, placed, unplaced, first_code}
 use Rattle.suit_commands.specs.Sequences.{SaysSequence, elements_place}
 use Rattle.suit_commands.specs.Tree.{SequenceTree}
 use Rattle.suit_envelope.specs.Envelopes.{Entry, entries}
@@ -23,7 +23,7 @@ use Rattle.suit_manifest.specs.Manifests.{IsManifest, SaysText, SaysSevered, Say
 use Rattle.suit_manifest.specs.Maps.{entry_under, SaysUnder, MaySayUnder}
 use Rattle.suit_manifest.proofs.KeyNumbers.{ordered}
 use Rattle.suit_manifest.proofs.MapRows.{value_among, says_among}
-use Rattle.suit_manifest.proofs.RowsAgain.{value_in, rows_in, pairs_are, keyed, value_is}
+use Rattle.suit_manifest.proofs.RowsAgain.{value_in, pairs_are, keyed, value_is}
 
 -- ---- what stands under a number, of what is said
 

@@ -33,7 +33,7 @@ use Rattle.suit_manifest.specs.Elements.{held_at, only_at}
 use Rattle.suit_manifest.specs.MapReading.{judge_entry, needed, judge_at, may, value_of}
 use Rattle.suit_manifest.specs.CommonReading.{judge_common, common_at}
 use Rattle.suit_manifest.specs.ManifestJudging.{judge_number, known_version, judge_version, judge_text, judge_member, judge_apart, judge_here, judge_severed, judge_text_apart, judge_item, judge_text_here, judge_text_member, member_of, text_of, judge_later, manifest_of, judge_values, judge_pairs, judge_manifest}
-use Rattle.suit_manifest.specs.ManifestReading.{number_at, version_at, text_at, member_at, apart_at, here_at, severed_at, text_apart_at, text_here_at, text_member_at, later_from, later_found, manifest_found, values_from, pairs_from, manifest_at}
+use Rattle.suit_manifest.specs.ManifestReading.{number_at, version_at, text_at, member_at, apart_at, here_at, severed_at, text_apart_at, text_here_at, text_member_at, later_from, manifest_found, values_from, pairs_from, manifest_at}
 use Rattle.suit_manifest.proofs.Arrays.{at, behind, map_is}
 use Rattle.suit_manifest.proofs.CommonJudging.{pairs_fit}
 use Rattle.suit_manifest.proofs.CommonReads.{held_sequence_reads, all_left, given, regroup, picked_is, common_read}

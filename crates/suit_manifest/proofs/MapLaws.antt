@@ -1,10 +1,10 @@
 -- Maps of numbered keys: their keys, and what stands under a number.
-use Rattle.std.proofs.Common.{◌≡◌, ℕ, suc, ◌+◌, Bool, true, false, cond, eqb, List, [], ◌∷◌, ◌++◌, length, Option, Some, None, Result, Ok, Err, refl, sym, ap, subst, ◌∙◌, inl, inr, append_assoc, arith}
+use Rattle.std.proofs.Common.{◌≡◌, ℕ, ◌+◌, Bool, true, false, cond, eqb, List, [], ◌∷◌, length, Option, Some, None, Result, Ok, Err, refl, sym, ap, subst, ◌∙◌, inl, inr}
 use Rattle.std.specs.Prelude.{◌||◌, option_map}
 use Rattle.std.specs.List.{AllByRecursion}
 use Rattle.std.proofs.lemmas.Bool.{eqb-true, eq-eqb}
 use Rattle.std.proofs.lemmas.List.{append-nil}
-use Rattle.det_cbor.specs.DataItem.{DataItem, UnsignedInteger, NegativeInteger, ByteString, TextString, ArrayOf, MapOf, TaggedItem, Boolean, NullItem, DataPairs, NoPairs, PairThen, pair_count, spell, spell_pairs, IsValidWithin, ArePairsWithin}
+use Rattle.det_cbor.specs.DataItem.{DataItem, UnsignedInteger, NegativeInteger, ByteString, TextString, ArrayOf, MapOf, TaggedItem, Boolean, NullItem, DataPairs, NoPairs, PairThen, spell, IsValidWithin, ArePairsWithin}
 use Rattle.det_cbor.specs.HeadReading.{◌>>=◌}
 use Rattle.det_cbor.specs.Position.{Position}
 use Rattle.det_cbor.proofs.Arguments.{IsBytes}
@@ -13,11 +13,10 @@ use Rattle.det_cbor.proofs.Results.{chosen, bind_ok, bind_err, same_ok, same_err
 use Rattle.suit_params.specs.declared.refusal.Refusal.{Refusal}
 use Rattle.suit_params.specs.declared.refusal.Why.TheVariants.{UnknownKey, Missing}
 use Rattle.suit_params.specs.Refusing.{refused, Says, Refuses, content_place}
-use Rattle.suit_params.specs.Judging.{judge_held, judge_each}
-use Rattle.suit_params.specs.Reading.{inside, whole_judged}
+use Rattle.suit_params.specs.Judging.{judge_held}
+use Rattle.suit_params.specs.Reading.{whole_judged}
 use Rattle.suit_params.proofs.Judgements.{Judges}
-use Rattle.suit_params.proofs.Held.{ReadsAs, with_rest, by_string, content_read, JudgesEach, Anything}
-use Rattle.suit_params.proofs.ItemHeads.{item_head_read, after}
+use Rattle.suit_params.proofs.Held.{ReadsAs, by_string, content_read, JudgesEach, Anything}
 use Rattle.suit_commands.specs.Selections.{Among}
 use Rattle.suit_envelope.specs.Envelopes.{Entry, entries, is_number, has_key}
 use Rattle.suit_manifest.specs.Maps.{IsKeyAmong, entry_under, SaysUnder, MaySayUnder, RefusesUnder, RefusesOtherKey, OtherKey}

@@ -1,18 +1,15 @@
 -- The pairs of a map, taken one after another.
-use Rattle.std.proofs.Common.{◌≡◌, ℕ, ◌+◌, ◌-◌, Bool, true, false, cond, eqb, List, [], ◌∷◌, ◌++◌, length, Option, Some, None, Result, Ok, Err, refl, sym, ap, subst, ◌∙◌, append_assoc, arith}
-use Rattle.std.specs.Prelude.{◌==◌, option_map}
+use Rattle.std.proofs.Common.{◌≡◌, ℕ, ◌-◌, Bool, true, false, eqb, List, ◌++◌, Option, Some, Ok, refl, subst, ◌∙◌, append_assoc, arith}
+use Rattle.std.specs.Prelude.{option_map}
 use Rattle.std.proofs.lemmas.Bool.{ne_eqb}
 use Rattle.det_cbor.specs.DataItem.{DataItem, UnsignedInteger, NegativeInteger, ByteString, TextString, ArrayOf, MapOf, TaggedItem, Boolean, NullItem, DataPairs, NoPairs, PairThen, pair_count, spell, spell_pairs, IsValidWithin, ArePairsWithin}
-use Rattle.det_cbor.specs.HeadReading.{◌>>=◌}
 use Rattle.det_cbor.specs.HeadSpelling.{spelled}
 use Rattle.det_cbor.specs.ItemOrder.{spell_parts}
 use Rattle.det_cbor.specs.Position.{Position}
-use Rattle.suit_params.specs.declared.refusal.Refusal.{Refusal}
-use Rattle.suit_params.specs.Reading.{inside}
 use Rattle.suit_params.proofs.ItemHeads.{item_head, item_head_read, after}
 use Rattle.suit_envelope.specs.Envelopes.{Entry, entries, is_number}
 use Rattle.suit_manifest.specs.declared.pairs.Pairs.{Pairs}
-use Rattle.suit_manifest.specs.MapReading.{key_is, value_from, value_then, take_from, end_from, value_of}
+use Rattle.suit_manifest.specs.MapReading.{key_is, take_from, end_from, value_of}
 use Rattle.suit_manifest.proofs.Picked.{head_under, rest_after, ending}
 use Rattle.suit_manifest.proofs.ValuesPassed.{value_read}
 

@@ -1,10 +1,10 @@
 -- A value of a map that was judged is passed by its head.
-use Rattle.std.proofs.Common.{◌≡◌, ℕ, ◌+◌, ◌-◌, List, [], ◌++◌, length, Ok, refl, sym, ap, ◌∙◌, append_assoc, arith}
+use Rattle.std.proofs.Common.{◌≡◌, ℕ, ◌-◌, List, ◌++◌, length, Ok, refl, ap, arith}
 use Rattle.std.proofs.lemmas.List.{length-append}
 use Rattle.det_cbor.specs.Heads.{head_bytes}
 use Rattle.det_cbor.specs.DataItem.{DataItem, UnsignedInteger, NegativeInteger, ByteString, TextString, ArrayOf, MapOf, TaggedItem, Boolean, NullItem, spell, IsValidWithin}
 use Rattle.det_cbor.specs.Position.{Position}
-use Rattle.suit_params.specs.Reading.{inside, inner_from}
+use Rattle.suit_params.specs.Reading.{inside}
 use Rattle.suit_params.proofs.ItemHeads.{item_head_read, bytes_again, after}
 use Rattle.suit_envelope.proofs.KeyLaws.{inner_read}
 use Rattle.suit_manifest.specs.MapReading.{up_to, value_from}
