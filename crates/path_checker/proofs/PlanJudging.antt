@@ -17,8 +17,8 @@ use Rattle.path_checker.specs.Knowing.{nothing, nothing_known, Allows}
 use Rattle.path_checker.specs.Choosing.{IsChosen}
 use Rattle.path_checker.specs.Exploring.{Course, In, Kept, Stopped, Explores, Uncovered, Uncovers, Adds}
 use Rattle.path_checker.specs.Procedures.{first_kept}
-use Rattle.path_checker.specs.declared.judge_plan.PlanVerdict.{PlanVerdict}
-use Rattle.path_checker.specs.declared.judge_plan.PlanVerdict.TheVariants as verdicts
+use Rattle.path_checker.specs.declared.judge_plan.CheckVerdict.{CheckVerdict}
+use Rattle.path_checker.specs.declared.judge_plan.CheckVerdict.TheVariants as verdicts
 use Rattle.path_checker.specs.PlanVerdicts.{widest, Judges, Tells, JudgesPlan}
 
 nothing-length : (count : ℕ) → length (nothing_known count) ≡ count
@@ -69,7 +69,7 @@ is_bad_path plan from facts events bad is u chosen same =
     at (k, inr n, v) = absurd n
 
 -- what is told of an uncovered invoke
-pub told_judges : (plan : PlanTree) (from : List Kept) (k : Kept) (verdict : PlanVerdict) → from ≡ first_kept plan.count ∷ [] → Uncovers (RunsPlan plan) from k.facts k.events → Tells k verdict → Judges plan verdict
+pub told_judges : (plan : PlanTree) (from : List Kept) (k : Kept) (verdict : CheckVerdict) → from ≡ first_kept plan.count ∷ [] → Uncovers (RunsPlan plan) from k.facts k.events → Tells k verdict → Judges plan verdict
 told_judges plan from k verdicts.Safe is u tells = absurd tells
 told_judges plan from k (verdicts.Unsafe bad) is u tells = is_bad_path plan from k.facts k.events bad is u tells.0 tells.1
 told_judges plan from k (verdicts.TooWide width) is u tells = absurd tells
@@ -85,7 +85,7 @@ not_too_wide : (w n : ℕ) → w ≡ capped n → w ≤ widest → n ≤ widest
 unfolding capped
 not_too_wide w n is h = omega (arith, is, h)
 
-pub judges_plan : (plan : PlanTree) (verdict : PlanVerdict) (w : ℕ) → w ≡ capped (width_number plan) → w ≤ widest → Judges plan verdict → JudgesPlan plan verdict
+pub judges_plan : (plan : PlanTree) (verdict : CheckVerdict) (w : ℕ) → w ≡ capped (width_number plan) → w ≤ widest → Judges plan verdict → JudgesPlan plan verdict
 judges_plan plan verdicts.Safe w is le judged = (not_too_wide w (width_number plan) is le, judged)
 judges_plan plan (verdicts.Unsafe bad) w is le judged = (not_too_wide w (width_number plan) is le, judged)
 judges_plan plan (verdicts.TooWide width) w is le judged = absurd judged

@@ -7,28 +7,28 @@ use Rattle.path_model.specs.Safe.{Safe}
 use Rattle.path_model.specs.BadPaths.{IsBadPath}
 use Rattle.path_checker.specs.Choosing.{IsChosen}
 use Rattle.path_checker.specs.Exploring.{Kept}
-use Rattle.path_checker.specs.declared.judge_plan.PlanVerdict.{PlanVerdict}
-use Rattle.path_checker.specs.declared.judge_plan.PlanVerdict.TheVariants as verdicts
+use Rattle.path_checker.specs.declared.judge_plan.CheckVerdict.{CheckVerdict}
+use Rattle.path_checker.specs.declared.judge_plan.CheckVerdict.TheVariants as verdicts
 
 -- the largest width that is judged
 abbrev pub widest : ℕ
 widest = 4194304
 
 -- of a procedure that is not too wide
-abbrev pub Judges : PlanTree → PlanVerdict → Type 0
+abbrev pub Judges : PlanTree → CheckVerdict → Type 0
 Judges plan verdicts.Safe = Safe plan
 Judges plan (verdicts.Unsafe bad) = IsBadPath plan bad
 Judges plan (verdicts.TooWide width) = ⊥
 Judges plan verdicts.NoMemory = Unit {0}
 
 -- the events that led to a state, and identities that its facts allow
-abbrev pub Tells : Kept → PlanVerdict → Type 0
+abbrev pub Tells : Kept → CheckVerdict → Type 0
 Tells k verdicts.Safe = ⊥
 Tells k (verdicts.Unsafe bad) = IsChosen k.facts bad.identities × (bad.events ≡ k.events)
 Tells k (verdicts.TooWide width) = ⊥
 Tells k verdicts.NoMemory = Unit {0}
 
-abbrev pub JudgesPlan : PlanTree → PlanVerdict → Type 0
+abbrev pub JudgesPlan : PlanTree → CheckVerdict → Type 0
 JudgesPlan plan verdicts.Safe = (width_number plan ≤ widest) × Safe plan
 JudgesPlan plan (verdicts.Unsafe bad) = (width_number plan ≤ widest) × IsBadPath plan bad
 JudgesPlan plan (verdicts.TooWide width) = (widest < width_number plan) × (width ≡ capped (width_number plan))

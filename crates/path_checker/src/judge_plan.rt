@@ -27,12 +27,12 @@ use procedure_walk::{first, procedure};
 use std::alloc::Global;
 use suit_commands::{Plan, width};
 
-/// The largest width of a procedure that is judged.
-pub const WIDEST: u64 = 4_194_304;
+// The largest width of a procedure that is judged.
+const WIDEST: u64 = 4_194_304;
 
 /// What a whole procedure is judged to be.
 #[derive(Debug, Drop)]
-pub enum PlanVerdict {
+pub enum CheckVerdict {
     /// Each invoke is covered on each path, for all identities.
     Safe,
     /// The last invoke of this path is not covered.
@@ -44,44 +44,45 @@ pub enum PlanVerdict {
 }
 
 // The path to an invoke that is not covered, with identities that it is a path for.
-fn told(alloc: Global, k: Kept<'_>) -> PlanVerdict
+fn told(alloc: Global, k: Kept<'_>) -> CheckVerdict
     ensures { Tells k.entry result }
 {
     match chosen_identities(alloc, &k.facts) {
-        Ok(identities) => PlanVerdict::Unsafe(BadPath {
+        Ok(identities) => CheckVerdict::Unsafe(BadPath {
             identities,
             events: k.events,
         }),
-        Err(_) => PlanVerdict::NoMemory,
+        Err(_) => CheckVerdict::NoMemory,
     }
 }
 
 // Whether each invoke is covered.
-fn judge(alloc: Global, plan: &Plan<'_>) -> PlanVerdict
+fn judge(alloc: Global, plan: &Plan<'_>) -> CheckVerdict
     requires { ArePlan (plan_tree plan.now) }
     ensures { Judges (plan_tree plan.now) result }
 {
     let Ok(from) = first(alloc, plan.count) else {
-        return PlanVerdict::NoMemory;
+        return CheckVerdict::NoMemory;
     };
     let mut failed = Vec::new(alloc);
     match procedure(alloc, plan, from, &mut failed) {
-        Ok(_) => PlanVerdict::Safe,
-        Err(Halt::NoMemory) => PlanVerdict::NoMemory,
+        Ok(_) => CheckVerdict::Safe,
+        Err(Halt::NoMemory) => CheckVerdict::NoMemory,
         Err(Halt::Uncovered(k)) => told(alloc, k),
     }
 }
 
-/// Judges a procedure of the grammar, for all identities of its components. It is too wide where its work times its
-/// spread is above 4,194,304; otherwise it is safe exactly where each invoke of each path is covered
-/// (draft-ietf-suit-manifest-25, section 6.4), and a path to an invoke that is not shows where it is not.
-pub fn check_plan(alloc: Global, plan: &Plan<'_>) -> PlanVerdict
+/// Judges a procedure of the grammar for all identities of its components (draft-ietf-suit-manifest-25, section 6.4).
+/// It is too wide exactly where its work times its spread is above 4,194,304. Otherwise it is safe exactly where each
+/// invoke of each path is covered, and an unsafe one is told by a path whose last event is its first invoke that is not
+/// covered, with identities that it is a path for. Where there is no memory, it is not too wide.
+pub fn check(alloc: Global, plan: &Plan<'_>) -> CheckVerdict
     requires { IsPlan (plan_tree plan.now) }
-    ensures { JudgesPlan (plan_tree plan.now) result }
+    ensures judged { JudgesPlan (plan_tree plan.now) result }
 {
     let width = width(plan);
     if width > WIDEST {
-        return PlanVerdict::TooWide(width);
+        return CheckVerdict::TooWide(width);
     }
     judge(alloc, plan)
 }
