@@ -1,6 +1,3 @@
-pub mod Keeping
-pub mod Matched
-pub mod Unmatched
 pub mod Membership
 pub mod Exploring
 pub mod InnerStates

@@ -1,5 +1,3 @@
-pub mod Flat
-pub mod Verdict
 pub mod Knowing
 pub mod Forking
 pub mod Choosing
