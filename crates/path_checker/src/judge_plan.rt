@@ -86,3 +86,6 @@ pub fn check(alloc: Global, plan: &Plan<'_>) -> CheckVerdict
     }
     judge(alloc, plan)
 }
+
+#[cfg(test)]
+mod tests;
