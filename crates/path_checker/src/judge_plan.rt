@@ -88,4 +88,8 @@ pub fn check(alloc: Global, plan: &Plan<'_>) -> CheckVerdict
 }
 
 #[cfg(test)]
+mod all_runs;
+#[cfg(test)]
+mod small_plans;
+#[cfg(test)]
 mod tests;
