@@ -1,5 +1,6 @@
 pub mod Heads
 pub mod HeadSpelling
+pub mod ShortHeads
 pub mod HeadReading
 pub mod Position
 pub mod Faults

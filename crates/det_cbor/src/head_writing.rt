@@ -3,9 +3,8 @@
 ghost use Rattle.std.specs.Prelude.{◌≡◌, ◌∷◌, ◌++◌, ◌<◌, OnOk, OnErr};
 ghost use Rattle.det_cbor.specs.Prefix.{IsPrefix};
 ghost use Rattle.det_cbor.specs.HeadSpelling.{major_of, argument_of, spelled, IsValueOf};
-ghost use Rattle.det_cbor.specs.Heads.{head_bytes};
 
-use crate::{Bytes, Head, HeadKind};
+use crate::{Bytes, Head, HeadKind, ShortHead};
 use std::alloc::AllocError;
 
 pub(crate) fn major_type(kind: HeadKind) -> u8
@@ -45,32 +44,13 @@ fn push_parts(out: &mut Bytes, first: u8, rest: &[u8]) -> Result<(), AllocError>
     out.extend(rest)
 }
 
-// Adds the head of a major type and an argument, in its shortest form.
-#[tactic(auto, unfolding(crate::specs::Heads::head_bytes))]
-fn push_shortest(out: &mut Bytes, major: u8, argument: u64) -> Result<(), AllocError>
-    requires { major < 8 }
-    ensures ok { OnOk result (out.new ≡ out.old ++ head_bytes major argument) }
-    ensures err { OnErr result (IsPrefix out.old out.new) }
-{
-    let first = 32 * major;
-    if argument < 24 {
-        out.push(first + argument as u8)
-    } else if argument < 1 << 8 {
-        push_parts(out, first + 24, &(argument as u8).to_be_bytes())
-    } else if argument < 1 << 16 {
-        push_parts(out, first + 25, &(argument as u16).to_be_bytes())
-    } else if argument < 1 << 32 {
-        push_parts(out, first + 26, &(argument as u32).to_be_bytes())
-    } else {
-        push_parts(out, first + 27, &argument.to_be_bytes())
-    }
-}
-
 /// Adds a head in its shortest form. Where memory runs out, a part of the head may have been added.
 pub fn push_head(out: &mut Bytes, head: Head) -> Result<(), AllocError>
     requires { IsValueOf head.kind head.value }
     ensures ok { OnOk result (out.new ≡ out.old ++ spelled head) }
     ensures err { OnErr result (IsPrefix out.old out.new) }
 {
-    push_shortest(out, major_type(head.kind), argument(head))
+    let short = ShortHead::new(head.kind, head.value);
+    let (first, behind) = short.parts();
+    push_parts(out, first, behind)
 }

@@ -1,6 +1,6 @@
 //! Lists of data items.
 
-ghost use Rattle.std.specs.Prelude.{◌≡◌, [], ◌∷◌, ◌++◌, length, OnOk, OnErr, IsTrue, ◌↔◌};
+ghost use Rattle.std.specs.Prelude.{◌≡◌, [], ◌∷◌, ◌++◌, length, OnOk, OnErr, IsTrue, ◌↔◌, option_map, slice_get};
 ghost use Rattle.det_cbor.specs.ItemTree.{tree_of, trees_of};
 
 use crate::Item;
@@ -81,6 +81,13 @@ impl Items {
         ensures { IsTrue result ↔ (self.now ≡ []) }
     {
         self.held.is_empty()
+    }
+
+    /// The item at an index, or `None` past the end.
+    pub fn get(&self, index: usize) -> Option<&Item>
+        ensures { option_map (λ item. tree_of item.now) result ≡ slice_get self.now index }
+    {
+        self.held.get(index)
     }
 
     /// The items, lent.

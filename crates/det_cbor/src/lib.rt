@@ -15,8 +15,10 @@ mod law;
 mod names;
 mod pairs;
 mod parts;
+mod pieces;
 mod read_fault;
 mod reason;
+mod short_head;
 mod skip;
 mod text;
 mod validity;
@@ -32,7 +34,12 @@ pub use items::Items;
 pub use law::one_reading;
 pub use names::Names;
 pub use pairs::Pairs;
+pub use parts::as_text;
+pub use pieces::{
+    push_count, push_flag, push_kind, push_null, push_number, push_string, push_text,
+};
 pub use reason::{CborFault, CborRefusal, Reason};
+pub use short_head::ShortHead;
 pub use text::Text;
 pub use validity::valid;
 

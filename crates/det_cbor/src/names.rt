@@ -1,6 +1,7 @@
 //! A list of texts.
 
-ghost use Rattle.std.specs.Prelude.{◌≡◌, [], ◌∷◌, ◌++◌, length, OnOk, OnErr, IsTrue, ◌↔◌, IfOk};
+ghost use Rattle.std.specs.Prelude.{◌≡◌, [], ◌∷◌, ◌++◌, length, OnOk, OnErr, IsTrue, ◌↔◌, IfOk, slice_get};
+ghost use Rattle.std.specs.Option.{option_copied};
 
 use crate::Text;
 use std::alloc::{AllocError, Global};
@@ -30,6 +31,20 @@ impl Names {
         }
     }
 
+    /// The list that a vector holds. Takes no memory and copies nothing.
+    pub fn from_vec(names: Vec<Text>) -> Names
+        ensures { result ≡ names.items }
+    {
+        Names { held: names }
+    }
+
+    /// The vector that the list was made of. Takes no memory and copies nothing.
+    pub fn into_vec(self) -> Vec<Text>
+        ensures { result.items ≡ self }
+    {
+        self.held
+    }
+
     /// Adds a text at the end.
     pub fn push(&mut self, name: Text) -> Result<(), AllocError>
         ensures ok { OnOk result (self.new ≡ self.old ++ name ∷ []) }
@@ -50,6 +65,13 @@ impl Names {
         ensures { IsTrue result ↔ (self.now ≡ []) }
     {
         self.held.is_empty()
+    }
+
+    /// The text at an index, or `None` past the end.
+    pub fn get(&self, index: usize) -> Option<&Text>
+        ensures { option_copied result ≡ slice_get self.now index }
+    {
+        self.held.get(index)
     }
 
     /// The texts, lent.

@@ -1,7 +1,7 @@
 //! Lists of pairs of data items.
 
-ghost use Rattle.std.specs.Prelude.{◌≡◌, [], ◌∷◌, ◌++◌, length, OnOk, OnErr, IsTrue, ◌↔◌};
-ghost use Rattle.det_cbor.specs.ItemTree.{tree_of, pair_trees_of};
+ghost use Rattle.std.specs.Prelude.{◌≡◌, [], ◌∷◌, ◌++◌, length, OnOk, OnErr, IsTrue, ◌↔◌, option_map, slice_get};
+ghost use Rattle.det_cbor.specs.ItemTree.{tree_of, pair_of, pair_trees_of};
 
 use crate::Item;
 use std::alloc::{AllocError, Global};
@@ -81,6 +81,13 @@ impl Pairs {
         ensures { IsTrue result ↔ (self.now ≡ []) }
     {
         self.held.is_empty()
+    }
+
+    /// The pair at an index, or `None` past the end.
+    pub fn get(&self, index: usize) -> Option<&(Item, Item)>
+        ensures { option_map (λ pair. pair_of pair.now) result ≡ slice_get self.now index }
+    {
+        self.held.get(index)
     }
 
     /// The pairs of a key and its value, lent.

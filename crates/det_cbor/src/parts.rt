@@ -40,9 +40,9 @@ fn string(count: u64, rest: &[u8]) -> Result<(&[u8], &[u8]), Reason>
     Ok(rest.split_at(count as usize))
 }
 
-// The bytes as a text.
+/// The bytes as a text, or `None` where they are not UTF-8.
 #[tactic(auto, using(crate::proofs::Utf8::good_utf8, crate::proofs::Utf8::bad_utf8))]
-fn utf8(bytes: &[u8]) -> Option<&str>
+pub fn as_text(bytes: &[u8]) -> Option<&str>
     ensures { option_map (λ t. t.now) result ≡ utf8_text bytes.now }
 {
     std::str::from_utf8(bytes).ok()
@@ -52,7 +52,7 @@ fn text(count: u64, rest: &[u8]) -> Result<(&str, &[u8]), Reason>
     ensures { map_ok (λ s. (s.0.now, s.1.now)) result ≡ text_at count rest.now }
 {
     let (bytes, rest) = string(count, rest)?;
-    match utf8(bytes) {
+    match as_text(bytes) {
         Some(text) => Ok((text, rest)),
         None => Err(Reason::BadText),
     }

@@ -36,6 +36,13 @@ impl Text {
         Text { held: text }
     }
 
+    /// The string that the text was made of. Takes no memory and copies nothing.
+    pub fn into_string(self) -> String
+        ensures { string_bytes result ≡ self }
+    {
+        self.held
+    }
+
     /// A text of these characters, copied.
     pub fn from_str(alloc: Global, text: &str) -> Result<Text, AllocError>
         ensures { IfOk result (λ made. made ≡ text.now) }

@@ -1,6 +1,9 @@
 //! Items written, against vectors from outside.
 
-use crate::{Inner, Item, Items, Pairs, Text, encode, valid};
+use crate::{
+    Bytes, HeadKind, Inner, Item, Items, Pairs, ShortHead, Text, encode, push_count, push_flag,
+    push_kind, push_null, push_number, push_string, push_text, valid,
+};
 use std::alloc::{AllocError, Global};
 use std::process::Abort;
 use std::test::Fail;
@@ -107,5 +110,25 @@ fn sixteen_levels_are_valid_and_seventeen_are_not(rt: HostRuntime) -> Result<(),
         let item = pair(alloc, Item::Null, nested(alloc, levels)?)?;
         assert_eq!(rt; valid(&item), is_valid);
     }
+    Ok(())
+}
+
+#[test]
+fn pieces_are_spelled_as_in_rfc_8949(rt: HostRuntime) -> Result<(), Fail> {
+    let mut out = Bytes::new(rt.alloc());
+    push_count(&mut out, 25)?;
+    push_number(&mut out, 1_000_000)?;
+    push_kind(&mut out, HeadKind::Negative, 99)?;
+    push_flag(&mut out, false)?;
+    push_flag(&mut out, true)?;
+    push_null(&mut out)?;
+    push_string(&mut out, b"\x01\x02\x03\x04")?;
+    push_text(&mut out, "IETF")?;
+    let spelling = b"\x98\x19\x1a\x00\x0f\x42\x40\x38\x63\xf4\xf5\xf6\x44\x01\x02\x03\x04\x64IETF";
+    assert_eq!(rt; out.as_slice(), spelling.as_slice());
+    let head = ShortHead::new(HeadKind::Unsigned, 1_000_000_000_000);
+    let (first, behind) = head.parts();
+    assert_eq!(rt; first, 0x1b);
+    assert_eq!(rt; behind, b"\x00\x00\x00\xe8\xd4\xa5\x10\x00".as_slice());
     Ok(())
 }

@@ -1,4 +1,4 @@
-//! Which bytes are a Mac0 block (RFC 9052, section 6.1).
+//! Which bytes are a Mac0 block (RFC 9052, section 6.2).
 
 ghost use Rattle.std.specs.Prelude.{◌↔◌, IsTrue, List, ℕ, IfSome, IfNone};
 ghost use Rattle.det_cbor.specs.OneReading.{IsItem};

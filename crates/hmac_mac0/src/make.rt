@@ -8,7 +8,7 @@ ghost use Rattle.hmac_mac0.specs.Mac0.{made_header, made_item, kid_pairs, tag_of
 
 use crate::header::HEADER;
 use crate::structure::tag;
-use det_cbor::{Bytes, Head, HeadKind, push_head};
+use det_cbor::{Bytes, HeadKind, push_kind, push_string};
 use std::alloc::{AllocError, Global};
 
 /// The block whose tag is that of the key and the payload.
@@ -28,34 +28,17 @@ pub fn make_block(
     let mut block = Bytes::new(alloc);
     push_header(&mut block)?;
     push_unprotected(&mut block, kid)?;
-    push(&mut block, HeadKind::Null, 0)?;
+    push_kind(&mut block, HeadKind::Null, 0)?;
     push_string(&mut block, &tag(key, &HEADER, payload))?;
     Ok(block)
-}
-
-// Adds a head.
-fn push(block: &mut Bytes, kind: HeadKind, value: u64) -> Result<(), AllocError>
-    requires { IsValueOf kind value }
-    ensures { OnOk result (block.new ≡ block.old ++ head_bytes (major_of kind) (argument_of kind value)) }
-{
-    push_head(block, Head { kind, value })
-}
-
-// Adds the spelling of a byte string.
-fn push_string(block: &mut Bytes, content: &[u8]) -> Result<(), AllocError>
-    ensures is_string { IsString content.now }
-    ensures ok { OnOk result (block.new ≡ block.old ++ spell (ByteString content.now)) }
-{
-    push(block, HeadKind::Bytes, content.len() as u64)?;
-    block.extend(content)
 }
 
 // Adds the heads of tag 17 and of an array of four, and the protected header.
 fn push_header(block: &mut Bytes) -> Result<(), AllocError>
     ensures { OnOk result (block.new ≡ block.old ++ head_bytes 6 17 ++ head_bytes 4 4 ++ spell (ByteString made_header)) }
 {
-    push(block, HeadKind::Tag, 17)?;
-    push(block, HeadKind::Array, 4)?;
+    push_kind(block, HeadKind::Tag, 17)?;
+    push_kind(block, HeadKind::Array, 4)?;
     push_string(block, &HEADER)
 }
 
@@ -65,10 +48,10 @@ fn push_unprotected(block: &mut Bytes, kid: Option<&[u8]>) -> Result<(), AllocEr
     ensures ok { OnOk result (block.new ≡ block.old ++ spell (MapOf (kid_pairs (option_map (λ k. k.now) kid.entry)))) }
 {
     match kid {
-        None => push(block, HeadKind::Map, 0),
+        None => push_kind(block, HeadKind::Map, 0),
         Some(kid) => {
-            push(block, HeadKind::Map, 1)?;
-            push(block, HeadKind::Unsigned, 4)?;
+            push_kind(block, HeadKind::Map, 1)?;
+            push_kind(block, HeadKind::Unsigned, 4)?;
             push_string(block, kid)
         }
     }

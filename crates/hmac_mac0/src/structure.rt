@@ -7,6 +7,7 @@ ghost use Rattle.hmac_mac0.specs.Mac0.{tag_of};
 ghost use Rattle.hmac_mac0.specs.MacState.{HasTaken};
 
 use crate::Mac;
+use det_cbor::{HeadKind, ShortHead};
 
 // An array of four, and its first element.
 const CONTEXT: [u8; 6] = *b"\x84\x64MAC0";
@@ -42,20 +43,11 @@ fn add_parts(mac: &mut Mac, first: u8, rest: &[u8])
     mac.add(rest);
 }
 
-// Adds the head of a byte string, in its shortest form.
-#[tactic(auto, unfolding(det_cbor::specs::Heads::head_bytes))]
+// Adds the head of a byte string.
 fn add_head(mac: &mut Mac, length: u64)
     ensures { (key message : List ℕ) → HasTaken mac.old key message → HasTaken mac.new key (message ++ head_bytes 2 length) }
 {
-    if length < 24 {
-        mac.add(&[0x40 + length as u8]);
-    } else if length < 1 << 8 {
-        add_parts(mac, 0x58, &(length as u8).to_be_bytes());
-    } else if length < 1 << 16 {
-        add_parts(mac, 0x59, &(length as u16).to_be_bytes());
-    } else if length < 1 << 32 {
-        add_parts(mac, 0x5a, &(length as u32).to_be_bytes());
-    } else {
-        add_parts(mac, 0x5b, &length.to_be_bytes());
-    }
+    let head = ShortHead::new(HeadKind::Bytes, length);
+    let (first, behind) = head.parts();
+    add_parts(mac, first, behind);
 }

@@ -15,9 +15,9 @@ use Rattle.path_model.specs.declared.event.Event.TheVariants.{Tried, Matched, Mi
 use Rattle.suit_params.specs.ParamKeys.{key_of, key_number}
 use Rattle.suit_params.specs.InForce.{in_force, identifier_of, number_of, digest_of, bytes_of, digest_in, size_in}
 use Rattle.path_model.specs.Behaviour.{State, Ending, Done, Condition, Directive}
-use Rattle.path_model.specs.Conditions.{IsSame, Compares, Matches, ChecksContent, Fails, vendor_of, class_of, device_of, slot_of}
+use Rattle.path_model.specs.Conditions.{Tests, Compares, Matches, ChecksContent, Fails, vendor_of, class_of, device_of, slot_of}
 use Rattle.path_model.specs.Directives.{Writes, Acts}
-use Rattle.path_model.specs.CommandLaws.{MatchTold, PassTold, MissTold, FailTold, EndsPassed, EndsFailed, ConditionsEnd, AbortFails, ConditionsNeed, IdentityDecides, FollowsIdentity, IdentityFollowed, MatchIsFree, ContentIsFree, EndsEitherWay, written, DirectivesWrite, DirectivesNeed, InvokesTell}
+use Rattle.path_model.specs.CommandLaws.{PassedBy, FailedAt, MatchTold, PassTold, EndsPassed, ConditionsEnd, AbortFails, ConditionsNeed, HasValue, Follows, IdentityFollowed, IdentityNeeded, IdentityDecides, MatchIsFree, ContentIsFree, EndsEitherWay, written, DirectivesWrite, DirectivesNeed, InvokesTell}
 
 -- ---- keys by their numbers
 
@@ -65,33 +65,30 @@ done_not_failed s place soft same = absurd cc
 
 -- ---- how conditions end
 
-compares_end : {A : Type 0} (kind : TestKind) → kind ≢ tests.ImageMatch → (p c : ℕ) (wanted own : Option A) (s : State) (es : List Event) (e : Ending) → Compares p kind c wanted own s es e → EndsPassed kind c s es e ⊎ EndsFailed kind p c s es e
+compares_end : {A : Type 0} (kind : TestKind) → kind ≢ tests.ImageMatch → (p c : ℕ) (wanted own : Option A) (s : State) (es : List Event) (e : Ending) → Compares p kind c wanted own s es e → EndsPassed kind c s es e ⊎ ((es ≡ Tried c kind false ∷ Failed p ∷ []) × (e ≡ Condition p s.soft_failure))
 compares_end kind other p c wanted own s es e run =
     elim run [
-      | inl (same, (is, done)) ↦ inl (record { event = Tried c kind true; tells = PassTold kind c other; events_are = is; ending_is = done })
-      | inr (differs, (is, failed)) ↦ inr (record { event = Tried c kind false; tells = FailTold kind c other; events_are = is; ending_is = failed })
+      | inl (same, passed) ↦ inl (record { event = Tried c kind true; tells = PassTold kind c other; passed = passed })
+      | inr (differs, failed) ↦ inr failed
     ]
 
-matches_end : (p c : ℕ) (digest : Option Digest) (size : Option ℕ) (s : State) (es : List Event) (e : Ending) → Matches p c digest size s es e → EndsPassed tests.ImageMatch c s es e ⊎ EndsFailed tests.ImageMatch p c s es e
-matches_end p c None size s es e (is, failed) = inr (record { event = Missed c; tells = MissTold c; events_are = is; ending_is = failed })
+matches_end : (p c : ℕ) (digest : Option Digest) (size : Option ℕ) (s : State) (es : List Event) (e : Ending) → Matches p c digest size s es e → EndsPassed tests.ImageMatch c s es e ⊎ FailedAt p tests.ImageMatch c s es e
+matches_end p c None size s es e run = inr run
 matches_end p c (Some digest) size s es e run =
     elim run [
-      | inl (is, done) ↦ inl (record { event = Matched c digest size; tells = MatchTold c digest size; events_are = is; ending_is = done })
-      | inr (is, failed) ↦ inr (record { event = Missed c; tells = MissTold c; events_are = is; ending_is = failed })
+      | inl passed ↦ inl (record { event = Matched c digest size; tells = MatchTold c digest size; passed = passed })
+      | inr failed ↦ inr failed
     ]
 
 content_other : tests.CheckContent ≢ tests.ImageMatch
 content_other same = absurd cc
 
-content_failed : (p c : ℕ) (s : State) (es : List Event) (e : Ending) → Fails p (Tried c tests.CheckContent false) s es e → EndsFailed tests.CheckContent p c s es e
-content_failed p c s es e (is, failed) = record { event = Tried c tests.CheckContent false; tells = FailTold tests.CheckContent c content_other; events_are = is; ending_is = failed }
-
-content_ends : (p c : ℕ) (content : Option (List ℕ)) (s : State) (es : List Event) (e : Ending) → ChecksContent p c content s es e → EndsPassed tests.CheckContent c s es e ⊎ EndsFailed tests.CheckContent p c s es e
-content_ends p c None s es e run = inr (content_failed p c s es e run)
+content_ends : (p c : ℕ) (content : Option (List ℕ)) (s : State) (es : List Event) (e : Ending) → ChecksContent p c content s es e → EndsPassed tests.CheckContent c s es e ⊎ FailedAt p tests.CheckContent c s es e
+content_ends p c None s es e run = inr run
 content_ends p c (Some content) s es e run =
     elim run [
-      | inl (is, done) ↦ inl (record { event = Tried c tests.CheckContent true; tells = PassTold tests.CheckContent c content_other; events_are = is; ending_is = done })
-      | inr failed ↦ inr (content_failed p c s es e failed)
+      | inl passed ↦ inl (record { event = Tried c tests.CheckContent true; tells = PassTold tests.CheckContent c content_other; passed = passed })
+      | inr failed ↦ inr failed
     ]
 
 pub conditions_end : ConditionsEnd
@@ -101,42 +98,60 @@ conditions_end tests.Device ids p c s es e run = compares_end tests.Device (λ s
 conditions_end tests.Slot ids p c s es e run = compares_end tests.Slot (λ same. absurd cc) p c (number_of (in_force s.parameters c keys.Slot)) (slot_of (slice_get ids c)) s es e run
 conditions_end tests.ImageMatch ids p c s es e run = matches_end p c (digest_in s.parameters c) (size_in s.parameters c) s es e run
 conditions_end tests.CheckContent ids p c s es e run = content_ends p c (bytes_of (in_force s.parameters c keys.Content)) s es e run
-conditions_end tests.Abort ids p c s es e (is, failed) = inr (record { event = Tried c tests.Abort false; tells = FailTold tests.Abort c (λ same. absurd cc); events_are = is; ending_is = failed })
+conditions_end tests.Abort ids p c s es e run = inr run
 
 pub abort_fails : AbortFails
-abort_fails ids p c s t es (is, failed) = done_not_failed t p s.soft_failure failed
+abort_fails ids p c s es e = (λ run. run, λ failed. failed)
 
 -- ---- what conditions need
 
-compared_needed : {A : Type 0} (kind : TestKind) (p c : ℕ) (wanted own : Option A) (s t : State) (es : List Event) → wanted ≡ None → Compares p kind c wanted own s es (Done t) → ⊥
-compared_needed {A} kind p c wanted own s t es none run =
-    elim run [
-      | inl (same, passed) ↦ subst (λ (w : Option A). IsSame w own) none same
-      | inr (differs, (is, failed)) ↦ done_not_failed t p s.soft_failure failed
-    ]
+none_wanted : {A : Type 0} (kind : TestKind) (p c : ℕ) (wanted own : Option A) (s : State) (es : List Event) (e : Ending) → wanted ≡ None → Compares p kind c wanted own s es e ↔ Fails p (Tried c kind false) s es e
+none_wanted kind p c None own s es e none = (
+  λ run. elim run [ inl (same, passed) ↦ absurd same | inr (differs, failed) ↦ failed ],
+  λ failed. inr (λ same. same, failed),
+)
+none_wanted kind p c (Some wanted) own s es e none = absurd cc
 
-match_needs : (p c : ℕ) (digest : Option Digest) (size : Option ℕ) (s t : State) (es : List Event) → digest ≡ None → Matches p c digest size s es (Done t) → ⊥
-match_needs p c None size s t es none (is, failed) = done_not_failed t p s.soft_failure failed
-match_needs p c (Some d) size s t es none run = absurd cc
+none_own : {A : Type 0} (kind : TestKind) (p c : ℕ) (wanted own : Option A) (s : State) (es : List Event) (e : Ending) → own ≡ None → Compares p kind c wanted own s es e ↔ Fails p (Tried c kind false) s es e
+none_own kind p c None own s es e none = none_wanted kind p c None own s es e refl
+none_own kind p c (Some wanted) None s es e none =
+    let differs : None ≡ Some wanted → ⊥ = λ same. absurd cc in (
+      λ run. elim run [ inl (same, passed) ↦ absurd (differs same) | inr (not_same, failed) ↦ failed ],
+      λ failed. inr (differs, failed),
+    )
+none_own kind p c (Some wanted) (Some own) s es e none = absurd cc
 
-content_needs : (p c : ℕ) (content : Option (List ℕ)) (s t : State) (es : List Event) → content ≡ None → ChecksContent p c content s es (Done t) → ⊥
-content_needs p c None s t es none (is, failed) = done_not_failed t p s.soft_failure failed
-content_needs p c (Some content) s t es none run = absurd cc
+match_needs : (p c : ℕ) (digest : Option Digest) (size : Option ℕ) (s : State) (es : List Event) (e : Ending) → digest ≡ None → Matches p c digest size s es e ↔ Fails p (Missed c) s es e
+match_needs p c None size s es e none = (λ run. run, λ failed. failed)
+match_needs p c (Some d) size s es e none = absurd cc
+
+content_needs : (p c : ℕ) (content : Option (List ℕ)) (s : State) (es : List Event) (e : Ending) → content ≡ None → ChecksContent p c content s es e ↔ Fails p (Tried c tests.CheckContent false) s es e
+content_needs p c None s es e none = (λ run. run, λ failed. failed)
+content_needs p c (Some content) s es e none = absurd cc
 
 pub conditions_need : ConditionsNeed
-conditions_need tests.Vendor key ids p c s t es number none run =
-    compared_needed tests.Vendor p c (identifier_of (in_force s.parameters c keys.Vendor)) (vendor_of (slice_get ids c)) s t es (ap identifier_of (at_key s c key keys.Vendor None number none)) run
-conditions_need tests.Class key ids p c s t es number none run =
-    compared_needed tests.Class p c (identifier_of (in_force s.parameters c keys.Class)) (class_of (slice_get ids c)) s t es (ap identifier_of (at_key s c key keys.Class None number none)) run
-conditions_need tests.Device key ids p c s t es number none run =
-    compared_needed tests.Device p c (identifier_of (in_force s.parameters c keys.Device)) (device_of (slice_get ids c)) s t es (ap identifier_of (at_key s c key keys.Device None number none)) run
-conditions_need tests.Slot key ids p c s t es number none run =
-    compared_needed tests.Slot p c (number_of (in_force s.parameters c keys.Slot)) (slot_of (slice_get ids c)) s t es (ap number_of (at_key s c key keys.Slot None number none)) run
-conditions_need tests.ImageMatch key ids p c s t es number none run =
-    match_needs p c (digest_in s.parameters c) (size_in s.parameters c) s t es (ap digest_of (at_key s c key keys.Digest None number none)) run
-conditions_need tests.CheckContent key ids p c s t es number none run =
-    content_needs p c (bytes_of (in_force s.parameters c keys.Content)) s t es (ap bytes_of (at_key s c key keys.Content None number none)) run
-conditions_need tests.Abort key ids p c s t es number none run = abort_fails ids p c s t es run
+conditions_need tests.Vendor key ids p c s es e number none =
+    none_wanted tests.Vendor p c (identifier_of (in_force s.parameters c keys.Vendor)) (vendor_of (slice_get ids c)) s es e (ap identifier_of (at_key s c key keys.Vendor None number none))
+conditions_need tests.Class key ids p c s es e number none =
+    none_wanted tests.Class p c (identifier_of (in_force s.parameters c keys.Class)) (class_of (slice_get ids c)) s es e (ap identifier_of (at_key s c key keys.Class None number none))
+conditions_need tests.Device key ids p c s es e number none =
+    none_wanted tests.Device p c (identifier_of (in_force s.parameters c keys.Device)) (device_of (slice_get ids c)) s es e (ap identifier_of (at_key s c key keys.Device None number none))
+conditions_need tests.Slot key ids p c s es e number none =
+    none_wanted tests.Slot p c (number_of (in_force s.parameters c keys.Slot)) (slot_of (slice_get ids c)) s es e (ap number_of (at_key s c key keys.Slot None number none))
+conditions_need tests.ImageMatch key ids p c s es e number none =
+    match_needs p c (digest_in s.parameters c) (size_in s.parameters c) s es e (ap digest_of (at_key s c key keys.Digest None number none))
+conditions_need tests.CheckContent key ids p c s es e number none =
+    content_needs p c (bytes_of (in_force s.parameters c keys.Content)) s es e (ap bytes_of (at_key s c key keys.Content None number none))
+conditions_need tests.Abort key ids p c s es e number none = abort_fails ids p c s es e
+
+pub identity_needed : IdentityNeeded
+identity_needed tests.Vendor ids p c s es e on none = none_own tests.Vendor p c (identifier_of (in_force s.parameters c keys.Vendor)) (vendor_of (slice_get ids c)) s es e (ap vendor_of none)
+identity_needed tests.Class ids p c s es e on none = none_own tests.Class p c (identifier_of (in_force s.parameters c keys.Class)) (class_of (slice_get ids c)) s es e (ap class_of none)
+identity_needed tests.Device ids p c s es e on none = none_own tests.Device p c (identifier_of (in_force s.parameters c keys.Device)) (device_of (slice_get ids c)) s es e (ap device_of none)
+identity_needed tests.Slot ids p c s es e on none = none_own tests.Slot p c (number_of (in_force s.parameters c keys.Slot)) (slot_of (slice_get ids c)) s es e (ap slot_of none)
+identity_needed tests.ImageMatch ids p c s es e on none = absurd on
+identity_needed tests.CheckContent ids p c s es e on none = absurd on
+identity_needed tests.Abort ids p c s es e on none = absurd on
 
 -- ---- the conditions on the identity
 
@@ -163,12 +178,12 @@ identity_decides tests.CheckContent ids p c s es fs e f on run other = absurd on
 identity_decides tests.Abort ids p c s es fs e f on run other = absurd on
 
 -- a comparison, where what is compared is known
-compares_both : {A : Type 0} (kind : TestKind) (p c : ℕ) (wanted own : Option A) (value : A) (held : Option A) (s : State) → wanted ≡ Some value → own ≡ held
-    → ((held ≡ Some value → Compares p kind c wanted own s (Tried c kind true ∷ []) (Done s))
-    × ((held ≡ Some value → ⊥) → Compares p kind c wanted own s (Tried c kind false ∷ Failed p ∷ []) (Condition p s.soft_failure)))
-compares_both {A} kind p c wanted own value held s w-is o-is = (
-  λ same. inl (subst (λ (w : Option A). IsSame w own) (sym w-is) (o-is ∙ same), (refl, refl)),
-  λ differs. inr (λ same. differs (sym o-is ∙ subst (λ (w : Option A). IsSame w own) w-is same), (refl, refl)),
+compares_known : {A : Type 0} (kind : TestKind) (p c : ℕ) (wanted own : Option A) (value : A) (held : Option A) (s : State) (es : List Event) (e : Ending) → wanted ≡ Some value → own ≡ held
+    → Compares p kind c wanted own s es e
+    ↔ (((held ≡ Some value) × PassedBy (Tried c kind true) s es e) ⊎ ((held ≡ Some value → ⊥) × Fails p (Tried c kind false) s es e))
+compares_known {A} kind p c wanted own value held s es e w-is o-is = (
+  λ run. subst (λ (o : Option A). Compares p kind c (Some value) o s es e) o-is (subst (λ (w : Option A). Compares p kind c w own s es e) w-is run),
+  λ ends. subst (λ (w : Option A). Compares p kind c w own s es e) (sym w-is) (subst (λ (o : Option A). Compares p kind c (Some value) o s es e) (sym o-is) ends),
 )
 
 -- ---- a parameter by its number
@@ -207,20 +222,17 @@ held_as s c param known is held = subst (λ (p : Param). in_force s.parameters c
 
 -- ---- the conditions follow the identity
 
-vendor_followed : (ids : List Identity) (identity : Identity) (id : List ℕ) (p c : ℕ) (s : State) → slice_get ids c ≡ Some identity → in_force s.parameters c keys.Vendor ≡ Some (params.Vendor id) → FollowsIdentity tests.Vendor ids identity (params.Vendor id) p c s
-vendor_followed ids identity id p c s there held =
-    let both = compares_both tests.Vendor p c (identifier_of (in_force s.parameters c keys.Vendor)) (vendor_of (slice_get ids c)) id identity.vendor s (ap identifier_of held) (ap vendor_of there) in
-    record { passes = both.0; fails = both.1 }
+vendor_followed : (ids : List Identity) (identity : Identity) (id : List ℕ) (p c : ℕ) (s : State) (es : List Event) (e : Ending) → slice_get ids c ≡ Some identity → in_force s.parameters c keys.Vendor ≡ Some (params.Vendor id) → Tests tests.Vendor ids p c s es e ↔ Follows (HasValue identity (params.Vendor id)) p tests.Vendor c s es e
+vendor_followed ids identity id p c s es e there held =
+    compares_known tests.Vendor p c (identifier_of (in_force s.parameters c keys.Vendor)) (vendor_of (slice_get ids c)) id identity.vendor s es e (ap identifier_of held) (ap vendor_of there)
 
-class_followed : (ids : List Identity) (identity : Identity) (id : List ℕ) (p c : ℕ) (s : State) → slice_get ids c ≡ Some identity → in_force s.parameters c keys.Class ≡ Some (params.Class id) → FollowsIdentity tests.Class ids identity (params.Class id) p c s
-class_followed ids identity id p c s there held =
-    let both = compares_both tests.Class p c (identifier_of (in_force s.parameters c keys.Class)) (class_of (slice_get ids c)) id identity.class s (ap identifier_of held) (ap class_of there) in
-    record { passes = both.0; fails = both.1 }
+class_followed : (ids : List Identity) (identity : Identity) (id : List ℕ) (p c : ℕ) (s : State) (es : List Event) (e : Ending) → slice_get ids c ≡ Some identity → in_force s.parameters c keys.Class ≡ Some (params.Class id) → Tests tests.Class ids p c s es e ↔ Follows (HasValue identity (params.Class id)) p tests.Class c s es e
+class_followed ids identity id p c s es e there held =
+    compares_known tests.Class p c (identifier_of (in_force s.parameters c keys.Class)) (class_of (slice_get ids c)) id identity.class s es e (ap identifier_of held) (ap class_of there)
 
-device_followed : (ids : List Identity) (identity : Identity) (id : List ℕ) (p c : ℕ) (s : State) → slice_get ids c ≡ Some identity → in_force s.parameters c keys.Device ≡ Some (params.Device id) → FollowsIdentity tests.Device ids identity (params.Device id) p c s
-device_followed ids identity id p c s there held =
-    let both = compares_both tests.Device p c (identifier_of (in_force s.parameters c keys.Device)) (device_of (slice_get ids c)) id identity.device s (ap identifier_of held) (ap device_of there) in
-    record { passes = both.0; fails = both.1 }
+device_followed : (ids : List Identity) (identity : Identity) (id : List ℕ) (p c : ℕ) (s : State) (es : List Event) (e : Ending) → slice_get ids c ≡ Some identity → in_force s.parameters c keys.Device ≡ Some (params.Device id) → Tests tests.Device ids p c s es e ↔ Follows (HasValue identity (params.Device id)) p tests.Device c s es e
+device_followed ids identity id p c s es e there held =
+    compares_known tests.Device p c (identifier_of (in_force s.parameters c keys.Device)) (device_of (slice_get ids c)) id identity.device s es e (ap identifier_of held) (ap device_of there)
 
 held_number : Option ℕ → ℕ
 held_number None = 0
@@ -230,31 +242,39 @@ same_number : (m n : ℕ) → Some m ≡ Some n → m ≡ n
 unfolding held_number
 same_number m n same = ap held_number same
 
-slot_followed : (ids : List Identity) (identity : Identity) (slot p c : ℕ) (s : State) → slice_get ids c ≡ Some identity → in_force s.parameters c keys.Slot ≡ Some (params.Slot slot) → FollowsIdentity tests.Slot ids identity (params.Slot slot) p c s
-slot_followed ids identity slot p c s there held =
-    let both = compares_both tests.Slot p c (number_of (in_force s.parameters c keys.Slot)) (slot_of (slice_get ids c)) slot (Some identity.slot) s (ap number_of held) (ap slot_of there) in
-    record { passes = λ same. both.0 (ap Some same); fails = λ differs. both.1 (λ same. differs (same_number identity.slot slot same)) }
+slot_followed : (ids : List Identity) (identity : Identity) (slot p c : ℕ) (s : State) (es : List Event) (e : Ending) → slice_get ids c ≡ Some identity → in_force s.parameters c keys.Slot ≡ Some (params.Slot slot) → Tests tests.Slot ids p c s es e ↔ Follows (HasValue identity (params.Slot slot)) p tests.Slot c s es e
+slot_followed ids identity slot p c s es e there held =
+    let known = compares_known tests.Slot p c (number_of (in_force s.parameters c keys.Slot)) (slot_of (slice_get ids c)) slot (Some identity.slot) s es e (ap number_of held) (ap slot_of there) in (
+      λ run. elim (known.0 run) [
+        | inl (same, passed) ↦ inl (same_number identity.slot slot same, passed)
+        | inr (differs, failed) ↦ inr (λ same. differs (ap Some same), failed)
+      ],
+      λ ends. known.1 (elim ends [
+        | inl (same, passed) ↦ inl (ap Some same, passed)
+        | inr (differs, failed) ↦ inr (λ same. differs (same_number identity.slot slot same), failed)
+      ]),
+    )
 
 pub identity_followed : IdentityFollowed
-identity_followed tests.Vendor ids identity param p c s on number there held =
+identity_followed tests.Vendor ids identity param p c s es e on number there held =
     let v = vendor_param param number in
-    subst (λ (q : Param). FollowsIdentity tests.Vendor ids identity q p c s) (sym v.1)
-    (vendor_followed ids identity v.0 p c s there (held_as s c param (params.Vendor v.0) v.1 held))
-identity_followed tests.Class ids identity param p c s on number there held =
+    subst (λ (q : Param). Tests tests.Vendor ids p c s es e ↔ Follows (HasValue identity q) p tests.Vendor c s es e) (sym v.1)
+    (vendor_followed ids identity v.0 p c s es e there (held_as s c param (params.Vendor v.0) v.1 held))
+identity_followed tests.Class ids identity param p c s es e on number there held =
     let v = class_param param number in
-    subst (λ (q : Param). FollowsIdentity tests.Class ids identity q p c s) (sym v.1)
-    (class_followed ids identity v.0 p c s there (held_as s c param (params.Class v.0) v.1 held))
-identity_followed tests.Device ids identity param p c s on number there held =
+    subst (λ (q : Param). Tests tests.Class ids p c s es e ↔ Follows (HasValue identity q) p tests.Class c s es e) (sym v.1)
+    (class_followed ids identity v.0 p c s es e there (held_as s c param (params.Class v.0) v.1 held))
+identity_followed tests.Device ids identity param p c s es e on number there held =
     let v = device_param param number in
-    subst (λ (q : Param). FollowsIdentity tests.Device ids identity q p c s) (sym v.1)
-    (device_followed ids identity v.0 p c s there (held_as s c param (params.Device v.0) v.1 held))
-identity_followed tests.Slot ids identity param p c s on number there held =
+    subst (λ (q : Param). Tests tests.Device ids p c s es e ↔ Follows (HasValue identity q) p tests.Device c s es e) (sym v.1)
+    (device_followed ids identity v.0 p c s es e there (held_as s c param (params.Device v.0) v.1 held))
+identity_followed tests.Slot ids identity param p c s es e on number there held =
     let v = slot_param param number in
-    subst (λ (q : Param). FollowsIdentity tests.Slot ids identity q p c s) (sym v.1)
-    (slot_followed ids identity v.0 p c s there (held_as s c param (params.Slot v.0) v.1 held))
-identity_followed tests.ImageMatch ids identity param p c s on number there held = absurd on
-identity_followed tests.CheckContent ids identity param p c s on number there held = absurd on
-identity_followed tests.Abort ids identity param p c s on number there held = absurd on
+    subst (λ (q : Param). Tests tests.Slot ids p c s es e ↔ Follows (HasValue identity q) p tests.Slot c s es e) (sym v.1)
+    (slot_followed ids identity v.0 p c s es e there (held_as s c param (params.Slot v.0) v.1 held))
+identity_followed tests.ImageMatch ids identity param p c s es e on number there held = absurd on
+identity_followed tests.CheckContent ids identity param p c s es e on number there held = absurd on
+identity_followed tests.Abort ids identity param p c s es e on number there held = absurd on
 
 -- ---- the conditions on the content
 
@@ -267,25 +287,19 @@ digested None = refl
 digested (Some d) = refl
 
 pub match_is_free : MatchIsFree
-match_is_free ids p c digest size s digest-is size-is =
+match_is_free ids p c digest size s es e digest-is size-is =
     let d : digest_in s.parameters c ≡ Some digest = ap digest_of digest-is in
-    let z : size_in s.parameters c ≡ size = ap number_of size-is ∙ sized size in
-    record {
-      matches =
-          subst (λ (o : Option Digest). Matches p c o (size_in s.parameters c) s (Matched c digest size ∷ []) (Done s)) (sym d)
-          (subst (λ (n : Option ℕ). Matches p c (Some digest) n s (Matched c digest size ∷ []) (Done s)) (sym z) (inl (refl, refl)));
-      misses =
-          subst (λ (o : Option Digest). Matches p c o (size_in s.parameters c) s (Missed c ∷ Failed p ∷ []) (Condition p s.soft_failure)) (sym d)
-          (inr (refl, refl));
-    }
+    let z : size_in s.parameters c ≡ size = ap number_of size-is ∙ sized size in (
+      λ run. subst (λ (o : Option Digest). Matches p c o size s es e) d (subst (λ (n : Option ℕ). Matches p c (digest_in s.parameters c) n s es e) z run),
+      λ ends. subst (λ (n : Option ℕ). Matches p c (digest_in s.parameters c) n s es e) (sym z) (subst (λ (o : Option Digest). Matches p c o size s es e) (sym d) ends),
+    )
 
 pub content_is_free : ContentIsFree
-content_is_free ids p c content s held =
-    let is : bytes_of (in_force s.parameters c keys.Content) ≡ Some content = ap bytes_of held in
-    record {
-      passes = subst (λ (o : Option (List ℕ)). ChecksContent p c o s (Tried c tests.CheckContent true ∷ []) (Done s)) (sym is) (inl (refl, refl));
-      fails = subst (λ (o : Option (List ℕ)). ChecksContent p c o s (Tried c tests.CheckContent false ∷ Failed p ∷ []) (Condition p s.soft_failure)) (sym is) (inr (refl, refl));
-    }
+content_is_free ids p c content s es e held =
+    let is : bytes_of (in_force s.parameters c keys.Content) ≡ Some content = ap bytes_of held in (
+      λ run. subst (λ (o : Option (List ℕ)). ChecksContent p c o s es e) is run,
+      λ ends. subst (λ (o : Option (List ℕ)). ChecksContent p c o s es e) (sym is) ends,
+    )
 
 -- ---- directives
 

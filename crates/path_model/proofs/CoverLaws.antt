@@ -84,7 +84,7 @@ write_ends events c d s h =
     let quiet : Unwritten c (last_after (Matched c d s) h.since) = all_last (Unwritten c) (Matched c d s) h.since (λ x. x) h.unwritten in
     subst (Unwritten c) (sym last) quiet refl
 
-unwritten : (c : ℕ) (event : Event) → event ≢ Wrote c → Unwritten c event
+pub unwritten : (c : ℕ) (event : Event) → event ≢ Wrote c → Unwritten c event
 unwritten c (Wrote other) differs same = differs (ap Wrote same)
 unwritten c (Set component param) differs same = same
 unwritten c (Tried component kind passed) differs same = same

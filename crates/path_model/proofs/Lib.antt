@@ -7,4 +7,12 @@ pub mod CommandLaws
 pub mod RunLaws
 pub mod PathLaws
 pub mod CoverLaws
+pub mod Turns
+pub mod SelectionLaws
+pub mod ProcedureLaws
+pub mod EventBounds
+pub mod Coverage
 pub mod Following
+pub mod TwoComponents
+pub mod OneRun
+pub mod Unsafe

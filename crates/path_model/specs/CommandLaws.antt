@@ -22,50 +22,53 @@ use Rattle.path_model.specs.Directives.{Acts}
 
 -- ---- conditions
 
--- the events that tell of a condition at a component
+-- it is passed: this event, and nothing changes
+abbrev pub PassedBy : Event → State → List Event → Ending → Type 0
+PassedBy event state events ending = (events ≡ event ∷ []) × (ending ≡ Done state)
+
+-- what tells that a condition failed at a component
+abbrev pub failure_event : TestKind → ℕ → Event
+failure_event tests.ImageMatch component = Missed component
+failure_event kind component = Tried component kind false
+
+-- it fails: that event, the place of its command, and the sequence ends with the soft failure that it held
+abbrev pub FailedAt : ℕ → TestKind → ℕ → State → List Event → Ending → Type 0
+FailedAt place kind component state events ending =
+    (events ≡ failure_event kind component ∷ Failed place ∷ []) × (ending ≡ Condition place state.soft_failure)
+
+-- the events that tell of a passed condition at a component
 pub data TellsPassed : TestKind → ℕ → Event → Type 0 where
   MatchTold : (component : ℕ) (digest : Digest) (size : Option ℕ) → TellsPassed tests.ImageMatch component (Matched component digest size)
   PassTold : (kind : TestKind) (component : ℕ) → kind ≢ tests.ImageMatch → TellsPassed kind component (Tried component kind true)
 
-pub data TellsFailed : TestKind → ℕ → Event → Type 0 where
-  MissTold : (component : ℕ) → TellsFailed tests.ImageMatch component (Missed component)
-  FailTold : (kind : TestKind) (component : ℕ) → kind ≢ tests.ImageMatch → TellsFailed kind component (Tried component kind false)
-
 pub record EndsPassed (kind : TestKind) (component : ℕ) (state : State) (events : List Event) (ending : Ending) : Type 0 where
   pub event : Event
   pub tells : TellsPassed kind component event
-  pub events_are : events ≡ event ∷ []
-  pub ending_is : ending ≡ Done state
+  pub passed : PassedBy event state events ending
 
-pub record EndsFailed (kind : TestKind) (place component : ℕ) (state : State) (events : List Event) (ending : Ending) : Type 0 where
-  pub event : Event
-  pub tells : TellsFailed kind component event
-  pub events_are : events ≡ event ∷ Failed place ∷ []
-  pub ending_is : ending ≡ Condition place state.soft_failure
-
--- it passes and changes nothing, or it fails and tells its place
+-- it is passed or it fails, whatever is in force
 abbrev pub ConditionsEnd : Type 0
 ConditionsEnd =
     (kind : TestKind) (identities : List Identity) (place component : ℕ) (state : State) (events : List Event) (ending : Ending)
     → Tests kind identities place component state events ending
-    → EndsPassed kind component state events ending ⊎ EndsFailed kind place component state events ending
+    → EndsPassed kind component state events ending ⊎ FailedAt place kind component state events ending
 
--- abort never passes
+-- abort fails, always
 abbrev pub AbortFails : Type 0
 AbortFails =
-    (identities : List Identity) (place component : ℕ) (state next : State) (events : List Event)
-    → Tests tests.Abort identities place component state events (Done next) → ⊥
+    (identities : List Identity) (place component : ℕ) (state : State) (events : List Event) (ending : Ending)
+    → Tests tests.Abort identities place component state events ending ↔ FailedAt place tests.Abort component state events ending
 
 -- check content needs the content, and each other condition the parameter of its own number
 abbrev pub compared_number : ℕ → ℕ
 compared_number code = if code == 6 then 18 else code
 
--- without its parameter it does not pass
+-- without its parameter it fails, always
 abbrev pub ConditionsNeed : Type 0
 ConditionsNeed =
-    (kind : TestKind) (key : ParamKey) (identities : List Identity) (place component : ℕ) (state next : State) (events : List Event)
+    (kind : TestKind) (key : ParamKey) (identities : List Identity) (place component : ℕ) (state : State) (events : List Event) (ending : Ending)
     → key_number key ≡ compared_number (test_code kind) → in_force state.parameters component key ≡ None
-    → Tests kind identities place component state events (Done next) → ⊥
+    → Tests kind identities place component state events ending ↔ FailedAt place kind component state events ending
 
 -- the conditions on the identity
 
@@ -83,6 +86,27 @@ HasValue identity (params.Device id) = identity.device ≡ Some id
 HasValue identity (params.Slot number) = identity.slot ≡ number
 HasValue identity _ = ⊥
 
+-- passed exactly where the identity has the parameter's value
+abbrev pub Follows : Type 0 → ℕ → TestKind → ℕ → State → List Event → Ending → Type 0
+Follows has place kind component state events ending =
+    (has × PassedBy (Tried component kind true) state events ending)
+    ⊎ ((has → ⊥) × FailedAt place kind component state events ending)
+
+abbrev pub IdentityFollowed : Type 0
+IdentityFollowed =
+    (kind : TestKind) (identities : List Identity) (identity : Identity) (param : Param) (place component : ℕ) (state : State)
+    (events : List Event) (ending : Ending)
+    → IsOnIdentity kind → key_number (key_of param) ≡ test_code kind → slice_get identities component ≡ Some identity
+    → in_force state.parameters component (key_of param) ≡ Some param
+    → Tests kind identities place component state events ending ↔ Follows (HasValue identity param) place kind component state events ending
+
+-- and failed where there is no identity
+abbrev pub IdentityNeeded : Type 0
+IdentityNeeded =
+    (kind : TestKind) (identities : List Identity) (place component : ℕ) (state : State) (events : List Event) (ending : Ending)
+    → IsOnIdentity kind → slice_get identities component ≡ None
+    → Tests kind identities place component state events ending ↔ FailedAt place kind component state events ending
+
 -- for one list of identities they end in just one way
 abbrev pub IdentityDecides : Type 0
 IdentityDecides =
@@ -90,41 +114,23 @@ IdentityDecides =
     → IsOnIdentity kind → Tests kind identities place component state events ending
     → Tests kind identities place component state others other → (events ≡ others) × (ending ≡ other)
 
--- which is to pass where the identity has the parameter's value
-pub record FollowsIdentity (kind : TestKind) (identities : List Identity) (identity : Identity) (param : Param) (place component : ℕ) (state : State) : Type 0 where
-  pub passes : HasValue identity param → Tests kind identities place component state (Tried component kind true ∷ []) (Done state)
-  pub fails : (HasValue identity param → ⊥)
-      → Tests kind identities place component state (Tried component kind false ∷ Failed place ∷ []) (Condition place state.soft_failure)
-
-abbrev pub IdentityFollowed : Type 0
-IdentityFollowed =
-    (kind : TestKind) (identities : List Identity) (identity : Identity) (param : Param) (place component : ℕ) (state : State)
-    → IsOnIdentity kind → key_number (key_of param) ≡ test_code kind → slice_get identities component ≡ Some identity
-    → in_force state.parameters component (key_of param) ≡ Some param → FollowsIdentity kind identities identity param place component state
-
 -- the conditions on the content end either way where their parameter is in force
 
-pub record MatchEndsEitherWay (identities : List Identity) (place component : ℕ) (digest : Digest) (size : Option ℕ) (state : State) : Type 0 where
-  pub matches : Tests tests.ImageMatch identities place component state (Matched component digest size ∷ []) (Done state)
-  pub misses : Tests tests.ImageMatch identities place component state (Missed component ∷ Failed place ∷ []) (Condition place state.soft_failure)
-
+-- a match is told with the digest and the size in force, and with no size where none is
 abbrev pub MatchIsFree : Type 0
 MatchIsFree =
-    (identities : List Identity) (place component : ℕ) (digest : Digest) (size : Option ℕ) (state : State)
+    (identities : List Identity) (place component : ℕ) (digest : Digest) (size : Option ℕ) (state : State) (events : List Event) (ending : Ending)
     → in_force state.parameters component keys.Digest ≡ Some (params.Digest digest)
     → in_force state.parameters component keys.Size ≡ option_map params.Size size
-    → MatchEndsEitherWay identities place component digest size state
-
-pub record ContentEndsEitherWay (identities : List Identity) (place component : ℕ) (state : State) : Type 0 where
-  pub passes : Tests tests.CheckContent identities place component state (Tried component tests.CheckContent true ∷ []) (Done state)
-  pub fails : Tests tests.CheckContent identities place component state (Tried component tests.CheckContent false ∷ Failed place ∷ [])
-      (Condition place state.soft_failure)
+    → Tests tests.ImageMatch identities place component state events ending
+    ↔ (PassedBy (Matched component digest size) state events ending ⊎ FailedAt place tests.ImageMatch component state events ending)
 
 abbrev pub ContentIsFree : Type 0
 ContentIsFree =
-    (identities : List Identity) (place component : ℕ) (content : List ℕ) (state : State)
+    (identities : List Identity) (place component : ℕ) (content : List ℕ) (state : State) (events : List Event) (ending : Ending)
     → in_force state.parameters component keys.Content ≡ Some (params.Content content)
-    → ContentEndsEitherWay identities place component state
+    → Tests tests.CheckContent identities place component state events ending
+    ↔ (PassedBy (Tried component tests.CheckContent true) state events ending ⊎ FailedAt place tests.CheckContent component state events ending)
 
 -- ---- directives
 

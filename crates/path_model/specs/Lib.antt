@@ -12,3 +12,9 @@ pub mod CommandLaws
 pub mod RunLaws
 pub mod PathLaws
 pub mod CoverLaws
+pub mod Turns
+pub mod SelectionLaws
+pub mod ProcedureLaws
+pub mod EventBounds
+pub mod TwoComponents
+pub mod OneRun

@@ -1,6 +1,6 @@
--- Laws of selections, overrides, sequences, run sequence and try each: how the whole runs, from how its parts do
--- (draft-ietf-suit-manifest-25, sections 6.5 and 8.4.10, and this project's choices on soft failure).
-use Rattle.std.specs.Prelude.{◌≡◌, ◌≢◌, ◌↔◌, ◌<◌, ℕ, Bool, true, false, List, [], ◌∷◌, ◌++◌, length, Some, slice_get}
+-- Laws of overrides, sequences, run sequence and try each: how the whole runs, from how its parts do
+-- (draft-ietf-suit-manifest-25, section 8.4.10, and this project's choices on soft failure).
+use Rattle.std.specs.Prelude.{◌≡◌, ◌≢◌, ◌↔◌, ◌⊎◌, ℕ, Bool, true, false, List, [], ◌∷◌, ◌++◌}
 use Rattle.path_model.specs.declared.identity.Identity.{Identity}
 use Rattle.suit_params.specs.declared.param.Param.{Param}
 use Rattle.suit_params.specs.declared.param.Param.TheVariants as params
@@ -9,28 +9,11 @@ use Rattle.path_model.specs.declared.event.Event.{Event}
 use Rattle.path_model.specs.declared.event.Event.TheVariants.{Set}
 use Rattle.suit_params.specs.ParamKeys.{key_of}
 use Rattle.suit_params.specs.InForce.{with_param}
-use Rattle.suit_commands.specs.declared.selection.Selection.TheVariants.{One, All, Listed}
 use Rattle.suit_commands.specs.Tree.{CommandTree, TryEach, RunSequence, SequenceTree, NoSteps, StepThen, BranchesTree, NoBranches, BranchThen, NullThen}
 use Rattle.path_model.specs.Behaviour.{State, Ending, Done, Condition, Directive}
 use Rattle.path_model.specs.Directives.{set_events, after_override}
-use Rattle.suit_commands.specs.Selections.{selected_by}
 use Rattle.path_model.specs.Runs.{Runs, Does}
-use Rattle.path_model.specs.Path.{start_state}
-
--- ---- selections
-
--- one is that one, a list is that list, and all are those below the count in ascending order
-pub record Selections : Type 0 where
-  pub one : (component count : ℕ) → selected_by (One component) count ≡ component ∷ []
-  pub listed : (components : List ℕ) (count : ℕ) → selected_by (Listed components) count ≡ components
-  pub all_number : (count : ℕ) → length (selected_by All count) ≡ count
-  pub all_ascend : (count component : ℕ) → component < count → slice_get (selected_by All count) component ≡ Some component
-
--- each member starts with the first component selected and soft failure false, and keeps the parameters
-pub record MemberStarts : Type 0 where
-  pub selection : (state : State) → (start_state state).selection ≡ 0 ∷ []
-  pub soft : (state : State) → (start_state state).soft_failure ≡ false
-  pub parameters : (state : State) → (start_state state).parameters ≡ state.parameters
+use Rattle.path_model.specs.Turns.{Course, InTurn}
 
 -- ---- overrides, one parameter after another
 
@@ -44,23 +27,23 @@ pub record OverrideSteps (state : State) (component : ℕ) (list : List Param) (
   pub other : key_of param ≢ keys.Soft
       → (after_override state component (list ++ param ∷ [])).soft_failure ≡ (after_override state component list).soft_failure
 
+-- an empty list tells and changes nothing
+pub record OverridesNothing : Type 0 where
+  pub told : (component : ℕ) → set_events component [] ≡ []
+  pub state : (state : State) (component : ℕ) → after_override state component [] ≡ state
+
 abbrev pub OverridesStep : Type 0
 OverridesStep = (state : State) (component : ℕ) (list : List Param) (param : Param) → OverrideSteps state component list param
 
 -- ---- sequences: steps follow one another, and the first that fails ends it
 
-pub record StepRules (place : ℕ) (command : CommandTree) (rest : SequenceTree) (identities : List Identity) (count : ℕ) (state : State) : Type 0 where
-  pub done : (middle : State) (before after : List Event) (ending : Ending) → Does command identities count place state before (Done middle)
-      → Runs rest identities count middle after ending → Runs (StepThen place command rest) identities count state (before ++ after) ending
-  pub failed : (at : ℕ) (soft : Bool) (events : List Event) → Does command identities count place state events (Condition at soft)
-      → Runs (StepThen place command rest) identities count state events (Condition at soft)
-  pub ended : (at : ℕ) (events : List Event) → Does command identities count place state events (Directive at)
-      → Runs (StepThen place command rest) identities count state events (Directive at)
-
 pub record SequenceRules : Type 0 where
-  pub none : (identities : List Identity) (count : ℕ) (state : State) → Runs NoSteps identities count state [] (Done state)
+  pub none : (identities : List Identity) (count : ℕ) (state : State) (events : List Event) (ending : Ending)
+      → Runs NoSteps identities count state events ending ↔ ((events ≡ []) × (ending ≡ Done state))
   pub step : (place : ℕ) (command : CommandTree) (rest : SequenceTree) (identities : List Identity) (count : ℕ) (state : State)
-      → StepRules place command rest identities count state
+      (events : List Event) (ending : Ending)
+      → Runs (StepThen place command rest) identities count state events ending
+      ↔ InTurn (Does command identities count place state) (Runs rest identities count) events ending
 
 -- ---- run sequence, where one component is selected
 
@@ -72,41 +55,55 @@ within state component soft_failure = record { parameters = state.parameters; se
 abbrev pub keeping : State → State → State
 keeping state inner = record { parameters = inner.parameters; selection = state.selection; soft_failure = state.soft_failure }
 
-pub record RunRules (inner : SequenceTree) (identities : List Identity) (count place component : ℕ) (state : State) : Type 0 where
-  pub done : (events : List Event) (next : State) → Runs inner identities count (within state component false) events (Done next)
-      → Does (RunSequence inner) identities count place state events (Done (keeping state next))
-  -- a soft failure is passed over, with all as it was
-  pub passed_over : (events : List Event) (at : ℕ) → Runs inner identities count (within state component false) events (Condition at true)
-      → Does (RunSequence inner) identities count place state events (Done state)
-  pub passed_on : (events : List Event) (at : ℕ) → Runs inner identities count (within state component false) events (Condition at false)
-      → Does (RunSequence inner) identities count place state events (Condition at state.soft_failure)
-  pub ended : (events : List Event) (at : ℕ) → Runs inner identities count (within state component false) events (Directive at)
-      → Does (RunSequence inner) identities count place state events (Directive at)
+abbrev pub DoneWithin : State → Course → Course
+DoneWithin state inner events ending = (next : State) × inner events (Done next) × (ending ≡ Done (keeping state next))
+
+-- a soft failure is passed over, with all as it was
+abbrev pub PassedOver : State → Course → Course
+PassedOver state inner events ending = (place : ℕ) × inner events (Condition place true) × (ending ≡ Done state)
+
+-- another failed condition is passed on, with its place and the outer soft failure
+abbrev pub PassedOn : State → Course → Course
+PassedOn state inner events ending =
+    (place : ℕ) × inner events (Condition place false) × (ending ≡ Condition place state.soft_failure)
+
+abbrev pub EndedWithin : Course → Course
+EndedWithin inner events ending = (place : ℕ) × inner events (Directive place) × (ending ≡ Directive place)
+
+-- it ends in these ways and in no others
+abbrev pub RunEnds : State → Course → Course
+RunEnds state inner events ending =
+    DoneWithin state inner events ending ⊎ (PassedOver state inner events ending
+    ⊎ (PassedOn state inner events ending ⊎ EndedWithin inner events ending))
 
 abbrev pub RunSequenceRules : Type 0
 RunSequenceRules =
-    (inner : SequenceTree) (identities : List Identity) (count place component : ℕ) (state : State)
-    → state.selection ≡ component ∷ [] → RunRules inner identities count place component state
+    (inner : SequenceTree) (identities : List Identity) (count place component : ℕ) (state : State) (events : List Event) (ending : Ending)
+    → state.selection ≡ component ∷ []
+    → Does (RunSequence inner) identities count place state events ending
+    ↔ RunEnds state (Runs inner identities count (within state component false)) events ending
 
 -- ---- try each, where one component is selected
 
-pub record BranchRules (inner : SequenceTree) (rest : BranchesTree) (identities : List Identity) (count place component : ℕ) (state : State) : Type 0 where
-  pub done : (events : List Event) (next : State) → Runs inner identities count (within state component true) events (Done next)
-      → Does (TryEach (BranchThen inner rest)) identities count place state events (Done (keeping state next))
-  -- after a soft failure the others are tried, with all as it was
-  pub next_one : (before after : List Event) (at : ℕ) (ending : Ending)
-      → Runs inner identities count (within state component true) before (Condition at true)
-      → Does (TryEach rest) identities count place state after ending
-      → Does (TryEach (BranchThen inner rest)) identities count place state (before ++ after) ending
-  pub passed_on : (events : List Event) (at : ℕ) → Runs inner identities count (within state component true) events (Condition at false)
-      → Does (TryEach (BranchThen inner rest)) identities count place state events (Condition at state.soft_failure)
-  pub ended : (events : List Event) (at : ℕ) → Runs inner identities count (within state component true) events (Directive at)
-      → Does (TryEach (BranchThen inner rest)) identities count place state events (Directive at)
+-- after a soft failure the others are tried, with all as it was
+abbrev pub TriesOthers : Course → Course → Course
+TriesOthers inner others events ending =
+    (place : ℕ) × (before : List Event) × (after : List Event) × (events ≡ before ++ after)
+    × inner before (Condition place true) × others after ending
+
+abbrev pub BranchEnds : State → Course → Course → Course
+BranchEnds state inner others events ending =
+    DoneWithin state inner events ending ⊎ (TriesOthers inner others events ending
+    ⊎ (PassedOn state inner events ending ⊎ EndedWithin inner events ending))
 
 abbrev pub BranchesRules : Type 0
 BranchesRules =
     (inner : SequenceTree) (rest : BranchesTree) (identities : List Identity) (count place component : ℕ) (state : State)
-    → state.selection ≡ component ∷ [] → BranchRules inner rest identities count place component state
+    (events : List Event) (ending : Ending)
+    → state.selection ≡ component ∷ []
+    → Does (TryEach (BranchThen inner rest)) identities count place state events ending
+    ↔ BranchEnds state (Runs inner identities count (within state component true))
+    (Does (TryEach rest) identities count place state) events ending
 
 -- a null branch does nothing and is done; after the last one the try each fails as a condition does
 pub record LastRules (identities : List Identity) (count place component : ℕ) (state : State) : Type 0 where

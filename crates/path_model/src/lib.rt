@@ -14,8 +14,9 @@ pub use cover::{first_uncovered, has_matched, is_covered};
 pub use event::{Event, Events};
 pub use identity::{Identities, Identity};
 pub use law::{
-    conditions, covered_invokes, directives, identity_bounds, inner_sequences, overriding,
-    path_beginnings, selecting, sequences,
+    condition_laws, cover_laws, directive_laws, event_bound_laws, example_laws, following_laws,
+    identity_laws, inner_sequence_laws, one_run_laws, overriding_laws, procedure_laws, safety_laws,
+    selection_laws, sequence_laws,
 };
 pub use procedure::Procedure;
 

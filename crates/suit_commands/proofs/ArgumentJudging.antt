@@ -1,7 +1,7 @@
 -- The judgement of a reporting policy and of an override is that of the grammar and the refusals.
 use Rattle.std.proofs.Common.{◌≡◌, ℕ, ◌≤◌, Bool, true, false, ltb, List, Result, Ok, Err, refl, ap, subst, inl, inr, arith}
 use Rattle.std.proofs.lemmas.Bool.{lt-ltb, ltb-true, ltb-false}
-use Rattle.det_cbor.specs.DataItem.{DataItem, UnsignedInteger, NegativeInteger, ByteString, TextString, ArrayOf, MapOf, TaggedItem, Boolean, NullItem, IsValidWithin}
+use Rattle.det_cbor.specs.DataItem.{DataItem, UnsignedInteger, NegativeInteger, MapOf, IsValidWithin}
 use Rattle.det_cbor.proofs.Results.{chosen, same_ok, same_err}
 use Rattle.suit_params.specs.declared.param.Param.{Param}
 use Rattle.suit_params.specs.declared.refusal.Refusal.{Refusal}
@@ -33,13 +33,7 @@ report_err place (UnsignedInteger n) r e =
       | inr (other, f) ↦ (λ le. absurd (omega (arith, ltb-false n 16 other, le)), same_err _ r f)
     ]
 report_err place (NegativeInteger n) r e = (λ h. h, same_err _ r e)
-report_err place (ByteString bytes) r e = (λ h. h, same_err _ r e)
-report_err place (TextString text) r e = (λ h. h, same_err _ r e)
-report_err place (ArrayOf xs) r e = (λ h. h, same_err _ r e)
-report_err place (MapOf ps) r e = (λ h. h, same_err _ r e)
-report_err place (TaggedItem tag y) r e = (λ h. h, same_err _ r e)
-report_err place (Boolean b) r e = (λ h. h, same_err _ r e)
-report_err place NullItem r e = (λ h. h, same_err _ r e)
+report_err place x r e = (λ h. h, same_err _ r e)
 
 not_small : (n : ℕ) → (n ≤ 15 → ⊥) → ltb n 16 ≡ false
 not_small n large = by_test (ltb n 16) refl
@@ -67,14 +61,7 @@ override_again count place x list said = by_map x ((params_judge count).again pl
 
 pub override_err : (shared : Bool) (count levels deep place : ℕ) (x : DataItem) (r : Refusal) → IsValidWithin deep x → judge_override count place x ≡ Err r → RefusesArgument shared count levels place 20 x r
 override_err shared count levels deep place (MapOf pairs) r valid e = BadParams levels place (MapOf pairs) r tt ((params_judge count).err deep place (MapOf pairs) r valid e)
-override_err shared count levels deep place (UnsignedInteger n) r valid e = subst (RefusesArgument shared count levels place 20 (UnsignedInteger n)) (same_err _ r e) (NoParams levels place (UnsignedInteger n) (λ h. h))
-override_err shared count levels deep place (NegativeInteger n) r valid e = subst (RefusesArgument shared count levels place 20 (NegativeInteger n)) (same_err _ r e) (NoParams levels place (NegativeInteger n) (λ h. h))
-override_err shared count levels deep place (ByteString bytes) r valid e = subst (RefusesArgument shared count levels place 20 (ByteString bytes)) (same_err _ r e) (NoParams levels place (ByteString bytes) (λ h. h))
-override_err shared count levels deep place (TextString text) r valid e = subst (RefusesArgument shared count levels place 20 (TextString text)) (same_err _ r e) (NoParams levels place (TextString text) (λ h. h))
-override_err shared count levels deep place (ArrayOf xs) r valid e = subst (RefusesArgument shared count levels place 20 (ArrayOf xs)) (same_err _ r e) (NoParams levels place (ArrayOf xs) (λ h. h))
-override_err shared count levels deep place (TaggedItem tag y) r valid e = subst (RefusesArgument shared count levels place 20 (TaggedItem tag y)) (same_err _ r e) (NoParams levels place (TaggedItem tag y) (λ h. h))
-override_err shared count levels deep place (Boolean b) r valid e = subst (RefusesArgument shared count levels place 20 (Boolean b)) (same_err _ r e) (NoParams levels place (Boolean b) (λ h. h))
-override_err shared count levels deep place NullItem r valid e = subst (RefusesArgument shared count levels place 20 NullItem) (same_err _ r e) (NoParams levels place NullItem (λ h. h))
+override_err shared count levels deep place x r valid e = subst (RefusesArgument shared count levels place 20 x) (same_err _ r e) (NoParams levels place x (λ h. h))
 
 pub override_other : (count place : ℕ) (x : DataItem) → (IsMap x → ⊥) → judge_override count place x ≡ Err (refused place BadArgument)
 override_other count place (MapOf pairs) other = absurd (other tt)

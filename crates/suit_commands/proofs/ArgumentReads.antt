@@ -2,7 +2,7 @@
 use Rattle.std.proofs.Common.{◌≡◌, ℕ, suc, ◌+◌, Bool, true, false, cond, eqb, ltb, List, [], ◌∷◌, ◌++◌, length, Result, Ok, Err, refl, sym, ap, ◌∙◌, append_assoc, arith}
 use Rattle.std.proofs.lemmas.List.{length-append, append-nil}
 use Rattle.det_cbor.specs.Heads.{head_bytes}
-use Rattle.det_cbor.specs.DataItem.{DataItem, UnsignedInteger, NegativeInteger, ByteString, TextString, ArrayOf, MapOf, TaggedItem, Boolean, NullItem, DataItems, NoItems, ItemThen, item_count, spell, spell_items, IsValidWithin, AreValidWithin}
+use Rattle.det_cbor.specs.DataItem.{DataItem, UnsignedInteger, ArrayOf, MapOf, Boolean, DataItems, NoItems, ItemThen, item_count, spell, spell_items, IsValidWithin, AreValidWithin}
 use Rattle.det_cbor.specs.HeadReading.{◌>>=◌}
 use Rattle.det_cbor.specs.HeadSpelling.{spelled}
 use Rattle.det_cbor.specs.ItemOrder.{spell_parts}
@@ -49,40 +49,19 @@ made (Err e) q make = refl
 pub code_read : (shared : Bool) (deep : ℕ) (p : Position) (x : DataItem) (rest : List ℕ) → IsValidWithin deep x → p.left ≡ spell x ++ rest → code_from shared p ≡ (judge_code shared p.place x >>= with_rest (after p (spell x) rest))
 unfolding code_from
 code_read shared deep p (UnsignedInteger n) rest valid is = rw (item_head_read deep p (UnsignedInteger n) rest valid is) refl
-code_read shared deep p (NegativeInteger n) rest valid is = rw (item_head_read deep p (NegativeInteger n) rest valid is) refl
-code_read shared deep p (ByteString bytes) rest valid is = rw (item_head_read deep p (ByteString bytes) rest valid is) refl
-code_read shared deep p (TextString text) rest valid is = rw (item_head_read deep p (TextString text) rest valid is) refl
-code_read shared deep p (ArrayOf xs) rest valid is = rw (item_head_read deep p (ArrayOf xs) rest valid is) refl
-code_read shared deep p (MapOf ps) rest valid is = rw (item_head_read deep p (MapOf ps) rest valid is) refl
-code_read shared deep p (TaggedItem tag y) rest valid is = rw (item_head_read deep p (TaggedItem tag y) rest valid is) refl
-code_read shared deep p (Boolean b) rest valid is = rw (item_head_read deep p (Boolean b) rest valid is) refl
-code_read shared deep p NullItem rest valid is = rw (item_head_read deep p NullItem rest valid is) refl
+code_read shared deep p x rest valid is = rw (item_head_read deep p x rest valid is) refl
 
 pub report_read : (deep : ℕ) (p : Position) (x : DataItem) (rest : List ℕ) → IsValidWithin deep x → p.left ≡ spell x ++ rest → report_from p ≡ (judge_report p.place x >>= with_rest (after p (spell x) rest))
 unfolding report_from
 report_read deep p (UnsignedInteger n) rest valid is = rw (item_head_read deep p (UnsignedInteger n) rest valid is) (tested (ltb n 16) n (refused p.place BadArgument) (after p (spell (UnsignedInteger n)) rest))
-report_read deep p (NegativeInteger n) rest valid is = rw (item_head_read deep p (NegativeInteger n) rest valid is) refl
-report_read deep p (ByteString bytes) rest valid is = rw (item_head_read deep p (ByteString bytes) rest valid is) refl
-report_read deep p (TextString text) rest valid is = rw (item_head_read deep p (TextString text) rest valid is) refl
-report_read deep p (ArrayOf xs) rest valid is = rw (item_head_read deep p (ArrayOf xs) rest valid is) refl
-report_read deep p (MapOf ps) rest valid is = rw (item_head_read deep p (MapOf ps) rest valid is) refl
-report_read deep p (TaggedItem tag y) rest valid is = rw (item_head_read deep p (TaggedItem tag y) rest valid is) refl
-report_read deep p (Boolean b) rest valid is = rw (item_head_read deep p (Boolean b) rest valid is) refl
-report_read deep p NullItem rest valid is = rw (item_head_read deep p NullItem rest valid is) refl
+report_read deep p x rest valid is = rw (item_head_read deep p x rest valid is) refl
 
 -- ---- indices
 
 element_read : (count list deep : ℕ) (p : Position) (x : DataItem) (rest : List ℕ) → IsValidWithin deep x → p.left ≡ spell x ++ rest → element_from count list p ≡ (judge_element count list p.place x >>= with_rest (after p (spell x) rest))
 unfolding element_from
 element_read count list deep p (UnsignedInteger n) rest valid is = rw (item_head_read deep p (UnsignedInteger n) rest valid is) refl
-element_read count list deep p (NegativeInteger n) rest valid is = rw (item_head_read deep p (NegativeInteger n) rest valid is) refl
-element_read count list deep p (ByteString bytes) rest valid is = rw (item_head_read deep p (ByteString bytes) rest valid is) refl
-element_read count list deep p (TextString text) rest valid is = rw (item_head_read deep p (TextString text) rest valid is) refl
-element_read count list deep p (ArrayOf xs) rest valid is = rw (item_head_read deep p (ArrayOf xs) rest valid is) refl
-element_read count list deep p (MapOf ps) rest valid is = rw (item_head_read deep p (MapOf ps) rest valid is) refl
-element_read count list deep p (TaggedItem tag y) rest valid is = rw (item_head_read deep p (TaggedItem tag y) rest valid is) refl
-element_read count list deep p (Boolean b) rest valid is = rw (item_head_read deep p (Boolean b) rest valid is) refl
-element_read count list deep p NullItem rest valid is = rw (item_head_read deep p NullItem rest valid is) refl
+element_read count list deep p x rest valid is = rw (item_head_read deep p x rest valid is) refl
 
 indices_read : (count list deep : ℕ) (p : Position) (items : DataItems) (rest : List ℕ) → AreValidWithin deep items → p.left ≡ spell_items items ++ rest
     → indices_from count list (item_count items) p ≡ (judge_indices count list p.place items >>= with_rest (after p (spell_items items) rest))
@@ -135,12 +114,7 @@ selection_read count deep p (ArrayOf items) rest valid is =
     let found = indices_read count p.place (deep + 1) q items rest valid.2 refl ∙ ap (λ (r : Position). judge_indices count p.place q.place items >>= with_rest r) (after_both p head (spell_items items) (spell_items items ++ rest) rest) in
     rw (item_head_read deep p (ArrayOf items) rest valid is)
     (list_read (eqb (item_count items) 0) (refused p.place BadArgument) (judge_indices count p.place (elements_place p.place items) items) (indices_from count p.place (item_count items) q) (after p (spell (ArrayOf items)) rest) found)
-selection_read count deep p (NegativeInteger n) rest valid is = rw (item_head_read deep p (NegativeInteger n) rest valid is) refl
-selection_read count deep p (ByteString bytes) rest valid is = rw (item_head_read deep p (ByteString bytes) rest valid is) refl
-selection_read count deep p (TextString text) rest valid is = rw (item_head_read deep p (TextString text) rest valid is) refl
-selection_read count deep p (MapOf ps) rest valid is = rw (item_head_read deep p (MapOf ps) rest valid is) refl
-selection_read count deep p (TaggedItem tag y) rest valid is = rw (item_head_read deep p (TaggedItem tag y) rest valid is) refl
-selection_read count deep p NullItem rest valid is = rw (item_head_read deep p NullItem rest valid is) refl
+selection_read count deep p x rest valid is = rw (item_head_read deep p x rest valid is) refl
 
 -- ---- overrides
 
@@ -150,11 +124,4 @@ map_read count deep p x rest valid is = rw (item_read p x rest (valid_alone deep
 pub override_read : (count deep : ℕ) (p : Position) (x : DataItem) (rest : List ℕ) → IsValidWithin deep x → p.left ≡ spell x ++ rest → override_from count p ≡ (judge_override count p.place x >>= with_rest (after p (spell x) rest))
 unfolding override_from
 override_read count deep p (MapOf pairs) rest valid is = rw (item_head_read deep p (MapOf pairs) rest valid is) (map_read count deep p (MapOf pairs) rest valid is)
-override_read count deep p (UnsignedInteger n) rest valid is = rw (item_head_read deep p (UnsignedInteger n) rest valid is) refl
-override_read count deep p (NegativeInteger n) rest valid is = rw (item_head_read deep p (NegativeInteger n) rest valid is) refl
-override_read count deep p (ByteString bytes) rest valid is = rw (item_head_read deep p (ByteString bytes) rest valid is) refl
-override_read count deep p (TextString text) rest valid is = rw (item_head_read deep p (TextString text) rest valid is) refl
-override_read count deep p (ArrayOf xs) rest valid is = rw (item_head_read deep p (ArrayOf xs) rest valid is) refl
-override_read count deep p (TaggedItem tag y) rest valid is = rw (item_head_read deep p (TaggedItem tag y) rest valid is) refl
-override_read count deep p (Boolean b) rest valid is = rw (item_head_read deep p (Boolean b) rest valid is) refl
-override_read count deep p NullItem rest valid is = rw (item_head_read deep p NullItem rest valid is) refl
+override_read count deep p x rest valid is = rw (item_head_read deep p x rest valid is) refl

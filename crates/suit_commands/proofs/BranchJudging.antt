@@ -1,7 +1,7 @@
 -- The judgement of arguments that hold sequences, by that of the sequences inside them.
 use Rattle.std.proofs.Common.{◌≡◌, ℕ, ◌+◌, ◌≤◌, Bool, true, false, eqb, ltb, List, Option, Some, Result, Ok, Err, refl, sym, ap, subst, ◌∙◌, inl, inr, arith}
 use Rattle.std.proofs.lemmas.Bool.{ne_eqb, ltb-true, ltb-false}
-use Rattle.det_cbor.specs.DataItem.{DataItem, UnsignedInteger, NegativeInteger, ByteString, TextString, ArrayOf, MapOf, TaggedItem, Boolean, NullItem, DataItems, NoItems, ItemThen, item_count, IsValidWithin, AreValidWithin}
+use Rattle.det_cbor.specs.DataItem.{DataItem, UnsignedInteger, ByteString, ArrayOf, NullItem, DataItems, NoItems, ItemThen, item_count, IsValidWithin, AreValidWithin}
 use Rattle.det_cbor.specs.HeadReading.{◌>>=◌}
 use Rattle.det_cbor.proofs.Arguments.{IsBytes}
 use Rattle.det_cbor.proofs.OneReadingLaw.{bytes_of_all}
@@ -32,14 +32,7 @@ run_ok inner shared count levels deep place _ s law valid e = absurd cc
 
 pub run_err : (inner : InnerJudge) (shared : Bool) (count levels deep place : ℕ) (x : DataItem) (r : Refusal) → JudgesInner inner shared count levels → IsValidWithin deep x → judge_run inner place x ≡ Err r → RefusesArgument shared count levels place 32 x r
 run_err inner shared count levels deep place (ByteString content) r law valid e = BadRun levels place content r (law.err place content r (bytes_of_all content valid.1) e)
-run_err inner shared count levels deep place (UnsignedInteger n) r law valid e = subst (RefusesRun shared count levels place (UnsignedInteger n)) (same_err _ r e) (NoString levels place (UnsignedInteger n) (λ h. h))
-run_err inner shared count levels deep place (NegativeInteger n) r law valid e = subst (RefusesRun shared count levels place (NegativeInteger n)) (same_err _ r e) (NoString levels place (NegativeInteger n) (λ h. h))
-run_err inner shared count levels deep place (TextString text) r law valid e = subst (RefusesRun shared count levels place (TextString text)) (same_err _ r e) (NoString levels place (TextString text) (λ h. h))
-run_err inner shared count levels deep place (ArrayOf xs) r law valid e = subst (RefusesRun shared count levels place (ArrayOf xs)) (same_err _ r e) (NoString levels place (ArrayOf xs) (λ h. h))
-run_err inner shared count levels deep place (MapOf ps) r law valid e = subst (RefusesRun shared count levels place (MapOf ps)) (same_err _ r e) (NoString levels place (MapOf ps) (λ h. h))
-run_err inner shared count levels deep place (TaggedItem tag y) r law valid e = subst (RefusesRun shared count levels place (TaggedItem tag y)) (same_err _ r e) (NoString levels place (TaggedItem tag y) (λ h. h))
-run_err inner shared count levels deep place (Boolean b) r law valid e = subst (RefusesRun shared count levels place (Boolean b)) (same_err _ r e) (NoString levels place (Boolean b) (λ h. h))
-run_err inner shared count levels deep place NullItem r law valid e = subst (RefusesRun shared count levels place NullItem) (same_err _ r e) (NoString levels place NullItem (λ h. h))
+run_err inner shared count levels deep place x r law valid e = subst (RefusesRun shared count levels place x) (same_err _ r e) (NoString levels place x (λ h. h))
 
 pub run_other : (inner : InnerJudge) (place : ℕ) (x : DataItem) → (IsByteString x → ⊥) → judge_run inner place x ≡ Err (refused place BadArgument)
 run_other inner place (ByteString content) other = absurd (other tt)
@@ -100,13 +93,7 @@ branches_err inner shared count levels deep place (ItemThen NullItem (ItemThen y
     let judged = no_branch inner place NullItem (ItemThen y ys) (λ h. h) in
     let same : refused place BadArgument ≡ r = same_err _ r (sym (ap (λ (b : Result (Option SequenceTree) Refusal). b >>= λ o. judge_branches inner (place_after place NullItem) (ItemThen y ys) >>= λ bs. Ok (branch_before o bs)) judged) ∙ e) in
     subst (RefusesThese shared count levels place (ItemThen NullItem (ItemThen y ys))) same (NoBranch levels place NullItem (ItemThen y ys) (λ h. h))
-branches_err inner shared count levels deep place (ItemThen (UnsignedInteger n) others) r law valid e = subst (RefusesThese shared count levels place (ItemThen (UnsignedInteger n) others)) (same_err _ r e) (NoBranch levels place (UnsignedInteger n) others (λ h. h))
-branches_err inner shared count levels deep place (ItemThen (NegativeInteger n) others) r law valid e = subst (RefusesThese shared count levels place (ItemThen (NegativeInteger n) others)) (same_err _ r e) (NoBranch levels place (NegativeInteger n) others (λ h. h))
-branches_err inner shared count levels deep place (ItemThen (TextString text) others) r law valid e = subst (RefusesThese shared count levels place (ItemThen (TextString text) others)) (same_err _ r e) (NoBranch levels place (TextString text) others (λ h. h))
-branches_err inner shared count levels deep place (ItemThen (ArrayOf xs) others) r law valid e = subst (RefusesThese shared count levels place (ItemThen (ArrayOf xs) others)) (same_err _ r e) (NoBranch levels place (ArrayOf xs) others (λ h. h))
-branches_err inner shared count levels deep place (ItemThen (MapOf ps) others) r law valid e = subst (RefusesThese shared count levels place (ItemThen (MapOf ps) others)) (same_err _ r e) (NoBranch levels place (MapOf ps) others (λ h. h))
-branches_err inner shared count levels deep place (ItemThen (TaggedItem tag y) others) r law valid e = subst (RefusesThese shared count levels place (ItemThen (TaggedItem tag y) others)) (same_err _ r e) (NoBranch levels place (TaggedItem tag y) others (λ h. h))
-branches_err inner shared count levels deep place (ItemThen (Boolean b) others) r law valid e = subst (RefusesThese shared count levels place (ItemThen (Boolean b) others)) (same_err _ r e) (NoBranch levels place (Boolean b) others (λ h. h))
+branches_err inner shared count levels deep place (ItemThen x others) r law valid e = subst (RefusesThese shared count levels place (ItemThen x others)) (same_err _ r e) (NoBranch levels place x others (λ h. h))
 
 pub branches_refused : (inner : InnerJudge) (shared : Bool) (count levels place : ℕ) (items : DataItems) (r : Refusal) → JudgesInner inner shared count levels → RefusesBranches shared count levels place items r → judge_branches inner place items ≡ Err r
 branches_refused inner shared count levels place items r law (NoBranch l at x others other) = rw (no_branch inner place x others other) refl
@@ -138,13 +125,7 @@ try_err inner shared count levels deep place (ArrayOf items) r law valid e =
       | inr (two, f) ↦ BadBranches levels place items r (omega (arith, ltb-false (item_count items) 2 two)) (branches_err inner shared count levels (deep + 1) (elements_place place items) items r law valid.2 f)
     ]
 try_err inner shared count levels deep place (UnsignedInteger n) r law valid e = subst (RefusesTry shared count levels place (UnsignedInteger n)) (same_err _ r e) (NoTries levels place (UnsignedInteger n) (λ h. h))
-try_err inner shared count levels deep place (NegativeInteger n) r law valid e = subst (RefusesTry shared count levels place (NegativeInteger n)) (same_err _ r e) (NoTries levels place (NegativeInteger n) (λ h. h))
-try_err inner shared count levels deep place (ByteString bytes) r law valid e = subst (RefusesTry shared count levels place (ByteString bytes)) (same_err _ r e) (NoTries levels place (ByteString bytes) (λ h. h))
-try_err inner shared count levels deep place (TextString text) r law valid e = subst (RefusesTry shared count levels place (TextString text)) (same_err _ r e) (NoTries levels place (TextString text) (λ h. h))
-try_err inner shared count levels deep place (MapOf ps) r law valid e = subst (RefusesTry shared count levels place (MapOf ps)) (same_err _ r e) (NoTries levels place (MapOf ps) (λ h. h))
-try_err inner shared count levels deep place (TaggedItem tag y) r law valid e = subst (RefusesTry shared count levels place (TaggedItem tag y)) (same_err _ r e) (NoTries levels place (TaggedItem tag y) (λ h. h))
-try_err inner shared count levels deep place (Boolean b) r law valid e = subst (RefusesTry shared count levels place (Boolean b)) (same_err _ r e) (NoTries levels place (Boolean b) (λ h. h))
-try_err inner shared count levels deep place NullItem r law valid e = subst (RefusesTry shared count levels place NullItem) (same_err _ r e) (NoTries levels place NullItem (λ h. h))
+try_err inner shared count levels deep place x r law valid e = subst (RefusesTry shared count levels place x) (same_err _ r e) (NoTries levels place x (λ h. h))
 
 pub try_other : (inner : InnerJudge) (place : ℕ) (x : DataItem) → (IsTryArray x → ⊥) → judge_try inner place x ≡ Err (refused place BadArgument)
 try_other inner place (ArrayOf items) other = by_test (ltb (item_count items) 2) refl

@@ -1,7 +1,7 @@
 -- Arguments that hold sequences are read as they are judged.
 use Rattle.std.proofs.Common.{◌≡◌, ℕ, suc, ◌+◌, Bool, true, false, cond, eqb, ltb, List, [], ◌++◌, length, Option, Some, None, Result, Ok, Err, refl, ap, ◌∙◌, append_assoc, arith}
 use Rattle.det_cbor.specs.Heads.{head_bytes}
-use Rattle.det_cbor.specs.DataItem.{DataItem, UnsignedInteger, NegativeInteger, ByteString, TextString, ArrayOf, MapOf, TaggedItem, Boolean, NullItem, DataItems, NoItems, ItemThen, item_count, spell, spell_items, IsValidWithin, AreValidWithin}
+use Rattle.det_cbor.specs.DataItem.{DataItem, UnsignedInteger, ByteString, ArrayOf, NullItem, DataItems, NoItems, ItemThen, item_count, spell, spell_items, IsValidWithin, AreValidWithin}
 use Rattle.det_cbor.specs.HeadReading.{◌>>=◌}
 use Rattle.det_cbor.specs.Position.{Position}
 use Rattle.det_cbor.proofs.Arguments.{IsBytes}
@@ -34,14 +34,7 @@ pub run_read : (reader : InnerReader) (judge : InnerJudge) (deep : ℕ) (p : Pos
     → run_from reader p ≡ (judge_run judge p.place x >>= with_rest (after p (spell x) rest))
 unfolding run_from
 run_read reader judge deep p (ByteString bytes) rest law valid is = rw (item_head_read deep p (ByteString bytes) rest valid is) (held_read reader judge deep p bytes rest law valid)
-run_read reader judge deep p (UnsignedInteger n) rest law valid is = rw (item_head_read deep p (UnsignedInteger n) rest valid is) refl
-run_read reader judge deep p (NegativeInteger n) rest law valid is = rw (item_head_read deep p (NegativeInteger n) rest valid is) refl
-run_read reader judge deep p (TextString text) rest law valid is = rw (item_head_read deep p (TextString text) rest valid is) refl
-run_read reader judge deep p (ArrayOf xs) rest law valid is = rw (item_head_read deep p (ArrayOf xs) rest valid is) refl
-run_read reader judge deep p (MapOf ps) rest law valid is = rw (item_head_read deep p (MapOf ps) rest valid is) refl
-run_read reader judge deep p (TaggedItem tag y) rest law valid is = rw (item_head_read deep p (TaggedItem tag y) rest valid is) refl
-run_read reader judge deep p (Boolean b) rest law valid is = rw (item_head_read deep p (Boolean b) rest valid is) refl
-run_read reader judge deep p NullItem rest law valid is = rw (item_head_read deep p NullItem rest valid is) refl
+run_read reader judge deep p x rest law valid is = rw (item_head_read deep p x rest valid is) refl
 
 -- ---- branches
 
@@ -57,12 +50,7 @@ branch_read reader judge deep p (ByteString bytes) others rest law valid is =
 branch_read reader judge deep p NullItem others rest law valid is =
     rw (item_head_read deep p NullItem rest valid is) (no_branch (eqb (item_count others) 0) (refused p.place BadArgument) _ _ (ap (λ (l : List ℕ). after p l rest) (head_alone NullItem refl)))
 branch_read reader judge deep p (UnsignedInteger n) others rest law valid is = rw (item_head_read deep p (UnsignedInteger n) rest valid is) refl
-branch_read reader judge deep p (NegativeInteger n) others rest law valid is = rw (item_head_read deep p (NegativeInteger n) rest valid is) refl
-branch_read reader judge deep p (TextString text) others rest law valid is = rw (item_head_read deep p (TextString text) rest valid is) refl
-branch_read reader judge deep p (ArrayOf xs) others rest law valid is = rw (item_head_read deep p (ArrayOf xs) rest valid is) refl
-branch_read reader judge deep p (MapOf ps) others rest law valid is = rw (item_head_read deep p (MapOf ps) rest valid is) refl
-branch_read reader judge deep p (TaggedItem tag y) others rest law valid is = rw (item_head_read deep p (TaggedItem tag y) rest valid is) refl
-branch_read reader judge deep p (Boolean b) others rest law valid is = rw (item_head_read deep p (Boolean b) rest valid is) refl
+branch_read reader judge deep p x others rest law valid is = rw (item_head_read deep p x rest valid is) refl
 
 branches_read : (reader : InnerReader) (judge : InnerJudge) (deep : ℕ) (p : Position) (items : DataItems) (rest : List ℕ) → ReadsInner reader judge → AreValidWithin deep items → p.left ≡ spell_items items ++ rest
     → branches_from reader (item_count items) p ≡ (judge_branches judge p.place items >>= with_rest (after p (spell_items items) rest))
@@ -104,10 +92,4 @@ try_read reader judge deep p (ArrayOf items) rest law valid is =
     rw (item_head_read deep p (ArrayOf items) rest valid is)
     (two_or_more (ltb (item_count items) 2) (refused p.place BadArgument) (judge_branches judge (elements_place p.place items) items) (branches_from reader (item_count items) q) (after p (spell (ArrayOf items)) rest) found)
 try_read reader judge deep p (UnsignedInteger n) rest law valid is = rw (item_head_read deep p (UnsignedInteger n) rest valid is) refl
-try_read reader judge deep p (NegativeInteger n) rest law valid is = rw (item_head_read deep p (NegativeInteger n) rest valid is) refl
-try_read reader judge deep p (ByteString bytes) rest law valid is = rw (item_head_read deep p (ByteString bytes) rest valid is) refl
-try_read reader judge deep p (TextString text) rest law valid is = rw (item_head_read deep p (TextString text) rest valid is) refl
-try_read reader judge deep p (MapOf ps) rest law valid is = rw (item_head_read deep p (MapOf ps) rest valid is) refl
-try_read reader judge deep p (TaggedItem tag y) rest law valid is = rw (item_head_read deep p (TaggedItem tag y) rest valid is) refl
-try_read reader judge deep p (Boolean b) rest law valid is = rw (item_head_read deep p (Boolean b) rest valid is) refl
-try_read reader judge deep p NullItem rest law valid is = rw (item_head_read deep p NullItem rest valid is) refl
+try_read reader judge deep p x rest law valid is = rw (item_head_read deep p x rest valid is) refl

@@ -1,7 +1,7 @@
 -- Codes of commands and their numbers.
 use Rattle.std.proofs.Common.{◌≡◌, ℕ, Bool, true, false, cond, eqb, Option, Some, None, Ok, Err, refl, sym, ap, subst, ◌∙◌, inl, inr}
 use Rattle.std.proofs.lemmas.Bool.{eqb-true}
-use Rattle.det_cbor.specs.DataItem.{DataItem, UnsignedInteger, NegativeInteger, ByteString, TextString, ArrayOf, MapOf, TaggedItem, Boolean, NullItem}
+use Rattle.det_cbor.specs.DataItem.{DataItem, UnsignedInteger, NegativeInteger}
 use Rattle.det_cbor.proofs.Results.{same_ok, same_err}
 use Rattle.suit_params.specs.declared.refusal.Refusal.{Refusal}
 use Rattle.suit_params.specs.declared.refusal.Why.TheVariants.{Unsupported}
@@ -163,13 +163,7 @@ code_err shared place (UnsignedInteger m) r e =
       unknown.1,
     )
 code_err shared place (NegativeInteger m) r e = (λ n is known. absurd cc, same_err _ r e)
-code_err shared place (ByteString bytes) r e = (λ n is known. absurd cc, same_err _ r e)
-code_err shared place (TextString text) r e = (λ n is known. absurd cc, same_err _ r e)
-code_err shared place (ArrayOf xs) r e = (λ n is known. absurd cc, same_err _ r e)
-code_err shared place (MapOf ps) r e = (λ n is known. absurd cc, same_err _ r e)
-code_err shared place (TaggedItem tag y) r e = (λ n is known. absurd cc, same_err _ r e)
-code_err shared place (Boolean b) r e = (λ n is known. absurd cc, same_err _ r e)
-code_err shared place NullItem r e = (λ n is known. absurd cc, same_err _ r e)
+code_err shared place x r e = (λ n is known. absurd cc, same_err _ r e)
 
 pub code_refused : (shared : Bool) (place : ℕ) (x : DataItem) → IsOtherCode shared x → judge_code shared place x ≡ Err (refused place Unsupported)
 code_refused shared place (UnsignedInteger n) other = known_refused place shared (numbered n) (λ code is allowed. other n refl (code_is shared n code (numbered_ok n code is) allowed))

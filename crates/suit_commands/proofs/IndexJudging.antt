@@ -2,7 +2,7 @@
 use Rattle.std.proofs.Common.{◌≡◌, ◌≢◌, ℕ, ◌<◌, ◌≤◌, Bool, true, false, eqb, ltb, List, [], ◌∷◌, Result, Ok, Err, refl, sym, ap, subst, ◌∙◌, inl, inr, arith}
 use Rattle.std.specs.List.{AllByRecursion}
 use Rattle.std.proofs.lemmas.Bool.{eqb-true, eqb-false, ne_eqb, lt-ltb, le-ltb, ltb-true, ltb-false}
-use Rattle.det_cbor.specs.DataItem.{DataItem, UnsignedInteger, NegativeInteger, ByteString, TextString, ArrayOf, MapOf, TaggedItem, Boolean, NullItem, DataItems, NoItems, ItemThen, item_count}
+use Rattle.det_cbor.specs.DataItem.{DataItem, UnsignedInteger, ArrayOf, Boolean, DataItems, NoItems, ItemThen, item_count}
 use Rattle.det_cbor.specs.HeadReading.{◌>>=◌}
 use Rattle.det_cbor.proofs.Results.{chosen, bind_ok, bind_err, same_ok, same_err}
 use Rattle.suit_params.specs.declared.refusal.Refusal.{Refusal}
@@ -62,14 +62,7 @@ element_other count list place _ other = refl
 
 element_err : (count list place : ℕ) (x : DataItem) (others : DataItems) (r : Refusal) → judge_element count list place x ≡ Err r → RefusesIndices count list place (ItemThen x others) r
 element_err count list place (UnsignedInteger i) others r e = let s = index_err count place i r e in subst (RefusesIndices count list place (ItemThen (UnsignedInteger i) others)) s.1 (IndexAbove place i others s.0)
-element_err count list place (NegativeInteger n) others r e = subst (RefusesIndices count list place (ItemThen (NegativeInteger n) others)) (same_err _ r e) (NoIndex place (NegativeInteger n) others (λ h. h))
-element_err count list place (ByteString bytes) others r e = subst (RefusesIndices count list place (ItemThen (ByteString bytes) others)) (same_err _ r e) (NoIndex place (ByteString bytes) others (λ h. h))
-element_err count list place (TextString text) others r e = subst (RefusesIndices count list place (ItemThen (TextString text) others)) (same_err _ r e) (NoIndex place (TextString text) others (λ h. h))
-element_err count list place (ArrayOf xs) others r e = subst (RefusesIndices count list place (ItemThen (ArrayOf xs) others)) (same_err _ r e) (NoIndex place (ArrayOf xs) others (λ h. h))
-element_err count list place (MapOf ps) others r e = subst (RefusesIndices count list place (ItemThen (MapOf ps) others)) (same_err _ r e) (NoIndex place (MapOf ps) others (λ h. h))
-element_err count list place (TaggedItem tag y) others r e = subst (RefusesIndices count list place (ItemThen (TaggedItem tag y) others)) (same_err _ r e) (NoIndex place (TaggedItem tag y) others (λ h. h))
-element_err count list place (Boolean b) others r e = subst (RefusesIndices count list place (ItemThen (Boolean b) others)) (same_err _ r e) (NoIndex place (Boolean b) others (λ h. h))
-element_err count list place NullItem others r e = subst (RefusesIndices count list place (ItemThen NullItem others)) (same_err _ r e) (NoIndex place NullItem others (λ h. h))
+element_err count list place x others r e = subst (RefusesIndices count list place (ItemThen x others)) (same_err _ r e) (NoIndex place x others (λ h. h))
 
 pub indices_ok : (count list place : ℕ) (items : DataItems) (is : List ℕ) → judge_indices count list place items ≡ Ok is → (items ≡ index_items is) × AllByRecursion (λ i. i < count) is
 indices_ok count list place NoItems is e = subst (λ (l : List ℕ). (NoItems ≡ index_items l) × AllByRecursion (λ i. i < count) l) (same_ok [] is e) (refl, tt)
@@ -165,12 +158,7 @@ selection_err shared count levels place (ArrayOf items) r e =
           (λ g. BadIndices levels place items r (indices_err count place (elements_place place items) items r g))
           (λ is is-is g. absurd cc)
     ]
-selection_err shared count levels place (NegativeInteger n) r e = subst (RefusesIndex shared count levels place (NegativeInteger n)) (same_err _ r e) (NoSelection levels place (NegativeInteger n) (λ h. h))
-selection_err shared count levels place (ByteString bytes) r e = subst (RefusesIndex shared count levels place (ByteString bytes)) (same_err _ r e) (NoSelection levels place (ByteString bytes) (λ h. h))
-selection_err shared count levels place (TextString text) r e = subst (RefusesIndex shared count levels place (TextString text)) (same_err _ r e) (NoSelection levels place (TextString text) (λ h. h))
-selection_err shared count levels place (MapOf ps) r e = subst (RefusesIndex shared count levels place (MapOf ps)) (same_err _ r e) (NoSelection levels place (MapOf ps) (λ h. h))
-selection_err shared count levels place (TaggedItem tag y) r e = subst (RefusesIndex shared count levels place (TaggedItem tag y)) (same_err _ r e) (NoSelection levels place (TaggedItem tag y) (λ h. h))
-selection_err shared count levels place NullItem r e = subst (RefusesIndex shared count levels place NullItem) (same_err _ r e) (NoSelection levels place NullItem (λ h. h))
+selection_err shared count levels place x r e = subst (RefusesIndex shared count levels place x) (same_err _ r e) (NoSelection levels place x (λ h. h))
 
 pub selection_other : (count place : ℕ) (x : DataItem) → (IsSelection x → ⊥) → judge_selection count place x ≡ Err (refused place BadArgument)
 selection_other count place (UnsignedInteger i) other = absurd (other tt)

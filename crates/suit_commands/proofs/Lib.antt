@@ -27,6 +27,7 @@ pub mod BranchReads
 pub mod SequenceReads
 pub mod SequenceAnswers
 pub mod SaidParams
+pub mod SequenceMade
 pub mod SequenceLawProofs
 pub mod SequenceSpelled
 pub mod SequenceValid

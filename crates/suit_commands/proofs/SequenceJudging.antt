@@ -1,7 +1,7 @@
 -- The judgement of a sequence of commands is that of the grammar and the refusals, at each level.
 use Rattle.std.proofs.Common.{◌≡◌, ◌≢◌, ℕ, zero, suc, ◌+◌, ◌%◌, Bool, cond, eqb, List, Result, Ok, Err, refl, sym, ap, subst, inl, inr}
 use Rattle.std.proofs.lemmas.Bool.{eqb-true, eqb-false}
-use Rattle.det_cbor.specs.DataItem.{DataItem, UnsignedInteger, NegativeInteger, ByteString, TextString, ArrayOf, MapOf, TaggedItem, Boolean, NullItem, DataItems, NoItems, item_count, IsValidWithin}
+use Rattle.det_cbor.specs.DataItem.{DataItem, UnsignedInteger, ArrayOf, DataItems, NoItems, item_count, IsValidWithin}
 use Rattle.det_cbor.proofs.Results.{chosen, same_err}
 use Rattle.suit_params.specs.declared.refusal.Refusal.{Refusal}
 use Rattle.suit_params.specs.declared.refusal.Why.TheVariants.{Shape, Nested}
@@ -58,13 +58,7 @@ array_err inner shared count levels deep place (ArrayOf items) r law valid e =
     (λ some pairs f. BadSteps levels place items r (some, pairs) (steps_err inner shared count levels (deep + 1) (elements_place place items) items r law valid.2 pairs f))
     (λ other f. subst (RefusesThis shared count levels place (ArrayOf items)) (same_err _ r f) (NoSequence levels place (ArrayOf items) (λ (is : IsSequenceArray (ArrayOf items)). other is.0 is.1)))
 array_err inner shared count levels deep place (UnsignedInteger n) r law valid e = subst (RefusesThis shared count levels place (UnsignedInteger n)) (same_err _ r e) (NoSequence levels place (UnsignedInteger n) (λ h. h))
-array_err inner shared count levels deep place (NegativeInteger n) r law valid e = subst (RefusesThis shared count levels place (NegativeInteger n)) (same_err _ r e) (NoSequence levels place (NegativeInteger n) (λ h. h))
-array_err inner shared count levels deep place (ByteString bytes) r law valid e = subst (RefusesThis shared count levels place (ByteString bytes)) (same_err _ r e) (NoSequence levels place (ByteString bytes) (λ h. h))
-array_err inner shared count levels deep place (TextString text) r law valid e = subst (RefusesThis shared count levels place (TextString text)) (same_err _ r e) (NoSequence levels place (TextString text) (λ h. h))
-array_err inner shared count levels deep place (MapOf ps) r law valid e = subst (RefusesThis shared count levels place (MapOf ps)) (same_err _ r e) (NoSequence levels place (MapOf ps) (λ h. h))
-array_err inner shared count levels deep place (TaggedItem tag y) r law valid e = subst (RefusesThis shared count levels place (TaggedItem tag y)) (same_err _ r e) (NoSequence levels place (TaggedItem tag y) (λ h. h))
-array_err inner shared count levels deep place (Boolean b) r law valid e = subst (RefusesThis shared count levels place (Boolean b)) (same_err _ r e) (NoSequence levels place (Boolean b) (λ h. h))
-array_err inner shared count levels deep place NullItem r law valid e = subst (RefusesThis shared count levels place NullItem) (same_err _ r e) (NoSequence levels place NullItem (λ h. h))
+array_err inner shared count levels deep place x r law valid e = subst (RefusesThis shared count levels place x) (same_err _ r e) (NoSequence levels place x (λ h. h))
 
 no_array : (inner : InnerJudge) (shared : Bool) (count place : ℕ) (x : DataItem) → (IsSequenceArray x → ⊥) → judge_array inner shared count place x ≡ Err (refused place Shape)
 no_array inner shared count place (ArrayOf items) other =

@@ -3,6 +3,8 @@ use Rattle.std.proofs.Common.{◌≡◌, ◌≢◌, ℕ, zero, suc, ◌+◌, ◌
 use Rattle.det_cbor.specs.DataItem.{DataItem, DataItems, NoItems, item_count, IsValid, IsValidWithin, AreValidWithin}
 use Rattle.det_cbor.proofs.Results.{same_ok, same_err, not_both}
 use Rattle.suit_params.specs.declared.refusal.Refusal.{Refusal}
+use Rattle.suit_params.proofs.OneWhole.{one_answer}
+use Rattle.suit_commands.specs.SequenceFaults.{RefusesSequence}
 use Rattle.suit_commands.specs.Allowed.{AreTwo, IsSequence, AreCommands, IsCommand, AreBranches}
 use Rattle.suit_commands.specs.Sequences.{SaysSequence, SaysArray, SaysSteps, SaysNoSteps, SaysStep, SaysCommand, SaysTest, SaysAct, SaysOne, SaysAll, SaysListed, SaysOverride, SaysTry, SaysRun, SaysBranches, SaysNoBranches, SaysNull, SaysBranch, SaysInner, SaysHeldSequence}
 use Rattle.suit_commands.specs.SequenceJudging.{judge_sequence}
@@ -10,6 +12,7 @@ use Rattle.suit_commands.specs.SequenceLaws.{HasOneSequence, HasOneRefusal, Sequ
 use Rattle.suit_commands.specs.Tree.{CommandTree, SequenceTree, BranchesTree, BranchThen}
 use Rattle.suit_commands.proofs.SaidParams.{said_params}
 use Rattle.suit_commands.proofs.SequenceJudging.{sequence_judges}
+use Rattle.suit_commands.proofs.SequenceMade.{sequence_made, sequence_placed, sequence_again, one_item}
 
 one_reading : (shared : Bool) (count levels place : ℕ) (x : DataItem) → IsValid x → HasOneSequence shared count (suc levels) place x ⊎ HasOneRefusal shared count (suc levels) place x
 one_reading shared count levels place x valid = by_answer (judge_sequence shared count levels place x) refl
@@ -83,4 +86,12 @@ allowed shared count zero place x s valid said = absurd (no_level shared count p
 allowed shared count (suc levels) place x s valid said = sequence_allowed shared count levels 0 place x s (inner_allowed shared count levels) valid said
 
 pub sequence_laws : SequenceLaws
-sequence_laws = record { one_reading = one_reading; allowed = allowed }
+sequence_laws = record {
+  one_reading = one_reading;
+  whole = λ shared count levels. one_answer (judge_sequence shared count levels) (SaysSequence shared count (suc levels)) (RefusesSequence shared count (suc levels)) (sequence_judges shared count levels);
+  allowed = allowed;
+  made = sequence_made;
+  places = sequence_placed;
+  again = sequence_again;
+  one_item = one_item;
+}

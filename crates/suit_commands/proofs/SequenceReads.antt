@@ -3,7 +3,7 @@ use Rattle.std.proofs.Common.{◌≡◌, ℕ, zero, suc, ◌+◌, ◌*◌, ◌/�
 use Rattle.std.proofs.lemmas.Bool.{eqb-true}
 use Rattle.std.proofs.lemmas.List.{append-nil}
 use Rattle.det_cbor.specs.Heads.{head_bytes}
-use Rattle.det_cbor.specs.DataItem.{DataItem, UnsignedInteger, NegativeInteger, ByteString, TextString, ArrayOf, MapOf, TaggedItem, Boolean, NullItem, DataItems, NoItems, ItemThen, item_count, spell, spell_items, IsValidWithin, AreValidWithin}
+use Rattle.det_cbor.specs.DataItem.{DataItem, UnsignedInteger, ArrayOf, DataItems, NoItems, ItemThen, item_count, spell, spell_items, IsValidWithin, AreValidWithin}
 use Rattle.det_cbor.specs.HeadReading.{◌>>=◌}
 use Rattle.det_cbor.specs.Position.{Position}
 use Rattle.det_cbor.proofs.Arguments.{IsBytes}
@@ -84,13 +84,7 @@ array_read reader judge shared count law deep place (ArrayOf items) valid =
     rw (item_head_read deep p (ArrayOf items) [] valid (sym (append-nil (spell (ArrayOf items)))))
     (by_count (item_count items) (eqb (item_count items) 0) (refused place Shape) _ _ (λ even. steps_read reader judge shared count (deep + 1) (item_count items / 2) q items [] law valid.2 (omega (arith, even)) refl))
 array_read reader judge shared count law deep place (UnsignedInteger n) valid = rw (item_head_read deep (record { left = spell (UnsignedInteger n); place = place }) (UnsignedInteger n) [] valid (sym (append-nil (spell (UnsignedInteger n))))) refl
-array_read reader judge shared count law deep place (NegativeInteger n) valid = rw (item_head_read deep (record { left = spell (NegativeInteger n); place = place }) (NegativeInteger n) [] valid (sym (append-nil (spell (NegativeInteger n))))) refl
-array_read reader judge shared count law deep place (ByteString bytes) valid = rw (item_head_read deep (record { left = spell (ByteString bytes); place = place }) (ByteString bytes) [] valid (sym (append-nil (spell (ByteString bytes))))) refl
-array_read reader judge shared count law deep place (TextString text) valid = rw (item_head_read deep (record { left = spell (TextString text); place = place }) (TextString text) [] valid (sym (append-nil (spell (TextString text))))) refl
-array_read reader judge shared count law deep place (MapOf ps) valid = rw (item_head_read deep (record { left = spell (MapOf ps); place = place }) (MapOf ps) [] valid (sym (append-nil (spell (MapOf ps))))) refl
-array_read reader judge shared count law deep place (TaggedItem tag y) valid = rw (item_head_read deep (record { left = spell (TaggedItem tag y); place = place }) (TaggedItem tag y) [] valid (sym (append-nil (spell (TaggedItem tag y))))) refl
-array_read reader judge shared count law deep place (Boolean b) valid = rw (item_head_read deep (record { left = spell (Boolean b); place = place }) (Boolean b) [] valid (sym (append-nil (spell (Boolean b))))) refl
-array_read reader judge shared count law deep place NullItem valid = rw (item_head_read deep (record { left = spell NullItem; place = place }) NullItem [] valid (sym (append-nil (spell NullItem)))) refl
+array_read reader judge shared count law deep place x valid = rw (item_head_read deep (record { left = spell x; place = place }) x [] valid (sym (append-nil (spell x)))) refl
 
 -- ---- levels
 

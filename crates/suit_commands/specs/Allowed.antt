@@ -1,5 +1,5 @@
 -- Which trees are sequences of the grammar, wherever they stand (draft-ietf-suit-manifest-25, section 8.4.6).
-use Rattle.std.specs.Prelude.{◌≡◌, ◌≢◌, ◌<◌, ◌≤◌, ℕ, zero, suc, Bool, true, false, []}
+use Rattle.std.specs.Prelude.{◌≡◌, ◌≢◌, ◌<◌, ◌≤◌, ◌-◌, ℕ, zero, suc, Bool, true, false, []}
 use Rattle.std.specs.List.{AllByRecursion}
 use Rattle.suit_params.specs.ParamMaking.{IsParam, IsBelow}
 use Rattle.suit_params.specs.ParamLaws.{AreAscending}
@@ -48,6 +48,10 @@ abbrev mutual
 -- a member may have eight levels of sequences, itself among them
 abbrev pub levels_allowed : ℕ
 levels_allowed = 8
+
+-- so many of them stand inside the outermost
+abbrev pub levels_inside : ℕ
+levels_inside = levels_allowed - 1
 
 abbrev pub IsMember : ℕ → SequenceTree → Type 0
 IsMember count NoSteps = Unit {0}

@@ -6,6 +6,7 @@ use Rattle.det_cbor.specs.declared.reason.Reason.{Reason}
 use Rattle.suit_params.specs.declared.refusal.Refusal.{Refusal}
 use Rattle.suit_params.specs.declared.refusal.Why.TheVariants.{Cbor, Trailing, Shape, Unsupported, BadArgument, BadIndex, Nested}
 use Rattle.suit_params.specs.Refusing.{refused, content_place, IsByteString}
+pub use Rattle.suit_params.specs.Params.{IsUnsigned}
 use Rattle.suit_params.specs.Params.{IsMap, RefusesParams}
 use Rattle.suit_commands.specs.declared.kinds.TestKind.{TestKind}
 use Rattle.suit_commands.specs.declared.kinds.ActKind.{ActKind}
@@ -28,10 +29,6 @@ IsSequenceArray _ = ⊥
 abbrev pub IsPolicy : DataItem → Type 0
 IsPolicy (UnsignedInteger n) = n ≤ 15
 IsPolicy _ = ⊥
-
-abbrev pub IsUnsigned : DataItem → Type 0
-IsUnsigned (UnsignedInteger n) = Unit {0}
-IsUnsigned _ = ⊥
 
 abbrev pub IsSelection : DataItem → Type 0
 IsSelection (UnsignedInteger i) = Unit {0}

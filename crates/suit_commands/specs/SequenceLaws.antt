@@ -1,9 +1,12 @@
 -- What holds of all sequences of commands.
-use Rattle.std.specs.Prelude.{◌≡◌, ◌⊎◌, ℕ, suc, Bool}
-use Rattle.det_cbor.specs.DataItem.{DataItem, IsValid}
+use Rattle.std.specs.Prelude.{◌≡◌, ◌⊎◌, ℕ, suc, Bool, List}
+use Rattle.det_cbor.specs.DataItem.{DataItem, spell, IsValid}
 use Rattle.suit_params.specs.declared.refusal.Refusal.{Refusal}
+use Rattle.suit_params.specs.Refusing.{SaysWhole}
+use Rattle.suit_params.specs.OneWhole.{HasOneAnswer}
 use Rattle.suit_commands.specs.Allowed.{IsSequence}
-use Rattle.suit_commands.specs.Sequences.{SaysSequence}
+use Rattle.suit_commands.specs.Sequences.{SaysSequence, elements_place}
+use Rattle.suit_commands.specs.SequenceMaking.{step_items, sequence_item, placed, unplaced}
 use Rattle.suit_commands.specs.SequenceFaults.{RefusesSequence}
 use Rattle.suit_commands.specs.Tree.{SequenceTree}
 
@@ -21,9 +24,16 @@ pub record HasOneRefusal (shared : Bool) (count levels place : ℕ) (x : DataIte
   pub only : (r : Refusal) → RefusesSequence shared count levels place x r → r ≡ refusal
   pub empty : (s : SequenceTree) → SaysSequence shared count levels place x s → ⊥
 
--- the laws: where at least one level is allowed, each item says one sequence or has one refusal, and never both; and
--- what is said is a sequence of the grammar
+-- the laws: where at least one level is allowed, each item says one sequence or has one refusal, and never both, and so
+-- all bytes do; what is said is a sequence of the grammar; the item that says it is the one that is made of it, its
+-- places are those of that item's spelling, and bytes that say it are that spelling; and what is equal places apart is
+-- made into one item
 pub record SequenceLaws : Type 0 where
   pub one_reading : (shared : Bool) (count levels place : ℕ) (x : DataItem) → IsValid x
       → HasOneSequence shared count (suc levels) place x ⊎ HasOneRefusal shared count (suc levels) place x
+  pub whole : (shared : Bool) (count levels : ℕ) → HasOneAnswer (SaysSequence shared count (suc levels)) (RefusesSequence shared count (suc levels))
   pub allowed : (shared : Bool) (count levels place : ℕ) (x : DataItem) (s : SequenceTree) → IsValid x → SaysSequence shared count levels place x s → IsSequence shared count levels s
+  pub made : (shared : Bool) (count levels place : ℕ) (x : DataItem) (s : SequenceTree) → SaysSequence shared count levels place x s → x ≡ sequence_item s
+  pub places : (shared : Bool) (count levels place : ℕ) (x : DataItem) (s : SequenceTree) → SaysSequence shared count levels place x s → s ≡ placed (elements_place place (step_items s)) s
+  pub again : (shared : Bool) (count levels place : ℕ) (bytes : List ℕ) (s : SequenceTree) → SaysWhole (SaysSequence shared count levels) place bytes s → bytes ≡ spell (sequence_item s)
+  pub one_item : (s t : SequenceTree) → unplaced s ≡ unplaced t → sequence_item s ≡ sequence_item t

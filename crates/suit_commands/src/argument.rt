@@ -11,7 +11,8 @@ use crate::{IndexList, Selection};
 use det_cbor::{Cursor, HeadKind};
 use std::alloc::Global;
 use suit_params::{
-    Fault, ParamList, Refusal, Why, params_of, read_head, read_item, refused, same_place,
+    Fault, ParamList, Refusal, Why, component_index, params_of, read_head, read_item, refused,
+    same_place,
 };
 
 /// A reporting policy.
@@ -33,17 +34,6 @@ pub(crate) fn read_report(cursor: &mut Cursor<'_>) -> Result<u8, Refusal>
     }
 }
 
-// A component's index, which stands at a place: below the number of components.
-fn index(place: u64, number: u64, count: u32) -> Result<u32, Refusal>
-    ensures { result ≡ judge_index count place number }
-{
-    if number < count as u64 {
-        Ok(number as u32)
-    } else {
-        refused(place, Why::BadIndex(number, count as u64))
-    }
-}
-
 // An element of the list of indices that stands at another place.
 #[tactic(auto, unfolding(crate::specs::SequenceReading::element_from))]
 fn read_element(cursor: &mut Cursor<'_>, list: u64, count: u32) -> Result<u32, Refusal>
@@ -52,7 +42,7 @@ fn read_element(cursor: &mut Cursor<'_>, list: u64, count: u32) -> Result<u32, R
     let place = cursor.place();
     let head = read_head(cursor)?;
     match head.kind {
-        HeadKind::Unsigned => index(place, head.value, count),
+        HeadKind::Unsigned => component_index(place, head.value, count),
         _ => refused(list, Why::BadArgument),
     }
 }
@@ -100,7 +90,7 @@ pub(crate) fn read_selection(
     let place = cursor.place();
     let head = read_head(cursor)?;
     match head.kind {
-        HeadKind::Unsigned => Ok(Selection::One(index(place, head.value, count)?)),
+        HeadKind::Unsigned => Ok(Selection::One(component_index(place, head.value, count)?)),
         HeadKind::Bool => {
             if head.value == 1 {
                 Ok(Selection::All)

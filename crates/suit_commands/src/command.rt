@@ -102,6 +102,20 @@ impl Sequence {
         }
     }
 
+    /// The list that a vector holds. Takes no memory and copies nothing.
+    pub fn from_vec(steps: Vec<Step>) -> Sequence
+        ensures { result ≡ sequence_tree steps.items }
+    {
+        Sequence { held: steps }
+    }
+
+    /// The vector that the list was made of. Takes no memory and copies nothing.
+    pub fn into_vec(self) -> Vec<Step>
+        ensures { sequence_tree result.items ≡ self }
+    {
+        self.held
+    }
+
     /// Adds a command at the end. A command for which there is no memory is dropped.
     #[tactic(auto, using(crate::proofs::Pushing::step_pushed))]
     pub fn push(&mut self, step: Step) -> Result<(), AllocError>
@@ -127,6 +141,20 @@ impl Branches {
         Branches {
             held: Vec::new(alloc),
         }
+    }
+
+    /// The list that a vector holds. Takes no memory and copies nothing.
+    pub fn from_vec(branches: Vec<Option<Sequence>>) -> Branches
+        ensures { result ≡ branches_tree branches.items }
+    {
+        Branches { held: branches }
+    }
+
+    /// The vector that the list was made of. Takes no memory and copies nothing.
+    pub fn into_vec(self) -> Vec<Option<Sequence>>
+        ensures { branches_tree result.items ≡ self }
+    {
+        self.held
     }
 
     /// Adds a sequence at the end. A sequence for which there is no memory is dropped.

@@ -4,6 +4,7 @@ ghost use Rattle.std.specs.Prelude.{◌≡◌, ◌+◌, ◌<◌, ◌^◌, length
 ghost use Rattle.suit_params.specs.declared.refusal.Refusal.{Refusal};
 ghost use Rattle.suit_params.specs.Refusing.{RefusesWhole, SaysWhole};
 ghost use Rattle.suit_params.specs.Answering.{Gives, IsFaultBy, IsReadAs, IsRefusedAs};
+ghost use Rattle.suit_commands.specs.Allowed.{levels_allowed, levels_inside};
 ghost use Rattle.suit_commands.specs.Sequences.{SaysSequence};
 ghost use Rattle.suit_commands.specs.SequenceFaults.{RefusesSequence};
 ghost use Rattle.suit_commands.specs.SequenceReading.{whole_sequence};
@@ -27,7 +28,7 @@ fn whole_sequence(
     count: u32,
 ) -> Result<Sequence, Fault>
     requires { place + length bytes.now < 2 ^ 64 }
-    ensures { Gives (λ s. s) result (whole_sequence shared count 7 (record { left = bytes.now; place = place })) }
+    ensures { Gives (λ s. s) result (whole_sequence shared count levels_inside (record { left = bytes.now; place = place })) }
 {
     let item = only_item(Cursor::new(bytes, place))?;
     read_array(alloc, item, MAX_LEVELS - 1, shared, count)
@@ -49,11 +50,11 @@ pub fn decode_sequence(
     count: u32,
 ) -> Result<Sequence, Fault>
     requires { place + length bytes.now < 2 ^ 64 }
-    ensures exact { Gives (λ s. s) result (whole_sequence shared count 7 (record { left = bytes.now; place = place })) }
-    ensures ok { IfOk result (λ s. SaysWhole (SaysSequence shared count 8) place bytes.now s) }
-    ensures refused { IfErr result (IsFaultBy (RefusesWhole (RefusesSequence shared count 8) place bytes.now)) }
-    ensures every_sequence { (s : SequenceTree) → SaysWhole (SaysSequence shared count 8) place bytes.now s → IsReadAs s result }
-    ensures every_refusal { (r : Refusal) → RefusesWhole (RefusesSequence shared count 8) place bytes.now r → IsRefusedAs r result }
+    ensures exact { Gives (λ s. s) result (whole_sequence shared count levels_inside (record { left = bytes.now; place = place })) }
+    ensures ok { IfOk result (λ s. SaysWhole (SaysSequence shared count levels_allowed) place bytes.now s) }
+    ensures refused { IfErr result (IsFaultBy (RefusesWhole (RefusesSequence shared count levels_allowed) place bytes.now)) }
+    ensures every_sequence { (s : SequenceTree) → SaysWhole (SaysSequence shared count levels_allowed) place bytes.now s → IsReadAs s result }
+    ensures every_refusal { (r : Refusal) → RefusesWhole (RefusesSequence shared count levels_allowed) place bytes.now r → IsRefusedAs r result }
 {
     whole_sequence(alloc, bytes, place, shared, count)
 }

@@ -10,9 +10,9 @@ ghost use Rattle.suit_commands.specs.View.{command_tree};
 #[cfg(test)]
 mod tests;
 
-use crate::writing::{push_count, push_null, push_number, push_selection, push_string};
+use crate::writing::push_selection;
 use crate::{Branches, Command, Sequence};
-use det_cbor::Bytes;
+use det_cbor::{Bytes, push_count, push_null, push_number, push_string};
 use std::alloc::{AllocError, Global};
 use suit_params::write_params;
 

@@ -1,6 +1,6 @@
 //! Lists of component indices.
 
-ghost use Rattle.std.specs.Prelude.{◌≡◌, [], ◌∷◌, ◌++◌, length, OnOk, OnErr, IsTrue, ◌↔◌};
+ghost use Rattle.std.specs.Prelude.{◌≡◌, [], ◌∷◌, ◌++◌, length, OnOk, OnErr, IsTrue, ◌↔◌, slice_get};
 
 use std::alloc::{AllocError, Global};
 use std::marker::Model;
@@ -63,6 +63,13 @@ impl IndexList {
         ensures { IsTrue result ↔ (self.now ≡ []) }
     {
         self.held.is_empty()
+    }
+
+    /// The index that stands at a position, or `None` past the end.
+    pub fn get(&self, position: usize) -> Option<u32>
+        ensures { result ≡ slice_get self.now position }
+    {
+        self.held.get(position).copied()
     }
 
     /// The indices, lent.

@@ -4,7 +4,10 @@ ghost use Rattle.suit_commands.specs.NumberLaws.{NumberLaws, TargetLaws};
 ghost use Rattle.suit_commands.specs.SequenceLaws.{SequenceLaws};
 
 /// Does nothing. Its contract has the laws. A valid item says one sequence or has one refusal, and
-/// never both, at each number of levels; and each sequence that is said is one of the grammar.
+/// never both, at each number of levels, and so do all bytes. Each sequence that is said is one of
+/// the grammar. The item that says it is the one that it is written as, in its places, so bytes that
+/// were decoded are encoded again as they were. Sequences that are equal places apart are written
+/// alike.
 pub fn sequence_laws()
     ensures { SequenceLaws }
 {}

@@ -12,16 +12,7 @@ use crate::command_code::{CommandCode, read_code};
 use crate::{Branches, Command, Sequence, Step};
 use det_cbor::{Cursor, HeadKind};
 use std::alloc::Global;
-use suit_params::{Fault, Refusal, Why, only_item, read_bytes, read_head, refused};
-
-// The next bytes, as a cursor on them.
-fn content<'a>(cursor: &mut Cursor<'a>, count: u64) -> Result<Cursor<'a>, Refusal>
-    ensures { map_ok (λ inner. (inner, cursor.new)) result ≡ string_from count cursor.old }
-{
-    let place = cursor.place();
-    let content = read_bytes(cursor, count)?;
-    Ok(Cursor::new(content, place))
-}
+use suit_params::{Fault, Why, next_content, only_item, read_head, refused};
 
 // The content of a byte string that stands at a place, as a sequence. So many levels of sequences
 // may stand here.
@@ -157,7 +148,7 @@ fn read_run(
     let head = read_head(cursor)?;
     match head.kind {
         HeadKind::Bytes => {
-            let content = content(cursor, head.value)?;
+            let content = next_content(cursor, head.value)?;
             read_nested(alloc, place, content, levels, shared, count)
         }
         _ => Ok(refused(place, Why::BadArgument)?),
@@ -227,7 +218,7 @@ fn read_branch(
     let head = read_head(cursor)?;
     match head.kind {
         HeadKind::Bytes => {
-            let content = content(cursor, head.value)?;
+            let content = next_content(cursor, head.value)?;
             let inner = read_nested(alloc, place, content, levels, shared, count)?;
             Ok(Some(inner))
         }

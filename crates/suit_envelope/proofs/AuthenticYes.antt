@@ -7,12 +7,12 @@ use Rattle.suit_envelope.specs.WrapperParts.{WrapperSays, HasWrapper}
 use Rattle.suit_envelope.specs.declared.authenticity.Authenticity.{Authenticity}
 use Rattle.suit_envelope.specs.declared.authenticity.Authenticity.TheVariants as answers
 
-none_verifies : (key payload : List ℕ) (blocks : List (List ℕ)) → AllByRecursion (FailsToVerify key payload) blocks → SomeVerifies key payload blocks → ⊥
+pub none_verifies : (key payload : List ℕ) (blocks : List (List ℕ)) → AllByRecursion (FailsToVerify key payload) blocks → SomeVerifies key payload blocks → ⊥
 none_verifies key payload [] fail some = elim some [ ]
 none_verifies key payload (block ∷ blocks) fail (ThisVerifies b rest verifies) = fail.0 verifies
 none_verifies key payload (block ∷ blocks) fail (ALaterVerifies b rest later) = none_verifies key payload blocks fail.1 later
 
-none_is_mac : (key payload : List ℕ) (blocks : List (List ℕ)) → AllByRecursion IsOther blocks → SomeVerifies key payload blocks → ⊥
+pub none_is_mac : (key payload : List ℕ) (blocks : List (List ℕ)) → AllByRecursion IsOther blocks → SomeVerifies key payload blocks → ⊥
 none_is_mac key payload [] other some = elim some [ ]
 none_is_mac key payload (block ∷ blocks) other (ThisVerifies b rest verifies) = other.0 verifies.protected verifies.tag verifies.is_block
 none_is_mac key payload (block ∷ blocks) other (ALaterVerifies b rest later) = none_is_mac key payload blocks other.1 later

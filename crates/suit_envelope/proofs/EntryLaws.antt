@@ -8,7 +8,8 @@ use Rattle.det_cbor.specs.DataItem.{DataItem, UnsignedInteger, NegativeInteger, 
 use Rattle.suit_params.specs.Refusing.{IsByteString, content_place}
 use Rattle.suit_params.proofs.Held.{by_string}
 use Rattle.suit_envelope.specs.Envelopes.{Entry, EnvelopeSays, map_entries, key_of, is_number, has_key, says_nothing, put, put_value, put_all, IsValue}
-use Rattle.suit_envelope.specs.EntriesSay.{content_at, under, SaysEntries, EntriesSay}
+use Rattle.suit_envelope.specs.EntriesSay.{content_at, under, SaysEntries}
+use Rattle.suit_envelope.specs.Said.{EnvelopeOf}
 use Rattle.suit_envelope.specs.declared.key.Key.{Key}
 use Rattle.suit_envelope.specs.declared.key.Key.TheVariants.{Wrapper, Manifest, PayloadFetch, Install, Text, Payload, Unknown}
 use Rattle.suit_envelope.proofs.EntryOrder.{not_above_itself, AreAbove, AreAscending, entries_ascend}
@@ -215,7 +216,7 @@ says_entries tagged es values ascend two three =
       text = sym (all_is (Option (List ℕ)) (λ s. s.text) (λ c. Some c.0) 23 Text (record { here = λ s c p. refl; other = text_stays; number = refl; only = only_keyed Text }) s es values ascend ∙ content_is (under 23 es));
     }
 
-pub entries_say : EntriesSay
+pub entries_say : (bytes : List ℕ) (said : EnvelopeSays) (envelope : EnvelopeOf bytes said) → SaysEntries (map_entries envelope.says_so.map) said
 entries_say bytes said envelope =
     let is = envelope.says_so in
     let m = is.map in

@@ -1,5 +1,5 @@
 -- What a call that decodes an envelope answered, by the grammar and the refusals.
-use Rattle.std.proofs.Common.{◌≡◌, ℕ, List, Result, Ok, Err, sym, ◌∙◌}
+use Rattle.std.proofs.Common.{◌≡◌, ◌<◌, ◌^◌, ℕ, List, length, Result, Ok, Err, sym, ◌∙◌}
 use Rattle.std.specs.Prelude.{IfOk, IfErr}
 use Rattle.det_cbor.specs.HeadReading.{map_ok}
 use Rattle.det_cbor.proofs.Arguments.{IsBytes}
@@ -11,7 +11,9 @@ use Rattle.suit_envelope.specs.declared.envelope.Envelope.{Envelope}
 use Rattle.suit_envelope.specs.Envelopes.{EnvelopeSays, IsEnvelope, RefusesEnvelope}
 use Rattle.suit_envelope.specs.Judging.{judge_envelope}
 use Rattle.suit_envelope.specs.EnvelopeReading.{envelope_at, envelope_from}
+use Rattle.suit_envelope.specs.Places.{PartsEndBelow}
 use Rattle.suit_envelope.specs.Said.{said_by, EnvelopeOf, RefusesBytes}
+use Rattle.suit_envelope.proofs.PartPlaces.{parts_end}
 use Rattle.suit_envelope.proofs.EnvelopeReads.{envelope_read}
 use Rattle.suit_envelope.proofs.EnvelopeJudging.{envelope_judges}
 
@@ -24,6 +26,10 @@ judged bytes fits = whole_is envelope_at judge_envelope envelope_read (record { 
 pub ok_says : (bytes : List ℕ) (r : Result Envelope Refusal) → IsBytes bytes → Reads bytes r → IfOk r (λ e. EnvelopeOf bytes (said_by e))
 ok_says bytes (Ok e) fits is = whole_ok judge_envelope IsEnvelope RefusesEnvelope envelope_judges 0 bytes (said_by e) fits (sym (judged bytes fits) ∙ sym is)
 ok_says bytes (Err r) fits is = tt
+
+pub ok_ends : (bytes : List ℕ) (r : Result Envelope Refusal) → length bytes < 2 ^ 64 → IfOk r (λ e. EnvelopeOf bytes (said_by e)) → IfOk r (λ e. PartsEndBelow (2 ^ 64) (said_by e))
+ok_ends bytes (Ok e) fits so = parts_end bytes (said_by e) (2 ^ 64) so fits
+ok_ends bytes (Err r) fits so = tt
 
 pub err_refuses : (bytes : List ℕ) (r : Result Envelope Refusal) → IsBytes bytes → Reads bytes r → IfErr r (RefusesBytes bytes)
 err_refuses bytes (Ok e) fits is = tt

@@ -9,7 +9,7 @@ pub mod PutWrapper
 pub mod TrimLaws
 pub mod MacScan
 pub mod AuthenticLaws
-pub mod ManifestPlace
+pub mod PartPlaces
 pub mod MadePairs
 pub mod MadeValid
 pub mod MadeSays
@@ -19,3 +19,6 @@ pub mod EntryOrder
 pub mod EntryLaws
 pub mod PayloadKeys
 pub mod PayloadLaws
+pub mod MemberAnswers
+pub mod OneAuthenticity
+pub mod TrimSays

@@ -57,7 +57,7 @@ put_says place w m (Some f) None (Some t) ps = by_put _ _ _ (record { tagged = r
 put_says place w m (Some f) (Some i) None ps = by_put _ _ _ (record { tagged = refl; wrapper = refl; manifest = refl; payload_fetch = refl; install = refl; text = refl })
 put_says place w m (Some f) (Some i) (Some t) ps = by_put _ _ _ (record { tagged = refl; wrapper = refl; manifest = refl; payload_fetch = refl; install = refl; text = refl })
 
-abbrev made_map : EnvelopeParts → EnvelopeMap
+abbrev pub made_map : EnvelopeParts → EnvelopeMap
 made_map parts = record { tagged = true; place = 0 + length (head_bytes 6 107); pairs = pairs_made parts }
 
 -- ---- which payloads there are
@@ -82,6 +82,7 @@ all_payloads place parts =
 pub record Made (parts : EnvelopeParts) : Type 0 where
   pub said : EnvelopeSays
   pub is : IsEnvelope 0 (envelope_made parts) said
+  pub all : said ≡ put_all (says_nothing true) (map_entries (made_map parts))
   pub says : SaysParts parts said
   pub payloads : parts.payloads ≡ integrated_payloads (map_entries is.map)
 
@@ -106,6 +107,7 @@ made_says parts holds =
         );
         says = refl;
       };
+      all = refl;
       says = put_says start parts.wrapper parts.manifest parts.payload_fetch parts.install parts.text parts.payloads;
       payloads = sym (all_payloads _ parts);
     }

@@ -94,6 +94,9 @@ envelope_wrapper place x said so =
     let good = subst Good (sym so.says) (some_good _ _ so.values so.required.0) in
     has_wrapper said.wrapper_place said.wrapper good.0 good.1
 
+pub says_wrapper : (bytes : List ℕ) (said : EnvelopeSays) → EnvelopeOf bytes said → HasWrapper said.wrapper
+says_wrapper bytes said so = envelope_wrapper 0 so.item said so.says_so
+
 pub ok_wrapper : (bytes : List ℕ) (r : Result Envelope Refusal) → IfOk r (λ e. EnvelopeOf bytes (said_by e)) → IfOk r (λ e. HasWrapper e.wrapper.now)
 ok_wrapper bytes (Ok e) so = envelope_wrapper 0 so.item (said_by e) so.says_so
 ok_wrapper bytes (Err r) so = tt

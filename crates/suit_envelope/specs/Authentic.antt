@@ -33,6 +33,20 @@ AnswersAuthentic digest blocks manifest key answers.NoMac = (digest ≡ string_d
 AnswersAuthentic digest blocks manifest key (answers.MacDiffers expected found) =
     (digest ≡ string_digest manifest) × AllByRecursion (FailsToVerify key (payload_of digest)) blocks × FirstDiffers key (payload_of digest) expected found.now blocks
 
+-- a difference that is told is one
+abbrev pub TellsDifference : Authenticity → Type 0
+TellsDifference (answers.DigestDiffers stated found) = stated ≢ found
+TellsDifference (answers.MacDiffers expected found) = found.now ≢ expected
+TellsDifference _ = Unit {0}
+
+-- two answers tell the same
+abbrev pub TellSame : Authenticity → Authenticity → Type 0
+TellSame answers.Yes answers.Yes = Unit {0}
+TellSame (answers.DigestDiffers stated found) (answers.DigestDiffers other_stated other_found) = (stated ≡ other_stated) × (found ≡ other_found)
+TellSame answers.NoMac answers.NoMac = Unit {0}
+TellSame (answers.MacDiffers expected found) (answers.MacDiffers other_expected other_found) = (expected ≡ other_expected) × (found.now ≡ other_found.now)
+TellSame _ _ = ⊥
+
 -- the content of the wrapper's first byte string, and what follows it
 abbrev pub first_from : List ℕ → Result (Position × Position) Refusal
 first_from wrapper = head_from (start_of wrapper) >>= λ h. content_from h.1

@@ -3,8 +3,7 @@ use Rattle.std.specs.Prelude.{◌≡◌, ℕ, if◌then◌else◌, List, [], ◌
 use Rattle.std.specs.Option.{option_map_or}
 use Rattle.det_cbor.specs.DataItem.{DataItem, ByteString}
 use Rattle.suit_params.specs.Refusing.{content_place}
-use Rattle.suit_envelope.specs.Envelopes.{Entry, EnvelopeSays, map_entries, is_number}
-use Rattle.suit_envelope.specs.Said.{EnvelopeOf}
+use Rattle.suit_envelope.specs.Envelopes.{Entry, EnvelopeSays, is_number}
 
 -- the content of a byte string, and its place
 abbrev pub content_at : ℕ → DataItem → Option (List ℕ × ℕ)
@@ -31,7 +30,3 @@ pub record SaysEntries (es : List Entry) (said : EnvelopeSays) : Type 0 where
   pub install : content_under 20 es ≡ said.install
   pub install_place : place_under 20 es ≡ said.install_place
   pub text : content_under 23 es ≡ said.text
-
--- the law: each envelope says what stands in its map
-abbrev pub EntriesSay : Type 0
-EntriesSay = (bytes : List ℕ) (said : EnvelopeSays) (envelope : EnvelopeOf bytes said) → SaysEntries (map_entries envelope.says_so.map) said

@@ -17,6 +17,11 @@ member_of said names.PayloadFetch = said.payload_fetch
 member_of said names.Install = said.install
 member_of said names.Text = said.text
 
+-- this content was got
+abbrev pub IsGot : List ℕ → MemberBytes → Type 0
+IsGot content (answers.Got bytes) = bytes.now ≡ content
+IsGot content _ = ⊥
+
 -- a member is taken where its digest is the stated one
 abbrev pub AnswersMember : Option (List ℕ) → List ℕ → MemberBytes → Type 0
 AnswersMember None stated answers.Severed = Unit {0}

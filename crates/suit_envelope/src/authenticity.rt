@@ -2,7 +2,7 @@
 
 ghost use Rattle.std.specs.Prelude.{◌≡◌, List, ℕ, IfOk, IfErr};
 ghost use Rattle.suit_envelope.specs.Macs.{BlocksSay};
-ghost use Rattle.suit_envelope.specs.Authentic.{IsAuthentic, AnswersAuthentic, payload_of, first_from};
+ghost use Rattle.suit_envelope.specs.Authentic.{IsAuthentic, AnswersAuthentic, TellsDifference, payload_of, first_from};
 ghost use Rattle.suit_envelope.specs.declared.authenticity.Authenticity.TheVariants.{Yes};
 ghost use Rattle.suit_envelope.specs.WrapperParts.{WrapperSays, HasWrapper};
 
@@ -83,6 +83,7 @@ pub fn authentic<'a>(envelope: &Envelope<'a>, key: &[u8]) -> Authenticity<'a>
     ensures every_yes { IsAuthentic envelope.now.wrapper.now envelope.now.manifest.now key.now → result ≡ Yes }
     ensures answers { (digest : List ℕ) (blocks : List (List ℕ)) → WrapperSays envelope.now.wrapper.now digest blocks
         → AnswersAuthentic digest blocks envelope.now.manifest.now key.now result }
+    ensures differs { TellsDifference result }
 {
     answer(envelope, key)
 }

@@ -12,9 +12,9 @@ ghost use Rattle.suit_envelope.specs.Making.{member_then, payload_pairs, pairs_m
 #[cfg(test)]
 mod tests;
 
-use crate::writing::{push_pair, push_start, push_string, push_text};
+use crate::writing::{push_pair, push_start};
 use crate::{EnvelopeParts, PayloadList};
-use det_cbor::Bytes;
+use det_cbor::{Bytes, push_string, push_text};
 use std::alloc::{AllocError, Global};
 
 // How many members there are: one or none.

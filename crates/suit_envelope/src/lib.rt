@@ -24,7 +24,7 @@ pub use authenticity::{Authenticity, authentic};
 pub use decode::decode_envelope;
 pub use encode::encode_envelope;
 pub use envelope::Envelope;
-pub use law::entries_say;
+pub use law::{authenticity_laws, envelope_laws};
 pub use parts::{EnvelopeParts, PayloadList};
 pub use payloads::payload;
 pub use severed::{MemberBytes, MemberName, member};

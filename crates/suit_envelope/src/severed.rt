@@ -1,7 +1,7 @@
 //! Severed members of an envelope, taken by their digests.
 
-ghost use Rattle.std.specs.Prelude.{◌≡◌, option_map};
-ghost use Rattle.suit_envelope.specs.Members.{member_of, AnswersMember};
+ghost use Rattle.std.specs.Prelude.{◌≡◌, ◌↔◌, ℕ, List, Some, option_map};
+ghost use Rattle.suit_envelope.specs.Members.{member_of, string_digest, AnswersMember, IsGot};
 ghost use Rattle.suit_envelope.specs.Said.{said_by};
 
 use crate::Envelope;
@@ -37,12 +37,11 @@ fn content<'a>(envelope: &Envelope<'a>, name: MemberName) -> Option<&'a [u8]>
     }
 }
 
-/// The severed member whose digest the manifest states (draft-ietf-suit-manifest-25, section 8.3).
-/// The digest is that of the whole byte string, its head and its content.
-pub fn member<'a>(envelope: &Envelope<'a>, name: MemberName, stated: &Digest) -> MemberBytes<'a>
-    ensures { AnswersMember (member_of (said_by envelope.now) name) stated.now.bytes result }
+// What becomes of a member whose digest is stated.
+fn judged<'a>(member: Option<&'a [u8]>, stated: &Digest) -> MemberBytes<'a>
+    ensures { AnswersMember (option_map (λ s. s.now) member.entry) stated.now.bytes result }
 {
-    match content(envelope, name) {
+    match member {
         None => MemberBytes::Severed,
         Some(bytes) => {
             let found = string_digest(bytes);
@@ -56,4 +55,15 @@ pub fn member<'a>(envelope: &Envelope<'a>, name: MemberName, stated: &Digest) ->
             }
         }
     }
+}
+
+/// The severed member whose digest the manifest states (draft-ietf-suit-manifest-25, section 8.3).
+/// The digest is that of the whole byte string, its head and its content.
+#[tactic(auto, using(crate::proofs::MemberAnswers::got_alone))]
+pub fn member<'a>(envelope: &Envelope<'a>, name: MemberName, stated: &Digest) -> MemberBytes<'a>
+    ensures answers { AnswersMember (member_of (said_by envelope.now) name) stated.now.bytes result }
+    ensures got { (content : List ℕ) → member_of (said_by envelope.now) name ≡ Some content
+        → (IsGot content result ↔ (string_digest content ≡ stated.now.bytes)) }
+{
+    judged(content(envelope, name), stated)
 }

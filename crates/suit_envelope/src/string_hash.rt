@@ -5,6 +5,7 @@ ghost use Rattle.sha2.specs.Hashers.{Holds256};
 ghost use Rattle.det_cbor.specs.Heads.{head_bytes};
 ghost use Rattle.suit_envelope.specs.Members.{string_digest};
 
+use det_cbor::{HeadKind, ShortHead};
 use sha2::{Digest as _, Sha256};
 use suit_params::Digest;
 
@@ -16,22 +17,13 @@ fn add_parts(hasher: &mut Sha256, first: u8, rest: &[u8])
     hasher.update(rest);
 }
 
-// Adds the head of a byte string, in its shortest form.
-#[tactic(auto, unfolding(det_cbor::specs::Heads::head_bytes))]
+// Adds the head of a byte string.
 fn add_head(hasher: &mut Sha256, length: u64)
     ensures { (message : List ℕ) → Holds256 hasher.old message → Holds256 hasher.new (message ++ head_bytes 2 length) }
 {
-    if length < 24 {
-        hasher.update([0x40 + length as u8]);
-    } else if length < 1 << 8 {
-        add_parts(hasher, 0x58, &(length as u8).to_be_bytes());
-    } else if length < 1 << 16 {
-        add_parts(hasher, 0x59, &(length as u16).to_be_bytes());
-    } else if length < 1 << 32 {
-        add_parts(hasher, 0x5a, &(length as u32).to_be_bytes());
-    } else {
-        add_parts(hasher, 0x5b, &length.to_be_bytes());
-    }
+    let head = ShortHead::new(HeadKind::Bytes, length);
+    let (first, behind) = head.parts();
+    add_parts(hasher, first, behind);
 }
 
 /// The SHA-256 of the byte string of this content.

@@ -2,24 +2,37 @@
 
 ghost use Rattle.std.specs.Prelude.{◌≡◌, ◌-◌, ◌^◌, length, min, IfOk};
 ghost use Rattle.det_cbor.specs.Heads.{head_bytes};
-ghost use Rattle.det_cbor.specs.DataItem.{ByteString, spell};
-ghost use Rattle.suit_envelope.specs.Trimmed.{trimmed};
+ghost use Rattle.det_cbor.specs.DataItem.{ByteString, spell, IsString};
+ghost use Rattle.suit_envelope.specs.Trimmed.{trimmed, IsTrimmed};
+ghost use Rattle.suit_envelope.specs.WrapperParts.{HasWrapper};
 
 use crate::Envelope;
 use crate::writing::{push_pair, push_start};
 use det_cbor::Bytes;
 use std::alloc::{AllocError, Global};
 
-/// The trimmed envelope: tag 107 round the map of the wrapper and the manifest alone.
+// The spelling of the trimmed envelope.
 #[tactic(auto, using(crate::proofs::TrimLaws::trimmed_parts))]
-pub fn trim(alloc: Global, envelope: &Envelope<'_>) -> Result<Bytes, AllocError>
-    ensures { IfOk result (λ bytes. bytes ≡ trimmed envelope.now.wrapper.now envelope.now.manifest.now) }
+fn spelling(alloc: Global, envelope: &Envelope<'_>) -> Result<Bytes, AllocError>
+    ensures is { IfOk result (λ bytes. bytes ≡ trimmed envelope.now.wrapper.now envelope.now.manifest.now) }
+    ensures wrapper { IfOk result (λ _. IsString envelope.now.wrapper.now) }
+    ensures manifest { IfOk result (λ _. IsString envelope.now.manifest.now) }
 {
     let mut out = Bytes::new(alloc);
     push_start(&mut out, 2)?;
     push_pair(&mut out, 2, envelope.wrapper)?;
     push_pair(&mut out, 3, envelope.manifest)?;
     Ok(out)
+}
+
+/// The trimmed envelope: tag 107 round the map of the wrapper and the manifest alone.
+#[tactic(auto, using(crate::proofs::TrimSays::says_trimmed))]
+pub fn trim(alloc: Global, envelope: &Envelope<'_>) -> Result<Bytes, AllocError>
+    ensures spelling { IfOk result (λ bytes. bytes ≡ trimmed envelope.now.wrapper.now envelope.now.manifest.now) }
+    ensures says { HasWrapper envelope.now.wrapper.now
+        → IfOk result (IsTrimmed envelope.now.wrapper.now envelope.now.manifest.now) }
+{
+    spelling(alloc, envelope)
 }
 
 // The length of a byte string's head.

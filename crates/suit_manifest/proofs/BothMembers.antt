@@ -1,10 +1,11 @@
 -- Payload-fetch and install together: what was answered, and that an envelope has one answer or one fault.
-use Rattle.std.proofs.Common.{◌≡◌, ℕ, List, length, Option, Some, None, Result, Ok, Err, refl, ap, ◌∙◌, ◌⊎◌, inl, inr}
-use Rattle.std.specs.Prelude.{IfOk, IfErr}
+use Rattle.std.proofs.Common.{◌≡◌, ℕ, List, Option, Some, None, Result, Ok, Err, refl, ap, ◌∙◌, ◌⊎◌, inl, inr}
+use Rattle.std.specs.Prelude.{IfOk, IfErr, IfSome}
+use Rattle.det_cbor.specs.DataItem.{IsString}
 use Rattle.det_cbor.proofs.OneReadingLaw.{bytes_of_all}
 use Rattle.suit_commands.specs.Tree.{SequenceTree}
+use Rattle.suit_envelope.specs.EnvelopeLaws.{EnvelopeLaws}
 use Rattle.suit_envelope.specs.Envelopes.{EnvelopeSays}
-use Rattle.suit_envelope.specs.Said.{EnvelopeOf}
 use Rattle.suit_envelope.specs.declared.severed.MemberName.TheVariants as names
 use Rattle.suit_manifest.specs.declared.manifest.Manifest.{Manifest}
 use Rattle.suit_manifest.specs.declared.manifest.Members.{Members}
@@ -13,7 +14,6 @@ use Rattle.suit_manifest.specs.declared.members.MemberFault.TheVariants as fault
 use Rattle.suit_manifest.specs.Manifests.{count_said}
 use Rattle.suit_manifest.specs.MembersApart.{HasPayloadFetch, LacksPayloadFetch, LacksInstall, HasMembers, LacksMembers, ByPayloadFetch, ByInstall, IsLackBy, IsTakenAs, IsLackedAs}
 use Rattle.suit_manifest.specs.MembersLaws.{HasOneAnswer, HasOneFault, MembersLaws}
-use Rattle.suit_manifest.proofs.MemberPlaces.{HeldLies, members_lie, places_fit}
 use Rattle.suit_manifest.proofs.OneMember.{has_same, has_never, lack_same, HasOrLacks, HoldsBytes, has_or_lacks}
 
 -- ---- the answer
@@ -94,16 +94,15 @@ one_of said manifest (inr f) other =
     let lacks : LacksMembers said manifest f.0 = ByPayloadFetch f.1 in
     inr (record { fault = f.0; lacks = lacks; only = λ g x. faults_same said manifest g f.0 x lacks; empty = λ m x. members_never said manifest m f.0 x lacks })
 
-holds_bytes : (end : ℕ) (held : Option (List ℕ)) (place : ℕ) → HeldLies end held place → HoldsBytes held
-holds_bytes end None place lies = tt
-holds_bytes end (Some content) place lies = bytes_of_all content lies.string.1
+holds_bytes : (held : Option (List ℕ)) → IfSome held IsString → HoldsBytes held
+holds_bytes None fits = tt
+holds_bytes (Some content) fits = bytes_of_all content fits.1
 
-one_answer : (bytes : List ℕ) (said : EnvelopeSays) (manifest : Manifest) → EnvelopeOf bytes said → HasOneAnswer said manifest ⊎ HasOneFault said manifest
-one_answer bytes said manifest so =
-    let lie = members_lie bytes said so in
-    one_of said manifest
-    (has_or_lacks names.PayloadFetch (count_said manifest) said.payload_fetch said.payload_fetch_place manifest.payload_fetch (holds_bytes (length bytes) said.payload_fetch said.payload_fetch_place lie.payload_fetch))
-    (has_or_lacks names.Install (count_said manifest) said.install said.install_place manifest.install (holds_bytes (length bytes) said.install said.install_place lie.install))
-
-pub members_laws : MembersLaws
-members_laws = record { one_answer = one_answer; places = places_fit }
+pub members_laws : EnvelopeLaws → MembersLaws
+members_laws laws = record {
+  one_answer = λ bytes said manifest so.
+      let strings = laws.strings bytes said so in
+      one_of said manifest
+      (has_or_lacks names.PayloadFetch (count_said manifest) said.payload_fetch said.payload_fetch_place manifest.payload_fetch (holds_bytes said.payload_fetch strings.payload_fetch))
+      (has_or_lacks names.Install (count_said manifest) said.install said.install_place manifest.install (holds_bytes said.install strings.install));
+}

@@ -1,5 +1,4 @@
 pub mod Taking
-pub mod MemberPlaces
 pub mod OneMember
 pub mod BothMembers
 pub mod MapRows
@@ -15,7 +14,9 @@ pub mod Arrays
 pub mod Likeness
 pub mod ComponentsJudging
 pub mod ComponentsReads
-pub mod FieldSteps
+pub mod ValuesPassed
+pub mod PairsTaken
+pub mod Picked
 pub mod MapLaws
 pub mod CommonJudging
 pub mod CommonReads
@@ -24,4 +25,7 @@ pub mod LaterJudging
 pub mod ManifestJudging
 pub mod ManifestReads
 pub mod ManifestAnswers
+pub mod KeyNumbers
+pub mod RowsAgain
+pub mod ManifestMade
 pub mod ManifestLawProofs

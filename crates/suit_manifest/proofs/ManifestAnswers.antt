@@ -1,5 +1,5 @@
 -- What the call that decodes a manifest answered, by the grammar and the refusals.
-use Rattle.std.proofs.Common.{◌≡◌, ℕ, List, Result, Ok, Err, refl, sym, ap, ◌∙◌, inl, inr}
+use Rattle.std.proofs.Common.{◌≡◌, ◌≤◌, ℕ, List, length, Result, Ok, Err, refl, sym, ap, ◌∙◌, inl, inr}
 use Rattle.std.specs.Prelude.{IfOk, IfErr}
 use Rattle.det_cbor.proofs.Arguments.{IsBytes}
 use Rattle.det_cbor.proofs.Results.{same_ok, same_err, not_both}
@@ -27,6 +27,18 @@ read_is place bytes fits = whole_is manifest_at judge_manifest manifest_read (re
 pub ok_says : (place : ℕ) (bytes : List ℕ) (r : Result Manifest Fault) → IsBytes bytes → ReadsManifest place bytes r → IfOk r (λ m. SaysWhole IsManifest place bytes m)
 ok_says place bytes (Ok m) fits e = whole_ok judge_manifest IsManifest RefusesManifest manifest_judges place bytes m fits (sym (read_is place bytes fits) ∙ e)
 ok_says place bytes (Err f) fits e = tt
+
+-- the identifiers of the components that are said
+components_said : (place : ℕ) (bytes : List ℕ) (m : Manifest) (so : SaysWhole IsManifest place bytes m) → (1 ≤ length m.components) × (length m.components ≤ 8)
+components_said place bytes m so = let components = so.says_so.common.says_so.holds.says_so.components.says_so in (components.some, components.few)
+
+pub ok_some : (place : ℕ) (bytes : List ℕ) (r : Result Manifest Fault) → IfOk r (λ m. SaysWhole IsManifest place bytes m) → IfOk r (λ m. 1 ≤ length m.components)
+ok_some place bytes (Ok m) so = (components_said place bytes m so).0
+ok_some place bytes (Err f) so = tt
+
+pub ok_few : (place : ℕ) (bytes : List ℕ) (r : Result Manifest Fault) → IfOk r (λ m. SaysWhole IsManifest place bytes m) → IfOk r (λ m. length m.components ≤ 8)
+ok_few place bytes (Ok m) so = (components_said place bytes m so).1
+ok_few place bytes (Err f) so = tt
 
 pub err_refuses : (place : ℕ) (bytes : List ℕ) (r : Result Manifest Fault) → IsBytes bytes → ReadsManifest place bytes r → IfErr r (IsFaultBy (RefusesWhole RefusesManifest place bytes))
 err_refuses place bytes (Ok m) fits e = tt

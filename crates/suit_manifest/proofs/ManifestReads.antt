@@ -1,5 +1,5 @@
 -- A manifest is read as it is judged.
-use Rattle.std.proofs.Common.{◌≡◌, ℕ, ◌+◌, Bool, true, false, cond, eqb, List, [], ◌++◌, length, Option, Some, None, Result, Ok, Err, refl, sym, ap, ◌∙◌}
+use Rattle.std.proofs.Common.{◌≡◌, ℕ, ◌+◌, Bool, true, false, cond, eqb, List, [], ◌++◌, length, Option, Some, None, Result, Ok, Err, refl, sym, ap, ◌∙◌, arith}
 use Rattle.std.specs.Prelude.{option_map}
 use Rattle.std.specs.List.{AllByRecursion}
 use Rattle.std.proofs.lemmas.List.{append-nil}
@@ -10,7 +10,7 @@ use Rattle.det_cbor.specs.Position.{Position}
 use Rattle.suit_params.specs.declared.refusal.Refusal.{Refusal}
 use Rattle.suit_params.specs.declared.refusal.Why.TheVariants.{Trailing}
 use Rattle.suit_params.specs.Refusing.{refused, content_place}
-use Rattle.suit_params.specs.Judging.{judge_held}
+use Rattle.suit_params.specs.Judging.{judge_held, judge_each}
 use Rattle.suit_params.specs.Reading.{inside, item_from, only_from, whole_judged}
 use Rattle.suit_params.proofs.DigestJudging.{digest_read}
 use Rattle.suit_params.proofs.Held.{ReadsAs, by_string, content_read, whole_is}
@@ -24,17 +24,22 @@ use Rattle.suit_manifest.specs.declared.manifest.Member.TheVariants as members
 use Rattle.suit_manifest.specs.declared.manifest.TextMember.{TextMember}
 use Rattle.suit_manifest.specs.declared.manifest.TextMember.TheVariants as texts
 use Rattle.suit_manifest.specs.declared.later.Later.{Later}
+use Rattle.suit_manifest.specs.declared.manifest_map.ManifestValues.{ManifestValues}
+use Rattle.suit_manifest.specs.declared.manifest_map.LaterValues.{LaterValues}
 use Rattle.suit_manifest.specs.Maps.{entries_of, entry_under}
 use Rattle.suit_manifest.specs.Common.{CommonSays}
 use Rattle.suit_manifest.specs.Manifests.{manifest_keys}
 use Rattle.suit_manifest.specs.Elements.{held_at, only_at}
-use Rattle.suit_manifest.specs.MapReading.{needed, judge_at, may, find_from, value_of}
+use Rattle.suit_manifest.specs.MapReading.{judge_entry, needed, judge_at, may, value_of}
 use Rattle.suit_manifest.specs.CommonReading.{judge_common, common_at}
 use Rattle.suit_manifest.specs.ManifestJudging.{judge_number, known_version, judge_version, judge_text, judge_member, judge_apart, judge_here, judge_severed, judge_text_apart, judge_item, judge_text_here, judge_text_member, member_of, text_of, judge_later, manifest_of, judge_values, judge_pairs, judge_manifest}
-use Rattle.suit_manifest.specs.ManifestReading.{number_at, version_at, text_at, member_at, apart_at, here_at, severed_at, text_apart_at, text_here_at, text_member_at, later_from, values_from, pairs_from, manifest_at}
+use Rattle.suit_manifest.specs.ManifestReading.{number_at, version_at, text_at, member_at, apart_at, here_at, severed_at, text_apart_at, text_here_at, text_member_at, later_from, later_found, manifest_found, values_from, pairs_from, manifest_at}
 use Rattle.suit_manifest.proofs.Arrays.{at, behind, map_is}
 use Rattle.suit_manifest.proofs.CommonJudging.{pairs_fit}
-use Rattle.suit_manifest.proofs.CommonReads.{held_sequence_reads, by_keys, common_read}
+use Rattle.suit_manifest.proofs.CommonReads.{held_sequence_reads, all_left, given, regroup, picked_is, common_read}
+use Rattle.suit_manifest.proofs.KeyNumbers.{ordered_within}
+use Rattle.suit_manifest.proofs.PairsTaken.{take_read, end_read}
+use Rattle.suit_manifest.proofs.Picked.{head_under, rest_after, ending}
 use Rattle.suit_manifest.proofs.MapLaws.{Fits, under_fits, may_read, held_reads}
 use Rattle.suit_manifest.proofs.ValueJudging.{by_kind}
 
@@ -152,8 +157,22 @@ also {A} {B} r s f g is same = ap (λ (t : Result A Refusal). t >>= f) is ∙ by
     by_answer (Ok a) = same a
     by_answer (Err e) = refl
 
-module _ (count levels place : ℕ) (pairs : DataPairs) (q : Position) (valid : IsValidWithin levels (MapOf pairs))
-    (finds : (n : ℕ) → find_from manifest_keys n (pair_count pairs) q ≡ Ok (option_map value_of (entry_under n (entries_of place pairs)))) where
+-- what stands under the numbers
+abbrev looked_later : List Entry → LaterValues
+looked_later es = record {
+  reference = option_map value_of (entry_under 4 es);
+  validate = option_map value_of (entry_under 7 es);
+  load = option_map value_of (entry_under 8 es);
+  invoke = option_map value_of (entry_under 9 es);
+  payload_fetch = option_map value_of (entry_under 16 es);
+  install = option_map value_of (entry_under 20 es);
+  text = option_map value_of (entry_under 23 es);
+}
+
+abbrev looked : List Entry → ManifestValues
+looked es = record { version = option_map value_of (entry_under 1 es); sequence = option_map value_of (entry_under 2 es); common = option_map value_of (entry_under 3 es); later = looked_later es }
+
+module _ (count levels place : ℕ) (pairs : DataPairs) (valid : IsValidWithin levels (MapOf pairs)) where
   all : AllByRecursion (Fits (levels + 1)) (entries_of place pairs)
   all = pairs_fit levels place pairs valid
 
@@ -163,16 +182,9 @@ module _ (count levels place : ℕ) (pairs : DataPairs) (q : Position) (valid : 
   severed_is : (n : ℕ) → may (severed_at count) (option_map value_of (entry_under n (entries_of place pairs))) ≡ may (judge_at (judge_severed count)) (entry_under n (entries_of place pairs))
   severed_is n = may_read (severed_at count) (judge_severed count) (severed_read count) (levels + 1) n (entries_of place pairs) all
 
-  pub later_read : later_from count (pair_count pairs) q ≡ judge_later count (entries_of place pairs)
+  pub later_read : later_from count (looked_later (entries_of place pairs)) ≡ judge_later count (entries_of place pairs)
   later_read =
       rw (
-        finds 4,
-        finds 7,
-        finds 8,
-        finds 9,
-        finds 16,
-        finds 20,
-        finds 23,
         may_read text_at judge_text text_read (levels + 1) 4 (entries_of place pairs) all,
         member_in 7,
         member_in 8,
@@ -217,23 +229,21 @@ made_of n common later = Ok (manifest_of n common later)
 entry_read : {A : Type 0} (read : Position → Result A Refusal) (judge : ℕ → DataItem → Result A Refusal) → ReadsAs read judge → (levels : ℕ) (e : Entry) → Fits levels e → read (value_of e) ≡ judge_at judge e
 entry_read read judge law levels e fits = law levels e.value_place e.value fits
 
-values_read : (levels place : ℕ) (pairs : DataPairs) (q : Position) → IsValidWithin levels (MapOf pairs) → ((n : ℕ) → find_from manifest_keys n (pair_count pairs) q ≡ Ok (option_map value_of (entry_under n (entries_of place pairs))))
-    → values_from place (pair_count pairs) q ≡ judge_values place (entries_of place pairs)
-values_read levels place pairs q valid finds =
+values_read : (levels place : ℕ) (pairs : DataPairs) → IsValidWithin levels (MapOf pairs) → values_from place (looked (entries_of place pairs)) ≡ judge_values place (entries_of place pairs)
+values_read levels place pairs valid =
     let es = entries_of place pairs in
     let all = pairs_fit levels place pairs valid in
-    rw (finds 1, finds 2, finds 3)
-    (by_entries (entry_under 1 es) (entry_under 2 es) (entry_under 3 es) (λ e is. under_fits (levels + 1) 1 es e all is) (λ e is. under_fits (levels + 1) 2 es e all is) (λ e is. under_fits (levels + 1) 3 es e all is)
-    (λ count. later_read count levels place pairs q valid finds))
+    by_entries (entry_under 1 es) (entry_under 2 es) (entry_under 3 es) (λ e is. under_fits (levels + 1) 1 es e all is) (λ e is. under_fits (levels + 1) 2 es e all is) (λ e is. under_fits (levels + 1) 3 es e all is)
+    (λ count. later_read count levels place pairs valid)
   where
     after_from : ℕ → CommonSays → Result Manifest Refusal
-    after_from n common = later_from (length common.components) (pair_count pairs) q >>= λ later. Ok (manifest_of n common later)
+    after_from n common = later_from (length common.components) (looked_later (entries_of place pairs)) >>= λ later. Ok (manifest_of n common later)
 
     after_judged : ℕ → CommonSays → Result Manifest Refusal
     after_judged n common = judge_later (length common.components) (entries_of place pairs) >>= λ later. Ok (manifest_of n common later)
 
     by_entries : (a b c : Option Entry) → ((e : Entry) → a ≡ Some e → Fits (levels + 1) e) → ((e : Entry) → b ≡ Some e → Fits (levels + 1) e) → ((e : Entry) → c ≡ Some e → Fits (levels + 1) e)
-        → ((count : ℕ) → later_from count (pair_count pairs) q ≡ judge_later count (entries_of place pairs))
+        → ((count : ℕ) → later_from count (looked_later (entries_of place pairs)) ≡ judge_later count (entries_of place pairs))
         → (needed place 1 (option_map value_of a) >>= λ a. needed place 2 (option_map value_of b) >>= λ b. needed place 3 (option_map value_of c) >>= λ c. version_at a >>= λ v. number_at b >>= λ n. held_at (only_at common_at) c >>= after_from n)
         ≡ (needed place 1 a >>= λ a. needed place 2 b >>= λ b. needed place 3 c >>= λ c. judge_at judge_version a >>= λ v. judge_at judge_number b >>= λ n. judge_at (judge_held judge_common) c >>= after_judged n)
     by_entries None b c fa fb fc rest = refl
@@ -245,10 +255,70 @@ values_read levels place pairs q valid finds =
         also (held_at (only_at common_at) (value_of c)) (judge_at (judge_held judge_common) c) (after_from n) (after_judged n) (entry_read (held_at (only_at common_at)) (judge_held judge_common) held_common (levels + 1) c (fc c refl)) (λ common.
         ap (λ (r : Result Later Refusal). r >>= made_of n common) (rest (length common.components)))))
 
+abbrev all_of : Option Position → Option Position → Option Position → LaterValues → Result ManifestValues Refusal
+all_of version sequence common later = Ok (record { version = version; sequence = sequence; common = common; later = later })
+
+found_read : (levels place : ℕ) (pairs : DataPairs) → IsValidWithin levels (MapOf pairs)
+    → manifest_found (record { map = behind place (MapOf pairs) (head_bytes 5 (pair_count pairs)); left = pair_count pairs }) ≡ (judge_each (judge_entry manifest_keys) (entries_of place pairs) >>= λ _. Ok (looked (entries_of place pairs)))
+found_read levels place pairs valid =
+    let es = entries_of place pairs in
+    let l = levels + 1 in
+    let a = take_read 1 l es (record { map = behind place (MapOf pairs) (head_bytes 5 (pair_count pairs)); left = pair_count pairs }) (all_left levels place pairs valid) in
+    let b = take_read 2 l (rest_after 1 es) a.next a.left in
+    let c = take_read 3 l (rest_after 2 (rest_after 1 es)) b.next b.left in
+    let from_four = rest_after 3 (rest_after 2 (rest_after 1 es)) in
+    let d = take_read 4 l from_four c.next c.left in
+    let from_seven = rest_after 4 from_four in
+    let e = take_read 7 l from_seven d.next d.left in
+    let from_eight = rest_after 7 from_seven in
+    let f = take_read 8 l from_eight e.next e.left in
+    let from_nine = rest_after 8 from_eight in
+    let g = take_read 9 l from_nine f.next f.left in
+    let from_fetch = rest_after 9 from_nine in
+    let h = take_read 16 l from_fetch g.next g.left in
+    let from_install = rest_after 16 from_fetch in
+    let j = take_read 20 l from_install h.next h.left in
+    let from_text = rest_after 20 from_install in
+    let k = take_read 23 l from_text j.next j.left in
+    let later : LaterValues = record {
+      reference = option_map value_of (head_under 4 from_four);
+      validate = option_map value_of (head_under 7 from_seven);
+      load = option_map value_of (head_under 8 from_eight);
+      invoke = option_map value_of (head_under 9 from_nine);
+      payload_fetch = option_map value_of (head_under 16 from_fetch);
+      install = option_map value_of (head_under 20 from_install);
+      text = option_map value_of (head_under 23 from_text);
+    } in
+    let picked : ManifestValues = record { version = option_map value_of (head_under 1 es); sequence = option_map value_of (head_under 2 (rest_after 1 es)); common = option_map value_of (head_under 3 (rest_after 2 (rest_after 1 es))); later = later } in
+    let last = picked_is manifest_keys es picked (looked es)
+    (omega arith, (omega arith, (omega arith, (omega arith, (omega arith, (omega arith, (omega arith, (omega arith, (omega arith, (omega arith, tt)))))))))) (ordered_within levels place pairs valid)
+    (λ all i. record {
+      version = option_map value_of (all.0 i);
+      sequence = option_map value_of (all.1.0 i);
+      common = option_map value_of (all.1.1.0 i);
+      later = record {
+        reference = option_map value_of (all.1.1.1.0 i);
+        validate = option_map value_of (all.1.1.1.1.0 i);
+        load = option_map value_of (all.1.1.1.1.1.0 i);
+        invoke = option_map value_of (all.1.1.1.1.1.1.0 i);
+        payload_fetch = option_map value_of (all.1.1.1.1.1.1.1.0 i);
+        install = option_map value_of (all.1.1.1.1.1.1.1.1.0 i);
+        text = option_map value_of (all.1.1.1.1.1.1.1.1.1.0 i);
+      };
+    }) in
+    rw (a.is, b.is, c.is, d.is, e.is, f.is, g.is, h.is, j.is, k.is, end_read l (rest_after 23 from_text) k.next k.left)
+    (with_later (ending (rest_after 23 from_text)) later picked.version picked.sequence picked.common ∙ last)
+  where
+    with_later : (r : Result Unit Refusal) (later : LaterValues) (version sequence common : Option Position) → ((r >>= λ _. given later) >>= all_of version sequence common) ≡ (r >>= λ _. all_of version sequence common later)
+    with_later (Ok done) later version sequence common = refl
+    with_later (Err bad) later version sequence common = refl
+
 abbrev read_manifest : Position → ℕ → Position → Result Manifest Refusal
 read_manifest p n q = pairs_from p.place n q
 
 pub manifest_read : ReadsAs manifest_at judge_manifest
 manifest_read = map_is read_manifest judge_pairs (λ levels place pairs valid.
-    by_keys manifest_keys levels place pairs (λ q. values_from place (pair_count pairs) q) (judge_values place (entries_of place pairs)) valid
-    (λ known finds. values_read levels place pairs (behind place (MapOf pairs) (head_bytes 5 (pair_count pairs))) valid finds))
+    let es = entries_of place pairs in
+    ap (λ (r : Result ManifestValues Refusal). r >>= values_from place) (found_read levels place pairs valid)
+    ∙ regroup (judge_each (judge_entry manifest_keys) es) (looked es) (values_from place)
+    ∙ ap (λ (r : Result Manifest Refusal). judge_each (judge_entry manifest_keys) es >>= λ _. r) (values_read levels place pairs valid))

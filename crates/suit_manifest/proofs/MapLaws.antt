@@ -14,16 +14,15 @@ use Rattle.suit_params.specs.declared.refusal.Refusal.{Refusal}
 use Rattle.suit_params.specs.declared.refusal.Why.TheVariants.{UnknownKey, Missing}
 use Rattle.suit_params.specs.Refusing.{refused, Says, Refuses, content_place}
 use Rattle.suit_params.specs.Judging.{judge_held, judge_each}
-use Rattle.suit_params.specs.Reading.{inside, inner_from, whole_judged}
+use Rattle.suit_params.specs.Reading.{inside, whole_judged}
 use Rattle.suit_params.proofs.Judgements.{Judges}
 use Rattle.suit_params.proofs.Held.{ReadsAs, with_rest, by_string, content_read, JudgesEach, Anything}
 use Rattle.suit_params.proofs.ItemHeads.{item_head_read, after}
 use Rattle.suit_commands.specs.Selections.{Among}
 use Rattle.suit_envelope.specs.Envelopes.{Entry, entries, is_number, has_key}
-use Rattle.suit_envelope.proofs.KeyLaws.{inner_read}
 use Rattle.suit_manifest.specs.Maps.{IsKeyAmong, entry_under, SaysUnder, MaySayUnder, RefusesUnder, RefusesOtherKey, OtherKey}
 use Rattle.suit_manifest.specs.Elements.{held_at}
-use Rattle.suit_manifest.specs.MapReading.{among, judge_key, judge_entry, needed, judge_at, may, key_from, known_from, find_from, value_of}
+use Rattle.suit_manifest.specs.MapReading.{among, judge_key, judge_entry, needed, judge_at, may, value_of}
 
 -- ---- keys
 
@@ -47,7 +46,7 @@ among_again n (k ∷ keys) (inr later) = rw (among_again n keys later) (or_true 
 abbrev IsKey : List ℕ → DataItem → Type 0
 IsKey keys k = (n : ℕ) × Among n keys × (k ≡ UnsignedInteger n)
 
-key_ok : (keys : List ℕ) (place : ℕ) (k : DataItem) (n : ℕ) → judge_key keys place k ≡ Ok n → Among n keys × (k ≡ UnsignedInteger n)
+pub key_ok : (keys : List ℕ) (place : ℕ) (k : DataItem) (n : ℕ) → judge_key keys place k ≡ Ok n → Among n keys × (k ≡ UnsignedInteger n)
 key_ok keys place (UnsignedInteger m) n e =
     elim (chosen {A = Result ℕ Refusal} (among m keys) (Ok m) (Err (refused place UnknownKey)) (Ok n) e) [
       | inl (is, f) ↦ let same = same_ok m n f in (subst (λ (l : ℕ). Among l keys) same (among_ok m keys is), ap UnsignedInteger same)
@@ -195,57 +194,6 @@ module _ {A : Type 0} (judge : ℕ → DataItem → Result A Refusal) (says : Sa
   may_refused n es r bad = ap (may (judge_at judge)) bad.there ∙ rw (law.refuses bad.entry.value_place bad.entry.value r bad.refuses) refl
 
 -- ---- reading
-
-key_read : (keys : List ℕ) (levels : ℕ) (p : Position) (k : DataItem) (rest : List ℕ) → IsValidWithin levels k → p.left ≡ spell k ++ rest → key_from keys p ≡ (judge_key keys p.place k >>= with_rest (after p (spell k) rest))
-unfolding key_from
-key_read keys levels p (UnsignedInteger n) rest valid is = rw (item_head_read levels p (UnsignedInteger n) rest valid is) refl
-key_read keys levels p (NegativeInteger n) rest valid is = rw (item_head_read levels p (NegativeInteger n) rest valid is) refl
-key_read keys levels p (ByteString bytes) rest valid is = rw (item_head_read levels p (ByteString bytes) rest valid is) refl
-key_read keys levels p (TextString text) rest valid is = rw (item_head_read levels p (TextString text) rest valid is) refl
-key_read keys levels p (ArrayOf xs) rest valid is = rw (item_head_read levels p (ArrayOf xs) rest valid is) refl
-key_read keys levels p (MapOf ps) rest valid is = rw (item_head_read levels p (MapOf ps) rest valid is) refl
-key_read keys levels p (TaggedItem tag y) rest valid is = rw (item_head_read levels p (TaggedItem tag y) rest valid is) refl
-key_read keys levels p (Boolean b) rest valid is = rw (item_head_read levels p (Boolean b) rest valid is) refl
-key_read keys levels p NullItem rest valid is = rw (item_head_read levels p NullItem rest valid is) refl
-
-abbrev known_one : ℕ → Result Unit Refusal
-known_one n = Ok tt
-
-pub known_read : (keys : List ℕ) (levels : ℕ) (p : Position) (before : Option (List ℕ)) (ps : DataPairs) (rest : List ℕ) → ArePairsWithin levels before ps → p.left ≡ spell_pairs ps ++ rest
-    → known_from keys (pair_count ps) p ≡ judge_each (judge_entry keys) (entries p.place ps)
-known_read keys levels p before NoPairs rest valid is = refl
-known_read keys levels p before (PairThen key value ps) rest valid is =
-    let count : pair_count ps + 1 ≡ suc (pair_count ps) = omega arith in
-    let after_value = spell_pairs ps ++ rest in
-    let after_key = spell value ++ after_value in
-    let q = after p (spell key) after_key in
-    let r = after q (spell value) after_value in
-    let whole : p.left ≡ spell key ++ after_key = is ∙ simp append_assoc in
-    rw (count, key_read keys levels p key after_key valid.0 whole) (by_key (judge_key keys p.place key) q r (inside q value) (judge_each (judge_entry keys) (entries r.place ps)) (inner_read levels q value after_value valid.2 refl) (known_read keys levels r (Some (spell key)) ps rest valid.3 refl))
-  where
-    by_key : (a : Result ℕ Refusal) (q r inner : Position) (others : Result Unit Refusal) → inner_from q ≡ Ok (inner, r) → known_from keys (pair_count ps) r ≡ others
-        → ((a >>= with_rest q) >>= λ k. inner_from k.1 >>= λ v. known_from keys (pair_count ps) v.1) ≡ ((a >>= known_one) >>= λ _. others)
-    by_key (Ok n) q r inner others first rest = rw first rest
-    by_key (Err e) q r inner others first rest = refl
-
-pub find_read : (keys : List ℕ) (n levels : ℕ) (p : Position) (before : Option (List ℕ)) (ps : DataPairs) (rest : List ℕ) → ArePairsWithin levels before ps → p.left ≡ spell_pairs ps ++ rest
-    → AllByRecursion (IsKeyAmong keys) (entries p.place ps) → find_from keys n (pair_count ps) p ≡ Ok (option_map value_of (entry_under n (entries p.place ps)))
-find_read keys n levels p before NoPairs rest valid is known = refl
-find_read keys n levels p before (PairThen key value ps) rest valid is known =
-    let count : pair_count ps + 1 ≡ suc (pair_count ps) = omega arith in
-    let after_value = spell_pairs ps ++ rest in
-    let after_key = spell value ++ after_value in
-    let q = after p (spell key) after_key in
-    let r = after q (spell value) after_value in
-    let whole : p.left ≡ spell key ++ after_key = is ∙ simp append_assoc in
-    let m = known.0.0 in
-    let number : judge_key keys p.place key ≡ Ok m = ap (judge_key keys p.place) known.0.2 ∙ key_again keys p.place m known.0.1 in
-    let same : is_number n key ≡ eqb m n = ap (is_number n) known.0.2 in
-    rw (count, key_read keys levels p key after_key valid.0 whole, number, inner_read levels q value after_value valid.2 refl, find_read keys n levels r (Some (spell key)) ps rest valid.3 refl known.1, same) (by_test (eqb m n) (record { key = key; key_place = p.place; value = value; value_place = q.place }) (entry_under n (entries r.place ps)))
-  where
-    by_test : (t : Bool) (a : Entry) (o : Option Entry) → cond {A = Result (Option Position) Refusal} t (Ok (Some (value_of a))) (Ok (option_map value_of o)) ≡ Ok (option_map value_of (cond t (Some a) o))
-    by_test true a o = refl
-    by_test false a o = refl
 
 pub may_read : {A : Type 0} (read : Position → Result A Refusal) (judge : ℕ → DataItem → Result A Refusal) → ReadsAs read judge → (levels n : ℕ) (es : List Entry) → AllByRecursion (Fits levels) es
     → may read (option_map value_of (entry_under n es)) ≡ may (judge_at judge) (entry_under n es)

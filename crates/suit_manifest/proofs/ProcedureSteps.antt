@@ -5,7 +5,7 @@ use Rattle.suit_params.specs.Refusing.{SaysWhole, content_place}
 use Rattle.suit_commands.specs.Allowed.{IsSequence, IsMember, IsShared, IsPlan}
 use Rattle.suit_commands.specs.Sequences.{SaysSequence}
 use Rattle.suit_commands.specs.Tree.{SequenceTree, NoSteps, StepThen}
-use Rattle.suit_commands.proofs.SequenceLawProofs.{sequence_laws}
+use Rattle.suit_commands.specs.SequenceLaws.{SequenceLaws}
 use Rattle.suit_envelope.specs.Envelopes.{Entry, EnvelopeSays}
 use Rattle.suit_manifest.specs.declared.manifest.Manifest.{Manifest}
 use Rattle.suit_manifest.specs.declared.manifest.Member.{Member}
@@ -18,8 +18,8 @@ use Rattle.suit_manifest.specs.MembersApart.{HasMember, HasMembers}
 use Rattle.suit_manifest.specs.ProcedureLaws.{ProcedureLaws}
 use Rattle.suit_manifest.specs.Procedures.{tree_or_empty, member_tree, update_tree, invocation_tree}
 
-whole_allowed : (shared : Bool) (count place : ℕ) (content : List ℕ) (s : SequenceTree) → SaysWhole (SaysSequence shared count 8) place content s → IsSequence shared count 8 s
-whole_allowed shared count place content s so = sequence_laws.allowed shared count 8 place so.item s so.spells.valid so.says_so
+whole_allowed : SequenceLaws → (shared : Bool) (count place : ℕ) (content : List ℕ) (s : SequenceTree) → SaysWhole (SaysSequence shared count 8) place content s → IsSequence shared count 8 s
+whole_allowed laws shared count place content s so = laws.allowed shared count 8 place so.item s so.spells.valid so.says_so
 
 as_member : (count : ℕ) (s : SequenceTree) → IsSequence false count 8 s → IsMember count s
 as_member count NoSteps is = tt
@@ -29,33 +29,33 @@ as_shared : (count : ℕ) (s : SequenceTree) → IsSequence true count 8 s → I
 as_shared count NoSteps is = tt
 as_shared count (StepThen place command rest) is = is
 
-held_allowed : (count place : ℕ) (x : DataItem) (s : SequenceTree) → SaysMember count place x s → IsMember count s
-held_allowed count place x s so = as_member count s (whole_allowed false count _ so.content s so.holds)
+held_allowed : SequenceLaws → (count place : ℕ) (x : DataItem) (s : SequenceTree) → SaysMember count place x s → IsMember count s
+held_allowed laws count place x s so = as_member count s (whole_allowed laws false count _ so.content s so.holds)
 
-member_allowed : (n count : ℕ) (es : List Entry) (m : Option SequenceTree) → MaySayUnder n (SaysMember count) es m → IsMember count (tree_or_empty m)
-member_allowed n count es None so = tt
-member_allowed n count es (Some s) so = held_allowed count so.entry.value_place so.entry.value s so.says_so
+member_allowed : SequenceLaws → (n count : ℕ) (es : List Entry) (m : Option SequenceTree) → MaySayUnder n (SaysMember count) es m → IsMember count (tree_or_empty m)
+member_allowed laws n count es None so = tt
+member_allowed laws n count es (Some s) so = held_allowed laws count so.entry.value_place so.entry.value s so.says_so
 
-shared_allowed : (n count : ℕ) (es : List Entry) (m : Option SequenceTree) → MaySayUnder n (SaysShared count) es m → IsShared count (tree_or_empty m)
-shared_allowed n count es None so = tt
-shared_allowed n count es (Some s) so = as_shared count s (whole_allowed true count _ so.says_so.content s so.says_so.holds)
+shared_allowed : SequenceLaws → (n count : ℕ) (es : List Entry) (m : Option SequenceTree) → MaySayUnder n (SaysShared count) es m → IsShared count (tree_or_empty m)
+shared_allowed laws n count es None so = tt
+shared_allowed laws n count es (Some s) so = as_shared count s (whole_allowed laws true count _ so.says_so.content s so.says_so.holds)
 
 -- ---- members that may stand apart
 
-own_allowed : (count place : ℕ) (x : DataItem) (m : Member) (s : SequenceTree) → SaysSevered count place x m → m ≡ Here s → IsMember count s
-own_allowed count place x m s (SaysHere t so) is = let same : t ≡ s = cc in subst (IsMember count) same (held_allowed count place x t so)
-own_allowed count place x m s (SaysApart digest so) is = absurd cc
+own_allowed : SequenceLaws → (count place : ℕ) (x : DataItem) (m : Member) (s : SequenceTree) → SaysSevered count place x m → m ≡ Here s → IsMember count s
+own_allowed laws count place x m s (SaysHere t so) is = let same : t ≡ s = cc in subst (IsMember count) same (held_allowed laws count place x t so)
+own_allowed laws count place x m s (SaysApart digest so) is = absurd cc
 
-severable_allowed : (n count : ℕ) (es : List Entry) (held : Option (List ℕ)) (place : ℕ) (m : Member) (apart : Option SequenceTree) → SeveredUnder n count es m → HasMember count held place m apart → IsMember count (member_tree m apart)
-severable_allowed n count es held place Empty apart so has = tt
-severable_allowed n count es held place (Here s) apart so has = own_allowed count so.entry.value_place so.entry.value (Here s) s so.says_so refl
-severable_allowed n count es held place (Apart stated) None so has = absurd has
-severable_allowed n count es held place (Apart stated) (Some s) so has = as_member count s (whole_allowed false count place has.content s has.says_so)
+severable_allowed : SequenceLaws → (n count : ℕ) (es : List Entry) (held : Option (List ℕ)) (place : ℕ) (m : Member) (apart : Option SequenceTree) → SeveredUnder n count es m → HasMember count held place m apart → IsMember count (member_tree m apart)
+severable_allowed laws n count es held place Empty apart so has = tt
+severable_allowed laws n count es held place (Here s) apart so has = own_allowed laws count so.entry.value_place so.entry.value (Here s) s so.says_so refl
+severable_allowed laws n count es held place (Apart stated) None so has = absurd has
+severable_allowed laws n count es held place (Apart stated) (Some s) so has = as_member count s (whole_allowed laws false count place has.content s has.says_so)
 
 -- ---- the laws
 
-update : (place : ℕ) (x : DataItem) (said : EnvelopeSays) (manifest : Manifest) (members : Members) → IsManifest place x manifest → HasMembers said manifest members → IsPlan (update_tree manifest members)
-update place x said manifest members is has =
+update : SequenceLaws → (place : ℕ) (x : DataItem) (said : EnvelopeSays) (manifest : Manifest) (members : Members) → IsManifest place x manifest → HasMembers said manifest members → IsPlan (update_tree manifest members)
+update laws place x said manifest members is has =
     let held = is.common.says_so in
     let common = held.holds.says_so in
     let components = common.components.says_so in
@@ -65,14 +65,14 @@ update place x said manifest members is has =
     record {
       some_components = components.some;
       few_components = components.few;
-      shared = shared_allowed 4 count inner manifest.shared common.shared;
-      first = severable_allowed 16 count es said.payload_fetch said.payload_fetch_place manifest.payload_fetch members.payload_fetch is.payload_fetch has.payload_fetch;
-      second = severable_allowed 20 count es said.install said.install_place manifest.install members.install is.install has.install;
-      third = member_allowed 7 count es manifest.validate is.validate;
+      shared = shared_allowed laws 4 count inner manifest.shared common.shared;
+      first = severable_allowed laws 16 count es said.payload_fetch said.payload_fetch_place manifest.payload_fetch members.payload_fetch is.payload_fetch has.payload_fetch;
+      second = severable_allowed laws 20 count es said.install said.install_place manifest.install members.install is.install has.install;
+      third = member_allowed laws 7 count es manifest.validate is.validate;
     }
 
-invocation : (place : ℕ) (x : DataItem) (manifest : Manifest) → IsManifest place x manifest → IsPlan (invocation_tree manifest)
-invocation place x manifest is =
+invocation : SequenceLaws → (place : ℕ) (x : DataItem) (manifest : Manifest) → IsManifest place x manifest → IsPlan (invocation_tree manifest)
+invocation laws place x manifest is =
     let held = is.common.says_so in
     let common = held.holds.says_so in
     let components = common.components.says_so in
@@ -82,11 +82,11 @@ invocation place x manifest is =
     record {
       some_components = components.some;
       few_components = components.few;
-      shared = shared_allowed 4 count inner manifest.shared common.shared;
-      first = member_allowed 7 count es manifest.validate is.validate;
-      second = member_allowed 8 count es manifest.load is.load;
-      third = member_allowed 9 count es manifest.invoke is.invoke;
+      shared = shared_allowed laws 4 count inner manifest.shared common.shared;
+      first = member_allowed laws 7 count es manifest.validate is.validate;
+      second = member_allowed laws 8 count es manifest.load is.load;
+      third = member_allowed laws 9 count es manifest.invoke is.invoke;
     }
 
-pub procedure_laws : ProcedureLaws
-procedure_laws = record { update = update; invocation = invocation }
+pub procedure_laws : SequenceLaws → ProcedureLaws
+procedure_laws laws = record { update = update laws; invocation = invocation laws }

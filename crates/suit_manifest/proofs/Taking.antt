@@ -5,13 +5,14 @@ use Rattle.suit_params.specs.Refusing.{SaysWhole}
 use Rattle.suit_commands.specs.Sequences.{SaysSequence}
 use Rattle.suit_commands.specs.Tree.{SequenceTree}
 use Rattle.suit_envelope.specs.Members.{AnswersMember}
+use Rattle.suit_envelope.specs.Places.{EndsBelow}
 use Rattle.suit_envelope.specs.declared.severed.MemberName.{MemberName}
 use Rattle.suit_envelope.specs.declared.severed.MemberBytes.TheVariants as answers
 use Rattle.suit_manifest.specs.declared.members.MemberFault.{MemberFault}
 use Rattle.suit_manifest.specs.declared.members.MemberFault.TheVariants as faults
-use Rattle.suit_manifest.specs.MembersApart.{IsTaken, LacksTaken, IsSevered, IsOther, IsNoSequence, EndsBelow, RefusesContent, IsLackBy}
+use Rattle.suit_manifest.specs.MembersApart.{IsTaken, LacksTaken, IsSevered, IsOther, IsNoSequence, RefusesContent, IsLackBy}
 
-pub got_place : (held : Option (List ℕ)) (stated : List ℕ) (bytes : Bor (List ℕ)) (place : ℕ) → AnswersMember held stated (answers.Got bytes) → EndsBelow held place → place + length bytes.now < 2 ^ 64
+pub got_place : (held : Option (List ℕ)) (stated : List ℕ) (bytes : Bor (List ℕ)) (place : ℕ) → AnswersMember held stated (answers.Got bytes) → EndsBelow (2 ^ 64) held place → place + length bytes.now < 2 ^ 64
 got_place None stated bytes place got fits = absurd got
 got_place (Some content) stated bytes place got fits = subst (λ (l : List ℕ). place + length l < 2 ^ 64) (sym got.0) fits
 

@@ -9,12 +9,14 @@ use Rattle.suit_commands.specs.SequenceJudging.{judge_sequence}
 use Rattle.suit_commands.specs.SequenceReading.{whole_sequence}
 use Rattle.suit_commands.specs.Tree.{SequenceTree}
 use Rattle.suit_envelope.specs.Envelopes.{Entry}
+use Rattle.suit_manifest.specs.declared.common.CommonValues.{CommonValues}
+use Rattle.suit_manifest.specs.declared.pairs.Pairs.{Pairs}
 use Rattle.suit_manifest.specs.Maps.{entries_of, entry_under}
 use Rattle.suit_manifest.specs.Common.{CommonSays, common_keys}
 use Rattle.suit_manifest.specs.Elements.{judge_map, map_from, held_at}
 use Rattle.suit_manifest.specs.ComponentsJudging.{judge_components}
 use Rattle.suit_manifest.specs.ComponentsReading.{components_at}
-use Rattle.suit_manifest.specs.MapReading.{judge_entry, needed, judge_at, may, known_from, find_from, need_from}
+use Rattle.suit_manifest.specs.MapReading.{judge_entry, needed, judge_at, may, take_from, end_from}
 
 abbrev pub judge_shared : ℕ → ℕ → DataItem → Result SequenceTree Refusal
 judge_shared count = judge_held (judge_sequence true count 7)
@@ -35,13 +37,16 @@ judge_common = judge_map judge_common_pairs
 abbrev pub shared_at : ℕ → Position → Result SequenceTree Refusal
 shared_at count = held_at (whole_sequence true count 7)
 
--- of a map at a place, of so many pairs
-abbrev pub common_values_from : ℕ → ℕ → Position → Result CommonSays Refusal
-common_values_from place pairs p =
-    need_from common_keys place 2 pairs p >>= λ a. components_at a >>= λ ids. find_from common_keys 4 pairs p >>= λ o. may (shared_at (length ids)) o >>= λ shared. Ok (record { components = ids; shared = shared })
+-- the values, in the order of their keys
+abbrev pub common_found : Pairs → Result CommonValues Refusal
+common_found s = take_from 2 s >>= λ components. take_from 4 components.1 >>= λ shared. end_from shared.1 >>= λ _. Ok (record { components = components.0; shared = shared.0 })
+
+-- of a map at a place
+abbrev pub common_values_from : ℕ → CommonValues → Result CommonSays Refusal
+common_values_from place v = needed place 2 v.components >>= λ a. components_at a >>= λ ids. may (shared_at (length ids)) v.shared >>= λ shared. Ok (record { components = ids; shared = shared })
 
 abbrev pub common_pairs_from : ℕ → ℕ → Position → Result CommonSays Refusal
-common_pairs_from place pairs p = known_from common_keys pairs p >>= λ _. common_values_from place pairs p
+common_pairs_from place pairs p = common_found (record { map = p; left = pairs }) >>= common_values_from place
 
 -- a whole item
 abbrev pub common_at : Position → Result CommonSays Refusal

@@ -1,12 +1,16 @@
 -- What holds of all manifests.
 use Rattle.std.specs.Prelude.{◌≡◌, ◌⊎◌, ◌<◌, ℕ, List, [], ◌∷◌}
 use Rattle.std.specs.List.{AllByRecursion}
-use Rattle.det_cbor.specs.DataItem.{DataItem, UnsignedInteger, MapOf, DataPairs, IsValid}
+use Rattle.det_cbor.specs.DataItem.{DataItem, UnsignedInteger, MapOf, DataPairs, spell, IsValid}
 use Rattle.suit_params.specs.declared.refusal.Refusal.{Refusal}
+use Rattle.suit_params.specs.OneWhole.{HasOneAnswer}
+use Rattle.suit_params.specs.Refusing.{SaysWhole}
 use Rattle.suit_manifest.specs.declared.manifest.Manifest.{Manifest}
 use Rattle.suit_envelope.specs.Envelopes.{Entry}
 use Rattle.suit_manifest.specs.Maps.{entries_of}
 use Rattle.suit_manifest.specs.Manifests.{IsManifest, RefusesManifest}
+use Rattle.suit_manifest.specs.ManifestMaking.{manifest_item, placed_manifest, unplaced_manifest}
+use Rattle.suit_manifest.specs.ManifestWriting.{IsGrammatical}
 
 -- just one manifest is said, and nothing is refused
 pub record HasOneManifest (place : ℕ) (x : DataItem) : Type 0 where
@@ -31,7 +35,16 @@ abbrev pub NumbersAscend : List Entry → Type 0
 NumbersAscend [] = Unit {0}
 NumbersAscend (e ∷ es) = ((n : ℕ) → e.key ≡ UnsignedInteger n → AllByRecursion (IsAboveNumber n) es) × NumbersAscend es
 
--- the laws: each valid item says one manifest or has one refusal, and never both; and the keys of a map are in order
+-- the laws: each valid item says one manifest or has one refusal, and never both, and so all bytes do. What is said is a
+-- manifest that the grammar allows; the item that says it is the one that it is written as, its places are those of that
+-- item's spelling, and bytes that say it are that spelling. Manifests that are equal places apart are written alike. And
+-- the keys of a map are in order
 pub record ManifestLaws : Type 0 where
   pub one_reading : (place : ℕ) (x : DataItem) → IsValid x → HasOneManifest place x ⊎ HasOneRefusal place x
+  pub grammatical : (place : ℕ) (x : DataItem) (m : Manifest) → IsManifest place x m → IsGrammatical m
+  pub whole : HasOneAnswer IsManifest RefusesManifest
+  pub made : (place : ℕ) (x : DataItem) (m : Manifest) → IsValid x → IsManifest place x m → x ≡ manifest_item m
+  pub places : (place : ℕ) (x : DataItem) (m : Manifest) → IsValid x → IsManifest place x m → m ≡ placed_manifest place m
+  pub again : (place : ℕ) (bytes : List ℕ) (m : Manifest) → SaysWhole IsManifest place bytes m → bytes ≡ spell (manifest_item m)
+  pub one_item : (m n : Manifest) → unplaced_manifest m ≡ unplaced_manifest n → manifest_item m ≡ manifest_item n
   pub ordered : (place : ℕ) (pairs : DataPairs) → IsValid (MapOf pairs) → NumbersAscend (entries_of place pairs)

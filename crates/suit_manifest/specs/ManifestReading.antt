@@ -18,9 +18,11 @@ use Rattle.suit_manifest.specs.declared.manifest.Member.TheVariants as members
 use Rattle.suit_manifest.specs.declared.manifest.TextMember.{TextMember}
 use Rattle.suit_manifest.specs.declared.manifest.TextMember.TheVariants as texts
 use Rattle.suit_manifest.specs.declared.later.Later.{Later}
-use Rattle.suit_manifest.specs.Manifests.{manifest_keys}
+use Rattle.suit_manifest.specs.declared.manifest_map.ManifestValues.{ManifestValues}
+use Rattle.suit_manifest.specs.declared.manifest_map.LaterValues.{LaterValues}
+use Rattle.suit_manifest.specs.declared.pairs.Pairs.{Pairs}
 use Rattle.suit_manifest.specs.Elements.{map_from, held_at, only_at}
-use Rattle.suit_manifest.specs.MapReading.{may, known_from, find_from, need_from}
+use Rattle.suit_manifest.specs.MapReading.{needed, may, take_from, end_from}
 use Rattle.suit_manifest.specs.CommonReading.{common_at}
 use Rattle.suit_manifest.specs.ManifestJudging.{known_version, member_of, text_of, manifest_of}
 
@@ -77,33 +79,52 @@ severed_in count o = may (severed_at count) o >>= λ m. Ok (member_of m)
 abbrev pub text_in : Option Position → Result TextMember Refusal
 text_in o = may text_member_at o >>= λ m. Ok (text_of m)
 
--- among so many pairs, where there are so many components
-abbrev pub later_from : ℕ → ℕ → Position → Result Later Refusal
-later_from count pairs p =
-    find_from manifest_keys 4 pairs p >>= λ o. may text_at o >>= λ reference.
-    find_from manifest_keys 7 pairs p >>= λ o. may (member_at count) o >>= λ validate.
-    find_from manifest_keys 8 pairs p >>= λ o. may (member_at count) o >>= λ load.
-    find_from manifest_keys 9 pairs p >>= λ o. may (member_at count) o >>= λ invoke.
-    find_from manifest_keys 16 pairs p >>= λ o. severed_in count o >>= λ payload_fetch.
-    find_from manifest_keys 20 pairs p >>= λ o. severed_in count o >>= λ install.
-    find_from manifest_keys 23 pairs p >>= λ o. text_in o >>= λ text.
+-- where there are so many components
+abbrev pub later_from : ℕ → LaterValues → Result Later Refusal
+later_from count v =
+    may text_at v.reference >>= λ reference.
+    may (member_at count) v.validate >>= λ validate.
+    may (member_at count) v.load >>= λ load.
+    may (member_at count) v.invoke >>= λ invoke.
+    severed_in count v.payload_fetch >>= λ payload_fetch.
+    severed_in count v.install >>= λ install.
+    text_in v.text >>= λ text.
     Ok (record { reference = reference; validate = validate; load = load; invoke = invoke; payload_fetch = payload_fetch; install = install; text = text })
 
 -- ---- the map
 
-abbrev pub values_from : ℕ → ℕ → Position → Result Manifest Refusal
-values_from place pairs p =
-    need_from manifest_keys place 1 pairs p >>= λ a.
-    need_from manifest_keys place 2 pairs p >>= λ b.
-    need_from manifest_keys place 3 pairs p >>= λ c.
-    version_at a >>= λ v.
+-- the values after common, in the order of their keys
+abbrev pub later_found : Pairs → Result LaterValues Refusal
+later_found s =
+    take_from 4 s >>= λ reference.
+    take_from 7 reference.1 >>= λ validate.
+    take_from 8 validate.1 >>= λ load.
+    take_from 9 load.1 >>= λ invoke.
+    take_from 16 invoke.1 >>= λ payload_fetch.
+    take_from 20 payload_fetch.1 >>= λ install.
+    take_from 23 install.1 >>= λ text.
+    end_from text.1 >>= λ _.
+    Ok (record { reference = reference.0; validate = validate.0; load = load.0; invoke = invoke.0; payload_fetch = payload_fetch.0; install = install.0; text = text.0 })
+
+-- all values
+abbrev pub manifest_found : Pairs → Result ManifestValues Refusal
+manifest_found s =
+    take_from 1 s >>= λ version. take_from 2 version.1 >>= λ sequence. take_from 3 sequence.1 >>= λ common. later_found common.1 >>= λ later. Ok (record { version = version.0; sequence = sequence.0; common = common.0; later = later })
+
+-- of a map at a place
+abbrev pub values_from : ℕ → ManifestValues → Result Manifest Refusal
+values_from place v =
+    needed place 1 v.version >>= λ a.
+    needed place 2 v.sequence >>= λ b.
+    needed place 3 v.common >>= λ c.
+    version_at a >>= λ version.
     number_at b >>= λ n.
     held_at (only_at common_at) c >>= λ common.
-    later_from (length common.components) pairs p >>= λ later.
+    later_from (length common.components) v.later >>= λ later.
     Ok (manifest_of n common later)
 
 abbrev pub pairs_from : ℕ → ℕ → Position → Result Manifest Refusal
-pairs_from place pairs p = known_from manifest_keys pairs p >>= λ _. values_from place pairs p
+pairs_from place pairs p = manifest_found (record { map = p; left = pairs }) >>= values_from place
 
 -- a whole item
 abbrev pub manifest_at : Position → Result Manifest Refusal

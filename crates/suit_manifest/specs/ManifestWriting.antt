@@ -96,8 +96,3 @@ pub record IsGrammatical (m : Manifest) : Type 0 where
 pub record IsWrittenManifest (m : Manifest) (bytes : List ℕ) : Type 0 where
   pub says : (place : ℕ) → IsGrammatical m → SaysWhole IsManifest place bytes (placed_manifest place m)
   pub same : (place : ℕ) → unplaced_manifest (placed_manifest place m) ≡ unplaced_manifest m
-
--- the law: each manifest that an item says is one that the grammar allows, so that what was read is written to be read
--- again
-abbrev pub EachIsGrammatical : Type 0
-EachIsGrammatical = (place : ℕ) (x : DataItem) (m : Manifest) → IsManifest place x m → IsGrammatical m

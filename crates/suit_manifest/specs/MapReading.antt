@@ -1,5 +1,5 @@
 -- How maps of numbered keys are judged, and read of an item that was judged before.
-use Rattle.std.specs.Prelude.{ℕ, zero, suc, ◌==◌, if◌then◌else◌, Bool, List, Option, Some, None, Result, Ok, Err}
+use Rattle.std.specs.Prelude.{ℕ, ◌-◌, ◌==◌, if◌then◌else◌, Bool, false, List, length, Option, Some, None, Result, Ok, Err}
 use Rattle.std.specs.List.{list_any}
 use Rattle.det_cbor.specs.DataItem.{DataItem, UnsignedInteger, spell}
 use Rattle.det_cbor.specs.declared.head.HeadKind.{HeadKind}
@@ -9,8 +9,9 @@ use Rattle.det_cbor.specs.Position.{Position}
 use Rattle.suit_params.specs.declared.refusal.Refusal.{Refusal}
 use Rattle.suit_params.specs.declared.refusal.Why.TheVariants.{UnknownKey, Missing}
 use Rattle.suit_params.specs.Refusing.{refused}
-use Rattle.suit_params.specs.Reading.{head_from, inner_from}
+use Rattle.suit_params.specs.Reading.{head_from, bytes_from, inner_from, string_from}
 use Rattle.suit_envelope.specs.Envelopes.{Entry}
+use Rattle.suit_manifest.specs.declared.pairs.Pairs.{Pairs}
 
 -- ---- judging
 
@@ -41,27 +42,41 @@ abbrev pub may : {A B : Type 0} → (A → Result B Refusal) → Option A → Re
 may judge None = Ok None
 may judge (Some found) = judge found >>= λ said. Ok (Some said)
 
--- ---- reading
+-- ---- reading: the pairs of a map that are left, of which there are so many
 
-abbrev pub key_after : List ℕ → ℕ → ℕ → Position → HeadKind → Result (ℕ × Position) Refusal
-key_after keys place n p kinds.Unsigned = known_number keys place n >>= λ m. Ok (m, p)
-key_after keys place n p _ = Err (refused place UnknownKey)
+abbrev pub key_after : ℕ → ℕ → Position → HeadKind → Result (Bool × Position) Refusal
+key_after n m p kinds.Unsigned = Ok (m == n, p)
+key_after n m p _ = Ok (false, p)
 
-unfoldable pub key_from : List ℕ → Position → Result (ℕ × Position) Refusal
-key_from keys p = head_from p >>= λ h. key_after keys p.place h.0.value h.1 h.0.kind
+-- whether the next key is this number, and the position after its head
+unfoldable pub key_is : ℕ → Position → Result (Bool × Position) Refusal
+key_is n p = head_from p >>= λ h. key_after n h.0.value h.1 h.0.kind
 
--- the keys of so many pairs
-abbrev pub known_from : List ℕ → ℕ → Position → Result Unit Refusal
-known_from keys zero p = Ok tt
-known_from keys (suc pairs) p = key_from keys p >>= λ k. inner_from k.1 >>= λ v. known_from keys pairs v.1
+-- what stands from one position up to another, by itself
+abbrev pub up_to : Position → Position → Result (Position × Position) Refusal
+up_to p q = string_from (length p.left - length q.left) p
 
--- the value under a number, among so many pairs
-abbrev pub find_from : List ℕ → ℕ → ℕ → Position → Result (Option Position) Refusal
-find_from keys n zero p = Ok None
-find_from keys n (suc pairs) p = key_from keys p >>= λ k. inner_from k.1 >>= λ v. if k.0 == n then Ok (Some v.0) else find_from keys n pairs v.1
+-- the next value, of a map that was judged before: a number or a string is passed by its head, and no other
+abbrev pub value_after : Position → ℕ → Position → HeadKind → Result (Position × Position) Refusal
+value_after p n q kinds.Unsigned = up_to p q
+value_after p n q kinds.Bytes = bytes_from n q >>= λ b. up_to p b.1
+value_after p n q kinds.Text = bytes_from n q >>= λ b. up_to p b.1
+value_after p n q _ = inner_from p
 
-abbrev pub need_from : List ℕ → ℕ → ℕ → ℕ → Position → Result Position Refusal
-need_from keys place n pairs p = find_from keys n pairs p >>= needed place n
+unfoldable pub value_from : Position → Result (Position × Position) Refusal
+value_from p = head_from p >>= λ h. value_after p h.0.value h.1 h.0.kind
+
+-- the next pair's value, behind its key
+abbrev pub value_then : ℕ → Position → Result (Option Position × Pairs) Refusal
+value_then left p = value_from p >>= λ v. Ok (Some v.0, record { map = v.1; left = left - 1 })
+
+-- the value of the next pair, where its key is this number, and the pairs that are left then
+abbrev pub take_from : ℕ → Pairs → Result (Option Position × Pairs) Refusal
+take_from n s = if s.left == 0 then Ok (None, s) else (key_is n s.map >>= λ k. if k.0 then value_then s.left k.1 else Ok (None, s))
+
+-- no pair is left: the key of one would be unknown
+abbrev pub end_from : Pairs → Result Unit Refusal
+end_from s = if s.left == 0 then Ok tt else Err (refused s.map.place UnknownKey)
 
 -- the position of an entry's value by itself
 abbrev pub value_of : Entry → Position

@@ -1,5 +1,5 @@
 -- The members that stand apart from a manifest, in its envelope (draft-ietf-suit-manifest-25, sections 8.4 and 8.5).
-use Rattle.std.specs.Prelude.{◌≡◌, ◌≢◌, ◌⊎◌, ◌<◌, ◌^◌, ◌+◌, ℕ, false, List, length, Option, Some, None, Result, Ok, Err}
+use Rattle.std.specs.Prelude.{◌≡◌, ◌≢◌, ◌⊎◌, ℕ, false, List, Option, Some, None, Result, Ok, Err}
 use Rattle.suit_params.specs.declared.refusal.Refusal.{Refusal}
 use Rattle.suit_params.specs.declared.digest.Digest.{Digest}
 use Rattle.suit_params.specs.Refusing.{SaysWhole, RefusesWhole}
@@ -72,17 +72,6 @@ pub record HasMembers (said : EnvelopeSays) (manifest : Manifest) (members : Mem
 pub data LacksMembers (said : EnvelopeSays) (manifest : Manifest) (fault : MemberFault) : Type 0 where
   ByPayloadFetch : LacksPayloadFetch said manifest fault → LacksMembers said manifest fault
   ByInstall : (fetch : Option SequenceTree) → HasPayloadFetch said manifest fetch → LacksInstall said manifest fault → LacksMembers said manifest fault
-
--- ---- places
-
--- what is there ends below the numbers' end
-abbrev pub EndsBelow : Option (List ℕ) → ℕ → Type 0
-EndsBelow None place = Unit {0}
-EndsBelow (Some content) place = place + length content < 2 ^ 64
-
-pub record PlacesFit (said : EnvelopeSays) : Type 0 where
-  pub payload_fetch : EndsBelow said.payload_fetch said.payload_fetch_place
-  pub install : EndsBelow said.install said.install_place
 
 -- ---- answers
 

@@ -1,11 +1,11 @@
 -- What holds of the members that stand apart, whatever reads them.
-use Rattle.std.specs.Prelude.{◌≡◌, ◌⊎◌, ◌<◌, ◌^◌, ℕ, List, length}
+use Rattle.std.specs.Prelude.{◌≡◌, ◌⊎◌, ℕ, List}
 use Rattle.suit_envelope.specs.Envelopes.{EnvelopeSays}
 use Rattle.suit_envelope.specs.Said.{EnvelopeOf}
 use Rattle.suit_manifest.specs.declared.manifest.Manifest.{Manifest}
 use Rattle.suit_manifest.specs.declared.manifest.Members.{Members}
 use Rattle.suit_manifest.specs.declared.members.MemberFault.{MemberFault}
-use Rattle.suit_manifest.specs.MembersApart.{HasMembers, LacksMembers, PlacesFit}
+use Rattle.suit_manifest.specs.MembersApart.{HasMembers, LacksMembers}
 
 -- just one answer, and nothing is lacking
 pub record HasOneAnswer (said : EnvelopeSays) (manifest : Manifest) : Type 0 where
@@ -21,8 +21,6 @@ pub record HasOneFault (said : EnvelopeSays) (manifest : Manifest) : Type 0 wher
   pub only : (f : MemberFault) → LacksMembers said manifest f → f ≡ fault
   pub empty : (m : Members) → HasMembers said manifest m → ⊥
 
--- the laws: an envelope has one answer of members or one fault for each manifest, and never both; and what it says is
--- placed below the numbers' end
+-- the law: an envelope has one answer of members or one fault for each manifest, and never both
 pub record MembersLaws : Type 0 where
   pub one_answer : (bytes : List ℕ) (said : EnvelopeSays) (manifest : Manifest) → EnvelopeOf bytes said → HasOneAnswer said manifest ⊎ HasOneFault said manifest
-  pub places : (bytes : List ℕ) (said : EnvelopeSays) → EnvelopeOf bytes said → length bytes < 2 ^ 64 → PlacesFit said

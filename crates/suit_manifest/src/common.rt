@@ -4,16 +4,16 @@ ghost use Rattle.std.specs.Prelude.{◌≡◌, ◌≤◌, length, IfOk};
 ghost use Rattle.suit_params.specs.Answering.{Gives};
 ghost use Rattle.suit_manifest.specs.Elements.{held_at};
 ghost use Rattle.suit_manifest.specs.MapReading.{may};
-ghost use Rattle.suit_manifest.specs.CommonReading.{shared_at, common_values_from, common_pairs_from, common_at};
+ghost use Rattle.suit_manifest.specs.CommonReading.{shared_at, common_found, common_values_from, common_pairs_from, common_at};
 ghost use Rattle.suit_commands.specs.SequenceReading.{whole_sequence};
 
 use crate::components::read_components;
-use crate::fields::{find, known_keys, need};
 use crate::heads::{bytes_left, read_map};
+use crate::pairs::{Pairs, needed};
 use det_cbor::Cursor;
 use std::alloc::Global;
 use suit_commands::{Sequence, decode_sequence};
-use suit_params::{Fault, Identifiers, read_content};
+use suit_params::{Fault, Identifiers, Refusal, read_content};
 
 /// What a manifest's members have in common (draft-ietf-suit-manifest-25, section 8.4.5).
 #[derive(Debug, Drop)]
@@ -51,27 +51,40 @@ pub(crate) fn read_optional(
     }
 }
 
-const KEYS: [u64; 2] = [2, 4];
+/// The values of the map, as they stand in it.
+#[derive(Debug, Drop)]
+pub(crate) struct CommonValues<'a> {
+    components: Option<Cursor<'a>>,
+    shared: Option<Cursor<'a>>,
+}
 
-// Of a map at a place, of so many pairs whose keys are known.
-fn read_values(alloc: Global, mut map: Cursor<'_>, place: u64, pairs: u64) -> Result<Common, Fault>
-    ensures says { Gives (λ c. record { components = c.components; shared = c.shared }) result (common_values_from place pairs map.entry) }
+fn find_values<'a>(mut pairs: Pairs<'a>) -> Result<CommonValues<'a>, Refusal>
+    ensures { result ≡ common_found pairs.entry }
+{
+    let components = pairs.take(2)?;
+    let shared = pairs.take(4)?;
+    pairs.end()?;
+    Ok(CommonValues { components, shared })
+}
+
+// Of a map at a place.
+fn read_values(alloc: Global, place: u64, values: CommonValues<'_>) -> Result<Common, Fault>
+    ensures says { Gives (λ c. record { components = c.components; shared = c.shared }) result (common_values_from place values.entry) }
     ensures few { IfOk result (λ c. length c.components ≤ 8) }
 {
-    let item = need(&mut map, place, pairs, &KEYS, 2)?;
+    let item = needed(place, 2, values.components)?;
     let components = read_components(alloc, item)?;
-    let item = find(&mut map, pairs, &KEYS, 4)?;
-    let shared = read_optional(alloc, item, true, components.len() as u32)?;
+    let shared = read_optional(alloc, values.shared, true, components.len() as u32)?;
     Ok(Common { components, shared })
 }
 
 // Of a map at a place, of so many pairs.
-fn read_pairs(alloc: Global, mut map: Cursor<'_>, place: u64, pairs: u64) -> Result<Common, Fault>
+fn read_pairs(alloc: Global, map: Cursor<'_>, place: u64, pairs: u64) -> Result<Common, Fault>
     ensures says { Gives (λ c. record { components = c.components; shared = c.shared }) result (common_pairs_from place pairs map.entry) }
     ensures few { IfOk result (λ c. length c.components ≤ 8) }
 {
-    known_keys(&mut map, pairs, &KEYS)?;
-    read_values(alloc, map, place, pairs)
+    let values = find_values(Pairs { map, left: pairs })?;
+    read_values(alloc, place, values)
 }
 
 /// A whole item, as the common part: keys that are not known are refused first, then missing

@@ -13,9 +13,10 @@ ghost use Rattle.suit_manifest.specs.ManifestReading.{values_from, pairs_from, m
 
 use crate::Manifest;
 use crate::common::{Common, read_common};
-use crate::fields::{known_keys, need};
 use crate::heads::read_map;
-use crate::later::{KEYS, Later, read_later};
+use crate::later::{Later, read_later};
+use crate::manifest_map::{ManifestValues, find_values};
+use crate::pairs::{Pairs, needed};
 use crate::values::{read_number, read_version};
 use det_cbor::Cursor;
 use std::alloc::Global;
@@ -49,31 +50,26 @@ fn manifest_of(sequence: u64, common: Common, later: Later) -> Manifest
     }
 }
 
-// Of a map at a place, of so many pairs whose keys are known.
-fn read_values(
-    alloc: Global,
-    mut map: Cursor<'_>,
-    place: u64,
-    pairs: u64,
-) -> Result<Manifest, Fault>
-    ensures { Gives (λ m. m) result (values_from place pairs map.entry) }
+// Of a map at a place.
+fn read_values(alloc: Global, place: u64, values: ManifestValues<'_>) -> Result<Manifest, Fault>
+    ensures { Gives (λ m. m) result (values_from place values.entry) }
 {
-    let version = need(&mut map, place, pairs, &KEYS, 1)?;
-    let sequence = need(&mut map, place, pairs, &KEYS, 2)?;
-    let common = need(&mut map, place, pairs, &KEYS, 3)?;
+    let version = needed(place, 1, values.version)?;
+    let sequence = needed(place, 2, values.sequence)?;
+    let common = needed(place, 3, values.common)?;
     read_version(version)?;
     let sequence = read_number(sequence)?;
     let common = held_common(alloc, common)?;
-    let later = read_later(alloc, map, pairs, common.components.len() as u32)?;
+    let later = read_later(alloc, values.later, common.components.len() as u32)?;
     Ok(manifest_of(sequence, common, later))
 }
 
 // Of a map at a place, of so many pairs.
-fn read_pairs(alloc: Global, mut map: Cursor<'_>, place: u64, pairs: u64) -> Result<Manifest, Fault>
+fn read_pairs(alloc: Global, map: Cursor<'_>, place: u64, pairs: u64) -> Result<Manifest, Fault>
     ensures { Gives (λ m. m) result (pairs_from place pairs map.entry) }
 {
-    known_keys(&mut map, pairs, &KEYS)?;
-    read_values(alloc, map, place, pairs)
+    let values = find_values(Pairs { map, left: pairs })?;
+    read_values(alloc, place, values)
 }
 
 // A whole item, as a manifest.
@@ -103,6 +99,8 @@ fn whole_manifest(alloc: Global, bytes: &[u8], place: u64) -> Result<Manifest, F
 pub fn decode_manifest(alloc: Global, bytes: &[u8], place: u64) -> Result<Manifest, Fault>
     requires { place + length bytes.now < 2 ^ 64 }
     ensures ok { IfOk result (λ m. SaysWhole IsManifest place bytes.now m) }
+    ensures some { IfOk result (λ m. 1 ≤ length m.components) }
+    ensures few { IfOk result (λ m. length m.components ≤ 8) }
     ensures refused { IfErr result (IsFaultBy (RefusesWhole RefusesManifest place bytes.now)) }
     ensures every_manifest { (m : Manifest) → SaysWhole IsManifest place bytes.now m → IsReadAs m result }
     ensures every_refusal { (r : Refusal) → RefusesWhole RefusesManifest place bytes.now r → IsRefusedAs r result }

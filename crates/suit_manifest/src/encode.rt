@@ -12,9 +12,9 @@ mod tests;
 use crate::Manifest;
 use crate::encode_components::push_components;
 use crate::pair_counts::{common_count, manifest_count};
-use crate::pieces::{push_map, push_number, push_number_pair, push_string_pair};
+use crate::pieces::{push_map, push_number_pair, push_string_pair};
 use crate::rows::{push_held, push_reference, push_severed, push_text_member};
-use det_cbor::Bytes;
+use det_cbor::{Bytes, push_number};
 use std::alloc::{AllocError, Global};
 
 /// A manifest's map in its one spelling (draft-ietf-suit-manifest-25, section 8.4). The common part and each sequence

@@ -6,8 +6,7 @@ ghost use Rattle.det_cbor.specs.DataItem.{ArrayOf, spell, spell_items, IsString}
 ghost use Rattle.suit_manifest.specs.Components.{string_items, identifier_item, identifier_items};
 ghost use Rattle.suit_manifest.specs.ManifestWriting.{IdentifierFits, ComponentsFit};
 
-use crate::pieces::{push_count, push_string};
-use det_cbor::Bytes;
+use det_cbor::{Bytes, push_count, push_string};
 use std::alloc::AllocError;
 use suit_params::{Identifier, Identifiers};
 

@@ -5,16 +5,13 @@ ghost use Rattle.suit_params.specs.Answering.{Gives};
 ghost use Rattle.suit_manifest.specs.ManifestReading.{later_from};
 
 use crate::common::read_optional;
-use crate::fields::find;
+use crate::manifest_map::LaterValues;
 use crate::values::{read_member, read_reference, read_text_member};
 use crate::{Member, TextMember};
-use det_cbor::{Cursor, Text};
+use det_cbor::Text;
 use std::alloc::Global;
 use suit_commands::Sequence;
 use suit_params::Fault;
-
-/// The numbers of a manifest's keys, in their order.
-pub(crate) const KEYS: [u64; 10] = [1, 2, 3, 4, 7, 8, 9, 16, 20, 23];
 
 /// What may be there.
 #[derive(Debug, Drop)]
@@ -28,22 +25,17 @@ pub(crate) struct Later {
     pub(crate) text: TextMember,
 }
 
-/// The values in their order, among so many pairs, where there are so many components.
-pub(crate) fn read_later(
-    alloc: Global,
-    mut map: Cursor<'_>,
-    pairs: u64,
-    count: u32,
-) -> Result<Later, Fault>
-    ensures { Gives (λ l. l) result (later_from count pairs map.entry) }
+/// The values in their order, where there are so many components.
+pub(crate) fn read_later(alloc: Global, values: LaterValues<'_>, count: u32) -> Result<Later, Fault>
+    ensures { Gives (λ l. l) result (later_from count values.entry) }
 {
-    let reference = read_reference(alloc, find(&mut map, pairs, &KEYS, 4)?)?;
-    let validate = read_optional(alloc, find(&mut map, pairs, &KEYS, 7)?, false, count)?;
-    let load = read_optional(alloc, find(&mut map, pairs, &KEYS, 8)?, false, count)?;
-    let invoke = read_optional(alloc, find(&mut map, pairs, &KEYS, 9)?, false, count)?;
-    let payload_fetch = read_member(alloc, find(&mut map, pairs, &KEYS, 16)?, count)?;
-    let install = read_member(alloc, find(&mut map, pairs, &KEYS, 20)?, count)?;
-    let text = read_text_member(alloc, find(&mut map, pairs, &KEYS, 23)?)?;
+    let reference = read_reference(alloc, values.reference)?;
+    let validate = read_optional(alloc, values.validate, false, count)?;
+    let load = read_optional(alloc, values.load, false, count)?;
+    let invoke = read_optional(alloc, values.invoke, false, count)?;
+    let payload_fetch = read_member(alloc, values.payload_fetch, count)?;
+    let install = read_member(alloc, values.install, count)?;
+    let text = read_text_member(alloc, values.text)?;
     Ok(Later {
         reference,
         validate,

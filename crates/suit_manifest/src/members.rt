@@ -1,10 +1,11 @@
 //! The members that stand apart from their manifest, taken from its envelope.
 
 ghost use Rattle.std.specs.Prelude.{◌<◌, ◌^◌, length, IfOk, IfErr};
+ghost use Rattle.suit_envelope.specs.Places.{MembersEndBelow};
 ghost use Rattle.suit_envelope.specs.Said.{said_by};
 ghost use Rattle.suit_manifest.specs.declared.manifest.Members.{Members};
 ghost use Rattle.suit_manifest.specs.declared.members.MemberFault.{MemberFault};
-ghost use Rattle.suit_manifest.specs.MembersApart.{HasPayloadFetch, HasInstall, LacksPayloadFetch, LacksInstall, HasMembers, LacksMembers, PlacesFit, IsLackBy, IsTakenAs, IsLackedAs};
+ghost use Rattle.suit_manifest.specs.MembersApart.{HasPayloadFetch, HasInstall, LacksPayloadFetch, LacksInstall, HasMembers, LacksMembers, IsLackBy, IsTakenAs, IsLackedAs};
 
 use crate::plans::component_count;
 use crate::severable::apart;
@@ -38,7 +39,7 @@ fn payload_fetch(
     manifest: &Manifest,
 ) -> Result<Option<Sequence>, MemberFault>
     requires few { length manifest.now.components < 2 ^ 32 }
-    requires places { PlacesFit (said_by envelope.now) }
+    requires places { MembersEndBelow (2 ^ 64) (said_by envelope.now) }
     ensures ok { IfOk result (HasPayloadFetch (said_by envelope.now) manifest.now) }
     ensures refused { IfErr result (IsLackBy (LacksPayloadFetch (said_by envelope.now) manifest.now)) }
 {
@@ -54,7 +55,7 @@ fn install(
     manifest: &Manifest,
 ) -> Result<Option<Sequence>, MemberFault>
     requires few { length manifest.now.components < 2 ^ 32 }
-    requires places { PlacesFit (said_by envelope.now) }
+    requires places { MembersEndBelow (2 ^ 64) (said_by envelope.now) }
     ensures ok { IfOk result (HasInstall (said_by envelope.now) manifest.now) }
     ensures refused { IfErr result (IsLackBy (LacksInstall (said_by envelope.now) manifest.now)) }
 {
@@ -68,7 +69,7 @@ fn install(
 #[tactic(auto, using(crate::proofs::BothMembers::fetch_lacks))]
 fn both(alloc: Global, envelope: &Envelope<'_>, manifest: &Manifest) -> Result<Members, MemberFault>
     requires few { length manifest.now.components < 2 ^ 32 }
-    requires places { PlacesFit (said_by envelope.now) }
+    requires places { MembersEndBelow (2 ^ 64) (said_by envelope.now) }
     ensures ok { IfOk result (HasMembers (said_by envelope.now) manifest.now) }
     ensures refused { IfErr result (IsLackBy (LacksMembers (said_by envelope.now) manifest.now)) }
 {
@@ -91,14 +92,14 @@ fn both(alloc: Global, envelope: &Envelope<'_>, manifest: &Manifest) -> Result<M
 /// by the grammar. Takes memory for the sequences alone.
 ///
 /// Needs fewer than 2^32 components, and an envelope whose members end at places below 2^64, as
-/// each that `decode_envelope` gives does: `members_laws` has that law.
+/// each that `decode_envelope` gives does.
 pub fn members_of(
     alloc: Global,
     envelope: &Envelope<'_>,
     manifest: &Manifest,
 ) -> Result<Members, MemberFault>
     requires few { length manifest.now.components < 2 ^ 32 }
-    requires places { PlacesFit (said_by envelope.now) }
+    requires places { MembersEndBelow (2 ^ 64) (said_by envelope.now) }
     ensures ok { IfOk result (HasMembers (said_by envelope.now) manifest.now) }
     ensures refused { IfErr result (IsLackBy (LacksMembers (said_by envelope.now) manifest.now)) }
     ensures every_members { (members : Members) → HasMembers (said_by envelope.now) manifest.now members → IsTakenAs members result }

@@ -2,8 +2,12 @@
 
 ghost use Rattle.suit_manifest.specs.MembersLaws.{MembersLaws};
 
-/// Does nothing. Its contract has the laws. For each manifest an envelope has just one answer of
-/// members or just one fault; and its members end at places below 2^64.
+use suit_envelope::envelope_laws;
+
+/// Does nothing. Its contract has the law: for each manifest an envelope has just one answer of
+/// members or just one fault.
 pub fn members_laws()
     ensures { MembersLaws }
-{}
+{
+    envelope_laws();
+}

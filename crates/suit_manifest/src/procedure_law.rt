@@ -2,8 +2,12 @@
 
 ghost use Rattle.suit_manifest.specs.ProcedureLaws.{ProcedureLaws};
 
+use suit_commands::sequence_laws;
+
 /// Does nothing. Its contract has the laws: both procedures of a manifest of the grammar are
 /// procedures of the grammar, of one to eight components.
 pub fn procedure_laws()
     ensures { ProcedureLaws }
-{}
+{
+    sequence_laws();
+}

@@ -7,9 +7,9 @@ ghost use Rattle.suit_commands.specs.SequenceMaking.{inner_item};
 ghost use Rattle.suit_manifest.specs.ManifestMaking.{pair_then, text_item, held_item, severed_item, text_member_item};
 ghost use Rattle.suit_manifest.specs.ManifestWriting.{IsDigestBytes, IsUtf8String, HeldFits, SeveredFits, TextFits};
 
-use crate::pieces::{push_digest, push_number, push_string, push_text};
+use crate::pieces::push_digest;
 use crate::{Member, TextMember};
-use det_cbor::{Bytes, Text};
+use det_cbor::{Bytes, Text, push_number, push_string, push_text};
 use std::alloc::{AllocError, Global};
 use suit_commands::{Sequence, encode_sequence};
 use suit_params::Digest;

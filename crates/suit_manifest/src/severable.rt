@@ -4,8 +4,9 @@ ghost use Rattle.std.specs.Prelude.{◌<◌, ◌^◌, ◌+◌, false, length, If
 ghost use Rattle.suit_params.specs.Refusing.{SaysWhole};
 ghost use Rattle.suit_commands.specs.Sequences.{SaysSequence};
 ghost use Rattle.suit_envelope.specs.Members.{member_of};
+ghost use Rattle.suit_envelope.specs.Places.{EndsBelow};
 ghost use Rattle.suit_envelope.specs.Said.{said_by};
-ghost use Rattle.suit_manifest.specs.MembersApart.{IsTaken, HasMember, LacksTaken, LacksMember, EndsBelow, RefusesContent, IsLackBy};
+ghost use Rattle.suit_manifest.specs.MembersApart.{IsTaken, HasMember, LacksTaken, LacksMember, RefusesContent, IsLackBy};
 
 use crate::{Member, MemberFault};
 use std::alloc::Global;
@@ -36,7 +37,7 @@ fn taken(
     stated: &Digest,
     count: u32,
 ) -> Result<Sequence, MemberFault>
-    requires { EndsBelow (member_of (said_by envelope.now) name) place }
+    requires { EndsBelow (2 ^ 64) (member_of (said_by envelope.now) name) place }
     ensures ok { IfOk result (IsTaken count (member_of (said_by envelope.now) name) place stated.now) }
     ensures refused { IfErr result (IsLackBy (LacksTaken name count (member_of (said_by envelope.now) name) place stated.now)) }
 {
@@ -60,7 +61,7 @@ pub(crate) fn apart(
     member: &Member,
     count: u32,
 ) -> Result<Option<Sequence>, MemberFault>
-    requires { EndsBelow (member_of (said_by envelope.now) name) place }
+    requires { EndsBelow (2 ^ 64) (member_of (said_by envelope.now) name) place }
     ensures ok { IfOk result (HasMember count (member_of (said_by envelope.now) name) place member.now) }
     ensures refused { IfErr result (IsLackBy (LacksMember name count (member_of (said_by envelope.now) name) place member.now)) }
 {

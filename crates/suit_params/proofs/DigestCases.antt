@@ -1,7 +1,7 @@
 -- What an item is, as far as a digest's reader looks at it.
 use Rattle.std.proofs.Common.{◌≡◌, ℕ, ◌+◌, false, eqb, List, Err, refl, arith}
 use Rattle.std.proofs.lemmas.Bool.{ne_eqb}
-use Rattle.det_cbor.specs.DataItem.{DataItem, UnsignedInteger, NegativeInteger, ByteString, TextString, ArrayOf, MapOf, TaggedItem, Boolean, NullItem, NoItems, ItemThen, item_count}
+use Rattle.det_cbor.specs.DataItem.{DataItem, UnsignedInteger, NegativeInteger, ByteString, ArrayOf, NoItems, ItemThen, item_count}
 use Rattle.det_cbor.specs.Position.{Position}
 use Rattle.suit_params.specs.declared.refusal.Why.TheVariants.{Shape}
 use Rattle.suit_params.specs.Refusing.{refused, IsByteString}
@@ -21,19 +21,12 @@ other_count : (n place : ℕ) (p : Position) → (n ≡ 2 → ⊥) → elements_
 other_count n place p other = let no : eqb n 2 ≡ false = ne_eqb n 2 other in rw no refl
 
 pub by_pair : (P : DataItem → Type 0) → ((a b : DataItem) → P (pair_item a b)) → ((x : DataItem) → OtherThanPair x → P x) → (x : DataItem) → P x
-by_pair P pair other (UnsignedInteger n) = other (UnsignedInteger n) (record { other = λ h. h; judged = λ place. refl; read = λ place p. refl })
-by_pair P pair other (NegativeInteger n) = other (NegativeInteger n) (record { other = λ h. h; judged = λ place. refl; read = λ place p. refl })
-by_pair P pair other (ByteString bytes) = other (ByteString bytes) (record { other = λ h. h; judged = λ place. refl; read = λ place p. refl })
-by_pair P pair other (TextString bytes) = other (TextString bytes) (record { other = λ h. h; judged = λ place. refl; read = λ place p. refl })
 by_pair P pair other (ArrayOf NoItems) = other (ArrayOf NoItems) (record { other = λ h. h; judged = λ place. refl; read = λ place p. refl })
 by_pair P pair other (ArrayOf (ItemThen a NoItems)) = other (ArrayOf (ItemThen a NoItems)) (record { other = λ h. h; judged = λ place. refl; read = λ place p. refl })
 by_pair P pair other (ArrayOf (ItemThen a (ItemThen b NoItems))) = pair a b
 by_pair P pair other (ArrayOf (ItemThen a (ItemThen b (ItemThen c xs)))) =
     other (ArrayOf (ItemThen a (ItemThen b (ItemThen c xs)))) (record { other = λ h. h; judged = λ place. refl; read = λ place p. other_count (item_count xs + 1 + 1 + 1) place p (λ e. omega (arith, e)) })
-by_pair P pair other (MapOf ps) = other (MapOf ps) (record { other = λ h. h; judged = λ place. refl; read = λ place p. refl })
-by_pair P pair other (TaggedItem tag x) = other (TaggedItem tag x) (record { other = λ h. h; judged = λ place. refl; read = λ place p. refl })
-by_pair P pair other (Boolean b) = other (Boolean b) (record { other = λ h. h; judged = λ place. refl; read = λ place p. refl })
-by_pair P pair other NullItem = other NullItem (record { other = λ h. h; judged = λ place. refl; read = λ place p. refl })
+by_pair P pair other x = other x (record { other = λ h. h; judged = λ place. refl; read = λ place p. refl })
 
 -- ---- numbers
 
@@ -45,13 +38,7 @@ pub record OtherThanNumber (a : DataItem) : Type 0 where
 pub by_number : (P : DataItem → Type 0) → ((n : ℕ) → P (UnsignedInteger n)) → ((n : ℕ) → P (NegativeInteger n)) → ((a : DataItem) → OtherThanNumber a → P a) → (a : DataItem) → P a
 by_number P unsigned negative other (UnsignedInteger n) = unsigned n
 by_number P unsigned negative other (NegativeInteger n) = negative n
-by_number P unsigned negative other (ByteString bytes) = other (ByteString bytes) (record { other = λ h. h; judged = λ place b. refl; read = λ array place p. refl })
-by_number P unsigned negative other (TextString bytes) = other (TextString bytes) (record { other = λ h. h; judged = λ place b. refl; read = λ array place p. refl })
-by_number P unsigned negative other (ArrayOf xs) = other (ArrayOf xs) (record { other = λ h. h; judged = λ place b. refl; read = λ array place p. refl })
-by_number P unsigned negative other (MapOf ps) = other (MapOf ps) (record { other = λ h. h; judged = λ place b. refl; read = λ array place p. refl })
-by_number P unsigned negative other (TaggedItem tag x) = other (TaggedItem tag x) (record { other = λ h. h; judged = λ place b. refl; read = λ array place p. refl })
-by_number P unsigned negative other (Boolean t) = other (Boolean t) (record { other = λ h. h; judged = λ place b. refl; read = λ array place p. refl })
-by_number P unsigned negative other NullItem = other NullItem (record { other = λ h. h; judged = λ place b. refl; read = λ array place p. refl })
+by_number P unsigned negative other x = other x (record { other = λ h. h; judged = λ place b. refl; read = λ array place p. refl })
 
 -- ---- byte strings
 
@@ -61,12 +48,5 @@ pub record OtherThanBytes (b : DataItem) : Type 0 where
   pub read : (array place : ℕ) (p : Position) → value_after array place (item_value b) p (item_kind b) ≡ Err (refused place Shape)
 
 pub by_bytes : (P : DataItem → Type 0) → ((bytes : List ℕ) → P (ByteString bytes)) → ((b : DataItem) → OtherThanBytes b → P b) → (b : DataItem) → P b
-by_bytes P bytes other (UnsignedInteger n) = other (UnsignedInteger n) (record { other = λ h. h; judged = λ array place. refl; read = λ array place p. refl })
-by_bytes P bytes other (NegativeInteger n) = other (NegativeInteger n) (record { other = λ h. h; judged = λ array place. refl; read = λ array place p. refl })
 by_bytes P bytes other (ByteString content) = bytes content
-by_bytes P bytes other (TextString text) = other (TextString text) (record { other = λ h. h; judged = λ array place. refl; read = λ array place p. refl })
-by_bytes P bytes other (ArrayOf xs) = other (ArrayOf xs) (record { other = λ h. h; judged = λ array place. refl; read = λ array place p. refl })
-by_bytes P bytes other (MapOf ps) = other (MapOf ps) (record { other = λ h. h; judged = λ array place. refl; read = λ array place p. refl })
-by_bytes P bytes other (TaggedItem tag x) = other (TaggedItem tag x) (record { other = λ h. h; judged = λ array place. refl; read = λ array place p. refl })
-by_bytes P bytes other (Boolean t) = other (Boolean t) (record { other = λ h. h; judged = λ array place. refl; read = λ array place p. refl })
-by_bytes P bytes other NullItem = other NullItem (record { other = λ h. h; judged = λ array place. refl; read = λ array place p. refl })
+by_bytes P bytes other x = other x (record { other = λ h. h; judged = λ array place. refl; read = λ array place p. refl })

@@ -3,7 +3,7 @@ use Rattle.std.proofs.Common.{◌≡◌, ℕ, ◌+◌, Bool, true, false, cond, 
 use Rattle.std.specs.List.{AllByRecursion}
 use Rattle.std.proofs.lemmas.List.{length-append}
 use Rattle.det_cbor.specs.Heads.{head_bytes}
-use Rattle.det_cbor.specs.DataItem.{DataItem, UnsignedInteger, NegativeInteger, ByteString, TextString, ArrayOf, MapOf, TaggedItem, Boolean, NullItem, spell, IsValidWithin}
+use Rattle.det_cbor.specs.DataItem.{DataItem, ByteString, spell, IsValidWithin}
 use Rattle.det_cbor.specs.HeadReading.{◌>>=◌}
 use Rattle.det_cbor.specs.Position.{Position}
 use Rattle.det_cbor.proofs.Results.{bind_ok, bind_err, same_ok, same_err}
@@ -25,15 +25,8 @@ pub record OtherThanString (x : DataItem) : Type 0 where
   pub read : (place : ℕ) (p : Position) → content_after place (item_value x) p (item_kind x) ≡ Err (refused place Shape)
 
 pub by_string : (P : DataItem → Type 0) → ((bytes : List ℕ) → P (ByteString bytes)) → ((x : DataItem) → OtherThanString x → P x) → (x : DataItem) → P x
-by_string P bytes other (UnsignedInteger n) = other (UnsignedInteger n) (record { other = λ h. h; judged = λ place. refl; read = λ place p. refl })
-by_string P bytes other (NegativeInteger n) = other (NegativeInteger n) (record { other = λ h. h; judged = λ place. refl; read = λ place p. refl })
 by_string P bytes other (ByteString content) = bytes content
-by_string P bytes other (TextString text) = other (TextString text) (record { other = λ h. h; judged = λ place. refl; read = λ place p. refl })
-by_string P bytes other (ArrayOf xs) = other (ArrayOf xs) (record { other = λ h. h; judged = λ place. refl; read = λ place p. refl })
-by_string P bytes other (MapOf ps) = other (MapOf ps) (record { other = λ h. h; judged = λ place. refl; read = λ place p. refl })
-by_string P bytes other (TaggedItem tag x) = other (TaggedItem tag x) (record { other = λ h. h; judged = λ place. refl; read = λ place p. refl })
-by_string P bytes other (Boolean b) = other (Boolean b) (record { other = λ h. h; judged = λ place. refl; read = λ place p. refl })
-by_string P bytes other NullItem = other NullItem (record { other = λ h. h; judged = λ place. refl; read = λ place p. refl })
+by_string P bytes other x = other x (record { other = λ h. h; judged = λ place. refl; read = λ place p. refl })
 
 -- a byte string that is spelled is read as its content
 pub content_read : (levels : ℕ) (p : Position) (x : DataItem) (rest : List ℕ) → IsValidWithin levels x → p.left ≡ spell x ++ rest

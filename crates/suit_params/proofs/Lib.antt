@@ -16,4 +16,7 @@ pub mod ParamOrder
 pub mod ParamWritten
 pub mod ParamSpelled
 pub mod Overriding
+pub mod OneWhole
+pub mod ParamMade
+pub mod InForceLawProofs
 pub mod ParamLawProofs

@@ -1,6 +1,6 @@
 -- What is in force after an override.
-use Rattle.std.proofs.Common.{◌≡◌, ◌≢◌, ◌<◌, ◌+◌, ◌*◌, ℕ, List, [], ◌∷◌, length, get_or, map, Option, Some, None, true, false, refl, sym, ap, ◌∙◌, subst, arith, inl, inr, ⊎_elim, length-set}
-use Rattle.std.specs.Prelude.{◌⊎◌, ◌==◌, if◌then◌else◌, slice_get, slice_set}
+use Rattle.std.proofs.Common.{◌≡◌, ◌≢◌, ◌<◌, ℕ, List, [], ◌∷◌, length, get_or, Option, Some, None, refl, sym, ap, ◌∙◌, arith, ⊎_elim, length-set}
+use Rattle.std.specs.Prelude.{◌==◌, if◌then◌else◌, slice_set}
 use Rattle.std.specs.Option.{option_copied}
 use Rattle.std.specs.Borrow.{Bor}
 use Rattle.std.proofs.lemmas.Bool.Decides.{eqb_tells}
@@ -30,10 +30,10 @@ rank_small keys.Source = omega arith
 rank_small keys.Args = omega arith
 rank_small keys.Device = omega arith
 
-within : (component : ℕ) (key : ParamKey) → component < 8 → cell component key < 96
+pub within : (component : ℕ) (key : ParamKey) → component < 8 → cell component key < 96
 within component key low = omega (arith, rank_small key)
 
-in_force_is : (ps : Parameters) (component : ℕ) (key : ParamKey) → length ps ≡ 96 → component < 8 → in_force ps component key ≡ get_or ps (cell component key) None
+pub in_force_is : (ps : Parameters) (component : ℕ) (key : ParamKey) → length ps ≡ 96 → component < 8 → in_force ps component key ≡ get_or ps (cell component key) None
 in_force_is ps component key full low = ap held_at (slice_get-get_or ps (cell component key) None (omega (arith, within component key low)))
 
 pub length-with : (ps : Parameters) (component : ℕ) (p : Param) → length (with_param ps component p) ≡ length ps
@@ -41,7 +41,7 @@ length-with ps component p = length-set ps (cell component (key_of p)) (Some p)
 
 -- ---- one parameter
 
-at_same : (ps : Parameters) (component : ℕ) (p : Param) (key : ParamKey) → length ps ≡ 96 → component < 8 → rank (key_of p) ≡ rank key
+pub at_same : (ps : Parameters) (component : ℕ) (p : Param) (key : ParamKey) → length ps ≡ 96 → component < 8 → rank (key_of p) ≡ rank key
     → in_force (with_param ps component p) component key ≡ Some p
 at_same ps component p key full low e =
     let same : cell component key ≡ cell component (key_of p) = omega arith in
@@ -49,7 +49,7 @@ at_same ps component p key full low e =
     in_force_is (with_param ps component p) component key (length-with ps component p ∙ full) low
     ∙ get_or-set_at ps (cell component (key_of p)) (cell component key) (Some p) None same room
 
-at_other : (ps : Parameters) (component other : ℕ) (p : Param) (key : ParamKey) → length ps ≡ 96 → other < 8 → cell other key ≢ cell component (key_of p)
+pub at_other : (ps : Parameters) (component other : ℕ) (p : Param) (key : ParamKey) → length ps ≡ 96 → other < 8 → cell other key ≢ cell component (key_of p)
     → in_force (with_param ps component p) other key ≡ in_force ps other key
 at_other ps component other p key full low apart =
     in_force_is (with_param ps component p) other key (length-with ps component p ∙ full) low

@@ -1,6 +1,6 @@
 -- The judgement of a map of parameters is that of the grammar and the refusals.
 use Rattle.std.proofs.Common.{◌≡◌, ℕ, ◌+◌, List, ◌∷◌, Option, Some, Ok, Err, refl, sym, subst, ◌∙◌}
-use Rattle.det_cbor.specs.DataItem.{DataItem, UnsignedInteger, NegativeInteger, ByteString, TextString, ArrayOf, MapOf, TaggedItem, Boolean, NullItem, DataPairs, NoPairs, PairThen, spell, IsValidWithin, ArePairsWithin}
+use Rattle.det_cbor.specs.DataItem.{DataItem, MapOf, DataPairs, NoPairs, PairThen, spell, IsValidWithin, ArePairsWithin}
 use Rattle.det_cbor.proofs.Results.{bind_ok, bind_err, same_ok, same_err}
 use Rattle.suit_params.specs.declared.param.Param.{Param}
 use Rattle.suit_params.specs.declared.param.ParamKey.{ParamKey}
@@ -68,15 +68,8 @@ pub record OtherThanMap (count : ℕ) (x : DataItem) : Type 0 where
   pub judged : (place : ℕ) → judge_params count place x ≡ Err (refused place Shape)
 
 pub by_map : (count : ℕ) (P : DataItem → Type 0) → ((pairs : DataPairs) → P (MapOf pairs)) → ((x : DataItem) → OtherThanMap count x → P x) → (x : DataItem) → P x
-by_map count P map other (UnsignedInteger n) = other (UnsignedInteger n) (record { other = λ h. h; judged = λ place. refl })
-by_map count P map other (NegativeInteger n) = other (NegativeInteger n) (record { other = λ h. h; judged = λ place. refl })
-by_map count P map other (ByteString bytes) = other (ByteString bytes) (record { other = λ h. h; judged = λ place. refl })
-by_map count P map other (TextString text) = other (TextString text) (record { other = λ h. h; judged = λ place. refl })
-by_map count P map other (ArrayOf xs) = other (ArrayOf xs) (record { other = λ h. h; judged = λ place. refl })
 by_map count P map other (MapOf ps) = map ps
-by_map count P map other (TaggedItem tag x) = other (TaggedItem tag x) (record { other = λ h. h; judged = λ place. refl })
-by_map count P map other (Boolean b) = other (Boolean b) (record { other = λ h. h; judged = λ place. refl })
-by_map count P map other NullItem = other NullItem (record { other = λ h. h; judged = λ place. refl })
+by_map count P map other x = other x (record { other = λ h. h; judged = λ place. refl })
 
 params_ok : (count levels place : ℕ) (x : DataItem) (ps : List Param) → IsValidWithin levels x → judge_params count place x ≡ Ok ps → IsParams count place x ps
 params_ok count levels place x ps valid e =

@@ -1,7 +1,7 @@
 -- Keys of parameters and their numbers.
 use Rattle.std.proofs.Common.{◌≡◌, ℕ, Bool, true, false, cond, eqb, Option, Some, None, Ok, Err, refl, sym, ap, ◌∙◌}
 use Rattle.std.proofs.lemmas.Bool.{eqb-true}
-use Rattle.det_cbor.specs.DataItem.{DataItem, UnsignedInteger, NegativeInteger, ByteString, TextString, ArrayOf, MapOf, TaggedItem, Boolean, NullItem}
+use Rattle.det_cbor.specs.DataItem.{DataItem, UnsignedInteger}
 use Rattle.det_cbor.proofs.Results.{same_ok, same_err}
 use Rattle.suit_params.specs.declared.param.ParamKey.{ParamKey}
 use Rattle.suit_params.specs.declared.param.ParamKey.TheVariants as keys
@@ -85,14 +85,7 @@ unknown_number n none known is =
 
 pub key_err : (place : ℕ) (x : DataItem) (r : Refusal) → judge_key place x ≡ Err r → IsOtherKey x × (refused place UnknownParam ≡ r)
 key_err place (UnsignedInteger n) r e = let none = none_found (numbered n) place r e in (unknown_number n none.0, none.1)
-key_err place (NegativeInteger n) r e = (λ known is. absurd cc, same_err _ r e)
-key_err place (ByteString bytes) r e = (λ known is. absurd cc, same_err _ r e)
-key_err place (TextString bytes) r e = (λ known is. absurd cc, same_err _ r e)
-key_err place (ArrayOf xs) r e = (λ known is. absurd cc, same_err _ r e)
-key_err place (MapOf ps) r e = (λ known is. absurd cc, same_err _ r e)
-key_err place (TaggedItem tag x) r e = (λ known is. absurd cc, same_err _ r e)
-key_err place (Boolean b) r e = (λ known is. absurd cc, same_err _ r e)
-key_err place NullItem r e = (λ known is. absurd cc, same_err _ r e)
+key_err place x r e = (λ known is. absurd cc, same_err _ r e)
 
 pub key_refused : (place : ℕ) (x : DataItem) → IsOtherKey x → judge_key place x ≡ Err (refused place UnknownParam)
 key_refused place (UnsignedInteger n) other = let none : numbered n ≡ None = found_or (numbered n) (λ key is. other key (ap UnsignedInteger (numbered_ok n key is))) in rw none refl

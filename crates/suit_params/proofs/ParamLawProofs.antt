@@ -7,10 +7,15 @@ use Rattle.suit_params.specs.declared.param.ParamKey.{ParamKey}
 use Rattle.suit_params.specs.declared.param.ParamKey.TheVariants as keys
 use Rattle.suit_params.specs.declared.refusal.Refusal.{Refusal}
 use Rattle.suit_params.specs.ParamKeys.{key_of, key_number, key_item}
-use Rattle.suit_params.specs.Params.{SaysValue, SaysVendor, SaysClass, SaysDevice, SaysDigest, SaysSlot, SaysStrict, SaysSoft, SaysSize, SaysContent, SaysUri, SaysSource, SaysArgs, SayParams, NoMore, ParamThen, IsParams, ParamMap}
+use Rattle.suit_params.specs.Params.{SayParams, NoMore, ParamThen, IsParams, ParamMap, RefusesParams}
+use Rattle.suit_params.specs.Digests.{IsDigest, RefusesDigest}
+use Rattle.suit_params.specs.Judging.{judge_digest}
 use Rattle.suit_params.specs.ParamJudging.{judge_params}
 use Rattle.suit_params.specs.ParamLaws.{HasOneList, HasOneRefusal, AreAbove, AreAscending, ParamLaws}
+use Rattle.suit_params.proofs.DigestAnswers.{digest_judges}
+use Rattle.suit_params.proofs.OneWhole.{one_answer}
 use Rattle.suit_params.proofs.ParamJudging.{params_judge}
+use Rattle.suit_params.proofs.ParamMade.{said_key, made}
 use Rattle.suit_params.proofs.ParamOrder.{number_above, key_small}
 use Rattle.suit_params.proofs.ParamWritten.{written_says, written_valid}
 
@@ -32,21 +37,6 @@ one_reading count place x valid = by_answer (judge_params count place x) refl
     })
 
 -- ---- lists ascend
-
--- a value says a parameter of its key
-pub said_key : (count place : ℕ) (key : ParamKey) (x : DataItem) (p : Param) → SaysValue count place key x p → key_of p ≡ key
-said_key count place key x p (SaysVendor id long) = refl
-said_key count place key x p (SaysClass id long) = refl
-said_key count place key x p (SaysDevice id long) = refl
-said_key count place key x p (SaysDigest content digest whole) = refl
-said_key count place key x p (SaysSlot n) = refl
-said_key count place key x p (SaysStrict b) = refl
-said_key count place key x p (SaysSoft b) = refl
-said_key count place key x p (SaysSize n) = refl
-said_key count place key x p (SaysContent bytes) = refl
-said_key count place key x p (SaysUri text) = refl
-said_key count place key x p (SaysSource i lt) = refl
-said_key count place key x p (SaysArgs bytes) = refl
 
 key_positive : (key : ParamKey) → 0 < key_number key
 key_positive keys.Vendor = omega arith
@@ -81,4 +71,4 @@ ascending : (count place : ℕ) (x : DataItem) (ps : List Param) → IsValid x �
 ascending count place x ps valid (ParamMap pairs qs said) = pairs_ascend count 1 _ pairs qs valid.2 said
 
 pub param_laws : ParamLaws
-param_laws = record { one_reading = one_reading; ascending = ascending; written = written_says; valid = written_valid }
+param_laws = record { one_reading = one_reading; ascending = ascending; written = written_says; valid = written_valid; made = made; digests = one_answer judge_digest IsDigest RefusesDigest digest_judges; maps = λ count. one_answer (judge_params count) (IsParams count) (RefusesParams count) (params_judge count) }

@@ -2,7 +2,7 @@
 use Rattle.std.proofs.Common.{◌≡◌, ℕ, suc, ◌+◌, Bool, true, false, cond, eqb, List, [], ◌∷◌, ◌++◌, length, Option, Some, None, Result, Ok, Err, refl, sym, ap, ◌∙◌, append_assoc, arith}
 use Rattle.std.proofs.lemmas.List.{length-append, append-nil}
 use Rattle.det_cbor.specs.Heads.{head_bytes}
-use Rattle.det_cbor.specs.DataItem.{DataItem, UnsignedInteger, NegativeInteger, ByteString, TextString, ArrayOf, MapOf, TaggedItem, Boolean, NullItem, DataPairs, NoPairs, PairThen, pair_count, spell, spell_pairs, IsValidWithin, ArePairsWithin}
+use Rattle.det_cbor.specs.DataItem.{DataItem, UnsignedInteger, ByteString, TextString, MapOf, Boolean, DataPairs, NoPairs, PairThen, pair_count, spell, spell_pairs, IsValidWithin, ArePairsWithin}
 use Rattle.det_cbor.specs.HeadReading.{◌>>=◌}
 use Rattle.det_cbor.specs.HeadSpelling.{spelled}
 use Rattle.det_cbor.specs.ItemOrder.{spell_parts}
@@ -29,14 +29,7 @@ use Rattle.suit_params.proofs.Texts.{good_text}
 key_read : (levels : ℕ) (p : Position) (x : DataItem) (rest : List ℕ) → IsValidWithin levels x → p.left ≡ spell x ++ rest → key_from p ≡ (judge_key p.place x >>= with_rest (after p (spell x) rest))
 unfolding key_from
 key_read levels p (UnsignedInteger n) rest valid is = rw (item_head_read levels p (UnsignedInteger n) rest valid is) refl
-key_read levels p (NegativeInteger n) rest valid is = rw (item_head_read levels p (NegativeInteger n) rest valid is) refl
-key_read levels p (ByteString bytes) rest valid is = rw (item_head_read levels p (ByteString bytes) rest valid is) refl
-key_read levels p (TextString text) rest valid is = rw (item_head_read levels p (TextString text) rest valid is) refl
-key_read levels p (ArrayOf xs) rest valid is = rw (item_head_read levels p (ArrayOf xs) rest valid is) refl
-key_read levels p (MapOf ps) rest valid is = rw (item_head_read levels p (MapOf ps) rest valid is) refl
-key_read levels p (TaggedItem tag x) rest valid is = rw (item_head_read levels p (TaggedItem tag x) rest valid is) refl
-key_read levels p (Boolean b) rest valid is = rw (item_head_read levels p (Boolean b) rest valid is) refl
-key_read levels p NullItem rest valid is = rw (item_head_read levels p NullItem rest valid is) refl
+key_read levels p x rest valid is = rw (item_head_read levels p x rest valid is) refl
 
 -- ---- values by their kinds
 
@@ -58,13 +51,7 @@ id_read levels p (ByteString bytes) rest valid is =
     rw (item_head_read levels p (ByteString bytes) rest valid is)
     (by_length (eqb (length bytes) 16) (bytes_from (length bytes) (after p head (bytes ++ rest))) (refused p.place BadParam) bytes (after p (head ++ bytes) rest) (string_again p head bytes rest))
 id_read levels p (UnsignedInteger n) rest valid is = rw (item_head_read levels p (UnsignedInteger n) rest valid is) refl
-id_read levels p (NegativeInteger n) rest valid is = rw (item_head_read levels p (NegativeInteger n) rest valid is) refl
-id_read levels p (TextString text) rest valid is = rw (item_head_read levels p (TextString text) rest valid is) refl
-id_read levels p (ArrayOf xs) rest valid is = rw (item_head_read levels p (ArrayOf xs) rest valid is) refl
-id_read levels p (MapOf ps) rest valid is = rw (item_head_read levels p (MapOf ps) rest valid is) refl
-id_read levels p (TaggedItem tag x) rest valid is = rw (item_head_read levels p (TaggedItem tag x) rest valid is) refl
-id_read levels p (Boolean b) rest valid is = rw (item_head_read levels p (Boolean b) rest valid is) refl
-id_read levels p NullItem rest valid is = rw (item_head_read levels p NullItem rest valid is) refl
+id_read levels p x rest valid is = rw (item_head_read levels p x rest valid is) refl
 
 -- a content at its place, and the rest
 abbrev held_at : ℕ → Position → List ℕ → Result (Position × Position) Refusal
@@ -76,13 +63,7 @@ held_read levels p (ByteString bytes) rest valid is =
     let head = head_bytes 2 (length bytes) in
     rw (item_head_read levels p (ByteString bytes) rest valid is, string_again p head bytes rest) refl
 held_read levels p (UnsignedInteger n) rest valid is = rw (item_head_read levels p (UnsignedInteger n) rest valid is) refl
-held_read levels p (NegativeInteger n) rest valid is = rw (item_head_read levels p (NegativeInteger n) rest valid is) refl
-held_read levels p (TextString text) rest valid is = rw (item_head_read levels p (TextString text) rest valid is) refl
-held_read levels p (ArrayOf xs) rest valid is = rw (item_head_read levels p (ArrayOf xs) rest valid is) refl
-held_read levels p (MapOf ps) rest valid is = rw (item_head_read levels p (MapOf ps) rest valid is) refl
-held_read levels p (TaggedItem tag x) rest valid is = rw (item_head_read levels p (TaggedItem tag x) rest valid is) refl
-held_read levels p (Boolean b) rest valid is = rw (item_head_read levels p (Boolean b) rest valid is) refl
-held_read levels p NullItem rest valid is = rw (item_head_read levels p NullItem rest valid is) refl
+held_read levels p x rest valid is = rw (item_head_read levels p x rest valid is) refl
 
 text_read : (levels : ℕ) (p : Position) (x : DataItem) (rest : List ℕ) → IsValidWithin levels x → p.left ≡ spell x ++ rest → text_from p ≡ (judge_text p.place x >>= with_rest (after p (spell x) rest))
 unfolding text_from
@@ -90,25 +71,12 @@ text_read levels p (TextString text) rest valid is =
     let head = head_bytes 3 (length text) in
     rw (item_head_read levels p (TextString text) rest valid is, string_again p head text rest, good_text text valid.1) refl
 text_read levels p (ByteString bytes) rest valid is = rw (item_head_read levels p (ByteString bytes) rest valid is) refl
-text_read levels p (UnsignedInteger n) rest valid is = rw (item_head_read levels p (UnsignedInteger n) rest valid is) refl
-text_read levels p (NegativeInteger n) rest valid is = rw (item_head_read levels p (NegativeInteger n) rest valid is) refl
-text_read levels p (ArrayOf xs) rest valid is = rw (item_head_read levels p (ArrayOf xs) rest valid is) refl
-text_read levels p (MapOf ps) rest valid is = rw (item_head_read levels p (MapOf ps) rest valid is) refl
-text_read levels p (TaggedItem tag x) rest valid is = rw (item_head_read levels p (TaggedItem tag x) rest valid is) refl
-text_read levels p (Boolean b) rest valid is = rw (item_head_read levels p (Boolean b) rest valid is) refl
-text_read levels p NullItem rest valid is = rw (item_head_read levels p NullItem rest valid is) refl
+text_read levels p x rest valid is = rw (item_head_read levels p x rest valid is) refl
 
 number_read : (levels : ℕ) (p : Position) (x : DataItem) (rest : List ℕ) → IsValidWithin levels x → p.left ≡ spell x ++ rest → number_from p ≡ (judge_number p.place x >>= with_rest (after p (spell x) rest))
 unfolding number_from
 number_read levels p (UnsignedInteger n) rest valid is = rw (item_head_read levels p (UnsignedInteger n) rest valid is) refl
-number_read levels p (NegativeInteger n) rest valid is = rw (item_head_read levels p (NegativeInteger n) rest valid is) refl
-number_read levels p (ByteString bytes) rest valid is = rw (item_head_read levels p (ByteString bytes) rest valid is) refl
-number_read levels p (TextString text) rest valid is = rw (item_head_read levels p (TextString text) rest valid is) refl
-number_read levels p (ArrayOf xs) rest valid is = rw (item_head_read levels p (ArrayOf xs) rest valid is) refl
-number_read levels p (MapOf ps) rest valid is = rw (item_head_read levels p (MapOf ps) rest valid is) refl
-number_read levels p (TaggedItem tag x) rest valid is = rw (item_head_read levels p (TaggedItem tag x) rest valid is) refl
-number_read levels p (Boolean b) rest valid is = rw (item_head_read levels p (Boolean b) rest valid is) refl
-number_read levels p NullItem rest valid is = rw (item_head_read levels p NullItem rest valid is) refl
+number_read levels p x rest valid is = rw (item_head_read levels p x rest valid is) refl
 
 -- an item that has no parts behind its head
 head_alone : (x : DataItem) → spell_parts x ≡ [] → spelled (item_head x) ≡ spell x
@@ -122,14 +90,7 @@ flag_at levels p false rest valid is = rw (item_head_read levels p (Boolean fals
 flag_read : (levels : ℕ) (p : Position) (x : DataItem) (rest : List ℕ) → IsValidWithin levels x → p.left ≡ spell x ++ rest → flag_from p ≡ (judge_flag p.place x >>= with_rest (after p (spell x) rest))
 unfolding flag_from
 flag_read levels p (Boolean b) rest valid is = flag_at levels p b rest valid is
-flag_read levels p (UnsignedInteger n) rest valid is = rw (item_head_read levels p (UnsignedInteger n) rest valid is) refl
-flag_read levels p (NegativeInteger n) rest valid is = rw (item_head_read levels p (NegativeInteger n) rest valid is) refl
-flag_read levels p (ByteString bytes) rest valid is = rw (item_head_read levels p (ByteString bytes) rest valid is) refl
-flag_read levels p (TextString text) rest valid is = rw (item_head_read levels p (TextString text) rest valid is) refl
-flag_read levels p (ArrayOf xs) rest valid is = rw (item_head_read levels p (ArrayOf xs) rest valid is) refl
-flag_read levels p (MapOf ps) rest valid is = rw (item_head_read levels p (MapOf ps) rest valid is) refl
-flag_read levels p (TaggedItem tag x) rest valid is = rw (item_head_read levels p (TaggedItem tag x) rest valid is) refl
-flag_read levels p NullItem rest valid is = rw (item_head_read levels p NullItem rest valid is) refl
+flag_read levels p x rest valid is = rw (item_head_read levels p x rest valid is) refl
 
 -- ---- values by their keys
 
@@ -179,14 +140,7 @@ content_read levels place bytes q valid =
 
 digest_value_read : (count levels : ℕ) (p : Position) (x : DataItem) (rest : List ℕ) → IsValidWithin levels x → p.left ≡ spell x ++ rest → ReadsValue count keys.Digest levels p x rest
 digest_value_read count levels p (ByteString bytes) rest valid is = rw (held_read levels p (ByteString bytes) rest valid is) (content_read levels p.place bytes (after p (spell (ByteString bytes)) rest) valid)
-digest_value_read count levels p (UnsignedInteger n) rest valid is = rw (held_read levels p (UnsignedInteger n) rest valid is) refl
-digest_value_read count levels p (NegativeInteger n) rest valid is = rw (held_read levels p (NegativeInteger n) rest valid is) refl
-digest_value_read count levels p (TextString text) rest valid is = rw (held_read levels p (TextString text) rest valid is) refl
-digest_value_read count levels p (ArrayOf xs) rest valid is = rw (held_read levels p (ArrayOf xs) rest valid is) refl
-digest_value_read count levels p (MapOf ps) rest valid is = rw (held_read levels p (MapOf ps) rest valid is) refl
-digest_value_read count levels p (TaggedItem tag x) rest valid is = rw (held_read levels p (TaggedItem tag x) rest valid is) refl
-digest_value_read count levels p (Boolean b) rest valid is = rw (held_read levels p (Boolean b) rest valid is) refl
-digest_value_read count levels p NullItem rest valid is = rw (held_read levels p NullItem rest valid is) refl
+digest_value_read count levels p x rest valid is = rw (held_read levels p x rest valid is) refl
 
 value_read : (count : ℕ) (key : ParamKey) (levels : ℕ) (p : Position) (x : DataItem) (rest : List ℕ) → IsValidWithin levels x → p.left ≡ spell x ++ rest → ReadsValue count key levels p x rest
 value_read count keys.Vendor levels p x rest valid is = rw (id_read levels p x rest valid is) (put_in (judge_id p.place x) (after p (spell x) rest) (λ v. params.Vendor v))
@@ -237,15 +191,8 @@ no_map count levels place x valid e =
 
 pub params_read : (count : ℕ) → ReadsAs (params_at count) (judge_params count)
 unfolding params_at
-params_read count levels place (UnsignedInteger n) valid = no_map count levels place (UnsignedInteger n) valid (λ p. refl)
-params_read count levels place (NegativeInteger n) valid = no_map count levels place (NegativeInteger n) valid (λ p. refl)
-params_read count levels place (ByteString bytes) valid = no_map count levels place (ByteString bytes) valid (λ p. refl)
-params_read count levels place (TextString text) valid = no_map count levels place (TextString text) valid (λ p. refl)
-params_read count levels place (ArrayOf xs) valid = no_map count levels place (ArrayOf xs) valid (λ p. refl)
-params_read count levels place (TaggedItem tag x) valid = no_map count levels place (TaggedItem tag x) valid (λ p. refl)
-params_read count levels place (Boolean b) valid = no_map count levels place (Boolean b) valid (λ p. refl)
-params_read count levels place NullItem valid = no_map count levels place NullItem valid (λ p. refl)
 params_read count levels place (MapOf pairs) valid =
     let p : Position = record { left = spell (MapOf pairs); place = place } in
     let q = after p (head_bytes 5 (pair_count pairs)) (spell_pairs pairs ++ []) in
     rw (item_head_read levels p (MapOf pairs) [] valid (sym (append-nil (spell (MapOf pairs))))) (pairs_read count (levels + 1) q None pairs [] valid.2 refl)
+params_read count levels place x valid = no_map count levels place x valid (λ p. refl)

@@ -1,7 +1,7 @@
 -- The judgement of a parameter's value is that of the grammar and the refusals.
 use Rattle.std.proofs.Common.{◌≡◌, ℕ, ◌<◌, ◌≤◌, Bool, true, false, eqb, ltb, List, length, Result, Ok, Err, refl, sym, ap, subst, ◌∙◌, inl, inr}
 use Rattle.std.proofs.lemmas.Bool.{eqb-true, eqb-false, ne_eqb, lt-ltb, le-ltb, ltb-true, ltb-false}
-use Rattle.det_cbor.specs.DataItem.{DataItem, UnsignedInteger, NegativeInteger, ByteString, TextString, ArrayOf, MapOf, TaggedItem, Boolean, NullItem, IsValidWithin}
+use Rattle.det_cbor.specs.DataItem.{DataItem, UnsignedInteger, ByteString, TextString, Boolean, IsValidWithin}
 use Rattle.det_cbor.specs.HeadReading.{◌>>=◌}
 use Rattle.det_cbor.proofs.Results.{chosen, bind_ok, bind_err, same_ok, same_err}
 use Rattle.det_cbor.proofs.Arguments.{IsBytes}
@@ -113,49 +113,28 @@ value_again count key place x p (SaysArgs bytes) = refl
 -- ---- what is refused
 
 id_err : (place : ℕ) (x : DataItem) (r : Refusal) → judge_id place x ≡ Err r → (IsIdentifier x → ⊥) × (refused place BadParam ≡ r)
-id_err place (UnsignedInteger n) r e = (λ h. h, same_err _ r e)
-id_err place (NegativeInteger n) r e = (λ h. h, same_err _ r e)
 id_err place (ByteString bytes) r e =
     elim (chosen {A = Result (List ℕ) Refusal} (eqb (length bytes) 16) (Ok bytes) (Err (refused place BadParam)) (Err r) e) [
       | inl (is, f) ↦ absurd cc
       | inr (other, f) ↦ (eqb-false _ _ other, same_err _ r f)
     ]
-id_err place (TextString text) r e = (λ h. h, same_err _ r e)
-id_err place (ArrayOf xs) r e = (λ h. h, same_err _ r e)
-id_err place (MapOf ps) r e = (λ h. h, same_err _ r e)
-id_err place (TaggedItem tag y) r e = (λ h. h, same_err _ r e)
-id_err place (Boolean b) r e = (λ h. h, same_err _ r e)
-id_err place NullItem r e = (λ h. h, same_err _ r e)
+id_err place x r e = (λ h. h, same_err _ r e)
 
 id_other : (place : ℕ) (x : DataItem) → (IsIdentifier x → ⊥) → judge_id place x ≡ Err (refused place BadParam)
 id_other place (ByteString a) other = let no : eqb (length a) 16 ≡ false = ne_eqb (length a) 16 other in rw no refl
 id_other place _ other = refl
 
 bytes_err : (place : ℕ) (x : DataItem) (r : Refusal) → judge_bytes place x ≡ Err r → (IsByteString x → ⊥) × (refused place BadParam ≡ r)
-bytes_err place (UnsignedInteger n) r e = (λ h. h, same_err _ r e)
-bytes_err place (NegativeInteger n) r e = (λ h. h, same_err _ r e)
 bytes_err place (ByteString bytes) r e = absurd cc
-bytes_err place (TextString text) r e = (λ h. h, same_err _ r e)
-bytes_err place (ArrayOf xs) r e = (λ h. h, same_err _ r e)
-bytes_err place (MapOf ps) r e = (λ h. h, same_err _ r e)
-bytes_err place (TaggedItem tag y) r e = (λ h. h, same_err _ r e)
-bytes_err place (Boolean b) r e = (λ h. h, same_err _ r e)
-bytes_err place NullItem r e = (λ h. h, same_err _ r e)
+bytes_err place x r e = (λ h. h, same_err _ r e)
 
 bytes_other : (place : ℕ) (x : DataItem) → (IsByteString x → ⊥) → judge_bytes place x ≡ Err (refused place BadParam)
 bytes_other place (ByteString a) other = absurd (other tt)
 bytes_other place _ other = refl
 
 text_err : (place : ℕ) (x : DataItem) (r : Refusal) → judge_text place x ≡ Err r → (IsText x → ⊥) × (refused place BadParam ≡ r)
-text_err place (UnsignedInteger n) r e = (λ h. h, same_err _ r e)
-text_err place (NegativeInteger n) r e = (λ h. h, same_err _ r e)
-text_err place (ByteString bytes) r e = (λ h. h, same_err _ r e)
 text_err place (TextString text) r e = absurd cc
-text_err place (ArrayOf xs) r e = (λ h. h, same_err _ r e)
-text_err place (MapOf ps) r e = (λ h. h, same_err _ r e)
-text_err place (TaggedItem tag y) r e = (λ h. h, same_err _ r e)
-text_err place (Boolean b) r e = (λ h. h, same_err _ r e)
-text_err place NullItem r e = (λ h. h, same_err _ r e)
+text_err place x r e = (λ h. h, same_err _ r e)
 
 text_other : (place : ℕ) (x : DataItem) → (IsText x → ⊥) → judge_text place x ≡ Err (refused place BadParam)
 text_other place (TextString a) other = absurd (other tt)
@@ -163,29 +142,15 @@ text_other place _ other = refl
 
 number_err : (place : ℕ) (x : DataItem) (r : Refusal) → judge_number place x ≡ Err r → (IsUnsigned x → ⊥) × (refused place BadParam ≡ r)
 number_err place (UnsignedInteger n) r e = absurd cc
-number_err place (NegativeInteger n) r e = (λ h. h, same_err _ r e)
-number_err place (ByteString bytes) r e = (λ h. h, same_err _ r e)
-number_err place (TextString text) r e = (λ h. h, same_err _ r e)
-number_err place (ArrayOf xs) r e = (λ h. h, same_err _ r e)
-number_err place (MapOf ps) r e = (λ h. h, same_err _ r e)
-number_err place (TaggedItem tag y) r e = (λ h. h, same_err _ r e)
-number_err place (Boolean b) r e = (λ h. h, same_err _ r e)
-number_err place NullItem r e = (λ h. h, same_err _ r e)
+number_err place x r e = (λ h. h, same_err _ r e)
 
 number_other : (place : ℕ) (x : DataItem) → (IsUnsigned x → ⊥) → judge_number place x ≡ Err (refused place BadParam)
 number_other place (UnsignedInteger a) other = absurd (other tt)
 number_other place _ other = refl
 
 flag_err : (place : ℕ) (x : DataItem) (r : Refusal) → judge_flag place x ≡ Err r → (IsBoolean x → ⊥) × (refused place BadParam ≡ r)
-flag_err place (UnsignedInteger n) r e = (λ h. h, same_err _ r e)
-flag_err place (NegativeInteger n) r e = (λ h. h, same_err _ r e)
-flag_err place (ByteString bytes) r e = (λ h. h, same_err _ r e)
-flag_err place (TextString text) r e = (λ h. h, same_err _ r e)
-flag_err place (ArrayOf xs) r e = (λ h. h, same_err _ r e)
-flag_err place (MapOf ps) r e = (λ h. h, same_err _ r e)
-flag_err place (TaggedItem tag y) r e = (λ h. h, same_err _ r e)
 flag_err place (Boolean b) r e = absurd cc
-flag_err place NullItem r e = (λ h. h, same_err _ r e)
+flag_err place x r e = (λ h. h, same_err _ r e)
 
 flag_other : (place : ℕ) (x : DataItem) → (IsBoolean x → ⊥) → judge_flag place x ≡ Err (refused place BadParam)
 flag_other place (Boolean a) other = absurd (other tt)

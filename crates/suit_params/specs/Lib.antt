@@ -1,5 +1,6 @@
 pub mod Refusing
 pub mod Digests
+pub mod Identifiers
 pub mod Judging
 pub mod Reading
 pub mod DigestReading
@@ -12,4 +13,6 @@ pub mod Answering
 pub mod ParamReading
 pub mod ParamWriting
 pub mod ParamMaking
+pub mod OneWhole
 pub mod ParamLaws
+pub mod InForceLaws

@@ -4,6 +4,8 @@ use Rattle.std.specs.List.{AllByRecursion}
 use Rattle.det_cbor.specs.DataItem.{DataItem, IsValid}
 use Rattle.suit_params.specs.declared.param.Param.{Param}
 use Rattle.suit_params.specs.declared.refusal.Refusal.{Refusal}
+use Rattle.suit_params.specs.Digests.{IsDigest, RefusesDigest}
+use Rattle.suit_params.specs.OneWhole.{HasOneAnswer}
 use Rattle.suit_params.specs.ParamKeys.{key_of, key_number}
 use Rattle.suit_params.specs.Params.{IsParams, RefusesParams}
 use Rattle.suit_params.specs.ParamMaking.{params_item, IsParam, IsBelow}
@@ -30,10 +32,14 @@ AreAbove low (p ∷ ps) = (low < key_number (key_of p)) × AreAbove (key_number 
 abbrev pub AreAscending : List Param → Type 0
 AreAscending ps = AreAbove 0 ps
 
--- the laws: each item says one list or has one refusal, and never both; lists ascend; and the map that is made of a
--- list says that list, and is valid where the list ascends
+-- the laws: each item says one list or has one refusal, and never both; lists ascend; the map that is made of a list
+-- says that list, and is valid where the list ascends; an item that says a list is the one that is made of it; and so
+-- all bytes are one digest or have one refusal, and say one list or have one refusal
 pub record ParamLaws : Type 0 where
   pub one_reading : (count place : ℕ) (x : DataItem) → IsValid x → HasOneList count place x ⊎ HasOneRefusal count place x
   pub ascending : (count place : ℕ) (x : DataItem) (ps : List Param) → IsValid x → IsParams count place x ps → AreAscending ps
   pub written : (count place : ℕ) (ps : List Param) → AllByRecursion IsParam ps → AllByRecursion (IsBelow count) ps → IsParams count place (params_item ps) ps
   pub valid : (ps : List Param) → length ps < 2 ^ 64 → AllByRecursion IsParam ps → AreAscending ps → IsValid (params_item ps)
+  pub made : (count place : ℕ) (x : DataItem) (ps : List Param) → IsParams count place x ps → x ≡ params_item ps
+  pub digests : HasOneAnswer IsDigest RefusesDigest
+  pub maps : (count : ℕ) → HasOneAnswer (IsParams count) (RefusesParams count)

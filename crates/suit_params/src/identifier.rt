@@ -1,6 +1,7 @@
 //! Identifiers of components.
 
-ghost use Rattle.std.specs.Prelude.{◌≡◌, [], ◌∷◌, ◌++◌, length, OnOk, OnErr, IsTrue, ◌↔◌};
+ghost use Rattle.std.specs.Prelude.{◌≡◌, [], ◌∷◌, ◌++◌, length, OnOk, OnErr, IsTrue, ◌↔◌, slice_get};
+ghost use Rattle.std.specs.Option.{option_copied};
 
 use det_cbor::Bytes;
 use std::alloc::{AllocError, Global};
@@ -30,12 +31,47 @@ impl Identifier {
         }
     }
 
+    /// The list that a vector holds. Takes no memory and copies nothing.
+    pub fn from_vec(parts: Vec<Bytes>) -> Identifier
+        ensures { result ≡ parts.items }
+    {
+        Identifier { held: parts }
+    }
+
+    /// The vector that the list was made of. Takes no memory and copies nothing.
+    pub fn into_vec(self) -> Vec<Bytes>
+        ensures { result.items ≡ self }
+    {
+        self.held
+    }
+
     /// Adds a byte string at the end. One for which there is no memory is dropped.
     pub fn push(&mut self, part: Bytes) -> Result<(), AllocError>
         ensures ok { OnOk result (self.new ≡ self.old ++ part ∷ []) }
         ensures err { OnErr result (self.new ≡ self.old) }
     {
         Ok(self.held.push(part)?)
+    }
+
+    /// The number of byte strings.
+    pub fn len(&self) -> usize
+        ensures { result ≡ length self.now }
+    {
+        self.held.len()
+    }
+
+    /// Whether there are no byte strings.
+    pub fn is_empty(&self) -> bool
+        ensures { IsTrue result ↔ (self.now ≡ []) }
+    {
+        self.held.is_empty()
+    }
+
+    /// The byte string at an index, or `None` past the end.
+    pub fn get(&self, index: usize) -> Option<&Bytes>
+        ensures { option_copied result ≡ slice_get self.now index }
+    {
+        self.held.get(index)
     }
 
     /// The byte strings, lent.
@@ -70,6 +106,20 @@ impl Identifiers {
         }
     }
 
+    /// The list that a vector holds. Takes no memory and copies nothing.
+    pub fn from_vec(identifiers: Vec<Identifier>) -> Identifiers
+        ensures { result ≡ identifiers.items }
+    {
+        Identifiers { held: identifiers }
+    }
+
+    /// The vector that the list was made of. Takes no memory and copies nothing.
+    pub fn into_vec(self) -> Vec<Identifier>
+        ensures { result.items ≡ self }
+    {
+        self.held
+    }
+
     /// Adds an identifier at the end. One for which there is no memory is dropped.
     pub fn push(&mut self, identifier: Identifier) -> Result<(), AllocError>
         ensures ok { OnOk result (self.new ≡ self.old ++ identifier ∷ []) }
@@ -90,6 +140,13 @@ impl Identifiers {
         ensures { IsTrue result ↔ (self.now ≡ []) }
     {
         self.held.is_empty()
+    }
+
+    /// The identifier at an index, or `None` past the end.
+    pub fn get(&self, index: usize) -> Option<&Identifier>
+        ensures { option_copied result ≡ slice_get self.now index }
+    {
+        self.held.get(index)
     }
 
     /// The identifiers, lent.

@@ -16,13 +16,16 @@ mod refusal;
 
 pub use digest::{Digest, digest_of, read_digest};
 pub use identifier::{Identifier, Identifiers};
-pub use law::param_laws;
+pub use law::{in_force_laws, param_laws};
 pub use param::{Param, ParamKey};
 pub use param_list::ParamList;
 pub use param_map::{params_of, read_params};
+pub use param_value::component_index;
 pub use param_writing::write_params;
 pub use params::Params;
-pub use reading::{only_item, read_bytes, read_content, read_head, read_item, same_place};
+pub use reading::{
+    next_content, only_item, read_bytes, read_content, read_head, read_item, same_place,
+};
 pub use refusal::{Fault, Refusal, Why, refused};
 
 #[cfg(test)]

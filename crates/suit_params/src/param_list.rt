@@ -1,6 +1,7 @@
 //! Lists of parameters.
 
-ghost use Rattle.std.specs.Prelude.{◌≡◌, [], ◌∷◌, ◌++◌, length, OnOk, OnErr, IsTrue, ◌↔◌};
+ghost use Rattle.std.specs.Prelude.{◌≡◌, [], ◌∷◌, ◌++◌, length, OnOk, OnErr, IsTrue, ◌↔◌, slice_get};
+ghost use Rattle.std.specs.Option.{option_copied};
 
 use crate::Param;
 use std::alloc::{AllocError, Global};
@@ -65,6 +66,13 @@ impl ParamList {
         ensures { IsTrue result ↔ (self.now ≡ []) }
     {
         self.held.is_empty()
+    }
+
+    /// The parameter at an index, or `None` past the end.
+    pub fn get(&self, index: usize) -> Option<&Param>
+        ensures { option_copied result ≡ slice_get self.now index }
+    {
+        self.held.get(index)
     }
 
     /// The parameters, lent.

@@ -1,17 +1,16 @@
 //! Values of parameters, by their kinds. Items were judged as such before.
 
-ghost use Rattle.std.specs.Prelude.{◌≡◌, option_map};
+ghost use Rattle.std.specs.Prelude.{◌≡◌};
 ghost use Rattle.det_cbor.specs.HeadReading.{map_ok};
-ghost use Rattle.det_cbor.specs.ItemReading.{utf8_text};
-ghost use Rattle.suit_params.specs.Reading.{bytes_from, string_from};
+ghost use Rattle.suit_params.specs.Reading.{bytes_from};
 ghost use Rattle.suit_params.specs.ParamReading.{id_from, held_from, text_bytes, text_from, number_from, flag_from, index_from, digest_from};
 ghost use Rattle.suit_params.specs.ParamJudging.{judge_index};
 
 use crate::digest::digest_of;
-use crate::reading::{only_item, read_bytes, read_head};
+use crate::reading::{next_content, only_item, read_bytes, read_head};
 use crate::refusal::refused;
 use crate::{Digest, Refusal, Why};
-use det_cbor::{Cursor, HeadKind, Reason};
+use det_cbor::{Cursor, HeadKind, Reason, as_text};
 
 // The next 16 bytes.
 fn id_bytes(map: &mut Cursor<'_>) -> Result<[u8; 16], Refusal>
@@ -42,15 +41,6 @@ pub(crate) fn read_id(map: &mut Cursor<'_>) -> Result<[u8; 16], Refusal>
     }
 }
 
-// The next bytes, as a cursor on them.
-fn content<'a>(map: &mut Cursor<'a>, count: u64) -> Result<Cursor<'a>, Refusal>
-    ensures { map_ok (λ inner. (inner, map.new)) result ≡ string_from count map.old }
-{
-    let place = map.place();
-    let content = read_bytes(map, count)?;
-    Ok(Cursor::new(content, place))
-}
-
 /// A byte string: a cursor on its content.
 #[tactic(auto, unfolding(crate::specs::ParamReading::held_from))]
 pub(crate) fn read_held<'a>(map: &mut Cursor<'a>) -> Result<Cursor<'a>, Refusal>
@@ -59,17 +49,9 @@ pub(crate) fn read_held<'a>(map: &mut Cursor<'a>) -> Result<Cursor<'a>, Refusal>
     let place = map.place();
     let head = read_head(map)?;
     match head.kind {
-        HeadKind::Bytes => content(map, head.value),
+        HeadKind::Bytes => next_content(map, head.value),
         _ => refused(place, Why::BadParam),
     }
-}
-
-// The bytes as a text.
-#[tactic(auto, using(crate::proofs::Texts::good_text, crate::proofs::Texts::bad_text))]
-fn utf8(bytes: &[u8]) -> Option<&str>
-    ensures { option_map (λ t. t.now) result ≡ utf8_text bytes.now }
-{
-    std::str::from_utf8(bytes).ok()
 }
 
 // The next bytes as a text, which stands at a place.
@@ -77,7 +59,7 @@ fn text<'a>(map: &mut Cursor<'a>, count: u64, place: u64) -> Result<&'a str, Ref
     ensures { map_ok (λ t. (t.now, map.new)) result ≡ text_bytes place count map.old }
 {
     let bytes = read_bytes(map, count)?;
-    match utf8(bytes) {
+    match as_text(bytes) {
         Some(text) => Ok(text),
         None => refused(place, Why::Cbor(Reason::BadText)),
     }
@@ -122,8 +104,8 @@ pub(crate) fn read_flag(map: &mut Cursor<'_>) -> Result<bool, Refusal>
     }
 }
 
-// A component's index, which stands at a place: below the number of components.
-fn index(place: u64, number: u64, count: u32) -> Result<u32, Refusal>
+/// A component's index, which stands at a place: below the number of components.
+pub fn component_index(place: u64, number: u64, count: u32) -> Result<u32, Refusal>
     ensures { result ≡ judge_index count place number }
 {
     if number < count as u64 {
@@ -139,7 +121,7 @@ pub(crate) fn read_index(map: &mut Cursor<'_>, count: u32) -> Result<u32, Refusa
 {
     let place = map.place();
     let number = read_number(map)?;
-    index(place, number, count)
+    component_index(place, number, count)
 }
 
 /// A byte string that holds a digest.

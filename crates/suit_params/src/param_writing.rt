@@ -1,10 +1,8 @@
 //! Writing maps of parameters.
 
-ghost use Rattle.std.specs.Prelude.{◌≡◌, ◌++◌, ◌<◌, ◌^◌, ℕ, length, OnOk, OnErr};
+ghost use Rattle.std.specs.Prelude.{◌≡◌, ◌++◌, length, OnOk, OnErr};
 ghost use Rattle.std.specs.List.{AllByRecursion};
-ghost use Rattle.std.specs.Str.{IsUtf8};
-ghost use Rattle.det_cbor.specs.DataItem.{UnsignedInteger, Boolean, ByteString, TextString, spell, spell_pairs, IsString};
-ghost use Rattle.det_cbor.specs.HeadSpelling.{spelled, IsValueOf};
+ghost use Rattle.det_cbor.specs.DataItem.{ByteString, spell, spell_pairs, IsString};
 ghost use Rattle.det_cbor.specs.Prefix.{IsPrefix};
 ghost use Rattle.suit_params.specs.Digests.{digest_item};
 ghost use Rattle.suit_params.specs.ParamKeys.{key_of, key_item};
@@ -12,50 +10,10 @@ ghost use Rattle.suit_params.specs.ParamMaking.{value_item, param_pairs, params_
 ghost use Rattle.suit_params.specs.ParamWriting.{IsWritten};
 
 use crate::{Digest, Param, ParamList};
-use det_cbor::{Bytes, Head, HeadKind, push_head};
+use det_cbor::{Bytes, HeadKind, push_flag, push_kind, push_number, push_string, push_text};
 use std::alloc::{AllocError, Global};
 
-fn push_kind(out: &mut Bytes, kind: HeadKind, value: u64) -> Result<(), AllocError>
-    requires { IsValueOf kind value }
-    ensures ok { OnOk result (out.new ≡ out.old ++ spelled (record { kind = kind; value = value })) }
-    ensures err { OnErr result (IsPrefix out.old out.new) }
-{
-    push_head(out, Head { kind, value })
-}
-
-fn push_number(out: &mut Bytes, number: u64) -> Result<(), AllocError>
-    ensures ok { OnOk result (out.new ≡ out.old ++ spell (UnsignedInteger number)) }
-    ensures err { OnErr result (IsPrefix out.old out.new) }
-{
-    push_kind(out, HeadKind::Unsigned, number)
-}
-
-fn push_flag(out: &mut Bytes, flag: bool) -> Result<(), AllocError>
-    ensures ok { OnOk result (out.new ≡ out.old ++ spell (Boolean flag)) }
-    ensures err { OnErr result (IsPrefix out.old out.new) }
-{
-    out.push(if flag { 0xf5 } else { 0xf4 })
-}
-
-fn push_string(out: &mut Bytes, content: &[u8]) -> Result<(), AllocError>
-    ensures ok { OnOk result (out.new ≡ out.old ++ spell (ByteString content.now)) }
-    ensures err { OnErr result (IsPrefix out.old out.new) }
-    ensures string { IsString content.now }
-{
-    push_kind(out, HeadKind::Bytes, content.len() as u64)?;
-    out.extend(content)
-}
-
-fn push_text(out: &mut Bytes, text: &str) -> Result<(), AllocError>
-    ensures ok { OnOk result (out.new ≡ out.old ++ spell (TextString text.now)) }
-    ensures err { OnErr result (IsPrefix out.old out.new) }
-    ensures text { IsString text.now × IsUtf8 text.now }
-{
-    push_kind(out, HeadKind::Text, text.len() as u64)?;
-    out.extend(text.as_bytes())
-}
-
-/// A byte string of 36 bytes, which holds the digest's array.
+// A byte string of 36 bytes, which holds the digest's array.
 fn push_digest(out: &mut Bytes, digest: &Digest) -> Result<(), AllocError>
     ensures ok { OnOk result (out.new ≡ out.old ++ spell (ByteString (spell (digest_item digest.now.bytes)))) }
     ensures err { OnErr result (IsPrefix out.old out.new) }

@@ -86,13 +86,13 @@ pub fn read_content<'a>(cursor: &mut Cursor<'a>) -> Result<Cursor<'a>, Refusal>
     let place = cursor.place();
     let head = read_head(cursor)?;
     match head.kind {
-        HeadKind::Bytes => content(cursor, head.value),
+        HeadKind::Bytes => next_content(cursor, head.value),
         _ => refused(place, Why::Shape),
     }
 }
 
-// The next bytes, as a cursor on them.
-fn content<'a>(cursor: &mut Cursor<'a>, count: u64) -> Result<Cursor<'a>, Refusal>
+/// The next bytes, as many as are asked for, as a cursor on them.
+pub fn next_content<'a>(cursor: &mut Cursor<'a>, count: u64) -> Result<Cursor<'a>, Refusal>
     ensures { map_ok (λ inner. (inner, cursor.new)) result ≡ string_from count cursor.old }
 {
     let place = cursor.place();

@@ -1,6 +1,6 @@
 //! Manifests built of their parts, and written.
 
-use crate::{Manifest, Member, TextMember, encode_manifest, grammatical_manifests};
+use crate::{Manifest, Member, TextMember, encode_manifest, manifest_laws};
 use det_cbor::{Bytes, Text};
 use std::alloc::{AllocError, Global};
 use std::process::Abort;
@@ -50,7 +50,7 @@ fn is_written(
     manifest: &Manifest,
     bytes: &[u8],
 ) -> Result<(), AllocError> {
-    grammatical_manifests();
+    manifest_laws();
     let written = encode_manifest(alloc, manifest)?;
     assert_eq!(rt; written.as_slice(), bytes);
     Ok(())

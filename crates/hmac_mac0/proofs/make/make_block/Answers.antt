@@ -5,22 +5,22 @@ use Rattle.hmac_mac0.proofs.Made.{kid_of, written, made_spells, made_verifies, m
 use Rattle.hmac_mac0.proofs.make.make_block.Goals as goal
 use Rattle.hmac_mac0.proofs.make.make_block.Goals.{In_ok-push_string}
 
-spells : (c : In_ok-push_string) → Spells (made_item c.args.key.now (kid_of c.args.kid) c.args.payload.now) c.push_string.new.block
+spells : (c : In_ok-push_string) → Spells (made_item c.args.key.now (kid_of c.args.kid) c.args.payload.now) c.push_string.new.out
 spells c =
     let empty = c.new-block.ensures in
     let header = c.in_ok-push_header.ensures in
     let unprotected = c.in_ok-push_unprotected.ensures.ok in
-    let null = c.in_ok-push.ensures in
+    let null = c.in_ok-push_kind.ensures.ok in
     let tag = c.in_ok-push_string.ensures.ok in
-    let all : c.push_string.new.block ≡ written (spell (MapOf (kid_pairs (kid_of c.args.kid)))) c.tag.result = cc in
-    made_spells c.args.key.now c.args.payload.now c.args.kid c.tag.result c.push_string.new.block
-    c.in_ok-push_unprotected.ensures.is_string c.in_ok-push_string.ensures.is_string c.tag.ensures all
+    let all : c.push_string.new.out ≡ written (spell (MapOf (kid_pairs (kid_of c.args.kid)))) c.tag.result = cc in
+    made_spells c.args.key.now c.args.payload.now c.args.kid c.tag.result c.push_string.new.out
+    c.in_ok-push_unprotected.ensures.is_string c.in_ok-push_string.ensures.string c.tag.ensures all
 
 pub returns-clause-spells : goal.returns-clause-spells
 returns-clause-spells c = spells c
 
 pub returns-clause-verifies : goal.returns-clause-verifies
-returns-clause-verifies c = made_verifies c.args.key.now c.args.payload.now (kid_of c.args.kid) c.push_string.new.block (spells c)
+returns-clause-verifies c = made_verifies c.args.key.now c.args.payload.now (kid_of c.args.kid) c.push_string.new.out (spells c)
 
 pub returns-clause-alone : goal.returns-clause-alone
-returns-clause-alone c = made_alone c.args.key.now c.args.payload.now (kid_of c.args.kid) c.push_string.new.block (spells c)
+returns-clause-alone c = made_alone c.args.key.now c.args.payload.now (kid_of c.args.kid) c.push_string.new.out (spells c)

@@ -1,6 +1,6 @@
 use Rattle.std.proofs.Common.{arith}
 use Rattle.suit_envelope.proofs.PutWrapper.{ok_wrapper}
-use Rattle.suit_envelope.proofs.EnvelopeAnswers.{ok_says, err_refuses, every_envelope, every_refusal}
+use Rattle.suit_envelope.proofs.EnvelopeAnswers.{ok_says, ok_ends, err_refuses, every_envelope, every_refusal}
 use Rattle.suit_envelope.proofs.decode.decode_envelope.Goals as goal
 
 pub returns-clause-ok : goal.returns-clause-ok
@@ -17,3 +17,6 @@ returns-clause-every_refusal c = every_refusal c.args.bytes.now c.read_envelope.
 
 pub returns-clause-wrapper : goal.returns-clause-wrapper
 returns-clause-wrapper c = ok_wrapper c.args.bytes.now c.read_envelope.result (returns-clause-ok c)
+
+pub returns-clause-places : goal.returns-clause-places
+returns-clause-places c = ok_ends c.args.bytes.now c.read_envelope.result c.read_envelope.ensures.long (returns-clause-ok c)

@@ -8,4 +8,4 @@ pub returns-clause-ok : goal.returns-clause-ok
 returns-clause-ok c =
     let ids = c.args.components.now in
     array_written c.args.out.now c.push_count.new.out c.push_identifiers.new.out (length c.as_slice-identifiers.result.now) (identifier_items ids)
-    (ap length c.as_slice-identifiers.ensures ∙ identifiers_counted ids) c.in_ok-push_count.ensures (rw (← c.as_slice-identifiers.ensures) c.in_ok-push_identifiers.ensures.ok)
+    (ap length c.as_slice-identifiers.ensures ∙ identifiers_counted ids) c.in_ok-push_count.ensures.ok (rw (← c.as_slice-identifiers.ensures) c.in_ok-push_identifiers.ensures.ok)

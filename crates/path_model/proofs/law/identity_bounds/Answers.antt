@@ -1,5 +1,0 @@
-use Rattle.path_model.proofs.PathLaws.{identities_bounded}
-use Rattle.path_model.proofs.law.identity_bounds.Goals as goal
-
-pub returns : goal.returns
-returns c = identities_bounded

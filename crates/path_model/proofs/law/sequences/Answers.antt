@@ -1,5 +1,0 @@
-use Rattle.path_model.proofs.RunLaws.{sequence_rules}
-use Rattle.path_model.proofs.law.sequences.Goals as goal
-
-pub returns : goal.returns
-returns c = sequence_rules

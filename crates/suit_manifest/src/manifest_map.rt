@@ -1,0 +1,68 @@
+//! The values of a manifest's map, as they stand in it.
+
+ghost use Rattle.std.specs.Prelude.{◌≡◌};
+ghost use Rattle.suit_manifest.specs.ManifestReading.{later_found, manifest_found};
+
+use crate::pairs::Pairs;
+use det_cbor::Cursor;
+use suit_params::Refusal;
+
+/// The values of a manifest's map (draft-ietf-suit-manifest-25, section 8.4), each as an item by itself.
+#[derive(Debug, Drop)]
+pub(crate) struct ManifestValues<'a> {
+    pub(crate) version: Option<Cursor<'a>>,
+    pub(crate) sequence: Option<Cursor<'a>>,
+    pub(crate) common: Option<Cursor<'a>>,
+    pub(crate) later: LaterValues<'a>,
+}
+
+/// Those after common.
+#[derive(Debug, Drop)]
+pub(crate) struct LaterValues<'a> {
+    pub(crate) reference: Option<Cursor<'a>>,
+    pub(crate) validate: Option<Cursor<'a>>,
+    pub(crate) load: Option<Cursor<'a>>,
+    pub(crate) invoke: Option<Cursor<'a>>,
+    pub(crate) payload_fetch: Option<Cursor<'a>>,
+    pub(crate) install: Option<Cursor<'a>>,
+    pub(crate) text: Option<Cursor<'a>>,
+}
+
+// The values after common, which are the last of the map.
+fn find_later<'a>(mut pairs: Pairs<'a>) -> Result<LaterValues<'a>, Refusal>
+    ensures { result ≡ later_found pairs.entry }
+{
+    let reference = pairs.take(4)?;
+    let validate = pairs.take(7)?;
+    let load = pairs.take(8)?;
+    let invoke = pairs.take(9)?;
+    let payload_fetch = pairs.take(16)?;
+    let install = pairs.take(20)?;
+    let text = pairs.take(23)?;
+    pairs.end()?;
+    Ok(LaterValues {
+        reference,
+        validate,
+        load,
+        invoke,
+        payload_fetch,
+        install,
+        text,
+    })
+}
+
+/// The values of a map that has no other keys; or the first key that is not known.
+pub(crate) fn find_values<'a>(mut pairs: Pairs<'a>) -> Result<ManifestValues<'a>, Refusal>
+    ensures { result ≡ manifest_found pairs.entry }
+{
+    let version = pairs.take(1)?;
+    let sequence = pairs.take(2)?;
+    let common = pairs.take(3)?;
+    let later = find_later(pairs)?;
+    Ok(ManifestValues {
+        version,
+        sequence,
+        common,
+        later,
+    })
+}
