@@ -1,2 +1,12 @@
-pub mod Flat
-pub mod Verdict
+pub mod Knowing
+pub mod Forking
+pub mod Choosing
+pub mod Exploring
+pub mod Inner
+pub mod Keyed
+pub mod Wanting
+pub mod Small
+pub mod Steps
+pub mod Procedures
+pub mod Halting
+pub mod PlanVerdicts

@@ -1,8 +1,6 @@
 //! Whether each invoke of a procedure is covered on every path.
 #![tactic(auto)]
 
-mod judge;
-mod plan;
+mod judge_plan;
 
-pub use judge::{CheckVerdict, check};
-pub use plan::FlatPlan;
+pub use judge_plan::{CheckVerdict, check};

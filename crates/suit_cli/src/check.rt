@@ -10,7 +10,8 @@ ghost use Rattle.suit_cli.specs.Replying.{Says, EndsAs};
 use crate::flat::{FlatForm, flat_form};
 use crate::input::{LONGEST_FILE, accepted, read};
 use crate::reply::{Outcome, Reply};
-use path_checker::{CheckVerdict, FlatPlan};
+use path_checker::FlatPlan;
+use path_checker::judge::CheckVerdict;
 use path_model::Procedure;
 use std::alloc::{AllocError, Global};
 use suit_edge::Host;
@@ -35,12 +36,12 @@ impl FlatForm {
 fn judge_form(alloc: Global, form: &FlatForm) -> Result<Reply, AllocError>
     ensures { Says (FormJudgement form.now) result }
 {
-    match path_checker::check(alloc, &form.plan(Procedure::Update)) {
+    match path_checker::judge::check(alloc, &form.plan(Procedure::Update)) {
         CheckVerdict::NoMemory => return Err(AllocError),
         CheckVerdict::Unsafe(path) => return Reply::with_path(alloc, "update unsafe\n", &path),
         CheckVerdict::Safe => {}
     }
-    match path_checker::check(alloc, &form.plan(Procedure::Invocation)) {
+    match path_checker::judge::check(alloc, &form.plan(Procedure::Invocation)) {
         CheckVerdict::NoMemory => Err(AllocError),
         CheckVerdict::Unsafe(path) => {
             Reply::with_path(alloc, "update safe\ninvocation unsafe\n", &path)

@@ -1,0 +1,166 @@
+-- The ends of each, run sequence and try each.
+use Rattle.std.proofs.Common.{◌≡◌, ℕ, ◌+◌, ◌<◌, suc, add-one, true, false, List, [], ◌∷◌, ◌++◌, Option, Some, None, length, get_or, drop, refl, sym, ap, ◌∙◌, subst, append_assoc, inl, inr}
+use Rattle.std.proofs.Math.Seq.{drop-cons}
+use Rattle.std.proofs.lemmas.List.{append-nil}
+use Rattle.suit_commands.specs.Tree.{SequenceTree, BranchesTree, NoBranches, NullThen, BranchThen}
+use Rattle.suit_commands.specs.View.{branches_tree}
+use Rattle.path_model.specs.declared.identity.Identity.{Identity}
+use Rattle.path_model.specs.declared.event.Event.{Event}
+use Rattle.path_model.specs.Behaviour.{State, Ending, Done, Condition}
+use Rattle.path_model.specs.Runs.{Runs, Tries}
+use Rattle.path_model.specs.Following.{CoveredFrom, SameMatches}
+use Rattle.path_model.proofs.Following.{same_matches}
+use Rattle.path_checker.specs.declared.judge_plan.facts.Knowledge.{Knowledge}
+use Rattle.path_checker.specs.declared.judge_plan.halt.Halt.{Halt}
+use Rattle.path_checker.specs.Knowing.{Allows}
+use Rattle.path_checker.specs.Exploring.{Course, In, Kept, Stopped, Found, Reaches, Leads, Explores, Uncovers, Adds}
+use Rattle.path_checker.specs.Inner.{AllAt, BranchAdds, entered, all_entered, all_left, softly, hardly, resumed, exhausted_at, exhausted}
+use Rattle.path_checker.specs.Halting.{Halts}
+use Rattle.path_checker.proofs.InnerStates.{softly-from}
+use Rattle.path_checker.proofs.InnerSequences.{inner_course, Explores-inner}
+use Rattle.path_checker.proofs.OneBranch.{branch_course}
+use Rattle.path_checker.proofs.Uncovering.{Uncovers-inner, Uncovers-branch}
+use Rattle.path_checker.proofs.Walking.{Halts-lift, runs_course}
+use Rattle.path_checker.proofs.Carrying.{Carries, Carries-start, Carries-branch, Carries-end, nothing_course}
+
+pub at-one : (k : Kept) (s : State) → s ≡ k.state → AllAt s (k ∷ [])
+at-one k s e k' (inl p) = sym (ap (λ (x : Kept). x.state) p) ∙ sym e
+at-one k s e k' (inr n) = absurd n
+
+-- ---- run sequence
+
+start-is : (s : State) (c : ℕ) (k inside : Kept) (from : List Kept) → s ≡ k.state → inside ≡ entered k.state c false k → from ≡ inside ∷ [] → from ≡ all_entered s c false (k ∷ [])
+start-is s c k inside from same is one = one ∙ ap (λ (x : Kept). x ∷ []) is ∙ ap (λ (t : State). entered t c false k ∷ []) (sym same)
+
+pub Adds-run : (body : Course) (s : State) (c : ℕ) (k inside : Kept) (from d n n1 n' : List Kept) (st f f' st0 : List Stopped) → s ≡ k.state → inside ≡ entered k.state c false k → from ≡ inside ∷ [] → st0 ≡ [] → Adds body from [] d st0 st → n1 ≡ n ++ all_left s d → n' ≡ n1 ++ softly s st → f' ≡ f ++ hardly s st → Adds (inner_course body c) (k ∷ []) n n' f f'
+Adds-run body s c k inside from d n n1 n' st f f' st0 same is one nil a next1 next2 fail =
+    let st-is : st ≡ a.failed = a.failed_is ∙ ap (λ (x : List Stopped). x ++ a.failed) nil in
+    let x : Explores body (all_entered s c false (k ∷ [])) d st =
+    subst (λ (y : List Kept). Explores body y d st) (start-is s c k inside from same is one) (subst (λ (y : List Kept). Explores body from y st) (sym a.next_is) (subst (Explores body from a.done) (sym st-is) a.explores))
+    in
+    record {
+      done = all_left s d ++ softly s st;
+      failed = hardly s st;
+      next_is = next2 ∙ ap (λ (y : List Kept). y ++ softly s st) next1 ∙ append_assoc n (all_left s d) (softly s st);
+      failed_is = fail;
+      explores = Explores-inner body s c (k ∷ []) d st (at-one k s same) x;
+    }
+
+pub Halts-run : (body : Course) (s : State) (c : ℕ) (k inside : Kept) (from : List Kept) → s ≡ k.state → inside ≡ entered k.state c false k → from ≡ inside ∷ [] → (h : Halt) → Halts body from h → Halts (inner_course body c) (k ∷ []) h
+Halts-run body s c k inside from same is one h u =
+    Halts-lift body (inner_course body c) from (k ∷ []) (λ facts events x. Uncovers-inner body s c (k ∷ []) facts events (at-one k s same) (subst (λ (y : List Kept). Uncovers body y facts events) (start-is s c k inside from same is one) x)) h u
+
+pub Adds-branch : (body : Course) (s : State) (c : ℕ) (from inside d n n1 r0 r : List Kept) (st0 st f f' : List Stopped) → inside ≡ all_entered s c true from → st0 ≡ [] → Adds body inside [] d st0 st → n1 ≡ n ++ all_left s d → r0 ≡ [] → r ≡ r0 ++ softly s st → f' ≡ f ++ hardly s st → BranchAdds body s c from r n n1 f f'
+Adds-branch body s c from inside d n n1 r0 r st0 st f f' is nil a next none soft hard =
+    let st-is : st ≡ a.failed = a.failed_is ∙ ap (λ (x : List Stopped). x ++ a.failed) nil in
+    record {
+      done = d;
+      stops = st;
+      next_is = next;
+      failed_is = hard;
+      rest_is = soft ∙ ap (λ (y : List Kept). y ++ softly s st) none;
+      explores = subst (λ (y : List Kept). Explores body y d st) is (subst (λ (y : List Kept). Explores body inside y st) (sym a.next_is) (subst (Explores body inside a.done) (sym st-is) a.explores));
+    }
+
+-- ---- try each
+
+softly-at : (s : State) (st : List Stopped) → AllAt s (softly s st)
+softly-at s st k i = let y = softly-from s st k i in sym (ap (λ (x : Kept). x.state) y.3)
+
+-- what the loop over the branches knows
+pub record Trying (whole : Course) (k : Kept) (s : State) (next0 next : List Kept) (failed0 failed : List Stopped) (rest : Course) (now : List Kept) : Type 0 where
+  pub done : List Kept
+  pub added : List Stopped
+  pub next_is : next ≡ next0 ++ done
+  pub failed_is : failed ≡ failed0 ++ added
+  pub at : AllAt s now
+  pub carries : Carries whole (k ∷ []) rest now done added
+
+pub Trying-start : (whole : Course) (k : Kept) (s : State) (next : List Kept) (failed : List Stopped) (now : List Kept) → s ≡ k.state → now ≡ k ∷ [] → Trying whole k s next next failed failed whole now
+Trying-start whole k s next failed now same one = record {
+  done = [];
+  added = [];
+  next_is = sym (append-nil next);
+  failed_is = sym (append-nil failed);
+  at = subst (AllAt s) (sym one) (at-one k s same);
+  carries = subst (λ (x : List Kept). Carries whole (k ∷ []) whole x [] []) (sym one) (Carries-start whole (k ∷ []));
+}
+
+pub Trying-branch : (whole body : Course) (others : ℕ → Course) (k : Kept) (s : State) (c : ℕ) (next0 next next' : List Kept) (failed0 failed failed' : List Stopped) (now rest : List Kept) → Trying whole k s next0 next failed0 failed (branch_course body others c) now → BranchAdds body s c now rest next next' failed failed' → Trying whole k s next0 next' failed0 failed' (others c) rest
+Trying-branch whole body others k s c next0 next next' failed0 failed failed' now rest w b = record {
+  done = w.done ++ all_left s b.done;
+  added = w.added ++ hardly s b.stops;
+  next_is = b.next_is ∙ ap (λ (x : List Kept). x ++ all_left s b.done) w.next_is ∙ append_assoc next0 w.done (all_left s b.done);
+  failed_is = b.failed_is ∙ ap (λ (x : List Stopped). x ++ hardly s b.stops) w.failed_is ∙ append_assoc failed0 w.added (hardly s b.stops);
+  at = subst (AllAt s) (sym b.rest_is) (softly-at s b.stops);
+  carries = subst (λ (x : List Kept). Carries whole (k ∷ []) (others c) x (w.done ++ all_left s b.done) (w.added ++ hardly s b.stops)) (sym b.rest_is) (Carries-branch whole body others s c (k ∷ []) now b.done w.done w.added b.stops w.at w.carries b.explores);
+}
+
+pub Trying-null : (whole : Course) (k : Kept) (s : State) (next0 next next' : List Kept) (failed0 failed : List Stopped) (now : List Kept) → Trying whole k s next0 next failed0 failed nothing_course now → next' ≡ next ++ now → Adds whole (k ∷ []) next0 next' failed0 failed
+Trying-null whole k s next0 next next' failed0 failed now w more = record {
+  done = w.done ++ now;
+  failed = w.added;
+  next_is = more ∙ ap (λ (x : List Kept). x ++ now) w.next_is ∙ append_assoc next0 w.done now;
+  failed_is = w.failed_is;
+  explores = Carries-end whole (k ∷ []) now w.done w.added w.carries;
+}
+
+-- no branch completed
+abbrev pub failing_course : ℕ → Course
+failing_course p ids s es e = (es ≡ []) × (e ≡ Condition p s.soft_failure)
+
+In-exhausted : (s : State) (p : ℕ) (k : Kept) (ks : List Kept) → In k ks → In (exhausted_at s p k) (exhausted s p ks)
+In-exhausted s p k [] h = absurd h
+In-exhausted s p k (x ∷ ks) (inl e) = inl (ap (exhausted_at s p) e)
+In-exhausted s p k (x ∷ ks) (inr h) = inr (In-exhausted s p k ks h)
+
+exhausted-from : (s : State) (p : ℕ) (ks : List Kept) (to : Stopped) → In to (exhausted s p ks) → (k : Kept) × In k ks × (exhausted_at s p k ≡ to)
+exhausted-from s p [] to h = absurd h
+exhausted-from s p (x ∷ ks) to (inl e) = (x, inl refl, e)
+exhausted-from s p (x ∷ ks) to (inr h) = let y = exhausted-from s p ks to h in (y.0, inr y.1, y.2)
+
+pub Explores-exhausted : (s : State) (p : ℕ) (ks : List Kept) → AllAt s ks → Explores (failing_course p) ks [] (exhausted s p ks)
+Explores-exhausted s p ks at = record {
+  complete = λ k i ids al es e r.
+      let to : Stopped = exhausted_at s p k in
+      let f : CoveredFrom k.events [] × Found k ids [] [] (exhausted s p ks) (Condition p k.state.soft_failure) =
+      (tt, (to, In-exhausted s p k ks i, al, ap (λ (x : State). x.soft_failure) (sym (at k i)), subst (SameMatches k.events) (sym (append-nil k.events)) (same_matches k.events)))
+      in
+      subst (λ (es' : List Event). CoveredFrom k.events es' × Found k ids es' [] (exhausted s p ks) e) (sym r.0) (subst (λ (e' : Ending). CoveredFrom k.events [] × Found k ids [] [] (exhausted s p ks) e') (sym r.1) f);
+  reached = λ to h. absurd h;
+  stopped = λ to h.
+      let y = exhausted-from s p ks to h in
+      subst (λ (x : Stopped). Leads (failing_course p) ks x.facts x.events (Condition x.place x.soft_failure)) y.2 (y.0, y.1, record { since = []; parts = sym (append-nil y.0.events); covered = tt; count = refl; path = λ ids al. (al, (refl, ap (λ (x : State). Condition p x.soft_failure) (sym (at y.0 y.1)))) });
+}
+
+pub Trying-end : (whole : Course) (k : Kept) (s : State) (p : ℕ) (next0 next : List Kept) (failed0 failed failed' : List Stopped) (now : List Kept) → Trying whole k s next0 next failed0 failed (failing_course p) now → failed' ≡ failed ++ exhausted s p now → Adds whole (k ∷ []) next0 next failed0 failed'
+Trying-end whole k s p next0 next failed0 failed failed' now w more = record {
+  done = w.done ++ [];
+  failed = w.added ++ exhausted s p now;
+  next_is = w.next_is ∙ ap (λ (x : List Kept). next0 ++ x) (sym (append-nil w.done));
+  failed_is = more ∙ ap (λ (x : List Stopped). x ++ exhausted s p now) w.failed_is ∙ append_assoc failed0 w.added (exhausted s p now);
+  explores = w.carries.explores [] (exhausted s p now) (Explores-exhausted s p now w.at);
+}
+
+pub Trying-halt : (whole body : Course) (others : ℕ → Course) (k : Kept) (s : State) (c : ℕ) (next0 next : List Kept) (failed0 failed : List Stopped) (now : List Kept) → Trying whole k s next0 next failed0 failed (branch_course body others c) now → (h : Halt) → Halts body (all_entered s c true now) h → Halts whole (k ∷ []) h
+Trying-halt whole body others k s c next0 next failed0 failed now w h u =
+    Halts-lift body whole (all_entered s c true now) (k ∷ []) (λ facts events x. w.carries.uncovers facts events (Uncovers-branch body others s c now facts events w.at x)) h u
+
+-- the branches from a place on
+abbrev pub rest_course : BranchesTree → ℕ → ℕ → ℕ → Course
+rest_course branches count p c ids = Tries branches ids count p c
+
+pub at_some : (bs : List (Option SequenceTree)) (i count p c : ℕ) (d : Option SequenceTree) (inner : SequenceTree) → i < length bs → get_or bs i d ≡ Some inner
+    → rest_course (branches_tree (drop i bs)) count p c ≡ branch_course (runs_course inner count) (rest_course (branches_tree (drop (i + 1) bs)) count p) c
+at_some bs i count p c d inner lt e =
+    ap (λ (xs : List (Option SequenceTree)). rest_course (branches_tree xs) count p c) (drop-cons bs i d lt)
+    ∙ ap (λ (o : Option SequenceTree). rest_course (branches_tree (o ∷ drop (suc i) bs)) count p c) e
+    ∙ ap (λ (n : ℕ). branch_course (runs_course inner count) (rest_course (branches_tree (drop n bs)) count p) c) (sym (add-one i))
+
+pub at_none : (bs : List (Option SequenceTree)) (i count p c : ℕ) (d : Option SequenceTree) → i < length bs → get_or bs i d ≡ None → rest_course (branches_tree (drop i bs)) count p c ≡ nothing_course
+at_none bs i count p c d lt e =
+    ap (λ (xs : List (Option SequenceTree)). rest_course (branches_tree xs) count p c) (drop-cons bs i d lt)
+    ∙ ap (λ (o : Option SequenceTree). rest_course (branches_tree (o ∷ drop (suc i) bs)) count p c) e
+
+pub Adds-appended : (course : Course) (from n n' now : List Kept) (f f' : List Stopped) → Adds course from [] now f f' → n' ≡ n ++ now → Adds course from n n' f f'
+Adds-appended course from n n' now f f' a more = record { done = a.done; failed = a.failed; next_is = more ∙ ap (λ (x : List Kept). n ++ x) a.next_is; failed_is = a.failed_is; explores = a.explores }

@@ -1,0 +1,182 @@
+-- What each directive adds.
+use Rattle.std.proofs.Common.{◌≡◌, ℕ, Bool, true, false, List, [], ◌∷◌, ◌++◌, Option, Some, None, refl, sym, ap, ◌∙◌, subst, append_assoc, inl, inr, rules}
+use Rattle.std.specs.Prelude.{◌⊎◌, is_some, IsTrue}
+use Rattle.std.proofs.lemmas.List.{append-nil}
+use Rattle.suit_params.specs.declared.digest.Digest.{Digest}
+use Rattle.suit_params.specs.declared.param.Param.{Param}
+use Rattle.suit_params.specs.declared.param.ParamKey.TheVariants as keys
+use Rattle.suit_params.specs.InForce.{Parameters, in_force, with_param, overridden, number_of, bytes_of, digest_in, size_in}
+use Rattle.suit_commands.specs.declared.kinds.ActKind.{ActKind}
+use Rattle.suit_commands.specs.declared.kinds.ActKind.TheVariants as acts
+use Rattle.path_model.specs.declared.event.Event.{Event}
+use Rattle.path_model.specs.declared.event.Event.TheVariants.{Set, Wrote, Invoked, Failed}
+use Rattle.path_model.specs.Behaviour.{State, Ending, Done, Directive}
+use Rattle.path_model.specs.Directives.{Writes, Acts, Overrides, set_events, soft_after, after_override}
+use Rattle.path_model.specs.Safe.{IsCovered, HasMatched}
+use Rattle.path_model.specs.Following.{CoveredFrom}
+use Rattle.path_checker.specs.Exploring.{Course, Kept, Stopped, Explores, Uncovers, Adds}
+use Rattle.path_checker.specs.Steps.{with_events, soft_after_all}
+use Rattle.path_checker.proofs.Leaves.{Only, Either, Same, Explores-same, Explores-done, Explores-ends, Explores-either}
+
+abbrev pub acts_course : ActKind → ℕ → ℕ → Course
+acts_course kind p c ids = Acts kind p c
+
+-- ---- directives that write
+
+abbrev writing : ℕ → Kept → List Event → Course
+writing p k events = Either (Only events (Done k.state)) (Only (events ++ Failed p ∷ []) (Directive p))
+
+writes_at : {A : Type 0} (p : ℕ) (k : Kept) (o : Option A) (written : A → List Event) (events : List Event) → is_some o ≡ true → ((a : A) → o ≡ Some a → written a ≡ events) → Same k (writing p k events) (λ ids s. Writes p o written k.state)
+writes_at p k None written events some is = absurd cc
+writes_at p k (Some a) written events some is =
+    let same = is a refl in
+    record {
+      there = λ ids al es e r. subst (λ (xs : List Event). ((es ≡ xs) × (e ≡ Done k.state)) ⊎ ((es ≡ xs ++ Failed p ∷ []) × (e ≡ Directive p))) (sym same) r;
+      back = λ ids al es e r. subst (λ (xs : List Event). ((es ≡ xs) × (e ≡ Done k.state)) ⊎ ((es ≡ xs ++ Failed p ∷ []) × (e ≡ Directive p))) same r;
+    }
+
+no_writes_at : {A : Type 0} (p : ℕ) (k : Kept) (o : Option A) (written : A → List Event) → is_some o ≡ false → Same k (Only (Failed p ∷ []) (Directive p)) (λ ids s. Writes p o written k.state)
+no_writes_at p k (Some a) written none = absurd cc
+no_writes_at p k None written none = record { there = λ ids al es e r. r; back = λ ids al es e r. r }
+
+Adds-writing : (course : Course) (p : ℕ) (k : Kept) (events : List Event) (n n' : List Kept) → Same k (writing p k events) course → CoveredFrom k.events events → CoveredFrom k.events (events ++ Failed p ∷ []) → n' ≡ n ++ with_events k events ∷ [] → (f : List Stopped) → Adds course (k ∷ []) n n' f f
+Adds-writing course p k events n n' same fine fine_failed pushed f = record {
+  done = with_events k events ∷ [];
+  failed = [];
+  next_is = pushed;
+  failed_is = sym (append-nil f);
+  explores = Explores-same k (writing p k events) course (with_events k events ∷ []) [] same
+      (Explores-either (Only events (Done k.state)) (Only (events ++ Failed p ∷ []) (Directive p)) k (with_events k events ∷ []) [] [] [] (Explores-done k events k.state fine) (Explores-ends k (events ++ Failed p ∷ []) p fine_failed));
+}
+
+Adds-ended : (course : Course) (p : ℕ) (k : Kept) (n : List Kept) → Same k (Only (Failed p ∷ []) (Directive p)) course → (f : List Stopped) → Adds course (k ∷ []) n n f f
+Adds-ended course p k n same f = record {
+  done = [];
+  failed = [];
+  next_is = sym (append-nil n);
+  failed_is = sym (append-nil f);
+  explores = Explores-same k (Only (Failed p ∷ []) (Directive p)) course [] [] same (Explores-ends k (Failed p ∷ []) p (tt, tt));
+}
+
+pub Adds-write : (p c : ℕ) (k : Kept) (ps : Parameters) (n n' : List Kept) → ps ≡ k.state.parameters → is_some (bytes_of (in_force ps c keys.Content)) ≡ true → n' ≡ n ++ with_events k (Wrote c ∷ []) ∷ [] → (f : List Stopped) → Adds (acts_course acts.Write p c) (k ∷ []) n n' f f
+Adds-write p c k ps n n' same some pushed =
+    let s = writes_at p k (bytes_of (in_force k.state.parameters c keys.Content)) (λ content. Wrote c ∷ []) (Wrote c ∷ []) (subst (λ (q : Parameters). is_some (bytes_of (in_force q c keys.Content)) ≡ true) same some) (λ a e. refl) in
+    Adds-writing (acts_course acts.Write p c) p k (Wrote c ∷ []) n n' (record { there = s.there; back = s.back }) (tt, tt) (tt, (tt, tt)) pushed
+
+pub Adds-no_write : (p c : ℕ) (k : Kept) (ps : Parameters) (n : List Kept) → ps ≡ k.state.parameters → is_some (bytes_of (in_force ps c keys.Content)) ≡ false → (f : List Stopped) → Adds (acts_course acts.Write p c) (k ∷ []) n n f f
+Adds-no_write p c k ps n same none =
+    let s = no_writes_at p k (bytes_of (in_force k.state.parameters c keys.Content)) (λ content. Wrote c ∷ []) (subst (λ (q : Parameters). is_some (bytes_of (in_force q c keys.Content)) ≡ false) same none) in
+    Adds-ended (acts_course acts.Write p c) p k n (record { there = s.there; back = s.back })
+
+pub Adds-fetch : (p c : ℕ) (k : Kept) (ps : Parameters) (n n' : List Kept) → ps ≡ k.state.parameters → is_some (bytes_of (in_force ps c keys.Uri)) ≡ true → n' ≡ n ++ with_events k (Wrote c ∷ []) ∷ [] → (f : List Stopped) → Adds (acts_course acts.Fetch p c) (k ∷ []) n n' f f
+Adds-fetch p c k ps n n' same some pushed =
+    let s = writes_at p k (bytes_of (in_force k.state.parameters c keys.Uri)) (λ uri. Wrote c ∷ []) (Wrote c ∷ []) (subst (λ (q : Parameters). is_some (bytes_of (in_force q c keys.Uri)) ≡ true) same some) (λ a e. refl) in
+    Adds-writing (acts_course acts.Fetch p c) p k (Wrote c ∷ []) n n' (record { there = s.there; back = s.back }) (tt, tt) (tt, (tt, tt)) pushed
+
+pub Adds-no_fetch : (p c : ℕ) (k : Kept) (ps : Parameters) (n : List Kept) → ps ≡ k.state.parameters → is_some (bytes_of (in_force ps c keys.Uri)) ≡ false → (f : List Stopped) → Adds (acts_course acts.Fetch p c) (k ∷ []) n n f f
+Adds-no_fetch p c k ps n same none =
+    let s = no_writes_at p k (bytes_of (in_force k.state.parameters c keys.Uri)) (λ uri. Wrote c ∷ []) (subst (λ (q : Parameters). is_some (bytes_of (in_force q c keys.Uri)) ≡ false) same none) in
+    Adds-ended (acts_course acts.Fetch p c) p k n (record { there = s.there; back = s.back })
+
+pub Adds-copy : (p c source : ℕ) (k : Kept) (ps : Parameters) (n n' : List Kept) → ps ≡ k.state.parameters → Some source ≡ number_of (in_force ps c keys.Source) → n' ≡ n ++ with_events k (Wrote c ∷ []) ∷ [] → (f : List Stopped) → Adds (acts_course acts.Copy p c) (k ∷ []) n n' f f
+Adds-copy p c source k ps n n' same some pushed =
+    let some' : Some source ≡ number_of (in_force k.state.parameters c keys.Source) = subst (λ (q : Parameters). Some source ≡ number_of (in_force q c keys.Source)) same some in
+    let s = writes_at p k (number_of (in_force k.state.parameters c keys.Source)) (λ source. Wrote c ∷ []) (Wrote c ∷ []) (subst (λ (o : Option ℕ). is_some o ≡ true) some' refl) (λ a e. refl) in
+    Adds-writing (acts_course acts.Copy p c) p k (Wrote c ∷ []) n n' (record { there = s.there; back = s.back }) (tt, tt) (tt, (tt, tt)) pushed
+
+pub Adds-no_copy : (p c : ℕ) (k : Kept) (ps : Parameters) (n : List Kept) → ps ≡ k.state.parameters → None ≡ number_of (in_force ps c keys.Source) → (f : List Stopped) → Adds (acts_course acts.Copy p c) (k ∷ []) n n f f
+Adds-no_copy p c k ps n same none =
+    let none' : None ≡ number_of (in_force k.state.parameters c keys.Source) = subst (λ (q : Parameters). None ≡ number_of (in_force q c keys.Source)) same none in
+    let s = no_writes_at p k (number_of (in_force k.state.parameters c keys.Source)) (λ source. Wrote c ∷ []) (subst (λ (o : Option ℕ). is_some o ≡ false) none' refl) in
+    Adds-ended (acts_course acts.Copy p c) p k n (record { there = s.there; back = s.back })
+
+same_number : (a b : ℕ) → ◌≡◌ {A = Option ℕ} (Some a) (Some b) → a ≡ b
+same_number a b e = cc
+
+pub Adds-swap : (p c source : ℕ) (k one : Kept) (ps : Parameters) (n n' : List Kept) → ps ≡ k.state.parameters → Some source ≡ number_of (in_force ps c keys.Source) → one ≡ with_events k (Wrote c ∷ []) → n' ≡ n ++ with_events one (Wrote source ∷ []) ∷ []
+    → (f : List Stopped) → Adds (acts_course acts.Swap p c) (k ∷ []) n n' f f
+Adds-swap p c source k one ps n n' same some is pushed =
+    let both : List Event = Wrote c ∷ Wrote source ∷ [] in
+    let some' : Some source ≡ number_of (in_force k.state.parameters c keys.Source) = subst (λ (q : Parameters). Some source ≡ number_of (in_force q c keys.Source)) same some in
+    let made : with_events one (Wrote source ∷ []) ≡ with_events k both = ap (λ (x : Kept). with_events x (Wrote source ∷ [])) is ∙ ap (λ (es : List Event). record { facts = k.facts; events = es; state = k.state }) (append_assoc k.events (Wrote c ∷ []) (Wrote source ∷ [])) in
+    let s = writes_at p k (number_of (in_force k.state.parameters c keys.Source)) (λ source. Wrote c ∷ Wrote source ∷ []) both (subst (λ (o : Option ℕ). is_some o ≡ true) some' refl)
+    (λ a e. ap (λ (x : ℕ). Wrote c ∷ Wrote x ∷ []) (same_number a source (sym e ∙ sym some')))
+    in
+    Adds-writing (acts_course acts.Swap p c) p k both n n' (record { there = s.there; back = s.back }) (tt, (tt, tt)) (tt, (tt, (tt, tt))) (subst (λ (x : Kept). n' ≡ n ++ x ∷ []) made pushed)
+
+pub Adds-no_swap : (p c : ℕ) (k : Kept) (ps : Parameters) (n : List Kept) → ps ≡ k.state.parameters → None ≡ number_of (in_force ps c keys.Source) → (f : List Stopped) → Adds (acts_course acts.Swap p c) (k ∷ []) n n f f
+Adds-no_swap p c k ps n same none =
+    let none' : None ≡ number_of (in_force k.state.parameters c keys.Source) = subst (λ (q : Parameters). None ≡ number_of (in_force q c keys.Source)) same none in
+    let s = no_writes_at p k (number_of (in_force k.state.parameters c keys.Source)) (λ source. Wrote c ∷ Wrote source ∷ []) (subst (λ (o : Option ℕ). is_some o ≡ false) none' refl) in
+    Adds-ended (acts_course acts.Swap p c) p k n (record { there = s.there; back = s.back })
+
+-- ---- invoke
+
+abbrev InvokesAs : ℕ → ℕ → Option Digest → Option ℕ → State → List Event → Ending → Type 0
+InvokesAs p c o z s es e = ((es ≡ Invoked c o z true ∷ []) × (e ≡ Done s)) ⊎ ((es ≡ Invoked c o z false ∷ Failed p ∷ []) × (e ≡ Directive p))
+
+pub Adds-invoke : (p c : ℕ) (k to : Kept) (ps : Parameters) (d : Digest) (s : Option ℕ) (n n' : List Kept) → ps ≡ k.state.parameters → Some d ≡ digest_in ps c → s ≡ size_in ps c → HasMatched k.events c d s → to ≡ with_events k (Invoked c (Some d) s true ∷ []) → n' ≡ n ++ to ∷ []
+    → (f : List Stopped) → Adds (acts_course acts.Invoke p c) (k ∷ []) n n' f f
+Adds-invoke p c k to ps d s n n' same some size matched is pushed f =
+    let d-is : Some d ≡ digest_in k.state.parameters c = subst (λ (q : Parameters). Some d ≡ digest_in q c) same some in
+    let s-is : s ≡ size_in k.state.parameters c = subst (λ (q : Parameters). s ≡ size_in q c) same size in
+    let ok : List Event = Invoked c (Some d) s true ∷ [] in
+    let bad : List Event = Invoked c (Some d) s false ∷ Failed p ∷ [] in
+    record {
+      done = with_events k ok ∷ [];
+      failed = [];
+      next_is = subst (λ (x : Kept). n' ≡ n ++ x ∷ []) is pushed;
+      failed_is = sym (append-nil f);
+      explores = Explores-same k (Either (Only ok (Done k.state)) (Only bad (Directive p))) (acts_course acts.Invoke p c) (with_events k ok ∷ []) []
+          (record {
+            there = λ ids al es e r. subst (λ (o : Option Digest). InvokesAs p c o (size_in k.state.parameters c) k.state es e) d-is (subst (λ (z : Option ℕ). InvokesAs p c (Some d) z k.state es e) s-is r);
+            back = λ ids al es e r. subst (λ (z : Option ℕ). InvokesAs p c (Some d) z k.state es e) (sym s-is) (subst (λ (o : Option Digest). InvokesAs p c o (size_in k.state.parameters c) k.state es e) (sym d-is) r);
+          })
+          (Explores-either (Only ok (Done k.state)) (Only bad (Directive p)) k (with_events k ok ∷ []) [] [] [] (Explores-done k ok k.state (matched, tt)) (Explores-ends k bad p (matched, (tt, tt))));
+    }
+
+pub Uncovers-invoke : (p c : ℕ) (k to : Kept) (ps : Parameters) (o : Option Digest) (s : Option ℕ) → ps ≡ k.state.parameters → o ≡ digest_in ps c → s ≡ size_in ps c → (IsCovered k.events (Invoked c o s false) → ⊥) → to ≡ with_events k (Invoked c o s false ∷ []) → Uncovers (acts_course acts.Invoke p c) (k ∷ []) to.facts to.events
+Uncovers-invoke p c k to ps o s same is_o size bad is =
+    let o-is : o ≡ digest_in k.state.parameters c = subst (λ (q : Parameters). o ≡ digest_in q c) same is_o in
+    let s-is : s ≡ size_in k.state.parameters c = subst (λ (q : Parameters). s ≡ size_in q c) same size in
+    subst (λ (x : Kept). Uncovers (acts_course acts.Invoke p c) (k ∷ []) x.facts x.events) (sym is) (
+      k,
+      inl refl,
+      record {
+        since = [];
+        last = Invoked c o s false;
+        place = p;
+        parts = ap (λ (es : List Event). es ++ Invoked c o s false ∷ []) (sym (append-nil k.events));
+        covered = tt;
+        count = refl;
+        uncovered = λ h. bad (subst (λ (es : List Event). IsCovered es (Invoked c o s false)) (append-nil k.events) h);
+        path = λ ids al. (al, subst (λ (q : Option Digest). InvokesAs p c q (size_in k.state.parameters c) k.state (Invoked c o s false ∷ Failed p ∷ []) (Directive p)) o-is (subst (λ (z : Option ℕ). InvokesAs p c o z k.state (Invoked c o s false ∷ Failed p ∷ []) (Directive p)) s-is (inr (refl, refl))));
+      },
+    )
+
+-- ---- override parameters
+
+sets_fine : (past : List Event) (c : ℕ) (list : List Param) → CoveredFrom past (set_events c list)
+sets_fine past c [] = tt
+sets_fine past c (p ∷ ps) = (tt, sets_fine (past ++ Set c p ∷ []) c ps)
+
+override_is : (s : State) (c : ℕ) (list : List Param) → after_override s c list ≡ record { parameters = overridden s.parameters c list; selection = s.selection; soft_failure = soft_after_all s.soft_failure list }
+override_is s c [] = refl
+override_is s c (p ∷ ps) = override_is (record { parameters = with_param s.parameters c p; selection = s.selection; soft_failure = soft_after s.soft_failure p }) c ps
+
+pub Adds-overrides : (list : List Param) (c : ℕ) (k to : Kept) (n n' : List Kept) → to ≡ record { facts = k.facts; events = k.events ++ set_events c list; state = record { parameters = overridden k.state.parameters c list; selection = k.state.selection; soft_failure = soft_after_all k.state.soft_failure list } }
+    → n' ≡ n ++ to ∷ [] → (f : List Stopped) → Adds (λ ids. Overrides list c) (k ∷ []) n n' f f
+Adds-overrides list c k to n n' is pushed f =
+    let made : Kept = record { facts = k.facts; events = k.events ++ set_events c list; state = after_override k.state c list } in
+    let same : to ≡ made = is ∙ ap (λ (s : State). record { facts = k.facts; events = k.events ++ set_events c list; state = s }) (sym (override_is k.state c list)) in
+    record {
+      done = made ∷ [];
+      failed = [];
+      next_is = subst (λ (x : Kept). n' ≡ n ++ x ∷ []) same pushed;
+      failed_is = sym (append-nil f);
+      explores = Explores-same k (Only (set_events c list) (Done (after_override k.state c list))) (λ ids. Overrides list c) (made ∷ []) [] (record { there = λ ids al es e r. r; back = λ ids al es e r. r })
+          (Explores-done k (set_events c list) (after_override k.state c list) (sets_fine k.events c list));
+    }
+
+pub never_true : IsTrue false → ⊥
+never_true t = search rules

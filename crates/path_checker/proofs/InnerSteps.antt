@@ -1,0 +1,67 @@
+-- Into inner sequences and back, one state after another.
+use Rattle.std.proofs.Common.{◌≡◌, ℕ, Bool, true, false, List, [], ◌∷◌, ◌++◌, refl, sym, ap, ◌∙◌, append_assoc}
+use Rattle.std.proofs.lemmas.List.{append-nil}
+use Rattle.path_model.specs.Behaviour.{State}
+use Rattle.path_checker.specs.Exploring.{Kept, Stopped}
+use Rattle.path_checker.specs.Inner.{entered, all_entered, left, all_left, resumed, hardened, if_soft, if_hard, softly, hardly, exhausted_at, exhausted, restarted, all_restarted}
+
+added : {A : Type 0} (n0 n n' front back : List A) → n ≡ n0 ++ front → n' ≡ n ++ back → n' ≡ n0 ++ (front ++ back)
+added {A} n0 n n' front back p q = q ∙ ap (λ (x : List A). x ++ back) p ∙ append_assoc n0 front back
+
+left-push : (s : State) (ks : List Kept) (k : Kept) → all_left s (ks ++ k ∷ []) ≡ all_left s ks ++ left s k ∷ []
+left-push s [] k = refl
+left-push s (x ∷ ks) k = ap (λ (ys : List Kept). left s x ∷ ys) (left-push s ks k)
+
+pub left_step : (s : State) (n0 n n' ys : List Kept) (k made : Kept) → n ≡ n0 ++ all_left s ys → n' ≡ n ++ made ∷ [] → made ≡ left s k → n' ≡ n0 ++ all_left s (ys ++ k ∷ [])
+left_step s n0 n n' ys k made so_far pushed is =
+    added n0 n n' (all_left s ys) (made ∷ []) so_far pushed ∙ ap (λ (x : Kept). n0 ++ (all_left s ys ++ x ∷ [])) is ∙ ap (λ (x : List Kept). n0 ++ x) (sym (left-push s ys k))
+
+entered-push : (s : State) (c : ℕ) (b : Bool) (ks : List Kept) (k : Kept) → all_entered s c b (ks ++ k ∷ []) ≡ all_entered s c b ks ++ entered s c b k ∷ []
+entered-push s c b [] k = refl
+entered-push s c b (x ∷ ks) k = ap (λ (ys : List Kept). entered s c b x ∷ ys) (entered-push s c b ks k)
+
+pub entered_step : (s : State) (c : ℕ) (b : Bool) (n n' ys : List Kept) (k made : Kept) → n ≡ all_entered s c b ys → n' ≡ n ++ made ∷ [] → made ≡ entered s c b k → n' ≡ all_entered s c b (ys ++ k ∷ [])
+entered_step s c b n n' ys k made so_far pushed is =
+    pushed ∙ ap (λ (x : List Kept). x ++ made ∷ []) so_far ∙ ap (λ (x : Kept). all_entered s c b ys ++ x ∷ []) is ∙ sym (entered-push s c b ys k)
+
+restarted-push : (ks : List Kept) (k : Kept) → all_restarted (ks ++ k ∷ []) ≡ all_restarted ks ++ restarted k ∷ []
+restarted-push [] k = refl
+restarted-push (x ∷ ks) k = ap (λ (ys : List Kept). restarted x ∷ ys) (restarted-push ks k)
+
+pub restarted_step : (n n' ys : List Kept) (k made : Kept) → n ≡ all_restarted ys → n' ≡ n ++ made ∷ [] → made ≡ restarted k → n' ≡ all_restarted (ys ++ k ∷ [])
+restarted_step n n' ys k made so_far pushed is =
+    pushed ∙ ap (λ (x : List Kept). x ++ made ∷ []) so_far ∙ ap (λ (x : Kept). all_restarted ys ++ x ∷ []) is ∙ sym (restarted-push ys k)
+
+exhausted-push : (s : State) (p : ℕ) (ks : List Kept) (k : Kept) → exhausted s p (ks ++ k ∷ []) ≡ exhausted s p ks ++ exhausted_at s p k ∷ []
+exhausted-push s p [] k = refl
+exhausted-push s p (x ∷ ks) k = ap (λ (ys : List Stopped). exhausted_at s p x ∷ ys) (exhausted-push s p ks k)
+
+pub exhausted_step : (s : State) (p : ℕ) (n0 n n' : List Stopped) (ys : List Kept) (k : Kept) (made : Stopped) → n ≡ n0 ++ exhausted s p ys → n' ≡ n ++ made ∷ [] → made ≡ exhausted_at s p k → n' ≡ n0 ++ exhausted s p (ys ++ k ∷ [])
+exhausted_step s p n0 n n' ys k made so_far pushed is =
+    added n0 n n' (exhausted s p ys) (made ∷ []) so_far pushed ∙ ap (λ (x : Stopped). n0 ++ (exhausted s p ys ++ x ∷ [])) is ∙ ap (λ (x : List Stopped). n0 ++ x) (sym (exhausted-push s p ys k))
+
+softly-push : (s : State) (fs : List Stopped) (f : Stopped) → softly s (fs ++ f ∷ []) ≡ softly s fs ++ if_soft s f f.soft_failure
+softly-push s [] f = append-nil (if_soft s f f.soft_failure)
+softly-push s (x ∷ fs) f = ap (λ (ys : List Kept). if_soft s x x.soft_failure ++ ys) (softly-push s fs f) ∙ sym (append_assoc (if_soft s x x.soft_failure) (softly s fs) (if_soft s f f.soft_failure))
+
+hardly-push : (s : State) (fs : List Stopped) (f : Stopped) → hardly s (fs ++ f ∷ []) ≡ hardly s fs ++ if_hard s f f.soft_failure
+hardly-push s [] f = append-nil (if_hard s f f.soft_failure)
+hardly-push s (x ∷ fs) f = ap (λ (ys : List Stopped). if_hard s x x.soft_failure ++ ys) (hardly-push s fs f) ∙ sym (append_assoc (if_hard s x x.soft_failure) (hardly s fs) (if_hard s f f.soft_failure))
+
+pub softly_more : (s : State) (n0 n n' : List Kept) (ys : List Stopped) (f : Stopped) (made : Kept) → n ≡ n0 ++ softly s ys → f.soft_failure ≡ true → made ≡ resumed s f → n' ≡ n ++ made ∷ [] → n' ≡ n0 ++ softly s (ys ++ f ∷ [])
+softly_more s n0 n n' ys f made so_far soft is pushed =
+    let one : if_soft s f f.soft_failure ≡ made ∷ [] = ap (if_soft s f) soft ∙ ap (λ (x : Kept). x ∷ []) (sym is) in
+    added n0 n n' (softly s ys) (made ∷ []) so_far pushed ∙ ap (λ (x : List Kept). n0 ++ (softly s ys ++ x)) (sym one) ∙ ap (λ (x : List Kept). n0 ++ x) (sym (softly-push s ys f))
+
+pub softly_same : (s : State) (n0 n : List Kept) (ys : List Stopped) (f : Stopped) → n ≡ n0 ++ softly s ys → f.soft_failure ≡ false → n ≡ n0 ++ softly s (ys ++ f ∷ [])
+softly_same s n0 n ys f so_far hard =
+    so_far ∙ ap (λ (x : List Kept). n0 ++ x) (sym (append-nil (softly s ys)) ∙ ap (λ (x : List Kept). softly s ys ++ x) (sym (ap (if_soft s f) hard)) ∙ sym (softly-push s ys f))
+
+pub hardly_more : (s : State) (n0 n n' ys : List Stopped) (f made : Stopped) → n ≡ n0 ++ hardly s ys → f.soft_failure ≡ false → made ≡ hardened s f → n' ≡ n ++ made ∷ [] → n' ≡ n0 ++ hardly s (ys ++ f ∷ [])
+hardly_more s n0 n n' ys f made so_far hard is pushed =
+    let one : if_hard s f f.soft_failure ≡ made ∷ [] = ap (if_hard s f) hard ∙ ap (λ (x : Stopped). x ∷ []) (sym is) in
+    added n0 n n' (hardly s ys) (made ∷ []) so_far pushed ∙ ap (λ (x : List Stopped). n0 ++ (hardly s ys ++ x)) (sym one) ∙ ap (λ (x : List Stopped). n0 ++ x) (sym (hardly-push s ys f))
+
+pub hardly_same : (s : State) (n0 n ys : List Stopped) (f : Stopped) → n ≡ n0 ++ hardly s ys → f.soft_failure ≡ true → n ≡ n0 ++ hardly s (ys ++ f ∷ [])
+hardly_same s n0 n ys f so_far soft =
+    so_far ∙ ap (λ (x : List Stopped). n0 ++ x) (sym (append-nil (hardly s ys)) ∙ ap (λ (x : List Stopped). hardly s ys ++ x) (sym (ap (if_hard s f) soft)) ∙ sym (hardly-push s ys f))

@@ -1,0 +1,108 @@
+-- Values that are none of a list, and the least number that is none.
+use Rattle.std.proofs.Common.{◌≡◌, ◌≢◌, ◌+◌, ◌<◌, ◌≤◌, ℕ, zero, suc, Bool, true, false, List, [], ◌∷◌, ◌++◌, length, Option, Some, None, refl, sym, ap, ◌∙◌, subst, arith, inl, inr, ⊎_elim}
+use Rattle.std.specs.Prelude.{◌⊎◌, ◌↔◌, ◌==◌, if◌then◌else◌}
+use Rattle.std.specs.List.{AllByRecursion}
+use Rattle.std.proofs.lemmas.Bool.Decides.{eqb_tells}
+use Rattle.path_checker.specs.Exploring.{In}
+use Rattle.path_checker.specs.Knowing.{IsNone, AgreesWith, Agrees}
+use Rattle.path_checker.specs.Forking.{Decides, Narrows}
+
+-- none of these is it
+abbrev pub IsApart : {A : Type 0} → A → List A → Type 0
+IsApart value others = AllByRecursion (λ other. other ≢ value) others
+
+pub apart_after : {A : Type 0} (value other : A) (others : List A) → IsApart value others → other ≢ value → IsApart value (others ++ other ∷ [])
+apart_after value other [] all here = (here, tt)
+apart_after value other (x ∷ others) all here = (all.0, apart_after value other others all.1 here)
+
+pub none_after : {A : Type 0} (own : Option A) (others : List A) (value : A) → IsNone own others → own ≢ Some value → IsNone own (others ++ value ∷ [])
+none_after own [] value all here = (here, tt)
+none_after own (x ∷ others) value all here = (all.0, none_after own others value all.1 here)
+
+pub none_before : {A : Type 0} (own : Option A) (others : List A) (value : A) → IsNone own (others ++ value ∷ []) → IsNone own others × (own ≢ Some value)
+none_before own [] value all = (tt, all.0)
+none_before own (x ∷ others) value all = let y = none_before own others value all.1 in ((all.0, y.0), y.1)
+
+same_some : {A : Type 0} (a b : A) → ◌≡◌ {A = Option A} (Some a) (Some b) → a ≡ b
+same_some a b e = cc
+
+apart_none : {A : Type 0} (value : A) (others : List A) → IsApart value others → IsNone (Some value) others
+apart_none value [] all = tt
+apart_none value (x ∷ others) all = ((λ e. all.0 (sym (same_some value x e))), apart_none value others all.1)
+
+-- ---- narrowing what is known
+
+pub narrows_has : {A : Type 0} (others : List A) (value : A) → IsApart value others → Narrows (None, others) (Some value, []) (λ own. own ≡ Some value)
+narrows_has {A} others value apart own = (λ e. (subst (λ (o : Option A). IsNone o others) (sym e) (apart_none value others apart), e), λ h. h.1)
+
+pub narrows_has_not : {A : Type 0} (others : List A) (value : A) → Narrows (None, others) (None, others ++ value ∷ []) (λ own. own ≢ Some value)
+narrows_has_not others value own = (λ h. none_before own others value h, λ h. none_after own others value h.0 h.1)
+
+pub decides_has : {A : Type 0} (held wanted : A) (others : List A) → held ≡ wanted → Decides (Some held, others) (λ own. own ≡ Some wanted)
+decides_has held wanted others same own e = e ∙ ap Some same
+
+pub decides_has_not : {A : Type 0} (held wanted : A) (others : List A) → held ≢ wanted → Decides (Some held, others) (λ own. own ≢ Some wanted)
+decides_has_not held wanted others other own e is = other (same_some held wanted (sym e ∙ is))
+
+in_none : {A : Type 0} (own : Option A) (others : List A) (value : A) → IsNone own others → In value others → own ≢ Some value
+in_none {A} own (x ∷ others) value all (inl e) = subst (λ (y : A). own ≢ Some y) e all.0
+in_none own (x ∷ others) value all (inr h) = in_none own others value all.1 h
+in_none own [] value all h = absurd h
+
+pub decides_other : {A : Type 0} (wanted : A) (others : List A) → In wanted others → Decides (None, others) (λ own. own ≢ Some wanted)
+decides_other wanted others h own all = in_none own others wanted all h
+
+-- ---- the least number outside
+
+pub outside_none : (number : ℕ) (others : List ℕ) → (In number others → ⊥) → IsNone (Some number) others
+outside_none number [] out = tt
+outside_none number (x ∷ others) out = ((λ e. out (inl (sym (same_some number x e)))), outside_none number others (λ h. out (inr h)))
+
+without : ℕ → List ℕ → List ℕ
+without n [] = []
+without n (x ∷ xs) = if x == n then without n xs else x ∷ without n xs
+
+without-shorter : (n : ℕ) (xs : List ℕ) → length (without n xs) ≤ length xs
+unfolding without
+without-shorter n [] = omega arith
+without-shorter n (x ∷ xs) =
+    ⊎_elim
+    (λ h. rw h.0 (omega (arith, without-shorter n xs)))
+    (λ h. rw h.0 (omega (arith, without-shorter n xs)))
+    (eqb_tells x n)
+
+without-less : (n : ℕ) (xs : List ℕ) → In n xs → length (without n xs) + 1 ≤ length xs
+unfolding without
+without-less n [] h = absurd h
+without-less n (x ∷ xs) (inl e) =
+    ⊎_elim
+    (λ h. rw h.0 (omega (arith, without-shorter n xs)))
+    (λ h. absurd (h.1 e))
+    (eqb_tells x n)
+without-less n (x ∷ xs) (inr i) =
+    ⊎_elim
+    (λ h. rw h.0 (omega (arith, without-shorter n xs)))
+    (λ h. rw h.0 (omega (arith, without-less n xs i)))
+    (eqb_tells x n)
+
+in-without : (n m : ℕ) (xs : List ℕ) → m ≢ n → In m xs → In m (without n xs)
+unfolding without
+in-without n m [] other h = absurd h
+in-without n m (x ∷ xs) other (inl e) =
+    ⊎_elim
+    (λ h. absurd (other (sym e ∙ h.1)))
+    (λ h. rw h.0 (inl e))
+    (eqb_tells x n)
+in-without n m (x ∷ xs) other (inr i) =
+    ⊎_elim
+    (λ h. rw h.0 (in-without n m xs other i))
+    (λ h. rw h.0 (inr (in-without n m xs other i)))
+    (eqb_tells x n)
+
+-- so many numbers need so long a list
+pub room_for : (n : ℕ) (xs : List ℕ) → ((m : ℕ) → m < n → In m xs) → n ≤ length xs
+room_for zero xs all = omega arith
+room_for (suc n) xs all =
+    let here : In n xs = all n (omega arith) in
+    let rest : n ≤ length (without n xs) = room_for n (without n xs) (λ m lt. in-without n m xs (λ e. absurd (omega (arith, e, lt))) (all m (omega (arith, lt)))) in
+    omega (arith, rest, without-less n xs here)

@@ -1,0 +1,150 @@
+-- A loop that takes states from the end of a list, and what one command is.
+use Rattle.std.proofs.Common.{◌≡◌, ℕ, ◌+◌, ◌<◌, suc, add-one, List, [], ◌∷◌, ◌++◌, length, get_or, drop, refl, sym, ap, ◌∙◌, subst, append_assoc, inl, inr, arith}
+use Rattle.std.proofs.Math.Seq.{drop-cons}
+use Rattle.std.proofs.lemmas.List.{append-nil}
+use Rattle.suit_commands.specs.declared.command.Command.{Command}
+use Rattle.suit_commands.specs.declared.command.Command.TheVariants as commands
+use Rattle.suit_commands.specs.declared.selection.Selection.{Selection}
+use Rattle.suit_commands.specs.Selections.{selected_by}
+use Rattle.suit_commands.specs.Tree.{CommandTree, Index}
+use Rattle.suit_commands.specs.View.{command_tree}
+use Rattle.path_model.specs.declared.identity.Identity.{Identity}
+use Rattle.path_model.specs.declared.event.Event.{Event}
+use Rattle.path_model.specs.Behaviour.{State, Ending, Done, Directive, Each}
+use Rattle.path_model.specs.Following.{CoveredFrom, SameMatches}
+use Rattle.path_model.proofs.Following.{same_matches}
+use Rattle.path_checker.specs.declared.judge_plan.facts.Knowledge.{Knowledge}
+use Rattle.path_checker.specs.declared.judge_plan.halt.Halt.{Halt}
+use Rattle.path_checker.specs.Knowing.{Allows}
+use Rattle.path_checker.specs.Exploring.{Course, In, Kept, Stopped, Found, Reaches, Explores, Uncovers, Uncovered, Adds}
+use Rattle.path_checker.specs.Steps.{At, with_selection}
+use Rattle.path_checker.specs.Halting.{Halts}
+use Rattle.path_checker.proofs.Membership.{In-right}
+use Rattle.path_checker.proofs.Exploring.{then_course, Explores-one}
+use Rattle.path_checker.proofs.Uncovering.{Uncovered-lift}
+use Rattle.path_checker.proofs.Carrying.{Explores-more}
+use Rattle.path_checker.proofs.Leaves.{Same, Explores-same}
+use Rattle.path_checker.proofs.Walking.{Halts-lift, does_course, Walks, Walks-then, Walks-halt}
+
+pub record Pops (course : Course) (from : List Kept) (failed0 : List Stopped) (now next : List Kept) (failed : List Stopped) : Type 0 where
+  pub gone : List Kept
+  pub added : List Stopped
+  pub from_is : from ≡ now ++ gone
+  pub failed_is : failed ≡ failed0 ++ added
+  pub explores : Explores course gone next added
+
+module _ (course : Course) (from : List Kept) (failed0 : List Stopped) (old rest next : List Kept) (failed : List Stopped) (k : Kept) (w : Pops course from failed0 old next failed) (popped : old ≡ rest ++ k ∷ []) where
+  pub pops-is : from ≡ rest ++ (k ∷ w.gone)
+  pops-is = w.from_is ∙ ap (λ (x : List Kept). x ++ w.gone) popped ∙ append_assoc rest (k ∷ []) w.gone
+
+  pub Pops-step : (next' : List Kept) (failed' : List Stopped) → Adds course (k ∷ []) next next' failed failed' → Pops course from failed0 rest next' failed'
+  Pops-step next' failed' a = record {
+    gone = k ∷ w.gone;
+    added = w.added ++ a.failed;
+    from_is = pops-is;
+    failed_is = a.failed_is ∙ ap (λ (x : List Stopped). x ++ a.failed) w.failed_is ∙ append_assoc failed0 w.added a.failed;
+    explores = subst (λ (n : List Kept). Explores course (k ∷ w.gone) n (w.added ++ a.failed)) (sym a.next_is) (Explores-more course k w.gone next a.done w.added a.failed w.explores a.explores);
+  }
+
+  pub Pops-halt : (h : Halt) → Halts course (k ∷ []) h → Halts course from h
+  Pops-halt h u = Halts-lift course course (k ∷ []) from (λ facts events x. here facts events x) h u
+    where
+      here : (facts : List Knowledge) (events : List Event) → Uncovers course (k ∷ []) facts events → Uncovers course from facts events
+      here facts events (k', inl p, v) = (k', subst (In k') (sym pops-is) (In-right k' rest (k ∷ w.gone) (inl p)), v)
+      here facts events (k', inr n, v) = absurd n
+
+-- where all states are taken
+pub Pops-end : (course : Course) (from : List Kept) (failed0 : List Stopped) (now next : List Kept) (failed : List Stopped) → Pops course from failed0 now next failed → now ≡ [] → Adds course from [] next failed0 failed
+Pops-end course from failed0 now next failed w none =
+    let all : from ≡ w.gone = w.from_is ∙ ap (λ (x : List Kept). x ++ w.gone) none in
+    record {
+      done = next;
+      failed = w.added;
+      next_is = refl;
+      failed_is = w.failed_is;
+      explores = subst (λ (x : List Kept). Explores course x next w.added) (sym all) w.explores;
+    }
+
+pub none_left : (xs : List Kept) → (0 < length xs → ⊥) → xs ≡ []
+none_left [] h = refl
+none_left (x ∷ xs) h = absurd (h (omega arith))
+
+-- ---- a command is its parts at each component that is selected
+
+abbrev pub each_course : CommandTree → ℕ → ℕ → List ℕ → Course
+each_course cmd count p cs ids = Each (λ c. At cmd count p c ids) cs
+
+pub does_each : (cmd : Command) → ((s : Selection) → cmd ≡ commands.Index s → ⊥) → (count p : ℕ) (k : Kept) → Same k (each_course (command_tree cmd) count p k.state.selection) (does_course (command_tree cmd) count p)
+does_each (commands.Test kind report) other count p k = record { there = λ ids al es e r. r; back = λ ids al es e r. r }
+does_each (commands.Act kind report) other count p k = record { there = λ ids al es e r. r; back = λ ids al es e r. r }
+does_each (commands.Index s) other count p k = absurd (other s refl)
+does_each (commands.Override list) other count p k = record { there = λ ids al es e r. r; back = λ ids al es e r. r }
+does_each (commands.TryEach _) other count p k = record { there = λ ids al es e r. r; back = λ ids al es e r. r }
+does_each (commands.Run inner) other count p k = record { there = λ ids al es e r. r; back = λ ids al es e r. r }
+
+pub Adds-same : (k : Kept) (a b : Course) (n n' : List Kept) (f f' : List Stopped) → Same k a b → Adds a (k ∷ []) n n' f f' → Adds b (k ∷ []) n n' f f'
+Adds-same k a b n n' f f' same x = record { done = x.done; failed = x.failed; next_is = x.next_is; failed_is = x.failed_is; explores = Explores-same k a b x.done x.failed same x.explores }
+
+pub Halts-same : (k : Kept) (a b : Course) → Same k a b → (h : Halt) → Halts a (k ∷ []) h → Halts b (k ∷ []) h
+Halts-same k a b same h u = Halts-lift a b (k ∷ []) (k ∷ []) here h u
+  where
+    one : (facts : List Knowledge) (events : List Event) → Uncovered a k facts events → Uncovered b k facts events
+    one facts events v = Uncovered-lift a b k k facts events refl refl (λ ids al es place r. same.there ids al es (Directive place) r) v
+
+    here : (facts : List Knowledge) (events : List Event) → Uncovers a (k ∷ []) facts events → Uncovers b (k ∷ []) facts events
+    here facts events (k', inl q, v) = (k, inl refl, one facts events (subst (λ (x : Kept). Uncovered a x facts events) (sym q) v))
+    here facts events (k', inr n, v) = absurd n
+
+-- ---- a state changes, and nothing happens
+
+pub Explores-becomes : (course : Course) (k : Kept) (s : State) → ((ids : List Identity) (es : List Event) (e : Ending) → course ids k.state es e → (es ≡ []) × (e ≡ Done s)) → ((ids : List Identity) → course ids k.state [] (Done s))
+    → Explores course (k ∷ []) (record { facts = k.facts; events = k.events; state = s } ∷ []) []
+Explores-becomes course k s only does =
+    let to : Kept = record { facts = k.facts; events = k.events; state = s } in
+    Explores-one course k (to ∷ []) [] (record {
+      complete = λ ids al es e r.
+          let x = only ids es e r in
+          let f : CoveredFrom k.events [] × Found k ids [] (to ∷ []) [] (Done s) = (tt, (to, inl refl, al, refl, subst (SameMatches k.events) (sym (append-nil k.events)) (same_matches k.events))) in
+          subst (λ (es' : List Event). CoveredFrom k.events es' × Found k ids es' (to ∷ []) [] e) (sym x.0) (subst (λ (e' : Ending). CoveredFrom k.events [] × Found k ids [] (to ∷ []) [] e') (sym x.1) f);
+      reached = λ y h. elim h [
+        | inl q ↦ subst (λ (y : Kept). Reaches course k y.facts y.events (Done y.state)) q (record { since = []; parts = sym (append-nil k.events); covered = tt; count = refl; path = λ ids al. (al, does ids) })
+        | inr n ↦ absurd n
+      ];
+      stopped = λ y h. absurd h;
+    })
+
+pub Adds-index : (k to : Kept) (selection : Selection) (count p : ℕ) (cmd : Command) (n n' : List Kept) (f : List Stopped) → cmd ≡ commands.Index selection → to ≡ with_selection k (selected_by selection count) → n' ≡ n ++ to ∷ [] → Adds (does_course (command_tree cmd) count p) (k ∷ []) n n' f f
+Adds-index k to selection count p cmd n n' f is made pushed =
+    subst (λ (x : Command). Adds (does_course (command_tree x) count p) (k ∷ []) n n' f f) (sym is) (record {
+      done = with_selection k (selected_by selection count) ∷ [];
+      failed = [];
+      next_is = subst (λ (x : Kept). n' ≡ n ++ x ∷ []) made pushed;
+      failed_is = sym (append-nil f);
+      explores = Explores-becomes (does_course (Index selection) count p) k (with_selection k (selected_by selection count)).state (λ ids es e r. r) (λ ids. (refl, refl));
+    })
+
+pub Adds-at_index : (k : Kept) (c : ℕ) (selection : Selection) (count p : ℕ) (cmd : Command) (n n' : List Kept) (f : List Stopped) → cmd ≡ commands.Index selection → n' ≡ n ++ k ∷ [] → Adds (At (command_tree cmd) count p c) (k ∷ []) n n' f f
+Adds-at_index k c selection count p cmd n n' f is pushed =
+    subst (λ (x : Command). Adds (At (command_tree x) count p c) (k ∷ []) n n' f f) (sym is) (record {
+      done = k ∷ [];
+      failed = [];
+      next_is = pushed;
+      failed_is = sym (append-nil f);
+      explores = Explores-becomes (At (Index selection) count p c) k k.state (λ ids es e r. r) (λ ids. (refl, refl));
+    })
+
+-- ---- a walk over the components that are selected
+
+module _ (cmd : CommandTree) (count p : ℕ) (cs : List ℕ) (i : ℕ) (d : ℕ) (lt : i < length cs) (whole : Course) (from now : List Kept) (failed0 failed : List Stopped) (w : Walks whole from failed0 (each_course cmd count p (drop i cs)) now failed) where
+  at_each : Walks whole from failed0 (then_course (At cmd count p (get_or cs i d)) (each_course cmd count p (drop (i + 1) cs))) now failed
+  at_each =
+      let e : each_course cmd count p (drop i cs) ≡ then_course (At cmd count p (get_or cs i d)) (each_course cmd count p (drop (i + 1) cs)) =
+      ap (each_course cmd count p) (drop-cons cs i d lt) ∙ ap (λ (m : ℕ). then_course (At cmd count p (get_or cs i d)) (each_course cmd count p (drop m cs))) (sym (add-one i))
+      in
+      subst (λ (r : Course). Walks whole from failed0 r now failed) e w
+
+  pub Each-step : (mid : List Kept) (failed' : List Stopped) → Adds (At cmd count p (get_or cs i d)) now [] mid failed failed' → Walks whole from failed0 (each_course cmd count p (drop (i + 1) cs)) mid failed'
+  Each-step mid failed' a = Walks-then whole (At cmd count p (get_or cs i d)) (each_course cmd count p (drop (i + 1) cs)) from now mid failed0 failed failed' at_each a
+
+  pub Each-stops : (h : Halt) → Halts (At cmd count p (get_or cs i d)) now h → Halts whole from h
+  Each-stops h u = Walks-halt whole (At cmd count p (get_or cs i d)) (each_course cmd count p (drop (i + 1) cs)) from now failed0 failed at_each h u

@@ -1,0 +1,6 @@
+use Rattle.std.proofs.Common.{◌≡◌, ◌++◌}
+use Rattle.path_checker.specs.Inner.{exhausted}
+use Rattle.path_checker.proofs.judge_plan.inner.exhaust.Given as goal
+
+abbrev pub invariant-loop-k : goal.invariant-loop-k
+invariant-loop-k l = l.failed.items ≡ l.initial.failed.items ++ exhausted l.outer l.place l.yielded

@@ -1,0 +1,174 @@
+use Rattle.std.proofs.Common.{rules, ◌≡◌, ◌<◌, ◌≤◌, ◌+◌, List, [], ◌∷◌, ◌++◌, drop, length, refl, sym, ap, ◌∙◌, subst, arith}
+use Rattle.std.proofs.lemmas.List.{drop_all}
+use Rattle.std.proofs.lemmas.Result.{err_from_is_err_and, on_ok_weaker}
+use Rattle.std.specs.Prelude.{OnOk, IfErr}
+use Rattle.std.specs.Vec.{vec_len}
+use Rattle.suit_commands.specs.Tree.{SequenceTree, BranchesTree}
+use Rattle.suit_commands.specs.View.{sequence_tree, command_tree, branches_tree}
+use Rattle.suit_commands.specs.Size.{sequence_size, branches_size}
+use Rattle.suit_commands.specs.declared.command.Step.{Step}
+use Rattle.suit_commands.specs.declared.command.Command.{Command}
+use Rattle.suit_commands.specs.declared.command.Branches.TheDeep.{deep-Step}
+use Rattle.suit_commands.proofs.Smaller.{step_smaller, branch_smaller}
+use Rattle.path_checker.specs.Exploring.{Course, Adds}
+use Rattle.path_checker.specs.Steps.{At}
+use Rattle.path_checker.specs.Halting.{Halts}
+use Rattle.path_checker.specs.Small.{IsSmallSequence, IsSmallCommand, AreSmallBranches}
+use Rattle.path_checker.proofs.DirectiveLeaves.{never_true}
+use Rattle.path_checker.proofs.Smallness.{small_step, small_index, small_branch}
+use Rattle.path_checker.proofs.Walking.{Walks, Walks-start, Walks-step, Walks-stops, Walks-end, runs_course, does_course}
+use Rattle.path_checker.proofs.Popping.{Pops-step, Pops-halt, Pops-end, none_left, each_course, does_each, Adds-same, Halts-same, Adds-index, Adds-at_index, Each-step, Each-stops}
+use Rattle.path_checker.proofs.Branching.{Trying, Trying-start, Trying-branch, Trying-halt, Trying-null, Trying-end, rest_course, at_some, at_none, Adds-run, Halts-run, Adds-branch, Adds-appended}
+use Rattle.path_checker.proofs.judge_plan.walk.+walk.Goals as goal
+
+pub all_at-loop-k-preserved : goal.all_at-loop-k-preserved
+all_at-loop-k-preserved t c = Pops-step (At (command_tree c.args.step.now.command) c.args.count c.args.step.now.place c.args.component) c.args.from.items c.args.failed.now.items c.loop-k.now.items c.pop.new.self.items c.loop-k.next.items c.loop-k.failed.items c.in-Some.k c.loop-k.invariant c.in-Some.ensures.items c.one.new.next.items c.one.new.failed.items c.in_ok-one.ensures.ok
+
+pub all_at-returns-in_err-one-clause-err : goal.all_at-returns-in_err-one-clause-err
+all_at-returns-in_err-one-clause-err t c =
+    let p = err_from_is_err_and c.from_residual.result c.from_residual.ensures.1 in rw (p.1, p.2) (Pops-halt (At (command_tree c.args.step.now.command) c.args.count c.args.step.now.place c.args.component) c.args.from.items c.args.failed.now.items c.loop-k.now.items c.pop.new.self.items c.loop-k.next.items c.loop-k.failed.items c.in-Some.k c.loop-k.invariant c.in-Some.ensures.items c.in_err-one.field-0.0 c.in_err-one.ensures.err)
+
+pub command-loop-k-preserved-in_ok-push-in-Index : goal.command-loop-k-preserved-in_ok-push-in-Index
+command-loop-k-preserved-in_ok-push-in-Index t c = Pops-step (does_course (command_tree c.args.step.now.command) c.args.count c.args.step.now.place) c.args.from.items c.args.failed.now.items c.loop-k.now.items c.pop.new.self.items c.loop-k.next.items c.loop-k.failed.items c.in-Some.k c.loop-k.invariant c.in-Some.ensures.items c.push.new.self.items c.loop-k.failed.items (Adds-index c.in-Some.k _ c.in-Index.selection c.args.count c.args.step.now.place c.args.step.now.command c.loop-k.next.items c.push.new.self.items c.loop-k.failed.items c.in-Index.is c.in_ok-select-in-Index.ensures c.in_ok-push-in-Index.ensures.items)
+
+pub command-loop-k-preserved : goal.command-loop-k-preserved
+command-loop-k-preserved t c = Pops-step (does_course (command_tree c.args.step.now.command) c.args.count c.args.step.now.place) c.args.from.items c.args.failed.now.items c.loop-k.now.items c.pop.new.self.items c.loop-k.next.items c.loop-k.failed.items c.in-Some.k c.loop-k.invariant c.in-Some.ensures.items c.each.new.next.items c.each.new.failed.items (Adds-same c.in-Some.k (each_course (command_tree c.args.step.now.command) c.args.count c.args.step.now.place c.in-Some.k.state.selection) (does_course (command_tree c.args.step.now.command) c.args.count c.args.step.now.place) c.loop-k.next.items c.each.new.next.items c.loop-k.failed.items c.each.new.failed.items (does_each c.args.step.now.command c.in_default-command.not-Index c.args.count c.args.step.now.place c.in-Some.k) c.in_ok-each-in_default-command.ensures.ok)
+
+pub command-returns-in_err-each-in_default-command : goal.command-returns-in_err-each-in_default-command
+command-returns-in_err-each-in_default-command t c =
+    let p = err_from_is_err_and c.from_residual-in_err-each-in_default-command.result c.from_residual-in_err-each-in_default-command.ensures.1 in rw (p.1, p.2) (record { ok = tt; err = Pops-halt (does_course (command_tree c.args.step.now.command) c.args.count c.args.step.now.place) c.args.from.items c.args.failed.now.items c.loop-k.now.items c.pop.new.self.items c.loop-k.next.items c.loop-k.failed.items c.in-Some.k c.loop-k.invariant c.in-Some.ensures.items c.in_err-each-in_default-command.field-0.0 (Halts-same c.in-Some.k (each_course (command_tree c.args.step.now.command) c.args.count c.args.step.now.place c.in-Some.k.state.selection) (does_course (command_tree c.args.step.now.command) c.args.count c.args.step.now.place) (does_each c.args.step.now.command c.in_default-command.not-Index c.args.count c.args.step.now.place c.in-Some.k) c.in_err-each-in_default-command.field-0.0 c.in_err-each-in_default-command.ensures.err) })
+
+pub each-loop-component-init : goal.each-loop-component-init
+each-loop-component-init t c =
+    let whole : c.as_slice-component-items.result.now ≡ c.args.k.state.selection = c.as_slice-component-items.ensures.value ∙ c.in_ok-selection.ensures ∙ ap (λ k. k.state.selection) c.k.view_is in
+    let one : c.push.new.self.items ≡ c.args.k ∷ [] = c.in_ok-push.ensures.items ∙ ap (λ x. x ++ c.args.k ∷ []) c.new-now.ensures.items in
+    record {
+      whole = whole;
+      small = c.as_slice-component-items.ensures.small;
+      walks = subst (λ cs. Walks (each_course (command_tree c.args.step.now.command) c.args.count c.args.step.now.place c.args.k.state.selection) (c.args.k ∷ []) c.args.failed.now.items (each_course (command_tree c.args.step.now.command) c.args.count c.args.step.now.place cs) c.push.new.self.items c.args.failed.now.items) (sym whole) (subst (λ n. Walks (each_course (command_tree c.args.step.now.command) c.args.count c.args.step.now.place c.args.k.state.selection) (c.args.k ∷ []) c.args.failed.now.items (each_course (command_tree c.args.step.now.command) c.args.count c.args.step.now.place c.args.k.state.selection) n c.args.failed.now.items) (sym one) (Walks-start (each_course (command_tree c.args.step.now.command) c.args.count c.args.step.now.place c.args.k.state.selection) (c.args.k ∷ []) c.args.failed.now.items));
+    }
+
+pub each-returns-in_err-now-clause-err : goal.each-returns-in_err-now-clause-err
+each-returns-in_err-now-clause-err t c =
+    let p = err_from_is_err_and c.from_residual-in_err-now.result c.from_residual-in_err-now.ensures.1 in rw (p.1, p.2) (Each-stops (command_tree c.args.step.now.command) c.args.count c.args.step.now.place c.as_slice-component-items.result.now c.loop-component.component-index _ c.loop-component-test.true (each_course (command_tree c.args.step.now.command) c.args.count c.args.step.now.place c.args.k.state.selection) (c.args.k ∷ []) c.loop-component.now.items c.args.failed.now.items c.loop-component.failed.items c.loop-component.invariant.walks c.in_err-now.field-0.0 c.in_err-now.ensures.err)
+
+pub each-loop-component-preserved : goal.each-loop-component-preserved
+each-loop-component-preserved t c = record {
+  whole = c.loop-component.invariant.whole;
+  small = (small_index c.as_slice-component-items.result.now c.loop-component.component-index 0 c.loop-component-test.true c.loop-component.invariant.small).1;
+  walks = Each-step (command_tree c.args.step.now.command) c.args.count c.args.step.now.place c.as_slice-component-items.result.now c.loop-component.component-index _ c.loop-component-test.true (each_course (command_tree c.args.step.now.command) c.args.count c.args.step.now.place c.args.k.state.selection) (c.args.k ∷ []) c.loop-component.now.items c.args.failed.now.items c.loop-component.failed.items c.loop-component.invariant.walks c.in_ok-now.now.items c.all_at.new.failed.items c.in_ok-now.ensures.ok;
+}
+
+pub each-returns-clause-ok : goal.each-returns-clause-ok
+each-returns-clause-ok t c =
+    let none : drop c.loop-component.component-index c.as_slice-component-items.result.now ≡ [] = drop_all c.loop-component.component-index c.as_slice-component-items.result.now c.loop-component-test.false in
+    Adds-appended (each_course (command_tree c.args.step.now.command) c.args.count c.args.step.now.place c.args.k.state.selection) (c.args.k ∷ []) c.args.next.now.items c.append.new.self.items c.loop-component.now.items c.args.failed.now.items c.loop-component.failed.items (Walks-end (each_course (command_tree c.args.step.now.command) c.args.count c.args.step.now.place c.args.k.state.selection) (c.args.k ∷ []) c.loop-component.now.items c.args.failed.now.items c.loop-component.failed.items (subst (λ cs. Walks (each_course (command_tree c.args.step.now.command) c.args.count c.args.step.now.place c.args.k.state.selection) (c.args.k ∷ []) c.args.failed.now.items (each_course (command_tree c.args.step.now.command) c.args.count c.args.step.now.place cs) c.loop-component.now.items c.loop-component.failed.items) none c.loop-component.invariant.walks)) c.in_ok-append.ensures.items
+
+pub one-returns-in_ok-test-in-Test-clause-ok : goal.one-returns-in_ok-test-in-Test-clause-ok
+one-returns-in_ok-test-in-Test-clause-ok t c = subst (λ (m : Command). Adds (At (command_tree m) c.args.count c.args.step.now.place c.args.component) (c.args.k ∷ []) c.args.next.now.items c.test.new.next.items c.args.failed.now.items c.test.new.failed.items) (sym c.in-Test.is) c.in_ok-test-in-Test.ensures
+
+pub one-returns-in-Act-clause-ok : goal.one-returns-in-Act-clause-ok
+one-returns-in-Act-clause-ok t c = subst (λ (m : Command). OnOk c.act.result (Adds (At (command_tree m) c.args.count c.args.step.now.place c.args.component) (c.args.k ∷ []) c.args.next.now.items c.act.new.next.items c.args.failed.now.items c.args.failed.now.items)) (sym c.in-Act.is) (on_ok_weaker c.act.result (λ h. h c.args.failed.now.items) c.act.ensures.ok)
+
+pub one-returns-in-Act-clause-err : goal.one-returns-in-Act-clause-err
+one-returns-in-Act-clause-err t c = subst (λ (m : Command). IfErr c.act.result (λ h. Halts (At (command_tree m) c.args.count c.args.step.now.place c.args.component) (c.args.k ∷ []) h)) (sym c.in-Act.is) c.act.ensures.err
+
+pub one-returns-in_ok-push-in-Index-clause-ok : goal.one-returns-in_ok-push-in-Index-clause-ok
+one-returns-in_ok-push-in-Index-clause-ok t c = Adds-at_index c.args.k c.args.component c.in-Index.field-0 c.args.count c.args.step.now.place c.args.step.now.command c.args.next.now.items c.push.new.self.items c.args.failed.now.items c.in-Index.is c.in_ok-push-in-Index.ensures.items
+
+pub one-returns-in_ok-overrides-in-Override-clause-ok : goal.one-returns-in_ok-overrides-in-Override-clause-ok
+one-returns-in_ok-overrides-in-Override-clause-ok t c = subst (λ (m : Command). Adds (At (command_tree m) c.args.count c.args.step.now.place c.args.component) (c.args.k ∷ []) c.args.next.now.items c.overrides.new.next.items c.args.failed.now.items c.args.failed.now.items) (sym c.in-Override.is) (c.in_ok-overrides-in-Override.ensures c.args.failed.now.items)
+
+pub one-returns-in-TryEach-clause-ok : goal.one-returns-in-TryEach-clause-ok
+one-returns-in-TryEach-clause-ok t c = subst (λ (m : Command). OnOk c.try_each.result (Adds (At (command_tree m) c.args.count c.args.step.now.place c.args.component) (c.args.k ∷ []) c.args.next.now.items c.try_each.new.next.items c.args.failed.now.items c.try_each.new.failed.items)) (sym c.in-TryEach.is) c.try_each.ensures.ok
+
+pub one-returns-in-TryEach-clause-err : goal.one-returns-in-TryEach-clause-err
+one-returns-in-TryEach-clause-err t c = subst (λ (m : Command). IfErr c.try_each.result (λ h. Halts (At (command_tree m) c.args.count c.args.step.now.place c.args.component) (c.args.k ∷ []) h)) (sym c.in-TryEach.is) c.try_each.ensures.err
+
+pub one-returns-in-Run-clause-ok : goal.one-returns-in-Run-clause-ok
+one-returns-in-Run-clause-ok t c = subst (λ (m : Command). OnOk c.run.result (Adds (At (command_tree m) c.args.count c.args.step.now.place c.args.component) (c.args.k ∷ []) c.args.next.now.items c.run.new.next.items c.args.failed.now.items c.run.new.failed.items)) (sym c.in-Run.is) c.run.ensures.ok
+
+pub one-returns-in-Run-clause-err : goal.one-returns-in-Run-clause-err
+one-returns-in-Run-clause-err t c = subst (λ (m : Command). IfErr c.run.result (λ h. Halts (At (command_tree m) c.args.count c.args.step.now.place c.args.component) (c.args.k ∷ []) h)) (sym c.in-Run.is) c.run.ensures.err
+
+pub run-returns-in_err-done-clause-err : goal.run-returns-in_err-done-clause-err
+run-returns-in_err-done-clause-err t c =
+    let one : c.push.new.self.items ≡ c.in_ok-enter.field-0 ∷ [] = c.in_ok-push.ensures.items ∙ ap (λ x. x ++ c.in_ok-enter.field-0 ∷ []) c.new-from.ensures.items in
+    let p = err_from_is_err_and c.from_residual-in_err-done.result c.from_residual-in_err-done.ensures.1 in rw (p.1, p.2) (Halts-run (runs_course c.args.inner.now c.args.count) c.in_ok-outer.outer c.args.component c.args.k c.in_ok-enter.field-0 c.push.new.self.items c.in_ok-outer.ensures c.in_ok-enter.ensures one c.in_err-done.field-0.0 c.in_err-done.ensures.err)
+
+pub run-returns-clause-ok : goal.run-returns-clause-ok
+run-returns-clause-ok t c =
+    let one : c.push.new.self.items ≡ c.in_ok-enter.field-0 ∷ [] = c.in_ok-push.ensures.items ∙ ap (λ x. x ++ c.in_ok-enter.field-0 ∷ []) c.new-from.ensures.items in
+    Adds-run (runs_course c.args.inner.now c.args.count) c.in_ok-outer.outer c.args.component c.args.k c.in_ok-enter.field-0 c.push.new.self.items c.in_ok-done.done.items c.args.next.now.items c.leave_all.new.next.items c.split.new.next.items c.sequence.new.failed.items c.args.failed.now.items c.split.new.failed.items c.new-stops.result.items c.in_ok-outer.ensures c.in_ok-enter.ensures one c.new-stops.ensures.items c.in_ok-done.ensures.ok c.in_ok-leave_all.ensures c.in_ok-split.ensures.soft c.in_ok-split.ensures.hard
+
+pub sequence-loop-step-init : goal.sequence-loop-step-init
+sequence-loop-step-init t c = record {
+  whole = c.as_slice-step-items.ensures;
+  small = subst (λ (s : SequenceTree). IsSmallSequence c.args.count s) (sym c.as_slice-step-items.ensures) c.requires.small;
+  walks = subst (λ (s : SequenceTree). Walks (runs_course c.args.sequence.now c.args.count) c.args.from.items c.args.failed.now.items (runs_course s c.args.count) c.args.from.items c.args.failed.now.items) (sym c.as_slice-step-items.ensures) (Walks-start (runs_course c.args.sequence.now c.args.count) c.args.from.items c.args.failed.now.items);
+}
+
+pub sequence-command-requires : goal.sequence-command-requires
+sequence-command-requires t c =
+    let e : deep-Step c.step-item.result ≤ sequence_size c.args.sequence.now = step_smaller c.as_slice-step-items.result.now c.loop-step.step-index c.step-item.result c.step-item.result c.args.sequence.now c.loop-step-test.true c.step-item.is c.loop-step.invariant.whole in
+    let small : IsSmallCommand c.args.count (command_tree c.step-item.result.command) = subst (λ (s : Step). IsSmallCommand c.args.count (command_tree s.command)) (sym c.step-item.is) (small_step c.args.count c.as_slice-step-items.result.now c.loop-step.step-index c.step-item.result c.loop-step-test.true c.loop-step.invariant.small).0 in
+    (omega (arith, e, c.decreases), small)
+
+pub sequence-returns-in_err-now-clause-err : goal.sequence-returns-in_err-now-clause-err
+sequence-returns-in_err-now-clause-err t c =
+    let p = err_from_is_err_and c.from_residual.result c.from_residual.ensures.1 in rw (p.1, p.2) (Walks-stops c.as_slice-step-items.result.now c.loop-step.step-index c.args.count c.step-item.result c.loop-step-test.true (runs_course c.args.sequence.now c.args.count) c.args.from.items c.loop-step.now.items c.args.failed.now.items c.loop-step.failed.items c.loop-step.invariant.walks c.in_err-now.field-0.0 (subst (λ (s : Step). Halts (does_course (command_tree s.command) c.args.count s.place) c.loop-step.now.items c.in_err-now.field-0.0) c.step-item.is c.in_err-now.ensures.err))
+
+pub sequence-loop-step-preserved : goal.sequence-loop-step-preserved
+sequence-loop-step-preserved t c = record {
+  whole = c.loop-step.invariant.whole;
+  small = (small_step c.args.count c.as_slice-step-items.result.now c.loop-step.step-index c.step-item.result c.loop-step-test.true c.loop-step.invariant.small).1;
+  walks = Walks-step c.as_slice-step-items.result.now c.loop-step.step-index c.args.count c.step-item.result c.loop-step-test.true (runs_course c.args.sequence.now c.args.count) c.args.from.items c.loop-step.now.items c.args.failed.now.items c.loop-step.failed.items c.loop-step.invariant.walks c.in_ok-now.now.items c.command.new.failed.items (subst (λ (s : Step). Adds (does_course (command_tree s.command) c.args.count s.place) c.loop-step.now.items [] c.in_ok-now.now.items c.loop-step.failed.items c.command.new.failed.items) c.step-item.is c.in_ok-now.ensures.ok);
+}
+
+pub sequence-returns-clause-ok : goal.sequence-returns-clause-ok
+sequence-returns-clause-ok t c =
+    let none : drop c.loop-step.step-index c.as_slice-step-items.result.now ≡ [] = drop_all c.loop-step.step-index c.as_slice-step-items.result.now c.loop-step-test.false in
+    Walks-end (runs_course c.args.sequence.now c.args.count) c.args.from.items c.loop-step.now.items c.args.failed.now.items c.loop-step.failed.items (subst (λ xs. Walks (runs_course c.args.sequence.now c.args.count) c.args.from.items c.args.failed.now.items (runs_course (sequence_tree xs) c.args.count) c.loop-step.now.items c.loop-step.failed.items) none c.loop-step.invariant.walks)
+
+pub try_each-loop-branch-init : goal.try_each-loop-branch-init
+try_each-loop-branch-init t c =
+    let one : c.push.new.self.items ≡ c.args.k ∷ [] = c.in_ok-push.ensures.items ∙ ap (λ x. x ++ c.args.k ∷ []) c.new-now.ensures.items in
+    record {
+      whole = c.as_slice-branch-items.ensures;
+      small = subst (λ (b : BranchesTree). AreSmallBranches c.args.count b) (sym c.as_slice-branch-items.ensures) c.requires.small;
+      trying = subst (λ b. Trying (rest_course c.args.branches.now c.args.count c.args.place c.args.component) c.args.k c.in_ok-outer.outer c.args.next.now.items c.args.next.now.items c.args.failed.now.items c.args.failed.now.items (rest_course b c.args.count c.args.place c.args.component) c.push.new.self.items) (sym c.as_slice-branch-items.ensures) (Trying-start (rest_course c.args.branches.now c.args.count c.args.place c.args.component) c.args.k c.in_ok-outer.outer c.args.next.now.items c.args.failed.now.items c.push.new.self.items c.in_ok-outer.ensures one);
+    }
+
+pub try_each-returns-in-None-clause-ok : goal.try_each-returns-in-None-clause-ok
+try_each-returns-in-None-clause-ok t c = Trying-null (rest_course c.args.branches.now c.args.count c.args.place c.args.component) c.args.k c.in_ok-outer.outer c.args.next.now.items c.loop-branch.next.items c.append.new.self.items c.args.failed.now.items c.loop-branch.failed.items c.loop-branch.now.items (subst (λ (r : Course). Trying (rest_course c.args.branches.now c.args.count c.args.place c.args.component) c.args.k c.in_ok-outer.outer c.args.next.now.items c.loop-branch.next.items c.args.failed.now.items c.loop-branch.failed.items r c.loop-branch.now.items) (at_none c.as_slice-branch-items.result.now c.loop-branch.branch-index c.args.count c.args.place c.args.component c.branch-item.result c.loop-branch-test.true (sym c.branch-item.is ∙ c.in-None.is)) c.loop-branch.invariant.trying) c.in_ok-append-in-None.ensures.items
+
+pub try_each-returns-in_err-now-in-Some-clause-err : goal.try_each-returns-in_err-now-in-Some-clause-err
+try_each-returns-in_err-now-in-Some-clause-err t c =
+    let p = err_from_is_err_and c.from_residual-in_err-now-in-Some.result c.from_residual-in_err-now-in-Some.ensures.1 in rw (p.1, p.2) (Trying-halt (rest_course c.args.branches.now c.args.count c.args.place c.args.component) (runs_course c.in-Some.inner c.args.count) (rest_course (branches_tree (drop (c.loop-branch.branch-index + 1) c.as_slice-branch-items.result.now)) c.args.count c.args.place) c.args.k c.in_ok-outer.outer c.args.component c.args.next.now.items c.loop-branch.next.items c.args.failed.now.items c.loop-branch.failed.items c.loop-branch.now.items (subst (λ (r : Course). Trying (rest_course c.args.branches.now c.args.count c.args.place c.args.component) c.args.k c.in_ok-outer.outer c.args.next.now.items c.loop-branch.next.items c.args.failed.now.items c.loop-branch.failed.items r c.loop-branch.now.items) (at_some c.as_slice-branch-items.result.now c.loop-branch.branch-index c.args.count c.args.place c.args.component c.branch-item.result c.in-Some.inner c.loop-branch-test.true (sym c.branch-item.is ∙ c.in-Some.is)) c.loop-branch.invariant.trying) c.in_err-now-in-Some.field-0.0 c.in_err-now-in-Some.ensures.err)
+
+pub try_each-loop-branch-preserved : goal.try_each-loop-branch-preserved
+try_each-loop-branch-preserved t c = record {
+  whole = c.loop-branch.invariant.whole;
+  small = (small_branch c.args.count c.as_slice-branch-items.result.now c.loop-branch.branch-index c.branch-item.result c.in-Some.inner c.loop-branch-test.true (sym c.branch-item.is ∙ c.in-Some.is) c.loop-branch.invariant.small).1;
+  trying = Trying-branch (rest_course c.args.branches.now c.args.count c.args.place c.args.component) (runs_course c.in-Some.inner c.args.count) (rest_course (branches_tree (drop (c.loop-branch.branch-index + 1) c.as_slice-branch-items.result.now)) c.args.count c.args.place) c.args.k c.in_ok-outer.outer c.args.component c.args.next.now.items c.loop-branch.next.items c.one_branch.new.next.items c.args.failed.now.items c.loop-branch.failed.items c.one_branch.new.failed.items c.loop-branch.now.items c.in_ok-now-in-Some.now.items (subst (λ (r : Course). Trying (rest_course c.args.branches.now c.args.count c.args.place c.args.component) c.args.k c.in_ok-outer.outer c.args.next.now.items c.loop-branch.next.items c.args.failed.now.items c.loop-branch.failed.items r c.loop-branch.now.items) (at_some c.as_slice-branch-items.result.now c.loop-branch.branch-index c.args.count c.args.place c.args.component c.branch-item.result c.in-Some.inner c.loop-branch-test.true (sym c.branch-item.is ∙ c.in-Some.is)) c.loop-branch.invariant.trying) c.in_ok-now-in-Some.ensures.ok;
+}
+
+pub try_each-returns-clause-ok : goal.try_each-returns-clause-ok
+try_each-returns-clause-ok t c =
+    let none : drop c.loop-branch.branch-index c.as_slice-branch-items.result.now ≡ [] = drop_all c.loop-branch.branch-index c.as_slice-branch-items.result.now c.loop-branch-test.false in
+    Trying-end (rest_course c.args.branches.now c.args.count c.args.place c.args.component) c.args.k c.in_ok-outer.outer c.args.place c.args.next.now.items c.loop-branch.next.items c.args.failed.now.items c.loop-branch.failed.items c.exhaust.new.failed.items c.loop-branch.now.items (subst (λ bs. Trying (rest_course c.args.branches.now c.args.count c.args.place c.args.component) c.args.k c.in_ok-outer.outer c.args.next.now.items c.loop-branch.next.items c.args.failed.now.items c.loop-branch.failed.items (rest_course (branches_tree bs) c.args.count c.args.place c.args.component) c.loop-branch.now.items) none c.loop-branch.invariant.trying) c.in_ok-exhaust.ensures
+
+pub try_each-one_branch-requires : goal.try_each-one_branch-requires
+try_each-one_branch-requires t c =
+    let e : sequence_size c.in-Some.inner + 1 ≤ branches_size (branches_tree c.as_slice-branch-items.result.now) = branch_smaller c.as_slice-branch-items.result.now c.loop-branch.branch-index c.branch-item.result c.in-Some.inner c.loop-branch-test.true (sym c.branch-item.is ∙ c.in-Some.is) in
+    let w : branches_size (branches_tree c.as_slice-branch-items.result.now) ≡ branches_size c.args.branches.now = ap branches_size c.loop-branch.invariant.whole in
+    let small : IsSmallSequence c.args.count c.in-Some.inner = (small_branch c.args.count c.as_slice-branch-items.result.now c.loop-branch.branch-index c.branch-item.result c.in-Some.inner c.loop-branch-test.true (sym c.branch-item.is ∙ c.in-Some.is) c.loop-branch.invariant.small).0 in
+    (omega (arith, e, w, c.decreases), (c.requires.room, small))
+
+pub command-returns-clause-ok : goal.command-returns-clause-ok
+command-returns-clause-ok t c =
+    let none : c.loop-k.now.items ≡ [] = none_left c.loop-k.now.items (λ lt. let l : 0 < vec_len c.loop-k.now = search rules in never_true (c.in_default.ensures.variant.1 l)) in
+    Pops-end (does_course (command_tree c.args.step.now.command) c.args.count c.args.step.now.place) c.args.from.items c.args.failed.now.items c.loop-k.now.items c.loop-k.next.items c.loop-k.failed.items c.loop-k.invariant none
+
+pub one_branch-returns-clause-ok : goal.one_branch-returns-clause-ok
+one_branch-returns-clause-ok t c = Adds-branch (runs_course c.args.inner.now c.args.count) c.args.outer.now c.args.component c.args.from.items c.in_ok-inside.inside.items c.in_ok-done.done.items c.args.next.now.items c.leave_all.new.next.items c.new-rest.result.items c.split.new.next.items c.new-stops.result.items c.sequence.new.failed.items c.args.failed.now.items c.split.new.failed.items c.in_ok-inside.ensures c.new-stops.ensures.items c.in_ok-done.ensures.ok c.in_ok-leave_all.ensures c.new-rest.ensures.items c.in_ok-split.ensures.soft c.in_ok-split.ensures.hard

@@ -1,0 +1,83 @@
+-- What it means that states that are kept stand for all runs from other ones.
+use Rattle.std.specs.Prelude.{◌≡◌, ◌⊎◌, ℕ, Bool, List, [], ◌∷◌, ◌++◌, length}
+use Rattle.path_model.specs.declared.identity.Identity.{Identity}
+use Rattle.path_model.specs.declared.event.Event.{Event}
+use Rattle.path_model.specs.declared.event.Event.TheVariants.{Failed}
+use Rattle.path_model.specs.Behaviour.{State, Ending, Done, Condition, Directive, Behaviour}
+use Rattle.path_model.specs.Safe.{IsCovered}
+use Rattle.path_model.specs.Following.{CoveredFrom, SameMatches}
+use Rattle.path_checker.specs.declared.judge_plan.facts.Knowledge.{Knowledge}
+use Rattle.path_checker.specs.Knowing.{Allows}
+
+-- what may happen, for each list of identities
+abbrev pub Course : Type 1
+Course = List Identity → Behaviour
+
+abbrev pub In : {A : Type 0} → A → List A → Type 0
+In x [] = ⊥
+In x (y ∷ ys) = (y ≡ x) ⊎ In x ys
+
+-- a state, what is known of the identities, and the events that led to it
+pub record Kept : Type 0 where
+  pub facts : List Knowledge
+  pub events : List Event
+  pub state : State
+
+-- a failed condition at a place, with the soft failure that its sequence held
+pub record Stopped : Type 0 where
+  pub facts : List Knowledge
+  pub events : List Event
+  pub place : ℕ
+  pub soft_failure : Bool
+
+-- one that ends so is found among the kept ones: with the same matches, and a failed condition with the same soft failure
+abbrev pub Found : Kept → List Identity → List Event → List Kept → List Stopped → Ending → Type 0
+Found k identities events done failed (Done state) =
+    (to : Kept) × In to done × Allows to.facts identities × (to.state ≡ state) × SameMatches to.events (k.events ++ events)
+Found k identities events done failed (Condition place soft_failure) =
+    (to : Stopped) × In to failed × Allows to.facts identities × (to.soft_failure ≡ soft_failure) × SameMatches to.events (k.events ++ events)
+Found k identities events done failed (Directive place) = Unit {0}
+
+-- from a kept state it comes to these events and this ending, for all identities that the facts allow, and each invoke
+-- on the way is covered
+pub record Reaches (course : Course) (k : Kept) (facts : List Knowledge) (events : List Event) (ending : Ending) : Type 0 where
+  pub since : List Event
+  pub parts : events ≡ k.events ++ since
+  pub covered : CoveredFrom k.events since
+  pub count : length facts ≡ length k.facts
+  pub path : (identities : List Identity) → Allows facts identities → Allows k.facts identities × course identities k.state since ending
+
+-- the same from one of several states
+abbrev pub Leads : Course → List Kept → List Knowledge → List Event → Ending → Type 0
+Leads course from facts events ending = (k : Kept) × In k from × Reaches course k facts events ending
+
+-- whatever may happen from these states is covered and comes to one of the others, and each of the others is come to
+pub record Explores (course : Course) (from done : List Kept) (failed : List Stopped) : Type 0 where
+  pub complete : (k : Kept) → In k from → (identities : List Identity) → Allows k.facts identities → (events : List Event) (ending : Ending)
+      → course identities k.state events ending → CoveredFrom k.events events × Found k identities events done failed ending
+  pub reached : (to : Kept) → In to done → Leads course from to.facts to.events (Done to.state)
+  pub stopped : (to : Stopped) → In to failed → Leads course from to.facts to.events (Condition to.place to.soft_failure)
+
+-- the last of these events is an invoke that is not covered, and the first such from a kept state on
+pub record Uncovered (course : Course) (k : Kept) (facts : List Knowledge) (events : List Event) : Type 0 where
+  pub since : List Event
+  pub last : Event
+  pub place : ℕ
+  pub parts : events ≡ (k.events ++ since) ++ last ∷ []
+  pub covered : CoveredFrom k.events since
+  pub count : length facts ≡ length k.facts
+  pub uncovered : IsCovered (k.events ++ since) last → ⊥
+  pub path : (identities : List Identity) → Allows facts identities
+      → Allows k.facts identities × course identities k.state (since ++ last ∷ Failed place ∷ []) (Directive place)
+
+-- the same from one of several states
+abbrev pub Uncovers : Course → List Kept → List Knowledge → List Event → Type 0
+Uncovers course from facts events = (k : Kept) × In k from × Uncovered course k facts events
+
+-- two lists have grown by what exploring gives
+pub record Adds (course : Course) (from old_next new_next : List Kept) (old_failed new_failed : List Stopped) : Type 0 where
+  pub done : List Kept
+  pub failed : List Stopped
+  pub next_is : new_next ≡ old_next ++ done
+  pub failed_is : new_failed ≡ old_failed ++ failed
+  pub explores : Explores course from done failed

@@ -1,0 +1,75 @@
+-- States in which inner sequences begin, and states after them.
+use Rattle.std.specs.Prelude.{◌≡◌, ℕ, Bool, true, false, List, [], ◌∷◌, ◌++◌}
+use Rattle.path_model.specs.Behaviour.{State}
+use Rattle.path_model.specs.Runs.{entry_state, completed_state}
+use Rattle.path_model.specs.Path.{start_state}
+use Rattle.path_checker.specs.Exploring.{Course, In, Kept, Stopped, Explores}
+
+abbrev pub entered : State → ℕ → Bool → Kept → Kept
+entered state component soft_failure k = record { facts = k.facts; events = k.events; state = entry_state state component soft_failure }
+
+abbrev pub all_entered : State → ℕ → Bool → List Kept → List Kept
+all_entered state component soft_failure [] = []
+all_entered state component soft_failure (k ∷ ks) = entered state component soft_failure k ∷ all_entered state component soft_failure ks
+
+-- each has this state
+abbrev pub AllAt : State → List Kept → Type 0
+AllAt state ks = (k : Kept) → In k ks → k.state ≡ state
+
+-- after a sequence that completed
+abbrev pub left : State → Kept → Kept
+left state k = record { facts = k.facts; events = k.events; state = completed_state state k.state }
+
+abbrev pub all_left : State → List Kept → List Kept
+all_left state [] = []
+all_left state (k ∷ ks) = left state k ∷ all_left state ks
+
+-- after a failure that is passed over
+abbrev pub resumed : State → Stopped → Kept
+resumed state stop = record { facts = stop.facts; events = stop.events; state = state }
+
+-- and after one that is passed on
+abbrev pub hardened : State → Stopped → Stopped
+hardened state stop = record { facts = stop.facts; events = stop.events; place = stop.place; soft_failure = state.soft_failure }
+
+abbrev pub if_soft : State → Stopped → Bool → List Kept
+if_soft state stop true = resumed state stop ∷ []
+if_soft state stop false = []
+
+abbrev pub if_hard : State → Stopped → Bool → List Stopped
+if_hard state stop true = []
+if_hard state stop false = hardened state stop ∷ []
+
+abbrev pub softly : State → List Stopped → List Kept
+softly state [] = []
+softly state (stop ∷ stops) = if_soft state stop stop.soft_failure ++ softly state stops
+
+abbrev pub hardly : State → List Stopped → List Stopped
+hardly state [] = []
+hardly state (stop ∷ stops) = if_hard state stop stop.soft_failure ++ hardly state stops
+
+-- where no branch completed
+abbrev pub exhausted_at : State → ℕ → Kept → Stopped
+exhausted_at state place k = record { facts = k.facts; events = k.events; place = place; soft_failure = state.soft_failure }
+
+abbrev pub exhausted : State → ℕ → List Kept → List Stopped
+exhausted state place [] = []
+exhausted state place (k ∷ ks) = exhausted_at state place k ∷ exhausted state place ks
+
+-- a branch was run from states that are all the one before the try each
+pub record BranchAdds (course : Course) (state : State) (component : ℕ) (from rest old_next new_next : List Kept) (old_failed new_failed : List Stopped) : Type 0 where
+  pub done : List Kept
+  pub stops : List Stopped
+  pub next_is : new_next ≡ old_next ++ all_left state done
+  pub failed_is : new_failed ≡ old_failed ++ hardly state stops
+  pub rest_is : rest ≡ softly state stops
+  pub explores : Explores course (all_entered state component true from) done stops
+
+-- ---- a member or the shared sequence
+
+abbrev pub restarted : Kept → Kept
+restarted k = record { facts = k.facts; events = k.events; state = start_state k.state }
+
+abbrev pub all_restarted : List Kept → List Kept
+all_restarted [] = []
+all_restarted (k ∷ ks) = restarted k ∷ all_restarted ks

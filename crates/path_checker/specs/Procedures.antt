@@ -1,0 +1,22 @@
+-- Walks through whole procedures.
+use Rattle.std.specs.Prelude.{ℕ, []}
+use Rattle.suit_commands.specs.Tree.{SequenceTree, PlanTree}
+use Rattle.path_model.specs.Path.{start_state, first_state}
+use Rattle.path_model.specs.Runs.{Runs}
+use Rattle.path_checker.specs.Exploring.{Course, Kept}
+use Rattle.path_checker.specs.Knowing.{nothing_known}
+use Rattle.path_checker.specs.Small.{IsSmallSequence}
+
+-- a member or the shared sequence
+abbrev pub FromStart : SequenceTree → ℕ → Course
+FromStart sequence count identities state = Runs sequence identities count (start_state state)
+
+-- where a procedure begins: nothing is known of its components, and nothing has happened
+abbrev pub first_kept : ℕ → Kept
+first_kept count = record { facts = nothing_known count; events = []; state = first_state }
+
+pub record ArePlan (plan : PlanTree) : Type 0 where
+  pub shared : IsSmallSequence plan.count plan.shared
+  pub first : IsSmallSequence plan.count plan.first
+  pub second : IsSmallSequence plan.count plan.second
+  pub third : IsSmallSequence plan.count plan.third

@@ -1,0 +1,32 @@
+-- Components that there is room for: the first eight.
+use Rattle.std.specs.Prelude.{◌<◌, ◌≤◌, ℕ, List}
+use Rattle.std.specs.List.{AllByRecursion}
+use Rattle.suit_commands.specs.declared.selection.Selection.{Selection}
+use Rattle.suit_commands.specs.declared.selection.Selection.TheVariants.{One, All, Listed}
+use Rattle.suit_commands.specs.Tree.{CommandTree, Test, Act, Index, Override, TryEach, RunSequence, SequenceTree, NoSteps, StepThen, BranchesTree, NoBranches, BranchThen, NullThen}
+
+abbrev pub AreSmall : List ℕ → Type 0
+AreSmall components = AllByRecursion (λ component. component < 8) components
+
+abbrev pub SelectsSmall : ℕ → Selection → Type 0
+SelectsSmall count (One component) = component < 8
+SelectsSmall count All = count ≤ 8
+SelectsSmall count (Listed components) = AreSmall components
+
+abbrev mutual
+  pub IsSmallSequence : ℕ → SequenceTree → Type 0
+  IsSmallSequence count NoSteps = Unit {0}
+  IsSmallSequence count (StepThen place command rest) = IsSmallCommand count command × IsSmallSequence count rest
+
+  pub IsSmallCommand : ℕ → CommandTree → Type 0
+  IsSmallCommand count (Test kind report) = Unit {0}
+  IsSmallCommand count (Act kind report) = Unit {0}
+  IsSmallCommand count (Index selection) = SelectsSmall count selection
+  IsSmallCommand count (Override list) = Unit {0}
+  IsSmallCommand count (TryEach branches) = AreSmallBranches count branches
+  IsSmallCommand count (RunSequence inner) = IsSmallSequence count inner
+
+  pub AreSmallBranches : ℕ → BranchesTree → Type 0
+  AreSmallBranches count NoBranches = Unit {0}
+  AreSmallBranches count (NullThen rest) = AreSmallBranches count rest
+  AreSmallBranches count (BranchThen inner rest) = IsSmallSequence count inner × AreSmallBranches count rest

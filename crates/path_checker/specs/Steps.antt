@@ -1,0 +1,39 @@
+-- What single steps make of a state, and what a command does at one component.
+use Rattle.std.specs.Prelude.{ℕ, Bool, List, [], ◌∷◌, ◌++◌}
+use Rattle.suit_params.specs.declared.param.Param.{Param}
+use Rattle.suit_commands.specs.Tree.{CommandTree, Test, Act, Index, Override, TryEach, RunSequence}
+use Rattle.path_model.specs.declared.event.Event.{Event}
+use Rattle.path_model.specs.Conditions.{Tests}
+use Rattle.path_model.specs.Directives.{Acts, Overrides, soft_after}
+use Rattle.path_model.specs.Runs.{Runs, RunsInner, Tries}
+use Rattle.path_checker.specs.declared.judge_plan.facts.Knowledge.{Knowledge}
+use Rattle.path_checker.specs.Exploring.{Course, Kept, Stopped}
+
+-- ---- states
+
+abbrev pub with_events : Kept → List Event → Kept
+with_events k events = record { facts = k.facts; events = k.events ++ events; state = k.state }
+
+abbrev pub knowing : Kept → List Knowledge → Kept
+knowing k facts = record { facts = facts; events = k.events; state = k.state }
+
+abbrev pub stopped_by : Kept → List Event → ℕ → Stopped
+stopped_by k events place = record { facts = k.facts; events = k.events ++ events; place = place; soft_failure = k.state.soft_failure }
+
+-- soft failure after an override
+abbrev pub soft_after_all : Bool → List Param → Bool
+soft_after_all soft_failure [] = soft_failure
+soft_after_all soft_failure (param ∷ list) = soft_after_all (soft_after soft_failure param) list
+
+abbrev pub with_selection : Kept → List ℕ → Kept
+with_selection k selection = record { facts = k.facts; events = k.events; state = record k.state { selection = selection } }
+
+-- ---- a command at one component; set component index is done at none
+
+abbrev pub At : CommandTree → ℕ → ℕ → ℕ → Course
+At (Test kind report) count place component identities = Tests kind identities place component
+At (Act kind report) count place component identities = Acts kind place component
+At (Index selection) count place component identities = Overrides [] component
+At (Override list) count place component identities = Overrides list component
+At (TryEach branches) count place component identities = Tries branches identities count place component
+At (RunSequence inner) count place component identities = RunsInner (Runs inner identities count) component

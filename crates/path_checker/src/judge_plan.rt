@@ -1,0 +1,91 @@
+//! The judgement of a whole procedure, over all commands.
+
+ghost use Rattle.std.specs.Prelude.{◌≡◌, IfOk};
+ghost use Rattle.suit_commands.specs.Allowed.{IsPlan};
+ghost use Rattle.suit_commands.specs.Plans.{plan_tree};
+ghost use Rattle.path_checker.specs.Procedures.{ArePlan};
+ghost use Rattle.path_checker.specs.PlanVerdicts.{Tells, Judges, JudgesPlan};
+
+mod choice;
+mod conditions;
+mod directives;
+mod facts;
+mod halt;
+mod in_force;
+mod inner;
+mod kept;
+mod known;
+mod procedure_walk;
+mod selected;
+mod walk;
+
+use choice::chosen_identities;
+use halt::Halt;
+use kept::Kept;
+use path_model::BadPath;
+use procedure_walk::{first, procedure};
+use std::alloc::Global;
+use suit_commands::{Plan, width};
+
+// The largest width of a procedure that is judged.
+const WIDEST: u64 = 4_194_304;
+
+/// What a whole procedure is judged to be.
+#[derive(Debug, Drop)]
+pub enum CheckVerdict {
+    /// Each invoke is covered on each path, for all identities.
+    Safe,
+    /// The last invoke of this path is not covered.
+    Unsafe(BadPath),
+    /// The procedure is wider than is judged; its width, or the largest number of 64 bits where that is larger.
+    TooWide(u64),
+    /// There was no memory.
+    NoMemory,
+}
+
+// The path to an invoke that is not covered, with identities that it is a path for.
+fn told(alloc: Global, k: Kept<'_>) -> CheckVerdict
+    ensures { Tells k.entry result }
+{
+    match chosen_identities(alloc, &k.facts) {
+        Ok(identities) => CheckVerdict::Unsafe(BadPath {
+            identities,
+            events: k.events,
+        }),
+        Err(_) => CheckVerdict::NoMemory,
+    }
+}
+
+// Whether each invoke is covered.
+fn judge(alloc: Global, plan: &Plan<'_>) -> CheckVerdict
+    requires { ArePlan (plan_tree plan.now) }
+    ensures { Judges (plan_tree plan.now) result }
+{
+    let Ok(from) = first(alloc, plan.count) else {
+        return CheckVerdict::NoMemory;
+    };
+    let mut failed = Vec::new(alloc);
+    match procedure(alloc, plan, from, &mut failed) {
+        Ok(_) => CheckVerdict::Safe,
+        Err(Halt::NoMemory) => CheckVerdict::NoMemory,
+        Err(Halt::Uncovered(k)) => told(alloc, k),
+    }
+}
+
+/// Judges a procedure of the grammar for all identities of its components (draft-ietf-suit-manifest-25, section 6.4).
+/// It is too wide exactly where its work times its spread is above 4,194,304. Otherwise it is safe exactly where each
+/// invoke of each path is covered, and an unsafe one is told by a path whose last event is its first invoke that is not
+/// covered, with identities that it is a path for. Where there is no memory, it is not too wide.
+pub fn check(alloc: Global, plan: &Plan<'_>) -> CheckVerdict
+    requires { IsPlan (plan_tree plan.now) }
+    ensures judged { JudgesPlan (plan_tree plan.now) result }
+{
+    let width = width(plan);
+    if width > WIDEST {
+        return CheckVerdict::TooWide(width);
+    }
+    judge(alloc, plan)
+}
+
+#[cfg(test)]
+mod tests;

@@ -1,0 +1,76 @@
+//! The identities that are told of a path.
+
+ghost use Rattle.std.specs.Prelude.{◌≡◌, ◌↔◌, ◌≤◌, IsTrue, IfSome, IfOk, Some, length};
+ghost use Rattle.path_model.specs.Path.{IsIdentifier, IsIdentity};
+ghost use Rattle.path_checker.specs.Exploring.{In};
+ghost use Rattle.path_checker.specs.Knowing.{Agrees, AllowsOne};
+ghost use Rattle.path_checker.specs.Choosing.{IsLeastOutside, IsChosen};
+
+use crate::judge_plan::facts::{Facts, Knowledge};
+use crate::judge_plan::known::{KnownIdentifier, KnownSlot};
+use path_model::{Identities, Identity};
+use std::alloc::{AllocError, Global};
+
+fn is_among(numbers: &[u64], number: u64) -> bool
+    ensures { IsTrue result ↔ In number numbers.now }
+{
+    for other in numbers {
+        if *other == number {
+            return true;
+        }
+    }
+    false
+}
+
+// The least number that is none of these. It is at most their count.
+pub(crate) fn least_outside(numbers: &[u64]) -> u64
+    ensures { IsLeastOutside numbers.now result }
+{
+    let mut number: u64 = 0;
+    while is_among(numbers, number) {
+        number += 1;
+    }
+    number
+}
+
+// What the type says of sixteen bytes. It does nothing.
+fn identifier_bounds(id: &[u8])
+    requires { length id.now ≡ 16 }
+    ensures { IsIdentifier id.now }
+{}
+
+fn chosen_identifier(known: &KnownIdentifier) -> Option<[u8; 16]>
+    ensures agrees { Agrees known.now result }
+    ensures bounds { IfSome result IsIdentifier }
+{
+    let chosen = known.chosen();
+    if let Some(id) = &chosen {
+        identifier_bounds(&id[..]);
+    }
+    chosen
+}
+
+// The identity of a component: where an identifier is known only by what it is not, it is absent, and a slot is then
+// the least number that it may be.
+fn chosen_one(known: &Knowledge) -> Identity
+    ensures allowed { AllowsOne known.now result }
+    ensures bounds { IsIdentity result }
+{
+    Identity {
+        vendor: chosen_identifier(&known.vendor),
+        class: chosen_identifier(&known.class),
+        device: chosen_identifier(&known.device),
+        slot: known.slot.chosen(),
+    }
+}
+
+/// Identities that the facts allow.
+pub(crate) fn chosen_identities(alloc: Global, facts: &Facts) -> Result<Identities, AllocError>
+    ensures { IfOk result (IsChosen facts.now) }
+{
+    let mut identities = Identities::new(alloc);
+    for known in facts.as_slice() {
+        identities.push(chosen_one(known))?;
+    }
+    Ok(identities)
+}

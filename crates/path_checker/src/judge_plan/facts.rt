@@ -1,0 +1,264 @@
+//! What is known of the identities of all components.
+
+ghost use Rattle.std.specs.Prelude.{◌≡◌, ◌<◌, length, slice_set, IfOk};
+ghost use Rattle.path_checker.specs.declared.judge_plan.facts.Own.TheVariants.{Vendor, Class, Device, Slot};
+ghost use Rattle.path_checker.specs.Knowing.{nothing, nothing_known};
+ghost use Rattle.path_checker.specs.Forking.{Forks, ForksOne};
+
+use crate::judge_plan::known::{IdentifierFork, KnownIdentifier, KnownSlot, SlotFork};
+use std::alloc::{AllocError, Global};
+use std::marker::Model;
+
+/// A vendor, class or device identifier, or a slot number, that an identity condition asks for.
+#[derive(Clone, Copy, Debug)]
+pub(crate) enum Own {
+    Vendor([u8; 16]),
+    Class([u8; 16]),
+    Device([u8; 16]),
+    Slot(u64),
+}
+
+/// What is known of the identity of one component.
+#[derive(Debug, Drop)]
+pub(crate) struct Knowledge {
+    pub vendor: KnownIdentifier,
+    pub class: KnownIdentifier,
+    pub device: KnownIdentifier,
+    pub slot: KnownSlot,
+}
+
+/// What is known of the identity of each component, from the first on.
+#[derive(Debug, Drop)]
+pub(crate) struct Facts {
+    held: Vec<Knowledge>,
+}
+
+impl Model for Facts {
+    ghost use Rattle.std.specs.Prelude.{List};
+    ghost use Rattle.path_checker.specs.declared.judge_plan.facts.Knowledge.{Knowledge};
+
+    ghost Value = { List Knowledge };
+
+    ghost view = { λ a. a.held.items };
+}
+
+/// Whether a component has something of its own, or the facts where it has and where it has not.
+#[derive(Drop)]
+pub(crate) enum Fork {
+    Has,
+    HasNot,
+    Either(Facts, Facts),
+}
+
+/// The same of one component.
+#[derive(Drop)]
+pub(crate) enum KnowledgeFork {
+    Has,
+    HasNot,
+    Either(Knowledge, Knowledge),
+}
+
+impl Knowledge {
+    // Nothing is known. Takes no memory.
+    fn new(alloc: Global) -> Knowledge
+        ensures { result ≡ nothing }
+    {
+        Knowledge {
+            vendor: KnownIdentifier::new(alloc),
+            class: KnownIdentifier::new(alloc),
+            device: KnownIdentifier::new(alloc),
+            slot: KnownSlot::new(alloc),
+        }
+    }
+
+    fn copy(&self, alloc: Global) -> Result<Knowledge, AllocError>
+        ensures { IfOk result (λ other. other ≡ self.now) }
+    {
+        Ok(Knowledge {
+            vendor: self.vendor.copy(alloc)?,
+            class: self.class.copy(alloc)?,
+            device: self.device.copy(alloc)?,
+            slot: self.slot.copy(alloc)?,
+        })
+    }
+
+    fn with_vendor(&self, alloc: Global, vendor: KnownIdentifier) -> Result<Knowledge, AllocError>
+        ensures { IfOk result (λ other. other ≡ record self.now { vendor = vendor }) }
+    {
+        let class = self.class.copy(alloc)?;
+        let device = self.device.copy(alloc)?;
+        let slot = self.slot.copy(alloc)?;
+        Ok(Knowledge {
+            vendor,
+            class,
+            device,
+            slot,
+        })
+    }
+
+    fn with_class(&self, alloc: Global, class: KnownIdentifier) -> Result<Knowledge, AllocError>
+        ensures { IfOk result (λ other. other ≡ record self.now { class = class }) }
+    {
+        let vendor = self.vendor.copy(alloc)?;
+        let device = self.device.copy(alloc)?;
+        let slot = self.slot.copy(alloc)?;
+        Ok(Knowledge {
+            vendor,
+            class,
+            device,
+            slot,
+        })
+    }
+
+    fn with_device(&self, alloc: Global, device: KnownIdentifier) -> Result<Knowledge, AllocError>
+        ensures { IfOk result (λ other. other ≡ record self.now { device = device }) }
+    {
+        let vendor = self.vendor.copy(alloc)?;
+        let class = self.class.copy(alloc)?;
+        let slot = self.slot.copy(alloc)?;
+        Ok(Knowledge {
+            vendor,
+            class,
+            device,
+            slot,
+        })
+    }
+
+    fn with_slot(&self, alloc: Global, slot: KnownSlot) -> Result<Knowledge, AllocError>
+        ensures { IfOk result (λ other. other ≡ record self.now { slot = slot }) }
+    {
+        let vendor = self.vendor.copy(alloc)?;
+        let class = self.class.copy(alloc)?;
+        let device = self.device.copy(alloc)?;
+        Ok(Knowledge {
+            vendor,
+            class,
+            device,
+            slot,
+        })
+    }
+
+    fn fork_vendor(&self, alloc: Global, id: &[u8; 16]) -> Result<KnowledgeFork, AllocError>
+        ensures { IfOk result (ForksOne self.now (Vendor id.now)) }
+    {
+        match self.vendor.fork(alloc, id)? {
+            IdentifierFork::Has => Ok(KnowledgeFork::Has),
+            IdentifierFork::HasNot => Ok(KnowledgeFork::HasNot),
+            IdentifierFork::Either(has, has_not) => Ok(KnowledgeFork::Either(
+                self.with_vendor(alloc, has)?,
+                self.with_vendor(alloc, has_not)?,
+            )),
+        }
+    }
+
+    fn fork_class(&self, alloc: Global, id: &[u8; 16]) -> Result<KnowledgeFork, AllocError>
+        ensures { IfOk result (ForksOne self.now (Class id.now)) }
+    {
+        match self.class.fork(alloc, id)? {
+            IdentifierFork::Has => Ok(KnowledgeFork::Has),
+            IdentifierFork::HasNot => Ok(KnowledgeFork::HasNot),
+            IdentifierFork::Either(has, has_not) => Ok(KnowledgeFork::Either(
+                self.with_class(alloc, has)?,
+                self.with_class(alloc, has_not)?,
+            )),
+        }
+    }
+
+    fn fork_device(&self, alloc: Global, id: &[u8; 16]) -> Result<KnowledgeFork, AllocError>
+        ensures { IfOk result (ForksOne self.now (Device id.now)) }
+    {
+        match self.device.fork(alloc, id)? {
+            IdentifierFork::Has => Ok(KnowledgeFork::Has),
+            IdentifierFork::HasNot => Ok(KnowledgeFork::HasNot),
+            IdentifierFork::Either(has, has_not) => Ok(KnowledgeFork::Either(
+                self.with_device(alloc, has)?,
+                self.with_device(alloc, has_not)?,
+            )),
+        }
+    }
+
+    fn fork_slot(&self, alloc: Global, number: u64) -> Result<KnowledgeFork, AllocError>
+        ensures { IfOk result (ForksOne self.now (Slot number)) }
+    {
+        match self.slot.fork(alloc, number)? {
+            SlotFork::Has => Ok(KnowledgeFork::Has),
+            SlotFork::HasNot => Ok(KnowledgeFork::HasNot),
+            SlotFork::Either(has, has_not) => Ok(KnowledgeFork::Either(
+                self.with_slot(alloc, has)?,
+                self.with_slot(alloc, has_not)?,
+            )),
+        }
+    }
+
+    fn fork(&self, alloc: Global, own: &Own) -> Result<KnowledgeFork, AllocError>
+        ensures { IfOk result (ForksOne self.now own.now) }
+    {
+        match own {
+            Own::Vendor(id) => self.fork_vendor(alloc, id),
+            Own::Class(id) => self.fork_class(alloc, id),
+            Own::Device(id) => self.fork_device(alloc, id),
+            Own::Slot(number) => self.fork_slot(alloc, *number),
+        }
+    }
+}
+
+impl Facts {
+    /// Nothing is known of so many components.
+    pub(crate) fn unknown(alloc: Global, count: u32) -> Result<Facts, AllocError>
+        ensures { IfOk result (λ facts. facts ≡ nothing_known count) }
+    {
+        let mut held = Vec::new(alloc);
+        for _ in 0..count {
+            held.push(Knowledge::new(alloc))?;
+        }
+        Ok(Facts { held })
+    }
+
+    /// The same in memory of its own.
+    pub(crate) fn copy(&self, alloc: Global) -> Result<Facts, AllocError>
+        ensures { IfOk result (λ other. other ≡ self.now) }
+    {
+        let mut held = Vec::new(alloc);
+        for known in &self.held {
+            held.push(known.copy(alloc)?)?;
+        }
+        Ok(Facts { held })
+    }
+
+    /// What is known of each component, lent.
+    pub(crate) fn as_slice(&self) -> &[Knowledge]
+        ensures { result.now ≡ self.now }
+    {
+        self.held.as_slice()
+    }
+
+    // The same but for one component.
+    fn with(&self, alloc: Global, component: usize, known: Knowledge) -> Result<Facts, AllocError>
+        requires { component < length self.now }
+        ensures { IfOk result (λ other. other ≡ slice_set self.now component known) }
+    {
+        let mut facts = self.copy(alloc)?;
+        facts.held[component] = known;
+        Ok(facts)
+    }
+
+    /// Whether a component has something of its own. A component of which there is no identity has nothing.
+    pub(crate) fn fork(&self, alloc: Global, component: u32, own: &Own) -> Result<Fork, AllocError>
+        ensures { IfOk result (Forks self.now component own.now) }
+    {
+        let index = component as usize;
+        let held = self.as_slice();
+        if index >= held.len() {
+            return Ok(Fork::HasNot);
+        }
+        match held[index].fork(alloc, own)? {
+            KnowledgeFork::Has => Ok(Fork::Has),
+            KnowledgeFork::HasNot => Ok(Fork::HasNot),
+            KnowledgeFork::Either(has, has_not) => {
+                let has = self.with(alloc, index, has)?;
+                let has_not = self.with(alloc, index, has_not)?;
+                Ok(Fork::Either(has, has_not))
+            }
+        }
+    }
+}

@@ -1,0 +1,169 @@
+//! Into inner sequences, and back from them.
+
+ghost use Rattle.std.specs.Prelude.{◌≡◌, ◌<◌, true, [], ◌∷◌, ◌++◌, OnOk, IfOk};
+ghost use Rattle.path_checker.specs.Inner.{entered, all_entered, all_left, resumed, softly, hardly, exhausted, all_restarted};
+
+use crate::judge_plan::in_force::InForce;
+use crate::judge_plan::kept::{Kept, Stopped};
+use crate::judge_plan::selected::Selected;
+use std::alloc::{AllocError, Global};
+use std::marker::Model;
+
+/// The state round an inner sequence.
+#[derive(Drop)]
+pub(crate) struct Outer<'a> {
+    params: InForce<'a>,
+    selection: Selected,
+    soft_failure: bool,
+}
+
+impl<'a> Model for Outer<'a> {
+    ghost use Rattle.path_model.specs.Behaviour.{State};
+
+    ghost Value = { State };
+
+    ghost view = { λ a. record { parameters = a.params; selection = a.selection; soft_failure = a.soft_failure } };
+}
+
+pub(crate) fn outer_of<'a>(alloc: Global, k: &Kept<'a>) -> Result<Outer<'a>, AllocError>
+    ensures { IfOk result (λ outer. outer ≡ k.now.state) }
+{
+    let selection = k.selection.copy(alloc)?;
+    Ok(Outer {
+        params: k.params.copy(),
+        selection,
+        soft_failure: k.soft_failure,
+    })
+}
+
+/// Into an inner sequence, with one component selected.
+pub(crate) fn enter<'a>(
+    alloc: Global,
+    component: u32,
+    soft_failure: bool,
+    k: Kept<'a>,
+) -> Result<Kept<'a>, AllocError>
+    requires room { component < 8 }
+    ensures { IfOk result (λ to. to ≡ entered k.entry.state component soft_failure k.entry) }
+{
+    let mut k = k;
+    k.selection = Selected::one(alloc, component)?;
+    k.soft_failure = soft_failure;
+    Ok(k)
+}
+
+/// The states in which a branch begins.
+pub(crate) fn enter_all<'a>(
+    alloc: Global,
+    component: u32,
+    outer: &Outer<'a>,
+    from: Vec<Kept<'a>>,
+) -> Result<Vec<Kept<'a>>, AllocError>
+    requires room { component < 8 }
+    ensures { IfOk result (λ v. v.items ≡ all_entered outer.now component true from.entry.items) }
+{
+    let mut inside = Vec::new(alloc);
+    for k in from {
+        let selection = Selected::one(alloc, component)?;
+        inside.push(Kept {
+            facts: k.facts,
+            events: k.events,
+            params: outer.params.copy(),
+            selection,
+            soft_failure: true,
+        })?;
+    }
+    Ok(inside)
+}
+
+/// Back from an inner sequence that completed: the parameters stay.
+pub(crate) fn leave_all<'a>(
+    alloc: Global,
+    outer: &Outer<'a>,
+    done: Vec<Kept<'a>>,
+    next: &mut Vec<Kept<'a>>,
+) -> Result<(), AllocError>
+    ensures { OnOk result (next.new.items ≡ next.old.items ++ all_left outer.now done.entry.items) }
+{
+    for k in done {
+        let mut k = k;
+        k.selection = outer.selection.copy(alloc)?;
+        k.soft_failure = outer.soft_failure;
+        next.push(k)?;
+    }
+    Ok(())
+}
+
+// Back from one that failed softly: all is as it was.
+fn resume<'a>(alloc: Global, outer: &Outer<'a>, stop: Stopped) -> Result<Kept<'a>, AllocError>
+    ensures { IfOk result (λ k. k ≡ resumed outer.now stop) }
+{
+    let selection = outer.selection.copy(alloc)?;
+    Ok(Kept {
+        facts: stop.facts,
+        events: stop.events,
+        params: outer.params.copy(),
+        selection,
+        soft_failure: outer.soft_failure,
+    })
+}
+
+/// The failures of an inner sequence: soft ones go on, and the others are those of the outer one.
+pub(crate) fn split<'a>(
+    alloc: Global,
+    outer: &Outer<'a>,
+    stops: Vec<Stopped>,
+    next: &mut Vec<Kept<'a>>,
+    failed: &mut Vec<Stopped>,
+) -> Result<(), AllocError>
+    ensures soft { OnOk result (next.new.items ≡ next.old.items ++ softly outer.now stops.items) }
+    ensures hard { OnOk result (failed.new.items ≡ failed.old.items ++ hardly outer.now stops.items) }
+{
+    for stop in stops {
+        if stop.soft_failure {
+            next.push(resume(alloc, outer, stop)?)?;
+        } else {
+            let mut stop = stop;
+            stop.soft_failure = outer.soft_failure;
+            failed.push(stop)?;
+        }
+    }
+    Ok(())
+}
+
+/// No branch completed.
+pub(crate) fn exhaust<'a>(
+    place: u64,
+    outer: &Outer<'a>,
+    from: Vec<Kept<'a>>,
+    failed: &mut Vec<Stopped>,
+) -> Result<(), AllocError>
+    ensures { OnOk result (failed.new.items ≡ failed.old.items ++ exhausted outer.now place from.entry.items) }
+{
+    for k in from {
+        failed.push(Stopped {
+            facts: k.facts,
+            events: k.events,
+            place,
+            soft_failure: outer.soft_failure,
+        })?;
+    }
+    Ok(())
+}
+
+/// The states in which a member or the shared sequence begins.
+pub(crate) fn restart_all<'a>(
+    alloc: Global,
+    from: Vec<Kept<'a>>,
+) -> Result<Vec<Kept<'a>>, AllocError>
+    ensures { IfOk result (λ v. v.items ≡ all_restarted from.entry.items) }
+{
+    let mut started = Vec::new(alloc);
+    for k in from {
+        let mut k = k;
+        k.selection = Selected::one(alloc, 0)?;
+        k.soft_failure = false;
+        started.push(k)?;
+    }
+    Ok(started)
+}
