@@ -1,5 +1,4 @@
 pub mod BlockLoop
-pub mod OneWrapper
 pub mod Chains
 pub mod MemberTexts
 pub mod Bytes

@@ -39,6 +39,10 @@ pub data BlockLines : ℕ → List (List ℕ) → List ℕ → Type 0 where
   LineThen : (number : ℕ) (block : List ℕ) (blocks : List (List ℕ)) (is_mac : Bool) (lines : List ℕ) → HasKind block is_mac → BlockLines (number + 1) blocks lines
       → BlockLines number (block ∷ blocks) (block_line number (kind_text is_mac) ++ lines)
 
+-- a text is continued by the lines of the wrapper's blocks
+abbrev pub AddsBlocks : List ℕ → List ℕ → List ℕ → Type 0
+AddsBlocks wrapper old new = (digest : List ℕ) (all : List (List ℕ)) → WrapperSays wrapper digest all → (lines : List ℕ) × BlockLines 0 all lines × (new ≡ old ++ lines)
+
 -- ---- members
 
 abbrev pub state_of : Option SequenceTree → MemberState

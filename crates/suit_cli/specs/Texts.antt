@@ -114,8 +114,11 @@ state_text states.Apart = codes "apart"
 state_text states.Differs = codes "differs"
 state_text states.Severed = codes "severed"
 
+abbrev pub member_texts : List ℕ → List ℕ → List ℕ
+member_texts name state = joined (codes "member " ∷ name ∷ codes " " ∷ state ∷ codes "\n" ∷ [])
+
 abbrev pub member_line : List ℕ → MemberState → List ℕ
-member_line name state = joined (codes "member " ∷ name ∷ codes " " ∷ state_text state ∷ codes "\n" ∷ [])
+member_line name state = member_texts name (state_text state)
 
 abbrev pub authenticity_line : Authenticity → List ℕ
 authenticity_line authenticities.Yes = codes "authentic\n"

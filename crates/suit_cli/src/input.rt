@@ -22,7 +22,8 @@ pub(crate) fn read<H: Host>(
     limit: u64,
     host: &mut H,
 ) -> Result<Bytes, Stop>
-    ensures { Does (file limit name.now) (⟦<H as SeenHost>⟧.seen host.old) (⟦<H as SeenHost>⟧.seen host.new) result }
+    ensures { Does (file limit name.now)
+        (⟦<H as SeenHost>⟧.seen host.old) (⟦<H as SeenHost>⟧.seen host.new) result }
 {
     match take_all(alloc, host, name, limit) {
         Taken::Got(bytes) => Ok(bytes),
@@ -40,7 +41,8 @@ pub(crate) fn read<H: Host>(
 
 /// The key in a named file. At most 65 bytes are taken of it.
 pub(crate) fn read_key<H: Host>(alloc: Global, name: &str, host: &mut H) -> Result<Bytes, Stop>
-    ensures { Does (key_in name.now) (⟦<H as SeenHost>⟧.seen host.old) (⟦<H as SeenHost>⟧.seen host.new) result }
+    ensures { Does (key_in name.now)
+        (⟦<H as SeenHost>⟧.seen host.old) (⟦<H as SeenHost>⟧.seen host.new) result }
 {
     let key = read(alloc, name, LONGEST_KEY, host)?;
     if key.is_empty() {

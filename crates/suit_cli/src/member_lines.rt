@@ -1,11 +1,10 @@
 //! Lines of a manifest's members.
 
-ghost use Rattle.std.specs.Prelude.{◌≡◌, ◌∷◌, [], ◌++◌, codes, IfOk, OnOk, string_bytes};
+ghost use Rattle.std.specs.Prelude.{◌≡◌, ◌++◌, IfOk, OnOk, string_bytes};
 ghost use Rattle.suit_envelope.specs.Members.{member_of};
 ghost use Rattle.suit_envelope.specs.Said.{said_by};
 ghost use Rattle.suit_envelope.specs.declared.severed.MemberName.TheVariants as names;
-ghost use Rattle.suit_cli.specs.Lines.{joined};
-ghost use Rattle.suit_cli.specs.Texts.{state_text, member_line};
+ghost use Rattle.suit_cli.specs.Texts.{state_text, member_texts, member_line};
 ghost use Rattle.suit_cli.specs.Shown.{state_of, StandsApart, HasState, TextHasState, AddsMembers};
 
 use det_cbor::Text;
@@ -83,7 +82,7 @@ fn text_state(envelope: &Envelope<'_>, member: &TextMember) -> MemberState
 }
 
 fn member_line(alloc: Global, name: &str, state: &str) -> Result<String, AllocError>
-    ensures { IfOk result (λ t. string_bytes t ≡ joined (codes "member " ∷ name.now ∷ codes " " ∷ state.now ∷ codes "\n" ∷ [])) }
+    ensures { IfOk result (λ t. string_bytes t ≡ member_texts name.now state.now) }
 {
     format!(in alloc; "member {name} {state}\n")
 }

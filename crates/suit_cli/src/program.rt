@@ -43,7 +43,8 @@ const USAGE: &str =
 
 // The answer to the words.
 fn answer<H: Host>(alloc: Global, words: &Names, host: &mut H) -> Result<Reply, Stop>
-    ensures { answers words.now (⟦<H as SeenHost>⟧.seen host.old) (⟦<H as SeenHost>⟧.seen host.new) (ending_of result) }
+    ensures { answers words.now
+        (⟦<H as SeenHost>⟧.seen host.old) (⟦<H as SeenHost>⟧.seen host.new) (ending_of result) }
 {
     match command_of(words) {
         None => Err(declined(Reply::fixed(alloc, Outcome::Usage, USAGE))),
@@ -54,7 +55,8 @@ fn answer<H: Host>(alloc: Global, words: &Names, host: &mut H) -> Result<Reply, 
 
 // Puts a text at once, and ends with this status, or with 9 where the sink failed.
 fn put_text<K: Sink>(out: &mut K, status: u8, text: &str) -> Status
-    ensures { PutsText (⟦<K as SeenSink>⟧.seen out.old) (⟦<K as SeenSink>⟧.seen out.new) status text.now result.0 }
+    ensures { PutsText
+        (⟦<K as SeenSink>⟧.seen out.old) (⟦<K as SeenSink>⟧.seen out.new) status text.now result.0 }
 {
     match out.put(text.as_bytes()) {
         Edge::Done => Status(status),
@@ -64,7 +66,8 @@ fn put_text<K: Sink>(out: &mut K, status: u8, text: &str) -> Status
 
 // Puts the lines of an answer.
 fn put<K: Sink>(out: &mut K, answer: Result<Reply, Stop>) -> Status
-    ensures { Puts (⟦<K as SeenSink>⟧.seen out.old) (⟦<K as SeenSink>⟧.seen out.new) (ending_of answer) result.0 }
+    ensures { Puts
+        (⟦<K as SeenSink>⟧.seen out.old) (⟦<K as SeenSink>⟧.seen out.new) (ending_of answer) result.0 }
 {
     match answer {
         Ok(reply) | Err(Stop::Declined(reply)) => {
@@ -109,7 +112,8 @@ pub fn run<H: Host, K: Sink>(alloc: Global, words: &Names, host: &mut H, out: &m
     // Statuses and faults.
     ensures status { IsStatus result.0 }
     ensures host_fault { result.0 ≡ 7 → Faulted (H.faults host.old) (H.faults host.new) }
-    ensures only_host_fault { result.0 ≢ 7 → result.0 ≢ 9 → H.faults host.new ≡ H.faults host.old }
+    ensures only_host_fault { result.0 ≢ 7 → result.0 ≢ 9 →
+        H.faults host.new ≡ H.faults host.old }
     ensures output_fault { result.0 ≡ 9 → IsCutOff words.now
         (⟦<H as SeenHost>⟧.seen host.old) (⟦<H as SeenHost>⟧.seen host.new)
         (⟦<K as SeenSink>⟧.seen out.old) (⟦<K as SeenSink>⟧.seen out.new) }

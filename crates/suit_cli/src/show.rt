@@ -4,7 +4,7 @@ ghost use Rattle.std.specs.Prelude.{◌≡◌, ◌≤◌, ◌+◌, ℕ, List, �
 ghost use Rattle.suit_envelope.specs.Said.{said_by};
 ghost use Rattle.suit_envelope.specs.WrapperParts.{WrapperSays, HasWrapper};
 ghost use Rattle.suit_cli.specs.Texts.{tagged_line, block_line, authenticity_line};
-ghost use Rattle.suit_cli.specs.Shown.{HasKind, kind_text, BlockLines, IsShown, authenticity_outcome};
+ghost use Rattle.suit_cli.specs.Shown.{HasKind, kind_text, AddsBlocks, IsShown, authenticity_outcome};
 ghost use Rattle.suit_cli.specs.Stages.{ending_of};
 ghost use Rattle.suit_cli.specs.Inputs.{longest_file};
 ghost use Rattle.suit_cli.specs.Commands.{shows_manifest, shows_file, shows};
@@ -79,7 +79,7 @@ fn kind_text(is_mac: bool) -> &'static str
 // Adds a line for each block.
 fn push_blocks(alloc: Global, text: &mut Text, envelope: &Envelope<'_>) -> Result<(), AllocError>
     requires { HasWrapper envelope.now.wrapper.now }
-    ensures { OnOk result ((digest : List ℕ) (all : List (List ℕ)) → WrapperSays envelope.now.wrapper.now digest all → (lines : List ℕ) × BlockLines 0 all lines × (text.new ≡ text.old ++ lines)) }
+    ensures { OnOk result (AddsBlocks envelope.now.wrapper.now text.old text.new) }
 {
     let mut rest = BlockWalk::new(envelope);
     for number in 0..blocks(envelope) {
