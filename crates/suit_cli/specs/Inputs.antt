@@ -1,6 +1,11 @@
--- A named input file, as the host tells of it, where it tells.
-use Rattle.std.specs.Prelude.{◌≡◌, ◌≢◌, ◌<◌, ◌≤◌, ℕ, Bool, IsTrue, List, [], length, Option, Some, None}
+-- The stages that read a named file.
+use Rattle.std.specs.Prelude.{◌≡◌, ◌≢◌, ◌<◌, ◌≤◌, ◌+◌, ℕ, IsTrue, List, [], length, Option, Some, None}
+use Rattle.suit_cli.specs.declared.reply.Reply.{Reply}
+use Rattle.suit_cli.specs.declared.reply.Outcome.TheVariants as outcomes
 use Rattle.suit_cli.specs.Texts.{absent_line, too_long_line, empty_key_line}
+use Rattle.suit_cli.specs.Replies.{IsReply}
+use Rattle.suit_cli.specs.Outside.{Outside}
+use Rattle.suit_cli.specs.Stages.{Stage, reading}
 
 -- the longest file that is read, in bytes
 abbrev pub longest_file : ℕ
@@ -10,28 +15,35 @@ longest_file = 1048576
 abbrev pub longest_key : ℕ
 longest_key = 64
 
--- the file is longer than a limit
+-- ---- a file
+
+-- it is there, and not longer than the limit
+pub record IsRead (limit : ℕ) (name : List ℕ) (before : Outside) (bytes : List ℕ) : Type 0 where
+  pub holds : IsTrue before.told → before.files name ≡ Some bytes
+  pub fits : length bytes ≤ limit
+
+-- it is longer than the limit
 abbrev pub IsAbove : ℕ → Option (List ℕ) → Type 0
 IsAbove limit file = (bytes : List ℕ) × (file ≡ Some bytes) × (limit < length bytes)
 
--- the file is read whole
-pub record IsRead (told : Bool) (limit : ℕ) (file : Option (List ℕ)) (bytes : List ℕ) : Type 0 where
-  pub holds : IsTrue told → file ≡ Some bytes
-  pub fits : length bytes ≤ limit
+pub data IsUnread (limit : ℕ) (name : List ℕ) (before : Outside) (reply : Reply) : Type 0 where
+  IsAbsent : (IsTrue before.told → before.files name ≡ None) → IsReply reply outcomes.Absent (absent_line name) → IsUnread limit name before reply
+  IsTooLong : (IsTrue before.told → IsAbove limit (before.files name)) → IsReply reply outcomes.TooLong (too_long_line name) → IsUnread limit name before reply
 
--- it is not there, or too long
-pub data IsUnread (told : Bool) (limit : ℕ) (file : Option (List ℕ)) (name : List ℕ) (status : ℕ) (text : List ℕ) : Type 0 where
-  Absent : (IsTrue told → file ≡ None) → status ≡ 20 → text ≡ absent_line name → IsUnread told limit file name status text
-  TooLong : (IsTrue told → IsAbove limit file) → status ≡ 21 → text ≡ too_long_line name → IsUnread told limit file name status text
+-- the whole file; one byte more than the limit shows that it is too long
+abbrev pub file : ℕ → List ℕ → Stage (List ℕ)
+file limit name = reading (limit + 1) (IsRead limit name) (IsUnread limit name)
 
 -- ---- the key
 
--- a file of one to 64 bytes holds a key
-pub record HasKey (told : Bool) (file : Option (List ℕ)) (key : List ℕ) : Type 0 where
-  pub read : IsRead told longest_key file key
+-- a file of one to 64 bytes
+pub record IsKey (name : List ℕ) (before : Outside) (key : List ℕ) : Type 0 where
+  pub read : IsRead longest_key name before key
   pub some : key ≢ []
 
--- it is not read, or it is empty
-pub data HasNoKey (told : Bool) (file : Option (List ℕ)) (name : List ℕ) (status : ℕ) (text : List ℕ) : Type 0 where
-  KeyUnread : IsUnread told longest_key file name status text → HasNoKey told file name status text
-  KeyEmpty : IsRead told longest_key file [] → status ≡ 3 → text ≡ empty_key_line → HasNoKey told file name status text
+pub data IsNoKey (name : List ℕ) (before : Outside) (reply : Reply) : Type 0 where
+  IsUnreadKey : IsUnread longest_key name before reply → IsNoKey name before reply
+  IsEmptyKey : IsRead longest_key name before [] → IsReply reply outcomes.Refused empty_key_line → IsNoKey name before reply
+
+abbrev pub key_in : List ℕ → Stage (List ℕ)
+key_in name = reading (longest_key + 1) (IsKey name) (IsNoKey name)

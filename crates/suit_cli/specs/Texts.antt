@@ -3,17 +3,19 @@ use Rattle.std.specs.Prelude.{ℕ, Bool, true, false, List, [], ◌∷◌, ◌++
 use Rattle.std.specs.Fmt.{decimal}
 use Rattle.det_cbor.specs.declared.reason.Reason.{Reason}
 use Rattle.det_cbor.specs.declared.reason.Reason.TheVariants as reasons
+use Rattle.suit_params.specs.declared.refusal.Refusal.{Refusal}
 use Rattle.suit_params.specs.declared.refusal.Why.{Why}
 use Rattle.suit_params.specs.declared.refusal.Why.TheVariants as whys
 use Rattle.suit_envelope.specs.declared.authenticity.Authenticity.{Authenticity}
 use Rattle.suit_envelope.specs.declared.authenticity.Authenticity.TheVariants as authenticities
+use Rattle.suit_envelope.specs.declared.severed.MemberName.{MemberName}
+use Rattle.suit_envelope.specs.declared.severed.MemberName.TheVariants as names
+use Rattle.suit_cli.specs.declared.member_lines.MemberState.{MemberState}
+use Rattle.suit_cli.specs.declared.member_lines.MemberState.TheVariants as states
 use Rattle.suit_cli.specs.Lines.{joined}
 
 abbrev pub usage_line : List ℕ
 usage_line = codes "usage: suit make DESCRIPTION KEY OUT | show FILE [KEY] | check FILE | run init DEVICE KEY | run update FILE [URI=NAME]... | run boot | run status | drill NUMBER\n"
-
-abbrev pub not_built_line : List ℕ
-not_built_line = codes "not built\n"
 
 -- the place of a fault in the file, and what is wrong there
 abbrev pub refused_line : ℕ → List ℕ → List ℕ
@@ -54,11 +56,28 @@ why_text whys.BadArgument = codes "bad argument"
 why_text (whys.BadIndex i n) = index_text i n
 why_text whys.Nested = codes "nested"
 
+abbrev pub refusal_line : Refusal → List ℕ
+refusal_line r = refused_line r.place (why_text r.why)
+
 abbrev pub absent_line : List ℕ → List ℕ
 absent_line name = codes "absent " ++ name ++ codes "\n"
 
 abbrev pub too_long_line : List ℕ → List ℕ
 too_long_line name = codes "too long " ++ name ++ codes "\n"
+
+abbrev pub name_text : MemberName → List ℕ
+name_text names.PayloadFetch = codes "payload-fetch"
+name_text names.Install = codes "install"
+name_text names.Text = codes "text"
+
+abbrev pub severed_line : MemberName → List ℕ
+severed_line name = codes "severed " ++ name_text name ++ codes "\n"
+
+abbrev pub differs_line : MemberName → List ℕ
+differs_line name = joined (codes "member " ∷ name_text name ∷ codes " differs\n" ∷ [])
+
+abbrev pub too_wide_line : ℕ → List ℕ
+too_wide_line width = joined (codes "too wide: " ∷ decimal width ∷ codes "\n" ∷ [])
 
 abbrev pub safe_lines : List ℕ
 safe_lines = codes "update safe\ninvocation safe\n"
@@ -87,6 +106,19 @@ tagged_line false = codes "tagged no\n"
 -- the number of a block, and its kind
 abbrev pub block_line : ℕ → List ℕ → List ℕ
 block_line number kind = joined (codes "block " ∷ decimal number ∷ codes " " ∷ kind ∷ codes "\n" ∷ [])
+
+abbrev pub state_text : MemberState → List ℕ
+state_text states.Here = codes "here"
+state_text states.Absent = codes "none"
+state_text states.Apart = codes "apart"
+state_text states.Differs = codes "differs"
+state_text states.Severed = codes "severed"
+
+abbrev pub member_texts : List ℕ → List ℕ → List ℕ
+member_texts name state = joined (codes "member " ∷ name ∷ codes " " ∷ state ∷ codes "\n" ∷ [])
+
+abbrev pub member_line : List ℕ → MemberState → List ℕ
+member_line name state = member_texts name (state_text state)
 
 abbrev pub authenticity_line : Authenticity → List ℕ
 authenticity_line authenticities.Yes = codes "authentic\n"

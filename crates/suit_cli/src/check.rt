@@ -1,80 +1,59 @@
 //! The command `check`: the judgement of a file.
 
-ghost use Rattle.std.specs.Prelude.{◌≡◌, ◌≤◌, ◌<◌, ◌^◌, ◌+◌, IsTrue, IfOk, length};
+ghost use Rattle.std.specs.Prelude.{◌≡◌, ◌≤◌, ◌<◌, ◌^◌, ◌+◌, length};
 ghost use Rattle.suit_envelope.specs.Said.{said_by};
-ghost use Rattle.suit_cli.specs.FlatPlan.{plan_of};
-ghost use Rattle.suit_cli.specs.Words.{Check};
-ghost use Rattle.suit_cli.specs.Answer.{FormJudgement, IsJudged, Answer};
-ghost use Rattle.suit_cli.specs.Replying.{Says, EndsAs};
+ghost use Rattle.suit_envelope.specs.Places.{MembersEndBelow};
+ghost use Rattle.suit_cli.specs.Stages.{Tells, ending_of};
+ghost use Rattle.suit_cli.specs.Inputs.{longest_file};
+ghost use Rattle.suit_cli.specs.Envelopes.{ManifestOf};
+ghost use Rattle.suit_cli.specs.Commands.{judges_manifest, judges_file, checks};
 
-use crate::flat::{FlatForm, flat_form};
-use crate::input::{LONGEST_FILE, accepted, read};
-use crate::reply::{Outcome, Reply};
-use path_checker::FlatPlan;
-use path_checker::judge::CheckVerdict;
-use path_model::Procedure;
-use std::alloc::{AllocError, Global};
+use crate::accept::{envelope_in, manifest_in, members_in, short};
+use crate::input::{LONGEST_FILE, read};
+use crate::judgement::{judge, narrow};
+use crate::outside::SeenHost;
+use crate::reply::{Reply, Stop};
+use std::alloc::Global;
 use suit_edge::Host;
-use suit_envelope::Envelope;
-
-impl FlatForm {
-    // The plan of one procedure.
-    fn plan(&self, procedure: Procedure) -> FlatPlan
-        ensures { result ≡ plan_of procedure self.now }
-    {
-        FlatPlan {
-            procedure,
-            digest: self.digest,
-            size: self.size,
-            match_place: self.match_place,
-            invoke_place: self.invoke_place,
-        }
-    }
-}
-
-// The judgement of both procedures, the update first.
-fn judge_form(alloc: Global, form: &FlatForm) -> Result<Reply, AllocError>
-    ensures { Says (FormJudgement form.now) result }
-{
-    match path_checker::judge::check(alloc, &form.plan(Procedure::Update)) {
-        CheckVerdict::NoMemory => return Err(AllocError),
-        CheckVerdict::Unsafe(path) => return Reply::with_path(alloc, "update unsafe\n", &path),
-        CheckVerdict::Safe => {}
-    }
-    match path_checker::judge::check(alloc, &form.plan(Procedure::Invocation)) {
-        CheckVerdict::NoMemory => Err(AllocError),
-        CheckVerdict::Unsafe(path) => {
-            Reply::with_path(alloc, "update safe\ninvocation unsafe\n", &path)
-        }
-        CheckVerdict::Safe => {
-            Reply::fixed(alloc, Outcome::Done, "update safe\ninvocation safe\n")
-        }
-    }
-}
+use suit_envelope::{Envelope, envelope_laws};
+use suit_manifest::{Manifest, invocation_plan, procedure_laws, update_plan};
 
 // The judgement of an envelope's manifest.
-fn judge(alloc: Global, envelope: &Envelope<'_>) -> Result<Reply, AllocError>
-    requires { envelope.now.manifest_place + length envelope.now.manifest.now < 2 ^ 64 }
-    ensures { Says (IsJudged (said_by envelope.now)) result }
+fn judge_manifest(
+    alloc: Global,
+    envelope: &Envelope<'_>,
+    manifest: &Manifest,
+) -> Result<Reply, Stop>
+    requires places { MembersEndBelow (2 ^ 64) (said_by envelope.now) }
+    requires manifest { ManifestOf (said_by envelope.now) manifest.now }
+    ensures { Tells (judges_manifest (said_by envelope.now) manifest.now) result }
 {
-    match flat_form(envelope.manifest, envelope.manifest_place) {
-        None => Reply::fixed(alloc, Outcome::Refused, "not built\n"),
-        Some(form) => judge_form(alloc, &form),
-    }
+    procedure_laws();
+    let members = members_in(alloc, envelope, manifest)?;
+    let update = update_plan(manifest, &members);
+    narrow(alloc, &update)?;
+    let invocation = invocation_plan(manifest);
+    narrow(alloc, &invocation)?;
+    judge(alloc, &update, &invocation)
+}
+
+// The judgement of a file's bytes.
+fn judge_file(alloc: Global, bytes: &[u8]) -> Result<Reply, Stop>
+    requires { length bytes.now ≤ longest_file }
+    ensures { Tells (judges_file bytes.now) result }
+{
+    envelope_laws();
+    let envelope = envelope_in(alloc, bytes)?;
+    short(alloc, &envelope)?;
+    let manifest = manifest_in(alloc, &envelope)?;
+    judge_manifest(alloc, &envelope, &manifest)
 }
 
 /// The reply to `check NAME`.
-pub(crate) fn check<H: Host>(alloc: Global, name: &str, host: &mut H) -> Result<Reply, AllocError>
-    ensures files { IsTrue H.told → H.file host.new ≡ H.file host.old }
-    ensures pulled { IsTrue H.told → H.pulled host.new ≤ H.pulled host.old + 1048577 }
-    ensures ends { EndsAs (λ s t. Answer H.told (H.file host.old) s t (Check name.now)) (H.faults host.old) (H.faults host.new) result }
+pub(crate) fn check<H: Host>(alloc: Global, name: &str, host: &mut H) -> Result<Reply, Stop>
+    ensures { checks name.now
+        (⟦<H as SeenHost>⟧.seen host.old) (⟦<H as SeenHost>⟧.seen host.new) (ending_of result) }
 {
-    let bytes = match read(alloc, name, LONGEST_FILE, host) {
-        Ok(bytes) => bytes,
-        Err(reply) => return reply,
-    };
-    match accepted(alloc, bytes.as_slice()) {
-        Ok(envelope) => judge(alloc, &envelope),
-        Err(reply) => reply,
-    }
+    let bytes = read(alloc, name, LONGEST_FILE, host)?;
+    judge_file(alloc, bytes.as_slice())
 }

@@ -72,7 +72,8 @@ fn identity_texts(
     device: &str,
     slot: u64,
 ) -> Result<String, AllocError>
-    ensures { IfOk result (λ t. string_bytes t ≡ identity_texts component vendor.now class.now device.now slot) }
+    ensures { IfOk result (λ t. string_bytes t ≡
+        identity_texts component vendor.now class.now device.now slot) }
 {
     format!(in alloc;
         "identity {component} vendor {vendor} class {class} device {device} slot {slot}\n"
@@ -99,7 +100,8 @@ fn image_line(
     digest: Option<Digest>,
     size: Option<u64>,
 ) -> Result<String, AllocError>
-    ensures { IfOk result (λ t. string_bytes t ≡ image_line word.now component (digest_text digest) (size_text size)) }
+    ensures { IfOk result (λ t. string_bytes t ≡
+        image_line word.now component (digest_text digest) (size_text size)) }
 {
     let digest = digest_text(alloc, digest)?;
     let size = size_text(alloc, size)?;

@@ -1,23 +1,38 @@
 //! The top call: all that the program does.
 
-ghost use Rattle.std.specs.Prelude.{◌≡◌, ◌≢◌, ◌≤◌, ◌+◌, ◌⊎◌, ◌++◌, ℕ, List, None, IsTrue};
+ghost use Rattle.std.specs.Prelude.{◌≡◌, ◌≢◌, IsTrue, List, ℕ, None};
 ghost use Rattle.suit_edge.specs.Faults.{Faulted};
-ghost use Rattle.suit_envelope.specs.Envelopes.{EnvelopeSays};
-ghost use Rattle.suit_cli.specs.declared.flat.FlatForm.{FlatForm};
+ghost use Rattle.suit_commands.specs.Tree.{PlanTree};
 ghost use Rattle.suit_cli.specs.Words.{task_of};
-ghost use Rattle.suit_cli.specs.Texts.{safe_lines, host_fault_line, out_of_memory_line};
-ghost use Rattle.suit_cli.specs.Answer.{Replies};
-ghost use Rattle.suit_cli.specs.Replying.{reply_status, reply_text};
-ghost use Rattle.suit_cli.specs.Put.{Put};
-ghost use Rattle.suit_cli.specs.Run.{Runs, IsStatus, EndsIn, IsCheck, IsShow, ChecksForm, Shows, IsDeclined, LacksFile, HasLong, AreSafe, IsAuthenticUnder, PutsUnsafe, PutsDeclined, PutsShown, most_pulled};
+ghost use Rattle.suit_cli.specs.Outside.{Quiet};
+ghost use Rattle.suit_cli.specs.Stages.{Ending, ending_of};
+ghost use Rattle.suit_cli.specs.Judgement.{AreSafe};
+ghost use Rattle.suit_cli.specs.Program.{
+  answers,
+  Puts,
+  PutsText,
+  Runs,
+  IsStatus,
+  EndsIn,
+  IsCheck,
+  ChecksProcedures,
+  ChecksSafe,
+  ChecksUnsafe,
+  IsUsage,
+  IsCutOff,
+  most_pulled,
+};
 
 use crate::check::check;
-use crate::reply::{Outcome, Reply};
+use crate::outside::{SeenHost, SeenSink};
+use crate::reply::{Outcome, Reply, Stop, declined};
 use crate::show::show;
 use crate::words::{Command, command_of};
 use det_cbor::Names;
-use std::alloc::{AllocError, Global};
+use std::alloc::Global;
 use suit_edge::{Edge, Host, Sink};
+use suit_envelope::envelope_laws;
+use suit_manifest::{manifest_laws, members_laws};
 
 /// The status that the program ends with.
 #[derive(Clone, Copy, Debug, PartialEq, Eq)]
@@ -26,14 +41,13 @@ pub struct Status(pub u8);
 const USAGE: &str =
     "usage: suit make DESCRIPTION KEY OUT | show FILE [KEY] | check FILE | run init DEVICE KEY | run update FILE [URI=NAME]... | run boot | run status | drill NUMBER\n";
 
-// The reply to the words.
-fn reply_to<H: Host>(alloc: Global, words: &Names, host: &mut H) -> Result<Reply, AllocError>
-    ensures files { IsTrue H.told → H.file host.new ≡ H.file host.old }
-    ensures pulled { IsTrue H.told → H.pulled host.new ≤ H.pulled host.old + most_pulled (task_of words.now) }
-    ensures replies { Replies H.told (H.file host.old) words.now (H.faults host.old) (H.faults host.new) (reply_status result) (reply_text result) }
+// The answer to the words.
+fn answer<H: Host>(alloc: Global, words: &Names, host: &mut H) -> Result<Reply, Stop>
+    ensures { answers words.now
+        (⟦<H as SeenHost>⟧.seen host.old) (⟦<H as SeenHost>⟧.seen host.new) (ending_of result) }
 {
     match command_of(words) {
-        None => Reply::fixed(alloc, Outcome::Usage, USAGE),
+        None => Err(declined(Reply::fixed(alloc, Outcome::Usage, USAGE))),
         Some(Command::Check(name)) => check(alloc, name, host),
         Some(Command::Show(name, key)) => show(alloc, name, key, host),
     }
@@ -41,7 +55,8 @@ fn reply_to<H: Host>(alloc: Global, words: &Names, host: &mut H) -> Result<Reply
 
 // Puts a text at once, and ends with this status, or with 9 where the sink failed.
 fn put_text<K: Sink>(out: &mut K, status: u8, text: &str) -> Status
-    ensures { Put K.told (K.put_bytes out.old) (K.put_bytes out.new) (K.faults out.old) (K.faults out.new) status text.now result.0 }
+    ensures { PutsText
+        (⟦<K as SeenSink>⟧.seen out.old) (⟦<K as SeenSink>⟧.seen out.new) status text.now result.0 }
 {
     match out.put(text.as_bytes()) {
         Edge::Done => Status(status),
@@ -49,59 +64,64 @@ fn put_text<K: Sink>(out: &mut K, status: u8, text: &str) -> Status
     }
 }
 
-fn put_reply<K: Sink>(out: &mut K, reply: Result<Reply, AllocError>) -> Status
-    ensures { Put K.told (K.put_bytes out.old) (K.put_bytes out.new) (K.faults out.old) (K.faults out.new) (reply_status reply) (reply_text reply) result.0 }
+// Puts the lines of an answer.
+fn put<K: Sink>(out: &mut K, answer: Result<Reply, Stop>) -> Status
+    ensures { Puts
+        (⟦<K as SeenSink>⟧.seen out.old) (⟦<K as SeenSink>⟧.seen out.new) (ending_of answer) result.0 }
 {
-    match reply {
-        Ok(reply) => put_text(out, reply.outcome.status(), reply.text.as_str()),
-        Err(_) => put_text(out, 11, "out of memory\n"),
+    match answer {
+        Ok(reply) | Err(Stop::Declined(reply)) => {
+            put_text(out, reply.outcome.status(), reply.text.as_str())
+        }
+        Err(Stop::HostFault) => put_text(out, 7, "host fault\n"),
+        Err(Stop::NoMemory) => put_text(out, 11, "out of memory\n"),
     }
 }
 
 /// Does all that the program does. The words do not hold the program's name.
 pub fn run<H: Host, K: Sink>(alloc: Global, words: &Names, host: &mut H, out: &mut K) -> Status
-    // What is put, and the status, are those of the reply to the words; it is put whole, or up to a fault of the sink.
-    ensures runs { Runs H.told (H.file host.old) words.now (H.faults host.old) (H.faults host.new) K.told (K.put_bytes out.old) (K.put_bytes out.new) (K.faults out.old) (K.faults out.new) result.0 }
+    // The words have an answer, made in stages over what the host tells; its lines are put, whole or up to a fault of
+    // the sink, and its status is the result.
+    ensures runs { Runs words.now
+        (⟦<H as SeenHost>⟧.seen host.old) (⟦<H as SeenHost>⟧.seen host.new)
+        (⟦<K as SeenSink>⟧.seen out.old) (⟦<K as SeenSink>⟧.seen out.new) result.0 }
 
-    // The headline: yes exactly where each invoke is covered on every path, and otherwise a path where one is not.
-    ensures yes { IsTrue H.told → IsCheck words.now → result.0 ≡ 0 → (form : FlatForm) × ChecksForm (H.file host.old) words.now form × AreSafe form }
-    ensures only_yes { IsTrue H.told → (form : FlatForm) → ChecksForm (H.file host.old) words.now form → AreSafe form → EndsIn 0 result.0 }
-    ensures puts_yes { IsTrue K.told → IsCheck words.now → result.0 ≡ 0 → K.put_bytes out.new ≡ K.put_bytes out.old ++ safe_lines }
-    ensures no { IsTrue H.told → result.0 ≡ 1 → (form : FlatForm) × ChecksForm (H.file host.old) words.now form × (AreSafe form → ⊥) }
-    ensures only_no { IsTrue H.told → (form : FlatForm) → ChecksForm (H.file host.old) words.now form → (AreSafe form → ⊥) → EndsIn 1 result.0 }
-    ensures puts_no { IsTrue H.told → IsTrue K.told → result.0 ≡ 1 → PutsUnsafe (H.file host.old) words.now (K.put_bytes out.old) (K.put_bytes out.new) }
+    // The headline: yes exactly where each invoke is covered on every path of both procedures, and otherwise a path
+    // where one is not.
+    ensures yes { IsTrue H.told → IsCheck words.now → result.0 ≡ 0 →
+        ChecksSafe words.now (⟦<H as SeenHost>⟧.seen host.old) }
+    ensures only_yes { (update invocation : PlanTree) →
+        ChecksProcedures words.now (⟦<H as SeenHost>⟧.seen host.old) update invocation →
+        AreSafe update invocation → EndsIn 0 result.0 }
+    ensures no { IsTrue H.told → result.0 ≡ 1 →
+        ChecksUnsafe words.now (⟦<H as SeenHost>⟧.seen host.old)
+        (⟦<K as SeenSink>⟧.seen out.old) (⟦<K as SeenSink>⟧.seen out.new) }
+    ensures only_no { (update invocation : PlanTree) →
+        ChecksProcedures words.now (⟦<H as SeenHost>⟧.seen host.old) update invocation →
+        (AreSafe update invocation → ⊥) → EndsIn 1 result.0 }
 
-    // An envelope under a key: authentic exactly where it is, and the lines that show it.
-    ensures authentic { IsTrue H.told → IsShow words.now → result.0 ≡ 0 → (said : EnvelopeSays) × (key : List ℕ) × Shows (H.file host.old) words.now said key × IsAuthenticUnder said key }
-    ensures only_authentic { IsTrue H.told → (said : EnvelopeSays) (key : List ℕ) → Shows (H.file host.old) words.now said key → IsAuthenticUnder said key → EndsIn 0 result.0 }
-    ensures not_authentic { IsTrue H.told → result.0 ≡ 4 → (said : EnvelopeSays) × (key : List ℕ) × Shows (H.file host.old) words.now said key × (IsAuthenticUnder said key → ⊥) }
-    ensures only_not_authentic { IsTrue H.told → (said : EnvelopeSays) (key : List ℕ) → Shows (H.file host.old) words.now said key → (IsAuthenticUnder said key → ⊥) → EndsIn 4 result.0 }
-    ensures puts_shown { IsTrue H.told → IsTrue K.told → IsShow words.now → (result.0 ≡ 0) ⊎ (result.0 ≡ 4) → PutsShown (H.file host.old) words.now result.0 (K.put_bytes out.old) (K.put_bytes out.new) }
+    // Usage, exactly where the words are no command.
+    ensures usage { result.0 ≡ 2 →
+        IsUsage words.now (⟦<K as SeenSink>⟧.seen out.old) (⟦<K as SeenSink>⟧.seen out.new) }
+    ensures only_usage { task_of words.now ≡ None → EndsIn 2 result.0 }
 
-    // Each refusal, both ways.
-    ensures usage { result.0 ≡ 2 → task_of words.now ≡ None }
-    ensures only_usage { task_of words.now ≡ None → (result.0 ≡ 2) ⊎ (result.0 ≡ 9) ⊎ (result.0 ≡ 11) }
-    ensures refused { IsTrue H.told → IsTrue K.told → (result.0 ≡ 3) ⊎ (result.0 ≡ 20) ⊎ (result.0 ≡ 21) → PutsDeclined (H.file host.old) words.now result.0 (K.put_bytes out.old) (K.put_bytes out.new) }
-    ensures only_refused { IsTrue H.told → (status : ℕ) (text : List ℕ) → IsDeclined (H.file host.old) words.now status text → EndsIn status result.0 }
-    ensures puts_refused { IsTrue H.told → IsTrue K.told → (status : ℕ) (text : List ℕ) → IsDeclined (H.file host.old) words.now status text → result.0 ≡ status → K.put_bytes out.new ≡ K.put_bytes out.old ++ text }
-    ensures absent { IsTrue H.told → result.0 ≡ 20 → LacksFile (H.file host.old) words.now }
-    ensures only_absent { IsTrue H.told → LacksFile (H.file host.old) words.now → EndsIn 20 result.0 }
-    ensures too_long { IsTrue H.told → result.0 ≡ 21 → HasLong (H.file host.old) words.now }
-    ensures only_too_long { IsTrue H.told → HasLong (H.file host.old) words.now → EndsIn 21 result.0 }
+    // Nothing outside changes but what was pulled of the files.
+    ensures stays { Quiet (most_pulled (task_of words.now))
+        (⟦<H as SeenHost>⟧.seen host.old) (⟦<H as SeenHost>⟧.seen host.new) }
 
-    // Statuses, faults and want of memory.
+    // Statuses and faults.
     ensures status { IsStatus result.0 }
     ensures host_fault { result.0 ≡ 7 → Faulted (H.faults host.old) (H.faults host.new) }
-    ensures only_host_fault { result.0 ≢ 7 → result.0 ≢ 9 → result.0 ≢ 11 → H.faults host.new ≡ H.faults host.old }
-    ensures puts_host_fault { IsTrue K.told → result.0 ≡ 7 → K.put_bytes out.new ≡ K.put_bytes out.old ++ host_fault_line }
-    ensures output_fault { result.0 ≡ 9 → Faulted (K.faults out.old) (K.faults out.new) }
+    ensures only_host_fault { result.0 ≢ 7 → result.0 ≢ 9 →
+        H.faults host.new ≡ H.faults host.old }
+    ensures output_fault { result.0 ≡ 9 → IsCutOff words.now
+        (⟦<H as SeenHost>⟧.seen host.old) (⟦<H as SeenHost>⟧.seen host.new)
+        (⟦<K as SeenSink>⟧.seen out.old) (⟦<K as SeenSink>⟧.seen out.new) }
     ensures only_output_fault { result.0 ≢ 9 → K.faults out.new ≡ K.faults out.old }
-    ensures puts_no_memory { IsTrue K.told → result.0 ≡ 11 → K.put_bytes out.new ≡ K.put_bytes out.old ++ out_of_memory_line }
-
-    // What stays, and how much is read: of each file at most one byte more than its limit.
-    ensures files { IsTrue H.told → H.file host.new ≡ H.file host.old }
-    ensures pulled { IsTrue H.told → H.pulled host.new ≤ H.pulled host.old + most_pulled (task_of words.now) }
 {
-    let reply = reply_to(alloc, words, host);
-    put_reply(out, reply)
+    envelope_laws();
+    manifest_laws();
+    members_laws();
+    let answer = answer(alloc, words, host);
+    put(out, answer)
 }

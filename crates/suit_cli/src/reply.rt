@@ -1,9 +1,11 @@
 //! What is said of the words, before it is put.
 
-ghost use Rattle.std.specs.Prelude.{◌≡◌, ◌++◌, codes, IfOk};
-ghost use Rattle.suit_cli.specs.Outcome.{status_of};
+ghost use Rattle.std.specs.Prelude.{◌≡◌, ◌++◌, codes};
+ghost use Rattle.suit_cli.specs.declared.reply.Outcome.TheVariants as outcomes;
+ghost use Rattle.suit_cli.specs.Replies.{Makes, stop_of};
+ghost use Rattle.suit_cli.specs.Statuses.{status_of};
 ghost use Rattle.suit_cli.specs.Lines.{path_lines};
-ghost use Rattle.suit_cli.specs.Texts.{refused_line, why_text};
+ghost use Rattle.suit_cli.specs.Texts.{refusal_line};
 
 use crate::lines::push_path;
 use crate::why::{refused_line, why_text};
@@ -25,8 +27,12 @@ pub enum Outcome {
     Refused,
     /// An envelope is not authentic under a key.
     NotAuthentic,
-    /// A call on the host failed.
-    HostFault,
+    /// There is too much to judge in a procedure.
+    TooWide,
+    /// A member that stands apart is not in the envelope.
+    Severed,
+    /// A member that stands apart has another digest than the manifest states.
+    Differs,
     /// A file that the words name is not there.
     Absent,
     /// A file is longer than its limit.
@@ -44,7 +50,9 @@ impl Outcome {
             Outcome::Usage => 2,
             Outcome::Refused => 3,
             Outcome::NotAuthentic => 4,
-            Outcome::HostFault => 7,
+            Outcome::TooWide => 12,
+            Outcome::Severed => 16,
+            Outcome::Differs => 17,
             Outcome::Absent => 20,
             Outcome::TooLong => 21,
         }
@@ -58,11 +66,42 @@ pub(crate) struct Reply {
     pub(crate) text: Text,
 }
 
+/// Why an answer goes no further.
+#[derive(Debug, Drop)]
+pub(crate) enum Stop {
+    /// A stage was not passed, as this reply says.
+    Declined(Reply),
+    /// A call of the host failed, and its count of faults rose.
+    HostFault,
+    /// Memory was wanting.
+    NoMemory,
+}
+
+impl From<AllocError> for Stop {
+    ghost use Rattle.std.specs.Prelude.{◌≡◌};
+    ghost use Rattle.suit_cli.specs.declared.reply.Stop.TheVariants.{NoMemory};
+
+    ghost from_gives = { λ e r. r ≡ NoMemory };
+
+    fn from(_error: AllocError) -> Stop {
+        Stop::NoMemory
+    }
+}
+
+/// An answer that goes no further, as a reply says.
+pub(crate) fn declined(made: Result<Reply, AllocError>) -> Stop
+    ensures { result ≡ stop_of made }
+{
+    match made {
+        Ok(reply) => Stop::Declined(reply),
+        Err(_) => Stop::NoMemory,
+    }
+}
+
 impl Reply {
     /// A reply of these lines.
     pub(crate) fn fixed(alloc: Global, outcome: Outcome, lines: &str) -> Result<Reply, AllocError>
-        ensures outcome { IfOk result (λ reply. reply.outcome ≡ outcome) }
-        ensures text { IfOk result (λ reply. reply.text ≡ lines.now) }
+        ensures { Makes result outcome lines.now }
     {
         let text = Text::from_str(alloc, lines)?;
         Ok(Reply { outcome, text })
@@ -75,8 +114,7 @@ impl Reply {
         word: &str,
         name: &str,
     ) -> Result<Reply, AllocError>
-        ensures outcome { IfOk result (λ reply. reply.outcome ≡ outcome) }
-        ensures text { IfOk result (λ reply. reply.text ≡ word.now ++ name.now ++ codes "\n") }
+        ensures { Makes result outcome (word.now ++ name.now ++ codes "\n") }
     {
         let mut text = Text::from_str(alloc, word)?;
         text.push_str(name)?;
@@ -86,8 +124,7 @@ impl Reply {
 
     /// A reply of one line, with the place of a refusal in the file and what is wrong there.
     pub(crate) fn refused(alloc: Global, refusal: &Refusal) -> Result<Reply, AllocError>
-        ensures outcome { IfOk result (λ reply. status_of reply.outcome ≡ 3) }
-        ensures text { IfOk result (λ reply. reply.text ≡ refused_line refusal.now.place (why_text refusal.now.why)) }
+        ensures { Makes result outcomes.Refused (refusal_line refusal.now) }
     {
         let why = why_text(alloc, refusal.why)?;
         let line = refused_line(alloc, refusal.place, why.as_str())?;
@@ -99,8 +136,7 @@ impl Reply {
 
     /// A reply of these lines and of those of a path.
     pub(crate) fn with_path(alloc: Global, lines: &str, path: &BadPath) -> Result<Reply, AllocError>
-        ensures outcome { IfOk result (λ reply. status_of reply.outcome ≡ 1) }
-        ensures text { IfOk result (λ reply. reply.text ≡ lines.now ++ path_lines path.now) }
+        ensures { Makes result outcomes.Unsafe (lines.now ++ path_lines path.now) }
     {
         let mut text = Text::from_str(alloc, lines)?;
         push_path(alloc, &mut text, path)?;

@@ -1,25 +1,28 @@
 //! The command `show` with a key: what an envelope holds, and whether it is authentic.
 
-ghost use Rattle.std.specs.Prelude.{◌≡◌, ◌≤◌, ◌+◌, ℕ, List, ◌++◌, IsTrue, IfOk, OnOk, string_bytes};
+ghost use Rattle.std.specs.Prelude.{◌≡◌, ◌≤◌, ◌+◌, ℕ, List, ◌++◌, IfOk, OnOk, length, string_bytes};
 ghost use Rattle.suit_envelope.specs.Said.{said_by};
 ghost use Rattle.suit_envelope.specs.WrapperParts.{WrapperSays, HasWrapper};
-ghost use Rattle.suit_cli.specs.Words.{Show};
 ghost use Rattle.suit_cli.specs.Texts.{tagged_line, block_line, authenticity_line};
-ghost use Rattle.suit_cli.specs.Shown.{HasKind, kind_text, BlockLines, IsShown, authenticity_status};
-ghost use Rattle.suit_cli.specs.Outcome.{status_of};
-ghost use Rattle.suit_cli.specs.Answer.{Answer};
-ghost use Rattle.suit_cli.specs.Replying.{Says, EndsAs};
+ghost use Rattle.suit_cli.specs.Shown.{HasKind, kind_text, AddsBlocks, IsShown, authenticity_outcome};
+ghost use Rattle.suit_cli.specs.Stages.{ending_of};
+ghost use Rattle.suit_cli.specs.Inputs.{longest_file};
+ghost use Rattle.suit_cli.specs.Commands.{shows_manifest, shows_file, shows};
 
 #[cfg(test)]
 mod tests;
 
-use crate::input::{LONGEST_FILE, accepted, read, read_key};
-use crate::reply::{Outcome, Reply};
+use crate::accept::{envelope_in, manifest_in, short};
+use crate::input::{LONGEST_FILE, read, read_key};
+use crate::member_lines::push_members;
+use crate::outside::SeenHost;
+use crate::reply::{Outcome, Reply, Stop};
 use det_cbor::Text;
 use hmac_mac0::{MacVerdict, verify};
 use std::alloc::{AllocError, Global};
 use suit_edge::Host;
-use suit_envelope::{Authenticity, BlockWalk, Envelope, authentic, blocks};
+use suit_envelope::{Authenticity, BlockWalk, Envelope, authentic, blocks, envelope_laws};
+use suit_manifest::Manifest;
 
 fn tagged_line(tagged: bool) -> &'static str
     ensures { result.now ≡ tagged_line tagged }
@@ -43,7 +46,7 @@ fn authenticity_line(authenticity: Authenticity<'_>) -> &'static str
 }
 
 fn outcome_of(authenticity: Authenticity<'_>) -> Outcome
-    ensures { status_of result ≡ authenticity_status authenticity.entry }
+    ensures { result ≡ authenticity_outcome authenticity.entry }
 {
     match authenticity {
         Authenticity::Yes => Outcome::Done,
@@ -76,7 +79,7 @@ fn kind_text(is_mac: bool) -> &'static str
 // Adds a line for each block.
 fn push_blocks(alloc: Global, text: &mut Text, envelope: &Envelope<'_>) -> Result<(), AllocError>
     requires { HasWrapper envelope.now.wrapper.now }
-    ensures { OnOk result ((digest : List ℕ) (all : List (List ℕ)) → WrapperSays envelope.now.wrapper.now digest all → (lines : List ℕ) × BlockLines 0 all lines × (text.new ≡ text.old ++ lines)) }
+    ensures { OnOk result (AddsBlocks envelope.now.wrapper.now text.old text.new) }
 {
     let mut rest = BlockWalk::new(envelope);
     for number in 0..blocks(envelope) {
@@ -90,12 +93,18 @@ fn push_blocks(alloc: Global, text: &mut Text, envelope: &Envelope<'_>) -> Resul
 }
 
 // The lines that show an envelope under a key.
-fn show_envelope(alloc: Global, envelope: &Envelope<'_>, key: &[u8]) -> Result<Reply, AllocError>
+fn show_lines(
+    alloc: Global,
+    envelope: &Envelope<'_>,
+    manifest: &Manifest,
+    key: &[u8],
+) -> Result<Reply, AllocError>
     requires { HasWrapper envelope.now.wrapper.now }
-    ensures { Says (IsShown (said_by envelope.now) key.now) result }
+    ensures { IfOk result (IsShown (said_by envelope.now) manifest.now key.now) }
 {
     let mut text = Text::from_str(alloc, tagged_line(envelope.tagged))?;
     push_blocks(alloc, &mut text, envelope)?;
+    push_members(alloc, &mut text, envelope, manifest)?;
     let authenticity = authentic(envelope, key);
     text.push_str(authenticity_line(authenticity))?;
     Ok(Reply {
@@ -104,27 +113,50 @@ fn show_envelope(alloc: Global, envelope: &Envelope<'_>, key: &[u8]) -> Result<R
     })
 }
 
-/// The reply to `show NAME KEY`. The key is read after the envelope was accepted.
+// The key, and then the lines that show a manifest under it.
+fn show_manifest<H: Host>(
+    alloc: Global,
+    envelope: &Envelope<'_>,
+    manifest: &Manifest,
+    key_name: &str,
+    host: &mut H,
+) -> Result<Reply, Stop>
+    requires { HasWrapper envelope.now.wrapper.now }
+    ensures { shows_manifest key_name.now (said_by envelope.now) manifest.now
+        (⟦<H as SeenHost>⟧.seen host.old) (⟦<H as SeenHost>⟧.seen host.new) (ending_of result) }
+{
+    let key = read_key(alloc, key_name, host)?;
+    Ok(show_lines(alloc, envelope, manifest, key.as_slice())?)
+}
+
+// Of a file's bytes.
+fn show_file<H: Host>(
+    alloc: Global,
+    bytes: &[u8],
+    key_name: &str,
+    host: &mut H,
+) -> Result<Reply, Stop>
+    requires { length bytes.now ≤ longest_file }
+    ensures { shows_file bytes.now key_name.now
+        (⟦<H as SeenHost>⟧.seen host.old) (⟦<H as SeenHost>⟧.seen host.new) (ending_of result) }
+{
+    envelope_laws();
+    let envelope = envelope_in(alloc, bytes)?;
+    short(alloc, &envelope)?;
+    let manifest = manifest_in(alloc, &envelope)?;
+    show_manifest(alloc, &envelope, &manifest, key_name, host)
+}
+
+/// The reply to `show NAME KEY`. The key is read after the manifest was accepted.
 pub(crate) fn show<H: Host>(
     alloc: Global,
     name: &str,
     key_name: &str,
     host: &mut H,
-) -> Result<Reply, AllocError>
-    ensures files { IsTrue H.told → H.file host.new ≡ H.file host.old }
-    ensures pulled { IsTrue H.told → H.pulled host.new ≤ H.pulled host.old + 1048642 }
-    ensures ends { EndsAs (λ s t. Answer H.told (H.file host.old) s t (Show name.now key_name.now)) (H.faults host.old) (H.faults host.new) result }
+) -> Result<Reply, Stop>
+    ensures { shows name.now key_name.now
+        (⟦<H as SeenHost>⟧.seen host.old) (⟦<H as SeenHost>⟧.seen host.new) (ending_of result) }
 {
-    let bytes = match read(alloc, name, LONGEST_FILE, host) {
-        Ok(bytes) => bytes,
-        Err(reply) => return reply,
-    };
-    let envelope = match accepted(alloc, bytes.as_slice()) {
-        Ok(envelope) => envelope,
-        Err(reply) => return reply,
-    };
-    match read_key(alloc, key_name, host) {
-        Ok(key) => show_envelope(alloc, &envelope, key.as_slice()),
-        Err(reply) => reply,
-    }
+    let bytes = read(alloc, name, LONGEST_FILE, host)?;
+    show_file(alloc, bytes.as_slice(), key_name, host)
 }

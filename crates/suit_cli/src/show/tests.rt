@@ -19,6 +19,11 @@ const WITHOUT_MAC: &str =
 const UNDER_LONGEST_KEY: &str =
     "d86ba2025853825824822f58201a9560565e58d0ad019dae827e1def7755aad759c564dcc11446bb8629c035b1582ad18443a10105a0f6582020001ee9cb22db25998abbe9471a37c15c0c3a1cd9f52371604d8dfcc6923456035847a501010201035835a2028181410004582c8214a2035824822f5820ba7816bf8f01cfea414140de5dae2223b00361a396177a9cb410ff61f20015ad0e03074382030f094382170f";
 
+/// Load in place of validate, and three members whose digests are stated: payload-fetch is there, install is there with another
+/// byte, and the text is not there. Under the key of 32 bytes 01.
+const APART: &str =
+    "d86ba402585d835824822f5820d20f700f9bd3379dc3b7fad9bd61a590edbecbc9ab954f2c625ab24083fe064049d28443a10126a0f640582ad18443a10105a0f658208f14288850e78f244f655dddfe3953a83cb225cbfd33c2a0687eb9c8e286ef2e0358b6a801010201035835a2028181410004582c8214a2035824822f5820ba7816bf8f01cfea414140de5dae2223b00361a396177a9cb410ff61f20015ad0e03084382030f094382170f10822f58208cec887aebc30d8879f0a5cdf13265bec7d50e98670afe09827264786de8923314822f58208cec887aebc30d8879f0a5cdf13265bec7d50e98670afe09827264786de8923317822f5820ba59ea8f4f88a2fcd9aaf9a83d236bb75f1f528637b999a25866124a877ffb15104a8414a11563696d67150f144a8414a11563696d67150e";
+
 const KEY: [u8; 32] = [1; 32];
 
 const SHOW: [&str; 3] = ["show", "e.suit", "k"];
@@ -51,36 +56,48 @@ struct Row {
     text: &'static str,
 }
 
-const ROWS: [Row; 9] = [
+const ROWS: [Row; 11] = [
+    Row {
+        envelope: APART,
+        key: &[1; 32],
+        status: 0,
+        text: "tagged yes\nblock 0 other\nblock 1 mac0\nmember shared here\nmember validate none\nmember load here\nmember invoke here\nmember payload-fetch apart\nmember install differs\nmember text severed\nauthentic\n",
+    },
+    Row {
+        envelope: "d86ba2025827815824822f58200000000000000000000000000000000000000000000000000000000000000000035847a501020201035835a2028181410004582c8214a2035824822f5820ba7816bf8f01cfea414140de5dae2223b00361a396177a9cb410ff61f20015ad0e03074382030f094382170f",
+        key: &[],
+        status: 3,
+        text: "refused at 50: version 2\n",
+    },
     Row {
         envelope: AUTHENTIC,
         key: &[1; 32],
         status: 0,
-        text: "tagged yes\nblock 0 other\nblock 1 mac0\nauthentic\n",
+        text: "tagged yes\nblock 0 other\nblock 1 mac0\nmember shared here\nmember validate here\nmember load none\nmember invoke here\nmember payload-fetch none\nmember install none\nmember text none\nauthentic\n",
     },
     Row {
         envelope: AUTHENTIC,
         key: &[1; 31],
         status: 4,
-        text: "tagged yes\nblock 0 other\nblock 1 mac0\nnot authentic: mac differs\n",
+        text: "tagged yes\nblock 0 other\nblock 1 mac0\nmember shared here\nmember validate here\nmember load none\nmember invoke here\nmember payload-fetch none\nmember install none\nmember text none\nnot authentic: mac differs\n",
     },
     Row {
         envelope: WITHOUT_MAC,
         key: &[1; 32],
         status: 4,
-        text: "tagged yes\nblock 0 other\nnot authentic: no mac\n",
+        text: "tagged yes\nblock 0 other\nmember shared here\nmember validate here\nmember load none\nmember invoke here\nmember payload-fetch none\nmember install none\nmember text none\nnot authentic: no mac\n",
     },
     Row {
         envelope: STORED,
         key: &[1; 32],
         status: 4,
-        text: "tagged yes\nnot authentic: digest differs\n",
+        text: "tagged yes\nmember shared here\nmember validate here\nmember load none\nmember invoke here\nmember payload-fetch none\nmember install none\nmember text none\nnot authentic: digest differs\n",
     },
     Row {
         envelope: UNDER_LONGEST_KEY,
         key: &[2; 64],
         status: 0,
-        text: "tagged yes\nblock 0 mac0\nauthentic\n",
+        text: "tagged yes\nblock 0 mac0\nmember shared here\nmember validate here\nmember load none\nmember invoke here\nmember payload-fetch none\nmember install none\nmember text none\nauthentic\n",
     },
     Row {
         envelope: UNDER_LONGEST_KEY,
@@ -128,13 +145,15 @@ fn another_tag_differs_and_no_tag_is_told(rt: HostRuntime) -> Result<(), Fail> {
     let mut changed = envelope.as_slice().to_vec(alloc)?;
     *changed.get_mut(TAG_END).ok_or("no tag")? = 0x70;
     let (status, text) = shown(alloc, &SHOW, changed.as_slice(), &KEY, &[])?;
-    let differs = "tagged yes\nblock 0 other\nblock 1 mac0\nnot authentic: mac differs\n";
+    let differs =
+        "tagged yes\nblock 0 other\nblock 1 mac0\nmember shared here\nmember validate here\nmember load none\nmember invoke here\nmember payload-fetch none\nmember install none\nmember text none\nnot authentic: mac differs\n";
     assert_eq!(rt; text.as_slice(), differs.as_bytes());
     assert_eq!(rt; status, 4);
 
     let untagged = envelope.as_slice().get(2..).ok_or("no bytes")?;
     let (status, text) = shown(alloc, &SHOW, untagged, &KEY, &[])?;
-    let plain = "tagged no\nblock 0 other\nblock 1 mac0\nauthentic\n";
+    let plain =
+        "tagged no\nblock 0 other\nblock 1 mac0\nmember shared here\nmember validate here\nmember load none\nmember invoke here\nmember payload-fetch none\nmember install none\nmember text none\nauthentic\n";
     assert_eq!(rt; text.as_slice(), plain.as_bytes());
     assert_eq!(rt; status, 0);
     Ok(())

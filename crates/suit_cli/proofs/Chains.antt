@@ -1,0 +1,94 @@
+-- How the code's steps make a chain of stages.
+use Rattle.std.proofs.Common.{◌≡◌, ℕ, List, Option, None, false, Result, Ok, Err, refl, sym, subst}
+use Rattle.std.specs.Result.{IsErrAnd}
+use Rattle.std.specs.Prelude.{OnOk}
+use Rattle.std.specs.declared.alloc.AllocError.{AllocError}
+use Rattle.suit_commands.specs.Tree.{PlanTree}
+use Rattle.suit_params.specs.declared.refusal.Refusal.{Refusal}
+use Rattle.suit_envelope.specs.Envelopes.{EnvelopeSays}
+use Rattle.suit_envelope.specs.Said.{RefusesBytes}
+use Rattle.suit_cli.specs.declared.reply.Outcome.TheVariants as outcomes
+use Rattle.suit_manifest.specs.declared.manifest.Manifest.{Manifest}
+use Rattle.suit_manifest.specs.declared.members.MemberFault.{MemberFault}
+use Rattle.suit_manifest.specs.declared.members.MemberFault.TheVariants as faults
+use Rattle.suit_manifest.specs.MembersApart.{LacksMembers, IsLackBy}
+use Rattle.suit_cli.specs.declared.reply.Reply.{Reply}
+use Rattle.suit_cli.specs.declared.reply.Stop.{Stop}
+use Rattle.suit_cli.specs.declared.reply.Stop.TheVariants as stops
+use Rattle.suit_cli.specs.Outside.{Outside}
+use Rattle.suit_cli.specs.Stages.{Ending, Answers, Stage, Then, Goes, Declines, Faults, Lacks, Last, Ends, EndsWithout, Does, Finds, Tells, ending_of}
+use Rattle.suit_cli.specs.Replies.{Makes, stop_of}
+use Rattle.suit_cli.specs.Texts.{refusal_line, usage_line}
+use Rattle.suit_cli.specs.Words.{task_of}
+use Rattle.suit_cli.specs.Program.{task_in, answers}
+use Rattle.suit_cli.specs.Envelopes.{AreBytes, envelope_in, members_in}
+use Rattle.suit_cli.specs.Accepting.{TellsFault}
+use Rattle.suit_cli.specs.Commands.{shows_file, does}
+use Rattle.suit_cli.specs.Judgement.{narrow, IsNarrow, AreJudged}
+
+-- a judgement stands anywhere
+pub anywhere : Outside
+anywhere = record { told = false; files = λ name. None; pulled = 0; faults = 0 }
+
+module _ {A : Type 0} (stage : Stage A) (next : A → Answers) (before after : Outside) where
+  pub stopped : (stop : Stop) → Does stage before after (Err stop) → Then stage next before after (ending_of (Err stop))
+  stopped (stops.Declined reply) does = Declines reply does
+  stopped stops.HostFault does = Faults does
+  stopped stops.NoMemory does = Lacks does
+
+  -- the answer ends at a stage
+  pub ends_there : (result : Result Reply Stop) (stop : Stop) → IsErrAnd result (λ e. e ≡ stop) → Does stage before after (Err stop) → Then stage next before after (ending_of result)
+  ends_there (Ok reply) stop is does = absurd is
+  ends_there (Err other) stop is does = subst (λ (s : Stop). Then stage next before after (ending_of (Err s))) (sym is) (stopped stop does)
+
+-- for want of memory, at the last one
+pub lacks_last : (says : Reply → Type 0) (here : Outside) (result : Result Reply Stop) → IsErrAnd result (λ e. e ≡ stops.NoMemory) → Last says here here (ending_of result)
+lacks_last says here (Ok reply) is = absurd is
+lacks_last says here (Err stop) is = subst (λ (s : Stop). Last says here here (ending_of (Err s))) (sym is) (EndsWithout refl)
+
+-- a member that is not taken is told
+pub member_told : (said : EnvelopeSays) (manifest : Manifest) (fault : MemberFault) (stop : Stop) → IsLackBy (LacksMembers said manifest) fault → TellsFault fault stop
+    → (here : Outside) → Does (members_in said manifest) here here (Err stop)
+member_told said manifest (faults.Severed name) (stops.Declined reply) lacks tells here = (refl, record { fault = faults.Severed name; lacks = lacks; says = tells })
+member_told said manifest (faults.Differs name stated found) (stops.Declined reply) lacks tells here = (refl, record { fault = faults.Differs name stated found; lacks = lacks; says = tells })
+member_told said manifest (faults.Refused refusal) (stops.Declined reply) lacks tells here = (refl, record { fault = faults.Refused refusal; lacks = lacks; says = tells })
+member_told said manifest faults.NoMemory (stops.Declined reply) lacks tells here = absurd tells
+member_told said manifest fault stops.HostFault lacks tells here = absurd tells
+member_told said manifest fault stops.NoMemory lacks tells here = refl
+
+-- ---- procedures by their trees
+
+pub narrow_of : (plan tree : PlanTree) → plan ≡ tree → (result : Result (Unit {0}) Stop) → Finds (narrow plan) result → Finds (narrow tree) result
+narrow_of plan tree is result finds = subst (λ (p : PlanTree). Finds (narrow p) result) is finds
+
+pub judged_of : (update invocation update_tree invocation_tree : PlanTree) → update ≡ update_tree → invocation ≡ invocation_tree → (result : Result Reply Stop)
+    → Tells (Last (AreJudged update invocation)) result → Tells (Last (AreJudged update_tree invocation_tree)) result
+judged_of update invocation update_tree invocation_tree first second result tells =
+    subst (λ (p : PlanTree). Tells (Last (AreJudged p invocation_tree)) result) first (subst (λ (p : PlanTree). Tells (Last (AreJudged update p)) result) second tells)
+
+-- a refusal that was told, unless there was no memory
+pub refuses_there : (bytes : List ℕ) (refusal : Refusal) (made : Result Reply AllocError) → AreBytes bytes → RefusesBytes bytes refusal → Makes made outcomes.Refused (refusal_line refusal)
+    → (here : Outside) → Does (envelope_in bytes) here here (Err (stop_of made))
+refuses_there bytes refusal (Ok reply) all refuses says here = (refl, (all, record { refusal = refusal; refuses = refuses; says = says }))
+refuses_there bytes refusal (Err e) all refuses says here = refl
+
+-- ---- the words
+
+pub is_usage : (words : List (List ℕ)) (made : Result Reply AllocError) → task_of words ≡ None → Makes made outcomes.Usage usage_line
+    → (here : Outside) → Does (task_in words) here here (Err (stop_of made))
+is_usage words (Ok reply) none says here = (refl, (none, says))
+is_usage words (Err e) none says here = refl
+
+pub answers_usage : (words : List (List ℕ)) (here : Outside) (made : Result Reply AllocError) (stop : Stop) → task_of words ≡ None → Makes made outcomes.Usage usage_line → stop ≡ stop_of made
+    → answers words here here (ending_of (Err stop))
+answers_usage words here made stop none says is =
+    subst (λ (s : Stop). answers words here here (ending_of (Err s))) (sym is) (stopped (task_in words) does here here (stop_of made) (is_usage words made none says here))
+
+pub shows_bytes : (key_name : List ℕ) (before after : Outside) (ending : Ending) (x y : List ℕ) → x ≡ y → shows_file x key_name before after ending → shows_file y key_name before after ending
+shows_bytes key_name before after ending x y same shown = subst (λ (b : List ℕ). shows_file b key_name before after ending) same shown
+
+-- ---- results
+
+pub on_ok : {A E : Type 0} (r : Result A E) (P Q : Type 0) → OnOk r P → (P → Q) → OnOk r Q
+on_ok (Ok a) P Q p f = f p
+on_ok (Err e) P Q p f = tt

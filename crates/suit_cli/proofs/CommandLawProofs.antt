@@ -1,0 +1,101 @@
+-- Where each command stops.
+use Rattle.std.proofs.Common.{◌≡◌, ℕ, ◌+◌, List, Option, Some, None, ◌⊎◌, inl, inr, refl, sym, ap, subst, ◌∙◌, ◌<◌, arith}
+use Rattle.std.specs.Prelude.{IsTrue}
+use Rattle.suit_envelope.specs.Envelopes.{EnvelopeSays}
+use Rattle.suit_envelope.specs.EnvelopeLaws.{EnvelopeLaws}
+use Rattle.suit_envelope.specs.Authentic.{IsAuthentic}
+use Rattle.suit_envelope.specs.declared.authenticity.Authenticity.{Authenticity}
+use Rattle.suit_envelope.specs.declared.authenticity.Authenticity.TheVariants as authenticities
+use Rattle.suit_manifest.specs.declared.manifest.Manifest.{Manifest}
+use Rattle.suit_manifest.specs.ManifestLaws.{ManifestLaws}
+use Rattle.suit_manifest.specs.MembersLaws.{MembersLaws}
+use Rattle.suit_cli.specs.declared.reply.Reply.{Reply}
+use Rattle.suit_cli.specs.declared.reply.Outcome.TheVariants as outcomes
+use Rattle.suit_cli.specs.Outside.{Outside, Reads}
+use Rattle.suit_cli.specs.Stages.{Says, Goes, Declines, Last, Ends}
+use Rattle.suit_cli.specs.Inputs.{longest_file, longest_key, IsRead, IsUnread, IsAbsent, IsTooLong, IsKey, IsNoKey, IsUnreadKey, IsEmptyKey}
+use Rattle.suit_cli.specs.Holding.{HasManifest}
+use Rattle.suit_cli.specs.Shown.{IsShown, authenticity_outcome}
+use Rattle.suit_cli.specs.Commands.{shows_manifest, shows}
+use Rattle.suit_cli.specs.CommandLaws.{NoManifest, CheckLaws, ShowSays, BeforeKey, AtKey, AtLines, ShowsUnder, ShowLaws}
+use Rattle.suit_cli.proofs.OneStage.{Alike, passes, stands, one_key}
+use Rattle.suit_cli.proofs.Running.{Reached, reaches, manifest_passed, no_manifest_stands, check_says, check_always, last_says}
+
+pub check_laws : EnvelopeLaws → ManifestLaws → MembersLaws → CheckLaws
+check_laws envelopes manifests members = record {
+  only = λ name b a r answer. check_says name b a r answer;
+  always = λ name b a r q told says answer. check_always envelopes manifests members name b a told q answer r says;
+}
+
+-- ---- a key is read at a later moment, of the same files
+
+module _ (m b : Outside) (same_told : m.told ≡ b.told) (same : IsTrue b.told → m.files ≡ b.files) where
+  told_there : IsTrue b.told → IsTrue m.told
+  told_there t = subst IsTrue (sym same_told) t
+
+  file_there : (name : List ℕ) → IsTrue b.told → m.files name ≡ b.files name
+  file_there name t = ap (λ (f : List ℕ → Option (List ℕ)). f name) (same t)
+
+  read_here : (limit : ℕ) (name x : List ℕ) → IsRead limit name m x → IsRead limit name b x
+  read_here limit name x read = record { holds = λ t. sym (file_there name t) ∙ read.holds (told_there t); fits = read.fits }
+
+  unread_here : (limit : ℕ) (name : List ℕ) (r : Reply) → IsUnread limit name m r → IsUnread limit name b r
+  unread_here limit name r (IsAbsent none says) = IsAbsent (λ t. sym (file_there name t) ∙ none (told_there t)) says
+  unread_here limit name r (IsTooLong long says) = IsTooLong (λ t. let l = long (told_there t) in (l.0, sym (file_there name t) ∙ l.1, l.2)) says
+
+  no_key_here : (name : List ℕ) (r : Reply) → IsNoKey name m r → IsNoKey name b r
+  no_key_here name r (IsUnreadKey u) = IsUnreadKey (unread_here longest_key name r u)
+  no_key_here name r (IsEmptyKey read says) = IsEmptyKey (read_here longest_key name _ read) says
+
+  key_here : (name x : List ℕ) → IsKey name m x → IsKey name b x
+  key_here name x key = record { read = read_here longest_key name x key.read; some = key.some }
+
+-- ---- `show`
+
+show_says : (name key_name : List ℕ) (b a : Outside) (r : Reply) → shows name key_name b a (Says r) → ShowSays name key_name b r
+show_says name key_name b a r answer = of_reached (reaches name (shows_manifest key_name) b a r answer) where
+  of_rest : (said : EnvelopeSays) (manifest : Manifest) (m : Outside) → HasManifest name b said manifest → m.told ≡ b.told → (IsTrue b.told → m.files ≡ b.files)
+      → shows_manifest key_name said manifest m a (Says r) → ShowSays name key_name b r
+  of_rest said manifest m has told files (Declines _ d) = AtKey said manifest has (no_key_here m b told files key_name r d.1)
+  of_rest said manifest m has told files (Goes key n _ k (Ends _ same shown)) = AtLines said manifest key has (key_here m b told files key_name key k.1) shown
+
+  of_reached : NoManifest name b r ⊎ Reached name (shows_manifest key_name) b a r → ShowSays name key_name b r
+  of_reached (inl none) = BeforeKey none
+  of_reached (inr at) = of_rest at.said at.manifest at.there at.has at.quiet.told at.quiet.files at.on
+
+module _ (envelopes : EnvelopeLaws) (manifests : ManifestLaws) (name key_name : List ℕ) (b a : Outside) (told : IsTrue b.told) (q : Reply) (answer : shows name key_name b a (Says q)) where
+  still_key : Reads (longest_key + 1) b b
+  still_key = record { quiet = record { told = refl; files = λ t. refl; pulled = λ t. omega arith }; faults = refl }
+
+  key_stands : (said : EnvelopeSays) (manifest : Manifest) (r : Reply) → HasManifest name b said manifest → IsNoKey key_name b r → q ≡ r
+  key_stands said manifest r has none =
+      let s = manifest_passed envelopes manifests name (shows_manifest key_name) b a told q said manifest has answer in
+      stands _ _ (one_key key_name) b s.0 b a q s.1 r (still_key, none) s.2
+
+  is_shown : (said : EnvelopeSays) (manifest : Manifest) (key : List ℕ) → ShowsUnder name key_name b said manifest key → IsShown said manifest key q
+  is_shown said manifest key under =
+      let s = manifest_passed envelopes manifests name (shows_manifest key_name) b a told q said manifest under.has answer in
+      let k = passes _ _ (one_key key_name) b s.0 b a q s.1 key (still_key, under.has_key) s.2 in
+      last_says _ k.0 a q k.2
+
+module _ (said : EnvelopeSays) (manifest : Manifest) (key : List ℕ) (r : Reply) (shown : IsShown said manifest key r) where
+  is_authentic : IsAuthentic said.wrapper said.manifest key → r.outcome ≡ outcomes.Done
+  is_authentic is = shown.outcome_is ∙ ap authenticity_outcome (shown.authenticity.every_yes is)
+
+  is_not : (IsAuthentic said.wrapper said.manifest key → ⊥) → r.outcome ≡ outcomes.NotAuthentic
+  is_not never = shown.outcome_is ∙ of_answer shown.answer refl where
+    of_answer : (x : Authenticity) → shown.answer ≡ x → authenticity_outcome x ≡ outcomes.NotAuthentic
+    of_answer authenticities.Yes e = absurd (never (shown.authenticity.yes e))
+    of_answer (authenticities.DigestDiffers stated found) e = refl
+    of_answer authenticities.NoMac e = refl
+    of_answer (authenticities.MacDiffers expected found) e = refl
+
+pub show_laws : EnvelopeLaws → ManifestLaws → ShowLaws
+show_laws envelopes manifests = record {
+  only = λ name key_name b a r answer. show_says name key_name b a r answer;
+  no_manifest = λ name key_name b a r q told none answer. no_manifest_stands envelopes manifests name (shows_manifest key_name) b a told q r none answer;
+  no_key = λ name key_name b a said manifest r q told has none answer. key_stands envelopes manifests name key_name b a told q answer said manifest r has none;
+  shown = λ name key_name b a said manifest key r told under answer. is_shown envelopes manifests name key_name b a told r answer said manifest key under;
+  authentic = λ said manifest key r shown is. is_authentic said manifest key r shown is;
+  not_authentic = λ said manifest key r shown never. is_not said manifest key r shown never;
+}

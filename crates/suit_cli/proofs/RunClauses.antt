@@ -1,0 +1,196 @@
+-- What a run comes to, clause by clause.
+use Rattle.std.proofs.Common.{◌≡◌, ℕ, List, Some, None, ◌⊎◌, inl, inr, refl, sym, ap, subst, ◌∙◌, ◌++◌, arith}
+use Rattle.std.specs.Prelude.{IsTrue, ◌≢◌}
+use Rattle.suit_edge.specs.Faults.{Faulted}
+use Rattle.suit_commands.specs.Tree.{PlanTree}
+use Rattle.suit_envelope.specs.EnvelopeLaws.{EnvelopeLaws}
+use Rattle.suit_envelope.specs.declared.authenticity.Authenticity.{Authenticity}
+use Rattle.suit_envelope.specs.declared.authenticity.Authenticity.TheVariants as authenticities
+use Rattle.suit_manifest.specs.ManifestLaws.{ManifestLaws}
+use Rattle.suit_manifest.specs.MembersLaws.{MembersLaws}
+use Rattle.suit_cli.specs.declared.reply.Reply.{Reply}
+use Rattle.suit_cli.specs.declared.reply.Outcome.TheVariants as outcomes
+use Rattle.suit_cli.specs.Texts.{usage_line}
+use Rattle.suit_cli.specs.Words.{Task, Check, Show, task_of}
+use Rattle.suit_cli.specs.Outside.{Outside, Sunk, Quiet}
+use Rattle.suit_cli.specs.Stages.{Ending, Says, HostFault, NoMemory, Goes, Declines}
+use Rattle.suit_cli.specs.Statuses.{status_of, ending_status, ending_text}
+use Rattle.suit_cli.specs.Judgement.{AreSafe, AreJudged, JudgedSafe, JudgedUnsafe}
+use Rattle.suit_cli.specs.Shown.{authenticity_outcome}
+use Rattle.suit_cli.specs.Commands.{checks, does}
+use Rattle.suit_cli.specs.Program.{answers, PutsText, IsPut, IsCut, Runs, EndsIn, IsStatus, OfEnding, OfSinkFault, ChecksProcedures, IsCheck, ChecksSafe, ChecksUnsafe, IsUsage, IsCutOff, most_pulled}
+use Rattle.suit_cli.proofs.Running.{Declining, IsJudged, checked, judged_when, judged_safe, judged_unsafe, done_safe, unsafe_shows, IsShownOf, showed, status_done, status_unsafe, status_usage, not_seven, not_nine_ending, does_of, judged_task, unsafe_refuted}
+use Rattle.suit_cli.proofs.StagesKeep.{Counts, answers_keeps}
+
+-- ---- an ending with a status
+
+record IsSaid (e : Ending) (n : ℕ) : Type 0 where
+  pub reply : Reply
+  pub is : e ≡ Says reply
+  pub status : status_of reply.outcome ≡ n
+
+said_with : (e : Ending) (n : ℕ) → ending_status e ≡ n → (n ≡ 7 → ⊥) → (n ≡ 11 → ⊥) → IsSaid e n
+said_with (Says r) n is fault lack = record { reply = r; is = refl; status = is }
+said_with HostFault n is fault lack = absurd (fault (sym is))
+said_with NoMemory n is fault lack = absurd (lack (sym is))
+
+record IsPutAs (sb sa : Sunk) (e : Ending) (n : ℕ) : Type 0 where
+  pub status : ending_status e ≡ n
+  pub puts : IsTrue sb.told → sa.put ≡ sb.put ++ ending_text e
+
+put_as : (sb sa : Sunk) (e : Ending) (result n : ℕ) → PutsText sb sa (ending_status e) (ending_text e) result → result ≡ n → (n ≡ 9 → ⊥) → IsPutAs sb sa e n
+put_as sb sa e result n (IsPut is still puts) same never = record { status = sym is ∙ same; puts = puts }
+put_as sb sa e result n (IsCut is faulted puts) same never = absurd (never (sym same ∙ is))
+
+-- usage, by an answer
+usage_of : (words : List (List ℕ)) (b a : Outside) (r : Reply) → answers words b a (Says r) → r.outcome ≡ outcomes.Usage → (task_of words ≡ None) × (r.text ≡ usage_line)
+usage_of words b a r (Declines _ d) is = (d.1.0, d.1.1.text_is)
+usage_of words b a r (Goes (Check name) m _ g rest) is = absurd (of_check (checked name m a r rest)) where
+  of_judged : (u i : PlanTree) → AreJudged u i r → ⊥
+  of_judged u i (JudgedSafe safe says) = let never = sym says.outcome_is ∙ is in cc
+  of_judged u i (JudgedUnsafe outcome unsafe) = let never = sym outcome ∙ is in cc
+
+  of_check : Declining r.outcome ⊎ IsJudged name m r → ⊥
+  of_check (inl d) = subst Declining is d
+  of_check (inr j) = of_judged j.update j.invocation j.judged
+usage_of words b a r (Goes (Show name key) m _ g rest) is = absurd (of_show (showed name key m a r rest)) where
+  of_answer : (answer : Authenticity) → r.outcome ≡ authenticity_outcome answer → ⊥
+  of_answer authenticities.Yes e = let never = sym is ∙ e in cc
+  of_answer (authenticities.DigestDiffers stated found) e = let never = sym is ∙ e in cc
+  of_answer authenticities.NoMac e = let never = sym is ∙ e in cc
+  of_answer (authenticities.MacDiffers expected found) e = let never = sym is ∙ e in cc
+
+  of_show : Declining r.outcome ⊎ IsShownOf r → ⊥
+  of_show (inl d) = subst Declining is d
+  of_show (inr s) = of_answer s.shown.answer s.shown.outcome_is
+
+no_task_usage : (words : List (List ℕ)) (b a : Outside) (r : Reply) → task_of words ≡ None → answers words b a (Says r) → status_of r.outcome ≡ 2
+no_task_usage words b a r none (Declines _ d) = ap status_of d.1.1.outcome_is
+no_task_usage words b a r none (Goes task m _ g rest) = let never : None ≡ Some task = sym none ∙ g.1 in absurd cc
+
+-- ---- the clauses
+
+module _ (words : List (List ℕ)) (b a : Outside) (sb sa : Sunk) (result : ℕ) (runs : Runs words b a sb sa result) where
+  -- every reply has this status
+  ends_in : (n : ℕ) → ((r : Reply) → answers words b a (Says r) → status_of r.outcome ≡ n) → EndsIn n result
+  ends_in n all = of_puts runs.puts where
+    of_ending : (e : Ending) → answers words b a e → result ≡ ending_status e → EndsIn n result
+    of_ending (Says r) answer is = inl (is ∙ all r answer)
+    of_ending HostFault answer is = inr (inl is)
+    of_ending NoMemory answer is = inr (inr (inr is))
+
+    of_puts : PutsText sb sa (ending_status runs.ending) (ending_text runs.ending) result → EndsIn n result
+    of_puts (IsPut is still puts) = of_ending runs.ending runs.answer is
+    of_puts (IsCut is faulted puts) = inr (inr (inl is))
+
+  pub yes : IsTrue b.told → IsCheck words → result ≡ 0 → ChecksSafe words b
+  yes told check zero =
+      let put = put_as sb sa runs.ending result 0 runs.puts zero (λ e. omega arith) in
+      let said = said_with runs.ending 0 put.status (λ e. omega arith) (λ e. omega arith) in
+      let answer = subst (answers words b a) said.is runs.answer in
+      let done = status_done said.reply.outcome said.status in
+      of_check said.reply done (checked check.0 b a said.reply (does_of words b a said.reply (Check check.0) check.1 answer))
+    where
+      of_check : (r : Reply) → r.outcome ≡ outcomes.Done → Declining r.outcome ⊎ IsJudged check.0 b r → ChecksSafe words b
+      of_check r done (inl d) = absurd (subst Declining done d)
+      of_check r done (inr j) = record {
+        update = j.update;
+        invocation = j.invocation;
+        checks = record { told = told; name = check.0; word = check.1; has = j.has };
+        are_safe = done_safe j.update j.invocation r j.judged done;
+      }
+
+  pub no_path : IsTrue b.told → result ≡ 1 → ChecksUnsafe words b sb sa
+  no_path told one =
+      let put = put_as sb sa runs.ending result 1 runs.puts one (λ e. omega arith) in
+      let said = said_with runs.ending 1 put.status (λ e. omega arith) (λ e. omega arith) in
+      let answer = subst (answers words b a) said.is runs.answer in
+      let outcome = status_unsafe said.reply.outcome said.status in
+      let task = judged_task words b a said.reply answer outcome in
+      let puts : IsTrue sb.told → sa.put ≡ sb.put ++ said.reply.text = λ t. put.puts t ∙ ap (λ (e : Ending). sb.put ++ ending_text e) said.is in
+      of_check task.0 task.1 said.reply outcome puts (checked task.0 b a said.reply task.2)
+    where
+      of_check : (name : List ℕ) → task_of words ≡ Some (Check name) → (r : Reply) → r.outcome ≡ outcomes.Unsafe → (IsTrue sb.told → sa.put ≡ sb.put ++ r.text)
+          → Declining r.outcome ⊎ IsJudged name b r → ChecksUnsafe words b sb sa
+      of_check name word r outcome puts (inl d) = absurd (subst Declining outcome d)
+      of_check name word r outcome puts (inr j) =
+          let shown = unsafe_shows j.update j.invocation r j.judged outcome in
+          record {
+            update = j.update;
+            invocation = j.invocation;
+            checks = record { told = told; name = name; word = word; has = j.has };
+            not_safe = unsafe_refuted j.update j.invocation r.text shown;
+            text = r.text;
+            shows_path = shown;
+            puts = puts;
+          }
+
+  module _ (envelopes : EnvelopeLaws) (manifests : ManifestLaws) (members : MembersLaws) (u i : PlanTree) (checks_it : ChecksProcedures words b u i) where
+    judged_reply : (r : Reply) → answers words b a (Says r) → AreJudged u i r
+    judged_reply r answer =
+        judged_when envelopes manifests members checks_it.name b a checks_it.told r (does_of words b a r (Check checks_it.name) checks_it.word answer) u i checks_it.has
+
+    pub only_yes : AreSafe u i → EndsIn 0 result
+    only_yes safe = ends_in 0 (λ r answer. ap status_of (judged_safe u i r (judged_reply r answer) safe))
+
+    pub only_no : (AreSafe u i → ⊥) → EndsIn 1 result
+    only_no never = ends_in 1 (λ r answer. ap status_of (judged_unsafe u i r (judged_reply r answer) never))
+
+  pub usage : result ≡ 2 → IsUsage words sb sa
+  usage two =
+      let put = put_as sb sa runs.ending result 2 runs.puts two (λ e. omega arith) in
+      let said = said_with runs.ending 2 put.status (λ e. omega arith) (λ e. omega arith) in
+      let answer = subst (answers words b a) said.is runs.answer in
+      let found = usage_of words b a said.reply answer (status_usage said.reply.outcome said.status) in
+      record {
+        no_task = found.0;
+        puts = λ t. put.puts t ∙ ap (λ (e : Ending). sb.put ++ ending_text e) said.is ∙ ap (λ (l : List ℕ). sb.put ++ l) found.1;
+      }
+
+  pub only_usage : task_of words ≡ None → EndsIn 2 result
+  only_usage none = ends_in 2 (λ r answer. no_task_usage words b a r none answer)
+
+  pub stays : Quiet (most_pulled (task_of words)) b a
+  stays = (answers_keeps words b a runs.ending runs.answer).quiet
+
+  pub is_status : IsStatus result
+  is_status = of_puts runs.puts where
+    of_puts : PutsText sb sa (ending_status runs.ending) (ending_text runs.ending) result → IsStatus result
+    of_puts (IsPut is still puts) = OfEnding runs.ending is
+    of_puts (IsCut is faulted puts) = OfSinkFault is
+
+  counts : Counts runs.ending b.faults a.faults
+  counts = (answers_keeps words b a runs.ending runs.answer).counts
+
+  pub host_fault : result ≡ 7 → Faulted b.faults a.faults
+  host_fault seven =
+      let put = put_as sb sa runs.ending result 7 runs.puts seven (λ e. omega arith) in
+      of_ending runs.ending put.status counts
+    where
+      of_ending : (e : Ending) → ending_status e ≡ 7 → Counts e b.faults a.faults → Faulted b.faults a.faults
+      of_ending (Says r) is c = absurd (not_seven r.outcome is)
+      of_ending HostFault is c = c
+      of_ending NoMemory is c = absurd (omega arith)
+
+  pub only_host_fault : result ≢ 7 → result ≢ 9 → a.faults ≡ b.faults
+  only_host_fault not_fault not_cut = of_puts runs.puts where
+    of_ending : (e : Ending) → result ≡ ending_status e → Counts e b.faults a.faults → a.faults ≡ b.faults
+    of_ending (Says r) is c = c
+    of_ending HostFault is c = absurd (not_fault is)
+    of_ending NoMemory is c = c
+
+    of_puts : PutsText sb sa (ending_status runs.ending) (ending_text runs.ending) result → a.faults ≡ b.faults
+    of_puts (IsPut is still puts) = of_ending runs.ending is counts
+    of_puts (IsCut is faulted puts) = absurd (not_cut is)
+
+  pub output_fault : result ≡ 9 → IsCutOff words b a sb sa
+  output_fault nine = of_puts runs.puts where
+    of_puts : PutsText sb sa (ending_status runs.ending) (ending_text runs.ending) result → IsCutOff words b a sb sa
+    of_puts (IsPut is still puts) = absurd (not_nine_ending runs.ending (sym is ∙ nine))
+    of_puts (IsCut is faulted puts) = record { faulted = faulted; ending = runs.ending; answer = runs.answer; puts = puts }
+
+  pub only_output_fault : result ≢ 9 → sa.faults ≡ sb.faults
+  only_output_fault never = of_puts runs.puts where
+    of_puts : PutsText sb sa (ending_status runs.ending) (ending_text runs.ending) result → sa.faults ≡ sb.faults
+    of_puts (IsPut is still puts) = still
+    of_puts (IsCut is faulted puts) = absurd (never is)

@@ -1,0 +1,349 @@
+-- What a run that had an answer and put it says of its status.
+use Rattle.std.proofs.Common.{◌≡◌, ℕ, List, Bool, true, Option, Some, None, ◌⊎◌, inl, inr, refl, sym, ap, subst, ◌∙◌, ◌++◌, ◌+◌, ◌≤◌, ◌<◌, arith}
+use Rattle.std.specs.Prelude.{IsTrue, ◌≢◌}
+use Rattle.std.proofs.lemmas.Option.{same_Some}
+use Rattle.suit_edge.specs.Faults.{Faulted}
+use Rattle.suit_commands.specs.Tree.{PlanTree}
+use Rattle.suit_envelope.specs.Envelopes.{EnvelopeSays}
+use Rattle.suit_envelope.specs.EnvelopeLaws.{EnvelopeLaws}
+use Rattle.suit_envelope.specs.declared.authenticity.Authenticity.{Authenticity}
+use Rattle.suit_envelope.specs.declared.authenticity.Authenticity.TheVariants as authenticities
+use Rattle.suit_manifest.specs.declared.manifest.Manifest.{Manifest}
+use Rattle.suit_manifest.specs.declared.members.MemberFault.{MemberFault}
+use Rattle.suit_manifest.specs.declared.members.MemberFault.TheVariants as faults
+use Rattle.suit_manifest.specs.ManifestLaws.{ManifestLaws}
+use Rattle.suit_manifest.specs.MembersLaws.{MembersLaws}
+use Rattle.suit_manifest.specs.Procedures.{update_tree, invocation_tree}
+use Rattle.suit_cli.specs.declared.reply.Reply.{Reply}
+use Rattle.suit_cli.specs.declared.reply.Outcome.{Outcome}
+use Rattle.suit_cli.specs.declared.reply.Outcome.TheVariants as outcomes
+use Rattle.suit_cli.specs.Replies.{IsReply}
+use Rattle.suit_cli.specs.Texts.{usage_line}
+use Rattle.suit_cli.specs.Words.{Task, Check, Show, task_of}
+use Rattle.suit_cli.specs.Outside.{Outside, Sunk, Quiet, Reads, Fails}
+use Rattle.suit_cli.specs.Stages.{Ending, Says, HostFault, NoMemory, Answers, Stage, Then, Goes, Declines, Faults, Lacks, Last, Ends, EndsWithout}
+use Rattle.suit_cli.specs.Statuses.{status_of, ending_status, ending_text, sink_fault_status}
+use Rattle.suit_cli.specs.Inputs.{longest_file, longest_key, IsUnread, IsAbsent, IsTooLong, IsNoKey, IsUnreadKey, IsEmptyKey}
+use Rattle.suit_cli.specs.Envelopes.{IsRefused, IsLong, IsLack, TellsLack}
+use Rattle.suit_cli.specs.Holding.{HasEnvelope, HasManifest, HasProcedures}
+use Rattle.suit_cli.specs.CommandLaws.{NoManifest, AtFile, AtEnvelope, AtLength, AtManifest, CheckSays, BeforeMembers, AtMembers, AtUpdateWidth, AtInvocationWidth, AtPaths, SameButPath}
+use Rattle.suit_cli.specs.Judgement.{IsNarrow, AreSafe, AreJudged, JudgedSafe, JudgedUnsafe, ShowUnsafe, UpdateUnsafe, InvocationUnsafe}
+use Rattle.suit_cli.specs.Shown.{IsShown, authenticity_outcome}
+use Rattle.suit_cli.specs.Commands.{in_manifest, judges_manifest, checks, shows_manifest, shows, does}
+use Rattle.suit_cli.specs.Program.{answers, PutsText, IsPut, IsCut, Puts, Runs, IsExcuse, EndsIn, IsStatus, OfEnding, OfSinkFault, ChecksProcedures, IsCheck, ChecksSafe, ChecksUnsafe, IsUsage, IsCutOff, most_pulled}
+use Rattle.suit_cli.proofs.BadPathLaws.{IsBadPath-not_safe}
+use Rattle.suit_cli.proofs.OneStage.{Alike, alike_self, passes, stands, one_reply, one_file, one_envelope, one_short, one_manifest, one_members, one_narrow}
+
+-- ---- the outcomes of stages that decline
+
+abbrev pub Declining : Outcome → Type 0
+Declining outcomes.Refused = Unit {0}
+Declining outcomes.TooWide = Unit {0}
+Declining outcomes.Severed = Unit {0}
+Declining outcomes.Differs = Unit {0}
+Declining outcomes.Absent = Unit {0}
+Declining outcomes.TooLong = Unit {0}
+Declining outcomes.Done = ⊥
+Declining outcomes.Unsafe = ⊥
+Declining outcomes.Usage = ⊥
+Declining outcomes.NotAuthentic = ⊥
+
+declining : (r : Reply) (o : Outcome) (t : List ℕ) → IsReply r o t → Declining o → Declining r.outcome
+declining r o t says d = subst Declining (sym says.outcome_is) d
+
+pub unread_declines : (limit : ℕ) (name : List ℕ) (b : Outside) (r : Reply) → IsUnread limit name b r → Declining r.outcome
+unread_declines limit name b r (IsAbsent none says) = declining r _ _ says tt
+unread_declines limit name b r (IsTooLong long says) = declining r _ _ says tt
+
+pub no_key_declines : (name : List ℕ) (b : Outside) (r : Reply) → IsNoKey name b r → Declining r.outcome
+no_key_declines name b r (IsUnreadKey u) = unread_declines longest_key name b r u
+no_key_declines name b r (IsEmptyKey read says) = declining r _ _ says tt
+
+lack_told : (r : Reply) (fault : MemberFault) → TellsLack r fault → Declining r.outcome
+lack_told r (faults.Severed name) says = declining r _ _ says tt
+lack_told r (faults.Differs name stated found) says = declining r _ _ says tt
+lack_told r (faults.Refused refusal) says = declining r _ _ says tt
+lack_told r faults.NoMemory says = absurd says
+
+-- ---- judgements
+
+pub unsafe_refuted : (u i : PlanTree) (t : List ℕ) → ShowUnsafe u i t → AreSafe u i → ⊥
+unsafe_refuted u i t (UpdateUnsafe bad is text) safe = IsBadPath-not_safe _ bad is safe.update_safe
+unsafe_refuted u i t (InvocationUnsafe bad first is text) safe = IsBadPath-not_safe _ bad is safe.invocation_safe
+
+pub judged_safe : (u i : PlanTree) (r : Reply) → AreJudged u i r → AreSafe u i → r.outcome ≡ outcomes.Done
+judged_safe u i r (JudgedSafe safe says) is = says.outcome_is
+judged_safe u i r (JudgedUnsafe outcome unsafe) is = absurd (unsafe_refuted u i r.text unsafe is)
+
+pub judged_unsafe : (u i : PlanTree) (r : Reply) → AreJudged u i r → (AreSafe u i → ⊥) → r.outcome ≡ outcomes.Unsafe
+judged_unsafe u i r (JudgedSafe safe says) never = absurd (never safe)
+judged_unsafe u i r (JudgedUnsafe outcome unsafe) never = outcome
+
+pub done_safe : (u i : PlanTree) (r : Reply) → AreJudged u i r → r.outcome ≡ outcomes.Done → AreSafe u i
+done_safe u i r (JudgedSafe safe says) done = safe
+done_safe u i r (JudgedUnsafe outcome unsafe) done = let never = sym outcome ∙ done in absurd cc
+
+pub unsafe_shows : (u i : PlanTree) (r : Reply) → AreJudged u i r → r.outcome ≡ outcomes.Unsafe → ShowUnsafe u i r.text
+unsafe_shows u i r (JudgedSafe safe says) outcome = let never = sym says.outcome_is ∙ outcome in absurd cc
+unsafe_shows u i r (JudgedUnsafe is unsafe) outcome = unsafe
+
+-- ---- up to the manifest
+
+-- of a host that tells: it stops there, or a manifest is reached
+pub record Reached (name : List ℕ) (next : EnvelopeSays → Manifest → Answers) (b a : Outside) (r : Reply) : Type 0 where
+  pub said : EnvelopeSays
+  pub manifest : Manifest
+  pub has : HasManifest name b said manifest
+  pub there : Outside
+  pub quiet : Quiet (longest_file + 1) b there
+  pub on : next said manifest there a (Says r)
+
+pub reaches : (name : List ℕ) (next : EnvelopeSays → Manifest → Answers) (b a : Outside) (r : Reply) → in_manifest name next b a (Says r) → NoManifest name b r ⊎ Reached name next b a r
+reaches name next b a r (Declines _ d) = inl (AtFile d.1)
+reaches name next b a r (Goes bytes m0 _ read (Declines _ d)) = inl (AtEnvelope bytes read.1 d.1.0 d.1.1)
+reaches name next b a r (Goes bytes m0 _ read (Goes said m1 _ env (Declines _ d))) =
+    inl (AtLength said (record { bytes = bytes; read = read.1; are_bytes = env.1.0; envelope = env.1.1 }) d.1)
+reaches name next b a r (Goes bytes m0 _ read (Goes said m1 _ env (Goes u m2 _ short (Declines _ d)))) =
+    inl (AtManifest said (record { bytes = bytes; read = read.1; are_bytes = env.1.0; envelope = env.1.1 }) short.1 d.1)
+reaches name next b a r (Goes bytes m0 _ read (Goes said m1 _ env (Goes u m2 _ short (Goes manifest m3 _ man rest)))) =
+    inr (record {
+      said = said;
+      manifest = manifest;
+      has = record { in_envelope = record { bytes = bytes; read = read.1; are_bytes = env.1.0; envelope = env.1.1 }; is_short = short.1; says = man.1 };
+      there = m3;
+      quiet = subst (λ (o : Outside). Quiet (longest_file + 1) b o) (sym (man.0 ∙ short.0 ∙ env.0)) read.0.quiet;
+      on = rest;
+    })
+
+pub no_manifest_declines : (name : List ℕ) (b : Outside) (r : Reply) → NoManifest name b r → Declining r.outcome
+no_manifest_declines name b r (AtFile u) = unread_declines _ _ _ r u
+no_manifest_declines name b r (AtEnvelope bytes read all bad) = declining r _ _ bad.says tt
+no_manifest_declines name b r (AtLength said has long) = declining r _ _ long.says tt
+no_manifest_declines name b r (AtManifest said has short bad) = declining r _ _ bad.says tt
+
+module _ (envelopes : EnvelopeLaws) (manifests : ManifestLaws) (name : List ℕ) (next : EnvelopeSays → Manifest → Answers) (b a : Outside) (told : IsTrue b.told) (q : Reply) where
+  still : Reads (longest_file + 1) b b
+  still = record { quiet = record { told = refl; files = λ t. refl; pulled = λ t. omega arith }; faults = refl }
+
+  alike : Alike b b
+  alike = alike_self b told
+
+  -- a manifest is passed
+  pub manifest_passed : (said : EnvelopeSays) (manifest : Manifest) → HasManifest name b said manifest → in_manifest name next b a (Says q) → (m : Outside) × Alike b m × next said manifest m a (Says q)
+  manifest_passed said manifest has answer =
+      let e = has.in_envelope in
+      let s0 = passes _ _ (one_file longest_file name) b b b a q alike e.bytes (still, e.read) answer in
+      let s1 = passes _ _ (one_envelope envelopes e.bytes) b s0.0 b a q s0.1 said (refl, (e.are_bytes, e.envelope)) s0.2 in
+      let s2 = passes _ _ (one_short said) b s1.0 b a q s1.1 tt (refl, has.is_short) s1.2 in
+      passes _ _ (one_manifest envelopes manifests e.bytes said e.envelope) b s2.0 b a q s2.1 manifest (refl, has.says) s2.2
+
+  -- and what stops it before has the last word
+  pub no_manifest_stands : (r : Reply) → NoManifest name b r → in_manifest name next b a (Says q) → q ≡ r
+  no_manifest_stands r (AtFile u) answer = stands _ _ (one_file longest_file name) b b b a q alike r (still, u) answer
+  no_manifest_stands r (AtEnvelope bytes read all bad) answer =
+      let s0 = passes _ _ (one_file longest_file name) b b b a q alike bytes (still, read) answer in
+      stands _ _ (one_envelope envelopes bytes) b s0.0 b a q s0.1 r (refl, (all, bad)) s0.2
+  no_manifest_stands r (AtLength said e long) answer =
+      let s0 = passes _ _ (one_file longest_file name) b b b a q alike e.bytes (still, e.read) answer in
+      let s1 = passes _ _ (one_envelope envelopes e.bytes) b s0.0 b a q s0.1 said (refl, (e.are_bytes, e.envelope)) s0.2 in
+      stands _ _ (one_short said) b s1.0 b a q s1.1 r (refl, long) s1.2
+  no_manifest_stands r (AtManifest said e short bad) answer =
+      let s0 = passes _ _ (one_file longest_file name) b b b a q alike e.bytes (still, e.read) answer in
+      let s1 = passes _ _ (one_envelope envelopes e.bytes) b s0.0 b a q s0.1 said (refl, (e.are_bytes, e.envelope)) s0.2 in
+      let s2 = passes _ _ (one_short said) b s1.0 b a q s1.1 tt (refl, short) s1.2 in
+      stands _ _ (one_manifest envelopes manifests e.bytes said e.envelope) b s2.0 b a q s2.1 r (refl, bad) s2.2
+
+-- ---- an answer of `check`
+
+judges_says : (name : List ℕ) (b m a : Outside) (r : Reply) (said : EnvelopeSays) (manifest : Manifest) → HasManifest name b said manifest → judges_manifest said manifest m a (Says r)
+    → CheckSays name b r
+judges_says name b m a r said manifest has (Declines _ d) = AtMembers said manifest has d.1
+judges_says name b m a r said manifest has (Goes members m0 _ mem (Declines _ d)) = AtUpdateWidth said manifest members has mem.1 d.1
+judges_says name b m a r said manifest has (Goes members m0 _ mem (Goes v m1 _ first (Declines _ d))) = AtInvocationWidth said manifest members has mem.1 first.1 d.1
+judges_says name b m a r said manifest has (Goes members m0 _ mem (Goes v m1 _ first (Goes w m2 _ second (Ends _ same judged)))) =
+    AtPaths (update_tree manifest members) (invocation_tree manifest)
+    (record {
+      said = said;
+      manifest = manifest;
+      members = members;
+      has_manifest = has;
+      has_members = mem.1;
+      update_is = refl;
+      invocation_is = refl;
+      update_narrow = first.1;
+      invocation_narrow = second.1;
+    }) judged
+
+pub check_says : (name : List ℕ) (b a : Outside) (r : Reply) → checks name b a (Says r) → CheckSays name b r
+check_says name b a r answer = of_reached (reaches name judges_manifest b a r answer) where
+  of_reached : NoManifest name b r ⊎ Reached name judges_manifest b a r → CheckSays name b r
+  of_reached (inl none) = BeforeMembers none
+  of_reached (inr at) = judges_says name b at.there a r at.said at.manifest at.has at.on
+
+-- it declines, or judges both procedures
+pub record IsJudged (name : List ℕ) (before : Outside) (reply : Reply) : Type 0 where
+  pub update : PlanTree
+  pub invocation : PlanTree
+  pub has : HasProcedures name before update invocation
+  pub judged : AreJudged update invocation reply
+
+pub checked : (name : List ℕ) (b a : Outside) (r : Reply) → checks name b a (Says r) → Declining r.outcome ⊎ IsJudged name b r
+checked name b a r answer = of_says (check_says name b a r answer) where
+  of_says : CheckSays name b r → Declining r.outcome ⊎ IsJudged name b r
+  of_says (BeforeMembers none) = inl (no_manifest_declines name b r none)
+  of_says (AtMembers said manifest has lack) = inl (lack_told r lack.fault lack.says)
+  of_says (AtUpdateWidth said manifest members has mem wide) = inl (declining r _ _ wide.says tt)
+  of_says (AtInvocationWidth said manifest members has mem narrow_is wide) = inl (declining r _ _ wide.says tt)
+  of_says (AtPaths update invocation has judged) = inr (record { update = update; invocation = invocation; has = has; judged = judged })
+
+pub last_says : (says : Reply → Type 0) (m n : Outside) (q : Reply) → Last says m n (Says q) → says q
+last_says says m n q (Ends _ same is) = is
+
+module _ (envelopes : EnvelopeLaws) (manifests : ManifestLaws) (members : MembersLaws) (name : List ℕ) (b a : Outside) (told : IsTrue b.told) (q : Reply) (answer : checks name b a (Says q)) where
+  -- where the file has such procedures, they are judged
+  pub judged_when : (update invocation : PlanTree) → HasProcedures name b update invocation → AreJudged update invocation q
+  judged_when update invocation has =
+      let e = has.has_manifest.in_envelope in
+      let s3 = manifest_passed envelopes manifests name judges_manifest b a told q has.said has.manifest has.has_manifest answer in
+      let s4 = passes _ _ (one_members members e.bytes has.said has.manifest e.envelope) b s3.0 b a q s3.1 has.members (refl, has.has_members) s3.2 in
+      let n0 = subst IsNarrow has.update_is has.update_narrow in
+      let n1 = subst IsNarrow has.invocation_is has.invocation_narrow in
+      let s5 = passes _ _ (one_narrow (update_tree has.manifest has.members)) b s4.0 b a q s4.1 tt (refl, n0) s4.2 in
+      let s6 = passes _ _ (one_narrow (invocation_tree has.manifest)) b s5.0 b a q s5.1 tt (refl, n1) s5.2 in
+      subst (λ (p : PlanTree). AreJudged p invocation q) (sym has.update_is)
+      (subst (λ (p : PlanTree). AreJudged (update_tree has.manifest has.members) p q) (sym has.invocation_is) (last_says _ s6.0 a q s6.2))
+
+  one_judged : (u i : PlanTree) (r : Reply) → AreJudged u i r → AreJudged u i q → SameButPath r q
+  one_judged u i r (JudgedSafe safe says) (JudgedSafe safe' says') = inl (one_reply r q _ _ says says')
+  one_judged u i r (JudgedUnsafe is unsafe) (JudgedUnsafe is' unsafe') = inr (is, is')
+  one_judged u i r (JudgedSafe safe says) (JudgedUnsafe is unsafe) = absurd (unsafe_refuted u i q.text unsafe safe)
+  one_judged u i r (JudgedUnsafe is unsafe) (JudgedSafe safe says) = absurd (unsafe_refuted u i r.text unsafe safe)
+
+  pub check_always : (r : Reply) → CheckSays name b r → SameButPath r q
+  check_always r (BeforeMembers none) = inl (no_manifest_stands envelopes manifests name judges_manifest b a told q r none answer)
+  check_always r (AtMembers said manifest has lack) =
+      let e = has.in_envelope in
+      let s3 = manifest_passed envelopes manifests name judges_manifest b a told q said manifest has answer in
+      inl (stands _ _ (one_members members e.bytes said manifest e.envelope) b s3.0 b a q s3.1 r (refl, lack) s3.2)
+  check_always r (AtUpdateWidth said manifest taken has mem wide) =
+      let e = has.in_envelope in
+      let s3 = manifest_passed envelopes manifests name judges_manifest b a told q said manifest has answer in
+      let s4 = passes _ _ (one_members members e.bytes said manifest e.envelope) b s3.0 b a q s3.1 taken (refl, mem) s3.2 in
+      inl (stands _ _ (one_narrow (update_tree manifest taken)) b s4.0 b a q s4.1 r (refl, wide) s4.2)
+  check_always r (AtInvocationWidth said manifest taken has mem small wide) =
+      let e = has.in_envelope in
+      let s3 = manifest_passed envelopes manifests name judges_manifest b a told q said manifest has answer in
+      let s4 = passes _ _ (one_members members e.bytes said manifest e.envelope) b s3.0 b a q s3.1 taken (refl, mem) s3.2 in
+      let s5 = passes _ _ (one_narrow (update_tree manifest taken)) b s4.0 b a q s4.1 tt (refl, small) s4.2 in
+      inl (stands _ _ (one_narrow (invocation_tree manifest)) b s5.0 b a q s5.1 r (refl, wide) s5.2)
+  check_always r (AtPaths update invocation has judged) = one_judged update invocation r judged (judged_when update invocation has)
+
+-- ---- an answer of `show`
+
+pub record IsShownOf (reply : Reply) : Type 0 where
+  pub said : EnvelopeSays
+  pub manifest : Manifest
+  pub key : List ℕ
+  pub shown : IsShown said manifest key reply
+
+pub showed : (name key_name : List ℕ) (b a : Outside) (r : Reply) → shows name key_name b a (Says r) → Declining r.outcome ⊎ IsShownOf r
+showed name key_name b a r answer = of_reached (reaches name (shows_manifest key_name) b a r answer) where
+  of_rest : (said : EnvelopeSays) (manifest : Manifest) (m : Outside) → shows_manifest key_name said manifest m a (Says r) → Declining r.outcome ⊎ IsShownOf r
+  of_rest said manifest m (Declines _ d) = inl (no_key_declines _ _ r d.1)
+  of_rest said manifest m (Goes key m0 _ k (Ends _ same shown)) = inr (record { said = said; manifest = manifest; key = key; shown = shown })
+
+  of_reached : NoManifest name b r ⊎ Reached name (shows_manifest key_name) b a r → Declining r.outcome ⊎ IsShownOf r
+  of_reached (inl none) = inl (no_manifest_declines name b r none)
+  of_reached (inr at) = of_rest at.said at.manifest at.there at.on
+
+-- ---- outcomes by their statuses
+
+pub status_done : (o : Outcome) → status_of o ≡ 0 → o ≡ outcomes.Done
+status_done outcomes.Done e = refl
+status_done outcomes.Unsafe e = absurd (omega arith)
+status_done outcomes.Usage e = absurd (omega arith)
+status_done outcomes.Refused e = absurd (omega arith)
+status_done outcomes.NotAuthentic e = absurd (omega arith)
+status_done outcomes.TooWide e = absurd (omega arith)
+status_done outcomes.Severed e = absurd (omega arith)
+status_done outcomes.Differs e = absurd (omega arith)
+status_done outcomes.Absent e = absurd (omega arith)
+status_done outcomes.TooLong e = absurd (omega arith)
+
+pub status_unsafe : (o : Outcome) → status_of o ≡ 1 → o ≡ outcomes.Unsafe
+status_unsafe outcomes.Unsafe e = refl
+status_unsafe outcomes.Done e = absurd (omega arith)
+status_unsafe outcomes.Usage e = absurd (omega arith)
+status_unsafe outcomes.Refused e = absurd (omega arith)
+status_unsafe outcomes.NotAuthentic e = absurd (omega arith)
+status_unsafe outcomes.TooWide e = absurd (omega arith)
+status_unsafe outcomes.Severed e = absurd (omega arith)
+status_unsafe outcomes.Differs e = absurd (omega arith)
+status_unsafe outcomes.Absent e = absurd (omega arith)
+status_unsafe outcomes.TooLong e = absurd (omega arith)
+
+pub status_usage : (o : Outcome) → status_of o ≡ 2 → o ≡ outcomes.Usage
+status_usage outcomes.Usage e = refl
+status_usage outcomes.Done e = absurd (omega arith)
+status_usage outcomes.Unsafe e = absurd (omega arith)
+status_usage outcomes.Refused e = absurd (omega arith)
+status_usage outcomes.NotAuthentic e = absurd (omega arith)
+status_usage outcomes.TooWide e = absurd (omega arith)
+status_usage outcomes.Severed e = absurd (omega arith)
+status_usage outcomes.Differs e = absurd (omega arith)
+status_usage outcomes.Absent e = absurd (omega arith)
+status_usage outcomes.TooLong e = absurd (omega arith)
+
+pub not_seven : (o : Outcome) → status_of o ≡ 7 → ⊥
+not_seven outcomes.Done e = omega arith
+not_seven outcomes.Unsafe e = omega arith
+not_seven outcomes.Usage e = omega arith
+not_seven outcomes.Refused e = omega arith
+not_seven outcomes.NotAuthentic e = omega arith
+not_seven outcomes.TooWide e = omega arith
+not_seven outcomes.Severed e = omega arith
+not_seven outcomes.Differs e = omega arith
+not_seven outcomes.Absent e = omega arith
+not_seven outcomes.TooLong e = omega arith
+
+not_nine : (o : Outcome) → status_of o ≡ 9 → ⊥
+not_nine outcomes.Done e = omega arith
+not_nine outcomes.Unsafe e = omega arith
+not_nine outcomes.Usage e = omega arith
+not_nine outcomes.Refused e = omega arith
+not_nine outcomes.NotAuthentic e = omega arith
+not_nine outcomes.TooWide e = omega arith
+not_nine outcomes.Severed e = omega arith
+not_nine outcomes.Differs e = omega arith
+not_nine outcomes.Absent e = omega arith
+not_nine outcomes.TooLong e = omega arith
+
+pub not_nine_ending : (e : Ending) → ending_status e ≡ 9 → ⊥
+not_nine_ending (Says r) is = not_nine r.outcome is
+not_nine_ending HostFault is = omega arith
+not_nine_ending NoMemory is = omega arith
+
+-- ---- the answer to the words
+
+-- a reply to words that are those of a task
+pub does_of : (words : List (List ℕ)) (b a : Outside) (r : Reply) (task : Task) → task_of words ≡ Some task → answers words b a (Says r) → does task b a (Says r)
+does_of words b a r task word (Declines _ d) = let never : None ≡ Some task = sym d.1.0 ∙ word in absurd cc
+does_of words b a r task word (Goes other m _ g rest) =
+    let same : other ≡ task = same_Some other task (sym g.1 ∙ word) in
+    subst (λ (o : Outside). does task o a (Says r)) g.0 (subst (λ (t : Task). does t m a (Says r)) same rest)
+
+-- which of them judge
+pub judged_task : (words : List (List ℕ)) (b a : Outside) (r : Reply) → answers words b a (Says r) → r.outcome ≡ outcomes.Unsafe
+    → (name : List ℕ) × (task_of words ≡ Some (Check name)) × checks name b a (Says r)
+judged_task words b a r (Declines _ d) is = let never = sym d.1.1.outcome_is ∙ is in absurd cc
+judged_task words b a r (Goes (Check name) m _ g rest) is = (name, g.1, subst (λ (o : Outside). checks name o a (Says r)) g.0 rest)
+judged_task words b a r (Goes (Show name key) m _ g rest) is = absurd (of_show (showed name key m a r rest)) where
+  of_answer : (answer : Authenticity) → r.outcome ≡ authenticity_outcome answer → ⊥
+  of_answer authenticities.Yes e = let never = sym is ∙ e in cc
+  of_answer (authenticities.DigestDiffers stated found) e = let never = sym is ∙ e in cc
+  of_answer authenticities.NoMac e = let never = sym is ∙ e in cc
+  of_answer (authenticities.MacDiffers expected found) e = let never = sym is ∙ e in cc
+
+  of_show : Declining r.outcome ⊎ IsShownOf r → ⊥
+  of_show (inl d) = subst Declining is d
+  of_show (inr s) = of_answer s.shown.answer s.shown.outcome_is

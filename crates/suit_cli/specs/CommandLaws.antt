@@ -1,0 +1,89 @@
+-- Where each command stops, and with which reply: what follows from its stages over a host that tells.
+use Rattle.std.specs.Prelude.{◌≡◌, ◌⊎◌, ℕ, IsTrue, List, Option, Some, None}
+use Rattle.suit_commands.specs.Tree.{PlanTree}
+use Rattle.suit_envelope.specs.Envelopes.{EnvelopeSays}
+use Rattle.suit_envelope.specs.Said.{RefusesBytes}
+use Rattle.suit_envelope.specs.Authentic.{IsAuthentic}
+use Rattle.suit_manifest.specs.declared.manifest.Manifest.{Manifest}
+use Rattle.suit_manifest.specs.declared.manifest.Members.{Members}
+use Rattle.suit_manifest.specs.MembersApart.{HasMembers}
+use Rattle.suit_manifest.specs.Procedures.{update_tree, invocation_tree}
+use Rattle.suit_cli.specs.declared.reply.Reply.{Reply}
+use Rattle.suit_cli.specs.declared.reply.Outcome.TheVariants as outcomes
+use Rattle.suit_cli.specs.Outside.{Outside}
+use Rattle.suit_cli.specs.Stages.{Says}
+use Rattle.suit_cli.specs.Inputs.{longest_file, IsRead, IsUnread, IsKey, IsNoKey}
+use Rattle.suit_cli.specs.Envelopes.{AreBytes, IsRefused, IsShort, IsLong, RefusesItsManifest, IsLack}
+use Rattle.suit_cli.specs.Judgement.{IsNarrow, IsWide, AreJudged}
+use Rattle.suit_cli.specs.Holding.{HasEnvelope, HasManifest, HasProcedures}
+use Rattle.suit_cli.specs.Shown.{IsShown}
+use Rattle.suit_cli.specs.Commands.{checks, shows}
+
+-- ---- up to the manifest: the first of these stops it
+
+pub data NoManifest (name : List ℕ) (before : Outside) (reply : Reply) : Type 0 where
+  -- status 20, `absent NAME`, or 21, `too long NAME`
+  AtFile : IsUnread longest_file name before reply → NoManifest name before reply
+  -- status 3, `refused at P: WHY`
+  AtEnvelope : (bytes : List ℕ) → IsRead longest_file name before bytes → AreBytes bytes → IsRefused (RefusesBytes bytes) reply → NoManifest name before reply
+  -- status 21, `too long envelope`
+  AtLength : (said : EnvelopeSays) → HasEnvelope name before said → IsLong said reply → NoManifest name before reply
+  -- status 3, `refused at P: WHY`
+  AtManifest : (said : EnvelopeSays) → HasEnvelope name before said → IsShort said → IsRefused (RefusesItsManifest said) reply → NoManifest name before reply
+
+-- ---- `check FILE`
+
+pub data CheckSays (name : List ℕ) (before : Outside) (reply : Reply) : Type 0 where
+  BeforeMembers : NoManifest name before reply → CheckSays name before reply
+  -- status 16, `severed NAME`, 17, `member NAME differs`, or 3, `refused at P: WHY`
+  AtMembers : (said : EnvelopeSays) (manifest : Manifest) → HasManifest name before said manifest → IsLack said manifest reply → CheckSays name before reply
+  -- status 12, `too wide: N`
+  AtUpdateWidth : (said : EnvelopeSays) (manifest : Manifest) (members : Members) → HasManifest name before said manifest → HasMembers said manifest members
+      → IsWide (update_tree manifest members) reply → CheckSays name before reply
+  AtInvocationWidth : (said : EnvelopeSays) (manifest : Manifest) (members : Members) → HasManifest name before said manifest → HasMembers said manifest members
+      → IsNarrow (update_tree manifest members) → IsWide (invocation_tree manifest) reply → CheckSays name before reply
+  -- status 0, `update safe` and `invocation safe`, or 1 with the lines of a path
+  AtPaths : (update invocation : PlanTree) → HasProcedures name before update invocation → AreJudged update invocation reply → CheckSays name before reply
+
+-- two replies are one, but for the path that is printed
+abbrev pub SameButPath : Reply → Reply → Type 0
+SameButPath reply other = (other ≡ reply) ⊎ ((reply.outcome ≡ outcomes.Unsafe) × (other.outcome ≡ outcomes.Unsafe))
+
+pub record CheckLaws : Type 0 where
+  -- each reply has its cause
+  pub only : (name : List ℕ) (before after : Outside) (reply : Reply) → checks name before after (Says reply) → CheckSays name before reply
+  -- and where a cause stands, each answer that is neither a fault nor want of memory is its reply
+  pub always : (name : List ℕ) (before after : Outside) (reply other : Reply) → IsTrue before.told → CheckSays name before reply → checks name before after (Says other)
+      → SameButPath reply other
+
+-- ---- `show FILE KEY`
+
+pub data ShowSays (name key_name : List ℕ) (before : Outside) (reply : Reply) : Type 0 where
+  BeforeKey : NoManifest name before reply → ShowSays name key_name before reply
+  -- status 20, 21, or 3, `empty key`
+  AtKey : (said : EnvelopeSays) (manifest : Manifest) → HasManifest name before said manifest → IsNoKey key_name before reply → ShowSays name key_name before reply
+  -- status 0 or 4, and the lines
+  AtLines : (said : EnvelopeSays) (manifest : Manifest) (key : List ℕ) → HasManifest name before said manifest → IsKey key_name before key → IsShown said manifest key reply
+      → ShowSays name key_name before reply
+
+-- the manifest of the file, and the key
+pub record ShowsUnder (name key_name : List ℕ) (before : Outside) (said : EnvelopeSays) (manifest : Manifest) (key : List ℕ) : Type 0 where
+  pub has : HasManifest name before said manifest
+  pub has_key : IsKey key_name before key
+
+pub record ShowLaws : Type 0 where
+  pub only : (name key_name : List ℕ) (before after : Outside) (reply : Reply) → shows name key_name before after (Says reply)
+      → ShowSays name key_name before reply
+  -- where there is no manifest, or no key, each answer is the reply that says so
+  pub no_manifest : (name key_name : List ℕ) (before after : Outside) (reply other : Reply) → IsTrue before.told → NoManifest name before reply
+      → shows name key_name before after (Says other) → other ≡ reply
+  pub no_key : (name key_name : List ℕ) (before after : Outside) (said : EnvelopeSays) (manifest : Manifest) (reply other : Reply) → IsTrue before.told
+      → HasManifest name before said manifest → IsNoKey key_name before reply → shows name key_name before after (Says other) → other ≡ reply
+  -- where there are both, it shows them
+  pub shown : (name key_name : List ℕ) (before after : Outside) (said : EnvelopeSays) (manifest : Manifest) (key : List ℕ) (reply : Reply) → IsTrue before.told
+      → ShowsUnder name key_name before said manifest key → shows name key_name before after (Says reply) → IsShown said manifest key reply
+  -- status 0 exactly where the envelope is authentic under the key, and otherwise 4
+  pub authentic : (said : EnvelopeSays) (manifest : Manifest) (key : List ℕ) (reply : Reply) → IsShown said manifest key reply
+      → IsAuthentic said.wrapper said.manifest key → reply.outcome ≡ outcomes.Done
+  pub not_authentic : (said : EnvelopeSays) (manifest : Manifest) (key : List ℕ) (reply : Reply) → IsShown said manifest key reply
+      → (IsAuthentic said.wrapper said.manifest key → ⊥) → reply.outcome ≡ outcomes.NotAuthentic

@@ -1,0 +1,108 @@
+-- What a run of the program comes to.
+use Rattle.std.specs.Prelude.{◌≡◌, ◌≢◌, ◌⊎◌, ◌+◌, ℕ, IsTrue, List, [], ◌++◌, take, Option, Some, None}
+use Rattle.suit_edge.specs.Faults.{Faulted}
+use Rattle.suit_commands.specs.Tree.{PlanTree}
+use Rattle.suit_cli.specs.declared.reply.Outcome.TheVariants as outcomes
+use Rattle.suit_cli.specs.Texts.{usage_line}
+use Rattle.suit_cli.specs.Words.{Task, Check, Show, task_of}
+use Rattle.suit_cli.specs.Replies.{IsReply}
+use Rattle.suit_cli.specs.Outside.{Outside, Sunk}
+use Rattle.suit_cli.specs.Stages.{Stage, judging, Ending, Answers, ◌>>=◌}
+use Rattle.suit_cli.specs.Statuses.{ending_status, ending_text, sink_fault_status}
+use Rattle.suit_cli.specs.Inputs.{longest_file, longest_key}
+use Rattle.suit_cli.specs.Judgement.{AreSafe, ShowUnsafe}
+use Rattle.suit_cli.specs.Holding.{HasProcedures}
+use Rattle.suit_cli.specs.Commands.{does}
+
+-- ---- the answer to the words
+
+-- the words are judged first; all but those of a command are usage
+abbrev pub task_in : List (List ℕ) → Stage Task
+task_in words = judging (λ task. task_of words ≡ Some task) (λ reply. (task_of words ≡ None) × IsReply reply outcomes.Usage usage_line)
+
+abbrev pub answers : List (List ℕ) → Answers
+answers words = task_in words >>= does
+
+-- ---- the put
+
+-- lines come whole behind what was put, or up to a fault of the sink, which has its own status
+pub data PutsText (before after : Sunk) (status : ℕ) (text : List ℕ) (result : ℕ) : Type 0 where
+  IsPut : result ≡ status → after.faults ≡ before.faults → (IsTrue before.told → after.put ≡ before.put ++ text) → PutsText before after status text result
+  IsCut : result ≡ sink_fault_status → Faulted before.faults after.faults → (IsTrue before.told → (n : ℕ) × (after.put ≡ before.put ++ take n text))
+      → PutsText before after status text result
+
+abbrev pub Puts : Sunk → Sunk → Ending → ℕ → Type 0
+Puts before after ending result = PutsText before after (ending_status ending) (ending_text ending) result
+
+-- the words had an answer over the outside, and it was put
+pub record Runs (words : List (List ℕ)) (before after : Outside) (sunk_before sunk_after : Sunk) (result : ℕ) : Type 0 where
+  pub ending : Ending
+  pub answer : answers words before after ending
+  pub puts : Puts sunk_before sunk_after ending result
+
+-- ---- statuses
+
+abbrev pub IsExcuse : ℕ → Type 0
+IsExcuse result = (result ≡ 7) ⊎ (result ≡ 9) ⊎ (result ≡ 11)
+
+-- this status, unless a fault or want of memory came first
+abbrev pub EndsIn : ℕ → ℕ → Type 0
+EndsIn status result = (result ≡ status) ⊎ IsExcuse result
+
+-- those of an answer, of a fault of the host or of the sink, and of want of memory
+pub data IsStatus (result : ℕ) : Type 0 where
+  OfEnding : (ending : Ending) → result ≡ ending_status ending → IsStatus result
+  OfSinkFault : result ≡ sink_fault_status → IsStatus result
+
+-- ---- the headline
+
+-- the words check a file with these procedures, as the host tells
+pub record ChecksProcedures (words : List (List ℕ)) (before : Outside) (update invocation : PlanTree) : Type 0 where
+  pub told : IsTrue before.told
+  pub name : List ℕ
+  pub word : task_of words ≡ Some (Check name)
+  pub has : HasProcedures name before update invocation
+
+abbrev pub IsCheck : List (List ℕ) → Type 0
+IsCheck words = (name : List ℕ) × (task_of words ≡ Some (Check name))
+
+-- they do, and both procedures are safe
+pub record ChecksSafe (words : List (List ℕ)) (before : Outside) : Type 0 where
+  pub update : PlanTree
+  pub invocation : PlanTree
+  pub checks : ChecksProcedures words before update invocation
+  pub are_safe : AreSafe update invocation
+
+-- they do, both are not safe, and a path that shows it was put
+pub record ChecksUnsafe (words : List (List ℕ)) (before : Outside) (sunk_before sunk_after : Sunk) : Type 0 where
+  pub update : PlanTree
+  pub invocation : PlanTree
+  pub checks : ChecksProcedures words before update invocation
+  pub not_safe : AreSafe update invocation → ⊥
+  pub text : List ℕ
+  pub shows_path : ShowUnsafe update invocation text
+  pub puts : IsTrue sunk_before.told → sunk_after.put ≡ sunk_before.put ++ text
+
+-- ---- usage
+
+-- the words are no command, and the line that says so was put
+pub record IsUsage (words : List (List ℕ)) (sunk_before sunk_after : Sunk) : Type 0 where
+  pub no_task : task_of words ≡ None
+  pub puts : IsTrue sunk_before.told → sunk_after.put ≡ sunk_before.put ++ usage_line
+
+-- ---- what is cut off
+
+-- the sink counted a fault, and only the beginning of the answer's lines was put
+pub record IsCutOff (words : List (List ℕ)) (before after : Outside) (sunk_before sunk_after : Sunk) : Type 0 where
+  pub faulted : Faulted sunk_before.faults sunk_after.faults
+  pub ending : Ending
+  pub answer : answers words before after ending
+  pub puts : IsTrue sunk_before.told → (n : ℕ) × (sunk_after.put ≡ sunk_before.put ++ take n (ending_text ending))
+
+-- ---- how much is pulled
+
+-- of each file at most one byte more than its limit
+abbrev pub most_pulled : Option Task → ℕ
+most_pulled None = 0
+most_pulled (Some (Check name)) = longest_file + 1
+most_pulled (Some (Show name key)) = (longest_file + 1) + (longest_key + 1)

@@ -1,0 +1,20 @@
+-- Replies: an outcome, and the lines that are put for it.
+use Rattle.std.specs.Prelude.{◌≡◌, ℕ, List, Result, Ok, Err, IfOk}
+use Rattle.std.specs.declared.alloc.AllocError.{AllocError}
+use Rattle.suit_cli.specs.declared.reply.Reply.{Reply}
+use Rattle.suit_cli.specs.declared.reply.Outcome.{Outcome}
+use Rattle.suit_cli.specs.declared.reply.Stop.{Stop}
+use Rattle.suit_cli.specs.declared.reply.Stop.TheVariants.{Declined, NoMemory}
+
+pub record IsReply (reply : Reply) (outcome : Outcome) (text : List ℕ) : Type 0 where
+  pub outcome_is : reply.outcome ≡ outcome
+  pub text_is : reply.text ≡ text
+
+-- such a reply was made, unless there was no memory
+abbrev pub Makes : Result Reply AllocError → Outcome → List ℕ → Type 0
+Makes result outcome text = IfOk result (λ reply. IsReply reply outcome text)
+
+-- the answer goes no further, as the reply says
+abbrev pub stop_of : Result Reply AllocError → Stop
+stop_of (Ok reply) = Declined reply
+stop_of (Err e) = NoMemory

@@ -1,0 +1,84 @@
+-- An answer is made in stages, one after another.
+use Rattle.std.specs.Prelude.{◌≡◌, ℕ, List, Result, Ok, Err}
+use Rattle.suit_cli.specs.declared.reply.Reply.{Reply}
+use Rattle.suit_cli.specs.declared.reply.Stop.{Stop}
+use Rattle.suit_cli.specs.declared.reply.Stop.TheVariants as stops
+use Rattle.suit_cli.specs.Outside.{Outside, Reads, Fails}
+
+-- what an answer ends with
+pub data Ending : Type 0 where
+  Says : Reply → Ending
+  HostFault : Ending
+  NoMemory : Ending
+
+-- by the outside before and after
+abbrev pub Answers : Type 1
+Answers = Outside → Outside → Ending → Type 0
+
+-- A stage gives a value, or declines with a reply, or its object faults, or it lacks memory.
+pub record Stage (A : Type 0) : Type 1 where
+  pub gives : Outside → Outside → A → Type 0
+  pub declines : Outside → Outside → Reply → Type 0
+  pub faults : Outside → Outside → Type 0
+  pub lacks : Outside → Outside → Type 0
+
+-- ---- the two kinds of stages
+
+-- a judgement on values alone changes nothing outside, and nothing outside can fail in it
+abbrev pub judging : {A : Type 0} → (A → Type 0) → (Reply → Type 0) → Stage A
+judging good bad = record {
+  gives = λ before after a. (after ≡ before) × good a;
+  declines = λ before after reply. (after ≡ before) × bad reply;
+  faults = λ before after. ⊥;
+  lacks = λ before after. after ≡ before;
+}
+
+-- reading pulls at most so many bytes, and judges what it found
+abbrev pub reading : {A : Type 0} → ℕ → (Outside → A → Type 0) → (Outside → Reply → Type 0) → Stage A
+reading most good bad = record {
+  gives = λ before after a. Reads most before after × good before a;
+  declines = λ before after reply. Reads most before after × bad before reply;
+  faults = Fails most;
+  lacks = Reads most;
+}
+
+-- ---- one stage after another
+
+-- a stage is good and the next follows, from where it left the outside; or the answer ends there
+pub data Then {A : Type 0} (stage : Stage A) (next : A → Answers) (before after : Outside) : Ending → Type 0 where
+  Goes : (a : A) (middle : Outside) (ending : Ending) → stage.gives before middle a → next a middle after ending → Then stage next before after ending
+  Declines : (reply : Reply) → stage.declines before after reply → Then stage next before after (Says reply)
+  Faults : stage.faults before after → Then stage next before after HostFault
+  Lacks : stage.lacks before after → Then stage next before after NoMemory
+
+infixr 10 ◌>>=◌
+abbrev pub ◌>>=◌ : {A : Type 0} → Stage A → (A → Answers) → Answers
+stage >>= next = Then stage next
+
+-- the last stage says what was asked for
+pub data Last (says : Reply → Type 0) (before after : Outside) : Ending → Type 0 where
+  Ends : (reply : Reply) → after ≡ before → says reply → Last says before after (Says reply)
+  EndsWithout : after ≡ before → Last says before after NoMemory
+
+-- ---- what the code answers
+
+-- a value of a stage, or why there is none
+abbrev pub Does : {A : Type 0} → Stage A → Outside → Outside → Result A Stop → Type 0
+Does stage before after (Ok a) = stage.gives before after a
+Does stage before after (Err (stops.Declined reply)) = stage.declines before after reply
+Does stage before after (Err stops.HostFault) = stage.faults before after
+Does stage before after (Err stops.NoMemory) = stage.lacks before after
+
+-- of a judgement, wherever it stands
+abbrev pub Finds : {A : Type 0} → Stage A → Result A Stop → Type 0
+Finds stage result = (here : Outside) → Does stage here here result
+
+abbrev pub ending_of : Result Reply Stop → Ending
+ending_of (Ok reply) = Says reply
+ending_of (Err (stops.Declined reply)) = Says reply
+ending_of (Err stops.HostFault) = HostFault
+ending_of (Err stops.NoMemory) = NoMemory
+
+-- of judgements alone
+abbrev pub Tells : Answers → Result Reply Stop → Type 0
+Tells answers result = (here : Outside) → answers here here (ending_of result)

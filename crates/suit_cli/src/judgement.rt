@@ -1,0 +1,83 @@
+//! The stages that judge the two procedures of a manifest.
+
+ghost use Rattle.std.specs.Prelude.{◌≡◌, IfOk, string_bytes};
+ghost use Rattle.suit_commands.specs.Allowed.{IsPlan};
+ghost use Rattle.suit_commands.specs.Plans.{plan_tree};
+ghost use Rattle.path_model.specs.Safe.{Safe};
+ghost use Rattle.suit_cli.specs.Stages.{Finds, Tells, Last};
+ghost use Rattle.suit_cli.specs.Judgement.{narrow, IsNarrow, AreJudged};
+ghost use Rattle.suit_cli.specs.declared.reply.Outcome.TheVariants as outcomes;
+ghost use Rattle.suit_cli.specs.Replies.{Makes};
+ghost use Rattle.suit_cli.specs.Texts.{too_wide_line};
+
+use crate::reply::{Outcome, Reply, Stop, declined};
+use det_cbor::Text;
+use path_checker::CheckVerdict;
+use std::alloc::{AllocError, Global};
+use suit_commands::{Plan, width};
+
+/// The largest width that is judged.
+const WIDEST: u64 = 4_194_304;
+
+// A reply that a procedure is too wide.
+fn too_wide(alloc: Global, width: u64) -> Result<Reply, AllocError>
+    ensures { Makes result outcomes.TooWide (too_wide_line width) }
+{
+    let line = format!(in alloc; "too wide: {width}\n")?;
+    Ok(Reply {
+        outcome: Outcome::TooWide,
+        text: Text::from_string(line),
+    })
+}
+
+/// Whether a procedure is within the width that is judged.
+#[tactic(auto, unfolding(suit_commands::specs::Capped::capped))]
+pub(crate) fn narrow(alloc: Global, plan: &Plan<'_>) -> Result<(), Stop>
+    ensures { Finds (narrow (plan_tree plan.now)) result }
+{
+    let width = width(plan);
+    if width > WIDEST {
+        Err(declined(too_wide(alloc, width)))
+    } else {
+        Ok(())
+    }
+}
+
+/// The judgement of both procedures, the update first.
+pub(crate) fn judge(alloc: Global, update: &Plan<'_>, invocation: &Plan<'_>) -> Result<Reply, Stop>
+    requires update_plan { IsPlan (plan_tree update.now) }
+    requires invocation_plan { IsPlan (plan_tree invocation.now) }
+    requires update_narrow { IsNarrow (plan_tree update.now) }
+    requires invocation_narrow { IsNarrow (plan_tree invocation.now) }
+    ensures { Tells (Last (AreJudged (plan_tree update.now) (plan_tree invocation.now))) result }
+{
+    match path_checker::check(alloc, update) {
+        CheckVerdict::Safe => judge_invocation(alloc, update, invocation),
+        CheckVerdict::Unsafe(path) => Ok(Reply::with_path(alloc, "update unsafe\n", &path)?),
+        CheckVerdict::TooWide(_) => unreachable!(),
+        CheckVerdict::NoMemory => Err(Stop::NoMemory),
+    }
+}
+
+// The judgement of the invocation, after a safe update.
+fn judge_invocation(alloc: Global, update: &Plan<'_>, invocation: &Plan<'_>) -> Result<Reply, Stop>
+    requires plan { IsPlan (plan_tree invocation.now) }
+    requires narrow { IsNarrow (plan_tree invocation.now) }
+    requires safe { Safe (plan_tree update.now) }
+    ensures { Tells (Last (AreJudged (plan_tree update.now) (plan_tree invocation.now))) result }
+{
+    match path_checker::check(alloc, invocation) {
+        CheckVerdict::Safe => Ok(Reply::fixed(
+            alloc,
+            Outcome::Done,
+            "update safe\ninvocation safe\n",
+        )?),
+        CheckVerdict::Unsafe(path) => Ok(Reply::with_path(
+            alloc,
+            "update safe\ninvocation unsafe\n",
+            &path,
+        )?),
+        CheckVerdict::TooWide(_) => unreachable!(),
+        CheckVerdict::NoMemory => Err(Stop::NoMemory),
+    }
+}

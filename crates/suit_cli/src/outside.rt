@@ -1,0 +1,31 @@
+//! The outside as contracts see it: a host and a sink, each at a moment as one record.
+
+use suit_edge::{Host, Sink};
+
+/// A host at a moment.
+pub trait SeenHost: Host {
+    ghost use Rattle.suit_cli.specs.Outside.{Outside};
+
+    /// What it tells of its files and of the bytes that were pulled from them, and its count of faults.
+    ghost seen: { Self → Outside };
+}
+
+impl<H: Host> SeenHost for H {
+    ghost use Rattle.suit_cli.specs.Outside.{Outside};
+
+    ghost seen = { λ h. record { told = H.told; files = H.file h; pulled = H.pulled h; faults = H.faults h } };
+}
+
+/// A sink at a moment.
+pub trait SeenSink: Sink {
+    ghost use Rattle.suit_cli.specs.Outside.{Sunk};
+
+    /// What it tells of the bytes that were put, and its count of faults.
+    ghost seen: { Self → Sunk };
+}
+
+impl<K: Sink> SeenSink for K {
+    ghost use Rattle.suit_cli.specs.Outside.{Sunk};
+
+    ghost seen = { λ k. record { told = K.told; put = K.put_bytes k; faults = K.faults k } };
+}
