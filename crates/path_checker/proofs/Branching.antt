@@ -9,7 +9,6 @@ use Rattle.path_model.specs.declared.event.Event.{Event}
 use Rattle.path_model.specs.Behaviour.{State, Ending, Done, Condition}
 use Rattle.path_model.specs.Runs.{Runs, Tries}
 use Rattle.path_model.specs.Following.{CoveredFrom, SameMatches}
-use Rattle.path_model.proofs.Following.{same_matches}
 use Rattle.path_checker.specs.declared.judge_plan.facts.Knowledge.{Knowledge}
 use Rattle.path_checker.specs.declared.judge_plan.halt.Halt.{Halt}
 use Rattle.path_checker.specs.Knowing.{Allows}
@@ -22,6 +21,7 @@ use Rattle.path_checker.proofs.OneBranch.{branch_course}
 use Rattle.path_checker.proofs.Uncovering.{Uncovers-inner, Uncovers-branch}
 use Rattle.path_checker.proofs.Walking.{Halts-lift, runs_course}
 use Rattle.path_checker.proofs.Carrying.{Carries, Carries-start, Carries-branch, Carries-end, nothing_course}
+use Rattle.path_checker.proofs.Histories.{same_matches}
 
 pub at-one : (k : Kept) (s : State) → s ≡ k.state → AllAt s (k ∷ [])
 at-one k s e k' (inl p) = sym (ap (λ (x : Kept). x.state) p) ∙ sym e

@@ -5,13 +5,13 @@ use Rattle.path_model.specs.declared.identity.Identity.{Identity}
 use Rattle.path_model.specs.declared.event.Event.{Event}
 use Rattle.path_model.specs.Behaviour.{State, Ending, Done, Condition, Directive}
 use Rattle.path_model.specs.Following.{CoveredFrom, SameMatches}
-use Rattle.path_model.proofs.Following.{same_matches}
 use Rattle.path_checker.specs.declared.judge_plan.facts.Knowledge.{Knowledge}
 use Rattle.path_checker.specs.Knowing.{Allows, Learns}
 use Rattle.path_checker.specs.Exploring.{Course, In, Kept, Stopped, Reaches, Found, Explores, Uncovered, Uncovers}
 use Rattle.path_checker.specs.Steps.{with_events, knowing, stopped_by}
 use Rattle.path_checker.proofs.Membership.{In-cases}
 use Rattle.path_checker.proofs.Exploring.{FromOne, FromOne-of, Explores-one, Found-left, Found-right}
+use Rattle.path_checker.proofs.Histories.{same_matches}
 
 -- the only thing that may happen
 abbrev pub Only : List Event → Ending → Course

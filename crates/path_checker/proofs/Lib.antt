@@ -24,3 +24,4 @@ pub mod Deciding
 pub mod Among
 pub mod Choices
 pub mod Counting
+pub mod Histories

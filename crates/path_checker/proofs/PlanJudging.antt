@@ -11,7 +11,6 @@ use Rattle.path_model.specs.Behaviour.{Directive}
 use Rattle.path_model.specs.Path.{AreIdentities, Path, RunsPlan, first_state}
 use Rattle.path_model.specs.Safe.{AllCovered, Safe}
 use Rattle.path_model.specs.BadPaths.{IsBadPath}
-use Rattle.path_model.proofs.Covering.{CoveredFrom-AllCovered, CoveredFrom-front}
 use Rattle.path_checker.specs.declared.judge_plan.facts.Knowledge.{Knowledge}
 use Rattle.path_checker.specs.Knowing.{nothing, nothing_known, Allows}
 use Rattle.path_checker.specs.Choosing.{IsChosen}
@@ -20,6 +19,7 @@ use Rattle.path_checker.specs.Procedures.{first_kept}
 use Rattle.path_checker.specs.declared.judge_plan.CheckVerdict.{CheckVerdict}
 use Rattle.path_checker.specs.declared.judge_plan.CheckVerdict.TheVariants as verdicts
 use Rattle.path_checker.specs.PlanVerdicts.{widest, Judges, Tells, JudgesPlan}
+use Rattle.path_checker.proofs.Histories.{CoveredFrom-AllCovered, CoveredFrom-front}
 
 nothing-length : (count : ℕ) → length (nothing_known count) ≡ count
 nothing-length zero = refl

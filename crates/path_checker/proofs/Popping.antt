@@ -12,7 +12,6 @@ use Rattle.path_model.specs.declared.identity.Identity.{Identity}
 use Rattle.path_model.specs.declared.event.Event.{Event}
 use Rattle.path_model.specs.Behaviour.{State, Ending, Done, Directive, Each}
 use Rattle.path_model.specs.Following.{CoveredFrom, SameMatches}
-use Rattle.path_model.proofs.Following.{same_matches}
 use Rattle.path_checker.specs.declared.judge_plan.facts.Knowledge.{Knowledge}
 use Rattle.path_checker.specs.declared.judge_plan.halt.Halt.{Halt}
 use Rattle.path_checker.specs.Knowing.{Allows}
@@ -25,6 +24,7 @@ use Rattle.path_checker.proofs.Uncovering.{Uncovered-lift}
 use Rattle.path_checker.proofs.Carrying.{Explores-more}
 use Rattle.path_checker.proofs.Leaves.{Same, Explores-same}
 use Rattle.path_checker.proofs.Walking.{Halts-lift, does_course, Walks, Walks-then, Walks-halt}
+use Rattle.path_checker.proofs.Histories.{same_matches}
 
 pub record Pops (course : Course) (from : List Kept) (failed0 : List Stopped) (now next : List Kept) (failed : List Stopped) : Type 0 where
   pub gone : List Kept

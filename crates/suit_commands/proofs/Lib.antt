@@ -5,7 +5,6 @@ pub mod NumberLawProofs
 pub mod Pushing
 pub mod ReachLaws
 pub mod ReachParts
-pub mod Smaller
 pub mod SourceLaws
 pub mod Steps
 pub mod TargetLaws

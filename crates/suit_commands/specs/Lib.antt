@@ -19,6 +19,7 @@ pub mod SequenceMaking
 pub mod SequenceWriting
 pub mod Sequences
 pub mod Size
+pub mod Smaller
 pub mod Sources
 pub mod Targets
 pub mod Tree

@@ -10,7 +10,7 @@ ghost use Rattle.path_checker.specs.Wanting.{wanted_by};
 use crate::judge_plan::facts::Own;
 use std::marker::Model;
 use suit_commands::TestKind;
-use suit_params::{Digest, Param, ParamKey, ParamList, Params};
+use suit_params::{Digest, Param, ParamKey, ParamList, Params, in_force_laws};
 
 /// The parameters in force, each under its own key.
 #[derive(Drop)]
@@ -79,6 +79,7 @@ impl<'a> InForce<'a> {
     pub(crate) fn new() -> InForce<'a>
         ensures { result ≡ none_in_force }
     {
+        in_force_laws();
         InForce {
             params: Params::new(),
         }

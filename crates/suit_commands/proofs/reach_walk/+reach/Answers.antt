@@ -2,7 +2,7 @@ use Rattle.std.proofs.Common.{◌≡◌, ◌+◌, ◌≤◌, sym, ◌∙◌, ap,
 use Rattle.suit_commands.specs.Size.{sequence_size, branches_size}
 use Rattle.suit_commands.specs.View.{branches_tree}
 use Rattle.suit_commands.specs.declared.command.Branches.TheDeep.{deep-Step}
-use Rattle.suit_commands.proofs.Smaller.{step_smaller, branch_smaller}
+use Rattle.suit_commands.specs.Smaller.{step_smaller, branch_smaller}
 use Rattle.suit_commands.proofs.IndexedSteps.{step_indexed, branch_indexed}
 use Rattle.suit_commands.proofs.reach_walk.+reach.Goals as goal
 

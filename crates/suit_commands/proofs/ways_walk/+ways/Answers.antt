@@ -3,7 +3,7 @@ use Rattle.suit_commands.specs.Size.{sequence_size, branches_size}
 use Rattle.suit_commands.specs.View.{branches_tree}
 use Rattle.suit_commands.specs.WaysOnce.{counted, capped_ways}
 use Rattle.suit_commands.specs.declared.command.Branches.TheDeep.{deep-Step}
-use Rattle.suit_commands.proofs.Smaller.{step_smaller, branch_smaller}
+use Rattle.suit_commands.specs.Smaller.{step_smaller, branch_smaller}
 use Rattle.suit_commands.proofs.WaysSteps.{made_fits, step_ways, steps_ways, branch_ways, branches_ways, there_ways, test_capped, inner_made, other_ways, start_fits, none_fits, steps_begin, branches_begin, some_ways, null_ways}
 use Rattle.suit_commands.proofs.ways_walk.+ways.Goals as goal
 use Rattle.suit_commands.proofs.ways_walk.+ways.Goals.{branches_ways-in-Some, branches_ways-in-None}

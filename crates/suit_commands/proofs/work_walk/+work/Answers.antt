@@ -6,7 +6,7 @@ use Rattle.suit_commands.specs.Numbers.{command_work}
 use Rattle.suit_commands.specs.declared.command.Command.{Command}
 use Rattle.suit_commands.specs.declared.command.Branches.TheDeep.{deep-Step}
 use Rattle.suit_commands.proofs.Capping.{capped_small}
-use Rattle.suit_commands.proofs.Smaller.{step_smaller, branch_smaller}
+use Rattle.suit_commands.specs.Smaller.{step_smaller, branch_smaller}
 use Rattle.suit_commands.proofs.WorkSteps.{inner_work, step_counted, branch_counted, null_counted, plain_work, steps_counted, branches_counted}
 use Rattle.suit_commands.proofs.work_walk.+work.Goals as goal
 use Rattle.suit_commands.proofs.work_walk.+work.Goals.{branches_work-in-Some, branches_work-in-None}

@@ -9,7 +9,7 @@ use Rattle.suit_commands.specs.Size.{sequence_size, branches_size}
 use Rattle.suit_commands.specs.declared.command.Step.{Step}
 use Rattle.suit_commands.specs.declared.command.Command.{Command}
 use Rattle.suit_commands.specs.declared.command.Branches.TheDeep.{deep-Step}
-use Rattle.suit_commands.proofs.Smaller.{step_smaller, branch_smaller}
+use Rattle.suit_commands.specs.Smaller.{step_smaller, branch_smaller}
 use Rattle.path_checker.specs.Exploring.{Course, Adds}
 use Rattle.path_checker.specs.Steps.{At}
 use Rattle.path_checker.specs.Halting.{Halts}

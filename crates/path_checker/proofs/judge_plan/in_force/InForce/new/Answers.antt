@@ -1,7 +1,6 @@
 use Rattle.std.proofs.Common.{sym, ◌∙◌, ap}
 use Rattle.suit_params.specs.InForce.{in_force}
-use Rattle.path_model.proofs.ParameterLaws.{starts_empty}
 use Rattle.path_checker.proofs.judge_plan.in_force.InForce.new.Goals as goal
 
 pub invariant_of-result : goal.invariant_of-result
-invariant_of-result c = record { keyed = λ component key param low is. absurd (let never = sym (ap (λ ps. in_force ps component key) c.new.ensures ∙ starts_empty component key) ∙ is in cc) }
+invariant_of-result c = record { keyed = λ component key param low is. absurd (let never = sym (ap (λ ps. in_force ps component key) c.new.ensures ∙ c.in_force_laws.ensures.at_first component key low) ∙ is in cc) }
