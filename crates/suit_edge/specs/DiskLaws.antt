@@ -6,8 +6,8 @@ use Rattle.suit_edge.specs.Flash.{Flash, Now, Grows, IsSame, IsSettled}
 pub record DiskLaw (size : ℕ) (before after : Flash) : Type 0 where
   -- a loss since the call began may leave what reads gave then
   pub stays : Grows before after → after.may before.clock before.reads
-  -- so a disk that tells nothing but what it reads, as one does whose clock stands still, can change nothing
-  pub still : Grows before after → ((image : List ℕ) → after.may before.clock image → image ≡ after.reads) → after.reads ≡ before.reads
+  -- so where its clock has stood still, and what reads give is sure, they give what they gave
+  pub still : after.clock ≡ before.clock → Grows before after → IsSettled after → after.reads ≡ before.reads
   -- a sync that leaves a write pending is not done
   pub pending : (image : List ℕ) → Now after image → (image ≡ after.reads → ⊥) → IsSettled after → ⊥
   -- a clock does not go back

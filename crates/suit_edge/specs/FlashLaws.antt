@@ -1,8 +1,9 @@
--- How runs of calls on a disk are composed.
+-- Laws of flashes: how runs of calls on a disk are composed. They range over flashes and over predicates on images, so
+-- that no clause can say them.
 use Rattle.std.proofs.Common.{inl, inr, ⊎_elim, ◌≤◌, ℕ, List, refl, sym, ◌∙◌, subst, arith}
 use Rattle.suit_edge.specs.Ranges.{SameOn}
 use Rattle.suit_edge.specs.Flash.{Flash, Now, Grows, Passes, ImageOn, Keeps, IsSame, IsSettled, IsFirmOn, IsFlash}
-use Rattle.suit_edge.proofs.Written.{same_start, same_then, same_fewer}
+use Rattle.suit_edge.specs.RangeLaws.{same_start, same_then, same_fewer}
 
 -- ---- every image since the start
 
@@ -33,6 +34,10 @@ each_now a b size P law run image now = run.each image (law.sooner a.clock b.clo
 -- and so is what reads give at the end
 pub each_read : (a b : Flash) (size : ℕ) (P : List ℕ → Type 0) → IsFlash b size → Passes a b P → P b.reads
 each_read a b size P law run = each_now a b size P law run b.reads law.reads_may
+
+-- a read or a sync after it
+pub then_same : (a b c : Flash) (size : ℕ) (P : List ℕ → Type 0) → IsFlash b size → Passes a b P → IsSame b c → Passes a c P
+then_same a b c size P law run same = joined a b c P run (weakens b c (Now b) P (each_now a b size P law run) same.images)
 
 -- ---- places that are left alone
 
@@ -105,6 +110,11 @@ firm_then K a b size law firm kept image now =
 pub firm_fewer : (K L : ℕ → Type 0) → ((i : ℕ) → K i → L i) → (f : Flash) → IsFirmOn L f → IsFirmOn K f
 firm_fewer K L to f firm image now = same_fewer K L to f.reads image (firm image now)
 
--- nothing is pending
+-- ---- nothing is pending
+
+-- a read leaves it so
+pub settled_then : (a b : Flash) (size : ℕ) → IsFlash b size → IsSettled a → IsSame a b → IsSettled b
+settled_then a b size law settled same image now = settled image (each_now a b size (Now a) law same.images image now) ∙ sym same.reads
+
 pub settled_firm : (K : ℕ → Type 0) (f : Flash) → IsSettled f → IsFirmOn K f
 settled_firm K f settled image now = subst (λ (l : List ℕ). SameOn K f.reads l) (sym (settled image now)) (same_start K f.reads)

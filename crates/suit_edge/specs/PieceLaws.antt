@@ -4,8 +4,8 @@ use Rattle.std.proofs.Math.Seq.{take-add}
 use Rattle.std.proofs.lemmas.List.{length-take-le}
 use Rattle.suit_edge.specs.Ranges.{Outside, written}
 use Rattle.suit_edge.specs.Flash.{Flash, Keeps, IsFlash}
-use Rattle.suit_edge.proofs.Written.{written-written, outside_within}
-use Rattle.suit_edge.proofs.Runs.{keeps_fewer, keeps_then}
+use Rattle.suit_edge.specs.RangeLaws.{written-written, outside_within}
+use Rattle.suit_edge.specs.FlashLaws.{keeps_fewer, keeps_then}
 
 module _ (bytes : List ℕ) (place done n : ℕ) (within : done + n ≤ length bytes) where
   piece : List ℕ
