@@ -1,5 +1,6 @@
 //! A device with one component of two slots: its page, and what is refused.
 
+use crate::frame::PAGE_BYTES;
 use crate::page_reading::decode_page;
 use crate::page_writing::write_page;
 use crate::{Entry, Key, Layout, Loaded, Memory, is_key, is_layout, load_config, places};
@@ -44,9 +45,9 @@ fn key() -> Key {
 }
 
 // The page of the device's layout and key.
-fn page(alloc: Global) -> Result<[u8; 1204], AllocError> {
+fn page(alloc: Global) -> Result<[u8; PAGE_BYTES], AllocError> {
     let layout = layout_of(alloc, component(alloc, [49152, 50184], 1024)?)?;
-    let mut bytes = [0; 1204];
+    let mut bytes = [0; PAGE_BYTES];
     if is_layout(SIZE, &layout) {
         bytes.copy_from_slice(write_page(&layout, &key()).as_slice());
     }
@@ -93,7 +94,7 @@ fn a_page_is_read_back(rt: HostRuntime) -> Result<(), Fail> {
 // Whether a page with another byte at a place is read.
 fn reads_with(alloc: Global, at: usize, byte: u8) -> Result<bool, AllocError> {
     let mut page = page(alloc)?;
-    if at < 1204 {
+    if at < PAGE_BYTES {
         page[at] = byte;
     }
     Ok(decode_page(alloc, SIZE, &page)?.is_some())
