@@ -39,10 +39,10 @@ pub record IsNewPage (gate place : ℕ) (body old image : List ℕ) : Type 0 whe
   pub bytes : body_at image place (length body) ≡ body
   pub rest : SameOn (OutsideEach (page_at gate place (length body))) old image
 
--- Outside the page an image of the start, and an open page is the new one.
+-- Outside the page an image of the start. Where none of those has an open gate, an open page is the new one.
 pub record IsOpening (gate place : ℕ) (body : List ℕ) (start : Flash) (image : List ℕ) : Type 0 where
   pub apart : ImageOn (OutsideEach (page_at gate place (length body))) start image
-  pub opens : IsOpen image gate → IsNewPage gate place body start.reads image
+  pub opens : IsShut gate start → IsOpen image gate → IsNewPage gate place body start.reads image
 
 -- the page is the old one, which was open
 pub record IsOldPage (gate place n : ℕ) (old image : List ℕ) : Type 0 where

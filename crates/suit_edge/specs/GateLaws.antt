@@ -7,7 +7,7 @@ use Rattle.suit_edge.specs.Ranges.{Outside, InSome, OutsideEach, SameOn, written
 use Rattle.suit_edge.specs.Flash.{Flash, Now, Passes, ImageOn, Keeps, IsSame, IsSettled, IsFirmOn, IsFlash}
 use Rattle.suit_edge.specs.Gate.{IsShut, Closes, IsClosing, IsNewPage, IsOpening, IsGated, body_at, page_at}
 use Rattle.suit_edge.specs.RangeLaws.{same_range, written_outside, written_range, written_one, same_start, same_then, same_fewer}
-use Rattle.suit_edge.specs.FlashLaws.{joined, weakens, image_on, image_fewer, image_then}
+use Rattle.suit_edge.specs.FlashLaws.{keeps_fewer, joined, weakens, image_on, image_fewer, image_then}
 
 -- a gate is what was read of it
 pub gate_read : (reads room : List ℕ) (q : ℕ) → room ≡ slice_range reads q (q + 1) → get_or room 0 0 ≡ get_or reads q 0
@@ -58,10 +58,10 @@ module _ (start : Flash) (size gate place : ℕ) (body : List ℕ) (law : IsFlas
   page = OutsideEach (page_at gate place (length body))
 
   -- while the bytes are written
-  pub filling : (b : Flash) → IsShut gate start → Keeps (Outside place (length body)) start b → Passes start b (IsOpening gate place body start)
-  filling b shut kept = weakens start b (ImageOn (Outside place (length body)) start) (IsOpening gate place body start) (λ image on. record {
+  pub filling : (b : Flash) → Keeps (Outside place (length body)) start b → Passes start b (IsOpening gate place body start)
+  filling b kept = weakens start b (ImageOn (Outside place (length body)) start) (IsOpening gate place body start) (λ image on. record {
     apart = image_fewer page (Outside place (length body)) (λ i out. out.1.0) start image on;
-    opens = λ is_open. absurd (shut on.from on.was (sym (on.same.same gate apart) ∙ is_open));
+    opens = λ shut is_open. absurd (shut on.from on.was (sym (on.same.same gate apart) ∙ is_open));
   }) kept.images
 
   -- bytes beside the gate, and a gate that was opened after them
@@ -85,16 +85,16 @@ module _ (start : Flash) (size gate place : ℕ) (body : List ℕ) (law : IsFlas
           later before = omega (arith, before, low)
 
   -- while the gate is opened
-  pub opening : (b c : Flash) → IsShut gate start → IsFlash b size → Keeps (Outside place (length body)) start b → b.reads ≡ written start.reads place body → IsSettled b
+  pub opening : (b c : Flash) → IsFlash b size → Keeps (Outside place (length body)) start b → b.reads ≡ written start.reads place body → IsSettled b
       → Keeps (Outside gate 1) b c → Passes start c (IsOpening gate place body start)
-  opening b c shut law_b kept wrote settled opened =
-      joined start b c (IsOpening gate place body start) (filling b shut kept) (weakens b c (ImageOn (Outside gate 1) b) (IsOpening gate place body start) (λ image on.
+  opening b c law_b kept wrote settled opened =
+      joined start b c (IsOpening gate place body start) (filling b kept) (weakens b c (ImageOn (Outside gate 1) b) (IsOpening gate place body start) (λ image on.
       let same = subst (λ (l : List ℕ). SameOn (Outside gate 1) l image) (settled on.from on.was) on.same in
       record {
         apart = image_then page start b size law_b
             (weakens start b (ImageOn (Outside place (length body)) start) (ImageOn page start) (image_fewer page (Outside place (length body)) (λ i o. o.1.0) start) kept.images)
             image (image_fewer page (Outside gate 1) (λ i o. o.0) b image on);
-        opens = λ _. new_page b.reads image wrote same;
+        opens = λ _ _. new_page b.reads image wrote same;
       }) opened.images)
 
   -- the page is written and open
@@ -145,7 +145,7 @@ module _ (start : Flash) (size gate place : ℕ) (body : List ℕ) (law : IsFlas
     gated_opening b c law_b run closed settled opens =
         joined start b c (IsGated gate place body start) (gated_closing b run) (weakens b c (IsOpening gate place body b) (IsGated gate place body start) (λ image o. record {
           apart = image_then page start b size law_b (weakens start b (IsClosing gate start) (ImageOn page start) (λ i g. (still i g).apart) run) image o.apart;
-          opens = λ is_open. inr (later_page b image closed (o.opens is_open));
+          opens = λ is_open. inr (later_page b image closed (o.opens (settled_shut gate b settled closed.shut) is_open));
         }) opens)
       where
         later_page : (b : Flash) (image : List ℕ) → Closes gate start.reads b.reads → IsNewPage gate place body b.reads image → IsNewPage gate place body start.reads image
@@ -160,17 +160,11 @@ module _ (start : Flash) (size gate place : ℕ) (body : List ℕ) (law : IsFlas
       rest = same_then page start.reads b c (same_fewer page (Outside gate 1) (λ i o. o.0) start.reads b closed.apart) new.rest;
     }
 
--- a page that is opened, or written again, leaves all else alone
-pub opening_keeps : (gate place : ℕ) (body : List ℕ) (a b : Flash) → SameOn (OutsideEach (page_at gate place (length body))) a.reads b.reads → Passes a b (IsOpening gate place body a)
-    → Keeps (OutsideEach (page_at gate place (length body))) a b
-opening_keeps gate place body a b apart run = record {
-  reads = apart;
-  images = weakens a b (IsOpening gate place body a) (ImageOn (OutsideEach (page_at gate place (length body))) a) (λ image g. g.apart) run;
-}
+-- ---- what is left alone
 
-pub gated_keeps : (gate place : ℕ) (body : List ℕ) (a b : Flash) → SameOn (OutsideEach (page_at gate place (length body))) a.reads b.reads → Passes a b (IsGated gate place body a)
-    → Keeps (OutsideEach (page_at gate place (length body))) a b
-gated_keeps gate place body a b apart run = record {
-  reads = apart;
-  images = weakens a b (IsGated gate place body a) (ImageOn (OutsideEach (page_at gate place (length body))) a) (λ image g. g.apart) run;
-}
+-- a gate, and then a page
+pub gate_fewer : (gate place : ℕ) (body : List ℕ) (a b : Flash) → Keeps (Outside gate 1) a b → Keeps (OutsideEach (page_at gate place (length body))) a b
+gate_fewer gate place body a b kept = keeps_fewer (OutsideEach (page_at gate place (length body))) (Outside gate 1) (λ i o. o.0) a b kept
+
+pub body_fewer : (gate place : ℕ) (body : List ℕ) (a b : Flash) → Keeps (Outside place (length body)) a b → Keeps (OutsideEach (page_at gate place (length body))) a b
+body_fewer gate place body a b kept = keeps_fewer (OutsideEach (page_at gate place (length body))) (Outside place (length body)) (λ i o. o.1.0) a b kept

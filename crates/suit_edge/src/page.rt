@@ -4,8 +4,8 @@ ghost use Rattle.std.specs.Prelude.{◌≡◌, ◌+◌, ◌≤◌, length, IsTru
 ghost use Rattle.suit_edge.specs.Edge.{IfDone};
 ghost use Rattle.suit_edge.specs.Faults.{EdgeCounts};
 ghost use Rattle.suit_edge.specs.Flash.{Grows, IsFirmOn, IsSettled, Keeps, Passes};
-ghost use Rattle.suit_edge.specs.Gate.{Closes, IsClosing, IsGated, IsNewPage, IsOpen, IsOpening, IsShut, page_at};
-ghost use Rattle.suit_edge.specs.Ranges.{InSome, Outside, written};
+ghost use Rattle.suit_edge.specs.Gate.{Closes, IsClosing, IsGated, IsNewPage, IsOpen, IsOpening, page_at};
+ghost use Rattle.suit_edge.specs.Ranges.{InSome, Outside, OutsideEach, written};
 
 use crate::{Disk, Edge};
 
@@ -37,6 +37,7 @@ fn close_if_open<D: Disk>(disk: &mut D, gate: u64) -> Edge
     ensures size { D.extent disk.new ≡ D.extent disk.old }
     ensures counts { EdgeCounts result (D.faults disk.old) (D.faults disk.new) }
     ensures closes { IsTrue D.told → IfDone result (Closes gate (D.flash disk.old).reads (D.flash disk.new).reads) }
+    ensures keeps { IsTrue D.told → Keeps (Outside gate 1) (D.flash disk.old) (D.flash disk.new) }
     ensures any_moment { IsTrue D.told → Passes (D.flash disk.old) (D.flash disk.new) (IsClosing gate (D.flash disk.old)) }
     ensures grows { IsTrue D.told → Grows (D.flash disk.old) (D.flash disk.new) }
 {
@@ -62,6 +63,7 @@ pub fn close_gate<D: Disk>(disk: &mut D, gate: u64) -> Edge
     ensures counts { EdgeCounts result (D.faults disk.old) (D.faults disk.new) }
     ensures closes { IsTrue D.told → IfDone result (Closes gate (D.flash disk.old).reads (D.flash disk.new).reads) }
     ensures settled { IsTrue D.told → IfDone result (IsSettled (D.flash disk.new)) }
+    ensures keeps { IsTrue D.told → Keeps (Outside gate 1) (D.flash disk.old) (D.flash disk.new) }
     ensures any_moment { IsTrue D.told → Passes (D.flash disk.old) (D.flash disk.new) (IsClosing gate (D.flash disk.old)) }
     ensures grows { IsTrue D.told → Grows (D.flash disk.old) (D.flash disk.new) }
 {
@@ -75,18 +77,18 @@ pub fn close_gate<D: Disk>(disk: &mut D, gate: u64) -> Edge
     }
 }
 
-/// Writes the bytes of a page and makes sure of them, and then opens its gate, which no power loss may have left open.
-/// At any moment an open page is the new one. Where it fails, the page is the new one, or closed.
+/// Writes the bytes of a page and makes sure of them, and then opens its gate. Where no power loss at the start could
+/// leave the gate open, an open page is the new one at any moment. Where it fails, the page is then the new one, or closed.
 pub fn open_written<D: Disk>(disk: &mut D, gate: u64, place: u64, body: &[u8]) -> Edge
     requires gate { gate + 1 ≤ D.extent disk.old }
     requires body { place + length body.now ≤ D.extent disk.old }
     requires apart { Outside place (length body.now) gate }
-    requires shut { IsTrue D.told → IsShut gate (D.flash disk.old) }
     ensures size { D.extent disk.new ≡ D.extent disk.old }
     ensures counts { EdgeCounts result (D.faults disk.old) (D.faults disk.new) }
     ensures opened { IsTrue D.told → IfDone result (IsOpen (D.flash disk.new).reads gate) }
     ensures page { IsTrue D.told → IfDone result (IsNewPage gate place body.now (D.flash disk.old).reads (D.flash disk.new).reads) }
     ensures settled { IsTrue D.told → IfDone result (IsSettled (D.flash disk.new)) }
+    ensures keeps { IsTrue D.told → Keeps (OutsideEach (page_at gate place (length body.now))) (D.flash disk.old) (D.flash disk.new) }
     ensures any_moment { IsTrue D.told → Passes (D.flash disk.old) (D.flash disk.new) (IsOpening gate place body.now (D.flash disk.old)) }
     ensures grows { IsTrue D.told → Grows (D.flash disk.old) (D.flash disk.new) }
 {
@@ -112,6 +114,7 @@ pub fn write_gated<D: Disk>(disk: &mut D, gate: u64, place: u64, body: &[u8]) ->
     ensures opened { IsTrue D.told → IfDone result (IsOpen (D.flash disk.new).reads gate) }
     ensures page { IsTrue D.told → IfDone result (IsNewPage gate place body.now (D.flash disk.old).reads (D.flash disk.new).reads) }
     ensures settled { IsTrue D.told → IfDone result (IsSettled (D.flash disk.new)) }
+    ensures keeps { IsTrue D.told → Keeps (OutsideEach (page_at gate place (length body.now))) (D.flash disk.old) (D.flash disk.new) }
     ensures any_moment { IsTrue D.told → Passes (D.flash disk.old) (D.flash disk.new) (IsGated gate place body.now (D.flash disk.old)) }
     ensures grows { IsTrue D.told → Grows (D.flash disk.old) (D.flash disk.new) }
 {

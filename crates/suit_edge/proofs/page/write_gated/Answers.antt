@@ -1,6 +1,9 @@
-use Rattle.std.proofs.Common.{subst}
+use Rattle.std.proofs.Common.{length, subst}
 use Rattle.suit_edge.specs.Flash.{IsFlash}
-use Rattle.suit_edge.specs.GateLaws.{gated_closing, gated_opening}
+use Rattle.suit_edge.specs.FlashLaws.{keeps_then}
+use Rattle.suit_edge.specs.Gate.{page_at}
+use Rattle.suit_edge.specs.Ranges.{OutsideEach}
+use Rattle.suit_edge.specs.GateLaws.{gate_fewer, gated_closing, gated_opening}
 use Rattle.suit_edge.proofs.page.write_gated.Goals as goal
 
 pub returns-in-Failed-clause-any_moment : goal.returns-in-Failed-clause-any_moment
@@ -20,3 +23,18 @@ returns-in-Done-open_written-clause-any_moment g c t =
     let law_b = subst (IsFlash (g.D.Disk.flash c.close_gate.new.disk)) c.close_gate.ensures.size (g.met.D.Disk.obeys c.close_gate.new.disk t) in
     gated_opening _ _ c.args.gate c.args.place c.args.body.now (g.met.D.Disk.obeys c.args.disk.now t) c.requires.gate c.requires.body c.requires.apart (c.requires.firm t) _ _ law_b
     (c.close_gate.ensures.any_moment t) (c.in-Done.ensures.closes t) (c.in-Done.ensures.settled t) (c.open_written.ensures.any_moment t)
+
+pub returns-in-Failed-clause-keeps : goal.returns-in-Failed-clause-keeps
+returns-in-Failed-clause-keeps g c t = gate_fewer c.args.gate c.args.place c.args.body.now _ _ (c.close_gate.ensures.keeps t)
+
+pub returns-in-Failed-open_written-clause-keeps :
+    goal.returns-in-Failed-open_written-clause-keeps
+returns-in-Failed-open_written-clause-keeps g c t =
+    keeps_then (OutsideEach (page_at c.args.gate c.args.place (length c.args.body.now))) _ _ _ _ (g.met.D.Disk.obeys c.close_gate.new.disk t)
+    (gate_fewer c.args.gate c.args.place c.args.body.now _ _ (c.close_gate.ensures.keeps t)) (c.open_written.ensures.keeps t)
+
+pub returns-in-Done-open_written-clause-keeps :
+    goal.returns-in-Done-open_written-clause-keeps
+returns-in-Done-open_written-clause-keeps g c t =
+    keeps_then (OutsideEach (page_at c.args.gate c.args.place (length c.args.body.now))) _ _ _ _ (g.met.D.Disk.obeys c.close_gate.new.disk t)
+    (gate_fewer c.args.gate c.args.place c.args.body.now _ _ (c.close_gate.ensures.keeps t)) (c.open_written.ensures.keeps t)
