@@ -5,11 +5,12 @@ use Rattle.std.specs.Str.{bytes_eq}
 use Rattle.std.proofs.lemmas.Slice.Eq.{bytes_eq-Decides}
 use Rattle.std.proofs.lemmas.List.{take_more}
 use Rattle.std.specs.List.{All, AllPairs}
+use Rattle.flash_layout.specs.declared.frame.Frame.{Frame}
 use Rattle.flash_layout.specs.declared.layout.Entry.{Entry}
 use Rattle.flash_layout.specs.Layouts.{IsEntry, AreApart, IsLayout}
 
-pub layout_is : (size : ℕ) (entries layout : List Entry) → entries ≡ layout → 1 ≤ length entries → length entries ≤ 8 → All (IsEntry size) entries → AllPairs AreApart entries → IsLayout size layout
-layout_is size entries layout same some few each apart = subst (IsLayout size) same (record { some = some; few = few; each = each; apart = apart })
+pub layout_is : (frame : Frame) (size : ℕ) (entries layout : List Entry) → entries ≡ layout → 1 ≤ length entries → length entries ≤ frame.most → All (IsEntry size) entries → AllPairs AreApart entries → IsLayout frame size layout
+layout_is frame size entries layout same some few each apart = subst (IsLayout frame size) same (record { some = some; few = few; each = each; apart = apart })
 
 -- one more part that is the same
 pub same_more : (a b : List (List ℕ)) (i : ℕ) (d e x y : List ℕ) → i < length a → i < length b → x ≡ get_or a i d → y ≡ get_or b i e → x ≡ y → take i a ≡ take i b → take (i + 1) a ≡ take (i + 1) b

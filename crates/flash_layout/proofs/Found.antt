@@ -1,9 +1,11 @@
 -- Places of components, one by one.
-use Rattle.std.proofs.Common.{◌≡◌, ◌≢◌, ℕ, zero, suc, ◌+◌, ◌<◌, ◌≤◌, List, [], ◌∷◌, length, get_or, set, refl, sym, subst, ◌∙◌, below_more, get_or-set_other, get_or-set_same, arith}
+use Rattle.std.proofs.Common.{◌≡◌, ◌≢◌, ℕ, zero, suc, ◌+◌, ◌<◌, ◌≤◌, List, [], ◌∷◌, length, get_or, set, None, refl, sym, ap, subst, ◌∙◌, below_more, get_or-set_other, get_or-set_same, arith}
 use Rattle.flash_layout.specs.declared.layout.Entry.{Entry}
-use Rattle.flash_layout.specs.Placement.{HasPlace, IsUnknown, ArePlaces, IsFirstUnknown}
+use Rattle.flash_layout.specs.declared.layout.Memory.TheVariants.{Ram}
+use Rattle.flash_layout.specs.declared.place.Places.{Places}
+use Rattle.flash_layout.specs.Placement.{HasPlace, IsUnknown, ArePlaces, HaveOtherPlaces, IsFirstUnknown}
 
-other_default : {A : Type 0} (xs : List A) (i : ℕ) (d e : A) → i < length xs → get_or xs i d ≡ get_or xs i e
+pub other_default : {A : Type 0} (xs : List A) (i : ℕ) (d e : A) → i < length xs → get_or xs i d ≡ get_or xs i e
 other_default [] i d e lt = absurd (omega (arith, lt))
 other_default (x ∷ xs) zero d e lt = refl
 other_default (x ∷ xs) (suc i) d e lt = other_default xs i d e (omega (arith, lt))
@@ -40,3 +42,13 @@ one_placed entries ids indices k i x e lt room is placed each =
 
 pub none_after : (indices : List ℕ) (k i : ℕ) → ((j : ℕ) → k ≤ j → get_or indices j 0 ≡ 0) → (j : ℕ) → k + 1 ≤ j → get_or (set indices k i) j 0 ≡ 0
 none_after indices k i rest j le = let ne : j ≢ k = omega (arith, le) in rw get_or-set_other (rest j (omega (arith, le)))
+
+-- at one place stands one identifier
+pub other_places : (layout : List Entry) (ids : List (List (List ℕ))) (p : Places) → ArePlaces layout ids p → HaveOtherPlaces ids p
+other_places layout ids p are j k d below lt other same =
+    let one = are.each j d (omega (arith, below, lt)) in
+    let two = are.each k d lt in
+    other (sym (one.1 entry) ∙ ap (λ (i : ℕ). (get_or layout i entry).identifier) same ∙ two.1 entry)
+  where
+    entry : Entry
+    entry = record { identifier = []; memory = Ram; slots = 0; starts = []; capacity = 0; vendor = None; class = None; device = None }

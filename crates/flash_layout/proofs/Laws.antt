@@ -16,10 +16,12 @@ use Rattle.det_cbor.specs.declared.head.HeadKind.TheVariants as kinds
 use Rattle.det_cbor.proofs.Arguments.{head_length}
 use Rattle.det_cbor.proofs.Heads.{plain_again}
 use Rattle.suit_params.specs.Reading.{resting, head_from, bytes_from, content_from}
+use Rattle.flash_layout.specs.declared.frame.Frame.{Frame}
 use Rattle.flash_layout.specs.declared.layout.Entry.{Entry}
 use Rattle.flash_layout.specs.declared.layout.Memory.{Memory}
 use Rattle.flash_layout.specs.declared.layout.Memory.TheVariants as memory
 use Rattle.flash_layout.specs.declared.key.Key.{Key}
+use Rattle.flash_layout.specs.Frames.{page_bytes}
 use Rattle.flash_layout.specs.Identifiers.{string_items, spelled_id}
 use Rattle.flash_layout.specs.Layouts.{IsUuid, IsTypedEntry, AreTyped, IsEntry, IsLayout}
 use Rattle.suit_params.specs.declared.refusal.Refusal.{Refusal}
@@ -213,51 +215,69 @@ entries_long (e ∷ es) typed short =
 
 -- ---- the page
 
-short_of : (size : ℕ) (layout : List Entry) → IsLayout size layout → All IsShort layout
-short_of size layout allowed = All-weaker (IsEntry size) IsShort (λ e is. is.short) layout allowed.each
+short_of : (frame : Frame) (size : ℕ) (layout : List Entry) → IsLayout frame size layout → All IsShort layout
+short_of frame size layout allowed = All-weaker (IsEntry size) IsShort (λ e is. is.short) layout allowed.each
 
-page_fields : (layout : List Entry) (key : Key) → AreTyped layout key → All IsShort layout → length layout ≤ 8 → page_at (config_page layout key) ≡ Ok (layout, key)
+page_fields : (frame : Frame) (layout : List Entry) (key : Key) → AreTyped layout key → All IsShort layout → length layout ≤ frame.most → page_at frame (config_page frame layout key) ≡ Ok (layout, key)
 unfolding page_at config_page
-page_fields layout key typed short few =
+page_fields frame layout key typed short few =
     let entries = entries_bytes layout in
-    let zeros : List ℕ = replicate (1136 - length entries) 0 in
+    let zeros : List ℕ = replicate (142 * frame.most - length entries) 0 in
     let long : length entries ≡ 142 * length layout = entries_long layout typed.entries short in
-    let all : length (entries ++ zeros) ≡ 1136 = omega (arith, long, few, length-append entries zeros, length-replicate {A = ℕ} (1136 - length entries) 0) in
-    let front : List ℕ = 0xA5 ∷ 1 ∷ key.length ∷ length layout ∷ key.bytes in
-    let fits : ltb 8 (length layout) ≡ false = le-ltb _ _ few in
+    let all : length (entries ++ zeros) ≡ 142 * frame.most = omega (arith, long, few, length-append entries zeros, length-replicate {A = ℕ} (142 * frame.most - length entries) 0) in
+    let size : length (entries ++ zeros) ≡ 68 + 142 * frame.most - 68 = omega (arith, all) in
+    let front : List ℕ = 0xA5 ∷ frame.version ∷ key.length ∷ length layout ∷ key.bytes in
+    let fits : ltb frame.most (length layout) ≡ false = le-ltb _ _ few in
     let room : length front ≡ 68 = omega (arith, typed.room) in
-    let body : slice_range (front ++ (entries ++ zeros)) 68 1204 ≡ entries ++ zeros = field front (entries ++ zeros) [] (front ++ (entries ++ zeros)) 68 1204 (ap (λ (l : List ℕ). front ++ l) (sym (append-nil (entries ++ zeros)))) room all in
-    let bytes : slice_range (front ++ (entries ++ zeros)) 4 68 ≡ key.bytes = field (0xA5 ∷ 1 ∷ key.length ∷ length layout ∷ []) key.bytes (entries ++ zeros) (front ++ (entries ++ zeros)) 4 68 refl refl typed.room in
+    let body : slice_range (front ++ (entries ++ zeros)) 68 (68 + 142 * frame.most) ≡ entries ++ zeros = field front (entries ++ zeros) [] (front ++ (entries ++ zeros)) 68 (68 + 142 * frame.most) (ap (λ (l : List ℕ). front ++ l) (sym (append-nil (entries ++ zeros)))) room size in
+    let bytes : slice_range (front ++ (entries ++ zeros)) 4 68 ≡ key.bytes = field (0xA5 ∷ frame.version ∷ key.length ∷ length layout ∷ []) key.bytes (entries ++ zeros) (front ++ (entries ++ zeros)) 4 68 refl refl typed.room in
     let same : key_at (front ++ (entries ++ zeros)) ≡ key = λ i. record { bytes = bytes i; length = key.length } in
     rw (fits, ap (entries_at (length layout)) body ∙ entries_read layout zeros typed.entries short) (ap (λ (k : Key). Ok (layout, k)) same)
 
-pub page_read : (size : ℕ) (bytes : List ℕ) (layout : List Entry) (key : Key) → AreTyped layout key → IsConfigPage size bytes layout key → page_at bytes ≡ Ok (layout, key)
-page_read size bytes layout key typed is = ap page_at is.is ∙ page_fields layout key typed (short_of size layout is.allowed) is.allowed.few
+pub page_read : (frame : Frame) (size : ℕ) (bytes : List ℕ) (layout : List Entry) (key : Key) → AreTyped layout key → IsConfigPage frame size bytes layout key → page_at frame bytes ≡ Ok (layout, key)
+page_read frame size bytes layout key typed is = ap (page_at frame) is.is ∙ page_fields frame layout key typed (short_of frame size layout is.allowed) is.allowed.few
+
+-- a page has as many bytes as are read of it
+pub page_long : (frame : Frame) (size : ℕ) (layout : List Entry) (key : Key) → AreTyped layout key → IsLayout frame size layout → length (config_page frame layout key) ≡ page_bytes frame
+unfolding config_page
+page_long frame size layout key typed allowed =
+    let entries = entries_bytes layout in
+    let zeros : List ℕ = replicate (142 * frame.most - length entries) 0 in
+    let long : length entries ≡ 142 * length layout = entries_long layout typed.entries (short_of frame size layout allowed) in
+    omega (
+      arith,
+      long,
+      allowed.few,
+      typed.room,
+      length-append entries zeros,
+      length-replicate {A = ℕ} (142 * frame.most - length entries) 0,
+      length-append (0xA5 ∷ frame.version ∷ key.length ∷ length layout ∷ key.bytes) (entries ++ zeros),
+    )
 
 same_ok : (r : Result (List Entry × Key) Refusal) (a b : List Entry × Key) → r ≡ Ok a → r ≡ Ok b → (a.0 ≡ b.0) × (a.1 ≡ b.1)
 same_ok r a b p q = let e : ◌≡◌ {A = Result (List Entry × Key) Refusal} (Ok a) (Ok b) = sym p ∙ q in let same : a ≡ b = cc in (ap (λ (x : List Entry × Key). x.0) same, ap (λ (x : List Entry × Key). x.1) same)
 
 -- a page has at most one layout and key
 pub one_config : OneConfig
-one_config size bytes layout key others other typed also is so =
-    same_ok (page_at bytes) (layout, key) (others, other) (page_read size bytes layout key typed is) (page_read size bytes others other also so)
+one_config frame size bytes layout key others other typed also is so =
+    same_ok (page_at frame bytes) (layout, key) (others, other) (page_read frame size bytes layout key typed is) (page_read frame size bytes others other also so)
 
 -- ---- what was read of a page that has a layout and a key
 
-same_config : (size : ℕ) (bytes : List ℕ) (layout : List Entry) (key : Key) (read : List Entry × Key) → AreTyped layout key → IsConfigPage size bytes layout key → page_at bytes ≡ Ok read → ◌≡◌ {A = List Entry × Key} read (layout, key)
-same_config size bytes layout key read typed is e =
-    let both : ◌≡◌ {A = Result (List Entry × Key) Refusal} (Ok read) (Ok (layout, key)) = sym e ∙ page_read size bytes layout key typed is in
+same_config : (frame : Frame) (size : ℕ) (bytes : List ℕ) (layout : List Entry) (key : Key) (read : List Entry × Key) → AreTyped layout key → IsConfigPage frame size bytes layout key → page_at frame bytes ≡ Ok read → ◌≡◌ {A = List Entry × Key} read (layout, key)
+same_config frame size bytes layout key read typed is e =
+    let both : ◌≡◌ {A = Result (List Entry × Key) Refusal} (Ok read) (Ok (layout, key)) = sym e ∙ page_read frame size bytes layout key typed is in
     cc
 
-pub read_some : (size : ℕ) (bytes : List ℕ) (layout : List Entry) (key : Key) (read : List Entry × Key) → AreTyped layout key → IsConfigPage size bytes layout key → page_at bytes ≡ Ok read
+pub read_some : (frame : Frame) (size : ℕ) (bytes : List ℕ) (layout : List Entry) (key : Key) (read : List Entry × Key) → AreTyped layout key → IsConfigPage frame size bytes layout key → page_at frame bytes ≡ Ok read
     → ◌≡◌ {A = Option (List Entry × Key)} (Some read) (Some (layout, key))
-read_some size bytes layout key read typed is e = ap (λ (x : List Entry × Key). Some x) (same_config size bytes layout key read typed is e)
+read_some frame size bytes layout key read typed is e = ap (λ (x : List Entry × Key). Some x) (same_config frame size bytes layout key read typed is e)
 
-pub read_other : (size : ℕ) (bytes : List ℕ) (layout : List Entry) (key : Key) (read : List Entry × Key) → AreTyped layout key → IsConfigPage size bytes layout key → page_at bytes ≡ Ok read
-    → IsConfigPage size bytes read.0 read.1
-read_other size bytes layout key read typed is e = subst (λ (x : List Entry × Key). IsConfigPage size bytes x.0 x.1) (sym (same_config size bytes layout key read typed is e)) is
+pub read_other : (frame : Frame) (size : ℕ) (bytes : List ℕ) (layout : List Entry) (key : Key) (read : List Entry × Key) → AreTyped layout key → IsConfigPage frame size bytes layout key → page_at frame bytes ≡ Ok read
+    → IsConfigPage frame size bytes read.0 read.1
+read_other frame size bytes layout key read typed is e = subst (λ (x : List Entry × Key). IsConfigPage frame size bytes x.0 x.1) (sym (same_config frame size bytes layout key read typed is e)) is
 
-pub not_refused : (size : ℕ) (bytes : List ℕ) (layout : List Entry) (key : Key) (r : Refusal) → AreTyped layout key → IsConfigPage size bytes layout key → page_at bytes ≡ Err r → ⊥
-not_refused size bytes layout key r typed is e =
-    let both : ◌≡◌ {A = Result (List Entry × Key) Refusal} (Err r) (Ok (layout, key)) = sym e ∙ page_read size bytes layout key typed is in
+pub not_refused : (frame : Frame) (size : ℕ) (bytes : List ℕ) (layout : List Entry) (key : Key) (r : Refusal) → AreTyped layout key → IsConfigPage frame size bytes layout key → page_at frame bytes ≡ Err r → ⊥
+not_refused frame size bytes layout key r typed is e =
+    let both : ◌≡◌ {A = Result (List Entry × Key) Refusal} (Err r) (Ok (layout, key)) = sym e ∙ page_read frame size bytes layout key typed is in
     cc

@@ -1,10 +1,13 @@
--- The configuration page of the flash, layout version 1. All numbers are big-endian.
+-- The configuration page of the flash. All numbers are big-endian.
 use Rattle.std.specs.Prelude.{◌≡◌, ℕ, ◌-◌, List, [], ◌∷◌, ◌++◌, length, replicate, slice_index, Option, Some, None}
 use Rattle.std.specs.Int.{w64, to_be_bytes}
+use Rattle.suit_edge.specs.declared.page.TheConstants.{OPEN}
+use Rattle.flash_layout.specs.declared.frame.Frame.{Frame}
 use Rattle.flash_layout.specs.declared.layout.Entry.{Entry}
 use Rattle.flash_layout.specs.declared.layout.Memory.{Memory}
 use Rattle.flash_layout.specs.declared.layout.Memory.TheVariants as memory
 use Rattle.flash_layout.specs.declared.key.Key.{Key}
+use Rattle.flash_layout.specs.Frames.{entries_size}
 use Rattle.flash_layout.specs.Identifiers.{spelled_id}
 use Rattle.flash_layout.specs.Layouts.{IsLayout, IsKey}
 
@@ -33,7 +36,7 @@ number_bytes n = to_be_bytes w64 n
 abbrev pub numbers_field : Entry → List ℕ
 numbers_field e = number_bytes e.capacity ++ (number_bytes (slice_index e.starts 0) ++ number_bytes (slice_index e.starts 1))
 
--- the 142 bytes of a component
+-- the bytes of a component
 unfoldable pub entry_bytes : Entry → List ℕ
 entry_bytes e = memory_byte e.memory ∷ e.slots ∷ (identifier_field e.identifier ++ (ids_field e ++ numbers_field e))
 
@@ -42,15 +45,15 @@ entries_bytes [] = []
 entries_bytes (e ∷ rest) = entry_bytes e ++ entries_bytes rest
 
 -- the open gate, the version, the lengths and the key
-abbrev pub page_front : List Entry → Key → List ℕ
-page_front layout key = 0xA5 ∷ 1 ∷ key.length ∷ length layout ∷ key.bytes
+abbrev pub page_front : Frame → List Entry → Key → List ℕ
+page_front frame layout key = OPEN ∷ frame.version ∷ key.length ∷ length layout ∷ key.bytes
 
--- bytes 0 to 1,203 of the page
-unfoldable pub config_page : List Entry → Key → List ℕ
-config_page layout key = page_front layout key ++ padded 1136 (entries_bytes layout)
+-- the bytes of the page that are read
+unfoldable pub config_page : Frame → List Entry → Key → List ℕ
+config_page frame layout key = page_front frame layout key ++ padded (entries_size frame) (entries_bytes layout)
 
 -- the bytes are the page of a layout and a key that the rules allow on a flash of this size
-pub record IsConfigPage (size : ℕ) (bytes : List ℕ) (layout : List Entry) (key : Key) : Type 0 where
-  pub allowed : IsLayout size layout
+pub record IsConfigPage (frame : Frame) (size : ℕ) (bytes : List ℕ) (layout : List Entry) (key : Key) : Type 0 where
+  pub allowed : IsLayout frame size layout
   pub sound : IsKey key
-  pub is : bytes ≡ config_page layout key
+  pub is : bytes ≡ config_page frame layout key

@@ -1,5 +1,7 @@
 -- Which layouts a flash of a size may have, and which keys.
 use Rattle.std.specs.Prelude.{◌≡◌, ◌≢◌, ◌<◌, ◌≤◌, ◌+◌, ◌^◌, ℕ, List, [], length, take, slice_index, IfSome, All, AllPairs}
+use Rattle.flash_layout.specs.declared.frame.Frame.{Frame}
+use Rattle.flash_layout.specs.declared.frame.TheConstants.{LENGTH_SIZE, SLOTS_START}
 use Rattle.flash_layout.specs.declared.layout.Entry.{Entry}
 use Rattle.flash_layout.specs.declared.layout.Memory.{Memory}
 use Rattle.flash_layout.specs.declared.layout.Memory.TheVariants as memory
@@ -18,7 +20,7 @@ slot_starts e = starts_in e.memory (take e.slots e.starts)
 
 -- a slot has eight bytes of length before its content
 abbrev pub slot_size : Entry → ℕ
-slot_size e = 8 + e.capacity
+slot_size e = LENGTH_SIZE + e.capacity
 
 -- of two ranges the lower one ends before the higher one begins
 abbrev pub AreClear : ℕ → ℕ → ℕ → ℕ → Type 0
@@ -26,7 +28,7 @@ AreClear p m q n = (p ≤ q → p + m ≤ q) × (q ≤ p → q + n ≤ p)
 
 -- the range lies behind the head of the flash, and within it
 abbrev pub IsBehindHead : ℕ → ℕ → ℕ → Type 0
-IsBehindHead size p n = (49152 ≤ p) × (p + n ≤ size)
+IsBehindHead size p n = (SLOTS_START ≤ p) × (p + n ≤ size)
 
 -- a range shares no byte with those that start there
 abbrev pub IsClearOf : ℕ → ℕ → List ℕ → ℕ → Type 0
@@ -38,19 +40,19 @@ AreAllClear ps m qs n = All (λ p. IsClearOf p m qs n) ps
 -- ---- components
 
 -- working memory has one slot, which starts nowhere
-abbrev pub IsRam : Entry → Type 0
-IsRam e = (e.slots ≡ 1) × (slice_index e.starts 0 ≡ 0) × (slice_index e.starts 1 ≡ 0) × (e.capacity ≤ 1048576)
+abbrev pub IsInRam : Entry → Type 0
+IsInRam e = (e.slots ≡ 1) × (slice_index e.starts 0 ≡ 0) × (slice_index e.starts 1 ≡ 0) × (e.capacity ≤ 1048576)
 
 -- one or two slots, apart, within the flash of this size
-abbrev pub IsFlash : ℕ → Entry → Type 0
-IsFlash size e =
+abbrev pub IsInFlash : ℕ → Entry → Type 0
+IsInFlash size e =
     (1 ≤ e.slots) × (e.slots ≤ 2) × (e.slots ≡ 1 → slice_index e.starts 1 ≡ 0)
     × (e.slots ≡ 2 → AreClear (slice_index e.starts 0) (slot_size e) (slice_index e.starts 1) (slot_size e))
     × All (λ p. IsBehindHead size p (slot_size e)) (slot_starts e)
 
 abbrev pub IsOfMemory : ℕ → Entry → Memory → Type 0
-IsOfMemory size e memory.Flash = IsFlash size e
-IsOfMemory size e memory.Ram = IsRam e
+IsOfMemory size e memory.Flash = IsInFlash size e
+IsOfMemory size e memory.Ram = IsInRam e
 
 pub record IsEntry (size : ℕ) (e : Entry) : Type 0 where
   pub short : length (spelled_id e.identifier) ≤ 64
@@ -62,9 +64,9 @@ pub record AreApart (a b : Entry) : Type 0 where
   pub other : a.identifier ≢ b.identifier
   pub clear : AreAllClear (slot_starts a) (slot_size a) (slot_starts b) (slot_size b)
 
-pub record IsLayout (size : ℕ) (layout : List Entry) : Type 0 where
+pub record IsLayout (frame : Frame) (size : ℕ) (layout : List Entry) : Type 0 where
   pub some : 1 ≤ length layout
-  pub few : length layout ≤ 8
+  pub few : length layout ≤ frame.most
   pub each : All (IsEntry size) layout
   pub apart : AllPairs AreApart layout
 

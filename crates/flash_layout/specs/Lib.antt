@@ -1,7 +1,12 @@
+pub mod Frames
+pub mod FrameLaws
 pub mod Identifiers
 pub mod Layouts
+pub mod Slots
 pub mod ConfigPage
 pub mod PageReading
 pub mod ConfigLaws
 pub mod Configs
+pub mod LoadLaws
+pub mod Formats
 pub mod Placement

@@ -10,10 +10,13 @@ use Rattle.suit_params.specs.declared.refusal.Refusal.{Refusal}
 use Rattle.suit_params.specs.declared.refusal.Why.TheVariants.{Shape}
 use Rattle.suit_params.specs.Refusing.{refused}
 use Rattle.suit_params.specs.Reading.{head_from, content_from}
+use Rattle.flash_layout.specs.declared.frame.Frame.{Frame}
+use Rattle.flash_layout.specs.declared.frame.TheConstants.{ENTRY_SIZE, FRONT_SIZE}
 use Rattle.flash_layout.specs.declared.layout.Entry.{Entry}
 use Rattle.flash_layout.specs.declared.layout.Memory.{Memory}
 use Rattle.flash_layout.specs.declared.layout.Memory.TheVariants as memory
 use Rattle.flash_layout.specs.declared.key.Key.{Key}
+use Rattle.flash_layout.specs.Frames.{page_bytes}
 
 -- ---- identifiers
 
@@ -61,12 +64,12 @@ entry_at bytes = if nat_lt 64 (slice_index bytes 2) then Err (refused 2 Shape) e
 
 abbrev pub entries_at : ℕ → List ℕ → Result (List Entry) Refusal
 entries_at zero bytes = Ok []
-entries_at (suc n) bytes = entry_at (take 142 bytes) >>= λ e. entries_at n (drop 142 bytes) >>= λ rest. Ok (e ∷ rest)
+entries_at (suc n) bytes = entry_at (take ENTRY_SIZE bytes) >>= λ e. entries_at n (drop ENTRY_SIZE bytes) >>= λ rest. Ok (e ∷ rest)
 
 -- ---- the page
 
 abbrev pub key_at : List ℕ → Key
-key_at page = record { bytes = slice_range page 4 68; length = slice_index page 2 }
+key_at page = record { bytes = slice_range page 4 FRONT_SIZE; length = slice_index page 2 }
 
-unfoldable pub page_at : List ℕ → Result (List Entry × Key) Refusal
-page_at page = if nat_lt 8 (slice_index page 3) then Err (refused 3 Shape) else (entries_at (slice_index page 3) (slice_range page 68 1204) >>= λ layout. Ok (layout, key_at page))
+unfoldable pub page_at : Frame → List ℕ → Result (List Entry × Key) Refusal
+page_at frame page = if nat_lt frame.most (slice_index page 3) then Err (refused 3 Shape) else (entries_at (slice_index page 3) (slice_range page FRONT_SIZE (page_bytes frame)) >>= λ layout. Ok (layout, key_at page))

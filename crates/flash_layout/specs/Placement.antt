@@ -1,5 +1,5 @@
 -- Where in a layout the components of a manifest stand.
-use Rattle.std.specs.Prelude.{◌≡◌, ◌<◌, ◌≤◌, ℕ, List, length, slice_index, slice_index_or}
+use Rattle.std.specs.Prelude.{◌≡◌, ◌≢◌, ◌<◌, ◌≤◌, ℕ, List, length, slice_index, slice_index_or}
 use Rattle.flash_layout.specs.declared.layout.Entry.{Entry}
 use Rattle.flash_layout.specs.declared.place.Places.{Places}
 
@@ -15,6 +15,10 @@ pub record ArePlaces (layout : List Entry) (ids : List (List (List ℕ))) (p : P
   pub count : p.count ≡ length ids
   pub each : (k : ℕ) (d : List (List ℕ)) → k < length ids → HasPlace layout (slice_index_or ids k d) (slice_index p.layout_index k)
   pub rest : (k : ℕ) → length ids ≤ k → slice_index p.layout_index k ≡ 0
+
+-- components with other identifiers have other places
+abbrev pub HaveOtherPlaces : List (List (List ℕ)) → Places → Type 0
+HaveOtherPlaces ids p = (j k : ℕ) (d : List (List ℕ)) → j < k → k < length ids → slice_index_or ids j d ≢ slice_index_or ids k d → slice_index p.layout_index j ≢ slice_index p.layout_index k
 
 -- the layout lacks this component, and none before it
 pub record IsFirstUnknown (layout : List Entry) (ids : List (List (List ℕ))) (component : ℕ) : Type 0 where

@@ -1,10 +1,21 @@
-//! Laws of the configuration page.
+//! Laws of the flash's frame and of the configuration page. Each call here does nothing: its contract is the law.
 
 ghost use Rattle.flash_layout.specs.ConfigLaws.{OneAnswer, OneConfig};
+ghost use Rattle.flash_layout.specs.FrameLaws.{FrameLaws};
+ghost use Rattle.flash_layout.specs.LoadLaws.{LoadLaws};
 
-/// Does nothing. Its contract has the laws: at most one layout and key stand on a page, and the head of an image says one
-/// configuration at most.
+/// Where the parts of a flash of layout version 1 stand.
+pub fn frame_laws()
+    ensures { FrameLaws }
+{}
+
+/// At most one layout and key stand on a page, and the head of an image says one configuration at most.
 pub fn config_laws()
     ensures page { OneConfig }
     ensures answer { OneAnswer }
+{}
+
+/// What is loaded is allowed and the one answer, and a fault alone raises the count.
+pub fn load_laws()
+    ensures { LoadLaws }
 {}

@@ -2,10 +2,11 @@
 
 ghost use Rattle.std.specs.Prelude.{◌≡◌, IsTrue};
 ghost use Rattle.suit_edge.specs.Flash.{Grows, IsSame};
-ghost use Rattle.flash_layout.specs.Configs.{LoadCounts, LoadsAllowed, LoadsExactly, head_of};
+ghost use Rattle.flash_layout.specs.Configs.{LoadCounts, LoadsAllowed, LoadsExactly};
+ghost use Rattle.flash_layout.specs.Frames.{head_of};
 
+use crate::frame::{CONFIG_GATE, PAGE_BYTES, VERSION_1};
 use crate::page_reading::decode_page;
-use crate::rules::SLOTS_START;
 use crate::{Key, Layout};
 use std::alloc::{AllocError, Global};
 use suit_edge::{Disk, Edge, OPEN};
@@ -29,17 +30,17 @@ pub enum Loaded {
 pub fn load_config<D: Disk>(alloc: Global, disk: &mut D) -> Loaded
     ensures size { D.extent disk.new ≡ D.extent disk.old }
     ensures counts { LoadCounts result (D.faults disk.old) (D.faults disk.new) }
-    ensures allowed { LoadsAllowed (D.extent disk.old) result }
-    ensures exact { IsTrue D.told → LoadsExactly (D.extent disk.old) (head_of (D.flash disk.old).reads) result }
+    ensures allowed { LoadsAllowed VERSION_1 (D.extent disk.old) result }
+    ensures exact { IsTrue D.told → LoadsExactly VERSION_1 (D.extent disk.old) (head_of VERSION_1 (D.flash disk.old).reads) result }
     ensures same { IsTrue D.told → IsSame (D.flash disk.old) (D.flash disk.new) }
     ensures grows { IsTrue D.told → Grows (D.flash disk.old) (D.flash disk.new) }
 {
     let size = disk.size();
-    if size < SLOTS_START {
+    if size < VERSION_1.size {
         return Loaded::Blank;
     }
-    let mut page = [0u8; 1204];
-    match disk.read_at(0, &mut page) {
+    let mut page = [0u8; PAGE_BYTES];
+    match disk.read_at(CONFIG_GATE, &mut page) {
         Edge::Failed => return Loaded::FlashFault,
         Edge::Done => {}
     }

@@ -8,6 +8,7 @@ ghost use Rattle.flash_layout.specs.ConfigPage.{IsConfigPage};
 ghost use Rattle.flash_layout.specs.Layouts.{AreTyped};
 ghost use Rattle.flash_layout.specs.PageReading.{entries_at, entry_at, id_at, key_at, memory_at, number_at, page_at};
 
+use crate::frame::{ENTRY_SIZE, FRONT_SIZE, MAX_ENTRIES, PAGE_BYTES, VERSION_1};
 use crate::id_reading::read_identifier;
 use crate::key::is_key;
 use crate::page_writing::write_page;
@@ -53,7 +54,7 @@ fn read_number(bytes: &[u8]) -> u64
 // A component.
 #[tactic(auto, unfolding(crate::specs::PageReading::entry_at))]
 fn read_entry(alloc: Global, bytes: &[u8]) -> Result<Entry, Fault>
-    requires { length bytes.now ≡ 142 }
+    requires { length bytes.now ≡ ENTRY_SIZE }
     ensures { Gives (λ e. e) result (entry_at bytes.now) }
 {
     let size = bytes[2] as usize;
@@ -75,13 +76,13 @@ fn read_entry(alloc: Global, bytes: &[u8]) -> Result<Entry, Fault>
 
 // So many components.
 fn read_entries(alloc: Global, bytes: &[u8], count: usize) -> Result<Layout, Fault>
-    requires { 142 * count ≤ length bytes.now }
+    requires { ENTRY_SIZE * count ≤ length bytes.now }
     ensures { Gives (λ l. l) result (entries_at count bytes.now) }
 {
     let mut layout = Layout::new(alloc);
     for i in 0..count {
-        let from = 142 * i;
-        match read_entry(alloc, &bytes[from..from + 142]) {
+        let from = ENTRY_SIZE * i;
+        match read_entry(alloc, &bytes[from..from + ENTRY_SIZE]) {
             Ok(entry) => layout.push(entry)?,
             Err(fault) => return Err(fault),
         }
@@ -91,34 +92,34 @@ fn read_entries(alloc: Global, bytes: &[u8], count: usize) -> Result<Layout, Fau
 
 // The key.
 fn read_key(page: &[u8]) -> Key
-    requires { length page.now ≡ 1204 }
+    requires { length page.now ≡ PAGE_BYTES }
     ensures { result ≡ key_at page.now }
 {
     let mut key = Key {
         bytes: [0; 64],
         length: page[2],
     };
-    key.bytes.copy_from_slice(&page[4..68]);
+    key.bytes.copy_from_slice(&page[4..FRONT_SIZE]);
     key
 }
 
 // The layout and the key, without a judgement.
 #[tactic(auto, unfolding(crate::specs::PageReading::page_at))]
 fn read_page(alloc: Global, page: &[u8]) -> Result<(Layout, Key), Fault>
-    requires { length page.now ≡ 1204 }
-    ensures { Gives (λ c. c) result (page_at page.now) }
+    requires { length page.now ≡ PAGE_BYTES }
+    ensures { Gives (λ c. c) result (page_at VERSION_1 page.now) }
 {
     let count = page[3] as usize;
-    if 8 < count {
+    if MAX_ENTRIES < count {
         return Ok(refused(3, Why::Shape)?);
     }
-    let layout = read_entries(alloc, &page[68..1204], count)?;
+    let layout = read_entries(alloc, &page[FRONT_SIZE..PAGE_BYTES], count)?;
     Ok((layout, read_key(page)))
 }
 
 // Whether the bytes are the page of a layout and a key that the rules allow.
 fn spells(size: u64, page: &[u8], layout: &Layout, key: &Key) -> bool
-    ensures { IsTrue result ↔ IsConfigPage size page.now layout.now key.now }
+    ensures { IsTrue result ↔ IsConfigPage VERSION_1 size page.now layout.now key.now }
 {
     if !is_key(key) || !is_layout(size, layout) {
         return false;
@@ -133,10 +134,10 @@ pub(crate) fn decode_page(
     size: u64,
     page: &[u8],
 ) -> Result<Option<(Layout, Key)>, AllocError>
-    requires { length page.now ≡ 1204 }
-    ensures ok { IfOk result (λ r. IfSome r (λ c. IsConfigPage size page.now c.0 c.1)) }
+    requires { length page.now ≡ PAGE_BYTES }
+    ensures ok { IfOk result (λ r. IfSome r (λ c. IsConfigPage VERSION_1 size page.now c.0 c.1)) }
     ensures typed { IfOk result (λ r. IfSome r (λ c. AreTyped c.0 c.1)) }
-    ensures every { (layout : List Entry) (key : Key) → AreTyped layout key → IsConfigPage size page.now layout key → IfOk result (λ r. r ≡ Some (layout, key)) }
+    ensures every { (layout : List Entry) (key : Key) → AreTyped layout key → IsConfigPage VERSION_1 size page.now layout key → IfOk result (λ r. r ≡ Some (layout, key)) }
 {
     match read_page(alloc, page) {
         Ok((layout, key)) => {

@@ -4,18 +4,17 @@ ghost use Rattle.std.specs.Prelude.{◌≡◌, ◌≤◌, ◌+◌, ◌*◌, ◌�
 ghost use Rattle.flash_layout.specs.Identifiers.{spelled_id};
 ghost use Rattle.flash_layout.specs.ConfigPage.{config_page, entries_bytes, entry_bytes, identifier_field, ids_field, memory_byte, number_bytes, numbers_field, optional_id, padded, page_front};
 
+use crate::frame::{ENTRIES_SIZE, ENTRY_SIZE, FRONT_SIZE, MAX_ENTRIES, PAGE_BYTES, VERSION_1};
 use crate::page::Page;
 use crate::spelling::spell_id;
 use crate::{Entry, Key, Layout, Memory};
+use suit_edge::OPEN;
 use suit_params::Identifier;
-
-/// The byte of layout version 1.
-const VERSION: u8 = 1;
 
 // Adds the length of an identifier's spelling, and the spelling with zeros after it.
 fn put_spelling(page: &mut Page, spelling: &[u8])
     requires short { length spelling.now ≤ 64 }
-    requires room { length page.old + 65 ≤ 1204 }
+    requires room { length page.old + 65 ≤ PAGE_BYTES }
     ensures bytes { page.new ≡ page.old ++ length spelling.now ∷ padded 64 spelling.now }
     ensures long { length page.new ≡ length page.old + 65 }
 {
@@ -27,7 +26,7 @@ fn put_spelling(page: &mut Page, spelling: &[u8])
 // Adds an identifier.
 fn put_identifier(page: &mut Page, identifier: &Identifier)
     requires short { length (spelled_id identifier.now) ≤ 64 }
-    requires room { length page.old + 65 ≤ 1204 }
+    requires room { length page.old + 65 ≤ PAGE_BYTES }
     ensures bytes { page.new ≡ page.old ++ identifier_field identifier.now }
     ensures long { length page.new ≡ length page.old + 65 }
 {
@@ -39,7 +38,7 @@ fn put_identifier(page: &mut Page, identifier: &Identifier)
 
 // Adds a UUID.
 fn put_uuid(page: &mut Page, id: &[u8; 16])
-    requires { length page.old + 17 ≤ 1204 }
+    requires { length page.old + 17 ≤ PAGE_BYTES }
     ensures bytes { page.new ≡ page.old ++ 1 ∷ id.now }
     ensures long { length page.new ≡ length page.old + 17 }
 {
@@ -49,7 +48,7 @@ fn put_uuid(page: &mut Page, id: &[u8; 16])
 
 // Adds a UUID, or that there is none.
 fn put_id(page: &mut Page, id: &Option<[u8; 16]>)
-    requires { length page.old + 17 ≤ 1204 }
+    requires { length page.old + 17 ≤ PAGE_BYTES }
     ensures bytes { page.new ≡ page.old ++ optional_id id.now }
     ensures long { length page.new ≡ length page.old + 17 }
 {
@@ -61,7 +60,7 @@ fn put_id(page: &mut Page, id: &Option<[u8; 16]>)
 
 // Adds the three UUIDs of a component.
 fn put_ids(page: &mut Page, entry: &Entry)
-    requires { length page.old + 51 ≤ 1204 }
+    requires { length page.old + 51 ≤ PAGE_BYTES }
     ensures bytes { page.new ≡ page.old ++ ids_field entry.now }
     ensures long { length page.new ≡ length page.old + 51 }
 {
@@ -73,7 +72,7 @@ fn put_ids(page: &mut Page, entry: &Entry)
 // Adds a number in eight bytes.
 #[tactic(auto, unfolding(crate::specs::ConfigPage::number_bytes))]
 fn put_number(page: &mut Page, number: u64)
-    requires { length page.old + 8 ≤ 1204 }
+    requires { length page.old + 8 ≤ PAGE_BYTES }
     ensures bytes { page.new ≡ page.old ++ number_bytes number }
     ensures long { length page.new ≡ length page.old + 8 }
 {
@@ -82,7 +81,7 @@ fn put_number(page: &mut Page, number: u64)
 
 // Adds a component's capacity, and where its slots start.
 fn put_numbers(page: &mut Page, entry: &Entry)
-    requires { length page.old + 24 ≤ 1204 }
+    requires { length page.old + 24 ≤ PAGE_BYTES }
     ensures bytes { page.new ≡ page.old ++ numbers_field entry.now }
     ensures long { length page.new ≡ length page.old + 24 }
 {
@@ -105,9 +104,9 @@ fn memory_byte(memory: Memory) -> u8
 #[tactic(auto, unfolding(crate::specs::ConfigPage::entry_bytes))]
 fn put_entry(page: &mut Page, entry: &Entry)
     requires short { length (spelled_id entry.now.identifier) ≤ 64 }
-    requires room { length page.old + 142 ≤ 1204 }
+    requires room { length page.old + ENTRY_SIZE ≤ PAGE_BYTES }
     ensures bytes { page.new ≡ page.old ++ entry_bytes entry.now }
-    ensures long { length page.new ≡ length page.old + 142 }
+    ensures long { length page.new ≡ length page.old + ENTRY_SIZE }
 {
     page.put(&[memory_byte(entry.memory), entry.slots]);
     put_identifier(page, &entry.identifier);
@@ -118,9 +117,9 @@ fn put_entry(page: &mut Page, entry: &Entry)
 // Adds components.
 fn put_entries(page: &mut Page, entries: &[Entry])
     requires short { All (λ e. length (spelled_id e.identifier) ≤ 64) entries.now }
-    requires room { length page.old + 142 * length entries.now ≤ 1204 }
+    requires room { length page.old + ENTRY_SIZE * length entries.now ≤ PAGE_BYTES }
     ensures bytes { page.new ≡ page.old ++ entries_bytes entries.now }
-    ensures long { length page.new ≡ length page.old + 142 * length entries.now }
+    ensures long { length page.new ≡ length page.old + ENTRY_SIZE * length entries.now }
 {
     for entry in entries {
         put_entry(page, entry);
@@ -129,26 +128,26 @@ fn put_entries(page: &mut Page, entries: &[Entry])
 
 // Adds the open gate, the version, the lengths and the key.
 fn put_front(page: &mut Page, count: u8, key: &Key)
-    requires { length page.old + 68 ≤ 1204 }
-    ensures bytes { page.new ≡ page.old ++ 0xA5 ∷ 1 ∷ key.now.length ∷ count ∷ key.now.bytes }
-    ensures long { length page.new ≡ length page.old + 68 }
+    requires { length page.old + FRONT_SIZE ≤ PAGE_BYTES }
+    ensures bytes { page.new ≡ page.old ++ OPEN ∷ VERSION_1.version ∷ key.now.length ∷ count ∷ key.now.bytes }
+    ensures long { length page.new ≡ length page.old + FRONT_SIZE }
 {
-    page.put(&[suit_edge::OPEN, VERSION, key.length, count]);
+    page.put(&[OPEN, VERSION_1.version, key.length, count]);
     page.put(&key.bytes);
 }
 
 /// The page of a layout and a key, with its gate open. Takes no memory.
 #[tactic(auto, unfolding(crate::specs::ConfigPage::config_page))]
 pub(crate) fn write_page(layout: &Layout, key: &Key) -> Page
-    requires few { length layout.now ≤ 8 }
+    requires few { length layout.now ≤ MAX_ENTRIES }
     requires short { All (λ e. length (spelled_id e.identifier) ≤ 64) layout.now }
-    ensures bytes { result ≡ config_page layout.now key.now }
-    ensures long { length result ≡ 1204 }
+    ensures bytes { result ≡ config_page VERSION_1 layout.now key.now }
+    ensures long { length result ≡ PAGE_BYTES }
 {
     let entries = layout.as_slice();
     let mut page = Page::new();
     put_front(&mut page, entries.len() as u8, key);
     put_entries(&mut page, entries);
-    page.put_zeros(1136 - 142 * entries.len());
+    page.put_zeros(ENTRIES_SIZE - ENTRY_SIZE * entries.len());
     page
 }

@@ -1,8 +1,10 @@
 //! Where a manifest's components stand in a layout.
 
 ghost use Rattle.std.specs.Prelude.{◌≤◌, length, IfOk, IfErr, MatchOption};
-ghost use Rattle.flash_layout.specs.Placement.{ArePlaces, HasPlace, IsFirstUnknown, IsUnknown};
+ghost use Rattle.flash_layout.specs.Placement.{ArePlaces, HasPlace, HaveOtherPlaces, IsFirstUnknown, IsUnknown};
 
+use crate::frame::MAX_ENTRIES;
+use crate::place::MAX_COMPONENTS;
 use crate::rules::alike;
 use crate::{Entry, Layout, Places, Unknown};
 use suit_params::{Identifier, Identifiers};
@@ -21,14 +23,15 @@ fn find(entries: &[Entry], identifier: &Identifier) -> Option<usize>
 
 /// The places of a manifest's components in a layout, or the first component that the layout lacks.
 pub fn places(layout: &Layout, components: &Identifiers) -> Result<Places, Unknown>
-    requires entries { length layout.now ≤ 8 }
-    requires components { length components.now ≤ 8 }
+    requires entries { length layout.now ≤ MAX_ENTRIES }
+    requires components { length components.now ≤ MAX_COMPONENTS }
     ensures ok { IfOk result (ArePlaces layout.now components.now) }
+    ensures other { IfOk result (HaveOtherPlaces components.now) }
     ensures unknown { IfErr result (λ u. IsFirstUnknown layout.now components.now u.component) }
 {
     let entries = layout.as_slice();
     let ids = components.as_slice();
-    let mut layout_index = [0u32; 8];
+    let mut layout_index = [0u32; MAX_COMPONENTS];
     for k in 0..ids.len() {
         match find(entries, &ids[k]) {
             Some(i) => layout_index[k] = i as u32,

@@ -2,27 +2,19 @@
 
 ghost use Rattle.std.specs.Prelude.{◌≡◌, ◌↔◌, ◌≤◌, ◌<◌, ◌+◌, ℕ, All, AllPairs, IsTrue, length, slice_index, slice_index_or};
 ghost use Rattle.flash_layout.specs.declared.layout.Entry.{Entry};
-ghost use Rattle.flash_layout.specs.Layouts.{AreAllClear, AreApart, AreClear, IsBehindHead, IsClearOf, IsEntry, IsFlash, IsLayout, IsOfMemory, IsRam, slot_size, slot_starts};
+ghost use Rattle.flash_layout.specs.Layouts.{AreAllClear, AreApart, AreClear, IsBehindHead, IsClearOf, IsEntry, IsInFlash, IsLayout, IsOfMemory, IsInRam, slot_size, slot_starts};
 
+use crate::frame::{LENGTH_SIZE, MAX_ENTRIES, SLOTS_START, VERSION_1};
 use crate::spelling::spell_id;
 use crate::{Entry, Layout, Memory};
 use suit_params::Identifier;
 
-/// How many components a layout may have.
-pub const MAX_ENTRIES: usize = 8;
-
-/// Where the slots of a layout begin at the earliest.
-pub const SLOTS_START: u64 = 49152;
-
 /// How many bytes a component in working memory may hold.
 pub const MAX_RAM: u64 = 1048576;
 
-/// The bytes of a slot's length.
-pub const LENGTH_SIZE: u64 = 8;
-
 // Whether a slot of so many bytes of content from there on ends at that place or before it.
 fn ends_by(start: u64, capacity: u64, end: u64) -> bool
-    ensures { IsTrue result ↔ (start + (8 + capacity) ≤ end) }
+    ensures { IsTrue result ↔ (start + (LENGTH_SIZE + capacity) ≤ end) }
 {
     if end < LENGTH_SIZE {
         return false;
@@ -33,7 +25,7 @@ fn ends_by(start: u64, capacity: u64, end: u64) -> bool
 
 // Whether two slots share no byte.
 fn clear(p: u64, m: u64, q: u64, n: u64) -> bool
-    ensures { IsTrue result ↔ AreClear p (8 + m) q (8 + n) }
+    ensures { IsTrue result ↔ AreClear p (LENGTH_SIZE + m) q (LENGTH_SIZE + n) }
 {
     if p <= q {
         ends_by(p, m, q)
@@ -44,7 +36,7 @@ fn clear(p: u64, m: u64, q: u64, n: u64) -> bool
 
 // Whether a slot shares no byte with those that start there.
 fn clear_of(p: u64, m: u64, starts: &[u64], n: u64) -> bool
-    ensures { IsTrue result ↔ IsClearOf p (8 + m) starts.now (8 + n) }
+    ensures { IsTrue result ↔ IsClearOf p (LENGTH_SIZE + m) starts.now (LENGTH_SIZE + n) }
 {
     for q in starts {
         if !clear(p, m, *q, n) {
@@ -56,7 +48,7 @@ fn clear_of(p: u64, m: u64, starts: &[u64], n: u64) -> bool
 
 // Whether no slot of the first ones shares a byte with one of the second ones.
 fn all_clear(ps: &[u64], m: u64, qs: &[u64], n: u64) -> bool
-    ensures { IsTrue result ↔ AreAllClear ps.now (8 + m) qs.now (8 + n) }
+    ensures { IsTrue result ↔ AreAllClear ps.now (LENGTH_SIZE + m) qs.now (LENGTH_SIZE + n) }
 {
     for p in ps {
         if !clear_of(*p, m, qs, n) {
@@ -79,7 +71,7 @@ pub fn slots_of(entry: &Entry) -> &[u64]
 
 // Whether slots that start there lie behind the head of a flash of this size, and within it.
 fn starts_behind(size: u64, starts: &[u64], capacity: u64) -> bool
-    ensures { IsTrue result ↔ All (λ p. IsBehindHead size p (8 + capacity)) starts.now }
+    ensures { IsTrue result ↔ All (λ p. IsBehindHead size p (LENGTH_SIZE + capacity)) starts.now }
 {
     for p in starts {
         if *p < SLOTS_START || !ends_by(*p, capacity, size) {
@@ -91,7 +83,7 @@ fn starts_behind(size: u64, starts: &[u64], capacity: u64) -> bool
 
 // Whether a component in flash has one or two slots, apart, where they may be.
 fn is_flash(size: u64, entry: &Entry) -> bool
-    ensures { IsTrue result ↔ IsFlash size entry.now }
+    ensures { IsTrue result ↔ IsInFlash size entry.now }
 {
     if entry.slots < 1 || 2 < entry.slots {
         return false;
@@ -114,7 +106,7 @@ fn is_flash(size: u64, entry: &Entry) -> bool
 
 // Whether a component in working memory is as it may be.
 fn is_ram(entry: &Entry) -> bool
-    ensures { IsTrue result ↔ IsRam entry.now }
+    ensures { IsTrue result ↔ IsInRam entry.now }
 {
     entry.slots == 1 && entry.starts[0] == 0 && entry.starts[1] == 0 && entry.capacity <= MAX_RAM
 }
@@ -211,7 +203,7 @@ fn all_apart(entries: &[Entry]) -> bool
 /// identifiers, each spelled in at most 64 bytes; working memory of 1 to 1,048,576 bytes; slots of at
 /// least one byte, of which no two share a byte, behind the first 49,152 bytes and within the flash.
 pub fn is_layout(size: u64, layout: &Layout) -> bool
-    ensures { IsTrue result ↔ IsLayout size layout.now }
+    ensures { IsTrue result ↔ IsLayout VERSION_1 size layout.now }
 {
     let entries = layout.as_slice();
     if entries.len() < 1 || MAX_ENTRIES < entries.len() {

@@ -9,9 +9,6 @@ use det_cbor::Bytes;
 use std::marker::Model;
 use suit_params::Identifier;
 
-/// How many bytes an identifier is spelled in, at most.
-pub const MAX_SPELLING: usize = 64;
-
 /// Bytes that would pass the 64 that there is room for.
 #[derive(Clone, Copy, Debug, PartialEq, Eq)]
 pub(crate) struct TooLong;

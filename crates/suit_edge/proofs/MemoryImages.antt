@@ -10,7 +10,7 @@ use Rattle.suit_edge.specs.Flash.{Now, Grows, Passes, ImageOn, Keeps, IsSame, Is
 use Rattle.suit_edge.specs.Moment.{Moment, OutsideAll, IsImage, after_steps, moment_of}
 use Rattle.suit_edge.specs.MemoryDisk.{MayLeave, flash_of, write_of}
 use Rattle.suit_edge.specs.MemoryLaws.{length-moment_of, length-written}
-use Rattle.suit_edge.proofs.Written.{written_outside, written_within, same_back}
+use Rattle.suit_edge.specs.RangeLaws.{written_outside, written_within, same_back}
 use Rattle.suit_edge.proofs.Moments.{moment_of-write, moment_of-sync}
 
 -- an image of the moment now, and back
@@ -85,20 +85,28 @@ before_write m w image fits is =
     let n = length w.bytes in
     let old = take n (drop place m.reads) in
     let size : length old ≡ n = length-take-le n (drop place m.reads) (omega (arith, length-drop place m.reads)) in
-    let long : length image ≡ length m.reads = is.size ∙ length-written m.reads place w.bytes fits in
+    let long : length image ≡ length m.reads = is.stays.size ∙ length-written m.reads place w.bytes fits in
     let fits_old : place + length old ≤ length image = omega (arith, long, size) in
     let from = written image place old in
     let out = written_outside image place old fits_old in
-    let same : SameOn (Outside place n) from image = subst (λ (k : ℕ). SameOn (Outside place k) from image) size (same_back (Outside place (length old)) image from out) in (
+    let same : SameOn (Outside place n) from image = subst (λ (k : ℕ). SameOn (Outside place k) from image) size (same_back (Outside place (length old)) image from out) in
+    let beside : (i : ℕ) → Outside place n i → get_or (written m.reads place w.bytes) i 0 ≡ get_or m.reads i 0 = (written_outside m.reads place w.bytes fits).same in
+    let within : (i : ℕ) → (place ≤ i) × (i < place + n) → get_or from i 0 ≡ get_or m.reads i 0 = λ i near.
+    let at : place + (i - place) ≡ i = omega (arith, near.0) in
+    subst (λ (k : ℕ). get_or from k 0 ≡ get_or m.reads k 0) at
+    (written_within image place old fits_old (i - place) (omega (arith, near.0, near.1, size)) ∙ get_or-take n (drop place m.reads) (i - place) 0 (omega (arith, near.0, near.1)) ∙ get_or-drop place m.reads (i - place) 0) in (
       from,
       record {
-        size = sym same.size ∙ long;
-        same = λ i all. ⊎_elim
-            (λ far. sym (same.same i far) ∙ is.same i (outside_push m.pending w i all far) ∙ (written_outside m.reads place w.bytes fits).same i far)
-            (λ near.
-            let at : place + (i - place) ≡ i = omega (arith, near.0) in
-            subst (λ (k : ℕ). get_or from k 0 ≡ get_or m.reads k 0) at
-            (written_within image place old fits_old (i - place) (omega (arith, near.0, near.1, size)) ∙ get_or-take n (drop place m.reads) (i - place) 0 (omega (arith, near.0, near.1)) ∙ get_or-drop place m.reads (i - place) 0))
+        stays = record {
+          size = sym same.size ∙ long;
+          same = λ i all. ⊎_elim
+              (λ far. sym (same.same i far) ∙ is.stays.same i (outside_push m.pending w i all far) ∙ beside i far)
+              (within i)
+              (inside place n i);
+        };
+        bytes = λ i. ⊎_elim
+            (λ far. ⊎_elim (λ lt. inl (omega (arith, lt, same.same i far))) (λ at. inr (sym (same.same i far) ∙ at ∙ beside i far)) (is.bytes i))
+            (λ near. inr (within i near))
             (inside place n i);
       },
       same,
@@ -137,7 +145,7 @@ module _ (first : List ℕ) (steps new_steps : List Step) (more : new_steps ≡ 
   alone : (image : List ℕ) → IsImage (moment_of first new_steps) image → image ≡ (moment_of first steps).reads
   alone image is =
       let there = subst (λ (m : Moment). IsImage m image) after_sync is in
-      ext_get_or 0 image (moment_of first steps).reads there.size (λ i h. there.same i tt)
+      ext_get_or 0 image (moment_of first steps).reads there.stays.size (λ i h. there.stays.same i tt)
 
   pub reads_sync : (moment_of first new_steps).reads ≡ (moment_of first steps).reads
   reads_sync = ap (λ (m : Moment). m.reads) after_sync
@@ -150,11 +158,11 @@ module _ (first : List ℕ) (steps new_steps : List Step) (more : new_steps ≡ 
   same_sync = record {
     reads = reads_sync;
     images = passes_step first steps new_steps Synced more (Now (flash_of first steps)) (λ image now. now)
-        (λ image is. subst (λ (l : List ℕ). Now (flash_of first steps) l) (sym (alone image is)) (now_to first steps (moment_of first steps).reads (record { size = refl; same = λ i out. refl })));
+        (λ image is. subst (λ (l : List ℕ). Now (flash_of first steps) l) (sym (alone image is)) (now_to first steps (moment_of first steps).reads (record { stays = record { size = refl; same = λ i out. refl }; bytes = λ i. inr refl })));
   }
 
 -- ---- no step yet
 
 pub settled_start : (first : List ℕ) → IsSettled (flash_of first [])
 unfolding moment_of after_steps
-settled_start first image now = let is = now_from first [] image now in ext_get_or 0 image first is.size (λ i h. is.same i tt)
+settled_start first image now = let is = now_from first [] image now in ext_get_or 0 image first is.stays.size (λ i h. is.stays.same i tt)

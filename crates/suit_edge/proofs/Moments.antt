@@ -1,5 +1,5 @@
 -- A disk in memory, one step later.
-use Rattle.std.proofs.Common.{◌≡◌, ◌<◌, ◌≤◌, ℕ, ◌+◌, List, [], ◌∷◌, ◌++◌, Bool, true, false, cond, length, drop, get_or, ⊎_elim, refl, sym, ◌∙◌, ap, subst, arith, length-append}
+use Rattle.std.proofs.Common.{◌≡◌, ◌<◌, ◌≤◌, ℕ, ◌+◌, List, [], ◌∷◌, ◌++◌, Bool, true, false, cond, length, drop, get_or, inl, ⊎_elim, refl, sym, ◌∙◌, ap, subst, arith, length-append}
 use Rattle.std.proofs.Math.Seq.{drop-length}
 use Rattle.std.proofs.lemmas.Bool.{cases_lt, le-leb}
 use Rattle.std.proofs.lemmas.Bool.Decides.{leb_tells}
@@ -7,11 +7,11 @@ use Rattle.std.proofs.lemmas.List.{drop-append-le, drop_all, drop_more}
 use Rattle.suit_edge.specs.declared.step.Write.{Write}
 use Rattle.suit_edge.specs.declared.step.Step.{Step}
 use Rattle.suit_edge.specs.declared.step.Step.TheVariants.{Wrote, Synced}
-use Rattle.suit_edge.specs.Ranges.{Outside, SameOn, written}
+use Rattle.suit_edge.specs.Ranges.{AreBytes, Outside, SameOn, written}
 use Rattle.suit_edge.specs.Moment.{Moment, after_write, after_step, after_steps, moment_of, OutsideAll, IsImage, has_bit, kept, lost}
 use Rattle.suit_edge.specs.MemoryDisk.{IsMoment, write_of, writes_of}
 use Rattle.suit_edge.specs.MemoryLaws.{length-moment_of, length-written}
-use Rattle.suit_edge.proofs.Written.{written_outside, same_start, same_then, same_back, same_fewer}
+use Rattle.suit_edge.specs.RangeLaws.{written_outside, same_start, same_then, same_back, same_fewer}
 
 -- ---- one write
 
@@ -146,8 +146,8 @@ outside_front : (writes : List Write) (w : Write) (i : ℕ) → OutsideAll (writ
 outside_front [] w i all = (tt, all.0)
 outside_front (v ∷ writes) w i all = let rest = outside_front writes w i all.1 in ((all.0, rest.0), rest.1)
 
--- what stood there at the last sync is an image of the moment
-step_settled : (m : Moment) (s : Step) → IsImage m m.settled → IsImage (after_step m s) (after_step m s).settled
+-- what stood there at the last sync, where no write is pending
+step_settled : (m : Moment) (s : Step) → SameOn (OutsideAll m.pending) m.reads m.settled → SameOn (OutsideAll (after_step m s).pending) (after_step m s).reads (after_step m s).settled
 unfolding after_step
 step_settled m (Wrote w) is =
     same_then (OutsideAll (m.pending ++ w ∷ [])) (after_write m.reads w) m.reads m.settled
@@ -155,16 +155,19 @@ step_settled m (Wrote w) is =
     (same_fewer (OutsideAll (m.pending ++ w ∷ [])) (OutsideAll m.pending) (λ i all. (outside_front m.pending w i all).0) m.reads m.settled is)
 step_settled m Synced is = same_start (OutsideAll []) m.reads
 
-steps_settled : (m : Moment) (steps : List Step) → IsImage m m.settled → IsImage (after_steps m steps) (after_steps m steps).settled
+steps_settled : (m : Moment) (steps : List Step) → SameOn (OutsideAll m.pending) m.reads m.settled → SameOn (OutsideAll (after_steps m steps).pending) (after_steps m steps).reads (after_steps m steps).settled
 unfolding after_steps
 steps_settled m [] is = is
 steps_settled m (s ∷ steps) is = steps_settled (after_step m s) steps (step_settled m s is)
 
--- what the choice leaves is an image of the moment
-pub lost_image : (choice : ℕ) (first : List ℕ) (steps : List Step) → IsImage (moment_of first steps) (lost choice (moment_of first steps))
+-- what the choice leaves is an image of the moment, where it is bytes
+pub lost_image : (choice : ℕ) (first : List ℕ) (steps : List Step) → AreBytes (lost choice (moment_of first steps)) → IsImage (moment_of first steps) (lost choice (moment_of first steps))
 unfolding moment_of lost
-lost_image choice first steps =
+lost_image choice first steps bytes =
     let start : Moment = record { settled = first; reads = first; pending = [] } in
     let m = after_steps start steps in
-    same_then (OutsideAll m.pending) m.reads m.settled (kept choice 0 m.settled m.pending) (steps_settled start steps (same_start (OutsideAll []) first))
-    (kept_outside (OutsideAll m.pending) choice 0 m.settled m.pending (λ i all. all))
+    record {
+      stays = same_then (OutsideAll m.pending) m.reads m.settled (kept choice 0 m.settled m.pending) (steps_settled start steps (same_start (OutsideAll []) first))
+          (kept_outside (OutsideAll m.pending) choice 0 m.settled m.pending (λ i all. all));
+      bytes = λ i. inl (bytes i);
+    }

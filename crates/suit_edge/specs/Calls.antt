@@ -18,7 +18,7 @@ abbrev pub IsListed : CallCounts → Type 0
 IsListed calls = Contains calls.fails calls.number
 
 -- a call that does not fail is not in the list, and counts itself alone
-pub record Passes (before now : CallCounts) : Type 0 where
+pub record Succeeds (before now : CallCounts) : Type 0 where
   pub unlisted : ¬ IsListed before
   pub counts : now ≡ record before { number = counted before.number }
 

@@ -1,16 +1,15 @@
--- A page that vouches for bytes in front of it.
-use Rattle.std.specs.Prelude.{◌≡◌, ◌⊎◌, ◌+◌, ℕ, List, length, slice_range}
+-- Bytes in some ranges, and a page that vouches for them.
+use Rattle.std.specs.Prelude.{◌⊎◌, ℕ, List, [], ◌∷◌, ◌++◌, length}
 use Rattle.suit_edge.specs.Flash.{Flash, ImageOn}
-use Rattle.suit_edge.specs.Gate.{IsOpen, behind}
-use Rattle.suit_edge.specs.Ranges.{Outside}
+use Rattle.suit_edge.specs.Gate.{IsOpen, IsOldPage, IsNewPage, page_at}
+use Rattle.suit_edge.specs.Ranges.{Range, OutsideEach}
 
--- outside two ranges
-abbrev pub OutsideBoth : ℕ → ℕ → ℕ → ℕ → ℕ → Type 0
-OutsideBoth p k q n i = Outside p k i × Outside q n i
+-- An open page is that of the start, or it is the new one, and all other places are as they were made before it. Outside
+-- the ranges and the page the image is one of the start.
+pub record IsVouched (ranges : List Range) (gate place : ℕ) (body made : List ℕ) (start : Flash) (image : List ℕ) : Type 0 where
+  pub apart : ImageOn (OutsideEach (page_at gate place (length body) ++ ranges)) start image
+  pub opens : IsOpen image gate → IsOldPage gate place (length body) start.reads image ⊎ IsNewPage gate place body made image
 
--- An open page is that of the start, or it holds the body, and the bytes stand whole in front of it. The rest is
--- that of an image of the start.
-pub record IsVouched (place : ℕ) (bytes : List ℕ) (page : ℕ) (body : List ℕ) (start : Flash) (image : List ℕ) : Type 0 where
-  pub apart : ImageOn (OutsideBoth place (length bytes) page (1 + length body)) start image
-  pub opens : IsOpen image page → (IsOpen start.reads page × (behind image page (length body) ≡ behind start.reads page (length body)))
-      ⊎ ((behind image page (length body) ≡ body) × (slice_range image place (place + length bytes) ≡ bytes))
+-- one range
+abbrev pub bytes_at : ℕ → ℕ → List Range
+bytes_at place n = record { place = place; size = n } ∷ []

@@ -1,6 +1,6 @@
 -- A disk over time: what reads give, and the images that a power loss may leave.
 use Rattle.std.specs.Prelude.{◌≡◌, ◌⊎◌, ◌≤◌, ℕ, List, length}
-use Rattle.suit_edge.specs.Ranges.{SameOn}
+use Rattle.suit_edge.specs.Ranges.{AreBytes, SameOn}
 
 pub record Flash : Type 1 where
   -- what a read gives
@@ -20,6 +20,8 @@ pub record IsFlash (f : Flash) (size : ℕ) : Type 0 where
   pub sized : (t : ℕ) (image : List ℕ) → t ≤ f.clock → f.may t image → length image ≡ size
   -- what reads give is one of the images
   pub reads_may : Now f f.reads
+  -- where reads give bytes, so does a power loss
+  pub bytes : AreBytes f.reads → (image : List ℕ) → Now f image → AreBytes image
   -- since an earlier moment there are no fewer images
   pub sooner : (t u : ℕ) (image : List ℕ) → t ≤ u → u ≤ f.clock → f.may u image → f.may t image
 

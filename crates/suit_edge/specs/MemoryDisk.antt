@@ -5,7 +5,7 @@ use Rattle.suit_edge.specs.declared.edge.Edge.TheVariants as edge
 use Rattle.suit_edge.specs.declared.step.Write.{Write}
 use Rattle.suit_edge.specs.declared.step.Step.{Step}
 use Rattle.suit_edge.specs.declared.step.Step.TheVariants as step
-use Rattle.suit_edge.specs.Calls.{CallCounts, Passes, FailsByList, Fails}
+use Rattle.suit_edge.specs.Calls.{CallCounts, Succeeds, FailsByList, Fails}
 use Rattle.suit_edge.specs.Flash.{Flash}
 use Rattle.suit_edge.specs.Moment.{Moment, moment_of, IsImage}
 
@@ -45,12 +45,12 @@ pub record TakesStep (before now : DiskState) (s : Step) : Type 0 where
 
 -- a read gives what stands there or fails by its number, and changes nothing
 abbrev pub ReadsExactly : Edge → DiskState → DiskState → ℕ → List ℕ → List ℕ → Type 0
-ReadsExactly edge.Done before now place room filled = Passes before.calls now.calls × HoldsOn before now × (filled ≡ slice_range (moment_now before).reads place (place + length room))
+ReadsExactly edge.Done before now place room filled = Succeeds before.calls now.calls × HoldsOn before now × (filled ≡ slice_range (moment_now before).reads place (place + length room))
 ReadsExactly edge.Failed before now place room filled = FailsByList before.calls now.calls × HoldsOn before now × (filled ≡ room)
 
 -- a write or a sync takes its step or fails, and then changes nothing
 abbrev pub StepsExactly : Edge → DiskState → DiskState → Step → Type 0
-StepsExactly edge.Done before now s = Passes before.calls now.calls × TakesStep before now s
+StepsExactly edge.Done before now s = Succeeds before.calls now.calls × TakesStep before now s
 StepsExactly edge.Failed before now s = Fails before.calls now.calls × HoldsOn before now
 
 abbrev pub write_of : ℕ → List ℕ → Step

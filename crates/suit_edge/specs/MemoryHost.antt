@@ -7,7 +7,7 @@ use Rattle.suit_edge.specs.declared.host.Started.{Started}
 use Rattle.suit_edge.specs.declared.host.Started.TheVariants as started
 use Rattle.suit_edge.specs.declared.host.Pulled.{Pulled}
 use Rattle.suit_edge.specs.declared.host.Pulled.TheVariants as pulled
-use Rattle.suit_edge.specs.Calls.{CallCounts, uncalled, Passes, Fails}
+use Rattle.suit_edge.specs.Calls.{CallCounts, uncalled, Succeeds, Fails}
 
 -- ---- files by name
 
@@ -37,7 +37,7 @@ empty_host fails = record { files = []; rest = []; pulled = 0; calls = uncalled 
 
 -- a call that does not fail makes this of the host
 abbrev pub PassesTo : HostState → HostState → HostState → Type 0
-PassesTo before now made = Passes before.calls now.calls × (now ≡ record made { calls = now.calls })
+PassesTo before now made = Succeeds before.calls now.calls × (now ≡ record made { calls = now.calls })
 
 -- a call that fails changes nothing that the host holds
 abbrev pub FailsAlone : HostState → HostState → Type 0

@@ -1,5 +1,5 @@
 -- A disk in memory at a moment, by the writes and syncs up to it that were done.
-use Rattle.std.specs.Prelude.{◌+◌, ◌/◌, ◌%◌, ◌^◌, ℕ, Bool, cond, nat_eq, nat_le, List, [], ◌∷◌, ◌++◌, length}
+use Rattle.std.specs.Prelude.{◌≡◌, ◌⊎◌, ◌<◌, ◌+◌, ◌/◌, ◌%◌, ◌^◌, ℕ, Bool, cond, nat_eq, nat_le, List, [], ◌∷◌, ◌++◌, length, slice_index}
 use Rattle.suit_edge.specs.declared.step.Write.{Write}
 use Rattle.suit_edge.specs.declared.step.Step.{Step}
 use Rattle.suit_edge.specs.declared.step.Step.TheVariants as step
@@ -37,8 +37,10 @@ OutsideAll [] i = Unit {0}
 OutsideAll (w ∷ writes) i = Outside w.place (length w.bytes) i × OutsideAll writes i
 
 -- A power loss at this moment may leave the image: each pending range holds any bytes, and all others stay.
-abbrev pub IsImage : Moment → List ℕ → Type 0
-IsImage m image = SameOn (OutsideAll m.pending) m.reads image
+pub record IsImage (m : Moment) (image : List ℕ) : Type 0 where
+  pub stays : SameOn (OutsideAll m.pending) m.reads image
+  -- a byte, or what reads give
+  pub bytes : (i : ℕ) → (slice_index image i < 256) ⊎ (slice_index image i ≡ slice_index m.reads i)
 
 -- the bit of that number, counted modulo 64, is set
 abbrev pub has_bit : ℕ → ℕ → Bool

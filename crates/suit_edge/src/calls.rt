@@ -25,7 +25,7 @@ impl Model for Calls {
 
 impl Calls {
     ghost use Rattle.suit_edge.specs.Faults.{Faulted, counted};
-    ghost use Rattle.suit_edge.specs.Calls.{uncalled, IsListed, Passes, FailsByList, Starves};
+    ghost use Rattle.suit_edge.specs.Calls.{uncalled, IsListed, Succeeds, FailsByList, Starves};
 
     /// No call yet, and these to fail.
     pub(crate) fn new(alloc: Global, fails: &[u64]) -> Result<Calls, AllocError>
@@ -41,7 +41,7 @@ impl Calls {
 
     /// Counts a call, and answers whether it is one that fails.
     pub(crate) fn next_fails(&mut self) -> bool
-        ensures passes { OnFalse result (Passes self.old self.new) }
+        ensures passes { OnFalse result (Succeeds self.old self.new) }
         ensures fails { OnTrue result (FailsByList self.old self.new) }
     {
         let number = self.number;

@@ -1,11 +1,12 @@
 //! A small user of a disk: bytes in pieces, and then a page that vouches for them.
 
-ghost use Rattle.std.specs.Prelude.{◌≡◌, ◌+◌, ◌≤◌, length, slice_range, IsTrue};
-ghost use Rattle.suit_edge.specs.Client.{IsVouched};
+ghost use Rattle.std.specs.Prelude.{◌≡◌, ◌+◌, ◌≤◌, length, IsTrue};
+ghost use Rattle.suit_edge.specs.Client.{IsVouched, bytes_at};
 ghost use Rattle.suit_edge.specs.Edge.{IfDone};
 ghost use Rattle.suit_edge.specs.Faults.{EdgeCounts};
 ghost use Rattle.suit_edge.specs.Flash.{IsFirmOn, IsSettled, Keeps, Passes};
-ghost use Rattle.suit_edge.specs.Ranges.{Outside, Within, written};
+ghost use Rattle.suit_edge.specs.Gate.{page_at};
+ghost use Rattle.suit_edge.specs.Ranges.{AreClear, InSome, Outside, written};
 
 use crate::{Disk, Edge, write_gated};
 
@@ -39,7 +40,7 @@ fn keep_pieces<D: Disk>(disk: &mut D, place: u64, bytes: &[u8]) -> Edge
     requires { place + length bytes.now ≤ D.extent disk.old }
     ensures size { D.extent disk.new ≡ D.extent disk.old }
     ensures counts { EdgeCounts result (D.faults disk.old) (D.faults disk.new) }
-    ensures content { IsTrue D.told → IfDone result (slice_range (D.flash disk.new).reads place (place + length bytes.now) ≡ bytes.now) }
+    ensures written { IsTrue D.told → IfDone result ((D.flash disk.new).reads ≡ written (D.flash disk.old).reads place bytes.now) }
     ensures settled { IsTrue D.told → IfDone result (IsSettled (D.flash disk.new)) }
     ensures keeps { IsTrue D.told → Keeps (Outside place (length bytes.now)) (D.flash disk.old) (D.flash disk.new) }
 {
@@ -53,21 +54,31 @@ fn keep_pieces<D: Disk>(disk: &mut D, place: u64, bytes: &[u8]) -> Edge
     }
 }
 
-/// Writes the bytes in pieces, and then the page behind them. At any moment an open page is the old one, or the new
+/// Writes the bytes in pieces, and then the page beside them. At any moment an open page is the old one, or the new
 /// one over the new bytes.
-pub(crate) fn vouch<D: Disk>(disk: &mut D, place: u64, bytes: &[u8], page: u64, body: &[u8]) -> Edge
-    requires apart { place + length bytes.now ≤ page }
-    requires fits { page + 1 + length body.now ≤ D.extent disk.old }
-    requires firm { IsTrue D.told → IsFirmOn (Within page (1 + length body.now)) (D.flash disk.old) }
+pub(crate) fn vouch<D: Disk>(
+    disk: &mut D,
+    place: u64,
+    bytes: &[u8],
+    gate: u64,
+    page: u64,
+    body: &[u8],
+) -> Edge
+    requires bytes { place + length bytes.now ≤ D.extent disk.old }
+    requires gate { gate + 1 ≤ D.extent disk.old }
+    requires body { page + length body.now ≤ D.extent disk.old }
+    requires apart { Outside page (length body.now) gate }
+    requires clear { AreClear (page_at gate page (length body.now)) (bytes_at place (length bytes.now)) }
+    requires firm { IsTrue D.told → IsFirmOn (InSome (page_at gate page (length body.now))) (D.flash disk.old) }
     ensures size { D.extent disk.new ≡ D.extent disk.old }
     ensures counts { EdgeCounts result (D.faults disk.old) (D.faults disk.new) }
-    ensures any_moment { IsTrue D.told → Passes (D.flash disk.old) (D.flash disk.new) (IsVouched place bytes.now page body.now (D.flash disk.old)) }
+    ensures any_moment { IsTrue D.told → Passes (D.flash disk.old) (D.flash disk.new) (IsVouched (bytes_at place (length bytes.now)) gate page body.now (written (D.flash disk.old).reads place bytes.now) (D.flash disk.old)) }
 {
     match keep_pieces(disk, place, bytes) {
         Edge::Done => {}
         Edge::Failed => return Edge::Failed,
     }
-    match write_gated(disk, page, body) {
+    match write_gated(disk, gate, page, body) {
         Edge::Done => Edge::Done,
         Edge::Failed => Edge::Failed,
     }

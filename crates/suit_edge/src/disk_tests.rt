@@ -2,8 +2,9 @@
 
 ghost use Rattle.std.specs.Prelude.{◌≡◌, ◌≤◌, IfOk, length};
 ghost use Rattle.suit_edge.specs.Flash.{IsFirmOn, IsSettled};
+ghost use Rattle.suit_edge.specs.Gate.{page_at};
 ghost use Rattle.suit_edge.specs.MemoryDisk.{memory_flash};
-ghost use Rattle.suit_edge.specs.Ranges.{Within};
+ghost use Rattle.suit_edge.specs.Ranges.{InSome};
 
 use crate::client::vouch;
 use crate::{Disk, Edge, FileDisk, FuseDisk, MemoryDisk, write_gated};
@@ -55,7 +56,7 @@ fn with_old_page(alloc: Global) -> Result<MemoryDisk, AllocError>
     ensures settled { IfOk result (λ disk. IsSettled (memory_flash disk)) }
 {
     let mut disk = MemoryDisk::new(alloc, SIZE, &[])?;
-    match write_gated(&mut disk, PLACE, b"old.") {
+    match write_gated(&mut disk, PLACE, PLACE + 1, b"old.") {
         Edge::Done => disk.after_loss(alloc, 0),
         Edge::Failed => Err(AllocError),
     }
@@ -64,7 +65,7 @@ fn with_old_page(alloc: Global) -> Result<MemoryDisk, AllocError>
 // The same, whose power goes after so many calls.
 fn with_fuse(alloc: Global, passes: u64) -> Result<FuseDisk, AllocError>
     ensures size { IfOk result (λ fuse. length fuse.disk.first ≡ SIZE) }
-    ensures firm { IfOk result (λ fuse. IsFirmOn (Within 40 5) (memory_flash fuse.disk)) }
+    ensures firm { IfOk result (λ fuse. IsFirmOn (InSome (page_at 40 41 4)) (memory_flash fuse.disk)) }
 {
     let disk = with_old_page(alloc)?;
     Ok(FuseDisk::new(disk, passes))
@@ -96,7 +97,7 @@ fn a_gated_write_is_cut_at_each_call(rt: HostRuntime) -> Result<(), Fail> {
     ];
     for (passes, pages) in wanted.iter().enumerate() {
         let mut fuse = with_fuse(rt.alloc(), passes as u64)?;
-        let edge = write_gated(&mut fuse, PLACE, b"new.");
+        let edge = write_gated(&mut fuse, PLACE, PLACE + 1, b"new.");
         assert_eq!(rt; edge == Edge::Done, passes == 7);
         assert_eq!(rt; fuse.starved(), 0);
         let disk = fuse.into_disk();
@@ -114,7 +115,7 @@ fn a_gated_write_is_cut_at_each_call(rt: HostRuntime) -> Result<(), Fail> {
 fn a_page_vouches_for_bytes_at_each_cut(rt: HostRuntime) -> Result<(), Fail> {
     for passes in 0..12u64 {
         let mut fuse = with_fuse(rt.alloc(), passes)?;
-        let edge = vouch(&mut fuse, 0, &[7; 40], PLACE, b"new.");
+        let edge = vouch(&mut fuse, 0, &[7; 40], PLACE, PLACE + 1, b"new.");
         assert_eq!(rt; edge == Edge::Done, passes == 11);
         let disk = fuse.into_disk();
         for choice in CHOICES {

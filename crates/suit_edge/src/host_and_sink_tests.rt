@@ -125,6 +125,10 @@ fn real_files_are_stored_and_taken(rt: HostRuntime) -> Result<(), Fail> {
             Taken::Absent
         )
     );
+    assert_eq!(rt; host.start("host_test_file"), Started::Done);
+    assert_eq!(rt; host.start("no_such/file"), Started::Absent);
+    let mut room = [0; 4];
+    assert_eq!(rt; host.pull(&mut room), Pulled::Got(0), "none is started");
     assert!(rt; matches!(take_all(rt.alloc(), &mut host, ".", 9), Taken::HostFault));
     assert_eq!(rt; host.store("no_such/file", b"some bytes"), Edge::Failed);
     assert_eq!(rt; host.start("host_test_file/x"), Started::Failed);

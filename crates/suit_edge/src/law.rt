@@ -1,20 +1,45 @@
-//! What holds of every disk, and of every disk in memory.
+//! Laws of disks, of disks in memory, of counts, hosts, sinks and launchers. Each call here does nothing: its contract is
+//! the law.
 
 ghost use Rattle.std.specs.Prelude.{IsTrue};
-ghost use Rattle.suit_edge.specs.DiskLaw.{DiskLaw};
-ghost use Rattle.suit_edge.specs.LossLaw.{LossLaw};
+ghost use Rattle.suit_edge.specs.DiskLaws.{DiskLaw};
+ghost use Rattle.suit_edge.specs.FaultLaws.{FaultLaws};
+ghost use Rattle.suit_edge.specs.HostLaws.{HostLaws};
+ghost use Rattle.suit_edge.specs.LaunchLaws.{LaunchLaws};
+ghost use Rattle.suit_edge.specs.LossLaws.{LossLaw};
+ghost use Rattle.suit_edge.specs.SinkLaws.{SinkLaws};
 
 use crate::Disk;
 
-/// Does nothing. Its contract is what the trait leaves no disk free to do between two moments of its life. A disk whose
-/// clock stands still while its bytes change, a sync that leaves a write pending, a clock that goes back, an image of
-/// another length, and reads that give no image are all refused by it.
-pub fn disk_law<D: Disk>(before: &D, after: &D)
+/// What the trait leaves no disk free to do between two moments of its life. A sync that leaves a write pending, a clock
+/// that goes back, an image of another length, and reads that give no image are all refused by it. A disk whose clock
+/// stands still while its bytes change never again makes sure of them: none of its syncs is done.
+pub fn disk_laws<D: Disk>(before: &D, after: &D)
     ensures { IsTrue D.told → DiskLaw (D.extent before.now) (D.flash before.now) (D.flash after.now) }
 {}
 
-/// Does nothing. Its contract is the law of power loss for a disk in memory: a loss now may leave any bytes in each
-/// range written since the last sync, and leaves all else as reads give it.
-pub fn power_loss()
+/// What a power loss leaves of a disk in memory: any bytes in each range written since the last sync, and all else as
+/// reads give it.
+pub fn loss_laws()
     ensures { LossLaw }
+{}
+
+/// A count of faults rises where a call fails, below the end of 64 bits, and never falls.
+pub fn fault_laws()
+    ensures { FaultLaws }
+{}
+
+/// What the calls of a host give one after another.
+pub fn host_laws()
+    ensures { HostLaws }
+{}
+
+/// What a sink has been given, after a put that was done and after one that failed.
+pub fn sink_laws()
+    ensures { SinkLaws }
+{}
+
+/// Which count rises in a launch.
+pub fn launch_laws()
+    ensures { LaunchLaws }
 {}

@@ -8,7 +8,7 @@ ghost use Rattle.suit_edge.specs.Flash.{Grows, IsSame, IsSettled, Keeps, Now};
 ghost use Rattle.suit_edge.specs.MemoryDisk.{ReadsExactly, StepsExactly, memory_flash, moment_now, write_of, writes_of};
 ghost use Rattle.suit_edge.specs.MemoryLaws.{memory_obeys};
 ghost use Rattle.suit_edge.specs.Moment.{after_write, has_bit, kept, lost};
-ghost use Rattle.suit_edge.specs.Ranges.{Outside, written};
+ghost use Rattle.suit_edge.specs.Ranges.{AreBytes, Outside, written};
 ghost use Rattle.suit_edge.specs.declared.step.Step.TheVariants as step;
 
 use crate::calls::Calls;
@@ -81,6 +81,7 @@ impl MemoryDisk {
     {
         let mut bytes = self.settled.to_vec(alloc)?;
         keep(&mut bytes, &self.steps[self.since..], choice);
+        are_bytes(bytes.as_slice());
         let calls = Calls::new(alloc, &[])?;
         MemoryDisk::of(alloc, bytes, calls)
     }
@@ -91,6 +92,12 @@ impl MemoryDisk {
     {
         self.calls.starved()
     }
+}
+
+fn are_bytes(bytes: &[u8])
+    ensures { AreBytes bytes.now }
+{
+    let _ = bytes;
 }
 
 // Whether the choice keeps the n-th write.

@@ -3,7 +3,7 @@
 ghost use Rattle.std.specs.Prelude.{◌≡◌, ◌≢◌, ◌≤◌, ◌+◌, [], ℕ, List, length, true, IfOk, IsTrue, OnOk, OnErr};
 ghost use Rattle.suit_edge.specs.Faults.{EdgeCounts};
 ghost use Rattle.suit_edge.specs.Host.{StartCounts, Starts, PullCounts, Pulls, count_of, Stores};
-ghost use Rattle.suit_edge.specs.Calls.{Passes, Fails};
+ghost use Rattle.suit_edge.specs.Calls.{Succeeds, Fails};
 ghost use Rattle.suit_edge.specs.MemoryHost.{
   file_in,
   with_file,

@@ -1,11 +1,11 @@
-//! Writes that a power loss does not tear: bytes behind a gate, which is open only while they stand whole.
+//! Writes that a power loss does not tear: bytes and a gate, which is open only while they stand whole.
 
-ghost use Rattle.std.specs.Prelude.{◌≡◌, ◌≢◌, ◌+◌, ◌≤◌, length, slice_index, IsTrue};
+ghost use Rattle.std.specs.Prelude.{◌≡◌, ◌+◌, ◌≤◌, length, IsTrue};
 ghost use Rattle.suit_edge.specs.Edge.{IfDone};
 ghost use Rattle.suit_edge.specs.Faults.{EdgeCounts};
-ghost use Rattle.suit_edge.specs.Flash.{Grows, IsFirmOn, IsSame, IsSettled, Keeps, Passes};
-ghost use Rattle.suit_edge.specs.Gate.{IsGated, IsOpen, behind};
-ghost use Rattle.suit_edge.specs.Ranges.{Outside, SameOn, Within, written};
+ghost use Rattle.suit_edge.specs.Flash.{Grows, IsFirmOn, IsSettled, Keeps, Passes};
+ghost use Rattle.suit_edge.specs.Gate.{Closes, IsClosing, IsGated, IsNewPage, IsOpen, IsOpening, page_at};
+ghost use Rattle.suit_edge.specs.Ranges.{InSome, Outside, OutsideEach, written};
 
 use crate::{Disk, Edge};
 
@@ -31,39 +31,98 @@ pub fn write_and_sync<D: Disk>(disk: &mut D, place: u64, bytes: &[u8]) -> Edge
     }
 }
 
-/// Writes the body of a page behind its gate, which is closed meanwhile, so that a power loss at any moment leaves
-/// the old page, the new one, or none. The page must be sure before. Where it fails, the page is the old one, the
-/// new one, or closed.
-pub fn write_gated<D: Disk>(disk: &mut D, place: u64, body: &[u8]) -> Edge
-    requires fits { place + 1 + length body.now ≤ D.extent disk.old }
-    requires firm { IsTrue D.told → IsFirmOn (Within place (1 + length body.now)) (D.flash disk.old) }
+// Closes a gate that reads open. Over a closed one a write could open a page with old bytes.
+fn close_if_open<D: Disk>(disk: &mut D, gate: u64) -> Edge
+    requires { gate + 1 ≤ D.extent disk.old }
     ensures size { D.extent disk.new ≡ D.extent disk.old }
     ensures counts { EdgeCounts result (D.faults disk.old) (D.faults disk.new) }
-    ensures opened { IsTrue D.told → IfDone result (IsOpen (D.flash disk.new).reads place) }
-    ensures body { IsTrue D.told → IfDone result (behind (D.flash disk.new).reads place (length body.now) ≡ body.now) }
-    ensures settled { IsTrue D.told → IfDone result (IsSettled (D.flash disk.new)) }
-    ensures apart { IsTrue D.told → SameOn (Outside place (1 + length body.now)) (D.flash disk.old).reads (D.flash disk.new).reads }
-    ensures any_moment { IsTrue D.told → Passes (D.flash disk.old) (D.flash disk.new) (IsGated place body.now (D.flash disk.old)) }
+    ensures closes { IsTrue D.told → IfDone result (Closes gate (D.flash disk.old).reads (D.flash disk.new).reads) }
+    ensures keeps { IsTrue D.told → Keeps (Outside gate 1) (D.flash disk.old) (D.flash disk.new) }
+    ensures any_moment { IsTrue D.told → Passes (D.flash disk.old) (D.flash disk.new) (IsClosing gate (D.flash disk.old)) }
     ensures grows { IsTrue D.told → Grows (D.flash disk.old) (D.flash disk.new) }
 {
-    // The place behind the gate fits a u64, since the size does.
-    let _size = disk.size();
-    let mut gate = [0u8; 1];
-    match disk.read_at(place, &mut gate) {
+    let mut byte = [0u8; 1];
+    match disk.read_at(gate, &mut byte) {
         Edge::Failed => return Edge::Failed,
         Edge::Done => {}
     }
-    if gate[0] == OPEN {
-        match write_and_sync(disk, place, &[CLOSED]) {
-            Edge::Failed => return Edge::Failed,
-            Edge::Done => {}
-        }
+    if byte[0] != OPEN {
+        return Edge::Done;
     }
-    match write_and_sync(disk, place + 1, body) {
+    match disk.write_at(gate, &[CLOSED]) {
+        Edge::Failed => Edge::Failed,
+        Edge::Done => Edge::Done,
+    }
+}
+
+/// Closes a gate, where it reads open, and makes sure of all that is pending. A power loss at any moment leaves an
+/// image of the start, or one that differs from it at the gate alone. Where it fails, the gate may be open or closed.
+pub fn close_gate<D: Disk>(disk: &mut D, gate: u64) -> Edge
+    requires { gate + 1 ≤ D.extent disk.old }
+    ensures size { D.extent disk.new ≡ D.extent disk.old }
+    ensures counts { EdgeCounts result (D.faults disk.old) (D.faults disk.new) }
+    ensures closes { IsTrue D.told → IfDone result (Closes gate (D.flash disk.old).reads (D.flash disk.new).reads) }
+    ensures settled { IsTrue D.told → IfDone result (IsSettled (D.flash disk.new)) }
+    ensures keeps { IsTrue D.told → Keeps (Outside gate 1) (D.flash disk.old) (D.flash disk.new) }
+    ensures any_moment { IsTrue D.told → Passes (D.flash disk.old) (D.flash disk.new) (IsClosing gate (D.flash disk.old)) }
+    ensures grows { IsTrue D.told → Grows (D.flash disk.old) (D.flash disk.new) }
+{
+    match close_if_open(disk, gate) {
         Edge::Failed => return Edge::Failed,
         Edge::Done => {}
     }
-    match write_and_sync(disk, place, &[OPEN]) {
+    match disk.sync() {
+        Edge::Failed => Edge::Failed,
+        Edge::Done => Edge::Done,
+    }
+}
+
+/// Writes the bytes of a page and makes sure of them, and then opens its gate. Where no power loss at the start could
+/// leave the gate open, an open page is the new one at any moment. Where it fails, the page is then the new one, or closed.
+pub fn open_written<D: Disk>(disk: &mut D, gate: u64, place: u64, body: &[u8]) -> Edge
+    requires gate { gate + 1 ≤ D.extent disk.old }
+    requires body { place + length body.now ≤ D.extent disk.old }
+    requires apart { Outside place (length body.now) gate }
+    ensures size { D.extent disk.new ≡ D.extent disk.old }
+    ensures counts { EdgeCounts result (D.faults disk.old) (D.faults disk.new) }
+    ensures opened { IsTrue D.told → IfDone result (IsOpen (D.flash disk.new).reads gate) }
+    ensures page { IsTrue D.told → IfDone result (IsNewPage gate place body.now (D.flash disk.old).reads (D.flash disk.new).reads) }
+    ensures settled { IsTrue D.told → IfDone result (IsSettled (D.flash disk.new)) }
+    ensures keeps { IsTrue D.told → Keeps (OutsideEach (page_at gate place (length body.now))) (D.flash disk.old) (D.flash disk.new) }
+    ensures any_moment { IsTrue D.told → Passes (D.flash disk.old) (D.flash disk.new) (IsOpening gate place body.now (D.flash disk.old)) }
+    ensures grows { IsTrue D.told → Grows (D.flash disk.old) (D.flash disk.new) }
+{
+    match write_and_sync(disk, place, body) {
+        Edge::Failed => return Edge::Failed,
+        Edge::Done => {}
+    }
+    match write_and_sync(disk, gate, &[OPEN]) {
+        Edge::Failed => Edge::Failed,
+        Edge::Done => Edge::Done,
+    }
+}
+
+/// Writes the bytes of a page while its gate is closed, so that a power loss at any moment leaves the old page, the new
+/// one, or none. The page must be sure before. Where it fails, the page is the old one, the new one, or closed.
+pub fn write_gated<D: Disk>(disk: &mut D, gate: u64, place: u64, body: &[u8]) -> Edge
+    requires gate { gate + 1 ≤ D.extent disk.old }
+    requires body { place + length body.now ≤ D.extent disk.old }
+    requires apart { Outside place (length body.now) gate }
+    requires firm { IsTrue D.told → IsFirmOn (InSome (page_at gate place (length body.now))) (D.flash disk.old) }
+    ensures size { D.extent disk.new ≡ D.extent disk.old }
+    ensures counts { EdgeCounts result (D.faults disk.old) (D.faults disk.new) }
+    ensures opened { IsTrue D.told → IfDone result (IsOpen (D.flash disk.new).reads gate) }
+    ensures page { IsTrue D.told → IfDone result (IsNewPage gate place body.now (D.flash disk.old).reads (D.flash disk.new).reads) }
+    ensures settled { IsTrue D.told → IfDone result (IsSettled (D.flash disk.new)) }
+    ensures keeps { IsTrue D.told → Keeps (OutsideEach (page_at gate place (length body.now))) (D.flash disk.old) (D.flash disk.new) }
+    ensures any_moment { IsTrue D.told → Passes (D.flash disk.old) (D.flash disk.new) (IsGated gate place body.now (D.flash disk.old)) }
+    ensures grows { IsTrue D.told → Grows (D.flash disk.old) (D.flash disk.new) }
+{
+    match close_gate(disk, gate) {
+        Edge::Failed => return Edge::Failed,
+        Edge::Done => {}
+    }
+    match open_written(disk, gate, place, body) {
         Edge::Failed => Edge::Failed,
         Edge::Done => Edge::Done,
     }

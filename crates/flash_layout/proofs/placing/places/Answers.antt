@@ -1,6 +1,6 @@
 use Rattle.std.proofs.Common.{◌∙◌, ap, ◌<◌, ◌≤◌, length, arith}
 use Rattle.std.proofs.lemmas.List.{length-set}
-use Rattle.flash_layout.proofs.Found.{first_unknown, all_placed, one_placed, none_after}
+use Rattle.flash_layout.proofs.Found.{first_unknown, all_placed, one_placed, none_after, other_places}
 use Rattle.flash_layout.proofs.placing.places.Goals as goal
 
 pub returns-in-None-clause-unknown : goal.returns-in-None-clause-unknown
@@ -22,3 +22,6 @@ returns-clause-ok c =
     let high : c.loop-k.k ≤ length c.as_slice-ids.result.now = omega arith in
     all_placed c.as_slice-entries.result.now c.args.layout.now c.as_slice-ids.result.now c.args.components.now c.loop-k.layout_index c.loop-k.k
     c.as_slice-entries.ensures c.as_slice-ids.ensures c.loop-k-test.false high c.loop-k.invariant.each c.loop-k.invariant.rest
+
+pub returns-clause-other : goal.returns-clause-other
+returns-clause-other c = other_places c.args.layout.now c.args.components.now _ (returns-clause-ok c)

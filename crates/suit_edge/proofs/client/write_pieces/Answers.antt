@@ -1,7 +1,7 @@
 use Rattle.std.proofs.Common.{sym, arith, rules}
-use Rattle.suit_edge.proofs.Pieces.{piece_kept, piece_written}
-use Rattle.suit_edge.proofs.Runs.{keeps_start}
-use Rattle.suit_edge.proofs.Written.{written-none}
+use Rattle.suit_edge.specs.PieceLaws.{piece_kept, piece_written}
+use Rattle.suit_edge.specs.FlashLaws.{keeps_start}
+use Rattle.suit_edge.specs.RangeLaws.{written-none}
 use Rattle.suit_edge.proofs.client.write_pieces.Goals as goal
 
 pub loop-done-init : goal.loop-done-init

@@ -1,0 +1,54 @@
+-- Where the parts of a flash stand. The head is so many bytes from the frame's base on; its parts are told by their
+-- places in it.
+use Rattle.std.specs.Prelude.{ℕ, ◌+◌, ◌*◌, List, slice_range}
+use Rattle.suit_edge.specs.Gate.{IsOpen}
+use Rattle.flash_layout.specs.declared.frame.Frame.{Frame}
+use Rattle.flash_layout.specs.declared.frame.TheConstants.{ENTRY_SIZE, FRONT_SIZE}
+
+abbrev pub head_of : Frame → List ℕ → List ℕ
+head_of frame image = slice_range image frame.base (frame.base + frame.size)
+
+-- ---- the configuration page
+
+-- the bytes of its components
+abbrev pub entries_size : Frame → ℕ
+entries_size frame = ENTRY_SIZE * frame.most
+
+-- those of its bytes that are read
+abbrev pub page_bytes : Frame → ℕ
+page_bytes frame = FRONT_SIZE + entries_size frame
+
+abbrev pub config_page_of : Frame → List ℕ → List ℕ
+config_page_of frame head = slice_range head 0 (page_bytes frame)
+
+-- ---- the record pages
+
+-- where a record page starts, in the head and in the flash
+abbrev pub record_from : Frame → ℕ → ℕ
+record_from frame which = frame.config_size + which * frame.record_size
+
+abbrev pub record_place : Frame → ℕ → ℕ
+record_place frame which = frame.base + record_from frame which
+
+abbrev pub record_page_of : Frame → List ℕ → ℕ → List ℕ
+record_page_of frame head which = slice_range head (record_from frame which) (record_from frame which + frame.record_size)
+
+-- its first byte is its gate
+abbrev pub HasOpenRecord : Frame → List ℕ → ℕ → Type 0
+HasOpenRecord frame head which = IsOpen head (record_from frame which)
+
+-- both gates are closed
+abbrev pub HasNoRecord : Frame → List ℕ → Type 0
+HasNoRecord frame head = (HasOpenRecord frame head 0 → ⊥) × (HasOpenRecord frame head 1 → ⊥)
+
+-- ---- the banks
+
+abbrev pub bank_from : Frame → ℕ → ℕ
+bank_from frame which = record_from frame 2 + which * frame.bank_size
+
+abbrev pub bank_place : Frame → ℕ → ℕ
+bank_place frame which = frame.base + bank_from frame which
+
+-- the first bytes of a bank
+abbrev pub bank_of : Frame → List ℕ → ℕ → ℕ → List ℕ
+bank_of frame head which n = slice_range head (bank_from frame which) (bank_from frame which + n)

@@ -1,0 +1,25 @@
+-- Laws of the calls of a host.
+use Rattle.std.specs.Prelude.{◌≡◌, ◌<◌, ◌-◌, ◌^◌, ℕ, List, [], ◌++◌, length, take, Option, Some}
+use Rattle.suit_edge.specs.declared.edge.Edge.TheVariants as edge
+use Rattle.suit_edge.specs.declared.host.Started.TheVariants as started
+use Rattle.suit_edge.specs.declared.host.Pulled.TheVariants as pulled
+use Rattle.suit_edge.specs.Host.{Starts, StartCounts, Pulls, PullCounts, Stores}
+
+pub record HostLaws : Type 0 where
+  -- a name has a file or none, and a file that is started has one rest
+  pub one_answer : (file : Option (List ℕ)) (rest other : List ℕ) → Starts started.Done file rest → Starts started.Absent file other → ⊥
+  pub one_rest : (file : Option (List ℕ)) (rest other : List ℕ) → Starts started.Done file rest → Starts started.Done file other → rest ≡ other
+  -- where no file has the name, none is started: a pull then gives no bytes
+  pub none : (n : ℕ) (file : Option (List ℕ)) (rest now room filled : List ℕ) → Starts started.Absent file rest → Pulls (pulled.Got n) rest now room filled → (n ≡ 0) × (now ≡ [])
+  -- what is pulled first and what is left then are the file
+  pub whole : (n : ℕ) (file : Option (List ℕ)) (rest now room filled : List ℕ) → Starts started.Done file rest → Pulls (pulled.Got n) rest now room filled → file ≡ Some (take n filled ++ now)
+  -- a pull that gives none in a room that has place is at the end
+  pub end : (before now room filled : List ℕ) → 0 < length room → Pulls (pulled.Got 0) before now room filled → before ≡ []
+  -- what is stored is what is started then
+  pub stored : (file : Option (List ℕ)) (bytes rest : List ℕ) → Stores edge.Done file bytes → Starts started.Done file rest → rest ≡ bytes
+  -- a fault alone raises the count
+  pub start_failed : (before : ℕ) → before < 2 ^ 64 - 1 → StartCounts started.Failed before before → ⊥
+  pub start_done : (before now : ℕ) → StartCounts started.Done before now → now ≡ before
+  pub start_absent : (before now : ℕ) → StartCounts started.Absent before now → now ≡ before
+  pub pull_failed : (before : ℕ) → before < 2 ^ 64 - 1 → PullCounts pulled.Failed before before → ⊥
+  pub pull_got : (n before now : ℕ) → PullCounts (pulled.Got n) before now → now ≡ before
