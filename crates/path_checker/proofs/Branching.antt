@@ -2,18 +2,15 @@
 use Rattle.std.proofs.Common.{◌≡◌, ℕ, ◌+◌, ◌<◌, suc, add-one, true, false, List, [], ◌∷◌, ◌++◌, Option, Some, None, length, get_or, drop, refl, sym, ap, ◌∙◌, subst, append_assoc, inl, inr}
 use Rattle.std.proofs.Math.Seq.{drop-cons}
 use Rattle.std.proofs.lemmas.List.{append-nil}
-use Rattle.suit_commands.specs.Tree.{SequenceTree, BranchesTree, NoBranches, NullThen, BranchThen}
+use Rattle.suit_commands.specs.Tree.{SequenceTree, BranchesTree}
 use Rattle.suit_commands.specs.View.{branches_tree}
-use Rattle.path_model.specs.declared.identity.Identity.{Identity}
 use Rattle.path_model.specs.declared.event.Event.{Event}
-use Rattle.path_model.specs.Behaviour.{State, Ending, Done, Condition}
-use Rattle.path_model.specs.Runs.{Runs, Tries}
+use Rattle.path_model.specs.Behaviour.{State, Ending, Condition}
+use Rattle.path_model.specs.Runs.{Tries}
 use Rattle.path_model.specs.Following.{CoveredFrom, SameMatches}
-use Rattle.path_checker.specs.declared.judge_plan.facts.Knowledge.{Knowledge}
 use Rattle.path_checker.specs.declared.judge_plan.halt.Halt.{Halt}
-use Rattle.path_checker.specs.Knowing.{Allows}
-use Rattle.path_checker.specs.Exploring.{Course, In, Kept, Stopped, Found, Reaches, Leads, Explores, Uncovers, Adds}
-use Rattle.path_checker.specs.Inner.{AllAt, BranchAdds, entered, all_entered, all_left, softly, hardly, resumed, exhausted_at, exhausted}
+use Rattle.path_checker.specs.Exploring.{Course, In, Kept, Stopped, Found, Leads, Explores, Uncovers, Adds}
+use Rattle.path_checker.specs.Inner.{AllAt, BranchAdds, entered, all_entered, all_left, softly, hardly, exhausted_at, exhausted}
 use Rattle.path_checker.specs.Halting.{Halts}
 use Rattle.path_checker.proofs.InnerStates.{softly-from}
 use Rattle.path_checker.proofs.InnerSequences.{inner_course, Explores-inner}

@@ -1,6 +1,5 @@
 -- Going on from where a loop stands.
-use Rattle.std.proofs.Common.{◌≡◌, ℕ, Bool, true, false, List, [], ◌∷◌, ◌++◌, refl, sym, ap, ◌∙◌, subst, append_assoc, inl, inr}
-use Rattle.std.specs.Prelude.{◌⊎◌}
+use Rattle.std.proofs.Common.{ℕ, true, List, [], ◌∷◌, ◌++◌, refl, sym, subst, append_assoc, inl, inr}
 use Rattle.std.proofs.lemmas.List.{append-nil}
 use Rattle.path_model.specs.declared.identity.Identity.{Identity}
 use Rattle.path_model.specs.declared.event.Event.{Event}
@@ -8,7 +7,7 @@ use Rattle.path_model.specs.Behaviour.{State, Ending, Done, Condition, Becomes}
 use Rattle.path_model.specs.Following.{CoveredFrom, SameMatches}
 use Rattle.path_checker.specs.declared.judge_plan.facts.Knowledge.{Knowledge}
 use Rattle.path_checker.specs.Knowing.{Allows}
-use Rattle.path_checker.specs.Exploring.{Course, In, Kept, Stopped, Reaches, Leads, Found, Explores, Uncovers}
+use Rattle.path_checker.specs.Exploring.{Course, In, Kept, Stopped, Leads, Found, Explores, Uncovers}
 use Rattle.path_checker.specs.Inner.{AllAt, all_entered, all_left, softly, hardly}
 use Rattle.path_checker.proofs.Exploring.{then_course, Explores-then, Found-left, Found-right}
 use Rattle.path_checker.proofs.Membership.{In-cases}

@@ -1,6 +1,6 @@
 -- What each condition adds.
 use Rattle.std.proofs.Common.{◌≡◌, ℕ, Bool, true, false, List, [], ◌∷◌, ◌++◌, Option, Some, None, refl, sym, ap, ◌∙◌, subst, inl, inr}
-use Rattle.std.specs.Prelude.{◌⊎◌, is_some, slice_get, option_map}
+use Rattle.std.specs.Prelude.{is_some, slice_get, option_map}
 use Rattle.std.proofs.lemmas.List.{append-nil}
 use Rattle.suit_params.specs.declared.digest.Digest.{Digest}
 use Rattle.suit_params.specs.declared.param.ParamKey.TheVariants as keys
@@ -10,7 +10,7 @@ use Rattle.suit_commands.specs.declared.kinds.TestKind.TheVariants as tests
 use Rattle.path_model.specs.declared.identity.Identity.{Identity}
 use Rattle.path_model.specs.declared.event.Event.{Event}
 use Rattle.path_model.specs.declared.event.Event.TheVariants.{Tried, Matched, Missed, Failed}
-use Rattle.path_model.specs.Behaviour.{State, Ending, Done, Condition}
+use Rattle.path_model.specs.Behaviour.{Done, Condition}
 use Rattle.path_model.specs.CommandLaws.{IsOnIdentity}
 use Rattle.path_model.specs.Conditions.{Tests, Compares, Matches, ChecksContent, vendor_of, class_of, device_of, slot_of}
 use Rattle.path_checker.specs.declared.judge_plan.facts.Own.{Own}
@@ -19,7 +19,7 @@ use Rattle.path_checker.specs.declared.judge_plan.facts.Knowledge.{Knowledge}
 use Rattle.path_checker.specs.Knowing.{Allows, Learns}
 use Rattle.path_checker.specs.Forking.{Has, HasNo}
 use Rattle.path_checker.specs.Wanting.{wanted_by, TestsOwn}
-use Rattle.path_checker.specs.Exploring.{Course, Kept, Stopped, Explores, Adds}
+use Rattle.path_checker.specs.Exploring.{Course, Kept, Stopped, Adds}
 use Rattle.path_checker.specs.Steps.{with_events, knowing, stopped_by}
 use Rattle.path_checker.proofs.Leaves.{Only, Either, Same, Where, Explores-same, Explores-fails, Explores-done, Explores-either, Explores-where}
 

@@ -1,5 +1,5 @@
 -- What each directive adds.
-use Rattle.std.proofs.Common.{◌≡◌, ℕ, Bool, true, false, List, [], ◌∷◌, ◌++◌, Option, Some, None, refl, sym, ap, ◌∙◌, subst, append_assoc, inl, inr, rules}
+use Rattle.std.proofs.Common.{◌≡◌, ℕ, true, false, List, [], ◌∷◌, ◌++◌, Option, Some, None, refl, sym, ap, ◌∙◌, subst, append_assoc, inl, inr, rules}
 use Rattle.std.specs.Prelude.{◌⊎◌, is_some, IsTrue}
 use Rattle.std.proofs.lemmas.List.{append-nil}
 use Rattle.suit_params.specs.declared.digest.Digest.{Digest}
@@ -14,7 +14,7 @@ use Rattle.path_model.specs.Behaviour.{State, Ending, Done, Directive}
 use Rattle.path_model.specs.Directives.{Writes, Acts, Overrides, set_events, soft_after, after_override}
 use Rattle.path_model.specs.Safe.{IsCovered, HasMatched}
 use Rattle.path_model.specs.Following.{CoveredFrom}
-use Rattle.path_checker.specs.Exploring.{Course, Kept, Stopped, Explores, Uncovers, Adds}
+use Rattle.path_checker.specs.Exploring.{Course, Kept, Stopped, Uncovers, Adds}
 use Rattle.path_checker.specs.Steps.{with_events, soft_after_all}
 use Rattle.path_checker.proofs.Leaves.{Only, Either, Same, Explores-same, Explores-done, Explores-ends, Explores-either}
 

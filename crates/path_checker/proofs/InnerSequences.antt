@@ -1,6 +1,5 @@
 -- Exploring inner sequences.
-use Rattle.std.proofs.Common.{◌≡◌, ℕ, Bool, true, false, List, [], ◌∷◌, ◌++◌, refl, sym, ap, ◌∙◌, subst, inl, inr}
-use Rattle.std.specs.Prelude.{◌⊎◌}
+use Rattle.std.proofs.Common.{ℕ, Bool, true, false, List, ◌++◌, refl, sym, ap, subst, inl, inr}
 use Rattle.path_model.specs.declared.identity.Identity.{Identity}
 use Rattle.path_model.specs.declared.event.Event.{Event}
 use Rattle.path_model.specs.Behaviour.{State, Ending, Done, Condition, Directive}

@@ -1,6 +1,5 @@
 -- Which states inner sequences begin with, and which they leave.
-use Rattle.std.proofs.Common.{◌≡◌, ℕ, Bool, true, false, List, [], ◌∷◌, ◌++◌, refl, sym, ap, ◌∙◌, subst, inl, inr}
-use Rattle.std.specs.Prelude.{◌⊎◌}
+use Rattle.std.proofs.Common.{◌≡◌, ℕ, Bool, true, false, List, [], ◌∷◌, refl, ap, ◌∙◌, subst, inl, inr}
 use Rattle.path_model.specs.Behaviour.{State}
 use Rattle.path_checker.specs.Exploring.{In, Kept, Stopped}
 use Rattle.path_checker.specs.Inner.{entered, all_entered, left, all_left, resumed, hardened, if_soft, if_hard, softly, hardly, restarted, all_restarted}

@@ -1,16 +1,16 @@
 -- Exploring a command at one component, from one state.
-use Rattle.std.proofs.Common.{◌≡◌, ℕ, Bool, true, false, List, [], ◌∷◌, ◌++◌, length, refl, sym, ap, ◌∙◌, subst, inl, inr}
+use Rattle.std.proofs.Common.{◌≡◌, ℕ, List, [], ◌∷◌, ◌++◌, refl, sym, ◌∙◌, subst, inl, inr}
 use Rattle.std.specs.Prelude.{◌⊎◌}
 use Rattle.path_model.specs.declared.identity.Identity.{Identity}
 use Rattle.path_model.specs.declared.event.Event.{Event}
 use Rattle.path_model.specs.Behaviour.{State, Ending, Done, Condition, Directive}
-use Rattle.path_model.specs.Following.{CoveredFrom, SameMatches}
+use Rattle.path_model.specs.Following.{CoveredFrom}
 use Rattle.path_checker.specs.declared.judge_plan.facts.Knowledge.{Knowledge}
 use Rattle.path_checker.specs.Knowing.{Allows, Learns}
-use Rattle.path_checker.specs.Exploring.{Course, In, Kept, Stopped, Reaches, Found, Explores, Uncovered, Uncovers}
-use Rattle.path_checker.specs.Steps.{with_events, knowing, stopped_by}
+use Rattle.path_checker.specs.Exploring.{Course, Kept, Stopped, Reaches, Found, Explores}
+use Rattle.path_checker.specs.Steps.{knowing, stopped_by}
 use Rattle.path_checker.proofs.Membership.{In-cases}
-use Rattle.path_checker.proofs.Exploring.{FromOne, FromOne-of, Explores-one, Found-left, Found-right}
+use Rattle.path_checker.proofs.Exploring.{FromOne-of, Explores-one, Found-left, Found-right}
 use Rattle.path_checker.proofs.Histories.{same_matches}
 
 -- the only thing that may happen

@@ -1,12 +1,12 @@
 -- What is learnt of one component is learnt of all.
-use Rattle.std.proofs.Common.{◌≡◌, ◌≢◌, ◌<◌, ◌≤◌, ℕ, zero, suc, List, [], ◌∷◌, ◌++◌, length, get_or, Option, Some, None, refl, sym, ap, ◌∙◌, subst, arith, length-set}
+use Rattle.std.proofs.Common.{◌≡◌, ◌<◌, ◌≤◌, ℕ, zero, suc, List, [], ◌∷◌, length, get_or, Option, sym, ap, ◌∙◌, subst, arith, length-set}
 use Rattle.std.specs.Prelude.{◌↔◌, slice_get, slice_set}
 use Rattle.path_model.specs.declared.identity.Identity.{Identity}
 use Rattle.path_checker.specs.declared.judge_plan.facts.Own.{Own}
 use Rattle.path_checker.specs.declared.judge_plan.facts.Own.TheVariants as owns
 use Rattle.path_checker.specs.declared.judge_plan.facts.Knowledge.{Knowledge}
-use Rattle.path_checker.specs.Knowing.{Allows, AllowsOne, HasOwn, Learns}
-use Rattle.path_checker.specs.Forking.{DecidesOne, NarrowsOne, Has, HasNo}
+use Rattle.path_checker.specs.Knowing.{Allows, Learns}
+use Rattle.path_checker.specs.Forking.{DecidesOne, NarrowsOne, Has}
 
 -- the identity of a component of which something is known
 identity_at : (facts : List Knowledge) (c : ℕ) (d : Knowledge) (fact : Option Identity → Type 0) → c < length facts → DecidesOne (get_or facts c d) fact

@@ -1,10 +1,9 @@
 -- Exploring the branches of a try each.
-use Rattle.std.proofs.Common.{◌≡◌, ℕ, Bool, true, false, List, [], ◌∷◌, ◌++◌, refl, sym, ap, ◌∙◌, subst, inl, inr}
-use Rattle.std.specs.Prelude.{◌⊎◌}
+use Rattle.std.proofs.Common.{ℕ, Bool, true, false, List, ◌++◌, refl, sym, ap, ◌∙◌, subst, inl, inr}
 use Rattle.path_model.specs.declared.identity.Identity.{Identity}
 use Rattle.path_model.specs.declared.event.Event.{Event}
-use Rattle.path_model.specs.Behaviour.{State, Ending, Done, Condition, Directive, Behaviour}
-use Rattle.path_model.specs.Runs.{entry_state, completed_state, after_branch, FailsSoftly, TriesBranch}
+use Rattle.path_model.specs.Behaviour.{State, Ending, Done, Condition, Directive}
+use Rattle.path_model.specs.Runs.{completed_state, after_branch, FailsSoftly, TriesBranch}
 use Rattle.path_model.specs.Following.{CoveredFrom}
 use Rattle.path_checker.specs.declared.judge_plan.facts.Knowledge.{Knowledge}
 use Rattle.path_checker.specs.Knowing.{Allows}

@@ -1,5 +1,5 @@
 -- Identity conditions, by what they ask for.
-use Rattle.std.proofs.Common.{◌≡◌, ℕ, List, [], ◌∷◌, ◌++◌, Option, Some, None, sym, ap, ◌∙◌, subst}
+use Rattle.std.proofs.Common.{◌≡◌, ℕ, List, [], ◌∷◌, ◌++◌, Option, None, ap, ◌∙◌, subst}
 use Rattle.suit_commands.specs.declared.kinds.TestKind.{TestKind}
 use Rattle.suit_params.specs.InForce.{Parameters}
 use Rattle.path_model.specs.CommandLaws.{IsOnIdentity}

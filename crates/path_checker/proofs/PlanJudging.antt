@@ -1,5 +1,5 @@
 -- What exploring a whole procedure tells of it.
-use Rattle.std.proofs.Common.{◌≡◌, ◌≤◌, ◌<◌, ◌^◌, ℕ, zero, suc, List, [], ◌∷◌, ◌++◌, length, refl, sym, ap, ◌∙◌, subst, append_assoc, arith, inl, inr}
+use Rattle.std.proofs.Common.{◌≡◌, ◌≤◌, ◌<◌, ℕ, zero, suc, List, [], ◌∷◌, ◌++◌, length, refl, sym, ap, ◌∙◌, subst, append_assoc, arith, inl, inr}
 use Rattle.suit_commands.specs.Tree.{PlanTree}
 use Rattle.suit_commands.specs.Capped.{capped}
 use Rattle.suit_commands.specs.Numbers.{width_number}
@@ -8,13 +8,13 @@ use Rattle.path_model.specs.declared.event.Event.{Event}
 use Rattle.path_model.specs.declared.event.Event.TheVariants.{Failed}
 use Rattle.path_model.specs.declared.bad_path.BadPath.{BadPath}
 use Rattle.path_model.specs.Behaviour.{Directive}
-use Rattle.path_model.specs.Path.{AreIdentities, Path, RunsPlan, first_state}
-use Rattle.path_model.specs.Safe.{AllCovered, Safe}
+use Rattle.path_model.specs.Path.{RunsPlan, first_state}
+use Rattle.path_model.specs.Safe.{Safe}
 use Rattle.path_model.specs.BadPaths.{IsBadPath}
 use Rattle.path_checker.specs.declared.judge_plan.facts.Knowledge.{Knowledge}
-use Rattle.path_checker.specs.Knowing.{nothing, nothing_known, Allows}
+use Rattle.path_checker.specs.Knowing.{nothing_known, Allows}
 use Rattle.path_checker.specs.Choosing.{IsChosen}
-use Rattle.path_checker.specs.Exploring.{Course, In, Kept, Stopped, Explores, Uncovered, Uncovers, Adds}
+use Rattle.path_checker.specs.Exploring.{Kept, Stopped, Explores, Uncovered, Uncovers, Adds}
 use Rattle.path_checker.specs.Procedures.{first_kept}
 use Rattle.path_checker.specs.declared.judge_plan.CheckVerdict.{CheckVerdict}
 use Rattle.path_checker.specs.declared.judge_plan.CheckVerdict.TheVariants as verdicts

@@ -1,5 +1,5 @@
 -- The components of a procedure of the grammar are few.
-use Rattle.std.proofs.Common.{◌≡◌, ◌≤◌, ◌<◌, ℕ, zero, suc, Bool, true, false, List, [], ◌∷◌, arith}
+use Rattle.std.proofs.Common.{◌≤◌, ◌<◌, ℕ, zero, suc, Bool, true, false, List, [], ◌∷◌, arith}
 use Rattle.std.specs.List.{AllByRecursion}
 use Rattle.suit_commands.specs.declared.selection.Selection.{Selection}
 use Rattle.suit_commands.specs.declared.selection.Selection.TheVariants.{One, All, Listed}

@@ -1,5 +1,5 @@
 -- A loop that takes states from the end of a list, and what one command is.
-use Rattle.std.proofs.Common.{◌≡◌, ℕ, ◌+◌, ◌<◌, suc, add-one, List, [], ◌∷◌, ◌++◌, length, get_or, drop, refl, sym, ap, ◌∙◌, subst, append_assoc, inl, inr, arith}
+use Rattle.std.proofs.Common.{◌≡◌, ℕ, ◌+◌, ◌<◌, add-one, List, [], ◌∷◌, ◌++◌, length, get_or, drop, refl, sym, ap, ◌∙◌, subst, append_assoc, inl, inr, arith}
 use Rattle.std.proofs.Math.Seq.{drop-cons}
 use Rattle.std.proofs.lemmas.List.{append-nil}
 use Rattle.suit_commands.specs.declared.command.Command.{Command}
@@ -14,7 +14,6 @@ use Rattle.path_model.specs.Behaviour.{State, Ending, Done, Directive, Each}
 use Rattle.path_model.specs.Following.{CoveredFrom, SameMatches}
 use Rattle.path_checker.specs.declared.judge_plan.facts.Knowledge.{Knowledge}
 use Rattle.path_checker.specs.declared.judge_plan.halt.Halt.{Halt}
-use Rattle.path_checker.specs.Knowing.{Allows}
 use Rattle.path_checker.specs.Exploring.{Course, In, Kept, Stopped, Found, Reaches, Explores, Uncovers, Uncovered, Adds}
 use Rattle.path_checker.specs.Steps.{At, with_selection}
 use Rattle.path_checker.specs.Halting.{Halts}

@@ -1,13 +1,13 @@
 -- Walks of whole procedures: from where a member or the shared sequence begins.
-use Rattle.std.proofs.Common.{◌≡◌, ℕ, List, [], ◌∷◌, ◌++◌, refl, sym, ap, ◌∙◌, subst, inl, inr}
+use Rattle.std.proofs.Common.{◌≡◌, ℕ, List, [], refl, sym, subst}
 use Rattle.suit_commands.specs.Tree.{SequenceTree, NoSteps, PlanTree}
 use Rattle.path_model.specs.declared.identity.Identity.{Identity}
 use Rattle.path_model.specs.declared.event.Event.{Event}
-use Rattle.path_model.specs.Behaviour.{State, Ending, Done, Condition, Directive}
+use Rattle.path_model.specs.Behaviour.{Ending, Done, Condition, Directive}
 use Rattle.path_model.specs.Path.{RunsPlan}
 use Rattle.path_checker.specs.declared.judge_plan.facts.Knowledge.{Knowledge}
 use Rattle.path_checker.specs.declared.judge_plan.halt.Halt.{Halt}
-use Rattle.path_checker.specs.Exploring.{Course, In, Kept, Stopped, Found, Reaches, Leads, Explores, Uncovered, Uncovers, Adds}
+use Rattle.path_checker.specs.Exploring.{Course, Kept, Stopped, Found, Reaches, Leads, Explores, Uncovered, Uncovers, Adds}
 use Rattle.path_checker.specs.Inner.{restarted, all_restarted}
 use Rattle.path_checker.specs.Procedures.{FromStart}
 use Rattle.path_checker.specs.Halting.{Halts}

@@ -1,6 +1,5 @@
 -- An invoke that is not covered, seen from the commands round it.
 use Rattle.std.proofs.Common.{◌≡◌, ℕ, Bool, true, false, List, [], ◌∷◌, ◌++◌, length, refl, sym, ap, ◌∙◌, subst, append_assoc, inl, inr}
-use Rattle.std.specs.Prelude.{◌⊎◌}
 use Rattle.path_model.specs.declared.identity.Identity.{Identity}
 use Rattle.path_model.specs.declared.event.Event.{Event}
 use Rattle.path_model.specs.declared.event.Event.TheVariants.{Failed}
@@ -10,7 +9,7 @@ use Rattle.path_model.specs.Safe.{IsCovered}
 use Rattle.path_model.specs.Following.{CoveredFrom}
 use Rattle.path_checker.specs.declared.judge_plan.facts.Knowledge.{Knowledge}
 use Rattle.path_checker.specs.Knowing.{Allows}
-use Rattle.path_checker.specs.Exploring.{Course, In, Kept, Stopped, Reaches, Explores, Uncovered, Uncovers}
+use Rattle.path_checker.specs.Exploring.{Course, Kept, Stopped, Reaches, Explores, Uncovered, Uncovers}
 use Rattle.path_checker.specs.Inner.{entered, all_entered, AllAt, resumed, softly}
 use Rattle.path_checker.proofs.Exploring.{then_course}
 use Rattle.path_checker.proofs.InnerStates.{entered-from, softly-from}

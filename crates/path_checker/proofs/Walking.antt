@@ -1,5 +1,5 @@
 -- The steps of a walk through a sequence.
-use Rattle.std.proofs.Common.{◌≡◌, ℕ, ◌+◌, ◌<◌, suc, add-one, List, [], ◌∷◌, ◌++◌, length, get_or, drop, refl, sym, ap, ◌∙◌, subst, append_assoc}
+use Rattle.std.proofs.Common.{◌≡◌, ℕ, ◌+◌, ◌<◌, add-one, List, [], ◌++◌, length, get_or, drop, refl, sym, ap, ◌∙◌, subst, append_assoc}
 use Rattle.std.proofs.Math.Seq.{drop-cons}
 use Rattle.std.proofs.lemmas.List.{append-nil}
 use Rattle.suit_commands.specs.declared.command.Step.{Step}
@@ -10,7 +10,7 @@ use Rattle.path_model.specs.Runs.{Runs, Does}
 use Rattle.path_checker.specs.declared.judge_plan.facts.Knowledge.{Knowledge}
 use Rattle.path_checker.specs.declared.judge_plan.halt.Halt.{Halt}
 use Rattle.path_checker.specs.declared.judge_plan.halt.Halt.TheVariants as halts
-use Rattle.path_checker.specs.Exploring.{Course, Kept, Stopped, Explores, Uncovers, Adds}
+use Rattle.path_checker.specs.Exploring.{Course, Kept, Stopped, Uncovers, Adds}
 use Rattle.path_checker.specs.Halting.{Halts}
 use Rattle.path_checker.proofs.Exploring.{then_course}
 use Rattle.path_checker.proofs.Uncovering.{Uncovers-first}

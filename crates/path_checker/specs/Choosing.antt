@@ -1,5 +1,5 @@
 -- Which identities are told of a path.
-use Rattle.std.specs.Prelude.{◌≡◌, ◌<◌, ℕ, List}
+use Rattle.std.specs.Prelude.{◌<◌, ℕ, List}
 use Rattle.std.specs.List.{AllByRecursion}
 use Rattle.path_model.specs.declared.identity.Identity.{Identity}
 use Rattle.path_model.specs.Path.{IsIdentity}

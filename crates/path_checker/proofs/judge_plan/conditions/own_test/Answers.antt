@@ -1,4 +1,4 @@
-use Rattle.std.proofs.Common.{ap, ◌∙◌, subst, false, true, List, [], ◌∷◌, ◌++◌}
+use Rattle.std.proofs.Common.{ap, ◌∙◌, subst, false, true, [], ◌∷◌, ◌++◌}
 use Rattle.path_model.specs.declared.event.Event.TheVariants.{Tried, Failed}
 use Rattle.path_checker.specs.declared.judge_plan.facts.Fork.{Fork}
 use Rattle.path_checker.specs.declared.judge_plan.facts.Fork.TheVariants as forks

@@ -1,4 +1,4 @@
-use Rattle.std.proofs.Common.{rules, ◌≡◌, ◌≢◌, List, [], ◌∷◌, ◌++◌, get_or, Option, Some, None, ℕ, sym, ap, ◌∙◌, subst}
+use Rattle.std.proofs.Common.{rules, ◌≡◌, ◌≢◌, [], ◌∷◌, ◌++◌, get_or, Some, None, sym, ap, ◌∙◌, subst}
 use Rattle.std.specs.Cmp.Lexicographic.{other_text}
 use Rattle.std.proofs.lemmas.List.{take_all}
 use Rattle.path_checker.specs.Forking.{Narrows}

@@ -1,4 +1,4 @@
-use Rattle.std.proofs.Common.{sym, subst, [], List}
+use Rattle.std.proofs.Common.{sym, subst, []}
 use Rattle.std.proofs.lemmas.Result.{IfOk-weaker, IfErr-weaker}
 use Rattle.std.specs.Prelude.{Option, IfOk, IfErr}
 use Rattle.std.specs.Borrow.{Bor}

@@ -1,6 +1,6 @@
-use Rattle.std.proofs.Common.{◌≡◌, ◌++◌, [], ◌∷◌, drop, length}
+use Rattle.std.proofs.Common.{◌≡◌, [], ◌∷◌, drop, length}
 use Rattle.suit_commands.specs.View.{sequence_tree, branches_tree, command_tree}
-use Rattle.path_checker.specs.Small.{AreSmall, IsSmallSequence, IsSmallCommand, AreSmallBranches}
+use Rattle.path_checker.specs.Small.{AreSmall, IsSmallSequence, AreSmallBranches}
 use Rattle.path_checker.specs.Steps.{At}
 use Rattle.path_checker.proofs.Walking.{Walks, runs_course, does_course}
 use Rattle.path_checker.proofs.Popping.{Pops, each_course}
