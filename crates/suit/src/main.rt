@@ -2,8 +2,10 @@
 //! the status of that call.
 #![tactic(auto)]
 
+mod source;
 mod words;
 
+use source::Started;
 use std::process::ExitCode;
 use suit_cli::{Status, run};
 use suit_edge::{FileHost, StdSink};
@@ -14,7 +16,7 @@ const OUT_OF_MEMORY: u8 = 11;
 
 fn main(rt: HostRuntime) -> ExitCode {
     let alloc = rt.alloc();
-    let Ok(words) = command_line(&rt, alloc) else {
+    let Ok(words) = command_line(&Started::new(&rt), alloc) else {
         return ExitCode::from(OUT_OF_MEMORY);
     };
     let mut host = FileHost::new(&rt);

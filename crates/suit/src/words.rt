@@ -1,8 +1,11 @@
 //! The words of the command line.
 
+ghost use Rattle.std.specs.Prelude.{IsTrue, IfOk, option_map, slice_get};
+ghost use Rattle.suit.specs.CommandLine.{IsHandedOn, IsFound, AreHandedOn};
+
+use crate::source::{Found, Source};
 use det_cbor::{Names, Text};
 use std::alloc::{AllocError, Global};
-use std::env::{Env, FillError};
 use std::str;
 
 /// The bytes of a word that fit at first; the room doubles for a longer one.
@@ -10,30 +13,34 @@ const ROOM: usize = 4096;
 
 /// The words of the command line without the program's name. A word that is not UTF-8 is handed on as `-`, which no
 /// command takes.
-pub fn command_line(rt: &impl Env, alloc: Global) -> Result<Names, AllocError> {
+pub fn command_line<S: Source>(source: &S, alloc: Global) -> Result<Names, AllocError>
+    ensures { IfOk result (λ names. IsTrue S.told → AreHandedOn (S.words source.now) names) }
+{
     let mut words = Names::new(alloc);
     let mut room = vec![in alloc; 0u8; ROOM]?;
-    for index in 1..usize::MAX {
-        match word_at(rt, alloc, index, &mut room)? {
+    for index in 0..usize::MAX {
+        match word_at(source, alloc, index, &mut room)? {
             Some(word) => words.push(word)?,
-            None => break,
+            None => return Ok(words),
         }
     }
-    Ok(words)
+    Err(AllocError)
 }
 
 // The word at an index, or `None` past the last one.
-fn word_at(
-    rt: &impl Env,
+fn word_at<S: Source>(
+    source: &S,
     alloc: Global,
     index: usize,
     room: &mut Vec<u8>,
-) -> Result<Option<Text>, AllocError> {
+) -> Result<Option<Text>, AllocError>
+    ensures { IfOk result (λ word. IsTrue S.told → IsFound (slice_get (S.words source.now) index) word) }
+{
     for _ in 0..usize::BITS {
-        match rt.arg(index, room.as_mut_slice()) {
-            Ok(length) => return Ok(Some(text_of(alloc, &room[..length])?)),
-            Err(FillError::NotPresent) => return Ok(None),
-            Err(FillError::TooLong) => double(alloc, room)?,
+        match source.word(index, room.as_mut_slice()) {
+            Found::Word(length) => return Ok(Some(text_of(alloc, &room[..length])?)),
+            Found::End => return Ok(None),
+            Found::TooLong => double(alloc, room)?,
         }
     }
     Err(AllocError)
@@ -46,7 +53,10 @@ fn double(alloc: Global, room: &mut Vec<u8>) -> Result<(), AllocError> {
     Ok(())
 }
 
-fn text_of(alloc: Global, bytes: &[u8]) -> Result<Text, AllocError> {
+// The bytes of a word as text, or a dash where they are no UTF-8.
+fn text_of(alloc: Global, bytes: &[u8]) -> Result<Text, AllocError>
+    ensures { IfOk result (IsHandedOn bytes.now) }
+{
     match str::from_utf8(bytes) {
         Ok(text) => Text::from_str(alloc, text),
         Err(_) => Text::from_str(alloc, "-"),
