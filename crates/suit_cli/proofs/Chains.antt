@@ -1,5 +1,5 @@
 -- How the code's steps make a chain of stages.
-use Rattle.std.proofs.Common.{◌≡◌, ℕ, List, Option, None, false, Result, Ok, Err, refl, sym, subst}
+use Rattle.std.proofs.Common.{◌≡◌, ℕ, List, None, false, Result, Ok, Err, refl, sym, subst}
 use Rattle.std.specs.Result.{IsErrAnd}
 use Rattle.std.specs.Prelude.{OnOk}
 use Rattle.std.specs.declared.alloc.AllocError.{AllocError}
@@ -16,7 +16,7 @@ use Rattle.suit_cli.specs.declared.reply.Reply.{Reply}
 use Rattle.suit_cli.specs.declared.reply.Stop.{Stop}
 use Rattle.suit_cli.specs.declared.reply.Stop.TheVariants as stops
 use Rattle.suit_cli.specs.Outside.{Outside}
-use Rattle.suit_cli.specs.Stages.{Ending, Answers, Stage, Then, Goes, Declines, Faults, Lacks, Last, Ends, EndsWithout, Does, Finds, Tells, ending_of}
+use Rattle.suit_cli.specs.Stages.{Ending, Answers, Stage, Then, Declines, Faults, Lacks, Last, EndsWithout, Does, Finds, Tells, ending_of}
 use Rattle.suit_cli.specs.Replies.{Makes, stop_of}
 use Rattle.suit_cli.specs.Texts.{refusal_line, usage_line}
 use Rattle.suit_cli.specs.Words.{task_of}
@@ -24,7 +24,7 @@ use Rattle.suit_cli.specs.Program.{task_in, answers}
 use Rattle.suit_cli.specs.Envelopes.{AreBytes, envelope_in, members_in}
 use Rattle.suit_cli.specs.Accepting.{TellsFault}
 use Rattle.suit_cli.specs.Commands.{shows_file, does}
-use Rattle.suit_cli.specs.Judgement.{narrow, IsNarrow, AreJudged}
+use Rattle.suit_cli.specs.Judgement.{narrow, AreJudged}
 
 -- a judgement stands anywhere
 pub anywhere : Outside

@@ -1,5 +1,5 @@
 -- Where each command stops.
-use Rattle.std.proofs.Common.{◌≡◌, ℕ, ◌+◌, List, Option, Some, None, ◌⊎◌, inl, inr, refl, sym, ap, subst, ◌∙◌, ◌<◌, arith}
+use Rattle.std.proofs.Common.{◌≡◌, ℕ, ◌+◌, List, Option, ◌⊎◌, inl, inr, refl, sym, ap, subst, ◌∙◌, arith}
 use Rattle.std.specs.Prelude.{IsTrue}
 use Rattle.suit_envelope.specs.Envelopes.{EnvelopeSays}
 use Rattle.suit_envelope.specs.EnvelopeLaws.{EnvelopeLaws}
@@ -12,13 +12,13 @@ use Rattle.suit_manifest.specs.MembersLaws.{MembersLaws}
 use Rattle.suit_cli.specs.declared.reply.Reply.{Reply}
 use Rattle.suit_cli.specs.declared.reply.Outcome.TheVariants as outcomes
 use Rattle.suit_cli.specs.Outside.{Outside, Reads}
-use Rattle.suit_cli.specs.Stages.{Says, Goes, Declines, Last, Ends}
-use Rattle.suit_cli.specs.Inputs.{longest_file, longest_key, IsRead, IsUnread, IsAbsent, IsTooLong, IsKey, IsNoKey, IsUnreadKey, IsEmptyKey}
+use Rattle.suit_cli.specs.Stages.{Says, Goes, Declines, Ends}
+use Rattle.suit_cli.specs.Inputs.{longest_key, IsRead, IsUnread, IsAbsent, IsTooLong, IsKey, IsNoKey, IsUnreadKey, IsEmptyKey}
 use Rattle.suit_cli.specs.Holding.{HasManifest}
 use Rattle.suit_cli.specs.Shown.{IsShown, authenticity_outcome}
 use Rattle.suit_cli.specs.Commands.{shows_manifest, shows}
 use Rattle.suit_cli.specs.CommandLaws.{NoManifest, CheckLaws, ShowSays, BeforeKey, AtKey, AtLines, ShowsUnder, ShowLaws}
-use Rattle.suit_cli.proofs.OneStage.{Alike, passes, stands, one_key}
+use Rattle.suit_cli.proofs.OneStage.{passes, stands, one_key}
 use Rattle.suit_cli.proofs.Running.{Reached, reaches, manifest_passed, no_manifest_stands, check_says, check_always, last_says}
 
 pub check_laws : EnvelopeLaws → ManifestLaws → MembersLaws → CheckLaws

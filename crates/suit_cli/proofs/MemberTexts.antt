@@ -1,5 +1,5 @@
 -- The lines of members, one after another.
-use Rattle.std.proofs.Common.{◌≡◌, List, ℕ, ◌++◌, sym, ap, ◌∙◌}
+use Rattle.std.proofs.Common.{◌≡◌, List, ℕ, ◌++◌}
 use Rattle.std.proofs.lemmas.List.{append_assoc}
 
 -- seven pieces are added

@@ -1,5 +1,5 @@
 -- The uniqueness of stages: one that gives one value or one refusal, and never both, makes a chain that goes one way.
-use Rattle.std.proofs.Common.{◌≡◌, ℕ, List, [], Bool, true, Option, Some, None, refl, sym, ap, subst, ◌∙◌, ◌<◌, ◌≤◌, ◌⊎◌, inl, inr, length, arith}
+use Rattle.std.proofs.Common.{◌≡◌, ℕ, List, [], Option, Some, None, refl, sym, ap, subst, ◌∙◌, ◌<◌, ◌≤◌, ◌⊎◌, inl, inr, length, arith}
 use Rattle.std.specs.Prelude.{IsTrue}
 use Rattle.std.proofs.lemmas.Option.{same_Some}
 use Rattle.suit_params.specs.declared.refusal.Refusal.{Refusal}
@@ -21,12 +21,11 @@ use Rattle.suit_cli.specs.declared.reply.Outcome.{Outcome}
 use Rattle.suit_cli.specs.declared.reply.Outcome.TheVariants as outcomes
 use Rattle.suit_cli.specs.Replies.{IsReply}
 use Rattle.suit_cli.specs.Texts.{refusal_line}
-use Rattle.suit_cli.specs.Words.{Task, task_of}
-use Rattle.suit_cli.specs.Outside.{Outside, Quiet, Reads}
+use Rattle.suit_cli.specs.Outside.{Outside, Reads}
 use Rattle.suit_cli.specs.Stages.{Answers, Stage, Then, Goes, Declines, Says}
-use Rattle.suit_cli.specs.Inputs.{IsRead, IsUnread, IsAbsent, IsTooLong, IsAbove, file, longest_key, IsKey, IsNoKey, IsUnreadKey, IsEmptyKey, key_in}
-use Rattle.suit_cli.specs.Envelopes.{IsRefused, AreBytes, envelope_in, longest_trimmed, trimmed_size, IsShort, IsLong, short, manifest_in, TellsLack, IsLack, members_in}
-use Rattle.suit_cli.specs.Judgement.{IsNarrow, IsWide, narrow}
+use Rattle.suit_cli.specs.Inputs.{IsRead, IsUnread, IsAbsent, IsTooLong, file, longest_key, IsKey, IsNoKey, IsUnreadKey, IsEmptyKey, key_in}
+use Rattle.suit_cli.specs.Envelopes.{IsRefused, envelope_in, longest_trimmed, trimmed_size, short, manifest_in, TellsLack, IsLack, members_in}
+use Rattle.suit_cli.specs.Judgement.{narrow}
 use Rattle.suit_cli.specs.Program.{task_in}
 
 -- two moments of hosts that tell the same files

@@ -11,13 +11,12 @@ use Rattle.suit_manifest.specs.MembersLaws.{MembersLaws}
 use Rattle.suit_cli.specs.declared.reply.Reply.{Reply}
 use Rattle.suit_cli.specs.declared.reply.Outcome.TheVariants as outcomes
 use Rattle.suit_cli.specs.Texts.{usage_line}
-use Rattle.suit_cli.specs.Words.{Task, Check, Show, task_of}
+use Rattle.suit_cli.specs.Words.{Check, Show, task_of}
 use Rattle.suit_cli.specs.Outside.{Outside, Sunk, Quiet}
 use Rattle.suit_cli.specs.Stages.{Ending, Says, HostFault, NoMemory, Goes, Declines}
 use Rattle.suit_cli.specs.Statuses.{status_of, ending_status, ending_text}
 use Rattle.suit_cli.specs.Judgement.{AreSafe, AreJudged, JudgedSafe, JudgedUnsafe}
 use Rattle.suit_cli.specs.Shown.{authenticity_outcome}
-use Rattle.suit_cli.specs.Commands.{checks, does}
 use Rattle.suit_cli.specs.Program.{answers, PutsText, IsPut, IsCut, Runs, EndsIn, IsStatus, OfEnding, OfSinkFault, ChecksProcedures, IsCheck, ChecksSafe, ChecksUnsafe, IsUsage, IsCutOff, most_pulled}
 use Rattle.suit_cli.proofs.Running.{Declining, IsJudged, checked, judged_when, judged_safe, judged_unsafe, done_safe, unsafe_shows, IsShownOf, showed, status_done, status_unsafe, status_usage, not_seven, not_nine_ending, does_of, judged_task, unsafe_refuted}
 use Rattle.suit_cli.proofs.StagesKeep.{Counts, answers_keeps}

@@ -1,8 +1,7 @@
 -- What a run that had an answer and put it says of its status.
-use Rattle.std.proofs.Common.{◌≡◌, ℕ, List, Bool, true, Option, Some, None, ◌⊎◌, inl, inr, refl, sym, ap, subst, ◌∙◌, ◌++◌, ◌+◌, ◌≤◌, ◌<◌, arith}
-use Rattle.std.specs.Prelude.{IsTrue, ◌≢◌}
+use Rattle.std.proofs.Common.{◌≡◌, ℕ, List, Some, None, ◌⊎◌, inl, inr, refl, sym, subst, ◌∙◌, ◌+◌, arith}
+use Rattle.std.specs.Prelude.{IsTrue}
 use Rattle.std.proofs.lemmas.Option.{same_Some}
-use Rattle.suit_edge.specs.Faults.{Faulted}
 use Rattle.suit_commands.specs.Tree.{PlanTree}
 use Rattle.suit_envelope.specs.Envelopes.{EnvelopeSays}
 use Rattle.suit_envelope.specs.EnvelopeLaws.{EnvelopeLaws}
@@ -18,19 +17,18 @@ use Rattle.suit_cli.specs.declared.reply.Reply.{Reply}
 use Rattle.suit_cli.specs.declared.reply.Outcome.{Outcome}
 use Rattle.suit_cli.specs.declared.reply.Outcome.TheVariants as outcomes
 use Rattle.suit_cli.specs.Replies.{IsReply}
-use Rattle.suit_cli.specs.Texts.{usage_line}
 use Rattle.suit_cli.specs.Words.{Task, Check, Show, task_of}
-use Rattle.suit_cli.specs.Outside.{Outside, Sunk, Quiet, Reads, Fails}
-use Rattle.suit_cli.specs.Stages.{Ending, Says, HostFault, NoMemory, Answers, Stage, Then, Goes, Declines, Faults, Lacks, Last, Ends, EndsWithout}
-use Rattle.suit_cli.specs.Statuses.{status_of, ending_status, ending_text, sink_fault_status}
+use Rattle.suit_cli.specs.Outside.{Outside, Quiet, Reads}
+use Rattle.suit_cli.specs.Stages.{Ending, Says, HostFault, NoMemory, Answers, Goes, Declines, Last, Ends}
+use Rattle.suit_cli.specs.Statuses.{status_of, ending_status}
 use Rattle.suit_cli.specs.Inputs.{longest_file, longest_key, IsUnread, IsAbsent, IsTooLong, IsNoKey, IsUnreadKey, IsEmptyKey}
-use Rattle.suit_cli.specs.Envelopes.{IsRefused, IsLong, IsLack, TellsLack}
-use Rattle.suit_cli.specs.Holding.{HasEnvelope, HasManifest, HasProcedures}
+use Rattle.suit_cli.specs.Envelopes.{TellsLack}
+use Rattle.suit_cli.specs.Holding.{HasManifest, HasProcedures}
 use Rattle.suit_cli.specs.CommandLaws.{NoManifest, AtFile, AtEnvelope, AtLength, AtManifest, CheckSays, BeforeMembers, AtMembers, AtUpdateWidth, AtInvocationWidth, AtPaths, SameButPath}
 use Rattle.suit_cli.specs.Judgement.{IsNarrow, AreSafe, AreJudged, JudgedSafe, JudgedUnsafe, ShowUnsafe, UpdateUnsafe, InvocationUnsafe}
 use Rattle.suit_cli.specs.Shown.{IsShown, authenticity_outcome}
 use Rattle.suit_cli.specs.Commands.{in_manifest, judges_manifest, checks, shows_manifest, shows, does}
-use Rattle.suit_cli.specs.Program.{answers, PutsText, IsPut, IsCut, Puts, Runs, IsExcuse, EndsIn, IsStatus, OfEnding, OfSinkFault, ChecksProcedures, IsCheck, ChecksSafe, ChecksUnsafe, IsUsage, IsCutOff, most_pulled}
+use Rattle.suit_cli.specs.Program.{answers}
 use Rattle.suit_cli.proofs.BadPathLaws.{IsBadPath-not_safe}
 use Rattle.suit_cli.proofs.OneStage.{Alike, alike_self, passes, stands, one_reply, one_file, one_envelope, one_short, one_manifest, one_members, one_narrow}
 

@@ -1,5 +1,5 @@
 -- What the stages of an answer leave alone, and what they count.
-use Rattle.std.proofs.Common.{◌≡◌, ℕ, List, Some, None, refl, sym, ap, subst, ◌∙◌, ◌+◌, ◌≤◌, arith}
+use Rattle.std.proofs.Common.{◌≡◌, ℕ, List, Some, refl, sym, ap, subst, ◌∙◌, ◌+◌, arith}
 use Rattle.std.specs.Prelude.{IsTrue}
 use Rattle.suit_edge.specs.Faults.{Faulted}
 use Rattle.suit_cli.specs.declared.reply.Reply.{Reply}

@@ -1,5 +1,5 @@
 -- The stages that judge an envelope, its manifest, and the members that stand apart (draft-ietf-suit-manifest-25, section 8).
-use Rattle.std.specs.Prelude.{◌≡◌, ◌<◌, ◌≤◌, ℕ, List, length, codes}
+use Rattle.std.specs.Prelude.{◌<◌, ◌≤◌, ℕ, List, length, codes}
 use Rattle.std.specs.List.{AllByRecursion}
 use Rattle.det_cbor.specs.DataItem.{IsByte}
 use Rattle.suit_params.specs.declared.refusal.Refusal.{Refusal}

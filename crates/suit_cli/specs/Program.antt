@@ -1,5 +1,5 @@
 -- What a run of the program comes to.
-use Rattle.std.specs.Prelude.{◌≡◌, ◌≢◌, ◌⊎◌, ◌+◌, ℕ, IsTrue, List, [], ◌++◌, take, Option, Some, None}
+use Rattle.std.specs.Prelude.{◌≡◌, ◌⊎◌, ◌+◌, ℕ, IsTrue, List, ◌++◌, take, Option, Some, None}
 use Rattle.suit_edge.specs.Faults.{Faulted}
 use Rattle.suit_commands.specs.Tree.{PlanTree}
 use Rattle.suit_cli.specs.declared.reply.Outcome.TheVariants as outcomes

@@ -1,5 +1,4 @@
 use Rattle.std.proofs.Common.{arith, refl, subst, sym, Err}
-use Rattle.suit_envelope.specs.Envelopes.{EnvelopeSays}
 use Rattle.suit_cli.specs.declared.reply.Stop.{Stop}
 use Rattle.suit_cli.specs.Stages.{Does}
 use Rattle.suit_cli.specs.Envelopes.{envelope_in}

@@ -1,4 +1,4 @@
-use Rattle.std.proofs.Common.{subst, sym, List, ℕ}
+use Rattle.std.proofs.Common.{subst, List, ℕ}
 use Rattle.suit_cli.specs.Outside.{Outside}
 use Rattle.suit_cli.specs.Stages.{Goes, ending_of}
 use Rattle.suit_cli.specs.Commands.{judges_file}

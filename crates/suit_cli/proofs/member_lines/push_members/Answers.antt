@@ -1,4 +1,4 @@
-use Rattle.std.proofs.Common.{List, ℕ, refl, ap, ◌∙◌, ◌++◌}
+use Rattle.std.proofs.Common.{refl, ap, ◌∙◌, ◌++◌}
 use Rattle.std.specs.Prelude.{codes}
 use Rattle.suit_cli.specs.declared.member_lines.MemberState.{MemberState}
 use Rattle.suit_cli.specs.Texts.{member_line}

@@ -1,6 +1,4 @@
-use Rattle.suit_cli.specs.Outside.{Outside, Sunk}
 use Rattle.suit_cli.specs.Stages.{ending_of}
-use Rattle.suit_cli.specs.Program.{Runs}
 use Rattle.suit_cli.proofs.RunClauses.{yes, only_yes, no_path, only_no, usage, only_usage, stays, is_status, host_fault, only_host_fault, output_fault, only_output_fault}
 use Rattle.suit_cli.proofs.program.run.Goals as goal
 

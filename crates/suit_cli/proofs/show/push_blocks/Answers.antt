@@ -1,4 +1,4 @@
-use Rattle.std.proofs.Common.{◌≡◌, ◌<◌, ap, ◌∙◌, ◌++◌, List, ℕ, length, arith}
+use Rattle.std.proofs.Common.{◌<◌, ap, ◌∙◌, ◌++◌, List, ℕ, length, arith}
 use Rattle.suit_envelope.specs.WrapperParts.{WrapperSays}
 use Rattle.suit_cli.specs.Texts.{block_line}
 use Rattle.suit_cli.proofs.BlockLoop.{walks_on, walk_finds, goes_on, goes_end}
