@@ -5,7 +5,7 @@ use Rattle.flash_layout.specs.declared.layout.Memory.TheVariants.{Ram}
 use Rattle.flash_layout.specs.declared.place.Places.{Places}
 use Rattle.flash_layout.specs.Placement.{HasPlace, IsUnknown, ArePlaces, HaveOtherPlaces, IsFirstUnknown}
 
-other_default : {A : Type 0} (xs : List A) (i : ℕ) (d e : A) → i < length xs → get_or xs i d ≡ get_or xs i e
+pub other_default : {A : Type 0} (xs : List A) (i : ℕ) (d e : A) → i < length xs → get_or xs i d ≡ get_or xs i e
 other_default [] i d e lt = absurd (omega (arith, lt))
 other_default (x ∷ xs) zero d e lt = refl
 other_default (x ∷ xs) (suc i) d e lt = other_default xs i d e (omega (arith, lt))

@@ -1,7 +1,10 @@
-pub mod Spellings
-pub mod Allowing
-pub mod Steps
-pub mod Laws
-pub mod Found
-pub mod Loading
-pub mod OneAnswers
+mod Allowing
+mod BlankKept
+mod Found
+mod Gating
+mod Laws
+mod Loading
+mod OneAnswers
+mod Spellings
+mod Steps
+mod Zeros

@@ -9,7 +9,7 @@ use Rattle.flash_layout.specs.ConfigPage.{config_page, IsConfigPage}
 use Rattle.flash_layout.specs.Configs.{Blank, Bad, Configured, IsBlank, IsBad, IsConfigured}
 use Rattle.flash_layout.specs.ConfigLaws.{OneConfig, OneAnswer}
 
-opens : (frame : Frame) (layout : List Entry) (key : Key) → get_or (config_page frame layout key) 0 0 ≡ 0xA5
+pub opens : (frame : Frame) (layout : List Entry) (key : Key) → get_or (config_page frame layout key) 0 0 ≡ 0xA5
 unfolding config_page
 opens frame layout key = refl
 

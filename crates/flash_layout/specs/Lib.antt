@@ -8,4 +8,5 @@ pub mod PageReading
 pub mod ConfigLaws
 pub mod Configs
 pub mod LoadLaws
+pub mod Formats
 pub mod Placement

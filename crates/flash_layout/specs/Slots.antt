@@ -35,12 +35,16 @@ slot_content slot image = content_of slot.capacity (slot_bytes slot image)
 
 -- ---- the slots of a layout
 
+-- the slot of a component that starts there
+abbrev pub slot_at : Entry → ℕ → Slot
+slot_at e p = record { start = p; capacity = e.capacity }
+
 abbrev pub slots_of : Entry → List Slot
-slots_of e = map (λ p. record { start = p; capacity = e.capacity }) (slot_starts e)
+slots_of e = map (slot_at e) (slot_starts e)
 
 abbrev pub layout_slots : List Entry → List Slot
 layout_slots layout = flat_map slots_of layout
 
 -- each slot is empty
 abbrev pub AreEmpty : List Entry → List ℕ → Type 0
-AreEmpty layout image = All (λ e. All (λ slot. slot_content slot image ≡ []) (slots_of e)) layout
+AreEmpty layout image = All (λ e. All (λ p. slot_content (slot_at e p) image ≡ []) (slot_starts e)) layout

@@ -31,13 +31,19 @@ fn component(alloc: Global, starts: [u64; 2], capacity: u64) -> Result<Entry, Al
     })
 }
 
-fn layout_of(alloc: Global, entry: Entry) -> Result<Layout, AllocError> {
+fn layout_with(alloc: Global, entry: Entry) -> Result<Layout, AllocError> {
     let mut layout = Layout::new(alloc);
     layout.push(entry)?;
     Ok(layout)
 }
 
-fn key() -> Key {
+/// A component with two slots of 1,024 bytes.
+pub(crate) fn device(alloc: Global) -> Result<Layout, AllocError> {
+    layout_with(alloc, component(alloc, [49152, 50184], 1024)?)
+}
+
+/// A key of two bytes.
+pub(crate) fn key() -> Key {
     let mut bytes = [0; 64];
     bytes[0] = 0x61;
     bytes[1] = 0x62;
@@ -46,7 +52,7 @@ fn key() -> Key {
 
 // The page of the device's layout and key.
 fn page(alloc: Global) -> Result<[u8; PAGE_BYTES], AllocError> {
-    let layout = layout_of(alloc, component(alloc, [49152, 50184], 1024)?)?;
+    let layout = device(alloc)?;
     let mut bytes = [0; PAGE_BYTES];
     if is_layout(SIZE, &layout) {
         bytes.copy_from_slice(write_page(&layout, &key()).as_slice());
@@ -137,34 +143,34 @@ fn slots_that_share_a_byte_are_refused(rt: HostRuntime) -> Result<(), Fail> {
     assert!(rt;
         is_layout(
             SIZE,
-            &layout_of(alloc, component(alloc, [49152, 50184], 1024)?)?
+            &layout_with(alloc, component(alloc, [49152, 50184], 1024)?)?
         )
     );
     assert!(rt;
         !is_layout(
             SIZE,
-            &layout_of(alloc, component(alloc, [49152, 50183], 1024)?)?
+            &layout_with(alloc, component(alloc, [49152, 50183], 1024)?)?
         )
     );
     assert!(rt;
         !is_layout(
             SIZE,
-            &layout_of(alloc, component(alloc, [49152, 64505], 1024)?)?
+            &layout_with(alloc, component(alloc, [49152, 64505], 1024)?)?
         )
     );
     assert!(rt;
         !is_layout(
             SIZE,
-            &layout_of(alloc, component(alloc, [49151, 50184], 1024)?)?
+            &layout_with(alloc, component(alloc, [49151, 50184], 1024)?)?
         )
     );
     assert!(rt;
         !is_layout(
             SIZE,
-            &layout_of(alloc, component(alloc, [49152, 50184], 0)?)?
+            &layout_with(alloc, component(alloc, [49152, 50184], 0)?)?
         )
     );
-    let mut two = layout_of(alloc, component(alloc, [49152, 50184], 1024)?)?;
+    let mut two = layout_with(alloc, component(alloc, [49152, 50184], 1024)?)?;
     two.push(component(alloc, [52000, 54000], 1024)?)?;
     assert!(rt; !is_layout(SIZE, &two));
     assert!(rt; !is_layout(SIZE, &Layout::new(alloc)));
@@ -189,7 +195,7 @@ fn a_configuration_is_loaded(rt: HostRuntime) -> Result<(), Fail> {
 #[test]
 fn components_have_their_places(rt: HostRuntime) -> Result<(), Fail> {
     let alloc = rt.alloc();
-    let mut layout = layout_of(alloc, component(alloc, [49152, 50184], 1024)?)?;
+    let mut layout = layout_with(alloc, component(alloc, [49152, 50184], 1024)?)?;
     let mut other = component(alloc, [52000, 54000], 1024)?;
     other.identifier = identifier(alloc, 1)?;
     layout.push(other)?;

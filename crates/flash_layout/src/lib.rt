@@ -1,6 +1,7 @@
 //! The flash's layout: which components a device has and where, and the configuration page that says so.
 #![tactic(auto)]
 
+mod formatting;
 mod frame;
 mod id_reading;
 mod key;
@@ -17,6 +18,7 @@ mod slot;
 mod spelling;
 mod typing;
 
+pub use formatting::{Formatted, format};
 pub use frame::{
     CONFIG_GATE, Frame, LENGTH_SIZE, MAX_ENTRIES, SLOTS_START, VERSION_1, bank, record_page,
 };
@@ -29,5 +31,7 @@ pub use placing::places;
 pub use rules::{MAX_RAM, is_layout, slots_of};
 pub use slot::{FlashFault, Record, Slot};
 
+#[cfg(test)]
+mod format_tests;
 #[cfg(test)]
 mod layout_tests;

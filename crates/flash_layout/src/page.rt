@@ -1,6 +1,6 @@
 //! The bytes of the configuration page, and how they are put together without memory.
 
-ghost use Rattle.std.specs.Prelude.{◌≡◌, ◌≤◌, ◌+◌, ◌*◌, [], ◌∷◌, ◌++◌, length, replicate};
+ghost use Rattle.std.specs.Prelude.{◌≡◌, ◌≤◌, ◌+◌, ◌*◌, [], ◌∷◌, ◌++◌, drop, length, replicate};
 
 use crate::frame::{ENTRIES_SIZE, PAGE_BYTES};
 use std::marker::Model;
@@ -54,6 +54,14 @@ impl Page {
     {
         let zeros = [0; ENTRIES_SIZE];
         self.put(&zeros[..count]);
+    }
+
+    /// The bytes behind the first one, the gate.
+    pub(crate) fn behind_gate(&self) -> &[u8]
+        requires { 1 ≤ length self.now }
+        ensures { result.now ≡ drop 1 self.now }
+    {
+        &self.as_slice()[1..]
     }
 
     /// The bytes, lent.

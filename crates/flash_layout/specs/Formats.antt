@@ -1,0 +1,94 @@
+-- What formatting leaves on a flash.
+use Rattle.std.specs.Prelude.{◌≡◌, ◌⊎◌, ◌<◌, ◌≤◌, ◌+◌, ℕ, List, All, slice_index}
+use Rattle.suit_edge.specs.declared.page.TheConstants.{CLOSED}
+use Rattle.suit_edge.specs.Faults.{Faulted}
+use Rattle.suit_edge.specs.Flash.{Flash, Now}
+use Rattle.suit_edge.specs.Ranges.{Outside}
+use Rattle.flash_layout.specs.declared.formatting.Formatted.{Formatted}
+use Rattle.flash_layout.specs.declared.formatting.Formatted.TheVariants as formatted
+use Rattle.flash_layout.specs.declared.frame.Frame.{Frame}
+use Rattle.flash_layout.specs.declared.frame.TheConstants.{LENGTH_SIZE}
+use Rattle.flash_layout.specs.declared.key.Key.{Key}
+use Rattle.flash_layout.specs.declared.layout.Entry.{Entry}
+use Rattle.flash_layout.specs.Configs.{Blank, Configured, ConfigOf}
+use Rattle.flash_layout.specs.Frames.{HasNoRecord, head_of, page_bytes, record_place}
+use Rattle.flash_layout.specs.Layouts.{slot_starts}
+use Rattle.flash_layout.specs.Slots.{AreEmpty}
+
+-- the layout and the key, no record, and each slot empty
+pub record IsFormatted (frame : Frame) (size : ℕ) (layout : List Entry) (key : Key) (image : List ℕ) : Type 0 where
+  pub config : ConfigOf frame size (head_of frame image) (Configured layout key)
+  pub no_record : HasNoRecord frame (head_of frame image)
+  pub empty : AreEmpty layout image
+
+-- Where each image that a power loss at the start may leave is blank, the image is blank or formatted.
+abbrev pub IsBlankOrFormatted : Frame → ℕ → List Entry → Key → Flash → List ℕ → Type 0
+IsBlankOrFormatted frame size layout key start image =
+    ((before : List ℕ) → Now start before → ConfigOf frame size (head_of frame before) Blank)
+    → ConfigOf frame size (head_of frame image) Blank ⊎ IsFormatted frame size layout key image
+
+-- ---- which places are written
+
+-- all but the gates of the record pages
+abbrev pub OutsideRecordGates : Frame → ℕ → Type 0
+OutsideRecordGates frame i = Outside (record_place frame 0) 1 i × Outside (record_place frame 1) 1 i
+
+-- all but the lengths of slots that start there
+abbrev pub OutsideLengths : List ℕ → ℕ → Type 0
+OutsideLengths starts i = All (λ p. Outside p LENGTH_SIZE i) starts
+
+-- all but the lengths of a layout's slots
+abbrev pub OutsideAllLengths : List Entry → ℕ → Type 0
+OutsideAllLengths layout i = All (λ e. OutsideLengths (slot_starts e) i) layout
+
+-- all but those that formatting writes: the page that is read, the record gates, and the lengths of the slots
+abbrev pub OutsideFormat : Frame → List Entry → ℕ → Type 0
+OutsideFormat frame layout i = Outside frame.base (page_bytes frame) i × OutsideRecordGates frame i × OutsideAllLengths layout i
+
+-- ---- by the answer
+
+abbrev pub FormatCounts : Formatted → ℕ → ℕ → Type 0
+FormatCounts formatted.FlashFault before now = Faulted before now
+FormatCounts _ before now = now ≡ before
+
+abbrev pub IfFormatted : Formatted → Type 0 → Type 0
+IfFormatted formatted.Done P = P
+IfFormatted _ P = Unit {0}
+
+-- not blank exactly where the gate was open, and then nothing has changed
+abbrev pub IfNotBlank : Formatted → Type 0 → Type 0 → Type 0
+IfNotBlank formatted.NotBlank Opened Same = Opened × Same
+IfNotBlank formatted.Done Opened Same = Opened → ⊥
+IfNotBlank formatted.FlashFault Opened Same = Unit {0}
+
+-- ---- inside
+
+-- both record gates are closed
+abbrev pub AreClosed : Frame → List ℕ → Type 0
+AreClosed frame image = (slice_index image (record_place frame 0) ≡ CLOSED) × (slice_index image (record_place frame 1) ≡ CLOSED)
+
+-- the length of the slot that starts there is 0
+abbrev pub IsClearAt : List ℕ → ℕ → Type 0
+IsClearAt image p = (i : ℕ) → p ≤ i → i < p + LENGTH_SIZE → slice_index image i ≡ 0
+
+abbrev pub AreAllClearAt : List Entry → List ℕ → Type 0
+AreAllClearAt layout image = All (λ e. All (IsClearAt image) (slot_starts e)) layout
+
+-- what is 0 stays 0
+abbrev pub KeepsZeros : List ℕ → List ℕ → Type 0
+KeepsZeros old new = (i : ℕ) → slice_index old i ≡ 0 → slice_index new i ≡ 0
+
+-- a slot's length lies within a flash of this size
+abbrev pub HasLength : ℕ → ℕ → Type 0
+HasLength size p = p + LENGTH_SIZE ≤ size
+
+abbrev pub HaveLengths : ℕ → Entry → Type 0
+HaveLengths size e = (e.slots ≤ 2) × All (HasLength size) (slot_starts e)
+
+-- all but the configuration page is written
+pub record IsPrepared (frame : Frame) (layout : List Entry) (image : List ℕ) : Type 0 where
+  pub closed : AreClosed frame image
+  pub clear : AreAllClearAt layout image
+
+abbrev pub OutsidePrepared : Frame → List Entry → ℕ → Type 0
+OutsidePrepared frame layout i = OutsideRecordGates frame i × OutsideAllLengths layout i

@@ -1,0 +1,139 @@
+//! Formatting a flash.
+
+ghost use Rattle.std.specs.Prelude.{◌≡◌, ◌≤◌, All, drop, IsTrue, length};
+ghost use Rattle.suit_edge.specs.Edge.{IfDone};
+ghost use Rattle.suit_edge.specs.Faults.{EdgeCounts};
+ghost use Rattle.suit_edge.specs.Flash.{Grows, IsSame, IsSettled, Keeps, Passes};
+ghost use Rattle.suit_edge.specs.Gate.{IsOpen};
+ghost use Rattle.flash_layout.specs.Layouts.{IsKey, IsLayout};
+ghost use Rattle.flash_layout.specs.Formats.{AreAllClearAt, AreClosed, FormatCounts, HasLength, HaveLengths, IfFormatted, IfNotBlank, IsBlankOrFormatted, IsClearAt, IsFormatted, IsPrepared, KeepsZeros, OutsideAllLengths, OutsideFormat, OutsideLengths, OutsidePrepared, OutsideRecordGates};
+
+use crate::frame::{CONFIG_GATE, LENGTH_SIZE, VERSION_1, record_page};
+use crate::page_writing::write_page;
+use crate::rules::slots_of;
+use crate::typing::typed;
+use crate::{Entry, Key, Layout};
+use suit_edge::{CLOSED, Disk, Edge, OPEN, open_written};
+
+/// What formatting a flash came to.
+#[derive(Clone, Copy, Debug, PartialEq, Eq)]
+pub enum Formatted {
+    /// The flash has the layout and the key.
+    Done,
+    /// The gate of the configuration page is open. Nothing was changed.
+    NotBlank,
+    /// A call of the flash failed, and its count of faults rose.
+    FlashFault,
+}
+
+// Closes the gates of both record pages.
+fn close_records<D: Disk>(disk: &mut D) -> Edge
+    requires { VERSION_1.size ≤ D.extent disk.old }
+    ensures size { D.extent disk.new ≡ D.extent disk.old }
+    ensures counts { EdgeCounts result (D.faults disk.old) (D.faults disk.new) }
+    ensures closed { IsTrue D.told → IfDone result (AreClosed VERSION_1 (D.flash disk.new).reads) }
+    ensures keeps { IsTrue D.told → Keeps (OutsideRecordGates VERSION_1) (D.flash disk.old) (D.flash disk.new) }
+    ensures grows { IsTrue D.told → Grows (D.flash disk.old) (D.flash disk.new) }
+{
+    match disk.write_at(record_page(0), &[CLOSED]) {
+        Edge::Failed => return Edge::Failed,
+        Edge::Done => {}
+    }
+    match disk.write_at(record_page(1), &[CLOSED]) {
+        Edge::Failed => Edge::Failed,
+        Edge::Done => Edge::Done,
+    }
+}
+
+// Sets the length of the slots that start there to 0.
+fn empty_slots<D: Disk>(disk: &mut D, starts: &[u64]) -> Edge
+    requires { All (HasLength (D.extent disk.old)) starts.now }
+    ensures size { D.extent disk.new ≡ D.extent disk.old }
+    ensures counts { EdgeCounts result (D.faults disk.old) (D.faults disk.new) }
+    ensures clear { IsTrue D.told → IfDone result (All (IsClearAt (D.flash disk.new).reads) starts.now) }
+    ensures zeros { IsTrue D.told → IfDone result (KeepsZeros (D.flash disk.old).reads (D.flash disk.new).reads) }
+    ensures keeps { IsTrue D.told → Keeps (OutsideLengths starts.now) (D.flash disk.old) (D.flash disk.new) }
+    ensures grows { IsTrue D.told → Grows (D.flash disk.old) (D.flash disk.new) }
+{
+    for start in starts {
+        match disk.write_at(*start, &[0; LENGTH_SIZE as usize]) {
+            Edge::Failed => return Edge::Failed,
+            Edge::Done => {}
+        }
+    }
+    Edge::Done
+}
+
+// Sets the length of each slot of each component to 0.
+fn empty_each<D: Disk>(disk: &mut D, entries: &[Entry]) -> Edge
+    requires { All (HaveLengths (D.extent disk.old)) entries.now }
+    ensures size { D.extent disk.new ≡ D.extent disk.old }
+    ensures counts { EdgeCounts result (D.faults disk.old) (D.faults disk.new) }
+    ensures clear { IsTrue D.told → IfDone result (AreAllClearAt entries.now (D.flash disk.new).reads) }
+    ensures zeros { IsTrue D.told → IfDone result (KeepsZeros (D.flash disk.old).reads (D.flash disk.new).reads) }
+    ensures keeps { IsTrue D.told → Keeps (OutsideAllLengths entries.now) (D.flash disk.old) (D.flash disk.new) }
+    ensures grows { IsTrue D.told → Grows (D.flash disk.old) (D.flash disk.new) }
+{
+    for entry in entries {
+        match empty_slots(disk, slots_of(entry)) {
+            Edge::Failed => return Edge::Failed,
+            Edge::Done => {}
+        }
+    }
+    Edge::Done
+}
+
+// Writes all but the configuration page, without a sync.
+fn prepare<D: Disk>(disk: &mut D, layout: &Layout) -> Edge
+    requires large { VERSION_1.size ≤ D.extent disk.old }
+    requires layout { IsLayout VERSION_1 (D.extent disk.old) layout.now }
+    ensures size { D.extent disk.new ≡ D.extent disk.old }
+    ensures counts { EdgeCounts result (D.faults disk.old) (D.faults disk.new) }
+    ensures prepared { IsTrue D.told → IfDone result (IsPrepared VERSION_1 layout.now (D.flash disk.new).reads) }
+    ensures keeps { IsTrue D.told → Keeps (OutsidePrepared VERSION_1 layout.now) (D.flash disk.old) (D.flash disk.new) }
+    ensures grows { IsTrue D.told → Grows (D.flash disk.old) (D.flash disk.new) }
+{
+    match close_records(disk) {
+        Edge::Failed => return Edge::Failed,
+        Edge::Done => {}
+    }
+    match empty_each(disk, layout.as_slice()) {
+        Edge::Failed => Edge::Failed,
+        Edge::Done => Edge::Done,
+    }
+}
+
+/// Gives a blank flash a layout and a key: no record, and each slot empty. A power loss on the way leaves it
+/// blank or formatted. Where the gate of the configuration page is open, nothing is changed.
+pub fn format<D: Disk>(disk: &mut D, layout: &Layout, key: &Key) -> Formatted
+    requires large { VERSION_1.size ≤ D.extent disk.old }
+    requires layout { IsLayout VERSION_1 (D.extent disk.old) layout.now }
+    requires key { IsKey key.now }
+    ensures size { D.extent disk.new ≡ D.extent disk.old }
+    ensures counts { FormatCounts result (D.faults disk.old) (D.faults disk.new) }
+    ensures not_blank { IsTrue D.told → IfNotBlank result (IsOpen (D.flash disk.old).reads CONFIG_GATE) (IsSame (D.flash disk.old) (D.flash disk.new)) }
+    ensures formatted { IsTrue D.told → IfFormatted result (IsFormatted VERSION_1 (D.extent disk.old) layout.now key.now (D.flash disk.new).reads) }
+    ensures settled { IsTrue D.told → IfFormatted result (IsSettled (D.flash disk.new)) }
+    ensures any_moment { IsTrue D.told → Passes (D.flash disk.old) (D.flash disk.new) (IsBlankOrFormatted VERSION_1 (D.extent disk.old) layout.now key.now (D.flash disk.old)) }
+    ensures keeps { IsTrue D.told → Keeps (OutsideFormat VERSION_1 layout.now) (D.flash disk.old) (D.flash disk.new) }
+    ensures grows { IsTrue D.told → Grows (D.flash disk.old) (D.flash disk.new) }
+{
+    typed(layout, key);
+    let mut gate = [0u8; 1];
+    match disk.read_at(CONFIG_GATE, &mut gate) {
+        Edge::Failed => return Formatted::FlashFault,
+        Edge::Done => {}
+    }
+    if gate[0] == OPEN {
+        return Formatted::NotBlank;
+    }
+    match prepare(disk, layout) {
+        Edge::Failed => return Formatted::FlashFault,
+        Edge::Done => {}
+    }
+    let page = write_page(layout, key);
+    match open_written(disk, CONFIG_GATE, CONFIG_GATE + 1, page.behind_gate()) {
+        Edge::Failed => Formatted::FlashFault,
+        Edge::Done => Formatted::Done,
+    }
+}
