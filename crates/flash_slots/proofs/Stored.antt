@@ -1,16 +1,16 @@
 -- The content of a slot, in the flash's bytes.
-use Rattle.std.proofs.Common.{◌≡◌, ◌⊎◌, inl, inr, ⊎_elim, ◌<◌, ◌≤◌, ℕ, ◌+◌, ◌-◌, ◌^◌, min, Bool, true, false, leb, cond, List, [], ◌++◌, length, get_or, take, drop, replicate, refl, sym, ◌∙◌, ap, subst, arith}
+use Rattle.std.proofs.Common.{◌≡◌, inl, inr, ⊎_elim, ◌<◌, ◌≤◌, ℕ, ◌+◌, ◌-◌, ◌^◌, min, List, [], ◌++◌, length, get_or, take, drop, refl, sym, ◌∙◌, ap, arith}
 use Rattle.std.specs.Int.{w64, from_be_bytes, to_be_bytes}
 use Rattle.std.specs.List.{slice_range}
 use Rattle.std.proofs.lemmas.Bool.{le-leb, lt-leb, cases_lt}
 use Rattle.std.proofs.lemmas.Nat.{from_be_bytes-to_be_bytes_8}
 use Rattle.std.proofs.Math.Seq.{take-add}
-use Rattle.std.proofs.lemmas.List.{take-take, drop-take, drop-drop, ext_get_or, length-append, get_or_append_left, get_or-append_right}
-use Rattle.std.proofs.lemmas.List.Edits.{length-between, get_or-between}
+use Rattle.std.proofs.lemmas.List.{take-take, drop-take, drop-drop}
+use Rattle.std.proofs.lemmas.List.Edits.{length-between}
 use Rattle.suit_edge.specs.Ranges.{Outside, SameOn, written}
 use Rattle.suit_edge.specs.RangeLaws.{same_range, written_outside, written_range}
 use Rattle.flash_layout.specs.declared.slot.Slot.{Slot}
-use Rattle.flash_layout.specs.Slots.{LiesWithin, content_of, extent_of, slot_bytes, slot_content, stored_length}
+use Rattle.flash_layout.specs.Slots.{LiesWithin, content_of, slot_bytes, slot_content, stored_length}
 use Rattle.flash_slots.specs.Contents.{IsRead, part_of, pieces_of}
 
 -- ---- where the length and the content stand

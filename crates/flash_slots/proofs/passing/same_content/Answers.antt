@@ -1,4 +1,4 @@
-use Rattle.std.proofs.Common.{◌≡◌, ◌<◌, ◌≤◌, ◌+◌, length, ℕ, refl, arith, rules}
+use Rattle.std.proofs.Common.{◌≡◌, ◌<◌, ◌≤◌, ◌+◌, length, refl, arith, rules}
 use Rattle.suit_edge.specs.FlashLaws.{grows_then, same_flash_then}
 use Rattle.flash_slots.proofs.Whole.{all_same, more_same, other_part}
 use Rattle.flash_slots.proofs.passing.same_content.Goals as goal

@@ -1,4 +1,4 @@
-use Rattle.std.proofs.Common.{◌≡◌, ◌≤◌, ◌-◌, min, length, arith}
+use Rattle.std.proofs.Common.{◌≤◌, length, arith}
 use Rattle.std.proofs.lemmas.List.{length-take-le}
 use Rattle.flash_slots.proofs.Stored.{some_read}
 use Rattle.flash_slots.proofs.reading.read_some.Goals as goal
