@@ -1,5 +1,5 @@
 -- The record of a head, of its pages as they were decoded.
-use Rattle.std.proofs.Common.{◌≡◌, ◌≢◌, ◌⊎◌, ⊎_elim, inl, inr, ◌<◌, ◌≤◌, ℕ, ◌+◌, ◌-◌, Bool, true, false, ltb, List, length, Option, Some, None, refl, sym, ◌∙◌, ap, subst, arith}
+use Rattle.std.proofs.Common.{◌≡◌, ◌≢◌, ◌⊎◌, ⊎_elim, inl, inr, ◌<◌, ◌≤◌, ℕ, ◌+◌, Bool, true, false, List, length, Option, Some, None, refl, sym, ◌∙◌, ap, subst, arith}
 use Rattle.std.specs.Prelude.{if◌then◌else◌, nat_lt, IfSome}
 use Rattle.std.specs.List.{slice_range}
 use Rattle.std.proofs.lemmas.Bool.{cases_eq, cases_lt, lt-ltb, le-ltb}
@@ -7,7 +7,7 @@ use Rattle.flash_layout.specs.declared.frame.TheConstants.{VERSION_1}
 use Rattle.flash_layout.specs.declared.slot.Record.{Record}
 use Rattle.flash_layout.specs.Frames.{head_of, config_page_of}
 use Rattle.rollback_record.specs.RecordPage.{IsRecordPage}
-use Rattle.rollback_record.specs.HeadRecord.{record_bytes, Counts, HaveRead, HoldsRecord, IsLoadable, RecordOf, higher}
+use Rattle.rollback_record.specs.HeadRecord.{record_bytes, Counts, HaveRead, IsLoadable, RecordOf, higher}
 use Rattle.rollback_record.proofs.Pages.{bytes_in, config_in, head_short}
 
 -- three reads in turn

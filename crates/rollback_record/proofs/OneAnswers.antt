@@ -1,10 +1,10 @@
 -- The head of an image has one record at most.
-use Rattle.std.proofs.Common.{◌≡◌, ◌≢◌, ⊎_elim, ◌<◌, ℕ, ◌-◌, List, Option, Some, None, refl, ap, subst, arith}
+use Rattle.std.proofs.Common.{◌≡◌, ◌≢◌, ⊎_elim, ℕ, ◌-◌, List, Some, None, refl, ap, subst, arith}
 use Rattle.std.proofs.lemmas.Bool.{cases_eq}
 use Rattle.flash_layout.specs.declared.frame.Frame.{Frame}
 use Rattle.flash_layout.specs.declared.slot.Record.{Record}
 use Rattle.flash_layout.specs.Frames.{config_page_of}
-use Rattle.rollback_record.specs.HeadRecord.{record_bytes, Counts, HoldsRecord, IsBelow, RecordOf}
+use Rattle.rollback_record.specs.HeadRecord.{record_bytes, Counts, HoldsRecord, IsBelow}
 use Rattle.rollback_record.specs.RecordLaws.{OneAnswer}
 use Rattle.rollback_record.proofs.Fields.{one_record}
 

@@ -1,5 +1,5 @@
 -- What a commit makes of the flash.
-use Rattle.std.specs.Prelude.{◌≡◌, ◌⊎◌, ◌<◌, ◌≤◌, ◌+◌, ◌-◌, ℕ, List, Option, Some, None}
+use Rattle.std.specs.Prelude.{◌≡◌, ◌⊎◌, ◌<◌, ◌+◌, ◌-◌, ℕ, List, Option, Some, None}
 use Rattle.suit_edge.specs.Flash.{Flash, Keeps}
 use Rattle.suit_edge.specs.Ranges.{Within, Outside}
 use Rattle.flash_layout.specs.declared.frame.Frame.{Frame}

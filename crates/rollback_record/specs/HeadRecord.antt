@@ -6,7 +6,7 @@ use Rattle.flash_layout.specs.declared.slot.Record.{Record}
 use Rattle.flash_layout.specs.declared.slot.FlashFault.{FlashFault}
 use Rattle.flash_layout.specs.Frames.{config_page_of, record_from}
 use Rattle.rollback_record.specs.declared.page.TheConstants.{RECORD_BYTES}
-use Rattle.rollback_record.specs.RecordPage.{IsActiveSlot, IsTypedRecord, IsRecordPage}
+use Rattle.rollback_record.specs.RecordPage.{IsTypedRecord, IsRecordPage}
 
 -- the bytes of a record page that are read
 abbrev pub record_bytes : Frame → List ℕ → ℕ → List ℕ

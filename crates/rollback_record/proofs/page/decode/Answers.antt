@@ -1,4 +1,4 @@
-use Rattle.std.proofs.Common.{◌≡◌, sym, ◌∙◌, ap, subst, Some, ◌∷◌, List, ℕ}
+use Rattle.std.proofs.Common.{sym, ◌∙◌, ap, subst, Some, ◌∷◌}
 use Rattle.flash_layout.specs.declared.frame.TheConstants.{VERSION_1}
 use Rattle.flash_layout.specs.declared.slot.Record.{Record}
 use Rattle.rollback_record.specs.RecordPage.{IsInRange, record_body}

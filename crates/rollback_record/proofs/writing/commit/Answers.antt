@@ -1,4 +1,4 @@
-use Rattle.std.proofs.Common.{◌≡◌, ◌≤◌, ◌∙◌, ap, drop, length, refl, subst, arith}
+use Rattle.std.proofs.Common.{◌≡◌, ◌∙◌, ap, drop, length, refl, subst, arith}
 use Rattle.suit_edge.specs.Flash.{IsFlash}
 use Rattle.rollback_record.proofs.Commits.{all_moments, at_the_end, from_start, keeps_beside, only_read, page_firm, read_keeps, recorded}
 use Rattle.rollback_record.proofs.writing.commit.Goals as goal

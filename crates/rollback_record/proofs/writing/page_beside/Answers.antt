@@ -1,4 +1,4 @@
-use Rattle.std.proofs.Common.{◌≡◌, ◌+◌, ◌<◌, ℕ, refl, sym, ◌∙◌, ap, List, arith}
+use Rattle.std.proofs.Common.{◌+◌, ℕ, refl, sym, ◌∙◌, ap, arith}
 use Rattle.std.specs.List.{slice_range}
 use Rattle.rollback_record.proofs.Pages.{bytes_in}
 use Rattle.rollback_record.proofs.Commits.{first_page, other_page}
