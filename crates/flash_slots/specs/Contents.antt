@@ -1,0 +1,47 @@
+-- What is read of a slot's content, and what a writing has put in its place.
+use Rattle.std.specs.Prelude.{◌≡◌, ◌<◌, ◌≤◌, ◌+◌, ◌-◌, ℕ, min, List, ◌++◌, length, take, drop, slice_range, Result, Ok, Err, MatchResult}
+use Rattle.suit_edge.specs.Faults.{Faulted}
+use Rattle.flash_layout.specs.declared.frame.TheConstants.{LENGTH_SIZE}
+use Rattle.flash_layout.specs.declared.slot.FlashFault.{FlashFault}
+use Rattle.flash_layout.specs.declared.slot.Slot.{Slot}
+use Rattle.flash_slots.specs.declared.writing.AppendFault.{AppendFault}
+use Rattle.flash_slots.specs.declared.writing.AppendFault.TheVariants as fault
+
+-- the count of faults rose for a fault, and stayed otherwise
+abbrev pub ResultCounts : {A : Type 0} → Result A FlashFault → ℕ → ℕ → Type 0
+ResultCounts result before now = MatchResult result (λ _. now ≡ before) (λ _. Faulted before now)
+
+-- ---- reading
+
+-- the content from one of its bytes on, as much as fits in the room, and the rest of the room as it was
+pub record IsRead (content : List ℕ) (from : ℕ) (old new : List ℕ) (count : ℕ) : Type 0 where
+  pub count_is : count ≡ min (length old) (length content - from)
+  pub bytes : new ≡ take count (drop from content) ++ drop count old
+
+-- so many bytes of the room for the content, from that one of them on
+abbrev pub part_of : Slot → ℕ → ℕ → List ℕ → List ℕ
+part_of slot from n image = slice_range image (slot.start + LENGTH_SIZE + from) (slot.start + LENGTH_SIZE + from + n)
+
+-- ---- writing
+
+-- the first bytes of the room for the content
+abbrev pub pieces_of : Slot → ℕ → List ℕ → List ℕ
+pieces_of slot n image = slice_range image (slot.start + LENGTH_SIZE) (slot.start + LENGTH_SIZE + n)
+
+-- what is too large for the slot is refused by its capacity, and nothing else is
+abbrev pub AppendsWithin : {A : Type 0} → Result A AppendFault → ℕ → ℕ → Type 0
+AppendsWithin (Ok _) capacity sum = sum ≤ capacity
+AppendsWithin (Err (fault.TooLarge n)) capacity sum = (capacity < sum) × (n ≡ capacity)
+AppendsWithin (Err fault.FlashFault) capacity sum = sum ≤ capacity
+
+-- the count of faults rose for a fault of the flash, and stayed otherwise
+abbrev pub AppendCounts : {A : Type 0} → Result A AppendFault → ℕ → ℕ → Type 0
+AppendCounts (Ok _) before now = now ≡ before
+AppendCounts (Err (fault.TooLarge n)) before now = now ≡ before
+AppendCounts (Err fault.FlashFault) before now = Faulted before now
+
+-- what holds where a piece was refused
+abbrev pub IfTooLarge : {A : Type 0} → Result A AppendFault → Type 0 → Type 0
+IfTooLarge (Ok _) P = Unit {0}
+IfTooLarge (Err (fault.TooLarge n)) P = P
+IfTooLarge (Err fault.FlashFault) P = Unit {0}

@@ -1,0 +1,82 @@
+//! Passing over a slot's content in parts.
+
+ghost use Rattle.flash_layout.specs.Slots.{LiesWithin, slot_content};
+ghost use Rattle.flash_slots.specs.Contents.{ResultCounts};
+ghost use Rattle.sha2.specs.Sha256.{sha256};
+ghost use Rattle.std.specs.Prelude.{◌≡◌, ◌↔◌, ◌<◌, IfOk, IsTrue, length};
+ghost use Rattle.suit_edge.specs.Flash.{Grows, IsSame};
+
+use crate::reading::{length, read_some};
+use flash_layout::{FlashFault, Slot};
+use sha2::{Digest as _, Sha256};
+use suit_edge::Disk;
+
+/// The SHA-256 of the content, which is read through the room.
+pub fn digest<D: Disk>(disk: &mut D, slot: Slot, room: &mut [u8]) -> Result<[u8; 32], FlashFault>
+    requires slot { LiesWithin (D.extent disk.old) slot }
+    requires room { 0 < length room.old }
+    ensures size { D.extent disk.new ≡ D.extent disk.old }
+    ensures counts { ResultCounts result (D.faults disk.old) (D.faults disk.new) }
+    ensures exact { IsTrue D.told → IfOk result (λ d. d ≡ sha256 (slot_content slot (D.flash disk.old).reads)) }
+    ensures same { IsTrue D.told → IsSame (D.flash disk.old) (D.flash disk.new) }
+    ensures grows { IsTrue D.told → Grows (D.flash disk.old) (D.flash disk.new) }
+{
+    let size = match length(disk, slot) {
+        Ok(size) => size,
+        Err(FlashFault) => return Err(FlashFault),
+    };
+    let mut hasher = Sha256::new();
+    let mut from: u64 = 0;
+    while from < size {
+        let count = match read_some(disk, slot, size, from, room) {
+            Ok(count) => count,
+            Err(FlashFault) => return Err(FlashFault),
+        };
+        hasher.update(&room[..count]);
+        from += count as u64;
+    }
+    Ok(hasher.finalize())
+}
+
+// Whether two pieces are the same.
+fn is_equal(a: &[u8], b: &[u8]) -> bool
+    ensures { IsTrue result ↔ (a.now ≡ b.now) }
+{
+    a == b
+}
+
+/// Whether the content is these bytes. It is read through the room.
+pub fn same_content<D: Disk>(
+    disk: &mut D,
+    slot: Slot,
+    bytes: &[u8],
+    room: &mut [u8],
+) -> Result<bool, FlashFault>
+    requires slot { LiesWithin (D.extent disk.old) slot }
+    requires room { 0 < length room.old }
+    ensures size { D.extent disk.new ≡ D.extent disk.old }
+    ensures counts { ResultCounts result (D.faults disk.old) (D.faults disk.new) }
+    ensures exact { IsTrue D.told → IfOk result (λ same. IsTrue same ↔ (slot_content slot (D.flash disk.old).reads ≡ bytes.now)) }
+    ensures same { IsTrue D.told → IsSame (D.flash disk.old) (D.flash disk.new) }
+    ensures grows { IsTrue D.told → Grows (D.flash disk.old) (D.flash disk.new) }
+{
+    let size = match length(disk, slot) {
+        Ok(size) => size,
+        Err(FlashFault) => return Err(FlashFault),
+    };
+    if size != bytes.len() as u64 {
+        return Ok(false);
+    }
+    let mut from: usize = 0;
+    while from < bytes.len() {
+        let count = match read_some(disk, slot, size, from as u64, room) {
+            Ok(count) => count,
+            Err(FlashFault) => return Err(FlashFault),
+        };
+        if !is_equal(&room[..count], &bytes[from..from + count]) {
+            return Ok(false);
+        }
+        from += count;
+    }
+    Ok(true)
+}

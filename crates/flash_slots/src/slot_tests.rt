@@ -1,0 +1,130 @@
+//! Contents that are replaced and read back, and what is left where that was cut.
+
+ghost use Rattle.std.specs.Prelude.{◌≡◌, ◌≤◌, IfOk, length};
+
+use crate::{AppendFault, begin, length, read};
+use flash_layout::{FlashFault, Slot};
+use std::alloc::{AllocError, Global};
+use std::test::Fail;
+use suit_edge::{Disk, Edge, FuseDisk, MemoryDisk};
+
+const SIZE: usize = 64;
+
+const SLOT: Slot = Slot {
+    start: 8,
+    capacity: 5,
+};
+
+const CHOICES: [u64; 3] = [0, u64::MAX, 0xAAAA_AAAA_AAAA_AAAA];
+
+// Makes five bytes the content, in two pieces.
+fn replace<D: Disk>(disk: &mut D) -> Result<(), AppendFault>
+    requires { 64 ≤ D.extent disk.old }
+    ensures { D.extent disk.new ≡ D.extent disk.old }
+{
+    let mut writing = match begin(disk, SLOT) {
+        Ok(writing) => writing,
+        Err(FlashFault) => return Err(AppendFault::FlashFault),
+    };
+    match writing.append(disk, b"new") {
+        Ok(()) => {}
+        Err(fault) => return Err(fault),
+    }
+    match writing.append(disk, b"er") {
+        Ok(()) => {}
+        Err(fault) => return Err(fault),
+    }
+    match writing.append(disk, b"s") {
+        Err(AppendFault::TooLarge(5)) => {}
+        Err(fault) => return Err(fault),
+        Ok(()) => return Err(AppendFault::TooLarge(0)),
+    }
+    match writing.finish(disk) {
+        Ok(()) => Ok(()),
+        Err(FlashFault) => Err(AppendFault::FlashFault),
+    }
+}
+
+// A disk whose slot holds three bytes, with ones round it.
+fn with_old(alloc: Global) -> Result<MemoryDisk, AllocError>
+    ensures { IfOk result (λ disk. length disk.first ≡ SIZE) }
+{
+    let mut disk = MemoryDisk::new(alloc, SIZE, &[])?;
+    match disk.write_at(0, &[1; SIZE]) {
+        Edge::Done => {}
+        Edge::Failed => return Err(AllocError),
+    }
+    match disk.write_at(8, &[0, 0, 0, 0, 0, 0, 0, 3, 0x6F, 0x6C, 0x64]) {
+        Edge::Done => {}
+        Edge::Failed => return Err(AllocError),
+    }
+    disk.after_loss(alloc, u64::MAX)
+}
+
+// Whether the content is that, and all round the slot is as it was.
+fn holds(disk: &mut MemoryDisk, content: &[u8]) -> bool
+    requires { length disk.old.first ≡ SIZE }
+{
+    let mut room = [0u8; 8];
+    match read(disk, SLOT, 0, &mut room) {
+        Ok(count) => {
+            if count > 8 || &room[..count] != content {
+                return false;
+            }
+        }
+        Err(FlashFault) => return false,
+    }
+    let mut bytes = [0u8; SIZE];
+    match disk.read_at(0, &mut bytes) {
+        Edge::Done => bytes[..8] == [1; 8] && bytes[21..] == [1; 43],
+        Edge::Failed => false,
+    }
+}
+
+#[test]
+fn a_content_is_read_in_parts(rt: HostRuntime) -> Result<(), Fail> {
+    let mut disk = with_old(rt.alloc())?;
+    assert!(rt; length(&mut disk, SLOT) == Ok(3));
+    assert!(rt; replace(&mut disk) == Ok(()));
+    assert!(rt; length(&mut disk, SLOT) == Ok(5));
+    let mut room = [0u8; 2];
+    assert!(rt; read(&mut disk, SLOT, 1, &mut room) == Ok(2));
+    assert_eq!(rt; room, *b"ew");
+    assert!(rt; read(&mut disk, SLOT, 4, &mut room) == Ok(1));
+    assert_eq!(rt; room, *b"rw");
+    assert!(rt; read(&mut disk, SLOT, 5, &mut room) == Ok(0));
+    Ok(())
+}
+
+#[test]
+fn a_length_above_the_capacity_is_none(rt: HostRuntime) -> Result<(), Fail> {
+    let mut disk = with_old(rt.alloc())?;
+    assert!(rt; disk.write_at(15, &[6]) == Edge::Done);
+    assert!(rt; length(&mut disk, SLOT) == Ok(0));
+    Ok(())
+}
+
+#[test]
+fn a_content_is_cut_at_each_call(rt: HostRuntime) -> Result<(), Fail> {
+    let wanted: [[&[u8]; 3]; 8] = [
+        [b"old", b"old", b"old"],
+        [b"old", b"", b"old"],
+        [b"", b"", b""],
+        [b"", b"", b""],
+        [b"", b"", b""],
+        [b"", b"", b""],
+        [b"", b"newer", b""],
+        [b"newer", b"newer", b"newer"],
+    ];
+    for (passes, contents) in wanted.iter().enumerate() {
+        let disk = with_old(rt.alloc())?;
+        let mut fuse = FuseDisk::new(disk, passes as u64);
+        assert_eq!(rt; replace(&mut fuse) == Ok(()), passes == 7);
+        let disk = fuse.into_disk();
+        for (content, choice) in contents.iter().zip(CHOICES.iter()) {
+            let mut left = disk.after_loss(rt.alloc(), *choice)?;
+            assert!(rt; holds(&mut left, content), "{passes} calls, {choice}");
+        }
+    }
+    Ok(())
+}

@@ -1,0 +1,92 @@
+-- What is spelled on a record page is read back.
+use Rattle.std.proofs.Common.{◌≡◌, ℕ, ◌-◌, ◌^◌, ◌<◌, List, [], ◌∷◌, ◌++◌, length, get_or, replicate, refl, sym, ap, ◌∙◌, append_assoc, arith}
+use Rattle.std.specs.List.{slice_range}
+use Rattle.std.proofs.lemmas.Nat.{from_be_bytes-to_be_bytes_8}
+use Rattle.std.proofs.lemmas.List.Edits.{get_or-between}
+use Rattle.std.proofs.lemmas.List.{take_at, drop_at, append-nil, length-append, length-replicate}
+use Rattle.flash_layout.specs.declared.frame.Frame.{Frame}
+use Rattle.flash_layout.specs.declared.slot.Record.{Record}
+use Rattle.flash_layout.specs.ConfigPage.{number_bytes}
+use Rattle.flash_layout.specs.PageReading.{number_at}
+use Rattle.rollback_record.specs.RecordPage.{IsTypedRecord, IsRecordPage, record_body, fields_at}
+
+field : (before mid after whole : List ℕ) (i j : ℕ) → whole ≡ before ++ (mid ++ after) → length before ≡ i → length mid ≡ j - i → slice_range whole i j ≡ mid
+field before mid after whole i j is from to = rw (is, drop_at before (mid ++ after) i from) (take_at mid after (j - i) to)
+
+number_read : (n : ℕ) → n < 2 ^ 64 → number_at (number_bytes n) ≡ n
+unfolding number_at number_bytes
+number_read n fits = from_be_bytes-to_be_bytes_8 n fits
+
+number_long : (n : ℕ) → length (number_bytes n) ≡ 8
+unfolding number_bytes
+number_long n = refl
+
+same_record : (a b : Record) → a.generation ≡ b.generation → a.sequence ≡ b.sequence → a.bank ≡ b.bank → a.length ≡ b.length → a.digest.bytes ≡ b.digest.bytes → a.active ≡ b.active → a ≡ b
+same_record a b p q r s t u = λ i. record { generation = p i; sequence = q i; bank = r i; length = s i; digest = record { bytes = t i }; active = u i }
+
+-- the fields of a page's bytes
+module _ (gate bank size : ℕ) (generation sequence long digest zeros active : List ℕ) where
+  abbrev whole : List ℕ
+  whole = gate ∷ ((generation ++ sequence) ++ (bank ∷ (long ++ (size ∷ ((digest ++ zeros) ++ active)))))
+
+  record HasFields : Type 0 where
+    generation_is : slice_range whole 1 9 ≡ generation
+    sequence_is : slice_range whole 9 17 ≡ sequence
+    bank_is : slice_range whole 17 18 ≡ bank ∷ []
+    length_is : slice_range whole 18 26 ≡ long
+    digest_is : slice_range whole 27 59 ≡ digest
+    active_is : slice_range whole 91 99 ≡ active
+
+  has_fields : length generation ≡ 8 → length sequence ≡ 8 → length long ≡ 8 → length digest ≡ 32 → length zeros ≡ 32 → length active ≡ 8 → HasFields
+  has_fields g s l d z a =
+      let h1 : List ℕ = gate ∷ [] in
+      let h2 = h1 ++ generation in
+      let h3 = h2 ++ sequence in
+      let h4 = h3 ++ (bank ∷ []) in
+      let h5 = h4 ++ long in
+      let h6 = h5 ++ (size ∷ []) in
+      let h7 = h6 ++ digest in
+      let h8 = h7 ++ zeros in
+      let n2 : length h2 ≡ 9 = omega (arith, g, length-append h1 generation) in
+      let n3 : length h3 ≡ 17 = omega (arith, n2, s, length-append h2 sequence) in
+      let n4 : length h4 ≡ 18 = omega (arith, n3, length-append h3 (bank ∷ [])) in
+      let n5 : length h5 ≡ 26 = omega (arith, n4, l, length-append h4 long) in
+      let n6 : length h6 ≡ 27 = omega (arith, n5, length-append h5 (size ∷ [])) in
+      let n7 : length h7 ≡ 59 = omega (arith, n6, d, length-append h6 digest) in
+      let n8 : length h8 ≡ 91 = omega (arith, n7, z, length-append h7 zeros) in
+      let all : whole ≡ h8 ++ active = simp append_assoc in
+      record {
+        generation_is = field h1 generation (sequence ++ (bank ∷ (long ++ (size ∷ ((digest ++ zeros) ++ active))))) whole 1 9 (ap (λ (l : List ℕ). gate ∷ l) (append_assoc generation sequence (bank ∷ (long ++ (size ∷ ((digest ++ zeros) ++ active)))))) refl g;
+        sequence_is = field h2 sequence (bank ∷ (long ++ (size ∷ ((digest ++ zeros) ++ active)))) whole 9 17 (ap (λ (l : List ℕ). gate ∷ l) (append_assoc generation sequence (bank ∷ (long ++ (size ∷ ((digest ++ zeros) ++ active)))))) n2 s;
+        bank_is = field h3 (bank ∷ []) (long ++ (size ∷ ((digest ++ zeros) ++ active))) whole 17 18 refl n3 refl;
+        length_is = field h4 long (size ∷ ((digest ++ zeros) ++ active)) whole 18 26 (ap (λ (l : List ℕ). gate ∷ l) (sym (append_assoc (generation ++ sequence) (bank ∷ []) (long ++ (size ∷ ((digest ++ zeros) ++ active)))))) n4 l;
+        digest_is = field h6 digest (zeros ++ active) whole 27 59 (simp append_assoc) n6 d;
+        active_is = field h8 active [] whole 91 99 (all ∙ ap (λ (l : List ℕ). h8 ++ l) (sym (append-nil active))) n8 a;
+      }
+
+  bank_at : HasFields → get_or whole 17 0 ≡ bank
+  bank_at f = sym (get_or-between whole 17 18 0 0 (omega arith)) ∙ ap (λ (l : List ℕ). get_or l 0 0) f.bank_is
+
+-- ---- the record
+
+body_read : (r : Record) → IsTypedRecord r → fields_at (0xA5 ∷ record_body r) ≡ r
+unfolding record_body
+body_read r typed =
+    let zeros : List ℕ = replicate (64 - length r.digest.bytes) 0 in
+    let z : length zeros ≡ 32 = omega (arith, typed.digest, length-replicate {A = ℕ} (64 - length r.digest.bytes) 0) in
+    let f = has_fields 0xA5 r.bank 32 (number_bytes r.generation) (number_bytes r.sequence) (number_bytes r.length) r.digest.bytes zeros r.active
+    (number_long r.generation) (number_long r.sequence) (number_long r.length) typed.digest z typed.active in
+    same_record _ r
+    (ap number_at f.generation_is ∙ number_read r.generation typed.generation)
+    (ap number_at f.sequence_is ∙ number_read r.sequence typed.sequence)
+    (bank_at 0xA5 r.bank 32 (number_bytes r.generation) (number_bytes r.sequence) (number_bytes r.length) r.digest.bytes zeros r.active f)
+    (ap number_at f.length_is ∙ number_read r.length typed.size)
+    f.digest_is f.active_is
+
+-- what is read of the page of a record is the record
+pub page_read : (frame : Frame) (config page : List ℕ) (r : Record) → IsRecordPage frame config page r → fields_at page ≡ r
+page_read frame config page r is = ap fields_at is.bytes ∙ body_read r is.typed
+
+-- a page holds one record at most
+pub one_record : (frame : Frame) (config page : List ℕ) (r s : Record) → IsRecordPage frame config page r → IsRecordPage frame config page s → r ≡ s
+one_record frame config page r s is so = sym (page_read frame config page r is) ∙ page_read frame config page s so

@@ -1,0 +1,5 @@
+pub mod Fields
+pub mod Pages
+pub mod Loads
+pub mod Commits
+pub mod OneAnswers

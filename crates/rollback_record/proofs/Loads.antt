@@ -1,0 +1,97 @@
+-- The record of a head, of its pages as they were decoded.
+use Rattle.std.proofs.Common.{◌≡◌, ◌≢◌, ◌⊎◌, ⊎_elim, inl, inr, ◌<◌, ◌≤◌, ℕ, ◌+◌, Bool, true, false, List, length, Option, Some, None, refl, sym, ◌∙◌, ap, subst, arith}
+use Rattle.std.specs.Prelude.{if◌then◌else◌, nat_lt, IfSome}
+use Rattle.std.specs.List.{slice_range}
+use Rattle.std.proofs.lemmas.Bool.{cases_eq, cases_lt, lt-ltb, le-ltb}
+use Rattle.flash_layout.specs.declared.frame.TheConstants.{VERSION_1}
+use Rattle.flash_layout.specs.declared.slot.Record.{Record}
+use Rattle.flash_layout.specs.Frames.{head_of, config_page_of}
+use Rattle.rollback_record.specs.RecordPage.{IsRecordPage}
+use Rattle.rollback_record.specs.HeadRecord.{record_bytes, Counts, HaveRead, IsLoadable, RecordOf, higher}
+use Rattle.rollback_record.proofs.Pages.{bytes_in, config_in, head_short}
+
+-- three reads in turn
+pub have_read : (a b c config first second : List ℕ) (p q k m n : ℕ) → p ≡ 4096 → q ≡ 8192 → k ≡ 1204 → m ≡ 99 → n ≡ 99 → b ≡ a → c ≡ b
+    → config ≡ slice_range a 0 (0 + k) → first ≡ slice_range b p (p + m) → second ≡ slice_range c q (q + n)
+    → HaveRead VERSION_1 (head_of VERSION_1 a) config first second
+have_read a b c config first second p q k m n p_is q_is k_is m_is n_is same also config_is first_is second_is = record {
+  config_is = config_is ∙ ap (λ (i : ℕ). slice_range a 0 (0 + i)) k_is ∙ sym (config_in a);
+  first_is = first_is ∙ ap (λ (i : ℕ). slice_range b p (p + i)) m_is ∙ ap (λ (i : ℕ). slice_range b i (i + 99)) p_is ∙ ap (λ (l : List ℕ). slice_range l 4096 4195) same ∙ sym (bytes_in a 0 (omega arith));
+  second_is = second_is ∙ ap (λ (i : ℕ). slice_range c q (q + i)) n_is ∙ ap (λ (i : ℕ). slice_range c i (i + 99)) q_is ∙ ap (λ (l : List ℕ). slice_range l 8192 8291) (also ∙ same) ∙ sym (bytes_in a 1 (omega arith));
+}
+
+-- a small flash has no record
+pub small_none : (reads : List ℕ) → length reads < 49152 → RecordOf VERSION_1 (head_of VERSION_1 reads) None
+small_none reads small which r few is = absurd (omega (arith, is.whole, head_short reads small))
+
+pub loadable : (config page : List ℕ) (r : Record) → IsRecordPage VERSION_1 config page r → IsLoadable VERSION_1 r
+loadable config page r is = record { typed = is.typed; bank = is.fields.bank; size = is.fields.size }
+
+pub higher_loadable : (config first second : List ℕ) (p q : Option Record) → IfSome p (IsRecordPage VERSION_1 config first) → IfSome q (IsRecordPage VERSION_1 config second) → IfSome (higher p q) (IsLoadable VERSION_1)
+higher_loadable config first second None None is so = so
+higher_loadable config first second None (Some s) is so = loadable config second s so
+higher_loadable config first second (Some r) None is so = loadable config first r is
+higher_loadable config first second (Some r) (Some s) is so = pick (nat_lt r.generation s.generation)
+  where
+    pick : (b : Bool) → IfSome (if b then Some s else Some r) (IsLoadable VERSION_1)
+    pick true = loadable config second s so
+    pick false = loadable config first r is
+
+same_some : (r s : Record) → ◌≡◌ {A = Option Record} (Some r) (Some s) → r ≡ s
+same_some r s e = cc
+
+none_some : (s : Record) → ◌≡◌ {A = Option Record} None (Some s) → ⊥
+none_some s e = cc
+
+module _ (h config first second : List ℕ) (whole : 49152 ≤ length h) (read : HaveRead VERSION_1 h config first second) where
+  first_counts : (r : Record) → IsRecordPage VERSION_1 config first r → Counts VERSION_1 h 0 r
+  first_counts r is = record {
+    whole = whole;
+    page = subst (λ (l : List ℕ). IsRecordPage VERSION_1 l (record_bytes VERSION_1 h 0) r) read.config_is (subst (λ (l : List ℕ). IsRecordPage VERSION_1 config l r) read.first_is is);
+  }
+
+  second_counts : (r : Record) → IsRecordPage VERSION_1 config second r → Counts VERSION_1 h 1 r
+  second_counts r is = record {
+    whole = whole;
+    page = subst (λ (l : List ℕ). IsRecordPage VERSION_1 l (record_bytes VERSION_1 h 1) r) read.config_is (subst (λ (l : List ℕ). IsRecordPage VERSION_1 config l r) read.second_is is);
+  }
+
+  of_first : (r : Record) → Counts VERSION_1 h 0 r → IsRecordPage VERSION_1 config first r
+  of_first r is = subst (λ (l : List ℕ). IsRecordPage VERSION_1 l first r) (sym read.config_is) (subst (λ (l : List ℕ). IsRecordPage VERSION_1 (config_page_of VERSION_1 h) l r) (sym read.first_is) is.page)
+
+  of_second : (r : Record) → Counts VERSION_1 h 1 r → IsRecordPage VERSION_1 config second r
+  of_second r is = subst (λ (l : List ℕ). IsRecordPage VERSION_1 l second r) (sym read.config_is) (subst (λ (l : List ℕ). IsRecordPage VERSION_1 (config_page_of VERSION_1 h) l r) (sym read.second_is) is.page)
+
+  pub decoded : (p q : Option Record) → IfSome p (IsRecordPage VERSION_1 config first) → IfSome q (IsRecordPage VERSION_1 config second)
+      → ((r : Record) → IsRecordPage VERSION_1 config first r → p ≡ Some r) → ((r : Record) → IsRecordPage VERSION_1 config second r → q ≡ Some r) → RecordOf VERSION_1 h (higher p q)
+  decoded None None is so each every = λ which r few counts. ⊎_elim
+      (λ e. none_some r (each r (of_first r (subst (λ (k : ℕ). Counts VERSION_1 h k r) e counts))))
+      (λ ne. none_some r (every r (of_second r (subst (λ (k : ℕ). Counts VERSION_1 h k r) (one which few ne) counts))))
+      (cases_eq which 0)
+    where
+      one : (which : ℕ) → which < 2 → which ≢ 0 → which ≡ 1
+      one which few ne = omega (arith, few, ne)
+  decoded None (Some s) is so each every = record { which = 1; inside = omega arith; counts = second_counts s so; highest = λ other counts. absurd (none_some other (each other (of_first other counts))) }
+  decoded (Some r) None is so each every = record { which = 0; inside = omega arith; counts = first_counts r is; highest = λ other counts. absurd (none_some other (every other (of_second other counts))) }
+  decoded (Some r) (Some s) is so each every = ⊎_elim
+      (λ lt. subst (λ (b : Bool). RecordOf VERSION_1 h (if b then Some s else Some r)) (sym (lt-ltb r.generation s.generation lt)) (record {
+        which = 1;
+        inside = omega arith;
+        counts = second_counts s so;
+        highest = λ other counts. inl (below other counts lt);
+      }))
+      (λ le. subst (λ (b : Bool). RecordOf VERSION_1 h (if b then Some s else Some r)) (sym (le-ltb r.generation s.generation le)) (record {
+        which = 0;
+        inside = omega arith;
+        counts = first_counts r is;
+        highest = λ other counts. not_above other counts le;
+      }))
+      (cases_lt r.generation s.generation)
+    where
+      below : (other : Record) → Counts VERSION_1 h 0 other → r.generation < s.generation → other.generation < s.generation
+      below other counts lt = omega (arith, lt, ap (λ (x : Record). x.generation) (same_some r other (each other (of_first other counts))))
+
+      not_above : (other : Record) → Counts VERSION_1 h 1 other → s.generation ≤ r.generation → (other.generation < r.generation) ⊎ (◌≡◌ {A = ℕ} 0 0 × (other.generation ≡ r.generation))
+      not_above other counts le =
+          let same = ap (λ (x : Record). x.generation) (same_some s other (every other (of_second other counts))) in
+          ⊎_elim (λ lt. inl lt) (λ ge. inr (refl, (omega (arith, same, le, ge)))) (cases_lt other.generation r.generation)

@@ -1,0 +1,9 @@
+use Rattle.rollback_record.proofs.Fields.{one_record}
+use Rattle.rollback_record.proofs.OneAnswers.{one_answer}
+use Rattle.rollback_record.proofs.law.record_laws.Goals as goal
+
+pub returns-clause-page : goal.returns-clause-page
+returns-clause-page c = one_record
+
+pub returns-clause-answer : goal.returns-clause-answer
+returns-clause-answer c = one_answer

@@ -1,0 +1,33 @@
+-- What a commit makes of the flash.
+use Rattle.std.specs.Prelude.{◌≡◌, ◌⊎◌, ◌<◌, ◌+◌, ◌-◌, ℕ, List, Option, Some, None}
+use Rattle.suit_edge.specs.Flash.{Flash, Keeps}
+use Rattle.suit_edge.specs.Ranges.{Within, Outside}
+use Rattle.flash_layout.specs.declared.frame.Frame.{Frame}
+use Rattle.flash_layout.specs.declared.slot.Record.{Record}
+use Rattle.flash_layout.specs.Frames.{head_of, record_place}
+use Rattle.rollback_record.specs.declared.page.TheConstants.{RECORD_BYTES}
+use Rattle.rollback_record.specs.HeadRecord.{Counts, RecordOf}
+
+-- the places of the head
+abbrev pub InHead : Frame → ℕ → Type 0
+InHead frame = Within frame.base frame.size
+
+-- a record's generation is one above the one before it, and the first one's is 1
+abbrev pub IsNext : Option Record → Record → Type 0
+IsNext None new = new.generation ≡ 1
+IsNext (Some r) new = new.generation ≡ r.generation + 1
+
+-- the image has the held record or the new one
+abbrev pub HasHeldOrNew : Frame → Option Record → Record → List ℕ → Type 0
+HasHeldOrNew frame held new image = RecordOf frame (head_of frame image) held ⊎ RecordOf frame (head_of frame image) (Some new)
+
+-- the record page that is free to be written: the first where there is no record, else the one that does not hold it
+abbrev pub IsSpare : Frame → List ℕ → Option Record → ℕ → Type 0
+IsSpare frame head None which = which ≡ 0
+IsSpare frame head (Some r) which = (which < 2) × Counts frame head (1 - which) r
+
+-- nothing but the spare page changed, as the disk reads and in each image since
+pub record KeepsBesideSpare (frame : Frame) (held : Option Record) (old new : Flash) : Type 0 where
+  pub which : ℕ
+  pub spare : IsSpare frame (head_of frame old.reads) held which
+  pub keeps : Keeps (Outside (record_place frame which) RECORD_BYTES) old new

@@ -1,0 +1,62 @@
+-- What an image of the flash says of its record. Each word speaks of the image's head alone.
+use Rattle.std.specs.Prelude.{◌≡◌, ◌⊎◌, ◌<◌, ◌≤◌, ◌+◌, ◌-◌, ℕ, List, length, slice_range, nat_lt, if◌then◌else◌, Option, Some, None, Result, MatchResult}
+use Rattle.suit_edge.specs.Faults.{Faulted}
+use Rattle.flash_layout.specs.declared.frame.Frame.{Frame}
+use Rattle.flash_layout.specs.declared.slot.Record.{Record}
+use Rattle.flash_layout.specs.declared.slot.FlashFault.{FlashFault}
+use Rattle.flash_layout.specs.Frames.{config_page_of, record_from}
+use Rattle.rollback_record.specs.declared.page.TheConstants.{RECORD_BYTES}
+use Rattle.rollback_record.specs.RecordPage.{IsTypedRecord, IsRecordPage}
+
+-- the bytes of a record page that are read
+abbrev pub record_bytes : Frame → List ℕ → ℕ → List ℕ
+record_bytes frame head which = slice_range head (record_from frame which) (record_from frame which + RECORD_BYTES)
+
+-- that page of the head counts, and holds the record
+pub record Counts (frame : Frame) (head : List ℕ) (which : ℕ) (r : Record) : Type 0 where
+  pub whole : frame.size ≤ length head
+  pub page : IsRecordPage frame (config_page_of frame head) (record_bytes frame head which) r
+
+-- Of two pages that count, the one of the higher generation is the record; of equal ones page 0.
+abbrev pub IsBelow : ℕ → Record → Record → Type 0
+IsBelow which other r = (other.generation < r.generation) ⊎ ((which ≡ 0) × (other.generation ≡ r.generation))
+
+pub record HoldsRecord (frame : Frame) (head : List ℕ) (r : Record) : Type 0 where
+  pub which : ℕ
+  pub inside : which < 2
+  pub counts : Counts frame head which r
+  pub highest : (other : Record) → Counts frame head (1 - which) other → IsBelow which other r
+
+-- no page counts
+abbrev pub HoldsNone : Frame → List ℕ → Type 0
+HoldsNone frame head = (which : ℕ) (r : Record) → which < 2 → Counts frame head which r → ⊥
+
+abbrev pub RecordOf : Frame → List ℕ → Option Record → Type 0
+RecordOf frame head None = HoldsNone frame head
+RecordOf frame head (Some r) = HoldsRecord frame head r
+
+-- ---- what a load answers
+
+-- the pages that were read of a head
+pub record HaveRead (frame : Frame) (head config first second : List ℕ) : Type 0 where
+  pub config_is : config ≡ config_page_of frame head
+  pub first_is : first ≡ record_bytes frame head 0
+  pub second_is : second ≡ record_bytes frame head 1
+
+-- the count of faults rose for a fault, and stayed otherwise
+abbrev pub ResultCounts : {A : Type 0} → Result A FlashFault → ℕ → ℕ → Type 0
+ResultCounts result before now = MatchResult result (λ _. now ≡ before) (λ _. Faulted before now)
+
+-- what holds of each record that is loaded, also where a disk does not tell its bytes
+pub record IsLoadable (frame : Frame) (r : Record) : Type 0 where
+  pub typed : IsTypedRecord r
+  pub bank : r.bank < 2
+  pub size : r.length ≤ frame.bank_size
+
+-- ---- inside
+
+-- the record of two pages
+abbrev pub higher : Option Record → Option Record → Option Record
+higher None second = second
+higher (Some r) None = Some r
+higher (Some r) (Some s) = if nat_lt r.generation s.generation then Some s else Some r

@@ -1,0 +1,5 @@
+pub mod RecordPage
+pub mod HeadRecord
+pub mod Judging
+pub mod Committing
+pub mod RecordLaws

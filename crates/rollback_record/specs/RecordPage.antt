@@ -1,0 +1,67 @@
+-- A record page of the flash: a gate, and a record behind it. All numbers are big-endian.
+use Rattle.std.specs.Prelude.{◌≡◌, ◌⊎◌, ◌<◌, ◌≤◌, ◌+◌, ◌*◌, ◌^◌, ℕ, List, ◌∷◌, ◌++◌, length, slice_index, slice_range}
+use Rattle.suit_edge.specs.declared.page.TheConstants.{OPEN}
+use Rattle.flash_layout.specs.declared.frame.Frame.{Frame}
+use Rattle.flash_layout.specs.declared.slot.Record.{Record}
+use Rattle.flash_layout.specs.ConfigPage.{number_bytes, padded}
+use Rattle.flash_layout.specs.PageReading.{number_at}
+
+-- ---- fields
+
+-- The component of that index has a second slot, by the bytes of the configuration page: a component takes 142 bytes
+-- behind the first 68, and the second of them counts its slots.
+abbrev pub HasSecondSlot : List ℕ → ℕ → Type 0
+HasSecondSlot config i = (i < slice_index config 3) × (slice_index config (142 * i + 69) ≡ 2)
+
+-- slot 0, or slot 1 of a component that has one
+abbrev pub IsActiveSlot : List ℕ → ℕ → ℕ → Type 0
+IsActiveSlot config i slot = (slot ≡ 0) ⊎ ((slot ≡ 1) × HasSecondSlot config i)
+
+-- fields of the lengths and ranges of their types
+pub record IsTypedRecord (r : Record) : Type 0 where
+  pub generation : r.generation < 2 ^ 64
+  pub sequence : r.sequence < 2 ^ 64
+  pub size : r.length < 2 ^ 64
+  pub digest : length r.digest.bytes ≡ 32
+  pub active : length r.active ≡ 8
+
+-- fields in range, on a flash with that configuration page
+pub record IsInRange (frame : Frame) (config : List ℕ) (r : Record) : Type 0 where
+  pub bank : r.bank < 2
+  pub size : r.length ≤ frame.bank_size
+  pub active : (i : ℕ) → i < 8 → IsActiveSlot config i (slice_index r.active i)
+
+-- ---- bytes
+
+abbrev pub numbers_field : Record → List ℕ
+numbers_field r = number_bytes r.generation ++ number_bytes r.sequence
+
+abbrev pub bank_field : Record → List ℕ
+bank_field r = r.bank ∷ number_bytes r.length
+
+-- the digest's length, and the digest with zeros after it
+abbrev pub digest_field : List ℕ → List ℕ
+digest_field digest = 32 ∷ padded 64 digest
+
+-- the bytes behind the gate
+unfoldable pub record_body : Record → List ℕ
+record_body r = numbers_field r ++ (bank_field r ++ (digest_field r.digest.bytes ++ r.active))
+
+-- The page counts, and holds the record: its gate is open, and the fields are in range.
+pub record IsRecordPage (frame : Frame) (config page : List ℕ) (r : Record) : Type 0 where
+  pub typed : IsTypedRecord r
+  pub fields : IsInRange frame config r
+  pub bytes : page ≡ OPEN ∷ record_body r
+
+-- ---- reading
+
+-- the fields at their places, without a judgement
+abbrev pub fields_at : List ℕ → Record
+fields_at page = record {
+  generation = number_at (slice_range page 1 9);
+  sequence = number_at (slice_range page 9 17);
+  bank = slice_index page 17;
+  length = number_at (slice_range page 18 26);
+  digest = record { bytes = slice_range page 27 59 };
+  active = slice_range page 91 99;
+}

@@ -1,0 +1,53 @@
+//! Whether a manifest may be recorded.
+
+ghost use Rattle.rollback_record.specs.Judging.{IsJudged};
+ghost use Rattle.std.specs.Prelude.{Some, option_map};
+
+use flash_layout::Record;
+use suit_params::Digest;
+
+/// What is judged of a manifest beside the held record.
+#[derive(Clone, Copy, Debug, PartialEq, Eq)]
+pub enum Judged {
+    /// It may be recorded.
+    Accepted,
+    /// Its number is below the recorded one.
+    Lower { recorded: u64, offered: u64 },
+    /// Its number is the recorded one, and its digest is another.
+    OtherDigest { recorded: Digest, offered: Digest },
+    /// The held record's generation is the last one.
+    Worn,
+}
+
+// Judges a manifest beside a record.
+fn judge_beside(held: &Record, sequence: u64, digest: &Digest) -> Judged
+    ensures { IsJudged sequence digest.now (Some held.now) result }
+{
+    if sequence < held.sequence {
+        return Judged::Lower {
+            recorded: held.sequence,
+            offered: sequence,
+        };
+    }
+    if sequence == held.sequence && *digest != held.digest {
+        return Judged::OtherDigest {
+            recorded: held.digest,
+            offered: *digest,
+        };
+    }
+    if held.generation == u64::MAX {
+        return Judged::Worn;
+    }
+    Judged::Accepted
+}
+
+/// Judges a manifest's number and digest beside the held record. The first thing that is wrong, in the order of the
+/// answers.
+pub fn judge(held: Option<&Record>, sequence: u64, digest: &Digest) -> Judged
+    ensures { IsJudged sequence digest.now (option_map (λ r. r.now) held.entry) result }
+{
+    match held {
+        None => Judged::Accepted,
+        Some(held) => judge_beside(held, sequence, digest),
+    }
+}

@@ -1,0 +1,9 @@
+//! Laws of record pages. The call here does nothing: its contract is the law.
+
+ghost use Rattle.rollback_record.specs.RecordLaws.{OneAnswer, OneRecord};
+
+/// A page holds one record at most, and so does the head of an image.
+pub fn record_laws()
+    ensures page { OneRecord }
+    ensures answer { OneAnswer }
+{}

@@ -1,0 +1,16 @@
+//! What is installed: two record pages of the flash, of which one is written while the other holds the record.
+#![tactic(auto)]
+
+mod judging;
+mod law;
+mod load;
+mod page;
+mod typing;
+mod writing;
+
+pub use flash_layout::{FlashFault, Record};
+pub use judging::{Judged, judge};
+pub use law::record_laws;
+pub use load::load_record;
+pub use page::RECORD_BYTES;
+pub use writing::commit;

@@ -1,0 +1,83 @@
+//! Reading the record.
+
+ghost use Rattle.flash_layout.specs.Frames.{config_page_of, head_of};
+ghost use Rattle.rollback_record.specs.HeadRecord.{HaveRead, IsLoadable, RecordOf, ResultCounts, higher};
+ghost use Rattle.std.specs.Prelude.{◌≡◌, ◌≤◌, IfOk, IfSome, IsTrue, length};
+ghost use Rattle.suit_edge.specs.Edge.{IfDone};
+ghost use Rattle.suit_edge.specs.Faults.{EdgeCounts};
+ghost use Rattle.suit_edge.specs.Flash.{Grows, IsSame};
+
+use crate::page::{CONFIG_BYTES, RECORD_BYTES, decode};
+use flash_layout::{CONFIG_GATE, FlashFault, Record, VERSION_1, record_page};
+use suit_edge::{Disk, Edge};
+
+// Reads what the record stands on: the configuration page and both record pages.
+fn read_pages<D: Disk>(
+    disk: &mut D,
+    config: &mut [u8; CONFIG_BYTES],
+    first: &mut [u8; RECORD_BYTES],
+    second: &mut [u8; RECORD_BYTES],
+) -> Edge
+    requires { VERSION_1.size ≤ D.extent disk.old }
+    ensures size { D.extent disk.new ≡ D.extent disk.old }
+    ensures counts { EdgeCounts result (D.faults disk.old) (D.faults disk.new) }
+    ensures bytes { IsTrue D.told → IfDone result (HaveRead VERSION_1 (head_of VERSION_1 (D.flash disk.old).reads) config.new first.new second.new) }
+    ensures same { IsTrue D.told → IsSame (D.flash disk.old) (D.flash disk.new) }
+    ensures grows { IsTrue D.told → Grows (D.flash disk.old) (D.flash disk.new) }
+{
+    match disk.read_at(CONFIG_GATE, config) {
+        Edge::Failed => return Edge::Failed,
+        Edge::Done => {}
+    }
+    match disk.read_at(record_page(0), first) {
+        Edge::Failed => return Edge::Failed,
+        Edge::Done => {}
+    }
+    match disk.read_at(record_page(1), second) {
+        Edge::Failed => Edge::Failed,
+        Edge::Done => Edge::Done,
+    }
+}
+
+// The record of two pages: of two that count that of the higher generation, and of equal ones the first.
+fn higher_of(first: Option<Record>, second: Option<Record>) -> Option<Record>
+    ensures { result ≡ higher first second }
+{
+    match (first, second) {
+        (None, second) => second,
+        (Some(first), None) => Some(first),
+        (Some(first), Some(second)) => {
+            if first.generation < second.generation {
+                Some(second)
+            } else {
+                Some(first)
+            }
+        }
+    }
+}
+
+/// The record that the flash holds, or `None` where no page counts, as on a flash of fewer than 49,152 bytes. Changes
+/// nothing, whatever it answers.
+pub fn load_record<D: Disk>(disk: &mut D) -> Result<Option<Record>, FlashFault>
+    ensures size { D.extent disk.new ≡ D.extent disk.old }
+    ensures counts { ResultCounts result (D.faults disk.old) (D.faults disk.new) }
+    ensures loadable { IfOk result (λ o. IfSome o (IsLoadable VERSION_1)) }
+    ensures exact { IsTrue D.told → IfOk result (RecordOf VERSION_1 (head_of VERSION_1 (D.flash disk.old).reads)) }
+    ensures same { IsTrue D.told → IsSame (D.flash disk.old) (D.flash disk.new) }
+    ensures grows { IsTrue D.told → Grows (D.flash disk.old) (D.flash disk.new) }
+{
+    let size = disk.size();
+    if size < VERSION_1.size {
+        return Ok(None);
+    }
+    let mut config = [0u8; CONFIG_BYTES];
+    let mut first = [0u8; RECORD_BYTES];
+    let mut second = [0u8; RECORD_BYTES];
+    match read_pages(disk, &mut config, &mut first, &mut second) {
+        Edge::Failed => return Err(FlashFault),
+        Edge::Done => {}
+    }
+    let first = decode(&config, &first);
+    let second = decode(&config, &second);
+    Ok(higher_of(first, second))
+}

@@ -1,0 +1,225 @@
+//! The bytes of a record page, and how they are read and put together without memory.
+
+ghost use Rattle.flash_layout.specs.ConfigPage.{number_bytes};
+ghost use Rattle.flash_layout.specs.PageReading.{number_at};
+ghost use Rattle.rollback_record.specs.RecordPage.{HasSecondSlot, IsActiveSlot, IsInRange, IsRecordPage, bank_field, digest_field, fields_at, numbers_field, record_body};
+ghost use Rattle.std.specs.Prelude.{◌≡◌, ◌↔◌, ◌≤◌, ◌<◌, ◌+◌, ℕ, [], ◌∷◌, ◌++◌, drop, Some, IfSome, IsTrue, length, slice_index};
+
+use crate::typing::typed;
+use flash_layout::{Record, VERSION_1};
+use std::marker::Model;
+use suit_edge::OPEN;
+use suit_params::Digest;
+
+/// The bytes of a record page that are read: the gate, and the record behind it.
+pub const RECORD_BYTES: usize = 99;
+
+/// The bytes of the configuration page.
+pub(crate) const CONFIG_BYTES: usize = 1204;
+
+/// Up to so many bytes.
+#[derive(Drop)]
+pub(crate) struct Page {
+    room: [u8; RECORD_BYTES],
+    used: usize,
+}
+
+impl Model for Page {
+    ghost use Rattle.std.specs.Prelude.{List, ℕ, ◌≤◌, take};
+    ghost use Rattle.rollback_record.specs.declared.page.TheConstants.{RECORD_BYTES};
+
+    ghost Value = { List ℕ };
+
+    ghost view = { λ p. take p.used p.room };
+
+    ghost invariant = { λ p. p.used ≤ RECORD_BYTES };
+}
+
+impl Page {
+    // No bytes.
+    fn new() -> Page
+        ensures { result ≡ [] }
+    {
+        Page {
+            room: [0; RECORD_BYTES],
+            used: 0,
+        }
+    }
+
+    // Adds bytes at the end.
+    fn put(&mut self, bytes: &[u8])
+        requires { length self.old + length bytes.now ≤ RECORD_BYTES }
+        ensures bytes { self.new ≡ self.old ++ bytes.now }
+        ensures long { length self.new ≡ length self.old + length bytes.now }
+    {
+        let end = self.used + bytes.len();
+        self.room[self.used..end].copy_from_slice(bytes);
+        self.used = end;
+    }
+
+    /// The bytes, lent.
+    pub(crate) fn as_slice(&self) -> &[u8]
+        ensures { result.now ≡ self.now }
+    {
+        &self.room[..self.used]
+    }
+
+    /// The bytes behind the gate, lent.
+    pub(crate) fn body(&self) -> &[u8]
+        requires { 1 ≤ length self.now }
+        ensures { result.now ≡ drop 1 self.now }
+    {
+        &self.room[1..self.used]
+    }
+}
+
+// Adds a number in eight bytes.
+#[tactic(auto, unfolding(flash_layout::specs::ConfigPage::number_bytes))]
+fn put_number(page: &mut Page, number: u64)
+    requires { length page.old + 8 ≤ RECORD_BYTES }
+    ensures bytes { page.new ≡ page.old ++ number_bytes number }
+    ensures long { length page.new ≡ length page.old + 8 }
+{
+    page.put(&number.to_be_bytes());
+}
+
+// Adds the generation and the number.
+fn put_numbers(page: &mut Page, installed: &Record)
+    requires { length page.old + 16 ≤ RECORD_BYTES }
+    ensures bytes { page.new ≡ page.old ++ numbers_field installed.now }
+    ensures long { length page.new ≡ length page.old + 16 }
+{
+    put_number(page, installed.generation);
+    put_number(page, installed.sequence);
+}
+
+// Adds the bank, and how many of its bytes are used.
+fn put_bank(page: &mut Page, installed: &Record)
+    requires { length page.old + 9 ≤ RECORD_BYTES }
+    ensures bytes { page.new ≡ page.old ++ bank_field installed.now }
+    ensures long { length page.new ≡ length page.old + 9 }
+{
+    page.put(&[installed.bank]);
+    put_number(page, installed.length);
+}
+
+// Adds the digest.
+fn put_digest(page: &mut Page, digest: &[u8; 32])
+    requires { length page.old + 65 ≤ RECORD_BYTES }
+    ensures bytes { page.new ≡ page.old ++ digest_field digest.now }
+    ensures long { length page.new ≡ length page.old + 65 }
+{
+    page.put(&[32]);
+    page.put(digest);
+    page.put(&[0; 32]);
+}
+
+/// The page of a record, with its gate open.
+#[tactic(auto, unfolding(crate::specs::RecordPage::record_body))]
+pub(crate) fn spell(installed: &Record) -> Page
+    ensures bytes { result ≡ OPEN ∷ record_body installed.now }
+    ensures long { length result ≡ RECORD_BYTES }
+{
+    let mut page = Page::new();
+    page.put(&[OPEN]);
+    put_numbers(&mut page, installed);
+    put_bank(&mut page, installed);
+    put_digest(&mut page, &installed.digest.bytes);
+    page.put(&installed.active);
+    page
+}
+
+#[tactic(auto, unfolding(flash_layout::specs::PageReading::number_at))]
+fn read_number(bytes: &[u8]) -> u64
+    requires { length bytes.now ≡ 8 }
+    ensures { result ≡ number_at bytes.now }
+{
+    let mut number = [0; 8];
+    number.copy_from_slice(bytes);
+    u64::from_be_bytes(number)
+}
+
+// The fields, without a judgement.
+fn read_fields(page: &[u8]) -> Record
+    requires { length page.now ≡ RECORD_BYTES }
+    ensures { result ≡ fields_at page.now }
+{
+    let mut digest = Digest { bytes: [0; 32] };
+    digest.bytes.copy_from_slice(&page[27..59]);
+    let mut active = [0; 8];
+    active.copy_from_slice(&page[91..99]);
+    Record {
+        generation: read_number(&page[1..9]),
+        sequence: read_number(&page[9..17]),
+        bank: page[17],
+        length: read_number(&page[18..26]),
+        digest,
+        active,
+    }
+}
+
+// Whether the component of that index has a second slot.
+fn has_second_slot(config: &[u8], i: usize) -> bool
+    requires size { length config.now ≡ CONFIG_BYTES }
+    requires inside { i < 8 }
+    ensures { IsTrue result ↔ HasSecondSlot config.now i }
+{
+    i < config[3] as usize && config[142 * i + 69] == 2
+}
+
+// Whether the component has the slot.
+fn is_active(config: &[u8], i: usize, slot: u8) -> bool
+    requires size { length config.now ≡ CONFIG_BYTES }
+    requires inside { i < 8 }
+    ensures { IsTrue result ↔ IsActiveSlot config.now i slot }
+{
+    slot == 0 || (slot == 1 && has_second_slot(config, i))
+}
+
+// Whether each component has its slot.
+fn are_active(config: &[u8], active: &[u8; 8]) -> bool
+    requires { length config.now ≡ CONFIG_BYTES }
+    ensures { IsTrue result ↔ ((i : ℕ) → i < 8 → IsActiveSlot config.now i (slice_index active.now i)) }
+{
+    for i in 0..8 {
+        if !is_active(config, i, active[i]) {
+            return false;
+        }
+    }
+    true
+}
+
+/// Whether the fields are in range, on a flash with that configuration page.
+pub(crate) fn is_in_range(config: &[u8], installed: &Record) -> bool
+    requires { length config.now ≡ CONFIG_BYTES }
+    ensures { IsTrue result ↔ IsInRange VERSION_1 config.now installed.now }
+{
+    installed.bank < 2
+        && installed.length <= VERSION_1.bank_size
+        && are_active(config, &installed.active)
+}
+
+/// Whether the bytes are the page of the record.
+pub(crate) fn is_page_of(page: &[u8], installed: &Record) -> bool
+    ensures { IsTrue result ↔ (page.now ≡ OPEN ∷ record_body installed.now) }
+{
+    spell(installed).as_slice() == page
+}
+
+/// The record of a page that counts, or `None` where the page does not count.
+pub(crate) fn decode(config: &[u8], page: &[u8]) -> Option<Record>
+    requires config { length config.now ≡ CONFIG_BYTES }
+    requires page { length page.now ≡ RECORD_BYTES }
+    ensures some { IfSome result (λ r. IsRecordPage VERSION_1 config.now page.now r) }
+    ensures every { (r : Record) → IsRecordPage VERSION_1 config.now page.now r → result ≡ Some r }
+{
+    let installed = read_fields(page);
+    typed(&installed);
+    if !is_in_range(config, &installed) {
+        return None;
+    }
+    if !is_page_of(page, &installed) {
+        return None;
+    }
+    Some(installed)
+}

@@ -1,0 +1,86 @@
+//! Writing the record.
+
+ghost use Rattle.flash_layout.specs.Frames.{config_page_of, head_of};
+ghost use Rattle.rollback_record.specs.Committing.{HasHeldOrNew, InHead, IsNext, IsSpare, KeepsBesideSpare};
+ghost use Rattle.rollback_record.specs.HeadRecord.{RecordOf, ResultCounts};
+ghost use Rattle.rollback_record.specs.RecordPage.{IsInRange, record_body};
+ghost use Rattle.std.specs.Prelude.{◌≡◌, ◌↔◌, ◌∷◌, ◌≤◌, ◌<◌, IfOk, IsTrue, OnOk, Some, length, option_map};
+ghost use Rattle.suit_edge.specs.Flash.{Grows, IsFirmOn, IsSame, IsSettled, Passes};
+
+use crate::page::{RECORD_BYTES, is_page_of, spell};
+use crate::typing::typed;
+use flash_layout::{FlashFault, Record, VERSION_1, record_page};
+use suit_edge::{Disk, Edge, write_gated};
+
+// The record page that does not hold the record.
+fn page_beside<D: Disk>(disk: &mut D, held: &Record) -> Result<u64, FlashFault>
+    requires size { VERSION_1.size ≤ D.extent disk.old }
+    requires held { IsTrue D.told → RecordOf VERSION_1 (head_of VERSION_1 (D.flash disk.old).reads) (Some held.now) }
+    ensures size { D.extent disk.new ≡ D.extent disk.old }
+    ensures counts { ResultCounts result (D.faults disk.old) (D.faults disk.new) }
+    ensures which { IfOk result (λ which. which < 2) }
+    ensures spare { IsTrue D.told → IfOk result (IsSpare VERSION_1 (head_of VERSION_1 (D.flash disk.old).reads) (Some held.now)) }
+    ensures same { IsTrue D.told → IsSame (D.flash disk.old) (D.flash disk.new) }
+    ensures grows { IsTrue D.told → Grows (D.flash disk.old) (D.flash disk.new) }
+{
+    let mut page = [0u8; RECORD_BYTES];
+    match disk.read_at(record_page(0), &mut page) {
+        Edge::Failed => return Err(FlashFault),
+        Edge::Done => {}
+    }
+    if is_page_of(&page, held) {
+        Ok(1)
+    } else {
+        Ok(0)
+    }
+}
+
+// The record page that is free to be written: the first one where there is no record, else the one that does not hold it.
+fn find_spare<D: Disk>(disk: &mut D, held: Option<&Record>) -> Result<u64, FlashFault>
+    requires size { VERSION_1.size ≤ D.extent disk.old }
+    requires held { IsTrue D.told → RecordOf VERSION_1 (head_of VERSION_1 (D.flash disk.old).reads) (option_map (λ r. r.now) held) }
+    ensures size { D.extent disk.new ≡ D.extent disk.old }
+    ensures counts { ResultCounts result (D.faults disk.old) (D.faults disk.new) }
+    ensures which { IfOk result (λ which. which < 2) }
+    ensures spare { IsTrue D.told → IfOk result (IsSpare VERSION_1 (head_of VERSION_1 (D.flash disk.old).reads) (option_map (λ r. r.now) held.entry)) }
+    ensures same { IsTrue D.told → IsSame (D.flash disk.old) (D.flash disk.new) }
+    ensures grows { IsTrue D.told → Grows (D.flash disk.old) (D.flash disk.new) }
+{
+    match held {
+        None => Ok(0),
+        Some(held) => page_beside(disk, held),
+    }
+}
+
+/// Records what is installed, on the record page that does not hold the record. A power loss now must leave the head as
+/// it reads. After a fault, and after a power loss at any moment, the flash holds the held record or the new one, and all
+/// else as it was.
+pub fn commit<D: Disk>(disk: &mut D, held: Option<&Record>, new: &Record) -> Result<(), FlashFault>
+    requires size { VERSION_1.size ≤ D.extent disk.old }
+    requires held { IsTrue D.told → RecordOf VERSION_1 (head_of VERSION_1 (D.flash disk.old).reads) (option_map (λ r. r.now) held) }
+    requires next { IsNext (option_map (λ r. r.now) held) new.now }
+    requires fields { IsTrue D.told → IsInRange VERSION_1 (config_page_of VERSION_1 (head_of VERSION_1 (D.flash disk.old).reads)) new.now }
+    requires firm { IsTrue D.told → IsFirmOn (InHead VERSION_1) (D.flash disk.old) }
+    ensures size { D.extent disk.new ≡ D.extent disk.old }
+    ensures counts { ResultCounts result (D.faults disk.old) (D.faults disk.new) }
+    ensures ok { IsTrue D.told → OnOk result (RecordOf VERSION_1 (head_of VERSION_1 (D.flash disk.new).reads) (Some new.now)) }
+    ensures settled { IsTrue D.told → OnOk result (IsSettled (D.flash disk.new)) }
+    ensures reads { IsTrue D.told → HasHeldOrNew VERSION_1 (option_map (λ r. r.now) held.entry) new.now (D.flash disk.new).reads }
+    ensures any_moment { IsTrue D.told → Passes (D.flash disk.old) (D.flash disk.new)
+        (HasHeldOrNew VERSION_1 (option_map (λ r. r.now) held.entry) new.now) }
+    ensures keeps { IsTrue D.told → KeepsBesideSpare VERSION_1 (option_map (λ r. r.now) held.entry) (D.flash disk.old) (D.flash disk.new) }
+    ensures grows { IsTrue D.told → Grows (D.flash disk.old) (D.flash disk.new) }
+{
+    typed(new);
+    let _size = disk.size();
+    let which = match find_spare(disk, held) {
+        Ok(which) => which,
+        Err(FlashFault) => return Err(FlashFault),
+    };
+    let gate = record_page(which);
+    let page = spell(new);
+    match write_gated(disk, gate, gate + 1, page.body()) {
+        Edge::Failed => Err(FlashFault),
+        Edge::Done => Ok(()),
+    }
+}
