@@ -1,0 +1,4 @@
+pub mod Growing
+pub mod Counts
+pub mod Naming
+pub mod OneFault
