@@ -17,3 +17,4 @@ pub mod Alike
 pub mod FileNames
 pub mod Faults
 pub mod Held
+pub mod Making

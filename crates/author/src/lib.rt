@@ -15,9 +15,11 @@ mod file_value;
 mod held;
 mod identifiers;
 mod index_argument;
+mod making;
 mod member_fields;
 mod param_fields;
 mod param_name;
+mod parts;
 mod payload_fields;
 mod scope;
 mod severing;
@@ -26,6 +28,9 @@ pub use describing::description;
 pub use fault::DescriptionFault;
 pub use file_list::FileList;
 pub use held::Description;
+pub use making::manifest_of;
 
+#[cfg(test)]
+mod making_tests;
 #[cfg(test)]
 mod table_tests;
