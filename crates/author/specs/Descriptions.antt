@@ -1,0 +1,106 @@
+-- What a description stands for, where its files have these bytes; or the first flaw of its fields.
+use Rattle.std.specs.Prelude.{ℕ, ◌^◌, ◌-◌, nat_lt, Bool, true, false, if◌then◌else◌, List, [], codes, Option, Some, None, Result, Ok}
+use Rattle.det_cbor.specs.HeadReading.{◌>>=◌}
+use Rattle.serde_json.specs.Data.{Data}
+use Rattle.serde_json.specs.Events.{items_len}
+use Rattle.serde_json.specs.Find.{get}
+use Rattle.json_fields.specs.declared.flaw.Flaw.{Flaw}
+use Rattle.json_fields.specs.declared.flaw.FlawKind.TheVariants.{Field}
+use Rattle.json_fields.specs.Flaws.{flawed}
+use Rattle.json_fields.specs.Values.{text_of, hex_of}
+use Rattle.json_fields.specs.Objects.{Takes, object_of, required}
+use Rattle.suit_commands.specs.Tree.{SequenceTree}
+use Rattle.suit_manifest.specs.declared.manifest.Member.TheVariants as members
+use Rattle.suit_manifest.specs.declared.manifest.TextMember.TheVariants as texts
+use Rattle.author.specs.declared.fields.Described.{Described}
+use Rattle.author.specs.declared.fields.Fields.{Fields}
+use Rattle.author.specs.declared.field_name.FieldName.{FieldName}
+use Rattle.author.specs.declared.field_name.FieldName.TheVariants as names
+use Rattle.author.specs.Scope.{Scope}
+use Rattle.author.specs.Elements.{items_in}
+use Rattle.author.specs.ParamValues.{number_of}
+use Rattle.author.specs.Identifiers.{identifiers_of}
+use Rattle.author.specs.Members.{member_sequence, member_of, text_member_of}
+use Rattle.author.specs.Severing.{none_severed, given_in, severed_of}
+use Rattle.author.specs.Payloads.{payloads_of}
+use Rattle.author.specs.FieldNames.{field_named}
+
+-- how many identifiers are listed. An index has 32 bits.
+abbrev pub capped_count : ℕ → ℕ
+capped_count n = if nat_lt n (2 ^ 32 - 1) then n else 2 ^ 32 - 1
+
+abbrev pub listed : Option Data → ℕ
+listed None = 0
+listed (Some d) = capped_count (items_len (items_in d))
+
+abbrev pub count_in : Data → ℕ
+count_in d = listed (get (codes "components") d)
+
+-- ---- the fields that were read
+
+abbrev pub no_fields : List (List ℕ × List ℕ) → Data → Fields
+no_fields files d = record {
+  source = record { files = files; count = count_in d; given = given_in d };
+  sequence = None;
+  components = None;
+  shared = None;
+  reference = None;
+  validate = None;
+  load = None;
+  invoke = None;
+  payload_fetch = members.Empty;
+  install = members.Empty;
+  text = texts.Empty;
+  severed = none_severed;
+  payloads = [];
+  kid = None;
+}
+
+abbrev pub scope_of : Fields → Bool → Scope
+scope_of t shared = record { files = t.source.files; shared = shared; count = t.source.count }
+
+abbrev pub field_sequence : Fields → Bool → Data → Result SequenceTree Flaw
+field_sequence t shared d = member_sequence (scope_of t shared) d
+
+abbrev pub takes_known : Fields → Option FieldName → Data → Result Fields Flaw
+takes_known t None d = flawed Field
+takes_known t (Some names.SequenceNumber) d = number_of d >>= λ n. Ok (record t { sequence = Some n })
+takes_known t (Some names.Components) d = identifiers_of d >>= λ ids. Ok (record t { components = Some ids })
+takes_known t (Some names.Reference) d = text_of d >>= λ text. Ok (record t { reference = Some text })
+takes_known t (Some names.Shared) d = field_sequence t true d >>= λ s. Ok (record t { shared = Some s })
+takes_known t (Some names.Validate) d = field_sequence t false d >>= λ s. Ok (record t { validate = Some s })
+takes_known t (Some names.Load) d = field_sequence t false d >>= λ s. Ok (record t { load = Some s })
+takes_known t (Some names.Invoke) d = field_sequence t false d >>= λ s. Ok (record t { invoke = Some s })
+takes_known t (Some names.PayloadFetch) d = member_of (scope_of t false) d >>= λ m. Ok (record t { payload_fetch = m })
+takes_known t (Some names.Install) d = member_of (scope_of t false) d >>= λ m. Ok (record t { install = m })
+takes_known t (Some names.TextMember) d = text_member_of d >>= λ m. Ok (record t { text = m })
+takes_known t (Some names.Sever) d = severed_of t.source.given d >>= λ s. Ok (record t { severed = s })
+takes_known t (Some names.Payloads) d = payloads_of t.source.files d >>= λ ps. Ok (record t { payloads = ps })
+takes_known t (Some names.Kid) d = hex_of d >>= λ kid. Ok (record t { kid = Some kid })
+
+abbrev pub takes_field : Takes Fields
+takes_field t key d = takes_known t (field_named key) d
+
+abbrev pub whole : Fields → List (List (List ℕ)) → ℕ → Described
+whole t ids n = record {
+  manifest = record {
+    sequence = n;
+    components = ids;
+    shared = t.shared;
+    reference = t.reference;
+    validate = t.validate;
+    load = t.load;
+    invoke = t.invoke;
+    payload_fetch = t.payload_fetch;
+    install = t.install;
+    text = t.text;
+  };
+  severed = t.severed;
+  payloads = t.payloads;
+  kid = t.kid;
+}
+
+abbrev pub described : List (List ℕ × List ℕ) → Data → Result Described Flaw
+described files d =
+    object_of takes_field (no_fields files d) d >>= λ t.
+    required (codes "components") t.components >>= λ ids. required (codes "sequence") t.sequence >>= λ n. Ok (whole t ids n)

@@ -1,0 +1,13 @@
+-- The elements of a value.
+use Rattle.std.specs.Prelude.{Option, Some, None, unwrap_or}
+use Rattle.serde_json.specs.Data.{Data, Items, no_items, item}
+use Rattle.serde_json.specs.Find.{as_array}
+
+-- those of an array, and none of another value
+abbrev pub items_in : Data → Items
+items_in d = unwrap_or (as_array d) no_items
+
+-- just two
+abbrev pub pair_in : Items → Option (Data × Data)
+pair_in (item a (item b no_items)) = Some (a, b)
+pair_in _ = None

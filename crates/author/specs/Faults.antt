@@ -1,0 +1,63 @@
+-- What a description is refused for: the first flaw of its fields; and after all fields, too many components, and then
+-- two that are alike.
+use Rattle.std.specs.Prelude.{◌≡◌, ◌⊎◌, ◌<◌, ◌≤◌, ℕ, List, [], length, Result, Ok, Err}
+use Rattle.serde_json.specs.Data.{Data}
+use Rattle.json_fields.specs.declared.flaw.Flaw.{Flaw}
+use Rattle.json_fields.specs.declared.flaw.FlawKind.{FlawKind}
+use Rattle.json_fields.specs.declared.flaw.FlawKind.TheVariants as kinds
+use Rattle.json_fields.specs.declared.flaw.JsonFault.{JsonFault}
+use Rattle.json_fields.specs.declared.flaw.JsonFault.TheVariants.{Flawed}
+use Rattle.json_fields.specs.declared.flaw.JsonFault.TheVariants as faults
+use Rattle.suit_manifest.specs.Components.{AreApart, AreAlike}
+use Rattle.author.specs.declared.fields.Described.{Described}
+use Rattle.author.specs.declared.fault.DescriptionFault.{DescriptionFault}
+use Rattle.author.specs.declared.fault.DescriptionFault.TheVariants.{BadField, BadHex, BadUuid, TwoAlike, TooMany, NoMemory}
+use Rattle.author.specs.Descriptions.{described}
+
+abbrev pub fault_at : FlawKind → List ℕ → DescriptionFault
+fault_at kinds.Field pointer = BadField pointer
+fault_at kinds.Hex pointer = BadHex pointer
+fault_at kinds.Uuid pointer = BadUuid pointer
+
+abbrev pub fault_of : Flaw → DescriptionFault
+fault_of f = fault_at f.kind f.pointer
+
+abbrev pub fault_told : JsonFault → DescriptionFault
+fault_told (Flawed f) = fault_of f
+fault_told faults.NoMemory = NoMemory
+
+-- at most eight components, no two alike
+pub record AreFewAndApart (ids : List (List (List ℕ))) : Type 0 where
+  pub few : length ids ≤ 8
+  pub apart : AreApart ids
+
+-- too many first, and then the first two that are alike
+pub data RefusesComponents (ids : List (List (List ℕ))) : DescriptionFault → Type 0 where
+  Many : 8 < length ids → RefusesComponents ids (TooMany (length ids))
+  Alike : (i j : ℕ) → length ids ≤ 8 → AreAlike ids i j → RefusesComponents ids (TwoAlike i j)
+
+-- the value is a description
+pub record IsDescription (d : Data) : Type 0 where
+  pub said : Described
+  pub reads : described [] d ≡ Ok said
+  pub components : AreFewAndApart said.manifest.components
+
+-- what is wrong first
+pub data RefusesDescription (d : Data) : DescriptionFault → Type 0 where
+  BadValue : (f : Flaw) → described [] d ≡ Err f → RefusesDescription d (fault_of f)
+  BadComponents : (p : Described) (fault : DescriptionFault) → described [] d ≡ Ok p → RefusesComponents p.manifest.components fault → RefusesDescription d fault
+
+-- a fault by what is wrong, or for want of memory
+abbrev pub IsFaultOf : Data → DescriptionFault → Type 0
+IsFaultOf d NoMemory = Unit {0}
+IsFaultOf d fault = RefusesDescription d fault
+
+-- accepted, unless there was no memory
+abbrev pub IsAccepted : {A : Type 0} → Result A DescriptionFault → Type 0
+IsAccepted (Ok p) = Unit {0}
+IsAccepted (Err fault) = fault ≡ NoMemory
+
+-- refused for this, unless there was no memory
+abbrev pub IsRefusedFor : {A : Type 0} → DescriptionFault → Result A DescriptionFault → Type 0
+IsRefusedFor fault (Ok p) = ⊥
+IsRefusedFor fault (Err other) = (other ≡ fault) ⊎ (other ≡ NoMemory)

@@ -1,0 +1,40 @@
+-- The manifest and the severed members of a description.
+use Rattle.std.specs.Prelude.{◌≡◌, ℕ, Bool, true, false, List, Ok}
+use Rattle.det_cbor.specs.DataItem.{spell}
+use Rattle.serde_json.specs.Data.{Data}
+use Rattle.suit_commands.specs.SequenceMaking.{sequence_item}
+use Rattle.suit_envelope.specs.Members.{string_digest}
+use Rattle.suit_manifest.specs.declared.manifest.Manifest.{Manifest}
+use Rattle.suit_manifest.specs.declared.manifest.Member.{Member}
+use Rattle.suit_manifest.specs.declared.manifest.Member.TheVariants as members
+use Rattle.suit_manifest.specs.declared.manifest.TextMember.{TextMember}
+use Rattle.suit_manifest.specs.declared.manifest.TextMember.TheVariants as texts
+use Rattle.author.specs.declared.fields.Described.{Described}
+use Rattle.author.specs.Descriptions.{described}
+
+-- a severed member stands in the manifest as the digest of its byte string in the envelope
+abbrev pub apart_member : Bool → Member → Member
+apart_member true (members.Here s) = members.Apart (record { bytes = string_digest (spell (sequence_item s)) })
+apart_member true members.Empty = members.Empty
+apart_member true (members.Apart digest) = members.Apart digest
+apart_member false m = m
+
+abbrev pub apart_text : Bool → TextMember → TextMember
+apart_text true (texts.Here content) = texts.Apart (record { bytes = string_digest content })
+apart_text true texts.Empty = texts.Empty
+apart_text true (texts.Apart digest) = texts.Apart digest
+apart_text false m = m
+
+abbrev pub made_manifest : Described → Manifest
+made_manifest p =
+    record p.manifest {
+      payload_fetch = apart_member p.severed.payload_fetch p.manifest.payload_fetch;
+      install = apart_member p.severed.install p.manifest.install;
+      text = apart_text p.severed.text p.manifest.text;
+    }
+
+-- the manifest of the description that a value is, with its files
+pub record IsManifestOf (d : Data) (files : List (List ℕ × List ℕ)) (m : Manifest) : Type 0 where
+  pub said : Described
+  pub reads : described files d ≡ Ok said
+  pub is : m ≡ made_manifest said

@@ -1,0 +1,66 @@
+//! Values of JSON as descriptions.
+
+ghost use Rattle.std.specs.Prelude.{IfOk, IfErr, MatchResult};
+ghost use Rattle.serde_json.specs.View.{view};
+ghost use Rattle.author.specs.declared.fault.DescriptionFault.{DescriptionFault};
+ghost use Rattle.author.specs.Faults.{AreFewAndApart, RefusesComponents, IsDescription, RefusesDescription, IsFaultOf, IsAccepted, IsRefusedFor};
+ghost use Rattle.author.specs.Held.{IsDescriptionOf};
+
+use crate::alike::first_alike;
+use crate::fault::told;
+use crate::fields::{Described, read_fields};
+use crate::file_names::file_names;
+use crate::{Description, DescriptionFault, FileList};
+use serde_json::Value;
+use std::alloc::Global;
+use suit_params::Identifiers;
+
+// Refuses more than eight components, and then two that are alike.
+fn judge_components(components: &Identifiers) -> Result<(), DescriptionFault>
+    ensures { MatchResult result (λ _. AreFewAndApart components.now) (RefusesComponents components.now) }
+{
+    if components.len() > 8 {
+        return Err(DescriptionFault::TooMany(components.len() as u64));
+    }
+    match first_alike(components) {
+        Some((first, second)) => Err(DescriptionFault::TwoAlike { first, second }),
+        None => Ok(()),
+    }
+}
+
+// What a value stands for where its files have no bytes, which is judged alike for all files.
+fn judged(alloc: Global, value: &Value) -> Result<Described, DescriptionFault>
+    ensures { MatchResult result (λ _. IsDescription (view value.now)) (IsFaultOf (view value.now)) }
+{
+    match read_fields(alloc, value, &FileList::new(alloc)) {
+        Ok(parts) => {
+            judge_components(&parts.manifest.components)?;
+            Ok(parts)
+        }
+        Err(fault) => Err(told(fault)),
+    }
+}
+
+// As `description`, which says what this means.
+fn read_description(alloc: Global, value: &Value) -> Result<Description, DescriptionFault>
+    ensures ok { IfOk result (IsDescriptionOf (view value.now)) }
+    ensures refused { IfErr result (IsFaultOf (view value.now)) }
+{
+    let _parts = judged(alloc, value)?;
+    let names = file_names(alloc, value)?;
+    let value = value.clone()?;
+    Ok(Description { value, names })
+}
+
+/// A value of JSON as a description. Its members are judged in the order of their keys' bytes, arrays by their
+/// indices, each value whole before the next, and then the fields that are missing; after all fields how many
+/// components there are, and whether two are alike. The value is copied.
+pub fn description(alloc: Global, value: &Value) -> Result<Description, DescriptionFault>
+    ensures ok { IfOk result (IsDescriptionOf (view value.now)) }
+    ensures refused { IfErr result (IsFaultOf (view value.now)) }
+    ensures every_description { IsDescription (view value.now) → IsAccepted result }
+    ensures every_fault { (fault : DescriptionFault) → RefusesDescription (view value.now) fault
+        → IsRefusedFor fault result }
+{
+    read_description(alloc, value)
+}

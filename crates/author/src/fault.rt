@@ -1,0 +1,56 @@
+//! Why a value is no description.
+
+ghost use Rattle.std.specs.Prelude.{◌≡◌};
+ghost use Rattle.author.specs.Faults.{fault_told};
+
+use det_cbor::Text;
+use json_fields::{FlawKind, JsonFault};
+use std::alloc::AllocError;
+use thiserror::Error;
+
+/// Why a value is no description. The texts are JSON Pointers (RFC 6901): where the first wrong value stands.
+#[derive(Debug, Drop, Error)]
+pub enum DescriptionFault {
+    /// A value that is not as it is to be, an unknown field, or a missing one.
+    #[error("bad field")]
+    BadField(Text),
+    /// A text that is not of hexadecimal digits, two for each byte, or a digest of another length.
+    #[error("bad hex")]
+    BadHex(Text),
+    /// A text that is no UUID.
+    #[error("bad uuid")]
+    BadUuid(Text),
+    /// Two components with the same identifier, by their numbers: the first such pair.
+    #[error("components {first} and {second} are alike")]
+    TwoAlike { first: u32, second: u32 },
+    /// The number of components, above eight.
+    #[error("{0} components")]
+    TooMany(u64),
+    #[error("out of memory")]
+    NoMemory,
+}
+
+/// The fault that a flaw of the fields is.
+pub(crate) fn told(fault: JsonFault) -> DescriptionFault
+    ensures { result ≡ fault_told fault }
+{
+    match fault {
+        JsonFault::NoMemory => DescriptionFault::NoMemory,
+        JsonFault::Flawed(flaw) => match flaw.kind {
+            FlawKind::Field => DescriptionFault::BadField(flaw.pointer),
+            FlawKind::Hex => DescriptionFault::BadHex(flaw.pointer),
+            FlawKind::Uuid => DescriptionFault::BadUuid(flaw.pointer),
+        },
+    }
+}
+
+impl From<AllocError> for DescriptionFault {
+    ghost use Rattle.std.specs.Prelude.{◌≡◌};
+    ghost use Rattle.author.specs.declared.fault.DescriptionFault.TheVariants.{NoMemory};
+
+    ghost from_gives = { λ _ f. f ≡ NoMemory };
+
+    fn from(_: AllocError) -> DescriptionFault {
+        DescriptionFault::NoMemory
+    }
+}

@@ -1,0 +1,181 @@
+//! The fields of a description.
+
+ghost use Rattle.std.specs.Prelude.{◌≡◌};
+ghost use Rattle.serde_json.specs.View.{view};
+ghost use Rattle.json_fields.specs.Answers.{Gives};
+ghost use Rattle.author.specs.Descriptions.{count_in, no_fields, scope_of, field_sequence, described};
+
+use crate::FileList;
+use crate::elements::elements;
+use crate::field_name::{FieldName, field_named};
+use crate::identifiers::identifiers;
+use crate::member_fields::{member, member_sequence, text_member};
+use crate::param_fields::whole;
+use crate::payload_fields::payloads;
+use crate::scope::{Scope, Source};
+use crate::severing::{Severed, given, severed_members};
+use det_cbor::{Bytes, Text};
+use json_fields::{Draft, FlawKind, JsonFault, flawed, hex, object, required, text};
+use serde_json::Value;
+use std::alloc::Global;
+use suit_commands::Sequence;
+use suit_envelope::PayloadList;
+use suit_manifest::{Manifest, Member, TextMember};
+use suit_params::Identifiers;
+
+/// The fields that were read.
+#[derive(Drop)]
+struct Fields<'a> {
+    source: Source<'a>,
+    sequence: Option<u64>,
+    components: Option<Identifiers>,
+    shared: Option<Sequence>,
+    reference: Option<Text>,
+    validate: Option<Sequence>,
+    load: Option<Sequence>,
+    invoke: Option<Sequence>,
+    payload_fetch: Member,
+    install: Member,
+    text: TextMember,
+    severed: Severed,
+    payloads: PayloadList,
+    kid: Option<Bytes>,
+}
+
+impl<'a> Fields<'a> {
+    // What a sequence is read with, the shared one or another.
+    fn scope(&self, shared: bool) -> Scope<'a>
+        ensures { result ≡ scope_of self.now shared }
+    {
+        Scope {
+            files: self.source.files,
+            shared,
+            count: self.source.count,
+        }
+    }
+
+    fn commands(&self, alloc: Global, value: &Value, shared: bool) -> Result<Sequence, JsonFault>
+        ensures { Gives (λ s. s) result (field_sequence self.now shared (view value.now)) }
+    {
+        member_sequence(alloc, value, &self.scope(shared))
+    }
+}
+
+impl Draft for Fields<'_> {
+    ghost use Rattle.author.specs.Descriptions.{takes_field};
+
+    ghost takes = { takes_field };
+
+    fn take(&mut self, alloc: Global, key: &str, value: &Value) -> Result<(), JsonFault> {
+        let Some(name) = field_named(key) else {
+            return flawed(alloc, FlawKind::Field);
+        };
+        match name {
+            FieldName::SequenceNumber => self.sequence = Some(whole(alloc, value)?),
+            FieldName::Components => self.components = Some(identifiers(alloc, value)?),
+            FieldName::Reference => self.reference = Some(text(alloc, value)?),
+            FieldName::Shared => self.shared = Some(self.commands(alloc, value, true)?),
+            FieldName::Validate => self.validate = Some(self.commands(alloc, value, false)?),
+            FieldName::Load => self.load = Some(self.commands(alloc, value, false)?),
+            FieldName::Invoke => self.invoke = Some(self.commands(alloc, value, false)?),
+            FieldName::PayloadFetch => self.payload_fetch = member(
+                alloc,
+                value,
+                &self.scope(false),
+            )?,
+            FieldName::Install => self.install = member(alloc, value, &self.scope(false))?,
+            FieldName::TextMember => self.text = text_member(alloc, value)?,
+            FieldName::Sever => self.severed = severed_members(alloc, value, self.source.given)?,
+            FieldName::Payloads => self.payloads = payloads(alloc, value, self.source.files)?,
+            FieldName::Kid => self.kid = Some(hex(alloc, value)?),
+        }
+        Ok(())
+    }
+}
+
+// How many component identifiers a description lists.
+fn count(description: &Value) -> u32
+    ensures { result ≡ count_in (view description.now) }
+{
+    match description.get("components") {
+        Some(components) => {
+            let listed = elements(components).len();
+            if listed < u32::MAX as usize {
+                listed as u32
+            } else {
+                u32::MAX
+            }
+        }
+        None => 0,
+    }
+}
+
+/// What a description stands for.
+#[derive(Drop)]
+pub(crate) struct Described {
+    /// The manifest, with its members in it.
+    pub(crate) manifest: Manifest,
+    /// Which of the members are severed.
+    pub(crate) severed: Severed,
+    /// By ascending keys.
+    pub(crate) payloads: PayloadList,
+    /// The name of the key.
+    pub(crate) kid: Option<Bytes>,
+}
+
+// A description of no fields.
+fn no_fields<'a>(alloc: Global, description: &Value, files: &'a FileList) -> Fields<'a>
+    ensures { result ≡ no_fields files.now (view description.now) }
+{
+    Fields {
+        source: Source {
+            files,
+            count: count(description),
+            given: given(description),
+        },
+        sequence: None,
+        components: None,
+        shared: None,
+        reference: None,
+        validate: None,
+        load: None,
+        invoke: None,
+        payload_fetch: Member::Empty,
+        install: Member::Empty,
+        text: TextMember::Empty,
+        severed: Severed::none(),
+        payloads: PayloadList::new(alloc),
+        kid: None,
+    }
+}
+
+/// What a description stands for, where its files have these bytes.
+pub(crate) fn read_fields(
+    alloc: Global,
+    description: &Value,
+    files: &FileList,
+) -> Result<Described, JsonFault>
+    ensures { Gives (λ p. p) result (described files.now (view description.now)) }
+{
+    let mut fields = no_fields(alloc, description, files);
+    object(alloc, description, &mut fields)?;
+    let components = required(alloc, "components", fields.components)?;
+    let sequence = required(alloc, "sequence", fields.sequence)?;
+    Ok(Described {
+        manifest: Manifest {
+            sequence,
+            components,
+            shared: fields.shared,
+            reference: fields.reference,
+            validate: fields.validate,
+            load: fields.load,
+            invoke: fields.invoke,
+            payload_fetch: fields.payload_fetch,
+            install: fields.install,
+            text: fields.text,
+        },
+        severed: fields.severed,
+        payloads: fields.payloads,
+        kid: fields.kid,
+    })
+}

@@ -1,0 +1,36 @@
+//! Descriptions of envelopes in JSON, and the envelopes that are made of them.
+#![tactic(auto)]
+
+mod alike;
+mod command_name;
+mod commands;
+mod describing;
+mod elements;
+mod fault;
+mod field_name;
+mod fields;
+mod file_list;
+mod file_names;
+mod file_value;
+mod held;
+mod identifiers;
+mod index_argument;
+mod making;
+mod member_fields;
+mod param_fields;
+mod param_name;
+mod parts;
+mod payload_fields;
+mod scope;
+mod severing;
+
+pub use describing::description;
+pub use fault::DescriptionFault;
+pub use file_list::FileList;
+pub use held::Description;
+pub use making::manifest_of;
+
+#[cfg(test)]
+mod making_tests;
+#[cfg(test)]
+mod table_tests;

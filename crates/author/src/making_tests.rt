@@ -1,0 +1,52 @@
+//! Manifests of descriptions, byte for byte.
+
+use crate::{FileList, description, manifest_of};
+use det_cbor::{Bytes, Text};
+use serde_json::Value;
+use std::alloc::Global;
+use std::test::Fail;
+use suit_manifest::encode_manifest;
+
+// The bytes of the manifest of a description, where a file holds `abc`.
+fn manifest(alloc: Global, text: &str) -> Result<Bytes, Fail> {
+    let value = Value::from_str(alloc, text)?;
+    let described = description(alloc, &value)?;
+    let mut files = FileList::new(alloc);
+    files.push(
+        Text::from_str(alloc, "abc.img")?,
+        Bytes::from_slice(alloc, b"abc")?,
+    )?;
+    let manifest = manifest_of(alloc, &described, &files)?;
+    Ok(encode_manifest(alloc, &manifest)?)
+}
+
+#[test]
+fn a_manifest_has_its_files(rt: HostRuntime) -> Result<(), Fail> {
+    let alloc = rt.alloc();
+    let made = manifest(
+        alloc,
+        "{\"sequence\":1,\"components\":[[\"00\"]],\"shared\":[[\"set\",{\"digest\":{\"file\":\"abc.img\"},\"size\":{\"file\":\"abc.img\"}}]],\"validate\":[[\"match\",15]],\"invoke\":[[\"invoke\",15]]}",
+    )?;
+    let wanted = hex::decode(
+        alloc,
+        "a501010201035835a2028181410004582c8214a2035824822f5820ba7816bf8f01cfea414140de5dae2223b00361a396177a9cb410ff61f20015ad0e03074382030f094382170f",
+    )?;
+    assert_eq!(rt; made.as_slice(), wanted.as_slice());
+    Ok(())
+}
+
+#[test]
+fn a_severed_member_is_a_digest(rt: HostRuntime) -> Result<(), Fail> {
+    let alloc = rt.alloc();
+    let made = manifest(
+        alloc,
+        "{\"sequence\":1,\"components\":[[\"00\"]],\"text\":\"a0\",\"sever\":[\"text\"]}",
+    )?;
+    // The digest was computed by another program.
+    let wanted = hex::decode(
+        alloc,
+        "a4010102010346a1028181410017822f5820ba59ea8f4f88a2fcd9aaf9a83d236bb75f1f528637b999a25866124a877ffb15",
+    )?;
+    assert_eq!(rt; made.as_slice(), wanted.as_slice());
+    Ok(())
+}

@@ -1,0 +1,96 @@
+//! Members of a manifest in a description.
+
+ghost use Rattle.std.specs.Prelude.{◌≡◌};
+ghost use Rattle.serde_json.specs.View.{view};
+ghost use Rattle.json_fields.specs.Answers.{Gives};
+ghost use Rattle.author.specs.Members.{member_sequence, left_out, member_of, is_one_item, text_member_of};
+
+use crate::commands::sequence;
+use crate::scope::Scope;
+use det_cbor::Cursor;
+use json_fields::{Draft, FlawKind, JsonFault, flawed, hex, object, required, sized_hex};
+use serde_json::Value;
+use std::alloc::Global;
+use suit_commands::{MAX_LEVELS, Sequence};
+use suit_manifest::{Member, TextMember};
+use suit_params::Digest;
+
+/// `{"digest": HEX}`, as far as it is read.
+#[derive(Drop)]
+pub(crate) struct DigestField {
+    digest: Option<Digest>,
+}
+
+impl Draft for DigestField {
+    ghost use Rattle.author.specs.Members.{takes_digest};
+
+    ghost takes = { takes_digest };
+
+    fn take(&mut self, alloc: Global, key: &str, value: &Value) -> Result<(), JsonFault> {
+        if key == "digest" {
+            let bytes = sized_hex::<32>(alloc, value)?;
+            self.digest = Some(Digest { bytes });
+            Ok(())
+        } else {
+            flawed(alloc, FlawKind::Field)
+        }
+    }
+}
+
+// The digest of a member that is left out.
+fn left_out(alloc: Global, value: &Value) -> Result<Digest, JsonFault>
+    ensures { Gives (λ digest. digest.bytes) result (left_out (view value.now)) }
+{
+    let mut field = DigestField { digest: None };
+    object(alloc, value, &mut field)?;
+    let digest = required(alloc, "digest", field.digest)?;
+    Ok(digest)
+}
+
+/// The commands of a member.
+pub(crate) fn member_sequence(
+    alloc: Global,
+    value: &Value,
+    scope: &Scope<'_>,
+) -> Result<Sequence, JsonFault>
+    ensures { Gives (λ s. s) result (member_sequence scope.now (view value.now)) }
+{
+    sequence(alloc, value, scope, MAX_LEVELS)
+}
+
+/// The commands of a member, or the digest of one that is left out.
+pub(crate) fn member(alloc: Global, value: &Value, scope: &Scope<'_>) -> Result<Member, JsonFault>
+    ensures { Gives (λ m. m) result (member_of scope.now (view value.now)) }
+{
+    if value.is_object() {
+        Ok(Member::Apart(left_out(alloc, value)?))
+    } else {
+        Ok(Member::Here(member_sequence(alloc, value, scope)?))
+    }
+}
+
+// Whether bytes hold one item of deterministic CBOR and nothing more. Takes no memory.
+fn is_one_item(bytes: &[u8]) -> bool
+    ensures { result ≡ is_one_item bytes.now }
+{
+    let mut cursor = Cursor::new(bytes, 0);
+    match cursor.skip() {
+        Ok(_) => cursor.left() == 0,
+        Err(_) => false,
+    }
+}
+
+/// A text member, or the digest of one that is left out.
+pub(crate) fn text_member(alloc: Global, value: &Value) -> Result<TextMember, JsonFault>
+    ensures { Gives (λ m. m) result (text_member_of (view value.now)) }
+{
+    if value.is_object() {
+        return Ok(TextMember::Apart(left_out(alloc, value)?));
+    }
+    let bytes = hex(alloc, value)?;
+    if is_one_item(bytes.as_slice()) {
+        Ok(TextMember::Here(bytes))
+    } else {
+        flawed(alloc, FlawKind::Field)
+    }
+}

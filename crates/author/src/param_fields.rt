@@ -1,0 +1,123 @@
+//! Parameters of a description.
+
+ghost use Rattle.std.specs.Prelude.{◌≡◌, ◌≤◌, [], length, OnOk};
+ghost use Rattle.std.specs.List.{insert};
+ghost use Rattle.serde_json.specs.View.{view};
+ghost use Rattle.json_fields.specs.Answers.{Gives};
+ghost use Rattle.author.specs.ParamValues.{number_of, index_of, param_value, params_of, placed_among};
+
+use crate::file_value::{content, digest, size};
+use crate::param_name::param_named;
+use crate::scope::Scope;
+use json_fields::{Draft, FlawKind, JsonFault, flag, flawed, hex, number, object, text, uuid};
+use serde_json::Value;
+use std::alloc::{AllocError, Global};
+use std::marker::Model;
+use suit_params::{Param, ParamKey, ParamList};
+
+/// A whole number.
+pub(crate) fn whole(alloc: Global, value: &Value) -> Result<u64, JsonFault>
+    ensures { Gives (λ n. n) result (number_of (view value.now)) }
+{
+    number(alloc, value, u64::MAX)
+}
+
+/// The index of one of so many components.
+pub(crate) fn index(alloc: Global, value: &Value, count: u32) -> Result<u32, JsonFault>
+    ensures { Gives (λ i. i) result (index_of count (view value.now)) }
+{
+    let index = whole(alloc, value)?;
+    if index < count as u64 {
+        Ok(index as u32)
+    } else {
+        flawed(alloc, FlawKind::Field)
+    }
+}
+
+// The parameter of this key that a value stands for.
+fn param(alloc: Global, value: &Value, key: ParamKey, scope: &Scope<'_>) -> Result<Param, JsonFault>
+    ensures { Gives (λ p. p) result (param_value scope.now key (view value.now)) }
+{
+    match key {
+        ParamKey::Vendor => Ok(Param::Vendor(uuid(alloc, value)?)),
+        ParamKey::Class => Ok(Param::Class(uuid(alloc, value)?)),
+        ParamKey::Device => Ok(Param::Device(uuid(alloc, value)?)),
+        ParamKey::Digest => Ok(Param::Digest(digest(alloc, value, scope.files)?)),
+        ParamKey::Slot => Ok(Param::Slot(whole(alloc, value)?)),
+        ParamKey::Strict => Ok(Param::Strict(flag(alloc, value)?)),
+        ParamKey::Soft => Ok(Param::Soft(flag(alloc, value)?)),
+        ParamKey::Size => Ok(Param::Size(size(alloc, value, scope.files)?)),
+        ParamKey::Content => Ok(Param::Content(content(alloc, value, scope.files)?)),
+        ParamKey::Uri => Ok(Param::Uri(text(alloc, value)?)),
+        ParamKey::Source => Ok(Param::Source(index(alloc, value, scope.count)?)),
+        ParamKey::Args => Ok(Param::Args(hex(alloc, value)?)),
+    }
+}
+
+/// The parameters that were read, ascending by number.
+#[derive(Drop)]
+struct ParamFields<'a> {
+    scope: &'a Scope<'a>,
+    list: Vec<Param>,
+}
+
+impl<'a> Model for ParamFields<'a> {
+    ghost use Rattle.author.specs.ParamValues.{ParamsSoFar};
+
+    ghost Value = { ParamsSoFar };
+
+    ghost view = { λ a. record { scope = a.scope.now; list = a.list.items } };
+}
+
+// Where a parameter is put among those that ascend by number: before the first that has a larger one.
+fn place_for(list: &[Param], param: &Param) -> usize
+    ensures within { result ≤ length list.now }
+    ensures placed { insert list.now result param.now ≡ placed_among param.now list.now }
+{
+    for (i, other) in list.iter().enumerate() {
+        if param.key().number() < other.key().number() {
+            return i;
+        }
+    }
+    list.len()
+}
+
+fn place(list: &mut Vec<Param>, param: Param) -> Result<(), AllocError>
+    ensures { OnOk result (list.new.items ≡ placed_among param list.old.items) }
+{
+    let at = place_for(list.as_slice(), &param);
+    Ok(list.insert(at, param)?)
+}
+
+impl Draft for ParamFields<'_> {
+    ghost use Rattle.author.specs.ParamValues.{takes_param};
+
+    ghost takes = { takes_param };
+
+    fn take(&mut self, alloc: Global, key: &str, value: &Value) -> Result<(), JsonFault> {
+        match param_named(key) {
+            Some(key) => {
+                let param = param(alloc, value, key, self.scope)?;
+                place(&mut self.list, param)?;
+                Ok(())
+            }
+            None => flawed(alloc, FlawKind::Field),
+        }
+    }
+}
+
+/// An object from names of parameters to their values.
+pub(crate) fn params(
+    alloc: Global,
+    value: &Value,
+    scope: &Scope<'_>,
+) -> Result<ParamList, JsonFault>
+    ensures { Gives (λ list. list) result (params_of scope.now (view value.now)) }
+{
+    let mut fields = ParamFields {
+        scope,
+        list: Vec::new(alloc),
+    };
+    object(alloc, value, &mut fields)?;
+    Ok(ParamList::from_vec(fields.list))
+}

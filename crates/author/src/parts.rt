@@ -1,0 +1,25 @@
+//! What a description stands for, with its files.
+
+ghost use Rattle.std.specs.Prelude.{◌≡◌, Ok, IfOk};
+ghost use Rattle.author.specs.Descriptions.{described};
+ghost use Rattle.author.specs.Held.{value_of};
+
+use crate::fields::{Described, read_fields};
+use crate::{Description, FileList};
+use json_fields::JsonFault;
+use std::alloc::{AllocError, Global};
+
+/// What a description stands for, where its files have these bytes. A file that is not listed has no bytes.
+pub(crate) fn parts_of(
+    alloc: Global,
+    description: &Description,
+    files: &FileList,
+) -> Result<Described, AllocError>
+    ensures { IfOk result (λ p. described files.now (value_of description.now) ≡ Ok p) }
+{
+    match read_fields(alloc, &description.value, files) {
+        Ok(parts) => Ok(parts),
+        Err(JsonFault::NoMemory) => Err(AllocError),
+        Err(JsonFault::Flawed(_)) => unreachable!(),
+    }
+}

@@ -1,0 +1,107 @@
+//! Integrated payloads of a description.
+
+ghost use Rattle.serde_json.specs.View.{view};
+ghost use Rattle.json_fields.specs.Answers.{Gives};
+ghost use Rattle.author.specs.Payloads.{source_bytes, payload_of, payloads_of};
+
+use crate::FileList;
+use det_cbor::{Bytes, Text};
+use json_fields::{Draft, FlawKind, JsonFault, flawed, hex, object, text};
+use serde_json::Value;
+use std::alloc::Global;
+use std::marker::Model;
+use suit_envelope::PayloadList;
+
+/// `{"file": NAME}` or `{"hex": HEX}`, as far as it is read.
+#[derive(Drop)]
+pub(crate) struct PayloadField {
+    file: Option<Text>,
+    bytes: Option<Bytes>,
+}
+
+impl Draft for PayloadField {
+    ghost use Rattle.author.specs.Payloads.{takes_source};
+
+    ghost takes = { takes_source };
+
+    fn take(&mut self, alloc: Global, key: &str, value: &Value) -> Result<(), JsonFault> {
+        match key {
+            "file" => {
+                self.file = Some(text(alloc, value)?);
+                Ok(())
+            }
+            "hex" => {
+                self.bytes = Some(hex(alloc, value)?);
+                Ok(())
+            }
+            _ => flawed(alloc, FlawKind::Field),
+        }
+    }
+}
+
+// The bytes of the one that is there.
+fn source(alloc: Global, field: PayloadField, files: &FileList) -> Result<Bytes, JsonFault>
+    ensures { Gives (λ b. b) result (source_bytes files.now field.file field.bytes) }
+{
+    let PayloadField { file, bytes } = field;
+    match (file, bytes) {
+        (Some(name), None) => Ok(Bytes::from_slice(alloc, files.bytes_of(name.as_str()))?),
+        (None, Some(bytes)) => Ok(bytes),
+        _ => flawed(alloc, FlawKind::Field),
+    }
+}
+
+fn payload(alloc: Global, value: &Value, files: &FileList) -> Result<Bytes, JsonFault>
+    ensures { Gives (λ b. b) result (payload_of files.now (view value.now)) }
+{
+    let mut field = PayloadField {
+        file: None,
+        bytes: None,
+    };
+    object(alloc, value, &mut field)?;
+    source(alloc, field, files)
+}
+
+/// The payloads that were read.
+#[derive(Drop)]
+struct PayloadFields<'a> {
+    files: &'a FileList,
+    list: PayloadList,
+}
+
+impl<'a> Model for PayloadFields<'a> {
+    ghost use Rattle.author.specs.Payloads.{PayloadsSoFar};
+
+    ghost Value = { PayloadsSoFar };
+
+    ghost view = { λ a. record { files = a.files.now; list = a.list } };
+}
+
+impl Draft for PayloadFields<'_> {
+    ghost use Rattle.author.specs.Payloads.{takes_payload};
+
+    ghost takes = { takes_payload };
+
+    fn take(&mut self, alloc: Global, key: &str, value: &Value) -> Result<(), JsonFault> {
+        let bytes = payload(alloc, value, self.files)?;
+        let key = Text::from_str(alloc, key)?;
+        self.list.push(key, bytes)?;
+        Ok(())
+    }
+}
+
+/// An object from keys to payloads, in the order of the keys.
+pub(crate) fn payloads(
+    alloc: Global,
+    value: &Value,
+    files: &FileList,
+) -> Result<PayloadList, JsonFault>
+    ensures { Gives (λ list. list) result (payloads_of files.now (view value.now)) }
+{
+    let mut fields = PayloadFields {
+        files,
+        list: PayloadList::new(alloc),
+    };
+    object(alloc, value, &mut fields)?;
+    Ok(fields.list)
+}

@@ -1,0 +1,38 @@
+//! What a description is read with.
+
+use crate::FileList;
+use crate::severing::Severed;
+use std::marker::Model;
+
+/// The files and the number of components, and whether the commands stand in the shared sequence.
+#[derive(Drop)]
+pub(crate) struct Scope<'a> {
+    pub(crate) files: &'a FileList,
+    pub(crate) shared: bool,
+    pub(crate) count: u32,
+}
+
+impl<'a> Model for Scope<'a> {
+    ghost use Rattle.author.specs.Scope as plain;
+
+    ghost Value = { plain.Scope };
+
+    ghost view = { λ s. record { files = s.files.now; shared = s.shared; count = s.count } };
+}
+
+/// What is known of a description before its fields are read: its files, how many component
+/// identifiers it lists, and the members that it gives with their content.
+#[derive(Drop)]
+pub(crate) struct Source<'a> {
+    pub(crate) files: &'a FileList,
+    pub(crate) count: u32,
+    pub(crate) given: Severed,
+}
+
+impl<'a> Model for Source<'a> {
+    ghost use Rattle.author.specs.Scope as plain;
+
+    ghost Value = { plain.Source };
+
+    ghost view = { λ s. record { files = s.files.now; count = s.count; given = s.given } };
+}

@@ -1,0 +1,6 @@
+pub mod Flaws
+pub mod Pointers
+pub mod Answers
+pub mod Values
+pub mod Arrays
+pub mod Objects

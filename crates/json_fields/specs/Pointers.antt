@@ -1,0 +1,15 @@
+-- JSON Pointer (RFC 6901, section 3): a token for each step, `~0` for `~` and `~1` for `/` in a name.
+use Rattle.std.specs.Prelude.{ℕ, ◌==◌, if◌then◌else◌, List, [], ◌∷◌, ◌++◌, decimal}
+
+abbrev pub escaped : ℕ → List ℕ
+escaped c = if c == 126 then 126 ∷ 48 ∷ [] else (if c == 47 then 126 ∷ 49 ∷ [] else c ∷ [])
+
+abbrev pub escape : List ℕ → List ℕ
+escape [] = []
+escape (c ∷ cs) = escaped c ++ escape cs
+
+abbrev pub key_token : List ℕ → List ℕ
+key_token key = 47 ∷ escape key
+
+abbrev pub index_token : ℕ → List ℕ
+index_token i = 47 ∷ decimal i

@@ -1,0 +1,42 @@
+//! Arrays.
+
+ghost use Rattle.std.specs.Prelude.{◌≡◌, Result};
+ghost use Rattle.serde_json.specs.View.{view};
+ghost use Rattle.json_fields.specs.Answers.{Gives};
+ghost use Rattle.json_fields.specs.Arrays.{array_of};
+
+use crate::values::flawed;
+use crate::{FlawKind, JsonFault, at_index};
+use serde_json::Value;
+use std::alloc::Global;
+
+/// How one element of an array is read.
+pub trait Form {
+    type Item: Drop;
+
+    ghost use Rattle.std.specs.Prelude.{Result};
+    ghost use Rattle.serde_json.specs.Data.{Data};
+    ghost use Rattle.json_fields.specs.declared.flaw.Flaw.{Flaw};
+
+    ghost reads: { Self → Data → Result Self.Item Flaw };
+
+    fn read(&self, alloc: Global, value: &Value) -> Result<Self::Item, JsonFault>
+        ensures { Gives (λ x. x) result (reads self.now (view value.now)) };
+}
+
+/// An array, each of its elements by the same form.
+pub fn array<F: Form>(alloc: Global, value: &Value, form: &F) -> Result<Vec<F::Item>, JsonFault>
+    ensures { Gives (λ v. v.items) result (array_of (F.reads form.now) (view value.now)) }
+{
+    let Some(values) = value.as_array() else {
+        return flawed(alloc, FlawKind::Field);
+    };
+    let mut items = Vec::new(alloc);
+    for (index, element) in values.iter().enumerate() {
+        let item = at_index(alloc, index, form.read(alloc, element))?;
+        if items.push(item).is_err() {
+            return Err(JsonFault::NoMemory);
+        }
+    }
+    Ok(items)
+}

@@ -1,0 +1,42 @@
+//! What is wrong with a value, and where.
+
+use det_cbor::Text;
+use std::alloc::AllocError;
+
+/// What is wrong with a value.
+#[derive(Clone, Copy, Debug, PartialEq, Eq)]
+pub enum FlawKind {
+    /// It is not of the kind that is read there, or breaks a rule of it; or a field is unknown, or missing.
+    Field,
+    /// A text that is not of hexadecimal digits, two for each byte, or not of so many bytes.
+    Hex,
+    /// A text that is no UUID.
+    Uuid,
+}
+
+/// The first flaw of a value.
+#[derive(Debug, Drop)]
+pub struct Flaw {
+    pub kind: FlawKind,
+    /// Where it is, from the value that was read: a JSON Pointer (RFC 6901). A missing field has the place that it
+    /// would have.
+    pub pointer: Text,
+}
+
+/// Why a value was not read.
+#[derive(Debug, Drop)]
+pub enum JsonFault {
+    Flawed(Flaw),
+    NoMemory,
+}
+
+impl From<AllocError> for JsonFault {
+    ghost use Rattle.std.specs.Prelude.{◌≡◌};
+    ghost use Rattle.json_fields.specs.declared.flaw.JsonFault.TheVariants.{NoMemory};
+
+    ghost from_gives = { λ _ f. f ≡ NoMemory };
+
+    fn from(_: AllocError) -> JsonFault {
+        JsonFault::NoMemory
+    }
+}

@@ -1,0 +1,17 @@
+//! Reading the fields of JSON values (RFC 8259): what is wrong first, and where, by a JSON Pointer (RFC 6901).
+#![tactic(auto)]
+
+mod arrays;
+mod flaw;
+mod objects;
+mod pointer;
+mod values;
+
+pub use arrays::{Form, array};
+pub use flaw::{Flaw, FlawKind, JsonFault};
+pub use objects::{Draft, object, required};
+pub use pointer::{at_index, at_key};
+pub use values::{flag, flawed, hex, number, sized_hex, text, uuid};
+
+#[cfg(test)]
+mod tests;

@@ -1,0 +1,80 @@
+//! Where a part stands in the whole (RFC 6901).
+
+ghost use Rattle.std.specs.Prelude.{◌≡◌, ◌++◌, Result, IfOk, string_bytes};
+ghost use Rattle.json_fields.specs.declared.flaw.Flaw.{Flaw};
+ghost use Rattle.json_fields.specs.Answers.{Gives};
+ghost use Rattle.json_fields.specs.Flaws.{under};
+ghost use Rattle.json_fields.specs.Pointers.{escape, key_token, index_token};
+
+use crate::{Flaw, JsonFault};
+use det_cbor::Text;
+use std::alloc::{AllocError, Global};
+
+// A name as a pointer writes it, without the slash before it.
+fn escaped(alloc: Global, key: &str) -> Result<String, AllocError>
+    ensures { IfOk result (λ s. string_bytes s ≡ escape key.now) }
+{
+    let mut bytes = Vec::new(alloc);
+    for byte in key.as_bytes() {
+        match *byte {
+            b'~' => bytes.extend_from_slice(b"~0")?,
+            b'/' => bytes.extend_from_slice(b"~1")?,
+            other => bytes.push(other)?,
+        }
+    }
+    match String::from_utf8(bytes) {
+        Ok(text) => Ok(text),
+        Err(_) => unreachable!(),
+    }
+}
+
+fn key_below(alloc: Global, key: &str, pointer: &Text) -> Result<Text, AllocError>
+    ensures { IfOk result (λ p. p ≡ key_token key.now ++ pointer.now) }
+{
+    let name = escaped(alloc, key)?;
+    let below = pointer.as_str();
+    Ok(Text::from_string(format!(in alloc; "/{name}{below}")?))
+}
+
+fn index_below(alloc: Global, index: usize, pointer: &Text) -> Result<Text, AllocError>
+    ensures { IfOk result (λ p. p ≡ index_token index ++ pointer.now) }
+{
+    let below = pointer.as_str();
+    Ok(Text::from_string(format!(in alloc; "/{index}{below}")?))
+}
+
+/// What was read of a member's value, with the flaw's place counted from the object.
+pub fn at_key<T>(alloc: Global, key: &str, read: Result<T, JsonFault>) -> Result<T, JsonFault>
+    ensures { (said : Result T Flaw) → Gives (λ x. x) read said
+        → Gives (λ x. x) result (under (key_token key.now) said) }
+{
+    match read {
+        Ok(x) => Ok(x),
+        Err(JsonFault::NoMemory) => Err(JsonFault::NoMemory),
+        Err(JsonFault::Flawed(flaw)) => match key_below(alloc, key, &flaw.pointer) {
+            Ok(pointer) => Err(JsonFault::Flawed(Flaw {
+                kind: flaw.kind,
+                pointer,
+            })),
+            Err(_) => Err(JsonFault::NoMemory),
+        },
+    }
+}
+
+/// What was read of an element, with the flaw's place counted from the array.
+pub fn at_index<T>(alloc: Global, index: usize, read: Result<T, JsonFault>) -> Result<T, JsonFault>
+    ensures { (said : Result T Flaw) → Gives (λ x. x) read said
+        → Gives (λ x. x) result (under (index_token index) said) }
+{
+    match read {
+        Ok(x) => Ok(x),
+        Err(JsonFault::NoMemory) => Err(JsonFault::NoMemory),
+        Err(JsonFault::Flawed(flaw)) => match index_below(alloc, index, &flaw.pointer) {
+            Ok(pointer) => Err(JsonFault::Flawed(Flaw {
+                kind: flaw.kind,
+                pointer,
+            })),
+            Err(_) => Err(JsonFault::NoMemory),
+        },
+    }
+}
