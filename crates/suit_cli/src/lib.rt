@@ -21,6 +21,12 @@ pub use program::{Status, run};
 pub use reply::Outcome;
 
 #[cfg(test)]
+mod command_rows;
+#[cfg(test)]
+mod item_rows;
+#[cfg(test)]
+mod refusal_rows;
+#[cfg(test)]
 mod rows;
 #[cfg(test)]
 mod tests;

@@ -1,5 +1,8 @@
 //! Tests of the program on objects in memory.
 
+use crate::command_rows::REFUSED_COMMANDS;
+use crate::item_rows::REFUSED_ITEMS;
+use crate::refusal_rows::REFUSED;
 use crate::rows::{LAST_LINES, WHOLE};
 use crate::{Status, run};
 use det_cbor::{Names, Text};
@@ -52,12 +55,19 @@ const CHECK: [&str; 2] = ["check", "e1.suit"];
 #[test]
 fn manifests_are_judged(rt: HostRuntime) -> Result<(), Fail> {
     let alloc = rt.alloc();
-    for row in &WHOLE {
-        let file = hex::decode(alloc, row.file)?;
-        let (status, text) = ran(alloc, &CHECK, file.as_slice(), &[], &[])?;
-        let shows = row.shows;
-        assert_eq!(rt; text.as_slice(), row.text.as_bytes(), "{shows}");
-        assert_eq!(rt; status, row.status, "{shows}");
+    for rows in [
+        WHOLE.as_slice(),
+        REFUSED_ITEMS.as_slice(),
+        REFUSED.as_slice(),
+        REFUSED_COMMANDS.as_slice(),
+    ] {
+        for row in rows {
+            let file = hex::decode(alloc, row.file)?;
+            let (status, text) = ran(alloc, &CHECK, file.as_slice(), &[], &[])?;
+            let shows = row.shows;
+            assert_eq!(rt; text.as_slice(), row.text.as_bytes(), "{shows}");
+            assert_eq!(rt; status, row.status, "{shows}");
+        }
     }
     for row in &LAST_LINES {
         let file = hex::decode(alloc, row.file)?;
