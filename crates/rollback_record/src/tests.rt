@@ -89,12 +89,20 @@ fn with_fuse(alloc: Global, passes: u64) -> Result<FuseDisk, AllocError>
     Ok(FuseDisk::new(disk, passes))
 }
 
-// The recorded number, or 0 where there is no record.
+// Whether it is what `renew_thrice` recorded under that number.
+fn is_renewed(held: &Record) -> bool {
+    match u8::try_from(held.sequence) {
+        Ok(sequence) => *held == made(held.sequence, sequence),
+        Err(_) => false,
+    }
+}
+
+// The recorded number, or 0 where there is no record. `None` where a call failed, or the record is none of the three.
 fn recorded<D: Disk>(disk: &mut D) -> Option<u64> {
     match load_record(disk) {
         Ok(None) => Some(0),
-        Ok(Some(held)) => Some(held.sequence),
-        Err(FlashFault) => None,
+        Ok(Some(held)) if is_renewed(&held) => Some(held.sequence),
+        Ok(Some(_)) | Err(FlashFault) => None,
     }
 }
 
