@@ -14,3 +14,6 @@ pub use law::record_laws;
 pub use load::load_record;
 pub use page::RECORD_BYTES;
 pub use writing::commit;
+
+#[cfg(test)]
+mod tests;
