@@ -4,7 +4,7 @@
 use crate::rows::Row;
 
 /// Some come close to a fault, and are accepted.
-pub(crate) const REFUSED_COMMANDS: [Row; 51] = [
+const REFUSED_COMMANDS: [Row; 51] = [
     Row {
         shows: "a sequence that is a map",
         file: "d86ba2025827815824822f58200000000000000000000000000000000000000000000000000000000000000000034ea4010102000344a10281800741a0",
@@ -312,3 +312,8 @@ pub(crate) const REFUSED_COMMANDS: [Row; 51] = [
         text: "refused at 64: index 1 of 1\n",
     },
 ];
+
+/// The rows of the table.
+pub(crate) fn refused_commands() -> &'static [Row] {
+    &REFUSED_COMMANDS
+}

@@ -4,7 +4,7 @@
 use crate::rows::Row;
 
 /// By the byte string in which the item stands, and then where two faults stand together.
-pub(crate) const REFUSED_ITEMS: [Row; 51] = [
+const REFUSED_ITEMS: [Row; 51] = [
     Row {
         shows: "an array without its item, in the wrapper",
         file: "d86ba2024181034ba3010102000344a1028180",
@@ -312,3 +312,8 @@ pub(crate) const REFUSED_ITEMS: [Row; 51] = [
         text: "refused at 62: kind\n",
     },
 ];
+
+/// The rows of the table.
+pub(crate) fn refused_items() -> &'static [Row] {
+    &REFUSED_ITEMS
+}

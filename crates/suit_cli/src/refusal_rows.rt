@@ -4,7 +4,7 @@
 use crate::rows::Row;
 
 /// Some come close to a fault, and are accepted.
-pub(crate) const REFUSED: [Row; 60] = [
+const REFUSED_ENVELOPES: [Row; 21] = [
     Row {
         shows: "abort in place of the invoke",
         file: "d86ba2025827815824822f58200000000000000000000000000000000000000000000000000000000000000000035847a501010201035835a2028181410004582c8214a2035824822f5820ba7816bf8f01cfea414140de5dae2223b00361a396177a9cb410ff61f20015ad0e03074382030f0943820e0f",
@@ -131,6 +131,10 @@ pub(crate) const REFUSED: [Row; 60] = [
         status: 3,
         text: "refused at 45: trailing\n",
     },
+];
+
+/// Of the manifest, its members and common.
+const REFUSED_MANIFESTS: [Row; 39] = [
     Row {
         shows: "a manifest that is an array",
         file: "d86ba2025827815824822f58200000000000000000000000000000000000000000000000000000000000000000034180",
@@ -366,3 +370,13 @@ pub(crate) const REFUSED: [Row; 60] = [
         text: "refused at 60: components 0 and 1 are alike\n",
     },
 ];
+
+/// The rows on the envelope and its wrapper.
+pub(crate) fn refused_envelopes() -> &'static [Row] {
+    &REFUSED_ENVELOPES
+}
+
+/// The rows on what the envelope's manifest holds.
+pub(crate) fn refused_manifests() -> &'static [Row] {
+    &REFUSED_MANIFESTS
+}

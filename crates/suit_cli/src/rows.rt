@@ -9,7 +9,7 @@ pub(crate) struct Row {
 }
 
 /// By their whole texts.
-pub(crate) const WHOLE: [Row; 31] = [
+const WHOLE: [Row; 31] = [
     Row {
         shows: "the stored envelope",
         file: "d86ba2025827815824822f58200000000000000000000000000000000000000000000000000000000000000000035847a501010201035835a2028181410004582c8214a2035824822f5820ba7816bf8f01cfea414140de5dae2223b00361a396177a9cb410ff61f20015ad0e03074382030f094382170f",
@@ -199,7 +199,7 @@ pub(crate) const WHOLE: [Row; 31] = [
 ];
 
 /// Unsafe invocations, by the last lines of the path.
-pub(crate) const LAST_LINES: [Row; 5] = [
+const LAST_LINES: [Row; 5] = [
     Row {
         shows: "a write after the match",
         file: "d86ba2025827815824822f58200000000000000000000000000000000000000000000000000000000000000000035850a50101020103583aa202818141000458318214a3035824822f5820ba7816bf8f01cfea414140de5dae2223b00361a396177a9cb410ff61f20015ad0e031243616263074382030f094786030f120f170f",
@@ -231,3 +231,13 @@ pub(crate) const LAST_LINES: [Row; 5] = [
         text: "missed 0\n",
     },
 ];
+
+/// The rows of the table.
+pub(crate) fn whole() -> &'static [Row] {
+    &WHOLE
+}
+
+/// The rows of the table.
+pub(crate) fn last_lines() -> &'static [Row] {
+    &LAST_LINES
+}

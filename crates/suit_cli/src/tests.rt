@@ -1,9 +1,9 @@
 //! Tests of the program on objects in memory.
 
-use crate::command_rows::REFUSED_COMMANDS;
-use crate::item_rows::REFUSED_ITEMS;
-use crate::refusal_rows::REFUSED;
-use crate::rows::{LAST_LINES, WHOLE};
+use crate::command_rows::refused_commands;
+use crate::item_rows::refused_items;
+use crate::refusal_rows::{refused_envelopes, refused_manifests};
+use crate::rows::{last_lines, whole};
 use crate::{Status, run};
 use det_cbor::{Names, Text};
 use std::alloc::{AllocError, Global};
@@ -56,10 +56,11 @@ const CHECK: [&str; 2] = ["check", "e1.suit"];
 fn manifests_are_judged(rt: HostRuntime) -> Result<(), Fail> {
     let alloc = rt.alloc();
     for rows in [
-        WHOLE.as_slice(),
-        REFUSED_ITEMS.as_slice(),
-        REFUSED.as_slice(),
-        REFUSED_COMMANDS.as_slice(),
+        whole(),
+        refused_items(),
+        refused_envelopes(),
+        refused_manifests(),
+        refused_commands(),
     ] {
         for row in rows {
             let file = hex::decode(alloc, row.file)?;
@@ -69,7 +70,7 @@ fn manifests_are_judged(rt: HostRuntime) -> Result<(), Fail> {
             assert_eq!(rt; status, row.status, "{shows}");
         }
     }
-    for row in &LAST_LINES {
+    for row in last_lines() {
         let file = hex::decode(alloc, row.file)?;
         let (status, text) = ran(alloc, &CHECK, file.as_slice(), &[], &[])?;
         let shows = row.shows;
