@@ -24,3 +24,6 @@ fn main(rt: HostRuntime) -> ExitCode {
     let Status(code) = run(alloc, &words, &mut host, &mut out);
     ExitCode::from(code)
 }
+
+#[cfg(test)]
+mod tests;
