@@ -2,9 +2,15 @@ mod Allowing
 mod BlankKept
 mod Found
 mod Gating
+mod Judged
+mod Kept
 mod Laws
 mod Loading
 mod OneAnswers
+mod OneLayout
+mod Overlapping
+mod Sharing
 mod Spellings
 mod Steps
+mod Wholes
 mod Zeros

@@ -10,3 +10,8 @@ pub mod Configs
 pub mod LoadLaws
 pub mod Formats
 pub mod Placement
+pub mod ComponentFields
+pub mod Devices
+pub mod SlotLaws
+pub mod Overlaps
+pub mod LayoutFaults

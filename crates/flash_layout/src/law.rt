@@ -3,6 +3,7 @@
 ghost use Rattle.flash_layout.specs.ConfigLaws.{OneAnswer, OneConfig};
 ghost use Rattle.flash_layout.specs.FrameLaws.{FrameLaws};
 ghost use Rattle.flash_layout.specs.LoadLaws.{LoadLaws};
+ghost use Rattle.flash_layout.specs.SlotLaws.{SlotLaws};
 
 /// Where the parts of a flash of layout version 1 stand.
 pub fn frame_laws()
@@ -18,4 +19,9 @@ pub fn config_laws()
 /// What is loaded is allowed and the one answer, and a fault alone raises the count.
 pub fn load_laws()
     ensures { LoadLaws }
+{}
+
+/// Two slots are clear of each other exactly where they share no byte.
+pub fn slot_laws()
+    ensures { SlotLaws }
 {}

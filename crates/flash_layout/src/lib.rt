@@ -1,12 +1,19 @@
 //! The flash's layout: which components a device has and where, and the configuration page that says so.
 #![tactic(auto)]
 
+mod component_fields;
+mod component_name;
+mod describing;
+mod device_fields;
+mod first_faults;
 mod formatting;
 mod frame;
 mod id_reading;
+mod id_text;
 mod key;
 mod law;
 mod layout;
+mod layout_fault;
 mod load;
 mod page;
 mod page_reading;
@@ -16,21 +23,26 @@ mod placing;
 mod rules;
 mod slot;
 mod spelling;
+mod starts;
 mod typing;
 
+pub use describing::layout_of;
 pub use formatting::{Formatted, format};
 pub use frame::{
     CONFIG_GATE, Frame, LENGTH_SIZE, MAX_ENTRIES, SLOTS_START, VERSION_1, bank, record_page,
 };
 pub use key::{Key, is_key};
-pub use law::{config_laws, frame_laws, load_laws};
+pub use law::{config_laws, frame_laws, load_laws, slot_laws};
 pub use layout::{Entry, Layout, Memory};
+pub use layout_fault::LayoutFault;
 pub use load::{Loaded, load_config};
 pub use place::{MAX_COMPONENTS, Places, Unknown};
 pub use placing::places;
 pub use rules::{MAX_RAM, is_layout, slots_of};
 pub use slot::{FlashFault, Record, Slot};
 
+#[cfg(test)]
+mod device_tests;
 #[cfg(test)]
 mod format_tests;
 #[cfg(test)]

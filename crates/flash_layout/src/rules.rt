@@ -23,8 +23,8 @@ fn ends_by(start: u64, capacity: u64, end: u64) -> bool
     start <= room && capacity <= room - start
 }
 
-// Whether two slots share no byte.
-fn clear(p: u64, m: u64, q: u64, n: u64) -> bool
+/// Whether two slots share no byte.
+pub(crate) fn clear(p: u64, m: u64, q: u64, n: u64) -> bool
     ensures { IsTrue result ↔ AreClear p (LENGTH_SIZE + m) q (LENGTH_SIZE + n) }
 {
     if p <= q {
@@ -46,8 +46,8 @@ fn clear_of(p: u64, m: u64, starts: &[u64], n: u64) -> bool
     true
 }
 
-// Whether no slot of the first ones shares a byte with one of the second ones.
-fn all_clear(ps: &[u64], m: u64, qs: &[u64], n: u64) -> bool
+/// Whether no slot of the first ones shares a byte with one of the second ones.
+pub(crate) fn all_clear(ps: &[u64], m: u64, qs: &[u64], n: u64) -> bool
     ensures { IsTrue result ↔ AreAllClear ps.now (LENGTH_SIZE + m) qs.now (LENGTH_SIZE + n) }
 {
     for p in ps {
@@ -69,8 +69,8 @@ pub fn slots_of(entry: &Entry) -> &[u64]
     }
 }
 
-// Whether slots that start there lie behind the head of a flash of this size, and within it.
-fn starts_behind(size: u64, starts: &[u64], capacity: u64) -> bool
+/// Whether slots that start there lie behind the head of a flash of this size, and within it.
+pub(crate) fn starts_behind(size: u64, starts: &[u64], capacity: u64) -> bool
     ensures { IsTrue result ↔ All (λ p. IsBehindHead size p (LENGTH_SIZE + capacity)) starts.now }
 {
     for p in starts {

@@ -1,0 +1,142 @@
+-- A value describes a layout or has one first fault, and never both.
+use Rattle.std.proofs.Common.{◌≡◌, ◌<◌, ◌⊎◌, inl, inr, ⊎_elim, ℕ, List, [], None, Result, Ok, Err, IfErr, IfOk, refl, sym, ap, ◌∙◌, subst, arith}
+use Rattle.serde_json.specs.Data.{Data}
+use Rattle.json_fields.specs.declared.flaw.Flaw.{Flaw}
+use Rattle.json_fields.specs.declared.flaw.FlawKind.{FlawKind}
+use Rattle.json_fields.specs.declared.flaw.FlawKind.TheVariants as kinds
+use Rattle.json_fields.specs.declared.flaw.JsonFault.{JsonFault}
+use Rattle.json_fields.specs.declared.flaw.JsonFault.TheVariants.{Flawed}
+use Rattle.json_fields.specs.declared.flaw.JsonFault.TheVariants as faults
+use Rattle.json_fields.specs.Answers.{Gives}
+use Rattle.flash_layout.specs.declared.layout.Entry.{Entry}
+use Rattle.flash_layout.specs.declared.layout.Memory.TheVariants.{Ram}
+use Rattle.flash_layout.specs.declared.layout_fault.LayoutFault.{LayoutFault}
+use Rattle.flash_layout.specs.declared.layout_fault.LayoutFault.TheVariants.{BadField, BadHex, BadUuid, TooMany, TwoAlike, Overlap, Outside, NoMemory}
+use Rattle.flash_layout.specs.Devices.{described_layout}
+use Rattle.flash_layout.specs.Overlaps.{IsFirstLike, IsFirstAlike, HaveNoneAlike, IsFirstShared, IsFirstOverlap, HaveNoOverlap, IsFirstOutside}
+use Rattle.flash_layout.specs.LayoutFaults.{fault_at, fault_of, fault_told, AreHeld, RefusesEntries, Many, Alike, Shared, Beyond, IsLayoutOf, RefusesLayout, BadValue, BadEntries, IsFaultOf, IsAccepted, IsRefusedFor}
+use Rattle.flash_layout.proofs.Kept.{err_not_ok, ok_same}
+
+pub fault_of_entries : (size : ℕ) (d : Data) (layout : List Entry) (fault : LayoutFault) → described_layout d ≡ Ok layout → RefusesEntries size layout fault → IsFaultOf size d fault
+fault_of_entries size d layout (BadField t) e r = BadEntries layout (BadField t) e r
+fault_of_entries size d layout (BadHex t) e r = BadEntries layout (BadHex t) e r
+fault_of_entries size d layout (BadUuid t) e r = BadEntries layout (BadUuid t) e r
+fault_of_entries size d layout (TooMany n) e r = BadEntries layout (TooMany n) e r
+fault_of_entries size d layout (TwoAlike i j) e r = BadEntries layout (TwoAlike i j) e r
+fault_of_entries size d layout (Overlap i j) e r = BadEntries layout (Overlap i j) e r
+fault_of_entries size d layout (Outside i) e r = BadEntries layout (Outside i) e r
+fault_of_entries size d layout NoMemory e r = tt
+
+is_fault : (size : ℕ) (d : Data) (kind : FlawKind) (pointer : List ℕ) → RefusesLayout size d (fault_at kind pointer) → IsFaultOf size d (fault_at kind pointer)
+is_fault size d kinds.Field pointer r = r
+is_fault size d kinds.Hex pointer r = r
+is_fault size d kinds.Uuid pointer r = r
+
+pub fault_of_fields : (size : ℕ) (d : Data) (fault : JsonFault) → Gives {X = List Entry} (λ layout. layout) (Err fault) (described_layout d) → IsFaultOf size d (fault_told fault)
+fault_of_fields size d (Flawed f) e = is_fault size d f.kind f.pointer (BadValue f e)
+fault_of_fields size d faults.NoMemory e = tt
+
+abbrev flaw_or : Flaw → Result (List Entry) Flaw → Flaw
+flaw_or other (Ok layout) = other
+flaw_or other (Err f) = f
+
+three : (m n : ℕ) → (m < n) ⊎ ((m ≡ n) ⊎ (n < m))
+three m n = grind arith
+
+-- ---- what is refused is not held
+
+entry_none : Entry
+entry_none = record { identifier = []; memory = Ram; slots = 0; starts = []; capacity = 0; vendor = None; class = None; device = None }
+
+alike_not : (layout : List Entry) (i j : ℕ) → HaveNoneAlike layout → IsFirstAlike layout i j → ⊥
+alike_not layout i j none a = none i j a.first.below a.inside entry_none (a.first.same entry_none)
+
+overlap_not : (layout : List Entry) (i j : ℕ) → HaveNoOverlap layout → IsFirstOverlap layout i j → ⊥
+overlap_not layout i j none a = let from = a.first.from in let inside = a.first.inside in a.first.shares (none i (omega (arith, from, inside)) j from inside)
+
+not_held : (size : ℕ) (layout : List Entry) (f : LayoutFault) → AreHeld size layout → RefusesEntries size layout f → ⊥
+not_held size layout f h (Many n) = let few = h.few in omega (arith, few, n)
+not_held size layout f h (Alike i j few a) = alike_not layout i j h.apart a
+not_held size layout f h (Shared i j few apart a) = overlap_not layout i j h.clear a
+not_held size layout f h (Beyond i few apart clear a) = a.outside (h.inside i a.inside)
+
+-- ---- each fault is told once
+
+alike_once : (layout : List Entry) (i j k l : ℕ) → IsFirstAlike layout i j → IsFirstAlike layout k l → (i ≡ k) × (j ≡ l)
+alike_once layout i j k l a b =
+    let second : j ≡ l =
+    ⊎_elim (λ h. absurd (b.least i j a.first.below h entry_none (a.first.same entry_none)))
+    (⊎_elim (λ e. e) (λ h. absurd (a.least k l b.first.below h entry_none (b.first.same entry_none)))) (three j l) in
+    let first_b : IsFirstLike layout j k = subst (λ n. IsFirstLike layout n k) (sym second) b.first in
+    (⊎_elim (λ h. absurd (first_b.least i h entry_none (a.first.same entry_none))) (⊎_elim (λ e. e) (λ h. absurd (a.first.least k h entry_none (first_b.same entry_none)))) (three i k), second)
+
+overlap_once : (layout : List Entry) (i j k l : ℕ) → IsFirstOverlap layout i j → IsFirstOverlap layout k l → (i ≡ k) × (j ≡ l)
+overlap_once layout i j k l a b =
+    let first : i ≡ k =
+    ⊎_elim (λ h. absurd (a.first.shares (b.least i h j a.first.from a.first.inside)))
+    (⊎_elim (λ e. e) (λ h. absurd (b.first.shares (a.least k h l b.first.from b.first.inside)))) (three i k) in
+    let shared_b : IsFirstShared layout i l = subst (λ n. IsFirstShared layout n l) (sym first) b.first in
+    (first, ⊎_elim (λ h. absurd (a.first.shares (shared_b.least j a.first.from h))) (⊎_elim (λ e. e) (λ h. absurd (shared_b.shares (a.first.least l shared_b.from h)))) (three j l))
+
+outside_once : (size : ℕ) (layout : List Entry) (i k : ℕ) → IsFirstOutside size layout i → IsFirstOutside size layout k → i ≡ k
+outside_once size layout i k a b = ⊎_elim (λ h. absurd (a.outside (b.least i h))) (⊎_elim (λ e. e) (λ h. absurd (b.outside (a.least k h)))) (three i k)
+
+entries_once : (size : ℕ) (layout : List Entry) (f g : LayoutFault) → RefusesEntries size layout f → RefusesEntries size layout g → f ≡ g
+entries_once size layout f g (Many h) (Many h') = refl
+entries_once size layout f g (Many h) (Alike i j few a) = absurd (omega (arith, h, few))
+entries_once size layout f g (Many h) (Shared i j few apart a) = absurd (omega (arith, h, few))
+entries_once size layout f g (Many h) (Beyond i few apart clear a) = absurd (omega (arith, h, few))
+entries_once size layout f g (Alike i j few a) (Many h) = absurd (omega (arith, h, few))
+entries_once size layout f g (Alike i j few a) (Alike k l few' b) = let e = alike_once layout i j k l a b in ap (λ n. TwoAlike n j) e.0 ∙ ap (TwoAlike k) e.1
+entries_once size layout f g (Alike i j few a) (Shared k l few' apart b) = absurd (alike_not layout i j apart a)
+entries_once size layout f g (Alike i j few a) (Beyond k few' apart clear b) = absurd (alike_not layout i j apart a)
+entries_once size layout f g (Shared i j few apart a) (Many h) = absurd (omega (arith, h, few))
+entries_once size layout f g (Shared i j few apart a) (Alike k l few' b) = absurd (alike_not layout k l apart b)
+entries_once size layout f g (Shared i j few apart a) (Shared k l few' apart' b) = let e = overlap_once layout i j k l a b in ap (λ n. Overlap n j) e.0 ∙ ap (Overlap k) e.1
+entries_once size layout f g (Shared i j few apart a) (Beyond k few' apart' clear b) = absurd (overlap_not layout i j clear a)
+entries_once size layout f g (Beyond i few apart clear a) (Many h) = absurd (omega (arith, h, few))
+entries_once size layout f g (Beyond i few apart clear a) (Alike k l few' b) = absurd (alike_not layout k l apart b)
+entries_once size layout f g (Beyond i few apart clear a) (Shared k l few' apart' b) = absurd (overlap_not layout k l clear b)
+entries_once size layout f g (Beyond i few apart clear a) (Beyond k few' apart' clear' b) = ap Outside (outside_once size layout i k a b)
+
+once : (size : ℕ) (d : Data) (f g : LayoutFault) → RefusesLayout size d f → RefusesLayout size d g → f ≡ g
+once size d _ _ (BadValue a e) (BadValue b e') = ap fault_of (ap (flaw_or a) (sym e ∙ e'))
+once size d _ _ (BadValue a e) (BadEntries q g e' r') = absurd (err_not_ok a q (sym e ∙ e'))
+once size d _ _ (BadEntries p f e r) (BadValue b e') = absurd (err_not_ok b p (sym e' ∙ e))
+once size d _ _ (BadEntries p f e r) (BadEntries q g e' r') =
+    let same : q ≡ p = ok_same q p (sym e' ∙ e) in
+    entries_once size p f g r (subst (λ x. RefusesEntries size x g) same r')
+
+pub never_both : (size : ℕ) (d : Data) (layout : List Entry) (f : LayoutFault) → IsLayoutOf size d layout → RefusesLayout size d f → ⊥
+never_both size d layout _ p (BadValue a e) = err_not_ok a layout (sym e ∙ p.reads)
+never_both size d layout _ p (BadEntries q f e r) =
+    let same : q ≡ layout = ok_same q layout (sym e ∙ p.reads) in
+    not_held size layout f p.held (subst (λ x. RefusesEntries size x f) same r)
+
+fault_cases : (size : ℕ) (d : Data) (f g : LayoutFault) → IsFaultOf size d g → RefusesLayout size d f → (g ≡ f) ⊎ (g ≡ NoMemory)
+fault_cases size d f (BadField t) h r = inl (once size d _ f h r)
+fault_cases size d f (BadHex t) h r = inl (once size d _ f h r)
+fault_cases size d f (BadUuid t) h r = inl (once size d _ f h r)
+fault_cases size d f (TooMany n) h r = inl (once size d _ f h r)
+fault_cases size d f (TwoAlike i j) h r = inl (once size d _ f h r)
+fault_cases size d f (Overlap i j) h r = inl (once size d _ f h r)
+fault_cases size d f (Outside i) h r = inl (once size d _ f h r)
+fault_cases size d f NoMemory h r = inr refl
+
+pub refused_for : (size : ℕ) (d : Data) (f : LayoutFault) (result : Result (List Entry) LayoutFault) → IfOk result (IsLayoutOf size d) → IfErr result (IsFaultOf size d) → RefusesLayout size d f → IsRefusedFor f result
+refused_for size d f (Ok layout) ok bad r = never_both size d layout f ok r
+refused_for size d f (Err g) ok bad r = fault_cases size d f g bad r
+
+accepted_case : (size : ℕ) (d : Data) (layout : List Entry) (g : LayoutFault) → IsLayoutOf size d layout → IsFaultOf size d g → g ≡ NoMemory
+accepted_case size d layout (BadField t) p h = absurd (never_both size d layout _ p h)
+accepted_case size d layout (BadHex t) p h = absurd (never_both size d layout _ p h)
+accepted_case size d layout (BadUuid t) p h = absurd (never_both size d layout _ p h)
+accepted_case size d layout (TooMany n) p h = absurd (never_both size d layout _ p h)
+accepted_case size d layout (TwoAlike i j) p h = absurd (never_both size d layout _ p h)
+accepted_case size d layout (Overlap i j) p h = absurd (never_both size d layout _ p h)
+accepted_case size d layout (Outside i) p h = absurd (never_both size d layout _ p h)
+accepted_case size d layout NoMemory p h = refl
+
+pub accepted : (size : ℕ) (d : Data) (layout : List Entry) (result : Result (List Entry) LayoutFault) → IsLayoutOf size d layout → IfErr result (IsFaultOf size d) → IsAccepted result
+accepted size d layout (Ok other) p bad = tt
+accepted size d layout (Err g) p bad = accepted_case size d layout g p bad

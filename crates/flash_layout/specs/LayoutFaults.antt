@@ -1,0 +1,66 @@
+-- What a device's description is refused for: the first flaw of its fields; and after all fields too many components,
+-- two that are alike, two that share a byte, and one outside the flash.
+use Rattle.std.specs.Prelude.{◌≡◌, ◌⊎◌, ◌<◌, ◌≤◌, ℕ, List, length, Result, Ok, Err}
+use Rattle.serde_json.specs.Data.{Data}
+use Rattle.json_fields.specs.declared.flaw.Flaw.{Flaw}
+use Rattle.json_fields.specs.declared.flaw.FlawKind.{FlawKind}
+use Rattle.json_fields.specs.declared.flaw.FlawKind.TheVariants as kinds
+use Rattle.json_fields.specs.declared.flaw.JsonFault.{JsonFault}
+use Rattle.json_fields.specs.declared.flaw.JsonFault.TheVariants.{Flawed}
+use Rattle.json_fields.specs.declared.flaw.JsonFault.TheVariants as faults
+use Rattle.flash_layout.specs.declared.layout.Entry.{Entry}
+use Rattle.flash_layout.specs.declared.layout_fault.LayoutFault.{LayoutFault}
+use Rattle.flash_layout.specs.declared.layout_fault.LayoutFault.TheVariants.{BadField, BadHex, BadUuid, TooMany, TwoAlike, Overlap, Outside, NoMemory}
+use Rattle.flash_layout.specs.Devices.{described_layout}
+use Rattle.flash_layout.specs.Overlaps.{IsFirstAlike, HaveNoneAlike, IsFirstOverlap, HaveNoOverlap, IsFirstOutside, AreInside}
+
+abbrev pub fault_at : FlawKind → List ℕ → LayoutFault
+fault_at kinds.Field pointer = BadField pointer
+fault_at kinds.Hex pointer = BadHex pointer
+fault_at kinds.Uuid pointer = BadUuid pointer
+
+abbrev pub fault_of : Flaw → LayoutFault
+fault_of f = fault_at f.kind f.pointer
+
+abbrev pub fault_told : JsonFault → LayoutFault
+fault_told (Flawed f) = fault_of f
+fault_told faults.NoMemory = NoMemory
+
+-- at most eight components, no two alike, no byte shared, each within a flash of this size
+pub record AreHeld (size : ℕ) (layout : List Entry) : Type 0 where
+  pub few : length layout ≤ 8
+  pub apart : HaveNoneAlike layout
+  pub clear : HaveNoOverlap layout
+  pub inside : AreInside size layout
+
+-- what is wrong with the components, in this order
+pub data RefusesEntries (size : ℕ) (layout : List Entry) : LayoutFault → Type 0 where
+  Many : 8 < length layout → RefusesEntries size layout (TooMany (length layout))
+  Alike : (i j : ℕ) → length layout ≤ 8 → IsFirstAlike layout i j → RefusesEntries size layout (TwoAlike i j)
+  Shared : (i j : ℕ) → length layout ≤ 8 → HaveNoneAlike layout → IsFirstOverlap layout i j → RefusesEntries size layout (Overlap i j)
+  Beyond : (i : ℕ) → length layout ≤ 8 → HaveNoneAlike layout → HaveNoOverlap layout → IsFirstOutside size layout i → RefusesEntries size layout (Outside i)
+
+-- the value describes this layout of a flash of a size
+pub record IsLayoutOf (size : ℕ) (d : Data) (layout : List Entry) : Type 0 where
+  pub reads : described_layout d ≡ Ok layout
+  pub held : AreHeld size layout
+
+-- what is wrong first
+pub data RefusesLayout (size : ℕ) (d : Data) : LayoutFault → Type 0 where
+  BadValue : (f : Flaw) → described_layout d ≡ Err f → RefusesLayout size d (fault_of f)
+  BadEntries : (layout : List Entry) (fault : LayoutFault) → described_layout d ≡ Ok layout → RefusesEntries size layout fault → RefusesLayout size d fault
+
+-- a fault by what is wrong, or for want of memory
+abbrev pub IsFaultOf : ℕ → Data → LayoutFault → Type 0
+IsFaultOf size d NoMemory = Unit {0}
+IsFaultOf size d fault = RefusesLayout size d fault
+
+-- accepted, unless there was no memory
+abbrev pub IsAccepted : {A : Type 0} → Result A LayoutFault → Type 0
+IsAccepted (Ok layout) = Unit {0}
+IsAccepted (Err fault) = fault ≡ NoMemory
+
+-- refused for this, unless there was no memory
+abbrev pub IsRefusedFor : {A : Type 0} → LayoutFault → Result A LayoutFault → Type 0
+IsRefusedFor fault (Ok layout) = ⊥
+IsRefusedFor fault (Err other) = (other ≡ fault) ⊎ (other ≡ NoMemory)

@@ -1,0 +1,82 @@
+-- Which components of a layout have the same identifier, share a byte, or lie outside the flash. Places are whole numbers.
+use Rattle.std.specs.Prelude.{◌≡◌, ◌≢◌, ◌<◌, ◌≤◌, ℕ, List, length, slice_index, slice_index_or, All}
+use Rattle.flash_layout.specs.declared.layout.Entry.{Entry}
+use Rattle.flash_layout.specs.Layouts.{slot_starts, slot_size, AreClear, AreAllClear, IsBehindHead}
+
+-- ---- identifiers
+
+abbrev pub HaveOneId : List Entry → ℕ → ℕ → Type 0
+HaveOneId layout i j = (d : Entry) → (slice_index_or layout i d).identifier ≡ (slice_index_or layout j d).identifier
+
+abbrev pub HaveOtherIds : List Entry → ℕ → ℕ → Type 0
+HaveOtherIds layout i j = (d : Entry) → (slice_index_or layout i d).identifier ≢ (slice_index_or layout j d).identifier
+
+-- none before the last one has its identifier
+abbrev pub HasNoLike : List Entry → ℕ → Type 0
+HasNoLike layout last = (k : ℕ) → k < last → HaveOtherIds layout k last
+
+-- this is the first that has
+pub record IsFirstLike (layout : List Entry) (last first : ℕ) : Type 0 where
+  pub below : first < last
+  pub same : HaveOneId layout first last
+  pub least : (k : ℕ) → k < first → HaveOtherIds layout k last
+
+-- the first two that are alike: the least second one, and then the least first one
+pub record IsFirstAlike (layout : List Entry) (i j : ℕ) : Type 0 where
+  pub inside : j < length layout
+  pub first : IsFirstLike layout j i
+  pub least : (k l : ℕ) → k < l → l < j → HaveOtherIds layout k l
+
+abbrev pub HaveNoneAlike : List Entry → Type 0
+HaveNoneAlike layout = (i j : ℕ) → i < j → j < length layout → HaveOtherIds layout i j
+
+-- ---- slots
+
+-- a component's two slots share no byte
+abbrev pub IsClearItself : Entry → Type 0
+IsClearItself e = e.slots ≡ 2 → AreClear (slice_index e.starts 0) (slot_size e) (slice_index e.starts 1) (slot_size e)
+
+-- no slot of one shares a byte with a slot of the other
+abbrev pub AreClearSlots : Entry → Entry → Type 0
+AreClearSlots a b = AreAllClear (slot_starts a) (slot_size a) (slot_starts b) (slot_size b)
+
+-- the components of these numbers share no byte, which may be one component
+pub record ShareNone (layout : List Entry) (i j : ℕ) : Type 0 where
+  pub itself : (d : Entry) → i ≡ j → IsClearItself (slice_index_or layout i d)
+  pub others : (d : Entry) → i ≢ j → AreClearSlots (slice_index_or layout i d) (slice_index_or layout j d)
+
+-- this is the first from the component on that shares a byte with it
+pub record IsFirstShared (layout : List Entry) (i j : ℕ) : Type 0 where
+  pub from : i ≤ j
+  pub inside : j < length layout
+  pub shares : ShareNone layout i j → ⊥
+  pub least : (l : ℕ) → i ≤ l → l < j → ShareNone layout i l
+
+abbrev pub SharesNone : List Entry → ℕ → Type 0
+SharesNone layout i = (j : ℕ) → i ≤ j → j < length layout → ShareNone layout i j
+
+-- the first two that share a byte: the least first one, and then the least second one
+pub record IsFirstOverlap (layout : List Entry) (i j : ℕ) : Type 0 where
+  pub first : IsFirstShared layout i j
+  pub least : (k : ℕ) → k < i → SharesNone layout k
+
+abbrev pub HaveNoOverlap : List Entry → Type 0
+HaveNoOverlap layout = (i : ℕ) → i < length layout → SharesNone layout i
+
+-- ---- the flash
+
+-- its slots lie behind the head of a flash of this size, and within it
+abbrev pub LiesInside : ℕ → Entry → Type 0
+LiesInside size e = All (λ p. IsBehindHead size p (slot_size e)) (slot_starts e)
+
+abbrev pub IsInside : ℕ → List Entry → ℕ → Type 0
+IsInside size layout i = (d : Entry) → LiesInside size (slice_index_or layout i d)
+
+-- the first one that does not
+pub record IsFirstOutside (size : ℕ) (layout : List Entry) (i : ℕ) : Type 0 where
+  pub inside : i < length layout
+  pub outside : IsInside size layout i → ⊥
+  pub least : (k : ℕ) → k < i → IsInside size layout k
+
+abbrev pub AreInside : ℕ → List Entry → Type 0
+AreInside size layout = (i : ℕ) → i < length layout → IsInside size layout i

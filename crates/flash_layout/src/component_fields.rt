@@ -1,0 +1,146 @@
+//! A component in the description of a device.
+
+ghost use Rattle.std.specs.Prelude.{◌≡◌};
+ghost use Rattle.serde_json.specs.View.{view};
+ghost use Rattle.json_fields.specs.Answers.{Gives};
+ghost use Rattle.flash_layout.specs.ComponentFields.{memory_said, capacity_limit, capacity_of, no_component, starts_in, whole, component_of};
+
+use crate::component_name::{ComponentName, component_named, memory_named};
+use crate::id_text::id;
+use crate::rules::MAX_RAM;
+use crate::starts::{Starts, starts_of};
+use crate::{Entry, Memory};
+use json_fields::{Draft, FlawKind, JsonFault, flawed, number, object, required, uuid};
+use serde_json::Value;
+use std::alloc::Global;
+use suit_params::Identifier;
+
+/// The fields that were read.
+#[derive(Drop)]
+pub(crate) struct ComponentFields {
+    /// What the kind says, if it is one. It is looked up before the fields are judged.
+    memory: Option<Memory>,
+    capacity: Option<u64>,
+    class: Option<[u8; 16]>,
+    device: Option<[u8; 16]>,
+    id: Option<Identifier>,
+    slots: Option<Starts>,
+    vendor: Option<[u8; 16]>,
+}
+
+// The memory that the kind of a component names.
+fn memory_said(value: &Value) -> Option<Memory>
+    ensures { result ≡ memory_said (view value.now) }
+{
+    match value.get("kind") {
+        Some(kind) => match kind.as_str() {
+            Some(name) => memory_named(name),
+            None => None,
+        },
+        None => None,
+    }
+}
+
+// How many bytes a component may hold.
+fn capacity_limit(memory: Option<Memory>) -> u64
+    ensures { result ≡ capacity_limit memory }
+{
+    match memory {
+        Some(Memory::Ram) => MAX_RAM,
+        Some(Memory::Flash) => u64::MAX,
+        None => u64::MAX,
+    }
+}
+
+fn capacity(alloc: Global, value: &Value, memory: Option<Memory>) -> Result<u64, JsonFault>
+    ensures { Gives (λ n. n) result (capacity_of memory (view value.now)) }
+{
+    let capacity = number(alloc, value, capacity_limit(memory))?;
+    if 1 <= capacity {
+        Ok(capacity)
+    } else {
+        flawed(alloc, FlawKind::Field)
+    }
+}
+
+impl Draft for ComponentFields {
+    ghost use Rattle.flash_layout.specs.ComponentFields.{takes_component};
+
+    ghost takes = { takes_component };
+
+    fn take(&mut self, alloc: Global, key: &str, value: &Value) -> Result<(), JsonFault> {
+        let Some(name) = component_named(key) else {
+            return flawed(alloc, FlawKind::Field);
+        };
+        match name {
+            ComponentName::Capacity => self.capacity = Some(capacity(alloc, value, self.memory)?),
+            ComponentName::Class => self.class = Some(uuid(alloc, value)?),
+            ComponentName::Device => self.device = Some(uuid(alloc, value)?),
+            ComponentName::Id => self.id = Some(id(alloc, value)?),
+            ComponentName::Kind => {
+                if self.memory.is_none() {
+                    return flawed(alloc, FlawKind::Field);
+                }
+            }
+            ComponentName::Slots => self.slots = Some(starts_of(alloc, value, self.memory)?),
+            ComponentName::Vendor => self.vendor = Some(uuid(alloc, value)?),
+        }
+        Ok(())
+    }
+}
+
+// A component of no fields.
+fn no_component(memory: Option<Memory>) -> ComponentFields
+    ensures { result ≡ no_component memory }
+{
+    ComponentFields {
+        memory,
+        capacity: None,
+        class: None,
+        device: None,
+        id: None,
+        slots: None,
+        vendor: None,
+    }
+}
+
+// The starts of a memory, which flash has to have.
+fn starts_in(alloc: Global, memory: Memory, starts: Option<Starts>) -> Result<Starts, JsonFault>
+    ensures { Gives (λ s. s) result (starts_in memory starts) }
+{
+    match memory {
+        Memory::Flash => required(alloc, "slots", starts),
+        Memory::Ram => Ok(Starts::none()),
+    }
+}
+
+// The component of all fields.
+fn whole(alloc: Global, fields: ComponentFields) -> Result<Entry, JsonFault>
+    ensures { Gives (λ e. e) result (whole fields) }
+{
+    let capacity = required(alloc, "capacity", fields.capacity)?;
+    let identifier = required(alloc, "id", fields.id)?;
+    let memory = required(alloc, "kind", fields.memory)?;
+    let slots = starts_in(alloc, memory, fields.slots)?;
+    let starts = slots.places;
+    Ok(Entry {
+        identifier,
+        memory,
+        slots: slots.count,
+        starts,
+        capacity,
+        vendor: fields.vendor,
+        class: fields.class,
+        device: fields.device,
+    })
+}
+
+/// A component.
+pub(crate) fn component(alloc: Global, value: &Value) -> Result<Entry, JsonFault>
+    ensures { Gives (λ e. e) result (component_of (view value.now)) }
+{
+    let mut fields = no_component(memory_said(value));
+    object(alloc, value, &mut fields)?;
+    let entry = whole(alloc, fields)?;
+    Ok(entry)
+}

@@ -1,0 +1,112 @@
+//! The first components that may not stand in one layout.
+
+ghost use Rattle.std.specs.Prelude.{◌≤◌, ◌<◌, ◌↔◌, All, IsTrue, length, MatchOption};
+ghost use Rattle.flash_layout.specs.Overlaps.{HasNoLike, IsFirstLike, IsFirstAlike, HaveNoneAlike, IsClearItself, ShareNone, SharesNone, IsFirstShared, IsFirstOverlap, HaveNoOverlap, IsFirstOutside, AreInside};
+
+use crate::Entry;
+use crate::rules::{alike, all_clear, clear, slots_of, starts_behind};
+
+// The first component before another one that has its identifier.
+fn first_like(entries: &[Entry], last: usize) -> Option<usize>
+    requires { last < length entries.now }
+    ensures { MatchOption result (HasNoLike entries.now last) (IsFirstLike entries.now last) }
+{
+    for i in 0..last {
+        if alike(&entries[i].identifier, &entries[last].identifier) {
+            return Some(i);
+        }
+    }
+    None
+}
+
+/// The first two of at most eight components that have the same identifier: the least second one, and then the
+/// least first one.
+pub(crate) fn first_alike(entries: &[Entry]) -> Option<(u32, u32)>
+    requires { length entries.now ≤ 8 }
+    ensures { MatchOption result (HaveNoneAlike entries.now)
+        (λ p. IsFirstAlike entries.now p.0 p.1) }
+{
+    for last in 0..entries.len() {
+        if let Some(first) = first_like(entries, last) {
+            return Some((first as u32, last as u32));
+        }
+    }
+    None
+}
+
+// Whether a component's slots share no byte.
+fn is_clear_itself(entry: &Entry) -> bool
+    ensures { IsTrue result ↔ IsClearItself entry.now }
+{
+    if entry.slots != 2 {
+        return true;
+    }
+    clear(
+        entry.starts[0],
+        entry.capacity,
+        entry.starts[1],
+        entry.capacity,
+    )
+}
+
+// Whether two components share no byte, or the two slots of one do not.
+fn share_none(entries: &[Entry], i: usize, j: usize) -> bool
+    requires first { i < length entries.now }
+    requires second { j < length entries.now }
+    requires slots { All (λ e. e.slots ≤ 2) entries.now }
+    ensures { IsTrue result ↔ ShareNone entries.now i j }
+{
+    let a = &entries[i];
+    if i == j {
+        return is_clear_itself(a);
+    }
+    let b = &entries[j];
+    all_clear(slots_of(a), a.capacity, slots_of(b), b.capacity)
+}
+
+// The first component from this one on that shares a byte with it.
+fn first_shared(entries: &[Entry], i: usize) -> Option<usize>
+    requires inside { i < length entries.now }
+    requires slots { All (λ e. e.slots ≤ 2) entries.now }
+    ensures { MatchOption result (SharesNone entries.now i) (IsFirstShared entries.now i) }
+{
+    for j in i..entries.len() {
+        if !share_none(entries, i, j) {
+            return Some(j);
+        }
+    }
+    None
+}
+
+/// The first two of at most eight components that share a byte: the least first one, and then the least second
+/// one, which may be the first one itself.
+pub(crate) fn first_overlap(entries: &[Entry]) -> Option<(u32, u32)>
+    requires few { length entries.now ≤ 8 }
+    requires slots { All (λ e. e.slots ≤ 2) entries.now }
+    ensures { MatchOption result (HaveNoOverlap entries.now)
+        (λ p. IsFirstOverlap entries.now p.0 p.1) }
+{
+    for first in 0..entries.len() {
+        if let Some(second) = first_shared(entries, first) {
+            return Some((first as u32, second as u32));
+        }
+    }
+    None
+}
+
+/// The first of at most eight components with a slot that does not lie behind the head of a flash of this size and
+/// within it.
+pub(crate) fn first_outside(size: u64, entries: &[Entry]) -> Option<u32>
+    requires few { length entries.now ≤ 8 }
+    requires slots { All (λ e. e.slots ≤ 2) entries.now }
+    ensures { MatchOption result (AreInside size entries.now)
+        (IsFirstOutside size entries.now) }
+{
+    for i in 0..entries.len() {
+        let entry = &entries[i];
+        if !starts_behind(size, slots_of(entry), entry.capacity) {
+            return Some(i as u32);
+        }
+    }
+    None
+}

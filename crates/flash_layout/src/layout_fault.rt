@@ -1,0 +1,42 @@
+//! Why a value describes no layout.
+
+ghost use Rattle.std.specs.Prelude.{◌≡◌};
+ghost use Rattle.flash_layout.specs.LayoutFaults.{fault_told};
+
+use det_cbor::Text;
+use json_fields::{FlawKind, JsonFault};
+
+/// Why a value describes no layout of a flash. The texts are JSON Pointers (RFC 6901): where the first wrong value
+/// stands. Components go by their numbers.
+#[derive(Debug, Drop)]
+pub enum LayoutFault {
+    /// A value that is not as it is to be, an unknown field, or a missing one.
+    BadField(Text),
+    /// A text that is not of hexadecimal digits, two for each byte.
+    BadHex(Text),
+    /// A text that is no UUID.
+    BadUuid(Text),
+    /// The number of components, above eight.
+    TooMany(u64),
+    /// Two components with the same identifier: the first such pair.
+    TwoAlike { first: u32, second: u32 },
+    /// Two components whose slots share a byte, or one whose two slots do: the first such pair.
+    Overlap { first: u32, second: u32 },
+    /// The first component with a slot that starts in the head of the flash or ends behind the flash.
+    Outside(u32),
+    NoMemory,
+}
+
+/// The fault that a flaw of the fields is.
+pub(crate) fn told(fault: JsonFault) -> LayoutFault
+    ensures { result ≡ fault_told fault }
+{
+    match fault {
+        JsonFault::NoMemory => LayoutFault::NoMemory,
+        JsonFault::Flawed(flaw) => match flaw.kind {
+            FlawKind::Field => LayoutFault::BadField(flaw.pointer),
+            FlawKind::Hex => LayoutFault::BadHex(flaw.pointer),
+            FlawKind::Uuid => LayoutFault::BadUuid(flaw.pointer),
+        },
+    }
+}
