@@ -1,4 +1,4 @@
--- What is spelled is read back.
+-- A spelling is read back.
 use Rattle.std.proofs.Common.{◌≡◌, ℕ, List, length, refl, ◌∙◌, arith}
 use Rattle.std.proofs.lemmas.List.{take_at, length-append}
 use Rattle.det_cbor.specs.DataItem.{DataItem, spell, IsValid}

@@ -1,4 +1,4 @@
--- What a chain of reading steps answered.
+-- The answer of a chain of reading steps.
 use Rattle.std.proofs.Common.{◌≡◌, ◌∙◌, sym, ap, Bool, true, false, cond, Result, Ok, Err, refl, inl, inr, ◌⊎◌}
 use Rattle.det_cbor.specs.HeadReading.{◌>>=◌}
 

@@ -38,7 +38,8 @@ abbrev mutual
 
   pub pairs_code : DataPairs → Gv
   pairs_code NoPairs = gnil
-  pairs_code (PairThen key value ps) = gcons (item_code key) (gcons (item_code value) (pairs_code ps))
+  pairs_code (PairThen key value ps) =
+      gcons (item_code key) (gcons (item_code value) (pairs_code ps))
 
 -- the code is one to one
 mutual
@@ -49,20 +50,23 @@ mutual
   item_inj (TextString a) (TextString b) p = ap TextString (string_code.inj a b (ap rest p))
   item_inj (ArrayOf xs) (ArrayOf ys) p = ap ArrayOf (items_inj xs ys (ap rest p))
   item_inj (MapOf ps) (MapOf qs) p = ap MapOf (pairs_inj ps qs (ap rest p))
-  item_inj (TaggedItem m x) (TaggedItem n y) p = λ i. TaggedItem (number (first (rest (p i)))) (item_inj x y (ap (λ g. rest (rest g)) p) i)
+  item_inj (TaggedItem m x) (TaggedItem n y) p =
+      λ i. TaggedItem (number (first (rest (p i)))) (item_inj x y (ap (λ g. rest (rest g)) p) i)
   item_inj (Boolean a) (Boolean b) p = ap Boolean (coded_bool.inj a b (ap rest p))
   item_inj NullItem NullItem p = refl
   item_inj _ _ p = absurd cc
 
   pub items_inj : (xs ys : DataItems) → items_code xs ≡ items_code ys → xs ≡ ys
   items_inj NoItems NoItems p = refl
-  items_inj (ItemThen x xs) (ItemThen y ys) p = λ i. ItemThen (item_inj x y (ap first p) i) (items_inj xs ys (ap rest p) i)
+  items_inj (ItemThen x xs) (ItemThen y ys) p =
+      λ i. ItemThen (item_inj x y (ap first p) i) (items_inj xs ys (ap rest p) i)
   items_inj _ _ p = absurd cc
 
   pub pairs_inj : (ps qs : DataPairs) → pairs_code ps ≡ pairs_code qs → ps ≡ qs
   pairs_inj NoPairs NoPairs p = refl
   pairs_inj (PairThen k v ps) (PairThen l w qs) p =
-      λ i. PairThen (item_inj k l (ap first p) i) (item_inj v w (ap (λ g. first (rest g)) p) i) (pairs_inj ps qs (ap (λ g. rest (rest g)) p) i)
+      λ i. PairThen (item_inj k l (ap first p) i) (item_inj v w (ap (λ g. first (rest g)) p) i)
+      (pairs_inj ps qs (ap (λ g. rest (rest g)) p) i)
   pairs_inj _ _ p = absurd cc
 
 abbrev pub coded_item : Coded DataItem

@@ -77,9 +77,12 @@ abbrev mutual
   IsValidWithin levels (NegativeInteger n) = n < 2 ^ 64
   IsValidWithin levels (ByteString bytes) = IsString bytes
   IsValidWithin levels (TextString bytes) = IsString bytes × IsUtf8 bytes
-  IsValidWithin levels (ArrayOf xs) = (levels < 16) × (item_count xs < 2 ^ 64) × AreValidWithin (levels + 1) xs
-  IsValidWithin levels (MapOf ps) = (levels < 16) × (pair_count ps < 2 ^ 64) × ArePairsWithin (levels + 1) None ps
-  IsValidWithin levels (TaggedItem tag x) = (levels < 16) × (tag < 2 ^ 64) × IsValidWithin (levels + 1) x
+  IsValidWithin levels (ArrayOf xs) =
+      (levels < 16) × (item_count xs < 2 ^ 64) × AreValidWithin (levels + 1) xs
+  IsValidWithin levels (MapOf ps) =
+      (levels < 16) × (pair_count ps < 2 ^ 64) × ArePairsWithin (levels + 1) None ps
+  IsValidWithin levels (TaggedItem tag x) =
+      (levels < 16) × (tag < 2 ^ 64) × IsValidWithin (levels + 1) x
   IsValidWithin levels (Boolean b) = Unit {0}
   IsValidWithin levels NullItem = Unit {0}
 
@@ -91,7 +94,8 @@ abbrev mutual
   pub ArePairsWithin : ℕ → Option (List ℕ) → DataPairs → Type 0
   ArePairsWithin levels before NoPairs = Unit {0}
   ArePairsWithin levels before (PairThen key value ps) =
-      IsValidWithin levels key × IsAbove before (spell key) × IsValidWithin levels value × ArePairsWithin levels (Some (spell key)) ps
+      IsValidWithin levels key × IsAbove before (spell key) × IsValidWithin levels value
+      × ArePairsWithin levels (Some (spell key)) ps
 
 abbrev pub IsValid : DataItem → Type 0
 IsValid x = IsValidWithin 0 x

@@ -1,4 +1,4 @@
--- What decoding answers.
+-- The answers of decoding.
 use Rattle.std.specs.Prelude.{◌≡◌, ◌⊎◌, ℕ, List, Result, Ok, Err}
 use Rattle.det_cbor.specs.declared.read_fault.ReadFault.{ReadFault}
 use Rattle.det_cbor.specs.declared.read_fault.ReadFault.TheVariants as faults

@@ -60,7 +60,9 @@ unfoldable pub head_at : List ℕ → Result (Head × List ℕ) Reason
 head_at [] = Err Truncated
 head_at (first ∷ rest) =
     if first / 32 == 7 then (simple_value (first % 32) >>= λ h. Ok (h, rest))
-    else (argument_at (first % 32) rest >>= λ x. Ok (record { kind = kind_of_major (first / 32); value = x.0 }, x.1))
+    else
+    (argument_at (first % 32) rest
+    >>= λ x. Ok (record { kind = kind_of_major (first / 32); value = x.0 }, x.1))
 
 -- where a fault of a head or a string is: at the end where the input ends, and else at the head
 abbrev pub place_in : List ℕ → Reason → ℕ

@@ -1,4 +1,4 @@
--- What a head is spelled by (RFC 8949, sections 3 and 3.3).
+-- The spelling of a head (RFC 8949, sections 3 and 3.3).
 use Rattle.std.specs.Prelude.{◌≡◌, ℕ, ◌+◌, ◌^◌, ◌<◌, List, ◌++◌}
 use Rattle.det_cbor.specs.declared.head.Head.{Head}
 use Rattle.det_cbor.specs.declared.head.HeadKind.{HeadKind}

@@ -23,6 +23,8 @@ pub items_fall : (xs : List Item) → max (most deep-Item xs) 0 ≤ list_size (t
 items_fall [] = omega arith
 items_fall (x ∷ xs) = omega (arith, item_falls x, items_fall xs)
 
-pub pairs_fall : (ps : List (Item × Item)) → max (most (λ p. max (deep-Item p.0) (max (deep-Item p.1) 0)) ps) 0 ≤ pair_list_size (pair_trees_of ps)
+pub pairs_fall : (ps : List (Item × Item))
+    → max (most (λ p. max (deep-Item p.0) (max (deep-Item p.1) 0)) ps) 0
+    ≤ pair_list_size (pair_trees_of ps)
 pairs_fall [] = omega arith
 pairs_fall (p ∷ ps) = omega (arith, item_falls p.0, item_falls p.1, pairs_fall ps)

@@ -43,7 +43,9 @@ spell_parts (Boolean b) = []
 spell_parts NullItem = []
 
 abbrev pub head_order : DataItem → DataItem → Ordering
-head_order x y = ordering_then (nat_cmp (major_type x) (major_type y)) (nat_cmp (head_argument x) (head_argument y))
+head_order x y =
+    ordering_then (nat_cmp (major_type x) (major_type y))
+    (nat_cmp (head_argument x) (head_argument y))
 
 -- of items whose heads are the same
 abbrev mutual
@@ -56,12 +58,16 @@ abbrev mutual
   parts_order _ _ = Equal
 
   pub items_order : DataItems → DataItems → Ordering
-  items_order (ItemThen x xs) (ItemThen y ys) = ordering_then (ordering_then (head_order x y) (parts_order x y)) (items_order xs ys)
+  items_order (ItemThen x xs) (ItemThen y ys) =
+      ordering_then (ordering_then (head_order x y) (parts_order x y)) (items_order xs ys)
   items_order _ _ = Equal
 
   pub pairs_order : DataPairs → DataPairs → Ordering
   pairs_order (PairThen k v ps) (PairThen l w qs) =
-      ordering_then (ordering_then (ordering_then (head_order k l) (parts_order k l)) (ordering_then (head_order v w) (parts_order v w))) (pairs_order ps qs)
+      ordering_then
+      (ordering_then (ordering_then (head_order k l) (parts_order k l))
+      (ordering_then (head_order v w) (parts_order v w)))
+      (pairs_order ps qs)
   pairs_order _ _ = Equal
 
 abbrev pub item_order : DataItem → DataItem → Ordering

@@ -32,7 +32,8 @@ stopped bytes (Err reason) = Err (stop_at bytes reason)
 -- ---- strings
 
 abbrev pub string_at : ℕ → List ℕ → Result (List ℕ × List ℕ) Reason
-string_at count rest = if nat_lt (length rest) count then Err Truncated else Ok (take count rest, drop count rest)
+string_at count rest =
+    if nat_lt (length rest) count then Err Truncated else Ok (take count rest, drop count rest)
 
 abbrev pub utf8_text : List ℕ → Option (List ℕ)
 utf8_text bytes = if is_utf8 bytes then Some bytes else None
@@ -82,19 +83,25 @@ nested bytes (Some read) = Ok read
 
 -- items of each kind that has parts
 abbrev pub string_item : List ℕ → ℕ → List ℕ → Read DataItem
-string_item bytes count rest = stopped bytes (string_at count rest) >>= λ s. Ok (ByteString s.0, s.1)
+string_item bytes count rest =
+    stopped bytes (string_at count rest) >>= λ s. Ok (ByteString s.0, s.1)
 
 abbrev pub text_item : List ℕ → ℕ → List ℕ → Read DataItem
 text_item bytes count rest = stopped bytes (text_at count rest) >>= λ s. Ok (TextString s.0, s.1)
 
 abbrev pub array_item : Option Reader → List ℕ → ℕ → List ℕ → Read DataItem
-array_item parts bytes count rest = nested bytes parts >>= λ read. items_by read count rest >>= λ xs. Ok (ArrayOf (items_of xs.0), xs.1)
+array_item parts bytes count rest =
+    nested bytes parts >>= λ read. items_by read count rest
+    >>= λ xs. Ok (ArrayOf (items_of xs.0), xs.1)
 
 abbrev pub map_item : Option Reader → List ℕ → ℕ → List ℕ → Read DataItem
-map_item parts bytes count rest = nested bytes parts >>= λ read. pairs_by read None count rest >>= λ ps. Ok (MapOf (pairs_of ps.0), ps.1)
+map_item parts bytes count rest =
+    nested bytes parts >>= λ read. pairs_by read None count rest
+    >>= λ ps. Ok (MapOf (pairs_of ps.0), ps.1)
 
 abbrev pub tagged_item : Option Reader → List ℕ → ℕ → List ℕ → Read DataItem
-tagged_item parts bytes tag rest = nested bytes parts >>= λ read. read rest >>= λ x. Ok (TaggedItem tag x.0, x.1)
+tagged_item parts bytes tag rest =
+    nested bytes parts >>= λ read. read rest >>= λ x. Ok (TaggedItem tag x.0, x.1)
 
 -- an item after its head
 abbrev pub body_with : Option Reader → List ℕ → ℕ → List ℕ → HeadKind → Read DataItem
@@ -109,7 +116,8 @@ body_with parts bytes value rest kinds.Bool = Ok (Boolean (value == 1), rest)
 body_with parts bytes value rest kinds.Null = Ok (NullItem, rest)
 
 abbrev pub item_with : Option Reader → Reader
-item_with parts bytes = stopped bytes (head_at bytes) >>= λ h. body_with parts bytes h.0.value h.1 h.0.kind
+item_with parts bytes =
+    stopped bytes (head_at bytes) >>= λ h. body_with parts bytes h.0.value h.1 h.0.kind
 
 -- an item with at most so many levels
 unfoldable pub item_at : ℕ → Reader

@@ -50,7 +50,8 @@ skip_body parts bytes value rest kinds.Bool = Ok rest
 skip_body parts bytes value rest kinds.Null = Ok rest
 
 abbrev pub skip_with : Option Skipper → Skipper
-skip_with parts bytes = stopped bytes (head_at bytes) >>= λ h. skip_body parts bytes h.0.value h.1 h.0.kind
+skip_with parts bytes =
+    stopped bytes (head_at bytes) >>= λ h. skip_body parts bytes h.0.value h.1 h.0.kind
 
 -- an item with at most so many levels
 unfoldable pub skip_at : ℕ → Skipper
@@ -65,7 +66,8 @@ parts_at (suc levels) = Some (skip_at levels)
 -- ---- the first item of bytes, at most 16 levels deep
 
 abbrev pub split_by : List ℕ → Result (List ℕ) Stop → Result (List ℕ × List ℕ) CborRefusal
-split_by bytes (Ok rest) = Ok (take (length bytes - length rest) bytes, drop (length bytes - length rest) bytes)
+split_by bytes (Ok rest) =
+    Ok (take (length bytes - length rest) bytes, drop (length bytes - length rest) bytes)
 split_by bytes (Err s) = Err (record { place = length bytes - s.left; reason = s.reason })
 
 -- its bytes and those after it, or the place of the fault among the bytes

@@ -1,4 +1,4 @@
--- What a cursor stands for, and what its calls take.
+-- The position that a cursor stands for, and what its calls take.
 use Rattle.std.specs.Prelude.{◌≡◌, ℕ, ◌+◌, ◌-◌, List, ◌++◌, length, take, drop, Option, Some, None, option_and_then, nat_lt, if◌then◌else◌}
 use Rattle.std.specs.Result.{result_ok}
 use Rattle.det_cbor.specs.declared.head.Head.{Head}
@@ -28,19 +28,27 @@ abbrev pub refusal_at : Position → ℕ → Reason → CborRefusal
 refusal_at p at reason = record { place = p.place + at; reason = reason }
 
 -- what is refused at a position is a fault of the bytes that are left
-pub record IsRefusal (p : Position) (Fault : List ℕ → ℕ → Reason → Type 0) (e : CborRefusal) : Type 0 where
+pub record IsRefusal (p : Position) (Fault : List ℕ → ℕ → Reason → Type 0) (e : CborRefusal)
+    : Type 0 where
   pub at : ℕ
   pub fault : Fault p.left at e.reason
   pub place : e.place ≡ p.place + at
 
 -- the next head, and where reading goes on
 abbrev pub next_head : Position → Option (Head × Position)
-next_head p = option_and_then (λ x. Some (x.0, record { left = x.1; place = p.place + (length p.left - length x.1) })) (result_ok (head_at p.left))
+next_head p =
+    option_and_then
+    (λ x. Some (x.0, record { left = x.1; place = p.place + (length p.left - length x.1) }))
+    (result_ok (head_at p.left))
 
 -- the next n bytes, and where reading goes on
 abbrev pub next_bytes : ℕ → Position → Option (List ℕ × Position)
-next_bytes n p = if nat_lt (length p.left) n then None else Some (take n p.left, record { left = drop n p.left; place = p.place + n })
+next_bytes n p =
+    if nat_lt (length p.left) n then None
+    else Some (take n p.left, record { left = drop n p.left; place = p.place + n })
 
 -- the bytes of the next item, and where reading goes on
 abbrev pub next_item : Position → Option (List ℕ × Position)
-next_item p = option_and_then (λ f. Some (f.0, record { left = f.1; place = p.place + length f.0 })) (result_ok (item_split p.left))
+next_item p =
+    option_and_then (λ f. Some (f.0, record { left = f.1; place = p.place + length f.0 }))
+    (result_ok (item_split p.left))

@@ -67,11 +67,13 @@ impl<'a> Cursor<'a> {
 
     /// The next head (RFC 8949, section 3). Counts no levels.
     pub fn head(&mut self) -> Result<Head, CborRefusal>
-        ensures exact { option_map (λ head. (head, self.new)) (result_ok result) ≡ next_head self.old }
+        ensures exact { option_map (λ head. (head, self.new)) (result_ok result)
+            ≡ next_head self.old }
         ensures ok { IfOk result (Reads self.old self.new) }
         ensures refused { IfErr result (IsRefusal self.old BadHead) }
         ensures same { OnErr result (self.new ≡ self.old) }
-        ensures every_head { (h : Head) (rest : List ℕ) → BeginsWith self.old.left h rest → result ≡ Ok h }
+        ensures every_head { (h : Head) (rest : List ℕ) → BeginsWith self.old.left h rest
+            → result ≡ Ok h }
         ensures every_fault { (at : ℕ) (reason : Reason) → BadHead self.old.left at reason
             → result ≡ Err (refusal_at self.old at reason) }
     {
@@ -99,8 +101,10 @@ impl<'a> Cursor<'a> {
     /// The next bytes, as many as are asked for, lent for as long as the input lives. Fewer are
     /// refused as truncated, at the end of the input.
     pub fn bytes(&mut self, count: u64) -> Result<&'a [u8], CborRefusal>
-        ensures exact { option_map (λ piece. (piece.now, self.new)) (result_ok result) ≡ next_bytes count self.old }
-        ensures ok { IfOk result (λ piece. (length piece.now ≡ count) × Takes self.old self.new piece.now) }
+        ensures exact { option_map (λ piece. (piece.now, self.new)) (result_ok result)
+            ≡ next_bytes count self.old }
+        ensures ok { IfOk result
+            (λ piece. (length piece.now ≡ count) × Takes self.old self.new piece.now) }
         ensures short { IfErr result (λ e. (length self.old.left < count)
             × (e ≡ refusal_at self.old (length self.old.left) Truncated)) }
         ensures same { OnErr result (self.new ≡ self.old) }
@@ -117,7 +121,8 @@ impl<'a> Cursor<'a> {
     /// Passes over one whole item, and hands out its bytes. It is judged as `decode` judges it:
     /// levels are counted from this item. Takes no memory.
     pub fn skip(&mut self) -> Result<&'a [u8], CborRefusal>
-        ensures exact { option_map (λ piece. (piece.now, self.new)) (result_ok result) ≡ next_item self.old }
+        ensures exact { option_map (λ piece. (piece.now, self.new)) (result_ok result)
+            ≡ next_item self.old }
         ensures ok { IfOk result (λ piece. IsItem piece.now × Takes self.old self.new piece.now) }
         ensures refused { IfErr result (IsRefusal self.old (Faulty 0)) }
         ensures same { OnErr result (self.new ≡ self.old) }

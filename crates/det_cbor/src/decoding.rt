@@ -9,6 +9,13 @@ ghost use Rattle.det_cbor.specs.ItemReading.{items_by, pairs_by, string_item, te
 ghost use Rattle.det_cbor.specs.ItemTree.{tree_of};
 ghost use Rattle.det_cbor.specs.OneReading.{StartsWithItem};
 
+#[cfg(test)]
+mod appendix_a;
+#[cfg(test)]
+mod notation;
+#[cfg(test)]
+mod tests;
+
 use crate::parts::{first_head, order, read_before, stop, string_in, text_in};
 use crate::read_fault::ReadFault;
 use crate::validity::MAX_LEVELS;
@@ -70,7 +77,8 @@ fn read_array<'a>(
     rest: &'a [u8],
     levels: u8,
 ) -> Result<(Item, &'a [u8]), ReadFault>
-    ensures { Gives (λ x. (tree_of x.0, x.1.now)) result (array_item (reader_at levels) bytes.now count rest.now) }
+    ensures { Gives (λ x. (tree_of x.0, x.1.now)) result
+        (array_item (reader_at levels) bytes.now count rest.now) }
 {
     if levels == 0 {
         return Err(ReadFault::Stopped(stop(bytes, Reason::TooDeep)));
@@ -107,7 +115,8 @@ fn read_map<'a>(
     rest: &'a [u8],
     levels: u8,
 ) -> Result<(Item, &'a [u8]), ReadFault>
-    ensures { Gives (λ x. (tree_of x.0, x.1.now)) result (map_item (reader_at levels) bytes.now count rest.now) }
+    ensures { Gives (λ x. (tree_of x.0, x.1.now)) result
+        (map_item (reader_at levels) bytes.now count rest.now) }
 {
     if levels == 0 {
         return Err(ReadFault::Stopped(stop(bytes, Reason::TooDeep)));
@@ -149,7 +158,8 @@ fn read_tagged<'a>(
     rest: &'a [u8],
     levels: u8,
 ) -> Result<(Item, &'a [u8]), ReadFault>
-    ensures { Gives (λ x. (tree_of x.0, x.1.now)) result (tagged_item (reader_at levels) bytes.now tag rest.now) }
+    ensures { Gives (λ x. (tree_of x.0, x.1.now)) result
+        (tagged_item (reader_at levels) bytes.now tag rest.now) }
 {
     if levels == 0 {
         return Err(ReadFault::Stopped(stop(bytes, Reason::TooDeep)));
@@ -164,7 +174,8 @@ fn read_tagged<'a>(
 pub fn decode(alloc: Global, bytes: &[u8]) -> Result<(Item, usize), CborFault>
     ensures item { IfOk result (λ r. StartsWithItem bytes.now (tree_of r.0) r.1) }
     ensures fault { IfErr result (IsFaultOf bytes.now) }
-    ensures every_item { (x : DataItem) (used : ℕ) → StartsWithItem bytes.now x used → IsDecoded x used result }
+    ensures every_item { (x : DataItem) (used : ℕ) → StartsWithItem bytes.now x used
+        → IsDecoded x used result }
     ensures every_fault { (place : ℕ) (reason : Reason) → Faulty 0 bytes.now place reason
         → IsRefusedAt place reason result }
 {

@@ -9,6 +9,9 @@ ghost use Rattle.det_cbor.specs.Heads.{head_bytes};
 ghost use Rattle.det_cbor.specs.ItemOrder.{major_type, head_argument, spell_parts};
 ghost use Rattle.det_cbor.specs.ItemTree.{tree_of};
 
+#[cfg(test)]
+mod tests;
+
 use crate::item_head::head_of;
 use crate::{Bytes, Item, Items, Pairs, push_head};
 use std::alloc::{AllocError, Global};
@@ -28,7 +31,10 @@ pub fn encode(alloc: Global, item: &Item) -> Result<Bytes, AllocError>
 
 // Adds the head that an item begins with.
 fn push_item_head(out: &mut Bytes, item: &Item) -> Result<(), AllocError>
-    ensures ok { OnOk result (out.new ≡ out.old ++ head_bytes (major_type (tree_of item.now)) (head_argument (tree_of item.now))) }
+    ensures ok { OnOk result
+        (out.new
+        ≡ out.old
+        ++ head_bytes (major_type (tree_of item.now)) (head_argument (tree_of item.now))) }
     ensures err { OnErr result (IsPrefix out.old out.new) }
 {
     push_head(out, head_of(item))

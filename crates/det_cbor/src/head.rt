@@ -10,7 +10,7 @@ ghost use Rattle.det_cbor.specs.HeadReading.{map_ok, kind_of_major, shortest_fro
 
 use crate::Reason;
 
-/// What a head begins.
+/// The kind of item that a head begins.
 #[derive(Clone, Copy, Debug, PartialEq, Eq)]
 pub enum HeadKind {
     Unsigned,
@@ -147,7 +147,8 @@ pub(crate) fn split_head(bytes: &[u8]) -> Result<(Head, &[u8]), Reason>
     ensures begins { IfOk result (λ f. BeginsWith bytes.now f.0 f.1.now) }
     ensures length { IfOk result (λ f. length bytes.now ≡ length (spelled f.0) + length f.1.now) }
     ensures bad { IfErr result (λ reason. BadHead bytes.now (place_in bytes.now reason) reason) }
-    ensures every_head { (h : Head) (rest : List ℕ) → BeginsWith bytes.now h rest → map_ok (λ f. f.0) result ≡ Ok h }
+    ensures every_head { (h : Head) (rest : List ℕ) → BeginsWith bytes.now h rest
+        → map_ok (λ f. f.0) result ≡ Ok h }
     ensures every_fault { (at : ℕ) (reason : Reason) → BadHead bytes.now at reason
         → (map_ok (λ f. f.0) result ≡ Err reason) × (at ≡ place_in bytes.now reason) }
 {

@@ -1,4 +1,4 @@
-//! What holds of all bytes, whatever reads them.
+//! Laws of all bytes, whatever reads them.
 
 ghost use Rattle.det_cbor.specs.OneReading.{OneReading};
 

@@ -42,14 +42,3 @@ pub use reason::{CborFault, CborRefusal, Reason};
 pub use short_head::ShortHead;
 pub use text::Text;
 pub use validity::valid;
-
-#[cfg(test)]
-mod appendix_a;
-#[cfg(test)]
-mod list_tests;
-#[cfg(test)]
-mod notation;
-#[cfg(test)]
-mod reading_tests;
-#[cfg(test)]
-mod writing_tests;

@@ -64,7 +64,8 @@ pub(crate) fn string_in<'a>(
     count: u64,
     rest: &'a [u8],
 ) -> Result<(&'a [u8], &'a [u8]), Stop>
-    ensures { map_ok (λ s. (s.0.now, s.1.now)) result ≡ stopped bytes.now (string_at count rest.now) }
+    ensures { map_ok (λ s. (s.0.now, s.1.now)) result
+        ≡ stopped bytes.now (string_at count rest.now) }
 {
     match string(count, rest) {
         Ok(found) => Ok(found),

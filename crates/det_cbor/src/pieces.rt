@@ -13,7 +13,8 @@ use std::alloc::AllocError;
 /// Adds the head of a kind and a value.
 pub fn push_kind(out: &mut Bytes, kind: HeadKind, value: u64) -> Result<(), AllocError>
     requires { IsValueOf kind value }
-    ensures ok { OnOk result (out.new ≡ out.old ++ spelled (record { kind = kind; value = value })) }
+    ensures ok { OnOk result
+        (out.new ≡ out.old ++ spelled (record { kind = kind; value = value })) }
     ensures err { OnErr result (IsPrefix out.old out.new) }
 {
     push_head(out, Head { kind, value })

@@ -9,7 +9,7 @@ use crate::head_writing::{argument, major_type};
 use crate::{Head, HeadKind};
 use std::marker::Model;
 
-// What stands behind the first byte.
+// The bytes behind the first.
 #[derive(Debug, Drop)]
 pub(crate) enum Behind {
     Nothing,

@@ -39,7 +39,8 @@ pub(crate) fn skip_item(bytes: &[u8], levels: u8) -> Result<&[u8], Stop>
 #[cycle(skip)]
 #[tactic(auto, using(crate::proofs::Skipping::parts_above, crate::proofs::Skipping::parts_none))]
 fn skip_array<'a>(bytes: &[u8], count: u64, rest: &'a [u8], levels: u8) -> Result<&'a [u8], Stop>
-    ensures { map_ok (λ rest. rest.now) result ≡ array_skip (parts_at levels) bytes.now count rest.now }
+    ensures { map_ok (λ rest. rest.now) result
+        ≡ array_skip (parts_at levels) bytes.now count rest.now }
 {
     if levels == 0 {
         return Err(stop(bytes, Reason::TooDeep));
@@ -61,7 +62,8 @@ fn skip_items(count: u64, bytes: &[u8], levels: u8) -> Result<&[u8], Stop>
 #[cycle(skip)]
 #[tactic(auto, using(crate::proofs::Skipping::parts_above, crate::proofs::Skipping::parts_none))]
 fn skip_map<'a>(bytes: &[u8], count: u64, rest: &'a [u8], levels: u8) -> Result<&'a [u8], Stop>
-    ensures { map_ok (λ rest. rest.now) result ≡ map_skip (parts_at levels) bytes.now count rest.now }
+    ensures { map_ok (λ rest. rest.now) result
+        ≡ map_skip (parts_at levels) bytes.now count rest.now }
 {
     if levels == 0 {
         return Err(stop(bytes, Reason::TooDeep));
@@ -71,7 +73,8 @@ fn skip_map<'a>(bytes: &[u8], count: u64, rest: &'a [u8], levels: u8) -> Result<
 
 #[cycle(skip)]
 fn skip_pairs(count: u64, bytes: &[u8], levels: u8) -> Result<&[u8], Stop>
-    ensures { map_ok (λ rest. rest.now) result ≡ pair_skips_by (skip_at levels) None count bytes.now }
+    ensures { map_ok (λ rest. rest.now) result
+        ≡ pair_skips_by (skip_at levels) None count bytes.now }
 {
     let mut rest = bytes;
     let mut before = None;

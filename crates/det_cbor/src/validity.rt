@@ -62,7 +62,8 @@ fn is_pair_count(pairs: &Pairs) -> bool
 fn is_above(before: Option<&Item>, key: &Item) -> bool
     requires key { IsValid (tree_of key.now) }
     requires before { IfSome before (λ x. IsValid (tree_of x.now)) }
-    ensures { IsTrue result ↔ IsAbove (option_map (λ x. spell (tree_of x.now)) before.entry) (spell (tree_of key.now)) }
+    ensures { IsTrue result
+        ↔ IsAbove (option_map (λ x. spell (tree_of x.now)) before.entry) (spell (tree_of key.now)) }
 {
     match before {
         None => true,

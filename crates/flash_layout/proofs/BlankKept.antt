@@ -1,4 +1,4 @@
--- What a power loss leaves while a flash is formatted.
+-- The images that a power loss leaves while a flash is formatted.
 use Rattle.std.proofs.Common.{◌≡◌, ◌≢◌, inl, inr, ⊎_elim, Bool, true, false, refl, zero, suc, ℕ, ◌+◌, ◌<◌, ◌≤◌, List, [], ◌∷◌, length, get_or, take, drop, replicate, sym, ap, subst, ◌∙◌, length-drop, get_or-take, arith}
 use Rattle.std.specs.List.{slice_range, All}
 use Rattle.std.specs.Prelude.{nat_le, cond}

@@ -1,4 +1,4 @@
--- What components are refused for, told of the slice that was judged.
+-- Refusals of components, told of the slice that was judged.
 use Rattle.std.proofs.Common.{◌≡◌, ◌<◌, ◌≤◌, ℕ, List, length, subst}
 use Rattle.flash_layout.specs.declared.layout.Entry.{Entry}
 use Rattle.flash_layout.specs.declared.layout_fault.LayoutFault.TheVariants.{TooMany, TwoAlike, Overlap, Outside}

@@ -1,4 +1,4 @@
--- What is spelled on a configuration page is read back.
+-- A layout that is spelled on a configuration page is read back.
 use Rattle.std.proofs.Common.{◌≡◌, ℕ, ◌+◌, ◌-◌, ◌*◌, ◌^◌, ◌<◌, ◌≤◌, false, ltb, List, [], ◌∷◌, ◌++◌, length, get_or, take, drop, replicate, Option, Some, None, Result, Ok, Err, refl, sym, ap, subst, ◌∙◌, append_assoc, arith}
 use Rattle.std.specs.List.{slice_range, All}
 use Rattle.std.specs.Prelude.{IfSome}

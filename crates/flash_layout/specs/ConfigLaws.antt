@@ -1,4 +1,4 @@
--- What holds of each configuration page.
+-- Laws of each configuration page.
 use Rattle.std.specs.Prelude.{◌≡◌, ℕ, List}
 use Rattle.flash_layout.specs.declared.frame.Frame.{Frame}
 use Rattle.flash_layout.specs.declared.layout.Entry.{Entry}

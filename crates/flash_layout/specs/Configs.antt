@@ -1,4 +1,4 @@
--- What an image of the flash says of its configuration. Each word speaks of the image's head alone, and of the flash's
+-- The configuration that an image of the flash has. Each word speaks of the image's head alone, and of the flash's
 -- size.
 use Rattle.std.specs.Prelude.{◌≡◌, ◌⊎◌, ◌<◌, ◌≤◌, ℕ, List, length}
 use Rattle.suit_edge.specs.Faults.{Faulted}

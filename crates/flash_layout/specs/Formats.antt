@@ -1,4 +1,4 @@
--- What formatting leaves on a flash.
+-- The flash that formatting leaves.
 use Rattle.std.specs.Prelude.{◌≡◌, ◌⊎◌, ◌<◌, ◌≤◌, ◌+◌, ℕ, List, All, slice_index}
 use Rattle.suit_edge.specs.declared.page.TheConstants.{CLOSED}
 use Rattle.suit_edge.specs.Faults.{Faulted}

@@ -1,4 +1,4 @@
--- What a device's description is refused for: the first flaw of its fields; and after all fields too many components,
+-- Refusals of a device's description: the first flaw of its fields; and after all fields too many components,
 -- two that are alike, two that share a byte, and one outside the flash.
 use Rattle.std.specs.Prelude.{◌≡◌, ◌⊎◌, ◌<◌, ◌≤◌, ℕ, List, length, Result, Ok, Err}
 use Rattle.serde_json.specs.Data.{Data}

@@ -1,4 +1,4 @@
--- What it means that two slots are clear of each other.
+-- Two slots are clear of each other.
 use Rattle.std.specs.Prelude.{◌<◌, ◌≤◌, ◌+◌, ℕ}
 use Rattle.flash_layout.specs.Layouts.{AreClear}
 

@@ -1,4 +1,4 @@
--- What a slot holds. All words speak of the slot's own bytes: eight of the content's length, and then the room for it.
+-- The content of a slot. All words speak of the slot's own bytes: eight of the content's length, and then the room for it.
 use Rattle.std.specs.Prelude.{◌≡◌, ◌≤◌, ◌+◌, ℕ, nat_le, cond, List, [], All, map, take, drop, slice_range}
 use Rattle.std.specs.Int.{w64, from_be_bytes}
 use Rattle.std.specs.List.{flat_map}

@@ -18,7 +18,7 @@ use suit_params::Identifier;
 /// The fields that were read.
 #[derive(Drop)]
 pub(crate) struct ComponentFields {
-    /// What the kind says, if it is one. It is looked up before the fields are judged.
+    /// The kind, if it is one. It is looked up before the fields are judged.
     memory: Option<Memory>,
     capacity: Option<u64>,
     class: Option<[u8; 16]>,

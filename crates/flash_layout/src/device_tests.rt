@@ -7,7 +7,7 @@ use std::test::Fail;
 
 const SIZE: u64 = 65536;
 
-// What is answered to a text of JSON.
+// The answer to a text of JSON.
 fn told(alloc: Global, text: &str) -> Result<String, AllocError> {
     let Ok(value) = Value::from_str(alloc, text) else {
         return String::from_str(alloc, "no json");

@@ -51,7 +51,7 @@ fn used(alloc: Global, fails: &[u64]) -> Result<MemoryDisk, AllocError>
     Ok(disk)
 }
 
-// What a flash says, and whether its records and slots are empty.
+// The layout that a flash says, and whether its records and slots are empty.
 fn state(alloc: Global, disk: &mut MemoryDisk) -> Result<(bool, bool), AllocError>
     requires { length disk.old.first ≡ SIZE }
 {

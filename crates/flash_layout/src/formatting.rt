@@ -15,7 +15,7 @@ use crate::typing::typed;
 use crate::{Entry, Key, Layout};
 use suit_edge::{CLOSED, Disk, Edge, OPEN, open_written};
 
-/// What formatting a flash came to.
+/// The outcome of formatting a flash.
 #[derive(Clone, Copy, Debug, PartialEq, Eq)]
 pub enum Formatted {
     /// The flash has the layout and the key.

@@ -16,7 +16,7 @@ pub fn config_laws()
     ensures answer { OneAnswer }
 {}
 
-/// What is loaded is allowed and the one answer, and a fault alone raises the count.
+/// A layout that is loaded is allowed and the one answer, and a fault alone raises the count.
 pub fn load_laws()
     ensures { LoadLaws }
 {}

@@ -11,7 +11,7 @@ use crate::{Key, Layout};
 use std::alloc::{AllocError, Global};
 use suit_edge::{Disk, Edge, OPEN};
 
-/// What a configuration page says.
+/// The meaning of a configuration page.
 #[derive(Drop)]
 pub enum Loaded {
     /// A layout and a key that the rules allow on this flash.

@@ -1,4 +1,4 @@
-//! What stands in the flash beside the configuration.
+//! The parts of the flash beside the configuration.
 
 use crate::frame::MAX_ENTRIES;
 use suit_params::Digest;
@@ -16,7 +16,7 @@ pub struct Slot {
 #[derive(Clone, Copy, Debug, PartialEq, Eq)]
 pub struct FlashFault;
 
-/// What is installed.
+/// The manifest that is installed.
 #[derive(Clone, Copy, Debug, PartialEq, Eq)]
 pub struct Record {
     /// One more for each record that was committed.

@@ -1,4 +1,4 @@
-//! What the types of a component's fields say of them.
+//! Bounds that the types of a component's fields set.
 
 ghost use Rattle.std.specs.Prelude.{◌≡◌, ◌<◌, ◌^◌, All, IfSome, length, slice_index};
 ghost use Rattle.flash_layout.specs.Layouts.{AreTyped, IsTypedEntry, IsUuid};

@@ -1,4 +1,4 @@
--- What stands at the front of bytes stands there in one way.
+-- Bytes begin with one string, one map and one head at most.
 use Rattle.std.proofs.Common.{◌≡◌, ℕ, ◌+◌, ◌<◌, ◌^◌, List, [], ◌∷◌, ◌++◌, length, take, drop, Option, Some, None, Result, Ok, Err, Bool, true, false, refl, sym, ap, subst, ◌∙◌, append_assoc, arith, lit<, Bor}
 use Rattle.std.proofs.lemmas.List.{append-nil, take_at, drop_at, length-append}
 use Rattle.std.specs.Prelude.{IfOk, IfErr, IfSome, IfNone, IsTrue}

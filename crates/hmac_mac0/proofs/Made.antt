@@ -1,4 +1,4 @@
--- What is made is a block that verifies.
+-- A block that is made verifies.
 use Rattle.std.proofs.Common.{◌≡◌, ℕ, List, ◌++◌, ◌∷◌, [], Option, Some, None, append_assoc, refl, ap, subst, ◌∙◌, lit<, Bor}
 use Rattle.std.proofs.lemmas.List.{append-nil}
 use Rattle.std.specs.Prelude.{option_map, IfSome}

@@ -7,7 +7,8 @@ use Rattle.hmac_mac0.specs.Mac0.{mac0_item}
 
 -- the bytes begin with a head of this kind
 abbrev pub BeginsWithKind : HeadKind → List ℕ → Type 0
-BeginsWithKind kind bytes = (value : ℕ) × (rest : List ℕ) × BeginsWith bytes (record { kind = kind; value = value }) rest
+BeginsWithKind kind bytes =
+    (value : ℕ) × (rest : List ℕ) × BeginsWith bytes (record { kind = kind; value = value }) rest
 
 -- a byte string, and then the rest
 pub record StartsWithString (bytes content rest : List ℕ) : Type 0 where
@@ -29,7 +30,8 @@ pub record EndsWithTag (bytes tag : List ℕ) : Type 0 where
   pub unprotected : DataPairs
   pub map : IsValid (MapOf unprotected)
   pub short : length tag < 2 ^ 64
-  pub parts : bytes ≡ spell (MapOf unprotected) ++ (spell NullItem ++ (spell (ByteString tag) ++ []))
+  pub parts :
+      bytes ≡ spell (MapOf unprotected) ++ (spell NullItem ++ (spell (ByteString tag) ++ []))
 
 -- the parts of a block, whose map is valid where it stands alone
 pub record HasParts (block protected tag : List ℕ) : Type 0 where

@@ -6,7 +6,10 @@ use Rattle.hmac_mac0.specs.Hmac.{hmac_of}
 -- ["MAC0", protected, external_aad, payload], with no external data (RFC 9052, section 6.3)
 abbrev pub mac_structure : List ℕ → List ℕ → DataItem
 mac_structure protected payload =
-    ArrayOf (ItemThen (TextString (codes "MAC0")) (ItemThen (ByteString protected) (ItemThen (ByteString []) (ItemThen (ByteString payload) NoItems))))
+    ArrayOf
+    (ItemThen (TextString (codes "MAC0"))
+    (ItemThen (ByteString protected)
+    (ItemThen (ByteString []) (ItemThen (ByteString payload) NoItems))))
 
 -- the tag by this key: the MAC of the structure's encoding
 unfoldable pub tag_of : List ℕ → List ℕ → List ℕ → List ℕ
@@ -26,7 +29,11 @@ mac_header kid = MapOf (PairThen (UnsignedInteger 1) (UnsignedInteger 5) (kid_pa
 -- tag 17 round [protected, unprotected, payload, tag], whose payload is detached (RFC 9052, section 6.2)
 abbrev pub mac0_item : List ℕ → DataPairs → List ℕ → DataItem
 mac0_item protected unprotected tag =
-    TaggedItem 17 (ArrayOf (ItemThen (ByteString protected) (ItemThen (MapOf unprotected) (ItemThen NullItem (ItemThen (ByteString tag) NoItems)))))
+    TaggedItem 17
+    (ArrayOf
+    (ItemThen (ByteString protected)
+    (ItemThen (MapOf unprotected)
+    (ItemThen NullItem (ItemThen (ByteString tag) NoItems)))))
 
 -- these bytes are a protected header
 pub record IsHeader (protected : List ℕ) : Type 0 where

@@ -12,7 +12,7 @@ use det_cbor::Cursor;
 // The heads of tag 17 and of an array of four.
 const FRONT: [u8; 2] = [0xd1, 0x84];
 
-/// What a Mac0 block holds: the content of its protected header, and its tag.
+/// The parts of a Mac0 block: the content of its protected header, and its tag.
 #[derive(Clone, Copy)]
 pub(crate) struct Parts<'a> {
     pub(crate) protected: &'a [u8],

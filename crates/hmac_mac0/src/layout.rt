@@ -8,7 +8,9 @@ use det_cbor::{Cursor, HeadKind};
 
 // The value of the next head, which is to be of a kind.
 fn head(cursor: &mut Cursor<'_>, kind: HeadKind) -> Option<u64>
-    ensures some { IfSome result (λ value. BeginsWith cursor.old.left (record { kind = kind; value = value }) cursor.new.left) }
+    ensures some { IfSome result
+        (λ value. BeginsWith cursor.old.left (record { kind = kind; value = value })
+        cursor.new.left) }
     ensures none { IfNone result (BeginsWithKind kind cursor.old.left → ⊥) }
 {
     match cursor.head() {
@@ -25,8 +27,10 @@ fn head(cursor: &mut Cursor<'_>, kind: HeadKind) -> Option<u64>
 
 /// The content of the next item, which is to be a byte string.
 pub(crate) fn string<'a>(cursor: &mut Cursor<'a>) -> Option<&'a [u8]>
-    ensures some { IfSome result (λ content. StartsWithString cursor.old.left content.now cursor.new.left) }
-    ensures none { IfNone result ((content rest : List ℕ) → StartsWithString cursor.old.left content rest → ⊥) }
+    ensures some { IfSome result
+        (λ content. StartsWithString cursor.old.left content.now cursor.new.left) }
+    ensures none { IfNone result
+        ((content rest : List ℕ) → StartsWithString cursor.old.left content rest → ⊥) }
 {
     let length = head(cursor, HeadKind::Bytes)?;
     cursor.bytes(length).ok()
@@ -65,7 +69,8 @@ pub(crate) fn last_tag<'a>(cursor: &mut Cursor<'a>) -> Option<&'a [u8]>
 // The content of the next item, which is to be a byte string, where nothing follows it.
 fn last_string<'a>(cursor: &mut Cursor<'a>) -> Option<&'a [u8]>
     ensures some { IfSome result (λ content. StartsWithString cursor.old.left content.now []) }
-    ensures none { IfNone result ((content : List ℕ) → StartsWithString cursor.old.left content [] → ⊥) }
+    ensures none { IfNone result
+        ((content : List ℕ) → StartsWithString cursor.old.left content [] → ⊥) }
 {
     let content = string(cursor)?;
     if cursor.left() > 0 {

@@ -36,7 +36,8 @@ impl Mac {
     /// Adds a piece of the message.
     #[tactic(auto, unfolding(crate::specs::MacState::HasTaken))]
     pub fn add(&mut self, piece: &[u8])
-        ensures { (key message : List ℕ) → HasTaken self.old key message → HasTaken self.new key (message ++ piece.now) }
+        ensures { (key message : List ℕ) → HasTaken self.old key message
+            → HasTaken self.new key (message ++ piece.now) }
     {
         self.inner.update(piece);
     }
@@ -44,7 +45,8 @@ impl Mac {
     /// The MAC of the pieces, one after another.
     #[tactic(auto, unfolding(crate::specs::MacState::HasTaken, crate::specs::Hmac::hmac_of))]
     pub fn finish(self) -> [u8; 32]
-        ensures { (key message : List ℕ) → HasTaken self key message → result ≡ hmac_of key message }
+        ensures { (key message : List ℕ) → HasTaken self key message
+            → result ≡ hmac_of key message }
     {
         let digest = self.inner.finalize();
         let mut outer = Sha256::new();

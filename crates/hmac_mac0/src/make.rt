@@ -20,7 +20,9 @@ pub fn make_block(
     kid: Option<&[u8]>,
     payload: &[u8],
 ) -> Result<Bytes, AllocError>
-    ensures spells { IfOk result (λ block. Spells (made_item key.now (option_map (λ k. k.now) kid.entry) payload.now) block) }
+    ensures spells { IfOk result
+        (λ block. Spells
+            (made_item key.now (option_map (λ k. k.now) kid.entry) payload.now) block) }
     ensures verifies { IfOk result (λ block. Verifies block key.now payload.now) }
     ensures alone { IfOk result (λ block. (protected tag : List ℕ) → IsMac0 block protected tag
         → (protected ≡ made_header) × (tag ≡ tag_of key.now made_header payload.now)) }
@@ -35,7 +37,9 @@ pub fn make_block(
 
 // Adds the heads of tag 17 and of an array of four, and the protected header.
 fn push_header(block: &mut Bytes) -> Result<(), AllocError>
-    ensures { OnOk result (block.new ≡ block.old ++ head_bytes 6 17 ++ head_bytes 4 4 ++ spell (ByteString made_header)) }
+    ensures { OnOk result
+        (block.new
+        ≡ block.old ++ head_bytes 6 17 ++ head_bytes 4 4 ++ spell (ByteString made_header)) }
 {
     push_kind(block, HeadKind::Tag, 17)?;
     push_kind(block, HeadKind::Array, 4)?;
@@ -45,7 +49,8 @@ fn push_header(block: &mut Bytes) -> Result<(), AllocError>
 // Adds the map of 4 to a kid, or the empty map.
 fn push_unprotected(block: &mut Bytes, kid: Option<&[u8]>) -> Result<(), AllocError>
     ensures is_string { OnOk result (IfSome kid.entry (λ k. IsString k.now)) }
-    ensures ok { OnOk result (block.new ≡ block.old ++ spell (MapOf (kid_pairs (option_map (λ k. k.now) kid.entry)))) }
+    ensures ok { OnOk result
+        (block.new ≡ block.old ++ spell (MapOf (kid_pairs (option_map (λ k. k.now) kid.entry)))) }
 {
     match kid {
         None => push_kind(block, HeadKind::Map, 0),

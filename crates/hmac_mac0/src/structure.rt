@@ -29,7 +29,8 @@ pub(crate) fn tag(key: &[u8], protected: &[u8], payload: &[u8]) -> [u8; 32]
 
 // Adds the spelling of a byte string.
 fn add_string(mac: &mut Mac, content: &[u8])
-    ensures { (key message : List ℕ) → HasTaken mac.old key message → HasTaken mac.new key (message ++ spell (ByteString content.now)) }
+    ensures { (key message : List ℕ) → HasTaken mac.old key message
+        → HasTaken mac.new key (message ++ spell (ByteString content.now)) }
 {
     add_head(mac, content.len() as u64);
     mac.add(content);
@@ -37,7 +38,8 @@ fn add_string(mac: &mut Mac, content: &[u8])
 
 // Adds a first byte and what follows it.
 fn add_parts(mac: &mut Mac, first: u8, rest: &[u8])
-    ensures { (key message : List ℕ) → HasTaken mac.old key message → HasTaken mac.new key (message ++ first ∷ rest.now) }
+    ensures { (key message : List ℕ) → HasTaken mac.old key message
+        → HasTaken mac.new key (message ++ first ∷ rest.now) }
 {
     mac.add(&[first]);
     mac.add(rest);
@@ -45,7 +47,8 @@ fn add_parts(mac: &mut Mac, first: u8, rest: &[u8])
 
 // Adds the head of a byte string.
 fn add_head(mac: &mut Mac, length: u64)
-    ensures { (key message : List ℕ) → HasTaken mac.old key message → HasTaken mac.new key (message ++ head_bytes 2 length) }
+    ensures { (key message : List ℕ) → HasTaken mac.old key message
+        → HasTaken mac.new key (message ++ head_bytes 2 length) }
 {
     let head = ShortHead::new(HeadKind::Bytes, length);
     let (first, behind) = head.parts();

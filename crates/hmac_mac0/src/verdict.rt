@@ -25,7 +25,8 @@ pub enum MacVerdict<'a> {
 /// Verifies a block. Takes no memory.
 pub fn verify<'a>(block: &'a [u8], key: &[u8], payload: &[u8]) -> MacVerdict<'a>
     ensures verified { (result ≡ MacVerdict.Verified) ↔ Verifies block.now key.now payload.now }
-    ensures other_kind { (result ≡ MacVerdict.OtherKind) ↔ ((protected tag : List ℕ) → IsMac0 block.now protected tag → ⊥) }
+    ensures other_kind { (result ≡ MacVerdict.OtherKind)
+        ↔ ((protected tag : List ℕ) → IsMac0 block.now protected tag → ⊥) }
     ensures differs { IsJustified result block.now key.now payload.now }
 {
     match read_block(block) {

@@ -1,4 +1,4 @@
--- What a reader answers that takes memory: what is read of the plain value, unless there was none.
+-- The answer of a reader that takes memory: what is read of the plain value, unless there was none.
 use Rattle.std.specs.Prelude.{◌≡◌, Result, Ok, Err}
 use Rattle.json_fields.specs.declared.flaw.Flaw.{Flaw}
 use Rattle.json_fields.specs.declared.flaw.JsonFault.{JsonFault}

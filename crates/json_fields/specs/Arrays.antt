@@ -11,7 +11,8 @@ use Rattle.json_fields.specs.Pointers.{index_token}
 -- the elements from an index on
 abbrev pub each_from : {A : Type 0} → (Data → Result A Flaw) → ℕ → Items → Result (List A) Flaw
 each_from form i no_items = Ok []
-each_from form i (item d ds) = under (index_token i) (form d) >>= λ x. each_from form (suc i) ds >>= λ xs. Ok (x ∷ xs)
+each_from form i (item d ds) =
+    under (index_token i) (form d) >>= λ x. each_from form (suc i) ds >>= λ xs. Ok (x ∷ xs)
 
 abbrev pub array_of : {A : Type 0} → (Data → Result A Flaw) → Data → Result (List A) Flaw
 array_of form d = found_or Field (as_array d) >>= λ ds. each_from form 0 ds

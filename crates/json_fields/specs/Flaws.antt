@@ -1,4 +1,4 @@
--- What is wrong with a JSON value, and where: the first flaw in the order of reading.
+-- The first flaw of a JSON value in the order of reading, and its place.
 use Rattle.std.specs.Prelude.{ℕ, List, [], ◌++◌, Option, Some, None, Result, Ok, Err}
 use Rattle.json_fields.specs.declared.flaw.Flaw.{Flaw}
 use Rattle.json_fields.specs.declared.flaw.FlawKind.{FlawKind}

@@ -14,7 +14,8 @@ Takes D = D → List ℕ → Data → Result D Flaw
 
 abbrev pub members_of : {D : Type 0} → Takes D → D → Members → Result D Flaw
 members_of takes draft no_members = Ok draft
-members_of takes draft (member key d others) = under (key_token key) (takes draft key d) >>= λ more. members_of takes more others
+members_of takes draft (member key d others) =
+    under (key_token key) (takes draft key d) >>= λ more. members_of takes more others
 
 abbrev pub object_of : {D : Type 0} → Takes D → D → Data → Result D Flaw
 object_of takes draft d = found_or Field (as_object d) >>= λ members. members_of takes draft members

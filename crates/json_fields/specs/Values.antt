@@ -12,7 +12,9 @@ use Rattle.json_fields.specs.Flaws.{flawed, found_or}
 
 -- a whole number up to a limit
 abbrev pub number_up_to : ℕ → Data → Result ℕ Flaw
-number_up_to limit d = found_or Field (option_and_then as_u64 (as_number d)) >>= λ n. if nat_le n limit then Ok n else flawed Field
+number_up_to limit d =
+    found_or Field (option_and_then as_u64 (as_number d))
+    >>= λ n. if nat_le n limit then Ok n else flawed Field
 
 abbrev pub flag_of : Data → Result Bool Flaw
 flag_of d = found_or Field (as_bool d)

@@ -1,9 +1,9 @@
-//! What is wrong with a value, and where.
+//! Flaws of a value, and their places.
 
 use det_cbor::Text;
 use std::alloc::AllocError;
 
-/// What is wrong with a value.
+/// The flaw of a value.
 #[derive(Clone, Copy, Debug, PartialEq, Eq)]
 pub enum FlawKind {
     /// It is not of the kind that is read there, or breaks a rule of it; or a field is unknown, or missing.

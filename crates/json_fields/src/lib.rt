@@ -12,6 +12,3 @@ pub use flaw::{Flaw, FlawKind, JsonFault};
 pub use objects::{Draft, object, required};
 pub use pointer::{at_index, at_key};
 pub use values::{flag, flawed, hex, number, sized_hex, text, uuid};
-
-#[cfg(test)]
-mod tests;

@@ -43,7 +43,7 @@ fn index_below(alloc: Global, index: usize, pointer: &Text) -> Result<Text, Allo
     Ok(Text::from_string(format!(in alloc; "/{index}{below}")?))
 }
 
-/// What was read of a member's value, with the flaw's place counted from the object.
+/// The reading of a member's value, with the flaw's place counted from the object.
 pub fn at_key<T>(alloc: Global, key: &str, read: Result<T, JsonFault>) -> Result<T, JsonFault>
     ensures { (said : Result T Flaw) → Gives (λ x. x) read said
         → Gives (λ x. x) result (under (key_token key.now) said) }
@@ -61,7 +61,7 @@ pub fn at_key<T>(alloc: Global, key: &str, read: Result<T, JsonFault>) -> Result
     }
 }
 
-/// What was read of an element, with the flaw's place counted from the array.
+/// The reading of an element, with the flaw's place counted from the array.
 pub fn at_index<T>(alloc: Global, index: usize, read: Result<T, JsonFault>) -> Result<T, JsonFault>
     ensures { (said : Result T Flaw) → Gives (λ x. x) read said
         → Gives (λ x. x) result (under (index_token index) said) }

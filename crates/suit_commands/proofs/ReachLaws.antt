@@ -1,4 +1,4 @@
--- What a sequence reaches is what it writes, whichever components are selected at its beginning.
+-- A sequence reaches what it writes, whichever components are selected at its beginning.
 use Rattle.std.proofs.Common.{◌≡◌, ℕ, ◌≤◌, true, ◌⊎◌, inl, inr, List, [], ◌∷◌, refl}
 use Rattle.suit_commands.specs.declared.reach.Reach.{Reach}
 use Rattle.suit_commands.specs.declared.kinds.ActKind.{ActKind}

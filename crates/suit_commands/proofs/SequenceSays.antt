@@ -1,4 +1,4 @@
--- What the items of a written sequence say.
+-- The items of a written sequence say that sequence.
 use Rattle.std.proofs.Common.{ℕ, zero, suc, ◌≤◌, Bool, arith}
 use Rattle.det_cbor.specs.DataItem.{item_count, spell}
 use Rattle.suit_params.specs.ParamMaking.{params_item}

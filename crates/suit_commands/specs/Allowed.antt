@@ -10,7 +10,8 @@ use Rattle.suit_commands.specs.Tree.{CommandTree, Test, Act, Index, Override, Tr
 abbrev pub IsSelectionOf : ℕ → Selection → Type 0
 IsSelectionOf count (One component) = component < count
 IsSelectionOf count All = Unit {0}
-IsSelectionOf count (Listed components) = (components ≢ []) × AllByRecursion (λ i. i < count) components
+IsSelectionOf count (Listed components) =
+    (components ≢ []) × AllByRecursion (λ i. i < count) components
 
 -- at least two branches
 abbrev pub AreTwo : BranchesTree → Type 0
@@ -24,23 +25,28 @@ abbrev mutual
   pub IsSequence : Bool → ℕ → ℕ → SequenceTree → Type 0
   IsSequence shared count zero s = ⊥
   IsSequence shared count (suc levels) NoSteps = ⊥
-  IsSequence shared count (suc levels) (StepThen place command rest) = IsCommand shared count levels command × AreCommands shared count levels rest
+  IsSequence shared count (suc levels) (StepThen place command rest) =
+      IsCommand shared count levels command × AreCommands shared count levels rest
 
   pub AreCommands : Bool → ℕ → ℕ → SequenceTree → Type 0
   AreCommands shared count levels NoSteps = Unit {0}
-  AreCommands shared count levels (StepThen place command rest) = IsCommand shared count levels command × AreCommands shared count levels rest
+  AreCommands shared count levels (StepThen place command rest) =
+      IsCommand shared count levels command × AreCommands shared count levels rest
 
   pub IsCommand : Bool → ℕ → ℕ → CommandTree → Type 0
   IsCommand shared count levels (Test kind report) = report ≤ 15
   IsCommand shared count levels (Act kind report) = (shared ≡ false) × (report ≤ 15)
   IsCommand shared count levels (Index selection) = IsSelectionOf count selection
-  IsCommand shared count levels (Override list) = AllByRecursion IsParam list × AllByRecursion (IsBelow count) list × AreAscending list
-  IsCommand shared count levels (TryEach tries) = AreTwo tries × AreBranches shared count levels tries
+  IsCommand shared count levels (Override list) =
+      AllByRecursion IsParam list × AllByRecursion (IsBelow count) list × AreAscending list
+  IsCommand shared count levels (TryEach tries) =
+      AreTwo tries × AreBranches shared count levels tries
   IsCommand shared count levels (RunSequence inner) = IsSequence shared count levels inner
 
   pub AreBranches : Bool → ℕ → ℕ → BranchesTree → Type 0
   AreBranches shared count levels NoBranches = Unit {0}
-  AreBranches shared count levels (BranchThen inner rest) = IsSequence shared count levels inner × AreBranches shared count levels rest
+  AreBranches shared count levels (BranchThen inner rest) =
+      IsSequence shared count levels inner × AreBranches shared count levels rest
   AreBranches shared count levels (NullThen NoBranches) = Unit {0}
   AreBranches shared count levels (NullThen (BranchThen inner rest)) = ⊥
   AreBranches shared count levels (NullThen (NullThen rest)) = ⊥

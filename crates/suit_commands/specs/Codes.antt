@@ -24,7 +24,9 @@ tag (RunSequence inner) = 5
 abbrev mutual
   pub sequence_code : SequenceTree → Gv
   sequence_code NoSteps = gnil
-  sequence_code (StepThen place command rest) = gcons (gnum place) (gcons (gcons (gnum (tag command)) (body_code command)) (sequence_code rest))
+  sequence_code (StepThen place command rest) =
+      gcons (gnum place)
+      (gcons (gcons (gnum (tag command)) (body_code command)) (sequence_code rest))
 
   pub body_code : CommandTree → Gv
   body_code (Test kind report) = gcons (test_kind.the_row.coded.code kind) (gnum report)
@@ -37,7 +39,8 @@ abbrev mutual
   pub branches_code : BranchesTree → Gv
   branches_code NoBranches = gnil
   branches_code (NullThen rest) = gcons gnil (branches_code rest)
-  branches_code (BranchThen inner rest) = gcons (gcons gnil (sequence_code inner)) (branches_code rest)
+  branches_code (BranchThen inner rest) =
+      gcons (gcons gnil (sequence_code inner)) (branches_code rest)
 
 -- ---- a code is that of one tree
 
@@ -56,12 +59,18 @@ tail _ = gnil
 mutual
   pub sequence_inj : (x y : SequenceTree) → sequence_code x ≡ sequence_code y → x ≡ y
   sequence_inj NoSteps NoSteps p = refl
-  sequence_inj (StepThen a c r) (StepThen b d s) p = λ i. StepThen (num (head (p i))) (command_inj c d (ap (λ g. num (head (head (tail g)))) p) (ap (λ g. tail (head (tail g))) p) i) (sequence_inj r s (ap (λ g. tail (tail g)) p) i)
+  sequence_inj (StepThen a c r) (StepThen b d s) p =
+      λ i. StepThen (num (head (p i)))
+      (command_inj c d (ap (λ g. num (head (head (tail g)))) p)
+      (ap (λ g. tail (head (tail g))) p) i)
+      (sequence_inj r s (ap (λ g. tail (tail g)) p) i)
   sequence_inj _ _ p = absurd cc
 
   pub command_inj : (x y : CommandTree) → tag x ≡ tag y → body_code x ≡ body_code y → x ≡ y
-  command_inj (Test k r) (Test l s) t p = λ i. Test (test_kind.the_row.coded.inj k l (ap head p) i) (num (tail (p i)))
-  command_inj (Act k r) (Act l s) t p = λ i. Act (act_kind.the_row.coded.inj k l (ap head p) i) (num (tail (p i)))
+  command_inj (Test k r) (Test l s) t p =
+      λ i. Test (test_kind.the_row.coded.inj k l (ap head p) i) (num (tail (p i)))
+  command_inj (Act k r) (Act l s) t p =
+      λ i. Act (act_kind.the_row.coded.inj k l (ap head p) i) (num (tail (p i)))
   command_inj (Index a) (Index b) t p = ap Index (selection_row.the_row.coded.inj a b p)
   command_inj (Override a) (Override b) t p = ap Override (list_code.inj a b p)
   command_inj (TryEach a) (TryEach b) t p = ap TryEach (branches_inj a b p)
@@ -71,7 +80,9 @@ mutual
   pub branches_inj : (x y : BranchesTree) → branches_code x ≡ branches_code y → x ≡ y
   branches_inj NoBranches NoBranches p = refl
   branches_inj (NullThen r) (NullThen s) p = ap NullThen (branches_inj r s (ap tail p))
-  branches_inj (BranchThen a r) (BranchThen b s) p = λ i. BranchThen (sequence_inj a b (ap (λ g. tail (head g)) p) i) (branches_inj r s (ap tail p) i)
+  branches_inj (BranchThen a r) (BranchThen b s) p =
+      λ i. BranchThen (sequence_inj a b (ap (λ g. tail (head g)) p) i)
+      (branches_inj r s (ap tail p) i)
   branches_inj _ _ p = absurd cc
 
 abbrev pub coded_sequence : Coded SequenceTree

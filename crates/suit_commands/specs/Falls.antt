@@ -29,7 +29,8 @@ deep_branch o = weighed-Branches-held-at-1.weight SequenceTree (λ y. sequence_s
 deep_branch_some : (s : SequenceTree) → deep_branch (Some s) ≤ sequence_size s + 1
 deep_branch_some s = omega arith
 
-pub branches_fall : (bs : List (Option SequenceTree)) → max (most deep_branch bs) 0 ≤ branches_size (branches_tree bs)
+pub branches_fall : (bs : List (Option SequenceTree))
+    → max (most deep_branch bs) 0 ≤ branches_size (branches_tree bs)
 branches_fall [] = omega arith
 branches_fall (None ∷ bs) = omega (arith, branches_fall bs)
 branches_fall (Some s ∷ bs) = omega (arith, branches_fall bs, deep_branch_some s)

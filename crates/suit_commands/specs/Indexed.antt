@@ -20,5 +20,6 @@ abbrev mutual
 
   pub BranchesIndexed : ℕ → BranchesTree → Type 0
   BranchesIndexed count NoBranches = Unit {0}
-  BranchesIndexed count (BranchThen inner rest) = AreIndexed count inner × BranchesIndexed count rest
+  BranchesIndexed count (BranchThen inner rest) =
+      AreIndexed count inner × BranchesIndexed count rest
   BranchesIndexed count (NullThen rest) = BranchesIndexed count rest

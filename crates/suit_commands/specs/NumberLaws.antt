@@ -1,4 +1,4 @@
--- What holds of the numbers of all procedures of the grammar.
+-- Laws of the numbers of all procedures of the grammar.
 use Rattle.std.specs.Prelude.{◌≡◌, ◌≤◌, ◌<◌, ◌*◌, ℕ}
 use Rattle.suit_commands.specs.Tree.{PlanTree}
 use Rattle.suit_commands.specs.Allowed.{IsPlan}
@@ -19,4 +19,6 @@ abbrev pub NumberLaws : Type 0
 NumberLaws = (plan : PlanTree) → IsPlan plan → HasWays plan
 
 abbrev pub TargetLaws : Type 0
-TargetLaws = (plan : PlanTree) → IsPlan plan → (component : ℕ) → IsTarget plan component → component < plan.count
+TargetLaws =
+    (plan : PlanTree) → IsPlan plan → (component : ℕ) → IsTarget plan component
+    → component < plan.count

@@ -20,7 +20,8 @@ count_after _ count selected = selected
 abbrev mutual
   pub work_of : SequenceTree → ℕ → ℕ → ℕ
   work_of NoSteps count selected = 0
-  work_of (StepThen place command rest) count selected = command_work command count selected + work_of rest count (count_after command count selected)
+  work_of (StepThen place command rest) count selected =
+      command_work command count selected + work_of rest count (count_after command count selected)
 
   pub command_work : CommandTree → ℕ → ℕ → ℕ
   command_work (Test kind report) count selected = selected
@@ -55,7 +56,8 @@ after_test ways = record { on = ways.on; off = ways.off + ways.on }
 
 -- where an inner sequence ends by a condition, the next command may follow, or the sequence ends
 abbrev pub after_inner : Ways → Ways → Ways
-after_inner inner ways = record { on = ways.on * (inner.on + inner.off); off = ways.off + ways.on * inner.off }
+after_inner inner ways =
+    record { on = ways.on * (inner.on + inner.off); off = ways.off + ways.on * inner.off }
 
 -- done by some branch, or failed by all
 abbrev pub after_tries : ℕ → ℕ → Ways → Ways
@@ -64,26 +66,33 @@ after_tries done failed ways = record { on = ways.on * done; off = ways.off + wa
 abbrev mutual
   pub ways_of : SequenceTree → ℕ → ℕ → Ways → Ways
   ways_of NoSteps count selected ways = ways
-  ways_of (StepThen place command rest) count selected ways = ways_of rest count (count_after command count selected) (command_ways command count selected ways)
+  ways_of (StepThen place command rest) count selected ways =
+      ways_of rest count (count_after command count selected)
+      (command_ways command count selected ways)
 
   pub command_ways : CommandTree → ℕ → ℕ → Ways → Ways
   command_ways (Test kind report) count selected ways = times selected after_test ways
   command_ways (Act kind report) count selected ways = ways
   command_ways (Index selection) count selected ways = ways
   command_ways (Override list) count selected ways = ways
-  command_ways (TryEach tries) count selected ways = times selected (after_tries (branches_done tries count) (branches_failed tries count)) ways
-  command_ways (RunSequence inner) count selected ways = times selected (after_inner (ways_of inner count 1 start_ways)) ways
+  command_ways (TryEach tries) count selected ways =
+      times selected (after_tries (branches_done tries count) (branches_failed tries count)) ways
+  command_ways (RunSequence inner) count selected ways =
+      times selected (after_inner (ways_of inner count 1 start_ways)) ways
 
   -- the sum over the branches of the ways to complete one after all before it failed
   pub branches_done : BranchesTree → ℕ → ℕ
   branches_done NoBranches count = 0
-  branches_done (BranchThen inner rest) count = (ways_of inner count 1 start_ways).on + (ways_of inner count 1 start_ways).off * branches_done rest count
+  branches_done (BranchThen inner rest) count =
+      (ways_of inner count 1 start_ways).on
+      + (ways_of inner count 1 start_ways).off * branches_done rest count
   branches_done (NullThen rest) count = 1
 
   -- the product of the ways to fail
   pub branches_failed : BranchesTree → ℕ → ℕ
   branches_failed NoBranches count = 1
-  branches_failed (BranchThen inner rest) count = (ways_of inner count 1 start_ways).off * branches_failed rest count
+  branches_failed (BranchThen inner rest) count =
+      (ways_of inner count 1 start_ways).off * branches_failed rest count
   branches_failed (NullThen rest) count = 0
 
 -- ---- of procedures: the shared sequence before each member
@@ -92,7 +101,8 @@ abbrev pub member_work : PlanTree → SequenceTree → ℕ
 member_work plan member = work_of plan.shared plan.count 1 + work_of member plan.count 1
 
 abbrev pub work_number : PlanTree → ℕ
-work_number plan = member_work plan plan.first + member_work plan plan.second + member_work plan plan.third
+work_number plan =
+    member_work plan plan.first + member_work plan plan.second + member_work plan plan.third
 
 abbrev pub on_number : PlanTree → SequenceTree → ℕ
 on_number plan s = (ways_of s plan.count 1 start_ways).on
@@ -101,7 +111,8 @@ abbrev pub member_spread : PlanTree → SequenceTree → ℕ
 member_spread plan member = on_number plan plan.shared * on_number plan member
 
 abbrev pub spread_number : PlanTree → ℕ
-spread_number plan = member_spread plan plan.first * member_spread plan plan.second * member_spread plan plan.third
+spread_number plan =
+    member_spread plan plan.first * member_spread plan plan.second * member_spread plan plan.third
 
 abbrev pub width_number : PlanTree → ℕ
 width_number plan = work_number plan * spread_number plan

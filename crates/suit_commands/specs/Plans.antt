@@ -10,4 +10,11 @@ lent_tree None = NoSteps
 lent_tree (Some s) = s.now
 
 abbrev pub plan_tree : Plan → PlanTree
-plan_tree plan = record { shared = lent_tree plan.shared; first = lent_tree plan.first; second = lent_tree plan.second; third = lent_tree plan.third; count = plan.count }
+plan_tree plan =
+    record {
+      shared = lent_tree plan.shared;
+      first = lent_tree plan.first;
+      second = lent_tree plan.second;
+      third = lent_tree plan.third;
+      count = plan.count;
+    }

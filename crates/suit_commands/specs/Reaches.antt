@@ -1,4 +1,4 @@
--- What a sequence writes, whichever components are selected at its beginning: certain ones, and perhaps those.
+-- The components that a sequence writes, whichever are selected at its beginning: certain ones, and perhaps those.
 use Rattle.std.specs.Prelude.{◌≡◌, ◌⊎◌, ℕ, Bool, true, false, ◌||◌, cond, List, bit_or}
 use Rattle.suit_commands.specs.declared.reach.Reach.{Reach}
 use Rattle.suit_commands.specs.declared.kinds.ActKind.{ActKind}
@@ -19,7 +19,9 @@ reach_or a b = record { fixed = bit_or a.fixed b.fixed; start = a.start || b.sta
 
 -- of a part before which these are selected
 abbrev pub reach_through : Reach → Reach → Reach
-reach_through part selected = cond part.start (record { fixed = bit_or part.fixed selected.fixed; start = selected.start }) part
+reach_through part selected =
+    cond part.start (record { fixed = bit_or part.fixed selected.fixed; start = selected.start })
+    part
 
 abbrev pub writes_content : ActKind → Bool
 writes_content acts.Write = true
@@ -30,14 +32,17 @@ writes_content acts.Invoke = false
 
 -- which are selected after a command
 abbrev pub reach_after : CommandTree → ℕ → Reach → Reach
-reach_after (Index selection) count selected = record { fixed = selection_bits selection count; start = false }
+reach_after (Index selection) count selected =
+    record { fixed = selection_bits selection count; start = false }
 reach_after _ count selected = selected
 
 abbrev mutual
   -- beside what was written before, where these are selected
   pub reach_of : SequenceTree → ℕ → Reach → Reach → Reach
   reach_of NoSteps count selected total = total
-  reach_of (StepThen place command rest) count selected total = reach_of rest count (reach_after command count selected) (reach_or total (reach_through (command_reach command count) selected))
+  reach_of (StepThen place command rest) count selected total =
+      reach_of rest count (reach_after command count selected)
+      (reach_or total (reach_through (command_reach command count) selected))
 
   pub command_reach : CommandTree → ℕ → Reach
   command_reach (Test kind report) count = no_reach
@@ -49,9 +54,11 @@ abbrev mutual
 
   pub branches_reach : BranchesTree → ℕ → Reach → Reach
   branches_reach NoBranches count total = total
-  branches_reach (BranchThen inner rest) count total = branches_reach rest count (reach_or total (reach_of inner count start_reach no_reach))
+  branches_reach (BranchThen inner rest) count total =
+      branches_reach rest count (reach_or total (reach_of inner count start_reach no_reach))
   branches_reach (NullThen rest) count total = branches_reach rest count total
 
 -- where these are selected at the beginning
 abbrev pub Reaches : Reach → List ℕ → ℕ → Type 0
-Reaches reach selected component = HasBit reach.fixed component ⊎ ((reach.start ≡ true) × Among component selected)
+Reaches reach selected component =
+    HasBit reach.fixed component ⊎ ((reach.start ≡ true) × Among component selected)

@@ -1,4 +1,4 @@
--- What is refused of an item that is to be a sequence of commands (draft-ietf-suit-manifest-25, section 8.4.6).
+-- Refusals of an item that is to be a sequence of commands (draft-ietf-suit-manifest-25, section 8.4.6).
 use Rattle.std.specs.Prelude.{◌≡◌, ◌≢◌, ◌<◌, ◌≤◌, ◌+◌, ◌⊎◌, ℕ, zero, suc, Bool, true, false, List, [], ◌++◌, length}
 use Rattle.det_cbor.specs.DataItem.{DataItem, UnsignedInteger, ByteString, ArrayOf, Boolean, NullItem, DataItems, NoItems, ItemThen, item_count, spell, Spells, IsValid}
 use Rattle.det_cbor.specs.Faults.{Faulty}
@@ -64,57 +64,96 @@ IsCode shared n = IsPolicyCode shared n ⊎ (n ≡ 12) ⊎ (n ≡ 15) ⊎ (n ≡
 -- ---- index lists: their elements are judged in order; one of another kind makes the list a bad argument
 
 pub data RefusesIndices (count list : ℕ) : ℕ → DataItems → Refusal → Type 0 where
-  NoIndex : (place : ℕ) (x : DataItem) (others : DataItems) → (IsUnsigned x → ⊥) → RefusesIndices count list place (ItemThen x others) (refused list BadArgument)
-  IndexAbove : (place i : ℕ) (others : DataItems) → count ≤ i → RefusesIndices count list place (ItemThen (UnsignedInteger i) others) (refused place (BadIndex i count))
-  LaterIndex : (place i : ℕ) (others : DataItems) (r : Refusal) → i < count → RefusesIndices count list (place_after place (UnsignedInteger i)) others r
+  NoIndex : (place : ℕ) (x : DataItem) (others : DataItems) → (IsUnsigned x → ⊥)
+      → RefusesIndices count list place (ItemThen x others) (refused list BadArgument)
+  IndexAbove : (place i : ℕ) (others : DataItems) → count ≤ i
+      → RefusesIndices count list place (ItemThen (UnsignedInteger i) others)
+      (refused place (BadIndex i count))
+  LaterIndex : (place i : ℕ) (others : DataItems) (r : Refusal) → i < count
+      → RefusesIndices count list (place_after place (UnsignedInteger i)) others r
       → RefusesIndices count list place (ItemThen (UnsignedInteger i) others) r
 
 -- ---- sequences: each code is judged before its argument, and each command before the next
 
 mutual
   pub data RefusesSequence (shared : Bool) (count : ℕ) : ℕ → ℕ → DataItem → Refusal → Type 0 where
-    NoSequence : (levels place : ℕ) (x : DataItem) → (IsSequenceArray x → ⊥) → RefusesSequence shared count (suc levels) place x (refused place Shape)
-    BadSteps : (levels place : ℕ) (items : DataItems) (r : Refusal) → IsSequenceArray (ArrayOf items)
-        → RefusesSteps shared count levels (elements_place place items) items r → RefusesSequence shared count (suc levels) place (ArrayOf items) r
+    NoSequence : (levels place : ℕ) (x : DataItem) → (IsSequenceArray x → ⊥)
+        → RefusesSequence shared count (suc levels) place x (refused place Shape)
+    BadSteps : (levels place : ℕ) (items : DataItems) (r : Refusal)
+        → IsSequenceArray (ArrayOf items)
+        → RefusesSteps shared count levels (elements_place place items) items r
+        → RefusesSequence shared count (suc levels) place (ArrayOf items) r
 
   pub data RefusesSteps (shared : Bool) (count : ℕ) : ℕ → ℕ → DataItems → Refusal → Type 0 where
-    OtherCode : (levels place : ℕ) (code argument : DataItem) (others : DataItems) → ((n : ℕ) → code ≡ UnsignedInteger n → IsCode shared n → ⊥)
-        → RefusesSteps shared count levels place (ItemThen code (ItemThen argument others)) (refused place Unsupported)
+    OtherCode : (levels place : ℕ) (code argument : DataItem) (others : DataItems)
+        → ((n : ℕ) → code ≡ UnsignedInteger n → IsCode shared n → ⊥)
+        → RefusesSteps shared count levels place (ItemThen code (ItemThen argument others))
+        (refused place Unsupported)
     OtherArgument : (levels place n : ℕ) (argument : DataItem) (others : DataItems) (r : Refusal)
         → RefusesArgument shared count levels (place_after place (UnsignedInteger n)) n argument r
-        → RefusesSteps shared count levels place (ItemThen (UnsignedInteger n) (ItemThen argument others)) r
-    LaterStep : (levels place n : ℕ) (argument : DataItem) (others : DataItems) (command : CommandTree) (r : Refusal)
+        → RefusesSteps shared count levels place
+        (ItemThen (UnsignedInteger n) (ItemThen argument others)) r
+    LaterStep :
+        (levels place n : ℕ) (argument : DataItem) (others : DataItems) (command : CommandTree)
+        (r : Refusal)
         → SaysCommand shared count levels (place_after place (UnsignedInteger n)) n argument command
-        → RefusesSteps shared count levels (place_after (place_after place (UnsignedInteger n)) argument) others r
-        → RefusesSteps shared count levels place (ItemThen (UnsignedInteger n) (ItemThen argument others)) r
+        → RefusesSteps shared count levels
+        (place_after (place_after place (UnsignedInteger n)) argument) others r
+        → RefusesSteps shared count levels place
+        (ItemThen (UnsignedInteger n) (ItemThen argument others)) r
 
-  pub data RefusesArgument (shared : Bool) (count : ℕ) : ℕ → ℕ → ℕ → DataItem → Refusal → Type 0 where
-    NoPolicy : (levels place n : ℕ) (x : DataItem) → IsPolicyCode shared n → (IsPolicy x → ⊥) → RefusesArgument shared count levels place n x (refused place BadArgument)
-    NoSelection : (levels place : ℕ) (x : DataItem) → (IsSelection x → ⊥) → RefusesArgument shared count levels place 12 x (refused place BadArgument)
-    NoComponent : (levels place i : ℕ) → count ≤ i → RefusesArgument shared count levels place 12 (UnsignedInteger i) (refused place (BadIndex i count))
-    BadIndices : (levels place : ℕ) (items : DataItems) (r : Refusal) → RefusesIndices count place (elements_place place items) items r
+  pub data RefusesArgument (shared : Bool) (count : ℕ)
+      : ℕ → ℕ → ℕ → DataItem → Refusal → Type 0 where
+    NoPolicy : (levels place n : ℕ) (x : DataItem) → IsPolicyCode shared n → (IsPolicy x → ⊥)
+        → RefusesArgument shared count levels place n x (refused place BadArgument)
+    NoSelection : (levels place : ℕ) (x : DataItem) → (IsSelection x → ⊥)
+        → RefusesArgument shared count levels place 12 x (refused place BadArgument)
+    NoComponent : (levels place i : ℕ) → count ≤ i
+        → RefusesArgument shared count levels place 12 (UnsignedInteger i)
+        (refused place (BadIndex i count))
+    BadIndices : (levels place : ℕ) (items : DataItems) (r : Refusal)
+        → RefusesIndices count place (elements_place place items) items r
         → RefusesArgument shared count levels place 12 (ArrayOf items) r
-    NoParams : (levels place : ℕ) (x : DataItem) → (IsMap x → ⊥) → RefusesArgument shared count levels place 20 x (refused place BadArgument)
-    BadParams : (levels place : ℕ) (x : DataItem) (r : Refusal) → IsMap x → RefusesParams count place x r → RefusesArgument shared count levels place 20 x r
-    NoTries : (levels place : ℕ) (x : DataItem) → (IsTryArray x → ⊥) → RefusesArgument shared count levels place 15 x (refused place BadArgument)
-    BadBranches : (levels place : ℕ) (items : DataItems) (r : Refusal) → 2 ≤ item_count items → RefusesBranches shared count levels (elements_place place items) items r
+    NoParams : (levels place : ℕ) (x : DataItem) → (IsMap x → ⊥)
+        → RefusesArgument shared count levels place 20 x (refused place BadArgument)
+    BadParams : (levels place : ℕ) (x : DataItem) (r : Refusal) → IsMap x
+        → RefusesParams count place x r → RefusesArgument shared count levels place 20 x r
+    NoTries : (levels place : ℕ) (x : DataItem) → (IsTryArray x → ⊥)
+        → RefusesArgument shared count levels place 15 x (refused place BadArgument)
+    BadBranches : (levels place : ℕ) (items : DataItems) (r : Refusal) → 2 ≤ item_count items
+        → RefusesBranches shared count levels (elements_place place items) items r
         → RefusesArgument shared count levels place 15 (ArrayOf items) r
-    NoString : (levels place : ℕ) (x : DataItem) → (IsByteString x → ⊥) → RefusesArgument shared count levels place 32 x (refused place BadArgument)
-    BadRun : (levels place : ℕ) (content : List ℕ) (r : Refusal) → RefusesInner shared count levels place content r → RefusesArgument shared count levels place 32 (ByteString content) r
+    NoString : (levels place : ℕ) (x : DataItem) → (IsByteString x → ⊥)
+        → RefusesArgument shared count levels place 32 x (refused place BadArgument)
+    BadRun : (levels place : ℕ) (content : List ℕ) (r : Refusal)
+        → RefusesInner shared count levels place content r
+        → RefusesArgument shared count levels place 32 (ByteString content) r
 
   pub data RefusesBranches (shared : Bool) (count : ℕ) : ℕ → ℕ → DataItems → Refusal → Type 0 where
-    NoBranch : (levels place : ℕ) (x : DataItem) (others : DataItems) → (IsBranch x others → ⊥) → RefusesBranches shared count levels place (ItemThen x others) (refused place BadArgument)
-    BadBranch : (levels place : ℕ) (content : List ℕ) (others : DataItems) (r : Refusal) → RefusesInner shared count levels place content r
+    NoBranch : (levels place : ℕ) (x : DataItem) (others : DataItems) → (IsBranch x others → ⊥)
+        → RefusesBranches shared count levels place (ItemThen x others) (refused place BadArgument)
+    BadBranch : (levels place : ℕ) (content : List ℕ) (others : DataItems) (r : Refusal)
+        → RefusesInner shared count levels place content r
         → RefusesBranches shared count levels place (ItemThen (ByteString content) others) r
-    LaterBranch : (levels place : ℕ) (content : List ℕ) (others : DataItems) (s : SequenceTree) (r : Refusal) → SaysInner shared count levels place content s
-        → RefusesBranches shared count levels (place_after place (ByteString content)) others r → RefusesBranches shared count levels place (ItemThen (ByteString content) others) r
+    LaterBranch : (levels place : ℕ) (content : List ℕ) (others : DataItems) (s : SequenceTree)
+        (r : Refusal)
+        → SaysInner shared count levels place content s
+        → RefusesBranches shared count levels (place_after place (ByteString content)) others r
+        → RefusesBranches shared count levels place (ItemThen (ByteString content) others) r
 
   -- a byte string that is to hold a sequence, whose content is judged as one item first
   pub data RefusesInner (shared : Bool) (count : ℕ) : ℕ → ℕ → List ℕ → Refusal → Type 0 where
-    TooNested : (place : ℕ) (content : List ℕ) → RefusesInner shared count zero place content (refused place Nested)
-    FaultyContent : (levels place : ℕ) (content : List ℕ) (at : ℕ) (reason : Reason) → Faulty 0 content at reason
-        → RefusesInner shared count (suc levels) place content (refused (content_place place content + at) (Cbor reason))
-    BytesBehind : (levels place : ℕ) (content : List ℕ) (x : DataItem) (rest : List ℕ) → IsValid x → content ≡ spell x ++ rest → rest ≢ []
-        → RefusesInner shared count (suc levels) place content (refused (content_place place content + length (spell x)) Trailing)
-    BadSequence : (levels place : ℕ) (content : List ℕ) (x : DataItem) (r : Refusal) → Spells x content
-        → RefusesSequence shared count (suc levels) (content_place place content) x r → RefusesInner shared count (suc levels) place content r
+    TooNested : (place : ℕ) (content : List ℕ)
+        → RefusesInner shared count zero place content (refused place Nested)
+    FaultyContent : (levels place : ℕ) (content : List ℕ) (at : ℕ) (reason : Reason)
+        → Faulty 0 content at reason
+        → RefusesInner shared count (suc levels) place content
+        (refused (content_place place content + at) (Cbor reason))
+    BytesBehind : (levels place : ℕ) (content : List ℕ) (x : DataItem) (rest : List ℕ) → IsValid x
+        → content ≡ spell x ++ rest → rest ≢ []
+        → RefusesInner shared count (suc levels) place content
+        (refused (content_place place content + length (spell x)) Trailing)
+    BadSequence : (levels place : ℕ) (content : List ℕ) (x : DataItem) (r : Refusal)
+        → Spells x content
+        → RefusesSequence shared count (suc levels) (content_place place content) x r
+        → RefusesInner shared count (suc levels) place content r

@@ -24,7 +24,8 @@ InnerJudge = ℕ → List ℕ → Result SequenceTree Refusal
 
 -- where the code stands, and whether in the shared sequence
 abbrev pub known_code : ℕ → Bool → Option CommandCode → Result CommandCode Refusal
-known_code place shared (Some (codes.Act kind)) = if shared then Err (refused place Unsupported) else Ok (codes.Act kind)
+known_code place shared (Some (codes.Act kind)) =
+    if shared then Err (refused place Unsupported) else Ok (codes.Act kind)
 known_code place shared (Some code) = Ok code
 known_code place shared None = Err (refused place Unsupported)
 
@@ -35,7 +36,8 @@ judge_code shared place _ = Err (refused place Unsupported)
 -- ---- arguments
 
 abbrev pub judge_report : ℕ → DataItem → Result ℕ Refusal
-judge_report place (UnsignedInteger n) = if nat_lt n 16 then Ok n else Err (refused place BadArgument)
+judge_report place (UnsignedInteger n) =
+    if nat_lt n 16 then Ok n else Err (refused place BadArgument)
 judge_report place _ = Err (refused place BadArgument)
 
 -- an element of the list that stands at another place
@@ -45,7 +47,9 @@ judge_element count list place _ = Err (refused list BadArgument)
 
 abbrev pub judge_indices : ℕ → ℕ → ℕ → DataItems → Result (List ℕ) Refusal
 judge_indices count list place NoItems = Ok []
-judge_indices count list place (ItemThen x others) = judge_element count list place x >>= λ i. judge_indices count list (place_after place x) others >>= λ is. Ok (i ∷ is)
+judge_indices count list place (ItemThen x others) =
+    judge_element count list place x >>= λ i. judge_indices count list (place_after place x) others
+    >>= λ is. Ok (i ∷ is)
 
 abbrev pub judge_selection : ℕ → ℕ → DataItem → Result Selection Refusal
 judge_selection count place (UnsignedInteger i) = judge_index count place i >>= λ j. Ok (One j)
@@ -70,43 +74,59 @@ branch_before (Some s) branches = BranchThen s branches
 branch_before None branches = NullThen branches
 
 -- null stands where no other follows
-abbrev pub judge_branch : InnerJudge → ℕ → DataItem → DataItems → Result (Option SequenceTree) Refusal
+abbrev pub judge_branch : InnerJudge → ℕ → DataItem → DataItems
+    → Result (Option SequenceTree) Refusal
 judge_branch inner place (ByteString content) others = inner place content >>= λ s. Ok (Some s)
-judge_branch inner place NullItem others = if item_count others == 0 then Ok None else Err (refused place BadArgument)
+judge_branch inner place NullItem others =
+    if item_count others == 0 then Ok None else Err (refused place BadArgument)
 judge_branch inner place _ others = Err (refused place BadArgument)
 
 abbrev pub judge_branches : InnerJudge → ℕ → DataItems → Result BranchesTree Refusal
 judge_branches inner place NoItems = Ok NoBranches
-judge_branches inner place (ItemThen x others) = judge_branch inner place x others >>= λ b. judge_branches inner (place_after place x) others >>= λ bs. Ok (branch_before b bs)
+judge_branches inner place (ItemThen x others) =
+    judge_branch inner place x others >>= λ b. judge_branches inner (place_after place x) others
+    >>= λ bs. Ok (branch_before b bs)
 
 abbrev pub judge_try : InnerJudge → ℕ → DataItem → Result BranchesTree Refusal
-judge_try inner place (ArrayOf items) = if nat_lt (item_count items) 2 then Err (refused place BadArgument) else judge_branches inner (elements_place place items) items
+judge_try inner place (ArrayOf items) =
+    if nat_lt (item_count items) 2 then Err (refused place BadArgument)
+    else judge_branches inner (elements_place place items) items
 judge_try inner place _ = Err (refused place BadArgument)
 
 -- ---- commands
 
 abbrev pub judge_argument : InnerJudge → ℕ → CommandCode → ℕ → DataItem → Result CommandTree Refusal
-judge_argument inner count (codes.Test kind) place x = judge_report place x >>= λ n. Ok (Test kind n)
+judge_argument inner count (codes.Test kind) place x =
+    judge_report place x >>= λ n. Ok (Test kind n)
 judge_argument inner count (codes.Act kind) place x = judge_report place x >>= λ n. Ok (Act kind n)
-judge_argument inner count codes.Index place x = judge_selection count place x >>= λ selection. Ok (Index selection)
-judge_argument inner count codes.TryEach place x = judge_try inner place x >>= λ branches. Ok (TryEach branches)
-judge_argument inner count codes.Override place x = judge_override count place x >>= λ list. Ok (Override list)
+judge_argument inner count codes.Index place x =
+    judge_selection count place x >>= λ selection. Ok (Index selection)
+judge_argument inner count codes.TryEach place x =
+    judge_try inner place x >>= λ branches. Ok (TryEach branches)
+judge_argument inner count codes.Override place x =
+    judge_override count place x >>= λ list. Ok (Override list)
 judge_argument inner count codes.Run place x = judge_run inner place x >>= λ s. Ok (RunSequence s)
 
 abbrev pub judge_step : InnerJudge → Bool → ℕ → ℕ → DataItem → DataItem → Result CommandTree Refusal
-judge_step inner shared count place code argument = judge_code shared place code >>= λ c. judge_argument inner count c (place_after place code) argument
+judge_step inner shared count place code argument =
+    judge_code shared place code
+    >>= λ c. judge_argument inner count c (place_after place code) argument
 
 -- codes and arguments in turn, of which there are as many
 abbrev pub judge_steps : InnerJudge → Bool → ℕ → ℕ → DataItems → Result SequenceTree Refusal
 judge_steps inner shared count place NoItems = Ok NoSteps
 judge_steps inner shared count place (ItemThen code NoItems) = Ok NoSteps
 judge_steps inner shared count place (ItemThen code (ItemThen argument others)) =
-    judge_step inner shared count place code argument >>= λ command. judge_steps inner shared count (place_after (place_after place code) argument) others >>= λ rest. Ok (StepThen place command rest)
+    judge_step inner shared count place code argument
+    >>= λ command. judge_steps inner shared count
+    (place_after (place_after place code) argument) others
+    >>= λ rest. Ok (StepThen place command rest)
 
 abbrev pub judge_array : InnerJudge → Bool → ℕ → ℕ → DataItem → Result SequenceTree Refusal
 judge_array inner shared count place (ArrayOf items) =
     if item_count items == 0 then Err (refused place Shape)
-    else if item_count items % 2 == 0 then judge_steps inner shared count (elements_place place items) items
+    else if item_count items % 2 == 0
+    then judge_steps inner shared count (elements_place place items) items
     else Err (refused place Shape)
 judge_array inner shared count place _ = Err (refused place Shape)
 
@@ -114,7 +134,9 @@ judge_array inner shared count place _ = Err (refused place Shape)
 
 unfoldable pub judge_inner : Bool → ℕ → ℕ → InnerJudge
 judge_inner shared count zero place content = Err (refused place Nested)
-judge_inner shared count (suc levels) place content = whole_judged (judge_array (judge_inner shared count levels) shared count) (content_place place content) content
+judge_inner shared count (suc levels) place content =
+    whole_judged (judge_array (judge_inner shared count levels) shared count)
+    (content_place place content) content
 
 -- an item with so many levels inside it
 abbrev pub judge_sequence : Bool → ℕ → ℕ → ℕ → DataItem → Result SequenceTree Refusal

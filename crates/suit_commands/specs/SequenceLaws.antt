@@ -1,4 +1,4 @@
--- What holds of all sequences of commands.
+-- Laws of all sequences of commands.
 use Rattle.std.specs.Prelude.{◌≡◌, ◌⊎◌, ℕ, suc, Bool, List}
 use Rattle.det_cbor.specs.DataItem.{DataItem, spell, IsValid}
 use Rattle.suit_params.specs.declared.refusal.Refusal.{Refusal}
@@ -30,10 +30,18 @@ pub record HasOneRefusal (shared : Bool) (count levels place : ℕ) (x : DataIte
 -- made into one item
 pub record SequenceLaws : Type 0 where
   pub one_reading : (shared : Bool) (count levels place : ℕ) (x : DataItem) → IsValid x
-      → HasOneSequence shared count (suc levels) place x ⊎ HasOneRefusal shared count (suc levels) place x
-  pub whole : (shared : Bool) (count levels : ℕ) → HasOneAnswer (SaysSequence shared count (suc levels)) (RefusesSequence shared count (suc levels))
-  pub allowed : (shared : Bool) (count levels place : ℕ) (x : DataItem) (s : SequenceTree) → IsValid x → SaysSequence shared count levels place x s → IsSequence shared count levels s
-  pub made : (shared : Bool) (count levels place : ℕ) (x : DataItem) (s : SequenceTree) → SaysSequence shared count levels place x s → x ≡ sequence_item s
-  pub places : (shared : Bool) (count levels place : ℕ) (x : DataItem) (s : SequenceTree) → SaysSequence shared count levels place x s → s ≡ placed (elements_place place (step_items s)) s
-  pub again : (shared : Bool) (count levels place : ℕ) (bytes : List ℕ) (s : SequenceTree) → SaysWhole (SaysSequence shared count levels) place bytes s → bytes ≡ spell (sequence_item s)
+      → HasOneSequence shared count (suc levels) place x
+      ⊎ HasOneRefusal shared count (suc levels) place x
+  pub whole : (shared : Bool) (count levels : ℕ)
+      → HasOneAnswer (SaysSequence shared count (suc levels))
+      (RefusesSequence shared count (suc levels))
+  pub allowed : (shared : Bool) (count levels place : ℕ) (x : DataItem) (s : SequenceTree)
+      → IsValid x → SaysSequence shared count levels place x s → IsSequence shared count levels s
+  pub made : (shared : Bool) (count levels place : ℕ) (x : DataItem) (s : SequenceTree)
+      → SaysSequence shared count levels place x s → x ≡ sequence_item s
+  pub places : (shared : Bool) (count levels place : ℕ) (x : DataItem) (s : SequenceTree)
+      → SaysSequence shared count levels place x s
+      → s ≡ placed (elements_place place (step_items s)) s
+  pub again : (shared : Bool) (count levels place : ℕ) (bytes : List ℕ) (s : SequenceTree)
+      → SaysWhole (SaysSequence shared count levels) place bytes s → bytes ≡ spell (sequence_item s)
   pub one_item : (s t : SequenceTree) → unplaced s ≡ unplaced t → sequence_item s ≡ sequence_item t

@@ -26,7 +26,9 @@ selection_item (Listed components) = ArrayOf (index_items components)
 abbrev mutual
   pub step_items : SequenceTree → DataItems
   step_items NoSteps = NoItems
-  step_items (StepThen place command rest) = ItemThen (UnsignedInteger (code_of command)) (ItemThen (argument_item command) (step_items rest))
+  step_items (StepThen place command rest) =
+      ItemThen (UnsignedInteger (code_of command))
+      (ItemThen (argument_item command) (step_items rest))
 
   pub argument_item : CommandTree → DataItem
   argument_item (Test kind report) = UnsignedInteger report
@@ -38,7 +40,8 @@ abbrev mutual
 
   pub branch_items : BranchesTree → DataItems
   branch_items NoBranches = NoItems
-  branch_items (BranchThen inner rest) = ItemThen (ByteString (spell (ArrayOf (step_items inner)))) (branch_items rest)
+  branch_items (BranchThen inner rest) =
+      ItemThen (ByteString (spell (ArrayOf (step_items inner)))) (branch_items rest)
   branch_items (NullThen rest) = ItemThen NullItem (branch_items rest)
 
 abbrev pub sequence_item : SequenceTree → DataItem
@@ -59,13 +62,16 @@ next_code place command = place_after (argument_place place command) (argument_i
 
 -- of the first code of a sequence inside
 abbrev pub first_code : ℕ → SequenceTree → ℕ
-first_code place inner = elements_place (content_place place (spell (sequence_item inner))) (step_items inner)
+first_code place inner =
+    elements_place (content_place place (spell (sequence_item inner))) (step_items inner)
 
 -- the same tree with the places of its spelling, from its first code on
 abbrev mutual
   pub placed : ℕ → SequenceTree → SequenceTree
   placed place NoSteps = NoSteps
-  placed place (StepThen was command rest) = StepThen place (placed_command (argument_place place command) command) (placed (next_code place command) rest)
+  placed place (StepThen was command rest) =
+      StepThen place (placed_command (argument_place place command) command)
+      (placed (next_code place command) rest)
 
   -- from its argument on
   pub placed_command : ℕ → CommandTree → CommandTree
@@ -73,14 +79,18 @@ abbrev mutual
   placed_command place (Act kind report) = Act kind report
   placed_command place (Index selection) = Index selection
   placed_command place (Override list) = Override list
-  placed_command place (TryEach tries) = TryEach (placed_branches (elements_place place (branch_items tries)) tries)
+  placed_command place (TryEach tries) =
+      TryEach (placed_branches (elements_place place (branch_items tries)) tries)
   placed_command place (RunSequence inner) = RunSequence (placed (first_code place inner) inner)
 
   -- from the first of them on
   pub placed_branches : ℕ → BranchesTree → BranchesTree
   placed_branches place NoBranches = NoBranches
-  placed_branches place (BranchThen inner rest) = BranchThen (placed (first_code place inner) inner) (placed_branches (place_after place (inner_item inner)) rest)
-  placed_branches place (NullThen rest) = NullThen (placed_branches (place_after place NullItem) rest)
+  placed_branches place (BranchThen inner rest) =
+      BranchThen (placed (first_code place inner) inner)
+      (placed_branches (place_after place (inner_item inner)) rest)
+  placed_branches place (NullThen rest) =
+      NullThen (placed_branches (place_after place NullItem) rest)
 
 -- the same tree without its places: each is 0
 abbrev mutual

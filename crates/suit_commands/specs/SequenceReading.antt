@@ -26,7 +26,8 @@ InnerReader = ℕ → Position → Result SequenceTree Refusal
 -- ---- codes
 
 abbrev pub code_after : Bool → ℕ → ℕ → Position → HeadKind → Result (CommandCode × Position) Refusal
-code_after shared place n p kinds.Unsigned = known_code place shared (numbered n) >>= λ code. Ok (code, p)
+code_after shared place n p kinds.Unsigned =
+    known_code place shared (numbered n) >>= λ code. Ok (code, p)
 code_after shared place n p _ = Err (refused place Unsupported)
 
 unfoldable pub code_from : Bool → Position → Result (CommandCode × Position) Refusal
@@ -35,7 +36,8 @@ code_from shared p = head_from p >>= λ h. code_after shared p.place h.0.value h
 -- ---- arguments
 
 abbrev pub report_after : ℕ → ℕ → Position → HeadKind → Result (ℕ × Position) Refusal
-report_after place n p kinds.Unsigned = if nat_lt n 16 then Ok (n, p) else Err (refused place BadArgument)
+report_after place n p kinds.Unsigned =
+    if nat_lt n 16 then Ok (n, p) else Err (refused place BadArgument)
 report_after place n p _ = Err (refused place BadArgument)
 
 unfoldable pub report_from : Position → Result (ℕ × Position) Refusal
@@ -47,20 +49,24 @@ element_after count list place n p _ = Err (refused list BadArgument)
 
 -- an element of the list that stands at another place
 unfoldable pub element_from : ℕ → ℕ → Position → Result (ℕ × Position) Refusal
-element_from count list p = head_from p >>= λ h. element_after count list p.place h.0.value h.1 h.0.kind
+element_from count list p =
+    head_from p >>= λ h. element_after count list p.place h.0.value h.1 h.0.kind
 
 -- so many elements
 abbrev pub indices_from : ℕ → ℕ → ℕ → Position → Result (List ℕ × Position) Refusal
 indices_from count list zero p = Ok ([], p)
-indices_from count list (suc n) p = element_from count list p >>= λ i. indices_from count list n i.1 >>= λ is. Ok (i.0 ∷ is.0, is.1)
+indices_from count list (suc n) p =
+    element_from count list p >>= λ i. indices_from count list n i.1 >>= λ is. Ok (i.0 ∷ is.0, is.1)
 
 abbrev pub listed_from : ℕ → ℕ → ℕ → Position → Result (Selection × Position) Refusal
 listed_from count place n p = indices_from count place n p >>= λ is. Ok (Listed is.0, is.1)
 
 abbrev pub selection_after : ℕ → ℕ → ℕ → Position → HeadKind → Result (Selection × Position) Refusal
 selection_after count place n p kinds.Unsigned = judge_index count place n >>= λ i. Ok (One i, p)
-selection_after count place n p kinds.Bool = if n == 1 then Ok (All, p) else Err (refused place BadArgument)
-selection_after count place n p kinds.Array = if n == 0 then Err (refused place BadArgument) else listed_from count place n p
+selection_after count place n p kinds.Bool =
+    if n == 1 then Ok (All, p) else Err (refused place BadArgument)
+selection_after count place n p kinds.Array =
+    if n == 0 then Err (refused place BadArgument) else listed_from count place n p
 selection_after count place n p _ = Err (refused place BadArgument)
 
 unfoldable pub selection_from : ℕ → Position → Result (Selection × Position) Refusal
@@ -79,28 +85,37 @@ override_from count p = head_from p >>= λ h. override_after count p h.0.kind
 abbrev pub held_sequence : InnerReader → ℕ → ℕ → Position → Result (SequenceTree × Position) Refusal
 held_sequence inner place n p = string_from n p >>= λ c. inner place c.0 >>= λ s. Ok (s, c.1)
 
-abbrev pub run_after : InnerReader → ℕ → ℕ → Position → HeadKind → Result (SequenceTree × Position) Refusal
+abbrev pub run_after : InnerReader → ℕ → ℕ → Position → HeadKind
+    → Result (SequenceTree × Position) Refusal
 run_after inner place n p kinds.Bytes = held_sequence inner place n p
 run_after inner place n p _ = Err (refused place BadArgument)
 
 unfoldable pub run_from : InnerReader → Position → Result (SequenceTree × Position) Refusal
 run_from inner p = head_from p >>= λ h. run_after inner p.place h.0.value h.1 h.0.kind
 
-abbrev pub branch_by : InnerReader → Bool → ℕ → ℕ → Position → HeadKind → Result (Option SequenceTree × Position) Refusal
-branch_by inner last place n p kinds.Bytes = held_sequence inner place n p >>= λ s. Ok (Some s.0, s.1)
-branch_by inner last place n p kinds.Null = if last then Ok (None, p) else Err (refused place BadArgument)
+abbrev pub branch_by : InnerReader → Bool → ℕ → ℕ → Position → HeadKind
+    → Result (Option SequenceTree × Position) Refusal
+branch_by inner last place n p kinds.Bytes =
+    held_sequence inner place n p >>= λ s. Ok (Some s.0, s.1)
+branch_by inner last place n p kinds.Null =
+    if last then Ok (None, p) else Err (refused place BadArgument)
 branch_by inner last place n p _ = Err (refused place BadArgument)
 
-unfoldable pub branch_from : InnerReader → Bool → Position → Result (Option SequenceTree × Position) Refusal
+unfoldable pub branch_from : InnerReader → Bool → Position
+    → Result (Option SequenceTree × Position) Refusal
 branch_from inner last p = head_from p >>= λ h. branch_by inner last p.place h.0.value h.1 h.0.kind
 
 -- so many branches
 abbrev pub branches_from : InnerReader → ℕ → Position → Result (BranchesTree × Position) Refusal
 branches_from inner zero p = Ok (NoBranches, p)
-branches_from inner (suc n) p = branch_from inner (n == 0) p >>= λ b. branches_from inner n b.1 >>= λ bs. Ok (branch_before b.0 bs.0, bs.1)
+branches_from inner (suc n) p =
+    branch_from inner (n == 0) p >>= λ b. branches_from inner n b.1
+    >>= λ bs. Ok (branch_before b.0 bs.0, bs.1)
 
-abbrev pub try_after : InnerReader → ℕ → ℕ → Position → HeadKind → Result (BranchesTree × Position) Refusal
-try_after inner place n p kinds.Array = if nat_lt n 2 then Err (refused place BadArgument) else branches_from inner n p
+abbrev pub try_after : InnerReader → ℕ → ℕ → Position → HeadKind
+    → Result (BranchesTree × Position) Refusal
+try_after inner place n p kinds.Array =
+    if nat_lt n 2 then Err (refused place BadArgument) else branches_from inner n p
 try_after inner place n p _ = Err (refused place BadArgument)
 
 unfoldable pub try_from : InnerReader → Position → Result (BranchesTree × Position) Refusal
@@ -108,7 +123,8 @@ try_from inner p = head_from p >>= λ h. try_after inner p.place h.0.value h.1 h
 
 -- ---- commands
 
-abbrev pub argument_from : InnerReader → ℕ → CommandCode → Position → Result (CommandTree × Position) Refusal
+abbrev pub argument_from : InnerReader → ℕ → CommandCode → Position
+    → Result (CommandTree × Position) Refusal
 argument_from inner count (codes.Test kind) p = report_from p >>= λ v. Ok (Test kind v.0, v.1)
 argument_from inner count (codes.Act kind) p = report_from p >>= λ v. Ok (Act kind v.0, v.1)
 argument_from inner count codes.Index p = selection_from count p >>= λ v. Ok (Index v.0, v.1)
@@ -122,9 +138,12 @@ step_from inner shared count p = code_from shared p >>= λ c. argument_from inne
 -- so many commands
 abbrev pub steps_from : InnerReader → Bool → ℕ → ℕ → Position → Result SequenceTree Refusal
 steps_from inner shared count zero p = Ok NoSteps
-steps_from inner shared count (suc n) p = step_from inner shared count p >>= λ c. steps_from inner shared count n c.1 >>= λ rest. Ok (StepThen p.place c.0 rest)
+steps_from inner shared count (suc n) p =
+    step_from inner shared count p >>= λ c. steps_from inner shared count n c.1
+    >>= λ rest. Ok (StepThen p.place c.0 rest)
 
-abbrev pub sequence_after : InnerReader → Bool → ℕ → ℕ → ℕ → Position → HeadKind → Result SequenceTree Refusal
+abbrev pub sequence_after : InnerReader → Bool → ℕ → ℕ → ℕ → Position → HeadKind
+    → Result SequenceTree Refusal
 sequence_after inner shared count place n p kinds.Array =
     if n == 0 then Err (refused place Shape)
     else if n % 2 == 0 then steps_from inner shared count (n / 2) p
@@ -133,14 +152,17 @@ sequence_after inner shared count place n p _ = Err (refused place Shape)
 
 -- a whole item, as a sequence
 unfoldable pub sequence_at : InnerReader → Bool → ℕ → Position → Result SequenceTree Refusal
-sequence_at inner shared count p = head_from p >>= λ h. sequence_after inner shared count p.place h.0.value h.1 h.0.kind
+sequence_at inner shared count p =
+    head_from p >>= λ h. sequence_after inner shared count p.place h.0.value h.1 h.0.kind
 
 -- ---- sequences in sequences, of so many levels
 
 unfoldable pub nested_from : Bool → ℕ → ℕ → InnerReader
 nested_from shared count zero place p = Err (refused place Nested)
-nested_from shared count (suc levels) place p = only_from p >>= sequence_at (nested_from shared count levels) shared count
+nested_from shared count (suc levels) place p =
+    only_from p >>= sequence_at (nested_from shared count levels) shared count
 
 -- bytes that are to hold one sequence, with so many levels inside it
 abbrev pub whole_sequence : Bool → ℕ → ℕ → Position → Result SequenceTree Refusal
-whole_sequence shared count levels p = only_from p >>= sequence_at (nested_from shared count levels) shared count
+whole_sequence shared count levels p =
+    only_from p >>= sequence_at (nested_from shared count levels) shared count

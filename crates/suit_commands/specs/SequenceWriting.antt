@@ -1,4 +1,4 @@
--- What is written of a sequence is read as that sequence (draft-ietf-suit-manifest-25, section 8.4.6).
+-- A sequence that is written is read as that sequence (draft-ietf-suit-manifest-25, section 8.4.6).
 use Rattle.std.specs.Prelude.{◌≡◌, ◌<◌, ◌^◌, ℕ, Bool, List, length}
 use Rattle.std.specs.List.{AllByRecursion}
 use Rattle.det_cbor.specs.DataItem.{item_count, spell, IsString}
@@ -31,11 +31,16 @@ abbrev mutual
   CommandFits (Index selection) = SelectionFits selection
   CommandFits (Override list) = Unit {0}
   CommandFits (TryEach tries) = IsU64 (item_count (branch_items tries)) × BranchesFit tries
-  CommandFits (RunSequence inner) = IsString (spell (sequence_item inner)) × (IsU64 (item_count (step_items inner)) × StepsFit inner)
+  CommandFits (RunSequence inner) =
+      IsString (spell (sequence_item inner))
+      × (IsU64 (item_count (step_items inner)) × StepsFit inner)
 
   pub BranchesFit : BranchesTree → Type 0
   BranchesFit NoBranches = Unit {0}
-  BranchesFit (BranchThen inner rest) = (IsString (spell (sequence_item inner)) × (IsU64 (item_count (step_items inner)) × StepsFit inner)) × BranchesFit rest
+  BranchesFit (BranchThen inner rest) =
+      (IsString (spell (sequence_item inner))
+      × (IsU64 (item_count (step_items inner)) × StepsFit inner))
+      × BranchesFit rest
   BranchesFit (NullThen rest) = BranchesFit rest
 
 -- the array's count and what it holds
@@ -50,5 +55,6 @@ InnerFits s = IsString (spell (sequence_item s)) × SequenceFits s
 -- Places apart it is the same tree.
 pub record IsWrittenSequence (s : SequenceTree) (bytes : List ℕ) : Type 0 where
   pub says : (shared : Bool) (count place : ℕ) → IsSequence shared count levels_allowed s
-      → SaysWhole (SaysSequence shared count levels_allowed) place bytes (placed (elements_place place (step_items s)) s)
+      → SaysWhole (SaysSequence shared count levels_allowed) place bytes
+      (placed (elements_place place (step_items s)) s)
   pub same : (place : ℕ) → unplaced (placed place s) ≡ unplaced s

@@ -31,36 +31,64 @@ index_items (i ∷ is) = ItemThen (UnsignedInteger i) (index_items is)
 mutual
   pub data SaysSequence (shared : Bool) (count : ℕ) : ℕ → ℕ → DataItem → SequenceTree → Type 0 where
     SaysArray : (levels place : ℕ) (items : DataItems) (s : SequenceTree) → items ≢ NoItems
-        → SaysSteps shared count levels (elements_place place items) items s → SaysSequence shared count (suc levels) place (ArrayOf items) s
+        → SaysSteps shared count levels (elements_place place items) items s
+        → SaysSequence shared count (suc levels) place (ArrayOf items) s
 
   -- a code and an argument in turn
   pub data SaysSteps (shared : Bool) (count : ℕ) : ℕ → ℕ → DataItems → SequenceTree → Type 0 where
     SaysNoSteps : (levels place : ℕ) → SaysSteps shared count levels place NoItems NoSteps
-    SaysStep : (levels place code : ℕ) (argument : DataItem) (others : DataItems) (command : CommandTree) (rest : SequenceTree)
-        → SaysCommand shared count levels (place_after place (UnsignedInteger code)) code argument command
-        → SaysSteps shared count levels (place_after (place_after place (UnsignedInteger code)) argument) others rest
-        → SaysSteps shared count levels place (ItemThen (UnsignedInteger code) (ItemThen argument others)) (StepThen place command rest)
+    SaysStep :
+        (levels place code : ℕ) (argument : DataItem) (others : DataItems) (command : CommandTree)
+        (rest : SequenceTree)
+        → SaysCommand shared count levels (place_after place (UnsignedInteger code)) code argument
+        command
+        → SaysSteps shared count levels
+        (place_after (place_after place (UnsignedInteger code)) argument) others rest
+        → SaysSteps shared count levels place
+        (ItemThen (UnsignedInteger code) (ItemThen argument others))
+        (StepThen place command rest)
 
-  pub data SaysCommand (shared : Bool) (count : ℕ) : ℕ → ℕ → ℕ → DataItem → CommandTree → Type 0 where
-    SaysTest : (levels place : ℕ) (kind : TestKind) (report : ℕ) → report ≤ 15 → SaysCommand shared count levels place (test_code kind) (UnsignedInteger report) (Test kind report)
-    SaysAct : (levels place : ℕ) (kind : ActKind) (report : ℕ) → shared ≡ false → report ≤ 15 → SaysCommand shared count levels place (act_code kind) (UnsignedInteger report) (Act kind report)
-    SaysOne : (levels place i : ℕ) → i < count → SaysCommand shared count levels place 12 (UnsignedInteger i) (Index (One i))
-    SaysAll : (levels place : ℕ) → SaysCommand shared count levels place 12 (Boolean true) (Index All)
-    SaysListed : (levels place : ℕ) (is : List ℕ) → is ≢ [] → AllByRecursion (λ i. i < count) is → SaysCommand shared count levels place 12 (ArrayOf (index_items is)) (Index (Listed is))
-    SaysOverride : (levels place : ℕ) (x : DataItem) (list : List Param) → IsParams count place x list → SaysCommand shared count levels place 20 x (Override list)
-    SaysTry : (levels place : ℕ) (items : DataItems) (branches : BranchesTree) → 2 ≤ item_count items
-        → SaysBranches shared count levels (elements_place place items) items branches → SaysCommand shared count levels place 15 (ArrayOf items) (TryEach branches)
-    SaysRun : (levels place : ℕ) (content : List ℕ) (s : SequenceTree) → SaysInner shared count levels place content s → SaysCommand shared count levels place 32 (ByteString content) (RunSequence s)
+  pub data SaysCommand (shared : Bool) (count : ℕ)
+      : ℕ → ℕ → ℕ → DataItem → CommandTree → Type 0 where
+    SaysTest : (levels place : ℕ) (kind : TestKind) (report : ℕ) → report ≤ 15
+        → SaysCommand shared count levels place (test_code kind) (UnsignedInteger report)
+        (Test kind report)
+    SaysAct : (levels place : ℕ) (kind : ActKind) (report : ℕ) → shared ≡ false → report ≤ 15
+        → SaysCommand shared count levels place (act_code kind) (UnsignedInteger report)
+        (Act kind report)
+    SaysOne : (levels place i : ℕ) → i < count
+        → SaysCommand shared count levels place 12 (UnsignedInteger i) (Index (One i))
+    SaysAll : (levels place : ℕ)
+        → SaysCommand shared count levels place 12 (Boolean true) (Index All)
+    SaysListed : (levels place : ℕ) (is : List ℕ) → is ≢ [] → AllByRecursion (λ i. i < count) is
+        → SaysCommand shared count levels place 12 (ArrayOf (index_items is)) (Index (Listed is))
+    SaysOverride : (levels place : ℕ) (x : DataItem) (list : List Param)
+        → IsParams count place x list → SaysCommand shared count levels place 20 x (Override list)
+    SaysTry : (levels place : ℕ) (items : DataItems) (branches : BranchesTree)
+        → 2 ≤ item_count items
+        → SaysBranches shared count levels (elements_place place items) items branches
+        → SaysCommand shared count levels place 15 (ArrayOf items) (TryEach branches)
+    SaysRun : (levels place : ℕ) (content : List ℕ) (s : SequenceTree)
+        → SaysInner shared count levels place content s
+        → SaysCommand shared count levels place 32 (ByteString content) (RunSequence s)
 
   -- the last branch may be null
-  pub data SaysBranches (shared : Bool) (count : ℕ) : ℕ → ℕ → DataItems → BranchesTree → Type 0 where
+  pub data SaysBranches (shared : Bool) (count : ℕ)
+      : ℕ → ℕ → DataItems → BranchesTree → Type 0 where
     SaysNoBranches : (levels place : ℕ) → SaysBranches shared count levels place NoItems NoBranches
-    SaysNull : (levels place : ℕ) → SaysBranches shared count levels place (ItemThen NullItem NoItems) (NullThen NoBranches)
-    SaysBranch : (levels place : ℕ) (content : List ℕ) (others : DataItems) (s : SequenceTree) (rest : BranchesTree)
-        → SaysInner shared count levels place content s → SaysBranches shared count levels (place_after place (ByteString content)) others rest
-        → SaysBranches shared count levels place (ItemThen (ByteString content) others) (BranchThen s rest)
+    SaysNull : (levels place : ℕ)
+        → SaysBranches shared count levels place (ItemThen NullItem NoItems) (NullThen NoBranches)
+    SaysBranch :
+        (levels place : ℕ) (content : List ℕ) (others : DataItems) (s : SequenceTree)
+        (rest : BranchesTree)
+        → SaysInner shared count levels place content s
+        → SaysBranches shared count levels (place_after place (ByteString content)) others rest
+        → SaysBranches shared count levels place (ItemThen (ByteString content) others)
+        (BranchThen s rest)
 
   -- a byte string with this content holds a sequence
   pub data SaysInner (shared : Bool) (count : ℕ) : ℕ → ℕ → List ℕ → SequenceTree → Type 0 where
-    SaysHeldSequence : (levels place : ℕ) (content : List ℕ) (x : DataItem) (s : SequenceTree) → Spells x content
-        → SaysSequence shared count levels (content_place place content) x s → SaysInner shared count levels place content s
+    SaysHeldSequence : (levels place : ℕ) (content : List ℕ) (x : DataItem) (s : SequenceTree)
+        → Spells x content
+        → SaysSequence shared count levels (content_place place content) x s
+        → SaysInner shared count levels place content s

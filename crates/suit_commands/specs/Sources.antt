@@ -12,7 +12,8 @@ list_sources (_ ∷ list) bits = list_sources list bits
 abbrev mutual
   pub sources_of : SequenceTree → ℕ → ℕ
   sources_of NoSteps bits = bits
-  sources_of (StepThen place command rest) bits = sources_of rest (bit_or bits (command_sources command))
+  sources_of (StepThen place command rest) bits =
+      sources_of rest (bit_or bits (command_sources command))
 
   pub command_sources : CommandTree → ℕ
   command_sources (Test kind report) = 0
@@ -24,5 +25,6 @@ abbrev mutual
 
   pub branches_sources : BranchesTree → ℕ → ℕ
   branches_sources NoBranches bits = bits
-  branches_sources (BranchThen inner rest) bits = branches_sources rest (bit_or bits (sources_of inner 0))
+  branches_sources (BranchThen inner rest) bits =
+      branches_sources rest (bit_or bits (sources_of inner 0))
   branches_sources (NullThen rest) bits = branches_sources rest bits

@@ -20,26 +20,33 @@ IsWriting acts.Invoke = ⊥
 abbrev mutual
   pub Writes : SequenceTree → ℕ → List ℕ → ℕ → Type 0
   Writes NoSteps count selected component = ⊥
-  Writes (StepThen place command rest) count selected component = CommandWrites command count selected component ⊎ Writes rest count (selected_after command count selected) component
+  Writes (StepThen place command rest) count selected component =
+      CommandWrites command count selected component
+      ⊎ Writes rest count (selected_after command count selected) component
 
   pub CommandWrites : CommandTree → ℕ → List ℕ → ℕ → Type 0
   CommandWrites (Test kind report) count selected component = ⊥
-  CommandWrites (Act kind report) count selected component = IsWriting kind × Among component selected
+  CommandWrites (Act kind report) count selected component =
+      IsWriting kind × Among component selected
   CommandWrites (Index selection) count selected component = ⊥
   CommandWrites (Override list) count selected component = ⊥
-  CommandWrites (TryEach tries) count selected component = (outer : ℕ) × Among outer selected × BranchesWrite tries count outer component
-  CommandWrites (RunSequence inner) count selected component = (outer : ℕ) × Among outer selected × Writes inner count (outer ∷ []) component
+  CommandWrites (TryEach tries) count selected component =
+      (outer : ℕ) × Among outer selected × BranchesWrite tries count outer component
+  CommandWrites (RunSequence inner) count selected component =
+      (outer : ℕ) × Among outer selected × Writes inner count (outer ∷ []) component
 
   pub BranchesWrite : BranchesTree → ℕ → ℕ → ℕ → Type 0
   BranchesWrite NoBranches count outer component = ⊥
-  BranchesWrite (BranchThen inner rest) count outer component = Writes inner count (outer ∷ []) component ⊎ BranchesWrite rest count outer component
+  BranchesWrite (BranchThen inner rest) count outer component =
+      Writes inner count (outer ∷ []) component ⊎ BranchesWrite rest count outer component
   BranchesWrite (NullThen rest) count outer component = BranchesWrite rest count outer component
 
 -- ---- swaps, and the sources that overrides name
 
 abbrev pub NamesSource : List Param → ℕ → Type 0
 NamesSource [] component = ⊥
-NamesSource (params.Source source ∷ list) component = (component ≡ source) ⊎ NamesSource list component
+NamesSource (params.Source source ∷ list) component =
+    (component ≡ source) ⊎ NamesSource list component
 NamesSource (_ ∷ list) component = NamesSource list component
 
 abbrev mutual
@@ -63,7 +70,8 @@ abbrev mutual
 abbrev mutual
   pub Sources : SequenceTree → ℕ → Type 0
   Sources NoSteps component = ⊥
-  Sources (StepThen place command rest) component = CommandSources command component ⊎ Sources rest component
+  Sources (StepThen place command rest) component =
+      CommandSources command component ⊎ Sources rest component
 
   pub CommandSources : CommandTree → ℕ → Type 0
   CommandSources (Test kind report) component = ⊥
@@ -75,7 +83,8 @@ abbrev mutual
 
   pub BranchesSource : BranchesTree → ℕ → Type 0
   BranchesSource NoBranches component = ⊥
-  BranchesSource (BranchThen inner rest) component = Sources inner component ⊎ BranchesSource rest component
+  BranchesSource (BranchThen inner rest) component =
+      Sources inner component ⊎ BranchesSource rest component
   BranchesSource (NullThen rest) component = BranchesSource rest component
 
 -- ---- of a procedure. Each sequence begins with component 0 selected.
@@ -86,4 +95,5 @@ InSome plan has = has plan.shared ⊎ has plan.first ⊎ has plan.second ⊎ has
 
 abbrev pub IsTarget : PlanTree → ℕ → Type 0
 IsTarget plan component =
-    InSome plan (λ s. Writes s plan.count (0 ∷ []) component) ⊎ (InSome plan Swaps × InSome plan (λ s. Sources s component))
+    InSome plan (λ s. Writes s plan.count (0 ∷ []) component)
+    ⊎ (InSome plan Swaps × InSome plan (λ s. Sources s component))

@@ -27,7 +27,8 @@ ways_repeated zero ways = start_ways
 ways_repeated (suc n) ways = ways_then (ways_repeated n ways) ways
 
 abbrev pub tried_ways : BranchesTree → ℕ → Ways
-tried_ways branches count = record { on = branches_done branches count; off = branches_failed branches count }
+tried_ways branches count =
+    record { on = branches_done branches count; off = branches_failed branches count }
 
 -- a sequence inside, after which the next command may follow also where it ended by a condition
 abbrev pub inner_ways : Ways → Ways

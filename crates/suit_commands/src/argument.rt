@@ -78,7 +78,7 @@ fn read_listed(
     Ok(Selection::Listed(indices))
 }
 
-/// What set component index selects, where there are so many components.
+/// The selection of a set component index, where there are so many components.
 #[tactic(auto, unfolding(crate::specs::SequenceReading::selection_from))]
 pub(crate) fn read_selection(
     alloc: Global,

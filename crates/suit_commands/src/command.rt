@@ -4,6 +4,9 @@ ghost use Rattle.std.specs.Prelude.{◌≡◌, OnOk, OnErr};
 ghost use Rattle.suit_commands.specs.Tree.{NoSteps, NoBranches};
 ghost use Rattle.suit_commands.specs.View.{command_tree, sequence_tree, branches_tree, step_after, branch_after};
 
+#[cfg(test)]
+mod tests;
+
 use crate::{ActKind, Selection, TestKind};
 use std::alloc::{AllocError, Global};
 use std::marker::Model;
@@ -119,7 +122,8 @@ impl Sequence {
     /// Adds a command at the end. A command for which there is no memory is dropped.
     #[tactic(auto, using(crate::proofs::Pushing::step_pushed))]
     pub fn push(&mut self, step: Step) -> Result<(), AllocError>
-        ensures ok { OnOk result (self.new ≡ step_after self.old step.place (command_tree step.command)) }
+        ensures ok { OnOk result
+            (self.new ≡ step_after self.old step.place (command_tree step.command)) }
         ensures err { OnErr result (self.new ≡ self.old) }
     {
         Ok(self.held.push(step)?)

@@ -10,6 +10,9 @@ ghost use Rattle.suit_commands.specs.SequenceFaults.{RefusesSequence};
 ghost use Rattle.suit_commands.specs.SequenceReading.{whole_sequence};
 ghost use Rattle.suit_commands.specs.Tree.{SequenceTree};
 
+#[cfg(test)]
+mod tests;
+
 use crate::Sequence;
 use crate::sequence_reading::read_array;
 use det_cbor::Cursor;
@@ -28,7 +31,8 @@ fn whole_sequence(
     count: u32,
 ) -> Result<Sequence, Fault>
     requires { place + length bytes.now < 2 ^ 64 }
-    ensures { Gives (λ s. s) result (whole_sequence shared count levels_inside (record { left = bytes.now; place = place })) }
+    ensures { Gives (λ s. s) result
+        (whole_sequence shared count levels_inside (record { left = bytes.now; place = place })) }
 {
     let item = only_item(Cursor::new(bytes, place))?;
     read_array(alloc, item, MAX_LEVELS - 1, shared, count)
@@ -50,11 +54,18 @@ pub fn decode_sequence(
     count: u32,
 ) -> Result<Sequence, Fault>
     requires { place + length bytes.now < 2 ^ 64 }
-    ensures exact { Gives (λ s. s) result (whole_sequence shared count levels_inside (record { left = bytes.now; place = place })) }
-    ensures ok { IfOk result (λ s. SaysWhole (SaysSequence shared count levels_allowed) place bytes.now s) }
-    ensures refused { IfErr result (IsFaultBy (RefusesWhole (RefusesSequence shared count levels_allowed) place bytes.now)) }
-    ensures every_sequence { (s : SequenceTree) → SaysWhole (SaysSequence shared count levels_allowed) place bytes.now s → IsReadAs s result }
-    ensures every_refusal { (r : Refusal) → RefusesWhole (RefusesSequence shared count levels_allowed) place bytes.now r → IsRefusedAs r result }
+    ensures exact { Gives (λ s. s) result
+        (whole_sequence shared count levels_inside (record { left = bytes.now; place = place })) }
+    ensures ok { IfOk result
+        (λ s. SaysWhole (SaysSequence shared count levels_allowed) place bytes.now s) }
+    ensures refused { IfErr result
+        (IsFaultBy (RefusesWhole (RefusesSequence shared count levels_allowed) place bytes.now)) }
+    ensures every_sequence { (s : SequenceTree)
+        → SaysWhole (SaysSequence shared count levels_allowed) place bytes.now s
+        → IsReadAs s result }
+    ensures every_refusal { (r : Refusal)
+        → RefusesWhole (RefusesSequence shared count levels_allowed) place bytes.now r
+        → IsRefusedAs r result }
 {
     whole_sequence(alloc, bytes, place, shared, count)
 }

@@ -67,7 +67,8 @@ fn push_steps(alloc: Global, out: &mut Bytes, sequence: &Sequence) -> Result<(),
 
 #[cycle(push)]
 fn push_argument(alloc: Global, out: &mut Bytes, command: &Command) -> Result<(), AllocError>
-    ensures ok { OnOk result (out.new ≡ out.old ++ spell (argument_item (command_tree command.now))) }
+    ensures ok { OnOk result
+        (out.new ≡ out.old ++ spell (argument_item (command_tree command.now))) }
     ensures fits { OnOk result (CommandFits (command_tree command.now)) }
 {
     match command {

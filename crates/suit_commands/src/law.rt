@@ -1,4 +1,4 @@
-//! What holds of all sequences of commands and all procedures, whatever reads them or computes of them.
+//! Laws of all sequences of commands and all procedures, whatever reads them or computes of them.
 
 ghost use Rattle.suit_commands.specs.NumberLaws.{NumberLaws, TargetLaws};
 ghost use Rattle.suit_commands.specs.SequenceLaws.{SequenceLaws};

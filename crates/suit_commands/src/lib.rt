@@ -39,12 +39,4 @@ pub use plan_targets::targets;
 pub use selection::Selection;
 
 #[cfg(test)]
-mod decode_tests;
-#[cfg(test)]
-mod number_tests;
-#[cfg(test)]
-mod target_tests;
-#[cfg(test)]
 mod tree_makers;
-#[cfg(test)]
-mod tree_tests;

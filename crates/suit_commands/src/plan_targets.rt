@@ -7,6 +7,9 @@ ghost use Rattle.suit_commands.specs.Indexed.{AreIndexed};
 ghost use Rattle.suit_commands.specs.Plans.{lent_tree, plan_tree};
 ghost use Rattle.suit_commands.specs.Targets.{Writes, Swaps, Sources, InSome, IsTarget};
 
+#[cfg(test)]
+mod tests;
+
 use crate::reach_walk::sequence_reach;
 use crate::source_walk::sequence_sources;
 use crate::swap_walk::has_swap;
@@ -18,7 +21,8 @@ use crate::{Plan, Sequence, Targets};
 /// procedure's components.
 pub fn targets(plan: &Plan<'_>) -> Targets
     requires { IsPlan (plan_tree plan.now) }
-    ensures { (component : ℕ) → HasBit result.bits component ↔ IsTarget (plan_tree plan.now) component }
+    ensures { (component : ℕ)
+        → HasBit result.bits component ↔ IsTarget (plan_tree plan.now) component }
 {
     let written = written_by(plan);
     if swaps_in(plan) {
@@ -31,7 +35,9 @@ pub fn targets(plan: &Plan<'_>) -> Targets
 
 fn written_by(plan: &Plan<'_>) -> u32
     requires { IsPlan (plan_tree plan.now) }
-    ensures { (component : ℕ) → HasBit result component ↔ InSome (plan_tree plan.now) (λ s. Writes s plan.now.count (0 ∷ []) component) }
+    ensures { (component : ℕ)
+        → HasBit result component
+        ↔ InSome (plan_tree plan.now) (λ s. Writes s plan.now.count (0 ∷ []) component) }
 {
     let shared = lent_written(plan.shared, plan.count);
     let first = lent_written(plan.first, plan.count);
@@ -51,7 +57,8 @@ fn swaps_in(plan: &Plan<'_>) -> bool
 
 fn sources_in(plan: &Plan<'_>) -> u32
     requires { IsPlan (plan_tree plan.now) }
-    ensures { (component : ℕ) → HasBit result component ↔ InSome (plan_tree plan.now) (λ s. Sources s component) }
+    ensures { (component : ℕ)
+        → HasBit result component ↔ InSome (plan_tree plan.now) (λ s. Sources s component) }
 {
     let shared = lent_sources(plan.shared, plan.count);
     let first = lent_sources(plan.first, plan.count);
@@ -60,12 +67,13 @@ fn sources_in(plan: &Plan<'_>) -> u32
     shared | (first | (second | third))
 }
 
-/// What a sequence writes that begins with component 0 selected.
+/// The components that a sequence writes which begins with component 0 selected.
 fn lent_written(sequence: Option<&Sequence>, count: u32) -> u32
     requires indexed { AreIndexed count (lent_tree sequence) }
     requires some { 1 ≤ count }
     requires few { count ≤ 8 }
-    ensures { (component : ℕ) → HasBit result component ↔ Writes (lent_tree sequence.entry) count (0 ∷ []) component }
+    ensures { (component : ℕ)
+        → HasBit result component ↔ Writes (lent_tree sequence.entry) count (0 ∷ []) component }
 {
     match sequence {
         Some(sequence) => {
@@ -92,7 +100,8 @@ fn lent_swaps(sequence: Option<&Sequence>) -> bool
 fn lent_sources(sequence: Option<&Sequence>, count: u32) -> u32
     requires indexed { AreIndexed count (lent_tree sequence) }
     requires few { count ≤ 8 }
-    ensures { (component : ℕ) → HasBit result component ↔ Sources (lent_tree sequence.entry) component }
+    ensures { (component : ℕ)
+        → HasBit result component ↔ Sources (lent_tree sequence.entry) component }
 {
     match sequence {
         Some(sequence) => sequence_sources(sequence, count),

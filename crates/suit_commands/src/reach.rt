@@ -1,4 +1,4 @@
-//! What a part of a sequence writes, whichever components are selected before it.
+//! The components that a part of a sequence writes, whichever are selected before it.
 
 ghost use Rattle.std.specs.Prelude.{◌≡◌, ◌<◌, ◌≤◌, ◌^◌};
 ghost use Rattle.std.specs.List.{AllByRecursion};

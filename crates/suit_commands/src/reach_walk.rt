@@ -1,4 +1,4 @@
-//! What a sequence writes. Each sequence inside is walked once, whichever components are selected there.
+//! The components that a sequence writes. Each sequence inside is walked once, whichever components are selected there.
 
 ghost use Rattle.std.specs.Prelude.{◌≡◌, ◌≤◌};
 ghost use Rattle.suit_commands.specs.Indexed.{AreIndexed, IsIndexed, BranchesIndexed};
@@ -23,7 +23,7 @@ fn reach_after(command: &Command, count: u32, selected: Reach) -> Reach
     }
 }
 
-/// What a sequence writes.
+/// The components that a sequence writes.
 #[cycle(reach)]
 pub(crate) fn sequence_reach(sequence: &Sequence, count: u32) -> Reach
     requires indexed { AreIndexed count sequence.now }
@@ -40,7 +40,7 @@ pub(crate) fn sequence_reach(sequence: &Sequence, count: u32) -> Reach
     total
 }
 
-/// What a command writes.
+/// The components that a command writes.
 #[cycle(reach)]
 fn command_reach(command: &Command, count: u32) -> Reach
     requires indexed { IsIndexed count (command_tree command.now) }
@@ -58,7 +58,7 @@ fn command_reach(command: &Command, count: u32) -> Reach
     }
 }
 
-/// What the sequences of a try each write together.
+/// The components that the sequences of a try each write together.
 #[cycle(reach)]
 fn branches_reach(branches: &Branches, count: u32) -> Reach
     requires indexed { BranchesIndexed count branches.now }

@@ -2,7 +2,7 @@
 
 use crate::IndexList;
 
-/// What set component index selects (draft-ietf-suit-manifest-25, section 8.4.10.1).
+/// The selection of a set component index (draft-ietf-suit-manifest-25, section 8.4.10.1).
 #[derive(Debug, Drop)]
 pub enum Selection {
     /// The component with this index.

@@ -45,7 +45,8 @@ pub(crate) fn read_array(
     shared: bool,
     count: u32,
 ) -> Result<Sequence, Fault>
-    ensures { Gives (λ s. s) result (sequence_at (nested_from shared count levels) shared count item.entry) }
+    ensures { Gives (λ s. s) result
+        (sequence_at (nested_from shared count levels) shared count item.entry) }
 {
     let place = item.place();
     let head = read_head(&mut item)?;
@@ -73,7 +74,8 @@ fn read_steps(
     shared: bool,
     count: u32,
 ) -> Result<Sequence, Fault>
-    ensures { Gives (λ s. s) result (steps_from (nested_from shared count levels) shared count steps cursor.entry) }
+    ensures { Gives (λ s. s) result
+        (steps_from (nested_from shared count levels) shared count steps cursor.entry) }
 {
     let mut sequence = Sequence::new(alloc);
     for _ in 0..steps {
@@ -93,7 +95,8 @@ fn read_step(
     shared: bool,
     count: u32,
 ) -> Result<Command, Fault>
-    ensures { Gives (λ c. (command_tree c, cursor.new)) result (step_from (nested_from shared count levels) shared count cursor.old) }
+    ensures { Gives (λ c. (command_tree c, cursor.new)) result
+        (step_from (nested_from shared count levels) shared count cursor.old) }
 {
     let code = read_code(cursor, shared)?;
     read_argument(alloc, cursor, code, levels, shared, count)
@@ -108,7 +111,8 @@ fn read_argument(
     shared: bool,
     count: u32,
 ) -> Result<Command, Fault>
-    ensures { Gives (λ c. (command_tree c, cursor.new)) result (argument_from (nested_from shared count levels) count code cursor.old) }
+    ensures { Gives (λ c. (command_tree c, cursor.new)) result
+        (argument_from (nested_from shared count levels) count code cursor.old) }
 {
     match code {
         CommandCode::Test(kind) => {
@@ -142,7 +146,8 @@ fn read_run(
     shared: bool,
     count: u32,
 ) -> Result<Sequence, Fault>
-    ensures { Gives (λ s. (s, cursor.new)) result (run_from (nested_from shared count levels) cursor.old) }
+    ensures { Gives (λ s. (s, cursor.new)) result
+        (run_from (nested_from shared count levels) cursor.old) }
 {
     let place = cursor.place();
     let head = read_head(cursor)?;
@@ -164,7 +169,8 @@ fn read_try(
     shared: bool,
     count: u32,
 ) -> Result<Branches, Fault>
-    ensures { Gives (λ bs. (bs, cursor.new)) result (try_from (nested_from shared count levels) cursor.old) }
+    ensures { Gives (λ bs. (bs, cursor.new)) result
+        (try_from (nested_from shared count levels) cursor.old) }
 {
     let place = cursor.place();
     let head = read_head(cursor)?;
@@ -190,7 +196,8 @@ fn read_branches(
     shared: bool,
     count: u32,
 ) -> Result<Branches, Fault>
-    ensures { Gives (λ bs. (bs, cursor.new)) result (branches_from (nested_from shared count levels) number cursor.old) }
+    ensures { Gives (λ bs. (bs, cursor.new)) result
+        (branches_from (nested_from shared count levels) number cursor.old) }
 {
     let mut branches = Branches::new(alloc);
     for done in 0..number {
@@ -212,7 +219,8 @@ fn read_branch(
     shared: bool,
     count: u32,
 ) -> Result<Option<Sequence>, Fault>
-    ensures { Gives (λ b. (b, cursor.new)) result (branch_from (nested_from shared count levels) last cursor.old) }
+    ensures { Gives (λ b. (b, cursor.new)) result
+        (branch_from (nested_from shared count levels) last cursor.old) }
 {
     let place = cursor.place();
     let head = read_head(cursor)?;

@@ -1,4 +1,4 @@
--- What no disk is free to do.
+-- Bounds on every disk.
 use Rattle.std.proofs.Common.{sym, subst, arith}
 use Rattle.std.specs.Prelude.{ℕ}
 use Rattle.suit_edge.specs.Flash.{Flash, IsFlash}

@@ -1,4 +1,4 @@
--- What the clauses on disks leave no disk free to do.
+-- Bounds that the clauses on disks set every disk.
 use Rattle.std.specs.Prelude.{◌≡◌, ◌≤◌, ℕ, List, length}
 use Rattle.suit_edge.specs.Flash.{Flash, Now, Grows, IsSame, IsSettled}
 

@@ -1,4 +1,4 @@
--- What holds by the answer of a call on the outside.
+-- Facts that the answer of a call on the outside tells.
 use Rattle.suit_edge.specs.declared.edge.Edge.{Edge}
 use Rattle.suit_edge.specs.declared.edge.Edge.TheVariants as edge
 

@@ -1,4 +1,4 @@
--- What a launch is told to start, and what becomes of the list of launches.
+-- A launch, and what becomes of the list of launches.
 use Rattle.std.specs.Prelude.{◌≡◌, ◌+◌, ◌≤◌, ℕ, Bool, IsTrue, List, [], ◌∷◌, ◌++◌, length, slice_range, Option}
 use Rattle.suit_edge.specs.declared.launch.Launch.{Launch}
 use Rattle.suit_edge.specs.declared.launcher.Image.{Image}

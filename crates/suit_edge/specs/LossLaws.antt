@@ -1,4 +1,4 @@
--- What a power loss may leave of a disk in memory, by the writes since the last sync.
+-- The images that a power loss may leave of a disk in memory, by the writes since the last sync.
 use Rattle.std.specs.Prelude.{◌↔◌, ◌∷◌, ◌++◌, ℕ, List, map}
 use Rattle.suit_edge.specs.declared.step.Write.{Write}
 use Rattle.suit_edge.specs.declared.step.Step.{Step}

@@ -1,4 +1,4 @@
--- What a disk in memory holds, and what a call makes of it.
+-- A disk in memory, and what a call makes of it.
 use Rattle.std.specs.Prelude.{◌≡◌, ◌≤◌, ◌+◌, ℕ, List, [], ◌∷◌, ◌++◌, length, take, drop, slice_range}
 use Rattle.suit_edge.specs.declared.edge.Edge.{Edge}
 use Rattle.suit_edge.specs.declared.edge.Edge.TheVariants as edge

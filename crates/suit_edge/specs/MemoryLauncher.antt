@@ -1,4 +1,4 @@
--- What a launcher in memory holds, and what a call makes of it.
+-- A launcher in memory, and what a call makes of it.
 use Rattle.std.specs.Prelude.{◌≡◌, ℕ, List}
 use Rattle.suit_edge.specs.declared.launch.Launch.{Launch}
 use Rattle.suit_edge.specs.declared.launcher.Launched.{Launched}

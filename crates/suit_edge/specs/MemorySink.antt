@@ -1,4 +1,4 @@
--- What a sink in memory holds, and what a call makes of it.
+-- A sink in memory, and what a call makes of it.
 use Rattle.std.specs.Prelude.{◌≡◌, ℕ, List, ◌++◌}
 use Rattle.suit_edge.specs.declared.edge.Edge.{Edge}
 use Rattle.suit_edge.specs.declared.edge.Edge.TheVariants as edge

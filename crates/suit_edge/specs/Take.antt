@@ -1,4 +1,4 @@
--- What the taking of a whole file gives.
+-- The outcome of taking a whole file.
 use Rattle.std.specs.Prelude.{◌≡◌, ◌<◌, ◌≤◌, ℕ, List, length, Option, Some, None}
 use Rattle.suit_edge.specs.declared.take.Taken.{Taken}
 use Rattle.suit_edge.specs.declared.take.Taken.TheVariants as taken

@@ -13,7 +13,7 @@ pub trait Disk {
     /// Whether disks of this type tell what they hold.
     ghost told: { Bool };
 
-    /// What reads give, and what a power loss may leave.
+    /// The content that reads give, and what a power loss may leave.
     ghost flash: { Self → Flash };
 
     /// The number of bytes, which no call changes.

@@ -1,4 +1,4 @@
-//! What no clause says: that calls come to an end well, what a cut write leaves, and what the real file holds.
+//! Tests of what no clause says: that calls come to an end well, what a cut write leaves, and what the real file holds.
 
 ghost use Rattle.std.specs.Prelude.{◌≡◌, ◌≤◌, IfOk, length};
 ghost use Rattle.suit_edge.specs.Flash.{IsFirmOn, IsSettled};
@@ -71,7 +71,7 @@ fn with_fuse(alloc: Global, passes: u64) -> Result<FuseDisk, AllocError>
     Ok(FuseDisk::new(disk, passes))
 }
 
-// What a power loss leaves.
+// The content after a power loss.
 fn left_of(disk: &MemoryDisk, alloc: Global, choice: u64) -> Result<[u8; SIZE], AllocError>
     requires { length disk.now.first ≡ SIZE }
 {

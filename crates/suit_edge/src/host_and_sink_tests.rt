@@ -1,4 +1,4 @@
-//! What no clause says: that calls come to an end well, and what the real objects do.
+//! Tests of what no clause says: that calls come to an end well, and what the real objects do.
 
 use crate::{
     Edge, FileHost, Host, MemoryHost, MemorySink, Pulled, Sink, Started, StdSink, Taken, take_all,

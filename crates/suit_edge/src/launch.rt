@@ -1,4 +1,4 @@
-//! What was launched.
+//! The launches so far.
 
 ghost use Rattle.std.specs.Prelude.{◌≡◌, [], ◌∷◌, ◌++◌, length, IfSome, IsSome, IsTrue, OnOk, OnErr, slice_get, ◌↔◌, ◌<◌};
 ghost use Rattle.std.specs.Option.{option_copied};

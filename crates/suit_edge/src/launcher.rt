@@ -17,7 +17,7 @@ pub enum Image<'a> {
     Ram(&'a [u8]),
 }
 
-/// What a launch came to.
+/// The outcome of a launch.
 #[derive(Clone, Copy, Debug, PartialEq, Eq)]
 pub enum Launched {
     /// The image was launched, and what it started has ended.
@@ -28,12 +28,12 @@ pub enum Launched {
     Failed,
 }
 
-/// What starts images.
+/// A thing that starts images.
 pub trait Launcher {
     /// Whether launchers of this type tell what they launched.
     ghost told: { Bool };
 
-    /// What was launched.
+    /// The launches so far.
     ghost launches: { Self → List Launch };
 
     /// How often a call has failed.

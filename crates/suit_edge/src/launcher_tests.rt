@@ -1,4 +1,4 @@
-//! What no clause says: that launches come to an end well, and what the real files hold.
+//! Tests of what no clause says: that launches come to an end well, and what the real files hold.
 
 use crate::{
     Disk, Edge, FileLauncher, FuseDisk, Image, Launched, Launcher, MemoryDisk, MemoryLauncher,

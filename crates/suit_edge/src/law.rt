@@ -11,14 +11,14 @@ ghost use Rattle.suit_edge.specs.SinkLaws.{SinkLaws};
 
 use crate::Disk;
 
-/// What the trait leaves no disk free to do between two moments of its life. A sync that leaves a write pending, a clock
+/// Bounds on every disk between two moments of its life. A sync that leaves a write pending, a clock
 /// that goes back, an image of another length, and reads that give no image are all refused by it. A disk whose clock
 /// stands still while its bytes change never again makes sure of them: none of its syncs is done.
 pub fn disk_laws<D: Disk>(before: &D, after: &D)
     ensures { IsTrue D.told → DiskLaw (D.extent before.now) (D.flash before.now) (D.flash after.now) }
 {}
 
-/// What a power loss leaves of a disk in memory: any bytes in each range written since the last sync, and all else as
+/// The images that a power loss leaves of a disk in memory: any bytes in each range written since the last sync, and all else as
 /// reads give it.
 pub fn loss_laws()
     ensures { LossLaw }
@@ -29,12 +29,12 @@ pub fn fault_laws()
     ensures { FaultLaws }
 {}
 
-/// What the calls of a host give one after another.
+/// The answers of a host's calls, one after another.
 pub fn host_laws()
     ensures { HostLaws }
 {}
 
-/// What a sink has been given, after a put that was done and after one that failed.
+/// The bytes that a sink has been given, after a put that was done and after one that failed.
 pub fn sink_laws()
     ensures { SinkLaws }
 {}

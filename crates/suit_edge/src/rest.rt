@@ -1,4 +1,4 @@
-//! What is left of a file.
+//! The bytes of a file that are left.
 
 ghost use Rattle.std.specs.Prelude.{◌≡◌, [], ◌++◌, length, take, drop, min};
 

@@ -7,7 +7,7 @@ use crate::{Host, Pulled, Started};
 use det_cbor::Bytes;
 use std::alloc::{AllocError, Global};
 
-/// What the taking of a whole file came to.
+/// The outcome of taking a whole file.
 #[derive(Debug, Drop)]
 pub enum Taken {
     /// The bytes of the file.
@@ -43,7 +43,7 @@ pub fn take_all<H: Host>(alloc: Global, host: &mut H, name: &str, limit: u64) ->
     }
 }
 
-// What is left of the file that was started.
+// The rest of the file that was started.
 fn take_rest<H: Host>(alloc: Global, host: &mut H, limit: u64) -> Taken
     ensures files { IsTrue H.told → H.file host.new ≡ H.file host.old }
     ensures takes { IsTrue H.told → TakesRest result (H.rest host.old) limit }

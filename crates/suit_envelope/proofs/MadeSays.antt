@@ -1,4 +1,4 @@
--- What an envelope that is made of its parts says.
+-- An envelope that is made of its parts says these parts.
 use Rattle.std.proofs.Common.{◌≡◌, ◌≢◌, ℕ, ◌+◌, true, List, [], ◌∷◌, length, Option, Some, None, refl, sym, ap, subst}
 use Rattle.std.specs.List.{AllByRecursion}
 use Rattle.det_cbor.specs.Heads.{head_bytes}

@@ -1,4 +1,4 @@
--- What a walk over the blocks of a wrapper gives.
+-- The blocks that a walk over a wrapper gives.
 use Rattle.std.proofs.Common.{◌≡◌, ℕ, zero, suc, List, ◌∷◌, length, Ok, Err, ap, ◌∙◌}
 use Rattle.det_cbor.specs.HeadReading.{◌>>=◌}
 use Rattle.det_cbor.specs.Position.{Position}

@@ -27,11 +27,17 @@ pub record IsAuthentic (wrapper manifest key : List ℕ) : Type 0 where
 
 -- the answer to a wrapper that states this digest and has these blocks; the digest is judged first
 abbrev pub AnswersAuthentic : List ℕ → List (List ℕ) → List ℕ → List ℕ → Authenticity → Type 0
-AnswersAuthentic digest blocks manifest key answers.Yes = (digest ≡ string_digest manifest) × SomeVerifies key (payload_of digest) blocks
-AnswersAuthentic digest blocks manifest key (answers.DigestDiffers stated found) = (stated.bytes ≡ digest) × (found.bytes ≡ string_digest manifest) × (digest ≢ string_digest manifest)
-AnswersAuthentic digest blocks manifest key answers.NoMac = (digest ≡ string_digest manifest) × AllByRecursion IsOther blocks
+AnswersAuthentic digest blocks manifest key answers.Yes =
+    (digest ≡ string_digest manifest) × SomeVerifies key (payload_of digest) blocks
+AnswersAuthentic digest blocks manifest key (answers.DigestDiffers stated found) =
+    (stated.bytes ≡ digest) × (found.bytes ≡ string_digest manifest)
+    × (digest ≢ string_digest manifest)
+AnswersAuthentic digest blocks manifest key answers.NoMac =
+    (digest ≡ string_digest manifest) × AllByRecursion IsOther blocks
 AnswersAuthentic digest blocks manifest key (answers.MacDiffers expected found) =
-    (digest ≡ string_digest manifest) × AllByRecursion (FailsToVerify key (payload_of digest)) blocks × FirstDiffers key (payload_of digest) expected found.now blocks
+    (digest ≡ string_digest manifest)
+    × AllByRecursion (FailsToVerify key (payload_of digest)) blocks
+    × FirstDiffers key (payload_of digest) expected found.now blocks
 
 -- a difference that is told is one
 abbrev pub TellsDifference : Authenticity → Type 0
@@ -42,9 +48,11 @@ TellsDifference _ = Unit {0}
 -- two answers tell the same
 abbrev pub TellSame : Authenticity → Authenticity → Type 0
 TellSame answers.Yes answers.Yes = Unit {0}
-TellSame (answers.DigestDiffers stated found) (answers.DigestDiffers other_stated other_found) = (stated ≡ other_stated) × (found ≡ other_found)
+TellSame (answers.DigestDiffers stated found) (answers.DigestDiffers other_stated other_found) =
+    (stated ≡ other_stated) × (found ≡ other_found)
 TellSame answers.NoMac answers.NoMac = Unit {0}
-TellSame (answers.MacDiffers expected found) (answers.MacDiffers other_expected other_found) = (expected ≡ other_expected) × (found.now ≡ other_found.now)
+TellSame (answers.MacDiffers expected found) (answers.MacDiffers other_expected other_found) =
+    (expected ≡ other_expected) × (found.now ≡ other_found.now)
 TellSame _ _ = ⊥
 
 -- the content of the wrapper's first byte string, and what follows it

@@ -1,4 +1,4 @@
--- What an envelope says is what stands under the numbers of its map (draft-ietf-suit-manifest-25, section 8.2).
+-- An envelope says what stands under the numbers of its map (draft-ietf-suit-manifest-25, section 8.2).
 use Rattle.std.specs.Prelude.{◌≡◌, ℕ, if◌then◌else◌, List, [], ◌∷◌, Option, Some, None, option_map}
 use Rattle.std.specs.Option.{option_map_or}
 use Rattle.det_cbor.specs.DataItem.{DataItem, ByteString}

@@ -1,4 +1,4 @@
--- What holds of all envelopes, whatever reads them (draft-ietf-suit-manifest-25, section 8.2).
+-- Laws of all envelopes, whatever reads them (draft-ietf-suit-manifest-25, section 8.2).
 use Rattle.std.specs.Prelude.{◌<◌, ℕ, List, length}
 use Rattle.det_cbor.specs.DataItem.{IsString}
 use Rattle.suit_params.specs.OneWhole.{HasOneAnswer}
@@ -15,12 +15,20 @@ use Rattle.suit_envelope.specs.WrapperParts.{HasWrapper}
 -- wrapper is one, and its parts end within its bytes and are byte strings; the trimmed envelope says its two parts
 pub record EnvelopeLaws : Type 0 where
   pub whole : HasOneAnswer IsEnvelope RefusesEnvelope
-  pub entries : (bytes : List ℕ) (said : EnvelopeSays) (envelope : EnvelopeOf bytes said) → SaysEntries (map_entries envelope.says_so.map) said
-  pub wrapper : (bytes : List ℕ) (said : EnvelopeSays) → EnvelopeOf bytes said → HasWrapper said.wrapper
-  pub ends : (bytes : List ℕ) (said : EnvelopeSays) (limit : ℕ) → EnvelopeOf bytes said → length bytes < limit → PartsEndBelow limit said
-  pub strings : (bytes : List ℕ) (said : EnvelopeSays) → EnvelopeOf bytes said → PartsAreStrings said
-  pub trims : (wrapper manifest : List ℕ) → HasWrapper wrapper → IsString wrapper → IsString manifest → IsTrimmed wrapper manifest (trimmed wrapper manifest)
+  pub entries : (bytes : List ℕ) (said : EnvelopeSays) (envelope : EnvelopeOf bytes said)
+      → SaysEntries (map_entries envelope.says_so.map) said
+  pub wrapper : (bytes : List ℕ) (said : EnvelopeSays) → EnvelopeOf bytes said
+      → HasWrapper said.wrapper
+  pub ends : (bytes : List ℕ) (said : EnvelopeSays) (limit : ℕ) → EnvelopeOf bytes said
+      → length bytes < limit → PartsEndBelow limit said
+  pub strings : (bytes : List ℕ) (said : EnvelopeSays) → EnvelopeOf bytes said
+      → PartsAreStrings said
+  pub trims : (wrapper manifest : List ℕ) → HasWrapper wrapper → IsString wrapper
+      → IsString manifest → IsTrimmed wrapper manifest (trimmed wrapper manifest)
 
 -- the law: whatever is answered of a wrapper, a manifest and a key tells the same
 abbrev pub AuthenticityLaw : Type 0
-AuthenticityLaw = (digest : List ℕ) (blocks : List (List ℕ)) (manifest key : List ℕ) (a b : Authenticity) → AnswersAuthentic digest blocks manifest key a → AnswersAuthentic digest blocks manifest key b → TellSame a b
+AuthenticityLaw =
+    (digest : List ℕ) (blocks : List (List ℕ)) (manifest key : List ℕ) (a b : Authenticity)
+    → AnswersAuthentic digest blocks manifest key a
+    → AnswersAuthentic digest blocks manifest key b → TellSame a b

@@ -31,12 +31,15 @@ see s Manifest = record s { manifest = true }
 see s _ = s
 
 abbrev pub all_seen : ℕ → Seen → Result Unit Refusal
-all_seen place s = if s.wrapper then (if s.manifest then Ok tt else Err (refused place (Missing 3))) else Err (refused place (Missing 2))
+all_seen place s =
+    if s.wrapper then (if s.manifest then Ok tt else Err (refused place (Missing 3)))
+    else Err (refused place (Missing 2))
 
 -- ---- values
 
 -- the next item, as a value: its content, where it is a byte string
-abbrev pub value_by : Position → Result (Position × Position) Refusal → Result (Option Position × Position) Refusal
+abbrev pub value_by : Position → Result (Position × Position) Refusal
+    → Result (Option Position × Position) Refusal
 value_by p (Ok c) = Ok (Some c.0, c.1)
 value_by p (Err r) = inner_from p >>= λ x. Ok (None, x.1)
 
@@ -74,11 +77,18 @@ pub record PairsSay : Type 0 where
 
 -- one pair more, whose value stands at a place
 abbrev pub pair_more : PairsSay → Key → ℕ → Option Position → PairsSay
-pair_more s key place value = record { seen = see s.seen key; said = put_content s.said key value; judged = value_judged s.judged place key value }
+pair_more s key place value =
+    record {
+      seen = see s.seen key;
+      said = put_content s.said key value;
+      judged = value_judged s.judged place key value;
+    }
 
 -- the next pair, whose key is known
 abbrev pub pair_turn : Position → PairsSay → Result (PairsSay × Position) Refusal
-pair_turn p s = key_from p >>= λ k. known_key p.place k.0 >>= λ _. value_from k.1 >>= λ v. Ok (pair_more s k.0 k.1.place v.0, v.1)
+pair_turn p s =
+    key_from p >>= λ k. known_key p.place k.0 >>= λ _. value_from k.1
+    >>= λ v. Ok (pair_more s k.0 k.1.place v.0, v.1)
 
 -- so many pairs
 abbrev pub pairs_from : ℕ → Position → PairsSay → Result PairsSay Refusal
@@ -87,13 +97,15 @@ pairs_from (suc n) p s = pair_turn p s >>= λ t. pairs_from n t.1 t.0
 
 -- no pair
 abbrev pub no_pairs : EnvelopeSays → PairsSay
-no_pairs s = record { seen = record { wrapper = false; manifest = false }; said = s; judged = Ok tt }
+no_pairs s =
+    record { seen = record { wrapper = false; manifest = false }; said = s; judged = Ok tt }
 
 -- ---- the map
 
 -- the map that stands at a place, of so many pairs
 abbrev pub map_from : ℕ → ℕ → Position → EnvelopeSays → Result EnvelopeSays Refusal
-map_from n place p s = pairs_from n p (no_pairs s) >>= λ f. all_seen place f.seen >>= λ _. f.judged >>= λ _. Ok f.said
+map_from n place p s =
+    pairs_from n p (no_pairs s) >>= λ f. all_seen place f.seen >>= λ _. f.judged >>= λ _. Ok f.said
 
 abbrev pub tagged_after : ℕ → ℕ → Position → HeadKind → Result EnvelopeSays Refusal
 tagged_after place n p kinds.Map = map_from n place p (says_nothing true)

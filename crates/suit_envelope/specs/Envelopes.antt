@@ -39,7 +39,8 @@ pub record Entry : Type 0 where
 abbrev pub entries : ℕ → DataPairs → List Entry
 entries place NoPairs = []
 entries place (PairThen key value ps) =
-    record { key = key; key_place = place; value = value; value_place = place + length (spell key) } ∷ entries (place + length (spell key) + length (spell value)) ps
+    record { key = key; key_place = place; value = value; value_place = place + length (spell key) }
+    ∷ entries (place + length (spell key) + length (spell value)) ps
 
 pub record EnvelopeMap : Type 0 where
   pub tagged : Bool
@@ -51,7 +52,9 @@ map_entries m = entries (m.place + length (head_bytes 5 (pair_count m.pairs))) m
 
 -- the item behind tag 107, or the item itself; whether there is the tag, and the item's place
 abbrev pub untagged : ℕ → DataItem → Bool × ℕ × DataItem
-untagged place (TaggedItem tag x) = if tag == 107 then (true, place + length (head_bytes 6 tag), x) else (false, place, TaggedItem tag x)
+untagged place (TaggedItem tag x) =
+    if tag == 107 then (true, place + length (head_bytes 6 tag), x)
+    else (false, place, TaggedItem tag x)
 untagged place x = (false, place, x)
 
 abbrev pub as_map : Bool → ℕ → DataItem → Option EnvelopeMap
@@ -76,13 +79,26 @@ pub record EnvelopeSays : Type 0 where
   pub text : Option (List ℕ)
 
 abbrev pub says_nothing : Bool → EnvelopeSays
-says_nothing tagged = record { tagged = tagged; wrapper = []; wrapper_place = 0; manifest = []; manifest_place = 0; payload_fetch = None; payload_fetch_place = 0; install = None; install_place = 0; text = None }
+says_nothing tagged =
+    record {
+      tagged = tagged;
+      wrapper = [];
+      wrapper_place = 0;
+      manifest = [];
+      manifest_place = 0;
+      payload_fetch = None;
+      payload_fetch_place = 0;
+      install = None;
+      install_place = 0;
+      text = None;
+    }
 
 -- a key puts its content, which stands at a place, where it belongs
 abbrev pub put : EnvelopeSays → Key → List ℕ → ℕ → EnvelopeSays
 put s Wrapper content place = record s { wrapper = content; wrapper_place = place }
 put s Manifest content place = record s { manifest = content; manifest_place = place }
-put s PayloadFetch content place = record s { payload_fetch = Some content; payload_fetch_place = place }
+put s PayloadFetch content place =
+    record s { payload_fetch = Some content; payload_fetch_place = place }
 put s Install content place = record s { install = Some content; install_place = place }
 put s Text content place = record s { text = Some content }
 put s Payload content place = s
@@ -113,7 +129,11 @@ has_key n (e ∷ es) = is_number n e.key || has_key n es
 
 -- each value is a byte string, and that of key 2 holds the wrapper
 abbrev pub IsValue : Entry → Type 0
-IsValue e = IsByteString e.value × (key_of e.key ≡ Wrapper → (digest : List ℕ) × SaysHeld IsWrapper e.value_place e.value digest)
+IsValue e =
+    IsByteString e.value
+    ×
+    (key_of e.key ≡ Wrapper
+    → (digest : List ℕ) × SaysHeld IsWrapper e.value_place e.value digest)
 
 pub record IsEnvelope (place : ℕ) (x : DataItem) (said : EnvelopeSays) : Type 0 where
   pub map : EnvelopeMap
@@ -133,12 +153,19 @@ pub data RefusesLack (place : ℕ) (es : List Entry) (n : ℕ) : Refusal → Typ
 
 pub data RefusesValue (e : Entry) : Refusal → Type 0 where
   NoBytes : (IsByteString e.value → ⊥) → RefusesValue e (refused e.value_place Shape)
-  BadWrapper : (r : Refusal) → key_of e.key ≡ Wrapper → RefusesHeld RefusesWrapper e.value_place e.value r → RefusesValue e r
+  BadWrapper : (r : Refusal) → key_of e.key ≡ Wrapper
+      → RefusesHeld RefusesWrapper e.value_place e.value r → RefusesValue e r
 
 pub data RefusesEnvelope (place : ℕ) (x : DataItem) : Refusal → Type 0 where
   NoMap : envelope_map place x ≡ None → RefusesEnvelope place x (refused (untagged place x).1 Shape)
-  BadKey : (m : EnvelopeMap) (r : Refusal) → envelope_map place x ≡ Some m → RefusesFirst RefusesKey IsKnown (map_entries m) r → RefusesEnvelope place x r
-  Lacks : (m : EnvelopeMap) (r : Refusal) → envelope_map place x ≡ Some m → AllByRecursion IsKnown (map_entries m)
-      → RefusesFirst (RefusesLack m.place (map_entries m)) (λ n. has_key n (map_entries m) ≡ true) (2 ∷ 3 ∷ []) r → RefusesEnvelope place x r
-  BadValue : (m : EnvelopeMap) (r : Refusal) → envelope_map place x ≡ Some m → AllByRecursion IsKnown (map_entries m) → AllByRecursion (λ n. has_key n (map_entries m) ≡ true) (2 ∷ 3 ∷ [])
+  BadKey : (m : EnvelopeMap) (r : Refusal) → envelope_map place x ≡ Some m
+      → RefusesFirst RefusesKey IsKnown (map_entries m) r → RefusesEnvelope place x r
+  Lacks : (m : EnvelopeMap) (r : Refusal) → envelope_map place x ≡ Some m
+      → AllByRecursion IsKnown (map_entries m)
+      → RefusesFirst (RefusesLack m.place (map_entries m)) (λ n. has_key n (map_entries m) ≡ true)
+      (2 ∷ 3 ∷ []) r
+      → RefusesEnvelope place x r
+  BadValue : (m : EnvelopeMap) (r : Refusal) → envelope_map place x ≡ Some m
+      → AllByRecursion IsKnown (map_entries m)
+      → AllByRecursion (λ n. has_key n (map_entries m) ≡ true) (2 ∷ 3 ∷ [])
       → RefusesFirst RefusesValue IsValue (map_entries m) r → RefusesEnvelope place x r

@@ -15,7 +15,9 @@ abbrev pub judge_block : ℕ × DataItem → Result Unit Refusal
 judge_block b = judge_string b.0 b.1 >>= λ _. Ok tt
 
 abbrev pub judge_wrapper : ℕ → DataItem → Result (List ℕ) Refusal
-judge_wrapper place (ArrayOf (ItemThen first blocks)) = judge_held judge_digest (elements_place place blocks) first >>= λ digest. judge_each judge_block (blocks_of place first blocks) >>= λ _. Ok digest
+judge_wrapper place (ArrayOf (ItemThen first blocks)) =
+    judge_held judge_digest (elements_place place blocks) first
+    >>= λ digest. judge_each judge_block (blocks_of place first blocks) >>= λ _. Ok digest
 judge_wrapper place _ = Err (refused place Shape)
 
 abbrev pub known_key : ℕ → Key → Result Unit Refusal
@@ -36,7 +38,11 @@ abbrev pub judge_value : Entry → Result Unit Refusal
 judge_value e = judge_content e.value_place e.value (key_of e.key)
 
 abbrev pub judge_map : EnvelopeMap → Result EnvelopeSays Refusal
-judge_map m = judge_each judge_key (map_entries m) >>= λ _. judge_each (judge_lack m.place (map_entries m)) (2 ∷ 3 ∷ []) >>= λ _. judge_each judge_value (map_entries m) >>= λ _. Ok (put_all (says_nothing m.tagged) (map_entries m))
+judge_map m =
+    judge_each judge_key (map_entries m)
+    >>= λ _. judge_each (judge_lack m.place (map_entries m)) (2 ∷ 3 ∷ [])
+    >>= λ _. judge_each judge_value (map_entries m)
+    >>= λ _. Ok (put_all (says_nothing m.tagged) (map_entries m))
 
 abbrev pub judge_shape : ℕ → Option EnvelopeMap → Result EnvelopeSays Refusal
 judge_shape place None = Err (refused place Shape)

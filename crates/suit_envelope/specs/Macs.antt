@@ -1,4 +1,4 @@
--- What the blocks of a wrapper say together, under a key and for a payload (RFC 9052, section 6).
+-- The blocks of a wrapper, judged together under a key and for a payload (RFC 9052, section 6).
 use Rattle.std.specs.Prelude.{ℕ, zero, suc, List, [], ◌∷◌, Option, Some, None, Result, Ok}
 use Rattle.std.specs.List.{AllByRecursion}
 use Rattle.det_cbor.specs.HeadReading.{◌>>=◌}
@@ -19,26 +19,35 @@ abbrev pub FailsToVerify : List ℕ → List ℕ → List ℕ → Type 0
 FailsToVerify key payload block = Verifies block key payload → ⊥
 
 pub data SomeVerifies (key payload : List ℕ) : List (List ℕ) → Type 0 where
-  ThisVerifies : (block : List ℕ) (rest : List (List ℕ)) → Verifies block key payload → SomeVerifies key payload (block ∷ rest)
-  ALaterVerifies : (block : List ℕ) (rest : List (List ℕ)) → SomeVerifies key payload rest → SomeVerifies key payload (block ∷ rest)
+  ThisVerifies : (block : List ℕ) (rest : List (List ℕ)) → Verifies block key payload
+      → SomeVerifies key payload (block ∷ rest)
+  ALaterVerifies : (block : List ℕ) (rest : List (List ℕ)) → SomeVerifies key payload rest
+      → SomeVerifies key payload (block ∷ rest)
 
 -- the first Mac0 block has another tag than the expected one
 pub data FirstDiffers (key payload expected found : List ℕ) : List (List ℕ) → Type 0 where
-  ThisDiffers : (block : List ℕ) (rest : List (List ℕ)) → mac0.Mismatches block key payload expected found → FirstDiffers key payload expected found (block ∷ rest)
-  ALaterDiffers : (block : List ℕ) (rest : List (List ℕ)) → IsOther block → FirstDiffers key payload expected found rest → FirstDiffers key payload expected found (block ∷ rest)
+  ThisDiffers : (block : List ℕ) (rest : List (List ℕ))
+      → mac0.Mismatches block key payload expected found
+      → FirstDiffers key payload expected found (block ∷ rest)
+  ALaterDiffers : (block : List ℕ) (rest : List (List ℕ)) → IsOther block
+      → FirstDiffers key payload expected found rest
+      → FirstDiffers key payload expected found (block ∷ rest)
 
 -- some block verifies, or none is a Mac0 block, or none verifies and the first Mac0 block differs
 abbrev pub BlocksSay : List ℕ → List ℕ → List (List ℕ) → MacVerdict → Type 0
 BlocksSay key payload blocks verdict.Verified = SomeVerifies key payload blocks
 BlocksSay key payload blocks verdict.OtherKind = AllByRecursion IsOther blocks
-BlocksSay key payload blocks (verdict.Differs expected found) = AllByRecursion (FailsToVerify key payload) blocks × FirstDiffers key payload expected found.now blocks
+BlocksSay key payload blocks (verdict.Differs expected found) =
+    AllByRecursion (FailsToVerify key payload) blocks
+    × FirstDiffers key payload expected found.now blocks
 
 -- ---- how the blocks are read
 
 -- the contents of the next byte strings, as many as are asked for
 abbrev pub contents_from : ℕ → Position → Result (List (List ℕ)) Refusal
 contents_from zero p = Ok []
-contents_from (suc n) p = content_from p >>= λ c. contents_from n c.1 >>= λ rest. Ok (c.0.left ∷ rest)
+contents_from (suc n) p =
+    content_from p >>= λ c. contents_from n c.1 >>= λ rest. Ok (c.0.left ∷ rest)
 
 -- the first difference is kept
 abbrev pub kept : Option Difference → Difference → Difference

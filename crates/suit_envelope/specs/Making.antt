@@ -38,7 +38,8 @@ IsPayload p = IsText p.0 × IsString p.1
 -- each key stands above the one before it, in the order of their spellings
 abbrev pub AreAscending : Option (List ℕ) → List (List ℕ × List ℕ) → Type 0
 AreAscending before [] = Unit {0}
-AreAscending before (p ∷ ps) = IsAbove before (spell (TextString p.0)) × AreAscending (Some (spell (TextString p.0))) ps
+AreAscending before (p ∷ ps) =
+    IsAbove before (spell (TextString p.0)) × AreAscending (Some (spell (TextString p.0))) ps
 
 -- an envelope that says what the parts are
 pub record SaysParts (parts : EnvelopeParts) (said : EnvelopeSays) : Type 0 where

@@ -26,6 +26,8 @@ IsGot content _ = ⊥
 abbrev pub AnswersMember : Option (List ℕ) → List ℕ → MemberBytes → Type 0
 AnswersMember None stated answers.Severed = Unit {0}
 AnswersMember None stated _ = ⊥
-AnswersMember (Some content) stated (answers.Got bytes) = (bytes.now ≡ content) × (string_digest content ≡ stated)
+AnswersMember (Some content) stated (answers.Got bytes) =
+    (bytes.now ≡ content) × (string_digest content ≡ stated)
 AnswersMember (Some content) stated answers.Severed = ⊥
-AnswersMember (Some content) stated (answers.Differs told found) = (told.bytes ≡ stated) × (found.bytes ≡ string_digest content) × (found.bytes ≢ stated)
+AnswersMember (Some content) stated (answers.Differs told found) =
+    (told.bytes ≡ stated) × (found.bytes ≡ string_digest content) × (found.bytes ≢ stated)

@@ -29,11 +29,14 @@ content_where false content = None
 
 -- the content of the next pair, where its key is the one that is looked for
 abbrev pub pair_from : List ℕ → Position → Result (Option (List ℕ) × Position) Refusal
-pair_from key p = text_from p >>= λ t. content_from t.1 >>= λ c. Ok (content_where (is_wanted t.0 key) c.0.left, c.1)
+pair_from key p =
+    text_from p >>= λ t. content_from t.1
+    >>= λ c. Ok (content_where (is_wanted t.0 key) c.0.left, c.1)
 
 -- ---- the pairs
 
-abbrev pub or_later : Option (List ℕ) → Result (Option (List ℕ)) Refusal → Result (Option (List ℕ)) Refusal
+abbrev pub or_later : Option (List ℕ) → Result (Option (List ℕ)) Refusal
+    → Result (Option (List ℕ)) Refusal
 or_later (Some content) later = Ok (Some content)
 or_later None later = later
 

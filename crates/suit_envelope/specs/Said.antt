@@ -1,4 +1,4 @@
--- What an envelope of the code says.
+-- The meaning of an envelope of the code.
 use Rattle.std.specs.Prelude.{List, ℕ, option_map}
 use Rattle.suit_params.specs.declared.refusal.Refusal.{Refusal}
 use Rattle.suit_params.specs.Refusing.{SaysWhole, RefusesWhole}

@@ -6,7 +6,11 @@ use Rattle.suit_envelope.specs.Envelopes.{EnvelopeSays}
 use Rattle.suit_envelope.specs.Said.{EnvelopeOf}
 
 abbrev pub trimmed_item : List ℕ → List ℕ → DataItem
-trimmed_item wrapper manifest = TaggedItem 107 (MapOf (PairThen (UnsignedInteger 2) (ByteString wrapper) (PairThen (UnsignedInteger 3) (ByteString manifest) NoPairs)))
+trimmed_item wrapper manifest =
+    TaggedItem 107
+    (MapOf
+    (PairThen (UnsignedInteger 2) (ByteString wrapper)
+    (PairThen (UnsignedInteger 3) (ByteString manifest) NoPairs)))
 
 -- its bytes
 unfoldable pub trimmed : List ℕ → List ℕ → List ℕ

@@ -5,7 +5,8 @@ use Rattle.suit_params.specs.declared.refusal.Refusal.{Refusal}
 use Rattle.suit_params.specs.Reading.{content_from}
 
 -- the content that was read, and what is read after it
-abbrev pub walk_on : (Position → List (List ℕ)) → Result (Position × Position) Refusal → List (List ℕ)
+abbrev pub walk_on : (Position → List (List ℕ)) → Result (Position × Position) Refusal
+    → List (List ℕ)
 walk_on rest (Ok c) = c.0.left ∷ rest c.1
 walk_on rest (Err r) = []
 

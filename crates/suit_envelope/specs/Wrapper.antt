@@ -44,6 +44,10 @@ pub data RefusesBlock (b : ℕ × DataItem) : Refusal → Type 0 where
 -- elements are judged in their order
 pub data RefusesWrapper (place : ℕ) : DataItem → Refusal → Type 0 where
   NoElements : (x : DataItem) → (HasElements x → ⊥) → RefusesWrapper place x (refused place Shape)
-  BadDigest : (first : DataItem) (blocks : DataItems) (r : Refusal) → RefusesHeld RefusesDigest (elements_place place blocks) first r → RefusesWrapper place (ArrayOf (ItemThen first blocks)) r
-  BadBlock : (first : DataItem) (blocks : DataItems) (digest : List ℕ) (r : Refusal) → SaysHeld IsDigest (elements_place place blocks) first digest
-      → RefusesFirst RefusesBlock IsBlock (blocks_of place first blocks) r → RefusesWrapper place (ArrayOf (ItemThen first blocks)) r
+  BadDigest : (first : DataItem) (blocks : DataItems) (r : Refusal)
+      → RefusesHeld RefusesDigest (elements_place place blocks) first r
+      → RefusesWrapper place (ArrayOf (ItemThen first blocks)) r
+  BadBlock : (first : DataItem) (blocks : DataItems) (digest : List ℕ) (r : Refusal)
+      → SaysHeld IsDigest (elements_place place blocks) first digest
+      → RefusesFirst RefusesBlock IsBlock (blocks_of place first blocks) r
+      → RefusesWrapper place (ArrayOf (ItemThen first blocks)) r

@@ -15,7 +15,8 @@ strings_of (block ∷ blocks) = ItemThen (ByteString block) (strings_of blocks)
 
 -- the digest in a byte string, and then the blocks (draft-ietf-suit-manifest-25, section 8.3)
 abbrev pub wrapper_item : List ℕ → List (List ℕ) → DataItem
-wrapper_item digest blocks = ArrayOf (ItemThen (ByteString (spell (digest_item digest))) (strings_of blocks))
+wrapper_item digest blocks =
+    ArrayOf (ItemThen (ByteString (spell (digest_item digest))) (strings_of blocks))
 
 pub record WrapperSays (wrapper digest : List ℕ) (blocks : List (List ℕ)) : Type 0 where
   pub spells : Spells (wrapper_item digest blocks) wrapper
@@ -24,7 +25,8 @@ pub record WrapperSays (wrapper digest : List ℕ) (blocks : List (List ℕ)) : 
 
 -- these bytes are a wrapper
 abbrev pub HasWrapper : List ℕ → Type 0
-HasWrapper wrapper = (digest : List ℕ) × (blocks : List (List ℕ)) × WrapperSays wrapper digest blocks
+HasWrapper wrapper =
+    (digest : List ℕ) × (blocks : List (List ℕ)) × WrapperSays wrapper digest blocks
 
 -- ---- how the parts are read
 
@@ -47,4 +49,6 @@ passed_from zero p = Ok p
 passed_from (suc n) p = content_from p >>= λ c. passed_from n c.1
 
 abbrev pub block_from : ℕ → List ℕ → Result Position Refusal
-block_from n wrapper = head_from (start_of wrapper) >>= λ h. content_from h.1 >>= λ digest. passed_from n digest.1 >>= λ p. content_from p >>= λ c. Ok c.0
+block_from n wrapper =
+    head_from (start_of wrapper) >>= λ h. content_from h.1 >>= λ digest. passed_from n digest.1
+    >>= λ p. content_from p >>= λ c. Ok c.0

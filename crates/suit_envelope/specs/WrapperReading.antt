@@ -16,10 +16,13 @@ blocks_from (suc n) p = content_from p >>= λ c. blocks_from n c.1
 
 -- the next item as a byte string that holds a digest
 abbrev pub digest_held_from : Position → Result (List ℕ × Position) Refusal
-digest_held_from p = content_from p >>= λ c. only_from c.0 >>= λ item. digest_at item >>= λ digest. Ok (digest, c.1)
+digest_held_from p =
+    content_from p >>= λ c. only_from c.0 >>= λ item. digest_at item >>= λ digest. Ok (digest, c.1)
 
 abbrev pub elements_after : ℕ → ℕ → Position → HeadKind → Result (List ℕ) Refusal
-elements_after place n p kinds.Array = if n == 0 then Err (refused place Shape) else (digest_held_from p >>= λ d. blocks_from (n - 1) d.1 >>= λ _. Ok d.0)
+elements_after place n p kinds.Array =
+    if n == 0 then Err (refused place Shape)
+    else (digest_held_from p >>= λ d. blocks_from (n - 1) d.1 >>= λ _. Ok d.0)
 elements_after place n p _ = Err (refused place Shape)
 
 -- a whole item, as a wrapper

@@ -38,9 +38,12 @@ pub(crate) fn first_string(wrapper: &[u8]) -> Result<(Cursor<'_>, Cursor<'_>), R
     Ok((content, elements))
 }
 
-// What the blocks say, for the first byte string as their payload.
+// The judgement of the blocks, for the first byte string as their payload.
 fn macs<'a>(wrapper: &'a [u8], key: &[u8]) -> Result<MacVerdict<'a>, Refusal>
-    ensures says { IfOk result (λ answer. (digest : List ℕ) (blocks : List (List ℕ)) → WrapperSays wrapper.now digest blocks → BlocksSay key.now (payload_of digest) blocks answer) }
+    ensures says { IfOk result
+        (λ answer. (digest : List ℕ) (blocks : List (List ℕ))
+        → WrapperSays wrapper.now digest blocks
+        → BlocksSay key.now (payload_of digest) blocks answer) }
     ensures read { IfErr result (λ _. HasWrapper wrapper.now → ⊥) }
 {
     match first_string(wrapper) {
@@ -57,7 +60,8 @@ fn macs<'a>(wrapper: &'a [u8], key: &[u8]) -> Result<MacVerdict<'a>, Refusal>
 
 fn answer<'a>(envelope: &Envelope<'a>, key: &[u8]) -> Authenticity<'a>
     requires { HasWrapper envelope.now.wrapper.now }
-    ensures { (digest : List ℕ) (blocks : List (List ℕ)) → WrapperSays envelope.now.wrapper.now digest blocks
+    ensures { (digest : List ℕ) (blocks : List (List ℕ))
+        → WrapperSays envelope.now.wrapper.now digest blocks
         → AnswersAuthentic digest blocks envelope.now.manifest.now key.now result }
 {
     let stated = stated_digest(envelope);
@@ -79,9 +83,12 @@ fn answer<'a>(envelope: &Envelope<'a>, key: &[u8]) -> Authenticity<'a>
 /// blocks, whose payload is the content of the wrapper's first byte string. Takes no memory.
 pub fn authentic<'a>(envelope: &Envelope<'a>, key: &[u8]) -> Authenticity<'a>
     requires { HasWrapper envelope.now.wrapper.now }
-    ensures yes { result ≡ Yes → IsAuthentic envelope.now.wrapper.now envelope.now.manifest.now key.now }
-    ensures every_yes { IsAuthentic envelope.now.wrapper.now envelope.now.manifest.now key.now → result ≡ Yes }
-    ensures answers { (digest : List ℕ) (blocks : List (List ℕ)) → WrapperSays envelope.now.wrapper.now digest blocks
+    ensures yes { result ≡ Yes
+        → IsAuthentic envelope.now.wrapper.now envelope.now.manifest.now key.now }
+    ensures every_yes { IsAuthentic envelope.now.wrapper.now envelope.now.manifest.now key.now
+        → result ≡ Yes }
+    ensures answers { (digest : List ℕ) (blocks : List (List ℕ))
+        → WrapperSays envelope.now.wrapper.now digest blocks
         → AnswersAuthentic digest blocks envelope.now.manifest.now key.now result }
     ensures differs { TellsDifference result }
 {

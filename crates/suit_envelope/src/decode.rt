@@ -9,6 +9,9 @@ ghost use Rattle.suit_envelope.specs.Places.{PartsEndBelow};
 ghost use Rattle.suit_envelope.specs.WrapperParts.{HasWrapper};
 ghost use Rattle.suit_envelope.specs.Said.{said_by, EnvelopeOf, RefusesBytes};
 
+#[cfg(test)]
+mod tests;
+
 use crate::Envelope;
 use crate::map::envelope_of;
 use det_cbor::Cursor;
@@ -34,7 +37,8 @@ pub fn decode_envelope(bytes: &[u8]) -> Result<Envelope<'_>, Refusal>
     ensures places { IfOk result (λ e. PartsEndBelow (2 ^ 64) (said_by e)) }
     ensures wrapper { IfOk result (λ e. HasWrapper e.wrapper.now) }
     ensures refused { IfErr result (RefusesBytes bytes.now) }
-    ensures every_envelope { (said : EnvelopeSays) → EnvelopeOf bytes.now said → map_ok said_by result ≡ Ok said }
+    ensures every_envelope { (said : EnvelopeSays) → EnvelopeOf bytes.now said
+        → map_ok said_by result ≡ Ok said }
     ensures every_refusal { (r : Refusal) → RefusesBytes bytes.now r → result ≡ Err r }
 {
     read_envelope(bytes)

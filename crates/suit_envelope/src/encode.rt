@@ -19,7 +19,8 @@ use std::alloc::{AllocError, Global};
 
 // How many members there are: one or none.
 fn count(member: &Option<Bytes>) -> u64
-    ensures is { (key : ℕ) (others : DataPairs) → pair_count (member_then key member.now others) ≡ pair_count others + result }
+    ensures is { (key : ℕ) (others : DataPairs)
+        → pair_count (member_then key member.now others) ≡ pair_count others + result }
     ensures small { result ≤ 1 }
 {
     match member {
@@ -37,7 +38,10 @@ fn pairs(parts: &EnvelopeParts) -> u64
 
 // Adds the pair of a member that is there, after which others may follow.
 fn push_member(out: &mut Bytes, key: u64, member: &Option<Bytes>) -> Result<(), AllocError>
-    ensures ok { (others : DataPairs) → OnOk result (out.new ++ spell_pairs others ≡ out.old ++ spell_pairs (member_then key member.now others)) }
+    ensures ok { (others : DataPairs)
+        → OnOk result
+        (out.new ++ spell_pairs others
+        ≡ out.old ++ spell_pairs (member_then key member.now others)) }
     ensures string { IfSome member.now IsString }
 {
     match member {
@@ -66,7 +70,8 @@ pub fn encode_envelope(alloc: Global, parts: &EnvelopeParts) -> Result<Bytes, Al
     requires wrapper { HasWrapper parts.now.wrapper }
     requires payloads { AreAscending None parts.now.payloads }
     ensures spelling { IfOk result (λ bytes. bytes ≡ spell (envelope_made parts.now)) }
-    ensures envelope { IfOk result (λ bytes. (said : EnvelopeSays) × (EnvelopeOf bytes said × SaysParts parts.now said)) }
+    ensures envelope { IfOk result
+        (λ bytes. (said : EnvelopeSays) × (EnvelopeOf bytes said × SaysParts parts.now said)) }
     ensures payloads { IfOk result (λ bytes. HasPayloads bytes parts.now.payloads) }
 {
     let mut out = Bytes::new(alloc);

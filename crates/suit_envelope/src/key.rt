@@ -9,7 +9,7 @@ ghost use Rattle.suit_envelope.specs.Judging.{known_key};
 use det_cbor::{Cursor, HeadKind};
 use suit_params::{Refusal, Why, read_bytes, read_head, refused};
 
-/// What a key of an envelope's map names.
+/// The member that a key of an envelope's map names.
 #[derive(Clone, Copy, Debug, PartialEq, Eq)]
 pub(crate) enum Key {
     Wrapper,

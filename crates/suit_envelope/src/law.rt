@@ -1,4 +1,4 @@
-//! What holds of all envelopes, whatever reads them.
+//! Laws of all envelopes, whatever reads them.
 
 ghost use Rattle.suit_envelope.specs.EnvelopeLaws.{EnvelopeLaws, AuthenticityLaw};
 

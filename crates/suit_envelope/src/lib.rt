@@ -31,6 +31,3 @@ pub use severed::{MemberBytes, MemberName, member};
 pub use trimming::{trim, trimmed_length};
 pub use walk::BlockWalk;
 pub use wrapper_parts::{block, blocks, stated_digest};
-
-#[cfg(test)]
-mod tests;

@@ -1,4 +1,4 @@
-//! What the blocks of a wrapper say together.
+//! The blocks of a wrapper, judged together.
 
 ghost use Rattle.std.specs.Prelude.{◌≡◌, List, ℕ, Ok, IfOk, IfErr};
 ghost use Rattle.suit_envelope.specs.Macs.{BlocksSay, contents_from, kept, last_answer};
@@ -36,7 +36,7 @@ fn last<'a>(first: Option<Difference<'a>>) -> MacVerdict<'a>
     }
 }
 
-/// What so many blocks say, of which a Mac0 block is the first that is left.
+/// The judgement of so many blocks, of which a Mac0 block is the first that is left.
 ///
 /// Verified where some block verifies, of another kind where no block is a Mac0 block, and else how
 /// the first Mac0 block differs.
@@ -46,8 +46,11 @@ pub(crate) fn scan<'a>(
     key: &[u8],
     payload: &[u8],
 ) -> Result<MacVerdict<'a>, Refusal>
-    ensures says { IfOk result (λ answer. (blocks : List (List ℕ)) → contents_from count elements.entry ≡ Ok blocks → BlocksSay key.now payload.now blocks answer) }
-    ensures read { IfErr result (λ _. (blocks : List (List ℕ)) → contents_from count elements.entry ≡ Ok blocks → ⊥) }
+    ensures says { IfOk result
+        (λ answer. (blocks : List (List ℕ)) → contents_from count elements.entry ≡ Ok blocks
+        → BlocksSay key.now payload.now blocks answer) }
+    ensures read { IfErr result
+        (λ _. (blocks : List (List ℕ)) → contents_from count elements.entry ≡ Ok blocks → ⊥) }
 {
     let mut first: Option<Difference<'a>> = None;
     for _ in 0..count {

@@ -44,7 +44,8 @@ fn judge(judged: Result<(), Refusal>, key: Key, content: Cursor<'_>) -> Result<(
 
 // Puts a value's content where its key has it.
 fn put<'a>(envelope: &mut Envelope<'a>, key: Key, content: Cursor<'a>)
-    ensures says { said_by envelope.new ≡ put (said_by envelope.old) key content.entry.left content.entry.place }
+    ensures says { said_by envelope.new
+        ≡ put (said_by envelope.old) key content.entry.left content.entry.place }
     ensures whole { envelope.new.whole.now ≡ envelope.old.whole.now }
 {
     let place = content.place();
@@ -71,7 +72,7 @@ fn put<'a>(envelope: &mut Envelope<'a>, key: Key, content: Cursor<'a>)
     }
 }
 
-/// What the pairs of a map say, as far as they were passed.
+/// The pairs of a map, as far as they were passed.
 #[derive(Clone, Copy, Debug)]
 pub(crate) struct Found<'a> {
     pub(crate) seen: Seen,
@@ -99,7 +100,8 @@ fn read_value<'a>(map: &mut Cursor<'a>) -> Result<Option<Cursor<'a>>, Refusal>
 
 // Takes a key and the content of its value.
 fn take_content<'a>(found: &mut Found<'a>, key: Key, mut content: Cursor<'a>)
-    ensures says { (place : ℕ) → pairs_say found.new ≡ pair_more (pairs_say found.old) key place (Some content.entry) }
+    ensures says { (place : ℕ)
+        → pairs_say found.new ≡ pair_more (pairs_say found.old) key place (Some content.entry) }
     ensures whole { found.new.envelope.whole.now ≡ found.old.envelope.whole.now }
 {
     found.seen = see(found.seen, key);
@@ -127,7 +129,8 @@ fn take<'a>(found: &mut Found<'a>, key: Key, place: u64, value: Option<Cursor<'a
 
 // Passes a pair whose key is known.
 fn pair_turn<'a>(map: &mut Cursor<'a>, found: &mut Found<'a>) -> Result<(), Refusal>
-    ensures says { map_ok (λ _. (pairs_say found.new, map.new)) result ≡ pair_turn map.old (pairs_say found.old) }
+    ensures says { map_ok (λ _. (pairs_say found.new, map.new)) result
+        ≡ pair_turn map.old (pairs_say found.old) }
     ensures whole { found.new.envelope.whole.now ≡ found.old.envelope.whole.now }
 {
     let place = map.place();
@@ -139,13 +142,14 @@ fn pair_turn<'a>(map: &mut Cursor<'a>, found: &mut Found<'a>) -> Result<(), Refu
     Ok(())
 }
 
-/// What so many pairs say, of a map that was judged as an item before; or the first key that is not known.
+/// The content of so many pairs, of a map that was judged as an item before; or the first key that is not known.
 pub(crate) fn pairs<'a>(
     mut map: Cursor<'a>,
     count: u64,
     envelope: Envelope<'a>,
 ) -> Result<Found<'a>, Refusal>
-    ensures says { map_ok pairs_say result ≡ pairs_from count map.entry (no_pairs (said_by envelope.entry)) }
+    ensures says { map_ok pairs_say result
+        ≡ pairs_from count map.entry (no_pairs (said_by envelope.entry)) }
     ensures whole { IfOk result (λ f. f.envelope.whole.now ≡ envelope.entry.whole.now) }
 {
     let seen = Seen {

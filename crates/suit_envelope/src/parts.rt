@@ -61,7 +61,7 @@ impl PayloadList {
     }
 }
 
-/// What an envelope is made of: the contents of its byte strings.
+/// The parts of an envelope: the contents of its byte strings.
 #[derive(Debug, Drop)]
 pub struct EnvelopeParts {
     /// The authentication wrapper.

@@ -40,7 +40,8 @@ fn is_wanted(text: Option<&[u8]>, key: &[u8]) -> bool
 
 // Passes a pair: its content, where its key is the one that is looked for.
 fn pair<'a>(map: &mut Cursor<'a>, key: &[u8]) -> Result<Option<&'a [u8]>, Refusal>
-    ensures { map_ok (λ found. (option_map (λ c. c.now) found, map.new)) result ≡ pair_from key.now map.old }
+    ensures { map_ok (λ found. (option_map (λ c. c.now) found, map.new)) result
+        ≡ pair_from key.now map.old }
 {
     let text = text_key(map)?;
     let content = read_content(map)?;
@@ -100,11 +101,15 @@ fn look_up<'a>(envelope: &Envelope<'a>, key: &str) -> Option<&'a [u8]>
 ///
 /// It is looked for in `whole`. Where those bytes spell no envelope, nothing is promised.
 pub fn payload<'a>(envelope: &Envelope<'a>, key: &str) -> Option<&'a [u8]>
-    ensures found { IfSome result (λ content. (payloads : List (List ℕ × List ℕ)) → HasPayloads envelope.now.whole.now payloads
+    ensures found { IfSome result
+        (λ content. (payloads : List (List ℕ × List ℕ))
+        → HasPayloads envelope.now.whole.now payloads
         → Contains payloads (key.now, content.now)) }
-    ensures every_payload { (payloads : List (List ℕ × List ℕ)) (content : List ℕ) → HasPayloads envelope.now.whole.now payloads
+    ensures every_payload { (payloads : List (List ℕ × List ℕ)) (content : List ℕ)
+        → HasPayloads envelope.now.whole.now payloads
         → Contains payloads (key.now, content) → option_map (λ c. c.now) result ≡ Some content }
-    ensures answers { (payloads : List (List ℕ × List ℕ)) → HasPayloads envelope.now.whole.now payloads
+    ensures answers { (payloads : List (List ℕ × List ℕ))
+        → HasPayloads envelope.now.whole.now payloads
         → option_map (λ c. c.now) result ≡ payload_under payloads key.now }
 {
     look_up(envelope, key)

@@ -37,7 +37,7 @@ fn content<'a>(envelope: &Envelope<'a>, name: MemberName) -> Option<&'a [u8]>
     }
 }
 
-// What becomes of a member whose digest is stated.
+// The answer for a member whose digest is stated.
 fn judged<'a>(member: Option<&'a [u8]>, stated: &Digest) -> MemberBytes<'a>
     ensures { AnswersMember (option_map (λ s. s.now) member.entry) stated.now.bytes result }
 {
@@ -61,7 +61,8 @@ fn judged<'a>(member: Option<&'a [u8]>, stated: &Digest) -> MemberBytes<'a>
 /// The digest is that of the whole byte string, its head and its content.
 #[tactic(auto, using(crate::proofs::MemberAnswers::got_alone))]
 pub fn member<'a>(envelope: &Envelope<'a>, name: MemberName, stated: &Digest) -> MemberBytes<'a>
-    ensures answers { AnswersMember (member_of (said_by envelope.now) name) stated.now.bytes result }
+    ensures answers { AnswersMember (member_of (said_by envelope.now) name) stated.now.bytes
+        result }
     ensures got { (content : List ℕ) → member_of (said_by envelope.now) name ≡ Some content
         → (IsGot content result ↔ (string_digest content ≡ stated.now.bytes)) }
 {

@@ -11,7 +11,8 @@ use suit_params::Digest;
 
 // Adds a first byte and what follows it.
 fn add_parts(hasher: &mut Sha256, first: u8, rest: &[u8])
-    ensures { (message : List ℕ) → Holds256 hasher.old message → Holds256 hasher.new (message ++ first ∷ rest.now) }
+    ensures { (message : List ℕ) → Holds256 hasher.old message
+        → Holds256 hasher.new (message ++ first ∷ rest.now) }
 {
     hasher.update([first]);
     hasher.update(rest);
@@ -19,7 +20,8 @@ fn add_parts(hasher: &mut Sha256, first: u8, rest: &[u8])
 
 // Adds the head of a byte string.
 fn add_head(hasher: &mut Sha256, length: u64)
-    ensures { (message : List ℕ) → Holds256 hasher.old message → Holds256 hasher.new (message ++ head_bytes 2 length) }
+    ensures { (message : List ℕ) → Holds256 hasher.old message
+        → Holds256 hasher.new (message ++ head_bytes 2 length) }
 {
     let head = ShortHead::new(HeadKind::Bytes, length);
     let (first, behind) = head.parts();

@@ -14,7 +14,8 @@ use std::alloc::{AllocError, Global};
 // The spelling of the trimmed envelope.
 #[tactic(auto, using(crate::proofs::TrimLaws::trimmed_parts))]
 fn spelling(alloc: Global, envelope: &Envelope<'_>) -> Result<Bytes, AllocError>
-    ensures is { IfOk result (λ bytes. bytes ≡ trimmed envelope.now.wrapper.now envelope.now.manifest.now) }
+    ensures is { IfOk result
+        (λ bytes. bytes ≡ trimmed envelope.now.wrapper.now envelope.now.manifest.now) }
     ensures wrapper { IfOk result (λ _. IsString envelope.now.wrapper.now) }
     ensures manifest { IfOk result (λ _. IsString envelope.now.manifest.now) }
 {
@@ -28,7 +29,8 @@ fn spelling(alloc: Global, envelope: &Envelope<'_>) -> Result<Bytes, AllocError>
 /// The trimmed envelope: tag 107 round the map of the wrapper and the manifest alone.
 #[tactic(auto, using(crate::proofs::TrimSays::says_trimmed))]
 pub fn trim(alloc: Global, envelope: &Envelope<'_>) -> Result<Bytes, AllocError>
-    ensures spelling { IfOk result (λ bytes. bytes ≡ trimmed envelope.now.wrapper.now envelope.now.manifest.now) }
+    ensures spelling { IfOk result
+        (λ bytes. bytes ≡ trimmed envelope.now.wrapper.now envelope.now.manifest.now) }
     ensures says { HasWrapper envelope.now.wrapper.now
         → IfOk result (IsTrimmed envelope.now.wrapper.now envelope.now.manifest.now) }
 {
@@ -61,7 +63,8 @@ fn string_length(content: &[u8]) -> u64
 /// The length of the trimmed envelope in bytes, or the largest number where that is larger.
 #[tactic(auto, using(crate::proofs::TrimLaws::trimmed_long))]
 pub fn trimmed_length(envelope: &Envelope<'_>) -> u64
-    ensures { result ≡ min (length (trimmed envelope.now.wrapper.now envelope.now.manifest.now)) (2 ^ 64 - 1) }
+    ensures { result
+        ≡ min (length (trimmed envelope.now.wrapper.now envelope.now.manifest.now)) (2 ^ 64 - 1) }
 {
     let strings = string_length(envelope.wrapper).saturating_add(string_length(envelope.manifest));
     strings.saturating_add(5)

@@ -32,7 +32,8 @@ impl<'a> Model for BlockWalk<'a> {
 impl<'a> BlockWalk<'a> {
     /// All authentication blocks of an envelope.
     pub fn new(envelope: &Envelope<'a>) -> BlockWalk<'a>
-        ensures { (digest : List ℕ) (blocks : List (List ℕ)) → WrapperSays envelope.now.wrapper.now digest blocks → result ≡ blocks }
+        ensures { (digest : List ℕ) (blocks : List (List ℕ))
+            → WrapperSays envelope.now.wrapper.now digest blocks → result ≡ blocks }
     {
         match first_string(envelope.wrapper) {
             Ok((_, rest)) => BlockWalk {

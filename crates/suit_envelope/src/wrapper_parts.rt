@@ -50,7 +50,8 @@ fn nth(wrapper: &[u8], number: u64) -> Result<Cursor<'_>, Refusal>
 /// The digest that the envelope's wrapper states, of the manifest's whole byte string.
 pub fn stated_digest(envelope: &Envelope<'_>) -> Digest
     requires { HasWrapper envelope.now.wrapper.now }
-    ensures { (digest : List ℕ) (blocks : List (List ℕ)) → WrapperSays envelope.now.wrapper.now digest blocks → result.bytes ≡ digest }
+    ensures { (digest : List ℕ) (blocks : List (List ℕ))
+        → WrapperSays envelope.now.wrapper.now digest blocks → result.bytes ≡ digest }
 {
     match digest_of_wrapper(envelope.wrapper) {
         Ok(digest) => digest,
@@ -61,14 +62,16 @@ pub fn stated_digest(envelope: &Envelope<'_>) -> Digest
 /// The number of authentication blocks.
 #[tactic(auto, using(crate::proofs::WrapperLaws::count_read))]
 pub fn blocks(envelope: &Envelope<'_>) -> u64
-    ensures { (digest : List ℕ) (blocks : List (List ℕ)) → WrapperSays envelope.now.wrapper.now digest blocks → result ≡ length blocks }
+    ensures { (digest : List ℕ) (blocks : List (List ℕ))
+        → WrapperSays envelope.now.wrapper.now digest blocks → result ≡ length blocks }
 {
     count(envelope.wrapper)
 }
 
 /// The authentication block of a number, counted from 0; none past the last.
 pub fn block<'a>(envelope: &Envelope<'a>, number: u64) -> Option<&'a [u8]>
-    ensures { (digest : List ℕ) (blocks : List (List ℕ)) → WrapperSays envelope.now.wrapper.now digest blocks
+    ensures { (digest : List ℕ) (blocks : List (List ℕ))
+        → WrapperSays envelope.now.wrapper.now digest blocks
         → option_map (λ b. b.now) result ≡ slice_get blocks number }
 {
     if number >= count(envelope.wrapper) {

@@ -17,7 +17,8 @@ pub(crate) fn push_start(out: &mut Bytes, pairs: u64) -> Result<(), AllocError>
 
 /// Adds a pair: a number, and a byte string of this content.
 pub(crate) fn push_pair(out: &mut Bytes, key: u64, content: &[u8]) -> Result<(), AllocError>
-    ensures ok { OnOk result (out.new ≡ out.old ++ (head_bytes 0 key ++ spell (ByteString content.now))) }
+    ensures ok { OnOk result
+        (out.new ≡ out.old ++ (head_bytes 0 key ++ spell (ByteString content.now))) }
     ensures string { IsString content.now }
 {
     push_number(out, key)?;

@@ -1,4 +1,4 @@
--- What the call that decodes a manifest answered, by the grammar and the refusals.
+-- The answer of the call that decodes a manifest, by the grammar and the refusals.
 use Rattle.std.proofs.Common.{◌≡◌, ◌≤◌, ℕ, List, length, Result, Ok, Err, refl, sym, ap, ◌∙◌, inl, inr}
 use Rattle.std.specs.Prelude.{IfOk, IfErr}
 use Rattle.det_cbor.proofs.Arguments.{IsBytes}

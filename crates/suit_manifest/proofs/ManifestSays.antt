@@ -1,4 +1,4 @@
--- What the items of a written manifest say.
+-- The items of a written manifest say that manifest.
 use Rattle.std.proofs.Common.{◌≡◌, ℕ, Bool, true, false, List, Option, Some, None, refl, inl, inr}
 use Rattle.std.specs.Prelude.{IfSome}
 use Rattle.std.specs.List.{AllByRecursion}

@@ -1,4 +1,4 @@
--- What the members of a manifest have in common (draft-ietf-suit-manifest-25, section 8.4.5): the components, and the
+-- The common part of a manifest (draft-ietf-suit-manifest-25, section 8.4.5): the components, and the
 -- shared sequence.
 use Rattle.std.specs.Prelude.{ℕ, true, List, [], ◌∷◌, length, Option}
 use Rattle.det_cbor.specs.DataItem.{DataItem}
@@ -25,13 +25,16 @@ SaysShared count place x s = SaysHeld (SaysSequence true count levels_allowed) p
 pub record IsCommon (place : ℕ) (x : DataItem) (said : CommonSays) : Type 0 where
   pub map : HasKeys common_keys (2 ∷ []) place x
   pub components : SaysUnder 2 IsComponents (entries_of place map.pairs) said.components
-  pub shared : MaySayUnder 4 (SaysShared (length said.components)) (entries_of place map.pairs) said.shared
+  pub shared :
+      MaySayUnder 4 (SaysShared (length said.components)) (entries_of place map.pairs) said.shared
 
 -- ---- what is refused
 
 pub data RefusesCommonValues (es : List Entry) (r : Refusal) : Type 0 where
   BadIdentifiers : RefusesUnder 2 RefusesComponents es r → RefusesCommonValues es r
-  BadShared : (ids : List (List (List ℕ))) → SaysUnder 2 IsComponents es ids → RefusesUnder 4 (RefusesHeld (RefusesSequence true (length ids) levels_allowed)) es r → RefusesCommonValues es r
+  BadShared : (ids : List (List (List ℕ))) → SaysUnder 2 IsComponents es ids
+      → RefusesUnder 4 (RefusesHeld (RefusesSequence true (length ids) levels_allowed)) es r
+      → RefusesCommonValues es r
 
 abbrev pub RefusesCommon : Refuses
 RefusesCommon place x r = RefusesMap common_keys (2 ∷ []) RefusesCommonValues place x r

@@ -24,10 +24,14 @@ judge_shared count = judge_held (judge_sequence true count 7)
 -- by entries whose keys are known
 abbrev pub judge_common_values : ℕ → List Entry → Result CommonSays Refusal
 judge_common_values place es =
-    needed place 2 (entry_under 2 es) >>= λ a. judge_at judge_components a >>= λ ids. may (judge_at (judge_shared (length ids))) (entry_under 4 es) >>= λ shared. Ok (record { components = ids; shared = shared })
+    needed place 2 (entry_under 2 es) >>= λ a. judge_at judge_components a
+    >>= λ ids. may (judge_at (judge_shared (length ids))) (entry_under 4 es)
+    >>= λ shared. Ok (record { components = ids; shared = shared })
 
 abbrev pub judge_common_pairs : ℕ → DataPairs → Result CommonSays Refusal
-judge_common_pairs place pairs = judge_each (judge_entry common_keys) (entries_of place pairs) >>= λ _. judge_common_values place (entries_of place pairs)
+judge_common_pairs place pairs =
+    judge_each (judge_entry common_keys) (entries_of place pairs)
+    >>= λ _. judge_common_values place (entries_of place pairs)
 
 abbrev pub judge_common : ℕ → DataItem → Result CommonSays Refusal
 judge_common = judge_map judge_common_pairs
@@ -39,14 +43,20 @@ shared_at count = held_at (whole_sequence true count 7)
 
 -- the values, in the order of their keys
 abbrev pub common_found : Pairs → Result CommonValues Refusal
-common_found s = take_from 2 s >>= λ components. take_from 4 components.1 >>= λ shared. end_from shared.1 >>= λ _. Ok (record { components = components.0; shared = shared.0 })
+common_found s =
+    take_from 2 s >>= λ components. take_from 4 components.1 >>= λ shared. end_from shared.1
+    >>= λ _. Ok (record { components = components.0; shared = shared.0 })
 
 -- of a map at a place
 abbrev pub common_values_from : ℕ → CommonValues → Result CommonSays Refusal
-common_values_from place v = needed place 2 v.components >>= λ a. components_at a >>= λ ids. may (shared_at (length ids)) v.shared >>= λ shared. Ok (record { components = ids; shared = shared })
+common_values_from place v =
+    needed place 2 v.components >>= λ a. components_at a
+    >>= λ ids. may (shared_at (length ids)) v.shared
+    >>= λ shared. Ok (record { components = ids; shared = shared })
 
 abbrev pub common_pairs_from : ℕ → ℕ → Position → Result CommonSays Refusal
-common_pairs_from place pairs p = common_found (record { map = p; left = pairs }) >>= common_values_from place
+common_pairs_from place pairs p =
+    common_found (record { map = p; left = pairs }) >>= common_values_from place
 
 -- a whole item
 abbrev pub common_at : Position → Result CommonSays Refusal

@@ -48,20 +48,27 @@ element_place place NoItems (suc i) = place
 element_place place (ItemThen x items) (suc i) = element_place (place_after place x) items i
 
 pub data RefusesParts : ℕ → DataItems → Refusal → Type 0 where
-  NoPart : (place : ℕ) (x : DataItem) (others : DataItems) → (IsByteString x → ⊥) → RefusesParts place (ItemThen x others) (refused place Shape)
-  LaterPart : (place : ℕ) (part : List ℕ) (others : DataItems) (r : Refusal) → RefusesParts (place_after place (ByteString part)) others r → RefusesParts place (ItemThen (ByteString part) others) r
+  NoPart : (place : ℕ) (x : DataItem) (others : DataItems) → (IsByteString x → ⊥)
+      → RefusesParts place (ItemThen x others) (refused place Shape)
+  LaterPart : (place : ℕ) (part : List ℕ) (others : DataItems) (r : Refusal)
+      → RefusesParts (place_after place (ByteString part)) others r
+      → RefusesParts place (ItemThen (ByteString part) others) r
 
 -- its form first, and then its length
 pub data RefusesIdentifier (place : ℕ) : DataItem → Refusal → Type 0 where
   NoIdentifier : (x : DataItem) → (IsArray x → ⊥) → RefusesIdentifier place x (refused place Shape)
-  BadPart : (items : DataItems) (r : Refusal) → RefusesParts (elements_place place items) items r → RefusesIdentifier place (ArrayOf items) r
-  TooLong : (id : List (List ℕ)) → (IsShort id → ⊥) → RefusesIdentifier place (identifier_item id) (refused place LongIdentifier)
+  BadPart : (items : DataItems) (r : Refusal) → RefusesParts (elements_place place items) items r
+      → RefusesIdentifier place (ArrayOf items) r
+  TooLong : (id : List (List ℕ)) → (IsShort id → ⊥)
+      → RefusesIdentifier place (identifier_item id) (refused place LongIdentifier)
 
 -- each before the next
 pub data RefusesIdentifiers : ℕ → DataItems → Refusal → Type 0 where
-  BadIdentifier : (place : ℕ) (x : DataItem) (others : DataItems) (r : Refusal) → RefusesIdentifier place x r → RefusesIdentifiers place (ItemThen x others) r
+  BadIdentifier : (place : ℕ) (x : DataItem) (others : DataItems) (r : Refusal)
+      → RefusesIdentifier place x r → RefusesIdentifiers place (ItemThen x others) r
   LaterIdentifier : (place : ℕ) (id : List (List ℕ)) (others : DataItems) (r : Refusal) → IsShort id
-      → RefusesIdentifiers (place_after place (identifier_item id)) others r → RefusesIdentifiers place (ItemThen (identifier_item id) others) r
+      → RefusesIdentifiers (place_after place (identifier_item id)) others r
+      → RefusesIdentifiers place (ItemThen (identifier_item id) others) r
 
 -- the first two that are alike: the least second one, and then the least first one
 pub record AreAlike (ids : List (List (List ℕ))) (i j : ℕ) : Type 0 where
@@ -75,7 +82,14 @@ pub record AreAlike (ids : List (List (List ℕ))) (i j : ℕ) : Type 0 where
 pub data RefusesComponents (place : ℕ) : DataItem → Refusal → Type 0 where
   NoArray : (x : DataItem) → (IsArray x → ⊥) → RefusesComponents place x (refused place Shape)
   NoComponents : RefusesComponents place (ArrayOf NoItems) (refused place Shape)
-  ManyComponents : (items : DataItems) → 8 < item_count items → RefusesComponents place (ArrayOf items) (refused place (TooMany (item_count items)))
-  BadComponents : (items : DataItems) (r : Refusal) → item_count items ≤ 8 → RefusesIdentifiers (elements_place place items) items r → RefusesComponents place (ArrayOf items) r
-  AlikeComponents : (ids : List (List (List ℕ))) (i j : ℕ) → length ids ≤ 8 → AllByRecursion IsShort ids → AreAlike ids i j
-      → RefusesComponents place (ArrayOf (identifier_items ids)) (refused (element_place (elements_place place (identifier_items ids)) (identifier_items ids) j) (TwoAlike i j))
+  ManyComponents : (items : DataItems) → 8 < item_count items
+      → RefusesComponents place (ArrayOf items) (refused place (TooMany (item_count items)))
+  BadComponents : (items : DataItems) (r : Refusal) → item_count items ≤ 8
+      → RefusesIdentifiers (elements_place place items) items r
+      → RefusesComponents place (ArrayOf items) r
+  AlikeComponents : (ids : List (List (List ℕ))) (i j : ℕ) → length ids ≤ 8
+      → AllByRecursion IsShort ids → AreAlike ids i j
+      → RefusesComponents place (ArrayOf (identifier_items ids))
+      (refused
+      (element_place (elements_place place (identifier_items ids)) (identifier_items ids) j)
+      (TwoAlike i j))

@@ -18,7 +18,9 @@ abbrev pub short_enough : ℕ → ℕ → List (List ℕ) → Result (List (List
 short_enough place size id = if nat_lt 64 size then Err (refused place LongIdentifier) else Ok id
 
 abbrev pub judge_parts : ℕ → DataItems → Result (List (List ℕ)) Refusal
-judge_parts place items = judge_all judge_part (elements_place place items) items >>= short_enough place (length (spell (ArrayOf items)))
+judge_parts place items =
+    judge_all judge_part (elements_place place items) items
+    >>= short_enough place (length (spell (ArrayOf items)))
 
 abbrev pub judge_identifier : ℕ → DataItem → Result (List (List ℕ)) Refusal
 judge_identifier = judge_array judge_parts
@@ -51,12 +53,15 @@ judge_like place last (Some i) = Err (refused place (TwoAlike i last))
 -- the identifiers from one on
 abbrev pub judge_apart : List (List (List ℕ)) → ℕ → ℕ → DataItems → Result Unit Refusal
 judge_apart ids last place NoItems = Ok tt
-judge_apart ids last place (ItemThen x others) = judge_like place last (first_like ids last) >>= λ _. judge_apart ids (suc last) (place_after place x) others
+judge_apart ids last place (ItemThen x others) =
+    judge_like place last (first_like ids last)
+    >>= λ _. judge_apart ids (suc last) (place_after place x) others
 
 -- ---- the array
 
 abbrev pub judge_ids : ℕ → DataItems → Result (List (List (List ℕ))) Refusal
-judge_ids place items = judge_all judge_identifier place items >>= λ ids. judge_apart ids 0 place items >>= λ _. Ok ids
+judge_ids place items =
+    judge_all judge_identifier place items >>= λ ids. judge_apart ids 0 place items >>= λ _. Ok ids
 
 -- as many as may be
 abbrev pub judge_count : ℕ → DataItems → Result (List (List (List ℕ))) Refusal

@@ -14,18 +14,23 @@ part_at p = content_from p >>= λ c. Ok c.0.left
 
 -- a whole item, as an identifier
 abbrev pub identifier_at : Position → Result (List (List ℕ)) Refusal
-identifier_at p = array_from p >>= λ h. all_from part_at h.0 h.1 >>= short_enough p.place (length p.left)
+identifier_at p =
+    array_from p >>= λ h. all_from part_at h.0 h.1 >>= short_enough p.place (length p.left)
 
 -- identifiers from one on, of which there are so many
 abbrev pub apart_from : List (List (List ℕ)) → ℕ → ℕ → Position → Result Unit Refusal
 apart_from ids last zero p = Ok tt
-apart_from ids last (suc n) p = judge_like p.place last (first_like ids last) >>= λ _. inner_from p >>= λ x. apart_from ids (suc last) n x.1
+apart_from ids last (suc n) p =
+    judge_like p.place last (first_like ids last) >>= λ _. inner_from p
+    >>= λ x. apart_from ids (suc last) n x.1
 
 abbrev pub ids_from : ℕ → Position → Result (List (List (List ℕ))) Refusal
 ids_from n p = all_from identifier_at n p >>= λ ids. apart_from ids 0 n p >>= λ _. Ok ids
 
 abbrev pub counted_ids : ℕ → ℕ → Position → Result (List (List (List ℕ))) Refusal
-counted_ids place n p = if n == 0 then Err (refused place Shape) else if nat_lt 8 n then Err (refused place (TooMany n)) else ids_from n p
+counted_ids place n p =
+    if n == 0 then Err (refused place Shape) else if nat_lt 8 n then Err (refused place (TooMany n))
+    else ids_from n p
 
 -- a whole item, as identifiers
 abbrev pub components_at : Position → Result (List (List (List ℕ))) Refusal

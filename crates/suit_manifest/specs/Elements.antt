@@ -11,25 +11,31 @@ use Rattle.suit_params.specs.Refusing.{refused}
 use Rattle.suit_params.specs.Reading.{head_from, inner_from, only_from, content_from}
 use Rattle.suit_commands.specs.Sequences.{place_after}
 
-abbrev pub judge_all : {A : Type 0} → (ℕ → DataItem → Result A Refusal) → ℕ → DataItems → Result (List A) Refusal
+abbrev pub judge_all : {A : Type 0} → (ℕ → DataItem → Result A Refusal) → ℕ → DataItems
+    → Result (List A) Refusal
 judge_all judge place NoItems = Ok []
-judge_all judge place (ItemThen x others) = judge place x >>= λ a. judge_all judge (place_after place x) others >>= λ rest. Ok (a ∷ rest)
+judge_all judge place (ItemThen x others) =
+    judge place x >>= λ a. judge_all judge (place_after place x) others >>= λ rest. Ok (a ∷ rest)
 
 -- an array by its elements, and a map by its pairs
-abbrev pub judge_array : {A : Type 0} → (ℕ → DataItems → Result A Refusal) → ℕ → DataItem → Result A Refusal
+abbrev pub judge_array : {A : Type 0} → (ℕ → DataItems → Result A Refusal) → ℕ → DataItem
+    → Result A Refusal
 judge_array inner place (ArrayOf items) = inner place items
 judge_array inner place _ = Err (refused place Shape)
 
-abbrev pub judge_map : {A : Type 0} → (ℕ → DataPairs → Result A Refusal) → ℕ → DataItem → Result A Refusal
+abbrev pub judge_map : {A : Type 0} → (ℕ → DataPairs → Result A Refusal) → ℕ → DataItem
+    → Result A Refusal
 judge_map inner place (MapOf pairs) = inner place pairs
 judge_map inner place _ = Err (refused place Shape)
 
 -- ---- how they are read
 
 -- so many elements, each a whole item
-abbrev pub all_from : {A : Type 0} → (Position → Result A Refusal) → ℕ → Position → Result (List A) Refusal
+abbrev pub all_from : {A : Type 0} → (Position → Result A Refusal) → ℕ → Position
+    → Result (List A) Refusal
 all_from read zero p = Ok []
-all_from read (suc n) p = inner_from p >>= λ x. read x.0 >>= λ a. all_from read n x.1 >>= λ rest. Ok (a ∷ rest)
+all_from read (suc n) p =
+    inner_from p >>= λ x. read x.0 >>= λ a. all_from read n x.1 >>= λ rest. Ok (a ∷ rest)
 
 abbrev pub array_after : ℕ → ℕ → Position → HeadKind → Result (ℕ × Position) Refusal
 array_after place n p kinds.Array = Ok (n, p)

@@ -43,7 +43,8 @@ abbrev pub judge_member : ℕ → ℕ → DataItem → Result SequenceTree Refus
 judge_member count = judge_held (judge_sequence false count 7)
 
 -- an array in one way, and all else in another
-abbrev pub judge_or : {A : Type 0} → (ℕ → DataItem → Result A Refusal) → (ℕ → DataItem → Result A Refusal) → ℕ → DataItem → Result A Refusal
+abbrev pub judge_or : {A : Type 0} → (ℕ → DataItem → Result A Refusal)
+    → (ℕ → DataItem → Result A Refusal) → ℕ → DataItem → Result A Refusal
 judge_or array other place (ArrayOf items) = array place (ArrayOf items)
 judge_or array other place x = other place x
 
@@ -64,7 +65,8 @@ judge_item place x = Ok x
 
 -- the content of a byte string that is to hold one item
 abbrev pub judge_content : ℕ → DataItem → Result (List ℕ) Refusal
-judge_content place x = judge_string place x >>= λ c. whole_judged judge_item c.place c.left >>= λ _. Ok c.left
+judge_content place x =
+    judge_string place x >>= λ c. whole_judged judge_item c.place c.left >>= λ _. Ok c.left
 
 abbrev pub judge_text_here : ℕ → DataItem → Result TextMember Refusal
 judge_text_here place x = judge_content place x >>= λ content. Ok (texts.Here content)
@@ -91,7 +93,16 @@ judge_later count es =
     may (judge_at (judge_severed count)) (entry_under 16 es) >>= λ payload_fetch.
     may (judge_at (judge_severed count)) (entry_under 20 es) >>= λ install.
     may (judge_at judge_text_member) (entry_under 23 es) >>= λ text.
-    Ok (record { reference = reference; validate = validate; load = load; invoke = invoke; payload_fetch = member_of payload_fetch; install = member_of install; text = text_of text })
+    Ok
+    (record {
+      reference = reference;
+      validate = validate;
+      load = load;
+      invoke = invoke;
+      payload_fetch = member_of payload_fetch;
+      install = member_of install;
+      text = text_of text;
+    })
 
 -- ---- the map
 
@@ -122,7 +133,9 @@ judge_values place es =
     Ok (manifest_of n common later)
 
 abbrev pub judge_pairs : ℕ → DataPairs → Result Manifest Refusal
-judge_pairs place pairs = judge_each (judge_entry manifest_keys) (entries_of place pairs) >>= λ _. judge_values place (entries_of place pairs)
+judge_pairs place pairs =
+    judge_each (judge_entry manifest_keys) (entries_of place pairs)
+    >>= λ _. judge_values place (entries_of place pairs)
 
 abbrev pub judge_manifest : ℕ → DataItem → Result Manifest Refusal
 judge_manifest = judge_map judge_pairs

@@ -1,4 +1,4 @@
--- What holds of all manifests.
+-- Laws of all manifests.
 use Rattle.std.specs.Prelude.{◌≡◌, ◌⊎◌, ◌<◌, ℕ, List, [], ◌∷◌}
 use Rattle.std.specs.List.{AllByRecursion}
 use Rattle.det_cbor.specs.DataItem.{DataItem, UnsignedInteger, MapOf, DataPairs, spell, IsValid}
@@ -33,18 +33,26 @@ IsAboveNumber n e = (m : ℕ) → e.key ≡ UnsignedInteger m → n < m
 
 abbrev pub NumbersAscend : List Entry → Type 0
 NumbersAscend [] = Unit {0}
-NumbersAscend (e ∷ es) = ((n : ℕ) → e.key ≡ UnsignedInteger n → AllByRecursion (IsAboveNumber n) es) × NumbersAscend es
+NumbersAscend (e ∷ es) =
+    ((n : ℕ) → e.key ≡ UnsignedInteger n → AllByRecursion (IsAboveNumber n) es) × NumbersAscend es
 
 -- the laws: each valid item says one manifest or has one refusal, and never both, and so all bytes do. What is said is a
 -- manifest that the grammar allows; the item that says it is the one that it is written as, its places are those of that
 -- item's spelling, and bytes that say it are that spelling. Manifests that are equal places apart are written alike. And
 -- the keys of a map are in order
 pub record ManifestLaws : Type 0 where
-  pub one_reading : (place : ℕ) (x : DataItem) → IsValid x → HasOneManifest place x ⊎ HasOneRefusal place x
-  pub grammatical : (place : ℕ) (x : DataItem) (m : Manifest) → IsManifest place x m → IsGrammatical m
+  pub one_reading : (place : ℕ) (x : DataItem) → IsValid x
+      → HasOneManifest place x ⊎ HasOneRefusal place x
+  pub grammatical : (place : ℕ) (x : DataItem) (m : Manifest) → IsManifest place x m
+      → IsGrammatical m
   pub whole : HasOneAnswer IsManifest RefusesManifest
-  pub made : (place : ℕ) (x : DataItem) (m : Manifest) → IsValid x → IsManifest place x m → x ≡ manifest_item m
-  pub places : (place : ℕ) (x : DataItem) (m : Manifest) → IsValid x → IsManifest place x m → m ≡ placed_manifest place m
-  pub again : (place : ℕ) (bytes : List ℕ) (m : Manifest) → SaysWhole IsManifest place bytes m → bytes ≡ spell (manifest_item m)
-  pub one_item : (m n : Manifest) → unplaced_manifest m ≡ unplaced_manifest n → manifest_item m ≡ manifest_item n
-  pub ordered : (place : ℕ) (pairs : DataPairs) → IsValid (MapOf pairs) → NumbersAscend (entries_of place pairs)
+  pub made : (place : ℕ) (x : DataItem) (m : Manifest) → IsValid x → IsManifest place x m
+      → x ≡ manifest_item m
+  pub places : (place : ℕ) (x : DataItem) (m : Manifest) → IsValid x → IsManifest place x m
+      → m ≡ placed_manifest place m
+  pub again : (place : ℕ) (bytes : List ℕ) (m : Manifest) → SaysWhole IsManifest place bytes m
+      → bytes ≡ spell (manifest_item m)
+  pub one_item : (m n : Manifest) → unplaced_manifest m ≡ unplaced_manifest n
+      → manifest_item m ≡ manifest_item n
+  pub ordered : (place : ℕ) (pairs : DataPairs) → IsValid (MapOf pairs)
+      → NumbersAscend (entries_of place pairs)

@@ -30,12 +30,15 @@ row_pairs (r ∷ rs) = pair_then r.0 r.1 (row_pairs rs)
 -- where the next key is spelled
 abbrev pub after_row : ℕ → ℕ → Option DataItem → ℕ
 after_row place key None = place
-after_row place key (Some value) = place + length (spell (UnsignedInteger key)) + length (spell value)
+after_row place key (Some value) =
+    place + length (spell (UnsignedInteger key)) + length (spell value)
 
 -- the place of the value under a number, where the first key is spelled from a place on
 abbrev pub place_among : ℕ → ℕ → List Row → ℕ
 place_among n place [] = place
-place_among n place (r ∷ rs) = if r.0 == n then place + length (spell (UnsignedInteger r.0)) else place_among n (after_row place r.0 r.1) rs
+place_among n place (r ∷ rs) =
+    if r.0 == n then place + length (spell (UnsignedInteger r.0))
+    else place_among n (after_row place r.0 r.1) rs
 
 -- the same, where the map is spelled from a place on
 abbrev pub place_under : ℕ → ℕ → List Row → ℕ
@@ -109,7 +112,8 @@ abbrev pub value_place : ℕ → ℕ → Manifest → ℕ
 value_place n place m = place_under n place (manifest_rows m)
 
 abbrev pub shared_place : ℕ → Manifest → ℕ
-shared_place place m = place_under 4 (content_place (value_place 3 place m) (spell (common_item m))) (common_rows m)
+shared_place place m =
+    place_under 4 (content_place (value_place 3 place m) (spell (common_item m))) (common_rows m)
 
 -- the same manifest with the places of its spelling
 abbrev pub placed_manifest : ℕ → Manifest → Manifest

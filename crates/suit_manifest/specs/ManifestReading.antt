@@ -49,7 +49,8 @@ abbrev pub member_at : ℕ → Position → Result SequenceTree Refusal
 member_at count = held_at (whole_sequence false count 7)
 
 -- an array in one way, and all else in another
-abbrev pub array_or : {A : Type 0} → Result A Refusal → Result A Refusal → HeadKind → Result A Refusal
+abbrev pub array_or : {A : Type 0} → Result A Refusal → Result A Refusal → HeadKind
+    → Result A Refusal
 array_or array other kinds.Array = array
 array_or array other _ = other
 
@@ -89,7 +90,16 @@ later_from count v =
     severed_in count v.payload_fetch >>= λ payload_fetch.
     severed_in count v.install >>= λ install.
     text_in v.text >>= λ text.
-    Ok (record { reference = reference; validate = validate; load = load; invoke = invoke; payload_fetch = payload_fetch; install = install; text = text })
+    Ok
+    (record {
+      reference = reference;
+      validate = validate;
+      load = load;
+      invoke = invoke;
+      payload_fetch = payload_fetch;
+      install = install;
+      text = text;
+    })
 
 -- ---- the map
 
@@ -104,12 +114,29 @@ later_found s =
     take_from 20 payload_fetch.1 >>= λ install.
     take_from 23 install.1 >>= λ text.
     end_from text.1 >>= λ _.
-    Ok (record { reference = reference.0; validate = validate.0; load = load.0; invoke = invoke.0; payload_fetch = payload_fetch.0; install = install.0; text = text.0 })
+    Ok
+    (record {
+      reference = reference.0;
+      validate = validate.0;
+      load = load.0;
+      invoke = invoke.0;
+      payload_fetch = payload_fetch.0;
+      install = install.0;
+      text = text.0;
+    })
 
 -- all values
 abbrev pub manifest_found : Pairs → Result ManifestValues Refusal
 manifest_found s =
-    take_from 1 s >>= λ version. take_from 2 version.1 >>= λ sequence. take_from 3 sequence.1 >>= λ common. later_found common.1 >>= λ later. Ok (record { version = version.0; sequence = sequence.0; common = common.0; later = later })
+    take_from 1 s >>= λ version. take_from 2 version.1 >>= λ sequence. take_from 3 sequence.1
+    >>= λ common. later_found common.1
+    >>= λ later. Ok
+    (record {
+      version = version.0;
+      sequence = sequence.0;
+      common = common.0;
+      later = later;
+    })
 
 -- of a map at a place
 abbrev pub values_from : ℕ → ManifestValues → Result Manifest Refusal

@@ -1,4 +1,4 @@
--- What is written of a manifest is read as that manifest (draft-ietf-suit-manifest-25, section 8.4).
+-- A manifest that is written is read as that manifest (draft-ietf-suit-manifest-25, section 8.4).
 use Rattle.std.specs.Prelude.{◌≡◌, ◌≤◌, ℕ, Bool, true, false, List, length, IfSome}
 use Rattle.std.specs.List.{AllByRecursion}
 use Rattle.std.specs.Str.{IsUtf8}
@@ -94,5 +94,6 @@ pub record IsGrammatical (m : Manifest) : Type 0 where
 -- ---- wherever the bytes stand, they say the manifest with the places that it has there, where the grammar allows it.
 -- Places apart it is the same manifest.
 pub record IsWrittenManifest (m : Manifest) (bytes : List ℕ) : Type 0 where
-  pub says : (place : ℕ) → IsGrammatical m → SaysWhole IsManifest place bytes (placed_manifest place m)
+  pub says : (place : ℕ) → IsGrammatical m
+      → SaysWhole IsManifest place bytes (placed_manifest place m)
   pub same : (place : ℕ) → unplaced_manifest (placed_manifest place m) ≡ unplaced_manifest m

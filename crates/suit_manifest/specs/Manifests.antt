@@ -43,8 +43,10 @@ SaysMember count place x s = SaysHeld (SaysSequence false count levels_allowed) 
 
 -- a digest, or a byte string that holds the sequence
 pub data SaysSevered (count place : ℕ) (x : DataItem) : Member → Type 0 where
-  SaysHere : (s : SequenceTree) → SaysMember count place x s → SaysSevered count place x (members.Here s)
-  SaysApart : (digest : List ℕ) → IsDigest place x digest → SaysSevered count place x (members.Apart (record { bytes = digest }))
+  SaysHere : (s : SequenceTree) → SaysMember count place x s
+      → SaysSevered count place x (members.Here s)
+  SaysApart : (digest : List ℕ) → IsDigest place x digest
+      → SaysSevered count place x (members.Apart (record { bytes = digest }))
 
 -- any one item
 abbrev pub SaysItem : Says DataItem
@@ -52,8 +54,10 @@ SaysItem place x said = x ≡ said
 
 -- a digest, or a byte string that holds one item
 pub data SaysTextMember (place : ℕ) (x : DataItem) : TextMember → Type 0 where
-  SaysTextHere : (said : DataItem) (held : SaysHeld SaysItem place x said) → SaysTextMember place x (texts.Here held.content)
-  SaysTextApart : (digest : List ℕ) → IsDigest place x digest → SaysTextMember place x (texts.Apart (record { bytes = digest }))
+  SaysTextHere : (said : DataItem) (held : SaysHeld SaysItem place x said)
+      → SaysTextMember place x (texts.Here held.content)
+  SaysTextApart : (digest : List ℕ) → IsDigest place x digest
+      → SaysTextMember place x (texts.Apart (record { bytes = digest }))
 
 abbrev pub SeveredUnder : ℕ → ℕ → List Entry → Member → Type 0
 SeveredUnder n count es members.Empty = entry_under n es ≡ None
@@ -77,10 +81,12 @@ pub record IsManifest (place : ℕ) (x : DataItem) (said : Manifest) : Type 0 wh
   pub sequence : SaysUnder 2 SaysNumber (entries_of place map.pairs) said.sequence
   pub common : SaysUnder 3 (SaysHeld IsCommon) (entries_of place map.pairs) (common_said said)
   pub reference : MaySayUnder 4 SaysText (entries_of place map.pairs) said.reference
-  pub validate : MaySayUnder 7 (SaysMember (count_said said)) (entries_of place map.pairs) said.validate
+  pub validate :
+      MaySayUnder 7 (SaysMember (count_said said)) (entries_of place map.pairs) said.validate
   pub load : MaySayUnder 8 (SaysMember (count_said said)) (entries_of place map.pairs) said.load
   pub invoke : MaySayUnder 9 (SaysMember (count_said said)) (entries_of place map.pairs) said.invoke
-  pub payload_fetch : SeveredUnder 16 (count_said said) (entries_of place map.pairs) said.payload_fetch
+  pub payload_fetch :
+      SeveredUnder 16 (count_said said) (entries_of place map.pairs) said.payload_fetch
   pub install : SeveredUnder 20 (count_said said) (entries_of place map.pairs) said.install
   pub text : TextUnder (entries_of place map.pairs) said.text
 
@@ -88,7 +94,8 @@ pub record IsManifest (place : ℕ) (x : DataItem) (said : Manifest) : Type 0 wh
 
 pub data RefusesVersion (place : ℕ) : DataItem → Refusal → Type 0 where
   NoVersion : (x : DataItem) → (IsUnsigned x → ⊥) → RefusesVersion place x (refused place Shape)
-  OtherVersion : (n : ℕ) → n ≢ 1 → RefusesVersion place (UnsignedInteger n) (refused place (Version n))
+  OtherVersion : (n : ℕ) → n ≢ 1
+      → RefusesVersion place (UnsignedInteger n) (refused place (Version n))
 
 pub data RefusesNumber (place : ℕ) : DataItem → Refusal → Type 0 where
   NoNumber : (x : DataItem) → (IsUnsigned x → ⊥) → RefusesNumber place x (refused place Shape)
@@ -101,8 +108,10 @@ RefusesMember count place x r = RefusesHeld (RefusesSequence false count levels_
 
 -- an array is judged as a digest, and all else as a byte string
 pub data RefusesApart (held : Refuses) (place : ℕ) : DataItem → Refusal → Type 0 where
-  BadDigest : (x : DataItem) (r : Refusal) → IsArray x → RefusesDigest place x r → RefusesApart held place x r
-  BadHeld : (x : DataItem) (r : Refusal) → (IsArray x → ⊥) → held place x r → RefusesApart held place x r
+  BadDigest : (x : DataItem) (r : Refusal) → IsArray x → RefusesDigest place x r
+      → RefusesApart held place x r
+  BadHeld : (x : DataItem) (r : Refusal) → (IsArray x → ⊥) → held place x r
+      → RefusesApart held place x r
 
 -- of one item nothing more is refused
 abbrev pub RefusesNothing : Refuses
@@ -124,9 +133,11 @@ pub data LaterKey : Type 0 where
 -- what is said and refused under one, where there are so many components
 abbrev pub SaysLater : ℕ → List Entry → LaterKey → Type 0
 SaysLater count es ReferenceKey = (said : Option (List ℕ)) × MaySayUnder 4 SaysText es said
-SaysLater count es ValidateKey = (said : Option SequenceTree) × MaySayUnder 7 (SaysMember count) es said
+SaysLater count es ValidateKey =
+    (said : Option SequenceTree) × MaySayUnder 7 (SaysMember count) es said
 SaysLater count es LoadKey = (said : Option SequenceTree) × MaySayUnder 8 (SaysMember count) es said
-SaysLater count es InvokeKey = (said : Option SequenceTree) × MaySayUnder 9 (SaysMember count) es said
+SaysLater count es InvokeKey =
+    (said : Option SequenceTree) × MaySayUnder 9 (SaysMember count) es said
 SaysLater count es PayloadFetchKey = (said : Member) × SeveredUnder 16 count es said
 SaysLater count es InstallKey = (said : Member) × SeveredUnder 20 count es said
 SaysLater count es TextKey = (said : TextMember) × TextUnder es said
@@ -141,14 +152,20 @@ RefusesLater count es InstallKey r = RefusesUnder 20 (RefusesApart (RefusesMembe
 RefusesLater count es TextKey r = RefusesUnder 23 (RefusesApart RefusesItem) es r
 
 abbrev pub later_keys : List LaterKey
-later_keys = ReferenceKey ∷ ValidateKey ∷ LoadKey ∷ InvokeKey ∷ PayloadFetchKey ∷ InstallKey ∷ TextKey ∷ []
+later_keys =
+    ReferenceKey ∷ ValidateKey ∷ LoadKey ∷ InvokeKey ∷ PayloadFetchKey ∷ InstallKey ∷ TextKey ∷ []
 
 pub data RefusesManifestValues (es : List Entry) (r : Refusal) : Type 0 where
   BadVersion : RefusesUnder 1 RefusesVersion es r → RefusesManifestValues es r
-  BadNumber : SaysUnder 1 IsVersion es 1 → RefusesUnder 2 RefusesNumber es r → RefusesManifestValues es r
-  BadCommon : (n : ℕ) → SaysUnder 1 IsVersion es 1 → SaysUnder 2 SaysNumber es n → RefusesUnder 3 (RefusesHeld RefusesCommon) es r → RefusesManifestValues es r
-  BadLater : (n : ℕ) (common : CommonSays) → SaysUnder 1 IsVersion es 1 → SaysUnder 2 SaysNumber es n → SaysUnder 3 (SaysHeld IsCommon) es common
-      → RefusesFirst (RefusesLater (length common.components) es) (SaysLater (length common.components) es) later_keys r → RefusesManifestValues es r
+  BadNumber : SaysUnder 1 IsVersion es 1 → RefusesUnder 2 RefusesNumber es r
+      → RefusesManifestValues es r
+  BadCommon : (n : ℕ) → SaysUnder 1 IsVersion es 1 → SaysUnder 2 SaysNumber es n
+      → RefusesUnder 3 (RefusesHeld RefusesCommon) es r → RefusesManifestValues es r
+  BadLater : (n : ℕ) (common : CommonSays) → SaysUnder 1 IsVersion es 1
+      → SaysUnder 2 SaysNumber es n → SaysUnder 3 (SaysHeld IsCommon) es common
+      → RefusesFirst (RefusesLater (length common.components) es)
+      (SaysLater (length common.components) es) later_keys r
+      → RefusesManifestValues es r
 
 abbrev pub RefusesManifest : Refuses
 RefusesManifest place x r = RefusesMap manifest_keys required_keys RefusesManifestValues place x r

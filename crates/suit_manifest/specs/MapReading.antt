@@ -72,7 +72,9 @@ value_then left p = value_from p >>= λ v. Ok (Some v.0, record { map = v.1; lef
 
 -- the value of the next pair, where its key is this number, and the pairs that are left then
 abbrev pub take_from : ℕ → Pairs → Result (Option Position × Pairs) Refusal
-take_from n s = if s.left == 0 then Ok (None, s) else (key_is n s.map >>= λ k. if k.0 then value_then s.left k.1 else Ok (None, s))
+take_from n s =
+    if s.left == 0 then Ok (None, s)
+    else (key_is n s.map >>= λ k. if k.0 then value_then s.left k.1 else Ok (None, s))
 
 -- no pair is left: the key of one would be unknown
 abbrev pub end_from : Pairs → Result Unit Refusal

@@ -30,7 +30,8 @@ pub record HasKeys (keys required : List ℕ) (place : ℕ) (x : DataItem) : Typ
   pub complete : AllByRecursion (λ n. has_key n (entries_of place pairs) ≡ true) required
 
 -- what stands under a number says this
-pub record SaysUnder {A : Type 0} (n : ℕ) (form : Says A) (es : List Entry) (said : A) : Type 0 where
+pub record SaysUnder {A : Type 0} (n : ℕ) (form : Says A) (es : List Entry) (said : A)
+    : Type 0 where
   pub entry : Entry
   pub there : entry_under n es ≡ Some entry
   pub says_so : form entry.value_place entry.value said
@@ -52,11 +53,19 @@ pub record RefusesUnder (n : ℕ) (bad : Refuses) (es : List Entry) (r : Refusal
 pub data RefusesOtherKey (keys : List ℕ) (e : Entry) : Refusal → Type 0 where
   OtherKey : (IsKeyAmong keys e → ⊥) → RefusesOtherKey keys e (refused e.key_place UnknownKey)
 
-pub data RefusesMap (keys required : List ℕ) (values : List Entry → Refusal → Type 0) (place : ℕ) : DataItem → Refusal → Type 0 where
-  NoMap : (x : DataItem) → (IsMap x → ⊥) → RefusesMap keys required values place x (refused place Shape)
-  BadKey : (pairs : DataPairs) (r : Refusal) → RefusesFirst (RefusesOtherKey keys) (IsKeyAmong keys) (entries_of place pairs) r → RefusesMap keys required values place (MapOf pairs) r
-  LacksKey : (pairs : DataPairs) (r : Refusal) → AllByRecursion (IsKeyAmong keys) (entries_of place pairs)
-      → RefusesFirst (RefusesLack place (entries_of place pairs)) (λ n. has_key n (entries_of place pairs) ≡ true) required r
+pub data RefusesMap (keys required : List ℕ) (values : List Entry → Refusal → Type 0) (place : ℕ)
+    : DataItem → Refusal → Type 0 where
+  NoMap : (x : DataItem) → (IsMap x → ⊥)
+      → RefusesMap keys required values place x (refused place Shape)
+  BadKey : (pairs : DataPairs) (r : Refusal)
+      → RefusesFirst (RefusesOtherKey keys) (IsKeyAmong keys) (entries_of place pairs) r
       → RefusesMap keys required values place (MapOf pairs) r
-  BadValue : (pairs : DataPairs) (r : Refusal) → AllByRecursion (IsKeyAmong keys) (entries_of place pairs) → AllByRecursion (λ n. has_key n (entries_of place pairs) ≡ true) required
+  LacksKey : (pairs : DataPairs) (r : Refusal)
+      → AllByRecursion (IsKeyAmong keys) (entries_of place pairs)
+      → RefusesFirst (RefusesLack place (entries_of place pairs))
+      (λ n. has_key n (entries_of place pairs) ≡ true) required r
+      → RefusesMap keys required values place (MapOf pairs) r
+  BadValue : (pairs : DataPairs) (r : Refusal)
+      → AllByRecursion (IsKeyAmong keys) (entries_of place pairs)
+      → AllByRecursion (λ n. has_key n (entries_of place pairs) ≡ true) required
       → values (entries_of place pairs) r → RefusesMap keys required values place (MapOf pairs) r

@@ -22,7 +22,8 @@ use Rattle.suit_manifest.specs.Manifests.{count_said}
 -- ---- one member: the content that the envelope holds for it, if any, and its place there
 
 -- what the envelope holds has the stated digest, and is this sequence
-pub record IsTaken (count : ℕ) (held : Option (List ℕ)) (place : ℕ) (stated : Digest) (s : SequenceTree) : Type 0 where
+pub record IsTaken (count : ℕ) (held : Option (List ℕ)) (place : ℕ) (stated : Digest)
+    (s : SequenceTree) : Type 0 where
   pub content : List ℕ
   pub there : held ≡ Some content
   pub matches : string_digest content ≡ stated.bytes
@@ -36,31 +37,43 @@ HasMember count held place Empty apart = apart ≡ None
 HasMember count held place (Here own) apart = apart ≡ None
 
 -- why a member whose digest is stated is not taken
-pub data LacksTaken (name : MemberName) (count : ℕ) (held : Option (List ℕ)) (place : ℕ) (stated : Digest) : MemberFault → Type 0 where
+pub data LacksTaken (name : MemberName) (count : ℕ) (held : Option (List ℕ)) (place : ℕ)
+    (stated : Digest) : MemberFault → Type 0 where
   IsSevered : held ≡ None → LacksTaken name count held place stated (Severed name)
-  IsOther : (content : List ℕ) (found : Digest) → held ≡ Some content → found.bytes ≡ string_digest content → found.bytes ≢ stated.bytes
+  IsOther : (content : List ℕ) (found : Digest) → held ≡ Some content
+      → found.bytes ≡ string_digest content → found.bytes ≢ stated.bytes
       → LacksTaken name count held place stated (Differs name stated found)
-  IsNoSequence : (content : List ℕ) (r : Refusal) → held ≡ Some content → string_digest content ≡ stated.bytes
-      → RefusesWhole (RefusesSequence false count levels_allowed) place content r → LacksTaken name count held place stated (Refused r)
+  IsNoSequence : (content : List ℕ) (r : Refusal) → held ≡ Some content
+      → string_digest content ≡ stated.bytes
+      → RefusesWhole (RefusesSequence false count levels_allowed) place content r
+      → LacksTaken name count held place stated (Refused r)
 
 abbrev pub LacksMember : MemberName → ℕ → Option (List ℕ) → ℕ → Member → MemberFault → Type 0
-LacksMember name count held place (Apart stated) fault = LacksTaken name count held place stated fault
+LacksMember name count held place (Apart stated) fault =
+    LacksTaken name count held place stated fault
 LacksMember name count held place Empty fault = ⊥
 LacksMember name count held place (Here own) fault = ⊥
 
 -- ---- each of the two
 
 abbrev pub HasPayloadFetch : EnvelopeSays → Manifest → Option SequenceTree → Type 0
-HasPayloadFetch said manifest apart = HasMember (count_said manifest) said.payload_fetch said.payload_fetch_place manifest.payload_fetch apart
+HasPayloadFetch said manifest apart =
+    HasMember (count_said manifest) said.payload_fetch said.payload_fetch_place
+    manifest.payload_fetch apart
 
 abbrev pub HasInstall : EnvelopeSays → Manifest → Option SequenceTree → Type 0
-HasInstall said manifest apart = HasMember (count_said manifest) said.install said.install_place manifest.install apart
+HasInstall said manifest apart =
+    HasMember (count_said manifest) said.install said.install_place manifest.install apart
 
 abbrev pub LacksPayloadFetch : EnvelopeSays → Manifest → MemberFault → Type 0
-LacksPayloadFetch said manifest fault = LacksMember names.PayloadFetch (count_said manifest) said.payload_fetch said.payload_fetch_place manifest.payload_fetch fault
+LacksPayloadFetch said manifest fault =
+    LacksMember names.PayloadFetch (count_said manifest) said.payload_fetch said.payload_fetch_place
+    manifest.payload_fetch fault
 
 abbrev pub LacksInstall : EnvelopeSays → Manifest → MemberFault → Type 0
-LacksInstall said manifest fault = LacksMember names.Install (count_said manifest) said.install said.install_place manifest.install fault
+LacksInstall said manifest fault =
+    LacksMember names.Install (count_said manifest) said.install said.install_place manifest.install
+    fault
 
 -- ---- both members
 
@@ -69,15 +82,18 @@ pub record HasMembers (said : EnvelopeSays) (manifest : Manifest) (members : Mem
   pub install : HasInstall said manifest members.install
 
 -- payload-fetch is judged whole before install
-pub data LacksMembers (said : EnvelopeSays) (manifest : Manifest) (fault : MemberFault) : Type 0 where
+pub data LacksMembers (said : EnvelopeSays) (manifest : Manifest) (fault : MemberFault)
+    : Type 0 where
   ByPayloadFetch : LacksPayloadFetch said manifest fault → LacksMembers said manifest fault
-  ByInstall : (fetch : Option SequenceTree) → HasPayloadFetch said manifest fetch → LacksInstall said manifest fault → LacksMembers said manifest fault
+  ByInstall : (fetch : Option SequenceTree) → HasPayloadFetch said manifest fetch
+      → LacksInstall said manifest fault → LacksMembers said manifest fault
 
 -- ---- answers
 
 -- the content of a member is refused as a sequence, or there was no memory for it
 abbrev pub RefusesContent : ℕ → ℕ → List ℕ → MemberFault → Type 0
-RefusesContent count place content (Refused r) = RefusesWhole (RefusesSequence false count levels_allowed) place content r
+RefusesContent count place content (Refused r) =
+    RefusesWhole (RefusesSequence false count levels_allowed) place content r
 RefusesContent count place content NoMemory = Unit {0}
 RefusesContent count place content _ = ⊥
 

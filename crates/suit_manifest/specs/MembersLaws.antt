@@ -1,4 +1,4 @@
--- What holds of the members that stand apart, whatever reads them.
+-- Laws of the members that stand apart, whatever reads them.
 use Rattle.std.specs.Prelude.{◌≡◌, ◌⊎◌, ℕ, List}
 use Rattle.suit_envelope.specs.Envelopes.{EnvelopeSays}
 use Rattle.suit_envelope.specs.Said.{EnvelopeOf}
@@ -23,4 +23,5 @@ pub record HasOneFault (said : EnvelopeSays) (manifest : Manifest) : Type 0 wher
 
 -- the law: an envelope has one answer of members or one fault for each manifest, and never both
 pub record MembersLaws : Type 0 where
-  pub one_answer : (bytes : List ℕ) (said : EnvelopeSays) (manifest : Manifest) → EnvelopeOf bytes said → HasOneAnswer said manifest ⊎ HasOneFault said manifest
+  pub one_answer : (bytes : List ℕ) (said : EnvelopeSays) (manifest : Manifest)
+      → EnvelopeOf bytes said → HasOneAnswer said manifest ⊎ HasOneFault said manifest

@@ -1,4 +1,4 @@
--- What holds of the procedures of a manifest of the grammar.
+-- Laws of the procedures of a manifest of the grammar.
 use Rattle.std.specs.Prelude.{ℕ}
 use Rattle.det_cbor.specs.DataItem.{DataItem}
 use Rattle.suit_commands.specs.Allowed.{IsPlan}
@@ -11,5 +11,9 @@ use Rattle.suit_manifest.specs.Procedures.{update_tree, invocation_tree}
 
 -- the laws: each procedure is one of the grammar, the update procedure with whatever members an envelope has
 pub record ProcedureLaws : Type 0 where
-  pub update : (place : ℕ) (x : DataItem) (said : EnvelopeSays) (manifest : Manifest) (members : Members) → IsManifest place x manifest → HasMembers said manifest members → IsPlan (update_tree manifest members)
-  pub invocation : (place : ℕ) (x : DataItem) (manifest : Manifest) → IsManifest place x manifest → IsPlan (invocation_tree manifest)
+  pub update : (place : ℕ) (x : DataItem) (said : EnvelopeSays) (manifest : Manifest)
+      (members : Members)
+      → IsManifest place x manifest → HasMembers said manifest members
+      → IsPlan (update_tree manifest members)
+  pub invocation : (place : ℕ) (x : DataItem) (manifest : Manifest) → IsManifest place x manifest
+      → IsPlan (invocation_tree manifest)

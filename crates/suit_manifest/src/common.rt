@@ -15,7 +15,7 @@ use std::alloc::Global;
 use suit_commands::{Sequence, decode_sequence};
 use suit_params::{Fault, Identifiers, Refusal, read_content};
 
-/// What a manifest's members have in common (draft-ietf-suit-manifest-25, section 8.4.5).
+/// The common part of a manifest (draft-ietf-suit-manifest-25, section 8.4.5).
 #[derive(Debug, Drop)]
 pub(crate) struct Common {
     pub(crate) components: Identifiers,
@@ -69,7 +69,8 @@ fn find_values<'a>(mut pairs: Pairs<'a>) -> Result<CommonValues<'a>, Refusal>
 
 // Of a map at a place.
 fn read_values(alloc: Global, place: u64, values: CommonValues<'_>) -> Result<Common, Fault>
-    ensures says { Gives (λ c. record { components = c.components; shared = c.shared }) result (common_values_from place values.entry) }
+    ensures says { Gives (λ c. record { components = c.components; shared = c.shared }) result
+        (common_values_from place values.entry) }
     ensures few { IfOk result (λ c. length c.components ≤ 8) }
 {
     let item = needed(place, 2, values.components)?;
@@ -80,7 +81,8 @@ fn read_values(alloc: Global, place: u64, values: CommonValues<'_>) -> Result<Co
 
 // Of a map at a place, of so many pairs.
 fn read_pairs(alloc: Global, map: Cursor<'_>, place: u64, pairs: u64) -> Result<Common, Fault>
-    ensures says { Gives (λ c. record { components = c.components; shared = c.shared }) result (common_pairs_from place pairs map.entry) }
+    ensures says { Gives (λ c. record { components = c.components; shared = c.shared }) result
+        (common_pairs_from place pairs map.entry) }
     ensures few { IfOk result (λ c. length c.components ≤ 8) }
 {
     let values = find_values(Pairs { map, left: pairs })?;
@@ -90,7 +92,8 @@ fn read_pairs(alloc: Global, map: Cursor<'_>, place: u64, pairs: u64) -> Result<
 /// A whole item, as the common part: keys that are not known are refused first, then missing
 /// ones, and then the first value that is refused.
 pub(crate) fn read_common(alloc: Global, mut item: Cursor<'_>) -> Result<Common, Fault>
-    ensures says { Gives (λ c. record { components = c.components; shared = c.shared }) result (common_at item.entry) }
+    ensures says { Gives (λ c. record { components = c.components; shared = c.shared }) result
+        (common_at item.entry) }
     ensures few { IfOk result (λ c. length c.components ≤ 8) }
 {
     let place = item.place();

@@ -11,6 +11,9 @@ ghost use Rattle.suit_manifest.specs.Manifests.{IsManifest, RefusesManifest};
 ghost use Rattle.suit_manifest.specs.ManifestJudging.{manifest_of};
 ghost use Rattle.suit_manifest.specs.ManifestReading.{values_from, pairs_from, manifest_at, manifest_from};
 
+#[cfg(test)]
+mod tests;
+
 use crate::Manifest;
 use crate::common::{Common, read_common};
 use crate::heads::read_map;
@@ -24,7 +27,8 @@ use suit_params::{Fault, only_item, read_content};
 
 // The common part, which a byte string holds.
 fn held_common(alloc: Global, mut item: Cursor<'_>) -> Result<Common, Fault>
-    ensures says { Gives (λ c. record { components = c.components; shared = c.shared }) result (held_at (only_at common_at) item.entry) }
+    ensures says { Gives (λ c. record { components = c.components; shared = c.shared }) result
+        (held_at (only_at common_at) item.entry) }
     ensures few { IfOk result (λ c. length c.components ≤ 8) }
 {
     let content = read_content(&mut item)?;
@@ -32,9 +36,11 @@ fn held_common(alloc: Global, mut item: Cursor<'_>) -> Result<Common, Fault>
     read_common(alloc, item)
 }
 
-// What the parts say together.
+// The manifest that the parts say together.
 fn manifest_of(sequence: u64, common: Common, later: Later) -> Manifest
-    ensures { result ≡ manifest_of sequence (record { components = common.components; shared = common.shared }) later }
+    ensures { result
+        ≡ manifest_of sequence (record { components = common.components; shared = common.shared })
+        later }
 {
     Manifest {
         sequence,
@@ -102,8 +108,10 @@ pub fn decode_manifest(alloc: Global, bytes: &[u8], place: u64) -> Result<Manife
     ensures some { IfOk result (λ m. 1 ≤ length m.components) }
     ensures few { IfOk result (λ m. length m.components ≤ 8) }
     ensures refused { IfErr result (IsFaultBy (RefusesWhole RefusesManifest place bytes.now)) }
-    ensures every_manifest { (m : Manifest) → SaysWhole IsManifest place bytes.now m → IsReadAs m result }
-    ensures every_refusal { (r : Refusal) → RefusesWhole RefusesManifest place bytes.now r → IsRefusedAs r result }
+    ensures every_manifest { (m : Manifest) → SaysWhole IsManifest place bytes.now m
+        → IsReadAs m result }
+    ensures every_refusal { (r : Refusal) → RefusesWhole RefusesManifest place bytes.now r
+        → IsRefusedAs r result }
 {
     whole_manifest(alloc, bytes, place)
 }

@@ -48,7 +48,10 @@ fn push_manifest(alloc: Global, out: &mut Bytes, manifest: &Manifest) -> Result<
 
 // Adds the three pairs that each manifest has.
 fn push_start(alloc: Global, out: &mut Bytes, manifest: &Manifest) -> Result<(), AllocError>
-    ensures ok { (others : DataPairs) → OnOk result (out.new ++ spell_pairs others ≡ out.old ++ spell_pairs (start_pairs manifest.now others)) }
+    ensures ok { (others : DataPairs)
+        → OnOk result
+        (out.new ++ spell_pairs others
+        ≡ out.old ++ spell_pairs (start_pairs manifest.now others)) }
     ensures fits { OnOk result (CommonFits manifest.now) }
     ensures string { OnOk result (IsString (spell (common_item manifest.now))) }
     ensures sequence { OnOk result (IsU64 manifest.now.sequence) }

@@ -42,7 +42,8 @@ fn push_identifiers(out: &mut Bytes, identifiers: &[Identifier]) -> Result<(), A
 
 /// Adds the array of the components' identifiers.
 pub(crate) fn push_components(out: &mut Bytes, components: &Identifiers) -> Result<(), AllocError>
-    ensures ok { OnOk result (out.new ≡ out.old ++ spell (ArrayOf (identifier_items components.now))) }
+    ensures ok { OnOk result
+        (out.new ≡ out.old ++ spell (ArrayOf (identifier_items components.now))) }
     ensures fit { OnOk result (ComponentsFit components.now) }
 {
     let identifiers = components.as_slice();

@@ -13,7 +13,7 @@ use std::alloc::Global;
 use suit_commands::Sequence;
 use suit_params::Fault;
 
-/// What may be there.
+/// The members that may be there.
 #[derive(Debug, Drop)]
 pub(crate) struct Later {
     pub(crate) reference: Option<Text>,

@@ -1,4 +1,4 @@
-//! What holds of all manifests, whatever reads them.
+//! Laws of all manifests, whatever reads them.
 
 ghost use Rattle.suit_manifest.specs.ManifestLaws.{ManifestLaws};
 

@@ -36,9 +36,3 @@ pub use procedure_law::procedure_laws;
 
 #[cfg(test)]
 mod manifest_makers;
-#[cfg(test)]
-mod member_tests;
-#[cfg(test)]
-mod plan_tests;
-#[cfg(test)]
-mod tests;

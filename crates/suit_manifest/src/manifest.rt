@@ -1,4 +1,4 @@
-//! What a manifest says.
+//! Manifests.
 
 use det_cbor::{Bytes, Text};
 use suit_commands::Sequence;

@@ -7,6 +7,9 @@ ghost use Rattle.suit_manifest.specs.declared.manifest.Members.{Members};
 ghost use Rattle.suit_manifest.specs.declared.members.MemberFault.{MemberFault};
 ghost use Rattle.suit_manifest.specs.MembersApart.{HasPayloadFetch, HasInstall, LacksPayloadFetch, LacksInstall, HasMembers, LacksMembers, IsLackBy, IsTakenAs, IsLackedAs};
 
+#[cfg(test)]
+mod tests;
+
 use crate::plans::component_count;
 use crate::severable::apart;
 use crate::{Manifest, Members};
@@ -41,7 +44,8 @@ fn payload_fetch(
     requires few { length manifest.now.components < 2 ^ 32 }
     requires places { MembersEndBelow (2 ^ 64) (said_by envelope.now) }
     ensures ok { IfOk result (HasPayloadFetch (said_by envelope.now) manifest.now) }
-    ensures refused { IfErr result (IsLackBy (LacksPayloadFetch (said_by envelope.now) manifest.now)) }
+    ensures refused { IfErr result
+        (IsLackBy (LacksPayloadFetch (said_by envelope.now) manifest.now)) }
 {
     let count = component_count(manifest);
     let place = envelope.payload_fetch_place;
@@ -86,7 +90,7 @@ fn both(alloc: Global, envelope: &Envelope<'_>, manifest: &Manifest) -> Result<M
 /// The members whose digests the manifest states, taken from its envelope
 /// (draft-ietf-suit-manifest-25, sections 8.4 and 8.5): each has the stated digest, and its content
 /// is decoded as a sequence for the manifest's number of components, at its place in the envelope.
-/// What the envelope holds for a member whose digest the manifest does not state is passed over.
+/// A member that the envelope holds, and whose digest the manifest does not state, is passed over.
 ///
 /// Payload-fetch is judged whole before install, each by its being there, then by its digest, then
 /// by the grammar. Takes memory for the sequences alone.
@@ -102,8 +106,10 @@ pub fn members_of(
     requires places { MembersEndBelow (2 ^ 64) (said_by envelope.now) }
     ensures ok { IfOk result (HasMembers (said_by envelope.now) manifest.now) }
     ensures refused { IfErr result (IsLackBy (LacksMembers (said_by envelope.now) manifest.now)) }
-    ensures every_members { (members : Members) → HasMembers (said_by envelope.now) manifest.now members → IsTakenAs members result }
-    ensures every_fault { (fault : MemberFault) → LacksMembers (said_by envelope.now) manifest.now fault → IsLackedAs fault result }
+    ensures every_members { (members : Members)
+        → HasMembers (said_by envelope.now) manifest.now members → IsTakenAs members result }
+    ensures every_fault { (fault : MemberFault)
+        → LacksMembers (said_by envelope.now) manifest.now fault → IsLackedAs fault result }
 {
     both(alloc, envelope, manifest)
 }

@@ -1,4 +1,4 @@
-//! What holds of members that stand apart, whatever takes them.
+//! Laws of members that stand apart, whatever takes them.
 
 ghost use Rattle.suit_manifest.specs.MembersLaws.{MembersLaws};
 

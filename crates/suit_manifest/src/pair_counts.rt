@@ -10,7 +10,8 @@ use suit_commands::Sequence;
 
 // 1 where there is a sequence, else 0. So with the values of the next three.
 fn held_count(sequence: &Option<Sequence>) -> u64
-    ensures is { (key : ℕ) (others : DataPairs) → pair_count (pair_then key (held_item sequence.now) others) ≡ pair_count others + result }
+    ensures is { (key : ℕ) (others : DataPairs)
+        → pair_count (pair_then key (held_item sequence.now) others) ≡ pair_count others + result }
     ensures small { result ≤ 1 }
 {
     match sequence {
@@ -20,7 +21,8 @@ fn held_count(sequence: &Option<Sequence>) -> u64
 }
 
 fn reference_count(reference: &Option<Text>) -> u64
-    ensures is { (key : ℕ) (others : DataPairs) → pair_count (pair_then key (text_item reference.now) others) ≡ pair_count others + result }
+    ensures is { (key : ℕ) (others : DataPairs)
+        → pair_count (pair_then key (text_item reference.now) others) ≡ pair_count others + result }
     ensures small { result ≤ 1 }
 {
     match reference {
@@ -30,7 +32,8 @@ fn reference_count(reference: &Option<Text>) -> u64
 }
 
 fn severed_count(member: &Member) -> u64
-    ensures is { (key : ℕ) (others : DataPairs) → pair_count (pair_then key (severed_item member.now) others) ≡ pair_count others + result }
+    ensures is { (key : ℕ) (others : DataPairs)
+        → pair_count (pair_then key (severed_item member.now) others) ≡ pair_count others + result }
     ensures small { result ≤ 1 }
 {
     match member {
@@ -40,7 +43,9 @@ fn severed_count(member: &Member) -> u64
 }
 
 fn text_count(text: &TextMember) -> u64
-    ensures is { (key : ℕ) (others : DataPairs) → pair_count (pair_then key (text_member_item text.now) others) ≡ pair_count others + result }
+    ensures is { (key : ℕ) (others : DataPairs)
+        → pair_count (pair_then key (text_member_item text.now) others)
+        ≡ pair_count others + result }
     ensures small { result ≤ 1 }
 {
     match text {

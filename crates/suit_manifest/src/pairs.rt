@@ -66,7 +66,8 @@ pub(crate) struct Pairs<'a> {
 impl<'a> Pairs<'a> {
     // The next value, behind its key.
     fn value(&mut self, mut behind: Cursor<'a>) -> Result<Option<Cursor<'a>>, Refusal>
-        ensures { map_ok (λ value. (value, self.new)) result ≡ value_then self.old.left behind.entry }
+        ensures { map_ok (λ value. (value, self.new)) result
+            ≡ value_then self.old.left behind.entry }
     {
         let value = read_value(&mut behind)?;
         self.map = behind;

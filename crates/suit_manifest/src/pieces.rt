@@ -20,7 +20,8 @@ pub(crate) fn push_map(out: &mut Bytes, pairs: u64) -> Result<(), AllocError>
 
 /// Adds a pair of numbers.
 pub(crate) fn push_number_pair(out: &mut Bytes, key: u64, number: u64) -> Result<(), AllocError>
-    ensures ok { OnOk result (out.new ≡ out.old ++ (spell (UnsignedInteger key) ++ spell (UnsignedInteger number))) }
+    ensures ok { OnOk result
+        (out.new ≡ out.old ++ (spell (UnsignedInteger key) ++ spell (UnsignedInteger number))) }
     ensures number { IsU64 number }
 {
     push_number(out, key)?;
@@ -29,7 +30,8 @@ pub(crate) fn push_number_pair(out: &mut Bytes, key: u64, number: u64) -> Result
 
 /// Adds a pair: a number, and a byte string of this content.
 pub(crate) fn push_string_pair(out: &mut Bytes, key: u64, content: &[u8]) -> Result<(), AllocError>
-    ensures ok { OnOk result (out.new ≡ out.old ++ (spell (UnsignedInteger key) ++ spell (ByteString content.now))) }
+    ensures ok { OnOk result
+        (out.new ≡ out.old ++ (spell (UnsignedInteger key) ++ spell (ByteString content.now))) }
     ensures string { OnOk result (IsString content.now) }
 {
     push_number(out, key)?;

@@ -1,4 +1,4 @@
-//! What holds of the procedures of a manifest.
+//! Laws of the procedures of a manifest.
 
 ghost use Rattle.suit_manifest.specs.ProcedureLaws.{ProcedureLaws};
 

@@ -21,7 +21,8 @@ fn push_here(
     key: u64,
     sequence: &Sequence,
 ) -> Result<(), AllocError>
-    ensures ok { OnOk result (out.new ≡ out.old ++ (spell (UnsignedInteger key) ++ spell (inner_item sequence.now))) }
+    ensures ok { OnOk result
+        (out.new ≡ out.old ++ (spell (UnsignedInteger key) ++ spell (inner_item sequence.now))) }
     ensures fits { OnOk result (HeldFits sequence.now) }
 {
     let content = encode_sequence(alloc, sequence)?;
@@ -32,7 +33,9 @@ fn push_here(
 
 // Adds a number, and the array of a digest.
 fn push_apart(out: &mut Bytes, key: u64, digest: &Digest) -> Result<(), AllocError>
-    ensures ok { OnOk result (out.new ≡ out.old ++ (spell (UnsignedInteger key) ++ spell (digest_item digest.now.bytes))) }
+    ensures ok { OnOk result
+        (out.new
+        ≡ out.old ++ (spell (UnsignedInteger key) ++ spell (digest_item digest.now.bytes))) }
     ensures fits { OnOk result (IsDigestBytes digest.now.bytes) }
 {
     push_number(out, key)?;
@@ -46,7 +49,10 @@ pub(crate) fn push_reference(
     key: u64,
     reference: &Option<Text>,
 ) -> Result<(), AllocError>
-    ensures ok { (others : DataPairs) → OnOk result (out.new ++ spell_pairs others ≡ out.old ++ spell_pairs (pair_then key (text_item reference.now) others)) }
+    ensures ok { (others : DataPairs)
+        → OnOk result
+        (out.new ++ spell_pairs others
+        ≡ out.old ++ spell_pairs (pair_then key (text_item reference.now) others)) }
     ensures fits { OnOk result (IfSome reference.now IsUtf8String) }
 {
     match reference {
@@ -66,7 +72,10 @@ pub(crate) fn push_held(
     key: u64,
     sequence: &Option<Sequence>,
 ) -> Result<(), AllocError>
-    ensures ok { (others : DataPairs) → OnOk result (out.new ++ spell_pairs others ≡ out.old ++ spell_pairs (pair_then key (held_item sequence.now) others)) }
+    ensures ok { (others : DataPairs)
+        → OnOk result
+        (out.new ++ spell_pairs others
+        ≡ out.old ++ spell_pairs (pair_then key (held_item sequence.now) others)) }
     ensures fits { OnOk result (IfSome sequence.now HeldFits) }
 {
     match sequence {
@@ -85,7 +94,10 @@ pub(crate) fn push_severed(
     key: u64,
     member: &Member,
 ) -> Result<(), AllocError>
-    ensures ok { (others : DataPairs) → OnOk result (out.new ++ spell_pairs others ≡ out.old ++ spell_pairs (pair_then key (severed_item member.now) others)) }
+    ensures ok { (others : DataPairs)
+        → OnOk result
+        (out.new ++ spell_pairs others
+        ≡ out.old ++ spell_pairs (pair_then key (severed_item member.now) others)) }
     ensures fits { OnOk result (SeveredFits member.now) }
 {
     match member {
@@ -107,7 +119,10 @@ pub(crate) fn push_text_member(
     key: u64,
     text: &TextMember,
 ) -> Result<(), AllocError>
-    ensures ok { (others : DataPairs) → OnOk result (out.new ++ spell_pairs others ≡ out.old ++ spell_pairs (pair_then key (text_member_item text.now) others)) }
+    ensures ok { (others : DataPairs)
+        → OnOk result
+        (out.new ++ spell_pairs others
+        ≡ out.old ++ spell_pairs (pair_then key (text_member_item text.now) others)) }
     ensures fits { OnOk result (TextFits text.now) }
 {
     match text {

@@ -38,8 +38,11 @@ fn taken(
     count: u32,
 ) -> Result<Sequence, MemberFault>
     requires { EndsBelow (2 ^ 64) (member_of (said_by envelope.now) name) place }
-    ensures ok { IfOk result (IsTaken count (member_of (said_by envelope.now) name) place stated.now) }
-    ensures refused { IfErr result (IsLackBy (LacksTaken name count (member_of (said_by envelope.now) name) place stated.now)) }
+    ensures ok { IfOk result
+        (IsTaken count (member_of (said_by envelope.now) name) place stated.now) }
+    ensures refused { IfErr result
+        (IsLackBy
+        (LacksTaken name count (member_of (said_by envelope.now) name) place stated.now)) }
 {
     match member(envelope, name, stated) {
         MemberBytes::Got(content) => decoded(alloc, content, place, count),
@@ -62,8 +65,11 @@ pub(crate) fn apart(
     count: u32,
 ) -> Result<Option<Sequence>, MemberFault>
     requires { EndsBelow (2 ^ 64) (member_of (said_by envelope.now) name) place }
-    ensures ok { IfOk result (HasMember count (member_of (said_by envelope.now) name) place member.now) }
-    ensures refused { IfErr result (IsLackBy (LacksMember name count (member_of (said_by envelope.now) name) place member.now)) }
+    ensures ok { IfOk result
+        (HasMember count (member_of (said_by envelope.now) name) place member.now) }
+    ensures refused { IfErr result
+        (IsLackBy
+        (LacksMember name count (member_of (said_by envelope.now) name) place member.now)) }
 {
     match member {
         Member::Empty => Ok(None),

@@ -1,4 +1,4 @@
--- What a reader answers that takes memory: as it would without taking any, unless there was none.
+-- The answer of a reader that takes memory: as it would without taking any, unless there was none.
 use Rattle.std.specs.Prelude.{◌≡◌, ◌⊎◌, Result, Ok, Err}
 use Rattle.suit_params.specs.declared.refusal.Refusal.{Refusal}
 use Rattle.suit_params.specs.declared.refusal.Fault.{Fault}

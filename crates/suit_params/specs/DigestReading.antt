@@ -10,7 +10,8 @@ use Rattle.suit_params.specs.Refusing.{refused}
 use Rattle.suit_params.specs.Reading.{head_from, bytes_from, inner_from}
 
 abbrev pub value_after : ℕ → ℕ → ℕ → Position → HeadKind → Result (List ℕ × Position) Refusal
-value_after array place n p kinds.Bytes = if n == 32 then bytes_from n p else Err (refused array Algorithm)
+value_after array place n p kinds.Bytes =
+    if n == 32 then bytes_from n p else Err (refused array Algorithm)
 value_after array place n p _ = Err (refused place Shape)
 
 unfoldable pub value_at : ℕ → Position → Result (List ℕ × Position) Refusal
@@ -18,14 +19,17 @@ value_at array p = head_from p >>= λ h. value_after array p.place h.0.value h.1
 
 abbrev pub algorithm_after : ℕ → ℕ → ℕ → Position → HeadKind → Result Position Refusal
 algorithm_after array place n p kinds.Unsigned = Err (refused array Algorithm)
-algorithm_after array place n p kinds.Negative = if n == 15 then Ok p else Err (refused array Algorithm)
+algorithm_after array place n p kinds.Negative =
+    if n == 15 then Ok p else Err (refused array Algorithm)
 algorithm_after array place n p _ = Err (refused place Shape)
 
 unfoldable pub algorithm_at : ℕ → Position → Result Position Refusal
 algorithm_at array p = head_from p >>= λ h. algorithm_after array p.place h.0.value h.1 h.0.kind
 
 abbrev pub elements_after : ℕ → ℕ → Position → HeadKind → Result (List ℕ) Refusal
-elements_after place n p kinds.Array = if n == 2 then (algorithm_at place p >>= λ q. value_at place q >>= λ d. Ok d.0) else Err (refused place Shape)
+elements_after place n p kinds.Array =
+    if n == 2 then (algorithm_at place p >>= λ q. value_at place q >>= λ d. Ok d.0)
+    else Err (refused place Shape)
 elements_after place n p _ = Err (refused place Shape)
 
 -- a whole item, as a digest

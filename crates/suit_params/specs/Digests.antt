@@ -41,7 +41,11 @@ second_place place a = first_place place + length (spell a)
 -- elements are judged in their order
 pub data RefusesDigest (place : ℕ) : DataItem → Refusal → Type 0 where
   NoPair : (x : DataItem) → (IsPair x → ⊥) → RefusesDigest place x (refused place Shape)
-  NoNumber : (a b : DataItem) → (IsNumber a → ⊥) → RefusesDigest place (pair_item a b) (refused (first_place place) Shape)
-  OtherAlgorithm : (a b : DataItem) → IsNumber a → a ≢ sha_256 → RefusesDigest place (pair_item a b) (refused place Algorithm)
-  NoByteString : (b : DataItem) → (IsByteString b → ⊥) → RefusesDigest place (pair_item sha_256 b) (refused (second_place place sha_256) Shape)
-  OtherLength : (digest : List ℕ) → length digest ≢ 32 → RefusesDigest place (pair_item sha_256 (ByteString digest)) (refused place Algorithm)
+  NoNumber : (a b : DataItem) → (IsNumber a → ⊥)
+      → RefusesDigest place (pair_item a b) (refused (first_place place) Shape)
+  OtherAlgorithm : (a b : DataItem) → IsNumber a → a ≢ sha_256
+      → RefusesDigest place (pair_item a b) (refused place Algorithm)
+  NoByteString : (b : DataItem) → (IsByteString b → ⊥)
+      → RefusesDigest place (pair_item sha_256 b) (refused (second_place place sha_256) Shape)
+  OtherLength : (digest : List ℕ) → length digest ≢ 32
+      → RefusesDigest place (pair_item sha_256 (ByteString digest)) (refused place Algorithm)

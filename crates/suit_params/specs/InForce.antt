@@ -35,7 +35,8 @@ none_in_force = replicate 96 None
 
 -- overriding a parameter replaces the one that is there
 abbrev pub with_param : Parameters → ℕ → Param → Parameters
-with_param parameters component param = slice_set parameters (cell component (key_of param)) (Some param)
+with_param parameters component param =
+    slice_set parameters (cell component (key_of param)) (Some param)
 
 abbrev pub held_at : Option (Option Param) → Option Param
 held_at None = None
@@ -78,15 +79,20 @@ size_in parameters component = number_of (in_force parameters component keys.Siz
 
 abbrev pub overridden : Parameters → ℕ → List Param → Parameters
 overridden parameters component [] = parameters
-overridden parameters component (param ∷ list) = overridden (with_param parameters component param) component list
+overridden parameters component (param ∷ list) =
+    overridden (with_param parameters component param) component list
 
 -- the last value that the list has for a key, or the one before
 abbrev pub last_of : List Param → ParamKey → Option Param → Option Param
 last_of [] key before = before
-last_of (param ∷ list) key before = last_of list key (if rank (key_of param) == rank key then Some param else before)
+last_of (param ∷ list) key before =
+    last_of list key (if rank (key_of param) == rank key then Some param else before)
 
 -- for the component the last value of the list for each key, and for each other component what was in force
 abbrev pub IsOverridden : Parameters → Parameters → ℕ → List Param → Type 0
 IsOverridden before after component list =
     (other : ℕ) (key : ParamKey) → other < 8
-    → in_force after other key ≡ (if other == component then last_of list key (in_force before component key) else in_force before other key)
+    → in_force after other key
+    ≡
+    (if other == component then last_of list key (in_force before component key)
+    else in_force before other key)

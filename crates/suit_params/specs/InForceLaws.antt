@@ -1,4 +1,4 @@
--- What holds of all parameters in force (draft-ietf-suit-manifest-25, section 8.4.8).
+-- Laws of all parameters in force (draft-ietf-suit-manifest-25, section 8.4.8).
 use Rattle.std.specs.Prelude.{◌≡◌, ◌≢◌, ◌<◌, ◌⊎◌, ◌↔◌, ℕ, List, length, Option, Some, None}
 use Rattle.suit_params.specs.declared.digest.Digest.{Digest}
 use Rattle.suit_params.specs.declared.param.Param.{Param}
@@ -23,14 +23,18 @@ abbrev pub HasBytes : Param → List ℕ → Type 0
 HasBytes p bytes = (p ≡ params.Content bytes) ⊎ (p ≡ params.Uri bytes) ⊎ (p ≡ params.Args bytes)
 
 -- nothing has no value, and a parameter has those that it has
-pub record IsValue {V : Type 0} (value : Option Param → Option V) (has : Param → V → Type 0) : Type 0 where
+pub record IsValue {V : Type 0} (value : Option Param → Option V) (has : Param → V → Type 0)
+    : Type 0 where
   pub none : value None ≡ None
   pub is : (p : Param) (v : V) → (value (Some p) ≡ Some v) ↔ has p v
 
 -- what a component has is what the parameter in force under the key has
-pub record IsValueUnder {V : Type 0} (key : ParamKey) (param : V → Param) (value : Parameters → ℕ → Option V) : Type 0 where
-  pub none : (ps : Parameters) (component : ℕ) → in_force ps component key ≡ None → value ps component ≡ None
-  pub is : (ps : Parameters) (component : ℕ) (v : V) → in_force ps component key ≡ Some (param v) → value ps component ≡ Some v
+pub record IsValueUnder {V : Type 0} (key : ParamKey) (param : V → Param)
+    (value : Parameters → ℕ → Option V) : Type 0 where
+  pub none : (ps : Parameters) (component : ℕ) → in_force ps component key ≡ None
+      → value ps component ≡ None
+  pub is : (ps : Parameters) (component : ℕ) (v : V) → in_force ps component key ≡ Some (param v)
+      → value ps component ≡ Some v
 
 -- ---- the laws
 
@@ -38,9 +42,12 @@ pub record IsValueUnder {V : Type 0} (key : ParamKey) (param : V → Param) (val
 -- components puts it in force under its key, and leaves the other keys
 pub record InForceLaws : Type 0 where
   pub own_cell : (j k : ParamKey) → rank j ≡ rank k → j ≡ k
-  pub at_first : (component : ℕ) (key : ParamKey) → component < 8 → in_force none_in_force component key ≡ None
-  pub put : (ps : Parameters) (component : ℕ) (p : Param) → length ps ≡ 96 → component < 8 → in_force (with_param ps component p) component (key_of p) ≡ Some p
-  pub others : (ps : Parameters) (component : ℕ) (p : Param) (key : ParamKey) → length ps ≡ 96 → component < 8 → key ≢ key_of p
+  pub at_first : (component : ℕ) (key : ParamKey) → component < 8
+      → in_force none_in_force component key ≡ None
+  pub put : (ps : Parameters) (component : ℕ) (p : Param) → length ps ≡ 96 → component < 8
+      → in_force (with_param ps component p) component (key_of p) ≡ Some p
+  pub others : (ps : Parameters) (component : ℕ) (p : Param) (key : ParamKey) → length ps ≡ 96
+      → component < 8 → key ≢ key_of p
       → in_force (with_param ps component p) component key ≡ in_force ps component key
   pub identifiers : IsValue identifier_of HasIdentifier
   pub numbers : IsValue number_of HasNumber

@@ -11,12 +11,15 @@ use Rattle.suit_params.specs.Digests.{first_place, second_place}
 
 -- a byte string, as its content at its place
 abbrev pub judge_string : ℕ → DataItem → Result Position Refusal
-judge_string place (ByteString content) = Ok (record { left = content; place = content_place place content })
+judge_string place (ByteString content) =
+    Ok (record { left = content; place = content_place place content })
 judge_string place _ = Err (refused place Shape)
 
 -- a byte string that is to hold one item
-abbrev pub judge_held : {A : Type 0} → (ℕ → DataItem → Result A Refusal) → ℕ → DataItem → Result A Refusal
-judge_held judge place x = judge_string place x >>= λ content. whole_judged judge content.place content.left
+abbrev pub judge_held : {A : Type 0} → (ℕ → DataItem → Result A Refusal) → ℕ → DataItem
+    → Result A Refusal
+judge_held judge place x =
+    judge_string place x >>= λ content. whole_judged judge content.place content.left
 
 -- each of a list in its order
 abbrev pub judge_each : {A : Type 0} → (A → Result Unit Refusal) → List A → Result Unit Refusal
@@ -26,12 +29,15 @@ judge_each judge (a ∷ rest) = judge a >>= λ _. judge_each judge rest
 -- ---- digests
 
 abbrev pub judge_value : ℕ → ℕ → DataItem → Result (List ℕ) Refusal
-judge_value array place (ByteString digest) = if length digest == 32 then Ok digest else Err (refused array Algorithm)
+judge_value array place (ByteString digest) =
+    if length digest == 32 then Ok digest else Err (refused array Algorithm)
 judge_value array place _ = Err (refused place Shape)
 
 abbrev pub judge_elements : ℕ → DataItem → DataItem → Result (List ℕ) Refusal
 judge_elements array (UnsignedInteger n) b = Err (refused array Algorithm)
-judge_elements array (NegativeInteger n) b = if n == 15 then judge_value array (second_place array (NegativeInteger n)) b else Err (refused array Algorithm)
+judge_elements array (NegativeInteger n) b =
+    if n == 15 then judge_value array (second_place array (NegativeInteger n)) b
+    else Err (refused array Algorithm)
 judge_elements array _ b = Err (refused (first_place array) Shape)
 
 abbrev pub judge_digest : ℕ → DataItem → Result (List ℕ) Refusal

@@ -1,4 +1,4 @@
--- What it means that all bytes say just one thing of a form or have just one refusal of it.
+-- All bytes say just one thing of a form, or have just one refusal of it.
 use Rattle.std.specs.Prelude.{◌≡◌, ◌⊎◌, ℕ, List}
 use Rattle.std.specs.List.{AllByRecursion}
 use Rattle.det_cbor.specs.DataItem.{IsByte}
@@ -6,14 +6,16 @@ use Rattle.suit_params.specs.declared.refusal.Refusal.{Refusal}
 use Rattle.suit_params.specs.Refusing.{Refuses, Says, RefusesWhole, SaysWhole}
 
 -- as a whole the bytes say just one thing, and nothing is refused
-pub record SaysJustOne {A : Type 0} (says : Says A) (form : Refuses) (place : ℕ) (bytes : List ℕ) : Type 0 where
+pub record SaysJustOne {A : Type 0} (says : Says A) (form : Refuses) (place : ℕ) (bytes : List ℕ)
+    : Type 0 where
   pub said : A
   pub whole : SaysWhole says place bytes said
   pub only : (a : A) → SaysWhole says place bytes a → a ≡ said
   pub sound : (r : Refusal) → RefusesWhole form place bytes r → ⊥
 
 -- there is just one refusal, and nothing is said
-pub record RefusesJustOnce {A : Type 0} (says : Says A) (form : Refuses) (place : ℕ) (bytes : List ℕ) : Type 0 where
+pub record RefusesJustOnce {A : Type 0} (says : Says A) (form : Refuses) (place : ℕ)
+    (bytes : List ℕ) : Type 0 where
   pub refusal : Refusal
   pub refuses : RefusesWhole form place bytes refusal
   pub only : (r : Refusal) → RefusesWhole form place bytes r → r ≡ refusal
@@ -21,4 +23,6 @@ pub record RefusesJustOnce {A : Type 0} (says : Says A) (form : Refuses) (place 
 
 -- so it is with all bytes, wherever they stand
 abbrev pub HasOneAnswer : {A : Type 0} → Says A → Refuses → Type 0
-HasOneAnswer says form = (place : ℕ) (bytes : List ℕ) → AllByRecursion IsByte bytes → SaysJustOne says form place bytes ⊎ RefusesJustOnce says form place bytes
+HasOneAnswer says form =
+    (place : ℕ) (bytes : List ℕ) → AllByRecursion IsByte bytes
+    → SaysJustOne says form place bytes ⊎ RefusesJustOnce says form place bytes

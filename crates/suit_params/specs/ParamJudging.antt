@@ -49,14 +49,17 @@ abbrev pub judge_value : ℕ → ParamKey → ℕ → DataItem → Result Param 
 judge_value count keys.Vendor place x = judge_id place x >>= λ id. Ok (params.Vendor id)
 judge_value count keys.Class place x = judge_id place x >>= λ id. Ok (params.Class id)
 judge_value count keys.Device place x = judge_id place x >>= λ id. Ok (params.Device id)
-judge_value count keys.Digest place x = judge_bytes place x >>= λ content. judge_content place content >>= λ d. Ok (params.Digest (record { bytes = d }))
+judge_value count keys.Digest place x =
+    judge_bytes place x >>= λ content. judge_content place content
+    >>= λ d. Ok (params.Digest (record { bytes = d }))
 judge_value count keys.Slot place x = judge_number place x >>= λ n. Ok (params.Slot n)
 judge_value count keys.Strict place x = judge_flag place x >>= λ b. Ok (params.Strict b)
 judge_value count keys.Soft place x = judge_flag place x >>= λ b. Ok (params.Soft b)
 judge_value count keys.Size place x = judge_number place x >>= λ n. Ok (params.Size n)
 judge_value count keys.Content place x = judge_bytes place x >>= λ bytes. Ok (params.Content bytes)
 judge_value count keys.Uri place x = judge_text place x >>= λ text. Ok (params.Uri text)
-judge_value count keys.Source place x = judge_number place x >>= λ n. judge_index count place n >>= λ i. Ok (params.Source i)
+judge_value count keys.Source place x =
+    judge_number place x >>= λ n. judge_index count place n >>= λ i. Ok (params.Source i)
 judge_value count keys.Args place x = judge_bytes place x >>= λ bytes. Ok (params.Args bytes)
 
 -- ---- keys and pairs
@@ -72,7 +75,8 @@ judge_key place _ = Err (refused place UnknownParam)
 abbrev pub judge_pairs : ℕ → ℕ → DataPairs → Result (List Param) Refusal
 judge_pairs count place NoPairs = Ok []
 judge_pairs count place (PairThen key value others) =
-    judge_key place key >>= λ k. judge_value count k (value_place place key) value >>= λ p. judge_pairs count (next_place place key value) others >>= λ ps. Ok (p ∷ ps)
+    judge_key place key >>= λ k. judge_value count k (value_place place key) value
+    >>= λ p. judge_pairs count (next_place place key value) others >>= λ ps. Ok (p ∷ ps)
 
 abbrev pub judge_params : ℕ → ℕ → DataItem → Result (List Param) Refusal
 judge_params count place (MapOf pairs) = judge_pairs count (pairs_place place pairs) pairs

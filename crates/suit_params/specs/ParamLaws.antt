@@ -1,4 +1,4 @@
--- What holds of all maps of parameters.
+-- Laws of all maps of parameters.
 use Rattle.std.specs.Prelude.{◌≡◌, ◌<◌, ◌^◌, ◌⊎◌, ℕ, List, [], ◌∷◌, length}
 use Rattle.std.specs.List.{AllByRecursion}
 use Rattle.det_cbor.specs.DataItem.{DataItem, IsValid}
@@ -36,10 +36,15 @@ AreAscending ps = AreAbove 0 ps
 -- says that list, and is valid where the list ascends; an item that says a list is the one that is made of it; and so
 -- all bytes are one digest or have one refusal, and say one list or have one refusal
 pub record ParamLaws : Type 0 where
-  pub one_reading : (count place : ℕ) (x : DataItem) → IsValid x → HasOneList count place x ⊎ HasOneRefusal count place x
-  pub ascending : (count place : ℕ) (x : DataItem) (ps : List Param) → IsValid x → IsParams count place x ps → AreAscending ps
-  pub written : (count place : ℕ) (ps : List Param) → AllByRecursion IsParam ps → AllByRecursion (IsBelow count) ps → IsParams count place (params_item ps) ps
-  pub valid : (ps : List Param) → length ps < 2 ^ 64 → AllByRecursion IsParam ps → AreAscending ps → IsValid (params_item ps)
-  pub made : (count place : ℕ) (x : DataItem) (ps : List Param) → IsParams count place x ps → x ≡ params_item ps
+  pub one_reading : (count place : ℕ) (x : DataItem) → IsValid x
+      → HasOneList count place x ⊎ HasOneRefusal count place x
+  pub ascending : (count place : ℕ) (x : DataItem) (ps : List Param) → IsValid x
+      → IsParams count place x ps → AreAscending ps
+  pub written : (count place : ℕ) (ps : List Param) → AllByRecursion IsParam ps
+      → AllByRecursion (IsBelow count) ps → IsParams count place (params_item ps) ps
+  pub valid : (ps : List Param) → length ps < 2 ^ 64 → AllByRecursion IsParam ps → AreAscending ps
+      → IsValid (params_item ps)
+  pub made : (count place : ℕ) (x : DataItem) (ps : List Param) → IsParams count place x ps
+      → x ≡ params_item ps
   pub digests : HasOneAnswer IsDigest RefusesDigest
   pub maps : (count : ℕ) → HasOneAnswer (IsParams count) (RefusesParams count)

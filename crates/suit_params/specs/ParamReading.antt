@@ -45,7 +45,8 @@ unfoldable pub held_from : Position → Result (Position × Position) Refusal
 held_from p = head_from p >>= λ h. held_after p.place h.0.value h.1 h.0.kind
 
 abbrev pub text_bytes : ℕ → ℕ → Position → Result (List ℕ × Position) Refusal
-text_bytes place n p = bytes_from n p >>= λ t. if is_utf8 t.0 then Ok t else Err (refused place (Cbor BadText))
+text_bytes place n p =
+    bytes_from n p >>= λ t. if is_utf8 t.0 then Ok t else Err (refused place (Cbor BadText))
 
 abbrev pub text_after : ℕ → ℕ → Position → HeadKind → Result (List ℕ × Position) Refusal
 text_after place n p kinds.Text = text_bytes place n p
@@ -83,7 +84,8 @@ abbrev pub value_from : ℕ → ParamKey → Position → Result (Param × Posit
 value_from count keys.Vendor p = id_from p >>= λ v. Ok (params.Vendor v.0, v.1)
 value_from count keys.Class p = id_from p >>= λ v. Ok (params.Class v.0, v.1)
 value_from count keys.Device p = id_from p >>= λ v. Ok (params.Device v.0, v.1)
-value_from count keys.Digest p = digest_from p >>= λ v. Ok (params.Digest (record { bytes = v.0 }), v.1)
+value_from count keys.Digest p =
+    digest_from p >>= λ v. Ok (params.Digest (record { bytes = v.0 }), v.1)
 value_from count keys.Slot p = number_from p >>= λ v. Ok (params.Slot v.0, v.1)
 value_from count keys.Strict p = flag_from p >>= λ v. Ok (params.Strict v.0, v.1)
 value_from count keys.Soft p = flag_from p >>= λ v. Ok (params.Soft v.0, v.1)
@@ -101,7 +103,8 @@ param_from count p = key_from p >>= λ k. value_from count k.0 k.1
 -- so many pairs
 abbrev pub params_from : ℕ → ℕ → Position → Result (List Param) Refusal
 params_from count zero p = Ok []
-params_from count (suc n) p = param_from count p >>= λ v. params_from count n v.1 >>= λ ps. Ok (v.0 ∷ ps)
+params_from count (suc n) p =
+    param_from count p >>= λ v. params_from count n v.1 >>= λ ps. Ok (v.0 ∷ ps)
 
 abbrev pub params_after : ℕ → ℕ → ℕ → Position → HeadKind → Result (List Param) Refusal
 params_after count place n p kinds.Map = params_from count n p

@@ -1,4 +1,4 @@
--- What is written of a list of parameters is read as that list (draft-ietf-suit-manifest-25, section 8.4.8).
+-- A list of parameters that is written is read as that list (draft-ietf-suit-manifest-25, section 8.4.8).
 use Rattle.std.specs.Prelude.{ℕ, List}
 use Rattle.std.specs.List.{AllByRecursion}
 use Rattle.det_cbor.specs.DataItem.{spell}
@@ -10,4 +10,6 @@ use Rattle.suit_params.specs.ParamLaws.{AreAscending}
 
 -- the map's spelling says the list, wherever it stands, where sources are below the number of components
 abbrev pub IsWritten : List Param → Type 0
-IsWritten ps = (count place : ℕ) → AllByRecursion (IsBelow count) ps → AreAscending ps → SaysWhole (IsParams count) place (spell (params_item ps)) ps
+IsWritten ps =
+    (count place : ℕ) → AllByRecursion (IsBelow count) ps → AreAscending ps
+    → SaysWhole (IsParams count) place (spell (params_item ps)) ps

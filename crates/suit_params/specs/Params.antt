@@ -15,18 +15,27 @@ use Rattle.suit_params.specs.ParamKeys.{key_item}
 -- ---- values: under which key, which item says which parameter, where there are so many components
 
 pub data SaysValue (count place : ℕ) : ParamKey → DataItem → Param → Type 0 where
-  SaysVendor : (id : List ℕ) → length id ≡ 16 → SaysValue count place keys.Vendor (ByteString id) (params.Vendor id)
-  SaysClass : (id : List ℕ) → length id ≡ 16 → SaysValue count place keys.Class (ByteString id) (params.Class id)
-  SaysDevice : (id : List ℕ) → length id ≡ 16 → SaysValue count place keys.Device (ByteString id) (params.Device id)
-  SaysDigest : (content digest : List ℕ) → SaysWhole IsDigest (content_place place content) content digest → SaysValue count place keys.Digest (ByteString content) (params.Digest (record { bytes = digest }))
+  SaysVendor : (id : List ℕ) → length id ≡ 16
+      → SaysValue count place keys.Vendor (ByteString id) (params.Vendor id)
+  SaysClass : (id : List ℕ) → length id ≡ 16
+      → SaysValue count place keys.Class (ByteString id) (params.Class id)
+  SaysDevice : (id : List ℕ) → length id ≡ 16
+      → SaysValue count place keys.Device (ByteString id) (params.Device id)
+  SaysDigest : (content digest : List ℕ)
+      → SaysWhole IsDigest (content_place place content) content digest
+      → SaysValue count place keys.Digest (ByteString content)
+      (params.Digest (record { bytes = digest }))
   SaysSlot : (n : ℕ) → SaysValue count place keys.Slot (UnsignedInteger n) (params.Slot n)
   SaysStrict : (b : Bool) → SaysValue count place keys.Strict (Boolean b) (params.Strict b)
   SaysSoft : (b : Bool) → SaysValue count place keys.Soft (Boolean b) (params.Soft b)
   SaysSize : (n : ℕ) → SaysValue count place keys.Size (UnsignedInteger n) (params.Size n)
-  SaysContent : (bytes : List ℕ) → SaysValue count place keys.Content (ByteString bytes) (params.Content bytes)
+  SaysContent : (bytes : List ℕ)
+      → SaysValue count place keys.Content (ByteString bytes) (params.Content bytes)
   SaysUri : (text : List ℕ) → SaysValue count place keys.Uri (TextString text) (params.Uri text)
-  SaysSource : (i : ℕ) → i < count → SaysValue count place keys.Source (UnsignedInteger i) (params.Source i)
-  SaysArgs : (bytes : List ℕ) → SaysValue count place keys.Args (ByteString bytes) (params.Args bytes)
+  SaysSource : (i : ℕ) → i < count
+      → SaysValue count place keys.Source (UnsignedInteger i) (params.Source i)
+  SaysArgs : (bytes : List ℕ)
+      → SaysValue count place keys.Args (ByteString bytes) (params.Args bytes)
 
 -- ---- the map
 
@@ -40,15 +49,20 @@ next_place place key value = value_place place key + length (spell value)
 -- pairs that are spelled from a place on say these parameters, each the next
 pub data SayParams (count : ℕ) : ℕ → DataPairs → List Param → Type 0 where
   NoMore : (place : ℕ) → SayParams count place NoPairs []
-  ParamThen : (place : ℕ) (key : ParamKey) (value : DataItem) (others : DataPairs) (p : Param) (ps : List Param)
-      → SaysValue count (value_place place (key_item key)) key value p → SayParams count (next_place place (key_item key) value) others ps → SayParams count place (PairThen (key_item key) value others) (p ∷ ps)
+  ParamThen :
+      (place : ℕ) (key : ParamKey) (value : DataItem) (others : DataPairs) (p : Param)
+      (ps : List Param)
+      → SaysValue count (value_place place (key_item key)) key value p
+      → SayParams count (next_place place (key_item key) value) others ps
+      → SayParams count place (PairThen (key_item key) value others) (p ∷ ps)
 
 -- the place of the first key
 abbrev pub pairs_place : ℕ → DataPairs → ℕ
 pairs_place place pairs = place + length (head_bytes 5 (pair_count pairs))
 
 pub data IsParams (count place : ℕ) : DataItem → List Param → Type 0 where
-  ParamMap : (pairs : DataPairs) (ps : List Param) → SayParams count (pairs_place place pairs) pairs ps → IsParams count place (MapOf pairs) ps
+  ParamMap : (pairs : DataPairs) (ps : List Param)
+      → SayParams count (pairs_place place pairs) pairs ps → IsParams count place (MapOf pairs) ps
 
 -- ---- what is refused
 
@@ -85,16 +99,27 @@ IsOfKind keys.Source x = IsUnsigned x
 IsOfKind keys.Args x = IsByteString x
 
 pub data RefusesValue (count place : ℕ) : ParamKey → DataItem → Refusal → Type 0 where
-  OtherKind : (key : ParamKey) (x : DataItem) → (IsOfKind key x → ⊥) → RefusesValue count place key x (refused place BadParam)
-  BadDigest : (content : List ℕ) (r : Refusal) → RefusesWhole RefusesDigest (content_place place content) content r → RefusesValue count place keys.Digest (ByteString content) r
-  NoComponent : (i : ℕ) → count ≤ i → RefusesValue count place keys.Source (UnsignedInteger i) (refused place (BadIndex i count))
+  OtherKind : (key : ParamKey) (x : DataItem) → (IsOfKind key x → ⊥)
+      → RefusesValue count place key x (refused place BadParam)
+  BadDigest : (content : List ℕ) (r : Refusal)
+      → RefusesWhole RefusesDigest (content_place place content) content r
+      → RefusesValue count place keys.Digest (ByteString content) r
+  NoComponent : (i : ℕ) → count ≤ i
+      → RefusesValue count place keys.Source (UnsignedInteger i) (refused place (BadIndex i count))
 
 -- each key is judged before its value, and each pair before the next
 pub data RefusesPairs (count : ℕ) : ℕ → DataPairs → Refusal → Type 0 where
-  OtherKey : (place : ℕ) (key value : DataItem) (others : DataPairs) → ((known : ParamKey) → key ≡ key_item known → ⊥) → RefusesPairs count place (PairThen key value others) (refused place UnknownParam)
-  BadValue : (place : ℕ) (key : ParamKey) (value : DataItem) (others : DataPairs) (r : Refusal) → RefusesValue count (value_place place (key_item key)) key value r → RefusesPairs count place (PairThen (key_item key) value others) r
-  BadLater : (place : ℕ) (key : ParamKey) (value : DataItem) (others : DataPairs) (p : Param) (r : Refusal)
-      → SaysValue count (value_place place (key_item key)) key value p → RefusesPairs count (next_place place (key_item key) value) others r → RefusesPairs count place (PairThen (key_item key) value others) r
+  OtherKey : (place : ℕ) (key value : DataItem) (others : DataPairs)
+      → ((known : ParamKey) → key ≡ key_item known → ⊥)
+      → RefusesPairs count place (PairThen key value others) (refused place UnknownParam)
+  BadValue : (place : ℕ) (key : ParamKey) (value : DataItem) (others : DataPairs) (r : Refusal)
+      → RefusesValue count (value_place place (key_item key)) key value r
+      → RefusesPairs count place (PairThen (key_item key) value others) r
+  BadLater :
+      (place : ℕ) (key : ParamKey) (value : DataItem) (others : DataPairs) (p : Param) (r : Refusal)
+      → SaysValue count (value_place place (key_item key)) key value p
+      → RefusesPairs count (next_place place (key_item key) value) others r
+      → RefusesPairs count place (PairThen (key_item key) value others) r
 
 abbrev pub IsMap : DataItem → Type 0
 IsMap (MapOf pairs) = Unit {0}
@@ -102,4 +127,6 @@ IsMap _ = ⊥
 
 pub data RefusesParams (count place : ℕ) : DataItem → Refusal → Type 0 where
   NoMap : (x : DataItem) → (IsMap x → ⊥) → RefusesParams count place x (refused place Shape)
-  BadPairs : (pairs : DataPairs) (r : Refusal) → RefusesPairs count (pairs_place place pairs) pairs r → RefusesParams count place (MapOf pairs) r
+  BadPairs : (pairs : DataPairs) (r : Refusal)
+      → RefusesPairs count (pairs_place place pairs) pairs r
+      → RefusesParams count place (MapOf pairs) r

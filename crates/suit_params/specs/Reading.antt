@@ -29,7 +29,9 @@ unfoldable pub head_from : Position → Result (Head × Position) Refusal
 head_from p = found_head p (head_at p.left)
 
 unfoldable pub bytes_from : ℕ → Position → Result (List ℕ × Position) Refusal
-bytes_from n p = if nat_lt (length p.left) n then Err (refused (p.place + length p.left) (Cbor Truncated)) else Ok (take n p.left, record { left = drop n p.left; place = p.place + n })
+bytes_from n p =
+    if nat_lt (length p.left) n then Err (refused (p.place + length p.left) (Cbor Truncated))
+    else Ok (take n p.left, record { left = drop n p.left; place = p.place + n })
 
 abbrev pub found_item : Position → Read DataItem → Result (DataItem × Position) Refusal
 found_item p (Ok x) = Ok (x.0, resting p x.1)
@@ -47,7 +49,8 @@ inner_from p = item_from p >>= λ x. Ok (inside p x.0, x.1)
 
 -- the one item that stands at a position, after which nothing is left
 abbrev pub only_from : Position → Result Position Refusal
-only_from p = inner_from p >>= λ x. if length x.1.left == 0 then Ok x.0 else Err (refused x.1.place Trailing)
+only_from p =
+    inner_from p >>= λ x. if length x.1.left == 0 then Ok x.0 else Err (refused x.1.place Trailing)
 
 -- ---- byte strings
 
@@ -66,9 +69,13 @@ content_from p = head_from p >>= λ h. content_after p.place h.0.value h.1 h.0.k
 -- ---- items that are judged
 
 -- the next item, judged from its place on
-abbrev pub next_judged : {A : Type 0} → (ℕ → DataItem → Result A Refusal) → Position → Result (A × Position) Refusal
+abbrev pub next_judged : {A : Type 0} → (ℕ → DataItem → Result A Refusal) → Position
+    → Result (A × Position) Refusal
 next_judged judge p = item_from p >>= λ x. judge p.place x.0 >>= λ said. Ok (said, x.1)
 
 -- bytes that are to hold one item and nothing more
-abbrev pub whole_judged : {A : Type 0} → (ℕ → DataItem → Result A Refusal) → ℕ → List ℕ → Result A Refusal
-whole_judged judge place bytes = item_from (record { left = bytes; place = place }) >>= λ x. if length x.1.left == 0 then judge place x.0 else Err (refused x.1.place Trailing)
+abbrev pub whole_judged : {A : Type 0} → (ℕ → DataItem → Result A Refusal) → ℕ → List ℕ
+    → Result A Refusal
+whole_judged judge place bytes =
+    item_from (record { left = bytes; place = place })
+    >>= λ x. if length x.1.left == 0 then judge place x.0 else Err (refused x.1.place Trailing)

@@ -1,4 +1,4 @@
--- What is refused of bytes that hold CBOR: they are judged as one item first, and then by a form of items.
+-- Refusals of bytes that hold CBOR: they are judged as one item first, and then by a form of items.
 use Rattle.std.specs.Prelude.{◌≡◌, ◌≢◌, ℕ, ◌+◌, List, [], ◌∷◌, ◌++◌, length}
 use Rattle.det_cbor.specs.DataItem.{DataItem, ByteString, spell, IsValid, Spells}
 use Rattle.det_cbor.specs.Heads.{head_bytes}
@@ -22,8 +22,10 @@ Says A = ℕ → DataItem → A → Type 0
 -- ---- the next item, whatever follows
 
 pub data RefusesNext (form : Refuses) (p : Position) : Refusal → Type 0 where
-  FaultyNext : (at : ℕ) (reason : Reason) → Faulty 0 p.left at reason → RefusesNext form p (refused (p.place + at) (Cbor reason))
-  RefusedNext : (x : DataItem) (rest : List ℕ) (r : Refusal) → IsValid x → p.left ≡ spell x ++ rest → form p.place x r → RefusesNext form p r
+  FaultyNext : (at : ℕ) (reason : Reason) → Faulty 0 p.left at reason
+      → RefusesNext form p (refused (p.place + at) (Cbor reason))
+  RefusedNext : (x : DataItem) (rest : List ℕ) (r : Refusal) → IsValid x → p.left ≡ spell x ++ rest
+      → form p.place x r → RefusesNext form p r
 
 -- from old to new an item was taken that says this
 pub record TakesNext {A : Type 0} (says : Says A) (old new : Position) (said : A) : Type 0 where
@@ -35,12 +37,16 @@ pub record TakesNext {A : Type 0} (says : Says A) (old new : Position) (said : A
 -- ---- bytes that hold one item and nothing more
 
 pub data RefusesWhole (form : Refuses) (place : ℕ) (bytes : List ℕ) : Refusal → Type 0 where
-  FaultyItem : (at : ℕ) (reason : Reason) → Faulty 0 bytes at reason → RefusesWhole form place bytes (refused (place + at) (Cbor reason))
-  BytesAfter : (x : DataItem) (rest : List ℕ) → IsValid x → bytes ≡ spell x ++ rest → rest ≢ [] → RefusesWhole form place bytes (refused (place + length (spell x)) Trailing)
-  RefusedItem : (x : DataItem) (r : Refusal) → Spells x bytes → form place x r → RefusesWhole form place bytes r
+  FaultyItem : (at : ℕ) (reason : Reason) → Faulty 0 bytes at reason
+      → RefusesWhole form place bytes (refused (place + at) (Cbor reason))
+  BytesAfter : (x : DataItem) (rest : List ℕ) → IsValid x → bytes ≡ spell x ++ rest → rest ≢ []
+      → RefusesWhole form place bytes (refused (place + length (spell x)) Trailing)
+  RefusedItem : (x : DataItem) (r : Refusal) → Spells x bytes → form place x r
+      → RefusesWhole form place bytes r
 
 -- the bytes spell an item that says this
-pub record SaysWhole {A : Type 0} (says : Says A) (place : ℕ) (bytes : List ℕ) (said : A) : Type 0 where
+pub record SaysWhole {A : Type 0} (says : Says A) (place : ℕ) (bytes : List ℕ) (said : A)
+    : Type 0 where
   pub item : DataItem
   pub spells : Spells item bytes
   pub says_so : says place item said
@@ -57,16 +63,21 @@ content_place place content = place + length (head_bytes 2 (length content))
 
 pub data RefusesHeld (form : Refuses) (place : ℕ) : DataItem → Refusal → Type 0 where
   NoString : (x : DataItem) → (IsByteString x → ⊥) → RefusesHeld form place x (refused place Shape)
-  BadContent : (content : List ℕ) (r : Refusal) → RefusesWhole form (content_place place content) content r → RefusesHeld form place (ByteString content) r
+  BadContent : (content : List ℕ) (r : Refusal)
+      → RefusesWhole form (content_place place content) content r
+      → RefusesHeld form place (ByteString content) r
 
 -- a byte string whose content spells an item that says this
-pub record SaysHeld {A : Type 0} (says : Says A) (place : ℕ) (x : DataItem) (said : A) : Type 0 where
+pub record SaysHeld {A : Type 0} (says : Says A) (place : ℕ) (x : DataItem) (said : A)
+    : Type 0 where
   pub content : List ℕ
   pub is : x ≡ ByteString content
   pub holds : SaysWhole says (content_place place content) content said
 
 -- ---- lists, which are judged in their order up to the first that is refused
 
-pub data RefusesFirst {A : Type 0} (bad : A → Refusal → Type 0) (good : A → Type 0) : List A → Refusal → Type 0 where
+pub data RefusesFirst {A : Type 0} (bad : A → Refusal → Type 0) (good : A → Type 0)
+    : List A → Refusal → Type 0 where
   Here : (a : A) (rest : List A) (r : Refusal) → bad a r → RefusesFirst bad good (a ∷ rest) r
-  Later : (a : A) (rest : List A) (r : Refusal) → good a → RefusesFirst bad good rest r → RefusesFirst bad good (a ∷ rest) r
+  Later : (a : A) (rest : List A) (r : Refusal) → good a → RefusesFirst bad good rest r
+      → RefusesFirst bad good (a ∷ rest) r

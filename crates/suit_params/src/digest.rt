@@ -114,8 +114,10 @@ pub fn read_digest(cursor: &mut Cursor<'_>) -> Result<Digest, Refusal>
     ensures ok { IfOk result (λ d. TakesNext IsDigest cursor.old cursor.new d.bytes) }
     ensures refused { IfErr result (RefusesNext RefusesDigest cursor.old) }
     ensures same { OnErr result (cursor.new ≡ cursor.old) }
-    ensures every_digest { (new : Position) (d : List ℕ) → TakesNext IsDigest cursor.old new d → map_ok (λ d. d.bytes) result ≡ Ok d }
-    ensures every_refusal { (r : Refusal) → RefusesNext RefusesDigest cursor.old r → result ≡ Err r }
+    ensures every_digest { (new : Position) (d : List ℕ) → TakesNext IsDigest cursor.old new d
+        → map_ok (λ d. d.bytes) result ≡ Ok d }
+    ensures every_refusal { (r : Refusal) → RefusesNext RefusesDigest cursor.old r
+        → result ≡ Err r }
 {
     digest_ahead(cursor)
 }

@@ -1,4 +1,4 @@
-//! What holds of all maps of parameters and of all parameters in force, whatever reads them.
+//! Laws of all maps of parameters and of all parameters in force, whatever reads them.
 
 ghost use Rattle.suit_params.specs.InForceLaws.{InForceLaws};
 ghost use Rattle.suit_params.specs.ParamLaws.{ParamLaws};

@@ -1,4 +1,4 @@
-//! What the readers of SUIT manifests share: refusals with their places, digests and parameters.
+//! The parts that all readers of SUIT manifests share: refusals with their places, digests and parameters.
 #![tactic(auto)]
 
 mod digest;
@@ -27,10 +27,3 @@ pub use reading::{
     next_content, only_item, read_bytes, read_content, read_head, read_item, same_place,
 };
 pub use refusal::{Fault, Refusal, Why, refused};
-
-#[cfg(test)]
-mod in_force_tests;
-#[cfg(test)]
-mod param_tests;
-#[cfg(test)]
-mod tests;

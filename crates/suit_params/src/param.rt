@@ -26,7 +26,7 @@ pub enum Param {
     Uri(Text),
     /// The component that a copy or a swap takes its content from.
     Source(u32),
-    /// What the launcher is handed beside the image.
+    /// Bytes that the launcher is handed beside the image.
     Args(Bytes),
 }
 

@@ -12,6 +12,9 @@ ghost use Rattle.suit_params.specs.Params.{IsParams, RefusesParams};
 ghost use Rattle.suit_params.specs.ParamJudging.{known_param};
 ghost use Rattle.suit_params.specs.ParamReading.{key_from, bytes_value_from, value_from, param_from, params_from, params_at, next_params};
 
+#[cfg(test)]
+mod tests;
+
 use crate::param_value::{
     read_flag, read_held, read_held_digest, read_id, read_index, read_number, read_text,
 };
@@ -160,8 +163,10 @@ pub fn read_params(alloc: Global, cursor: &mut Cursor<'_>, count: u32) -> Result
     ensures ok { IfOk result (λ list. TakesNext (IsParams count) cursor.old cursor.new list) }
     ensures refused { IfErr result (IsFaultBy (RefusesNext (RefusesParams count) cursor.old)) }
     ensures same { OnErr result (cursor.new ≡ cursor.old) }
-    ensures every_list { (new : Position) (ps : List Param) → TakesNext (IsParams count) cursor.old new ps → IsReadAs ps result }
-    ensures every_refusal { (r : Refusal) → RefusesNext (RefusesParams count) cursor.old r → IsRefusedAs r result }
+    ensures every_list { (new : Position) (ps : List Param)
+        → TakesNext (IsParams count) cursor.old new ps → IsReadAs ps result }
+    ensures every_refusal { (r : Refusal) → RefusesNext (RefusesParams count) cursor.old r
+        → IsRefusedAs r result }
 {
     params_ahead(alloc, cursor, count)
 }

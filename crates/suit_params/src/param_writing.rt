@@ -15,7 +15,8 @@ use std::alloc::{AllocError, Global};
 
 // A byte string of 36 bytes, which holds the digest's array.
 fn push_digest(out: &mut Bytes, digest: &Digest) -> Result<(), AllocError>
-    ensures ok { OnOk result (out.new ≡ out.old ++ spell (ByteString (spell (digest_item digest.now.bytes)))) }
+    ensures ok { OnOk result
+        (out.new ≡ out.old ++ spell (ByteString (spell (digest_item digest.now.bytes)))) }
     ensures err { OnErr result (IsPrefix out.old out.new) }
     ensures long { length digest.now.bytes ≡ 32 }
     ensures string { OnOk result (IsString digest.now.bytes) }
@@ -44,7 +45,9 @@ fn push_value(out: &mut Bytes, param: &Param) -> Result<(), AllocError>
 }
 
 fn push_param(out: &mut Bytes, param: &Param) -> Result<(), AllocError>
-    ensures ok { OnOk result (out.new ≡ out.old ++ (spell (key_item (key_of param.now)) ++ spell (value_item param.now))) }
+    ensures ok { OnOk result
+        (out.new
+        ≡ out.old ++ (spell (key_item (key_of param.now)) ++ spell (value_item param.now))) }
     ensures err { OnErr result (IsPrefix out.old out.new) }
     ensures param { OnOk result (IsParam param.now) }
 {

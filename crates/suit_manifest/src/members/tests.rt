@@ -66,7 +66,7 @@ fn apart(bytes: [u8; 32]) -> Member {
     Member::Apart(Digest { bytes })
 }
 
-/// What the envelope has for a manifest of one component with these two members.
+/// The members that the envelope has for a manifest of one component with these two.
 fn judged(
     alloc: Global,
     bytes: &[u8],

@@ -1,13 +1,13 @@
 //! Items read, against vectors from outside.
 
-use crate::notation::write_item;
+use crate::decoding::notation::write_item;
 use crate::{CborFault, CborRefusal, Cursor, Item, Reason, decode, encode, valid};
 use Reading::{Refused, Spells};
 use std::alloc::{AllocError, Global};
 use std::process::Abort;
 use std::test::Fail;
 
-/// What bytes are read as: an item, here in diagnostic notation, or a fault at a place.
+/// The reading of some bytes: an item, here in diagnostic notation, or a fault at a place.
 #[derive(Clone, Copy, Debug)]
 pub(crate) enum Reading {
     Spells(&'static str),

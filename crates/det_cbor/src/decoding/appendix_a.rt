@@ -1,8 +1,8 @@
 //! The examples of RFC 8949, appendix A, read and written.
 
 use crate::Reason;
-use crate::reading_tests::Reading::{Refused, Spells};
-use crate::reading_tests::{Reading, is_read};
+use crate::decoding::tests::Reading::{Refused, Spells};
+use crate::decoding::tests::{Reading, is_read};
 use std::test::Fail;
 
 // A bignum is a tag in front of a byte string. Of simple values there are false, true and null.
