@@ -10,8 +10,8 @@ use Rattle.det_cbor.specs.declared.reason.Reason.TheVariants.{Truncated, Indefin
 use Rattle.det_cbor.specs.HeadSpelling.{BeginsWith}
 use Rattle.det_cbor.specs.HeadReading.{map_ok, number_at, argument_at, simple_value, head_at, place_in}
 use Rattle.det_cbor.specs.Faults.{width_of, BadHead, NothingThere, LeftOpen, Reserved, OtherSimple, CutShort, NotTheShortest}
-use Rattle.det_cbor.proofs.Results.{ok_pair, same_err, not_both}
-use Rattle.det_cbor.proofs.Arguments.{IsBytes, IsWide}
+use Rattle.det_cbor.specs.ResultLaws.{ok_pair, same_err, not_both}
+use Rattle.det_cbor.specs.ArgumentLaws.{IsBytes, IsWide}
 use Rattle.det_cbor.proofs.Heads.{head_again}
 use Rattle.det_cbor.proofs.Widths.{argument_code}
 use Rattle.det_cbor.proofs.HeadFaults.{head_bad}

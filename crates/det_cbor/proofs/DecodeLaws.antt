@@ -7,8 +7,8 @@ use Rattle.det_cbor.specs.DataItem.{DataItem}
 use Rattle.det_cbor.specs.Faults.{Faulty}
 use Rattle.det_cbor.specs.ItemReading.{item_at}
 use Rattle.det_cbor.specs.OneReading.{StartsWithItem}
-use Rattle.det_cbor.proofs.Results.{same_err, not_both}
-use Rattle.det_cbor.proofs.Arguments.{IsBytes}
+use Rattle.det_cbor.specs.ResultLaws.{same_err, not_both}
+use Rattle.det_cbor.specs.ArgumentLaws.{IsBytes}
 use Rattle.det_cbor.proofs.ItemFaults.{item_fault}
 use Rattle.det_cbor.proofs.ItemRefused.{item_refused}
 use Rattle.det_cbor.proofs.OneReadingLaw.{item_starts, item_only, read_again}

@@ -7,8 +7,8 @@ use Rattle.det_cbor.specs.declared.reason.Reason.{Reason}
 use Rattle.det_cbor.specs.declared.reason.Reason.TheVariants.{Truncated, Indefinite, Kind, NotShortest}
 use Rattle.det_cbor.specs.HeadReading.{number_at, argument_at, simple_value, head_at, place_in}
 use Rattle.det_cbor.specs.Faults.{width_of, BadHead, NothingThere, LeftOpen, Reserved, OtherSimple, CutShort, NotTheShortest}
-use Rattle.det_cbor.proofs.Results.{chosen, bind_err, same_err}
-use Rattle.det_cbor.proofs.Arguments.{IsBytes, IsBytes-take}
+use Rattle.det_cbor.specs.ResultLaws.{chosen, bind_err, same_err}
+use Rattle.det_cbor.specs.ArgumentLaws.{IsBytes, IsBytes-take}
 use Rattle.det_cbor.proofs.Widths.{IsCode, code_24, code_25, code_26, code_27}
 
 number_bad : (major low least : ℕ) → IsCode low least → (bytes : List ℕ) (reason : Reason) → IsBytes bytes → major < 7 → number_at (width_of low) least bytes ≡ Err reason

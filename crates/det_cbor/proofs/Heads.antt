@@ -10,10 +10,10 @@ use Rattle.det_cbor.specs.declared.reason.Reason.{Reason}
 use Rattle.det_cbor.specs.Heads.{head_bytes}
 use Rattle.det_cbor.specs.HeadSpelling.{major_of, argument_of, spelled, IsValueOf, BeginsWith}
 use Rattle.det_cbor.specs.HeadReading.{map_ok, kind_of_major, simple_value, head_at}
-pub use Rattle.det_cbor.proofs.Results.{chosen}
-use Rattle.det_cbor.proofs.Results.{bind_ok, ok_pair}
-pub use Rattle.det_cbor.proofs.Arguments.{IsBytes, all_bytes, head_length}
-use Rattle.det_cbor.proofs.Arguments.{head_small, argument_takes, argument_again}
+pub use Rattle.det_cbor.specs.ResultLaws.{chosen}
+use Rattle.det_cbor.specs.ResultLaws.{bind_ok, ok_pair}
+pub use Rattle.det_cbor.specs.ArgumentLaws.{IsBytes, all_bytes, head_length}
+use Rattle.det_cbor.specs.ArgumentLaws.{head_small, argument_takes, argument_again}
 
 -- ---- kinds
 

@@ -17,7 +17,7 @@ use Rattle.det_cbor.specs.HeadSpelling.{spelled, IsValueOf}
 use Rattle.det_cbor.specs.HeadReading.{◌>>=◌, head_at}
 use Rattle.det_cbor.specs.ItemReading.{Read, Reader, string_at, text_at, items_by, read_of, ascending, in_order, pairs_by, body_with, item_with, item_at}
 use Rattle.det_cbor.proofs.Heads.{head_again}
-use Rattle.det_cbor.proofs.Arguments.{head_small}
+use Rattle.det_cbor.specs.ArgumentLaws.{head_small}
 use Rattle.det_cbor.proofs.ItemTakes.{read_of_front}
 
 abbrev pub ReadsAgain : ℕ → Reader → Type 0

@@ -16,8 +16,8 @@ use Rattle.det_cbor.specs.Heads.{head_bytes}
 use Rattle.det_cbor.specs.HeadSpelling.{major_of, argument_of, IsValueOf}
 use Rattle.det_cbor.specs.HeadReading.{head_at, place_in}
 use Rattle.det_cbor.specs.ItemReading.{Reader, stop_at, string_at, text_at, ascending, body_with, item_with, item_at}
-use Rattle.det_cbor.proofs.Results.{bind_err, same_err}
-use Rattle.det_cbor.proofs.Arguments.{IsBytes, IsBytes-rest}
+use Rattle.det_cbor.specs.ResultLaws.{bind_err, same_err}
+use Rattle.det_cbor.specs.ArgumentLaws.{IsBytes, IsBytes-rest}
 use Rattle.det_cbor.proofs.Heads.{head_takes}
 use Rattle.det_cbor.proofs.HeadFaults.{head_bad}
 use Rattle.det_cbor.proofs.KeyOrder.{equal_keys, above_is_below}

@@ -18,8 +18,8 @@ use Rattle.det_cbor.specs.DataLists.{items_of, pairs_of}
 use Rattle.det_cbor.specs.Heads.{head_bytes}
 use Rattle.det_cbor.specs.HeadSpelling.{major_of, argument_of, IsValueOf}
 use Rattle.det_cbor.specs.ItemReading.{Reader, stopped, string_at, text_at, items_by, read_of, ascending, in_order, pairs_by, body_with, item_with, item_at}
-use Rattle.det_cbor.proofs.Results.{chosen, bind_ok, ok_pair, same_ok}
-use Rattle.det_cbor.proofs.Arguments.{IsBytes, IsBytes-rest, IsBytes-drop, IsBytes-take, all_bytes, head_small}
+use Rattle.det_cbor.specs.ResultLaws.{chosen, bind_ok, ok_pair, same_ok}
+use Rattle.det_cbor.specs.ArgumentLaws.{IsBytes, IsBytes-rest, IsBytes-drop, IsBytes-take, all_bytes, head_small}
 use Rattle.det_cbor.proofs.Heads.{head_takes}
 
 -- the bytes are an item that is valid within so many levels, and then the rest

@@ -1,5 +1,5 @@
 -- Bytes begin with one item or have one first fault, and never both.
-use Rattle.std.proofs.Common.{◌≡◌, ℕ, zero, suc, ◌+◌, ◌-◌, ◌≤◌, List, [], ◌∷◌, ◌++◌, length, take, drop, Ok, Err, refl, sym, ap, subst, ◌∙◌, arith, inl, inr, ◌⊎◌}
+use Rattle.std.proofs.Common.{◌≡◌, ℕ, ◌+◌, ◌-◌, ◌≤◌, List, ◌++◌, length, take, drop, Ok, Err, refl, sym, ap, subst, ◌∙◌, arith, inl, inr, ◌⊎◌}
 use Rattle.std.specs.List.{AllByRecursion}
 use Rattle.std.proofs.lemmas.List.{take_at, take-append-drop, length-append, length-drop}
 use Rattle.det_cbor.specs.declared.reason.Reason.{Reason}
@@ -8,17 +8,12 @@ use Rattle.det_cbor.specs.DataItem.{DataItem, IsByte, spell}
 use Rattle.det_cbor.specs.Faults.{Faulty}
 use Rattle.det_cbor.specs.ItemReading.{Read, item_at}
 use Rattle.det_cbor.specs.OneReading.{StartsWithItem, HasOneItem, HasOneFault, OneReading}
-use Rattle.det_cbor.proofs.Results.{ok_pair, same_err, not_both}
-use Rattle.det_cbor.proofs.Arguments.{IsBytes}
+use Rattle.det_cbor.specs.ResultLaws.{ok_pair, same_err, not_both}
+use Rattle.det_cbor.specs.ArgumentLaws.{IsBytes, bytes_of_all}
 use Rattle.det_cbor.proofs.ItemTakes.{StartsWith, item_takes}
 use Rattle.det_cbor.proofs.ItemAgain.{item_again}
 use Rattle.det_cbor.proofs.ItemFaults.{item_fault}
 use Rattle.det_cbor.proofs.ItemRefused.{item_refused}
-
-pub bytes_of_all : (bytes : List ℕ) → AllByRecursion IsByte bytes → IsBytes bytes
-bytes_of_all [] all i = omega arith
-bytes_of_all (b ∷ bytes) all zero = all.0
-bytes_of_all (b ∷ bytes) all (suc i) = bytes_of_all bytes all.1 i
 
 -- ---- what an answer of the reader says
 

@@ -7,7 +7,8 @@ use Rattle.det_cbor.specs.Heads.{head_bytes}
 use Rattle.det_cbor.specs.DataItem.{DataItem, UnsignedInteger, NegativeInteger, ByteString, TextString, ArrayOf, MapOf, TaggedItem, Boolean, NullItem, DataItems, NoItems, ItemThen, DataPairs, NoPairs, PairThen, item_count, pair_count, spell, IsValidWithin}
 use Rattle.det_cbor.specs.ItemOrder.{major_type, head_argument, spell_parts, head_order, parts_order, items_order, pairs_order, item_order}
 use Rattle.det_cbor.proofs.Cuts.{bytewise, cmp_same}
-use Rattle.det_cbor.proofs.ItemCuts.{head_and_parts, then_both, same_number, items_cut_apart}
+use Rattle.det_cbor.specs.ItemHeads.{head_and_parts}
+use Rattle.det_cbor.proofs.ItemCuts.{then_both, same_number, items_cut_apart}
 
 pub bytewise_itself : (xs : List ℕ) → bytewise xs xs ≡ Equal
 bytewise_itself [] = refl

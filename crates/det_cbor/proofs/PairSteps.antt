@@ -7,7 +7,7 @@ use Rattle.det_cbor.specs.DataLists.{pairs_of}
 use Rattle.det_cbor.specs.ItemOrder.{pairs_order, pair_order}
 use Rattle.det_cbor.specs.ItemTree.{tree_of, pair_of, pair_trees_of}
 use Rattle.det_cbor.proofs.Cuts.{first_decides}
-use Rattle.det_cbor.proofs.Levels.{valid_alone}
+use Rattle.det_cbor.specs.LevelLaws.{valid_alone}
 
 step : (xs : List (Item × Item)) (i : ℕ) (x : Item × Item) → i < length xs → x ≡ get_or xs i x → drop i xs ≡ x ∷ drop (i + 1) xs
 step xs i x lt is = rw (add-one, drop-cons xs i x, ← is) refl

@@ -11,8 +11,8 @@ use Rattle.det_cbor.specs.declared.reason.Stop.{Stop}
 use Rattle.det_cbor.specs.DataItem.{DataItem, DataItems, NoItems, ItemThen, DataPairs, NoPairs, PairThen, item_count, pair_count, spell, spell_items, spell_pairs, IsAbove, IsValidWithin, AreValidWithin, ArePairsWithin}
 use Rattle.det_cbor.specs.Faults.{last_key, FirstParts, Faulty, FaultyPart}
 use Rattle.det_cbor.specs.ItemReading.{Reader, stop_at, stopped, items_by, read_of, ascending, in_order, pairs_by}
-use Rattle.det_cbor.proofs.Results.{bind_err, same_err}
-use Rattle.det_cbor.proofs.Arguments.{IsBytes}
+use Rattle.det_cbor.specs.ResultLaws.{bind_err, same_err}
+use Rattle.det_cbor.specs.ArgumentLaws.{IsBytes}
 use Rattle.det_cbor.proofs.ItemTakes.{ReadsSpelled, stopped_ok, in_order_ok, read_of_front}
 use Rattle.det_cbor.proofs.StringFaults.{IsFault, StopsFaulty, stopped_err}
 

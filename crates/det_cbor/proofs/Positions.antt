@@ -13,8 +13,8 @@ use Rattle.det_cbor.specs.ItemSkipping.{item_split}
 use Rattle.det_cbor.specs.OneReading.{IsItem, StartsWithItem}
 use Rattle.det_cbor.proofs.SplitLaws.{split_ok, split_again}
 use Rattle.det_cbor.proofs.Heads.{IsBytes, head_takes, head_again}
-pub use Rattle.det_cbor.proofs.Arguments.{IsBytes-rest, IsBytes-drop}
-use Rattle.det_cbor.proofs.Results.{chosen}
+pub use Rattle.det_cbor.specs.ArgumentLaws.{IsBytes-rest, IsBytes-drop}
+use Rattle.det_cbor.specs.ResultLaws.{chosen}
 
 -- what a step took, and that bytes are left
 pub record Steps (p q : Position) (taken : List ℕ) : Type 0 where

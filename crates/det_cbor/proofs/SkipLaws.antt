@@ -1,5 +1,5 @@
 -- An item is passed over just as it is read.
-use Rattle.det_cbor.proofs.Results.{same_ok, same_err}
+use Rattle.det_cbor.specs.ResultLaws.{same_ok, same_err}
 use Rattle.std.proofs.Common.{◌≡◌, ℕ, zero, suc, List, ◌∷◌, Option, Some, None, Result, Ok, Err, refl, sym, ap, ◌∙◌}
 use Rattle.det_cbor.specs.declared.head.HeadKind.{HeadKind}
 use Rattle.det_cbor.specs.declared.head.HeadKind.TheVariants as kinds

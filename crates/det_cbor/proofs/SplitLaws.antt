@@ -10,8 +10,8 @@ use Rattle.det_cbor.specs.Faults.{Faulty}
 use Rattle.det_cbor.specs.HeadReading.{map_ok}
 use Rattle.det_cbor.specs.ItemSkipping.{rest_of, split_by, item_split, skip_at}
 use Rattle.det_cbor.specs.OneReading.{IsItem, StartsWithItem}
-use Rattle.det_cbor.proofs.Results.{ok_pair, same_ok, same_err}
-use Rattle.det_cbor.proofs.Arguments.{IsBytes}
+use Rattle.det_cbor.specs.ResultLaws.{ok_pair, same_ok, same_err}
+use Rattle.det_cbor.specs.ArgumentLaws.{IsBytes}
 use Rattle.det_cbor.proofs.ItemTakes.{item_takes}
 use Rattle.det_cbor.proofs.ItemFaults.{item_fault}
 use Rattle.det_cbor.proofs.ItemRefused.{item_refused}

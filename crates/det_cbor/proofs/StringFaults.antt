@@ -10,8 +10,8 @@ use Rattle.det_cbor.specs.Faults.{Faulty, ShortString, NoText}
 use Rattle.det_cbor.specs.Heads.{head_bytes}
 use Rattle.det_cbor.specs.HeadReading.{place_in}
 use Rattle.det_cbor.specs.ItemReading.{Reader, stop_at, stopped, string_at, text_at}
-use Rattle.det_cbor.proofs.Results.{chosen, bind_err, same_err}
-use Rattle.det_cbor.proofs.Arguments.{IsBytes, all_bytes}
+use Rattle.det_cbor.specs.ResultLaws.{chosen, bind_err, same_err}
+use Rattle.det_cbor.specs.ArgumentLaws.{IsBytes, all_bytes}
 use Rattle.det_cbor.proofs.ItemTakes.{string_takes}
 
 -- where a reader stopped the bytes are faulty

@@ -5,7 +5,7 @@ use Rattle.std.proofs.lemmas.Bool.{cases_lt}
 use Rattle.det_cbor.specs.Heads.{head_bytes}
 use Rattle.det_cbor.specs.HeadReading.{number_at, argument_at}
 use Rattle.det_cbor.specs.Faults.{width_of}
-use Rattle.det_cbor.proofs.Arguments.{IsWide, wide8, wide16, wide32, wide64, head_small, head_8, head_16, head_32, head_64}
+use Rattle.det_cbor.specs.ArgumentLaws.{IsWide, wide8, wide16, wide32, wide64, head_small, head_8, head_16, head_32, head_64}
 
 -- the lower five bits that go with a width, and the least number that no shorter head spells
 pub record IsCode (low least : ℕ) : Type 0 where

@@ -15,3 +15,7 @@ pub mod ItemTree
 pub mod ItemDepth
 pub mod Prefix
 pub mod ItemOrder
+pub mod ResultLaws
+pub mod ArgumentLaws
+pub mod LevelLaws
+pub mod ItemHeads

@@ -107,7 +107,7 @@ fn are_items_valid(levels: u8, items: &Items) -> bool
 }
 
 #[cycle(valid)]
-#[tactic(auto, using(crate::proofs::Levels::valid_alone))]
+#[tactic(auto, using(crate::specs::LevelLaws::valid_alone))]
 fn are_pairs_valid(levels: u8, pairs: &Pairs) -> bool
     ensures { IsTrue result ↔ ArePairsWithin levels None (pairs_of pairs.now) }
 {

@@ -7,14 +7,14 @@ use Rattle.det_cbor.specs.Heads.{head_bytes}
 use Rattle.det_cbor.specs.DataItem.{DataItem, UnsignedInteger, NegativeInteger, ByteString, TextString, ArrayOf, MapOf, TaggedItem, Boolean, NullItem, DataItems, NoItems, ItemThen, DataPairs, item_count, spell, spell_items, IsString, IsValid, IsValidWithin, AreValidWithin, Spells}
 use Rattle.det_cbor.specs.ItemOrder.{spell_parts}
 use Rattle.det_cbor.specs.OneReading.{IsItem}
-use Rattle.det_cbor.proofs.Arguments.{IsBytes}
-use Rattle.det_cbor.proofs.Levels.{valid_alone}
+use Rattle.det_cbor.specs.ArgumentLaws.{IsBytes, IsBytes-rest}
+use Rattle.det_cbor.specs.LevelLaws.{valid_alone}
 use Rattle.det_cbor.proofs.OneSpelling.{one_spelling}
-use Rattle.det_cbor.proofs.Positions.{IsBytes-rest}
 use Rattle.hmac_mac0.specs.Mac0.{mac0_item, IsHeader, IsMac0}
 use Rattle.hmac_mac0.specs.Layout.{StartsWithString, EndsWithTag, HasParts}
 use Rattle.hmac_mac0.proofs.Headers.{content_bytes}
-use Rattle.hmac_mac0.proofs.Layouts.{head_of, item_begins, one_head, one_string}
+use Rattle.det_cbor.specs.ItemHeads.{item_head, item_begins}
+use Rattle.hmac_mac0.proofs.Layouts.{one_head, one_string}
 
 abbrev pub front : List ℕ
 front = 0xd1 ∷ 0x84 ∷ []
@@ -64,17 +64,9 @@ record InTag (rest : List ℕ) : Type 0 where
   valid : IsValidWithin 1 inner
   parts : rest ≡ spell inner
 
-in_tag : (x : DataItem) (number : ℕ) (rest : List ℕ) → IsValid x → head_of x ≡ record { kind = kinds.Tag; value = number } → spell_parts x ++ [] ≡ rest → InTag rest
+in_tag : (x : DataItem) (number : ℕ) (rest : List ℕ) → IsValid x → item_head x ≡ record { kind = kinds.Tag; value = number } → spell_parts x ++ [] ≡ rest → InTag rest
 in_tag (TaggedItem tag inner) number rest v h e = record { inner = inner; valid = v.2; parts = sym e ∙ append-nil (spell inner) }
-in_tag (UnsignedInteger m) number rest v h e = let k : kinds.Unsigned ≡ kinds.Tag = ap (λ (g : Head). g.kind) h in absurd cc
-in_tag (NegativeInteger m) number rest v h e = let k : kinds.Negative ≡ kinds.Tag = ap (λ (g : Head). g.kind) h in absurd cc
-in_tag (ByteString bytes) number rest v h e = let k : kinds.Bytes ≡ kinds.Tag = ap (λ (g : Head). g.kind) h in absurd cc
-in_tag (TextString bytes) number rest v h e = let k : kinds.Text ≡ kinds.Tag = ap (λ (g : Head). g.kind) h in absurd cc
-in_tag (ArrayOf xs) number rest v h e = let k : kinds.Array ≡ kinds.Tag = ap (λ (g : Head). g.kind) h in absurd cc
-in_tag (MapOf ps) number rest v h e = let k : kinds.Map ≡ kinds.Tag = ap (λ (g : Head). g.kind) h in absurd cc
-in_tag (Boolean false) number rest v h e = let k : kinds.Bool ≡ kinds.Tag = ap (λ (g : Head). g.kind) h in absurd cc
-in_tag (Boolean true) number rest v h e = let k : kinds.Bool ≡ kinds.Tag = ap (λ (g : Head). g.kind) h in absurd cc
-in_tag NullItem number rest v h e = let k : kinds.Null ≡ kinds.Tag = ap (λ (g : Head). g.kind) h in absurd cc
+in_tag _ number rest v h e = let k = ap (λ (g : Head). g.kind) h in absurd cc
 
 record InArray (count : ℕ) (rest : List ℕ) : Type 0 where
   items : DataItems
@@ -82,17 +74,9 @@ record InArray (count : ℕ) (rest : List ℕ) : Type 0 where
   size : item_count items ≡ count
   parts : rest ≡ spell_items items
 
-in_array : (x : DataItem) (count : ℕ) (rest : List ℕ) → IsValidWithin 1 x → head_of x ≡ record { kind = kinds.Array; value = count } → spell_parts x ++ [] ≡ rest → InArray count rest
+in_array : (x : DataItem) (count : ℕ) (rest : List ℕ) → IsValidWithin 1 x → item_head x ≡ record { kind = kinds.Array; value = count } → spell_parts x ++ [] ≡ rest → InArray count rest
 in_array (ArrayOf xs) count rest v h e = record { items = xs; valid = v.2; size = ap (λ (g : Head). g.value) h; parts = sym e ∙ append-nil (spell_items xs) }
-in_array (UnsignedInteger m) count rest v h e = let k : kinds.Unsigned ≡ kinds.Array = ap (λ (g : Head). g.kind) h in absurd cc
-in_array (NegativeInteger m) count rest v h e = let k : kinds.Negative ≡ kinds.Array = ap (λ (g : Head). g.kind) h in absurd cc
-in_array (ByteString bytes) count rest v h e = let k : kinds.Bytes ≡ kinds.Array = ap (λ (g : Head). g.kind) h in absurd cc
-in_array (TextString bytes) count rest v h e = let k : kinds.Text ≡ kinds.Array = ap (λ (g : Head). g.kind) h in absurd cc
-in_array (MapOf ps) count rest v h e = let k : kinds.Map ≡ kinds.Array = ap (λ (g : Head). g.kind) h in absurd cc
-in_array (TaggedItem tag inner) count rest v h e = let k : kinds.Tag ≡ kinds.Array = ap (λ (g : Head). g.kind) h in absurd cc
-in_array (Boolean false) count rest v h e = let k : kinds.Bool ≡ kinds.Array = ap (λ (g : Head). g.kind) h in absurd cc
-in_array (Boolean true) count rest v h e = let k : kinds.Bool ≡ kinds.Array = ap (λ (g : Head). g.kind) h in absurd cc
-in_array NullItem count rest v h e = let k : kinds.Null ≡ kinds.Array = ap (λ (g : Head). g.kind) h in absurd cc
+in_array _ count rest v h e = let k = ap (λ (g : Head). g.kind) h in absurd cc
 
 -- the items of a block's array
 items_of_block : (block rest : List ℕ) → IsItem block → block ≡ front ++ rest → InArray 4 rest

@@ -4,9 +4,7 @@ use Rattle.std.proofs.lemmas.List.{take_at}
 use Rattle.std.specs.List.{AllByRecursion}
 use Rattle.det_cbor.specs.Heads.{head_bytes}
 use Rattle.det_cbor.specs.DataItem.{UnsignedInteger, ByteString, spell, IsAbove, IsByte, IsString, Spells}
-use Rattle.det_cbor.proofs.Arguments.{IsBytes, all_bytes}
-use Rattle.det_cbor.proofs.Arguments.{IsBytes-take}
-use Rattle.det_cbor.proofs.Positions.{IsBytes-rest}
+use Rattle.det_cbor.specs.ArgumentLaws.{IsBytes, all_bytes, IsBytes-take, IsBytes-rest}
 use Rattle.hmac_mac0.specs.Mac0.{mac_header, IsHeader}
 use Rattle.hmac_mac0.specs.Layout.{StartsWithString}
 

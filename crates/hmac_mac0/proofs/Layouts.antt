@@ -17,9 +17,9 @@ use Rattle.det_cbor.specs.DataItem.{DataItem, UnsignedInteger, NegativeInteger, 
 use Rattle.det_cbor.specs.ItemOrder.{major_type, head_argument, spell_parts}
 use Rattle.det_cbor.specs.OneReading.{IsItem, StartsWithItem}
 use Rattle.det_cbor.proofs.BadHeads.{begun}
-use Rattle.det_cbor.proofs.ItemCuts.{head_and_parts}
+use Rattle.det_cbor.specs.ItemHeads.{item_head, item_begins}
 use Rattle.det_cbor.proofs.OneSpelling.{one_spelling}
-use Rattle.det_cbor.proofs.Results.{ok_pair}
+use Rattle.det_cbor.specs.ResultLaws.{ok_pair}
 use Rattle.hmac_mac0.specs.Layout.{BeginsWithKind, StartsWithString, StartsWithMap, EndsWithTag}
 
 pub kind_itself : (kind other : HeadKind) → kind ≡ other → sameb the_type kind other ≡ true
@@ -106,51 +106,6 @@ null_begins bytes rest e = (0, rest, record { value = refl; parts = e ∙ sym (n
 
 -- ---- items
 
--- the head of an item
-abbrev pub head_of : DataItem → Head
-head_of (UnsignedInteger n) = record { kind = kinds.Unsigned; value = n }
-head_of (NegativeInteger n) = record { kind = kinds.Negative; value = n }
-head_of (ByteString bytes) = record { kind = kinds.Bytes; value = length bytes }
-head_of (TextString bytes) = record { kind = kinds.Text; value = length bytes }
-head_of (ArrayOf xs) = record { kind = kinds.Array; value = item_count xs }
-head_of (MapOf ps) = record { kind = kinds.Map; value = pair_count ps }
-head_of (TaggedItem tag x) = record { kind = kinds.Tag; value = tag }
-head_of (Boolean false) = record { kind = kinds.Bool; value = 0 }
-head_of (Boolean true) = record { kind = kinds.Bool; value = 1 }
-head_of NullItem = record { kind = kinds.Null; value = 0 }
-
-value_fits : (levels : ℕ) (x : DataItem) → IsValidWithin levels x → IsValueOf (head_of x).kind (head_of x).value
-value_fits levels (UnsignedInteger n) v = v
-value_fits levels (NegativeInteger n) v = v
-value_fits levels (ByteString bytes) v = v.0
-value_fits levels (TextString bytes) v = v.0.0
-value_fits levels (ArrayOf xs) v = v.1
-value_fits levels (MapOf ps) v = v.1
-value_fits levels (TaggedItem tag x) v = v.1
-value_fits levels (Boolean false) v = lit< tt
-value_fits levels (Boolean true) v = lit< tt
-value_fits levels NullItem v = refl
-
-spelled_head : (x : DataItem) → spelled (head_of x) ≡ head_bytes (major_type x) (head_argument x)
-spelled_head (UnsignedInteger n) = refl
-spelled_head (NegativeInteger n) = refl
-spelled_head (ByteString bytes) = refl
-spelled_head (TextString bytes) = refl
-spelled_head (ArrayOf xs) = refl
-spelled_head (MapOf ps) = refl
-spelled_head (TaggedItem tag x) = refl
-spelled_head (Boolean false) = refl
-spelled_head (Boolean true) = refl
-spelled_head NullItem = refl
-
--- bytes that begin with an item begin with its head
-pub item_begins : (levels : ℕ) (x : DataItem) (bytes rest : List ℕ) → IsValidWithin levels x → bytes ≡ spell x ++ rest → BeginsWith bytes (head_of x) (spell_parts x ++ rest)
-item_begins levels x bytes rest v e =
-    record {
-      value = value_fits levels x v;
-      parts = e ∙ ap (λ s. s ++ rest) (head_and_parts x) ∙ append_assoc (head_bytes (major_type x) (head_argument x)) (spell_parts x) rest ∙ ap (λ h. h ++ (spell_parts x ++ rest)) (sym (spelled_head x));
-    }
-
 pub item_starts : (bytes rest : List ℕ) (x : DataItem) → IsValid x → bytes ≡ spell x ++ rest → StartsWithItem bytes x (length (spell x))
 item_starts bytes rest x v e =
     record {
@@ -160,17 +115,9 @@ item_starts bytes rest x v e =
 
 -- ---- maps
 
-is_map : (x : DataItem) (n : ℕ) → head_of x ≡ record { kind = kinds.Map; value = n } → (ps : DataPairs) × (x ≡ MapOf ps)
+is_map : (x : DataItem) (n : ℕ) → item_head x ≡ record { kind = kinds.Map; value = n } → (ps : DataPairs) × (x ≡ MapOf ps)
 is_map (MapOf ps) n e = (ps, refl)
-is_map (UnsignedInteger m) n e = let k : kinds.Unsigned ≡ kinds.Map = ap (λ (h : Head). h.kind) e in absurd cc
-is_map (NegativeInteger m) n e = let k : kinds.Negative ≡ kinds.Map = ap (λ (h : Head). h.kind) e in absurd cc
-is_map (ByteString bytes) n e = let k : kinds.Bytes ≡ kinds.Map = ap (λ (h : Head). h.kind) e in absurd cc
-is_map (TextString bytes) n e = let k : kinds.Text ≡ kinds.Map = ap (λ (h : Head). h.kind) e in absurd cc
-is_map (ArrayOf xs) n e = let k : kinds.Array ≡ kinds.Map = ap (λ (h : Head). h.kind) e in absurd cc
-is_map (TaggedItem tag x) n e = let k : kinds.Tag ≡ kinds.Map = ap (λ (h : Head). h.kind) e in absurd cc
-is_map (Boolean false) n e = let k : kinds.Bool ≡ kinds.Map = ap (λ (h : Head). h.kind) e in absurd cc
-is_map (Boolean true) n e = let k : kinds.Bool ≡ kinds.Map = ap (λ (h : Head). h.kind) e in absurd cc
-is_map NullItem n e = let k : kinds.Null ≡ kinds.Map = ap (λ (h : Head). h.kind) e in absurd cc
+is_map _ n e = let k = ap (λ (h : Head). h.kind) e in absurd cc
 
 pub map_found : (bytes item rest front after : List ℕ) (n : ℕ) → IsItem item → bytes ≡ item ++ rest → front ≡ item → BeginsWith front (record { kind = kinds.Map; value = n }) after → StartsWithMap bytes rest
 map_found bytes item rest front after n x e is head =

@@ -22,7 +22,7 @@ pub fn make_block(
 ) -> Result<Bytes, AllocError>
     ensures spells { IfOk result
         (λ block. Spells
-            (made_item key.now (option_map (λ k. k.now) kid.entry) payload.now) block) }
+        (made_item key.now (option_map (λ k. k.now) kid.entry) payload.now) block) }
     ensures verifies { IfOk result (λ block. Verifies block key.now payload.now) }
     ensures alone { IfOk result (λ block. (protected tag : List ℕ) → IsMac0 block protected tag
         → (protected ≡ made_header) × (tag ≡ tag_of key.now made_header payload.now)) }

@@ -7,15 +7,16 @@ use Rattle.det_cbor.specs.HeadReading.{◌>>=◌}
 use Rattle.det_cbor.specs.HeadSpelling.{spelled}
 use Rattle.det_cbor.specs.ItemOrder.{spell_parts}
 use Rattle.det_cbor.specs.Position.{Position}
-use Rattle.det_cbor.proofs.Levels.{valid_alone}
+use Rattle.det_cbor.specs.LevelLaws.{valid_alone}
 use Rattle.suit_params.specs.declared.refusal.Refusal.{Refusal}
 use Rattle.suit_params.specs.declared.refusal.Why.TheVariants.{BadArgument}
 use Rattle.suit_params.specs.Refusing.{refused}
 use Rattle.suit_params.specs.ParamJudging.{judge_params}
 use Rattle.suit_params.specs.ParamReading.{next_params}
-use Rattle.suit_params.proofs.Held.{with_rest}
-use Rattle.suit_params.proofs.ItemHeads.{item_head, item_spelled, item_head_read, after}
-use Rattle.suit_params.proofs.Judgements.{item_read}
+use Rattle.suit_params.specs.HeldLaws.{with_rest}
+use Rattle.det_cbor.specs.ItemHeads.{item_head, item_spelled}
+use Rattle.suit_params.specs.HeadLaws.{item_head_read, after}
+use Rattle.suit_params.specs.JudgingLaws.{item_read}
 use Rattle.suit_params.proofs.ParamReads.{params_read}
 use Rattle.suit_commands.specs.declared.selection.Selection.TheVariants.{One, All, Listed}
 use Rattle.suit_commands.specs.Sequences.{elements_place}

@@ -4,13 +4,12 @@ use Rattle.det_cbor.specs.Heads.{head_bytes}
 use Rattle.det_cbor.specs.DataItem.{DataItem, UnsignedInteger, ByteString, ArrayOf, NullItem, DataItems, NoItems, ItemThen, item_count, spell, spell_items, IsValidWithin, AreValidWithin}
 use Rattle.det_cbor.specs.HeadReading.{◌>>=◌}
 use Rattle.det_cbor.specs.Position.{Position}
-use Rattle.det_cbor.proofs.Arguments.{IsBytes}
-use Rattle.det_cbor.proofs.OneReadingLaw.{bytes_of_all}
+use Rattle.det_cbor.specs.ArgumentLaws.{IsBytes, bytes_of_all}
 use Rattle.suit_params.specs.declared.refusal.Refusal.{Refusal}
 use Rattle.suit_params.specs.declared.refusal.Why.TheVariants.{BadArgument}
 use Rattle.suit_params.specs.Refusing.{refused, content_place}
-use Rattle.suit_params.proofs.Held.{with_rest}
-use Rattle.suit_params.proofs.ItemHeads.{item_head_read, bytes_again, after}
+use Rattle.suit_params.specs.HeldLaws.{with_rest}
+use Rattle.suit_params.specs.HeadLaws.{item_head_read, bytes_again, after}
 use Rattle.suit_commands.specs.Sequences.{elements_place}
 use Rattle.suit_commands.specs.SequenceJudging.{InnerJudge, judge_run, branch_before, judge_branch, judge_branches, judge_try}
 use Rattle.suit_commands.specs.SequenceReading.{InnerReader, held_sequence, run_from, branch_from, branches_from, try_from}

@@ -2,7 +2,7 @@
 use Rattle.std.proofs.Common.{◌≡◌, ℕ, Bool, false, ltb, Result, Ok, Err, refl, sym, ap, subst, ◌∙◌, inl, inr}
 use Rattle.std.proofs.lemmas.Bool.{le-ltb}
 use Rattle.det_cbor.specs.DataItem.{DataItem, UnsignedInteger, item_count, IsValidWithin}
-use Rattle.det_cbor.proofs.Results.{bind_ok, bind_err, same_ok}
+use Rattle.det_cbor.specs.ResultLaws.{bind_ok, bind_err, same_ok}
 use Rattle.suit_params.specs.declared.refusal.Refusal.{Refusal}
 use Rattle.suit_params.specs.declared.refusal.Why.TheVariants.{BadArgument}
 use Rattle.suit_params.specs.Refusing.{refused}

@@ -4,7 +4,7 @@ use Rattle.std.specs.List.{AllByRecursion}
 use Rattle.std.proofs.lemmas.Bool.{eqb-true, eqb-false, ne_eqb, lt-ltb, le-ltb, ltb-true, ltb-false}
 use Rattle.det_cbor.specs.DataItem.{DataItem, UnsignedInteger, ArrayOf, Boolean, DataItems, NoItems, ItemThen, item_count}
 use Rattle.det_cbor.specs.HeadReading.{◌>>=◌}
-use Rattle.det_cbor.proofs.Results.{chosen, bind_ok, bind_err, same_ok, same_err}
+use Rattle.det_cbor.specs.ResultLaws.{chosen, bind_ok, bind_err, same_ok, same_err}
 use Rattle.suit_params.specs.declared.refusal.Refusal.{Refusal}
 use Rattle.suit_params.specs.declared.refusal.Why.TheVariants.{BadArgument, BadIndex}
 use Rattle.suit_params.specs.Refusing.{refused}

@@ -2,7 +2,7 @@
 use Rattle.std.proofs.Common.{ℕ, ◌+◌, Option, Some, None, List, subst}
 use Rattle.std.specs.List.{AllByRecursion}
 use Rattle.det_cbor.specs.DataItem.{DataItem, DataPairs, spell, IsByte, IsValid, IsValidWithin, ArePairsWithin}
-use Rattle.det_cbor.proofs.Levels.{valid_alone}
+use Rattle.det_cbor.specs.LevelLaws.{valid_alone}
 use Rattle.suit_params.specs.declared.param.Param.{Param}
 use Rattle.suit_params.specs.declared.param.ParamKey.{ParamKey}
 use Rattle.suit_params.specs.Digests.{IsDigest}

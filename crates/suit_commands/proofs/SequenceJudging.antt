@@ -2,11 +2,11 @@
 use Rattle.std.proofs.Common.{◌≡◌, ◌≢◌, ℕ, zero, suc, ◌+◌, ◌%◌, Bool, cond, eqb, List, Result, Ok, Err, refl, sym, ap, subst, inl, inr}
 use Rattle.std.proofs.lemmas.Bool.{eqb-true, eqb-false}
 use Rattle.det_cbor.specs.DataItem.{DataItem, UnsignedInteger, ArrayOf, DataItems, NoItems, item_count, IsValidWithin}
-use Rattle.det_cbor.proofs.Results.{chosen, same_err}
+use Rattle.det_cbor.specs.ResultLaws.{chosen, same_err}
 use Rattle.suit_params.specs.declared.refusal.Refusal.{Refusal}
 use Rattle.suit_params.specs.declared.refusal.Why.TheVariants.{Shape, Nested}
 use Rattle.suit_params.specs.Refusing.{refused, content_place, RefusesWhole, FaultyItem, BytesAfter, RefusedItem, SaysWhole}
-use Rattle.suit_params.proofs.Judgements.{Judges, whole_ok, whole_err, whole_read, whole_refused}
+use Rattle.suit_params.specs.JudgingLaws.{Judges, whole_ok, whole_err, whole_read, whole_refused}
 use Rattle.suit_commands.specs.Sequences.{elements_place, SaysSequence, SaysArray, SaysInner, SaysHeldSequence}
 use Rattle.suit_commands.specs.SequenceFaults.{ArePairs, IsSequenceArray, RefusesSequence, NoSequence, BadSteps, RefusesInner, TooNested, FaultyContent, BytesBehind, BadSequence}
 use Rattle.suit_commands.specs.SequenceJudging.{InnerJudge, judge_steps, judge_array, judge_inner, judge_sequence}

@@ -1,9 +1,9 @@
 -- Items say one sequence or have one refusal, and what they say is a sequence of the grammar.
 use Rattle.std.proofs.Common.{◌≡◌, ◌≢◌, ℕ, zero, suc, ◌+◌, ◌≤◌, Bool, Result, Ok, Err, List, refl, sym, ◌∙◌, arith, inl, inr, ◌⊎◌}
 use Rattle.det_cbor.specs.DataItem.{DataItem, DataItems, NoItems, item_count, IsValid, IsValidWithin, AreValidWithin}
-use Rattle.det_cbor.proofs.Results.{same_ok, same_err, not_both}
+use Rattle.det_cbor.specs.ResultLaws.{same_ok, same_err, not_both}
 use Rattle.suit_params.specs.declared.refusal.Refusal.{Refusal}
-use Rattle.suit_params.proofs.OneWhole.{one_answer}
+use Rattle.suit_params.specs.OneWholeLaws.{one_answer}
 use Rattle.suit_commands.specs.SequenceFaults.{RefusesSequence}
 use Rattle.suit_commands.specs.Allowed.{AreTwo, IsSequence, AreCommands, IsCommand, AreBranches}
 use Rattle.suit_commands.specs.Sequences.{SaysSequence, SaysArray, SaysSteps, SaysNoSteps, SaysStep, SaysCommand, SaysTest, SaysAct, SaysOne, SaysAll, SaysListed, SaysOverride, SaysTry, SaysRun, SaysBranches, SaysNoBranches, SaysNull, SaysBranch, SaysInner, SaysHeldSequence}

@@ -6,13 +6,13 @@ use Rattle.det_cbor.specs.Heads.{head_bytes}
 use Rattle.det_cbor.specs.DataItem.{DataItem, UnsignedInteger, ArrayOf, DataItems, NoItems, ItemThen, item_count, spell, spell_items, IsValidWithin, AreValidWithin}
 use Rattle.det_cbor.specs.HeadReading.{◌>>=◌}
 use Rattle.det_cbor.specs.Position.{Position}
-use Rattle.det_cbor.proofs.Arguments.{IsBytes}
+use Rattle.det_cbor.specs.ArgumentLaws.{IsBytes}
 use Rattle.suit_params.specs.declared.refusal.Refusal.{Refusal}
 use Rattle.suit_params.specs.declared.refusal.Why.TheVariants.{Shape}
 use Rattle.suit_params.specs.Refusing.{refused, content_place}
 use Rattle.suit_params.specs.Reading.{whole_judged}
-use Rattle.suit_params.proofs.Held.{ReadsAs, with_rest, whole_is}
-use Rattle.suit_params.proofs.ItemHeads.{item_head_read, after}
+use Rattle.suit_params.specs.HeldLaws.{ReadsAs, with_rest, whole_is}
+use Rattle.suit_params.specs.HeadLaws.{item_head_read, after}
 use Rattle.suit_commands.specs.declared.command_code.CommandCode.{CommandCode}
 use Rattle.suit_commands.specs.declared.command_code.CommandCode.TheVariants as codes
 use Rattle.suit_commands.specs.SequenceJudging.{InnerJudge, judge_code, judge_report, judge_selection, judge_override, judge_run, judge_try, judge_argument, judge_step, judge_steps, judge_array, judge_inner, judge_sequence}

@@ -1,7 +1,7 @@
 -- The judgement of commands in turn is that of the grammar and the refusals.
 use Rattle.std.proofs.Common.{◌≡◌, ℕ, ◌%◌, Bool, Ok, Err, refl, sym, subst, arith}
 use Rattle.det_cbor.specs.DataItem.{DataItem, UnsignedInteger, DataItems, NoItems, ItemThen, item_count, AreValidWithin}
-use Rattle.det_cbor.proofs.Results.{bind_ok, bind_err, same_ok}
+use Rattle.det_cbor.specs.ResultLaws.{bind_ok, bind_err, same_ok}
 use Rattle.suit_params.specs.declared.refusal.Refusal.{Refusal}
 use Rattle.suit_commands.specs.declared.command_code.CommandCode.{CommandCode}
 use Rattle.suit_commands.specs.CommandCodes.{code_number}

@@ -4,12 +4,12 @@ use Rattle.std.proofs.lemmas.List.{append-nil}
 use Rattle.det_cbor.specs.Heads.{head_bytes}
 use Rattle.det_cbor.specs.DataItem.{ByteString, item_count, spell, spell_items, AreValidWithin}
 use Rattle.det_cbor.specs.Position.{Position}
-use Rattle.det_cbor.proofs.Results.{ok_pair, not_both}
+use Rattle.det_cbor.specs.ResultLaws.{ok_pair, not_both}
 use Rattle.hmac_mac0.specs.declared.verdict.MacVerdict.{MacVerdict}
 use Rattle.suit_params.specs.declared.refusal.Refusal.{Refusal}
 use Rattle.suit_params.specs.Digests.{digest_item}
-use Rattle.suit_params.proofs.ItemHeads.{item_head_read, after}
-use Rattle.suit_params.proofs.Held.{content_read}
+use Rattle.suit_params.specs.HeadLaws.{item_head_read, after}
+use Rattle.suit_params.specs.HeldLaws.{content_read}
 use Rattle.suit_envelope.specs.Macs.{BlocksSay, contents_from}
 use Rattle.suit_envelope.specs.Authentic.{payload_of, first_from}
 use Rattle.suit_envelope.specs.WrapperParts.{strings_of, wrapper_item, WrapperSays, HasWrapper, start_of, count_from}

@@ -6,7 +6,7 @@ use Rattle.std.specs.List.{AllByRecursion}
 use Rattle.std.proofs.lemmas.Bool.{eqb-true, eq-eqb}
 use Rattle.det_cbor.specs.DataItem.{DataItem, UnsignedInteger, NegativeInteger, ByteString, TextString, ArrayOf, MapOf, TaggedItem, Boolean, NullItem, spell, IsAbove}
 use Rattle.suit_params.specs.Refusing.{IsByteString, content_place}
-use Rattle.suit_params.proofs.Held.{by_string}
+use Rattle.suit_params.specs.HeldLaws.{by_string}
 use Rattle.suit_envelope.specs.Envelopes.{Entry, EnvelopeSays, map_entries, key_of, is_number, has_key, says_nothing, put, put_value, put_all, IsValue}
 use Rattle.suit_envelope.specs.EntriesSay.{content_at, under, SaysEntries}
 use Rattle.suit_envelope.specs.Said.{EnvelopeOf}
@@ -19,14 +19,7 @@ use Rattle.suit_envelope.proofs.EnvelopeJudging.{map_fits}
 
 number_is : (n : ℕ) (k : DataItem) → is_number n k ≡ true → k ≡ UnsignedInteger n
 number_is n (UnsignedInteger m) e = ap UnsignedInteger (eqb-true m n e)
-number_is n (NegativeInteger m) e = absurd cc
-number_is n (ByteString bytes) e = absurd cc
-number_is n (TextString text) e = absurd cc
-number_is n (ArrayOf xs) e = absurd cc
-number_is n (MapOf ps) e = absurd cc
-number_is n (TaggedItem tag x) e = absurd cc
-number_is n (Boolean b) e = absurd cc
-number_is n NullItem e = absurd cc
+number_is n _ e = absurd cc
 
 either : (b : Bool) → (b ≡ true) ⊎ (b ≡ false)
 either true = inl refl
@@ -72,14 +65,7 @@ numbered n =
 
 keyed : (k : DataItem) → Keyed k (key_of k)
 keyed (UnsignedInteger n) = numbered n
-keyed (NegativeInteger n) = tt
-keyed (ByteString bytes) = tt
-keyed (TextString text) = tt
-keyed (ArrayOf xs) = tt
-keyed (MapOf ps) = tt
-keyed (TaggedItem tag x) = tt
-keyed (Boolean b) = tt
-keyed NullItem = tt
+keyed _ = tt
 
 -- ---- a part of what is said, which one key puts
 

@@ -2,11 +2,11 @@
 use Rattle.std.proofs.Common.{◌≡◌, ◌<◌, ◌^◌, ℕ, List, length, Result, Ok, Err, sym, ◌∙◌}
 use Rattle.std.specs.Prelude.{IfOk, IfErr}
 use Rattle.det_cbor.specs.HeadReading.{map_ok}
-use Rattle.det_cbor.proofs.Arguments.{IsBytes}
+use Rattle.det_cbor.specs.ArgumentLaws.{IsBytes}
 use Rattle.suit_params.specs.declared.refusal.Refusal.{Refusal}
 use Rattle.suit_params.specs.Reading.{whole_judged}
-use Rattle.suit_params.proofs.Judgements.{whole_ok, whole_err, whole_read, whole_refused}
-use Rattle.suit_params.proofs.Held.{whole_is}
+use Rattle.suit_params.specs.JudgingLaws.{whole_ok, whole_err, whole_read, whole_refused}
+use Rattle.suit_params.specs.HeldLaws.{whole_is}
 use Rattle.suit_envelope.specs.declared.envelope.Envelope.{Envelope}
 use Rattle.suit_envelope.specs.Envelopes.{EnvelopeSays, IsEnvelope, RefusesEnvelope}
 use Rattle.suit_envelope.specs.Judging.{judge_envelope}

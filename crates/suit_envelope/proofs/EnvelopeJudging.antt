@@ -4,13 +4,13 @@ use Rattle.std.specs.Prelude.{◌==◌}
 use Rattle.det_cbor.specs.Heads.{head_bytes}
 use Rattle.std.specs.List.{AllByRecursion}
 use Rattle.det_cbor.specs.DataItem.{DataItem, MapOf, TaggedItem, DataPairs, NoPairs, PairThen, spell, IsValidWithin, ArePairsWithin}
-use Rattle.det_cbor.proofs.Results.{bind_ok, bind_err, same_ok, same_err}
+use Rattle.det_cbor.specs.ResultLaws.{bind_ok, bind_err, same_ok, same_err}
 use Rattle.suit_params.specs.declared.refusal.Refusal.{Refusal}
 use Rattle.suit_params.specs.declared.refusal.Why.TheVariants.{Shape, UnknownKey, Missing}
 use Rattle.suit_params.specs.Refusing.{refused, IsByteString, RefusesHeld, SaysHeld}
 use Rattle.suit_params.specs.Judging.{judge_held, judge_each}
-use Rattle.suit_params.proofs.Judgements.{Judges}
-use Rattle.suit_params.proofs.Held.{by_string, held_judges, JudgesEach, Anything, all_anything, each_ok, each_again, each_err, each_refused}
+use Rattle.suit_params.specs.JudgingLaws.{Judges}
+use Rattle.suit_params.specs.HeldLaws.{by_string, held_judges, JudgesEach, Anything, all_anything, each_ok, each_again, each_err, each_refused}
 use Rattle.suit_envelope.specs.Wrapper.{IsWrapper, RefusesWrapper}
 use Rattle.suit_envelope.specs.Envelopes.{Entry, EnvelopeMap, EnvelopeSays, entries, map_entries, key_of, untagged, as_map, envelope_map, has_key, says_nothing, put_all, IsKnown, IsValue, IsEnvelope, RefusesKey, OtherKey, RefusesLack, LacksKey, RefusesValue, NoBytes, BadWrapper, RefusesEnvelope, NoMap, BadKey, Lacks, BadValue}
 use Rattle.suit_envelope.specs.Judging.{known_key, judge_key, judge_lack, judge_content, judge_value, judge_wrapper, judge_map, judge_shape, judge_envelope}

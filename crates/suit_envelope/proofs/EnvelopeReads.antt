@@ -13,8 +13,9 @@ use Rattle.suit_params.specs.declared.refusal.Why.TheVariants.{Shape}
 use Rattle.suit_params.specs.Refusing.{refused, content_place}
 use Rattle.suit_params.specs.Judging.{judge_string, judge_each}
 use Rattle.suit_params.specs.Reading.{only_from}
-use Rattle.suit_params.proofs.ItemHeads.{item_kind, item_value, item_head, item_head_read, after}
-use Rattle.suit_params.proofs.Held.{ReadsAs, by_string, content_read, with_rest, content_is}
+use Rattle.det_cbor.specs.ItemHeads.{item_kind, item_value, item_head}
+use Rattle.suit_params.specs.HeadLaws.{item_head_read, after}
+use Rattle.suit_params.specs.HeldLaws.{ReadsAs, by_string, content_read, with_rest, content_is}
 use Rattle.suit_envelope.specs.Envelopes.{Entry, EnvelopeSays, entries, key_of, as_map, says_nothing, put_value, put_all}
 use Rattle.suit_envelope.specs.Judging.{known_key, judge_key, judge_content, judge_value, judge_wrapper, judge_map, judge_shape, judge_envelope}
 use Rattle.suit_envelope.specs.WrapperReading.{wrapper_at}
@@ -82,15 +83,8 @@ value_then levels place x key before rest valid =
     x valid
 
 value_put : (s : EnvelopeSays) (key : Key) (place : ℕ) (x : DataItem) → put_content s key (value_is place x) ≡ put_value s key place x
-value_put s key place (ByteString bytes) = refl
-value_put s key place (UnsignedInteger n) = refl
-value_put s key place (NegativeInteger n) = refl
-value_put s key place (TextString text) = refl
-value_put s key place (ArrayOf xs) = refl
-value_put s key place (MapOf ps) = refl
-value_put s key place (TaggedItem tag x) = refl
-value_put s key place (Boolean b) = refl
 value_put s key place NullItem = refl
+value_put s key place _ = refl
 
 -- ---- pairs
 
@@ -156,15 +150,8 @@ record OtherThanMap (x : DataItem) : Type 0 where
   no_map : (tagged : Bool) (place : ℕ) → as_map tagged place x ≡ None
 
 by_map : (P : DataItem → Type 0) → ((ps : DataPairs) → P (MapOf ps)) → ((x : DataItem) → OtherThanMap x → P x) → (x : DataItem) → P x
-by_map P map other (UnsignedInteger n) = other (UnsignedInteger n) (record { tagged_read = λ place p. refl; no_map = λ t place. refl })
-by_map P map other (NegativeInteger n) = other (NegativeInteger n) (record { tagged_read = λ place p. refl; no_map = λ t place. refl })
-by_map P map other (ByteString content) = other (ByteString content) (record { tagged_read = λ place p. refl; no_map = λ t place. refl })
-by_map P map other (TextString text) = other (TextString text) (record { tagged_read = λ place p. refl; no_map = λ t place. refl })
-by_map P map other (ArrayOf xs) = other (ArrayOf xs) (record { tagged_read = λ place p. refl; no_map = λ t place. refl })
 by_map P map other (MapOf ps) = map ps
-by_map P map other (TaggedItem tag x) = other (TaggedItem tag x) (record { tagged_read = λ place p. refl; no_map = λ t place. refl })
-by_map P map other (Boolean b) = other (Boolean b) (record { tagged_read = λ place p. refl; no_map = λ t place. refl })
-by_map P map other NullItem = other NullItem (record { tagged_read = λ place p. refl; no_map = λ t place. refl })
+by_map P map other x = other x (record { tagged_read = λ place p. refl; no_map = λ t place. refl })
 
 behind_read : (levels : ℕ) (p : Position) (x : DataItem) (rest : List ℕ) → IsValidWithin levels x → p.left ≡ spell x ++ rest → behind_tag p ≡ judge_shape p.place (as_map true p.place x)
 unfolding behind_tag
@@ -183,13 +170,6 @@ alone levels place x valid e =
 
 pub envelope_read : ReadsAs envelope_at judge_envelope
 unfolding envelope_at
-envelope_read levels place (UnsignedInteger n) valid = alone levels place (UnsignedInteger n) valid (λ p. refl)
-envelope_read levels place (NegativeInteger n) valid = alone levels place (NegativeInteger n) valid (λ p. refl)
-envelope_read levels place (ByteString bytes) valid = alone levels place (ByteString bytes) valid (λ p. refl)
-envelope_read levels place (TextString text) valid = alone levels place (TextString text) valid (λ p. refl)
-envelope_read levels place (ArrayOf xs) valid = alone levels place (ArrayOf xs) valid (λ p. refl)
-envelope_read levels place (Boolean b) valid = alone levels place (Boolean b) valid (λ p. refl)
-envelope_read levels place NullItem valid = alone levels place NullItem valid (λ p. refl)
 envelope_read levels place (MapOf ps) valid =
     let p : Position = record { left = spell (MapOf ps); place = place } in
     rw (item_head_read levels p (MapOf ps) [] valid (sym (append-nil (spell (MapOf ps))))) (map_read levels p ps false [] valid)
@@ -202,3 +182,4 @@ envelope_read levels place (TaggedItem tag x) valid =
         → cond t (behind_tag q) (Err (refused place Shape)) ≡ (let u : Bool × ℕ × DataItem = cond t (true, q.place, x) (false, place, TaggedItem tag x) in judge_shape u.1 (as_map u.0 u.1 u.2))
     by_test true q e = e
     by_test false q e = refl
+envelope_read levels place x valid = alone levels place x valid (λ p. refl)

@@ -7,14 +7,14 @@ use Rattle.det_cbor.specs.Heads.{head_bytes}
 use Rattle.det_cbor.specs.DataItem.{DataItem, UnsignedInteger, NegativeInteger, ByteString, TextString, ArrayOf, MapOf, TaggedItem, Boolean, NullItem, spell, IsValidWithin}
 use Rattle.det_cbor.specs.HeadReading.{◌>>=◌}
 use Rattle.det_cbor.specs.Position.{Position}
-use Rattle.det_cbor.proofs.Levels.{valid_alone}
+use Rattle.det_cbor.specs.LevelLaws.{valid_alone}
 use Rattle.suit_params.specs.declared.refusal.Refusal.{Refusal}
 use Rattle.suit_params.specs.declared.refusal.Why.TheVariants.{Missing}
 use Rattle.suit_params.specs.Refusing.{refused}
 use Rattle.suit_params.specs.Judging.{judge_each}
 use Rattle.suit_params.specs.Reading.{inside, inner_from}
-use Rattle.suit_params.proofs.ItemHeads.{item_head_read, bytes_again, after}
-use Rattle.suit_params.proofs.Judgements.{item_read}
+use Rattle.suit_params.specs.HeadLaws.{item_head_read, bytes_again, after}
+use Rattle.suit_params.specs.JudgingLaws.{item_read}
 use Rattle.suit_envelope.specs.Envelopes.{Entry, key_of, numbered_key, is_number, has_key}
 use Rattle.suit_envelope.specs.Judging.{known_key, judge_lack}
 use Rattle.suit_envelope.specs.EnvelopeReading.{key_from, see, all_seen}
@@ -31,19 +31,12 @@ inner_read levels p x rest valid is = rw (item_read p x rest (valid_alone levels
 pub key_read : {A : Type 0} (levels place : ℕ) (p : Position) (k : DataItem) (rest : List ℕ) (f : Key × Position → Result A Refusal) → IsValidWithin levels k → p.left ≡ spell k ++ rest
     → (key_from p >>= λ found. known_key place found.0 >>= λ _. f found) ≡ (known_key place (key_of k) >>= λ _. f (key_of k, after p (spell k) rest))
 unfolding key_from
-key_read levels place p (UnsignedInteger n) rest f valid is = rw (item_head_read levels p (UnsignedInteger n) rest valid is) refl
 key_read levels place p (TextString text) rest f valid is =
     let head = head_bytes 3 (length text) in
     let q = after p head (text ++ rest) in
     let last : q.place + length text ≡ p.place + length (head ++ text) = omega (arith, length-append head text) in
     rw (item_head_read levels p (TextString text) rest valid is, bytes_again q text rest refl) (ap (λ (n : ℕ). f (Payload, record { left = rest; place = n })) last)
-key_read levels place p (NegativeInteger n) rest f valid is = rw (item_head_read levels p (NegativeInteger n) rest valid is) refl
-key_read levels place p (ByteString bytes) rest f valid is = rw (item_head_read levels p (ByteString bytes) rest valid is) refl
-key_read levels place p (ArrayOf xs) rest f valid is = rw (item_head_read levels p (ArrayOf xs) rest valid is) refl
-key_read levels place p (MapOf ps) rest f valid is = rw (item_head_read levels p (MapOf ps) rest valid is) refl
-key_read levels place p (TaggedItem tag x) rest f valid is = rw (item_head_read levels p (TaggedItem tag x) rest valid is) refl
-key_read levels place p (Boolean b) rest f valid is = rw (item_head_read levels p (Boolean b) rest valid is) refl
-key_read levels place p NullItem rest f valid is = rw (item_head_read levels p NullItem rest valid is) refl
+key_read levels place p x rest f valid is = rw (item_head_read levels p x rest valid is) refl
 
 -- ---- which keys are seen
 
@@ -101,25 +94,11 @@ sees_manifest s n =
 
 key_wrapper : (s : Seen) (k : DataItem) → (see s (key_of k)).wrapper ≡ (s.wrapper || is_number 2 k)
 key_wrapper s (UnsignedInteger n) = sees_wrapper s n
-key_wrapper s (NegativeInteger n) = sym (or_false s.wrapper)
-key_wrapper s (ByteString bytes) = sym (or_false s.wrapper)
-key_wrapper s (TextString text) = sym (or_false s.wrapper)
-key_wrapper s (ArrayOf xs) = sym (or_false s.wrapper)
-key_wrapper s (MapOf ps) = sym (or_false s.wrapper)
-key_wrapper s (TaggedItem tag x) = sym (or_false s.wrapper)
-key_wrapper s (Boolean b) = sym (or_false s.wrapper)
-key_wrapper s NullItem = sym (or_false s.wrapper)
+key_wrapper s _ = sym (or_false s.wrapper)
 
 key_manifest : (s : Seen) (k : DataItem) → (see s (key_of k)).manifest ≡ (s.manifest || is_number 3 k)
 key_manifest s (UnsignedInteger n) = sees_manifest s n
-key_manifest s (NegativeInteger n) = sym (or_false s.manifest)
-key_manifest s (ByteString bytes) = sym (or_false s.manifest)
-key_manifest s (TextString text) = sym (or_false s.manifest)
-key_manifest s (ArrayOf xs) = sym (or_false s.manifest)
-key_manifest s (MapOf ps) = sym (or_false s.manifest)
-key_manifest s (TaggedItem tag x) = sym (or_false s.manifest)
-key_manifest s (Boolean b) = sym (or_false s.manifest)
-key_manifest s NullItem = sym (or_false s.manifest)
+key_manifest s _ = sym (or_false s.manifest)
 
 abbrev pub see_all : Seen → List Entry → Seen
 see_all s [] = s

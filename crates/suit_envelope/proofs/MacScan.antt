@@ -3,7 +3,7 @@ use Rattle.std.proofs.Common.{◌≡◌, ◌≢◌, ℕ, suc, ◌+◌, ◌-◌, 
 use Rattle.std.specs.List.{AllByRecursion}
 use Rattle.det_cbor.specs.HeadReading.{◌>>=◌}
 use Rattle.det_cbor.specs.Position.{Position}
-use Rattle.det_cbor.proofs.Results.{bind_ok, same_ok, not_both}
+use Rattle.det_cbor.specs.ResultLaws.{bind_ok, same_ok, not_both}
 use Rattle.hmac_mac0.specs.Mac0.{Verifies, Mismatches}
 use Rattle.hmac_mac0.specs.Verdict.{IsJustified}
 use Rattle.hmac_mac0.specs.declared.verdict.MacVerdict.{MacVerdict}

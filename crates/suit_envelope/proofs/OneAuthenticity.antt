@@ -5,7 +5,7 @@ use Rattle.std.proofs.lemmas.List.{append-nil}
 use Rattle.det_cbor.specs.DataItem.{DataItem, Spells, spell}
 use Rattle.det_cbor.specs.ItemReading.{item_at}
 use Rattle.det_cbor.proofs.ItemAgain.{item_again}
-use Rattle.det_cbor.proofs.Results.{ok_pair}
+use Rattle.det_cbor.specs.ResultLaws.{ok_pair}
 use Rattle.hmac_mac0.specs.Mac0.{IsMac0, Mismatches, mac0_item, tag_of}
 use Rattle.suit_params.specs.declared.digest.Digest.{Digest}
 use Rattle.suit_envelope.specs.Macs.{IsOther, FirstDiffers, ThisDiffers, ALaterDiffers}

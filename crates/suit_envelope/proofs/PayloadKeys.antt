@@ -5,7 +5,7 @@ use Rattle.std.specs.Str.{bytes_eq}
 use Rattle.std.specs.Cmp.Lexicographic.{bytes_decides}
 use Rattle.std.proofs.lemmas.List.Elements.{Contains-append_right}
 use Rattle.det_cbor.specs.DataItem.{DataItem, UnsignedInteger, NegativeInteger, ByteString, TextString, ArrayOf, MapOf, TaggedItem, Boolean, NullItem, spell, IsAbove}
-use Rattle.det_cbor.proofs.Results.{chosen}
+use Rattle.det_cbor.specs.ResultLaws.{chosen}
 use Rattle.suit_envelope.specs.Envelopes.{Entry}
 use Rattle.suit_envelope.specs.Payloads.{payload_then, integrated_payloads, payload_under}
 use Rattle.suit_envelope.proofs.EntryOrder.{not_above_itself, AreAbove, AreAscending}
@@ -34,14 +34,7 @@ then_above a (TextString text) (MapOf ps) others above rest = rest
 then_above a (TextString text) (TaggedItem tag x) others above rest = rest
 then_above a (TextString text) (Boolean b) others above rest = rest
 then_above a (TextString text) NullItem others above rest = rest
-then_above a (UnsignedInteger n) value others above rest = rest
-then_above a (NegativeInteger n) value others above rest = rest
-then_above a (ByteString bytes) value others above rest = rest
-then_above a (ArrayOf xs) value others above rest = rest
-then_above a (MapOf ps) value others above rest = rest
-then_above a (TaggedItem tag x) value others above rest = rest
-then_above a (Boolean b) value others above rest = rest
-then_above a NullItem value others above rest = rest
+then_above a _ value others above rest = rest
 
 keys_above : (a : List ℕ) (es : List Entry) → AreAbove a es → KeysAbove a (integrated_payloads es)
 keys_above a [] above = tt
@@ -61,14 +54,7 @@ then_apart (TextString text) (MapOf ps) others above rest = rest
 then_apart (TextString text) (TaggedItem tag x) others above rest = rest
 then_apart (TextString text) (Boolean b) others above rest = rest
 then_apart (TextString text) NullItem others above rest = rest
-then_apart (UnsignedInteger n) value others above rest = rest
-then_apart (NegativeInteger n) value others above rest = rest
-then_apart (ByteString bytes) value others above rest = rest
-then_apart (ArrayOf xs) value others above rest = rest
-then_apart (MapOf ps) value others above rest = rest
-then_apart (TaggedItem tag x) value others above rest = rest
-then_apart (Boolean b) value others above rest = rest
-then_apart NullItem value others above rest = rest
+then_apart _ value others above rest = rest
 
 pub payloads_apart : (es : List Entry) → AreAscending es → AreApart (integrated_payloads es)
 payloads_apart [] ascend = tt

@@ -8,12 +8,12 @@ use Rattle.det_cbor.specs.Heads.{head_bytes}
 use Rattle.det_cbor.specs.DataItem.{DataItem, UnsignedInteger, NegativeInteger, ByteString, TextString, ArrayOf, MapOf, TaggedItem, Boolean, NullItem, DataPairs, NoPairs, PairThen, pair_count, spell, spell_pairs, IsValid, IsValidWithin, ArePairsWithin}
 use Rattle.det_cbor.specs.HeadReading.{◌>>=◌}
 use Rattle.det_cbor.specs.Position.{Position}
-use Rattle.det_cbor.proofs.Results.{same_ok, not_both}
+use Rattle.det_cbor.specs.ResultLaws.{same_ok, not_both}
 use Rattle.suit_params.specs.declared.refusal.Refusal.{Refusal}
 use Rattle.suit_params.specs.Refusing.{IsByteString}
 use Rattle.suit_params.specs.Judging.{judge_string}
-use Rattle.suit_params.proofs.ItemHeads.{item_head_read, bytes_again, after}
-use Rattle.suit_params.proofs.Held.{by_string, content_read, with_rest}
+use Rattle.suit_params.specs.HeadLaws.{item_head_read, bytes_again, after}
+use Rattle.suit_params.specs.HeldLaws.{by_string, content_read, with_rest}
 use Rattle.suit_envelope.specs.Envelopes.{Entry, EnvelopeMap, entries, map_entries, key_of, as_map, envelope_map, IsKnown, IsValue}
 use Rattle.suit_envelope.specs.Payloads.{payload_then, integrated_payloads, HasPayloads, payload_under}
 use Rattle.suit_envelope.specs.PayloadReading.{text_from, is_wanted, content_where, pair_from, or_later, found_from, counted_from, payload_from}
@@ -36,13 +36,7 @@ text_read levels p (TextString text) rest known valid is =
     let q = after p head (text ++ rest) in
     let last : q.place + length text ≡ p.place + length (head ++ text) = omega (arith, length-append head text) in
     rw (item_head_read levels p (TextString text) rest valid is, bytes_again q text rest refl) (ap (λ (n : ℕ). Ok (Some text, record { left = rest; place = n })) last)
-text_read levels p (NegativeInteger n) rest known valid is = absurd (known refl)
-text_read levels p (ByteString bytes) rest known valid is = absurd (known refl)
-text_read levels p (ArrayOf xs) rest known valid is = absurd (known refl)
-text_read levels p (MapOf ps) rest known valid is = absurd (known refl)
-text_read levels p (TaggedItem tag x) rest known valid is = absurd (known refl)
-text_read levels p (Boolean b) rest known valid is = absurd (known refl)
-text_read levels p NullItem rest known valid is = absurd (known refl)
+text_read levels p _ rest known valid is = absurd (known refl)
 
 -- ---- pairs
 
@@ -55,13 +49,7 @@ first_or_later wanted (TextString text) content others known = by_test (bytes_eq
     by_test true = refl
     by_test false = refl
 first_or_later wanted (UnsignedInteger n) content others known = refl
-first_or_later wanted (NegativeInteger n) content others known = absurd (known refl)
-first_or_later wanted (ByteString bytes) content others known = absurd (known refl)
-first_or_later wanted (ArrayOf xs) content others known = absurd (known refl)
-first_or_later wanted (MapOf ps) content others known = absurd (known refl)
-first_or_later wanted (TaggedItem tag x) content others known = absurd (known refl)
-first_or_later wanted (Boolean b) content others known = absurd (known refl)
-first_or_later wanted NullItem content others known = absurd (known refl)
+first_or_later wanted _ content others known = absurd (known refl)
 
 found_read : (wanted : List ℕ) (levels : ℕ) (p : Position) (before : Option (List ℕ)) (ps : DataPairs) (rest : List ℕ) → AllByRecursion IsKnown (entries p.place ps) → AllByRecursion IsValue (entries p.place ps)
     → ArePairsWithin levels before ps → p.left ≡ spell_pairs ps ++ rest → found_from wanted (pair_count ps) p ≡ Ok (payload_under (integrated_payloads (entries p.place ps)) wanted)
@@ -109,14 +97,7 @@ tagged_read tag (MapOf ps) m valid is =
       left = refl;
       place = refl;
     })
-tagged_read tag (UnsignedInteger n) m valid is = absurd cc
-tagged_read tag (NegativeInteger n) m valid is = absurd cc
-tagged_read tag (ByteString b) m valid is = absurd cc
-tagged_read tag (TextString b) m valid is = absurd cc
-tagged_read tag (ArrayOf xs) m valid is = absurd cc
-tagged_read tag (TaggedItem t y) m valid is = absurd cc
-tagged_read tag (Boolean b) m valid is = absurd cc
-tagged_read tag NullItem m valid is = absurd cc
+tagged_read tag _ m valid is = absurd cc
 
 behind_tag_read : (b : Bool) (tag : ℕ) (y : DataItem) (m : EnvelopeMap) → IsValid (TaggedItem tag y)
     → (let u : Bool × ℕ × DataItem = cond b (true, 0 + length (head_bytes 6 tag), y) (false, 0, TaggedItem tag y) in as_map u.0 u.1 u.2 ≡ Some m) → MapRead (TaggedItem tag y) m
@@ -138,13 +119,7 @@ map_read (MapOf ps) m valid is =
       place = refl;
     })
 map_read (TaggedItem tag y) m valid is = behind_tag_read (eqb tag 107) tag y m valid is
-map_read (UnsignedInteger n) m valid is = absurd cc
-map_read (NegativeInteger n) m valid is = absurd cc
-map_read (ByteString b) m valid is = absurd cc
-map_read (TextString b) m valid is = absurd cc
-map_read (ArrayOf xs) m valid is = absurd cc
-map_read (Boolean b) m valid is = absurd cc
-map_read NullItem m valid is = absurd cc
+map_read _ m valid is = absurd cc
 
 -- ---- the envelope
 

@@ -53,25 +53,11 @@ put_good s e value good =
   where
     put_plain : (x : DataItem) → key_of e.key ≢ Wrapper → Good (put_value s (key_of e.key) e.value_place x)
     put_plain (ByteString content) other = put_other s (key_of e.key) content _ other good
-    put_plain (UnsignedInteger n) other = good
-    put_plain (NegativeInteger n) other = good
-    put_plain (TextString text) other = good
-    put_plain (ArrayOf xs) other = good
-    put_plain (MapOf ps) other = good
-    put_plain (TaggedItem tag x) other = good
-    put_plain (Boolean b) other = good
-    put_plain NullItem other = good
+    put_plain _ other = good
 
 is_wrapper_key : (k : DataItem) → is_number 2 k ≡ true → key_of k ≡ Wrapper
 is_wrapper_key (UnsignedInteger n) is = rw is refl
-is_wrapper_key (NegativeInteger n) is = absurd cc
-is_wrapper_key (ByteString content) is = absurd cc
-is_wrapper_key (TextString text) is = absurd cc
-is_wrapper_key (ArrayOf xs) is = absurd cc
-is_wrapper_key (MapOf ps) is = absurd cc
-is_wrapper_key (TaggedItem tag x) is = absurd cc
-is_wrapper_key (Boolean b) is = absurd cc
-is_wrapper_key NullItem is = absurd cc
+is_wrapper_key _ is = absurd cc
 
 either_true : (a b : Bool) → (a || b) ≡ true → (a ≡ true) ⊎ (b ≡ true)
 either_true true b e = inl refl

@@ -3,7 +3,7 @@ use Rattle.std.proofs.Common.{◌≡◌, ℕ, ◌+◌, ◌<◌, ◌≤◌, ◌^�
 use Rattle.std.proofs.lemmas.List.{append-nil, length-append}
 use Rattle.det_cbor.specs.Heads.{head_bytes}
 use Rattle.det_cbor.specs.DataItem.{ByteString, spell}
-use Rattle.det_cbor.proofs.Arguments.{head_small, head_8, head_16, head_32, head_64}
+use Rattle.det_cbor.specs.ArgumentLaws.{head_small, head_8, head_16, head_32, head_64}
 use Rattle.suit_envelope.specs.Trimmed.{trimmed}
 
 pub trimmed_parts : (wrapper manifest : List ℕ) → (([] ++ (head_bytes 6 107 ++ head_bytes 5 2)) ++ (head_bytes 0 2 ++ spell (ByteString wrapper))) ++ (head_bytes 0 3 ++ spell (ByteString manifest)) ≡ trimmed wrapper manifest

@@ -3,7 +3,7 @@ use Rattle.std.proofs.Common.{◌≡◌, ℕ, ◌+◌, true, List, [], length, N
 use Rattle.std.specs.Prelude.{IfOk}
 use Rattle.det_cbor.specs.Heads.{head_bytes}
 use Rattle.det_cbor.specs.DataItem.{UnsignedInteger, ByteString, spell, IsString}
-use Rattle.det_cbor.proofs.Arguments.{head_small, head_8}
+use Rattle.det_cbor.specs.ArgumentLaws.{head_small, head_8}
 use Rattle.suit_params.specs.Refusing.{content_place}
 use Rattle.suit_envelope.specs.Envelopes.{EnvelopeSays, IsEnvelope}
 use Rattle.suit_envelope.specs.declared.parts.EnvelopeParts.{EnvelopeParts}

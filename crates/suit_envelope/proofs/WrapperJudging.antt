@@ -6,18 +6,19 @@ use Rattle.det_cbor.specs.Heads.{head_bytes}
 use Rattle.det_cbor.specs.DataItem.{DataItem, UnsignedInteger, NegativeInteger, ByteString, TextString, ArrayOf, MapOf, TaggedItem, Boolean, NullItem, DataItems, NoItems, ItemThen, item_count, spell, spell_items, IsValidWithin, AreValidWithin}
 use Rattle.det_cbor.specs.HeadReading.{◌>>=◌}
 use Rattle.det_cbor.specs.Position.{Position}
-use Rattle.det_cbor.proofs.Results.{bind_ok, bind_err, same_ok, same_err}
+use Rattle.det_cbor.specs.ResultLaws.{bind_ok, bind_err, same_ok, same_err}
 use Rattle.suit_params.specs.declared.refusal.Refusal.{Refusal}
 use Rattle.suit_params.specs.declared.refusal.Why.TheVariants.{Shape}
 use Rattle.suit_params.specs.Refusing.{refused, IsByteString, RefusesHeld, SaysHeld}
 use Rattle.suit_params.specs.Digests.{IsDigest, RefusesDigest}
 use Rattle.suit_params.specs.Judging.{judge_string, judge_held, judge_each, judge_digest}
 use Rattle.suit_params.specs.DigestReading.{digest_at}
-use Rattle.suit_params.proofs.ItemHeads.{item_kind, item_value, item_head_read, after}
-use Rattle.suit_params.proofs.Judgements.{Judges}
+use Rattle.det_cbor.specs.ItemHeads.{item_kind, item_value}
+use Rattle.suit_params.specs.HeadLaws.{item_head_read, after}
+use Rattle.suit_params.specs.JudgingLaws.{Judges}
 use Rattle.suit_params.proofs.DigestJudging.{digest_read}
 use Rattle.suit_params.proofs.DigestAnswers.{digest_judges}
-use Rattle.suit_params.proofs.Held.{ReadsAs, by_string, content_read, with_rest, held_read, held_judges, JudgesEach, Anything, all_anything, each_ok, each_again, each_err, each_refused}
+use Rattle.suit_params.specs.HeldLaws.{ReadsAs, by_string, content_read, with_rest, held_read, held_judges, JudgesEach, Anything, all_anything, each_ok, each_again, each_err, each_refused}
 use Rattle.suit_envelope.specs.Wrapper.{placed, elements_place, blocks_of, IsBlock, IsWrapper, HasElements, RefusesBlock, NoBlock, RefusesWrapper, NoElements, BadDigest, BadBlock}
 use Rattle.suit_envelope.specs.Judging.{judge_block, judge_wrapper}
 use Rattle.suit_envelope.specs.WrapperReading.{blocks_from, digest_held_from, elements_after, wrapper_at}
@@ -51,16 +52,8 @@ pub record OtherThanElements (x : DataItem) : Type 0 where
   pub read : (place : ℕ) (p : Position) → elements_after place (item_value x) p (item_kind x) ≡ Err (refused place Shape)
 
 by_elements : (P : DataItem → Type 0) → ((first : DataItem) (blocks : DataItems) → P (ArrayOf (ItemThen first blocks))) → ((x : DataItem) → OtherThanElements x → P x) → (x : DataItem) → P x
-by_elements P some other (UnsignedInteger n) = other (UnsignedInteger n) (record { other = λ h. h; judged = λ place. refl; read = λ place p. refl })
-by_elements P some other (NegativeInteger n) = other (NegativeInteger n) (record { other = λ h. h; judged = λ place. refl; read = λ place p. refl })
-by_elements P some other (ByteString content) = other (ByteString content) (record { other = λ h. h; judged = λ place. refl; read = λ place p. refl })
-by_elements P some other (TextString text) = other (TextString text) (record { other = λ h. h; judged = λ place. refl; read = λ place p. refl })
-by_elements P some other (ArrayOf NoItems) = other (ArrayOf NoItems) (record { other = λ h. h; judged = λ place. refl; read = λ place p. refl })
 by_elements P some other (ArrayOf (ItemThen first blocks)) = some first blocks
-by_elements P some other (MapOf ps) = other (MapOf ps) (record { other = λ h. h; judged = λ place. refl; read = λ place p. refl })
-by_elements P some other (TaggedItem tag x) = other (TaggedItem tag x) (record { other = λ h. h; judged = λ place. refl; read = λ place p. refl })
-by_elements P some other (Boolean b) = other (Boolean b) (record { other = λ h. h; judged = λ place. refl; read = λ place p. refl })
-by_elements P some other NullItem = other NullItem (record { other = λ h. h; judged = λ place. refl; read = λ place p. refl })
+by_elements P some other x = other x (record { other = λ h. h; judged = λ place. refl; read = λ place p. refl })
 
 -- the digest is read, and then the blocks
 abbrev then_blocks : (Position → Result Unit Refusal) → List ℕ × Position → Result (List ℕ) Refusal

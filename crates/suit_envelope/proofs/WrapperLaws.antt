@@ -8,15 +8,15 @@ use Rattle.det_cbor.specs.Heads.{head_bytes}
 use Rattle.det_cbor.specs.DataItem.{DataItem, ByteString, ArrayOf, DataItems, NoItems, ItemThen, item_count, spell, spell_items, IsValid, AreValidWithin, Spells}
 use Rattle.det_cbor.specs.HeadReading.{◌>>=◌}
 use Rattle.std.proofs.lemmas.Option.{slice_get_past}
-use Rattle.det_cbor.proofs.Results.{same_ok, not_both}
+use Rattle.det_cbor.specs.ResultLaws.{same_ok, not_both}
 use Rattle.det_cbor.specs.Position.{Position}
 use Rattle.suit_params.specs.declared.refusal.Refusal.{Refusal}
 use Rattle.suit_params.specs.Refusing.{IsByteString, content_place, SaysWhole}
 use Rattle.suit_params.specs.Digests.{IsDigest, digest_item}
 use Rattle.suit_params.specs.Reading.{inside, only_from, content_from}
-use Rattle.suit_params.proofs.ItemHeads.{item_head_read, after}
-use Rattle.suit_params.proofs.Judgements.{item_read}
-use Rattle.suit_params.proofs.Held.{by_string, content_read}
+use Rattle.suit_params.specs.HeadLaws.{item_head_read, after}
+use Rattle.suit_params.specs.JudgingLaws.{item_read}
+use Rattle.suit_params.specs.HeldLaws.{by_string, content_read}
 use Rattle.suit_envelope.specs.Wrapper.{placed, elements_place, IsBlock, IsWrapper}
 use Rattle.suit_envelope.specs.WrapperParts.{strings_of, wrapper_item, WrapperSays, HasWrapper, start_of, digest_from, count_from, passed_from, block_from}
 use Rattle.suit_envelope.proofs.WrapperJudging.{wrapper_read, wrapper_judges}

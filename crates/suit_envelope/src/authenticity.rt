@@ -8,12 +8,11 @@ ghost use Rattle.suit_envelope.specs.WrapperParts.{WrapperSays, HasWrapper};
 
 use crate::Envelope;
 use crate::macs::scan;
-use crate::map::bytes_left;
 use crate::string_hash::string_digest;
 use crate::wrapper_parts::{count, stated_digest};
 use det_cbor::Cursor;
 use hmac_mac0::MacVerdict;
-use suit_params::{Digest, Refusal, read_content, read_head};
+use suit_params::{Digest, Refusal, bytes_left, read_content, read_head};
 
 /// Whether an envelope is authentic, or why not.
 #[derive(Clone, Copy, Debug, PartialEq, Eq)]

@@ -3,10 +3,9 @@
 ghost use Rattle.std.specs.Prelude.{◌≡◌, List, ℕ, Ok, IfOk, IfErr};
 ghost use Rattle.suit_envelope.specs.Macs.{BlocksSay, contents_from, kept, last_answer};
 
-use crate::map::bytes_left;
 use det_cbor::Cursor;
 use hmac_mac0::{MacVerdict, verify};
-use suit_params::{Refusal, read_content};
+use suit_params::{Refusal, bytes_left, read_content};
 
 /// A block's tag, and the one that was computed, which is another.
 #[derive(Clone, Copy, Debug)]

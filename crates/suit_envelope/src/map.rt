@@ -12,16 +12,6 @@ use crate::pairs::pairs;
 use det_cbor::{Cursor, HeadKind};
 use suit_params::{Refusal, Why, read_head, refused};
 
-/// The bytes that are left.
-pub(crate) fn bytes_left<'a>(mut content: Cursor<'a>) -> &'a [u8]
-    ensures { result.now ≡ content.entry.left }
-{
-    match content.bytes(content.left() as u64) {
-        Ok(bytes) => bytes,
-        Err(_) => unreachable!(),
-    }
-}
-
 // An envelope of these bytes that says nothing yet.
 fn nothing(whole: &[u8], tagged: bool) -> Envelope<'_>
     ensures says { said_by result ≡ says_nothing tagged }

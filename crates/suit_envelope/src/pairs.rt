@@ -8,10 +8,11 @@ ghost use Rattle.suit_envelope.specs.Said.{said_by, pairs_say};
 
 use crate::Envelope;
 use crate::key::{Key, Seen, known, read_key, see};
-use crate::map::bytes_left;
 use crate::wrapper::wrapper_of;
 use det_cbor::Cursor;
-use suit_params::{Refusal, Why, only_item, read_content, read_item, refused, same_place};
+use suit_params::{
+    Refusal, Why, bytes_left, only_item, read_content, read_item, refused, same_place,
+};
 
 // The content of the wrapper's byte string, judged.
 fn wrapper_held(content: Cursor<'_>) -> Result<(), Refusal>

@@ -10,9 +10,8 @@ ghost use Rattle.suit_envelope.specs.PayloadReading.{text_from, is_wanted, pair_
 mod tests;
 
 use crate::Envelope;
-use crate::map::bytes_left;
 use det_cbor::{Cursor, HeadKind};
-use suit_params::{Refusal, read_bytes, read_content, read_head};
+use suit_params::{Refusal, bytes_left, read_bytes, read_content, read_head};
 
 // The next key as far as it is a text. Any other key of an envelope is a number.
 #[tactic(auto, unfolding(crate::specs::PayloadReading::text_from))]

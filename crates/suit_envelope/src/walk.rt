@@ -6,11 +6,10 @@ ghost use Rattle.suit_envelope.specs.WrapperParts.{WrapperSays};
 
 use crate::Envelope;
 use crate::authenticity::first_string;
-use crate::map::bytes_left;
 use crate::wrapper_parts::count;
 use det_cbor::Cursor;
 use std::marker::Model;
-use suit_params::read_content;
+use suit_params::{bytes_left, read_content};
 
 /// The authentication blocks of an envelope that are left, in their order. Going over all of them
 /// passes the wrapper once.

@@ -6,10 +6,9 @@ ghost use Rattle.det_cbor.specs.HeadReading.{map_ok};
 ghost use Rattle.suit_envelope.specs.WrapperParts.{WrapperSays, HasWrapper, digest_from, count_from, passed_from, block_from};
 
 use crate::Envelope;
-use crate::map::bytes_left;
 use crate::wrapper::wrapper_of;
 use det_cbor::Cursor;
-use suit_params::{Digest, Refusal, only_item, read_content, read_head};
+use suit_params::{Digest, Refusal, bytes_left, only_item, read_content, read_head};
 
 fn digest_of_wrapper(wrapper: &[u8]) -> Result<Digest, Refusal>
     ensures { map_ok (λ d. d.bytes) result ≡ digest_from wrapper.now }

@@ -1,25 +1,11 @@
 -- Identifiers that are alike, and the least number that passes a test.
-use Rattle.std.proofs.Common.{◌≡◌, ◌≢◌, ℕ, zero, suc, ◌+◌, ◌-◌, ◌<◌, ◌≤◌, Bool, true, false, List, [], ◌∷◌, length, get_or, drop, Option, Some, None, refl, sym, ap, ◌∙◌, add-one, drop-cons, arith}
-use Rattle.std.specs.Prelude.{◌&&◌}
+use Rattle.std.proofs.Common.{◌≡◌, ℕ, zero, suc, ◌+◌, ◌-◌, ◌<◌, ◌≤◌, Bool, true, false, List, [], ◌∷◌, length, get_or, Option, Some, None, refl, sym, ap, subst, ◌∙◌, arith}
+use Rattle.std.specs.Prelude.{◌&&◌, ◌↔◌, IsTrue}
 use Rattle.std.specs.Str.{bytes_eq}
 use Rattle.std.proofs.lemmas.Slice.Eq.{bytes_eq-Decides}
-use Rattle.std.proofs.lemmas.List.{drop_all}
 use Rattle.suit_manifest.specs.ComponentsJudging.{least, same_id, are_like}
 
 -- ---- two identifiers
-
-no_other_length : (a b : List (List ℕ)) → length a ≢ length b → same_id a b ≡ false
-no_other_length [] [] differ = absurd (differ refl)
-no_other_length [] (y ∷ ys) differ = refl
-no_other_length (x ∷ xs) [] differ = refl
-no_other_length (x ∷ xs) (y ∷ ys) differ = rw (no_other_length xs ys (λ same. differ (ap suc same))) (and_false (bytes_eq x y))
-  where
-    and_false : (b : Bool) → (b && false) ≡ false
-    and_false true = refl
-    and_false false = refl
-
-pub other_length : (a b : List (List ℕ)) → length a ≢ length b → false ≡ same_id a b
-other_length a b differ = sym (no_other_length a b differ)
 
 pub same_true : (a b : List (List ℕ)) → same_id a b ≡ true → a ≡ b
 same_true [] [] e = refl
@@ -35,12 +21,15 @@ pub same_itself : (a : List (List ℕ)) → same_id a a ≡ true
 same_itself [] = refl
 same_itself (x ∷ xs) = rw ((bytes_eq-Decides x x).1 refl, same_itself xs) refl
 
--- the parts from one on
-pub parts_there : (a b : List (List ℕ)) (i : ℕ) → i < length a → i < length b → same_id (drop i a) (drop i b) ≡ (bytes_eq (get_or a i []) (get_or b i []) && same_id (drop (i + 1) a) (drop (i + 1) b))
-parts_there a b i in_a in_b = rw (add-one, drop-cons a i [] in_a, drop-cons b i [] in_b) refl
-
-pub parts_done : (a b : List (List ℕ)) (i : ℕ) → length a ≤ i → length b ≤ i → same_id (drop i a) (drop i b) ≡ true
-parts_done a b i past_a past_b = rw (drop_all i a past_a, drop_all i b past_b) refl
+-- a test of equality tells it
+pub told_same : (a b : List (List ℕ)) (t : Bool) → (IsTrue t ↔ (a ≡ b)) → t ≡ same_id a b
+told_same a b t tells = by_both t (same_id a b) tells.0 tells.1 (same_true a b) (λ e. subst (λ l. same_id a l ≡ true) e (same_itself a))
+  where
+    by_both : {P : Type 0} (x y : Bool) → (IsTrue x → P) → (P → IsTrue x) → (y ≡ true → P) → (P → y ≡ true) → x ≡ y
+    by_both true true f g h k = refl
+    by_both false false f g h k = refl
+    by_both true false f g h k = sym (k (f refl))
+    by_both false true f g h k = g (h refl)
 
 -- identifiers by their numbers, whatever stands past the end
 other_default : {A : Type 0} (xs : List A) (i : ℕ) (d e : A) → i < length xs → get_or xs i d ≡ get_or xs i e

@@ -10,11 +10,13 @@ use Rattle.suit_params.specs.declared.refusal.Refusal.{Refusal}
 use Rattle.suit_params.specs.declared.refusal.Why.TheVariants.{Shape}
 use Rattle.suit_params.specs.Refusing.{refused}
 use Rattle.suit_params.specs.Params.{IsMap}
-use Rattle.suit_params.proofs.Held.{ReadsAs}
-use Rattle.suit_params.proofs.ItemHeads.{item_kind, item_value, item_head_read, after}
+use Rattle.suit_params.specs.HeldLaws.{ReadsAs}
+use Rattle.det_cbor.specs.ItemHeads.{item_kind, item_value}
+use Rattle.suit_params.specs.HeadLaws.{item_head_read, after}
 use Rattle.suit_envelope.proofs.KeyLaws.{inner_read}
+use Rattle.suit_params.specs.Reading.{array_after, array_from, map_after, map_from}
 use Rattle.suit_manifest.specs.Components.{IsArray}
-use Rattle.suit_manifest.specs.Elements.{judge_all, judge_array, judge_map, all_from, array_after, array_from, map_after, map_from}
+use Rattle.suit_manifest.specs.Elements.{judge_all, judge_array, judge_map, all_from}
 
 -- ---- which kind an item is
 
@@ -24,15 +26,8 @@ pub record OtherThanArray (A : Type 0) (x : DataItem) : Type 0 where
   pub read : (place : ℕ) (p : Position) → array_after place (item_value x) p (item_kind x) ≡ Err (refused place Shape)
 
 pub by_array : (A : Type 0) (P : DataItem → Type 0) → ((items : DataItems) → P (ArrayOf items)) → ((x : DataItem) → OtherThanArray A x → P x) → (x : DataItem) → P x
-by_array A P array other (UnsignedInteger n) = other (UnsignedInteger n) (record { other = λ h. h; judged = λ inner place. refl; read = λ place p. refl })
-by_array A P array other (NegativeInteger n) = other (NegativeInteger n) (record { other = λ h. h; judged = λ inner place. refl; read = λ place p. refl })
-by_array A P array other (ByteString content) = other (ByteString content) (record { other = λ h. h; judged = λ inner place. refl; read = λ place p. refl })
-by_array A P array other (TextString text) = other (TextString text) (record { other = λ h. h; judged = λ inner place. refl; read = λ place p. refl })
 by_array A P array other (ArrayOf xs) = array xs
-by_array A P array other (MapOf ps) = other (MapOf ps) (record { other = λ h. h; judged = λ inner place. refl; read = λ place p. refl })
-by_array A P array other (TaggedItem tag x) = other (TaggedItem tag x) (record { other = λ h. h; judged = λ inner place. refl; read = λ place p. refl })
-by_array A P array other (Boolean b) = other (Boolean b) (record { other = λ h. h; judged = λ inner place. refl; read = λ place p. refl })
-by_array A P array other NullItem = other NullItem (record { other = λ h. h; judged = λ inner place. refl; read = λ place p. refl })
+by_array A P array other x = other x (record { other = λ h. h; judged = λ inner place. refl; read = λ place p. refl })
 
 pub record OtherThanMap (A : Type 0) (x : DataItem) : Type 0 where
   pub other : IsMap x → ⊥
@@ -40,15 +35,8 @@ pub record OtherThanMap (A : Type 0) (x : DataItem) : Type 0 where
   pub read : (place : ℕ) (p : Position) → map_after place (item_value x) p (item_kind x) ≡ Err (refused place Shape)
 
 pub by_map : (A : Type 0) (P : DataItem → Type 0) → ((pairs : DataPairs) → P (MapOf pairs)) → ((x : DataItem) → OtherThanMap A x → P x) → (x : DataItem) → P x
-by_map A P map other (UnsignedInteger n) = other (UnsignedInteger n) (record { other = λ h. h; judged = λ inner place. refl; read = λ place p. refl })
-by_map A P map other (NegativeInteger n) = other (NegativeInteger n) (record { other = λ h. h; judged = λ inner place. refl; read = λ place p. refl })
-by_map A P map other (ByteString content) = other (ByteString content) (record { other = λ h. h; judged = λ inner place. refl; read = λ place p. refl })
-by_map A P map other (TextString text) = other (TextString text) (record { other = λ h. h; judged = λ inner place. refl; read = λ place p. refl })
-by_map A P map other (ArrayOf xs) = other (ArrayOf xs) (record { other = λ h. h; judged = λ inner place. refl; read = λ place p. refl })
 by_map A P map other (MapOf ps) = map ps
-by_map A P map other (TaggedItem tag x) = other (TaggedItem tag x) (record { other = λ h. h; judged = λ inner place. refl; read = λ place p. refl })
-by_map A P map other (Boolean b) = other (Boolean b) (record { other = λ h. h; judged = λ inner place. refl; read = λ place p. refl })
-by_map A P map other NullItem = other NullItem (record { other = λ h. h; judged = λ inner place. refl; read = λ place p. refl })
+by_map A P map other x = other x (record { other = λ h. h; judged = λ inner place. refl; read = λ place p. refl })
 
 -- ---- how they are read
 

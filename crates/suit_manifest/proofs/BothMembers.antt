@@ -2,7 +2,7 @@
 use Rattle.std.proofs.Common.{◌≡◌, ℕ, List, Option, Some, None, Result, Ok, Err, refl, ap, ◌∙◌, ◌⊎◌, inl, inr}
 use Rattle.std.specs.Prelude.{IfOk, IfErr, IfSome}
 use Rattle.det_cbor.specs.DataItem.{IsString}
-use Rattle.det_cbor.proofs.OneReadingLaw.{bytes_of_all}
+use Rattle.det_cbor.specs.ArgumentLaws.{bytes_of_all}
 use Rattle.suit_commands.specs.Tree.{SequenceTree}
 use Rattle.suit_envelope.specs.EnvelopeLaws.{EnvelopeLaws}
 use Rattle.suit_envelope.specs.Envelopes.{EnvelopeSays}

@@ -3,14 +3,14 @@ use Rattle.std.proofs.Common.{◌≡◌, ℕ, ◌+◌, Bool, true, List, [], ◌
 use Rattle.std.specs.List.{AllByRecursion}
 use Rattle.det_cbor.specs.DataItem.{DataItem, MapOf, DataPairs, IsValidWithin}
 use Rattle.det_cbor.specs.HeadReading.{◌>>=◌}
-use Rattle.det_cbor.proofs.Results.{bind_ok, bind_err, same_ok, same_err}
+use Rattle.det_cbor.specs.ResultLaws.{bind_ok, bind_err, same_ok, same_err}
 use Rattle.suit_params.specs.declared.refusal.Refusal.{Refusal}
 use Rattle.suit_params.specs.declared.refusal.Why.TheVariants.{Shape}
 use Rattle.suit_params.specs.Refusing.{refused, SaysHeld, RefusesHeld, Here, Later, RefusesFirst}
 use Rattle.suit_params.specs.Params.{pairs_place, IsMap}
 use Rattle.suit_params.specs.Judging.{judge_held, judge_each}
-use Rattle.suit_params.proofs.Judgements.{Judges}
-use Rattle.suit_params.proofs.Held.{held_judges, Anything, all_anything, each_ok, each_again, each_err, each_refused}
+use Rattle.suit_params.specs.JudgingLaws.{Judges}
+use Rattle.suit_params.specs.HeldLaws.{held_judges, Anything, all_anything, each_ok, each_again, each_err, each_refused}
 use Rattle.suit_commands.specs.Sequences.{SaysSequence}
 use Rattle.suit_commands.specs.SequenceFaults.{RefusesSequence}
 use Rattle.suit_commands.specs.SequenceJudging.{judge_sequence}

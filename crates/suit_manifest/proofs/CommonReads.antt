@@ -7,7 +7,7 @@ use Rattle.det_cbor.specs.HeadReading.{◌>>=◌}
 use Rattle.det_cbor.specs.Position.{Position}
 use Rattle.suit_params.specs.declared.refusal.Refusal.{Refusal}
 use Rattle.suit_params.specs.Judging.{judge_held, judge_each}
-use Rattle.suit_params.proofs.Held.{ReadsAs, Anything, all_anything, each_ok}
+use Rattle.suit_params.specs.HeldLaws.{ReadsAs, Anything, all_anything, each_ok}
 use Rattle.suit_commands.specs.SequenceJudging.{judge_sequence}
 use Rattle.suit_commands.specs.SequenceReading.{whole_sequence}
 use Rattle.suit_commands.specs.Tree.{SequenceTree}

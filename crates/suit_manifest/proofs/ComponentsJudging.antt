@@ -3,12 +3,12 @@ use Rattle.std.proofs.Common.{◌≡◌, ◌≢◌, ℕ, ◌+◌, ◌-◌, ◌<�
 use Rattle.std.specs.List.{AllByRecursion}
 use Rattle.std.proofs.lemmas.Bool.{eqb-true, eqb-false, ne_eqb, lt-ltb, le-ltb, ltb-true, ltb-false}
 use Rattle.det_cbor.specs.DataItem.{DataItem, ByteString, ArrayOf, DataItems, NoItems, ItemThen, item_count, spell, IsValidWithin}
-use Rattle.det_cbor.proofs.Results.{chosen, bind_ok, bind_err, same_ok, same_err}
+use Rattle.det_cbor.specs.ResultLaws.{chosen, bind_ok, bind_err, same_ok, same_err}
 use Rattle.suit_params.specs.declared.refusal.Refusal.{Refusal}
 use Rattle.suit_params.specs.declared.refusal.Why.TheVariants.{Shape, TooMany, LongIdentifier, TwoAlike}
 use Rattle.suit_params.specs.Refusing.{refused, IsByteString}
-use Rattle.suit_params.proofs.Held.{by_string}
-use Rattle.suit_params.proofs.Judgements.{Judges}
+use Rattle.suit_params.specs.HeldLaws.{by_string}
+use Rattle.suit_params.specs.JudgingLaws.{Judges}
 use Rattle.suit_commands.specs.Sequences.{elements_place, place_after}
 use Rattle.suit_manifest.specs.Components.{string_items, identifier_item, identifier_items, IsShort, AreApart, IsComponents, IsArray, element_place, RefusesParts, NoPart, LaterPart, RefusesIdentifier, NoIdentifier, BadPart, TooLong, RefusesIdentifiers, BadIdentifier, LaterIdentifier, RefusesComponents, NoArray, NoComponents, ManyComponents, BadComponents, AlikeComponents}
 use Rattle.suit_manifest.specs.Elements.{judge_all}

@@ -9,8 +9,8 @@ use Rattle.suit_params.specs.declared.refusal.Refusal.{Refusal}
 use Rattle.suit_params.specs.declared.refusal.Why.TheVariants.{Shape, TooMany}
 use Rattle.suit_params.specs.Refusing.{refused}
 use Rattle.suit_params.specs.Judging.{judge_string}
-use Rattle.suit_params.proofs.Held.{ReadsAs, content_read, with_rest}
-use Rattle.suit_params.proofs.ItemHeads.{after}
+use Rattle.suit_params.specs.HeldLaws.{ReadsAs, content_read, with_rest}
+use Rattle.suit_params.specs.HeadLaws.{after}
 use Rattle.suit_envelope.proofs.KeyLaws.{inner_read}
 use Rattle.suit_manifest.specs.Elements.{judge_all, all_from}
 use Rattle.suit_manifest.specs.ComponentsJudging.{judge_part, short_enough, judge_parts, judge_identifier, judge_apart, judge_ids, judge_count, judge_components}

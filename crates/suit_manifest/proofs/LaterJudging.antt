@@ -2,7 +2,7 @@
 use Rattle.std.proofs.Common.{◌≡◌, ℕ, false, List, [], Option, Some, None, Result, Ok, Err, refl, subst}
 use Rattle.std.specs.List.{AllByRecursion}
 use Rattle.det_cbor.specs.DataItem.{DataItem}
-use Rattle.det_cbor.proofs.Results.{bind_ok, bind_err, same_ok}
+use Rattle.det_cbor.specs.ResultLaws.{bind_ok, bind_err, same_ok}
 use Rattle.suit_params.specs.declared.refusal.Refusal.{Refusal}
 use Rattle.suit_params.specs.Refusing.{RefusesFirst, Here, Later}
 use Rattle.suit_commands.specs.Tree.{SequenceTree}

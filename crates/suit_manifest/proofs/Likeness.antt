@@ -4,7 +4,7 @@ use Rattle.std.specs.Prelude.{slice_get}
 use Rattle.std.proofs.lemmas.Option.{slice_get-get_or}
 use Rattle.det_cbor.specs.DataItem.{DataItems, NoItems, ItemThen, item_count}
 use Rattle.det_cbor.specs.HeadReading.{◌>>=◌}
-use Rattle.det_cbor.proofs.Results.{bind_ok, same_err}
+use Rattle.det_cbor.specs.ResultLaws.{bind_ok, same_err}
 use Rattle.suit_params.specs.declared.refusal.Refusal.{Refusal}
 use Rattle.suit_params.specs.declared.refusal.Why.TheVariants.{TwoAlike}
 use Rattle.suit_params.specs.Refusing.{refused}

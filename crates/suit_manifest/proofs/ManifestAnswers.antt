@@ -1,16 +1,16 @@
 -- The answer of the call that decodes a manifest, by the grammar and the refusals.
 use Rattle.std.proofs.Common.{◌≡◌, ◌≤◌, ℕ, List, length, Result, Ok, Err, refl, sym, ap, ◌∙◌, inl, inr}
 use Rattle.std.specs.Prelude.{IfOk, IfErr}
-use Rattle.det_cbor.proofs.Arguments.{IsBytes}
-use Rattle.det_cbor.proofs.Results.{same_ok, same_err, not_both}
+use Rattle.det_cbor.specs.ArgumentLaws.{IsBytes}
+use Rattle.det_cbor.specs.ResultLaws.{same_ok, same_err, not_both}
 use Rattle.suit_params.specs.declared.refusal.Refusal.{Refusal}
 use Rattle.suit_params.specs.declared.refusal.Fault.{Fault}
 use Rattle.suit_params.specs.declared.refusal.Fault.TheVariants.{Refused, NoMemory}
 use Rattle.suit_params.specs.Answering.{Gives, IsFaultBy, IsReadAs, IsRefusedAs}
 use Rattle.suit_params.specs.Refusing.{RefusesWhole, SaysWhole}
 use Rattle.suit_params.specs.Reading.{whole_judged}
-use Rattle.suit_params.proofs.Judgements.{whole_ok, whole_err, whole_read, whole_refused}
-use Rattle.suit_params.proofs.Held.{whole_is}
+use Rattle.suit_params.specs.JudgingLaws.{whole_ok, whole_err, whole_read, whole_refused}
+use Rattle.suit_params.specs.HeldLaws.{whole_is}
 use Rattle.suit_manifest.specs.declared.manifest.Manifest.{Manifest}
 use Rattle.suit_manifest.specs.Manifests.{IsManifest, RefusesManifest}
 use Rattle.suit_manifest.specs.ManifestJudging.{judge_manifest}

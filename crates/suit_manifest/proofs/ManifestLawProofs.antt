@@ -1,14 +1,14 @@
 -- Items say one manifest or have one refusal, and keys are in order.
 use Rattle.std.proofs.Common.{◌≡◌, ℕ, Result, Ok, Err, refl, sym, ◌∙◌, inl, inr, ◌⊎◌}
 use Rattle.det_cbor.specs.DataItem.{DataItem, IsValid}
-use Rattle.det_cbor.proofs.Results.{same_ok, same_err, not_both}
+use Rattle.det_cbor.specs.ResultLaws.{same_ok, same_err, not_both}
 use Rattle.suit_params.specs.declared.refusal.Refusal.{Refusal}
 use Rattle.suit_commands.specs.SequenceLaws.{SequenceLaws}
 use Rattle.suit_manifest.specs.declared.manifest.Manifest.{Manifest}
 use Rattle.suit_manifest.specs.ManifestJudging.{judge_manifest}
 use Rattle.suit_manifest.specs.ManifestLaws.{HasOneManifest, HasOneRefusal, ManifestLaws}
 use Rattle.suit_manifest.specs.Manifests.{IsManifest, RefusesManifest}
-use Rattle.suit_params.proofs.OneWhole.{one_answer}
+use Rattle.suit_params.specs.OneWholeLaws.{one_answer}
 use Rattle.suit_manifest.proofs.Grammatical.{grammatical}
 use Rattle.suit_manifest.proofs.KeyNumbers.{ordered}
 use Rattle.suit_manifest.proofs.ManifestMade.{manifest_made, manifest_placed, made_again, one_item}

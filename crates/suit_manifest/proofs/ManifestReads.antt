@@ -13,9 +13,9 @@ use Rattle.suit_params.specs.Refusing.{refused, content_place}
 use Rattle.suit_params.specs.Judging.{judge_held, judge_each}
 use Rattle.suit_params.specs.Reading.{inside, item_from, only_from, whole_judged}
 use Rattle.suit_params.proofs.DigestJudging.{digest_read}
-use Rattle.suit_params.proofs.Held.{ReadsAs, by_string, content_read, whole_is}
-use Rattle.suit_params.proofs.ItemHeads.{item_head_read, bytes_again, after}
-use Rattle.suit_params.proofs.Texts.{good_text}
+use Rattle.suit_params.specs.HeldLaws.{ReadsAs, by_string, content_read, whole_is}
+use Rattle.suit_params.specs.HeadLaws.{item_head_read, bytes_again, after}
+use Rattle.suit_params.specs.TextLaws.{good_text}
 use Rattle.suit_commands.specs.Tree.{SequenceTree}
 use Rattle.suit_envelope.specs.Envelopes.{Entry}
 use Rattle.suit_manifest.specs.declared.manifest.Manifest.{Manifest}
@@ -47,15 +47,8 @@ use Rattle.suit_manifest.proofs.ValueJudging.{by_kind}
 
 pub number_read : ReadsAs number_at judge_number
 unfolding number_at
-number_read levels place (UnsignedInteger n) valid = rw (item_head_read levels (at place (UnsignedInteger n)) (UnsignedInteger n) [] valid (sym (append-nil (spell (UnsignedInteger n))))) refl
-number_read levels place (NegativeInteger n) valid = rw (item_head_read levels (at place (NegativeInteger n)) (NegativeInteger n) [] valid (sym (append-nil (spell (NegativeInteger n))))) refl
-number_read levels place (ByteString content) valid = rw (item_head_read levels (at place (ByteString content)) (ByteString content) [] valid (sym (append-nil (spell (ByteString content))))) refl
-number_read levels place (TextString text) valid = rw (item_head_read levels (at place (TextString text)) (TextString text) [] valid (sym (append-nil (spell (TextString text))))) refl
-number_read levels place (ArrayOf xs) valid = rw (item_head_read levels (at place (ArrayOf xs)) (ArrayOf xs) [] valid (sym (append-nil (spell (ArrayOf xs))))) refl
-number_read levels place (MapOf ps) valid = rw (item_head_read levels (at place (MapOf ps)) (MapOf ps) [] valid (sym (append-nil (spell (MapOf ps))))) refl
-number_read levels place (TaggedItem tag x) valid = rw (item_head_read levels (at place (TaggedItem tag x)) (TaggedItem tag x) [] valid (sym (append-nil (spell (TaggedItem tag x))))) refl
-number_read levels place (Boolean b) valid = rw (item_head_read levels (at place (Boolean b)) (Boolean b) [] valid (sym (append-nil (spell (Boolean b))))) refl
 number_read levels place NullItem valid = rw (item_head_read levels (at place NullItem) NullItem [] valid (sym (append-nil (spell NullItem)))) refl
+number_read levels place x valid = rw (item_head_read levels (at place x) x [] valid (sym (append-nil (spell x)))) refl
 
 version_read : ReadsAs version_at judge_version
 version_read levels place x valid = ap (λ (r : Result ℕ Refusal). r >>= known_version place) (number_read levels place x valid)
@@ -66,14 +59,7 @@ text_read levels place (TextString text) valid =
     let p = at place (TextString text) in
     let q = after p (head_bytes 3 (length text)) (text ++ []) in
     rw (item_head_read levels p (TextString text) [] valid (sym (append-nil (spell (TextString text)))), bytes_again q text [] refl, good_text text valid.1) refl
-text_read levels place (UnsignedInteger n) valid = rw (item_head_read levels (at place (UnsignedInteger n)) (UnsignedInteger n) [] valid (sym (append-nil (spell (UnsignedInteger n))))) refl
-text_read levels place (NegativeInteger n) valid = rw (item_head_read levels (at place (NegativeInteger n)) (NegativeInteger n) [] valid (sym (append-nil (spell (NegativeInteger n))))) refl
-text_read levels place (ByteString content) valid = rw (item_head_read levels (at place (ByteString content)) (ByteString content) [] valid (sym (append-nil (spell (ByteString content))))) refl
-text_read levels place (ArrayOf xs) valid = rw (item_head_read levels (at place (ArrayOf xs)) (ArrayOf xs) [] valid (sym (append-nil (spell (ArrayOf xs))))) refl
-text_read levels place (MapOf ps) valid = rw (item_head_read levels (at place (MapOf ps)) (MapOf ps) [] valid (sym (append-nil (spell (MapOf ps))))) refl
-text_read levels place (TaggedItem tag x) valid = rw (item_head_read levels (at place (TaggedItem tag x)) (TaggedItem tag x) [] valid (sym (append-nil (spell (TaggedItem tag x))))) refl
-text_read levels place (Boolean b) valid = rw (item_head_read levels (at place (Boolean b)) (Boolean b) [] valid (sym (append-nil (spell (Boolean b))))) refl
-text_read levels place NullItem valid = rw (item_head_read levels (at place NullItem) NullItem [] valid (sym (append-nil (spell NullItem)))) refl
+text_read levels place x valid = rw (item_head_read levels (at place x) x [] valid (sym (append-nil (spell x)))) refl
 
 abbrev made_apart : List ℕ → Result Member Refusal
 made_apart d = Ok (members.Apart (record { bytes = d }))

@@ -7,16 +7,15 @@ use Rattle.std.proofs.lemmas.List.{append-nil}
 use Rattle.det_cbor.specs.DataItem.{DataItem, UnsignedInteger, NegativeInteger, ByteString, TextString, ArrayOf, MapOf, TaggedItem, Boolean, NullItem, DataPairs, NoPairs, PairThen, spell, IsValidWithin, ArePairsWithin}
 use Rattle.det_cbor.specs.HeadReading.{◌>>=◌}
 use Rattle.det_cbor.specs.Position.{Position}
-use Rattle.det_cbor.proofs.Arguments.{IsBytes}
-use Rattle.det_cbor.proofs.OneReadingLaw.{bytes_of_all}
-use Rattle.det_cbor.proofs.Results.{chosen, bind_ok, bind_err, same_ok, same_err}
+use Rattle.det_cbor.specs.ArgumentLaws.{IsBytes, bytes_of_all}
+use Rattle.det_cbor.specs.ResultLaws.{chosen, bind_ok, bind_err, same_ok, same_err}
 use Rattle.suit_params.specs.declared.refusal.Refusal.{Refusal}
 use Rattle.suit_params.specs.declared.refusal.Why.TheVariants.{UnknownKey, Missing}
 use Rattle.suit_params.specs.Refusing.{refused, Says, Refuses, content_place}
 use Rattle.suit_params.specs.Judging.{judge_held}
 use Rattle.suit_params.specs.Reading.{whole_judged}
-use Rattle.suit_params.proofs.Judgements.{Judges}
-use Rattle.suit_params.proofs.Held.{ReadsAs, by_string, content_read, JudgesEach, Anything}
+use Rattle.suit_params.specs.JudgingLaws.{Judges}
+use Rattle.suit_params.specs.HeldLaws.{ReadsAs, by_string, content_read, JudgesEach, Anything}
 use Rattle.suit_commands.specs.Selections.{Among}
 use Rattle.suit_envelope.specs.Envelopes.{Entry, entries, is_number, has_key}
 use Rattle.suit_manifest.specs.Maps.{IsKeyAmong, entry_under, SaysUnder, MaySayUnder, RefusesUnder, RefusesOtherKey, OtherKey}
@@ -71,14 +70,7 @@ key_err keys place (UnsignedInteger m) r e =
         let yes_it_is : among m keys ≡ true = subst (λ (l : ℕ). among l keys ≡ true) (sym (same_number m n same)) (among_again n keys is) in
         let both : true ≡ false = sym yes_it_is ∙ other in
         absurd cc
-key_err keys place (NegativeInteger n) r e = (λ key. let never = key.2 in absurd cc, same_err _ r e)
-key_err keys place (ByteString bytes) r e = (λ key. let never = key.2 in absurd cc, same_err _ r e)
-key_err keys place (TextString text) r e = (λ key. let never = key.2 in absurd cc, same_err _ r e)
-key_err keys place (ArrayOf xs) r e = (λ key. let never = key.2 in absurd cc, same_err _ r e)
-key_err keys place (MapOf ps) r e = (λ key. let never = key.2 in absurd cc, same_err _ r e)
-key_err keys place (TaggedItem tag x) r e = (λ key. let never = key.2 in absurd cc, same_err _ r e)
-key_err keys place (Boolean b) r e = (λ key. let never = key.2 in absurd cc, same_err _ r e)
-key_err keys place NullItem r e = (λ key. let never = key.2 in absurd cc, same_err _ r e)
+key_err keys place _ r e = (λ key. let never = key.2 in absurd cc, same_err _ r e)
 
 key_other : (keys : List ℕ) (place : ℕ) (k : DataItem) → (IsKey keys k → ⊥) → judge_key keys place k ≡ Err (refused place UnknownKey)
 key_other keys place (UnsignedInteger n) other = by_test (among n keys) refl

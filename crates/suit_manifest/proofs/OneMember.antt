@@ -2,13 +2,13 @@
 use Rattle.std.proofs.Common.{◌≡◌, ℕ, true, false, Bool, List, Option, Some, None, Result, Ok, Err, refl, sym, ap, subst, ◌∙◌, ◌⊎◌, inl, inr}
 use Rattle.std.specs.Str.{bytes_eq}
 use Rattle.std.proofs.lemmas.Slice.Eq.{bytes_eq-Decides}
-use Rattle.det_cbor.proofs.Arguments.{IsBytes}
-use Rattle.det_cbor.proofs.Results.{same_ok, same_err, not_both}
+use Rattle.det_cbor.specs.ArgumentLaws.{IsBytes}
+use Rattle.det_cbor.specs.ResultLaws.{same_ok, same_err, not_both}
 use Rattle.suit_params.specs.declared.digest.Digest.{Digest}
 use Rattle.suit_params.specs.declared.refusal.Refusal.{Refusal}
 use Rattle.suit_params.specs.Reading.{whole_judged}
 use Rattle.suit_params.specs.Refusing.{SaysWhole, RefusesWhole}
-use Rattle.suit_params.proofs.Judgements.{whole_ok, whole_err, whole_read, whole_refused}
+use Rattle.suit_params.specs.JudgingLaws.{whole_ok, whole_err, whole_read, whole_refused}
 use Rattle.suit_commands.specs.Sequences.{SaysSequence}
 use Rattle.suit_commands.specs.SequenceFaults.{RefusesSequence}
 use Rattle.suit_commands.specs.SequenceJudging.{judge_sequence}

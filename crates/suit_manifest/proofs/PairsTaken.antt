@@ -6,7 +6,8 @@ use Rattle.det_cbor.specs.DataItem.{DataItem, UnsignedInteger, NegativeInteger, 
 use Rattle.det_cbor.specs.HeadSpelling.{spelled}
 use Rattle.det_cbor.specs.ItemOrder.{spell_parts}
 use Rattle.det_cbor.specs.Position.{Position}
-use Rattle.suit_params.proofs.ItemHeads.{item_head, item_head_read, after}
+use Rattle.det_cbor.specs.ItemHeads.{item_head}
+use Rattle.suit_params.specs.HeadLaws.{item_head_read, after}
 use Rattle.suit_envelope.specs.Envelopes.{Entry, entries, is_number}
 use Rattle.suit_manifest.specs.declared.pairs.Pairs.{Pairs}
 use Rattle.suit_manifest.specs.MapReading.{key_is, take_from, end_from, value_of}
@@ -37,14 +38,7 @@ record Told (n : ℕ) (p : Position) (key : DataItem) (rest : List ℕ) : Type 0
 key_told : (n levels : ℕ) (p : Position) (key : DataItem) (rest : List ℕ) → IsValidWithin levels key → p.left ≡ spell key ++ rest → Told n p key rest
 unfolding key_is
 key_told n levels p (UnsignedInteger m) rest valid is = record { behind = after p (spell (UnsignedInteger m)) rest; told = rw (item_head_read levels p (UnsignedInteger m) rest valid is) refl; passed = λ e. refl }
-key_told n levels p (NegativeInteger m) rest valid is = record { behind = after p (spelled (item_head (NegativeInteger m))) (spell_parts (NegativeInteger m) ++ rest); told = rw (item_head_read levels p (NegativeInteger m) rest valid is) refl; passed = λ e. absurd cc }
-key_told n levels p (ByteString b) rest valid is = record { behind = after p (spelled (item_head (ByteString b))) (spell_parts (ByteString b) ++ rest); told = rw (item_head_read levels p (ByteString b) rest valid is) refl; passed = λ e. absurd cc }
-key_told n levels p (TextString t) rest valid is = record { behind = after p (spelled (item_head (TextString t))) (spell_parts (TextString t) ++ rest); told = rw (item_head_read levels p (TextString t) rest valid is) refl; passed = λ e. absurd cc }
-key_told n levels p (ArrayOf xs) rest valid is = record { behind = after p (spelled (item_head (ArrayOf xs))) (spell_parts (ArrayOf xs) ++ rest); told = rw (item_head_read levels p (ArrayOf xs) rest valid is) refl; passed = λ e. absurd cc }
-key_told n levels p (MapOf ps) rest valid is = record { behind = after p (spelled (item_head (MapOf ps))) (spell_parts (MapOf ps) ++ rest); told = rw (item_head_read levels p (MapOf ps) rest valid is) refl; passed = λ e. absurd cc }
-key_told n levels p (TaggedItem tag x) rest valid is = record { behind = after p (spelled (item_head (TaggedItem tag x))) (spell_parts (TaggedItem tag x) ++ rest); told = rw (item_head_read levels p (TaggedItem tag x) rest valid is) refl; passed = λ e. absurd cc }
-key_told n levels p (Boolean b) rest valid is = record { behind = after p (spelled (item_head (Boolean b))) (spell_parts (Boolean b) ++ rest); told = rw (item_head_read levels p (Boolean b) rest valid is) refl; passed = λ e. absurd cc }
-key_told n levels p NullItem rest valid is = record { behind = after p (spelled (item_head NullItem)) (spell_parts NullItem ++ rest); told = rw (item_head_read levels p NullItem rest valid is) refl; passed = λ e. absurd cc }
+key_told n levels p x rest valid is = record { behind = after p (spelled (item_head x)) (spell_parts x ++ rest); told = rw (item_head_read levels p x rest valid is) refl; passed = λ e. absurd cc }
 
 take_pairs : (n levels : ℕ) (before : Option (List ℕ)) (ps : DataPairs) (rest : List ℕ) (s : Pairs) → ArePairsWithin levels before ps → s.map.left ≡ spell_pairs ps ++ rest → s.left ≡ pair_count ps → Took n levels (entries s.map.place ps) s
 take_pairs n levels before NoPairs rest s valid is count = record { next = s; is = rw count refl; left = record { pairs = NoPairs; before = before; rest = rest; valid = tt; bytes = is; are = refl; count = count } }

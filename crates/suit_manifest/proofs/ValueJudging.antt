@@ -3,7 +3,7 @@ use Rattle.std.proofs.Common.{◌≡◌, ℕ, false, eqb, List, Result, Ok, Err,
 use Rattle.std.proofs.lemmas.Bool.{eqb-true, eqb-false, ne_eqb, eq-eqb}
 use Rattle.det_cbor.specs.DataItem.{DataItem, UnsignedInteger, NegativeInteger, ByteString, TextString, ArrayOf, MapOf, TaggedItem, Boolean, NullItem, DataItems, IsValidWithin}
 use Rattle.det_cbor.specs.HeadReading.{◌>>=◌}
-use Rattle.det_cbor.proofs.Results.{chosen, bind_ok, bind_err, same_ok, same_err}
+use Rattle.det_cbor.specs.ResultLaws.{chosen, bind_ok, bind_err, same_ok, same_err}
 use Rattle.suit_params.specs.declared.refusal.Refusal.{Refusal}
 use Rattle.suit_params.specs.declared.refusal.Why.TheVariants.{Shape, Version}
 use Rattle.suit_params.specs.Refusing.{refused, SaysHeld, NoString, content_place}
@@ -11,9 +11,9 @@ use Rattle.suit_params.specs.Params.{IsText}
 use Rattle.suit_params.specs.Digests.{IsDigest}
 use Rattle.suit_params.specs.Judging.{judge_held, judge_digest}
 use Rattle.suit_params.specs.Reading.{whole_judged}
-use Rattle.suit_params.proofs.Judgements.{Judges, whole_read}
-use Rattle.suit_params.proofs.Held.{held_judges, by_string}
-use Rattle.suit_params.proofs.ItemHeads.{item_kind}
+use Rattle.suit_params.specs.JudgingLaws.{Judges, whole_read}
+use Rattle.suit_params.specs.HeldLaws.{held_judges, by_string}
+use Rattle.det_cbor.specs.ItemHeads.{item_kind}
 use Rattle.suit_params.proofs.DigestJudging.{digest_ok, digest_again, digest_err, digest_refused}
 use Rattle.suit_commands.specs.SequenceFaults.{IsUnsigned}
 use Rattle.suit_commands.specs.Tree.{SequenceTree}
@@ -35,14 +35,7 @@ number_ok place _ n e = absurd cc
 
 number_err : (place : ℕ) (x : DataItem) (r : Refusal) → judge_number place x ≡ Err r → (IsUnsigned x → ⊥) × (refused place Shape ≡ r)
 number_err place (UnsignedInteger m) r e = absurd cc
-number_err place (NegativeInteger n) r e = (λ h. h, same_err _ r e)
-number_err place (ByteString content) r e = (λ h. h, same_err _ r e)
-number_err place (TextString text) r e = (λ h. h, same_err _ r e)
-number_err place (ArrayOf xs) r e = (λ h. h, same_err _ r e)
-number_err place (MapOf ps) r e = (λ h. h, same_err _ r e)
-number_err place (TaggedItem tag x) r e = (λ h. h, same_err _ r e)
-number_err place (Boolean b) r e = (λ h. h, same_err _ r e)
-number_err place NullItem r e = (λ h. h, same_err _ r e)
+number_err place _ r e = (λ h. h, same_err _ r e)
 
 number_other : (place : ℕ) (x : DataItem) → (IsUnsigned x → ⊥) → judge_number place x ≡ Err (refused place Shape)
 number_other place (UnsignedInteger m) other = absurd (other tt)
@@ -65,14 +58,7 @@ text_ok place _ t e = absurd cc
 
 text_err : (place : ℕ) (x : DataItem) (r : Refusal) → judge_text place x ≡ Err r → (IsText x → ⊥) × (refused place Shape ≡ r)
 text_err place (TextString s) r e = absurd cc
-text_err place (UnsignedInteger n) r e = (λ h. h, same_err _ r e)
-text_err place (NegativeInteger n) r e = (λ h. h, same_err _ r e)
-text_err place (ByteString content) r e = (λ h. h, same_err _ r e)
-text_err place (ArrayOf xs) r e = (λ h. h, same_err _ r e)
-text_err place (MapOf ps) r e = (λ h. h, same_err _ r e)
-text_err place (TaggedItem tag x) r e = (λ h. h, same_err _ r e)
-text_err place (Boolean b) r e = (λ h. h, same_err _ r e)
-text_err place NullItem r e = (λ h. h, same_err _ r e)
+text_err place _ r e = (λ h. h, same_err _ r e)
 
 text_refused : (place : ℕ) (x : DataItem) (r : Refusal) → RefusesText place x r → judge_text place x ≡ Err r
 text_refused place x r (NoText y other) = by_item x other
@@ -130,15 +116,8 @@ pub record OtherKind (A : Type 0) (x : DataItem) : Type 0 where
   pub read : (a b : Result A Refusal) → array_or a b (item_kind x) ≡ b
 
 pub by_kind : (A : Type 0) (P : DataItem → Type 0) → ((items : DataItems) → P (ArrayOf items)) → ((x : DataItem) → OtherKind A x → P x) → (x : DataItem) → P x
-by_kind A P array other (UnsignedInteger n) = other (UnsignedInteger n) (record { other = λ h. h; judged = λ f g place. refl; read = λ a b. refl })
-by_kind A P array other (NegativeInteger n) = other (NegativeInteger n) (record { other = λ h. h; judged = λ f g place. refl; read = λ a b. refl })
-by_kind A P array other (ByteString content) = other (ByteString content) (record { other = λ h. h; judged = λ f g place. refl; read = λ a b. refl })
-by_kind A P array other (TextString text) = other (TextString text) (record { other = λ h. h; judged = λ f g place. refl; read = λ a b. refl })
 by_kind A P array other (ArrayOf xs) = array xs
-by_kind A P array other (MapOf ps) = other (MapOf ps) (record { other = λ h. h; judged = λ f g place. refl; read = λ a b. refl })
-by_kind A P array other (TaggedItem tag x) = other (TaggedItem tag x) (record { other = λ h. h; judged = λ f g place. refl; read = λ a b. refl })
-by_kind A P array other (Boolean b) = other (Boolean b) (record { other = λ h. h; judged = λ f g place. refl; read = λ a b. refl })
-by_kind A P array other NullItem = other NullItem (record { other = λ h. h; judged = λ f g place. refl; read = λ a b. refl })
+by_kind A P array other x = other x (record { other = λ h. h; judged = λ f g place. refl; read = λ a b. refl })
 
 -- what is said and refused of both
 module _ (A B : Type 0) (make : List ℕ → A) (keep : B → A) (judge : ℕ → DataItem → Result B Refusal) (says : ℕ → DataItem → B → Type 0) (form : ℕ → DataItem → Refusal → Type 0) (law : Judges judge says form)

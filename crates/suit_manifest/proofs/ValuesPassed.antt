@@ -5,7 +5,7 @@ use Rattle.det_cbor.specs.Heads.{head_bytes}
 use Rattle.det_cbor.specs.DataItem.{DataItem, UnsignedInteger, NegativeInteger, ByteString, TextString, ArrayOf, MapOf, TaggedItem, Boolean, NullItem, spell, IsValidWithin}
 use Rattle.det_cbor.specs.Position.{Position}
 use Rattle.suit_params.specs.Reading.{inside}
-use Rattle.suit_params.proofs.ItemHeads.{item_head_read, bytes_again, after}
+use Rattle.suit_params.specs.HeadLaws.{item_head_read, bytes_again, after}
 use Rattle.suit_envelope.proofs.KeyLaws.{inner_read}
 use Rattle.suit_manifest.specs.MapReading.{up_to, value_from}
 
@@ -27,9 +27,4 @@ value_read levels p (TextString text) rest valid is =
     let x = TextString text in
     let q = after p (head_bytes 3 (length text)) (text ++ rest) in
     rw (item_head_read levels p x rest valid is, bytes_again q text rest refl) (up_to_read p (after q text rest) (spell x) rest is refl)
-value_read levels p (NegativeInteger n) rest valid is = rw (item_head_read levels p (NegativeInteger n) rest valid is) (inner_read levels p (NegativeInteger n) rest valid is)
-value_read levels p (ArrayOf xs) rest valid is = rw (item_head_read levels p (ArrayOf xs) rest valid is) (inner_read levels p (ArrayOf xs) rest valid is)
-value_read levels p (MapOf ps) rest valid is = rw (item_head_read levels p (MapOf ps) rest valid is) (inner_read levels p (MapOf ps) rest valid is)
-value_read levels p (TaggedItem tag x) rest valid is = rw (item_head_read levels p (TaggedItem tag x) rest valid is) (inner_read levels p (TaggedItem tag x) rest valid is)
-value_read levels p (Boolean b) rest valid is = rw (item_head_read levels p (Boolean b) rest valid is) (inner_read levels p (Boolean b) rest valid is)
-value_read levels p NullItem rest valid is = rw (item_head_read levels p NullItem rest valid is) (inner_read levels p NullItem rest valid is)
+value_read levels p x rest valid is = rw (item_head_read levels p x rest valid is) (inner_read levels p x rest valid is)

@@ -9,11 +9,12 @@ use Rattle.suit_commands.specs.SequenceJudging.{judge_sequence}
 use Rattle.suit_commands.specs.SequenceReading.{whole_sequence}
 use Rattle.suit_commands.specs.Tree.{SequenceTree}
 use Rattle.suit_envelope.specs.Envelopes.{Entry}
+use Rattle.suit_params.specs.Reading.{map_from}
 use Rattle.suit_manifest.specs.declared.common.CommonValues.{CommonValues}
 use Rattle.suit_manifest.specs.declared.pairs.Pairs.{Pairs}
 use Rattle.suit_manifest.specs.Maps.{entries_of, entry_under}
 use Rattle.suit_manifest.specs.Common.{CommonSays, common_keys}
-use Rattle.suit_manifest.specs.Elements.{judge_map, map_from, held_at}
+use Rattle.suit_manifest.specs.Elements.{judge_map, held_at}
 use Rattle.suit_manifest.specs.ComponentsJudging.{judge_components}
 use Rattle.suit_manifest.specs.ComponentsReading.{components_at}
 use Rattle.suit_manifest.specs.MapReading.{judge_entry, needed, judge_at, may, take_from, end_from}

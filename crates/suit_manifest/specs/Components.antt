@@ -1,23 +1,12 @@
 -- The identifiers of a manifest's components (draft-ietf-suit-manifest-25, section 8.4.5).
-use Rattle.std.specs.Prelude.{◌≡◌, ◌≢◌, ◌<◌, ◌≤◌, ℕ, zero, suc, List, [], ◌∷◌, length, slice_get}
+use Rattle.std.specs.Prelude.{◌≡◌, ◌≢◌, ◌<◌, ◌≤◌, ℕ, zero, suc, List, length, slice_get}
 use Rattle.std.specs.List.{AllByRecursion}
 use Rattle.det_cbor.specs.DataItem.{DataItem, ByteString, ArrayOf, DataItems, NoItems, ItemThen, item_count, spell}
 use Rattle.suit_params.specs.declared.refusal.Refusal.{Refusal}
 use Rattle.suit_params.specs.declared.refusal.Why.TheVariants.{Shape, TooMany, LongIdentifier, TwoAlike}
+pub use Rattle.suit_params.specs.Identifiers.{string_items, identifier_item, identifier_items}
 use Rattle.suit_params.specs.Refusing.{refused, IsByteString}
 use Rattle.suit_commands.specs.Sequences.{elements_place, place_after}
-
-abbrev pub string_items : List (List ℕ) → DataItems
-string_items [] = NoItems
-string_items (part ∷ parts) = ItemThen (ByteString part) (string_items parts)
-
--- an identifier is an array of byte strings
-abbrev pub identifier_item : List (List ℕ) → DataItem
-identifier_item parts = ArrayOf (string_items parts)
-
-abbrev pub identifier_items : List (List (List ℕ)) → DataItems
-identifier_items [] = NoItems
-identifier_items (id ∷ ids) = ItemThen (identifier_item id) (identifier_items ids)
 
 -- its spelling has at most 64 bytes (this project's own limit)
 abbrev pub IsShort : List (List ℕ) → Type 0

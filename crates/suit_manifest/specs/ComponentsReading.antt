@@ -5,8 +5,8 @@ use Rattle.det_cbor.specs.Position.{Position}
 use Rattle.suit_params.specs.declared.refusal.Refusal.{Refusal}
 use Rattle.suit_params.specs.declared.refusal.Why.TheVariants.{Shape, TooMany}
 use Rattle.suit_params.specs.Refusing.{refused}
-use Rattle.suit_params.specs.Reading.{inner_from, content_from}
-use Rattle.suit_manifest.specs.Elements.{all_from, array_from}
+use Rattle.suit_params.specs.Reading.{inner_from, content_from, array_from}
+use Rattle.suit_manifest.specs.Elements.{all_from}
 use Rattle.suit_manifest.specs.ComponentsJudging.{short_enough, first_like, judge_like}
 
 abbrev pub part_at : Position → Result (List ℕ) Refusal

@@ -1,14 +1,12 @@
 -- Elements of an array, each judged from its place on, and how they are read of an array that was judged before.
 use Rattle.std.specs.Prelude.{ℕ, zero, suc, List, [], ◌∷◌, Result, Ok, Err}
 use Rattle.det_cbor.specs.DataItem.{DataItem, ArrayOf, MapOf, DataItems, NoItems, ItemThen, DataPairs}
-use Rattle.det_cbor.specs.declared.head.HeadKind.{HeadKind}
-use Rattle.det_cbor.specs.declared.head.HeadKind.TheVariants as kinds
 use Rattle.det_cbor.specs.HeadReading.{◌>>=◌}
 use Rattle.det_cbor.specs.Position.{Position}
 use Rattle.suit_params.specs.declared.refusal.Refusal.{Refusal}
 use Rattle.suit_params.specs.declared.refusal.Why.TheVariants.{Shape}
 use Rattle.suit_params.specs.Refusing.{refused}
-use Rattle.suit_params.specs.Reading.{head_from, inner_from, only_from, content_from}
+use Rattle.suit_params.specs.Reading.{inner_from, only_from, content_from}
 use Rattle.suit_commands.specs.Sequences.{place_after}
 
 abbrev pub judge_all : {A : Type 0} → (ℕ → DataItem → Result A Refusal) → ℕ → DataItems
@@ -36,22 +34,6 @@ abbrev pub all_from : {A : Type 0} → (Position → Result A Refusal) → ℕ �
 all_from read zero p = Ok []
 all_from read (suc n) p =
     inner_from p >>= λ x. read x.0 >>= λ a. all_from read n x.1 >>= λ rest. Ok (a ∷ rest)
-
-abbrev pub array_after : ℕ → ℕ → Position → HeadKind → Result (ℕ × Position) Refusal
-array_after place n p kinds.Array = Ok (n, p)
-array_after place n p _ = Err (refused place Shape)
-
--- an array's number of elements, and the position of the first
-unfoldable pub array_from : Position → Result (ℕ × Position) Refusal
-array_from p = head_from p >>= λ h. array_after p.place h.0.value h.1 h.0.kind
-
-abbrev pub map_after : ℕ → ℕ → Position → HeadKind → Result (ℕ × Position) Refusal
-map_after place n p kinds.Map = Ok (n, p)
-map_after place n p _ = Err (refused place Shape)
-
--- a map's number of pairs, and the position of the first
-unfoldable pub map_from : Position → Result (ℕ × Position) Refusal
-map_from p = head_from p >>= λ h. map_after p.place h.0.value h.1 h.0.kind
 
 -- what a byte string holds, by a reader of the whole content
 abbrev pub held_at : {A : Type 0} → (Position → Result A Refusal) → Position → Result A Refusal

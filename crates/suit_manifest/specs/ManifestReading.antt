@@ -7,7 +7,7 @@ use Rattle.det_cbor.specs.Position.{Position}
 use Rattle.suit_params.specs.declared.refusal.Refusal.{Refusal}
 use Rattle.suit_params.specs.declared.refusal.Why.TheVariants.{Shape}
 use Rattle.suit_params.specs.Refusing.{refused}
-use Rattle.suit_params.specs.Reading.{head_from, only_from, content_from}
+use Rattle.suit_params.specs.Reading.{head_from, only_from, content_from, map_from}
 use Rattle.suit_params.specs.DigestReading.{digest_at}
 use Rattle.suit_params.specs.ParamReading.{text_bytes}
 use Rattle.suit_commands.specs.SequenceReading.{whole_sequence}
@@ -21,7 +21,7 @@ use Rattle.suit_manifest.specs.declared.later.Later.{Later}
 use Rattle.suit_manifest.specs.declared.manifest_map.ManifestValues.{ManifestValues}
 use Rattle.suit_manifest.specs.declared.manifest_map.LaterValues.{LaterValues}
 use Rattle.suit_manifest.specs.declared.pairs.Pairs.{Pairs}
-use Rattle.suit_manifest.specs.Elements.{map_from, held_at, only_at}
+use Rattle.suit_manifest.specs.Elements.{held_at, only_at}
 use Rattle.suit_manifest.specs.MapReading.{needed, may, take_from, end_from}
 use Rattle.suit_manifest.specs.CommonReading.{common_at}
 use Rattle.suit_manifest.specs.ManifestJudging.{known_version, member_of, text_of, manifest_of}

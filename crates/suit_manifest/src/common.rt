@@ -8,12 +8,11 @@ ghost use Rattle.suit_manifest.specs.CommonReading.{shared_at, common_found, com
 ghost use Rattle.suit_commands.specs.SequenceReading.{whole_sequence};
 
 use crate::components::read_components;
-use crate::heads::{bytes_left, read_map};
 use crate::pairs::{Pairs, needed};
 use det_cbor::Cursor;
 use std::alloc::Global;
 use suit_commands::{Sequence, decode_sequence};
-use suit_params::{Fault, Identifiers, Refusal, read_content};
+use suit_params::{Fault, Identifiers, Refusal, bytes_left, read_content, read_map};
 
 /// The common part of a manifest (draft-ietf-suit-manifest-25, section 8.4.5).
 #[derive(Debug, Drop)]

@@ -6,11 +6,11 @@ ghost use Rattle.suit_manifest.specs.Elements.{all_from};
 ghost use Rattle.suit_manifest.specs.ComponentsReading.{part_at, identifier_at, apart_from, ids_from, counted_ids, components_at};
 
 use crate::alike::first_like;
-use crate::heads::{copy_left, read_array};
 use det_cbor::{Bytes, Cursor};
 use std::alloc::Global;
 use suit_params::{
-    Fault, Identifier, Identifiers, Refusal, Why, read_content, read_item, refused, same_place,
+    Fault, Identifier, Identifiers, Refusal, Why, copy_left, read_array, read_content, read_item,
+    refused, same_place,
 };
 
 /// How many components a manifest may have.

@@ -16,14 +16,13 @@ mod tests;
 
 use crate::Manifest;
 use crate::common::{Common, read_common};
-use crate::heads::read_map;
 use crate::later::{Later, read_later};
 use crate::manifest_map::{ManifestValues, find_values};
 use crate::pairs::{Pairs, needed};
 use crate::values::{read_number, read_version};
 use det_cbor::Cursor;
 use std::alloc::Global;
-use suit_params::{Fault, only_item, read_content};
+use suit_params::{Fault, only_item, read_content, read_map};
 
 // The common part, which a byte string holds.
 fn held_common(alloc: Global, mut item: Cursor<'_>) -> Result<Common, Fault>

@@ -8,7 +8,6 @@ mod components;
 mod decode;
 mod encode;
 mod encode_components;
-mod heads;
 mod later;
 mod law;
 mod manifest;

@@ -9,13 +9,12 @@ ghost use Rattle.suit_manifest.specs.MapReading.{may};
 ghost use Rattle.suit_manifest.specs.ManifestReading.{number_at, version_at, text_at, apart_at, here_at, severed_at, text_apart_at, text_here_at, text_member_at, severed_in, text_in};
 
 use crate::common::read_sequence;
-use crate::heads::copy_left;
 use crate::{Member, TextMember};
 use det_cbor::{Cursor, HeadKind, Reason, Text};
 use std::alloc::Global;
 use suit_params::{
-    Fault, Refusal, Why, digest_of, only_item, read_bytes, read_content, read_head, refused,
-    same_place,
+    Fault, Refusal, Why, copy_left, digest_of, only_item, read_bytes, read_content, read_head,
+    refused, same_place,
 };
 
 /// An unsigned number.
@@ -45,7 +44,7 @@ pub(crate) fn read_version(item: Cursor<'_>) -> Result<u64, Refusal>
 }
 
 // The bytes as a text.
-#[tactic(auto, using(suit_params::proofs::Texts::good_text, suit_params::proofs::Texts::bad_text))]
+#[tactic(auto, using(suit_params::specs::TextLaws::good_text, suit_params::specs::TextLaws::bad_text))]
 fn utf8(bytes: &[u8]) -> Option<&str>
     ensures { option_map (λ t. t.now) result ≡ utf8_text bytes.now }
 {

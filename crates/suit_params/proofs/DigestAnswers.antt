@@ -4,8 +4,8 @@ use Rattle.std.specs.Prelude.{IfOk, IfErr}
 use Rattle.det_cbor.specs.DataItem.{DataItem}
 use Rattle.det_cbor.specs.HeadReading.{◌>>=◌, map_ok}
 use Rattle.det_cbor.specs.Position.{Position}
-use Rattle.det_cbor.proofs.Arguments.{IsBytes}
-use Rattle.det_cbor.proofs.Results.{ok_pair}
+use Rattle.det_cbor.specs.ArgumentLaws.{IsBytes}
+use Rattle.det_cbor.specs.ResultLaws.{ok_pair}
 use Rattle.suit_params.specs.declared.digest.Digest.{Digest}
 use Rattle.suit_params.specs.declared.refusal.Refusal.{Refusal}
 use Rattle.suit_params.specs.Refusing.{RefusesNext, TakesNext}
@@ -13,7 +13,7 @@ use Rattle.suit_params.specs.Digests.{IsDigest, RefusesDigest}
 use Rattle.suit_params.specs.Judging.{judge_digest}
 use Rattle.suit_params.specs.Reading.{inside, item_from, next_judged}
 use Rattle.suit_params.specs.DigestReading.{digest_at, next_digest}
-use Rattle.suit_params.proofs.Judgements.{Judges, item_ok, next_ok, next_err, next_read, next_refused}
+use Rattle.suit_params.specs.JudgingLaws.{Judges, item_ok, next_ok, next_err, next_read, next_refused}
 use Rattle.suit_params.proofs.DigestJudging.{digest_read, digest_ok, digest_again, digest_err, digest_refused}
 
 pub digest_judges : Judges judge_digest IsDigest RefusesDigest

@@ -8,7 +8,7 @@ use Rattle.suit_params.specs.Refusing.{refused, IsByteString}
 use Rattle.suit_params.specs.Digests.{IsPair, IsNumber, pair_item, first_place}
 use Rattle.suit_params.specs.Judging.{judge_value, judge_elements, judge_digest}
 use Rattle.suit_params.specs.DigestReading.{value_after, algorithm_after, elements_after}
-use Rattle.suit_params.proofs.ItemHeads.{item_kind, item_value}
+use Rattle.det_cbor.specs.ItemHeads.{item_kind, item_value}
 
 -- ---- pairs
 

@@ -7,7 +7,7 @@ use Rattle.det_cbor.specs.DataItem.{DataItem, UnsignedInteger, NegativeInteger, 
 use Rattle.det_cbor.specs.HeadReading.{◌>>=◌}
 use Rattle.det_cbor.specs.ItemOrder.{spell_parts}
 use Rattle.det_cbor.specs.Position.{Position}
-use Rattle.det_cbor.proofs.Results.{chosen, same_ok, same_err}
+use Rattle.det_cbor.specs.ResultLaws.{chosen, same_ok, same_err}
 use Rattle.suit_params.specs.declared.refusal.Refusal.{Refusal}
 use Rattle.suit_params.specs.declared.refusal.Why.TheVariants.{Shape, Algorithm}
 use Rattle.suit_params.specs.Refusing.{refused, IsByteString}
@@ -15,7 +15,7 @@ use Rattle.suit_params.specs.Digests.{pair_item, sha_256, IsDigest, IsPair, IsNu
 use Rattle.suit_params.specs.Judging.{judge_value, judge_elements, judge_digest}
 use Rattle.suit_params.specs.Reading.{bytes_from}
 use Rattle.suit_params.specs.DigestReading.{value_at, algorithm_at, digest_at}
-use Rattle.suit_params.proofs.ItemHeads.{item_head_read, bytes_again, after}
+use Rattle.suit_params.specs.HeadLaws.{item_head_read, bytes_again, after}
 use Rattle.suit_params.proofs.DigestCases.{by_pair, by_number, by_bytes}
 
 -- ---- what is read

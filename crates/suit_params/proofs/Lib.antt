@@ -1,14 +1,10 @@
 pub mod Readings
-pub mod ItemHeads
 pub mod DigestCases
 pub mod DigestJudging
-pub mod Judgements
 pub mod DigestAnswers
-pub mod Held
 pub mod ParamKeyLaws
 pub mod ParamValues
 pub mod ParamJudging
-pub mod Texts
 pub mod ParamSteps
 pub mod ParamReads
 pub mod ParamAnswers
@@ -16,7 +12,6 @@ pub mod ParamOrder
 pub mod ParamWritten
 pub mod ParamSpelled
 pub mod Overriding
-pub mod OneWhole
 pub mod ParamMade
 pub mod InForceLawProofs
 pub mod ParamLawProofs

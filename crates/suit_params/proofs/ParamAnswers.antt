@@ -4,8 +4,8 @@ use Rattle.std.specs.Prelude.{IfOk, IfErr}
 use Rattle.det_cbor.specs.DataItem.{DataItem}
 use Rattle.det_cbor.specs.HeadReading.{◌>>=◌}
 use Rattle.det_cbor.specs.Position.{Position}
-use Rattle.det_cbor.proofs.Arguments.{IsBytes}
-use Rattle.det_cbor.proofs.Results.{ok_pair, same_err, not_both}
+use Rattle.det_cbor.specs.ArgumentLaws.{IsBytes}
+use Rattle.det_cbor.specs.ResultLaws.{ok_pair, same_err, not_both}
 use Rattle.suit_params.specs.declared.param.Param.{Param}
 use Rattle.suit_params.specs.declared.refusal.Refusal.{Refusal}
 use Rattle.suit_params.specs.declared.refusal.Fault.{Fault}
@@ -16,7 +16,7 @@ use Rattle.suit_params.specs.Params.{IsParams, RefusesParams}
 use Rattle.suit_params.specs.ParamJudging.{judge_params}
 use Rattle.suit_params.specs.ParamReading.{params_at, next_params}
 use Rattle.suit_params.specs.Reading.{inside, item_from, next_judged}
-use Rattle.suit_params.proofs.Judgements.{item_ok, next_ok, next_err, next_read, next_refused}
+use Rattle.suit_params.specs.JudgingLaws.{item_ok, next_ok, next_err, next_read, next_refused}
 use Rattle.suit_params.proofs.ParamJudging.{params_judge}
 use Rattle.suit_params.proofs.ParamReads.{params_read}
 

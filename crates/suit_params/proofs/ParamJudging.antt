@@ -1,7 +1,7 @@
 -- The judgement of a map of parameters is that of the grammar and the refusals.
 use Rattle.std.proofs.Common.{◌≡◌, ℕ, ◌+◌, List, ◌∷◌, Option, Some, Ok, Err, refl, sym, subst, ◌∙◌}
 use Rattle.det_cbor.specs.DataItem.{DataItem, MapOf, DataPairs, NoPairs, PairThen, spell, IsValidWithin, ArePairsWithin}
-use Rattle.det_cbor.proofs.Results.{bind_ok, bind_err, same_ok, same_err}
+use Rattle.det_cbor.specs.ResultLaws.{bind_ok, bind_err, same_ok, same_err}
 use Rattle.suit_params.specs.declared.param.Param.{Param}
 use Rattle.suit_params.specs.declared.param.ParamKey.{ParamKey}
 use Rattle.suit_params.specs.declared.refusal.Refusal.{Refusal}
@@ -10,7 +10,7 @@ use Rattle.suit_params.specs.Refusing.{refused}
 use Rattle.suit_params.specs.ParamKeys.{key_item}
 use Rattle.suit_params.specs.Params.{SaysValue, RefusesValue, value_place, next_place, SayParams, NoMore, ParamThen, pairs_place, IsParams, ParamMap, RefusesPairs, OtherKey, BadValue, BadLater, IsMap, RefusesParams, NoMap, BadPairs}
 use Rattle.suit_params.specs.ParamJudging.{judge_key, judge_value, judge_pairs, judge_params}
-use Rattle.suit_params.proofs.Judgements.{Judges}
+use Rattle.suit_params.specs.JudgingLaws.{Judges}
 use Rattle.suit_params.proofs.ParamKeyLaws.{key_ok, key_again, key_err, key_refused}
 use Rattle.suit_params.proofs.ParamValues.{value_ok, value_again, value_err, value_refused}
 

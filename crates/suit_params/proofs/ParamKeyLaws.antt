@@ -2,7 +2,7 @@
 use Rattle.std.proofs.Common.{◌≡◌, ℕ, Bool, true, false, cond, eqb, Option, Some, None, Ok, Err, refl, sym, ap, ◌∙◌}
 use Rattle.std.proofs.lemmas.Bool.{eqb-true}
 use Rattle.det_cbor.specs.DataItem.{DataItem, UnsignedInteger}
-use Rattle.det_cbor.proofs.Results.{same_ok, same_err}
+use Rattle.det_cbor.specs.ResultLaws.{same_ok, same_err}
 use Rattle.suit_params.specs.declared.param.ParamKey.{ParamKey}
 use Rattle.suit_params.specs.declared.param.ParamKey.TheVariants as keys
 use Rattle.suit_params.specs.declared.refusal.Refusal.{Refusal}

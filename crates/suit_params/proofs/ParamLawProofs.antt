@@ -1,7 +1,7 @@
 -- Maps of parameters say one list or have one refusal, and lists ascend.
 use Rattle.std.proofs.Common.{◌≡◌, ℕ, ◌<◌, List, Some, None, Result, Ok, Err, refl, sym, ◌∙◌, arith, inl, inr, ◌⊎◌}
 use Rattle.det_cbor.specs.DataItem.{DataItem, DataPairs, spell, IsAbove, IsValid, ArePairsWithin}
-use Rattle.det_cbor.proofs.Results.{same_ok, same_err, not_both}
+use Rattle.det_cbor.specs.ResultLaws.{same_ok, same_err, not_both}
 use Rattle.suit_params.specs.declared.param.Param.{Param}
 use Rattle.suit_params.specs.declared.param.ParamKey.{ParamKey}
 use Rattle.suit_params.specs.declared.param.ParamKey.TheVariants as keys
@@ -13,7 +13,7 @@ use Rattle.suit_params.specs.Judging.{judge_digest}
 use Rattle.suit_params.specs.ParamJudging.{judge_params}
 use Rattle.suit_params.specs.ParamLaws.{HasOneList, HasOneRefusal, AreAbove, AreAscending, ParamLaws}
 use Rattle.suit_params.proofs.DigestAnswers.{digest_judges}
-use Rattle.suit_params.proofs.OneWhole.{one_answer}
+use Rattle.suit_params.specs.OneWholeLaws.{one_answer}
 use Rattle.suit_params.proofs.ParamJudging.{params_judge}
 use Rattle.suit_params.proofs.ParamMade.{said_key, made}
 use Rattle.suit_params.proofs.ParamOrder.{number_above, key_small}

@@ -19,10 +19,11 @@ use Rattle.suit_params.specs.Reading.{bytes_from, only_from}
 use Rattle.suit_params.specs.DigestReading.{digest_at}
 use Rattle.suit_params.specs.ParamJudging.{judge_key, judge_id, judge_bytes, judge_text, judge_number, judge_flag, judge_index, judge_content, judge_value, judge_pairs, judge_params}
 use Rattle.suit_params.specs.ParamReading.{key_from, id_from, held_from, text_from, number_from, flag_from, bytes_value_from, value_from, params_from, params_after, params_at}
-use Rattle.suit_params.proofs.ItemHeads.{item_kind, item_value, item_head, item_spelled, item_head_read, bytes_again, after}
-use Rattle.suit_params.proofs.Held.{ReadsAs, with_rest, content_is}
+use Rattle.det_cbor.specs.ItemHeads.{item_kind, item_value, item_head, item_spelled}
+use Rattle.suit_params.specs.HeadLaws.{item_head_read, bytes_again, after}
+use Rattle.suit_params.specs.HeldLaws.{ReadsAs, with_rest, content_is}
 use Rattle.suit_params.proofs.DigestJudging.{digest_read}
-use Rattle.suit_params.proofs.Texts.{good_text}
+use Rattle.suit_params.specs.TextLaws.{good_text}
 
 -- ---- keys
 

@@ -3,9 +3,8 @@ use Rattle.std.proofs.Common.{◌≡◌, ℕ, ◌<◌, ◌≤◌, Bool, true, fa
 use Rattle.std.proofs.lemmas.Bool.{eqb-true, eqb-false, ne_eqb, lt-ltb, le-ltb, ltb-true, ltb-false}
 use Rattle.det_cbor.specs.DataItem.{DataItem, UnsignedInteger, ByteString, TextString, Boolean, IsValidWithin}
 use Rattle.det_cbor.specs.HeadReading.{◌>>=◌}
-use Rattle.det_cbor.proofs.Results.{chosen, bind_ok, bind_err, same_ok, same_err}
-use Rattle.det_cbor.proofs.Arguments.{IsBytes}
-use Rattle.det_cbor.proofs.OneReadingLaw.{bytes_of_all}
+use Rattle.det_cbor.specs.ResultLaws.{chosen, bind_ok, bind_err, same_ok, same_err}
+use Rattle.det_cbor.specs.ArgumentLaws.{IsBytes, bytes_of_all}
 use Rattle.suit_params.specs.declared.param.Param.{Param}
 use Rattle.suit_params.specs.declared.param.Param.TheVariants as params
 use Rattle.suit_params.specs.declared.param.ParamKey.{ParamKey}
@@ -17,7 +16,7 @@ use Rattle.suit_params.specs.Judging.{judge_digest}
 use Rattle.suit_params.specs.Digests.{IsDigest, RefusesDigest}
 use Rattle.suit_params.specs.Params.{SaysValue, SaysVendor, SaysClass, SaysDevice, SaysDigest, SaysSlot, SaysStrict, SaysSoft, SaysSize, SaysContent, SaysUri, SaysSource, SaysArgs, IsIdentifier, IsUnsigned, IsBoolean, IsText, IsOfKind, RefusesValue, OtherKind, BadDigest, NoComponent}
 use Rattle.suit_params.specs.ParamJudging.{judge_id, judge_bytes, judge_text, judge_number, judge_flag, judge_index, judge_content, judge_value}
-use Rattle.suit_params.proofs.Judgements.{whole_ok, whole_err, whole_read, whole_refused}
+use Rattle.suit_params.specs.JudgingLaws.{whole_ok, whole_err, whole_read, whole_refused}
 use Rattle.suit_params.proofs.DigestAnswers.{digest_judges}
 
 -- ---- kinds of items

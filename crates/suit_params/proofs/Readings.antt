@@ -10,7 +10,7 @@ use Rattle.det_cbor.specs.declared.reason.CborRefusal.{CborRefusal}
 use Rattle.det_cbor.specs.Faults.{BadHead}
 use Rattle.det_cbor.specs.HeadReading.{head_at, place_in}
 use Rattle.det_cbor.specs.Position.{Position, IsRefusal, next_head, next_bytes, refusal_at}
-use Rattle.det_cbor.proofs.Results.{chosen}
+use Rattle.det_cbor.specs.ResultLaws.{chosen}
 use Rattle.det_cbor.proofs.BadHeads.{bad_head}
 use Rattle.suit_params.specs.declared.refusal.Why.TheVariants.{Cbor}
 use Rattle.suit_params.specs.Refusing.{refused}

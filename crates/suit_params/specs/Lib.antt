@@ -16,3 +16,8 @@ pub mod ParamMaking
 pub mod OneWhole
 pub mod ParamLaws
 pub mod InForceLaws
+pub mod HeadLaws
+pub mod JudgingLaws
+pub mod HeldLaws
+pub mod OneWholeLaws
+pub mod TextLaws

@@ -79,3 +79,21 @@ abbrev pub whole_judged : {A : Type 0} → (ℕ → DataItem → Result A Refusa
 whole_judged judge place bytes =
     item_from (record { left = bytes; place = place })
     >>= λ x. if length x.1.left == 0 then judge place x.0 else Err (refused x.1.place Trailing)
+
+-- ---- arrays and maps: their numbers of parts
+
+abbrev pub array_after : ℕ → ℕ → Position → HeadKind → Result (ℕ × Position) Refusal
+array_after place n p kinds.Array = Ok (n, p)
+array_after place n p _ = Err (refused place Shape)
+
+-- an array's number of elements, and the position of the first
+unfoldable pub array_from : Position → Result (ℕ × Position) Refusal
+array_from p = head_from p >>= λ h. array_after p.place h.0.value h.1 h.0.kind
+
+abbrev pub map_after : ℕ → ℕ → Position → HeadKind → Result (ℕ × Position) Refusal
+map_after place n p kinds.Map = Ok (n, p)
+map_after place n p _ = Err (refused place Shape)
+
+-- a map's number of pairs, and the position of the first
+unfoldable pub map_from : Position → Result (ℕ × Position) Refusal
+map_from p = head_from p >>= λ h. map_after p.place h.0.value h.1 h.0.kind

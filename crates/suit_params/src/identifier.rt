@@ -13,6 +13,20 @@ pub struct Identifier {
     pub(crate) held: Vec<Bytes>,
 }
 
+fn are_same(a: &[Bytes], b: &[Bytes]) -> bool
+    ensures { IsTrue result ↔ (a.now ≡ b.now) }
+{
+    if a.len() != b.len() {
+        return false;
+    }
+    for i in 0..a.len() {
+        if a[i].as_slice() != b[i].as_slice() {
+            return false;
+        }
+    }
+    true
+}
+
 impl Model for Identifier {
     ghost use Rattle.std.specs.Prelude.{List, ℕ};
 
@@ -79,6 +93,13 @@ impl Identifier {
         ensures { result.now ≡ self.now }
     {
         self.held.as_slice()
+    }
+
+    /// Whether another identifier has the same byte strings.
+    pub fn is_same(&self, other: &Identifier) -> bool
+        ensures { IsTrue result ↔ (self.now ≡ other.now) }
+    {
+        are_same(self.as_slice(), other.as_slice())
     }
 }
 

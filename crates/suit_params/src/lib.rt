@@ -24,6 +24,7 @@ pub use param_value::component_index;
 pub use param_writing::write_params;
 pub use params::Params;
 pub use reading::{
-    next_content, only_item, read_bytes, read_content, read_head, read_item, same_place,
+    bytes_left, copy_left, next_content, only_item, read_array, read_bytes, read_content,
+    read_head, read_item, read_map, same_place,
 };
 pub use refusal::{Fault, Refusal, Why, refused};

@@ -18,7 +18,7 @@ mod tests;
 use crate::param_value::{
     read_flag, read_held, read_held_digest, read_id, read_index, read_number, read_text,
 };
-use crate::reading::{read_head, read_item, same_place};
+use crate::reading::{copy_left, read_head, read_item, same_place};
 use crate::refusal::refused;
 use crate::{Fault, Param, ParamKey, ParamList, Refusal, Why};
 use det_cbor::{Bytes, Cursor, HeadKind, Text};
@@ -54,16 +54,6 @@ fn read_key(map: &mut Cursor<'_>) -> Result<ParamKey, Refusal>
     match head.kind {
         HeadKind::Unsigned => numbered(place, head.value),
         _ => refused(place, Why::UnknownParam),
-    }
-}
-
-// The bytes that are left, copied.
-fn copy_left(alloc: Global, mut content: Cursor<'_>) -> Result<Bytes, AllocError>
-    ensures { IfOk result (λ b. b ≡ content.entry.left) }
-{
-    match content.bytes(content.left() as u64) {
-        Ok(bytes) => Bytes::from_slice(alloc, bytes),
-        Err(_) => unreachable!(),
     }
 }
 

@@ -3,14 +3,15 @@
 ghost use Rattle.std.specs.Prelude.{◌≡◌, ℕ, ◌<◌, length, get_or, IfOk, OnErr};
 ghost use Rattle.det_cbor.specs.HeadReading.{map_ok};
 ghost use Rattle.det_cbor.specs.Position.{Takes};
-ghost use Rattle.suit_params.specs.Reading.{head_from, bytes_from, inner_from, only_from, string_from, content_from};
+ghost use Rattle.suit_params.specs.Reading.{head_from, bytes_from, inner_from, only_from, string_from, content_from, array_from, map_from};
 
 #[cfg(test)]
 mod tests;
 
 use crate::refusal::refused;
 use crate::{Refusal, Why};
-use det_cbor::{Cursor, Head, HeadKind};
+use det_cbor::{Bytes, Cursor, Head, HeadKind};
+use std::alloc::{AllocError, Global};
 
 // The bytes of a slice are below 256.
 fn bounded(bytes: &[u8])
@@ -58,7 +59,7 @@ pub fn read_bytes<'a>(cursor: &mut Cursor<'a>, count: u64) -> Result<&'a [u8], R
 
 /// The next whole item, as a cursor on its bytes. It is judged as `decode` judges it, with levels
 /// counted from this item. After a refusal the cursor stands where it stood.
-#[tactic(auto, using(crate::proofs::Judgements::skip_ok, crate::proofs::Judgements::skip_err))]
+#[tactic(auto, using(crate::specs::JudgingLaws::skip_ok, crate::specs::JudgingLaws::skip_err))]
 pub fn read_item<'a>(cursor: &mut Cursor<'a>) -> Result<Cursor<'a>, Refusal>
     ensures exact { map_ok (λ inner. (inner, cursor.new)) result ≡ inner_from cursor.old }
     ensures same { OnErr result (cursor.new ≡ cursor.old) }
@@ -101,4 +102,47 @@ pub fn next_content<'a>(cursor: &mut Cursor<'a>, count: u64) -> Result<Cursor<'a
     let place = cursor.place();
     let content = read_bytes(cursor, count)?;
     Ok(Cursor::new(content, place))
+}
+
+/// The number of elements of an array, which the cursor passes the head of.
+#[tactic(auto, unfolding(crate::specs::Reading::array_from))]
+pub fn read_array(item: &mut Cursor<'_>) -> Result<u64, Refusal>
+    ensures { map_ok (λ n. (n, item.new)) result ≡ array_from item.old }
+{
+    let place = item.place();
+    let head = read_head(item)?;
+    match head.kind {
+        HeadKind::Array => Ok(head.value),
+        _ => refused(place, Why::Shape),
+    }
+}
+
+/// The number of pairs of a map, which the cursor passes the head of.
+#[tactic(auto, unfolding(crate::specs::Reading::map_from))]
+pub fn read_map(item: &mut Cursor<'_>) -> Result<u64, Refusal>
+    ensures { map_ok (λ n. (n, item.new)) result ≡ map_from item.old }
+{
+    let place = item.place();
+    let head = read_head(item)?;
+    match head.kind {
+        HeadKind::Map => Ok(head.value),
+        _ => refused(place, Why::Shape),
+    }
+}
+
+/// The bytes that are left.
+pub fn bytes_left<'a>(mut content: Cursor<'a>) -> &'a [u8]
+    ensures { result.now ≡ content.entry.left }
+{
+    match content.bytes(content.left() as u64) {
+        Ok(bytes) => bytes,
+        Err(_) => unreachable!(),
+    }
+}
+
+/// The bytes that are left, copied.
+pub fn copy_left(alloc: Global, content: Cursor<'_>) -> Result<Bytes, AllocError>
+    ensures { IfOk result (λ b. b ≡ content.entry.left) }
+{
+    Bytes::from_slice(alloc, bytes_left(content))
 }

@@ -1,5 +1,5 @@
 use Rattle.std.proofs.Common.{ap}
-use Rattle.det_cbor.proofs.Results.{same_ok}
+use Rattle.det_cbor.specs.ResultLaws.{same_ok}
 use Rattle.hmac_mac0.proofs.Layouts.{kind_itself}
 use Rattle.hmac_mac0.proofs.layout.head.Goals as goal
 

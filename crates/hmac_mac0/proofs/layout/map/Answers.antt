@@ -2,7 +2,7 @@ use Rattle.std.proofs.Common.{◌≡◌, sym, ap, subst}
 use Rattle.det_cbor.specs.declared.head.HeadKind.TheVariants as kinds
 use Rattle.det_cbor.specs.DataItem.{MapOf}
 use Rattle.det_cbor.specs.Position.{Position}
-use Rattle.det_cbor.proofs.Results.{same_ok}
+use Rattle.det_cbor.specs.ResultLaws.{same_ok}
 use Rattle.hmac_mac0.specs.Layout.{BeginsWithKind}
 use Rattle.hmac_mac0.proofs.Layouts.{found_value, found_true, item_starts, map_found, map_begins}
 use Rattle.hmac_mac0.proofs.layout.map.Goals as goal

@@ -1,4 +1,4 @@
-use Rattle.suit_params.proofs.OneWhole.{one_answer}
+use Rattle.suit_params.specs.OneWholeLaws.{one_answer}
 use Rattle.suit_envelope.specs.Envelopes.{IsEnvelope, RefusesEnvelope}
 use Rattle.suit_envelope.specs.Judging.{judge_envelope}
 use Rattle.suit_envelope.proofs.EntryLaws.{entries_say}

@@ -10,8 +10,8 @@ use Rattle.det_cbor.specs.ItemReading.{Read, item_at}
 use Rattle.det_cbor.specs.OneReading.{IsItem}
 use Rattle.det_cbor.specs.Position.{Position, Takes, IsRefusal}
 use Rattle.det_cbor.specs.declared.reason.CborRefusal.{CborRefusal}
-use Rattle.det_cbor.proofs.Results.{chosen, bind_ok, bind_err, ok_pair, same_err}
-use Rattle.det_cbor.proofs.Arguments.{IsBytes}
+use Rattle.det_cbor.specs.ResultLaws.{chosen, bind_ok, bind_err, ok_pair, same_err}
+use Rattle.det_cbor.specs.ArgumentLaws.{IsBytes}
 use Rattle.det_cbor.proofs.ItemTakes.{item_takes}
 use Rattle.det_cbor.proofs.ItemAgain.{item_again}
 use Rattle.det_cbor.proofs.ItemFaults.{item_fault}
@@ -20,7 +20,7 @@ use Rattle.suit_params.specs.declared.refusal.Refusal.{Refusal}
 use Rattle.suit_params.specs.declared.refusal.Why.TheVariants.{Cbor, Trailing}
 use Rattle.suit_params.specs.Refusing.{refused, Refuses, Says, RefusesNext, FaultyNext, RefusedNext, TakesNext, RefusesWhole, FaultyItem, BytesAfter, RefusedItem, SaysWhole}
 use Rattle.suit_params.specs.Reading.{of_cbor, inside, inner_from, resting, found_item, item_from, next_judged, whole_judged}
-use Rattle.suit_params.proofs.ItemHeads.{after}
+use Rattle.suit_params.specs.HeadLaws.{after}
 
 abbrev at_place : List ℕ → ℕ → Position
 at_place left place = record { left = left; place = place }

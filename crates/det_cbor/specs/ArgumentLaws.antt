@@ -1,5 +1,5 @@
 -- An argument that is read is spelled so, and what is spelled so is read.
-use Rattle.std.proofs.Common.{◌≡◌, ℕ, suc, ◌+◌, ◌*◌, ◌^◌, ◌<◌, ◌≤◌, true, false, ltb, eqb, List, [], ◌∷◌, ◌++◌, length, get_or, take, drop, Ok, refl, sym, ap, subst, arith, inl, inr}
+use Rattle.std.proofs.Common.{◌≡◌, ℕ, zero, suc, ◌+◌, ◌*◌, ◌^◌, ◌<◌, ◌≤◌, true, false, ltb, eqb, List, [], ◌∷◌, ◌++◌, length, get_or, take, drop, Ok, refl, sym, ap, subst, arith, inl, inr}
 use Rattle.std.specs.List.{AllByRecursion}
 use Rattle.std.specs.Int.{Width, w8, w16, w32, w64, byte_len, from_be_bytes, to_be_bytes}
 use Rattle.std.proofs.lemmas.Bool.{cases_lt, ltb-false, ltb-true, eqb-true, le-ltb, lt-ltb}
@@ -8,7 +8,7 @@ use Rattle.std.proofs.lemmas.Nat.{be_bytes_2, be_bytes_4, be_bytes_8, from_be_by
 use Rattle.det_cbor.specs.DataItem.{IsByte}
 use Rattle.det_cbor.specs.Heads.{head_bytes}
 use Rattle.det_cbor.specs.HeadReading.{number_at, argument_at}
-use Rattle.det_cbor.proofs.Results.{chosen, ok_pair}
+use Rattle.det_cbor.specs.ResultLaws.{chosen, ok_pair}
 
 abbrev pub IsBytes : List ℕ → Type 0
 IsBytes bytes = (i : ℕ) → get_or bytes i 0 < 256
@@ -30,6 +30,11 @@ IsBytes-rest front rest h = subst IsBytes (drop_at front rest (length front) ref
 pub all_bytes : (bytes : List ℕ) → IsBytes bytes → AllByRecursion IsByte bytes
 all_bytes [] fits = tt
 all_bytes (b ∷ bytes) fits = (fits 0, all_bytes bytes (λ i. fits (suc i)))
+
+pub bytes_of_all : (bytes : List ℕ) → AllByRecursion IsByte bytes → IsBytes bytes
+bytes_of_all [] all i = omega arith
+bytes_of_all (b ∷ bytes) all zero = all.0
+bytes_of_all (b ∷ bytes) all (suc i) = bytes_of_all bytes all.1 i
 
 -- ---- numbers
 

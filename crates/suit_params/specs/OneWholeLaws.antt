@@ -1,13 +1,13 @@
 -- A form whose items are judged both ways gives all bytes one answer.
 use Rattle.std.proofs.Common.{◌≡◌, ◌⊎◌, ℕ, Result, Ok, Err, refl, sym, ◌∙◌, inl, inr}
 use Rattle.det_cbor.specs.DataItem.{DataItem}
-use Rattle.det_cbor.proofs.OneReadingLaw.{bytes_of_all}
-use Rattle.det_cbor.proofs.Results.{same_ok, same_err, not_both}
+use Rattle.det_cbor.specs.ArgumentLaws.{bytes_of_all}
+use Rattle.det_cbor.specs.ResultLaws.{same_ok, same_err, not_both}
 use Rattle.suit_params.specs.declared.refusal.Refusal.{Refusal}
 use Rattle.suit_params.specs.Refusing.{Refuses, Says}
 use Rattle.suit_params.specs.Reading.{whole_judged}
 use Rattle.suit_params.specs.OneWhole.{SaysJustOne, RefusesJustOnce, HasOneAnswer}
-use Rattle.suit_params.proofs.Judgements.{Judges, whole_ok, whole_err, whole_read, whole_refused}
+use Rattle.suit_params.specs.JudgingLaws.{Judges, whole_ok, whole_err, whole_read, whole_refused}
 
 pub one_answer : {A : Type 0} (judge : ℕ → DataItem → Result A Refusal) (says : Says A) (form : Refuses) → Judges judge says form → HasOneAnswer says form
 one_answer {A} judge says form law place bytes all = by_answer (whole_judged judge place bytes) refl

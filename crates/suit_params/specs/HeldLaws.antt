@@ -6,16 +6,16 @@ use Rattle.det_cbor.specs.Heads.{head_bytes}
 use Rattle.det_cbor.specs.DataItem.{DataItem, ByteString, spell, IsValidWithin}
 use Rattle.det_cbor.specs.HeadReading.{◌>>=◌}
 use Rattle.det_cbor.specs.Position.{Position}
-use Rattle.det_cbor.proofs.Results.{bind_ok, bind_err, same_ok, same_err}
-use Rattle.det_cbor.proofs.Arguments.{IsBytes}
-use Rattle.det_cbor.proofs.OneReadingLaw.{bytes_of_all}
+use Rattle.det_cbor.specs.ResultLaws.{bind_ok, bind_err, same_ok, same_err}
+use Rattle.det_cbor.specs.ArgumentLaws.{IsBytes, bytes_of_all}
 use Rattle.suit_params.specs.declared.refusal.Refusal.{Refusal}
 use Rattle.suit_params.specs.declared.refusal.Why.TheVariants.{Shape, Trailing}
 use Rattle.suit_params.specs.Refusing.{refused, Refuses, Says, IsByteString, content_place, SaysWhole, RefusesWhole, RefusesHeld, NoString, BadContent, SaysHeld, RefusesFirst, Here, Later}
 use Rattle.suit_params.specs.Judging.{judge_string, judge_held, judge_each}
 use Rattle.suit_params.specs.Reading.{inside, item_from, only_from, string_from, content_after, content_from, whole_judged}
-use Rattle.suit_params.proofs.ItemHeads.{item_kind, item_value, item_head_read, bytes_again, after}
-use Rattle.suit_params.proofs.Judgements.{Judges, item_ok, whole_ok, whole_err, whole_read, whole_refused}
+use Rattle.det_cbor.specs.ItemHeads.{item_kind, item_value}
+use Rattle.suit_params.specs.HeadLaws.{item_head_read, bytes_again, after}
+use Rattle.suit_params.specs.JudgingLaws.{Judges, item_ok, whole_ok, whole_err, whole_read, whole_refused}
 
 -- ---- an item, as far as it is a byte string
 
