@@ -5,8 +5,9 @@ ghost use Rattle.serde_json.specs.View.{view};
 ghost use Rattle.json_fields.specs.Answers.{Gives};
 ghost use Rattle.json_fields.specs.Arrays.{array_of};
 
-use crate::values::flawed;
+use crate::values::{flawed, hex};
 use crate::{FlawKind, JsonFault, at_index};
+use det_cbor::Bytes;
 use serde_json::Value;
 use std::alloc::Global;
 
@@ -39,4 +40,20 @@ pub fn array<F: Form>(alloc: Global, value: &Value, form: &F) -> Result<Vec<F::I
         }
     }
     Ok(items)
+}
+
+/// Bytes, each as `hex` reads them.
+#[derive(Drop)]
+pub struct HexBytes;
+
+impl Form for HexBytes {
+    type Item = Bytes;
+
+    ghost use Rattle.json_fields.specs.Values.{hex_of};
+
+    ghost reads = { λ _ d. hex_of d };
+
+    fn read(&self, alloc: Global, value: &Value) -> Result<Bytes, JsonFault> {
+        hex(alloc, value)
+    }
 }

@@ -7,7 +7,7 @@ mod objects;
 mod pointer;
 mod values;
 
-pub use arrays::{Form, array};
+pub use arrays::{Form, HexBytes, array};
 pub use flaw::{Flaw, FlawKind, JsonFault};
 pub use objects::{Draft, object, required};
 pub use pointer::{at_index, at_key};
