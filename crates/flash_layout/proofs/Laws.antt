@@ -13,9 +13,9 @@ use Rattle.det_cbor.specs.DataItem.{spell_items}
 use Rattle.det_cbor.specs.Position.{Position}
 use Rattle.det_cbor.specs.declared.head.HeadKind.{HeadKind}
 use Rattle.det_cbor.specs.declared.head.HeadKind.TheVariants as kinds
-use Rattle.det_cbor.proofs.Arguments.{head_length}
+use Rattle.det_cbor.specs.ArgumentLaws.{head_length}
 use Rattle.det_cbor.proofs.Heads.{plain_again}
-use Rattle.suit_params.specs.Reading.{resting, head_from, bytes_from, content_from}
+use Rattle.suit_params.specs.Reading.{array_from, resting, head_from, bytes_from, content_from}
 use Rattle.flash_layout.specs.declared.frame.Frame.{Frame}
 use Rattle.flash_layout.specs.declared.layout.Entry.{Entry}
 use Rattle.flash_layout.specs.declared.layout.Memory.{Memory}
@@ -27,7 +27,7 @@ use Rattle.flash_layout.specs.Layouts.{IsUuid, IsTypedEntry, AreTyped, IsEntry, 
 use Rattle.suit_params.specs.declared.refusal.Refusal.{Refusal}
 use Rattle.flash_layout.specs.ConfigLaws.{OneConfig}
 use Rattle.flash_layout.specs.ConfigPage.{IsConfigPage, memory_byte, optional_id, number_bytes, entry_bytes, entries_bytes, config_page}
-use Rattle.flash_layout.specs.PageReading.{array_from, parts_from, identifier_at, memory_at, id_at, number_at, entry_at, entries_at, key_at, page_at}
+use Rattle.flash_layout.specs.PageReading.{parts_from, identifier_at, memory_at, id_at, number_at, entry_at, entries_at, key_at, page_at}
 use Rattle.flash_layout.proofs.Spellings.{spelled_parts}
 
 -- ---- identifiers

@@ -71,7 +71,8 @@ no_starts = record { count = 1; places = 0 ∷ 0 ∷ [] }
 abbrev pub one_or_two : List ℕ → Result Starts Flaw
 one_or_two starts =
     if length starts == 1 then Ok (record { count = 1; places = slice_index starts 0 ∷ 0 ∷ [] })
-    else if length starts == 2 then Ok (record { count = 2; places = slice_index starts 0 ∷ slice_index starts 1 ∷ [] })
+    else if length starts == 2
+    then Ok (record { count = 2; places = slice_index starts 0 ∷ slice_index starts 1 ∷ [] })
     else flawed Field
 
 abbrev pub flash_starts : Data → Result Starts Flaw
@@ -98,12 +99,14 @@ no_component said = record {
 
 abbrev pub takes_known : ComponentFields → Option ComponentName → Data → Result ComponentFields Flaw
 takes_known t None d = flawed Field
-takes_known t (Some names.Capacity) d = capacity_of t.memory d >>= λ n. Ok (record t { capacity = Some n })
+takes_known t (Some names.Capacity) d =
+    capacity_of t.memory d >>= λ n. Ok (record t { capacity = Some n })
 takes_known t (Some names.Class) d = uuid_of d >>= λ id. Ok (record t { class = Some id })
 takes_known t (Some names.Device) d = uuid_of d >>= λ id. Ok (record t { device = Some id })
 takes_known t (Some names.Id) d = id_of d >>= λ id. Ok (record t { id = Some id })
 takes_known t (Some names.Kind) d = found_or Field t.memory >>= λ said. Ok t
-takes_known t (Some names.Slots) d = starts_of t.memory d >>= λ starts. Ok (record t { slots = Some starts })
+takes_known t (Some names.Slots) d =
+    starts_of t.memory d >>= λ starts. Ok (record t { slots = Some starts })
 takes_known t (Some names.Vendor) d = uuid_of d >>= λ id. Ok (record t { vendor = Some id })
 
 abbrev pub takes_component : Takes ComponentFields

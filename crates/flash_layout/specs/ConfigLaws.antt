@@ -9,9 +9,14 @@ use Rattle.flash_layout.specs.Configs.{Config, ConfigOf}
 
 -- at most one layout and key
 abbrev pub OneConfig : Type 0
-OneConfig = (frame : Frame) (size : ℕ) (bytes : List ℕ) (layout : List Entry) (key : Key) (others : List Entry) (other : Key)
-    → AreTyped layout key → AreTyped others other → IsConfigPage frame size bytes layout key → IsConfigPage frame size bytes others other → (layout ≡ others) × (key ≡ other)
+OneConfig =
+    (frame : Frame) (size : ℕ) (bytes : List ℕ) (layout : List Entry) (key : Key)
+    (others : List Entry) (other : Key)
+    → AreTyped layout key → AreTyped others other → IsConfigPage frame size bytes layout key
+    → IsConfigPage frame size bytes others other → (layout ≡ others) × (key ≡ other)
 
 -- the head of an image says one configuration at most, on a flash of a size
 abbrev pub OneAnswer : Type 0
-OneAnswer = (frame : Frame) (size : ℕ) (head : List ℕ) (a b : Config) → ConfigOf frame size head a → ConfigOf frame size head b → a ≡ b
+OneAnswer =
+    (frame : Frame) (size : ℕ) (head : List ℕ) (a b : Config) → ConfigOf frame size head a
+    → ConfigOf frame size head b → a ≡ b

@@ -34,11 +34,15 @@ unfoldable pub number_bytes : ℕ → List ℕ
 number_bytes n = to_be_bytes w64 n
 
 abbrev pub numbers_field : Entry → List ℕ
-numbers_field e = number_bytes e.capacity ++ (number_bytes (slice_index e.starts 0) ++ number_bytes (slice_index e.starts 1))
+numbers_field e =
+    number_bytes e.capacity
+    ++ (number_bytes (slice_index e.starts 0) ++ number_bytes (slice_index e.starts 1))
 
 -- the bytes of a component
 unfoldable pub entry_bytes : Entry → List ℕ
-entry_bytes e = memory_byte e.memory ∷ e.slots ∷ (identifier_field e.identifier ++ (ids_field e ++ numbers_field e))
+entry_bytes e =
+    memory_byte e.memory ∷ e.slots
+    ∷ (identifier_field e.identifier ++ (ids_field e ++ numbers_field e))
 
 abbrev pub entries_bytes : List Entry → List ℕ
 entries_bytes [] = []
@@ -50,10 +54,12 @@ page_front frame layout key = OPEN ∷ frame.version ∷ key.length ∷ length l
 
 -- the bytes of the page that are read
 unfoldable pub config_page : Frame → List Entry → Key → List ℕ
-config_page frame layout key = page_front frame layout key ++ padded (entries_size frame) (entries_bytes layout)
+config_page frame layout key =
+    page_front frame layout key ++ padded (entries_size frame) (entries_bytes layout)
 
 -- the bytes are the page of a layout and a key that the rules allow on a flash of this size
-pub record IsConfigPage (frame : Frame) (size : ℕ) (bytes : List ℕ) (layout : List Entry) (key : Key) : Type 0 where
+pub record IsConfigPage (frame : Frame) (size : ℕ) (bytes : List ℕ) (layout : List Entry)
+    (key : Key) : Type 0 where
   pub allowed : IsLayout frame size layout
   pub sound : IsKey key
   pub is : bytes ≡ config_page frame layout key

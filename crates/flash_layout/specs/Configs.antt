@@ -21,7 +21,8 @@ pub data Config : Type 0 where
 abbrev pub IsBlank : Frame → List ℕ → Type 0
 IsBlank frame head = (length head < frame.size) ⊎ (IsOpen head 0 → ⊥)
 
-pub record IsConfigured (frame : Frame) (size : ℕ) (head : List ℕ) (layout : List Entry) (key : Key) : Type 0 where
+pub record IsConfigured (frame : Frame) (size : ℕ) (head : List ℕ) (layout : List Entry) (key : Key)
+    : Type 0 where
   pub whole : frame.size ≤ length head
   pub typed : AreTyped layout key
   pub page : IsConfigPage frame size (config_page_of frame head) layout key
@@ -30,7 +31,8 @@ pub record IsConfigured (frame : Frame) (size : ℕ) (head : List ℕ) (layout :
 pub record IsBad (frame : Frame) (size : ℕ) (head : List ℕ) : Type 0 where
   pub whole : frame.size ≤ length head
   pub gate : IsOpen head 0
-  pub none : (layout : List Entry) (key : Key) → AreTyped layout key → IsConfigPage frame size (config_page_of frame head) layout key → ⊥
+  pub none : (layout : List Entry) (key : Key) → AreTyped layout key
+      → IsConfigPage frame size (config_page_of frame head) layout key → ⊥
 
 abbrev pub ConfigOf : Frame → ℕ → List ℕ → Config → Type 0
 ConfigOf frame size head Blank = IsBlank frame head
@@ -57,7 +59,8 @@ LoadsAllowed frame size _ = Unit {0}
 
 -- as the head says, unless there was a fault or no memory
 abbrev pub LoadsExactly : Frame → ℕ → List ℕ → Loaded → Type 0
-LoadsExactly frame size head (loaded.Config layout key) = ConfigOf frame size head (Configured layout key)
+LoadsExactly frame size head (loaded.Config layout key) =
+    ConfigOf frame size head (Configured layout key)
 LoadsExactly frame size head loaded.Blank = ConfigOf frame size head Blank
 LoadsExactly frame size head loaded.BadConfig = ConfigOf frame size head Bad
 LoadsExactly frame size head loaded.FlashFault = Unit {0}

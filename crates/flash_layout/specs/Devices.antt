@@ -20,9 +20,12 @@ components_of d = array_of component_of d >>= λ entries. some_components entrie
 
 abbrev pub takes_device : Takes DeviceFields
 takes_device t key d =
-    if bytes_eq key (codes "components") then (components_of d >>= λ entries. Ok (record t { components = Some entries }))
+    if bytes_eq key (codes "components")
+    then (components_of d >>= λ entries. Ok (record t { components = Some entries }))
     else flawed Field
 
 -- the components that a value of JSON says, or the first flaw of its fields
 abbrev pub described_layout : Data → Result (List Entry) Flaw
-described_layout d = object_of takes_device (record { components = None }) d >>= λ t. required (codes "components") t.components
+described_layout d =
+    object_of takes_device (record { components = None }) d
+    >>= λ t. required (codes "components") t.components

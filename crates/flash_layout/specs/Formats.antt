@@ -16,7 +16,8 @@ use Rattle.flash_layout.specs.Layouts.{slot_starts}
 use Rattle.flash_layout.specs.Slots.{AreEmpty}
 
 -- the layout and the key, no record, and each slot empty
-pub record IsFormatted (frame : Frame) (size : ℕ) (layout : List Entry) (key : Key) (image : List ℕ) : Type 0 where
+pub record IsFormatted (frame : Frame) (size : ℕ) (layout : List Entry) (key : Key) (image : List ℕ)
+    : Type 0 where
   pub config : ConfigOf frame size (head_of frame image) (Configured layout key)
   pub no_record : HasNoRecord frame (head_of frame image)
   pub empty : AreEmpty layout image
@@ -43,7 +44,9 @@ OutsideAllLengths layout i = All (λ e. OutsideLengths (slot_starts e) i) layout
 
 -- all but those that formatting writes: the page that is read, the record gates, and the lengths of the slots
 abbrev pub OutsideFormat : Frame → List Entry → ℕ → Type 0
-OutsideFormat frame layout i = Outside frame.base (page_bytes frame) i × OutsideRecordGates frame i × OutsideAllLengths layout i
+OutsideFormat frame layout i =
+    Outside frame.base (page_bytes frame) i × OutsideRecordGates frame i
+    × OutsideAllLengths layout i
 
 -- ---- by the answer
 
@@ -65,7 +68,9 @@ IfNotBlank formatted.FlashFault Opened Same = Unit {0}
 
 -- both record gates are closed
 abbrev pub AreClosed : Frame → List ℕ → Type 0
-AreClosed frame image = (slice_index image (record_place frame 0) ≡ CLOSED) × (slice_index image (record_place frame 1) ≡ CLOSED)
+AreClosed frame image =
+    (slice_index image (record_place frame 0) ≡ CLOSED)
+    × (slice_index image (record_place frame 1) ≡ CLOSED)
 
 -- the length of the slot that starts there is 0
 abbrev pub IsClearAt : List ℕ → ℕ → Type 0

@@ -31,7 +31,8 @@ abbrev pub record_place : Frame → ℕ → ℕ
 record_place frame which = frame.base + record_from frame which
 
 abbrev pub record_page_of : Frame → List ℕ → ℕ → List ℕ
-record_page_of frame head which = slice_range head (record_from frame which) (record_from frame which + frame.record_size)
+record_page_of frame head which =
+    slice_range head (record_from frame which) (record_from frame which + frame.record_size)
 
 -- its first byte is its gate
 abbrev pub HasOpenRecord : Frame → List ℕ → ℕ → Type 0

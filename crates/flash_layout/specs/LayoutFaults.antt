@@ -36,9 +36,12 @@ pub record AreHeld (size : ℕ) (layout : List Entry) : Type 0 where
 -- what is wrong with the components, in this order
 pub data RefusesEntries (size : ℕ) (layout : List Entry) : LayoutFault → Type 0 where
   Many : 8 < length layout → RefusesEntries size layout (TooMany (length layout))
-  Alike : (i j : ℕ) → length layout ≤ 8 → IsFirstAlike layout i j → RefusesEntries size layout (TwoAlike i j)
-  Shared : (i j : ℕ) → length layout ≤ 8 → HaveNoneAlike layout → IsFirstOverlap layout i j → RefusesEntries size layout (Overlap i j)
-  Beyond : (i : ℕ) → length layout ≤ 8 → HaveNoneAlike layout → HaveNoOverlap layout → IsFirstOutside size layout i → RefusesEntries size layout (Outside i)
+  Alike : (i j : ℕ) → length layout ≤ 8 → IsFirstAlike layout i j
+      → RefusesEntries size layout (TwoAlike i j)
+  Shared : (i j : ℕ) → length layout ≤ 8 → HaveNoneAlike layout → IsFirstOverlap layout i j
+      → RefusesEntries size layout (Overlap i j)
+  Beyond : (i : ℕ) → length layout ≤ 8 → HaveNoneAlike layout → HaveNoOverlap layout
+      → IsFirstOutside size layout i → RefusesEntries size layout (Outside i)
 
 -- the value describes this layout of a flash of a size
 pub record IsLayoutOf (size : ℕ) (d : Data) (layout : List Entry) : Type 0 where
@@ -48,7 +51,8 @@ pub record IsLayoutOf (size : ℕ) (d : Data) (layout : List Entry) : Type 0 whe
 -- what is wrong first
 pub data RefusesLayout (size : ℕ) (d : Data) : LayoutFault → Type 0 where
   BadValue : (f : Flaw) → described_layout d ≡ Err f → RefusesLayout size d (fault_of f)
-  BadEntries : (layout : List Entry) (fault : LayoutFault) → described_layout d ≡ Ok layout → RefusesEntries size layout fault → RefusesLayout size d fault
+  BadEntries : (layout : List Entry) (fault : LayoutFault) → described_layout d ≡ Ok layout
+      → RefusesEntries size layout fault → RefusesLayout size d fault
 
 -- a fault by what is wrong, or for want of memory
 abbrev pub IsFaultOf : ℕ → Data → LayoutFault → Type 0

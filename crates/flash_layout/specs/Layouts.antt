@@ -41,13 +41,18 @@ AreAllClear ps m qs n = All (λ p. IsClearOf p m qs n) ps
 
 -- working memory has one slot, which starts nowhere
 abbrev pub IsInRam : Entry → Type 0
-IsInRam e = (e.slots ≡ 1) × (slice_index e.starts 0 ≡ 0) × (slice_index e.starts 1 ≡ 0) × (e.capacity ≤ 1048576)
+IsInRam e =
+    (e.slots ≡ 1) × (slice_index e.starts 0 ≡ 0) × (slice_index e.starts 1 ≡ 0)
+    × (e.capacity ≤ 1048576)
 
 -- one or two slots, apart, within the flash of this size
 abbrev pub IsInFlash : ℕ → Entry → Type 0
 IsInFlash size e =
     (1 ≤ e.slots) × (e.slots ≤ 2) × (e.slots ≡ 1 → slice_index e.starts 1 ≡ 0)
-    × (e.slots ≡ 2 → AreClear (slice_index e.starts 0) (slot_size e) (slice_index e.starts 1) (slot_size e))
+    ×
+    (e.slots ≡ 2
+    → AreClear (slice_index e.starts 0) (slot_size e) (slice_index e.starts 1)
+    (slot_size e))
     × All (λ p. IsBehindHead size p (slot_size e)) (slot_starts e)
 
 abbrev pub IsOfMemory : ℕ → Entry → Memory → Type 0

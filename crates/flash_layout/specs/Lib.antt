@@ -15,3 +15,4 @@ pub mod Devices
 pub mod SlotLaws
 pub mod Overlaps
 pub mod LayoutFaults
+pub mod FaultCounts

@@ -9,19 +9,29 @@ use Rattle.flash_layout.specs.Configs.{ConfigOf, Configured, LoadCounts, LoadsAl
 
 pub record LoadLaws : Type 0 where
   -- what is loaded is a layout and a key that the rules allow on a flash of the size, which has room for the head
-  pub allowed : (frame : Frame) (size : ℕ) (layout : List Entry) (key : Key) → LoadsAllowed frame size (loaded.Config layout key)
+  pub allowed : (frame : Frame) (size : ℕ) (layout : List Entry) (key : Key)
+      → LoadsAllowed frame size (loaded.Config layout key)
       → IsLayout frame size layout × IsKey key × AreTyped layout key × (frame.size ≤ size)
   -- and so is what a head says
-  pub said : (frame : Frame) (size : ℕ) (head : List ℕ) (layout : List Entry) (key : Key) → length head ≤ size → ConfigOf frame size head (Configured layout key)
+  pub said : (frame : Frame) (size : ℕ) (head : List ℕ) (layout : List Entry) (key : Key)
+      → length head ≤ size → ConfigOf frame size head (Configured layout key)
       → LoadsAllowed frame size (loaded.Config layout key)
   -- two loads of one head agree
-  pub one : (frame : Frame) (size : ℕ) (head : List ℕ) (layout others : List Entry) (key other : Key)
-      → LoadsExactly frame size head (loaded.Config layout key) → LoadsExactly frame size head (loaded.Config others other) → (layout ≡ others) × (key ≡ other)
-  pub not_blank : (frame : Frame) (size : ℕ) (head : List ℕ) (layout : List Entry) (key : Key) → LoadsExactly frame size head (loaded.Config layout key) → LoadsExactly frame size head loaded.Blank → ⊥
-  pub not_bad : (frame : Frame) (size : ℕ) (head : List ℕ) (layout : List Entry) (key : Key) → LoadsExactly frame size head (loaded.Config layout key) → LoadsExactly frame size head loaded.BadConfig → ⊥
+  pub one :
+      (frame : Frame) (size : ℕ) (head : List ℕ) (layout others : List Entry) (key other : Key)
+      → LoadsExactly frame size head (loaded.Config layout key)
+      → LoadsExactly frame size head (loaded.Config others other)
+      → (layout ≡ others) × (key ≡ other)
+  pub not_blank : (frame : Frame) (size : ℕ) (head : List ℕ) (layout : List Entry) (key : Key)
+      → LoadsExactly frame size head (loaded.Config layout key)
+      → LoadsExactly frame size head loaded.Blank → ⊥
+  pub not_bad : (frame : Frame) (size : ℕ) (head : List ℕ) (layout : List Entry) (key : Key)
+      → LoadsExactly frame size head (loaded.Config layout key)
+      → LoadsExactly frame size head loaded.BadConfig → ⊥
   -- a fault alone raises the count
   pub failed : (before : ℕ) → before < 2 ^ 64 - 1 → LoadCounts loaded.FlashFault before before → ⊥
-  pub config : (layout : List Entry) (key : Key) (before now : ℕ) → LoadCounts (loaded.Config layout key) before now → now ≡ before
+  pub config : (layout : List Entry) (key : Key) (before now : ℕ)
+      → LoadCounts (loaded.Config layout key) before now → now ≡ before
   pub blank : (before now : ℕ) → LoadCounts loaded.Blank before now → now ≡ before
   pub bad : (before now : ℕ) → LoadCounts loaded.BadConfig before now → now ≡ before
   pub starved : (before now : ℕ) → LoadCounts loaded.NoMemory before now → now ≡ before

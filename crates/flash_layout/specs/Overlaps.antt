@@ -6,10 +6,12 @@ use Rattle.flash_layout.specs.Layouts.{slot_starts, slot_size, AreClear, AreAllC
 -- ---- identifiers
 
 abbrev pub HaveOneId : List Entry → ℕ → ℕ → Type 0
-HaveOneId layout i j = (d : Entry) → (slice_index_or layout i d).identifier ≡ (slice_index_or layout j d).identifier
+HaveOneId layout i j =
+    (d : Entry) → (slice_index_or layout i d).identifier ≡ (slice_index_or layout j d).identifier
 
 abbrev pub HaveOtherIds : List Entry → ℕ → ℕ → Type 0
-HaveOtherIds layout i j = (d : Entry) → (slice_index_or layout i d).identifier ≢ (slice_index_or layout j d).identifier
+HaveOtherIds layout i j =
+    (d : Entry) → (slice_index_or layout i d).identifier ≢ (slice_index_or layout j d).identifier
 
 -- none before the last one has its identifier
 abbrev pub HasNoLike : List Entry → ℕ → Type 0
@@ -34,7 +36,9 @@ HaveNoneAlike layout = (i j : ℕ) → i < j → j < length layout → HaveOther
 
 -- a component's two slots share no byte
 abbrev pub IsClearItself : Entry → Type 0
-IsClearItself e = e.slots ≡ 2 → AreClear (slice_index e.starts 0) (slot_size e) (slice_index e.starts 1) (slot_size e)
+IsClearItself e =
+    e.slots ≡ 2
+    → AreClear (slice_index e.starts 0) (slot_size e) (slice_index e.starts 1) (slot_size e)
 
 -- no slot of one shares a byte with a slot of the other
 abbrev pub AreClearSlots : Entry → Entry → Type 0
@@ -43,7 +47,8 @@ AreClearSlots a b = AreAllClear (slot_starts a) (slot_size a) (slot_starts b) (s
 -- the components of these numbers share no byte, which may be one component
 pub record ShareNone (layout : List Entry) (i j : ℕ) : Type 0 where
   pub itself : (d : Entry) → i ≡ j → IsClearItself (slice_index_or layout i d)
-  pub others : (d : Entry) → i ≢ j → AreClearSlots (slice_index_or layout i d) (slice_index_or layout j d)
+  pub others : (d : Entry) → i ≢ j
+      → AreClearSlots (slice_index_or layout i d) (slice_index_or layout j d)
 
 -- this is the first from the component on that shares a byte with it
 pub record IsFirstShared (layout : List Entry) (i j : ℕ) : Type 0 where

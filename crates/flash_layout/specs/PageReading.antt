@@ -4,12 +4,10 @@ use Rattle.std.specs.Prelude.{ℕ, zero, suc, ◌+◌, ◌==◌, nat_lt, if◌th
 use Rattle.std.specs.Int.{w64, from_be_bytes}
 use Rattle.det_cbor.specs.HeadReading.{◌>>=◌}
 use Rattle.det_cbor.specs.Position.{Position}
-use Rattle.det_cbor.specs.declared.head.HeadKind.{HeadKind}
-use Rattle.det_cbor.specs.declared.head.HeadKind.TheVariants as kinds
 use Rattle.suit_params.specs.declared.refusal.Refusal.{Refusal}
 use Rattle.suit_params.specs.declared.refusal.Why.TheVariants.{Shape}
 use Rattle.suit_params.specs.Refusing.{refused}
-use Rattle.suit_params.specs.Reading.{head_from, content_from}
+use Rattle.suit_params.specs.Reading.{array_from, content_from}
 use Rattle.flash_layout.specs.declared.frame.Frame.{Frame}
 use Rattle.flash_layout.specs.declared.frame.TheConstants.{ENTRY_SIZE, FRONT_SIZE}
 use Rattle.flash_layout.specs.declared.layout.Entry.{Entry}
@@ -19,14 +17,6 @@ use Rattle.flash_layout.specs.declared.key.Key.{Key}
 use Rattle.flash_layout.specs.Frames.{page_bytes}
 
 -- ---- identifiers
-
-abbrev pub parts_after : ℕ → ℕ → Position → HeadKind → Result (ℕ × Position) Refusal
-parts_after place n p kinds.Array = Ok (n, p)
-parts_after place n p _ = Err (refused place Shape)
-
--- an array's number of elements, and the position of the first
-unfoldable pub array_from : Position → Result (ℕ × Position) Refusal
-array_from p = head_from p >>= λ h. parts_after p.place h.0.value h.1 h.0.kind
 
 -- so many byte strings
 abbrev pub parts_from : ℕ → Position → Result (List (List ℕ)) Refusal
@@ -60,11 +50,17 @@ entry_of bytes id = record {
 }
 
 unfoldable pub entry_at : List ℕ → Result Entry Refusal
-entry_at bytes = if nat_lt 64 (slice_index bytes 2) then Err (refused 2 Shape) else (identifier_at (slice_range bytes 3 (3 + slice_index bytes 2)) >>= λ id. Ok (entry_of bytes id))
+entry_at bytes =
+    if nat_lt 64 (slice_index bytes 2) then Err (refused 2 Shape)
+    else
+    (identifier_at (slice_range bytes 3 (3 + slice_index bytes 2))
+    >>= λ id. Ok (entry_of bytes id))
 
 abbrev pub entries_at : ℕ → List ℕ → Result (List Entry) Refusal
 entries_at zero bytes = Ok []
-entries_at (suc n) bytes = entry_at (take ENTRY_SIZE bytes) >>= λ e. entries_at n (drop ENTRY_SIZE bytes) >>= λ rest. Ok (e ∷ rest)
+entries_at (suc n) bytes =
+    entry_at (take ENTRY_SIZE bytes) >>= λ e. entries_at n (drop ENTRY_SIZE bytes)
+    >>= λ rest. Ok (e ∷ rest)
 
 -- ---- the page
 
@@ -72,4 +68,8 @@ abbrev pub key_at : List ℕ → Key
 key_at page = record { bytes = slice_range page 4 FRONT_SIZE; length = slice_index page 2 }
 
 unfoldable pub page_at : Frame → List ℕ → Result (List Entry × Key) Refusal
-page_at frame page = if nat_lt frame.most (slice_index page 3) then Err (refused 3 Shape) else (entries_at (slice_index page 3) (slice_range page FRONT_SIZE (page_bytes frame)) >>= λ layout. Ok (layout, key_at page))
+page_at frame page =
+    if nat_lt frame.most (slice_index page 3) then Err (refused 3 Shape)
+    else
+    (entries_at (slice_index page 3) (slice_range page FRONT_SIZE (page_bytes frame))
+    >>= λ layout. Ok (layout, key_at page))

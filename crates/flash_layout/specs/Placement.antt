@@ -5,7 +5,8 @@ use Rattle.flash_layout.specs.declared.place.Places.{Places}
 
 -- the component of this identifier has that index in the layout
 abbrev pub HasPlace : List Entry → List (List ℕ) → ℕ → Type 0
-HasPlace layout id i = (i < length layout) × ((d : Entry) → (slice_index_or layout i d).identifier ≡ id)
+HasPlace layout id i =
+    (i < length layout) × ((d : Entry) → (slice_index_or layout i d).identifier ≡ id)
 
 abbrev pub IsUnknown : List Entry → List (List ℕ) → Type 0
 IsUnknown layout id = (i : ℕ) → HasPlace layout id i → ⊥
@@ -13,15 +14,21 @@ IsUnknown layout id = (i : ℕ) → HasPlace layout id i → ⊥
 -- each component has its place, and what is not needed is 0
 pub record ArePlaces (layout : List Entry) (ids : List (List (List ℕ))) (p : Places) : Type 0 where
   pub count : p.count ≡ length ids
-  pub each : (k : ℕ) (d : List (List ℕ)) → k < length ids → HasPlace layout (slice_index_or ids k d) (slice_index p.layout_index k)
+  pub each : (k : ℕ) (d : List (List ℕ)) → k < length ids
+      → HasPlace layout (slice_index_or ids k d) (slice_index p.layout_index k)
   pub rest : (k : ℕ) → length ids ≤ k → slice_index p.layout_index k ≡ 0
 
 -- components with other identifiers have other places
 abbrev pub HaveOtherPlaces : List (List (List ℕ)) → Places → Type 0
-HaveOtherPlaces ids p = (j k : ℕ) (d : List (List ℕ)) → j < k → k < length ids → slice_index_or ids j d ≢ slice_index_or ids k d → slice_index p.layout_index j ≢ slice_index p.layout_index k
+HaveOtherPlaces ids p =
+    (j k : ℕ) (d : List (List ℕ)) → j < k → k < length ids
+    → slice_index_or ids j d ≢ slice_index_or ids k d
+    → slice_index p.layout_index j ≢ slice_index p.layout_index k
 
 -- the layout lacks this component, and none before it
-pub record IsFirstUnknown (layout : List Entry) (ids : List (List (List ℕ))) (component : ℕ) : Type 0 where
+pub record IsFirstUnknown (layout : List Entry) (ids : List (List (List ℕ))) (component : ℕ)
+    : Type 0 where
   pub inside : component < length ids
   pub lacks : (d : List (List ℕ)) → IsUnknown layout (slice_index_or ids component d)
-  pub before : (k : ℕ) (d : List (List ℕ)) → k < component → (i : ℕ) × HasPlace layout (slice_index_or ids k d) i
+  pub before : (k : ℕ) (d : List (List ℕ)) → k < component
+      → (i : ℕ) × HasPlace layout (slice_index_or ids k d) i

@@ -27,7 +27,9 @@ stored_length bytes = from_be_bytes w64 (take LENGTH_SIZE bytes)
 
 -- The content: none where the length is above the capacity.
 unfoldable pub content_of : ℕ → List ℕ → List ℕ
-content_of capacity bytes = cond (nat_le (stored_length bytes) capacity) (take (stored_length bytes) (drop LENGTH_SIZE bytes)) []
+content_of capacity bytes =
+    cond (nat_le (stored_length bytes) capacity)
+    (take (stored_length bytes) (drop LENGTH_SIZE bytes)) []
 
 -- the content of a slot in an image
 abbrev pub slot_content : Slot → List ℕ → List ℕ
@@ -47,4 +49,5 @@ layout_slots layout = flat_map slots_of layout
 
 -- each slot is empty
 abbrev pub AreEmpty : List Entry → List ℕ → Type 0
-AreEmpty layout image = All (λ e. All (λ p. slot_content (slot_at e p) image ≡ []) (slot_starts e)) layout
+AreEmpty layout image =
+    All (λ e. All (λ p. slot_content (slot_at e p) image ≡ []) (slot_starts e)) layout

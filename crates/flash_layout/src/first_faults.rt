@@ -4,7 +4,7 @@ ghost use Rattle.std.specs.Prelude.{◌≤◌, ◌<◌, ◌↔◌, All, IsTrue, 
 ghost use Rattle.flash_layout.specs.Overlaps.{HasNoLike, IsFirstLike, IsFirstAlike, HaveNoneAlike, IsClearItself, ShareNone, SharesNone, IsFirstShared, IsFirstOverlap, HaveNoOverlap, IsFirstOutside, AreInside};
 
 use crate::Entry;
-use crate::rules::{alike, all_clear, clear, slots_of, starts_behind};
+use crate::rules::{all_clear, clear, slots_of, starts_behind};
 
 // The first component before another one that has its identifier.
 fn first_like(entries: &[Entry], last: usize) -> Option<usize>
@@ -12,7 +12,7 @@ fn first_like(entries: &[Entry], last: usize) -> Option<usize>
     ensures { MatchOption result (HasNoLike entries.now last) (IsFirstLike entries.now last) }
 {
     for i in 0..last {
-        if alike(&entries[i].identifier, &entries[last].identifier) {
+        if entries[i].identifier.is_same(&entries[last].identifier) {
             return Some(i);
         }
     }

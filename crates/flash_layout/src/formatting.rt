@@ -8,6 +8,9 @@ ghost use Rattle.suit_edge.specs.Gate.{IsOpen};
 ghost use Rattle.flash_layout.specs.Layouts.{IsKey, IsLayout};
 ghost use Rattle.flash_layout.specs.Formats.{AreAllClearAt, AreClosed, FormatCounts, HasLength, HaveLengths, IfFormatted, IfNotBlank, IsBlankOrFormatted, IsClearAt, IsFormatted, IsPrepared, KeepsZeros, OutsideAllLengths, OutsideFormat, OutsideLengths, OutsidePrepared, OutsideRecordGates};
 
+#[cfg(test)]
+mod tests;
+
 use crate::frame::{CONFIG_GATE, LENGTH_SIZE, VERSION_1, record_page};
 use crate::page_writing::write_page;
 use crate::rules::slots_of;
@@ -32,7 +35,8 @@ fn close_records<D: Disk>(disk: &mut D) -> Edge
     ensures size { D.extent disk.new ≡ D.extent disk.old }
     ensures counts { EdgeCounts result (D.faults disk.old) (D.faults disk.new) }
     ensures closed { IsTrue D.told → IfDone result (AreClosed VERSION_1 (D.flash disk.new).reads) }
-    ensures keeps { IsTrue D.told → Keeps (OutsideRecordGates VERSION_1) (D.flash disk.old) (D.flash disk.new) }
+    ensures keeps { IsTrue D.told
+        → Keeps (OutsideRecordGates VERSION_1) (D.flash disk.old) (D.flash disk.new) }
     ensures grows { IsTrue D.told → Grows (D.flash disk.old) (D.flash disk.new) }
 {
     match disk.write_at(record_page(0), &[CLOSED]) {
@@ -50,9 +54,12 @@ fn empty_slots<D: Disk>(disk: &mut D, starts: &[u64]) -> Edge
     requires { All (HasLength (D.extent disk.old)) starts.now }
     ensures size { D.extent disk.new ≡ D.extent disk.old }
     ensures counts { EdgeCounts result (D.faults disk.old) (D.faults disk.new) }
-    ensures clear { IsTrue D.told → IfDone result (All (IsClearAt (D.flash disk.new).reads) starts.now) }
-    ensures zeros { IsTrue D.told → IfDone result (KeepsZeros (D.flash disk.old).reads (D.flash disk.new).reads) }
-    ensures keeps { IsTrue D.told → Keeps (OutsideLengths starts.now) (D.flash disk.old) (D.flash disk.new) }
+    ensures clear { IsTrue D.told
+        → IfDone result (All (IsClearAt (D.flash disk.new).reads) starts.now) }
+    ensures zeros { IsTrue D.told
+        → IfDone result (KeepsZeros (D.flash disk.old).reads (D.flash disk.new).reads) }
+    ensures keeps { IsTrue D.told
+        → Keeps (OutsideLengths starts.now) (D.flash disk.old) (D.flash disk.new) }
     ensures grows { IsTrue D.told → Grows (D.flash disk.old) (D.flash disk.new) }
 {
     for start in starts {
@@ -69,9 +76,12 @@ fn empty_each<D: Disk>(disk: &mut D, entries: &[Entry]) -> Edge
     requires { All (HaveLengths (D.extent disk.old)) entries.now }
     ensures size { D.extent disk.new ≡ D.extent disk.old }
     ensures counts { EdgeCounts result (D.faults disk.old) (D.faults disk.new) }
-    ensures clear { IsTrue D.told → IfDone result (AreAllClearAt entries.now (D.flash disk.new).reads) }
-    ensures zeros { IsTrue D.told → IfDone result (KeepsZeros (D.flash disk.old).reads (D.flash disk.new).reads) }
-    ensures keeps { IsTrue D.told → Keeps (OutsideAllLengths entries.now) (D.flash disk.old) (D.flash disk.new) }
+    ensures clear { IsTrue D.told
+        → IfDone result (AreAllClearAt entries.now (D.flash disk.new).reads) }
+    ensures zeros { IsTrue D.told
+        → IfDone result (KeepsZeros (D.flash disk.old).reads (D.flash disk.new).reads) }
+    ensures keeps { IsTrue D.told
+        → Keeps (OutsideAllLengths entries.now) (D.flash disk.old) (D.flash disk.new) }
     ensures grows { IsTrue D.told → Grows (D.flash disk.old) (D.flash disk.new) }
 {
     for entry in entries {
@@ -89,8 +99,10 @@ fn prepare<D: Disk>(disk: &mut D, layout: &Layout) -> Edge
     requires layout { IsLayout VERSION_1 (D.extent disk.old) layout.now }
     ensures size { D.extent disk.new ≡ D.extent disk.old }
     ensures counts { EdgeCounts result (D.faults disk.old) (D.faults disk.new) }
-    ensures prepared { IsTrue D.told → IfDone result (IsPrepared VERSION_1 layout.now (D.flash disk.new).reads) }
-    ensures keeps { IsTrue D.told → Keeps (OutsidePrepared VERSION_1 layout.now) (D.flash disk.old) (D.flash disk.new) }
+    ensures prepared { IsTrue D.told
+        → IfDone result (IsPrepared VERSION_1 layout.now (D.flash disk.new).reads) }
+    ensures keeps { IsTrue D.told
+        → Keeps (OutsidePrepared VERSION_1 layout.now) (D.flash disk.old) (D.flash disk.new) }
     ensures grows { IsTrue D.told → Grows (D.flash disk.old) (D.flash disk.new) }
 {
     match close_records(disk) {
@@ -111,11 +123,20 @@ pub fn format<D: Disk>(disk: &mut D, layout: &Layout, key: &Key) -> Formatted
     requires key { IsKey key.now }
     ensures size { D.extent disk.new ≡ D.extent disk.old }
     ensures counts { FormatCounts result (D.faults disk.old) (D.faults disk.new) }
-    ensures not_blank { IsTrue D.told → IfNotBlank result (IsOpen (D.flash disk.old).reads CONFIG_GATE) (IsSame (D.flash disk.old) (D.flash disk.new)) }
-    ensures formatted { IsTrue D.told → IfFormatted result (IsFormatted VERSION_1 (D.extent disk.old) layout.now key.now (D.flash disk.new).reads) }
+    ensures not_blank { IsTrue D.told
+        → IfNotBlank result (IsOpen (D.flash disk.old).reads CONFIG_GATE)
+        (IsSame (D.flash disk.old) (D.flash disk.new)) }
+    ensures formatted { IsTrue D.told
+        → IfFormatted result
+        (IsFormatted VERSION_1 (D.extent disk.old) layout.now key.now
+        (D.flash disk.new).reads) }
     ensures settled { IsTrue D.told → IfFormatted result (IsSettled (D.flash disk.new)) }
-    ensures any_moment { IsTrue D.told → Passes (D.flash disk.old) (D.flash disk.new) (IsBlankOrFormatted VERSION_1 (D.extent disk.old) layout.now key.now (D.flash disk.old)) }
-    ensures keeps { IsTrue D.told → Keeps (OutsideFormat VERSION_1 layout.now) (D.flash disk.old) (D.flash disk.new) }
+    ensures any_moment { IsTrue D.told
+        → Passes (D.flash disk.old) (D.flash disk.new)
+        (IsBlankOrFormatted VERSION_1 (D.extent disk.old) layout.now key.now
+        (D.flash disk.old)) }
+    ensures keeps { IsTrue D.told
+        → Keeps (OutsideFormat VERSION_1 layout.now) (D.flash disk.old) (D.flash disk.new) }
     ensures grows { IsTrue D.told → Grows (D.flash disk.old) (D.flash disk.new) }
 {
     typed(layout, key);

@@ -1,36 +1,12 @@
 //! How an identifier is read of its spelling.
 
-ghost use Rattle.std.specs.Prelude.{◌≡◌, ◌<◌, ◌^◌, ◌≤◌, length, IfOk};
-ghost use Rattle.det_cbor.specs.HeadReading.{map_ok};
+ghost use Rattle.std.specs.Prelude.{◌≤◌, length};
 ghost use Rattle.suit_params.specs.Answering.{Gives};
-ghost use Rattle.flash_layout.specs.PageReading.{array_from, identifier_at, parts_from};
+ghost use Rattle.flash_layout.specs.PageReading.{identifier_at, parts_from};
 
-use det_cbor::{Bytes, Cursor, HeadKind};
-use std::alloc::{AllocError, Global};
-use suit_params::{Fault, Identifier, Refusal, Why, read_content, read_head, refused};
-
-// The number of elements of an array, which the cursor passes the head of.
-#[tactic(auto, unfolding(crate::specs::PageReading::array_from))]
-fn read_array(item: &mut Cursor<'_>) -> Result<u64, Refusal>
-    ensures { map_ok (λ n. (n, item.new)) result ≡ array_from item.old }
-{
-    let place = item.place();
-    let head = read_head(item)?;
-    match head.kind {
-        HeadKind::Array => Ok(head.value),
-        _ => refused(place, Why::Shape),
-    }
-}
-
-// The bytes that are left, copied.
-fn copy_left(alloc: Global, mut content: Cursor<'_>) -> Result<Bytes, AllocError>
-    ensures { IfOk result (λ b. b ≡ content.entry.left) }
-{
-    match content.bytes(content.left() as u64) {
-        Ok(bytes) => Bytes::from_slice(alloc, bytes),
-        Err(_) => unreachable!(),
-    }
-}
+use det_cbor::Cursor;
+use std::alloc::Global;
+use suit_params::{Fault, Identifier, copy_left, read_array, read_content};
 
 // So many byte strings.
 fn read_parts(alloc: Global, mut items: Cursor<'_>, count: u64) -> Result<Identifier, Fault>

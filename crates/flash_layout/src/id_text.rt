@@ -5,27 +5,10 @@ ghost use Rattle.json_fields.specs.Answers.{Gives};
 ghost use Rattle.flash_layout.specs.ComponentFields.{id_of};
 
 use crate::spelling::spell_id;
-use det_cbor::Bytes;
-use json_fields::{FlawKind, Form, JsonFault, array, flawed, hex};
+use json_fields::{FlawKind, HexBytes, JsonFault, array, flawed};
 use serde_json::Value;
 use std::alloc::Global;
 use suit_params::Identifier;
-
-// Bytes in hexadecimal digits.
-#[derive(Drop)]
-struct HexBytes;
-
-impl Form for HexBytes {
-    type Item = Bytes;
-
-    ghost use Rattle.json_fields.specs.Values.{hex_of};
-
-    ghost reads = { λ _ d. hex_of d };
-
-    fn read(&self, alloc: Global, value: &Value) -> Result<Bytes, JsonFault> {
-        hex(alloc, value)
-    }
-}
 
 /// An array of byte strings, spelled in at most 64 bytes.
 pub(crate) fn id(alloc: Global, value: &Value) -> Result<Identifier, JsonFault>

@@ -40,10 +40,3 @@ pub use place::{MAX_COMPONENTS, Places, Unknown};
 pub use placing::places;
 pub use rules::{MAX_RAM, is_layout, slots_of};
 pub use slot::{FlashFault, Record, Slot};
-
-#[cfg(test)]
-mod device_tests;
-#[cfg(test)]
-mod format_tests;
-#[cfg(test)]
-mod layout_tests;

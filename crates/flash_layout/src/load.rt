@@ -31,7 +31,9 @@ pub fn load_config<D: Disk>(alloc: Global, disk: &mut D) -> Loaded
     ensures size { D.extent disk.new ≡ D.extent disk.old }
     ensures counts { LoadCounts result (D.faults disk.old) (D.faults disk.new) }
     ensures allowed { LoadsAllowed VERSION_1 (D.extent disk.old) result }
-    ensures exact { IsTrue D.told → LoadsExactly VERSION_1 (D.extent disk.old) (head_of VERSION_1 (D.flash disk.old).reads) result }
+    ensures exact { IsTrue D.told
+        → LoadsExactly VERSION_1 (D.extent disk.old) (head_of VERSION_1 (D.flash disk.old).reads)
+        result }
     ensures same { IsTrue D.told → IsSame (D.flash disk.old) (D.flash disk.new) }
     ensures grows { IsTrue D.told → Grows (D.flash disk.old) (D.flash disk.new) }
 {

@@ -137,7 +137,9 @@ pub(crate) fn decode_page(
     requires { length page.now ≡ PAGE_BYTES }
     ensures ok { IfOk result (λ r. IfSome r (λ c. IsConfigPage VERSION_1 size page.now c.0 c.1)) }
     ensures typed { IfOk result (λ r. IfSome r (λ c. AreTyped c.0 c.1)) }
-    ensures every { (layout : List Entry) (key : Key) → AreTyped layout key → IsConfigPage VERSION_1 size page.now layout key → IfOk result (λ r. r ≡ Some (layout, key)) }
+    ensures every { (layout : List Entry) (key : Key) → AreTyped layout key
+        → IsConfigPage VERSION_1 size page.now layout key
+        → IfOk result (λ r. r ≡ Some (layout, key)) }
 {
     match read_page(alloc, page) {
         Ok((layout, key)) => {

@@ -129,7 +129,8 @@ fn put_entries(page: &mut Page, entries: &[Entry])
 // Adds the open gate, the version, the lengths and the key.
 fn put_front(page: &mut Page, count: u8, key: &Key)
     requires { length page.old + FRONT_SIZE ≤ PAGE_BYTES }
-    ensures bytes { page.new ≡ page.old ++ OPEN ∷ VERSION_1.version ∷ key.now.length ∷ count ∷ key.now.bytes }
+    ensures bytes { page.new
+        ≡ page.old ++ OPEN ∷ VERSION_1.version ∷ key.now.length ∷ count ∷ key.now.bytes }
     ensures long { length page.new ≡ length page.old + FRONT_SIZE }
 {
     page.put(&[OPEN, VERSION_1.version, key.length, count]);

@@ -5,16 +5,16 @@ ghost use Rattle.flash_layout.specs.Placement.{ArePlaces, HasPlace, HaveOtherPla
 
 use crate::frame::MAX_ENTRIES;
 use crate::place::MAX_COMPONENTS;
-use crate::rules::alike;
 use crate::{Entry, Layout, Places, Unknown};
 use suit_params::{Identifier, Identifiers};
 
 // The index of the component with this identifier.
 fn find(entries: &[Entry], identifier: &Identifier) -> Option<usize>
-    ensures { MatchOption result (IsUnknown entries.now identifier.now) (HasPlace entries.now identifier.now) }
+    ensures { MatchOption result (IsUnknown entries.now identifier.now)
+        (HasPlace entries.now identifier.now) }
 {
     for i in 0..entries.len() {
-        if alike(&entries[i].identifier, identifier) {
+        if entries[i].identifier.is_same(identifier) {
             return Some(i);
         }
     }

@@ -7,7 +7,6 @@ ghost use Rattle.flash_layout.specs.Layouts.{AreAllClear, AreApart, AreClear, Is
 use crate::frame::{LENGTH_SIZE, MAX_ENTRIES, SLOTS_START, VERSION_1};
 use crate::spelling::spell_id;
 use crate::{Entry, Layout, Memory};
-use suit_params::Identifier;
 
 /// How many bytes a component in working memory may hold.
 pub const MAX_RAM: u64 = 1048576;
@@ -143,30 +142,13 @@ fn each_entry(size: u64, entries: &[Entry]) -> bool
     true
 }
 
-// Whether two identifiers are the same.
-pub(crate) fn alike(a: &Identifier, b: &Identifier) -> bool
-    ensures { IsTrue result ↔ (a.now ≡ b.now) }
-{
-    let a = a.as_slice();
-    let b = b.as_slice();
-    if a.len() != b.len() {
-        return false;
-    }
-    for i in 0..a.len() {
-        if a[i].as_slice() != b[i].as_slice() {
-            return false;
-        }
-    }
-    true
-}
-
 // Whether two components have other identifiers, and share no byte.
 fn apart(a: &Entry, b: &Entry) -> bool
     requires first { a.now.slots ≤ 2 }
     requires second { b.now.slots ≤ 2 }
     ensures { IsTrue result ↔ AreApart a.now b.now }
 {
-    if alike(&a.identifier, &b.identifier) {
+    if a.identifier.is_same(&b.identifier) {
         return false;
     }
     all_clear(slots_of(a), a.capacity, slots_of(b), b.capacity)
@@ -176,7 +158,10 @@ fn apart(a: &Entry, b: &Entry) -> bool
 fn apart_before(entries: &[Entry], last: usize) -> bool
     requires inside { last < length entries.now }
     requires slots { All (λ e. e.slots ≤ 2) entries.now }
-    ensures { IsTrue result ↔ ((i : ℕ) (d : Entry) → i < last → AreApart (slice_index_or entries.now i d) (slice_index_or entries.now last d)) }
+    ensures { IsTrue result
+        ↔
+        ((i : ℕ) (d : Entry) → i < last
+        → AreApart (slice_index_or entries.now i d) (slice_index_or entries.now last d)) }
 {
     for i in 0..last {
         if !apart(&entries[i], &entries[last]) {

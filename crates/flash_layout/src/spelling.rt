@@ -97,7 +97,8 @@ fn put_head(out: &mut Spelling, major: u8, argument: u64) -> Result<(), TooLong>
 // Adds a byte string.
 fn put_string(out: &mut Spelling, part: &Bytes) -> Result<(), TooLong>
     ensures ok { OnOk result (out.new ≡ out.old ++ (head_bytes 2 (length part.now) ++ part.now)) }
-    ensures err { OnErr result (64 < length out.old + length (head_bytes 2 (length part.now) ++ part.now)) }
+    ensures err { OnErr result
+        (64 < length out.old + length (head_bytes 2 (length part.now) ++ part.now)) }
 {
     put_head(out, 2, part.len() as u64)?;
     out.put(part.as_slice())
@@ -106,7 +107,8 @@ fn put_string(out: &mut Spelling, part: &Bytes) -> Result<(), TooLong>
 // Adds byte strings.
 fn put_strings(out: &mut Spelling, parts: &[Bytes]) -> Result<(), TooLong>
     ensures ok { OnOk result (out.new ≡ out.old ++ spell_items (string_items parts.now)) }
-    ensures err { OnErr result (64 < length out.old + length (spell_items (string_items parts.now))) }
+    ensures err { OnErr result
+        (64 < length out.old + length (spell_items (string_items parts.now))) }
 {
     for part in parts {
         match put_string(out, part) {

@@ -2,7 +2,7 @@
 
 ghost use Rattle.std.specs.Prelude.{◌≡◌, ◌<◌, IfOk, length};
 
-use crate::layout_tests::{device, key};
+use crate::layout::tests::{device, key};
 use crate::{Formatted, Loaded, VERSION_1, format, is_key, is_layout, load_config};
 use std::alloc::{AllocError, Global};
 use std::test::Fail;
