@@ -7,6 +7,7 @@ pub mod Faults
 pub mod ItemReading
 pub mod ItemSkipping
 pub mod OneReading
+pub mod ItemSplitting
 pub mod Decoding
 pub mod DataItem
 pub mod DataLists

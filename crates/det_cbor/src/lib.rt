@@ -31,7 +31,7 @@ pub use head::{Head, HeadKind};
 pub use head_writing::push_head;
 pub use item::{Inner, Item};
 pub use items::Items;
-pub use law::one_reading;
+pub use law::{item_splitting, one_reading};
 pub use names::Names;
 pub use pairs::Pairs;
 pub use parts::as_text;

@@ -2,6 +2,7 @@
 use Rattle.std.specs.Prelude.{◌≡◌, ◌<◌, ◌^◌, ℕ, Bool, List, length}
 use Rattle.std.specs.List.{AllByRecursion}
 use Rattle.det_cbor.specs.DataItem.{item_count, spell, IsString}
+use Rattle.suit_params.specs.ParamMaking.{IsParam}
 use Rattle.suit_params.specs.Refusing.{SaysWhole}
 use Rattle.suit_commands.specs.declared.selection.Selection.{Selection}
 use Rattle.suit_commands.specs.declared.selection.Selection.TheVariants.{One, All, Listed}
@@ -10,7 +11,8 @@ use Rattle.suit_commands.specs.Sequences.{SaysSequence, elements_place}
 use Rattle.suit_commands.specs.SequenceMaking.{step_items, branch_items, sequence_item, placed, unplaced}
 use Rattle.suit_commands.specs.Tree.{CommandTree, Test, Act, Index, Override, TryEach, RunSequence, SequenceTree, NoSteps, StepThen, BranchesTree, NoBranches, BranchThen, NullThen}
 
--- ---- what holds of a tree by the types of the code: counts and lengths are below 2 ^ 64
+-- ---- what holds of a tree by the types of the code: counts and lengths are below 2 ^ 64, and parameters have the
+-- lengths of their types
 
 abbrev pub IsU64 : ℕ → Type 0
 IsU64 n = n < 2 ^ 64
@@ -29,7 +31,7 @@ abbrev mutual
   CommandFits (Test kind report) = Unit {0}
   CommandFits (Act kind report) = Unit {0}
   CommandFits (Index selection) = SelectionFits selection
-  CommandFits (Override list) = Unit {0}
+  CommandFits (Override list) = AllByRecursion IsParam list
   CommandFits (TryEach tries) = IsU64 (item_count (branch_items tries)) × BranchesFit tries
   CommandFits (RunSequence inner) =
       IsString (spell (sequence_item inner))

@@ -24,6 +24,7 @@ use suit_params::write_params;
 pub fn encode_sequence(alloc: Global, sequence: &Sequence) -> Result<Bytes, AllocError>
     ensures spelling { IfOk result (λ bytes. bytes ≡ spell (sequence_item sequence.now)) }
     ensures written { IfOk result (IsWrittenSequence sequence.now) }
+    ensures fits { IfOk result (λ _. SequenceFits sequence.now) }
 {
     let mut out = Bytes::new(alloc);
     push_sequence(alloc, &mut out, sequence)?;

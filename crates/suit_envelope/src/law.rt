@@ -1,6 +1,7 @@
 //! Laws of all envelopes, whatever reads them.
 
 ghost use Rattle.suit_envelope.specs.EnvelopeLaws.{EnvelopeLaws, AuthenticityLaw};
+ghost use Rattle.suit_envelope.specs.PayloadOrder.{PayloadOrderLaw};
 
 /// Does nothing. Its contract has the laws. All bytes have one envelope or one refusal, and never
 /// both. An envelope says what stands under the numbers of its map: a wrapper and a manifest, and
@@ -13,4 +14,10 @@ pub fn envelope_laws()
 /// Does nothing. Its contract has the law: of a wrapper, a manifest and a key one answer is told.
 pub fn authenticity_laws()
     ensures { AuthenticityLaw }
+{}
+
+/// Does nothing. Its contract has the law: payloads whose keys ascend still do with one more put among
+/// them.
+pub fn payload_order_law()
+    ensures { PayloadOrderLaw }
 {}

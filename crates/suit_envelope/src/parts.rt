@@ -1,7 +1,10 @@
 //! The parts of an envelope that is made.
 
-ghost use Rattle.std.specs.Prelude.{◌≡◌, [], ◌∷◌, ◌++◌, length, OnOk, OnErr, IsTrue, ◌↔◌};
+ghost use Rattle.std.specs.Prelude.{◌≡◌, [], ◌∷◌, ◌++◌, length, None, OnOk, OnErr, IsTrue, ◌↔◌};
+ghost use Rattle.suit_envelope.specs.Making.{AreAscending};
+ghost use Rattle.suit_envelope.specs.PayloadOrder.{put_payload};
 
+use crate::payload_order::place_of;
 use det_cbor::{Bytes, Text};
 use std::alloc::{AllocError, Global};
 use std::marker::Model;
@@ -37,6 +40,21 @@ impl PayloadList {
         ensures err { OnErr result (self.new ≡ self.old) }
     {
         Ok(self.held.push((key, payload))?)
+    }
+
+    /// Puts a payload in its place among those whose keys ascend in the order of their spellings. One under the same
+    /// key goes.
+    #[tactic(auto, using(crate::proofs::PayloadPlaces::put_ascends))]
+    pub fn put(&mut self, key: Text, payload: Bytes) -> Result<(), AllocError>
+        ensures ok { OnOk result (self.new ≡ put_payload (key, payload) self.old) }
+        ensures err { OnErr result (self.new ≡ self.old) }
+        ensures ascends { AreAscending None self.old → AreAscending None self.new }
+    {
+        match place_of(self.held.as_slice(), key.as_str()) {
+            Ok(at) => self.held[at] = (key, payload),
+            Err(at) => self.held.insert(at, (key, payload))?,
+        }
+        Ok(())
     }
 
     /// The number of payloads.

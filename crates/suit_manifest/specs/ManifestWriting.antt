@@ -7,7 +7,7 @@ use Rattle.suit_params.specs.Refusing.{SaysWhole}
 use Rattle.suit_commands.specs.Tree.{SequenceTree}
 use Rattle.suit_commands.specs.Allowed.{IsSequence, levels_allowed}
 use Rattle.suit_commands.specs.SequenceMaking.{sequence_item}
-use Rattle.suit_commands.specs.SequenceWriting.{IsU64, IsWrittenSequence}
+use Rattle.suit_commands.specs.SequenceWriting.{IsU64, SequenceFits, IsWrittenSequence}
 use Rattle.suit_manifest.specs.declared.manifest.Manifest.{Manifest}
 use Rattle.suit_manifest.specs.declared.manifest.Member.{Member}
 use Rattle.suit_manifest.specs.declared.manifest.Member.TheVariants as members
@@ -33,7 +33,7 @@ ComponentsFit ids = IsU64 (length ids) × AllByRecursion IdentifierFits ids
 
 -- of a sequence in a byte string
 abbrev pub HeldFits : SequenceTree → Type 0
-HeldFits s = IsString (spell (sequence_item s)) × IsWrittenSequence s (spell (sequence_item s))
+HeldFits s = IsString (spell (sequence_item s)) × IsWrittenSequence s (spell (sequence_item s)) × SequenceFits s
 
 abbrev pub SeveredFits : Member → Type 0
 SeveredFits members.Empty = Unit {0}

@@ -24,6 +24,7 @@ use std::alloc::{AllocError, Global};
 pub fn encode_manifest(alloc: Global, manifest: &Manifest) -> Result<Bytes, AllocError>
     ensures spelling { IfOk result (λ bytes. bytes ≡ spell (manifest_item manifest.now)) }
     ensures written { IfOk result (IsWrittenManifest manifest.now) }
+    ensures fits { IfOk result (λ _. ManifestFits manifest.now) }
 {
     let mut out = Bytes::new(alloc);
     push_manifest(alloc, &mut out, manifest)?;

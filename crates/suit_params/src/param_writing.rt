@@ -72,6 +72,7 @@ pub fn write_params(_alloc: Global, list: &ParamList, out: &mut Bytes) -> Result
     ensures ok { OnOk result (out.new ≡ out.old ++ spell (params_item list.now)) }
     ensures err { OnErr result (IsPrefix out.old out.new) }
     ensures says { OnOk result (IsWritten list.now) }
+    ensures params { OnOk result (AllByRecursion IsParam list.now) }
 {
     push_kind(out, HeadKind::Map, list.len() as u64)?;
     push_params(out, list)?;

@@ -30,3 +30,22 @@ fn parts_are_written_as_laid_out_by_hand(rt: HostRuntime) -> Result<(), Fail> {
     assert_eq!(rt; made.as_slice(), bytes.as_slice());
     Ok(())
 }
+
+#[test]
+fn payloads_are_put_in_the_order_of_their_keys(rt: HostRuntime) -> Result<(), Fail> {
+    let alloc = rt.alloc();
+    let mut payloads = PayloadList::new(alloc);
+    for (key, payload) in [("b", "0"), ("aa", "1"), ("a", "2"), ("b", "3")] {
+        payloads.put(
+            Text::from_str(alloc, key)?,
+            Bytes::from_slice(alloc, payload.as_bytes())?,
+        )?;
+    }
+    let mut told = String::new(alloc);
+    for (key, payload) in payloads.as_slice() {
+        told.push_str(key.as_str())?;
+        told.push_str(hex::encode(alloc, payload.as_slice())?.as_str())?;
+    }
+    assert_eq!(rt; told.as_str(), "a32b33aa31");
+    Ok(())
+}

@@ -1,0 +1,74 @@
+-- Payloads are put in the order of their keys' spellings.
+use Rattle.std.proofs.Common.{◌≡◌, ℕ, suc, ◌+◌, ◌^◌, ◌<◌, ◌≤◌, zero, List, [], ◌∷◌, ◌++◌, length, get_or, take, drop, drop-cons, Option, Some, None, refl, sym, ap, ◌∙◌, arith}
+use Rattle.std.specs.List.{AllByRecursion, slice_set}
+use Rattle.std.specs.Str.{IsUtf8}
+use Rattle.std.specs.declared.cmp.Ordering.{Ordering}
+use Rattle.std.specs.declared.cmp.Ordering.TheVariants.{Less, Equal, Greater}
+use Rattle.std.specs.Ordering.{is_lt, nat_cmp, match_ordering, ordering_then}
+use Rattle.std.specs.Cmp.Lexicographic.{slice_cmp, nat_list_cmp_total}
+use Rattle.det_cbor.specs.DataItem.{TextString, spell, IsByte, IsAbove}
+use Rattle.det_cbor.specs.ItemOrder.{item_order}
+use Rattle.det_cbor.proofs.Cuts.{Cuts-order, first_decides}
+use Rattle.det_cbor.proofs.ItemCuts.{items_cut_apart}
+use Rattle.det_cbor.proofs.KeyOrder.{above_is_below}
+use Rattle.suit_envelope.specs.Making.{IsText, AreAscending}
+use Rattle.suit_envelope.specs.PayloadOrder.{key_order, put_payload}
+
+bytes_fit : (bytes : List ℕ) → ((i : ℕ) → get_or bytes i 0 < 256) → AllByRecursion IsByte bytes
+bytes_fit [] fits = tt
+bytes_fit (b ∷ bytes) fits = (fits 0, bytes_fit bytes (λ i. fits (suc i)))
+
+-- what holds of a text by its type
+pub is_text : (text : List ℕ) → length text < 2 ^ 64 → ((i : ℕ) → get_or text i 0 < 256) → IsUtf8 text → IsText text
+is_text text short fits utf8 = ((short, bytes_fit text fits), utf8)
+
+-- the shorter text first, and texts of one length by their bytes
+text_order : (a b : List ℕ) → IsText a → IsText b → key_order a b ≡ ordering_then (nat_cmp (length a) (length b)) (slice_cmp nat_cmp a b)
+text_order a b u v = Cuts-order (item_order (TextString a) (TextString b)) (spell (TextString a)) (spell (TextString b)) (items_cut_apart 0 0 (TextString a) (TextString b) u v)
+
+pub by_bytes : (a b : List ℕ) → IsText a → IsText b → nat_cmp (length a) (length b) ≡ Equal → slice_cmp nat_cmp a b ≡ key_order a b
+by_bytes a b u v e = sym (text_order a b u v ∙ ap (λ o. ordering_then o (slice_cmp nat_cmp a b)) e)
+
+pub by_length : (a b : List ℕ) → IsText a → IsText b → (nat_cmp (length a) (length b) ≡ Equal → ⊥) → nat_cmp (length a) (length b) ≡ key_order a b
+by_length a b u v other = sym (text_order a b u v ∙ first_decides (nat_cmp (length a) (length b)) (slice_cmp nat_cmp a b) other)
+
+-- ---- keys that ascend still do
+
+abbrev Payload : Type 0
+Payload = List ℕ × List ℕ
+
+abbrev key_bytes : Payload → List ℕ
+key_bytes p = spell (TextString p.0)
+
+-- what ascends above a key ascends above an equal one
+same_start : (p q : Payload) (qs : List Payload) → key_order p.0 q.0 ≡ Equal → AreAscending (Some (key_bytes q)) qs → AreAscending (Some (key_bytes p)) qs
+same_start p q [] e ascend = tt
+same_start p q (r ∷ rs) e ascend = (ap is_lt (nat_list_cmp_total.congr (key_bytes p) (key_bytes q) (key_bytes r) e) ∙ ascend.0, ascend.1)
+
+put_by_order : (before : Option (List ℕ)) (p q : Payload) (qs : List Payload) (o : Ordering) → key_order p.0 q.0 ≡ o → IsAbove before (key_bytes p) → AreAscending before (q ∷ qs)
+    → (IsAbove (Some (key_bytes q)) (key_bytes p) → AreAscending (Some (key_bytes q)) (put_payload p qs))
+    → AreAscending before (match_ordering o (p ∷ q ∷ qs) (p ∷ qs) (q ∷ put_payload p qs))
+put_by_order before p q qs Less e above ascend later = (above, (ap is_lt e, ascend.1))
+put_by_order before p q qs Equal e above ascend later = (above, same_start p q qs e ascend.1)
+put_by_order before p q qs Greater e above ascend later = (ascend.0, later (above_is_below (key_bytes p) (key_bytes q) e))
+
+put_above : (before : Option (List ℕ)) (p : Payload) (list : List Payload) → IsAbove before (key_bytes p) → AreAscending before list → AreAscending before (put_payload p list)
+put_above before p [] above ascend = (above, tt)
+put_above before p (q ∷ qs) above ascend = put_by_order before p q qs (key_order p.0 q.0) refl above ascend (λ over. put_above (Some (key_bytes q)) p qs over ascend.1)
+
+pub put_ascends : (p : Payload) (list : List Payload) → AreAscending None list → AreAscending None (put_payload p list)
+put_ascends p list ascend = put_above None p list tt ascend
+
+-- ---- one that takes the place of another
+
+set_at : {X : Type 0} (xs : List X) (i : ℕ) (x : X) → i < length xs → slice_set xs i x ≡ take i xs ++ x ∷ drop (suc i) xs
+set_at [] i x h = absurd (omega arith)
+set_at (y ∷ ys) zero x h = refl
+set_at (y ∷ ys) (suc i) x h = ap (λ zs. y ∷ zs) (set_at ys i x (omega arith))
+
+pub put_equal : (list : List Payload) (i : ℕ) (p q : Payload) → i < length list → q ≡ get_or list i q → key_order p.0 q.0 ≡ Equal
+    → put_payload p list ≡ take i list ++ put_payload p (drop i list) → slice_set list i p ≡ put_payload p list
+put_equal list i p q h is e so_far =
+    let here : put_payload p (q ∷ drop (suc i) list) ≡ p ∷ drop (suc i) list = ap (λ o. match_ordering o (p ∷ q ∷ drop (suc i) list) (p ∷ drop (suc i) list) (q ∷ put_payload p (drop (suc i) list))) e in
+    let cut : drop i list ≡ q ∷ drop (suc i) list = drop-cons list i q h ∙ ap (λ r. r ∷ drop (suc i) list) (sym is) in
+    set_at list i p h ∙ sym (so_far ∙ ap (λ qs. take i list ++ qs) (ap (put_payload p) cut ∙ here))
