@@ -3,3 +3,4 @@ mod Losses
 pub mod MemoryImages
 pub mod Moments
 mod EveryDisk
+pub mod Asked

@@ -1,5 +1,5 @@
 -- What the calls of a host do with its files.
-use Rattle.std.specs.Prelude.{◌≡◌, ◌<◌, ◌≤◌, ℕ, List, [], length, take, drop, Option, Some, None}
+use Rattle.std.specs.Prelude.{◌≡◌, ◌⊎◌, ◌<◌, ◌≤◌, ℕ, List, [], ◌∷◌, ◌++◌, length, take, drop, Option, Some, None}
 use Rattle.suit_edge.specs.declared.edge.Edge.{Edge}
 use Rattle.suit_edge.specs.declared.edge.Edge.TheVariants as edge
 use Rattle.suit_edge.specs.declared.host.Started.{Started}
@@ -20,6 +20,16 @@ abbrev pub StartCounts : Started → ℕ → ℕ → Type 0
 StartCounts started.Done before now = now ≡ before
 StartCounts started.Absent before now = now ≡ before
 StartCounts started.Failed before now = Faulted before now
+
+-- one more name was asked for, the last one
+abbrev pub AsksFor : List ℕ → List (List ℕ) → List (List ℕ) → Type 0
+AsksFor name before now = now ≡ before ++ name ∷ []
+
+-- a call that failed may have asked for its name, and for no other
+abbrev pub StartAsks : Started → List ℕ → List (List ℕ) → List (List ℕ) → Type 0
+StartAsks started.Done name before now = AsksFor name before now
+StartAsks started.Absent name before now = AsksFor name before now
+StartAsks started.Failed name before now = (now ≡ before) ⊎ AsksFor name before now
 
 -- ---- pull
 

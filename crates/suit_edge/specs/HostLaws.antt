@@ -1,9 +1,10 @@
 -- Laws of the calls of a host.
-use Rattle.std.specs.Prelude.{◌≡◌, ◌<◌, ◌-◌, ◌^◌, ℕ, List, [], ◌++◌, length, take, Option, Some}
+use Rattle.std.specs.Prelude.{◌≡◌, ◌<◌, ◌-◌, ◌^◌, ℕ, List, [], ◌∷◌, ◌++◌, length, take, Option, Some}
 use Rattle.suit_edge.specs.declared.edge.Edge.TheVariants as edge
+use Rattle.suit_edge.specs.declared.host.Started.{Started}
 use Rattle.suit_edge.specs.declared.host.Started.TheVariants as started
 use Rattle.suit_edge.specs.declared.host.Pulled.TheVariants as pulled
-use Rattle.suit_edge.specs.Host.{Starts, StartCounts, Pulls, PullCounts, Stores}
+use Rattle.suit_edge.specs.Host.{Starts, StartAsks, StartCounts, Pulls, PullCounts, Stores}
 
 pub record HostLaws : Type 0 where
   -- a name has a file or none, and a file that is started has one rest
@@ -17,6 +18,10 @@ pub record HostLaws : Type 0 where
   pub end : (before now room filled : List ℕ) → 0 < length room → Pulls (pulled.Got 0) before now room filled → before ≡ []
   -- what is stored is what is started then
   pub stored : (file : Option (List ℕ)) (bytes rest : List ℕ) → Stores edge.Done file bytes → Starts started.Done file rest → rest ≡ bytes
+  -- a name that was started, or is absent, was asked for; and no start asks for another name, whatever it answers
+  pub asked_done : (name : List ℕ) (before now : List (List ℕ)) → StartAsks started.Done name before now → now ≡ before ++ name ∷ []
+  pub asked_absent : (name : List ℕ) (before now : List (List ℕ)) → StartAsks started.Absent name before now → now ≡ before ++ name ∷ []
+  pub asked_one : (answer : Started) (name other : List ℕ) (before now : List (List ℕ)) → StartAsks answer name before now → now ≡ before ++ other ∷ [] → other ≡ name
   -- a fault alone raises the count
   pub start_failed : (before : ℕ) → before < 2 ^ 64 - 1 → StartCounts started.Failed before before → ⊥
   pub start_done : (before now : ℕ) → StartCounts started.Done before now → now ≡ before

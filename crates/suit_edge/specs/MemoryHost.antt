@@ -24,16 +24,18 @@ with_file (file ∷ files) name bytes =
 
 -- ---- the host
 
--- the files, what is left of the file that was started last, and the number of bytes handed out
+-- The files, what is left of the file that was started last, the number of bytes handed out, and the names of the files
+-- that were started, the last one at the end.
 pub record HostState : Type 0 where
   pub files : List (List ℕ × List ℕ)
   pub rest : List ℕ
   pub pulled : ℕ
+  pub asked : List (List ℕ)
   pub calls : CallCounts
 
 -- no file, and no call yet
 abbrev pub empty_host : List ℕ → HostState
-empty_host fails = record { files = []; rest = []; pulled = 0; calls = uncalled fails }
+empty_host fails = record { files = []; rest = []; pulled = 0; asked = []; calls = uncalled fails }
 
 -- a call that does not fail makes this of the host
 abbrev pub PassesTo : HostState → HostState → HostState → Type 0
@@ -43,11 +45,21 @@ PassesTo before now made = Succeeds before.calls now.calls × (now ≡ record ma
 abbrev pub FailsAlone : HostState → HostState → Type 0
 FailsAlone before now = Fails before.calls now.calls × (now ≡ record before { calls = now.calls })
 
+-- the name was asked for, and this is left of its file
+abbrev pub asked_for : HostState → List ℕ → List ℕ → HostState
+asked_for before name rest = record before { rest = rest; asked = before.asked ++ name ∷ [] }
+
+-- the start of a file, whatever became of the counts of calls
+abbrev pub Begins : Started → HostState → HostState → List ℕ → Type 0
+Begins started.Done before now name = (now ≡ asked_for before name now.rest) × (file_in before.files name ≡ Some now.rest)
+Begins started.Absent before now name = (now ≡ asked_for before name []) × (file_in before.files name ≡ None)
+Begins started.Failed before now name = ⊥
+
 abbrev pub StartsExactly : Started → HostState → HostState → List ℕ → Type 0
 StartsExactly started.Done before now name =
-    PassesTo before now (record before { rest = now.rest }) × (file_in before.files name ≡ Some now.rest)
+    PassesTo before now (asked_for before name now.rest) × (file_in before.files name ≡ Some now.rest)
 StartsExactly started.Absent before now name =
-    PassesTo before now (record before { rest = [] }) × (file_in before.files name ≡ None)
+    PassesTo before now (asked_for before name []) × (file_in before.files name ≡ None)
 StartsExactly started.Failed before now name = FailsAlone before now
 
 -- a pull gives as many bytes as are left and have room, and leaves the other places of the room

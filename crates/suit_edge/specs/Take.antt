@@ -1,8 +1,9 @@
 -- The outcome of taking a whole file.
-use Rattle.std.specs.Prelude.{◌≡◌, ◌<◌, ◌≤◌, ℕ, List, length, Option, Some, None}
+use Rattle.std.specs.Prelude.{◌≡◌, ◌⊎◌, ◌<◌, ◌≤◌, ℕ, List, length, Option, Some, None}
 use Rattle.suit_edge.specs.declared.take.Taken.{Taken}
 use Rattle.suit_edge.specs.declared.take.Taken.TheVariants as taken
 use Rattle.suit_edge.specs.Faults.{Faulted}
+use Rattle.suit_edge.specs.Host.{AsksFor}
 
 -- what an answer says of the file of the name
 abbrev pub TakesAll : Taken → Option (List ℕ) → ℕ → Type 0
@@ -27,6 +28,14 @@ TakeCounts taken.Absent before now = now ≡ before
 TakeCounts (taken.TooLong n) before now = now ≡ before
 TakeCounts taken.HostFault before now = Faulted before now
 TakeCounts taken.NoMemory before now = now ≡ before
+
+-- the file of the name alone was asked for; a fault may have come before that
+abbrev pub TakeAsks : Taken → List ℕ → List (List ℕ) → List (List ℕ) → Type 0
+TakeAsks (taken.Got bytes) name before now = AsksFor name before now
+TakeAsks taken.Absent name before now = AsksFor name before now
+TakeAsks (taken.TooLong n) name before now = AsksFor name before now
+TakeAsks taken.HostFault name before now = (now ≡ before) ⊎ AsksFor name before now
+TakeAsks taken.NoMemory name before now = AsksFor name before now
 
 -- ---- the same of a file that was started
 

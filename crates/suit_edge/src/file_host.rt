@@ -49,6 +49,8 @@ impl<R: Files + Drop> Host for FileHost<R> {
 
     ghost pulled = { λ _. 0 };
 
+    ghost asked = { λ _. [] };
+
     ghost faults = { λ h. h };
 
     /// A name of which a part is missing is `Absent`. A directory is started, and fails at its first pull.

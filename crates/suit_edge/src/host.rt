@@ -2,7 +2,7 @@
 
 ghost use Rattle.std.specs.Prelude.{◌≡◌, ◌≢◌, ◌≤◌, ◌+◌, ℕ, Bool, IsTrue, List, Option, length};
 ghost use Rattle.suit_edge.specs.Faults.{EdgeCounts};
-ghost use Rattle.suit_edge.specs.Host.{StartCounts, Starts, PullCounts, Pulls, count_of, Stores};
+ghost use Rattle.suit_edge.specs.Host.{StartAsks, StartCounts, Starts, PullCounts, Pulls, count_of, Stores};
 
 use crate::Edge;
 
@@ -40,6 +40,10 @@ pub trait Host {
     /// The number of bytes handed out so far.
     ghost pulled: { Self → ℕ };
 
+    /// The names of the files that were started, the last one at the end. An absent file is among them; one whose start
+    /// failed may be.
+    ghost asked: { Self → List (List ℕ) };
+
     /// The count of faults, which never falls.
     ghost faults: { Self → ℕ };
 
@@ -49,6 +53,7 @@ pub trait Host {
         ensures files { IsTrue told → file self.new ≡ file self.old }
         ensures pulled { IsTrue told → pulled self.new ≡ pulled self.old }
         ensures starts { IsTrue told → Starts result (file self.old name.now) (rest self.new) }
+        ensures asked { IsTrue told → StartAsks result name.now (asked self.old) (asked self.new) }
         ensures counts { StartCounts result (faults self.old) (faults self.new) };
 
     /// The next bytes of the file, at the front of the room. After `Failed` nothing is known of what a further pull
@@ -58,6 +63,7 @@ pub trait Host {
         ensures files { IsTrue told → file self.new ≡ file self.old }
         ensures pulled { IsTrue told → pulled self.new ≡ pulled self.old + count_of result }
         ensures pulls { IsTrue told → Pulls result (rest self.old) (rest self.new) room.old room.new }
+        ensures asked { IsTrue told → asked self.new ≡ asked self.old }
         ensures counts { PullCounts result (faults self.old) (faults self.new) };
 
     /// Sets the bytes of a name. After `Failed` nothing is known of the bytes of that name.
@@ -66,5 +72,6 @@ pub trait Host {
         ensures others { IsTrue told → (other : List ℕ) → other ≢ name.now → file self.new other ≡ file self.old other }
         ensures rest { IsTrue told → rest self.new ≡ rest self.old }
         ensures pulled { IsTrue told → pulled self.new ≡ pulled self.old }
+        ensures asked { IsTrue told → asked self.new ≡ asked self.old }
         ensures counts { EdgeCounts result (faults self.old) (faults self.new) };
 }

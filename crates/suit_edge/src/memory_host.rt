@@ -1,13 +1,14 @@
 //! A host in memory.
 
-ghost use Rattle.std.specs.Prelude.{◌≡◌, ◌≢◌, ◌≤◌, ◌+◌, [], ℕ, List, length, true, IfOk, IsTrue, OnOk, OnErr};
+ghost use Rattle.std.specs.Prelude.{◌≡◌, ◌≢◌, ◌≤◌, ◌+◌, [], ◌∷◌, ◌++◌, ℕ, List, length, true, IfOk, IsTrue, OnOk, OnErr};
 ghost use Rattle.suit_edge.specs.Faults.{EdgeCounts};
-ghost use Rattle.suit_edge.specs.Host.{StartCounts, Starts, PullCounts, Pulls, count_of, Stores};
+ghost use Rattle.suit_edge.specs.Host.{StartAsks, StartCounts, Starts, PullCounts, Pulls, count_of, Stores};
 ghost use Rattle.suit_edge.specs.Calls.{Succeeds, Fails};
 ghost use Rattle.suit_edge.specs.MemoryHost.{
   file_in,
   with_file,
   empty_host,
+  Begins,
   StartsExactly,
   PullsExactly,
   StoresExactly,
@@ -17,7 +18,7 @@ use crate::calls::Calls;
 use crate::file_table::FileTable;
 use crate::rest::Rest;
 use crate::{Edge, Host, Pulled, Started};
-use det_cbor::Bytes;
+use det_cbor::{Bytes, Names, Text};
 use std::alloc::{AllocError, Global};
 use std::marker::Model;
 
@@ -28,6 +29,7 @@ pub struct MemoryHost {
     files: FileTable,
     rest: Rest,
     pulled: u64,
+    asked: Names,
     calls: Calls,
 }
 
@@ -36,7 +38,7 @@ impl Model for MemoryHost {
 
     ghost Value = { HostState };
 
-    ghost view = { λ h. record { files = h.files; rest = h.rest; pulled = h.pulled; calls = h.calls } };
+    ghost view = { λ h. record { files = h.files; rest = h.rest; pulled = h.pulled; asked = h.asked; calls = h.calls } };
 }
 
 impl MemoryHost {
@@ -49,6 +51,7 @@ impl MemoryHost {
             files: FileTable::new(alloc),
             rest: Rest::new(Bytes::new(alloc)),
             pulled: 0,
+            asked: Names::new(alloc),
             calls: Calls::new(alloc, fails)?,
         })
     }
@@ -59,6 +62,20 @@ impl MemoryHost {
         ensures err { OnErr result (self.new ≡ self.old) }
     {
         self.files.set(name, bytes)
+    }
+
+    // Asks for a file, and begins it.
+    fn begin(&mut self, name: &str) -> Result<Started, AllocError>
+        ensures ok { IfOk result (λ started. Begins started self.old self.new name.now) }
+        ensures err { OnErr result (self.new ≡ self.old) }
+    {
+        let (started, bytes) = match self.files.find(name) {
+            None => (Started::Absent, Bytes::new(self.alloc)),
+            Some(bytes) => (Started::Done, bytes.copy(self.alloc)?),
+        };
+        self.asked.push(Text::from_str(self.alloc, name)?)?;
+        self.rest = Rest::new(bytes);
+        Ok(started)
     }
 
     /// How often a call failed for want of memory.
@@ -81,33 +98,27 @@ impl Host for MemoryHost {
 
     ghost pulled = { λ h. h.pulled };
 
+    ghost asked = { λ h. h.asked };
+
     ghost faults = { λ h. h.calls.faults };
 
     fn start(&mut self, name: &str) -> Started
         ensures files { IsTrue true → self.new.files ≡ self.old.files }
         ensures pulled { IsTrue true → self.new.pulled ≡ self.old.pulled }
         ensures starts { IsTrue true → Starts result (file_in self.old.files name.now) self.new.rest }
+        ensures asked { IsTrue true → StartAsks result name.now self.old.asked self.new.asked }
         ensures counts { StartCounts result self.old.calls.faults self.new.calls.faults }
         ensures exact { StartsExactly result self.old self.new name.now }
     {
         if self.calls.next_fails() {
             return Started::Failed;
         }
-        match self.files.find(name) {
-            None => {
-                self.rest = Rest::new(Bytes::new(self.alloc));
-                Started::Absent
+        match self.begin(name) {
+            Ok(started) => started,
+            Err(_) => {
+                self.calls.starve();
+                Started::Failed
             }
-            Some(bytes) => match bytes.copy(self.alloc) {
-                Ok(bytes) => {
-                    self.rest = Rest::new(bytes);
-                    Started::Done
-                }
-                Err(_) => {
-                    self.calls.starve();
-                    Started::Failed
-                }
-            },
         }
     }
 
@@ -117,6 +128,7 @@ impl Host for MemoryHost {
         ensures files { IsTrue true → self.new.files ≡ self.old.files }
         ensures pulled { IsTrue true → self.new.pulled ≡ self.old.pulled + count_of result }
         ensures pulls { IsTrue true → Pulls result self.old.rest self.new.rest room.old room.new }
+        ensures asked { IsTrue true → self.new.asked ≡ self.old.asked }
         ensures counts { PullCounts result self.old.calls.faults self.new.calls.faults }
         ensures exact { PullsExactly result self.old self.new room.old room.new }
     {
@@ -144,6 +156,7 @@ impl Host for MemoryHost {
             file_in self.new.files other ≡ file_in self.old.files other }
         ensures rest { IsTrue true → self.new.rest ≡ self.old.rest }
         ensures pulled { IsTrue true → self.new.pulled ≡ self.old.pulled }
+        ensures asked { IsTrue true → self.new.asked ≡ self.old.asked }
         ensures counts { EdgeCounts result self.old.calls.faults self.new.calls.faults }
         ensures exact { StoresExactly result self.old self.new name.now bytes.now }
     {

@@ -1,7 +1,7 @@
 //! A whole file.
 
 ghost use Rattle.std.specs.Prelude.{◌≡◌, ◌≤◌, ◌+◌, ◌++◌, IsTrue, OnOk};
-ghost use Rattle.suit_edge.specs.Take.{TakesAll, KeepsLimit, TakeCounts, TakesRest};
+ghost use Rattle.suit_edge.specs.Take.{TakesAll, KeepsLimit, TakeAsks, TakeCounts, TakesRest};
 
 use crate::{Host, Pulled, Started};
 use det_cbor::Bytes;
@@ -32,6 +32,7 @@ const ROOM: usize = 262_144;
 pub fn take_all<H: Host>(alloc: Global, host: &mut H, name: &str, limit: u64) -> Taken
     ensures files { IsTrue H.told → H.file host.new ≡ H.file host.old }
     ensures takes { IsTrue H.told → TakesAll result (H.file host.old name.now) limit }
+    ensures asked { IsTrue H.told → TakeAsks result name.now (H.asked host.old) (H.asked host.new) }
     ensures limits { KeepsLimit result limit }
     ensures pulled { IsTrue H.told → H.pulled host.new ≤ H.pulled host.old + (limit + 1) }
     ensures counts { TakeCounts result (H.faults host.old) (H.faults host.new) }
@@ -47,6 +48,7 @@ pub fn take_all<H: Host>(alloc: Global, host: &mut H, name: &str, limit: u64) ->
 fn take_rest<H: Host>(alloc: Global, host: &mut H, limit: u64) -> Taken
     ensures files { IsTrue H.told → H.file host.new ≡ H.file host.old }
     ensures takes { IsTrue H.told → TakesRest result (H.rest host.old) limit }
+    ensures asked { IsTrue H.told → H.asked host.new ≡ H.asked host.old }
     ensures limits { KeepsLimit result limit }
     ensures pulled { IsTrue H.told → H.pulled host.new ≤ H.pulled host.old + (limit + 1) }
     ensures counts { TakeCounts result (H.faults host.old) (H.faults host.new) }

@@ -1,5 +1,6 @@
 use Rattle.std.proofs.Common.{◌≡◌, ◌≤◌, ℕ, List, ◌++◌, length, take, drop, Some, refl, sym, ◌∙◌, ap, subst, arith}
 use Rattle.std.proofs.lemmas.List.{take-append-drop}
+use Rattle.suit_edge.proofs.Asked.{asked_one}
 use Rattle.suit_edge.proofs.law.host_laws.Goals as goal
 
 pub returns : goal.returns
@@ -14,6 +15,9 @@ returns c = record {
       started ∙ ap (λ (l : List ℕ). Some l) (sym (take-append-drop n rest) ∙ ap (λ (l : List ℕ). l ++ drop n rest) (sym gives.front) ∙ ap (λ (l : List ℕ). take n filled ++ l) (sym gives.left));
   end = λ before now room filled place gives. gives.end refl place;
   stored = λ file bytes rest stores started. cc (sym stores ∙ started);
+  asked_done = λ name before now asks. asks;
+  asked_absent = λ name before now asks. asks;
+  asked_one = λ answer name other before now asks is. asked_one answer name other before now asks is;
   start_failed = λ before low f. omega (arith, f.rose low);
   start_done = λ before now is. is;
   start_absent = λ before now is. is;

@@ -9,6 +9,7 @@ invariant-loop-taken g l =
       files : IsTrue h.told → h.file l.host ≡ h.file l.fn.host;
       parts : IsTrue h.told → h.rest l.fn.host ≡ l.taken ++ h.rest l.host;
       pulled : IsTrue h.told → h.pulled l.host ≡ h.pulled l.fn.host + length l.taken;
+      asked : IsTrue h.told → h.asked l.host ≡ h.asked l.fn.host;
       counts : h.faults l.host ≡ h.faults l.fn.host;
       fits : length l.taken ≤ l.limit;
       room : length l.piece ≡ 4096;
