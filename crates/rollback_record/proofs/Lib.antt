@@ -5,3 +5,4 @@ pub mod Commits
 pub mod OneAnswers
 mod Sounds
 mod SoundSince
+mod Installed

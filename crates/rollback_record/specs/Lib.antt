@@ -6,3 +6,4 @@ pub mod RecordLaws
 pub mod SoundFlash
 pub mod SoundLaws
 pub mod SettledLaws
+pub mod InstalledLaws

@@ -14,7 +14,7 @@ pub use judging::{Judged, judge};
 pub use law::record_laws;
 pub use load::load_record;
 pub use page::RECORD_BYTES;
-pub use sound_law::sound_laws;
+pub use sound_law::{installed_laws, sound_laws};
 pub use writing::commit;
 
 #[cfg(test)]
