@@ -6,3 +6,4 @@ pub mod OneAnswers
 mod Sounds
 mod SoundSince
 mod Installed
+mod StillSound

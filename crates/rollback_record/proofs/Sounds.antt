@@ -78,6 +78,37 @@ onward law frame a b c (FollowsOn first) (FollowsOn second) = FollowsOn (record 
       (u.0, u.1, later_still r s.0 u.0 s.2 u.2);
 })
 
+-- ---- heads that agree on the configuration page
+
+module _ (a c : List ℕ) (large : 49152 ≤ length a) (size : length c ≡ length a) (page : config_page_of VERSION_1 (head_of VERSION_1 a) ≡ config_page_of VERSION_1 (head_of VERSION_1 c))
+    (gate : get_or c 0 0 ≡ get_or a 0 0) where
+  long_c : 49152 ≤ length c
+  long_c = omega (arith, size, large)
+
+  pub same_config : (layout : List Entry) (key : Key) → ConfigOf VERSION_1 (length a) (head_of VERSION_1 a) (Configured layout key) → ConfigOf VERSION_1 (length c) (head_of VERSION_1 c) (Configured layout key)
+  same_config layout key is = record {
+    whole = head_long c long_c;
+    typed = is.typed;
+    page = subst (λ (n : ℕ). IsConfigPage VERSION_1 n (config_page_of VERSION_1 (head_of VERSION_1 c)) layout key) (sym size) (subst (λ (l : List ℕ). IsConfigPage VERSION_1 (length a) l layout key) page is.page);
+  }
+
+  gate_in : (l : List ℕ) → get_or (head_of VERSION_1 l) 0 0 ≡ get_or l 0 0
+  gate_in l = get_or-between l 0 49152 0 0 (omega arith)
+
+  pub same_blank : ConfigOf VERSION_1 (length a) (head_of VERSION_1 a) Blank → ConfigOf VERSION_1 (length c) (head_of VERSION_1 c) Blank
+  same_blank is = ⊎_elim (λ short. absurd (none short)) (λ closed. inr (λ opened. closed (gate_in a ∙ sym gate ∙ sym (gate_in c) ∙ opened))) is
+    where
+      none : length (head_of VERSION_1 a) < 49152 → ⊥
+      none short = omega (arith, short, head_long a large)
+
+  -- and on a bank
+  pub same_bank : (b n : ℕ) → b < 2 → n ≤ 16384 → ((i : ℕ) → 12288 + b * 16384 ≤ i → i < 12288 + b * 16384 + n → get_or c i 0 ≡ get_or a i 0)
+      → bank_of VERSION_1 (head_of VERSION_1 a) b n ≡ bank_of VERSION_1 (head_of VERSION_1 c) b n
+  same_bank b n few short same =
+      inner_range a 49152 (12288 + b * 16384) (12288 + b * 16384 + n) (omega arith) (omega (arith, few, short))
+      ∙ sym (same_range c a (12288 + b * 16384) (12288 + b * 16384 + n) size (omega (arith, long_c, few, short)) same)
+      ∙ sym (inner_range c 49152 (12288 + b * 16384) (12288 + b * 16384 + n) (omega arith) (omega (arith, few, short)))
+
 -- ---- a commit
 
 module _ (a c : List ℕ) (w : ℕ) (large : 49152 ≤ length a) (size : length c ≡ length a) (two : w < 2)
@@ -85,36 +116,17 @@ module _ (a c : List ℕ) (w : ℕ) (large : 49152 ≤ length a) (size : length 
   page_same : config_page_of VERSION_1 (head_of VERSION_1 a) ≡ config_page_of VERSION_1 (head_of VERSION_1 c)
   page_same = config_same a c w large size two apart
 
-  long_c : 49152 ≤ length c
-  long_c = omega (arith, size, large)
+  gate_same : get_or c 0 0 ≡ get_or a 0 0
+  gate_same = apart 0 (omega arith) (inl (omega arith))
 
-  -- the configuration is the same
   configured : (layout : List Entry) (key : Key) → ConfigOf VERSION_1 (length a) (head_of VERSION_1 a) (Configured layout key) → ConfigOf VERSION_1 (length c) (head_of VERSION_1 c) (Configured layout key)
-  configured layout key is = record {
-    whole = head_long c long_c;
-    typed = is.typed;
-    page = subst (λ (n : ℕ). IsConfigPage VERSION_1 n (config_page_of VERSION_1 (head_of VERSION_1 c)) layout key) (sym size) (subst (λ (l : List ℕ). IsConfigPage VERSION_1 (length a) l layout key) page_same is.page);
-  }
-
-  gate_in : (l : List ℕ) → 49152 ≤ length l → get_or (head_of VERSION_1 l) 0 0 ≡ get_or l 0 0
-  gate_in l long = get_or-between l 0 49152 0 0 (omega arith)
+  configured = same_config a c large size page_same gate_same
 
   blank : ConfigOf VERSION_1 (length a) (head_of VERSION_1 a) Blank → ConfigOf VERSION_1 (length c) (head_of VERSION_1 c) Blank
-  blank is = ⊎_elim
-      (λ short. absurd (none short))
-      (λ closed. inr (λ opened. closed (gate_in a large ∙ sym (apart 0 (omega arith) (inl (omega arith))) ∙ sym (gate_in c long_c) ∙ opened)))
-      is
-    where
-      none : length (head_of VERSION_1 a) < 49152 → ⊥
-      none short = omega (arith, short, head_long a large)
+  blank = same_blank a c large size page_same gate_same
 
-  -- and so are the banks
   bank_same : (b n : ℕ) → b < 2 → n ≤ 16384 → bank_of VERSION_1 (head_of VERSION_1 a) b n ≡ bank_of VERSION_1 (head_of VERSION_1 c) b n
-  bank_same b n few short =
-      inner_range a 49152 (12288 + b * 16384) (12288 + b * 16384 + n) (omega arith) (omega (arith, few, short))
-      ∙ sym (same_range c a (12288 + b * 16384) (12288 + b * 16384 + n) size (omega (arith, long_c, few, short))
-      (λ i low high. apart i (omega (arith, high, few, short)) (inr (omega (arith, low, two)))))
-      ∙ sym (inner_range c 49152 (12288 + b * 16384) (12288 + b * 16384 + n) (omega arith) (omega (arith, few, short)))
+  bank_same b n few short = same_bank a c large size page_same gate_same b n few short (λ i low high. apart i (omega (arith, high, few, short)) (inr (omega (arith, low, two))))
 
   installed_same : (layout : List Entry) (key : Key) (r : Record) → r.bank < 2 → r.length ≤ 16384 → IsInstalled layout key (recorded_bank VERSION_1 (head_of VERSION_1 a) r) r
       → IsInstalled layout key (recorded_bank VERSION_1 (head_of VERSION_1 c) r) r

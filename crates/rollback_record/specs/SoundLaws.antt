@@ -1,6 +1,6 @@
 -- Laws of sound flashes.
-use Rattle.std.specs.Prelude.{◌≡◌, ◌<◌, ◌≤◌, ℕ, List, length, Option, None, IfSome}
-use Rattle.suit_edge.specs.Ranges.{Outside, SameOn}
+use Rattle.std.specs.Prelude.{◌≡◌, ◌⊎◌, ◌<◌, ◌≤◌, ℕ, List, length, Option, Some, None, IfSome}
+use Rattle.suit_edge.specs.Ranges.{Outside, SameOn, Within}
 use Rattle.flash_layout.specs.declared.frame.Frame.{Frame}
 use Rattle.flash_layout.specs.declared.frame.TheConstants.{VERSION_1}
 use Rattle.flash_layout.specs.declared.key.Key.{Key}
@@ -8,7 +8,7 @@ use Rattle.flash_layout.specs.declared.layout.Entry.{Entry}
 use Rattle.flash_layout.specs.declared.slot.Record.{Record}
 use Rattle.flash_layout.specs.Configs.{ConfigOf, Configured}
 use Rattle.flash_layout.specs.Formats.{IsFormatted}
-use Rattle.flash_layout.specs.Frames.{HasNoRecord, config_page_of, head_of, record_place}
+use Rattle.flash_layout.specs.Frames.{HasNoRecord, bank_place, config_page_of, head_of, record_place}
 use Rattle.rollback_record.specs.declared.page.TheConstants.{RECORD_BYTES}
 use Rattle.rollback_record.specs.HeadRecord.{RecordOf}
 use Rattle.rollback_record.specs.Committing.{HasHeldOrNew, InHead}
@@ -34,6 +34,17 @@ pub record IsCommitted (held : Option Record) (new : Record) (before image : Lis
   pub beside : SameOn (λ i. InHead VERSION_1 i × Outside (record_place VERSION_1 which) RECORD_BYTES i) before image
   pub record_is : HasHeldOrNew VERSION_1 held new image
 
+-- the places that say what is recorded: the configuration page, the record pages, and of the bank what the record tells
+abbrev pub SaysRecorded : Option Record → ℕ → Type 0
+SaysRecorded None i = i < bank_place VERSION_1 0
+SaysRecorded (Some r) i = (i < bank_place VERSION_1 0) ⊎ Within (bank_place VERSION_1 r.bank) r.length i
+
+-- Of a sound image, and one with the same bytes at these places.
+pub record IsStillSound (held : Option Record) (before image : List ℕ) : Type 0 where
+  pub sound : Sound VERSION_1 image
+  pub held_is : RecordOf VERSION_1 (head_of VERSION_1 image) held
+  pub follows : Follows VERSION_1 before image
+
 pub record SoundLaws : Type 0 where
   -- where both gates are closed, no record stands
   pub no_record : (frame : Frame) (head : List ℕ) → HasNoRecord frame head → RecordOf frame head None
@@ -44,6 +55,9 @@ pub record SoundLaws : Type 0 where
       → IsInstalledFor before new → Sound VERSION_1 before → Sound VERSION_1 image
   pub follows : (held : Option Record) (new : Record) (before image : List ℕ) → IsCommitted held new before image → IfSome held (λ r. IsNoEarlier r new)
       → Sound VERSION_1 before → Follows VERSION_1 before image
+  -- while nothing changes that says what is recorded, so does what is written in the other bank and in slots
+  pub kept : (held : Option Record) (before image : List ℕ) → VERSION_1.size ≤ length before → RecordOf VERSION_1 (head_of VERSION_1 before) held
+      → SameOn (SaysRecorded held) before image → Sound VERSION_1 before → IsStillSound held before image
   -- nothing but the head decides
   pub same : (frame : Frame) (image other : List ℕ) → length other ≡ length image → head_of frame other ≡ head_of frame image → Sound frame image → Sound frame other
   -- what goes on from what goes on does so too
