@@ -1,0 +1,88 @@
+-- A sound flash stays so while nothing changes that says what is recorded.
+use Rattle.std.proofs.Common.{◌≡◌, inl, inr, ◌<◌, ◌≤◌, ℕ, ◌+◌, ◌-◌, ◌*◌, List, length, get_or, Option, Some, None, refl, sym, ◌∙◌, subst, arith}
+use Rattle.suit_edge.specs.Ranges.{SameOn}
+use Rattle.suit_edge.specs.RangeLaws.{same_range}
+use Rattle.flash_layout.specs.declared.frame.TheConstants.{VERSION_1}
+use Rattle.flash_layout.specs.declared.key.Key.{Key}
+use Rattle.flash_layout.specs.declared.layout.Entry.{Entry}
+use Rattle.flash_layout.specs.declared.slot.Record.{Record}
+use Rattle.flash_layout.specs.Configs.{ConfigOf, Configured}
+use Rattle.flash_layout.specs.Frames.{config_page_of, head_of}
+use Rattle.rollback_record.specs.HeadRecord.{Counts, RecordOf, record_bytes}
+use Rattle.rollback_record.specs.SoundFlash.{Follows, FollowsBlank, FollowsOn, IsInstalled, Sound, SoundBlank, SoundEmpty, SoundInstalled, recorded_bank}
+use Rattle.rollback_record.specs.SoundLaws.{IsStillSound, SaysRecorded}
+use Rattle.rollback_record.proofs.OneAnswers.{one_answer}
+use Rattle.rollback_record.proofs.Pages.{bytes_in, config_in, counts_of}
+use Rattle.rollback_record.proofs.Sounds.{same_bank, same_blank, same_config}
+
+at_front : (held : Option Record) (before image : List ℕ) → SameOn (SaysRecorded held) before image → (i : ℕ) → i < 12288 → get_or image i 0 ≡ get_or before i 0
+at_front None before image same i few = same.same i few
+at_front (Some r) before image same i few = same.same i (inl few)
+
+module _ (held : Option Record) (a c : List ℕ) (large : 49152 ≤ length a) (was : RecordOf VERSION_1 (head_of VERSION_1 a) held) (same : SameOn (SaysRecorded held) a c) where
+  front : (i : ℕ) → i < 12288 → get_or c i 0 ≡ get_or a i 0
+  front = at_front held a c same
+
+  large_c : 49152 ≤ length c
+  large_c = omega (arith, same.size, large)
+
+  page_same : config_page_of VERSION_1 (head_of VERSION_1 a) ≡ config_page_of VERSION_1 (head_of VERSION_1 c)
+  page_same = config_in a ∙ sym (same_range c a 0 1204 same.size (omega (arith, large_c)) (λ i low high. front i (omega (arith, high)))) ∙ sym (config_in c)
+
+  gate_same : get_or c 0 0 ≡ get_or a 0 0
+  gate_same = front 0 (omega arith)
+
+  bytes_same : (v : ℕ) → v < 2 → record_bytes VERSION_1 (head_of VERSION_1 a) v ≡ record_bytes VERSION_1 (head_of VERSION_1 c) v
+  bytes_same v few =
+      bytes_in a v few ∙ sym (same_range c a (4096 + v * 4096) (4096 + v * 4096 + 99) same.size (omega (arith, large_c, few)) (λ i low high. front i (omega (arith, high, few)))) ∙ sym (bytes_in c v few)
+
+  counted : (v : ℕ) (r : Record) → v < 2 → Counts VERSION_1 (head_of VERSION_1 a) v r → Counts VERSION_1 (head_of VERSION_1 c) v r
+  counted v r few is = counts_of a c v r large_c page_same (bytes_same v few) is
+
+  counted_before : (v : ℕ) (r : Record) → v < 2 → Counts VERSION_1 (head_of VERSION_1 c) v r → Counts VERSION_1 (head_of VERSION_1 a) v r
+  counted_before v r few is = counts_of c a v r large (sym page_same) (sym (bytes_same v few)) is
+
+  recorded : (o : Option Record) → RecordOf VERSION_1 (head_of VERSION_1 a) o → RecordOf VERSION_1 (head_of VERSION_1 c) o
+  recorded None none = λ v r few is. none v r few (counted_before v r few is)
+  recorded (Some r) h = record {
+    which = h.which;
+    inside = h.inside;
+    counts = counted h.which r h.inside h.counts;
+    highest = λ other is. h.highest other (counted_before (1 - h.which) other (omega arith) is);
+  }
+
+  configured : (layout : List Entry) (key : Key) → ConfigOf VERSION_1 (length a) (head_of VERSION_1 a) (Configured layout key) → ConfigOf VERSION_1 (length c) (head_of VERSION_1 c) (Configured layout key)
+  configured = same_config a c large same.size page_same gate_same
+
+  -- the bank of the record that is held
+  banked : (layout : List Entry) (key : Key) (r : Record) → RecordOf VERSION_1 (head_of VERSION_1 a) (Some r) → IsInstalled layout key (recorded_bank VERSION_1 (head_of VERSION_1 a) r) r
+      → IsInstalled layout key (recorded_bank VERSION_1 (head_of VERSION_1 c) r) r
+  banked layout key r is installed =
+      subst (λ (l : List ℕ). IsInstalled layout key l r)
+      (same_bank a c large same.size page_same gate_same r.bank r.length is.counts.page.fields.bank is.counts.page.fields.size (λ i low high. at_held.same i (inr (omega (arith, low), omega (arith, high)))))
+      installed
+    where
+      at_held : SameOn (SaysRecorded (Some r)) a c
+      at_held = subst (λ (o : Option Record). SameOn (SaysRecorded o) a c) (one_answer VERSION_1 (head_of VERSION_1 a) held (Some r) was is) same
+
+  sound_of : Sound VERSION_1 a → Sound VERSION_1 c
+  sound_of (SoundBlank is) = SoundBlank (same_blank a c large same.size page_same gate_same is)
+  sound_of (SoundEmpty layout key config none) = SoundEmpty layout key (configured layout key config) (recorded None none)
+  sound_of (SoundInstalled layout key r config is installed) = SoundInstalled layout key r (configured layout key config) (recorded (Some r) is) (banked layout key r is installed)
+
+  goes_on : (layout : List Entry) (key : Key) → ConfigOf VERSION_1 (length a) (head_of VERSION_1 a) (Configured layout key) → Follows VERSION_1 a c
+  goes_on layout key config = FollowsOn (record {
+    layout = layout;
+    key = key;
+    was = config;
+    is = configured layout key config;
+    later = λ r is. (r, recorded (Some r) is, record { number = omega arith; same = λ _. refl });
+  })
+
+  follows_of : Sound VERSION_1 a → Follows VERSION_1 a c
+  follows_of (SoundBlank is) = FollowsBlank is
+  follows_of (SoundEmpty layout key config none) = goes_on layout key config
+  follows_of (SoundInstalled layout key r config is installed) = goes_on layout key config
+
+  pub still_sound : Sound VERSION_1 a → IsStillSound held a c
+  still_sound sound = record { sound = sound_of sound; held_is = recorded held was; follows = follows_of sound }
