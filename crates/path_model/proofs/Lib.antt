@@ -22,3 +22,4 @@ pub mod PlaysLead
 pub mod DeviceLeads
 pub mod PlaysKeep
 pub mod Vouching
+pub mod DeviceLaws

@@ -22,3 +22,4 @@ pub mod Plays
 pub mod Settings
 pub mod DevicePlays
 pub mod PlayLaws
+pub mod DeviceLaws

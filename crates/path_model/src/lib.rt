@@ -21,7 +21,7 @@ pub use law::{
     identity_laws, inner_sequence_laws, one_run_laws, overriding_laws, procedure_laws, safety_laws,
     selection_laws, sequence_laws,
 };
-pub use play_law::play_laws;
+pub use play_law::{device_laws, play_laws};
 pub use procedure::Procedure;
 
 #[cfg(test)]

@@ -1,5 +1,6 @@
 //! What the definitions of plays come to. Each call does nothing, and its contract is a law.
 
+ghost use Rattle.path_model.specs.DeviceLaws.{ConditionRules, WriteRules, FetchRules, CopyRules, SwapRules, InvokeRule, PayloadRules, FaultRule};
 ghost use Rattle.path_model.specs.PlayLaws.{PlayRuns, FaultedIsPath, FaultedLaunchesFirst, SafeLaunches, FaultedSafeLaunches};
 
 /// What is played on contents may happen: a play is a run of its procedure, and the events of a play that a fault cut
@@ -11,4 +12,17 @@ pub fn play_laws()
     ensures launches { FaultedLaunchesFirst }
     ensures safe { SafeLaunches }
     ensures faulted_safe { FaultedSafeLaunches }
+{}
+
+/// What conditions and directives come to on the contents of a device: when a match and a check of the content pass, when
+/// each directive fails and why, what it leaves, and what a fault of the outside may leave (sections 8.4.9 and 8.4.10).
+pub fn device_laws()
+    ensures conditions { ConditionRules }
+    ensures writes { WriteRules }
+    ensures fetches { FetchRules }
+    ensures copies { CopyRules }
+    ensures swaps { SwapRules }
+    ensures invokes { InvokeRule }
+    ensures payloads { PayloadRules }
+    ensures faults { FaultRule }
 {}
