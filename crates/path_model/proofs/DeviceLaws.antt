@@ -1,8 +1,8 @@
 -- The laws of conditions and directives on contents.
-use Rattle.std.proofs.Common.{◌≡◌, ◌≢◌, ◌<◌, ◌≤◌, ℕ, Bool, true, false, List, [], ◌∷◌, ◌++◌, Option, Some, None, refl, sym, ap, subst, ◌∙◌, inl, inr, length, length-set, arith, get_or-set_same, get_or-set_other}
+use Rattle.std.proofs.Common.{◌≡◌, ◌≢◌, ◌<◌, ◌≤◌, ℕ, Bool, true, false, List, [], ◌∷◌, Option, Some, None, refl, sym, ap, subst, ◌∙◌, inl, inr, length, length-set, arith, get_or-set_same, get_or-set_other}
 use Rattle.std.proofs.lemmas.Bool.{eqb-true, eq-eqb, ne_eqb, le-leb, lt-leb, and_from, and_left, and_right, true≢false}
 use lib.Pointwise.{bytes_decides}
-use Rattle.std.specs.Prelude.{◌==◌, ◌↔◌, nat_le, ◌&&◌, if◌then◌else◌, slice_set}
+use Rattle.std.specs.Prelude.{◌==◌, nat_le, ◌&&◌, if◌then◌else◌}
 use Rattle.std.specs.Option.{option_and_then}
 use Rattle.std.specs.Str.{bytes_eq}
 use Rattle.sha2.specs.Sha256.{sha256}
@@ -14,14 +14,14 @@ use Rattle.suit_commands.specs.declared.kinds.TestKind.TheVariants as tests
 use Rattle.suit_commands.specs.declared.kinds.ActKind.{ActKind}
 use Rattle.suit_commands.specs.declared.kinds.ActKind.TheVariants as acts
 use Rattle.path_model.specs.declared.event.Event.{Event}
-use Rattle.path_model.specs.declared.event.Event.TheVariants.{Tried, Matched, Missed, Wrote, Failed}
+use Rattle.path_model.specs.declared.event.Event.TheVariants.{Tried, Matched, Missed, Wrote}
 use Rattle.path_model.specs.declared.cause.Cause.{Cause}
 use Rattle.path_model.specs.declared.cause.Cause.TheVariants as causes
-use Rattle.path_model.specs.Behaviour.{State, Ending, Done, Condition, Directive}
+use Rattle.path_model.specs.Behaviour.{State, Done, Condition}
 use Rattle.path_model.specs.Settings.{Setting, capacity_of, found_under, payload_of}
-use Rattle.path_model.specs.Plays.{Outcome, Play}
-use Rattle.path_model.specs.DevicePlays.{Launched, Device, content_at, with_content, tested, unread, comparing, fits_size, is_image, matched, is_content, condition_play, Change, Made, Refused, concluded, filled, fetched, copied, swapped, fits_into, acted, ActIsCut, HoldsAny, WriteLeaves, FetchLeaves, SwapLeaves, launch_of, directive_play}
-use Rattle.path_model.specs.DeviceLaws.{HasImage, ConditionRules, Fails, Holds, WriteRules, FetchRules, CopyRules, Exchanged, NoRoom, SwapRules, InvokeRule, PayloadRules, Leaves, IsFault, FaultRule, acts_at}
+use Rattle.path_model.specs.Plays.{Outcome}
+use Rattle.path_model.specs.DevicePlays.{Device, content_at, with_content, tested, unread, comparing, fits_size, is_image, matched, is_content, condition_play, Change, Made, Refused, concluded, filled, fetched, copied, swapped, fits_into, acted, ActIsCut, HoldsAny, WriteLeaves, FetchLeaves, SwapLeaves, launch_of}
+use Rattle.path_model.specs.DeviceLaws.{ConditionRules, Fails, Holds, WriteRules, FetchRules, CopyRules, Exchanged, NoRoom, SwapRules, InvokeRule, PayloadRules, HoldsSome, Leaves, IsFault, FaultRule, acts_at}
 
 -- ---- conditions
 
@@ -310,12 +310,15 @@ swap_rules = record {
 }
 
 pub invoke_rule : InvokeRule
-invoke_rule setting p c s w = (refl, record {
-  launch = launch_of w c s.parameters;
-  is = record { component = refl; bytes = refl; digest = refl; size = refl; args = refl };
-  added = refl;
-  contents = refl;
-})
+invoke_rule setting p c s w = (
+  refl,
+  record {
+    launch = launch_of w c s.parameters;
+    is = record { component = refl; bytes = refl; digest = refl; size = refl; args = refl };
+    added = refl;
+    contents = refl;
+  },
+)
 
 -- ---- payloads
 
@@ -342,22 +345,22 @@ payload_rules = record {
 
 -- ---- faults
 
-held_any : (setting : Setting) (c : ℕ) (w v : Device) → HoldsAny setting c w v → v.launches ≡ w.launches
-held_any setting c w v (bytes, short, is) = ap (λ (x : Device). x.launches) is
+held_some : (setting : Setting) (c : ℕ) (w v : Device) → HoldsAny setting c w v → HoldsSome setting c w v
+held_some setting c w v (bytes, short, is) = record { bytes = bytes; short = short; holds = subst (λ (u : Device). Holds c bytes w u) (sym is) (holds_with c bytes w) }
 
-module _ {A : Type 0} (kind : ActKind) (p c : ℕ) (told : A → List Event) (Left : A → Cause → Device → Device → Type 0)
-    (leaves : (x : A) (cause : Cause) (w v : Device) → Left x cause w v → Leaves kind cause c w v) where
-  cut_fault : (s : State) (w : Device) (o : Outcome Device) (wanted : Option A) → ActIsCut p told Left s w o wanted → IsFault kind p c w o
+module _ {A : Type 0} (setting : Setting) (kind : ActKind) (p c : ℕ) (told : A → List Event) (Left : A → Cause → Device → Device → Type 0)
+    (leaves : (x : A) (cause : Cause) (w v : Device) → Left x cause w v → Leaves setting kind cause c w v) where
+  cut_fault : (s : State) (w : Device) (o : Outcome Device) (wanted : Option A) → ActIsCut p told Left s w o wanted → IsFault setting kind p c w o
   cut_fault s w o None cut = absurd cut
   cut_fault s w o (Some x) (cause, v, left, is) = record {
     ending = ap (λ (y : Outcome Device). y.ending) is;
     cause = cause;
     named = ap (λ (y : Outcome Device). y.cause) is;
-    leaves = subst (λ (u : Device). Leaves kind cause c w u) (sym (ap (λ (y : Outcome Device). y.world) is)) (leaves x cause w v left);
+    leaves = subst (λ (u : Device). Leaves setting kind cause c w u) (sym (ap (λ (y : Outcome Device). y.world) is)) (leaves x cause w v left);
   }
 
-write_left : (setting : Setting) (c : ℕ) (cause : Cause) (w v : Device) → WriteLeaves setting c cause w v → Leaves acts.Write cause c w v
-write_left setting c causes.FlashFault w v h = held_any setting c w v h
+write_left : (setting : Setting) (c : ℕ) (cause : Cause) (w v : Device) → WriteLeaves setting c cause w v → Leaves setting acts.Write cause c w v
+write_left setting c causes.FlashFault w v h = held_some setting c w v h
 write_left setting c causes.Missing w v h = absurd h
 write_left setting c causes.SelfCopy w v h = absurd h
 write_left setting c causes.TooLarge w v h = absurd h
@@ -365,8 +368,8 @@ write_left setting c causes.Absent w v h = absurd h
 write_left setting c causes.HostFault w v h = absurd h
 write_left setting c causes.LaunchFault w v h = absurd h
 
-copy_left : (setting : Setting) (c : ℕ) (cause : Cause) (w v : Device) → WriteLeaves setting c cause w v → Leaves acts.Copy cause c w v
-copy_left setting c causes.FlashFault w v h = held_any setting c w v h
+copy_left : (setting : Setting) (c : ℕ) (cause : Cause) (w v : Device) → WriteLeaves setting c cause w v → Leaves setting acts.Copy cause c w v
+copy_left setting c causes.FlashFault w v h = held_some setting c w v h
 copy_left setting c causes.Missing w v h = absurd h
 copy_left setting c causes.SelfCopy w v h = absurd h
 copy_left setting c causes.TooLarge w v h = absurd h
@@ -374,8 +377,8 @@ copy_left setting c causes.Absent w v h = absurd h
 copy_left setting c causes.HostFault w v h = absurd h
 copy_left setting c causes.LaunchFault w v h = absurd h
 
-fetch_left : (setting : Setting) (c : ℕ) (cause : Cause) (w v : Device) → FetchLeaves setting c cause w v → Leaves acts.Fetch cause c w v
-fetch_left setting c causes.FlashFault w v h = held_any setting c w v h
+fetch_left : (setting : Setting) (c : ℕ) (cause : Cause) (w v : Device) → FetchLeaves setting c cause w v → Leaves setting acts.Fetch cause c w v
+fetch_left setting c causes.FlashFault w v h = held_some setting c w v h
 fetch_left setting c causes.HostFault w v h =
     elim h [ inl is ↦ inl is | inr is ↦ inr (subst (λ (u : Device). Holds c [] w u) (sym is) (holds_with c [] w)) ]
 fetch_left setting c causes.Missing w v h = absurd h
@@ -384,8 +387,8 @@ fetch_left setting c causes.TooLarge w v h = absurd h
 fetch_left setting c causes.Absent w v h = absurd h
 fetch_left setting c causes.LaunchFault w v h = absurd h
 
-swap_left : (setting : Setting) (c source : ℕ) (cause : Cause) (w v : Device) → SwapLeaves setting c source cause w v → Leaves acts.Swap cause c w v
-swap_left setting c source causes.FlashFault w v (m, one, two) = held_any setting source m v two ∙ held_any setting c w m one
+swap_left : (setting : Setting) (c source : ℕ) (cause : Cause) (w v : Device) → SwapLeaves setting c source cause w v → Leaves setting acts.Swap cause c w v
+swap_left setting c source causes.FlashFault w v (m, one, two) = record { source = source; middle = m; one = held_some setting c w m one; other = held_some setting source m v two }
 swap_left setting c source causes.HostFault w v h = absurd h
 swap_left setting c source causes.Missing w v h = absurd h
 swap_left setting c source causes.SelfCopy w v h = absurd h
@@ -395,13 +398,13 @@ swap_left setting c source causes.LaunchFault w v h = absurd h
 
 pub fault_rule : FaultRule
 fault_rule setting acts.Write p c s w o cut =
-    cut_fault acts.Write p c (λ x. Wrote c ∷ []) (λ x. WriteLeaves setting c) (λ x. write_left setting c) s w o (bytes_of (in_force s.parameters c keys.Content)) cut
+    cut_fault setting acts.Write p c (λ x. Wrote c ∷ []) (λ x. WriteLeaves setting c) (λ x. write_left setting c) s w o (bytes_of (in_force s.parameters c keys.Content)) cut
 fault_rule setting acts.Fetch p c s w o cut =
-    cut_fault acts.Fetch p c (λ x. Wrote c ∷ []) (λ x. FetchLeaves setting c) (λ x. fetch_left setting c) s w o (bytes_of (in_force s.parameters c keys.Uri)) cut
+    cut_fault setting acts.Fetch p c (λ x. Wrote c ∷ []) (λ x. FetchLeaves setting c) (λ x. fetch_left setting c) s w o (bytes_of (in_force s.parameters c keys.Uri)) cut
 fault_rule setting acts.Copy p c s w o cut =
-    cut_fault acts.Copy p c (λ x. Wrote c ∷ []) (λ x. WriteLeaves setting c) (λ x. copy_left setting c) s w o (number_of (in_force s.parameters c keys.Source)) cut
+    cut_fault setting acts.Copy p c (λ x. Wrote c ∷ []) (λ x. WriteLeaves setting c) (λ x. copy_left setting c) s w o (number_of (in_force s.parameters c keys.Source)) cut
 fault_rule setting acts.Swap p c s w o cut =
-    cut_fault acts.Swap p c (λ x. Wrote c ∷ Wrote x ∷ []) (λ x. SwapLeaves setting c x) (λ x. swap_left setting c x) s w o (number_of (in_force s.parameters c keys.Source)) cut
+    cut_fault setting acts.Swap p c (λ x. Wrote c ∷ Wrote x ∷ []) (λ x. SwapLeaves setting c x) (λ x. swap_left setting c x) s w o (number_of (in_force s.parameters c keys.Source)) cut
 fault_rule setting acts.Invoke p c s w o (causes.LaunchFault, stops, is) = record {
   ending = ap (λ (y : Outcome Device). y.ending) is;
   cause = causes.LaunchFault;

@@ -23,3 +23,5 @@ pub mod DeviceLeads
 pub mod PlaysKeep
 pub mod Vouching
 pub mod DeviceLaws
+pub mod PlaysEnd
+pub mod DeviceEnds

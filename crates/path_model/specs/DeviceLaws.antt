@@ -171,23 +171,38 @@ pub record PayloadRules : Type 0 where
 
 -- ---- faults
 
--- what a fault may leave of a directive: after one of the host the old content or none, after one of the launcher all as
--- it was
-abbrev pub Leaves : ActKind → Cause → ℕ → Device → Device → Type 0
-Leaves acts.Fetch causes.HostFault component before after = (after ≡ before) ⊎ Holds component [] before after
-Leaves acts.Invoke causes.LaunchFault component before after = after ≡ before
-Leaves acts.Invoke causes.FlashFault component before after = after ≡ before
--- the others change at most the component, and a swap its source
-Leaves kind causes.FlashFault component before after = after.launches ≡ before.launches
-Leaves kind cause component before after = ⊥
+-- the component holds some bytes, up to its capacity, and all else is as it was
+pub record HoldsSome (setting : Setting) (component : ℕ) (before after : Device) : Type 0 where
+  pub bytes : List ℕ
+  pub short : length bytes ≤ capacity_of setting component
+  pub holds : Holds component bytes before after
 
-pub record IsFault (kind : ActKind) (place component : ℕ) (before : Device) (outcome : Outcome Device) : Type 0 where
+-- both sides of a swap do
+pub record HoldBoth (setting : Setting) (component : ℕ) (before after : Device) : Type 0 where
+  pub source : ℕ
+  pub middle : Device
+  pub one : HoldsSome setting component before middle
+  pub other : HoldsSome setting source middle after
+
+-- what a fault may leave of a directive: of the flash any content of what it writes, of the host the old content or none,
+-- and of the launcher all as it was
+abbrev pub Leaves : Setting → ActKind → Cause → ℕ → Device → Device → Type 0
+Leaves setting acts.Write causes.FlashFault component before after = HoldsSome setting component before after
+Leaves setting acts.Fetch causes.FlashFault component before after = HoldsSome setting component before after
+Leaves setting acts.Fetch causes.HostFault component before after = (after ≡ before) ⊎ Holds component [] before after
+Leaves setting acts.Copy causes.FlashFault component before after = HoldsSome setting component before after
+Leaves setting acts.Swap causes.FlashFault component before after = HoldBoth setting component before after
+Leaves setting acts.Invoke causes.FlashFault component before after = after ≡ before
+Leaves setting acts.Invoke causes.LaunchFault component before after = after ≡ before
+Leaves setting kind cause component before after = ⊥
+
+pub record IsFault (setting : Setting) (kind : ActKind) (place component : ℕ) (before : Device) (outcome : Outcome Device) : Type 0 where
   pub ending : outcome.ending ≡ Directive place
   pub cause : Cause
   pub named : outcome.cause ≡ Some cause
-  pub leaves : Leaves kind cause component before outcome.world
+  pub leaves : Leaves setting kind cause component before outcome.world
 
 abbrev pub FaultRule : Type 0
 FaultRule =
     (setting : Setting) (kind : ActKind) (place component : ℕ) (state : State) (device : Device) (outcome : Outcome Device)
-    → (directive_play setting kind place component).IsCut state device outcome → IsFault kind place component device outcome
+    → (directive_play setting kind place component).IsCut state device outcome → IsFault setting kind place component device outcome
