@@ -1,2 +1,4 @@
 pub mod Stored
 pub mod Whole
+pub mod Since
+pub mod Over

@@ -1,9 +1,11 @@
 -- What is read of a slot's content, and what a writing has put in its place.
-use Rattle.std.specs.Prelude.{◌≡◌, ◌<◌, ◌≤◌, ◌+◌, ◌-◌, ℕ, min, List, ◌++◌, length, take, drop, slice_range, Result, Ok, Err, MatchResult}
+use Rattle.std.specs.Prelude.{◌≡◌, ◌⊎◌, ◌<◌, ◌≤◌, ◌+◌, ◌-◌, ℕ, min, List, [], ◌++◌, length, take, drop, slice_range, Result, Ok, Err, MatchResult}
 use Rattle.suit_edge.specs.Faults.{Faulted}
+use Rattle.suit_edge.specs.Flash.{Flash, Now}
 use Rattle.flash_layout.specs.declared.frame.TheConstants.{LENGTH_SIZE}
 use Rattle.flash_layout.specs.declared.slot.FlashFault.{FlashFault}
 use Rattle.flash_layout.specs.declared.slot.Slot.{Slot}
+use Rattle.flash_layout.specs.Slots.{slot_content}
 use Rattle.flash_slots.specs.declared.writing.AppendFault.{AppendFault}
 use Rattle.flash_slots.specs.declared.writing.AppendFault.TheVariants as fault
 
@@ -27,6 +29,17 @@ part_of slot from n image = slice_range image (slot.start + LENGTH_SIZE + from) 
 -- the first bytes of the room for the content
 abbrev pub pieces_of : Slot → ℕ → List ℕ → List ℕ
 pieces_of slot n image = slice_range image (slot.start + LENGTH_SIZE) (slot.start + LENGTH_SIZE + n)
+
+abbrev pub IsEmptySlot : Slot → List ℕ → Type 0
+IsEmptySlot slot image = slot_content slot image ≡ []
+
+-- the slot is empty in each image that a power loss now may leave
+abbrev pub IsEmptyInEach : Slot → Flash → Type 0
+IsEmptyInEach slot f = (image : List ℕ) → Now f image → IsEmptySlot slot image
+
+-- the slot is empty, or the pieces stand in it whole, as they were read
+abbrev pub IsEmptyOrWhole : Slot → ℕ → List ℕ → List ℕ → Type 0
+IsEmptyOrWhole slot n old image = IsEmptySlot slot image ⊎ (pieces_of slot n image ≡ pieces_of slot n old)
 
 -- what is too large for the slot is refused by its capacity, and nothing else is
 abbrev pub AppendsWithin : {A : Type 0} → Result A AppendFault → ℕ → ℕ → Type 0

@@ -1,9 +1,9 @@
 //! Replacing a slot's content.
 
 ghost use Rattle.flash_layout.specs.Slots.{LiesWithin, extent_of, slot_content};
-ghost use Rattle.flash_slots.specs.Contents.{AppendCounts, AppendsWithin, IfTooLarge, ResultCounts, pieces_of};
+ghost use Rattle.flash_slots.specs.Contents.{AppendCounts, AppendsWithin, IfTooLarge, IsEmptyInEach, IsEmptyOrWhole, IsEmptySlot, ResultCounts, pieces_of};
 ghost use Rattle.std.specs.Prelude.{◌≡◌, ◌≤◌, ◌+◌, [], ◌++◌, IfOk, OnOk, IsTrue, length};
-ghost use Rattle.suit_edge.specs.Flash.{Grows, IsSettled, Keeps};
+ghost use Rattle.suit_edge.specs.Flash.{Grows, IsSettled, Keeps, Passes};
 ghost use Rattle.suit_edge.specs.Ranges.{Outside};
 
 use flash_layout::{FlashFault, LENGTH_SIZE, Slot};
@@ -58,6 +58,7 @@ impl Writing {
         ensures pieces { IsTrue D.told → OnOk result (pieces_of self.new.slot self.new.written (D.flash disk.new).reads
             ≡ pieces_of self.old.slot self.old.written (D.flash disk.old).reads ++ piece.now) }
         ensures empty { IsTrue D.told → slot_content self.old.slot (D.flash disk.old).reads ≡ [] → slot_content self.old.slot (D.flash disk.new).reads ≡ [] }
+        ensures still_empty { IsTrue D.told → IsEmptyInEach self.old.slot (D.flash disk.old) → Passes (D.flash disk.old) (D.flash disk.new) (IsEmptySlot self.old.slot) }
         ensures keeps { IsTrue D.told → Keeps (Outside (self.old.slot.start + LENGTH_SIZE + self.old.written) (length piece.now)) (D.flash disk.old) (D.flash disk.new) }
         ensures grows { IsTrue D.told → Grows (D.flash disk.old) (D.flash disk.new) }
     {
@@ -76,7 +77,8 @@ impl Writing {
         }
     }
 
-    /// Makes sure of the pieces, and then makes them the content and makes sure of it. Where it fails, the slot holds any
+    /// Makes sure of the pieces, and then makes them the content and makes sure of it. Until a length is stored the slot is
+    /// empty, also after a power loss, and from then on the pieces stand in it whole. Where it fails, the slot holds any
     /// content.
     pub fn finish<D: Disk>(self, disk: &mut D) -> Result<(), FlashFault>
         requires slot { LiesWithin (D.extent disk.old) self.slot }
@@ -85,6 +87,8 @@ impl Writing {
         ensures counts { ResultCounts result (D.faults disk.old) (D.faults disk.new) }
         ensures content { IsTrue D.told → OnOk result (slot_content self.slot (D.flash disk.new).reads ≡ pieces_of self.slot self.written (D.flash disk.old).reads) }
         ensures settled { IsTrue D.told → OnOk result (IsSettled (D.flash disk.new)) }
+        ensures any_moment { IsTrue D.told → IsEmptyInEach self.slot (D.flash disk.old)
+            → Passes (D.flash disk.old) (D.flash disk.new) (IsEmptyOrWhole self.slot self.written (D.flash disk.old).reads) }
         ensures keeps { IsTrue D.told → Keeps (Outside self.slot.start LENGTH_SIZE) (D.flash disk.old) (D.flash disk.new) }
         ensures grows { IsTrue D.told → Grows (D.flash disk.old) (D.flash disk.new) }
     {

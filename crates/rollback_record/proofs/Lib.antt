@@ -3,3 +3,6 @@ pub mod Pages
 pub mod Loads
 pub mod Commits
 pub mod OneAnswers
+mod Sounds
+mod SoundSince
+mod Installed

@@ -29,7 +29,7 @@ head_long image long = omega (arith, long, length-take 49152 image)
 pub head_short : (image : List ℕ) → length image < 49152 → length (head_of VERSION_1 image) < 49152
 head_short image short = omega (arith, short, length-take 49152 image)
 
-inner_range : (image : List ℕ) (n from to : ℕ) → from ≤ to → to ≤ n → slice_range (take n image) from to ≡ slice_range image from to
+pub inner_range : (image : List ℕ) (n from to : ℕ) → from ≤ to → to ≤ n → slice_range (take n image) from to ≡ slice_range image from to
 inner_range image n from to low high =
     let e : n ≡ from + (n - from) = omega arith in
     let few : to - from ≤ n - from = omega arith in
@@ -64,7 +64,7 @@ module _ (a c : List ℕ) (w : ℕ) (large : 49152 ≤ length a) (size : length 
   large_c : 49152 ≤ length c
   large_c = omega (arith, size, large)
 
-  config_same : config_page_of VERSION_1 (head a) ≡ config_page_of VERSION_1 (head c)
+  pub config_same : config_page_of VERSION_1 (head a) ≡ config_page_of VERSION_1 (head c)
   config_same = config_in a ∙ sym (same_range c a 0 1204 size (omega (arith, large_c)) (λ i low high. apart i (omega (arith, high)) (inl (omega (arith, high))))) ∙ sym (config_in c)
 
   beside : (v i : ℕ) → v + w ≡ 1 → page v ≤ i → i < page v + 99 → Outside (page w) 99 i

@@ -3,3 +3,7 @@ pub mod HeadRecord
 pub mod Judging
 pub mod Committing
 pub mod RecordLaws
+pub mod SoundFlash
+pub mod SoundLaws
+pub mod SettledLaws
+pub mod InstalledLaws

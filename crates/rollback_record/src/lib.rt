@@ -5,6 +5,7 @@ mod judging;
 mod law;
 mod load;
 mod page;
+mod sound_law;
 mod typing;
 mod writing;
 
@@ -13,6 +14,7 @@ pub use judging::{Judged, judge};
 pub use law::record_laws;
 pub use load::load_record;
 pub use page::RECORD_BYTES;
+pub use sound_law::{installed_laws, sound_laws};
 pub use writing::commit;
 
 #[cfg(test)]

@@ -4,7 +4,9 @@ ghost use Rattle.flash_layout.specs.Frames.{config_page_of, head_of};
 ghost use Rattle.rollback_record.specs.Committing.{HasHeldOrNew, InHead, IsNext, IsSpare, KeepsBesideSpare};
 ghost use Rattle.rollback_record.specs.HeadRecord.{RecordOf, ResultCounts};
 ghost use Rattle.rollback_record.specs.RecordPage.{IsInRange, record_body};
-ghost use Rattle.std.specs.Prelude.{◌≡◌, ◌↔◌, ◌∷◌, ◌≤◌, ◌<◌, IfOk, IsTrue, OnOk, Some, length, option_map};
+ghost use Rattle.rollback_record.specs.SoundFlash.{Follows, IsNoEarlier, Sound};
+ghost use Rattle.rollback_record.specs.SoundLaws.{IsInstalledFor};
+ghost use Rattle.std.specs.Prelude.{◌≡◌, ◌↔◌, ◌∷◌, ◌≤◌, ◌<◌, IfOk, IfSome, IsTrue, OnOk, Some, length, option_map};
 ghost use Rattle.suit_edge.specs.Flash.{Grows, IsFirmOn, IsSame, IsSettled, Passes};
 
 use crate::page::{RECORD_BYTES, is_page_of, spell};
@@ -68,6 +70,10 @@ pub fn commit<D: Disk>(disk: &mut D, held: Option<&Record>, new: &Record) -> Res
     ensures reads { IsTrue D.told → HasHeldOrNew VERSION_1 (option_map (λ r. r.now) held.entry) new.now (D.flash disk.new).reads }
     ensures any_moment { IsTrue D.told → Passes (D.flash disk.old) (D.flash disk.new)
         (HasHeldOrNew VERSION_1 (option_map (λ r. r.now) held.entry) new.now) }
+    ensures sound { IsTrue D.told → IsInstalledFor (D.flash disk.old).reads new.now → Sound VERSION_1 (D.flash disk.old).reads
+        → Passes (D.flash disk.old) (D.flash disk.new) (Sound VERSION_1) }
+    ensures follows { IsTrue D.told → IfSome (option_map (λ r. r.now) held.entry) (λ r. IsNoEarlier r new.now) → Sound VERSION_1 (D.flash disk.old).reads
+        → Passes (D.flash disk.old) (D.flash disk.new) (Follows VERSION_1 (D.flash disk.old).reads) }
     ensures keeps { IsTrue D.told → KeepsBesideSpare VERSION_1 (option_map (λ r. r.now) held.entry) (D.flash disk.old) (D.flash disk.new) }
     ensures grows { IsTrue D.told → Grows (D.flash disk.old) (D.flash disk.new) }
 {

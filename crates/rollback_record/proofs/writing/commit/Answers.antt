@@ -1,6 +1,7 @@
 use Rattle.std.proofs.Common.{◌≡◌, ◌∙◌, ap, drop, length, refl, subst, arith}
 use Rattle.suit_edge.specs.Flash.{IsFlash}
 use Rattle.rollback_record.proofs.Commits.{all_moments, at_the_end, from_start, keeps_beside, only_read, page_firm, read_keeps, recorded}
+use Rattle.rollback_record.proofs.SoundSince.{follows_since, sound_since}
 use Rattle.rollback_record.proofs.writing.commit.Goals as goal
 
 pub returns-in-Err-clause-any_moment : goal.returns-in-Err-clause-any_moment
@@ -104,3 +105,27 @@ returns-in-Done-clause-ok g c t =
     let law_d = subst (IsFlash d) (c.write_gated.ensures.size ∙ c.find_spare.ensures.size) (g.met.D.Disk.obeys c.write_gated.new.disk t) in
     recorded a b _ c.in-Ok.which _ c.args.new.now _ _ _ (g.met.D.Disk.obeys c.args.disk.now t) law_b c.requires.size (c.find_spare.ensures.same t) (c.requires.held t) (c.requires.firm t)
     (c.in-Ok.ensures.spare t) c.in-Ok.ensures.which c.requires.next c.typed.ensures (c.requires.fields t) (from_start _ _ c.record_page-gate.ensures) refl put long d (c.in-Done.ensures.page t) (c.in-Done.ensures.opened t)
+
+pub returns-in-Err-clause-sound : goal.returns-in-Err-clause-sound
+returns-in-Err-clause-sound g c t =
+    sound_since _ _ _ _ _ (g.met.D.Disk.obeys c.args.disk.now t) c.requires.size (c.requires.held t) (c.requires.firm t) (returns-in-Err-clause-any_moment g c t) (returns-in-Err-clause-keeps g c t) (c.requires.fields t)
+
+pub returns-in-Err-clause-follows : goal.returns-in-Err-clause-follows
+returns-in-Err-clause-follows g c t =
+    follows_since _ _ _ _ _ (g.met.D.Disk.obeys c.args.disk.now t) c.requires.size (c.requires.held t) (c.requires.firm t) (returns-in-Err-clause-any_moment g c t) (returns-in-Err-clause-keeps g c t)
+
+pub returns-in-Failed-clause-sound : goal.returns-in-Failed-clause-sound
+returns-in-Failed-clause-sound g c t =
+    sound_since _ _ _ _ _ (g.met.D.Disk.obeys c.args.disk.now t) c.requires.size (c.requires.held t) (c.requires.firm t) (returns-in-Failed-clause-any_moment g c t) (returns-in-Failed-clause-keeps g c t) (c.requires.fields t)
+
+pub returns-in-Failed-clause-follows : goal.returns-in-Failed-clause-follows
+returns-in-Failed-clause-follows g c t =
+    follows_since _ _ _ _ _ (g.met.D.Disk.obeys c.args.disk.now t) c.requires.size (c.requires.held t) (c.requires.firm t) (returns-in-Failed-clause-any_moment g c t) (returns-in-Failed-clause-keeps g c t)
+
+pub returns-in-Done-clause-sound : goal.returns-in-Done-clause-sound
+returns-in-Done-clause-sound g c t =
+    sound_since _ _ _ _ _ (g.met.D.Disk.obeys c.args.disk.now t) c.requires.size (c.requires.held t) (c.requires.firm t) (returns-in-Done-clause-any_moment g c t) (returns-in-Done-clause-keeps g c t) (c.requires.fields t)
+
+pub returns-in-Done-clause-follows : goal.returns-in-Done-clause-follows
+returns-in-Done-clause-follows g c t =
+    follows_since _ _ _ _ _ (g.met.D.Disk.obeys c.args.disk.now t) c.requires.size (c.requires.held t) (c.requires.firm t) (returns-in-Done-clause-any_moment g c t) (returns-in-Done-clause-keeps g c t)

@@ -1,0 +1,173 @@
+-- Sound flashes: what a commit and a formatting leave.
+use Rattle.std.proofs.Common.{◌≡◌, ◌≢◌, ◌⊎◌, inl, inr, ⊎_elim, ◌<◌, ◌≤◌, ℕ, ◌+◌, ◌*◌, List, length, get_or, Option, Some, None, IfSome, refl, sym, ◌∙◌, ap, subst, arith}
+use Rattle.std.proofs.lemmas.Bool.{cases_eq}
+use Rattle.std.proofs.lemmas.List.Edits.{get_or-between}
+use Rattle.suit_edge.specs.Ranges.{Outside}
+use Rattle.suit_edge.specs.RangeLaws.{same_range}
+use Rattle.flash_layout.specs.declared.frame.Frame.{Frame}
+use Rattle.flash_layout.specs.declared.frame.TheConstants.{VERSION_1}
+use Rattle.flash_layout.specs.declared.key.Key.{Key}
+use Rattle.flash_layout.specs.declared.layout.Entry.{Entry}
+use Rattle.flash_layout.specs.declared.slot.Record.{Record}
+use Rattle.flash_layout.specs.ConfigLaws.{OneAnswer}
+use Rattle.flash_layout.specs.ConfigPage.{IsConfigPage}
+use Rattle.flash_layout.specs.Configs.{Config, ConfigOf, Blank, Configured}
+use Rattle.flash_layout.specs.Formats.{IsFormatted}
+use Rattle.flash_layout.specs.Frames.{HasNoRecord, bank_of, config_page_of, head_of, record_from}
+use Rattle.rollback_record.specs.HeadRecord.{Counts, RecordOf}
+use Rattle.rollback_record.specs.SoundFlash.{Follows, FollowsBlank, FollowsOn, IsInstalled, IsNoEarlier, IsSoundHead, Sound, SoundBlank, SoundEmpty, SoundInstalled, recorded_bank}
+use Rattle.rollback_record.specs.SoundLaws.{HasNewInRange, IsCommitted, IsInstalledFor}
+use Rattle.rollback_record.proofs.OneAnswers.{one_answer}
+use Rattle.rollback_record.proofs.Pages.{config_same, head_long, inner_range}
+
+-- ---- no record
+
+gate_of : (frame : Frame) (head : List ℕ) (w : ℕ) (r : Record) → Counts frame head w r → get_or head (record_from frame w) 0 ≡ 0xA5
+gate_of frame head w r is =
+    let at : record_from frame w + 0 ≡ record_from frame w = omega arith in
+    ap (λ (k : ℕ). get_or head k 0) (sym at) ∙ sym (get_or-between head (record_from frame w) (record_from frame w + 99) 0 0 (omega arith)) ∙ ap (λ (l : List ℕ). get_or l 0 0) is.page.bytes
+
+pub no_record : (frame : Frame) (head : List ℕ) → HasNoRecord frame head → RecordOf frame head None
+no_record frame head closed which r few is = ⊎_elim
+    (λ e. closed.0 (gate_of frame head 0 r (subst (λ (k : ℕ). Counts frame head k r) e is)))
+    (λ ne. closed.1 (gate_of frame head 1 r (subst (λ (k : ℕ). Counts frame head k r) (one ne) is)))
+    (cases_eq which 0)
+  where
+    one : which ≢ 0 → which ≡ 1
+    one ne = omega (arith, ne, few)
+
+pub formatted : (frame : Frame) (layout : List Entry) (key : Key) (image : List ℕ) → IsFormatted frame (length image) layout key image → Sound frame image
+formatted frame layout key image is = SoundEmpty layout key is.config (no_record frame (head_of frame image) is.no_record)
+
+-- ---- the head alone
+
+pub same_sound : (frame : Frame) (image other : List ℕ) → length other ≡ length image → head_of frame other ≡ head_of frame image → Sound frame image → Sound frame other
+same_sound frame image other long head is =
+    subst (λ (n : ℕ). IsSoundHead frame n (head_of frame other)) (sym long) (subst (λ (h : List ℕ). IsSoundHead frame (length image) h) (sym head) is)
+
+-- ---- what goes on
+
+pub itself : (frame : Frame) (a : List ℕ) → Sound frame a → Follows frame a a
+itself frame a (SoundBlank blank) = FollowsBlank blank
+itself frame a (SoundEmpty layout key config none) = FollowsOn (record { layout = layout; key = key; was = config; is = config; later = λ r is. (r, is, record { number = omega arith; same = λ _. refl }) })
+itself frame a (SoundInstalled layout key r config is installed) = FollowsOn (record { layout = layout; key = key; was = config; is = config; later = λ s so. (s, so, record { number = omega arith; same = λ _. refl }) })
+
+not_blank : (layout : List Entry) (key : Key) → ◌≡◌ {A = Config} (Configured layout key) Blank → ⊥
+not_blank layout key e = cc
+
+later_still : (r s u : Record) → IsNoEarlier r s → IsNoEarlier s u → IsNoEarlier r u
+later_still r s u first second = record {
+  number = omega (arith, first.number, second.number);
+  same = λ e.
+      let one : r.sequence ≡ s.sequence = omega (arith, first.number, second.number, e) in
+      let two : s.sequence ≡ u.sequence = omega (arith, first.number, second.number, e) in
+      first.same one ∙ second.same two;
+}
+
+pub onward : OneAnswer → (frame : Frame) (a b c : List ℕ) → Follows frame a b → Follows frame b c → Follows frame a c
+onward law frame a b c (FollowsBlank blank) second = FollowsBlank blank
+onward law frame a b c (FollowsOn first) (FollowsBlank blank) = absurd (not_blank first.layout first.key (law frame (length b) (head_of frame b) _ _ first.is blank))
+onward law frame a b c (FollowsOn first) (FollowsOn second) = FollowsOn (record {
+  layout = first.layout;
+  key = first.key;
+  was = first.was;
+  is = subst (λ (x : Config). ConfigOf frame (length c) (head_of frame c) x) {x = Configured second.layout second.key} {y = Configured first.layout first.key} (law frame (length b) (head_of frame b) _ _ second.was first.is) second.is;
+  later = λ r is.
+      let s = first.later r is in
+      let u = second.later s.0 s.1 in
+      (u.0, u.1, later_still r s.0 u.0 s.2 u.2);
+})
+
+-- ---- a commit
+
+module _ (a c : List ℕ) (w : ℕ) (large : 49152 ≤ length a) (size : length c ≡ length a) (two : w < 2)
+    (apart : (i : ℕ) → i < 49152 → Outside (4096 + w * 4096) 99 i → get_or c i 0 ≡ get_or a i 0) where
+  page_same : config_page_of VERSION_1 (head_of VERSION_1 a) ≡ config_page_of VERSION_1 (head_of VERSION_1 c)
+  page_same = config_same a c w large size two apart
+
+  long_c : 49152 ≤ length c
+  long_c = omega (arith, size, large)
+
+  -- the configuration is the same
+  configured : (layout : List Entry) (key : Key) → ConfigOf VERSION_1 (length a) (head_of VERSION_1 a) (Configured layout key) → ConfigOf VERSION_1 (length c) (head_of VERSION_1 c) (Configured layout key)
+  configured layout key is = record {
+    whole = head_long c long_c;
+    typed = is.typed;
+    page = subst (λ (n : ℕ). IsConfigPage VERSION_1 n (config_page_of VERSION_1 (head_of VERSION_1 c)) layout key) (sym size) (subst (λ (l : List ℕ). IsConfigPage VERSION_1 (length a) l layout key) page_same is.page);
+  }
+
+  gate_in : (l : List ℕ) → 49152 ≤ length l → get_or (head_of VERSION_1 l) 0 0 ≡ get_or l 0 0
+  gate_in l long = get_or-between l 0 49152 0 0 (omega arith)
+
+  blank : ConfigOf VERSION_1 (length a) (head_of VERSION_1 a) Blank → ConfigOf VERSION_1 (length c) (head_of VERSION_1 c) Blank
+  blank is = ⊎_elim
+      (λ short. absurd (none short))
+      (λ closed. inr (λ opened. closed (gate_in a large ∙ sym (apart 0 (omega arith) (inl (omega arith))) ∙ sym (gate_in c long_c) ∙ opened)))
+      is
+    where
+      none : length (head_of VERSION_1 a) < 49152 → ⊥
+      none short = omega (arith, short, head_long a large)
+
+  -- and so are the banks
+  bank_same : (b n : ℕ) → b < 2 → n ≤ 16384 → bank_of VERSION_1 (head_of VERSION_1 a) b n ≡ bank_of VERSION_1 (head_of VERSION_1 c) b n
+  bank_same b n few short =
+      inner_range a 49152 (12288 + b * 16384) (12288 + b * 16384 + n) (omega arith) (omega (arith, few, short))
+      ∙ sym (same_range c a (12288 + b * 16384) (12288 + b * 16384 + n) size (omega (arith, long_c, few, short))
+      (λ i low high. apart i (omega (arith, high, few, short)) (inr (omega (arith, low, two)))))
+      ∙ sym (inner_range c 49152 (12288 + b * 16384) (12288 + b * 16384 + n) (omega arith) (omega (arith, few, short)))
+
+  installed_same : (layout : List Entry) (key : Key) (r : Record) → r.bank < 2 → r.length ≤ 16384 → IsInstalled layout key (recorded_bank VERSION_1 (head_of VERSION_1 a) r) r
+      → IsInstalled layout key (recorded_bank VERSION_1 (head_of VERSION_1 c) r) r
+  installed_same layout key r few short is = subst (λ (l : List ℕ). IsInstalled layout key l r) (bank_same r.bank r.length few short) is
+
+  module _ (held : Option Record) (new : Record) (was : RecordOf VERSION_1 (head_of VERSION_1 a) held) where
+    -- the new record
+    new_sound : HasNewInRange a new → IsInstalledFor a new → RecordOf VERSION_1 (head_of VERSION_1 c) (Some new) → (layout : List Entry) (key : Key)
+        → ConfigOf VERSION_1 (length a) (head_of VERSION_1 a) (Configured layout key) → Sound VERSION_1 c
+    new_sound fields installed is layout key config =
+        SoundInstalled layout key new (configured layout key config) is (installed_same layout key new fields.bank fields.size (installed layout key config))
+
+    -- the one that it held
+    still_sound : Sound VERSION_1 a → RecordOf VERSION_1 (head_of VERSION_1 c) held → Sound VERSION_1 c
+    still_sound (SoundBlank is) held_is = SoundBlank (blank is)
+    still_sound (SoundEmpty layout key config none) held_is =
+        SoundEmpty layout key (configured layout key config) (subst (λ (o : Option Record). RecordOf VERSION_1 (head_of VERSION_1 c) o) (one_answer VERSION_1 (head_of VERSION_1 a) held None was none) held_is)
+    still_sound (SoundInstalled layout key r config is installed) held_is =
+        SoundInstalled layout key r (configured layout key config) (subst (λ (o : Option Record). RecordOf VERSION_1 (head_of VERSION_1 c) o) (one_answer VERSION_1 (head_of VERSION_1 a) held (Some r) was is) held_is)
+        (installed_same layout key r is.counts.page.fields.bank is.counts.page.fields.size installed)
+
+    now_sound : HasNewInRange a new → IsInstalledFor a new → Sound VERSION_1 a → RecordOf VERSION_1 (head_of VERSION_1 c) (Some new) → Sound VERSION_1 c
+    now_sound fields installed (SoundBlank is) new_is = SoundBlank (blank is)
+    now_sound fields installed (SoundEmpty layout key config none) new_is = new_sound fields installed new_is layout key config
+    now_sound fields installed (SoundInstalled layout key r config is was_installed) new_is = new_sound fields installed new_is layout key config
+
+    -- and what goes on
+    goes_on : ((r : Record) → held ≡ Some r → (s : Record) × RecordOf VERSION_1 (head_of VERSION_1 c) (Some s) × IsNoEarlier r s) → (layout : List Entry) (key : Key)
+        → ConfigOf VERSION_1 (length a) (head_of VERSION_1 a) (Configured layout key) → Follows VERSION_1 a c
+    goes_on later layout key config =
+        FollowsOn (record { layout = layout; key = key; was = config; is = configured layout key config; later = λ r is. later r (one_answer VERSION_1 (head_of VERSION_1 a) held (Some r) was is) })
+
+    on_from : ((r : Record) → held ≡ Some r → (s : Record) × RecordOf VERSION_1 (head_of VERSION_1 c) (Some s) × IsNoEarlier r s) → Sound VERSION_1 a → Follows VERSION_1 a c
+    on_from later (SoundBlank is) = FollowsBlank is
+    on_from later (SoundEmpty layout key config none) = goes_on later layout key config
+    on_from later (SoundInstalled layout key r config is installed) = goes_on later layout key config
+
+later_of : (head : List ℕ) (held : Option Record) (new : Record) → IfSome held (λ r. IsNoEarlier r new) → RecordOf VERSION_1 head held ⊎ RecordOf VERSION_1 head (Some new) → (r : Record) → held ≡ Some r
+    → (s : Record) × RecordOf VERSION_1 head (Some s) × IsNoEarlier r s
+later_of head held new sure is r e = ⊎_elim
+    (λ old. (r, subst (λ (o : Option Record). RecordOf VERSION_1 head o) e old, record { number = omega arith; same = λ _. refl }))
+    (λ now. (new, now, subst (λ (o : Option Record). IfSome o (λ r. IsNoEarlier r new)) e sure))
+    is
+
+module _ (held : Option Record) (new : Record) (before image : List ℕ) (is : IsCommitted held new before image) where
+  beside : (i : ℕ) → i < 49152 → Outside (4096 + is.which * 4096) 99 i → get_or image i 0 ≡ get_or before i 0
+  beside i few out = is.beside.same i ((omega arith, omega (arith, few)), ⊎_elim (λ h. inl (omega (arith, h))) (λ h. inr (omega (arith, h))) out)
+
+  pub committed : HasNewInRange before new → IsInstalledFor before new → Sound VERSION_1 before → Sound VERSION_1 image
+  committed fields installed sound = ⊎_elim
+      (still_sound before image is.which is.large is.beside.size is.two beside held new is.was sound)
+      (now_sound before image is.which is.large is.beside.size is.two beside held new is.was fields installed sound)
+      is.record_is
+
+  pub follows : IfSome held (λ r. IsNoEarlier r new) → Sound VERSION_1 before → Follows VERSION_1 before image
+  follows sure sound = on_from before image is.which is.large is.beside.size is.two beside held new is.was (later_of (head_of VERSION_1 image) held new sure is.record_is) sound

@@ -1,0 +1,51 @@
+-- Laws of sound flashes.
+use Rattle.std.specs.Prelude.{◌≡◌, ◌<◌, ◌≤◌, ℕ, List, length, Option, None, IfSome}
+use Rattle.suit_edge.specs.Ranges.{Outside, SameOn}
+use Rattle.flash_layout.specs.declared.frame.Frame.{Frame}
+use Rattle.flash_layout.specs.declared.frame.TheConstants.{VERSION_1}
+use Rattle.flash_layout.specs.declared.key.Key.{Key}
+use Rattle.flash_layout.specs.declared.layout.Entry.{Entry}
+use Rattle.flash_layout.specs.declared.slot.Record.{Record}
+use Rattle.flash_layout.specs.Configs.{ConfigOf, Configured}
+use Rattle.flash_layout.specs.Formats.{IsFormatted}
+use Rattle.flash_layout.specs.Frames.{HasNoRecord, config_page_of, head_of, record_place}
+use Rattle.rollback_record.specs.declared.page.TheConstants.{RECORD_BYTES}
+use Rattle.rollback_record.specs.HeadRecord.{RecordOf}
+use Rattle.rollback_record.specs.Committing.{HasHeldOrNew, InHead}
+use Rattle.rollback_record.specs.RecordPage.{IsInRange}
+use Rattle.rollback_record.specs.SoundFlash.{Follows, IsInstalled, IsNoEarlier, Sound, recorded_bank}
+
+-- the fields of the new record are in range, by the configuration page of the image
+abbrev pub HasNewInRange : List ℕ → Record → Type 0
+HasNewInRange image new = IsInRange VERSION_1 (config_page_of VERSION_1 (head_of VERSION_1 image)) new
+
+-- the new record is that of what its bank holds, on the flash as it was before it was committed
+abbrev pub IsInstalledFor : List ℕ → Record → Type 0
+IsInstalledFor image new = (layout : List Entry) (key : Key) → ConfigOf VERSION_1 (length image) (head_of VERSION_1 image) (Configured layout key)
+    → IsInstalled layout key (recorded_bank VERSION_1 (head_of VERSION_1 image) new) new
+
+-- Of a flash before a commit, and an image since: in the head all but one record page is the same, and it holds the record
+-- that it held, or the new one.
+pub record IsCommitted (held : Option Record) (new : Record) (before image : List ℕ) : Type 0 where
+  pub large : VERSION_1.size ≤ length before
+  pub was : RecordOf VERSION_1 (head_of VERSION_1 before) held
+  pub which : ℕ
+  pub two : which < 2
+  pub beside : SameOn (λ i. InHead VERSION_1 i × Outside (record_place VERSION_1 which) RECORD_BYTES i) before image
+  pub record_is : HasHeldOrNew VERSION_1 held new image
+
+pub record SoundLaws : Type 0 where
+  -- where both gates are closed, no record stands
+  pub no_record : (frame : Frame) (head : List ℕ) → HasNoRecord frame head → RecordOf frame head None
+  -- what formatting leaves is sound
+  pub formatted : (frame : Frame) (layout : List Entry) (key : Key) (image : List ℕ) → IsFormatted frame (length image) layout key image → Sound frame image
+  -- what a commit leaves is sound, and goes on from what stood before it
+  pub committed : (held : Option Record) (new : Record) (before image : List ℕ) → IsCommitted held new before image → HasNewInRange before new
+      → IsInstalledFor before new → Sound VERSION_1 before → Sound VERSION_1 image
+  pub follows : (held : Option Record) (new : Record) (before image : List ℕ) → IsCommitted held new before image → IfSome held (λ r. IsNoEarlier r new)
+      → Sound VERSION_1 before → Follows VERSION_1 before image
+  -- nothing but the head decides
+  pub same : (frame : Frame) (image other : List ℕ) → length other ≡ length image → head_of frame other ≡ head_of frame image → Sound frame image → Sound frame other
+  -- what goes on from what goes on does so too
+  pub itself : (frame : Frame) (a : List ℕ) → Sound frame a → Follows frame a a
+  pub onward : (frame : Frame) (a b c : List ℕ) → Follows frame a b → Follows frame b c → Follows frame a c

@@ -1,0 +1,23 @@
+//! Laws of sound flashes. The calls here do nothing: their contracts are the laws.
+
+ghost use Rattle.rollback_record.specs.InstalledLaws.{InstalledLaw};
+ghost use Rattle.rollback_record.specs.SoundLaws.{SoundLaws};
+
+use flash_layout::config_laws;
+use suit_envelope::envelope_laws;
+use suit_manifest::manifest_laws;
+
+/// What formatting and committing leave is sound, and goes on from what stood before.
+pub fn sound_laws()
+    ensures { SoundLaws }
+{
+    config_laws();
+}
+
+/// The bank of a sound flash is read as the envelope and the manifest that were installed.
+pub fn installed_laws()
+    ensures { InstalledLaw }
+{
+    envelope_laws();
+    manifest_laws();
+}
