@@ -16,3 +16,12 @@ pub mod Following
 pub mod TwoComponents
 pub mod OneRun
 pub mod Unsafe
+pub mod PlaysRun
+pub mod DeviceLeaves
+pub mod PlaysLead
+pub mod DeviceLeads
+pub mod PlaysKeep
+pub mod Vouching
+pub mod DeviceLaws
+pub mod PlaysEnd
+pub mod DeviceEnds

@@ -18,3 +18,8 @@ pub mod ProcedureLaws
 pub mod EventBounds
 pub mod TwoComponents
 pub mod OneRun
+pub mod Plays
+pub mod Settings
+pub mod DevicePlays
+pub mod PlayLaws
+pub mod DeviceLaws

@@ -3,13 +3,16 @@
 #![tactic(auto)]
 
 mod bad_path;
+mod cause;
 mod cover;
 mod event;
 mod identity;
 mod law;
+mod play_law;
 mod procedure;
 
 pub use bad_path::BadPath;
+pub use cause::Cause;
 pub use cover::{first_uncovered, has_matched, is_covered};
 pub use event::{Event, Events};
 pub use identity::{Identities, Identity};
@@ -18,6 +21,7 @@ pub use law::{
     identity_laws, inner_sequence_laws, one_run_laws, overriding_laws, procedure_laws, safety_laws,
     selection_laws, sequence_laws,
 };
+pub use play_law::{device_laws, play_laws};
 pub use procedure::Procedure;
 
 #[cfg(test)]

@@ -1,0 +1,128 @@
+-- How plays end: by themselves, and where a fault cut them by the fault.
+use Rattle.std.proofs.Common.{◌≡◌, ℕ, true, false, List, [], ◌∷◌, Option, refl, ap, ◌∙◌, inl, inr}
+use Rattle.suit_commands.specs.declared.kinds.TestKind.{TestKind}
+use Rattle.suit_commands.specs.declared.kinds.ActKind.{ActKind}
+use Rattle.suit_commands.specs.Tree.{CommandTree, Test, Act, Index, Override, TryEach, RunSequence, SequenceTree, NoSteps, StepThen, BranchesTree, NoBranches, BranchThen, NullThen, PlanTree}
+use Rattle.path_model.specs.declared.event.Event.{Event}
+use Rattle.path_model.specs.declared.cause.Cause.{Cause}
+use Rattle.path_model.specs.Behaviour.{State, Ending, Done, Condition, Directive}
+use Rattle.path_model.specs.Runs.{entry_state, after_run}
+use Rattle.path_model.specs.Path.{start_state}
+use Rattle.path_model.specs.Plays.{Outcome, Play, going_on, NextIsCut, in_turn, each, each_selected, overriding, running_inner, after_trying, OtherIsCut, sequence_play, command_play, branches_play, starting, procedure}
+use Rattle.path_model.specs.PlayLaws.{EndsSo, EndsByFault}
+
+after_run_ends : (s : State) (e : Ending) (c : Option Cause) → EndsSo e c → EndsSo (after_run s e) c
+after_run_ends s (Done t) c h = h
+after_run_ends s (Condition p true) c h = h
+after_run_ends s (Condition p false) c h = h
+after_run_ends s (Directive p) c h = h
+
+module _ (World : Type 0) where
+  pub record Ends (play : Play World) : Type 0 where
+    pub whole : (s : State) (w : World) → EndsSo (play.comes s w).ending (play.comes s w).cause
+    pub cut : (s : State) (w : World) (o : Outcome World) → play.IsCut s w o → EndsByFault o.ending o.cause
+
+  fault_as : (o later : Outcome World) → o.ending ≡ later.ending → o.cause ≡ later.cause → EndsByFault later.ending later.cause → EndsByFault o.ending o.cause
+  fault_as o later e c h = record { place = h.place; why = h.why; fault = h.fault; ends = e ∙ h.ends; named = c ∙ h.named }
+
+  module _ (after : Play World) (g : Ends after) where
+    goes : (es : List Event) (c : Option Cause) (w : World) (e : Ending) → EndsSo e c → EndsSo (going_on World after.comes es c w e).ending (going_on World after.comes es c w e).cause
+    goes es c w (Done t) h = g.whole t w
+    goes es c w (Condition p soft) h = h
+    goes es c w (Directive p) h = h
+
+    goes_cut : (es : List Event) (w : World) (e : Ending) (o : Outcome World) → NextIsCut World after.IsCut es w e o → EndsByFault o.ending o.cause
+    goes_cut es w (Done t) o (later, cut, is) =
+        fault_as o later (ap (λ (x : Outcome World). x.ending) is) (ap (λ (x : Outcome World). x.cause) is) (g.cut t w later cut)
+    goes_cut es w (Condition p soft) o cut = absurd cut
+    goes_cut es w (Directive p) o cut = absurd cut
+
+    tries : (s : State) (es : List Event) (c : Option Cause) (w : World) (e : Ending) → EndsSo e c → EndsSo (after_trying World s after.comes es c w e).ending (after_trying World s after.comes es c w e).cause
+    tries s es c w (Condition p true) h = g.whole s w
+    tries s es c w (Condition p false) h = h
+    tries s es c w (Done t) h = h
+    tries s es c w (Directive p) h = h
+
+    tries_cut : (s : State) (es : List Event) (w : World) (e : Ending) (o : Outcome World) → OtherIsCut World s after.IsCut es w e o → EndsByFault o.ending o.cause
+    tries_cut s es w (Condition p true) o (later, cut, is) =
+        fault_as o later (ap (λ (x : Outcome World). x.ending) is) (ap (λ (x : Outcome World). x.cause) is) (g.cut s w later cut)
+    tries_cut s es w (Condition p false) o cut = absurd cut
+    tries_cut s es w (Done t) o cut = absurd cut
+    tries_cut s es w (Directive p) o cut = absurd cut
+
+  turn_ends : (one after : Play World) → Ends one → Ends after → Ends (in_turn World one after)
+  turn_ends one after f g = record {
+    whole = λ s w. let o = one.comes s w in goes after g o.events o.cause o.world o.ending (f.whole s w);
+    cut = λ s w o cut. let a = one.comes s w in elim cut [
+      | inl now ↦ f.cut s w o now
+      | inr later ↦ goes_cut after g a.events a.world a.ending o later
+    ];
+  }
+
+  each_ends : (at : ℕ → Play World) → ((c : ℕ) → Ends (at c)) → (cs : List ℕ) → Ends (each World at cs)
+  each_ends at f [] = record { whole = λ s w. refl; cut = λ s w o cut. absurd cut }
+  each_ends at f (c ∷ cs) = turn_ends (at c) (each World at cs) (f c) (each_ends at f cs)
+
+  selected_ends : (at : ℕ → Play World) → ((c : ℕ) → Ends (at c)) → Ends (each_selected World at)
+  selected_ends at f = record {
+    whole = λ s w. (each_ends at f s.selection).whole s w;
+    cut = λ s w o cut. (each_ends at f s.selection).cut s w o cut;
+  }
+
+  module _ (tests : TestKind → ℕ → ℕ → Play World) (acts : ActKind → ℕ → ℕ → Play World) (count : ℕ)
+      (tests_end : (kind : TestKind) (p c : ℕ) → Ends (tests kind p c)) (acts_end : (kind : ActKind) (p c : ℕ) → Ends (acts kind p c)) where
+    mutual
+      sequence_ends : (q : SequenceTree) → Ends (sequence_play World tests acts count q)
+      sequence_ends NoSteps = record { whole = λ s w. refl; cut = λ s w o cut. absurd cut }
+      sequence_ends (StepThen p command rest) =
+          turn_ends (command_play World tests acts count command p) (sequence_play World tests acts count rest) (command_ends command p) (sequence_ends rest)
+
+      command_ends : (command : CommandTree) (p : ℕ) → Ends (command_play World tests acts count command p)
+      command_ends (Test kind report) p = selected_ends (tests kind p) (tests_end kind p)
+      command_ends (Act kind report) p = selected_ends (acts kind p) (acts_end kind p)
+      command_ends (Index selection) p = record { whole = λ s w. refl; cut = λ s w o cut. absurd cut }
+      command_ends (Override list) p = selected_ends (overriding World list) (λ c. record { whole = λ s w. refl; cut = λ s w o cut. absurd cut })
+      command_ends (TryEach branches) p = selected_ends (branches_play World tests acts count branches p) (branches_end branches p)
+      command_ends (RunSequence inner) p =
+          let body : Play World = sequence_play World tests acts count inner in
+          let f = sequence_ends inner in
+          selected_ends (running_inner World body) (λ c. record {
+            whole = λ s w. let o = body.comes (entry_state s c false) w in after_run_ends s o.ending o.cause (f.whole (entry_state s c false) w);
+            cut = λ s w o cut. f.cut (entry_state s c false) w o cut;
+          })
+
+      branches_end : (branches : BranchesTree) (p c : ℕ) → Ends (branches_play World tests acts count branches p c)
+      branches_end NoBranches p c = record { whole = λ s w. refl; cut = λ s w o cut. absurd cut }
+      branches_end (NullThen rest) p c = record { whole = λ s w. refl; cut = λ s w o cut. absurd cut }
+      branches_end (BranchThen inner rest) p c =
+          let body : Play World = sequence_play World tests acts count inner in
+          let others : Play World = branches_play World tests acts count rest p c in
+          let f = sequence_ends inner in
+          let g = branches_end rest p c in
+          record {
+            whole = λ s w. let t = entry_state s c true in let o = body.comes t w in tries others g s o.events o.cause o.world o.ending (f.whole t w);
+            cut = λ s w o cut. let t = entry_state s c true in let a = body.comes t w in elim cut [
+              | inl now ↦ f.cut t w o now
+              | inr later ↦ tries_cut others g s a.events a.world a.ending o later
+            ];
+          }
+
+    starting_ends : (q : SequenceTree) → Ends (starting World tests acts count q)
+    starting_ends q = record {
+      whole = λ s w. (sequence_ends q).whole (start_state s) w;
+      cut = λ s w o cut. (sequence_ends q).cut (start_state s) w o cut;
+    }
+
+    pub procedure_ends : (plan : PlanTree) → Ends (procedure World tests acts count plan)
+    procedure_ends plan =
+        let play : SequenceTree → Play World = λ q. starting World tests acts count q in
+        let f : (q : SequenceTree) → Ends (play q) = starting_ends in
+        let p5 : Play World = in_turn World (play plan.shared) (play plan.third) in
+        let p4 : Play World = in_turn World (play plan.second) p5 in
+        let p3 : Play World = in_turn World (play plan.shared) p4 in
+        let p2 : Play World = in_turn World (play plan.first) p3 in
+        turn_ends (play plan.shared) p2 (f plan.shared)
+        (turn_ends (play plan.first) p3 (f plan.first)
+        (turn_ends (play plan.shared) p4 (f plan.shared)
+        (turn_ends (play plan.second) p5 (f plan.second)
+        (turn_ends (play plan.shared) (play plan.third) (f plan.shared) (f plan.third)))))

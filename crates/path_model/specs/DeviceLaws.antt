@@ -1,0 +1,208 @@
+-- Laws of conditions and directives on contents: when each succeeds, why it fails, and what it leaves
+-- (draft-ietf-suit-manifest-25, sections 8.4.9 and 8.4.10, and this project's own choices).
+use Rattle.std.specs.Prelude.{◌≡◌, ◌≢◌, ◌↔◌, ◌⊎◌, ◌<◌, ◌≤◌, ℕ, List, [], ◌∷◌, ◌++◌, Option, Some, None, length}
+use Rattle.sha2.specs.Sha256.{sha256}
+use Rattle.suit_params.specs.declared.digest.Digest.{Digest}
+use Rattle.suit_params.specs.declared.param.ParamKey.{ParamKey}
+use Rattle.suit_params.specs.declared.param.ParamKey.TheVariants as keys
+use Rattle.suit_params.specs.InForce.{in_force, number_of, bytes_of, digest_in, size_in}
+use Rattle.suit_commands.specs.declared.kinds.TestKind.{TestKind}
+use Rattle.suit_commands.specs.declared.kinds.TestKind.TheVariants as tests
+use Rattle.suit_commands.specs.declared.kinds.ActKind.{ActKind}
+use Rattle.suit_commands.specs.declared.kinds.ActKind.TheVariants as acts
+use Rattle.path_model.specs.declared.cause.Cause.{Cause}
+use Rattle.path_model.specs.declared.cause.Cause.TheVariants as causes
+use Rattle.path_model.specs.Behaviour.{State, Done, Directive}
+use Rattle.path_model.specs.Settings.{Setting, capacity_of, found_under, payload_of}
+use Rattle.path_model.specs.Plays.{Outcome}
+use Rattle.path_model.specs.DevicePlays.{Launched, Device, content_at, unread, condition_play, directive_play}
+
+-- ---- conditions
+
+-- the content has the digest in force, and the size where one is
+pub record HasImage (state : State) (device : Device) (component : ℕ) : Type 0 where
+  pub digest : Digest
+  pub named : digest_in state.parameters component ≡ Some digest
+  pub has : sha256 (content_at device component) ≡ digest.bytes
+  pub size : (size : ℕ) → size_in state.parameters component ≡ Some size → length (content_at device component) ≡ size
+
+abbrev pub Passes : Setting → TestKind → ℕ → ℕ → State → Device → Type 0
+Passes setting kind place component state device =
+    ((condition_play setting kind place component).comes state device).ending ≡ Done state
+
+pub record ConditionRules : Type 0 where
+  pub image : (setting : Setting) (place component : ℕ) (state : State) (device : Device)
+      → Passes setting tests.ImageMatch place component state device ↔ HasImage state device component
+  pub content : (setting : Setting) (place component : ℕ) (state : State) (device : Device)
+      → Passes setting tests.CheckContent place component state device
+      ↔ (bytes_of (in_force state.parameters component keys.Content) ≡ Some (content_at device component))
+  -- none changes anything
+  pub leaves : (setting : Setting) (kind : TestKind) (place component : ℕ) (state : State) (device : Device)
+      → ((condition_play setting kind place component).comes state device).world ≡ device
+  -- where the flash fails, nothing is told and nothing changes
+  pub cut : (setting : Setting) (kind : TestKind) (place component : ℕ) (state : State) (device : Device) (outcome : Outcome Device)
+      → (condition_play setting kind place component).IsCut state device outcome → outcome ≡ unread place device
+
+-- ---- directives
+
+abbrev pub acts_at : Setting → ActKind → ℕ → ℕ → State → Device → Outcome Device
+acts_at setting kind place component state device = (directive_play setting kind place component).comes state device
+
+abbrev pub content_named : State → ℕ → ParamKey → Option (List ℕ)
+content_named state component key = bytes_of (in_force state.parameters component key)
+
+abbrev pub source_named : State → ℕ → Option ℕ
+source_named state component = number_of (in_force state.parameters component keys.Source)
+
+-- it fails for this cause and changes nothing
+abbrev pub Fails : Outcome Device → Cause → Device → Type 0
+Fails outcome cause device = (outcome.cause ≡ Some cause) × (outcome.world ≡ device)
+
+-- the component holds these bytes, and all else is as it was
+pub record Holds (component : ℕ) (bytes : List ℕ) (before after : Device) : Type 0 where
+  pub content : component < length before.contents → content_at after component ≡ bytes
+  pub others : (other : ℕ) → other ≢ component → content_at after other ≡ content_at before other
+  pub launches : after.launches ≡ before.launches
+
+abbrev pub MissingRule : ActKind → (State → ℕ → Type 0) → Type 0
+MissingRule kind Lacks =
+    (setting : Setting) (place component : ℕ) (state : State) (device : Device)
+    → Lacks state component → Fails (acts_at setting kind place component state device) causes.Missing device
+
+pub record WriteRules : Type 0 where
+  pub missing : MissingRule acts.Write (λ state component. content_named state component keys.Content ≡ None)
+  pub fits : (setting : Setting) (place component : ℕ) (state : State) (device : Device) (bytes : List ℕ)
+      → content_named state component keys.Content ≡ Some bytes → length bytes ≤ capacity_of setting component
+      → let outcome = acts_at setting acts.Write place component state device in
+      (outcome.ending ≡ Done state) × Holds component bytes device outcome.world
+  pub too_large : (setting : Setting) (place component : ℕ) (state : State) (device : Device) (bytes : List ℕ)
+      → content_named state component keys.Content ≡ Some bytes → capacity_of setting component < length bytes
+      → Fails (acts_at setting acts.Write place component state device) causes.TooLarge device
+
+-- a payload that is too large leaves nothing
+pub record FetchRules : Type 0 where
+  pub missing : MissingRule acts.Fetch (λ state component. content_named state component keys.Uri ≡ None)
+  pub absent : (setting : Setting) (place component : ℕ) (state : State) (device : Device) (uri : List ℕ)
+      → content_named state component keys.Uri ≡ Some uri → payload_of setting uri ≡ None
+      → Fails (acts_at setting acts.Fetch place component state device) causes.Absent device
+  pub fits : (setting : Setting) (place component : ℕ) (state : State) (device : Device) (uri bytes : List ℕ)
+      → content_named state component keys.Uri ≡ Some uri → payload_of setting uri ≡ Some bytes → length bytes ≤ capacity_of setting component
+      → let outcome = acts_at setting acts.Fetch place component state device in
+      (outcome.ending ≡ Done state) × Holds component bytes device outcome.world
+  pub too_large : (setting : Setting) (place component : ℕ) (state : State) (device : Device) (uri bytes : List ℕ)
+      → content_named state component keys.Uri ≡ Some uri → payload_of setting uri ≡ Some bytes → capacity_of setting component < length bytes
+      → let outcome = acts_at setting acts.Fetch place component state device in
+      (outcome.cause ≡ Some causes.TooLarge) × Holds component [] device outcome.world
+
+pub record CopyRules : Type 0 where
+  pub missing : MissingRule acts.Copy (λ state component. source_named state component ≡ None)
+  pub itself : (setting : Setting) (place component : ℕ) (state : State) (device : Device)
+      → source_named state component ≡ Some component
+      → Fails (acts_at setting acts.Copy place component state device) causes.SelfCopy device
+  pub fits : (setting : Setting) (place component source : ℕ) (state : State) (device : Device)
+      → source_named state component ≡ Some source → source ≢ component → length (content_at device source) ≤ capacity_of setting component
+      → let outcome = acts_at setting acts.Copy place component state device in
+      (outcome.ending ≡ Done state) × Holds component (content_at device source) device outcome.world
+  pub too_large : (setting : Setting) (place component source : ℕ) (state : State) (device : Device)
+      → source_named state component ≡ Some source → source ≢ component → capacity_of setting component < length (content_at device source)
+      → Fails (acts_at setting acts.Copy place component state device) causes.TooLarge device
+
+-- each holds what the other held, and all else is as it was
+pub record Exchanged (component source : ℕ) (before after : Device) : Type 0 where
+  pub content : component < length before.contents → content_at after component ≡ content_at before source
+  pub source_content : source < length before.contents → content_at after source ≡ content_at before component
+  pub others : (other : ℕ) → other ≢ component → other ≢ source → content_at after other ≡ content_at before other
+  pub launches : after.launches ≡ before.launches
+
+-- one of the two contents has no room in the place of the other
+abbrev pub NoRoom : Setting → Device → ℕ → ℕ → Type 0
+NoRoom setting device component source =
+    (capacity_of setting component < length (content_at device source)) ⊎ (capacity_of setting source < length (content_at device component))
+
+pub record SwapRules : Type 0 where
+  pub missing : MissingRule acts.Swap (λ state component. source_named state component ≡ None)
+  pub itself : (setting : Setting) (place component : ℕ) (state : State) (device : Device)
+      → source_named state component ≡ Some component
+      → Fails (acts_at setting acts.Swap place component state device) causes.SelfCopy device
+  pub fits : (setting : Setting) (place component source : ℕ) (state : State) (device : Device)
+      → source_named state component ≡ Some source → source ≢ component
+      → length (content_at device source) ≤ capacity_of setting component → length (content_at device component) ≤ capacity_of setting source
+      → let outcome = acts_at setting acts.Swap place component state device in
+      (outcome.ending ≡ Done state) × Exchanged component source device outcome.world
+  pub too_large : (setting : Setting) (place component source : ℕ) (state : State) (device : Device)
+      → source_named state component ≡ Some source → source ≢ component → NoRoom setting device component source
+      → Fails (acts_at setting acts.Swap place component state device) causes.TooLarge device
+
+-- the launch that an invoke adds
+pub record IsLaunchOf (state : State) (device : Device) (at : ℕ) (launch : Launched) : Type 0 where
+  pub component : launch.component ≡ at
+  pub bytes : launch.bytes ≡ content_at device at
+  pub digest : launch.digest ≡ digest_in state.parameters at
+  pub size : launch.size ≡ size_in state.parameters at
+  pub args : launch.args ≡ bytes_of (in_force state.parameters at keys.Args)
+
+pub record Launches (state : State) (component : ℕ) (before after : Device) : Type 0 where
+  pub launch : Launched
+  pub is : IsLaunchOf state before component launch
+  pub added : after.launches ≡ before.launches ++ launch ∷ []
+  pub contents : after.contents ≡ before.contents
+
+abbrev pub InvokeRule : Type 0
+InvokeRule =
+    (setting : Setting) (place component : ℕ) (state : State) (device : Device)
+    → let outcome = acts_at setting acts.Invoke place component state device in
+    (outcome.ending ≡ Done state) × Launches state component device outcome.world
+
+-- ---- payloads
+
+pub record PayloadRules : Type 0 where
+  -- under a key that begins with '#' those of the envelope
+  pub integrated : (setting : Setting) (key : List ℕ) → payload_of setting (35 ∷ key) ≡ found_under setting.payloads (35 ∷ key)
+  -- any other URI names a file, if it is known and there is such a file
+  pub named : (setting : Setting) (first : ℕ) (uri name : List ℕ) → first ≢ 35
+      → found_under setting.words (first ∷ uri) ≡ Some name → payload_of setting (first ∷ uri) ≡ setting.files name
+  pub unnamed : (setting : Setting) (first : ℕ) (uri : List ℕ) → first ≢ 35
+      → found_under setting.words (first ∷ uri) ≡ None → payload_of setting (first ∷ uri) ≡ None
+  -- the first of a name is found
+  pub none : (key : List ℕ) → found_under [] key ≡ None
+  pub here : (key value : List ℕ) (pairs : List (List ℕ × List ℕ)) → found_under ((key, value) ∷ pairs) key ≡ Some value
+  pub later : (key other value : List ℕ) (pairs : List (List ℕ × List ℕ)) → other ≢ key
+      → found_under ((other, value) ∷ pairs) key ≡ found_under pairs key
+
+-- ---- faults
+
+-- the component holds some bytes, up to its capacity, and all else is as it was
+pub record HoldsSome (setting : Setting) (component : ℕ) (before after : Device) : Type 0 where
+  pub bytes : List ℕ
+  pub short : length bytes ≤ capacity_of setting component
+  pub holds : Holds component bytes before after
+
+-- both sides of a swap do
+pub record HoldBoth (setting : Setting) (component : ℕ) (before after : Device) : Type 0 where
+  pub source : ℕ
+  pub middle : Device
+  pub one : HoldsSome setting component before middle
+  pub other : HoldsSome setting source middle after
+
+-- what a fault may leave of a directive: of the flash any content of what it writes, of the host the old content or none,
+-- and of the launcher all as it was
+abbrev pub Leaves : Setting → ActKind → Cause → ℕ → Device → Device → Type 0
+Leaves setting acts.Write causes.FlashFault component before after = HoldsSome setting component before after
+Leaves setting acts.Fetch causes.FlashFault component before after = HoldsSome setting component before after
+Leaves setting acts.Fetch causes.HostFault component before after = (after ≡ before) ⊎ Holds component [] before after
+Leaves setting acts.Copy causes.FlashFault component before after = HoldsSome setting component before after
+Leaves setting acts.Swap causes.FlashFault component before after = HoldBoth setting component before after
+Leaves setting acts.Invoke causes.FlashFault component before after = after ≡ before
+Leaves setting acts.Invoke causes.LaunchFault component before after = after ≡ before
+Leaves setting kind cause component before after = ⊥
+
+pub record IsFault (setting : Setting) (kind : ActKind) (place component : ℕ) (before : Device) (outcome : Outcome Device) : Type 0 where
+  pub ending : outcome.ending ≡ Directive place
+  pub cause : Cause
+  pub named : outcome.cause ≡ Some cause
+  pub leaves : Leaves setting kind cause component before outcome.world
+
+abbrev pub FaultRule : Type 0
+FaultRule =
+    (setting : Setting) (kind : ActKind) (place component : ℕ) (state : State) (device : Device) (outcome : Outcome Device)
+    → (directive_play setting kind place component).IsCut state device outcome → IsFault setting kind place component device outcome

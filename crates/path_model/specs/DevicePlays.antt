@@ -1,0 +1,279 @@
+-- Conditions and directives on the contents of a device, which decide each free step
+-- (draft-ietf-suit-manifest-25, sections 8.4.9 and 8.4.10, and this project's own choices).
+use Rattle.std.specs.Prelude.{◌≡◌, ◌≤◌, ℕ, ◌==◌, nat_le, if◌then◌else◌, ◌&&◌, ◌⊎◌, Bool, true, false, List, [], ◌∷◌, ◌++◌, Option, Some, None, IsSome, get_or, length, slice_get, slice_set}
+use Rattle.std.specs.Str.{bytes_eq}
+use Rattle.sha2.specs.Sha256.{sha256}
+use Rattle.suit_params.specs.declared.digest.Digest.{Digest}
+use Rattle.suit_params.specs.declared.param.ParamKey.TheVariants as keys
+use Rattle.suit_params.specs.InForce.{Parameters, in_force, identifier_of, number_of, bytes_of, digest_in, size_in}
+use Rattle.suit_commands.specs.declared.kinds.TestKind.{TestKind}
+use Rattle.suit_commands.specs.declared.kinds.TestKind.TheVariants as tests
+use Rattle.suit_commands.specs.declared.kinds.ActKind.{ActKind}
+use Rattle.suit_commands.specs.declared.kinds.ActKind.TheVariants as acts
+use Rattle.suit_commands.specs.Tree.{PlanTree}
+use Rattle.path_model.specs.declared.event.Event.{Event}
+use Rattle.path_model.specs.declared.event.Event.TheVariants.{Tried, Matched, Missed, Wrote, Failed}
+use Rattle.path_model.specs.declared.cause.Cause.{Cause}
+use Rattle.path_model.specs.declared.cause.Cause.TheVariants as causes
+use Rattle.path_model.specs.Behaviour.{State, Done, Condition, Directive}
+use Rattle.path_model.specs.Conditions.{vendor_of, class_of, device_of, slot_of}
+use Rattle.path_model.specs.Directives.{invoke_event}
+use Rattle.path_model.specs.Path.{first_state}
+use Rattle.path_model.specs.Settings.{Setting, capacity_of, payload_of}
+use Rattle.path_model.specs.Plays.{Outcome, Play, procedure}
+
+-- one launch: the component, its content, and what its parameters name
+pub record Launched : Type 0 where
+  pub component : ℕ
+  pub bytes : List ℕ
+  pub digest : Option Digest
+  pub size : Option ℕ
+  pub args : Option (List ℕ)
+
+-- the content of each component, and what was launched
+pub record Device : Type 0 where
+  pub contents : List (List ℕ)
+  pub launches : List Launched
+
+abbrev pub content_at : Device → ℕ → List ℕ
+content_at device component = get_or device.contents component []
+
+abbrev pub with_content : Device → ℕ → List ℕ → Device
+with_content device component bytes =
+    record { contents = slice_set device.contents component bytes; launches = device.launches }
+
+-- ---- conditions
+
+-- what is told where it is passed, and where it failed
+abbrev pub tested : ℕ → Event → Event → State → Device → Bool → Outcome Device
+tested place passed failed state device true =
+    record { events = passed ∷ []; ending = Done state; cause = None; world = device }
+tested place passed failed state device false = record {
+  events = failed ∷ Failed place ∷ [];
+  ending = Condition place state.soft_failure;
+  cause = None;
+  world = device;
+}
+
+-- a condition that looks at a content ends at once where the flash fails, and tells nothing
+abbrev pub unread : ℕ → Device → Outcome Device
+unread place device =
+    record { events = []; ending = Directive place; cause = Some causes.FlashFault; world = device }
+
+-- a condition that looks at no content
+abbrev pub comparing : ℕ → TestKind → ℕ → (State → Bool) → Play Device
+comparing place kind component holds = record {
+  comes = λ state device.
+      tested place (Tried component kind true) (Tried component kind false) state device (holds state);
+  IsCut = λ state device outcome. ⊥;
+}
+
+abbrev pub same_identifier : Option (List ℕ) → Option (List ℕ) → Bool
+same_identifier (Some wanted) (Some own) = bytes_eq own wanted
+same_identifier _ _ = false
+
+abbrev pub same_number : Option ℕ → Option ℕ → Bool
+same_number (Some wanted) (Some own) = own == wanted
+same_number _ _ = false
+
+-- a size that is not in force fits every content
+abbrev pub fits_size : Option ℕ → List ℕ → Bool
+fits_size None content = true
+fits_size (Some size) content = length content == size
+
+abbrev pub is_image : Digest → Option ℕ → List ℕ → Bool
+is_image digest size content = bytes_eq (sha256 content) digest.bytes && fits_size size content
+
+abbrev pub matched : ℕ → ℕ → Option ℕ → State → Device → Option Digest → Outcome Device
+matched place component size state device None =
+    tested place (Missed component) (Missed component) state device false
+matched place component size state device (Some digest) =
+    tested place (Matched component digest size) (Missed component) state device
+    (is_image digest size (content_at device component))
+
+abbrev pub matching : ℕ → ℕ → Play Device
+matching place component = record {
+  comes = λ state device.
+      matched place component (size_in state.parameters component) state device (digest_in state.parameters component);
+  IsCut = λ state device outcome. IsSome (digest_in state.parameters component) × (outcome ≡ unread place device);
+}
+
+abbrev pub is_content : Option (List ℕ) → List ℕ → Bool
+is_content None content = false
+is_content (Some wanted) content = bytes_eq content wanted
+
+abbrev pub checking : ℕ → ℕ → Play Device
+checking place component = record {
+  comes = λ state device.
+      tested place (Tried component tests.CheckContent true) (Tried component tests.CheckContent false) state device
+      (is_content (bytes_of (in_force state.parameters component keys.Content)) (content_at device component));
+  IsCut = λ state device outcome.
+      IsSome (bytes_of (in_force state.parameters component keys.Content)) × (outcome ≡ unread place device);
+}
+
+abbrev pub condition_play : Setting → TestKind → ℕ → ℕ → Play Device
+condition_play setting tests.Vendor place component =
+    comparing place tests.Vendor component (λ state. same_identifier
+    (identifier_of (in_force state.parameters component keys.Vendor)) (vendor_of (slice_get setting.identities component)))
+condition_play setting tests.Class place component =
+    comparing place tests.Class component (λ state. same_identifier
+    (identifier_of (in_force state.parameters component keys.Class)) (class_of (slice_get setting.identities component)))
+condition_play setting tests.Device place component =
+    comparing place tests.Device component (λ state. same_identifier
+    (identifier_of (in_force state.parameters component keys.Device)) (device_of (slice_get setting.identities component)))
+condition_play setting tests.Slot place component =
+    comparing place tests.Slot component (λ state. same_number
+    (number_of (in_force state.parameters component keys.Slot)) (slot_of (slice_get setting.identities component)))
+condition_play setting tests.ImageMatch place component = matching place component
+condition_play setting tests.CheckContent place component = checking place component
+condition_play setting tests.Abort place component = comparing place tests.Abort component (λ state. false)
+
+-- ---- directives
+
+-- what a directive makes of a device, or why it does not, and what it leaves then
+pub data Change : Type 0 where
+  Made : (device : Device) → Change
+  Refused : (cause : Cause) (device : Device) → Change
+
+abbrev pub concluded : ℕ → List Event → State → Change → Outcome Device
+concluded place events state (Made device) =
+    record { events = events; ending = Done state; cause = None; world = device }
+concluded place events state (Refused cause device) = record {
+  events = events ++ Failed place ∷ [];
+  ending = Directive place;
+  cause = Some cause;
+  world = device;
+}
+
+-- the content becomes these bytes, where there is room for them
+abbrev pub filled : Setting → ℕ → List ℕ → Device → Change
+filled setting component bytes device =
+    if nat_le (length bytes) (capacity_of setting component) then Made (with_content device component bytes)
+    else Refused causes.TooLarge device
+
+-- a payload that is too large leaves nothing
+abbrev pub fetched : Setting → ℕ → Option (List ℕ) → Device → Change
+fetched setting component None device = Refused causes.Absent device
+fetched setting component (Some bytes) device =
+    if nat_le (length bytes) (capacity_of setting component) then Made (with_content device component bytes)
+    else Refused causes.TooLarge (with_content device component [])
+
+abbrev pub copied : Setting → ℕ → ℕ → Device → Change
+copied setting component source device =
+    if source == component then Refused causes.SelfCopy device
+    else filled setting component (content_at device source) device
+
+-- the content fits the other component
+abbrev pub fits_into : Setting → Device → ℕ → ℕ → Bool
+fits_into setting device component other = nat_le (length (content_at device component)) (capacity_of setting other)
+
+abbrev pub swapped : Setting → ℕ → ℕ → Device → Change
+swapped setting component source device =
+    if source == component then Refused causes.SelfCopy device
+    else if fits_into setting device source component && fits_into setting device component source
+    then Made (with_content (with_content device component (content_at device source)) source (content_at device component))
+    else Refused causes.TooLarge device
+
+-- a directive with a parameter: without it, it fails
+abbrev pub acted : {A : Type 0} → ℕ → (A → List Event) → (A → Device → Change) → State → Device → Option A → Outcome Device
+acted place told makes state device None = concluded place [] state (Refused causes.Missing device)
+acted place told makes state device (Some parameter) = concluded place (told parameter) state (makes parameter device)
+
+-- where a fault cut it, it tells what a failure does
+abbrev pub ActIsCut : {A : Type 0} → ℕ → (A → List Event) → (A → Cause → Device → Device → Type 0) → State → Device → Outcome Device → Option A → Type 0
+ActIsCut place told Leaves state device outcome None = ⊥
+ActIsCut place told Leaves state device outcome (Some parameter) =
+    (cause : Cause) × (left : Device) × Leaves parameter cause device left
+    × (outcome ≡ concluded place (told parameter) state (Refused cause left))
+
+abbrev pub acting : {A : Type 0} → ℕ → (State → Option A) → (A → List Event) → (A → Device → Change) → (A → Cause → Device → Device → Type 0) → Play Device
+acting place wanted told makes Leaves = record {
+  comes = λ state device. acted place told makes state device (wanted state);
+  IsCut = λ state device outcome. ActIsCut place told Leaves state device outcome (wanted state);
+}
+
+-- ---- what a fault leaves
+
+-- any content of the component, up to its capacity
+abbrev pub HoldsAny : Setting → ℕ → Device → Device → Type 0
+HoldsAny setting component before left =
+    (bytes : List ℕ) × (length bytes ≤ capacity_of setting component) × (left ≡ with_content before component bytes)
+
+abbrev pub WriteLeaves : Setting → ℕ → Cause → Device → Device → Type 0
+WriteLeaves setting component causes.FlashFault before left = HoldsAny setting component before left
+WriteLeaves setting component _ before left = ⊥
+
+-- a fault of the host leaves the old content or none
+abbrev pub FetchLeaves : Setting → ℕ → Cause → Device → Device → Type 0
+FetchLeaves setting component causes.HostFault before left =
+    (left ≡ before) ⊎ (left ≡ with_content before component [])
+FetchLeaves setting component causes.FlashFault before left = HoldsAny setting component before left
+FetchLeaves setting component _ before left = ⊥
+
+abbrev pub SwapLeaves : Setting → ℕ → ℕ → Cause → Device → Device → Type 0
+SwapLeaves setting component source causes.FlashFault before left =
+    (middle : Device) × HoldsAny setting component before middle × HoldsAny setting source middle left
+SwapLeaves setting component source _ before left = ⊥
+
+-- ---- each directive
+
+abbrev pub launch_of : Device → ℕ → Parameters → Launched
+launch_of device component parameters = record {
+  component = component;
+  bytes = content_at device component;
+  digest = digest_in parameters component;
+  size = size_in parameters component;
+  args = bytes_of (in_force parameters component keys.Args);
+}
+
+abbrev pub launching : Device → ℕ → Parameters → Device
+launching device component parameters = record {
+  contents = device.contents;
+  launches = device.launches ++ launch_of device component parameters ∷ [];
+}
+
+abbrev pub StopsLaunch : Cause → Type 0
+StopsLaunch causes.FlashFault = Unit {0}
+StopsLaunch causes.LaunchFault = Unit {0}
+StopsLaunch _ = ⊥
+
+abbrev pub invoking : ℕ → ℕ → Play Device
+invoking place component = record {
+  comes = λ state device.
+      concluded place (invoke_event component state.parameters true ∷ []) state
+      (Made (launching device component state.parameters));
+  IsCut = λ state device outcome. (cause : Cause) × StopsLaunch cause
+      × (outcome ≡ concluded place (invoke_event component state.parameters false ∷ []) state (Refused cause device));
+}
+
+abbrev pub directive_play : Setting → ActKind → ℕ → ℕ → Play Device
+directive_play setting acts.Write place component =
+    acting place (λ state. bytes_of (in_force state.parameters component keys.Content))
+    (λ content. Wrote component ∷ []) (λ content. filled setting component content) (λ content. WriteLeaves setting component)
+directive_play setting acts.Fetch place component =
+    acting place (λ state. bytes_of (in_force state.parameters component keys.Uri))
+    (λ uri. Wrote component ∷ []) (λ uri. fetched setting component (payload_of setting uri)) (λ uri. FetchLeaves setting component)
+directive_play setting acts.Copy place component =
+    acting place (λ state. number_of (in_force state.parameters component keys.Source))
+    (λ source. Wrote component ∷ []) (λ source. copied setting component source) (λ source. WriteLeaves setting component)
+directive_play setting acts.Swap place component =
+    acting place (λ state. number_of (in_force state.parameters component keys.Source))
+    (λ source. Wrote component ∷ Wrote source ∷ []) (λ source. swapped setting component source) (λ source. SwapLeaves setting component source)
+directive_play setting acts.Invoke place component = invoking place component
+
+-- ---- procedures
+
+-- nothing was launched before
+abbrev pub first_device : List (List ℕ) → Device
+first_device contents = record { contents = contents; launches = [] }
+
+abbrev pub plan_play : PlanTree → Setting → Play Device
+plan_play plan setting = procedure Device (condition_play setting) (directive_play setting) plan.count plan
+
+-- the play of a procedure on these contents
+abbrev pub played : PlanTree → Setting → List (List ℕ) → Outcome Device
+played plan setting contents = (plan_play plan setting).comes first_state (first_device contents)
+
+-- a play of it that a fault cut short
+abbrev pub IsFaulted : PlanTree → Setting → List (List ℕ) → Outcome Device → Type 0
+IsFaulted plan setting contents outcome = (plan_play plan setting).IsCut first_state (first_device contents) outcome

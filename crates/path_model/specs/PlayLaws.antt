@@ -1,0 +1,86 @@
+-- Laws of plays on the contents of a device.
+use Rattle.std.specs.Prelude.{◌≡◌, ℕ, List, ◌++◌, Option, Some, None, length}
+use Rattle.std.specs.List.{AllByRecursion}
+use Rattle.sha2.specs.Sha256.{sha256}
+use Rattle.suit_params.specs.declared.digest.Digest.{Digest}
+use Rattle.suit_commands.specs.Tree.{PlanTree}
+use Rattle.path_model.specs.Path.{AreIdentities, RunsPlan, Path, first_state}
+use Rattle.path_model.specs.Safe.{Safe}
+use Rattle.path_model.specs.declared.cause.Cause.{Cause}
+use Rattle.path_model.specs.declared.cause.Cause.TheVariants as causes
+use Rattle.path_model.specs.Behaviour.{Ending, Done, Condition, Directive}
+use Rattle.path_model.specs.Settings.{Setting}
+use Rattle.path_model.specs.Plays.{Outcome}
+use Rattle.path_model.specs.DevicePlays.{Device, Launched, played, IsFaulted}
+
+-- the play is a whole run
+abbrev pub PlayRuns : Type 0
+PlayRuns =
+    (plan : PlanTree) (setting : Setting) (contents : List (List ℕ)) → let outcome = played plan setting contents in
+    RunsPlan plan setting.identities first_state outcome.events outcome.ending
+
+-- the events of a play that a fault cut short are a path
+abbrev pub FaultedIsPath : Type 0
+FaultedIsPath =
+    (plan : PlanTree) (setting : Setting) (contents : List (List ℕ)) (outcome : Outcome Device)
+    → IsFaulted plan setting contents outcome → Path plan setting.identities outcome.events
+
+-- what was launched before the fault is what the play launches first
+abbrev pub FaultedLaunchesFirst : Type 0
+FaultedLaunchesFirst =
+    (plan : PlanTree) (setting : Setting) (contents : List (List ℕ)) (outcome : Outcome Device)
+    → IsFaulted plan setting contents outcome
+    → (rest : List Launched) × ((played plan setting contents).world.launches ≡ outcome.world.launches ++ rest)
+
+-- what was launched has the digest that was in force, and its size where there was one
+pub record HasItsDigest (launch : Launched) : Type 0 where
+  pub digest : Digest
+  pub named : launch.digest ≡ Some digest
+  pub has : sha256 launch.bytes ≡ digest.bytes
+  pub size : (size : ℕ) → launch.size ≡ Some size → length launch.bytes ≡ size
+
+-- so it is with every launch of a safe procedure
+abbrev pub SafeLaunches : Type 0
+SafeLaunches =
+    (plan : PlanTree) (setting : Setting) (contents : List (List ℕ)) → Safe plan → AreIdentities plan setting.identities
+    → AllByRecursion HasItsDigest (played plan setting contents).world.launches
+
+-- also where a fault cut it short
+abbrev pub FaultedSafeLaunches : Type 0
+FaultedSafeLaunches =
+    (plan : PlanTree) (setting : Setting) (contents : List (List ℕ)) (outcome : Outcome Device)
+    → IsFaulted plan setting contents outcome → Safe plan → AreIdentities plan setting.identities
+    → AllByRecursion HasItsDigest outcome.world.launches
+
+-- ---- how plays end
+
+-- a fault of the outside
+abbrev pub IsFault : Cause → Type 0
+IsFault causes.HostFault = Unit {0}
+IsFault causes.FlashFault = Unit {0}
+IsFault causes.LaunchFault = Unit {0}
+IsFault _ = ⊥
+
+-- a directive that failed has a cause, which is no fault, and nothing else has one
+abbrev pub EndsSo : Ending → Option Cause → Type 0
+EndsSo (Done state) cause = cause ≡ None
+EndsSo (Condition place soft_failure) cause = cause ≡ None
+EndsSo (Directive place) cause = (why : Cause) × (IsFault why → ⊥) × (cause ≡ Some why)
+
+abbrev pub PlayEnds : Type 0
+PlayEnds =
+    (plan : PlanTree) (setting : Setting) (contents : List (List ℕ)) → let outcome = played plan setting contents in
+    EndsSo outcome.ending outcome.cause
+
+-- what a fault cut short ends at a place, by the fault
+pub record EndsByFault (ending : Ending) (cause : Option Cause) : Type 0 where
+  pub place : ℕ
+  pub why : Cause
+  pub fault : IsFault why
+  pub ends : ending ≡ Directive place
+  pub named : cause ≡ Some why
+
+abbrev pub FaultedEnds : Type 0
+FaultedEnds =
+    (plan : PlanTree) (setting : Setting) (contents : List (List ℕ)) (outcome : Outcome Device)
+    → IsFaulted plan setting contents outcome → EndsByFault outcome.ending outcome.cause

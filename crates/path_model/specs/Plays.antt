@@ -1,0 +1,173 @@
+-- What a sequence comes to in a world that decides each free step, and where a fault of the outside may cut it short
+-- (draft-ietf-suit-manifest-25, section 6.4, and this project's own choices). What the world is, and what conditions and
+-- directives do in it, is left open here.
+use Rattle.std.specs.Prelude.{◌≡◌, ℕ, ◌⊎◌, true, false, List, [], ◌∷◌, ◌++◌, Option, None}
+use Rattle.suit_params.specs.declared.param.Param.{Param}
+use Rattle.suit_commands.specs.declared.kinds.TestKind.{TestKind}
+use Rattle.suit_commands.specs.declared.kinds.ActKind.{ActKind}
+use Rattle.suit_commands.specs.Selections.{selected_by}
+use Rattle.suit_commands.specs.Tree.{CommandTree, Test, Act, Index, Override, TryEach, RunSequence, SequenceTree, NoSteps, StepThen, BranchesTree, NoBranches, BranchThen, NullThen, PlanTree}
+use Rattle.path_model.specs.declared.event.Event.{Event}
+use Rattle.path_model.specs.declared.cause.Cause.{Cause}
+use Rattle.path_model.specs.Behaviour.{State, Ending, Done, Condition, Directive}
+use Rattle.path_model.specs.Directives.{set_events, after_override}
+use Rattle.path_model.specs.Runs.{entry_state, after_run, after_branch}
+use Rattle.path_model.specs.Path.{start_state}
+
+module _ (World : Type 0) where
+  -- what was told, how it ended, why the directive failed where one did, and the world that it left
+  pub record Outcome : Type 0 where
+    pub events : List Event
+    pub ending : Ending
+    pub cause : Option Cause
+    pub world : World
+
+  -- A play: what comes of a state and a world, and what may come of them where a fault cuts the play at one step.
+  pub record Play : Type 1 where
+    pub comes : State → World → Outcome
+    pub IsCut : State → World → Outcome → Type 0
+
+  -- ---- one after another
+
+  -- behind events that were told before
+  abbrev pub behind : List Event → Outcome → Outcome
+  behind events later =
+      record { events = events ++ later.events; ending = later.ending; cause = later.cause; world = later.world }
+
+  -- a play came to this; where it is done, the next one goes on there
+  abbrev pub going_on : (State → World → Outcome) → List Event → Option Cause → World → Ending → Outcome
+  going_on next events cause world (Done state) = behind events (next state world)
+  going_on next events cause world (Condition place soft_failure) =
+      record { events = events; ending = Condition place soft_failure; cause = cause; world = world }
+  going_on next events cause world (Directive place) =
+      record { events = events; ending = Directive place; cause = cause; world = world }
+
+  -- a play came to this, and the next one was cut
+  abbrev pub NextIsCut : (State → World → Outcome → Type 0) → List Event → World → Ending → Outcome → Type 0
+  NextIsCut IsCut events world (Done state) outcome =
+      (later : Outcome) × IsCut state world later × (outcome ≡ behind events later)
+  NextIsCut IsCut events world (Condition place soft_failure) outcome = ⊥
+  NextIsCut IsCut events world (Directive place) outcome = ⊥
+
+  abbrev pub in_turn : Play → Play → Play
+  in_turn first second = record {
+    comes = λ state world. let one = first.comes state world in
+        going_on second.comes one.events one.cause one.world one.ending;
+    IsCut = λ state world outcome. let one = first.comes state world in
+        first.IsCut state world outcome ⊎ NextIsCut second.IsCut one.events one.world one.ending outcome;
+  }
+
+  -- these events, and another state
+  abbrev pub becoming : (State → List Event) → (State → State) → Play
+  becoming told next = record {
+    comes = λ state world. record { events = told state; ending = Done (next state); cause = None; world = world };
+    IsCut = λ state world outcome. ⊥;
+  }
+
+  abbrev pub nothing : Play
+  nothing = becoming (λ state. []) (λ state. state)
+
+  -- once for each of these components, in order
+  abbrev pub each : (ℕ → Play) → List ℕ → Play
+  each at [] = nothing
+  each at (component ∷ components) = in_turn (at component) (each at components)
+
+  -- once for each selected component
+  abbrev pub each_selected : (ℕ → Play) → Play
+  each_selected at = record {
+    comes = λ state. (each at state.selection).comes state;
+    IsCut = λ state. (each at state.selection).IsCut state;
+  }
+
+  -- ---- override parameters
+
+  abbrev pub overriding : List Param → ℕ → Play
+  overriding list component =
+      becoming (λ state. set_events component list) (λ state. after_override state component list)
+
+  -- ---- inner sequences
+
+  -- run sequence
+  abbrev pub running_inner : Play → ℕ → Play
+  running_inner inner component = record {
+    comes = λ state world. let end = inner.comes (entry_state state component false) world in
+        record { events = end.events; ending = after_run state end.ending; cause = end.cause; world = end.world };
+    IsCut = λ state world. inner.IsCut (entry_state state component false) world;
+  }
+
+  -- a branch came to this; where it failed softly, the others are tried with the state at the entry
+  abbrev pub after_trying : State → (State → World → Outcome) → List Event → Option Cause → World → Ending → Outcome
+  after_trying state others events cause world (Condition place true) = behind events (others state world)
+  after_trying state others events cause world (Condition place false) =
+      record { events = events; ending = after_branch state (Condition place false); cause = cause; world = world }
+  after_trying state others events cause world (Done inner) =
+      record { events = events; ending = after_branch state (Done inner); cause = cause; world = world }
+  after_trying state others events cause world (Directive place) =
+      record { events = events; ending = after_branch state (Directive place); cause = cause; world = world }
+
+  -- a branch came to this, and another one was cut
+  abbrev pub OtherIsCut : State → (State → World → Outcome → Type 0) → List Event → World → Ending → Outcome → Type 0
+  OtherIsCut state IsCut events world (Condition place true) outcome =
+      (later : Outcome) × IsCut state world later × (outcome ≡ behind events later)
+  OtherIsCut state IsCut events world (Condition place false) outcome = ⊥
+  OtherIsCut state IsCut events world (Done inner) outcome = ⊥
+  OtherIsCut state IsCut events world (Directive place) outcome = ⊥
+
+  abbrev pub trying_branch : Play → Play → ℕ → Play
+  trying_branch inner others component = record {
+    comes = λ state world. let one = inner.comes (entry_state state component true) world in
+        after_trying state others.comes one.events one.cause one.world one.ending;
+    IsCut = λ state world outcome. let one = inner.comes (entry_state state component true) world in
+        inner.IsCut (entry_state state component true) world outcome
+        ⊎ OtherIsCut state others.IsCut one.events one.world one.ending outcome;
+  }
+
+  -- no branch completed
+  abbrev pub exhausted : ℕ → Play
+  exhausted place = record {
+    comes = λ state world. record {
+      events = [];
+      ending = Condition place state.soft_failure;
+      cause = None;
+      world = world;
+    };
+    IsCut = λ state world outcome. ⊥;
+  }
+
+  -- ---- whole sequences, for conditions and directives at a place and a component
+
+  module _ (tests : TestKind → ℕ → ℕ → Play) (acts : ActKind → ℕ → ℕ → Play) (count : ℕ) where
+    abbrev mutual
+      pub sequence_play : SequenceTree → Play
+      sequence_play NoSteps = nothing
+      sequence_play (StepThen place command rest) = in_turn (command_play command place) (sequence_play rest)
+
+      pub command_play : CommandTree → ℕ → Play
+      command_play (Test kind report) place = each_selected (tests kind place)
+      command_play (Act kind report) place = each_selected (acts kind place)
+      command_play (Index selection) place =
+          becoming (λ state. []) (λ state. record state { selection = selected_by selection count })
+      command_play (Override list) place = each_selected (overriding list)
+      command_play (TryEach branches) place = each_selected (branches_play branches place)
+      command_play (RunSequence inner) place = each_selected (running_inner (sequence_play inner))
+
+      -- the branches in order
+      pub branches_play : BranchesTree → ℕ → ℕ → Play
+      branches_play NoBranches place component = exhausted place
+      branches_play (NullThen rest) place component = nothing
+      branches_play (BranchThen inner rest) place component =
+          trying_branch (sequence_play inner) (branches_play rest place component) component
+
+    -- a shared sequence or a member
+    abbrev pub starting : SequenceTree → Play
+    starting sequence = record {
+      comes = λ state. (sequence_play sequence).comes (start_state state);
+      IsCut = λ state. (sequence_play sequence).IsCut (start_state state);
+    }
+
+    -- the shared sequence before each of the three members
+    abbrev pub procedure : PlanTree → Play
+    procedure plan =
+        in_turn (starting plan.shared) (in_turn (starting plan.first)
+        (in_turn (starting plan.shared) (in_turn (starting plan.second)
+        (in_turn (starting plan.shared) (starting plan.third)))))

@@ -1,0 +1,30 @@
+-- What a procedure finds on a device and about it.
+use Rattle.std.specs.Prelude.{ℕ, ◌==◌, if◌then◌else◌, List, [], ◌∷◌, Option, Some, None, get_or}
+use Rattle.std.specs.Option.{option_and_then}
+use Rattle.std.specs.Str.{bytes_eq}
+use Rattle.path_model.specs.declared.identity.Identity.{Identity}
+
+pub record Setting : Type 0 where
+  -- of each component what it is, and how many bytes it has room for
+  pub identities : List Identity
+  pub capacities : List ℕ
+  -- the payloads of the envelope, each with its key
+  pub payloads : List (List ℕ × List ℕ)
+  -- the URIs that name a file, each with the file's name
+  pub words : List (List ℕ × List ℕ)
+  -- the bytes of the file of a name, where there is one
+  pub files : List ℕ → Option (List ℕ)
+
+abbrev pub capacity_of : Setting → ℕ → ℕ
+capacity_of setting component = get_or setting.capacities component 0
+
+-- the second of the first pair with this first
+abbrev pub found_under : List (List ℕ × List ℕ) → List ℕ → Option (List ℕ)
+found_under [] key = None
+found_under (pair ∷ pairs) key = if bytes_eq pair.0 key then Some pair.1 else found_under pairs key
+
+-- a URI that begins with '#' is the key of a payload, and any other names a file
+abbrev pub payload_of : Setting → List ℕ → Option (List ℕ)
+payload_of setting uri =
+    if get_or uri 0 0 == 35 then found_under setting.payloads uri
+    else option_and_then setting.files (found_under setting.words uri)
