@@ -19,6 +19,7 @@ pub mod EntryOrder
 pub mod EntryLaws
 pub mod PayloadKeys
 pub mod PayloadLaws
+pub mod PayloadsListed
 pub mod MemberAnswers
 pub mod OneAuthenticity
 pub mod TrimSays
