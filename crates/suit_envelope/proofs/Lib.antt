@@ -20,6 +20,7 @@ pub mod EntryLaws
 pub mod PayloadKeys
 pub mod PayloadLaws
 pub mod PayloadPlaces
+pub mod PayloadsListed
 pub mod MemberAnswers
 pub mod OneAuthenticity
 pub mod TrimSays

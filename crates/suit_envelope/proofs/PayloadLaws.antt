@@ -24,11 +24,11 @@ use Rattle.suit_envelope.proofs.PayloadKeys.{AreApart, payloads_apart, contained
 
 -- ---- keys
 
-abbrev text_of : DataItem → Option (List ℕ)
+abbrev pub text_of : DataItem → Option (List ℕ)
 text_of (TextString text) = Some text
 text_of _ = None
 
-text_read : (levels : ℕ) (p : Position) (k : DataItem) (rest : List ℕ) → key_of k ≢ Unknown → IsValidWithin levels k → p.left ≡ spell k ++ rest → text_from p ≡ Ok (text_of k, after p (spell k) rest)
+pub text_read : (levels : ℕ) (p : Position) (k : DataItem) (rest : List ℕ) → key_of k ≢ Unknown → IsValidWithin levels k → p.left ≡ spell k ++ rest → text_from p ≡ Ok (text_of k, after p (spell k) rest)
 unfolding text_from
 text_read levels p (UnsignedInteger n) rest known valid is = rw (item_head_read levels p (UnsignedInteger n) rest valid is) refl
 text_read levels p (TextString text) rest known valid is =
@@ -74,13 +74,13 @@ found_read wanted levels p before (PairThen key value ps) rest known values vali
 -- ---- the map
 
 -- where the pairs of an envelope's map begin
-record MapRead (x : DataItem) (m : EnvelopeMap) : Type 0 where
-  levels : ℕ
-  valid : ArePairsWithin levels None m.pairs
-  start : Position
-  read : counted_from (start_of (spell x)) ≡ Ok (pair_count m.pairs, start)
-  left : start.left ≡ spell_pairs m.pairs ++ []
-  place : start.place ≡ m.place + length (head_bytes 5 (pair_count m.pairs))
+pub record MapRead (x : DataItem) (m : EnvelopeMap) : Type 0 where
+  pub levels : ℕ
+  pub valid : ArePairsWithin levels None m.pairs
+  pub start : Position
+  pub read : counted_from (start_of (spell x)) ≡ Ok (pair_count m.pairs, start)
+  pub left : start.left ≡ spell_pairs m.pairs ++ []
+  pub place : start.place ≡ m.place + length (head_bytes 5 (pair_count m.pairs))
 
 tagged_read : (tag : ℕ) (y : DataItem) (m : EnvelopeMap) → IsValid (TaggedItem tag y) → as_map true (0 + length (head_bytes 6 tag)) y ≡ Some m → MapRead (TaggedItem tag y) m
 unfolding counted_from
@@ -104,7 +104,7 @@ behind_tag_read : (b : Bool) (tag : ℕ) (y : DataItem) (m : EnvelopeMap) → Is
 behind_tag_read true tag y m valid is = tagged_read tag y m valid is
 behind_tag_read false tag y m valid is = absurd cc
 
-map_read : (x : DataItem) (m : EnvelopeMap) → IsValid x → envelope_map 0 x ≡ Some m → MapRead x m
+pub map_read : (x : DataItem) (m : EnvelopeMap) → IsValid x → envelope_map 0 x ≡ Some m → MapRead x m
 unfolding counted_from
 map_read (MapOf ps) m valid is =
     let x = MapOf ps in

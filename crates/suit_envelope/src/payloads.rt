@@ -13,9 +13,9 @@ use crate::Envelope;
 use det_cbor::{Cursor, HeadKind};
 use suit_params::{Refusal, bytes_left, read_bytes, read_content, read_head};
 
-// The next key as far as it is a text. Any other key of an envelope is a number.
+/// The next key as far as it is a text. Any other key of an envelope is a number.
 #[tactic(auto, unfolding(crate::specs::PayloadReading::text_from))]
-fn text_key<'a>(map: &mut Cursor<'a>) -> Result<Option<&'a [u8]>, Refusal>
+pub(crate) fn text_key<'a>(map: &mut Cursor<'a>) -> Result<Option<&'a [u8]>, Refusal>
     ensures { map_ok (λ text. (option_map (λ t. t.now) text, map.new)) result ≡ text_from map.old }
 {
     let head = read_head(map)?;
@@ -63,9 +63,9 @@ fn find<'a>(mut map: Cursor<'a>, count: u64, key: &[u8]) -> Result<Option<&'a [u
     Ok(None)
 }
 
-// How many pairs a map has, which may stand behind a tag, and the first of them.
+/// How many pairs a map has, which may stand behind a tag, and the first of them.
 #[tactic(auto, unfolding(crate::specs::PayloadReading::counted_from))]
-fn counted(mut item: Cursor<'_>) -> Result<(u64, Cursor<'_>), Refusal>
+pub(crate) fn counted(mut item: Cursor<'_>) -> Result<(u64, Cursor<'_>), Refusal>
     ensures { result ≡ counted_from item.entry }
 {
     let head = read_head(&mut item)?;

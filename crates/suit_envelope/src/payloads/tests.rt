@@ -1,6 +1,6 @@
 //! Payloads under keys of many forms.
 
-use crate::{decode_envelope, payload};
+use crate::{all_payloads, decode_envelope, payload};
 use std::test::Fail;
 
 /// 107({2: a wrapper without blocks, 3: h'a0', 16: h'80', and the payloads of `ROWS` in their order}).
@@ -64,6 +64,19 @@ fn each_payload_is_found_under_its_key(rt: HostRuntime) -> Result<(), Fail> {
 }
 
 #[test]
+fn all_payloads_are_listed_in_their_order(rt: HostRuntime) -> Result<(), Fail> {
+    let bytes = hex::decode(rt.alloc(), PAYLOADS)?;
+    let envelope = decode_envelope(bytes.as_slice())?;
+    let payloads = all_payloads(rt.alloc(), &envelope)?;
+    assert_eq!(rt; payloads.len(), ROWS.len());
+    for (payload, row) in payloads.iter().zip(&ROWS) {
+        assert_eq!(rt; payload.key, row.key);
+        assert_eq!(rt; payload.content, row.content);
+    }
+    Ok(())
+}
+
+#[test]
 fn no_payload_is_found_under_another_key(rt: HostRuntime) -> Result<(), Fail> {
     let bytes = hex::decode(rt.alloc(), PAYLOADS)?;
     let envelope = decode_envelope(bytes.as_slice())?;
@@ -83,5 +96,6 @@ fn an_envelope_without_payloads_has_none(rt: HostRuntime) -> Result<(), Fail> {
     let envelope = decode_envelope(bytes.as_slice())?;
     assert_eq!(rt; payload(&envelope, ""), None);
     assert_eq!(rt; payload(&envelope, "2"), None);
+    assert!(rt; all_payloads(rt.alloc(), &envelope)?.is_empty());
     Ok(())
 }
