@@ -6,11 +6,10 @@ ghost use Rattle.suit_envelope.specs.Payloads.{HasPayloads};
 ghost use Rattle.suit_envelope.specs.PayloadListing.{said_payload, keyed, listed_pair, listed_then, listed_from, listed_payloads};
 
 use crate::Envelope;
-use crate::map::bytes_left;
 use crate::payloads::{counted, text_key};
 use det_cbor::{Cursor, as_text};
 use std::alloc::{AllocError, Global};
-use suit_params::{Refusal, read_content};
+use suit_params::{Refusal, bytes_left, read_content};
 
 /// An integrated payload (draft-ietf-suit-manifest-25, section 8.2): its key, and the content of its
 /// byte string.
