@@ -1,4 +1,4 @@
-use Rattle.det_cbor.proofs.OneReadingLaw.{bytes_of_all}
+use Rattle.det_cbor.specs.ArgumentLaws.{bytes_of_all}
 use Rattle.det_cbor.proofs.SplitLaws.{split_ok, split_again}
 use Rattle.det_cbor.proofs.law.item_splitting.Goals as goal
 
