@@ -25,13 +25,21 @@ pub record Succeeds (before now : CallCounts) : Type 0 where
 -- a call of the list counts a fault
 pub record FailsByList (before now : CallCounts) : Type 0 where
   pub listed : IsListed before
-  pub counts : now ≡ record before { number = counted before.number; faults = counted before.faults }
+  pub counts :
+      now ≡ record before { number = counted before.number; faults = counted before.faults }
   pub faulted : Faulted before.faults now.faults
 
 -- a call whose memory was wanting counts a fault and its want
 pub record Starves (before now : CallCounts) : Type 0 where
   pub unlisted : ¬ IsListed before
-  pub counts : now ≡ record before { number = counted before.number; faults = counted before.faults; starved = counted before.starved }
+  pub counts :
+      now
+      ≡
+      record before {
+        number = counted before.number;
+        faults = counted before.faults;
+        starved = counted before.starved;
+      }
   pub faulted : Faulted before.faults now.faults
   pub rose : Faulted before.starved now.starved
 

@@ -7,7 +7,8 @@ pub record DiskLaw (size : ℕ) (before after : Flash) : Type 0 where
   -- a loss since the call began may leave what reads gave then
   pub stays : Grows before after → after.may before.clock before.reads
   -- so where its clock has stood still, and what reads give is sure, they give what they gave
-  pub still : after.clock ≡ before.clock → Grows before after → IsSettled after → after.reads ≡ before.reads
+  pub still : after.clock ≡ before.clock → Grows before after → IsSettled after
+      → after.reads ≡ before.reads
   -- a sync that leaves a write pending is not done
   pub pending : (image : List ℕ) → Now after image → (image ≡ after.reads → ⊥) → IsSettled after → ⊥
   -- a clock does not go back

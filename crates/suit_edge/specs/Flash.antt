@@ -36,7 +36,8 @@ pub record Passes (old new : Flash) (P : List ℕ → Type 0) : Type 0 where
   pub later : old.clock ≤ new.clock
   pub each : (image : List ℕ) → new.may old.clock image → P image
   -- the same for a run of calls that began earlier
-  pub before : (t : ℕ) (image : List ℕ) → t ≤ old.clock → new.may t image → old.may t image ⊎ P image
+  pub before : (t : ℕ) (image : List ℕ) → t ≤ old.clock → new.may t image
+      → old.may t image ⊎ P image
 
 -- at the places of K an image that a power loss then may have left, and any bytes at the others
 pub record ImageOn (K : ℕ → Type 0) (f : Flash) (image : List ℕ) : Type 0 where

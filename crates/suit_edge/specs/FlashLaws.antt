@@ -8,11 +8,13 @@ use Rattle.suit_edge.specs.RangeLaws.{same_start, same_then, same_fewer}
 -- ---- every image since the start
 
 -- no call at all
-pub starts : (f : Flash) (P : List ℕ → Type 0) → ((image : List ℕ) → Now f image → P image) → Passes f f P
+pub starts : (f : Flash) (P : List ℕ → Type 0) → ((image : List ℕ) → Now f image → P image)
+    → Passes f f P
 starts f P here = record { later = omega arith; each = here; before = λ t image le may. inl may }
 
 -- what has P has Q
-pub weakens : (a b : Flash) (P Q : List ℕ → Type 0) → ((image : List ℕ) → P image → Q image) → Passes a b P → Passes a b Q
+pub weakens : (a b : Flash) (P Q : List ℕ → Type 0) → ((image : List ℕ) → P image → Q image)
+    → Passes a b P → Passes a b Q
 weakens a b P Q to run = record {
   later = run.later;
   each = λ image may. to image (run.each image may);
@@ -28,15 +30,18 @@ joined a b c P first second = record {
 }
 
 -- what a power loss at the end leaves is among the images
-pub each_now : (a b : Flash) (size : ℕ) (P : List ℕ → Type 0) → IsFlash b size → Passes a b P → (image : List ℕ) → Now b image → P image
+pub each_now : (a b : Flash) (size : ℕ) (P : List ℕ → Type 0) → IsFlash b size → Passes a b P
+    → (image : List ℕ) → Now b image → P image
 each_now a b size P law run image now = run.each image (law.sooner a.clock b.clock image run.later (omega arith) now)
 
 -- and so is what reads give at the end
-pub each_read : (a b : Flash) (size : ℕ) (P : List ℕ → Type 0) → IsFlash b size → Passes a b P → P b.reads
+pub each_read : (a b : Flash) (size : ℕ) (P : List ℕ → Type 0) → IsFlash b size → Passes a b P
+    → P b.reads
 each_read a b size P law run = each_now a b size P law run b.reads law.reads_may
 
 -- a read or a sync after it
-pub then_same : (a b c : Flash) (size : ℕ) (P : List ℕ → Type 0) → IsFlash b size → Passes a b P → IsSame b c → Passes a c P
+pub then_same : (a b c : Flash) (size : ℕ) (P : List ℕ → Type 0) → IsFlash b size → Passes a b P
+    → IsSame b c → Passes a c P
 then_same a b c size P law run same = joined a b c P run (weakens b c (Now b) P (each_now a b size P law run) same.images)
 
 -- ---- places that are left alone
@@ -48,23 +53,27 @@ pub keeps_start : (K : ℕ → Type 0) (f : Flash) → Keeps K f f
 keeps_start K f = record { reads = same_start K f.reads; images = starts f (ImageOn K f) (image_on K f) }
 
 -- an image of a later moment, seen from the start
-pub image_then : (K : ℕ → Type 0) (a b : Flash) (size : ℕ) → IsFlash b size → Passes a b (ImageOn K a) → (image : List ℕ) → ImageOn K b image → ImageOn K a image
+pub image_then : (K : ℕ → Type 0) (a b : Flash) (size : ℕ) → IsFlash b size
+    → Passes a b (ImageOn K a) → (image : List ℕ) → ImageOn K b image → ImageOn K a image
 image_then K a b size law run image on =
     let before = each_now a b size (ImageOn K a) law run on.from on.was in
     record { from = before.from; was = before.was; same = same_then K before.from on.from image before.same on.same }
 
 -- one run after another
-pub keeps_then : (K : ℕ → Type 0) (a b c : Flash) (size : ℕ) → IsFlash b size → Keeps K a b → Keeps K b c → Keeps K a c
+pub keeps_then : (K : ℕ → Type 0) (a b c : Flash) (size : ℕ) → IsFlash b size → Keeps K a b
+    → Keeps K b c → Keeps K a c
 keeps_then K a b c size law first second = record {
   reads = same_then K a.reads b.reads c.reads first.reads second.reads;
   images = joined a b c (ImageOn K a) first.images (weakens b c (ImageOn K b) (ImageOn K a) (image_then K a b size law first.images) second.images);
 }
 
 -- fewer places
-pub image_fewer : (K L : ℕ → Type 0) → ((i : ℕ) → K i → L i) → (f : Flash) (image : List ℕ) → ImageOn L f image → ImageOn K f image
+pub image_fewer : (K L : ℕ → Type 0) → ((i : ℕ) → K i → L i) → (f : Flash) (image : List ℕ)
+    → ImageOn L f image → ImageOn K f image
 image_fewer K L to f image on = record { from = on.from; was = on.was; same = same_fewer K L to on.from image on.same }
 
-pub keeps_fewer : (K L : ℕ → Type 0) → ((i : ℕ) → K i → L i) → (a b : Flash) → Keeps L a b → Keeps K a b
+pub keeps_fewer : (K L : ℕ → Type 0) → ((i : ℕ) → K i → L i) → (a b : Flash) → Keeps L a b
+    → Keeps K a b
 keeps_fewer K L to a b kept = record {
   reads = same_fewer K L to a.reads b.reads kept.reads;
   images = weakens a b (ImageOn L a) (ImageOn K a) (image_fewer K L to a) kept.images;
@@ -83,7 +92,8 @@ pub same_flash : (f : Flash) → IsSame f f
 same_flash f = record { reads = refl; images = starts f (Now f) (λ image now. now) }
 
 -- one run after another
-pub same_flash_then : (a b c : Flash) (size : ℕ) → IsFlash b size → IsSame a b → IsSame b c → IsSame a c
+pub same_flash_then : (a b c : Flash) (size : ℕ) → IsFlash b size → IsSame a b → IsSame b c
+    → IsSame a c
 same_flash_then a b c size law first second = record {
   reads = second.reads ∙ first.reads;
   images = joined a b c (Now a) first.images (weakens b c (Now b) (Now a) (each_now a b size (Now a) law first.images) second.images);
@@ -100,20 +110,23 @@ grows_then a b c later first second t image le may = second t image (omega (arit
 -- ---- places that a power loss leaves as they read
 
 -- places that are left alone stay so
-pub firm_then : (K : ℕ → Type 0) (a b : Flash) (size : ℕ) → IsFlash b size → IsFirmOn K a → Keeps K a b → IsFirmOn K b
+pub firm_then : (K : ℕ → Type 0) (a b : Flash) (size : ℕ) → IsFlash b size → IsFirmOn K a
+    → Keeps K a b → IsFirmOn K b
 firm_then K a b size law firm kept image now =
     let on = each_now a b size (ImageOn K a) law kept.images image now in
     let from = firm on.from on.was in
     record { size = on.same.size ∙ from.size ∙ sym kept.reads.size; same = λ i k. on.same.same i k ∙ from.same i k ∙ sym (kept.reads.same i k) }
 
 -- fewer places
-pub firm_fewer : (K L : ℕ → Type 0) → ((i : ℕ) → K i → L i) → (f : Flash) → IsFirmOn L f → IsFirmOn K f
+pub firm_fewer : (K L : ℕ → Type 0) → ((i : ℕ) → K i → L i) → (f : Flash) → IsFirmOn L f
+    → IsFirmOn K f
 firm_fewer K L to f firm image now = same_fewer K L to f.reads image (firm image now)
 
 -- ---- nothing is pending
 
 -- a read leaves it so
-pub settled_then : (a b : Flash) (size : ℕ) → IsFlash b size → IsSettled a → IsSame a b → IsSettled b
+pub settled_then : (a b : Flash) (size : ℕ) → IsFlash b size → IsSettled a → IsSame a b
+    → IsSettled b
 settled_then a b size law settled same image now = settled image (each_now a b size (Now a) law same.images image now) ∙ sym same.reads
 
 pub settled_firm : (K : ℕ → Type 0) (f : Flash) → IsSettled f → IsFirmOn K f

@@ -23,7 +23,8 @@ counts_answer edge.Done n = n
 counts_answer edge.Failed n = counted n
 
 -- the call was passed on to the disk, where it did this
-pub record IsPassedOn (answer : Edge) (before now : FuseState) (Does : DiskState → DiskState → Type 0) : Type 0 where
+pub record IsPassedOn (answer : Edge) (before now : FuseState)
+    (Does : DiskState → DiskState → Type 0) : Type 0 where
   pub passes : before.passes ≡ now.passes + 1
   pub does : Does before.disk now.disk
   pub faults : now.faults ≡ counts_answer answer before.faults

@@ -30,7 +30,8 @@ pub record Closes (gate : ℕ) (old new : List ℕ) : Type 0 where
 
 -- An image of the start; or the gate was open, and at other places it is one.
 abbrev pub IsClosing : ℕ → Flash → List ℕ → Type 0
-IsClosing gate start image = Now start image ⊎ (IsOpen start.reads gate × ImageOn (Outside gate 1) start image)
+IsClosing gate start image =
+    Now start image ⊎ (IsOpen start.reads gate × ImageOn (Outside gate 1) start image)
 
 -- ---- a page is written
 
@@ -40,7 +41,8 @@ pub record IsNewPage (gate place : ℕ) (body old image : List ℕ) : Type 0 whe
   pub rest : SameOn (OutsideEach (page_at gate place (length body))) old image
 
 -- Outside the page an image of the start. Where none of those has an open gate, an open page is the new one.
-pub record IsOpening (gate place : ℕ) (body : List ℕ) (start : Flash) (image : List ℕ) : Type 0 where
+pub record IsOpening (gate place : ℕ) (body : List ℕ) (start : Flash) (image : List ℕ)
+    : Type 0 where
   pub apart : ImageOn (OutsideEach (page_at gate place (length body))) start image
   pub opens : IsShut gate start → IsOpen image gate → IsNewPage gate place body start.reads image
 
@@ -52,4 +54,6 @@ pub record IsOldPage (gate place n : ℕ) (old image : List ℕ) : Type 0 where
 -- Outside the page an image of the start, and an open page is the old one or the new one.
 pub record IsGated (gate place : ℕ) (body : List ℕ) (start : Flash) (image : List ℕ) : Type 0 where
   pub apart : ImageOn (OutsideEach (page_at gate place (length body))) start image
-  pub opens : IsOpen image gate → IsOldPage gate place (length body) start.reads image ⊎ IsNewPage gate place body start.reads image
+  pub opens : IsOpen image gate
+      → IsOldPage gate place (length body) start.reads image
+      ⊎ IsNewPage gate place body start.reads image

@@ -10,18 +10,21 @@ use Rattle.suit_edge.specs.RangeLaws.{same_range, written_outside, written_range
 use Rattle.suit_edge.specs.FlashLaws.{keeps_fewer, joined, weakens, image_on, image_fewer, image_then}
 
 -- a gate is what was read of it
-pub gate_read : (reads room : List ℕ) (q : ℕ) → room ≡ slice_range reads q (q + 1) → get_or room 0 0 ≡ get_or reads q 0
+pub gate_read : (reads room : List ℕ) (q : ℕ) → room ≡ slice_range reads q (q + 1)
+    → get_or room 0 0 ≡ get_or reads q 0
 gate_read reads room q is =
     let at : q + 0 ≡ q = omega arith in
     ap (λ (l : List ℕ). get_or l 0 0) is ∙ get_or-between reads q (q + 1) 0 0 (omega arith) ∙ ap (λ (k : ℕ). get_or reads k 0) at
 
 -- a gate that was written reads as it was written
-pub gate_written : (old new : List ℕ) (q b : ℕ) → q + 1 ≤ length old → new ≡ written old q (b ∷ []) → get_or new q 0 ≡ b
+pub gate_written : (old new : List ℕ) (q b : ℕ) → q + 1 ≤ length old → new ≡ written old q (b ∷ [])
+    → get_or new q 0 ≡ b
 gate_written old new q b fits is = ap (λ (l : List ℕ). get_or l q 0) is ∙ written_one old q b fits
 
 -- ---- a gate is closed
 
-pub closes_closed : (gate : ℕ) (old new : List ℕ) → get_or old gate 0 ≢ OPEN → new ≡ old → Closes gate old new
+pub closes_closed : (gate : ℕ) (old new : List ℕ) → get_or old gate 0 ≢ OPEN → new ≡ old
+    → Closes gate old new
 closes_closed gate old new shut same = record {
   apart = subst (λ (l : List ℕ). SameOn (Outside gate 1) old l) (sym same) (same_start (Outside gate 1) old);
   shut = λ is_open. shut (sym (ap (λ (l : List ℕ). get_or l gate 0) same) ∙ is_open);
@@ -29,7 +32,8 @@ closes_closed gate old new shut same = record {
   stays = λ _. same;
 }
 
-pub closes_open : (gate : ℕ) (old new : List ℕ) → gate + 1 ≤ length old → get_or old gate 0 ≡ OPEN → new ≡ written old gate (CLOSED ∷ []) → Closes gate old new
+pub closes_open : (gate : ℕ) (old new : List ℕ) → gate + 1 ≤ length old → get_or old gate 0 ≡ OPEN
+    → new ≡ written old gate (CLOSED ∷ []) → Closes gate old new
 closes_open gate old new fits is_open wrote =
     let byte = gate_written old new gate CLOSED fits wrote in
     record {
@@ -40,15 +44,18 @@ closes_open gate old new fits is_open wrote =
     }
 
 -- while it is closed
-pub closing : (gate : ℕ) (start b : Flash) → get_or start.reads gate 0 ≡ OPEN → Keeps (Outside gate 1) start b → Passes start b (IsClosing gate start)
+pub closing : (gate : ℕ) (start b : Flash) → get_or start.reads gate 0 ≡ OPEN
+    → Keeps (Outside gate 1) start b → Passes start b (IsClosing gate start)
 closing gate start b is_open kept = weakens start b (ImageOn (Outside gate 1) start) (IsClosing gate start) (λ image on. inr (is_open, on)) kept.images
 
 -- while it is read
-pub not_closing : (gate : ℕ) (start b : Flash) → IsSame start b → Passes start b (IsClosing gate start)
+pub not_closing : (gate : ℕ) (start b : Flash) → IsSame start b
+    → Passes start b (IsClosing gate start)
 not_closing gate start b same = weakens start b (Now start) (IsClosing gate start) (λ image now. inl now) same.images
 
 -- a closed gate is shut where nothing is pending
-pub settled_shut : (gate : ℕ) (f : Flash) → IsSettled f → (get_or f.reads gate 0 ≢ OPEN) → IsShut gate f
+pub settled_shut : (gate : ℕ) (f : Flash) → IsSettled f → (get_or f.reads gate 0 ≢ OPEN)
+    → IsShut gate f
 settled_shut gate f settled shut image now is_open = shut (sym (ap (λ (l : List ℕ). get_or l gate 0) (settled image now)) ∙ is_open)
 
 -- ---- a page behind a closed gate
@@ -58,14 +65,16 @@ module _ (start : Flash) (size gate place : ℕ) (body : List ℕ) (law : IsFlas
   page = OutsideEach (page_at gate place (length body))
 
   -- while the bytes are written
-  pub filling : (b : Flash) → Keeps (Outside place (length body)) start b → Passes start b (IsOpening gate place body start)
+  pub filling : (b : Flash) → Keeps (Outside place (length body)) start b
+      → Passes start b (IsOpening gate place body start)
   filling b kept = weakens start b (ImageOn (Outside place (length body)) start) (IsOpening gate place body start) (λ image on. record {
     apart = image_fewer page (Outside place (length body)) (λ i out. out.1.0) start image on;
     opens = λ shut is_open. absurd (shut on.from on.was (sym (on.same.same gate apart) ∙ is_open));
   }) kept.images
 
   -- bytes beside the gate, and a gate that was opened after them
-  pub new_page : (b_reads image : List ℕ) → b_reads ≡ written start.reads place body → SameOn (Outside gate 1) b_reads image → IsNewPage gate place body start.reads image
+  pub new_page : (b_reads image : List ℕ) → b_reads ≡ written start.reads place body
+      → SameOn (Outside gate 1) b_reads image → IsNewPage gate place body start.reads image
   new_page b_reads image wrote same =
       let out = written_outside start.reads place body (omega (arith, law.fits)) in
       let long : length b_reads ≡ size = ap length wrote ∙ out.size ∙ law.fits in
@@ -85,7 +94,8 @@ module _ (start : Flash) (size gate place : ℕ) (body : List ℕ) (law : IsFlas
           later before = omega (arith, before, low)
 
   -- while the gate is opened
-  pub opening : (b c : Flash) → IsFlash b size → Keeps (Outside place (length body)) start b → b.reads ≡ written start.reads place body → IsSettled b
+  pub opening : (b c : Flash) → IsFlash b size → Keeps (Outside place (length body)) start b
+      → b.reads ≡ written start.reads place body → IsSettled b
       → Keeps (Outside gate 1) b c → Passes start c (IsOpening gate place body start)
   opening b c law_b kept wrote settled opened =
       joined start b c (IsOpening gate place body start) (filling b kept) (weakens b c (ImageOn (Outside gate 1) b) (IsOpening gate place body start) (λ image on.
@@ -98,7 +108,8 @@ module _ (start : Flash) (size gate place : ℕ) (body : List ℕ) (law : IsFlas
       }) opened.images)
 
   -- the page is written and open
-  pub opened_page : (b c : List ℕ) → b ≡ written start.reads place body → c ≡ written b gate (OPEN ∷ []) → IsNewPage gate place body start.reads c
+  pub opened_page : (b c : List ℕ) → b ≡ written start.reads place body
+      → c ≡ written b gate (OPEN ∷ []) → IsNewPage gate place body start.reads c
   opened_page b c wrote opens =
       let out = written_outside start.reads place body (omega (arith, law.fits)) in
       let long : length b ≡ size = ap length wrote ∙ out.size ∙ law.fits in
@@ -107,7 +118,8 @@ module _ (start : Flash) (size gate place : ℕ) (body : List ℕ) (law : IsFlas
   -- ---- a page that was sure
 
   module _ (firm : IsFirmOn (InSome (page_at gate place (length body))) start) where
-    old_body : (from image : List ℕ) → Now start from → SameOn (Outside gate 1) from image → body_at image place (length body) ≡ body_at start.reads place (length body)
+    old_body : (from image : List ℕ) → Now start from → SameOn (Outside gate 1) from image
+        → body_at image place (length body) ≡ body_at start.reads place (length body)
     old_body from image was same =
         let sure = firm from was in
         let long : length image ≡ length start.reads = same.size ∙ sure.size in
@@ -136,11 +148,13 @@ module _ (start : Flash) (size gate place : ℕ) (body : List ℕ) (law : IsFlas
         })
         closing
 
-    pub gated_closing : (b : Flash) → Passes start b (IsClosing gate start) → Passes start b (IsGated gate place body start)
+    pub gated_closing : (b : Flash) → Passes start b (IsClosing gate start)
+        → Passes start b (IsGated gate place body start)
     gated_closing b run = weakens start b (IsClosing gate start) (IsGated gate place body start) still run
 
     -- while it is written again
-    pub gated_opening : (b c : Flash) → IsFlash b size → Passes start b (IsClosing gate start) → Closes gate start.reads b.reads → IsSettled b
+    pub gated_opening : (b c : Flash) → IsFlash b size → Passes start b (IsClosing gate start)
+        → Closes gate start.reads b.reads → IsSettled b
         → Passes b c (IsOpening gate place body b) → Passes start c (IsGated gate place body start)
     gated_opening b c law_b run closed settled opens =
         joined start b c (IsGated gate place body start) (gated_closing b run) (weakens b c (IsOpening gate place body b) (IsGated gate place body start) (λ image o. record {
@@ -148,13 +162,15 @@ module _ (start : Flash) (size gate place : ℕ) (body : List ℕ) (law : IsFlas
           opens = λ is_open. inr (later_page b image closed (o.opens (settled_shut gate b settled closed.shut) is_open));
         }) opens)
       where
-        later_page : (b : Flash) (image : List ℕ) → Closes gate start.reads b.reads → IsNewPage gate place body b.reads image → IsNewPage gate place body start.reads image
+        later_page : (b : Flash) (image : List ℕ) → Closes gate start.reads b.reads
+            → IsNewPage gate place body b.reads image → IsNewPage gate place body start.reads image
         later_page b image closed new = record {
           bytes = new.bytes;
           rest = same_then page start.reads b.reads image (same_fewer page (Outside gate 1) (λ i o. o.0) start.reads b.reads closed.apart) new.rest;
         }
 
-    pub gated_page : (b c : List ℕ) → Closes gate start.reads b → IsNewPage gate place body b c → IsNewPage gate place body start.reads c
+    pub gated_page : (b c : List ℕ) → Closes gate start.reads b → IsNewPage gate place body b c
+        → IsNewPage gate place body start.reads c
     gated_page b c closed new = record {
       bytes = new.bytes;
       rest = same_then page start.reads b c (same_fewer page (Outside gate 1) (λ i o. o.0) start.reads b closed.apart) new.rest;
@@ -163,8 +179,11 @@ module _ (start : Flash) (size gate place : ℕ) (body : List ℕ) (law : IsFlas
 -- ---- what is left alone
 
 -- a gate, and then a page
-pub gate_fewer : (gate place : ℕ) (body : List ℕ) (a b : Flash) → Keeps (Outside gate 1) a b → Keeps (OutsideEach (page_at gate place (length body))) a b
+pub gate_fewer : (gate place : ℕ) (body : List ℕ) (a b : Flash) → Keeps (Outside gate 1) a b
+    → Keeps (OutsideEach (page_at gate place (length body))) a b
 gate_fewer gate place body a b kept = keeps_fewer (OutsideEach (page_at gate place (length body))) (Outside gate 1) (λ i o. o.0) a b kept
 
-pub body_fewer : (gate place : ℕ) (body : List ℕ) (a b : Flash) → Keeps (Outside place (length body)) a b → Keeps (OutsideEach (page_at gate place (length body))) a b
+pub body_fewer : (gate place : ℕ) (body : List ℕ) (a b : Flash)
+    → Keeps (Outside place (length body)) a b
+    → Keeps (OutsideEach (page_at gate place (length body))) a b
 body_fewer gate place body a b kept = keeps_fewer (OutsideEach (page_at gate place (length body))) (Outside place (length body)) (λ i o. o.1.0) a b kept

@@ -14,11 +14,14 @@ LiesWithin size (image.Ram bytes) = Unit {0}
 
 -- The bytes of an image: those at its place, as far as the disk tells what it reads, or those in memory.
 abbrev pub AreImage : Image → Bool → List ℕ → List ℕ → Type 0
-AreImage (image.Flash place n) told reads bytes = (length bytes ≡ n) × (IsTrue told → bytes ≡ slice_range reads place (place + n))
+AreImage (image.Flash place n) told reads bytes =
+    (length bytes ≡ n) × (IsTrue told → bytes ≡ slice_range reads place (place + n))
 AreImage (image.Ram held) told reads bytes = bytes ≡ held.now
 
 -- the launch that a call asks for
-pub record IsLaunch (what : Image) (told : Bool) (reads : List ℕ) (index : ℕ) (named_digest : Option (List ℕ)) (named_size : Option ℕ) (named_args : Option (List ℕ)) (launch : Launch) : Type 0 where
+pub record IsLaunch (what : Image) (told : Bool) (reads : List ℕ) (index : ℕ)
+    (named_digest : Option (List ℕ)) (named_size : Option ℕ) (named_args : Option (List ℕ))
+    (launch : Launch) : Type 0 where
   pub component : launch.component ≡ index
   pub bytes : AreImage what told reads launch.bytes
   pub digest : launch.digest ≡ named_digest
@@ -27,13 +30,17 @@ pub record IsLaunch (what : Image) (told : Bool) (reads : List ℕ) (index : ℕ
 
 -- the list grows by the launch that was asked for where it was done, and stays otherwise
 abbrev pub AddsLaunch : Launched → List Launch → List Launch → (Launch → Type 0) → Type 0
-AddsLaunch launched.Done before now IsAsked = (launch : Launch) × (now ≡ before ++ launch ∷ []) × IsAsked launch
+AddsLaunch launched.Done before now IsAsked =
+    (launch : Launch) × (now ≡ before ++ launch ∷ []) × IsAsked launch
 AddsLaunch launched.DiskFailed before now IsAsked = now ≡ before
 AddsLaunch launched.Failed before now IsAsked = now ≡ before
 
 -- The launcher's count before and now, and the disk's. Failed comes only where the launcher's rose, DiskFailed only
 -- where the disk's rose, and a launch that is done leaves both as they were.
 abbrev pub LaunchCounts : Launched → ℕ → ℕ → ℕ → ℕ → Type 0
-LaunchCounts launched.Done before now disk_before disk_now = (now ≡ before) × (disk_now ≡ disk_before)
-LaunchCounts launched.DiskFailed before now disk_before disk_now = (before ≤ now) × Faulted disk_before disk_now
-LaunchCounts launched.Failed before now disk_before disk_now = Faulted before now × (disk_before ≤ disk_now)
+LaunchCounts launched.Done before now disk_before disk_now =
+    (now ≡ before) × (disk_now ≡ disk_before)
+LaunchCounts launched.DiskFailed before now disk_before disk_now =
+    (before ≤ now) × Faulted disk_before disk_now
+LaunchCounts launched.Failed before now disk_before disk_now =
+    Faulted before now × (disk_before ≤ disk_now)

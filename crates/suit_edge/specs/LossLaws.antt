@@ -15,5 +15,7 @@ Leaves first steps writes = AreBytes (flash_of first steps).reads
     → (image : List ℕ) → Now (flash_of first steps) image ↔ (SameOn (OutsideAll writes) (flash_of first steps).reads image × AreBytes image)
 
 pub record LossLaw : Type 0 where
-  pub since_sync : (first : List ℕ) (before : List Step) (writes : List Write) → Leaves first (before ++ step.Synced ∷ map (λ w. step.Wrote w) writes) writes
-  pub since_start : (first : List ℕ) (writes : List Write) → Leaves first (map (λ w. step.Wrote w) writes) writes
+  pub since_sync : (first : List ℕ) (before : List Step) (writes : List Write)
+      → Leaves first (before ++ step.Synced ∷ map (λ w. step.Wrote w) writes) writes
+  pub since_start : (first : List ℕ) (writes : List Write)
+      → Leaves first (map (λ w. step.Wrote w) writes) writes

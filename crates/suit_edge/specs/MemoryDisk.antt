@@ -26,7 +26,12 @@ pub record MayLeave (first : List ℕ) (steps : List Step) (t : ℕ) (image : Li
   pub left : IsImage (moment_of first (take moment steps)) image
 
 abbrev pub flash_of : List ℕ → List Step → Flash
-flash_of first steps = record { reads = (moment_of first steps).reads; clock = length steps; may = MayLeave first steps }
+flash_of first steps =
+    record {
+      reads = (moment_of first steps).reads;
+      clock = length steps;
+      may = MayLeave first steps;
+    }
 
 abbrev pub memory_flash : DiskState → Flash
 memory_flash s = flash_of s.first s.steps
@@ -45,8 +50,11 @@ pub record TakesStep (before now : DiskState) (s : Step) : Type 0 where
 
 -- a read gives what stands there or fails by its number, and changes nothing
 abbrev pub ReadsExactly : Edge → DiskState → DiskState → ℕ → List ℕ → List ℕ → Type 0
-ReadsExactly edge.Done before now place room filled = Succeeds before.calls now.calls × HoldsOn before now × (filled ≡ slice_range (moment_now before).reads place (place + length room))
-ReadsExactly edge.Failed before now place room filled = FailsByList before.calls now.calls × HoldsOn before now × (filled ≡ room)
+ReadsExactly edge.Done before now place room filled =
+    Succeeds before.calls now.calls × HoldsOn before now
+    × (filled ≡ slice_range (moment_now before).reads place (place + length room))
+ReadsExactly edge.Failed before now place room filled =
+    FailsByList before.calls now.calls × HoldsOn before now × (filled ≡ room)
 
 -- a write or a sync takes its step or fails, and then changes nothing
 abbrev pub StepsExactly : Edge → DiskState → DiskState → Step → Type 0
@@ -65,7 +73,8 @@ writes_of (step.Wrote w ∷ steps) = w ∷ writes_of steps
 writes_of (step.Synced ∷ steps) = writes_of steps
 
 -- what the disk keeps beside its steps is what they make, and the steps from `since` on are the pending ones
-pub record IsMoment (first : List ℕ) (steps : List Step) (sure bytes : List ℕ) (since : ℕ) : Type 0 where
+pub record IsMoment (first : List ℕ) (steps : List Step) (sure bytes : List ℕ) (since : ℕ)
+    : Type 0 where
   pub settled : sure ≡ (moment_of first steps).settled
   pub reads : bytes ≡ (moment_of first steps).reads
   pub settled_size : length sure ≡ length first

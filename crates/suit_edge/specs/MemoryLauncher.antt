@@ -14,5 +14,7 @@ pub record LauncherState : Type 0 where
 -- Where the disk failed it is itself as after a call that is done.
 abbrev pub LaunchesExactly : Launched → LauncherState → LauncherState → ℕ → ℕ → Type 0
 LaunchesExactly launched.Done before now disk_before disk_now = Succeeds before.calls now.calls
-LaunchesExactly launched.DiskFailed before now disk_before disk_now = Succeeds before.calls now.calls
-LaunchesExactly launched.Failed before now disk_before disk_now = Fails before.calls now.calls × (disk_now ≡ disk_before)
+LaunchesExactly launched.DiskFailed before now disk_before disk_now =
+    Succeeds before.calls now.calls
+LaunchesExactly launched.Failed before now disk_before disk_now =
+    Fails before.calls now.calls × (disk_now ≡ disk_before)

@@ -10,7 +10,8 @@ use Rattle.suit_edge.specs.Flash.{IsFlash}
 use Rattle.suit_edge.specs.Moment.{Moment, after_write, after_step, after_steps, moment_of, IsImage}
 use Rattle.suit_edge.specs.MemoryDisk.{DiskState, memory_flash}
 
-pub length-written : (old : List ℕ) (place : ℕ) (bytes : List ℕ) → place + length bytes ≤ length old → length (written old place bytes) ≡ length old
+pub length-written : (old : List ℕ) (place : ℕ) (bytes : List ℕ) → place + length bytes ≤ length old
+    → length (written old place bytes) ≡ length old
 unfolding written
 length-written old place bytes fits =
     omega (arith, length-append (take place old ++ bytes) (drop (place + length bytes) old), length-append (take place old) bytes, length-take-le place old (omega arith), length-drop (place + length bytes) old)
@@ -19,7 +20,8 @@ pub length-after_write : (bytes : List ℕ) (w : Write) → length (after_write 
 unfolding after_write
 length-after_write bytes w = by_test (nat_le (w.place + length w.bytes) (length bytes)) refl
   where
-    by_test : (b : Bool) → nat_le (w.place + length w.bytes) (length bytes) ≡ b → length (cond b (written bytes w.place w.bytes) bytes) ≡ length bytes
+    by_test : (b : Bool) → nat_le (w.place + length w.bytes) (length bytes) ≡ b
+        → length (cond b (written bytes w.place w.bytes) bytes) ≡ length bytes
     by_test true is = length-written bytes w.place w.bytes (leb-true _ _ is)
     by_test false is = refl
 
@@ -28,12 +30,14 @@ unfolding after_step
 length-after_step m (Wrote w) = length-after_write m.reads w
 length-after_step m Synced = refl
 
-pub length-after_steps : (m : Moment) (steps : List Step) → length (after_steps m steps).reads ≡ length m.reads
+pub length-after_steps : (m : Moment) (steps : List Step)
+    → length (after_steps m steps).reads ≡ length m.reads
 unfolding after_steps
 length-after_steps m [] = refl
 length-after_steps m (s ∷ steps) = length-after_steps (after_step m s) steps ∙ length-after_step m s
 
-pub length-moment_of : (first : List ℕ) (steps : List Step) → length (moment_of first steps).reads ≡ length first
+pub length-moment_of : (first : List ℕ) (steps : List Step)
+    → length (moment_of first steps).reads ≡ length first
 unfolding moment_of
 length-moment_of first steps = length-after_steps (record { settled = first; reads = first; pending = [] }) steps
 

@@ -11,5 +11,6 @@ pub record SinkState : Type 0 where
 
 -- a put that is done puts the piece, and one that fails nothing
 abbrev pub PutsExactly : Edge → SinkState → SinkState → List ℕ → Type 0
-PutsExactly edge.Done before now piece = Succeeds before.calls now.calls × (now.put ≡ before.put ++ piece)
+PutsExactly edge.Done before now piece =
+    Succeeds before.calls now.calls × (now.put ≡ before.put ++ piece)
 PutsExactly edge.Failed before now piece = Fails before.calls now.calls × (now.put ≡ before.put)

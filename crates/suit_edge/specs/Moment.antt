@@ -15,10 +15,12 @@ pub record Moment : Type 0 where
 
 -- the bytes after a write, which changes nothing where it does not fit
 unfoldable pub after_write : List ℕ → Write → List ℕ
-after_write bytes w = cond (nat_le (w.place + length w.bytes) (length bytes)) (written bytes w.place w.bytes) bytes
+after_write bytes w =
+    cond (nat_le (w.place + length w.bytes) (length bytes)) (written bytes w.place w.bytes) bytes
 
 unfoldable pub after_step : Moment → Step → Moment
-after_step m (step.Wrote w) = record { settled = m.settled; reads = after_write m.reads w; pending = m.pending ++ w ∷ [] }
+after_step m (step.Wrote w) =
+    record { settled = m.settled; reads = after_write m.reads w; pending = m.pending ++ w ∷ [] }
 after_step m step.Synced = record { settled = m.reads; reads = m.reads; pending = [] }
 
 unfoldable pub after_steps : Moment → List Step → Moment
@@ -49,7 +51,8 @@ has_bit choice n = nat_eq (choice / 2 ^ (n % 64) % 2) 1
 -- of the writes, of which the first is the n-th, those alone are kept whose bit is set
 unfoldable pub kept : ℕ → ℕ → List ℕ → List Write → List ℕ
 kept choice n bytes [] = bytes
-kept choice n bytes (w ∷ writes) = kept choice (n + 1) (cond (has_bit choice n) (after_write bytes w) bytes) writes
+kept choice n bytes (w ∷ writes) =
+    kept choice (n + 1) (cond (has_bit choice n) (after_write bytes w) bytes) writes
 
 -- what a power loss leaves that keeps the pending writes of the choice, counted from 0
 unfoldable pub lost : ℕ → Moment → List ℕ

@@ -16,7 +16,8 @@ module _ (bytes : List ℕ) (place done n : ℕ) (within : done + n ≤ length b
   length-piece = omega (arith, length-take-le (done + n - done) (drop done bytes) (omega (arith, length-drop done bytes)))
 
   -- the bytes so far, and one piece more
-  pub piece_written : (start reads new : List ℕ) → place + length bytes ≤ length start → reads ≡ written start place (take done bytes)
+  pub piece_written : (start reads new : List ℕ) → place + length bytes ≤ length start
+      → reads ≡ written start place (take done bytes)
       → new ≡ written reads (place + done) (take (done + n - done) (drop done bytes)) → new ≡ written start place (take (done + n) bytes)
   unfolding piece
   piece_written start reads new fits so_far wrote =
@@ -30,7 +31,8 @@ module _ (bytes : List ℕ) (place done n : ℕ) (within : done + n ≤ length b
       ∙ ap (written start place) (sym (take-add done n bytes))
 
   -- and the rest is left alone
-  pub piece_kept : (a b c : Flash) (size : ℕ) → IsFlash b size → Keeps (Outside place (length bytes)) a b
+  pub piece_kept : (a b c : Flash) (size : ℕ) → IsFlash b size
+      → Keeps (Outside place (length bytes)) a b
       → Keeps (Outside (place + done) (length (take (done + n - done) (drop done bytes)))) b c → Keeps (Outside place (length bytes)) a c
   unfolding piece
   piece_kept a b c size law so_far kept =

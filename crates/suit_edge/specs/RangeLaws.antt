@@ -28,7 +28,8 @@ module _ (old : List ℕ) (place : ℕ) (bytes : List ℕ) (fits : place + lengt
       ∙ get_or-drop (place + length bytes) old (i - (place + length bytes)) 0
       ∙ ap (λ (k : ℕ). get_or old k 0) (omega arith)
 
-  pub written_within : (i : ℕ) → i < length bytes → get_or (written old place bytes) (place + i) 0 ≡ get_or bytes i 0
+  pub written_within : (i : ℕ) → i < length bytes
+      → get_or (written old place bytes) (place + i) 0 ≡ get_or bytes i 0
   unfolding written
   written_within i h =
       get_or_append_left (take place old ++ bytes) (drop (place + length bytes) old) 0 (place + i) (omega (arith, front, length-append (take place old) bytes))
@@ -48,13 +49,16 @@ module _ (old : List ℕ) (place : ℕ) (bytes : List ℕ) (fits : place + lengt
       get_or-between (written old place bytes) place (place + length bytes) i 0 (omega arith) ∙ written_within i lt)
 
 -- one byte
-pub written_one : (old : List ℕ) (place b : ℕ) → place + 1 ≤ length old → get_or (written old place (b ∷ [])) place 0 ≡ b
+pub written_one : (old : List ℕ) (place b : ℕ) → place + 1 ≤ length old
+    → get_or (written old place (b ∷ [])) place 0 ≡ b
 written_one old place b fits =
     let at : place + 0 ≡ place = omega arith in
     subst (λ (k : ℕ). get_or (written old place (b ∷ [])) k 0 ≡ b) at (written_within old place (b ∷ []) fits 0 (omega arith))
 
 -- ranges of lists that agree there
-pub same_range : (c d : List ℕ) (from to : ℕ) → length c ≡ length d → to ≤ length c → ((i : ℕ) → from ≤ i → i < to → get_or c i 0 ≡ get_or d i 0) → slice_range c from to ≡ slice_range d from to
+pub same_range : (c d : List ℕ) (from to : ℕ) → length c ≡ length d → to ≤ length c
+    → ((i : ℕ) → from ≤ i → i < to → get_or c i 0 ≡ get_or d i 0)
+    → slice_range c from to ≡ slice_range d from to
 same_range c d from to size fits agree =
     ext_get_or 0 (slice_range c from to) (slice_range d from to) (length-between c from to fits ∙ sym (length-between d from to (omega (arith, size))))
     (λ i h.
@@ -73,7 +77,8 @@ pub same_back : (K : ℕ → Type 0) (a b : List ℕ) → SameOn K a b → SameO
 same_back K a b same = record { size = sym same.size; same = λ i k. sym (same.same i k) }
 
 -- on fewer places
-pub same_fewer : (K L : ℕ → Type 0) → ((i : ℕ) → K i → L i) → (a b : List ℕ) → SameOn L a b → SameOn K a b
+pub same_fewer : (K L : ℕ → Type 0) → ((i : ℕ) → K i → L i) → (a b : List ℕ) → SameOn L a b
+    → SameOn K a b
 same_fewer K L to a b same = record { size = same.size; same = λ i k. same.same i (to i k) }
 
 -- what is outside a range is outside each range within it
@@ -100,7 +105,9 @@ module _ (old : List ℕ) (p : ℕ) (xs ys : List ℕ) (fits : p + length xs + l
       fits_ys : p + length xs + length ys ≤ length (written old p xs)
       fits_ys = omega (arith, once)
 
-      out : (i : ℕ) → Outside p (length (xs ++ ys)) i → get_or (written (written old p xs) (p + length xs) ys) i 0 ≡ get_or (written old p (xs ++ ys)) i 0
+      out : (i : ℕ) → Outside p (length (xs ++ ys)) i
+          → get_or (written (written old p xs) (p + length xs) ys) i 0
+          ≡ get_or (written old p (xs ++ ys)) i 0
       out i far =
           let n = length-append xs ys in
           let far_ys : Outside (p + length xs) (length ys) i = outside_within (p + length xs) (length ys) p (length (xs ++ ys)) (omega arith) (omega (arith, n)) i far in
@@ -108,12 +115,16 @@ module _ (old : List ℕ) (p : ℕ) (xs ys : List ℕ) (fits : p + length xs + l
           (written_outside (written old p xs) (p + length xs) ys fits_ys).same i far_ys ∙ (written_outside old p xs (omega arith)).same i far_xs
           ∙ sym ((written_outside old p (xs ++ ys) size_all).same i far)
 
-      in_xs : (k : ℕ) → k < length xs → get_or (written (written old p xs) (p + length xs) ys) (p + k) 0 ≡ get_or (written old p (xs ++ ys)) (p + k) 0
+      in_xs : (k : ℕ) → k < length xs
+          → get_or (written (written old p xs) (p + length xs) ys) (p + k) 0
+          ≡ get_or (written old p (xs ++ ys)) (p + k) 0
       in_xs k lt =
           (written_outside (written old p xs) (p + length xs) ys fits_ys).same (p + k) (inl (omega arith)) ∙ written_within old p xs (omega arith) k lt
           ∙ sym (get_or_append_left xs ys 0 k lt) ∙ sym (written_within old p (xs ++ ys) size_all k (omega (arith, length-append xs ys)))
 
-      in_ys : (k : ℕ) → k < length ys → get_or (written (written old p xs) (p + length xs) ys) (p + length xs + k) 0 ≡ get_or (written old p (xs ++ ys)) (p + length xs + k) 0
+      in_ys : (k : ℕ) → k < length ys
+          → get_or (written (written old p xs) (p + length xs) ys) (p + length xs + k) 0
+          ≡ get_or (written old p (xs ++ ys)) (p + length xs + k) 0
       in_ys k lt =
           let at : p + (length xs + k) ≡ p + length xs + k = omega arith in
           let back : length xs + k - length xs ≡ k = omega arith in
@@ -122,7 +133,9 @@ module _ (old : List ℕ) (p : ℕ) (xs ys : List ℕ) (fits : p + length xs + l
           ∙ sym (written_within old p (xs ++ ys) size_all (length xs + k) (omega (arith, length-append xs ys)))
           ∙ ap (λ (j : ℕ). get_or (written old p (xs ++ ys)) j 0) at
 
-      same : (i : ℕ) → i < length (written (written old p xs) (p + length xs) ys) → get_or (written (written old p xs) (p + length xs) ys) i 0 ≡ get_or (written old p (xs ++ ys)) i 0
+      same : (i : ℕ) → i < length (written (written old p xs) (p + length xs) ys)
+          → get_or (written (written old p xs) (p + length xs) ys) i 0
+          ≡ get_or (written old p (xs ++ ys)) i 0
       same i lt = ⊎_elim (λ low. out i (inl low))
           (λ high. ⊎_elim
           (λ near. let at : p + (i - p) ≡ i = omega (arith, high) in subst (λ (j : ℕ). get_or (written (written old p xs) (p + length xs) ys) j 0 ≡ get_or (written old p (xs ++ ys)) j 0) at (in_xs (i - p) (omega (arith, high, near))))

@@ -11,7 +11,8 @@ seen shows reads f = record {
   may = λ t image. ((below : List ℕ) × f.may t below × (image ≡ shows below)) ⊎ ((t ≤ f.clock) × (image ≡ reads));
 }
 
-pub seen_obeys : (shows : List ℕ → List ℕ) (reads : List ℕ) (f : Flash) (size n : ℕ) → ((l : List ℕ) → length l ≡ size → length (shows l) ≡ n) → length reads ≡ n
+pub seen_obeys : (shows : List ℕ → List ℕ) (reads : List ℕ) (f : Flash) (size n : ℕ)
+    → ((l : List ℕ) → length l ≡ size → length (shows l) ≡ n) → length reads ≡ n
     → (AreBytes reads → (below : List ℕ) → Now f below → AreBytes (shows below)) → IsFlash f size → IsFlash (seen shows reads f) n
 seen_obeys shows reads f size n long fits bytes law = record {
   fits = fits;
@@ -23,7 +24,8 @@ seen_obeys shows reads f size n long fits bytes law = record {
 
 module _ (shows : List ℕ → List ℕ) (old new : List ℕ) (a b : Flash) where
   -- The images of a moment stay, where the disk still reads what it read, or the one below has shown it since.
-  pub seen_grows : (size : ℕ) → IsFlash b size → a.clock ≤ b.clock → Grows a b → (old ≡ new) ⊎ ((below : List ℕ) × b.may a.clock below × (old ≡ shows below))
+  pub seen_grows : (size : ℕ) → IsFlash b size → a.clock ≤ b.clock → Grows a b
+      → (old ≡ new) ⊎ ((below : List ℕ) × b.may a.clock below × (old ≡ shows below))
       → Grows (seen shows old a) (seen shows new b)
   seen_grows size law later grows stays t image le may = ⊎_elim
       (λ m. inl (m.0, grows t m.0 le m.1, m.2))
@@ -31,7 +33,8 @@ module _ (shows : List ℕ → List ℕ) (old new : List ℕ) (a b : Flash) wher
       may
 
   -- any number of calls below make one call
-  pub seen_passes : (P Q : List ℕ → Type 0) → ((below : List ℕ) → P below → Q (shows below)) → Q new → Passes a b P → Passes (seen shows old a) (seen shows new b) Q
+  pub seen_passes : (P Q : List ℕ → Type 0) → ((below : List ℕ) → P below → Q (shows below)) → Q new
+      → Passes a b P → Passes (seen shows old a) (seen shows new b) Q
   seen_passes P Q to read run = record {
     later = run.later;
     each = λ image may. ⊎_elim (λ m. subst Q (sym m.2) (to m.0 (run.each m.0 m.1))) (λ m. subst Q (sym m.1) read) may;
@@ -42,7 +45,8 @@ module _ (shows : List ℕ → List ℕ) (old new : List ℕ) (a b : Flash) wher
   }
 
   -- a read that makes writes below, as one that settles does, where each image that they may leave shows one of the start
-  pub seen_steady : new ≡ old → Passes a b (λ below. Now (seen shows old a) (shows below)) → IsSame (seen shows old a) (seen shows new b)
+  pub seen_steady : new ≡ old → Passes a b (λ below. Now (seen shows old a) (shows below))
+      → IsSame (seen shows old a) (seen shows new b)
   seen_steady same below = record {
     reads = same;
     images = seen_passes (λ l. Now (seen shows old a) (shows l)) (Now (seen shows old a)) (λ l now. now) (inr (omega arith, same)) below;
@@ -54,11 +58,14 @@ module _ (shows : List ℕ → List ℕ) (old new : List ℕ) (a b : Flash) wher
     images = seen_passes (Now a) (Now (seen shows old a)) (λ image now. inl (image, now, refl)) (inr (omega arith, same)) below.images;
   }
 
-  pub seen_keeps : (K : ℕ → Type 0) → SameOn K old new → Passes a b (λ below. ImageOn K (seen shows old a) (shows below)) → Keeps K (seen shows old a) (seen shows new b)
+  pub seen_keeps : (K : ℕ → Type 0) → SameOn K old new
+      → Passes a b (λ below. ImageOn K (seen shows old a) (shows below))
+      → Keeps K (seen shows old a) (seen shows new b)
   seen_keeps K same below = record {
     reads = same;
     images = seen_passes (λ l. ImageOn K (seen shows old a) (shows l)) (ImageOn K (seen shows old a)) (λ l on. on) (record { from = old; was = inr (omega arith, refl); same = same }) below;
   }
 
-pub seen_settled : (shows : List ℕ → List ℕ) (reads : List ℕ) (f : Flash) → IsSettled f → reads ≡ shows f.reads → IsSettled (seen shows reads f)
+pub seen_settled : (shows : List ℕ → List ℕ) (reads : List ℕ) (f : Flash) → IsSettled f
+    → reads ≡ shows f.reads → IsSettled (seen shows reads f)
 seen_settled shows reads f settled is image now = ⊎_elim (λ m. m.2 ∙ ap shows (settled m.0 m.1) ∙ sym is) (λ m. m.1) now

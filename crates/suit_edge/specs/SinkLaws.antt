@@ -6,8 +6,10 @@ use Rattle.suit_edge.specs.Sink.{Puts}
 
 pub record SinkLaws : Type 0 where
   -- what was put stays, whatever the answer
-  pub stays : (answer : Edge) (before now piece : List ℕ) → Puts answer before now piece → take (length before) now ≡ before
+  pub stays : (answer : Edge) (before now piece : List ℕ) → Puts answer before now piece
+      → take (length before) now ≡ before
   -- what is put is a front of all that was to be put
-  pub front : (answer : Edge) (before now piece : List ℕ) → Puts answer before now piece → (n : ℕ) × (n ≤ length (before ++ piece)) × (now ≡ take n (before ++ piece))
+  pub front : (answer : Edge) (before now piece : List ℕ) → Puts answer before now piece
+      → (n : ℕ) × (n ≤ length (before ++ piece)) × (now ≡ take n (before ++ piece))
   -- and all of it where the call is done
   pub whole : (before now piece : List ℕ) → Puts edge.Done before now piece → now ≡ before ++ piece

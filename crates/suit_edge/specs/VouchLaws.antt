@@ -14,12 +14,14 @@ module _ (start : Flash) (size : ℕ) (ranges : List Range) (gate place : ℕ) (
   page = page_at gate place (length body)
 
   -- bytes that agree outside the ranges have the same page
-  body_same : (image : List ℕ) → length image ≡ length start.reads → ((i : ℕ) → InSome page i → get_or image i 0 ≡ get_or start.reads i 0)
+  body_same : (image : List ℕ) → length image ≡ length start.reads
+      → ((i : ℕ) → InSome page i → get_or image i 0 ≡ get_or start.reads i 0)
       → body_at image place (length body) ≡ body_at start.reads place (length body)
   body_same image long at = same_range image start.reads place (place + length body) long (omega (arith, long, law.fits)) (λ i low high. at i (inr (inl (low, high))))
 
   -- while the bytes are written, the page stays
-  pub writing : (b : Flash) (made : List ℕ) → Keeps (OutsideEach ranges) start b → Passes start b (IsVouched ranges gate place body made start)
+  pub writing : (b : Flash) (made : List ℕ) → Keeps (OutsideEach ranges) start b
+      → Passes start b (IsVouched ranges gate place body made start)
   writing b made kept = weakens start b (ImageOn (OutsideEach ranges) start) (IsVouched ranges gate place body made start) (λ image on.
       let sure = firm on.from on.was in
       let at : (i : ℕ) → InSome page i → get_or image i 0 ≡ get_or start.reads i 0 = λ i on_page. on.same.same i (apart i on_page) ∙ sure.same i on_page in
@@ -32,7 +34,9 @@ module _ (start : Flash) (size : ℕ) (ranges : List Range) (gate place : ℕ) (
       }) kept.images
 
   -- while the page is written, the bytes stay
-  pub vouching : (b c : Flash) → IsFlash b size → Keeps (OutsideEach ranges) start b → Passes b c (IsGated gate place body b) → Passes start c (IsVouched ranges gate place body b.reads start)
+  pub vouching : (b c : Flash) → IsFlash b size → Keeps (OutsideEach ranges) start b
+      → Passes b c (IsGated gate place body b)
+      → Passes start c (IsVouched ranges gate place body b.reads start)
   vouching b c law_b kept gated =
       joined start b c (IsVouched ranges gate place body b.reads start) (writing b b.reads kept) (weakens b c (IsGated gate place body b) (IsVouched ranges gate place body b.reads start) (λ image g. record {
         apart = image_then (OutsideEach (page ++ ranges)) start b size law_b
@@ -41,7 +45,9 @@ module _ (start : Flash) (size : ℕ) (ranges : List Range) (gate place : ℕ) (
         opens = λ is_open. ⊎_elim (λ old. inl (earlier b image kept old)) (λ new. inr new) (g.opens is_open);
       }) gated)
     where
-      earlier : (b : Flash) (image : List ℕ) → Keeps (OutsideEach ranges) start b → IsOldPage gate place (length body) b.reads image → IsOldPage gate place (length body) start.reads image
+      earlier : (b : Flash) (image : List ℕ) → Keeps (OutsideEach ranges) start b
+          → IsOldPage gate place (length body) b.reads image
+          → IsOldPage gate place (length body) start.reads image
       earlier b image kept old = record {
         opened = sym (kept.reads.same gate (apart gate (inl (omega arith, omega arith)))) ∙ old.opened;
         bytes = old.bytes ∙ body_same b.reads kept.reads.size (λ i on_page. kept.reads.same i (apart i on_page));

@@ -55,7 +55,9 @@ impl Calls {
 
     /// Counts a want of memory in the call that was counted last.
     pub(crate) fn starve(&mut self)
-        ensures counts { self.new ≡ record self.old { faults = counted self.old.faults; starved = counted self.old.starved } }
+        ensures counts { self.new
+            ≡ record self.old
+            { faults = counted self.old.faults; starved = counted self.old.starved } }
         ensures faulted { Faulted self.old.faults self.new.faults }
         ensures rose { Faulted self.old.starved self.new.starved }
     {

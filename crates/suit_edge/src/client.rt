@@ -18,8 +18,11 @@ fn write_pieces<D: Disk>(disk: &mut D, place: u64, bytes: &[u8]) -> Edge
     requires { place + length bytes.now ≤ D.extent disk.old }
     ensures size { D.extent disk.new ≡ D.extent disk.old }
     ensures counts { EdgeCounts result (D.faults disk.old) (D.faults disk.new) }
-    ensures written { IsTrue D.told → IfDone result ((D.flash disk.new).reads ≡ written (D.flash disk.old).reads place bytes.now) }
-    ensures keeps { IsTrue D.told → Keeps (Outside place (length bytes.now)) (D.flash disk.old) (D.flash disk.new) }
+    ensures written { IsTrue D.told
+        → IfDone result
+        ((D.flash disk.new).reads ≡ written (D.flash disk.old).reads place bytes.now) }
+    ensures keeps { IsTrue D.told
+        → Keeps (Outside place (length bytes.now)) (D.flash disk.old) (D.flash disk.new) }
 {
     // Each place fits a u64, since the size does.
     let _size = disk.size();
@@ -40,9 +43,12 @@ fn keep_pieces<D: Disk>(disk: &mut D, place: u64, bytes: &[u8]) -> Edge
     requires { place + length bytes.now ≤ D.extent disk.old }
     ensures size { D.extent disk.new ≡ D.extent disk.old }
     ensures counts { EdgeCounts result (D.faults disk.old) (D.faults disk.new) }
-    ensures written { IsTrue D.told → IfDone result ((D.flash disk.new).reads ≡ written (D.flash disk.old).reads place bytes.now) }
+    ensures written { IsTrue D.told
+        → IfDone result
+        ((D.flash disk.new).reads ≡ written (D.flash disk.old).reads place bytes.now) }
     ensures settled { IsTrue D.told → IfDone result (IsSettled (D.flash disk.new)) }
-    ensures keeps { IsTrue D.told → Keeps (Outside place (length bytes.now)) (D.flash disk.old) (D.flash disk.new) }
+    ensures keeps { IsTrue D.told
+        → Keeps (Outside place (length bytes.now)) (D.flash disk.old) (D.flash disk.new) }
 {
     match write_pieces(disk, place, bytes) {
         Edge::Done => {}
@@ -68,11 +74,16 @@ pub(crate) fn vouch<D: Disk>(
     requires gate { gate + 1 ≤ D.extent disk.old }
     requires body { page + length body.now ≤ D.extent disk.old }
     requires apart { Outside page (length body.now) gate }
-    requires clear { AreClear (page_at gate page (length body.now)) (bytes_at place (length bytes.now)) }
-    requires firm { IsTrue D.told → IsFirmOn (InSome (page_at gate page (length body.now))) (D.flash disk.old) }
+    requires clear { AreClear (page_at gate page (length body.now))
+        (bytes_at place (length bytes.now)) }
+    requires firm { IsTrue D.told
+        → IsFirmOn (InSome (page_at gate page (length body.now))) (D.flash disk.old) }
     ensures size { D.extent disk.new ≡ D.extent disk.old }
     ensures counts { EdgeCounts result (D.faults disk.old) (D.faults disk.new) }
-    ensures any_moment { IsTrue D.told → Passes (D.flash disk.old) (D.flash disk.new) (IsVouched (bytes_at place (length bytes.now)) gate page body.now (written (D.flash disk.old).reads place bytes.now) (D.flash disk.old)) }
+    ensures any_moment { IsTrue D.told
+        → Passes (D.flash disk.old) (D.flash disk.new)
+        (IsVouched (bytes_at place (length bytes.now)) gate page body.now
+        (written (D.flash disk.old).reads place bytes.now) (D.flash disk.old)) }
 {
     match keep_pieces(disk, place, bytes) {
         Edge::Done => {}

@@ -105,10 +105,17 @@ impl Disk for FuseDisk {
         requires { place + length room.old ≤ length self.old.disk.first }
         ensures size { length self.new.disk.first ≡ length self.old.disk.first }
         ensures counts { EdgeCounts result self.old.faults self.new.faults }
-        ensures bytes { IsTrue true → IfDone result (room.new ≡ slice_range (memory_flash self.old.disk).reads place (place + length room.old)) }
-        ensures same { IsTrue true → IsSame (memory_flash self.old.disk) (memory_flash self.new.disk) }
-        ensures grows { IsTrue true → Grows (memory_flash self.old.disk) (memory_flash self.new.disk) }
-        ensures exact { BurnsExactly result self.old self.new (λ before now. ReadsExactly result before now place room.old room.new) }
+        ensures bytes { IsTrue true
+            → IfDone result
+            (room.new
+            ≡ slice_range (memory_flash self.old.disk).reads place
+            (place + length room.old)) }
+        ensures same { IsTrue true
+            → IsSame (memory_flash self.old.disk) (memory_flash self.new.disk) }
+        ensures grows { IsTrue true
+            → Grows (memory_flash self.old.disk) (memory_flash self.new.disk) }
+        ensures exact { BurnsExactly result self.old self.new
+            (λ before now. ReadsExactly result before now place room.old room.new) }
     {
         if !takes_pass(&mut self.passes) {
             return counts(&mut self.faults, Edge::Failed);
@@ -121,10 +128,17 @@ impl Disk for FuseDisk {
         requires { place + length bytes.now ≤ length self.old.disk.first }
         ensures size { length self.new.disk.first ≡ length self.old.disk.first }
         ensures counts { EdgeCounts result self.old.faults self.new.faults }
-        ensures written { IsTrue true → IfDone result ((memory_flash self.new.disk).reads ≡ written (memory_flash self.old.disk).reads place bytes.now) }
-        ensures keeps { IsTrue true → Keeps (Outside place (length bytes.now)) (memory_flash self.old.disk) (memory_flash self.new.disk) }
-        ensures grows { IsTrue true → Grows (memory_flash self.old.disk) (memory_flash self.new.disk) }
-        ensures exact { BurnsExactly result self.old self.new (λ before now. StepsExactly result before now (write_of place bytes.now)) }
+        ensures written { IsTrue true
+            → IfDone result
+            ((memory_flash self.new.disk).reads
+            ≡ written (memory_flash self.old.disk).reads place bytes.now) }
+        ensures keeps { IsTrue true
+            → Keeps (Outside place (length bytes.now)) (memory_flash self.old.disk)
+            (memory_flash self.new.disk) }
+        ensures grows { IsTrue true
+            → Grows (memory_flash self.old.disk) (memory_flash self.new.disk) }
+        ensures exact { BurnsExactly result self.old self.new
+            (λ before now. StepsExactly result before now (write_of place bytes.now)) }
     {
         if !takes_pass(&mut self.passes) {
             return counts(&mut self.faults, Edge::Failed);
@@ -137,9 +151,12 @@ impl Disk for FuseDisk {
         ensures size { length self.new.disk.first ≡ length self.old.disk.first }
         ensures counts { EdgeCounts result self.old.faults self.new.faults }
         ensures settled { IsTrue true → IfDone result (IsSettled (memory_flash self.new.disk)) }
-        ensures same { IsTrue true → IsSame (memory_flash self.old.disk) (memory_flash self.new.disk) }
-        ensures grows { IsTrue true → Grows (memory_flash self.old.disk) (memory_flash self.new.disk) }
-        ensures exact { BurnsExactly result self.old self.new (λ before now. StepsExactly result before now step.Synced) }
+        ensures same { IsTrue true
+            → IsSame (memory_flash self.old.disk) (memory_flash self.new.disk) }
+        ensures grows { IsTrue true
+            → Grows (memory_flash self.old.disk) (memory_flash self.new.disk) }
+        ensures exact { BurnsExactly result self.old self.new
+            (λ before now. StepsExactly result before now step.Synced) }
     {
         if !takes_pass(&mut self.passes) {
             return counts(&mut self.faults, Edge::Failed);

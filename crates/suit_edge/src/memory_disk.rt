@@ -45,7 +45,9 @@ impl MemoryDisk {
     /// A disk of zero bytes with nothing pending. The calls with these numbers fail: each call but `size` is
     /// counted, from 0.
     pub fn new(alloc: Global, size: usize, fails: &[u64]) -> Result<MemoryDisk, AllocError>
-        ensures state { IfOk result (λ disk. disk ≡ record { first = replicate size 0; steps = []; calls = uncalled fails.now }) }
+        ensures state { IfOk result
+            (λ disk. disk
+            ≡ record { first = replicate size 0; steps = []; calls = uncalled fails.now }) }
         ensures settled { IfOk result (λ disk. IsSettled (memory_flash disk)) }
     {
         let bytes = vec![in alloc; 0; size]?;
@@ -55,7 +57,8 @@ impl MemoryDisk {
 
     // A disk of these bytes with nothing pending.
     fn of(alloc: Global, bytes: Vec<u8>, calls: Calls) -> Result<MemoryDisk, AllocError>
-        ensures state { IfOk result (λ disk. disk ≡ record { first = bytes.items; steps = []; calls = calls }) }
+        ensures state { IfOk result
+            (λ disk. disk ≡ record { first = bytes.items; steps = []; calls = calls }) }
         ensures settled { IfOk result (λ disk. IsSettled (memory_flash disk)) }
     {
         let first = bytes.to_vec(alloc)?;
@@ -74,7 +77,14 @@ impl MemoryDisk {
     /// A disk as a power loss now may leave this one, with nothing pending and no calls that fail. The n-th of
     /// the writes since the last sync, counted from 0, is kept where bit n modulo 64 of the choice is set.
     pub fn after_loss(&self, alloc: Global, choice: u64) -> Result<MemoryDisk, AllocError>
-        ensures left { IfOk result (λ disk. disk ≡ record { first = lost choice (moment_now self.now); steps = []; calls = uncalled [] }) }
+        ensures left { IfOk result
+            (λ disk. disk
+            ≡
+            record {
+              first = lost choice (moment_now self.now);
+              steps = [];
+              calls = uncalled [];
+            }) }
         ensures may { IfOk result (λ disk. Now (memory_flash self.now) disk.first) }
         ensures size { IfOk result (λ disk. length disk.first ≡ length self.now.first) }
         ensures settled { IfOk result (λ disk. IsSettled (memory_flash disk)) }
@@ -206,7 +216,10 @@ impl Disk for MemoryDisk {
         requires { place + length room.old ≤ length self.old.first }
         ensures size { length self.new.first ≡ length self.old.first }
         ensures counts { EdgeCounts result self.old.calls.faults self.new.calls.faults }
-        ensures bytes { IsTrue true → IfDone result (room.new ≡ slice_range (memory_flash self.old).reads place (place + length room.old)) }
+        ensures bytes { IsTrue true
+            → IfDone result
+            (room.new
+            ≡ slice_range (memory_flash self.old).reads place (place + length room.old)) }
         ensures same { IsTrue true → IsSame (memory_flash self.old) (memory_flash self.new) }
         ensures grows { IsTrue true → Grows (memory_flash self.old) (memory_flash self.new) }
         ensures exact { ReadsExactly result self.old self.new place room.old room.new }
@@ -223,8 +236,13 @@ impl Disk for MemoryDisk {
         requires { place + length bytes.now ≤ length self.old.first }
         ensures size { length self.new.first ≡ length self.old.first }
         ensures counts { EdgeCounts result self.old.calls.faults self.new.calls.faults }
-        ensures written { IsTrue true → IfDone result ((memory_flash self.new).reads ≡ written (memory_flash self.old).reads place bytes.now) }
-        ensures keeps { IsTrue true → Keeps (Outside place (length bytes.now)) (memory_flash self.old) (memory_flash self.new) }
+        ensures written { IsTrue true
+            → IfDone result
+            ((memory_flash self.new).reads
+            ≡ written (memory_flash self.old).reads place bytes.now) }
+        ensures keeps { IsTrue true
+            → Keeps (Outside place (length bytes.now)) (memory_flash self.old)
+            (memory_flash self.new) }
         ensures grows { IsTrue true → Grows (memory_flash self.old) (memory_flash self.new) }
         ensures exact { StepsExactly result self.old self.new (write_of place bytes.now) }
     {

@@ -34,7 +34,8 @@ impl Model for MemoryLauncher {
 impl MemoryLauncher {
     /// A launcher without launches. The launches with these numbers, counted from 0, fail.
     pub fn new(alloc: Global, fails: &[u64]) -> Result<MemoryLauncher, AllocError>
-        ensures { IfOk result (λ launcher. launcher ≡ record { launches = []; calls = uncalled fails.now }) }
+        ensures { IfOk result
+            (λ launcher. launcher ≡ record { launches = []; calls = uncalled fails.now }) }
     {
         Ok(MemoryLauncher {
             alloc,
@@ -110,7 +111,16 @@ fn launch_of(
     size: Option<u64>,
     args: Option<&[u8]>,
 ) -> Result<Launch, AllocError>
-    ensures { IfOk result (λ launch. launch ≡ record { component = component; bytes = bytes; digest = option_copied digest.entry; size = size; args = option_copied args.entry }) }
+    ensures { IfOk result
+        (λ launch. launch
+        ≡
+        record {
+          component = component;
+          bytes = bytes;
+          digest = option_copied digest.entry;
+          size = size;
+          args = option_copied args.entry;
+        }) }
 {
     Ok(Launch {
         component,
@@ -123,7 +133,8 @@ fn launch_of(
 
 // Adds the launch of these bytes.
 fn note(launches: &mut Launches, launch: Result<Launch, AllocError>) -> Result<(), AllocError>
-    ensures ok { OnOk result ((added : Launch) × (launch ≡ Ok added) × (launches.new ≡ launches.old ++ added ∷ [])) }
+    ensures ok { OnOk result
+        ((added : Launch) × (launch ≡ Ok added) × (launches.new ≡ launches.old ++ added ∷ [])) }
     ensures err { OnErr result (launches.new ≡ launches.old) }
 {
     launches.push(launch?)
@@ -147,11 +158,16 @@ impl Launcher for MemoryLauncher {
     ) -> Launched
         requires { LiesWithin (D.extent disk.old) image }
         ensures size { D.extent disk.new ≡ D.extent disk.old }
-        ensures counts { LaunchCounts result self.old.calls.faults self.new.calls.faults (D.faults disk.old) (D.faults disk.new) }
-        ensures launches { IsTrue true → AddsLaunch result self.old.launches self.new.launches (IsLaunch image.entry D.told (D.flash disk.old).reads component (option_copied digest.entry) size (option_copied args.entry)) }
+        ensures counts { LaunchCounts result self.old.calls.faults self.new.calls.faults
+            (D.faults disk.old) (D.faults disk.new) }
+        ensures launches { IsTrue true
+            → AddsLaunch result self.old.launches self.new.launches
+            (IsLaunch image.entry D.told (D.flash disk.old).reads component
+            (option_copied digest.entry) size (option_copied args.entry)) }
         ensures same { IsTrue D.told → IsSame (D.flash disk.old) (D.flash disk.new) }
         ensures grows { IsTrue D.told → Grows (D.flash disk.old) (D.flash disk.new) }
-        ensures exact { LaunchesExactly result self.old self.new (D.faults disk.old) (D.faults disk.new) }
+        ensures exact { LaunchesExactly result self.old self.new (D.faults disk.old)
+            (D.faults disk.new) }
     {
         if self.calls.next_fails() {
             return Launched::Failed;

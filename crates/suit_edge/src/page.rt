@@ -20,9 +20,12 @@ pub fn write_and_sync<D: Disk>(disk: &mut D, place: u64, bytes: &[u8]) -> Edge
     requires { place + length bytes.now ≤ D.extent disk.old }
     ensures size { D.extent disk.new ≡ D.extent disk.old }
     ensures counts { EdgeCounts result (D.faults disk.old) (D.faults disk.new) }
-    ensures written { IsTrue D.told → IfDone result ((D.flash disk.new).reads ≡ written (D.flash disk.old).reads place bytes.now) }
+    ensures written { IsTrue D.told
+        → IfDone result
+        ((D.flash disk.new).reads ≡ written (D.flash disk.old).reads place bytes.now) }
     ensures settled { IsTrue D.told → IfDone result (IsSettled (D.flash disk.new)) }
-    ensures keeps { IsTrue D.told → Keeps (Outside place (length bytes.now)) (D.flash disk.old) (D.flash disk.new) }
+    ensures keeps { IsTrue D.told
+        → Keeps (Outside place (length bytes.now)) (D.flash disk.old) (D.flash disk.new) }
     ensures grows { IsTrue D.told → Grows (D.flash disk.old) (D.flash disk.new) }
 {
     match disk.write_at(place, bytes) {
@@ -36,9 +39,11 @@ fn close_if_open<D: Disk>(disk: &mut D, gate: u64) -> Edge
     requires { gate + 1 ≤ D.extent disk.old }
     ensures size { D.extent disk.new ≡ D.extent disk.old }
     ensures counts { EdgeCounts result (D.faults disk.old) (D.faults disk.new) }
-    ensures closes { IsTrue D.told → IfDone result (Closes gate (D.flash disk.old).reads (D.flash disk.new).reads) }
+    ensures closes { IsTrue D.told
+        → IfDone result (Closes gate (D.flash disk.old).reads (D.flash disk.new).reads) }
     ensures keeps { IsTrue D.told → Keeps (Outside gate 1) (D.flash disk.old) (D.flash disk.new) }
-    ensures any_moment { IsTrue D.told → Passes (D.flash disk.old) (D.flash disk.new) (IsClosing gate (D.flash disk.old)) }
+    ensures any_moment { IsTrue D.told
+        → Passes (D.flash disk.old) (D.flash disk.new) (IsClosing gate (D.flash disk.old)) }
     ensures grows { IsTrue D.told → Grows (D.flash disk.old) (D.flash disk.new) }
 {
     let mut byte = [0u8; 1];
@@ -61,10 +66,12 @@ pub fn close_gate<D: Disk>(disk: &mut D, gate: u64) -> Edge
     requires { gate + 1 ≤ D.extent disk.old }
     ensures size { D.extent disk.new ≡ D.extent disk.old }
     ensures counts { EdgeCounts result (D.faults disk.old) (D.faults disk.new) }
-    ensures closes { IsTrue D.told → IfDone result (Closes gate (D.flash disk.old).reads (D.flash disk.new).reads) }
+    ensures closes { IsTrue D.told
+        → IfDone result (Closes gate (D.flash disk.old).reads (D.flash disk.new).reads) }
     ensures settled { IsTrue D.told → IfDone result (IsSettled (D.flash disk.new)) }
     ensures keeps { IsTrue D.told → Keeps (Outside gate 1) (D.flash disk.old) (D.flash disk.new) }
-    ensures any_moment { IsTrue D.told → Passes (D.flash disk.old) (D.flash disk.new) (IsClosing gate (D.flash disk.old)) }
+    ensures any_moment { IsTrue D.told
+        → Passes (D.flash disk.old) (D.flash disk.new) (IsClosing gate (D.flash disk.old)) }
     ensures grows { IsTrue D.told → Grows (D.flash disk.old) (D.flash disk.new) }
 {
     match close_if_open(disk, gate) {
@@ -86,10 +93,16 @@ pub fn open_written<D: Disk>(disk: &mut D, gate: u64, place: u64, body: &[u8]) -
     ensures size { D.extent disk.new ≡ D.extent disk.old }
     ensures counts { EdgeCounts result (D.faults disk.old) (D.faults disk.new) }
     ensures opened { IsTrue D.told → IfDone result (IsOpen (D.flash disk.new).reads gate) }
-    ensures page { IsTrue D.told → IfDone result (IsNewPage gate place body.now (D.flash disk.old).reads (D.flash disk.new).reads) }
+    ensures page { IsTrue D.told
+        → IfDone result
+        (IsNewPage gate place body.now (D.flash disk.old).reads (D.flash disk.new).reads) }
     ensures settled { IsTrue D.told → IfDone result (IsSettled (D.flash disk.new)) }
-    ensures keeps { IsTrue D.told → Keeps (OutsideEach (page_at gate place (length body.now))) (D.flash disk.old) (D.flash disk.new) }
-    ensures any_moment { IsTrue D.told → Passes (D.flash disk.old) (D.flash disk.new) (IsOpening gate place body.now (D.flash disk.old)) }
+    ensures keeps { IsTrue D.told
+        → Keeps (OutsideEach (page_at gate place (length body.now))) (D.flash disk.old)
+        (D.flash disk.new) }
+    ensures any_moment { IsTrue D.told
+        → Passes (D.flash disk.old) (D.flash disk.new)
+        (IsOpening gate place body.now (D.flash disk.old)) }
     ensures grows { IsTrue D.told → Grows (D.flash disk.old) (D.flash disk.new) }
 {
     match write_and_sync(disk, place, body) {
@@ -108,14 +121,21 @@ pub fn write_gated<D: Disk>(disk: &mut D, gate: u64, place: u64, body: &[u8]) ->
     requires gate { gate + 1 ≤ D.extent disk.old }
     requires body { place + length body.now ≤ D.extent disk.old }
     requires apart { Outside place (length body.now) gate }
-    requires firm { IsTrue D.told → IsFirmOn (InSome (page_at gate place (length body.now))) (D.flash disk.old) }
+    requires firm { IsTrue D.told
+        → IsFirmOn (InSome (page_at gate place (length body.now))) (D.flash disk.old) }
     ensures size { D.extent disk.new ≡ D.extent disk.old }
     ensures counts { EdgeCounts result (D.faults disk.old) (D.faults disk.new) }
     ensures opened { IsTrue D.told → IfDone result (IsOpen (D.flash disk.new).reads gate) }
-    ensures page { IsTrue D.told → IfDone result (IsNewPage gate place body.now (D.flash disk.old).reads (D.flash disk.new).reads) }
+    ensures page { IsTrue D.told
+        → IfDone result
+        (IsNewPage gate place body.now (D.flash disk.old).reads (D.flash disk.new).reads) }
     ensures settled { IsTrue D.told → IfDone result (IsSettled (D.flash disk.new)) }
-    ensures keeps { IsTrue D.told → Keeps (OutsideEach (page_at gate place (length body.now))) (D.flash disk.old) (D.flash disk.new) }
-    ensures any_moment { IsTrue D.told → Passes (D.flash disk.old) (D.flash disk.new) (IsGated gate place body.now (D.flash disk.old)) }
+    ensures keeps { IsTrue D.told
+        → Keeps (OutsideEach (page_at gate place (length body.now))) (D.flash disk.old)
+        (D.flash disk.new) }
+    ensures any_moment { IsTrue D.told
+        → Passes (D.flash disk.old) (D.flash disk.new)
+        (IsGated gate place body.now (D.flash disk.old)) }
     ensures grows { IsTrue D.told → Grows (D.flash disk.old) (D.flash disk.new) }
 {
     match close_gate(disk, gate) {

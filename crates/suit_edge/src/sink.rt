@@ -19,6 +19,7 @@ pub trait Sink {
 
     /// Puts bytes behind those that were put. After `Failed` some of the piece, from its first byte on, may be put.
     fn put(&mut self, piece: &[u8]) -> Edge
-        ensures puts { IsTrue told → Puts result (put_bytes self.old) (put_bytes self.new) piece.now }
+        ensures puts { IsTrue told
+            → Puts result (put_bytes self.old) (put_bytes self.new) piece.now }
         ensures counts { EdgeCounts result (faults self.old) (faults self.new) };
 }
