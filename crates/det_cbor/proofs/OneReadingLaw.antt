@@ -1,10 +1,9 @@
 -- Bytes begin with one item or have one first fault, and never both.
 use Rattle.std.proofs.Common.{◌≡◌, ℕ, ◌+◌, ◌-◌, ◌≤◌, List, ◌++◌, length, take, drop, Ok, Err, refl, sym, ap, subst, ◌∙◌, arith, inl, inr, ◌⊎◌}
-use Rattle.std.specs.List.{AllByRecursion}
 use Rattle.std.proofs.lemmas.List.{take_at, take-append-drop, length-append, length-drop}
 use Rattle.det_cbor.specs.declared.reason.Reason.{Reason}
 use Rattle.det_cbor.specs.declared.reason.Stop.{Stop}
-use Rattle.det_cbor.specs.DataItem.{DataItem, IsByte, spell}
+use Rattle.det_cbor.specs.DataItem.{DataItem, spell}
 use Rattle.det_cbor.specs.Faults.{Faulty}
 use Rattle.det_cbor.specs.ItemReading.{Read, item_at}
 use Rattle.det_cbor.specs.OneReading.{StartsWithItem, HasOneItem, HasOneFault, OneReading}
