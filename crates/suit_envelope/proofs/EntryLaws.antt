@@ -4,7 +4,7 @@ use Rattle.std.specs.Prelude.{◌||◌, option_map}
 use Rattle.std.specs.Option.{option_map_or}
 use Rattle.std.specs.List.{AllByRecursion}
 use Rattle.std.proofs.lemmas.Bool.{eqb-true, eq-eqb}
-use Rattle.det_cbor.specs.DataItem.{DataItem, UnsignedInteger, NegativeInteger, ByteString, TextString, ArrayOf, MapOf, TaggedItem, Boolean, NullItem, spell, IsAbove}
+use Rattle.det_cbor.specs.DataItem.{DataItem, UnsignedInteger, spell, IsAbove}
 use Rattle.suit_params.specs.Refusing.{IsByteString, content_place}
 use Rattle.suit_params.specs.HeldLaws.{by_string}
 use Rattle.suit_envelope.specs.Envelopes.{Entry, EnvelopeSays, map_entries, key_of, is_number, has_key, says_nothing, put, put_value, put_all, IsValue}

@@ -1,7 +1,6 @@
 -- The payloads of an envelope that is spelled are listed in their order.
-use Rattle.std.proofs.Common.{◌≡◌, ◌≢◌, ℕ, suc, ◌+◌, ◌-◌, ◌<◌, List, [], ◌∷◌, ◌++◌, length, map, Option, Some, None, Result, Ok, Err, refl, sym, ap, subst, ◌∙◌, append_assoc, arith}
+use Rattle.std.proofs.Common.{◌≡◌, ◌≢◌, ℕ, suc, ◌+◌, ◌-◌, ◌<◌, List, [], ◌++◌, Option, Some, None, Result, Ok, Err, refl, sym, ap, subst, ◌∙◌, append_assoc, arith}
 use Rattle.std.specs.List.{AllByRecursion}
-use Rattle.std.specs.Str.{is_utf8}
 use Rattle.std.proofs.lemmas.List.{append-nil}
 use Rattle.std.proofs.lemmas.Str.{is_utf8-from_IsUtf8}
 use Rattle.det_cbor.specs.DataItem.{DataItem, UnsignedInteger, NegativeInteger, ByteString, TextString, ArrayOf, MapOf, TaggedItem, Boolean, NullItem, DataPairs, NoPairs, PairThen, pair_count, spell, spell_pairs, IsValidWithin, ArePairsWithin}
@@ -10,11 +9,11 @@ use Rattle.det_cbor.specs.Position.{Position}
 use Rattle.suit_params.specs.declared.refusal.Refusal.{Refusal}
 use Rattle.suit_params.specs.Refusing.{IsByteString}
 use Rattle.suit_params.specs.Judging.{judge_string}
-use Rattle.suit_params.proofs.ItemHeads.{after}
-use Rattle.suit_params.proofs.Held.{by_string, content_read, with_rest}
-use Rattle.suit_envelope.specs.Envelopes.{Entry, entries, map_entries, key_of, IsKnown, IsValue}
+use Rattle.suit_params.specs.HeadLaws.{after}
+use Rattle.suit_params.specs.HeldLaws.{by_string, content_read, with_rest}
+use Rattle.suit_envelope.specs.Envelopes.{entries, map_entries, key_of, IsKnown, IsValue}
 use Rattle.suit_envelope.specs.Payloads.{payload_then, integrated_payloads, HasPayloads}
-use Rattle.suit_envelope.specs.PayloadListing.{keyed, listed_pair, listed_then, listed_after, listed_from, listed_where, listed_payloads}
+use Rattle.suit_envelope.specs.PayloadListing.{keyed, listed_pair, listed_then, listed_after, listed_from, listed_payloads}
 use Rattle.suit_envelope.specs.PayloadReading.{counted_from}
 use Rattle.suit_envelope.specs.WrapperParts.{start_of}
 use Rattle.suit_envelope.specs.declared.key.Key.TheVariants.{Unknown}

@@ -2,7 +2,7 @@
 use Rattle.std.proofs.Common.{◌≡◌, ◌≢◌, ℕ, Bool, true, false, List, [], ◌∷◌, Result, Ok, Err, refl, sym, ap, subst, ◌∙◌, inl, inr, ◌⊎◌}
 use Rattle.std.specs.Prelude.{◌||◌, IfOk}
 use Rattle.std.specs.List.{AllByRecursion}
-use Rattle.det_cbor.specs.DataItem.{DataItem, UnsignedInteger, NegativeInteger, ByteString, TextString, ArrayOf, MapOf, TaggedItem, Boolean, NullItem}
+use Rattle.det_cbor.specs.DataItem.{DataItem, UnsignedInteger, ByteString}
 use Rattle.suit_params.specs.declared.refusal.Refusal.{Refusal}
 use Rattle.suit_params.specs.Refusing.{SaysWhole}
 use Rattle.suit_envelope.specs.declared.envelope.Envelope.{Envelope}

@@ -1,4 +1,4 @@
-use Rattle.std.proofs.Common.{◌≡◌, refl, sym, ap, ◌∙◌, arith}
+use Rattle.std.proofs.Common.{sym, ◌∙◌, arith}
 use Rattle.suit_envelope.specs.Making.{IsText}
 use Rattle.suit_envelope.proofs.PayloadPlaces.{is_text, by_bytes, by_length}
 use Rattle.suit_envelope.proofs.payload_order.key_order.Goals as goal

@@ -1,4 +1,4 @@
-use Rattle.std.proofs.Common.{◌≡◌, ◌<◌, length, get_or, sym, ap, ◌∙◌, arith}
+use Rattle.std.proofs.Common.{◌<◌, length, sym, ap, ◌∙◌, arith}
 use Rattle.suit_envelope.specs.PayloadOrder.{key_order}
 use Rattle.suit_envelope.proofs.PayloadPlaces.{put_equal}
 use Rattle.suit_envelope.proofs.payload_order.place_of.Goals as goal
