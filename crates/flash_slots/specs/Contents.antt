@@ -4,14 +4,11 @@ use Rattle.suit_edge.specs.Faults.{Faulted}
 use Rattle.suit_edge.specs.Flash.{Flash, Now}
 use Rattle.flash_layout.specs.declared.frame.TheConstants.{LENGTH_SIZE}
 use Rattle.flash_layout.specs.declared.slot.FlashFault.{FlashFault}
+pub use Rattle.flash_layout.specs.FaultCounts.{ResultCounts}
 use Rattle.flash_layout.specs.declared.slot.Slot.{Slot}
 use Rattle.flash_layout.specs.Slots.{slot_content}
 use Rattle.flash_slots.specs.declared.writing.AppendFault.{AppendFault}
 use Rattle.flash_slots.specs.declared.writing.AppendFault.TheVariants as fault
-
--- the count of faults rose for a fault, and stayed otherwise
-abbrev pub ResultCounts : {A : Type 0} → Result A FlashFault → ℕ → ℕ → Type 0
-ResultCounts result before now = MatchResult result (λ _. now ≡ before) (λ _. Faulted before now)
 
 -- ---- reading
 

@@ -1,9 +1,9 @@
 -- What an image of the flash says of its record. Each word speaks of the image's head alone.
 use Rattle.std.specs.Prelude.{◌≡◌, ◌⊎◌, ◌<◌, ◌≤◌, ◌+◌, ◌-◌, ℕ, List, length, slice_range, nat_lt, if◌then◌else◌, Option, Some, None, Result, MatchResult}
-use Rattle.suit_edge.specs.Faults.{Faulted}
 use Rattle.flash_layout.specs.declared.frame.Frame.{Frame}
 use Rattle.flash_layout.specs.declared.slot.Record.{Record}
 use Rattle.flash_layout.specs.declared.slot.FlashFault.{FlashFault}
+pub use Rattle.flash_layout.specs.FaultCounts.{ResultCounts}
 use Rattle.flash_layout.specs.Frames.{config_page_of, record_from}
 use Rattle.rollback_record.specs.declared.page.TheConstants.{RECORD_BYTES}
 use Rattle.rollback_record.specs.RecordPage.{IsTypedRecord, IsRecordPage}
@@ -42,10 +42,6 @@ pub record HaveRead (frame : Frame) (head config first second : List ℕ) : Type
   pub config_is : config ≡ config_page_of frame head
   pub first_is : first ≡ record_bytes frame head 0
   pub second_is : second ≡ record_bytes frame head 1
-
--- the count of faults rose for a fault, and stayed otherwise
-abbrev pub ResultCounts : {A : Type 0} → Result A FlashFault → ℕ → ℕ → Type 0
-ResultCounts result before now = MatchResult result (λ _. now ≡ before) (λ _. Faulted before now)
 
 -- what holds of each record that is loaded, also where a disk does not tell its bytes
 pub record IsLoadable (frame : Frame) (r : Record) : Type 0 where

@@ -6,6 +6,9 @@ ghost use Rattle.suit_edge.specs.Faults.{EdgeCounts};
 ghost use Rattle.suit_edge.specs.Flash.{Flash, Grows, IsFlash, IsSame, IsSettled, Keeps};
 ghost use Rattle.suit_edge.specs.Ranges.{Outside, written};
 
+#[cfg(test)]
+mod tests;
+
 use crate::Edge;
 
 /// Bytes that outlive a loss of power, as far as they were made sure of.
@@ -31,7 +34,9 @@ pub trait Disk {
         requires { place + length room.old ≤ extent self.old }
         ensures size { extent self.new ≡ extent self.old }
         ensures counts { EdgeCounts result (faults self.old) (faults self.new) }
-        ensures bytes { IsTrue told → IfDone result (room.new ≡ slice_range (flash self.old).reads place (place + length room.old)) }
+        ensures bytes { IsTrue told
+            → IfDone result
+            (room.new ≡ slice_range (flash self.old).reads place (place + length room.old)) }
         ensures same { IsTrue told → IsSame (flash self.old) (flash self.new) }
         ensures grows { IsTrue told → Grows (flash self.old) (flash self.new) };
 
@@ -40,8 +45,11 @@ pub trait Disk {
         requires { place + length bytes.now ≤ extent self.old }
         ensures size { extent self.new ≡ extent self.old }
         ensures counts { EdgeCounts result (faults self.old) (faults self.new) }
-        ensures written { IsTrue told → IfDone result ((flash self.new).reads ≡ written (flash self.old).reads place bytes.now) }
-        ensures keeps { IsTrue told → Keeps (Outside place (length bytes.now)) (flash self.old) (flash self.new) }
+        ensures written { IsTrue told
+            → IfDone result
+            ((flash self.new).reads ≡ written (flash self.old).reads place bytes.now) }
+        ensures keeps { IsTrue told
+            → Keeps (Outside place (length bytes.now)) (flash self.old) (flash self.new) }
         ensures grows { IsTrue told → Grows (flash self.old) (flash self.new) };
 
     /// Makes sure of all that was written. Where it fails, nothing has changed.

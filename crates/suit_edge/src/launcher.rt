@@ -6,6 +6,9 @@ ghost use Rattle.suit_edge.specs.Flash.{Grows, IsSame};
 ghost use Rattle.suit_edge.specs.Launch.{AddsLaunch, IsLaunch, LaunchCounts, LiesWithin};
 ghost use Rattle.suit_edge.specs.declared.launch.Launch.{Launch};
 
+#[cfg(test)]
+mod tests;
+
 use crate::Disk;
 
 /// An image that can be launched.
@@ -51,8 +54,12 @@ pub trait Launcher {
     ) -> Launched
         requires { LiesWithin (D.extent disk.old) image }
         ensures size { D.extent disk.new ≡ D.extent disk.old }
-        ensures counts { LaunchCounts result (faults self.old) (faults self.new) (D.faults disk.old) (D.faults disk.new) }
-        ensures launches { IsTrue told → AddsLaunch result (launches self.old) (launches self.new) (IsLaunch image.entry D.told (D.flash disk.old).reads component (option_copied digest.entry) size (option_copied args.entry)) }
+        ensures counts { LaunchCounts result (faults self.old) (faults self.new) (D.faults disk.old)
+            (D.faults disk.new) }
+        ensures launches { IsTrue told
+            → AddsLaunch result (launches self.old) (launches self.new)
+            (IsLaunch image.entry D.told (D.flash disk.old).reads component
+            (option_copied digest.entry) size (option_copied args.entry)) }
         ensures same { IsTrue D.told → IsSame (D.flash disk.old) (D.flash disk.new) }
         ensures grows { IsTrue D.told → Grows (D.flash disk.old) (D.flash disk.new) };
 }

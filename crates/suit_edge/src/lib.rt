@@ -4,8 +4,6 @@
 mod calls;
 mod client;
 mod disk;
-#[cfg(test)]
-mod disk_tests;
 mod edge;
 mod file_disk;
 mod file_host;
@@ -13,12 +11,8 @@ mod file_launcher;
 mod file_table;
 mod fuse_disk;
 mod host;
-#[cfg(test)]
-mod host_and_sink_tests;
 mod launch;
 mod launcher;
-#[cfg(test)]
-mod launcher_tests;
 mod law;
 mod memory_disk;
 mod memory_host;
