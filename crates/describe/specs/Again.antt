@@ -1,0 +1,53 @@
+-- What is described is made again: a description stands for the manifest that it was written of.
+use Rattle.std.specs.Prelude.{◌≡◌, ℕ, false, List, Option, Some, None}
+use Rattle.det_cbor.specs.DataItem.{spell}
+use Rattle.serde_json.specs.Data.{Data}
+use Rattle.serde_json.specs.Written.{has_float}
+use Rattle.suit_params.specs.Refusing.{SaysWhole}
+use Rattle.suit_commands.specs.Tree.{SequenceTree}
+use Rattle.suit_envelope.specs.Envelopes.{EnvelopeSays}
+use Rattle.suit_envelope.specs.Payloads.{HasPayloads}
+use Rattle.suit_envelope.specs.Said.{EnvelopeOf}
+use Rattle.suit_manifest.specs.declared.manifest.Manifest.{Manifest}
+use Rattle.suit_manifest.specs.declared.manifest.Member.{Member}
+use Rattle.suit_manifest.specs.declared.manifest.Member.TheVariants.{Empty, Here, Apart}
+use Rattle.suit_manifest.specs.declared.manifest.Members.{Members}
+use Rattle.suit_manifest.specs.ManifestMaking.{manifest_item, unplaced_manifest}
+use Rattle.suit_manifest.specs.Manifests.{IsManifest, count_said}
+use Rattle.suit_manifest.specs.MembersApart.{IsTaken}
+use Rattle.author.specs.Faults.{IsDescription}
+use Rattle.author.specs.Making.{IsManifestOf}
+use Rattle.describe.specs.Describing.{described_by}
+
+-- a member that is there, where it stands apart: the envelope holds it, with the digest that the manifest states
+abbrev pub IsThere : ℕ → Option (List ℕ) → ℕ → Member → Option SequenceTree → Type 0
+IsThere count held place (Apart stated) (Some s) = IsTaken count held place stated s
+IsThere count held place (Apart stated) None = Unit {0}
+IsThere count held place Empty apart = Unit {0}
+IsThere count held place (Here own) apart = Unit {0}
+
+pub record AreThere (said : EnvelopeSays) (m : Manifest) (apart : Members) : Type 0 where
+  pub payload_fetch : IsThere (count_said m) said.payload_fetch said.payload_fetch_place m.payload_fetch apart.payload_fetch
+  pub install : IsThere (count_said m) said.install said.install_place m.install apart.install
+
+-- the value is a description; with whatever files, the manifest that it stands for is this one, places apart, and no other;
+-- and that is spelled by these bytes
+pub record StandsFor (d : Data) (files : List (List ℕ × List ℕ)) (m : Manifest) (bytes : List ℕ) : Type 0 where
+  pub accepted : IsDescription d
+  pub manifest : IsManifestOf d files (unplaced_manifest m)
+  pub only : (other : Manifest) → IsManifestOf d files other → other ≡ unplaced_manifest m
+  pub spelled : spell (manifest_item (unplaced_manifest m)) ≡ bytes
+
+-- the law, for an envelope, its payloads, its manifest, and those of its members that are there
+abbrev pub MadeAgain : Type 0
+MadeAgain = (bytes : List ℕ) (said : EnvelopeSays) (payloads files : List (List ℕ × List ℕ)) (place : ℕ) (m : Manifest) (apart : Members)
+    → EnvelopeOf bytes said → HasPayloads bytes payloads → SaysWhole IsManifest place said.manifest m → AreThere said m apart
+    → StandsFor (described_by said payloads m apart) files m said.manifest
+
+-- no value of a description is a number with a point, so its text is exact
+abbrev pub HasNoFloat : Type 0
+HasNoFloat = (said : EnvelopeSays) (payloads : List (List ℕ × List ℕ)) (m : Manifest) (apart : Members) → has_float (described_by said payloads m apart) ≡ false
+
+pub record DescribeLaws : Type 0 where
+  pub made_again : MadeAgain
+  pub no_float : HasNoFloat

@@ -1,0 +1,67 @@
+-- Commands in a description: arrays of a name and an argument. Places are not written.
+use Rattle.std.specs.Prelude.{ℕ, true, List, codes, Option, Some, None, option_map}
+use Rattle.serde_json.specs.Data.{Data, null, boolean, string, array, Items, no_items, item}
+use Rattle.suit_commands.specs.declared.kinds.TestKind.{TestKind}
+use Rattle.suit_commands.specs.declared.kinds.TestKind.TheVariants as tests
+use Rattle.suit_commands.specs.declared.kinds.ActKind.{ActKind}
+use Rattle.suit_commands.specs.declared.kinds.ActKind.TheVariants as acts
+use Rattle.suit_commands.specs.declared.selection.Selection.{Selection}
+use Rattle.suit_commands.specs.declared.selection.Selection.TheVariants.{One, All, Listed}
+use Rattle.suit_commands.specs.Tree.{CommandTree, Test, Act, Index, Override, TryEach, RunSequence, SequenceTree, NoSteps, StepThen, BranchesTree, NoBranches, BranchThen, NullThen}
+use Rattle.describe.specs.ValueData.{number_data, array_data}
+use Rattle.describe.specs.ParamData.{params_data}
+
+abbrev pub test_name : TestKind → List ℕ
+test_name tests.Vendor = codes "vendor"
+test_name tests.Class = codes "class"
+test_name tests.Device = codes "device"
+test_name tests.Slot = codes "slot"
+test_name tests.ImageMatch = codes "match"
+test_name tests.CheckContent = codes "content"
+test_name tests.Abort = codes "abort"
+
+abbrev pub act_name : ActKind → List ℕ
+act_name acts.Write = codes "write"
+act_name acts.Fetch = codes "fetch"
+act_name acts.Copy = codes "copy"
+act_name acts.Invoke = codes "invoke"
+act_name acts.Swap = codes "swap"
+
+-- an index, all components, or a list of indices
+abbrev pub selection_data : Selection → Data
+selection_data (One i) = number_data i
+selection_data All = boolean true
+selection_data (Listed is) = array_data number_data is
+
+-- a name and its argument
+abbrev pub named : List ℕ → Data → Data
+named name argument = array (item (string name) (item argument no_items))
+
+abbrev mutual
+  pub step_data : SequenceTree → Items
+  step_data NoSteps = no_items
+  step_data (StepThen place command rest) = item (command_data command) (step_data rest)
+
+  pub command_data : CommandTree → Data
+  command_data (Test kind report) = named (test_name kind) (number_data report)
+  command_data (Act kind report) = named (act_name kind) (number_data report)
+  command_data (Index selection) = named (codes "index") (selection_data selection)
+  command_data (Override list) = named (codes "set") (params_data list)
+  command_data (TryEach tries) = named (codes "try") (array (branch_data tries))
+  command_data (RunSequence inner) = named (codes "run") (array (step_data inner))
+
+  pub branch_data : BranchesTree → Items
+  branch_data NoBranches = no_items
+  branch_data (BranchThen inner rest) = item (array (step_data inner)) (branch_data rest)
+  branch_data (NullThen rest) = item null (branch_data rest)
+
+abbrev pub sequence_data : SequenceTree → Data
+sequence_data s = array (step_data s)
+
+abbrev pub branch_said : Option SequenceTree → Data
+branch_said (Some s) = sequence_data s
+branch_said None = null
+
+-- a member that may be absent
+abbrev pub sequence_if : Option SequenceTree → Option Data
+sequence_if s = option_map sequence_data s

@@ -1,0 +1,6 @@
+-- Elements before others.
+use Rattle.serde_json.specs.Data.{Items, no_items, item}
+
+abbrev pub joined : Items → Items → Items
+joined no_items more = more
+joined (item d ds) more = item d (joined ds more)

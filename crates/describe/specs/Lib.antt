@@ -1,0 +1,9 @@
+pub mod Growing
+pub mod ValueData
+pub mod ParamData
+pub mod CommandData
+pub mod MemberData
+pub mod SeverData
+pub mod PayloadData
+pub mod Describing
+pub mod Again

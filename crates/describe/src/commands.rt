@@ -1,0 +1,89 @@
+//! Commands.
+
+ghost use Rattle.std.specs.Prelude.{◌≡◌, IfOk};
+ghost use Rattle.serde_json.specs.Data.{array};
+ghost use Rattle.serde_json.specs.View.{view};
+ghost use Rattle.suit_commands.specs.View.{command_tree};
+ghost use Rattle.describe.specs.CommandData.{test_name, act_name, named, sequence_data, command_data, branch_data};
+
+use crate::params::params;
+use crate::selection::selection;
+use serde_json::Value;
+use std::alloc::{AllocError, Global};
+use suit_commands::{ActKind, Branches, Command, Sequence, TestKind};
+
+fn test_name(kind: TestKind) -> &'static str
+    ensures { result.now ≡ test_name kind }
+{
+    match kind {
+        TestKind::Vendor => "vendor",
+        TestKind::Class => "class",
+        TestKind::Device => "device",
+        TestKind::Slot => "slot",
+        TestKind::ImageMatch => "match",
+        TestKind::CheckContent => "content",
+        TestKind::Abort => "abort",
+    }
+}
+
+fn act_name(kind: ActKind) -> &'static str
+    ensures { result.now ≡ act_name kind }
+{
+    match kind {
+        ActKind::Write => "write",
+        ActKind::Fetch => "fetch",
+        ActKind::Copy => "copy",
+        ActKind::Invoke => "invoke",
+        ActKind::Swap => "swap",
+    }
+}
+
+// An array of a name and an argument.
+fn named(alloc: Global, name: &str, argument: Value) -> Result<Value, AllocError>
+    ensures { IfOk result (λ v. view v ≡ named name.now (view argument)) }
+{
+    let mut values = Vec::new(alloc);
+    values.push(Value::try_from_str(alloc, name)?)?;
+    values.push(argument)?;
+    Ok(Value::from(values))
+}
+
+/// An array of commands in their order, as deep as sequences stand in one another. Their places are not written.
+#[cycle(describing)]
+pub(crate) fn sequence(alloc: Global, sequence: &Sequence) -> Result<Value, AllocError>
+    ensures { IfOk result (λ v. view v ≡ sequence_data sequence.now) }
+{
+    let mut values = Vec::new(alloc);
+    for step in sequence.as_slice() {
+        values.push(command(alloc, &step.command)?)?;
+    }
+    Ok(Value::from(values))
+}
+
+#[cycle(describing)]
+fn command(alloc: Global, command: &Command) -> Result<Value, AllocError>
+    ensures { IfOk result (λ v. view v ≡ command_data (command_tree command.now)) }
+{
+    match command {
+        Command::Test { kind, report } => named(alloc, test_name(*kind), Value::from(*report)),
+        Command::Act { kind, report } => named(alloc, act_name(*kind), Value::from(*report)),
+        Command::Index(chosen) => named(alloc, "index", selection(alloc, chosen)?),
+        Command::Override(list) => named(alloc, "set", params(alloc, list)?),
+        Command::TryEach(tries) => named(alloc, "try", branches(alloc, tries)?),
+        Command::Run(inner) => named(alloc, "run", sequence(alloc, inner)?),
+    }
+}
+
+#[cycle(describing)]
+fn branches(alloc: Global, branches: &Branches) -> Result<Value, AllocError>
+    ensures { IfOk result (λ v. view v ≡ array (branch_data branches.now)) }
+{
+    let mut values = Vec::new(alloc);
+    for branch in branches.as_slice() {
+        match branch {
+            Some(inner) => values.push(sequence(alloc, inner)?)?,
+            None => values.push(Value::from(()))?,
+        }
+    }
+    Ok(Value::from(values))
+}

@@ -1,0 +1,19 @@
+//! Envelopes and their manifests as descriptions in JSON (RFC 8259), of which the same manifests are made again.
+#![tactic(auto)]
+
+mod commands;
+mod describing;
+mod identifiers;
+mod law;
+mod members;
+mod params;
+mod payloads;
+mod selection;
+mod severing;
+mod values;
+
+pub use describing::describe;
+pub use law::describe_laws;
+
+#[cfg(test)]
+mod tests;

@@ -1,0 +1,124 @@
+//! Members that may stand apart from the manifest.
+
+ghost use Rattle.std.specs.Prelude.{◌≡◌, IfOk, option_map};
+ghost use Rattle.serde_json.specs.View.{view};
+ghost use Rattle.author.specs.Members.{is_one_item};
+ghost use Rattle.suit_envelope.specs.Said.{said_by};
+ghost use Rattle.describe.specs.CommandData.{sequence_if};
+ghost use Rattle.describe.specs.MemberData.{digest_data, member_data, is_severed, held_text, apart_text, text_data};
+
+use crate::commands::sequence;
+use crate::values::{hex_value, one_member};
+use det_cbor::Cursor;
+use serde_json::Value;
+use std::alloc::{AllocError, Global};
+use suit_commands::Sequence;
+use suit_envelope::{Envelope, MemberBytes, MemberName, member};
+use suit_manifest::{Member, TextMember};
+use suit_params::Digest;
+
+/// A sequence that may be absent.
+pub(crate) fn sequence_if(
+    alloc: Global,
+    held: &Option<Sequence>,
+) -> Result<Option<Value>, AllocError>
+    ensures { IfOk result (λ v. option_map view v ≡ sequence_if held.now) }
+{
+    match held {
+        Some(inner) => Ok(Some(sequence(alloc, inner)?)),
+        None => Ok(None),
+    }
+}
+
+// `{"digest": HEX}`, for a member whose content is not known.
+fn digest_value(alloc: Global, digest: &Digest) -> Result<Value, AllocError>
+    ensures { IfOk result (λ v. view v ≡ digest_data digest.now.bytes) }
+{
+    one_member(alloc, "digest", hex_value(alloc, &digest.bytes)?)
+}
+
+/// A member with its content, or with its digest where it stands apart and is not there.
+pub(crate) fn member_value(
+    alloc: Global,
+    member: &Member,
+    apart: &Option<Sequence>,
+) -> Result<Option<Value>, AllocError>
+    ensures { IfOk result (λ v. option_map view v ≡ member_data member.now apart.now) }
+{
+    match member {
+        Member::Empty => Ok(None),
+        Member::Here(held) => Ok(Some(sequence(alloc, held)?)),
+        Member::Apart(digest) => match apart {
+            Some(there) => Ok(Some(sequence(alloc, there)?)),
+            None => Ok(Some(digest_value(alloc, digest)?)),
+        },
+    }
+}
+
+/// Whether a member stands apart and is there.
+pub(crate) fn is_severed(member: &Member, apart: &Option<Sequence>) -> bool
+    ensures { result ≡ is_severed member.now apart.now }
+{
+    match member {
+        Member::Empty => false,
+        Member::Here(_) => false,
+        Member::Apart(_) => apart.is_some(),
+    }
+}
+
+// Whether bytes hold one item of deterministic CBOR and nothing more. Takes no memory.
+fn is_one_item(bytes: &[u8]) -> bool
+    ensures { result ≡ is_one_item bytes.now }
+{
+    let mut cursor = Cursor::new(bytes, 0);
+    match cursor.skip() {
+        Ok(_) => cursor.left() == 0,
+        Err(_) => false,
+    }
+}
+
+// The content of a text with this digest, where the envelope holds it and it is one item.
+fn held_text<'a>(envelope: &Envelope<'a>, stated: &Digest) -> Option<&'a [u8]>
+    ensures { option_map (λ t. t.now) result ≡ held_text stated.now.bytes (said_by envelope.now).text }
+{
+    match member(envelope, MemberName::Text, stated) {
+        MemberBytes::Got(content) => {
+            if is_one_item(content) {
+                Some(content)
+            } else {
+                None
+            }
+        }
+        MemberBytes::Severed => None,
+        MemberBytes::Differs { .. } => None,
+    }
+}
+
+/// The content of a text that stands apart, where the envelope holds it with its digest and it is one item.
+pub(crate) fn apart_text<'a>(envelope: &Envelope<'a>, text: &TextMember) -> Option<&'a [u8]>
+    ensures { option_map (λ t. t.now) result ≡ apart_text text.now (said_by envelope.now).text }
+{
+    match text {
+        TextMember::Empty => None,
+        TextMember::Here(_) => None,
+        TextMember::Apart(stated) => held_text(envelope, stated),
+    }
+}
+
+/// A text with its content, or with its digest where it stands apart and is not known.
+pub(crate) fn text_value(
+    alloc: Global,
+    text: &TextMember,
+    apart: Option<&[u8]>,
+) -> Result<Option<Value>, AllocError>
+    ensures { IfOk result (λ v. option_map view v ≡ text_data text.now (option_map (λ t. t.now) apart.entry)) }
+{
+    match text {
+        TextMember::Empty => Ok(None),
+        TextMember::Here(content) => Ok(Some(hex_value(alloc, content.as_slice())?)),
+        TextMember::Apart(digest) => match apart {
+            Some(content) => Ok(Some(hex_value(alloc, content)?)),
+            None => Ok(Some(digest_value(alloc, digest)?)),
+        },
+    }
+}

@@ -1,0 +1,60 @@
+//! Parameters.
+
+ghost use Rattle.std.specs.Prelude.{◌≡◌, IfOk};
+ghost use Rattle.serde_json.specs.View.{view};
+ghost use Rattle.describe.specs.ParamData.{param_name, value_data, params_data};
+
+use crate::values::{hex_value, uuid_value};
+use serde_json::{Map, Value, put};
+use std::alloc::{AllocError, Global};
+use suit_params::{Param, ParamKey, ParamList};
+
+fn param_name(key: ParamKey) -> &'static str
+    ensures { result.now ≡ param_name key }
+{
+    match key {
+        ParamKey::Vendor => "vendor",
+        ParamKey::Class => "class",
+        ParamKey::Device => "device",
+        ParamKey::Digest => "digest",
+        ParamKey::Slot => "slot",
+        ParamKey::Strict => "strict",
+        ParamKey::Soft => "soft",
+        ParamKey::Size => "size",
+        ParamKey::Content => "content",
+        ParamKey::Uri => "uri",
+        ParamKey::Source => "source",
+        ParamKey::Args => "args",
+    }
+}
+
+fn param_value(alloc: Global, param: &Param) -> Result<Value, AllocError>
+    ensures { IfOk result (λ v. view v ≡ value_data param.now) }
+{
+    match param {
+        Param::Vendor(id) => uuid_value(alloc, *id),
+        Param::Class(id) => uuid_value(alloc, *id),
+        Param::Device(id) => uuid_value(alloc, *id),
+        Param::Digest(digest) => hex_value(alloc, &digest.bytes),
+        Param::Slot(number) => Ok(Value::from(*number)),
+        Param::Strict(flag) => Ok(Value::from(*flag)),
+        Param::Soft(flag) => Ok(Value::from(*flag)),
+        Param::Size(size) => Ok(Value::from(*size)),
+        Param::Content(bytes) => hex_value(alloc, bytes.as_slice()),
+        Param::Uri(text) => Value::try_from_str(alloc, text.as_str()),
+        Param::Source(component) => Ok(Value::from(*component)),
+        Param::Args(bytes) => hex_value(alloc, bytes.as_slice()),
+    }
+}
+
+/// An object from names of parameters to their values. It is there for a list of none, too.
+pub(crate) fn params(alloc: Global, list: &ParamList) -> Result<Value, AllocError>
+    ensures { IfOk result (λ v. view v ≡ params_data list.now) }
+{
+    let mut map = Map::new(alloc);
+    for param in list.as_slice() {
+        let value = param_value(alloc, param)?;
+        put(&mut map, alloc, param_name(param.key()), value)?;
+    }
+    Ok(Value::from(map))
+}

@@ -1,0 +1,177 @@
+//! Descriptions that are written, read and written again.
+
+use crate::describe;
+use author::{FileList, description, manifest_of};
+use det_cbor::{Bytes, Text};
+use serde_json::Value;
+use std::alloc::Global;
+use std::test::Fail;
+use suit_commands::{Sequence, encode_sequence};
+use suit_envelope::{EnvelopeParts, PayloadList, decode_envelope, encode_envelope};
+use suit_manifest::{Manifest, Member, Members, encode_manifest};
+
+// The manifest of a description that names no file.
+fn manifest(alloc: Global, json: &str) -> Result<Manifest, Fail> {
+    let value = Value::from_str(alloc, json)?;
+    let read = description(alloc, &value)?;
+    Ok(manifest_of(alloc, &read, &FileList::new(alloc))?)
+}
+
+// The parts of an envelope of a manifest, whose wrapper states a digest of zeros.
+fn parts(alloc: Global, manifest: &Manifest) -> Result<EnvelopeParts, Fail> {
+    let wrapper = hex::decode(
+        alloc,
+        "815824822f58200000000000000000000000000000000000000000000000000000000000000000",
+    )?;
+    Ok(EnvelopeParts {
+        wrapper: Bytes::from_vec(wrapper),
+        manifest: encode_manifest(alloc, manifest)?,
+        payload_fetch: None,
+        install: None,
+        text: None,
+        payloads: PayloadList::new(alloc),
+    })
+}
+
+// The description of an envelope of these parts, as text.
+fn described(
+    alloc: Global,
+    parts: &EnvelopeParts,
+    manifest: &Manifest,
+    members: &Members,
+) -> Result<String, Fail> {
+    let whole = encode_envelope(alloc, parts)?;
+    let envelope = decode_envelope(whole.as_slice())?;
+    let value = describe(alloc, &envelope, manifest, members)?;
+    Ok(value.to_string(alloc)?)
+}
+
+// The description of a described manifest.
+fn again(alloc: Global, json: &str) -> Result<String, Fail> {
+    let manifest = manifest(alloc, json)?;
+    let parts = parts(alloc, &manifest)?;
+    let members = Members {
+        payload_fetch: None,
+        install: None,
+    };
+    described(alloc, &parts, &manifest, &members)
+}
+
+// Descriptions as they are written: one without optional fields, then conditions, directives, selections, parameters,
+// an empty override, sequences inside, the other members, members that are left out, a text and identifiers.
+const WRITTEN: [&str; 10] = [
+    "{\"components\":[[\"00\"]],\"sequence\":18446744073709551615}",
+    "{\"components\":[[\"00\"]],\"sequence\":0,\"validate\":[[\"vendor\",15],[\"class\",0],[\"match\",1],[\"slot\",2],[\"content\",3],[\"abort\",4],[\"device\",5]]}",
+    "{\"components\":[[\"00\"]],\"install\":[[\"write\",0],[\"fetch\",1],[\"copy\",2],[\"invoke\",14],[\"swap\",15]],\"sequence\":1}",
+    "{\"components\":[[\"00\"],[\"01\"]],\"sequence\":1,\"shared\":[[\"index\",1],[\"index\",true],[\"index\",[1,0,1]]]}",
+    "{\"components\":[[\"00\"]],\"load\":[[\"set\",{\"args\":\"00ff\",\"class\":\"00112233-4455-6677-8899-aabbccddeeff\",\"content\":\"0102\",\"device\":\"ffffffff-ffff-ffff-ffff-fffffffffffe\",\"digest\":\"ba7816bf8f01cfea414140de5dae2223b00361a396177a9cb410ff61f20015ad\",\"size\":18446744073709551615,\"slot\":0,\"soft\":false,\"source\":0,\"strict\":true,\"uri\":\"#\u{e9}\",\"vendor\":\"00000000-0000-0000-0000-000000000000\"}]],\"sequence\":1}",
+    "{\"components\":[[\"00\"]],\"sequence\":1,\"shared\":[[\"set\",{}]]}",
+    "{\"components\":[[\"00\"]],\"sequence\":1,\"validate\":[[\"try\",[[[\"match\",15]],[[\"run\",[[\"try\",[[[\"abort\",15]],null]]]]]]]]}",
+    "{\"components\":[[\"00\"]],\"invoke\":[[\"invoke\",15]],\"payload-fetch\":[[\"fetch\",15]],\"reference\":\"http://a\",\"sequence\":1,\"text\":\"a0\"}",
+    "{\"components\":[[\"00\"]],\"install\":{\"digest\":\"ba7816bf8f01cfea414140de5dae2223b00361a396177a9cb410ff61f20015ad\"},\"payload-fetch\":{\"digest\":\"e3b0c44298fc1c149afbf4c8996fb92427ae41e4649b934ca495991b7852b855\"},\"sequence\":1,\"text\":{\"digest\":\"0000000000000000000000000000000000000000000000000000000000000001\"}}",
+    "{\"components\":[[],[\"00\",\"ff\"],[\"\"]],\"sequence\":1}",
+];
+
+#[test]
+fn what_is_described_is_described_again(rt: HostRuntime) -> Result<(), Fail> {
+    for json in WRITTEN {
+        assert_eq!(rt; again(rt.alloc(), json)?.as_str(), json);
+    }
+    Ok(())
+}
+
+#[test]
+fn files_are_written_as_what_they_hold(rt: HostRuntime) -> Result<(), Fail> {
+    let alloc = rt.alloc();
+    let value = Value::from_str(
+        alloc,
+        "{\"sequence\":1,\"components\":[[\"00\"]],\"shared\":[[\"set\",{\"digest\":{\"file\":\"abc.img\"},\"size\":{\"file\":\"abc.img\"}}]],\"validate\":[[\"match\",15]],\"invoke\":[[\"invoke\",15]]}",
+    )?;
+    let mut files = FileList::new(alloc);
+    files.push(
+        Text::from_str(alloc, "abc.img")?,
+        Bytes::from_slice(alloc, b"abc")?,
+    )?;
+    let manifest = manifest_of(alloc, &description(alloc, &value)?, &files)?;
+    let parts = parts(alloc, &manifest)?;
+    let members = Members {
+        payload_fetch: None,
+        install: None,
+    };
+    assert_eq!(rt;
+        described(alloc, &parts, &manifest, &members)?.as_str(),
+        "{\"components\":[[\"00\"]],\"invoke\":[[\"invoke\",15]],\"sequence\":1,\"shared\":[[\"set\",{\"digest\":\"ba7816bf8f01cfea414140de5dae2223b00361a396177a9cb410ff61f20015ad\",\"size\":3}]],\"validate\":[[\"match\",15]]}"
+    );
+    Ok(())
+}
+
+#[test]
+fn payloads_are_written_by_their_keys(rt: HostRuntime) -> Result<(), Fail> {
+    let alloc = rt.alloc();
+    let manifest = manifest(alloc, WRITTEN[0])?;
+    let mut parts = parts(alloc, &manifest)?;
+    for (key, payload) in [("b", b"\x01".as_slice()), ("aa", b"".as_slice())] {
+        parts.payloads.push(
+            Text::from_str(alloc, key)?,
+            Bytes::from_slice(alloc, payload)?,
+        )?;
+    }
+    let members = Members {
+        payload_fetch: None,
+        install: None,
+    };
+    assert_eq!(rt;
+        described(alloc, &parts, &manifest, &members)?.as_str(),
+        "{\"components\":[[\"00\"]],\"payloads\":{\"aa\":{\"hex\":\"\"},\"b\":{\"hex\":\"01\"}},\"sequence\":18446744073709551615}"
+    );
+    Ok(())
+}
+
+// A description with the three members that may be severed.
+const SEVERED: &str =
+    "{\"components\":[[\"00\"]],\"install\":[[\"invoke\",15]],\"payload-fetch\":[[\"fetch\",15]],\"sequence\":1,\"sever\":[\"payload-fetch\",\"install\",\"text\"],\"text\":\"a0\"}";
+
+const WHOLE: &str =
+    "{\"components\":[[\"00\"]],\"install\":[[\"invoke\",15]],\"payload-fetch\":[[\"fetch\",15]],\"sequence\":1,\"text\":\"a0\"}";
+
+// The content of a member that the manifest holds.
+fn content(alloc: Global, member: &Member) -> Result<Option<Bytes>, Fail> {
+    match member {
+        Member::Here(sequence) => Ok(Some(encode_sequence(alloc, sequence)?)),
+        _ => Ok(None),
+    }
+}
+
+// A description of an envelope that holds the two members of `WHOLE`, and this text.
+fn severed(alloc: Global, text: &[u8]) -> Result<String, Fail> {
+    let whole = manifest(alloc, WHOLE)?;
+    let manifest = manifest(alloc, SEVERED)?;
+    let mut parts = parts(alloc, &manifest)?;
+    parts.payload_fetch = content(alloc, &whole.payload_fetch)?;
+    parts.install = content(alloc, &whole.install)?;
+    parts.text = Some(Bytes::from_slice(alloc, text)?);
+    let members = Members {
+        payload_fetch: held(whole.payload_fetch),
+        install: held(whole.install),
+    };
+    described(alloc, &parts, &manifest, &members)
+}
+
+fn held(member: Member) -> Option<Sequence> {
+    match member {
+        Member::Here(sequence) => Some(sequence),
+        _ => None,
+    }
+}
+
+#[test]
+fn severed_members_are_written_with_their_content(rt: HostRuntime) -> Result<(), Fail> {
+    let alloc = rt.alloc();
+    assert_eq!(rt; severed(alloc, b"\xa0")?.as_str(), SEVERED);
+    // The digest of the text was made by another program.
+    assert_eq!(rt;
+        severed(alloc, b"\xa1")?.as_str(),
+        "{\"components\":[[\"00\"]],\"install\":[[\"invoke\",15]],\"payload-fetch\":[[\"fetch\",15]],\"sequence\":1,\"sever\":[\"payload-fetch\",\"install\"],\"text\":{\"digest\":\"ba59ea8f4f88a2fcd9aaf9a83d236bb75f1f528637b999a25866124a877ffb15\"}}"
+    );
+    Ok(())
+}
