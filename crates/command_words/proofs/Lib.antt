@@ -1,0 +1,8 @@
+mod Cuts
+mod Handed
+mod NumberTexts
+mod OtherNames
+mod TableReads
+mod Taken
+mod TextLists
+mod UpdateWords

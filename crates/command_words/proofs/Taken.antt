@@ -1,0 +1,292 @@
+-- What the commands take, and the values that they hand out.
+use Rattle.std.proofs.Common.{◌≡◌, ℕ, [], ◌∷◌, length, eqb, true, false, ◌&&◌, ◌≤◌, Option, Some, None, option_map, refl, codes, arith}
+use Rattle.std.specs.List.{list_all}
+use Rattle.clap.specs.Lexer.{short_of}
+use Rattle.clap.specs.Takes.{takes}
+use Rattle.clap.proofs.OnLiterals.{clap_on_literals}
+use Rattle.command_words.specs.Tasks.{Word, Words, Task, Make, Describe, Show, Check, Init, Drill}
+use Rattle.command_words.specs.Numbers.{number_of}
+use Rattle.command_words.specs.Words.{is_plain}
+use Rattle.command_words.specs.Table.{make_of, show_of, check_of, init_of, drill_of}
+use Rattle.command_words.specs.Arguments.{check_app, drill_app, show_app, init_app, make_app}
+use Rattle.command_words.proofs.Handed.{both, value_in}
+
+pub no_minus : (x : ℕ) (xs : Word) → is_plain (x ∷ xs) ≡ true → eqb x 45 ≡ false
+no_minus x xs h = grind arith
+
+pub no_short : (x : ℕ) (xs : Word) → eqb x 45 ≡ false → short_of (x ∷ xs) ≡ None
+no_short x xs e = rw e refl
+
+-- ---- `check` and `drill`
+
+takes_check : (n w : Word) → is_plain w ≡ true → takes check_app (n ∷ w ∷ []) ≡ true
+unfolding clap_on_literals
+takes_check n [] hw = refl
+takes_check n (w ∷ ws) hw = let ew = no_minus w ws hw in rw ew (rw (no_short w ws ew) refl)
+
+file_of_check : (n w : Word) → is_plain w ≡ true → value_in check_app (codes "FILE") (n ∷ w ∷ []) ≡ Some w
+unfolding clap_on_literals
+file_of_check n [] hw = refl
+file_of_check n (w ∷ ws) hw = let ew = no_minus w ws hw in rw ew (rw (no_short w ws ew) refl)
+
+takes_drill : (n w : Word) → is_plain w ≡ true → takes drill_app (n ∷ w ∷ []) ≡ true
+unfolding clap_on_literals
+takes_drill n [] hw = refl
+takes_drill n (w ∷ ws) hw = let ew = no_minus w ws hw in rw ew (rw (no_short w ws ew) refl)
+
+number_of_drill : (n w : Word) → is_plain w ≡ true → value_in drill_app (codes "NUMBER") (n ∷ w ∷ []) ≡ Some w
+unfolding clap_on_literals
+number_of_drill n [] hw = refl
+number_of_drill n (w ∷ ws) hw = let ew = no_minus w ws hw in rw ew (rw (no_short w ws ew) refl)
+
+pub record Checks (words : Words) : Type 0 where
+  pub takes_them : takes check_app words ≡ true
+  pub file : Word
+  pub has_file : value_in check_app (codes "FILE") words ≡ Some file
+  pub table : check_of words ≡ Some (Check file)
+
+pub checks : (words : Words) → length words ≡ 2 → list_all is_plain words ≡ true → Checks words
+checks [] many plain = absurd (omega arith)
+checks (n ∷ []) many plain = absurd (omega arith)
+checks (n ∷ w ∷ []) many plain =
+    let h = (both (is_plain w) true (both (is_plain n) (is_plain w && true) plain).1).0 in
+    record { takes_them = takes_check n w h; file = w; has_file = file_of_check n w h; table = refl }
+checks (n ∷ w ∷ x ∷ more) many plain = absurd (omega arith)
+
+pub record Drills (words : Words) : Type 0 where
+  pub takes_them : takes drill_app words ≡ true
+  pub number : Word
+  pub has_number : value_in drill_app (codes "NUMBER") words ≡ Some number
+  pub table : drill_of words ≡ option_map Drill (number_of number)
+
+pub drills : (words : Words) → length words ≡ 2 → list_all is_plain words ≡ true → Drills words
+drills [] many plain = absurd (omega arith)
+drills (n ∷ []) many plain = absurd (omega arith)
+drills (n ∷ w ∷ []) many plain =
+    let h = (both (is_plain w) true (both (is_plain n) (is_plain w && true) plain).1).0 in
+    record { takes_them = takes_drill n w h; number = w; has_number = number_of_drill n w h; table = refl }
+drills (n ∷ w ∷ x ∷ more) many plain = absurd (omega arith)
+
+-- ---- `run init`
+
+takes_init : (n v w : Word) → is_plain v ≡ true → is_plain w ≡ true → takes init_app (n ∷ v ∷ w ∷ []) ≡ true
+unfolding clap_on_literals
+takes_init n [] [] hv hw = refl
+takes_init n [] (w ∷ ws) hv hw = let ew = no_minus w ws hw in rw ew (rw (no_short w ws ew) refl)
+takes_init n (v ∷ vs) [] hv hw = let ev = no_minus v vs hv in rw ev (rw (no_short v vs ev) refl)
+takes_init n (v ∷ vs) (w ∷ ws) hv hw =
+    let ev = no_minus v vs hv in let ew = no_minus w ws hw in rw ev (rw (no_short v vs ev) (rw ew (rw (no_short w ws ew) refl)))
+
+device_of_init : (n v w : Word) → is_plain v ≡ true → is_plain w ≡ true → value_in init_app (codes "DEVICE") (n ∷ v ∷ w ∷ []) ≡ Some v
+unfolding clap_on_literals
+device_of_init n [] [] hv hw = refl
+device_of_init n [] (w ∷ ws) hv hw = let ew = no_minus w ws hw in rw ew (rw (no_short w ws ew) refl)
+device_of_init n (v ∷ vs) [] hv hw = let ev = no_minus v vs hv in rw ev (rw (no_short v vs ev) refl)
+device_of_init n (v ∷ vs) (w ∷ ws) hv hw =
+    let ev = no_minus v vs hv in let ew = no_minus w ws hw in rw ev (rw (no_short v vs ev) (rw ew (rw (no_short w ws ew) refl)))
+
+key_of_init : (n v w : Word) → is_plain v ≡ true → is_plain w ≡ true → value_in init_app (codes "KEY") (n ∷ v ∷ w ∷ []) ≡ Some w
+unfolding clap_on_literals
+key_of_init n [] [] hv hw = refl
+key_of_init n [] (w ∷ ws) hv hw = let ew = no_minus w ws hw in rw ew (rw (no_short w ws ew) refl)
+key_of_init n (v ∷ vs) [] hv hw = let ev = no_minus v vs hv in rw ev (rw (no_short v vs ev) refl)
+key_of_init n (v ∷ vs) (w ∷ ws) hv hw =
+    let ev = no_minus v vs hv in let ew = no_minus w ws hw in rw ev (rw (no_short v vs ev) (rw ew (rw (no_short w ws ew) refl)))
+
+pub record Inits (words : Words) : Type 0 where
+  pub takes_them : takes init_app words ≡ true
+  pub device : Word
+  pub key : Word
+  pub has_device : value_in init_app (codes "DEVICE") words ≡ Some device
+  pub has_key : value_in init_app (codes "KEY") words ≡ Some key
+  pub table : init_of words ≡ Some (Init device key)
+
+pub inits : (words : Words) → length words ≡ 3 → list_all is_plain words ≡ true → Inits words
+inits [] many plain = absurd (omega arith)
+inits (n ∷ []) many plain = absurd (omega arith)
+inits (n ∷ v ∷ []) many plain = absurd (omega arith)
+inits (n ∷ v ∷ w ∷ []) many plain =
+    let first = both (is_plain v) (is_plain w && true) (both (is_plain n) (is_plain v && (is_plain w && true)) plain).1 in
+    let second = (both (is_plain w) true first.1).0 in
+    record {
+      takes_them = takes_init n v w first.0 second;
+      device = v;
+      key = w;
+      has_device = device_of_init n v w first.0 second;
+      has_key = key_of_init n v w first.0 second;
+      table = refl;
+    }
+inits (n ∷ v ∷ w ∷ x ∷ more) many plain = absurd (omega arith)
+
+-- ---- `show`
+
+takes_describe : (n w : Word) → is_plain w ≡ true → takes show_app (n ∷ w ∷ []) ≡ true
+unfolding clap_on_literals
+takes_describe n [] hw = refl
+takes_describe n (w ∷ ws) hw = let ew = no_minus w ws hw in rw ew (rw (no_short w ws ew) refl)
+
+file_of_describe : (n w : Word) → is_plain w ≡ true → value_in show_app (codes "FILE") (n ∷ w ∷ []) ≡ Some w
+unfolding clap_on_literals
+file_of_describe n [] hw = refl
+file_of_describe n (w ∷ ws) hw = let ew = no_minus w ws hw in rw ew (rw (no_short w ws ew) refl)
+
+key_of_describe : (n w : Word) → is_plain w ≡ true → value_in show_app (codes "KEY") (n ∷ w ∷ []) ≡ None
+unfolding clap_on_literals
+key_of_describe n [] hw = refl
+key_of_describe n (w ∷ ws) hw = let ew = no_minus w ws hw in rw ew (rw (no_short w ws ew) refl)
+
+takes_show : (n v w : Word) → is_plain v ≡ true → is_plain w ≡ true → takes show_app (n ∷ v ∷ w ∷ []) ≡ true
+unfolding clap_on_literals
+takes_show n [] [] hv hw = refl
+takes_show n [] (w ∷ ws) hv hw = let ew = no_minus w ws hw in rw ew (rw (no_short w ws ew) refl)
+takes_show n (v ∷ vs) [] hv hw = let ev = no_minus v vs hv in rw ev (rw (no_short v vs ev) refl)
+takes_show n (v ∷ vs) (w ∷ ws) hv hw =
+    let ev = no_minus v vs hv in let ew = no_minus w ws hw in rw ev (rw (no_short v vs ev) (rw ew (rw (no_short w ws ew) refl)))
+
+file_of_show : (n v w : Word) → is_plain v ≡ true → is_plain w ≡ true → value_in show_app (codes "FILE") (n ∷ v ∷ w ∷ []) ≡ Some v
+unfolding clap_on_literals
+file_of_show n [] [] hv hw = refl
+file_of_show n [] (w ∷ ws) hv hw = let ew = no_minus w ws hw in rw ew (rw (no_short w ws ew) refl)
+file_of_show n (v ∷ vs) [] hv hw = let ev = no_minus v vs hv in rw ev (rw (no_short v vs ev) refl)
+file_of_show n (v ∷ vs) (w ∷ ws) hv hw =
+    let ev = no_minus v vs hv in let ew = no_minus w ws hw in rw ev (rw (no_short v vs ev) (rw ew (rw (no_short w ws ew) refl)))
+
+key_of_show : (n v w : Word) → is_plain v ≡ true → is_plain w ≡ true → value_in show_app (codes "KEY") (n ∷ v ∷ w ∷ []) ≡ Some w
+unfolding clap_on_literals
+key_of_show n [] [] hv hw = refl
+key_of_show n [] (w ∷ ws) hv hw = let ew = no_minus w ws hw in rw ew (rw (no_short w ws ew) refl)
+key_of_show n (v ∷ vs) [] hv hw = let ev = no_minus v vs hv in rw ev (rw (no_short v vs ev) refl)
+key_of_show n (v ∷ vs) (w ∷ ws) hv hw =
+    let ev = no_minus v vs hv in let ew = no_minus w ws hw in rw ev (rw (no_short v vs ev) (rw ew (rw (no_short w ws ew) refl)))
+
+-- to show a file, under a key if there is one
+abbrev pub shown : Word → Option Word → Task
+shown file None = Describe file
+shown file (Some key) = Show file key
+
+pub record Shows (words : Words) : Type 0 where
+  pub takes_them : takes show_app words ≡ true
+  pub file : Word
+  pub key : Option Word
+  pub has_file : value_in show_app (codes "FILE") words ≡ Some file
+  pub has_key : value_in show_app (codes "KEY") words ≡ key
+  pub table : show_of words ≡ Some (shown file key)
+
+pub shows : (words : Words) → 2 ≤ length words → length words ≤ 3 → list_all is_plain words ≡ true → Shows words
+shows [] some few plain = absurd (omega arith)
+shows (n ∷ []) some few plain = absurd (omega arith)
+shows (n ∷ w ∷ []) some few plain =
+    let h = (both (is_plain w) true (both (is_plain n) (is_plain w && true) plain).1).0 in
+    record {
+      takes_them = takes_describe n w h;
+      file = w;
+      key = None;
+      has_file = file_of_describe n w h;
+      has_key = key_of_describe n w h;
+      table = refl;
+    }
+shows (n ∷ v ∷ w ∷ []) some few plain =
+    let first = both (is_plain v) (is_plain w && true) (both (is_plain n) (is_plain v && (is_plain w && true)) plain).1 in
+    let second = (both (is_plain w) true first.1).0 in
+    record {
+      takes_them = takes_show n v w first.0 second;
+      file = v;
+      key = Some w;
+      has_file = file_of_show n v w first.0 second;
+      has_key = key_of_show n v w first.0 second;
+      table = refl;
+    }
+shows (n ∷ v ∷ w ∷ x ∷ more) some few plain = absurd (omega arith)
+
+-- ---- `make`
+
+takes_make : (n u v w : Word) → is_plain u ≡ true → is_plain v ≡ true → is_plain w ≡ true → takes make_app (n ∷ u ∷ v ∷ w ∷ []) ≡ true
+unfolding clap_on_literals
+takes_make n [] [] [] hu hv hw = refl
+takes_make n [] [] (w ∷ ws) hu hv hw = let ew = no_minus w ws hw in rw ew (rw (no_short w ws ew) refl)
+takes_make n [] (v ∷ vs) [] hu hv hw = let ev = no_minus v vs hv in rw ev (rw (no_short v vs ev) refl)
+takes_make n [] (v ∷ vs) (w ∷ ws) hu hv hw =
+    let ev = no_minus v vs hv in let ew = no_minus w ws hw in rw ev (rw (no_short v vs ev) (rw ew (rw (no_short w ws ew) refl)))
+takes_make n (u ∷ us) [] [] hu hv hw = let eu = no_minus u us hu in rw eu (rw (no_short u us eu) refl)
+takes_make n (u ∷ us) [] (w ∷ ws) hu hv hw =
+    let eu = no_minus u us hu in let ew = no_minus w ws hw in rw eu (rw (no_short u us eu) (rw ew (rw (no_short w ws ew) refl)))
+takes_make n (u ∷ us) (v ∷ vs) [] hu hv hw =
+    let eu = no_minus u us hu in let ev = no_minus v vs hv in rw eu (rw (no_short u us eu) (rw ev (rw (no_short v vs ev) refl)))
+takes_make n (u ∷ us) (v ∷ vs) (w ∷ ws) hu hv hw =
+    let eu = no_minus u us hu in let ev = no_minus v vs hv in let ew = no_minus w ws hw in rw eu (rw (no_short u us eu) (rw ev (rw (no_short v vs ev) (rw ew (rw (no_short w ws ew) refl)))))
+
+description_of_make : (n u v w : Word) → is_plain u ≡ true → is_plain v ≡ true → is_plain w ≡ true → value_in make_app (codes "DESCRIPTION") (n ∷ u ∷ v ∷ w ∷ []) ≡ Some u
+unfolding clap_on_literals
+description_of_make n [] [] [] hu hv hw = refl
+description_of_make n [] [] (w ∷ ws) hu hv hw = let ew = no_minus w ws hw in rw ew (rw (no_short w ws ew) refl)
+description_of_make n [] (v ∷ vs) [] hu hv hw = let ev = no_minus v vs hv in rw ev (rw (no_short v vs ev) refl)
+description_of_make n [] (v ∷ vs) (w ∷ ws) hu hv hw =
+    let ev = no_minus v vs hv in let ew = no_minus w ws hw in rw ev (rw (no_short v vs ev) (rw ew (rw (no_short w ws ew) refl)))
+description_of_make n (u ∷ us) [] [] hu hv hw = let eu = no_minus u us hu in rw eu (rw (no_short u us eu) refl)
+description_of_make n (u ∷ us) [] (w ∷ ws) hu hv hw =
+    let eu = no_minus u us hu in let ew = no_minus w ws hw in rw eu (rw (no_short u us eu) (rw ew (rw (no_short w ws ew) refl)))
+description_of_make n (u ∷ us) (v ∷ vs) [] hu hv hw =
+    let eu = no_minus u us hu in let ev = no_minus v vs hv in rw eu (rw (no_short u us eu) (rw ev (rw (no_short v vs ev) refl)))
+description_of_make n (u ∷ us) (v ∷ vs) (w ∷ ws) hu hv hw =
+    let eu = no_minus u us hu in let ev = no_minus v vs hv in let ew = no_minus w ws hw in rw eu (rw (no_short u us eu) (rw ev (rw (no_short v vs ev) (rw ew (rw (no_short w ws ew) refl)))))
+
+key_of_make : (n u v w : Word) → is_plain u ≡ true → is_plain v ≡ true → is_plain w ≡ true → value_in make_app (codes "KEY") (n ∷ u ∷ v ∷ w ∷ []) ≡ Some v
+unfolding clap_on_literals
+key_of_make n [] [] [] hu hv hw = refl
+key_of_make n [] [] (w ∷ ws) hu hv hw = let ew = no_minus w ws hw in rw ew (rw (no_short w ws ew) refl)
+key_of_make n [] (v ∷ vs) [] hu hv hw = let ev = no_minus v vs hv in rw ev (rw (no_short v vs ev) refl)
+key_of_make n [] (v ∷ vs) (w ∷ ws) hu hv hw =
+    let ev = no_minus v vs hv in let ew = no_minus w ws hw in rw ev (rw (no_short v vs ev) (rw ew (rw (no_short w ws ew) refl)))
+key_of_make n (u ∷ us) [] [] hu hv hw = let eu = no_minus u us hu in rw eu (rw (no_short u us eu) refl)
+key_of_make n (u ∷ us) [] (w ∷ ws) hu hv hw =
+    let eu = no_minus u us hu in let ew = no_minus w ws hw in rw eu (rw (no_short u us eu) (rw ew (rw (no_short w ws ew) refl)))
+key_of_make n (u ∷ us) (v ∷ vs) [] hu hv hw =
+    let eu = no_minus u us hu in let ev = no_minus v vs hv in rw eu (rw (no_short u us eu) (rw ev (rw (no_short v vs ev) refl)))
+key_of_make n (u ∷ us) (v ∷ vs) (w ∷ ws) hu hv hw =
+    let eu = no_minus u us hu in let ev = no_minus v vs hv in let ew = no_minus w ws hw in rw eu (rw (no_short u us eu) (rw ev (rw (no_short v vs ev) (rw ew (rw (no_short w ws ew) refl)))))
+
+out_of_make : (n u v w : Word) → is_plain u ≡ true → is_plain v ≡ true → is_plain w ≡ true → value_in make_app (codes "OUT") (n ∷ u ∷ v ∷ w ∷ []) ≡ Some w
+unfolding clap_on_literals
+out_of_make n [] [] [] hu hv hw = refl
+out_of_make n [] [] (w ∷ ws) hu hv hw = let ew = no_minus w ws hw in rw ew (rw (no_short w ws ew) refl)
+out_of_make n [] (v ∷ vs) [] hu hv hw = let ev = no_minus v vs hv in rw ev (rw (no_short v vs ev) refl)
+out_of_make n [] (v ∷ vs) (w ∷ ws) hu hv hw =
+    let ev = no_minus v vs hv in let ew = no_minus w ws hw in rw ev (rw (no_short v vs ev) (rw ew (rw (no_short w ws ew) refl)))
+out_of_make n (u ∷ us) [] [] hu hv hw = let eu = no_minus u us hu in rw eu (rw (no_short u us eu) refl)
+out_of_make n (u ∷ us) [] (w ∷ ws) hu hv hw =
+    let eu = no_minus u us hu in let ew = no_minus w ws hw in rw eu (rw (no_short u us eu) (rw ew (rw (no_short w ws ew) refl)))
+out_of_make n (u ∷ us) (v ∷ vs) [] hu hv hw =
+    let eu = no_minus u us hu in let ev = no_minus v vs hv in rw eu (rw (no_short u us eu) (rw ev (rw (no_short v vs ev) refl)))
+out_of_make n (u ∷ us) (v ∷ vs) (w ∷ ws) hu hv hw =
+    let eu = no_minus u us hu in let ev = no_minus v vs hv in let ew = no_minus w ws hw in rw eu (rw (no_short u us eu) (rw ev (rw (no_short v vs ev) (rw ew (rw (no_short w ws ew) refl)))))
+
+pub record Makes (words : Words) : Type 0 where
+  pub takes_them : takes make_app words ≡ true
+  pub description : Word
+  pub key : Word
+  pub out : Word
+  pub has_description : value_in make_app (codes "DESCRIPTION") words ≡ Some description
+  pub has_key : value_in make_app (codes "KEY") words ≡ Some key
+  pub has_out : value_in make_app (codes "OUT") words ≡ Some out
+  pub table : make_of words ≡ Some (Make description key out)
+
+pub makes : (words : Words) → length words ≡ 4 → list_all is_plain words ≡ true → Makes words
+makes [] many plain = absurd (omega arith)
+makes (n ∷ []) many plain = absurd (omega arith)
+makes (n ∷ u ∷ []) many plain = absurd (omega arith)
+makes (n ∷ u ∷ v ∷ []) many plain = absurd (omega arith)
+makes (n ∷ u ∷ v ∷ w ∷ []) many plain =
+    let first = both (is_plain u) (is_plain v && (is_plain w && true)) (both (is_plain n) (is_plain u && (is_plain v && (is_plain w && true))) plain).1 in
+    let second = both (is_plain v) (is_plain w && true) first.1 in
+    let third = (both (is_plain w) true second.1).0 in
+    record {
+      takes_them = takes_make n u v w first.0 second.0 third;
+      description = u;
+      key = v;
+      out = w;
+      has_description = description_of_make n u v w first.0 second.0 third;
+      has_key = key_of_make n u v w first.0 second.0 third;
+      has_out = out_of_make n u v w first.0 second.0 third;
+      table = refl;
+    }
+makes (n ∷ u ∷ v ∷ w ∷ x ∷ more) many plain = absurd (omega arith)

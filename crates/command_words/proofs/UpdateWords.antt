@@ -1,0 +1,244 @@
+-- What the command of an update takes, and what it hands out: a file, and any number of words after it.
+use Rattle.std.proofs.Common.{◌≡◌, ◌∙◌, ◌≤◌, refl, ap, ap₂, sym, codes, true, false, Bool, ◌&&◌, Option, Some, None, ℕ, List, [], ◌∷◌, ◌++◌, length, append_assoc, nat_le, arith, Bor}
+use Rattle.std.proofs.lemmas.List.{append-nil}
+use Rattle.std.proofs.Math.Seq.{take-length}
+use Rattle.std.proofs.lemmas.List.{length-drop}
+use Rattle.std.specs.Prelude.{fold, is_some, filter_map, unwrap_or, drop, take, ◌-◌, option_map, if◌then◌else◌}
+use Rattle.std.specs.List.{list_all}
+use Rattle.clap.specs.Lexer.{usize_max}
+use Rattle.clap.specs.Walk.{Rule, Row, Text, Held, Walk, walked, walk_from, nothing_held, pushed, settled_rows, after_step, finished, idle, positional, first_of, all_of, word_met, value}
+use Rattle.clap.specs.Simple.{App, app_of, Shape, built, entered, filled, with_index, matches_of}
+use Rattle.clap.specs.Takes.{takes, turn_passes, walk_passes, settle_passes, default_passes, is_valid, entered_passes, value_passes}
+use Rattle.clap.proofs.OnLiterals.{clap_on_literals}
+use Rattle.command_words.specs.Tasks.{Word, Words, Answer, Update, texts}
+use Rattle.command_words.specs.Table.{update_of}
+use Rattle.command_words.specs.UriWords.{uris_of, most_uris, are_answers, cut}
+use Rattle.clap.specs.declared.builder.command.Command.{Command}
+use Rattle.command_words.proofs.TextLists.{as_many, dropped}
+use Rattle.command_words.specs.Words.{is_plain}
+use Rattle.command_words.specs.Arguments.{update_app, values_rule}
+use Rattle.command_words.proofs.Handed.{both, value_in}
+use Rattle.command_words.proofs.Taken.{no_minus, no_short}
+
+abbrev file : Word
+file = codes "FILE"
+
+abbrev uris : Word
+uris = codes "URI=NAME"
+
+abbrev top : Shape
+top = (built update_app).top
+
+abbrev rules : List Rule
+rules = top.rules
+
+-- ---- the words, one after another
+
+plain_idle : (c : List Rule) (p : ℕ) (w : Text) (h : Held) → is_plain w ≡ true → word_met c [] false idle p w h ≡ (h, value)
+plain_idle c p [] h e = refl
+plain_idle c p (x ∷ xs) h e = let f = no_minus x xs e in rw f (rw (no_short x xs f) refl)
+
+plain_positional : (c : List Rule) (p : ℕ) (w : Text) (h : Held) → is_plain w ≡ true → word_met c [] false positional p w h ≡ (h, value)
+plain_positional c p [] h e = refl
+plain_positional c p (x ∷ xs) h e = let f = no_minus x xs e in rw f (rw (no_short x xs f) refl)
+
+abbrev at_first : Text → Walk
+at_first v = record { held = pushed file v nothing_held; waiting = idle; position = 2; is_trailing = false; stopped = None }
+
+abbrev at_more : Text → List Text → Walk
+at_more v us = record {
+  held = record { rows = settled_rows rules (Some (file, v ∷ [])) []; pending = Some (uris, us); skip = 0 };
+  waiting = positional;
+  position = 2;
+  is_trailing = false;
+  stopped = None;
+}
+
+step_zero : (v : Text) → is_plain v ≡ true → walked rules [] (walk_from nothing_held) v ≡ at_first v
+unfolding walked
+step_zero v e = ap (λ m. after_step rules v (walk_from nothing_held) m.0 m.1) (plain_idle rules 1 v nothing_held e)
+
+step_first : (v w : Text) → is_plain w ≡ true → walked rules [] (at_first v) w ≡ at_more v (w ∷ [])
+unfolding walked
+step_first v w e = ap (λ m. after_step rules w (at_first v) m.0 m.1) (plain_idle rules 2 w (at_first v).held e)
+
+step_more : (v : Text) (us : List Text) (w : Text) → is_plain w ≡ true → walked rules [] (at_more v us) w ≡ at_more v (us ++ w ∷ [])
+unfolding walked
+step_more v us w e = ap (λ m. after_step rules w (at_more v us) m.0 m.1) (plain_positional rules 2 w (at_more v us).held e)
+
+walk_more : (v : Text) (acc us : List Text) → list_all is_plain us ≡ true → fold (walked rules []) (at_more v acc) us ≡ at_more v (acc ++ us)
+walk_more v acc [] h = ap (at_more v) (sym (append-nil acc))
+walk_more v acc (u ∷ us) h =
+    let hs = both (is_plain u) (list_all is_plain us) h in
+    ap (λ s. fold (walked rules []) s us) (step_more v acc u hs.0) ∙ walk_more v (acc ++ u ∷ []) us hs.1 ∙ ap (at_more v) (append_assoc acc (u ∷ []) us)
+
+turn_zero : (v : Text) → is_plain v ≡ true → turn_passes top [] (walk_from nothing_held) v ≡ true
+unfolding clap_on_literals
+turn_zero [] e = refl
+turn_zero (x ∷ xs) e = let f = no_minus x xs e in rw f (rw (no_short x xs f) refl)
+
+turn_first : (v w : Text) → is_plain w ≡ true → turn_passes top [] (at_first v) w ≡ true
+unfolding clap_on_literals
+turn_first v [] e = refl
+turn_first v (x ∷ xs) e = let f = no_minus x xs e in rw f (rw (no_short x xs f) refl)
+
+turn_more : (v : Text) (us : List Text) (w : Text) → is_plain w ≡ true → turn_passes top [] (at_more v us) w ≡ true
+unfolding clap_on_literals
+turn_more v us [] e = refl
+turn_more v us (x ∷ xs) e = let f = no_minus x xs e in rw f (rw (no_short x xs f) refl)
+
+more_pass : (v : Text) (acc us : List Text) → list_all is_plain us ≡ true → walk_passes top [] (at_more v acc) us ≡ true
+unfolding walk_passes
+more_pass v acc [] h = refl
+more_pass v acc (u ∷ us) h =
+    let hs = both (is_plain u) (list_all is_plain us) h in
+    ap₂ ◌&&◌ (turn_more v acc u hs.0) (ap (λ s. walk_passes top [] s us) (step_more v acc u hs.0) ∙ more_pass v (acc ++ u ∷ []) us hs.1)
+
+-- ---- a file alone
+
+takes_alone : (n v : Text) → is_plain v ≡ true → takes update_app (n ∷ v ∷ []) ≡ true
+unfolding clap_on_literals
+takes_alone n [] h = refl
+takes_alone n (x ∷ xs) h = let e = no_minus x xs h in rw e (rw (no_short x xs e) refl)
+
+file_alone : (n v : Text) → is_plain v ≡ true → value_in update_app file (n ∷ v ∷ []) ≡ Some v
+unfolding clap_on_literals
+file_alone n [] h = refl
+file_alone n (x ∷ xs) h = let e = no_minus x xs h in rw e (rw (no_short x xs e) refl)
+
+uris_alone : (n v : Text) → is_plain v ≡ true → all_of uris (matches_of update_app (n ∷ v ∷ [])) ≡ None
+unfolding clap_on_literals
+uris_alone n [] h = refl
+uris_alone n (x ∷ xs) h = let e = no_minus x xs h in rw e (rw (no_short x xs e) refl)
+
+-- ---- a file, and words after it
+
+module _ (n v u : Text) (us : List Text) (hv : is_plain v ≡ true) (hu : is_plain u ≡ true) (hs : list_all is_plain us ≡ true) where
+  whole_walk : fold (walked rules []) (walk_from nothing_held) (v ∷ u ∷ us) ≡ at_more v (u ∷ us)
+  whole_walk = ap (λ s. fold (walked rules []) s (u ∷ us)) (step_zero v hv) ∙ ap (λ s. fold (walked rules []) s us) (step_first v u hu) ∙ walk_more v (u ∷ []) us hs
+
+  all_pass : walk_passes top [] (walk_from nothing_held) (v ∷ u ∷ us) ≡ true
+  unfolding walk_passes
+  all_pass =
+      ap₂ ◌&&◌ (turn_zero v hv) (ap (λ s. walk_passes top [] s (u ∷ us)) (step_zero v hv)
+      ∙ ap₂ ◌&&◌ (turn_first v u hu) (ap (λ s. walk_passes top [] s us) (step_first v u hu) ∙ more_pass v (u ∷ []) us hs))
+
+values_fine : (us : List Text) → list_all (value_passes (with_index 2 (filled (values_rule uris)))) us ≡ true
+values_fine [] = refl
+values_fine (u ∷ us) = values_fine us
+
+-- what is asked of the end of the walk
+abbrev asked : Walk → Bool → Bool
+asked w p = entered_passes (built update_app) w.stopped
+    && (p && (settle_passes rules top.args_override_self w.held && (list_all default_passes rules && is_valid top (finished rules w.held) (is_some (entered (built update_app) w.stopped)))))
+
+none_le : (n : ℕ) → nat_le 0 n ≡ true
+none_le n = grind arith
+
+end_fine : (v u : Text) (us : List Text) → nat_le (length (u ∷ us)) usize_max ≡ true → asked (at_more v (u ∷ us)) true ≡ true
+unfolding clap_on_literals
+end_fine v u us le = rw (le, values_fine us, none_le (length (u ∷ us))) refl
+
+file_at_end : (v u : Text) (us : List Text) → first_of file (finished rules (at_more v (u ∷ us)).held) ≡ Some v
+unfolding clap_on_literals
+file_at_end v u us = refl
+
+uris_at_end : (v u : Text) (us : List Text) → all_of uris (finished rules (at_more v (u ∷ us)).held) ≡ Some (u ∷ us)
+unfolding clap_on_literals
+uris_at_end v u us = refl
+
+module _ (n v u : Text) (us : List Text) (hv : is_plain v ≡ true) (hu : is_plain u ≡ true) (hs : list_all is_plain us ≡ true) where
+  takes_more : nat_le (length (u ∷ us)) usize_max ≡ true → takes update_app (n ∷ v ∷ u ∷ us) ≡ true
+  takes_more le = ap₂ asked (whole_walk n v u us hv hu hs) (all_pass n v u us hv hu hs) ∙ end_fine v u us le
+
+  file_of_more : value_in update_app file (n ∷ v ∷ u ∷ us) ≡ Some v
+  file_of_more = ap (λ (w : Walk). first_of file (finished rules w.held)) (whole_walk n v u us hv hu hs) ∙ file_at_end v u us
+
+  uris_of_more : all_of uris (matches_of update_app (n ∷ v ∷ u ∷ us)) ≡ Some (u ∷ us)
+  uris_of_more = ap (λ (w : Walk). all_of uris (finished rules w.held)) (whole_walk n v u us hv hu hs) ∙ uris_at_end v u us
+
+-- ---- all that `run update` is given
+
+-- as an argument of any number of values has them
+abbrev pub some_words : Words → Option Words
+some_words [] = None
+some_words (word ∷ words) = Some (word ∷ words)
+
+pub record Updates (words : Words) : Type 0 where
+  pub takes_them : takes update_app words ≡ true
+  pub first : Word
+  pub answers : Words
+  pub has_file : value_in update_app (codes "FILE") words ≡ Some first
+  pub has_answers : all_of (codes "URI=NAME") (matches_of update_app words) ≡ some_words answers
+  pub are : answers ≡ drop 2 words
+  pub table : update_of words ≡ option_map (Update first) (uris_of answers)
+
+pub updates : (words : Words) → 2 ≤ length words → nat_le (length (drop 2 words)) usize_max ≡ true → list_all is_plain words ≡ true → Updates words
+updates [] some few plain = absurd (omega arith)
+updates (n ∷ []) some few plain = absurd (omega arith)
+updates (n ∷ v ∷ []) some few plain =
+    let h = (both (is_plain v) true (both (is_plain n) (is_plain v && true) plain).1).0 in
+    record {
+      takes_them = takes_alone n v h;
+      first = v;
+      answers = [];
+      has_file = file_alone n v h;
+      has_answers = uris_alone n v h;
+      are = refl;
+      table = refl;
+    }
+updates (n ∷ v ∷ u ∷ us) some few plain =
+    let first = both (is_plain v) (is_plain u && list_all is_plain us) (both (is_plain n) (is_plain v && (is_plain u && list_all is_plain us)) plain).1 in
+    let second = both (is_plain u) (list_all is_plain us) first.1 in
+    record {
+      takes_them = takes_more n v u us first.0 second.0 second.1 few;
+      first = v;
+      answers = u ∷ us;
+      has_file = file_of_more n v u us first.0 second.0 second.1;
+      has_answers = uris_of_more n v u us first.0 second.0 second.1;
+      are = refl;
+      table = refl;
+    }
+
+few_enough : (n : ℕ) → n ≤ 64 → nat_le n usize_max ≡ true
+few_enough n few = grind arith
+
+at_most : (n : ℕ) → n ≤ 64 → nat_le n 64 ≡ true
+at_most n few = grind arith
+
+-- those behind the file, as a range of the texts that are lent
+abbrev pub behind : List (Bor Word) → List (Bor Word)
+behind words = take (length words - 2) (drop 2 words)
+
+behind_is : (words : List (Bor Word)) → behind words ≡ drop 2 words
+behind_is words = ap (λ (n : ℕ). take n (drop 2 words)) (sym (length-drop 2 words)) ∙ take-length (drop 2 words)
+
+pub updates_texts : (words : List (Bor Word)) → 2 ≤ length words → length (behind words) ≤ 64 → list_all is_plain (texts words) ≡ true → Updates (texts words)
+updates_texts words some few plain =
+    let many = as_many words in
+    let rest : length (drop 2 (texts words)) ≡ length (behind words) = ap length (sym (dropped 2 words)) ∙ as_many (drop 2 words) ∙ ap length (sym (behind_is words)) in
+    updates (texts words) (omega (arith, many, some)) (few_enough (length (drop 2 (texts words))) (omega (arith, rest, few))) plain
+
+pub answers_are : (words : List (Bor Word)) (h : Updates (texts words)) → h.answers ≡ texts (behind words)
+answers_are words h = h.are ∙ sym (dropped 2 words) ∙ ap texts (sym (behind_is words))
+
+pub so_few : (words : List (Bor Word)) (h : Updates (texts words)) → length (behind words) ≤ 64 → length h.answers ≤ 64
+so_few words h few = let same : length h.answers ≡ length (behind words) = ap length (answers_are words h) ∙ as_many (behind words) in omega (arith, same, few)
+
+unwrapped : (words : Words) → unwrap_or (some_words words) [] ≡ words
+unwrapped [] = refl
+unwrapped (word ∷ words) = refl
+
+-- an update of a file, with what was handed out of its words
+pub said_of : (words : Words) (h : Updates words) (file : Word) (got : Option Words) (said : List Answer) → length h.answers ≤ 64 → are_answers h.answers ≡ true → h.first ≡ file
+    → got ≡ some_words h.answers → said ≡ filter_map cut (unwrap_or got []) → Some (Update file said) ≡ update_of words
+said_of words h file got said few all is_file is_got is_said =
+    let is : said ≡ filter_map cut h.answers = is_said ∙ ap (λ (o : Option Words). filter_map cut (unwrap_or o [])) is_got ∙ ap (filter_map cut) (unwrapped h.answers) in
+    let yes : (nat_le (length h.answers) most_uris && are_answers h.answers) ≡ true = ap₂ ◌&&◌ (at_most (length h.answers) few) all in
+    let read : uris_of h.answers ≡ Some (filter_map cut h.answers) = ap (λ (b : Bool). if b then Some (filter_map cut h.answers) else None) yes in
+    sym (h.table ∙ ap (option_map (Update h.first)) read ∙ ap (λ (w : Word). Some (Update w (filter_map cut h.answers))) is_file ∙ ap (λ (s : List Answer). Some (Update file s)) (sym is))
+
+-- the values that were handed out, by the rows
+pub answers_in_rows : (words : Words) (command : Command) → app_of command ≡ update_app → (rows : List Row) → rows ≡ matches_of (app_of command) words
+    → all_of (codes "URI=NAME") rows ≡ all_of (codes "URI=NAME") (matches_of update_app words)
+answers_in_rows words command is rows are = ap (all_of (codes "URI=NAME")) are ∙ ap (λ (a : App). all_of (codes "URI=NAME") (matches_of a words)) is

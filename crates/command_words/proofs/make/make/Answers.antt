@@ -1,0 +1,37 @@
+use Rattle.std.proofs.Common.{◌∙◌, ap, sym, codes, arith, Some}
+use Rattle.command_words.specs.Tasks.{Word, texts, Make}
+use Rattle.command_words.specs.Arguments.{make_app}
+use Rattle.command_words.proofs.Handed.{taken, is_there, is_that}
+use Rattle.command_words.proofs.TextLists.{as_many}
+use Rattle.command_words.proofs.Taken.{makes}
+use Rattle.command_words.proofs.make.make.Goals as goal
+
+pub found-requires : goal.found-requires
+found-requires c =
+    let h = makes (texts c.args.words.now) (as_many c.args.words.now ∙ omega arith) c.requires in
+    taken make_app (texts c.args.words.now) c.in_ok-make_command.field-0 c.in_ok-make_command.ensures h.takes_them
+
+pub value_of-description-requires : goal.value_of-description-requires
+value_of-description-requires c =
+    let h = makes (texts c.args.words.now) (as_many c.args.words.now ∙ omega arith) c.requires in
+    is_there make_app (texts c.args.words.now) c.in_ok-make_command.field-0 c.in_ok-make_command.ensures _ c.in_ok-matches.ensures (codes "DESCRIPTION") h.description h.has_description
+
+pub value_of-key-requires : goal.value_of-key-requires
+value_of-key-requires c =
+    let h = makes (texts c.args.words.now) (as_many c.args.words.now ∙ omega arith) c.requires in
+    is_there make_app (texts c.args.words.now) c.in_ok-make_command.field-0 c.in_ok-make_command.ensures _ c.in_ok-matches.ensures (codes "KEY") h.key h.has_key
+
+pub value_of-out-requires : goal.value_of-out-requires
+value_of-out-requires c =
+    let h = makes (texts c.args.words.now) (as_many c.args.words.now ∙ omega arith) c.requires in
+    is_there make_app (texts c.args.words.now) c.in_ok-make_command.field-0 c.in_ok-make_command.ensures _ c.in_ok-matches.ensures (codes "OUT") h.out h.has_out
+
+pub returns : goal.returns
+returns c =
+    let words = texts c.args.words.now in
+    let h = makes words (as_many c.args.words.now ∙ omega arith) c.requires in
+    let description = is_that make_app words c.in_ok-make_command.field-0 c.in_ok-make_command.ensures _ c.in_ok-matches.ensures (codes "DESCRIPTION") h.description _ h.has_description c.value_of-description.ensures in
+    let key = is_that make_app words c.in_ok-make_command.field-0 c.in_ok-make_command.ensures _ c.in_ok-matches.ensures (codes "KEY") h.key _ h.has_key c.value_of-key.ensures in
+    let out = is_that make_app words c.in_ok-make_command.field-0 c.in_ok-make_command.ensures _ c.in_ok-matches.ensures (codes "OUT") h.out _ h.has_out c.value_of-out.ensures in
+    sym (h.table ∙ ap (λ (w : Word). Some (Make w h.key h.out)) description ∙ ap (λ (w : Word). Some (Make c.value_of-description.result.now w h.out)) key
+    ∙ ap (λ (w : Word). Some (Make c.value_of-description.result.now c.value_of-key.result.now w)) out)

@@ -1,0 +1,30 @@
+use Rattle.std.proofs.Common.{◌∙◌, ap, sym, codes, arith, Some}
+use Rattle.command_words.specs.Tasks.{Word, texts, Init}
+use Rattle.command_words.specs.Arguments.{init_app}
+use Rattle.command_words.proofs.Handed.{taken, is_there, is_that}
+use Rattle.command_words.proofs.TextLists.{as_many}
+use Rattle.command_words.proofs.Taken.{inits}
+use Rattle.command_words.proofs.run.init.Goals as goal
+
+pub found-requires : goal.found-requires
+found-requires c =
+    let h = inits (texts c.args.words.now) (as_many c.args.words.now ∙ omega arith) c.requires in
+    taken init_app (texts c.args.words.now) c.in_ok-init_command.field-0 c.in_ok-init_command.ensures h.takes_them
+
+pub value_of-device-requires : goal.value_of-device-requires
+value_of-device-requires c =
+    let h = inits (texts c.args.words.now) (as_many c.args.words.now ∙ omega arith) c.requires in
+    is_there init_app (texts c.args.words.now) c.in_ok-init_command.field-0 c.in_ok-init_command.ensures _ c.in_ok-matches.ensures (codes "DEVICE") h.device h.has_device
+
+pub value_of-key-requires : goal.value_of-key-requires
+value_of-key-requires c =
+    let h = inits (texts c.args.words.now) (as_many c.args.words.now ∙ omega arith) c.requires in
+    is_there init_app (texts c.args.words.now) c.in_ok-init_command.field-0 c.in_ok-init_command.ensures _ c.in_ok-matches.ensures (codes "KEY") h.key h.has_key
+
+pub returns : goal.returns
+returns c =
+    let words = texts c.args.words.now in
+    let h = inits words (as_many c.args.words.now ∙ omega arith) c.requires in
+    let device = is_that init_app words c.in_ok-init_command.field-0 c.in_ok-init_command.ensures _ c.in_ok-matches.ensures (codes "DEVICE") h.device _ h.has_device c.value_of-device.ensures in
+    let key = is_that init_app words c.in_ok-init_command.field-0 c.in_ok-init_command.ensures _ c.in_ok-matches.ensures (codes "KEY") h.key _ h.has_key c.value_of-key.ensures in
+    sym (h.table ∙ ap (λ (w : Word). Some (Init w h.key)) device ∙ ap (λ (w : Word). Some (Init c.value_of-device.result.now w)) key)

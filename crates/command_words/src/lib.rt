@@ -1,0 +1,25 @@
+//! What the words of a command line ask for: the program's own judgement of them, and `clap` for their arguments.
+#![tactic(auto)]
+
+mod arguments;
+mod check;
+mod command;
+mod drill;
+mod law;
+mod make;
+mod number;
+mod run;
+mod show;
+mod table;
+mod uri_word;
+mod uri_words;
+mod word;
+
+pub use command::Command;
+pub use law::word_laws;
+pub use table::command_of;
+pub use uri_word::UriWord;
+pub use uri_words::UriWords;
+
+#[cfg(test)]
+mod tests;
