@@ -21,7 +21,7 @@ use Rattle.path_model.specs.Behaviour.{State, Done, Condition}
 use Rattle.path_model.specs.Settings.{Setting, capacity_of, found_under, payload_of}
 use Rattle.path_model.specs.Plays.{Outcome}
 use Rattle.path_model.specs.DevicePlays.{Device, content_at, with_content, tested, unread, comparing, fits_size, is_image, matched, is_content, condition_play, Change, Made, Refused, concluded, filled, fetched, copied, swapped, fits_into, acted, ActIsCut, HoldsAny, WriteLeaves, FetchLeaves, SwapLeaves, launch_of}
-use Rattle.path_model.specs.DeviceLaws.{ConditionRules, Fails, Holds, WriteRules, FetchRules, CopyRules, Exchanged, NoRoom, SwapRules, InvokeRule, PayloadRules, HoldsSome, Leaves, IsFault, FaultRule, acts_at}
+use Rattle.path_model.specs.DeviceLaws.{IsUnread, ConditionRules, Fails, Holds, WriteRules, FetchRules, CopyRules, Exchanged, NoRoom, SwapRules, InvokeRule, PayloadRules, HoldsSome, Leaves, IsFault, FaultRule, acts_at}
 
 -- ---- conditions
 
@@ -125,13 +125,21 @@ conditions_leave setting tests.CheckContent p c = λ s w.
     tested_world p (Tried c tests.CheckContent true) (Tried c tests.CheckContent false) s w (is_content (bytes_of (in_force s.parameters c keys.Content)) (content_at w c))
 conditions_leave setting tests.Abort p c = λ s w. refl
 
-conditions_cut : (setting : Setting) (kind : TestKind) (p c : ℕ) (s : State) (w : Device) (o : Outcome Device) → (condition_play setting kind p c).IsCut s w o → o ≡ unread p w
+was_unread : (p : ℕ) (w : Device) (o : Outcome Device) → o ≡ unread p w → IsUnread p w o
+was_unread p w o is = record {
+  events = ap (λ (x : Outcome Device). x.events) is;
+  ending = ap (λ (x : Outcome Device). x.ending) is;
+  cause = ap (λ (x : Outcome Device). x.cause) is;
+  world = ap (λ (x : Outcome Device). x.world) is;
+}
+
+conditions_cut : (setting : Setting) (kind : TestKind) (p c : ℕ) (s : State) (w : Device) (o : Outcome Device) → (condition_play setting kind p c).IsCut s w o → IsUnread p w o
 conditions_cut setting tests.Vendor p c s w o cut = absurd cut
 conditions_cut setting tests.Class p c s w o cut = absurd cut
 conditions_cut setting tests.Device p c s w o cut = absurd cut
 conditions_cut setting tests.Slot p c s w o cut = absurd cut
-conditions_cut setting tests.ImageMatch p c s w o cut = cut.1
-conditions_cut setting tests.CheckContent p c s w o cut = cut.1
+conditions_cut setting tests.ImageMatch p c s w o cut = was_unread p w o cut.1
+conditions_cut setting tests.CheckContent p c s w o cut = was_unread p w o cut.1
 conditions_cut setting tests.Abort p c s w o cut = absurd cut
 
 pub condition_rules : ConditionRules

@@ -15,7 +15,7 @@ use Rattle.path_model.specs.declared.cause.Cause.TheVariants as causes
 use Rattle.path_model.specs.Behaviour.{State, Done, Directive}
 use Rattle.path_model.specs.Settings.{Setting, capacity_of, found_under, payload_of}
 use Rattle.path_model.specs.Plays.{Outcome}
-use Rattle.path_model.specs.DevicePlays.{Launched, Device, content_at, unread, condition_play, directive_play}
+use Rattle.path_model.specs.DevicePlays.{Launched, Device, content_at, condition_play, directive_play}
 
 -- ---- conditions
 
@@ -30,6 +30,12 @@ abbrev pub Passes : Setting → TestKind → ℕ → ℕ → State → Device �
 Passes setting kind place component state device =
     ((condition_play setting kind place component).comes state device).ending ≡ Done state
 
+pub record IsUnread (place : ℕ) (device : Device) (outcome : Outcome Device) : Type 0 where
+  pub events : outcome.events ≡ []
+  pub ending : outcome.ending ≡ Directive place
+  pub cause : outcome.cause ≡ Some causes.FlashFault
+  pub world : outcome.world ≡ device
+
 pub record ConditionRules : Type 0 where
   pub image : (setting : Setting) (place component : ℕ) (state : State) (device : Device)
       → Passes setting tests.ImageMatch place component state device ↔ HasImage state device component
@@ -41,7 +47,7 @@ pub record ConditionRules : Type 0 where
       → ((condition_play setting kind place component).comes state device).world ≡ device
   -- where the flash fails, nothing is told and nothing changes
   pub cut : (setting : Setting) (kind : TestKind) (place component : ℕ) (state : State) (device : Device) (outcome : Outcome Device)
-      → (condition_play setting kind place component).IsCut state device outcome → outcome ≡ unread place device
+      → (condition_play setting kind place component).IsCut state device outcome → IsUnread place device outcome
 
 -- ---- directives
 

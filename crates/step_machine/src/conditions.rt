@@ -1,0 +1,216 @@
+//! Conditions, at one component.
+
+ghost use Rattle.flash_slots.specs.Contents.{ResultCounts};
+ghost use Rattle.path_model.specs.DevicePlays.{fits_size, is_image, same_identifier, same_number};
+ghost use Rattle.std.specs.Option.{option_copied};
+ghost use Rattle.std.specs.Prelude.{◌≡◌, ◌<◌, IfErr, IfOk, IsTrue, Some, length};
+ghost use Rattle.std.specs.Str.{bytes_eq};
+ghost use Rattle.step_machine.specs.Conditions.{CutsPlay, PassesAs};
+ghost use Rattle.step_machine.specs.Holding.{Looks, holds};
+ghost use Rattle.step_machine.specs.Spots.{IsSpot, content_of};
+ghost use Rattle.suit_edge.specs.Flash.{Grows, IsSame};
+ghost use Rattle.suit_params.specs.InForce.{bytes_of, digest_of, identifier_of, number_of};
+
+use crate::Spot;
+use crate::contents::{digest_at, length_at, same_at};
+use flash_layout::FlashFault;
+use flash_slots::Ram;
+use path_model::Identity;
+use suit_commands::TestKind;
+use suit_edge::Disk;
+use suit_params::{Digest, Param, ParamKey, Params};
+
+/// A component in a procedure: its index, what it is, and where its content stands.
+#[derive(Clone, Copy, Debug, PartialEq, Eq)]
+pub struct Standing {
+    pub component: u32,
+    pub identity: Identity,
+    pub spot: Spot,
+}
+
+fn identifier(param: Option<&Param>) -> Option<[u8; 16]>
+    ensures { result ≡ identifier_of (option_copied param.entry) }
+{
+    match param {
+        Some(Param::Vendor(id)) => Some(*id),
+        Some(Param::Class(id)) => Some(*id),
+        Some(Param::Device(id)) => Some(*id),
+        _ => None,
+    }
+}
+
+fn number(param: Option<&Param>) -> Option<u64>
+    ensures { result ≡ number_of (option_copied param.entry) }
+{
+    match param {
+        Some(Param::Slot(number)) => Some(*number),
+        Some(Param::Size(size)) => Some(*size),
+        Some(Param::Source(component)) => Some(*component as u64),
+        _ => None,
+    }
+}
+
+fn digest(param: Option<&Param>) -> Option<Digest>
+    ensures { result ≡ digest_of (option_copied param.entry) }
+{
+    match param {
+        Some(Param::Digest(digest)) => Some(*digest),
+        _ => None,
+    }
+}
+
+fn bytes<'a>(param: Option<&'a Param>) -> Option<&'a [u8]>
+    ensures { option_copied result ≡ bytes_of (option_copied param.entry) }
+{
+    match param {
+        Some(Param::Content(bytes)) => Some(bytes.as_slice()),
+        Some(Param::Uri(text)) => Some(text.as_str().as_bytes()),
+        Some(Param::Args(bytes)) => Some(bytes.as_slice()),
+        _ => None,
+    }
+}
+
+fn is_same_id(wanted: Option<[u8; 16]>, own: Option<[u8; 16]>) -> bool
+    ensures { result ≡ same_identifier wanted own }
+{
+    match wanted {
+        Some(wanted) => match own {
+            Some(own) => own == wanted,
+            None => false,
+        },
+        None => false,
+    }
+}
+
+fn is_slot(wanted: Option<u64>, own: u64) -> bool
+    ensures { result ≡ same_number wanted (Some own) }
+{
+    match wanted {
+        Some(wanted) => own == wanted,
+        None => false,
+    }
+}
+
+fn is_digest(found: &[u8; 32], digest: &Digest) -> bool
+    ensures { result ≡ bytes_eq found.now digest.now.bytes }
+{
+    *found == digest.bytes
+}
+
+// Whether the content has the digest, and the size where there is one.
+fn has_image<D: Disk>(
+    disk: &mut D,
+    ram: &Ram,
+    spot: Spot,
+    digest: Digest,
+    size: Option<u64>,
+    room: &mut [u8],
+) -> Result<bool, FlashFault>
+    requires spot { IsSpot (D.extent disk.old) ram.now spot }
+    requires room { 0 < length room.old }
+    ensures size { D.extent disk.new ≡ D.extent disk.old }
+    ensures counts { ResultCounts result (D.faults disk.old) (D.faults disk.new) }
+    ensures exact { IsTrue D.told → IfOk result (λ has. has ≡ is_image digest size (content_of spot ram.now (D.flash disk.old).reads)) }
+    ensures same { IsTrue D.told → IsSame (D.flash disk.old) (D.flash disk.new) }
+    ensures grows { IsTrue D.told → Grows (D.flash disk.old) (D.flash disk.new) }
+{
+    let found = match digest_at(disk, ram, spot, room) {
+        Ok(found) => found,
+        Err(FlashFault) => return Err(FlashFault),
+    };
+    if !is_digest(&found, &digest) {
+        return Ok(false);
+    }
+    match size {
+        None => Ok(true),
+        Some(size) => match length_at(disk, ram, spot) {
+            Ok(length) => Ok(length == size),
+            Err(FlashFault) => Err(FlashFault),
+        },
+    }
+}
+
+// Whether the condition holds. The content is read through the room, if at all.
+fn holds_at<D: Disk>(
+    disk: &mut D,
+    ram: &Ram,
+    standing: &Standing,
+    params: &Params<'_>,
+    kind: TestKind,
+    room: &mut [u8],
+) -> Result<bool, FlashFault>
+    requires component { standing.now.component < 8 }
+    requires spot { IsSpot (D.extent disk.old) ram.now standing.now.spot }
+    requires room { 0 < length room.old }
+    ensures size { D.extent disk.new ≡ D.extent disk.old }
+    ensures counts { ResultCounts result (D.faults disk.old) (D.faults disk.new) }
+    ensures exact { IsTrue D.told → IfOk result (λ passed. passed
+        ≡ holds kind standing.now.component params.now standing.now.identity (content_of standing.now.spot ram.now (D.flash disk.old).reads)) }
+    ensures looks { IfErr result (λ fault. Looks kind standing.now.component params.now) }
+    ensures same { IsTrue D.told → IsSame (D.flash disk.old) (D.flash disk.new) }
+    ensures grows { IsTrue D.told → Grows (D.flash disk.old) (D.flash disk.new) }
+{
+    let component = standing.component;
+    let own = standing.identity;
+    match kind {
+        TestKind::Vendor => Ok(is_same_id(
+            identifier(params.get(component, ParamKey::Vendor)),
+            own.vendor,
+        )),
+        TestKind::Class => Ok(is_same_id(
+            identifier(params.get(component, ParamKey::Class)),
+            own.class,
+        )),
+        TestKind::Device => Ok(is_same_id(
+            identifier(params.get(component, ParamKey::Device)),
+            own.device,
+        )),
+        TestKind::Slot => Ok(is_slot(number(params.get(component, ParamKey::Slot)), own.slot)),
+        TestKind::ImageMatch => match digest(params.get(component, ParamKey::Digest)) {
+            None => Ok(false),
+            Some(digest) => {
+                let size = number(params.get(component, ParamKey::Size));
+                match has_image(disk, ram, standing.spot, digest, size, room) {
+                    Ok(has) => Ok(has),
+                    Err(FlashFault) => Err(FlashFault),
+                }
+            }
+        },
+        TestKind::CheckContent => match bytes(params.get(component, ParamKey::Content)) {
+            None => Ok(false),
+            Some(wanted) => match same_at(disk, ram, standing.spot, wanted, room) {
+                Ok(same) => Ok(same),
+                Err(FlashFault) => Err(FlashFault),
+            },
+        },
+        TestKind::Abort => Ok(false),
+    }
+}
+
+/// Whether a condition passes for a component, under the parameters in force
+/// (draft-ietf-suit-manifest-25, section 8.4.9). The content is read through the room, if at all, and nothing is
+/// changed. A fault of the flash comes only where the content had to be read.
+pub fn passes<D: Disk>(
+    disk: &mut D,
+    ram: &Ram,
+    standing: &Standing,
+    params: &Params<'_>,
+    kind: TestKind,
+    room: &mut [u8],
+) -> Result<bool, FlashFault>
+    requires component { standing.now.component < 8 }
+    requires spot { IsSpot (D.extent disk.old) ram.now standing.now.spot }
+    requires room { 0 < length room.old }
+    ensures size { D.extent disk.new ≡ D.extent disk.old }
+    ensures counts { ResultCounts result (D.faults disk.old) (D.faults disk.new) }
+    ensures exact { IsTrue D.told → IfOk result (PassesAs kind standing.now.component params.now standing.now.identity
+        (content_of standing.now.spot ram.now (D.flash disk.old).reads)) }
+    ensures cuts { IfErr result (λ fault. CutsPlay kind standing.now.component params.now) }
+    ensures same { IsTrue D.told → IsSame (D.flash disk.old) (D.flash disk.new) }
+    ensures grows { IsTrue D.told → Grows (D.flash disk.old) (D.flash disk.new) }
+{
+    match holds_at(disk, ram, standing, params, kind, room) {
+        Ok(holds) => Ok(holds),
+        Err(FlashFault) => Err(FlashFault),
+    }
+}

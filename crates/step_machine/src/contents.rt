@@ -1,0 +1,95 @@
+//! Contents, wherever they stand, are read in parts.
+
+ghost use Rattle.flash_slots.specs.Contents.{ResultCounts};
+ghost use Rattle.sha2.specs.Sha256.{sha256};
+ghost use Rattle.std.specs.Prelude.{◌≡◌, ◌<◌, IfOk, IsTrue, length};
+ghost use Rattle.std.specs.Str.{bytes_eq};
+ghost use Rattle.step_machine.specs.Spots.{IsSpot, content_of};
+ghost use Rattle.suit_edge.specs.Flash.{Grows, IsSame};
+
+use crate::Spot;
+use flash_layout::FlashFault;
+use flash_slots::{Ram, digest, length, same_content};
+use sha2::{Digest as _, Sha256};
+use suit_edge::Disk;
+
+fn digest_of(bytes: &[u8]) -> [u8; 32]
+    ensures { result ≡ sha256 bytes.now }
+{
+    let mut hasher = Sha256::new();
+    hasher.update(bytes);
+    hasher.finalize()
+}
+
+fn is_equal(a: &[u8], b: &[u8]) -> bool
+    ensures { result ≡ bytes_eq a.now b.now }
+{
+    a == b
+}
+
+// The SHA-256 of a content.
+pub(crate) fn digest_at<D: Disk>(
+    disk: &mut D,
+    ram: &Ram,
+    spot: Spot,
+    room: &mut [u8],
+) -> Result<[u8; 32], FlashFault>
+    requires spot { IsSpot (D.extent disk.old) ram.now spot }
+    requires room { 0 < length room.old }
+    ensures size { D.extent disk.new ≡ D.extent disk.old }
+    ensures counts { ResultCounts result (D.faults disk.old) (D.faults disk.new) }
+    ensures exact { IsTrue D.told → IfOk result (λ d. d ≡ sha256 (content_of spot ram.now (D.flash disk.old).reads)) }
+    ensures same { IsTrue D.told → IsSame (D.flash disk.old) (D.flash disk.new) }
+    ensures grows { IsTrue D.told → Grows (D.flash disk.old) (D.flash disk.new) }
+{
+    match spot {
+        Spot::Flash(slot) => match digest(disk, slot, room) {
+            Ok(found) => Ok(found),
+            Err(FlashFault) => Err(FlashFault),
+        },
+        Spot::Ram(component) => Ok(digest_of(ram.content(component))),
+    }
+}
+
+// How many bytes a content has.
+pub(crate) fn length_at<D: Disk>(disk: &mut D, ram: &Ram, spot: Spot) -> Result<u64, FlashFault>
+    requires spot { IsSpot (D.extent disk.old) ram.now spot }
+    ensures size { D.extent disk.new ≡ D.extent disk.old }
+    ensures counts { ResultCounts result (D.faults disk.old) (D.faults disk.new) }
+    ensures exact { IsTrue D.told → IfOk result (λ n. n ≡ length (content_of spot ram.now (D.flash disk.old).reads)) }
+    ensures same { IsTrue D.told → IsSame (D.flash disk.old) (D.flash disk.new) }
+    ensures grows { IsTrue D.told → Grows (D.flash disk.old) (D.flash disk.new) }
+{
+    match spot {
+        Spot::Flash(slot) => match length(disk, slot) {
+            Ok(found) => Ok(found),
+            Err(FlashFault) => Err(FlashFault),
+        },
+        Spot::Ram(component) => Ok(ram.content(component).len() as u64),
+    }
+}
+
+// Whether a content is these bytes.
+pub(crate) fn same_at<D: Disk>(
+    disk: &mut D,
+    ram: &Ram,
+    spot: Spot,
+    bytes: &[u8],
+    room: &mut [u8],
+) -> Result<bool, FlashFault>
+    requires spot { IsSpot (D.extent disk.old) ram.now spot }
+    requires room { 0 < length room.old }
+    ensures size { D.extent disk.new ≡ D.extent disk.old }
+    ensures counts { ResultCounts result (D.faults disk.old) (D.faults disk.new) }
+    ensures exact { IsTrue D.told → IfOk result (λ same. same ≡ bytes_eq (content_of spot ram.now (D.flash disk.old).reads) bytes.now) }
+    ensures same { IsTrue D.told → IsSame (D.flash disk.old) (D.flash disk.new) }
+    ensures grows { IsTrue D.told → Grows (D.flash disk.old) (D.flash disk.new) }
+{
+    match spot {
+        Spot::Flash(slot) => match same_content(disk, slot, bytes, room) {
+            Ok(same) => Ok(same),
+            Err(FlashFault) => Err(FlashFault),
+        },
+        Spot::Ram(component) => Ok(is_equal(ram.content(component), bytes)),
+    }
+}
