@@ -2,3 +2,4 @@ pub mod Stored
 pub mod Whole
 pub mod Since
 pub mod Over
+mod Rams

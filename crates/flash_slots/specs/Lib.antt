@@ -1,2 +1,4 @@
 pub mod Contents
 pub mod RamContents
+pub mod RamLaws
+pub mod WritingLaws

@@ -2,6 +2,7 @@
 #![tactic(auto)]
 
 mod area;
+mod law;
 mod passing;
 mod ram;
 #[cfg(test)]
@@ -12,6 +13,7 @@ mod slot_tests;
 mod writing;
 
 pub use area::TooLarge;
+pub use law::ram_laws;
 pub use passing::{digest, same_content};
 pub use ram::Ram;
 pub use reading::{length, read};

@@ -2,7 +2,7 @@
 
 ghost use Rattle.std.specs.Prelude.{◌≡◌, ◌≤◌, IfOk, length};
 
-use crate::{AppendFault, begin, length, read};
+use crate::{AppendFault, begin, digest, length, read, same_content};
 use flash_layout::{FlashFault, Slot};
 use std::alloc::{AllocError, Global};
 use std::test::Fail;
@@ -14,6 +14,12 @@ const SLOT: Slot = Slot {
     start: 8,
     capacity: 5,
 };
+
+// The SHA-256 of the three bytes.
+const OLD_DIGEST: [u8; 32] = [
+    0xCB, 0xA0, 0x6B, 0x57, 0x36, 0xFA, 0xF6, 0x7E, 0x54, 0xB0, 0x7B, 0x56, 0x1E, 0xAE, 0x94, 0x39,
+    0x5E, 0x77, 0x4C, 0x51, 0x7A, 0x7D, 0x91, 0x0A, 0x54, 0x36, 0x9E, 0x12, 0x63, 0xCC, 0xFB, 0xD4,
+];
 
 const CHOICES: [u64; 3] = [0, u64::MAX, 0xAAAA_AAAA_AAAA_AAAA];
 
@@ -45,11 +51,11 @@ fn replace<D: Disk>(disk: &mut D) -> Result<(), AppendFault>
     }
 }
 
-// A disk whose slot holds three bytes, with ones round it.
-fn with_old(alloc: Global) -> Result<MemoryDisk, AllocError>
+// A disk whose slot holds three bytes, with ones round it, and which was called twice. The call of that number fails.
+fn with_failing(alloc: Global, number: u64) -> Result<MemoryDisk, AllocError>
     ensures { IfOk result (λ disk. length disk.first ≡ SIZE) }
 {
-    let mut disk = MemoryDisk::new(alloc, SIZE, &[])?;
+    let mut disk = MemoryDisk::new(alloc, SIZE, &[number])?;
     match disk.write_at(0, &[1; SIZE]) {
         Edge::Done => {}
         Edge::Failed => return Err(AllocError),
@@ -58,12 +64,34 @@ fn with_old(alloc: Global) -> Result<MemoryDisk, AllocError>
         Edge::Done => {}
         Edge::Failed => return Err(AllocError),
     }
+    Ok(disk)
+}
+
+// The same, of which no call fails and nothing is pending.
+fn with_old(alloc: Global) -> Result<MemoryDisk, AllocError>
+    ensures { IfOk result (λ disk. length disk.first ≡ SIZE) }
+{
+    let disk = with_failing(alloc, u64::MAX)?;
     disk.after_loss(alloc, u64::MAX)
+}
+
+// Whether the three bytes are told in each way, through a room for two. That takes nine calls of the disk.
+fn is_old<D: Disk>(disk: &mut D) -> Result<bool, FlashFault>
+    requires { 64 ≤ D.extent disk.old }
+    ensures { D.extent disk.new ≡ D.extent disk.old }
+{
+    let mut room = [0u8; 2];
+    let size = length(disk, SLOT)?;
+    let count = read(disk, SLOT, 1, &mut room)?;
+    let found = digest(disk, SLOT, &mut room)?;
+    let same = same_content(disk, SLOT, b"old", &mut room)?;
+    Ok(size == 3 && count == 2 && found == OLD_DIGEST && same)
 }
 
 // Whether the content is that, and all round the slot is as it was.
 fn holds(disk: &mut MemoryDisk, content: &[u8]) -> bool
     requires { length disk.old.first ≡ SIZE }
+    ensures { length disk.new.first ≡ SIZE }
 {
     let mut room = [0u8; 8];
     match read(disk, SLOT, 0, &mut room) {
@@ -125,6 +153,61 @@ fn a_content_is_cut_at_each_call(rt: HostRuntime) -> Result<(), Fail> {
             let mut left = disk.after_loss(rt.alloc(), *choice)?;
             assert!(rt; holds(&mut left, content), "{passes} calls, {choice}");
         }
+    }
+    Ok(())
+}
+
+#[test]
+fn a_content_is_told_in_each_way(rt: HostRuntime) -> Result<(), Fail> {
+    let mut disk = with_old(rt.alloc())?;
+    assert!(rt; is_old(&mut disk) == Ok(true));
+    let mut room = [0u8; 2];
+    assert!(rt; same_content(&mut disk, SLOT, b"olD", &mut room) == Ok(false));
+    assert!(rt; same_content(&mut disk, SLOT, b"ol", &mut room) == Ok(false));
+    Ok(())
+}
+
+#[test]
+fn a_read_that_fails_is_told(rt: HostRuntime) -> Result<(), Fail> {
+    for number in 2..11u64 {
+        let mut disk = with_failing(rt.alloc(), number)?;
+        assert!(rt; is_old(&mut disk) == Err(FlashFault), "call {number}");
+        assert!(rt; holds(&mut disk, b"old"), "call {number}");
+    }
+    Ok(())
+}
+
+#[test]
+fn a_read_is_cut_at_each_call(rt: HostRuntime) -> Result<(), Fail> {
+    for passes in 0..10u64 {
+        let mut fuse = FuseDisk::new(with_old(rt.alloc())?, passes);
+        assert_eq!(rt; is_old(&mut fuse) == Ok(true), passes == 9);
+        let disk = fuse.into_disk();
+        for choice in CHOICES.iter() {
+            let mut left = disk.after_loss(rt.alloc(), *choice)?;
+            assert!(rt; holds(&mut left, b"old"), "{passes} calls, {choice}");
+        }
+    }
+    Ok(())
+}
+
+// Whether the slot is left with the old content, the new one or none.
+fn holds_any(disk: &mut MemoryDisk) -> bool
+    requires { length disk.old.first ≡ SIZE }
+    ensures { length disk.new.first ≡ SIZE }
+{
+    holds(disk, b"old") || holds(disk, b"") || holds(disk, b"newer")
+}
+
+#[test]
+fn a_write_that_fails_is_told(rt: HostRuntime) -> Result<(), Fail> {
+    for number in 2..9u64 {
+        let mut disk = with_failing(rt.alloc(), number)?;
+        assert!(rt;
+            replace(&mut disk) == Err(AppendFault::FlashFault),
+            "call {number}"
+        );
+        assert!(rt; holds_any(&mut disk), "call {number}");
     }
     Ok(())
 }
