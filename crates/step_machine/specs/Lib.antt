@@ -1,3 +1,5 @@
 pub mod Spots
 pub mod Holding
 pub mod Conditions
+pub mod Directives
+pub mod Comes

@@ -2,73 +2,21 @@
 
 ghost use Rattle.flash_slots.specs.Contents.{ResultCounts};
 ghost use Rattle.path_model.specs.DevicePlays.{fits_size, is_image, same_identifier, same_number};
-ghost use Rattle.std.specs.Option.{option_copied};
 ghost use Rattle.std.specs.Prelude.{◌≡◌, ◌<◌, IfErr, IfOk, IsTrue, Some, length};
 ghost use Rattle.std.specs.Str.{bytes_eq};
 ghost use Rattle.step_machine.specs.Conditions.{CutsPlay, PassesAs};
 ghost use Rattle.step_machine.specs.Holding.{Looks, holds};
 ghost use Rattle.step_machine.specs.Spots.{IsSpot, content_of};
 ghost use Rattle.suit_edge.specs.Flash.{Grows, IsSame};
-ghost use Rattle.suit_params.specs.InForce.{bytes_of, digest_of, identifier_of, number_of};
 
-use crate::Spot;
 use crate::contents::{digest_at, length_at, same_at};
+use crate::params_in_force::{bytes, digest, identifier, number};
+use crate::{Spot, Standing};
 use flash_layout::FlashFault;
 use flash_slots::Ram;
-use path_model::Identity;
 use suit_commands::TestKind;
 use suit_edge::Disk;
-use suit_params::{Digest, Param, ParamKey, Params};
-
-/// A component in a procedure: its index, what it is, and where its content stands.
-#[derive(Clone, Copy, Debug, PartialEq, Eq)]
-pub struct Standing {
-    pub component: u32,
-    pub identity: Identity,
-    pub spot: Spot,
-}
-
-fn identifier(param: Option<&Param>) -> Option<[u8; 16]>
-    ensures { result ≡ identifier_of (option_copied param.entry) }
-{
-    match param {
-        Some(Param::Vendor(id)) => Some(*id),
-        Some(Param::Class(id)) => Some(*id),
-        Some(Param::Device(id)) => Some(*id),
-        _ => None,
-    }
-}
-
-fn number(param: Option<&Param>) -> Option<u64>
-    ensures { result ≡ number_of (option_copied param.entry) }
-{
-    match param {
-        Some(Param::Slot(number)) => Some(*number),
-        Some(Param::Size(size)) => Some(*size),
-        Some(Param::Source(component)) => Some(*component as u64),
-        _ => None,
-    }
-}
-
-fn digest(param: Option<&Param>) -> Option<Digest>
-    ensures { result ≡ digest_of (option_copied param.entry) }
-{
-    match param {
-        Some(Param::Digest(digest)) => Some(*digest),
-        _ => None,
-    }
-}
-
-fn bytes<'a>(param: Option<&'a Param>) -> Option<&'a [u8]>
-    ensures { option_copied result ≡ bytes_of (option_copied param.entry) }
-{
-    match param {
-        Some(Param::Content(bytes)) => Some(bytes.as_slice()),
-        Some(Param::Uri(text)) => Some(text.as_str().as_bytes()),
-        Some(Param::Args(bytes)) => Some(bytes.as_slice()),
-        _ => None,
-    }
-}
+use suit_params::{Digest, ParamKey, Params};
 
 fn is_same_id(wanted: Option<[u8; 16]>, own: Option<[u8; 16]>) -> bool
     ensures { result ≡ same_identifier wanted own }

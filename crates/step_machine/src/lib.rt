@@ -3,7 +3,16 @@
 
 mod conditions;
 mod contents;
+mod directives;
+mod filling;
+mod params_in_force;
 mod spot;
+mod stop;
 
-pub use conditions::{Standing, passes};
-pub use spot::Spot;
+pub use conditions::passes;
+pub use directives::write;
+pub use spot::{Spot, Standing};
+pub use stop::Stop;
+
+#[cfg(test)]
+mod leaf_tests;

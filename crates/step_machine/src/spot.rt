@@ -1,6 +1,7 @@
-//! Where contents stand.
+//! Where contents stand, and what the components are.
 
 use flash_layout::Slot;
+use path_model::Identity;
 
 /// Where a component's content stands.
 #[derive(Clone, Copy, Debug, PartialEq, Eq)]
@@ -9,4 +10,14 @@ pub enum Spot {
     Flash(Slot),
     /// In working memory, under the component's index in the layout.
     Ram(u32),
+}
+
+/// A component in a procedure: its index in the manifest, what it is, how many bytes it has room for, and where its
+/// content stands.
+#[derive(Clone, Copy, Debug, PartialEq, Eq)]
+pub struct Standing {
+    pub component: u32,
+    pub identity: Identity,
+    pub capacity: u64,
+    pub spot: Spot,
 }

@@ -1,0 +1,86 @@
+-- How plays of parts compose, where no events are kept.
+use Rattle.std.proofs.Common.{◌≡◌, ℕ, Bool, true, false, List, [], ◌∷◌, ◌++◌, Option, Some, Ok, Err, refl, sym, ap, subst, ◌∙◌, inl, inr}
+use Rattle.std.specs.Prelude.{Result}
+use Rattle.path_model.specs.declared.event.Event.{Event}
+use Rattle.path_model.specs.declared.cause.Cause.{Cause}
+use Rattle.path_model.specs.declared.cause.Cause.TheVariants as causes
+use Rattle.path_model.specs.Behaviour.{State, Ending, Done, Condition, Directive}
+use Rattle.path_model.specs.Plays.{Outcome, Play, behind, going_on, NextIsCut, in_turn}
+use Rattle.path_model.specs.DevicePlays.{Device}
+use Rattle.step_machine.specs.declared.stop.Stop.{Stop}
+use Rattle.step_machine.specs.declared.stop.Stop.TheVariants as stops
+use Rattle.step_machine.specs.Directives.{Stops, IsCutSo, StopsSo}
+use Rattle.step_machine.specs.Comes.{Comes}
+
+stops_as : (p : ℕ) (cause : Cause) (v : Device) (o other : Outcome Device) → o.ending ≡ other.ending → o.cause ≡ other.cause → o.world ≡ other.world → Stops p cause v other → Stops p cause v o
+stops_as p cause v o other e c w h = record { ending = e ∙ h.ending; named = c ∙ h.named; world = w ∙ h.world }
+
+module _ (first second : Play Device) (s t : State) (w v : Device) (done : (first.comes s w).ending ≡ Done t) (left : (first.comes s w).world ≡ v) where
+  one : Outcome Device
+  one = first.comes s w
+
+  both : Outcome Device
+  both = (in_turn Device first second).comes s w
+
+  gone_on : both ≡ behind Device (first.comes s w).events (second.comes t v)
+  unfolding one both
+  gone_on =
+      let o = first.comes s w in
+      ap (going_on Device second.comes o.events o.cause o.world) done
+      ∙ ap (λ (u : Device). behind Device o.events (second.comes t u)) left
+
+  cut_then : (p : ℕ) (cause : Cause) (u : Device) → IsCutSo second p t v cause u → IsCutSo (in_turn Device first second) p s w cause u
+  cut_then p cause u h =
+      let o = first.comes s w in
+      let told : Outcome Device = behind Device o.events h.outcome in
+      record {
+        outcome = told;
+        cut = inr (subst (λ (e : Ending). NextIsCut Device second.IsCut o.events o.world e told) (sym done) (h.outcome, subst (λ (x : Device). second.IsCut t x h.outcome) (sym left) h.cut, refl));
+        stops = stops_as p cause u told h.outcome refl refl refl h.stops;
+      }
+
+  stops_then : (p : ℕ) (cause : Cause) (u : Device) → Stops p cause u (second.comes t v) → Stops p cause u ((in_turn Device first second).comes s w)
+  unfolding both
+  stops_then p cause u h =
+      stops_as p cause u both (second.comes t v) (ap (λ (x : Outcome Device). x.ending) gone_on) (ap (λ (x : Outcome Device). x.cause) gone_on) (ap (λ (x : Outcome Device). x.world) gone_on) h
+
+  -- the first is done, and the second comes to this
+  pub then_comes : (r : Result (Unit {0}) Stop) (next : State) (u : Device) → Comes second t v r next u → Comes (in_turn Device first second) s w r next u
+  unfolding both
+  then_comes (Ok x) next u (ends, is) = (ap (λ (o : Outcome Device). o.ending) gone_on ∙ ends, ap (λ (o : Outcome Device). o.world) gone_on ∙ is)
+  then_comes (Err (stops.Condition p soft)) next u (ends, is) = (ap (λ (o : Outcome Device). o.ending) gone_on ∙ ends, ap (λ (o : Outcome Device). o.world) gone_on ∙ is)
+  then_comes (Err (stops.Directive p causes.Missing)) next u h = stops_then p causes.Missing u h
+  then_comes (Err (stops.Directive p causes.SelfCopy)) next u h = stops_then p causes.SelfCopy u h
+  then_comes (Err (stops.Directive p causes.TooLarge)) next u h = stops_then p causes.TooLarge u h
+  then_comes (Err (stops.Directive p causes.Absent)) next u h = stops_then p causes.Absent u h
+  then_comes (Err (stops.Directive p causes.HostFault)) next u h = cut_then p causes.HostFault u h
+  then_comes (Err (stops.Directive p causes.FlashFault)) next u h = cut_then p causes.FlashFault u h
+  then_comes (Err (stops.Directive p causes.LaunchFault)) next u h = cut_then p causes.LaunchFault u h
+
+module _ (first second : Play Device) (s : State) (w : Device) where
+  stops_first : (p : ℕ) (cause : Cause) (u : Device) → Stops p cause u (first.comes s w) → Stops p cause u ((in_turn Device first second).comes s w)
+  stops_first p cause u h =
+      let o = first.comes s w in
+      let is = ap (going_on Device second.comes o.events o.cause o.world) h.ending in
+      record {
+        ending = ap (λ (x : Outcome Device). x.ending) is;
+        named = ap (λ (x : Outcome Device). x.cause) is ∙ h.named;
+        world = ap (λ (x : Outcome Device). x.world) is ∙ h.world;
+      }
+
+  cut_first : (p : ℕ) (cause : Cause) (u : Device) → IsCutSo first p s w cause u → IsCutSo (in_turn Device first second) p s w cause u
+  cut_first p cause u h = record { outcome = h.outcome; cut = inl h.cut; stops = h.stops }
+
+  -- the first is stopped, and so are both
+  pub first_stops : (stop : Stop) (next : State) (u : Device) → Comes first s w (Err stop) next u → Comes (in_turn Device first second) s w (Err stop) next u
+  first_stops (stops.Condition p soft) next u (ends, is) =
+      let o = first.comes s w in
+      let goes = ap (going_on Device second.comes o.events o.cause o.world) ends in
+      (ap (λ (x : Outcome Device). x.ending) goes, ap (λ (x : Outcome Device). x.world) goes ∙ is)
+  first_stops (stops.Directive p causes.Missing) next u h = stops_first p causes.Missing u h
+  first_stops (stops.Directive p causes.SelfCopy) next u h = stops_first p causes.SelfCopy u h
+  first_stops (stops.Directive p causes.TooLarge) next u h = stops_first p causes.TooLarge u h
+  first_stops (stops.Directive p causes.Absent) next u h = stops_first p causes.Absent u h
+  first_stops (stops.Directive p causes.HostFault) next u h = cut_first p causes.HostFault u h
+  first_stops (stops.Directive p causes.FlashFault) next u h = cut_first p causes.FlashFault u h
+  first_stops (stops.Directive p causes.LaunchFault) next u h = cut_first p causes.LaunchFault u h

@@ -1,0 +1,82 @@
+//! A content becomes other bytes.
+
+ghost use Rattle.flash_layout.specs.Slots.{LiesWithin, extent_of, slot_content};
+ghost use Rattle.flash_slots.specs.Contents.{ResultCounts};
+ghost use Rattle.flash_slots.specs.RamContents.{held_by, holding};
+ghost use Rattle.std.specs.Prelude.{◌≡◌, ◌<◌, ◌≤◌, IsTrue, OnErr, OnOk, length};
+ghost use Rattle.step_machine.specs.Spots.{IsRamBut, IsSpot, OutsideSpot, content_of, room_at};
+ghost use Rattle.suit_edge.specs.Flash.{Grows, Keeps};
+ghost use Rattle.suit_edge.specs.Ranges.{Outside};
+
+use crate::Spot;
+use flash_layout::{FlashFault, Slot};
+use flash_slots::{AppendFault, Ram, TooLarge, begin};
+use suit_edge::Disk;
+
+// Bytes become the content of a slot that has room for them.
+pub(crate) fn fill_slot<D: Disk>(disk: &mut D, slot: Slot, bytes: &[u8]) -> Result<(), FlashFault>
+    requires slot { LiesWithin (D.extent disk.old) slot }
+    requires fits { length bytes.now ≤ slot.capacity }
+    ensures size { D.extent disk.new ≡ D.extent disk.old }
+    ensures counts { ResultCounts result (D.faults disk.old) (D.faults disk.new) }
+    ensures content { IsTrue D.told → OnOk result (slot_content slot (D.flash disk.new).reads ≡ bytes.now) }
+    ensures keeps { IsTrue D.told → Keeps (Outside slot.start (extent_of slot)) (D.flash disk.old) (D.flash disk.new) }
+    ensures grows { IsTrue D.told → Grows (D.flash disk.old) (D.flash disk.new) }
+{
+    let mut writing = match begin(disk, slot) {
+        Ok(writing) => writing,
+        Err(FlashFault) => return Err(FlashFault),
+    };
+    match writing.append(disk, bytes) {
+        Ok(()) => {}
+        Err(AppendFault::TooLarge(_)) => return Err(FlashFault),
+        Err(AppendFault::FlashFault) => return Err(FlashFault),
+    }
+    match writing.finish(disk) {
+        Ok(()) => Ok(()),
+        Err(FlashFault) => Err(FlashFault),
+    }
+}
+
+// Bytes become the content of a component in working memory that has room for them.
+#[tactic(auto, using(crate::proofs::Memory::refilled, crate::proofs::Memory::overfull))]
+fn fill_ram(ram: &mut Ram, component: u32, bytes: &[u8])
+    requires component { component < length ram.old }
+    requires fits { length bytes.now ≤ (held_by ram.old component).capacity }
+    ensures { ram.new ≡ holding ram.old component bytes.now }
+{
+    ram.clear(component);
+    match ram.append(component, bytes) {
+        Ok(()) => {}
+        Err(TooLarge { .. }) => {}
+    }
+}
+
+// Bytes become a content, where there is room for them.
+pub(crate) fn fill<D: Disk>(
+    disk: &mut D,
+    ram: &mut Ram,
+    spot: Spot,
+    bytes: &[u8],
+) -> Result<(), FlashFault>
+    requires spot { IsSpot (D.extent disk.old) ram.old spot }
+    requires fits { length bytes.now ≤ room_at spot ram.old }
+    ensures size { D.extent disk.new ≡ D.extent disk.old }
+    ensures counts { ResultCounts result (D.faults disk.old) (D.faults disk.new) }
+    ensures content { IsTrue D.told → OnOk result (content_of spot ram.new (D.flash disk.new).reads ≡ bytes.now) }
+    ensures short { IsTrue D.told → OnErr result (length (content_of spot ram.new (D.flash disk.new).reads) ≤ room_at spot ram.old) }
+    ensures ram { IsRamBut spot ram.old ram.new }
+    ensures keeps { IsTrue D.told → Keeps (OutsideSpot spot) (D.flash disk.old) (D.flash disk.new) }
+    ensures grows { IsTrue D.told → Grows (D.flash disk.old) (D.flash disk.new) }
+{
+    match spot {
+        Spot::Flash(slot) => match fill_slot(disk, slot, bytes) {
+            Ok(()) => Ok(()),
+            Err(FlashFault) => Err(FlashFault),
+        },
+        Spot::Ram(component) => {
+            fill_ram(ram, component, bytes);
+            Ok(())
+        }
+    }
+}

@@ -1,0 +1,12 @@
+//! How a procedure is stopped.
+
+use path_model::Cause;
+
+/// What stopped a sequence before its end.
+#[derive(Clone, Copy, Debug, PartialEq, Eq)]
+pub enum Stop {
+    /// A condition failed at this place in the envelope, and the sequence then held this soft failure.
+    Condition { place: u64, soft_failure: bool },
+    /// A directive failed at this place, or a fault came at a condition there.
+    Directive { place: u64, cause: Cause },
+}
