@@ -32,10 +32,10 @@ CoveredFrom-append past (e ∷ a) b h k =
 
 -- ---- a match that stands after two parts came in the second, or stood after the first and no write followed
 
-abbrev IsQuiet : ℕ → List Event → Type 0
+abbrev pub IsQuiet : ℕ → List Event → Type 0
 IsQuiet c events = AllByRecursion (λ event. WritesTo c event → ⊥) events
 
-quiet_parts : (c : ℕ) (xs ys : List Event) → IsQuiet c (xs ++ ys) → IsQuiet c xs × IsQuiet c ys
+pub quiet_parts : (c : ℕ) (xs ys : List Event) → IsQuiet c (xs ++ ys) → IsQuiet c xs × IsQuiet c ys
 quiet_parts c [] ys h = (tt, h)
 quiet_parts c (x ∷ xs) ys h = let r : IsQuiet c xs × IsQuiet c ys = quiet_parts c xs ys h.1 in ((h.0, r.0), r.1)
 
@@ -43,15 +43,15 @@ quiet_joined : (c : ℕ) (xs ys : List Event) → IsQuiet c xs → IsQuiet c ys 
 quiet_joined c [] ys h k = k
 quiet_joined c (x ∷ xs) ys h k = (h.0, quiet_joined c xs ys h.1 k)
 
-abbrev Stands : List Event → List Event → ℕ → Digest → Option ℕ → Type 0
-Stands a es c d s = HasMatched es c d s ⊎ (HasMatched a c d s × IsQuiet c es)
+abbrev pub Stood : List Event → List Event → ℕ → Digest → Option ℕ → Type 0
+Stood a es c d s = HasMatched es c d s ⊎ (HasMatched a c d s × IsQuiet c es)
 
-stands_later : (x : Event) (a es : List Event) (c : ℕ) (d : Digest) (s : Option ℕ) → Stands a es c d s → Stands (x ∷ a) es c d s
+stands_later : (x : Event) (a es : List Event) (c : ℕ) (d : Digest) (s : Option ℕ) → Stood a es c d s → Stood (x ∷ a) es c d s
 stands_later x a es c d s (inl h) = inl h
 stands_later x a es c d s (inr h) =
     inr (record { before = x ∷ h.0.before; since = h.0.since; is = ap (λ (ys : List Event). x ∷ ys) h.0.is; unwritten = h.0.unwritten }, h.1)
 
-stands : (a es before since : List Event) (c : ℕ) (d : Digest) (s : Option ℕ) → a ++ es ≡ before ++ Matched c d s ∷ since → IsQuiet c since → Stands a es c d s
+pub stands : (a es before since : List Event) (c : ℕ) (d : Digest) (s : Option ℕ) → a ++ es ≡ before ++ Matched c d s ∷ since → IsQuiet c since → Stood a es c d s
 stands [] es before since c d s is quiet = inl (record { before = before; since = since; is = is; unwritten = quiet })
 stands (x ∷ a) es [] since c d s is quiet =
     let head : x ≡ Matched c d s = cc in
@@ -62,7 +62,7 @@ stands (x ∷ a) es (y ∷ before) since c d s is quiet =
     let tail : a ++ es ≡ before ++ Matched c d s ∷ since = cc in
     stands_later x a es c d s (stands a es before since c d s tail quiet)
 
-stands_joined : (a es : List Event) (c : ℕ) (d : Digest) (s : Option ℕ) → Stands a es c d s → HasMatched (a ++ es) c d s
+pub stands_joined : (a es : List Event) (c : ℕ) (d : Digest) (s : Option ℕ) → Stood a es c d s → HasMatched (a ++ es) c d s
 stands_joined a es c d s (inl h) = record {
   before = a ++ h.before;
   since = h.since;
@@ -76,7 +76,7 @@ stands_joined a es c d s (inr h) = record {
   unwritten = quiet_joined c h.0.since es h.0.unwritten h.1;
 }
 
-stands_same : (a b es : List Event) (c : ℕ) (d : Digest) (s : Option ℕ) → (HasMatched a c d s → HasMatched b c d s) → Stands a es c d s → Stands b es c d s
+stands_same : (a b es : List Event) (c : ℕ) (d : Digest) (s : Option ℕ) → (HasMatched a c d s → HasMatched b c d s) → Stood a es c d s → Stood b es c d s
 stands_same a b es c d s same (inl h) = inl h
 stands_same a b es c d s same (inr h) = inr (same h.0, h.1)
 
@@ -85,7 +85,7 @@ stands_same a b es c d s same (inr h) = inr (same h.0, h.1)
 pub same_matches : (a : List Event) → SameMatches a a
 same_matches a c d s = (λ h. h, λ h. h)
 
-same_trans : (a b z : List Event) → SameMatches a b → SameMatches b z → SameMatches a z
+pub same_trans : (a b z : List Event) → SameMatches a b → SameMatches b z → SameMatches a z
 same_trans a b z p q c d s = (λ h. (q c d s).0 ((p c d s).0 h), λ h. (p c d s).1 ((q c d s).1 h))
 
 still : (a b es : List Event) (c : ℕ) (d : Digest) (s : Option ℕ) → (HasMatched a c d s → HasMatched b c d s) → HasMatched (a ++ es) c d s → HasMatched (b ++ es) c d s

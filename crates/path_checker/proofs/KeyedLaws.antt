@@ -1,5 +1,5 @@
 -- Each parameter in force stands under its own key, after overrides too.
-use Rattle.std.proofs.Common.{◌≡◌, ◌<◌, ℕ, zero, suc, Bool, List, [], ◌∷◌, Option, Some, None, refl, sym, ap, ◌∙◌, subst, ⊎_elim}
+use Rattle.std.proofs.Common.{◌≡◌, ◌<◌, ℕ, zero, suc, Bool, List, [], ◌∷◌, length, Option, Some, None, refl, sym, ap, ◌∙◌, subst, ⊎_elim}
 use Rattle.std.specs.Prelude.{◌==◌, if◌then◌else◌}
 use Rattle.std.proofs.lemmas.Bool.Decides.{eqb_tells}
 use Rattle.suit_params.specs.declared.param.Param.{Param}
@@ -7,7 +7,8 @@ use Rattle.suit_params.specs.declared.param.Param.TheVariants as params
 use Rattle.suit_params.specs.declared.param.ParamKey.{ParamKey}
 use Rattle.suit_params.specs.declared.param.ParamKey.TheVariants as keys
 use Rattle.suit_params.specs.ParamKeys.{key_of}
-use Rattle.suit_params.specs.InForce.{Parameters, rank, in_force, number_of, last_of, IsOverridden}
+use Rattle.suit_params.specs.InForce.{Parameters, rank, in_force, number_of, last_of, with_param, overridden, IsOverridden}
+use Rattle.path_model.specs.ParameterLaws.{StaysWhole}
 use Rattle.path_checker.specs.Keyed.{IsKeyed}
 
 key_at : ℕ → ParamKey
@@ -58,8 +59,13 @@ last_keyed (x ∷ xs) key before old p e =
     (eqb_tells (rank (key_of x)) (rank key)))
     p e
 
-pub keyed_overridden : (before after : Parameters) (c : ℕ) (list : List Param) → IsKeyed before → IsOverridden before after c list → IsKeyed after
-keyed_overridden before after c list old is = record {
+whole_overridden : StaysWhole → (before : Parameters) (c : ℕ) (list : List Param) → length before ≡ 96 → length (overridden before c list) ≡ 96
+whole_overridden stays before c [] whole = whole
+whole_overridden stays before c (p ∷ list) whole = whole_overridden stays (with_param before c p) c list (stays.next before c p whole)
+
+pub keyed_overridden : StaysWhole → (before after : Parameters) (c : ℕ) (list : List Param) → IsKeyed before → after ≡ overridden before c list → IsOverridden before after c list → IsKeyed after
+keyed_overridden stays before after c list old exact is = record {
+  whole = ap (λ (ps : Parameters). length ps) exact ∙ whole_overridden stays before c list old.whole;
   keyed = λ other key p low e.
       let at : (if other == c then last_of list key (in_force before c key) else in_force before other key) ≡ Some p = sym (is other key low) ∙ e in
       ⊎_elim

@@ -1,4 +1,5 @@
 pub mod Membership
+pub mod ChainLaws
 pub mod Exploring
 pub mod InnerStates
 pub mod InnerSequences
@@ -8,6 +9,7 @@ pub mod Carrying
 pub mod Leaves
 pub mod Walking
 pub mod Popping
+pub mod Merging
 pub mod Branching
 pub mod Outside
 pub mod Narrowing
@@ -25,3 +27,4 @@ pub mod Among
 pub mod Choices
 pub mod Counting
 pub mod Histories
+pub mod StandingLaws

@@ -1,7 +1,11 @@
 pub mod Knowing
+pub mod Happening
+pub mod Chains
 pub mod Forking
 pub mod Choosing
 pub mod Exploring
+pub mod Standing
+pub mod Merging
 pub mod Inner
 pub mod Keyed
 pub mod Wanting

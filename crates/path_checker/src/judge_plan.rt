@@ -6,22 +6,31 @@ ghost use Rattle.suit_commands.specs.Plans.{plan_tree};
 ghost use Rattle.path_checker.specs.Procedures.{ArePlan};
 ghost use Rattle.path_checker.specs.PlanVerdicts.{Tells, Judges, JudgesPlan};
 
+mod chain;
 mod choice;
 mod conditions;
 mod directives;
 mod facts;
+mod fingerprint;
 mod halt;
+mod happened;
+mod history;
 mod in_force;
 mod inner;
 mod kept;
 mod known;
+mod memory;
+mod merged;
 mod procedure_walk;
+mod same_param;
 mod selected;
 mod walk;
 
+use bumpalo::Bump;
 use choice::chosen_identities;
 use halt::Halt;
 use kept::Kept;
+use memory::Memory;
 use path_model::BadPath;
 use procedure_walk::{first, procedure};
 use std::alloc::Global;
@@ -47,12 +56,29 @@ pub enum CheckVerdict {
 fn told(alloc: Global, k: Kept<'_>) -> CheckVerdict
     ensures { Tells k.entry result }
 {
-    match chosen_identities(alloc, &k.facts) {
-        Ok(identities) => CheckVerdict::Unsafe(BadPath {
-            identities,
-            events: k.events,
-        }),
+    let Ok(identities) = chosen_identities(alloc, &k.facts) else {
+        return CheckVerdict::NoMemory;
+    };
+    match k.history.told(alloc) {
+        Ok(events) => CheckVerdict::Unsafe(BadPath { identities, events }),
         Err(_) => CheckVerdict::NoMemory,
+    }
+}
+
+// Whether each invoke is covered, with this memory.
+fn judge_in<'a>(alloc: Global, events: &'a Bump, plan: Plan<'a>) -> CheckVerdict
+    requires { ArePlan (plan_tree plan) }
+    ensures { Judges (plan_tree plan.entry) result }
+{
+    let memory = Memory { alloc, events };
+    let Ok(from) = first(memory.alloc, plan.count) else {
+        return CheckVerdict::NoMemory;
+    };
+    let mut failed = Vec::new(memory.alloc);
+    match procedure(memory, &plan, from, &mut failed) {
+        Ok(_) => CheckVerdict::Safe,
+        Err(Halt::NoMemory) => CheckVerdict::NoMemory,
+        Err(Halt::Uncovered(k)) => told(memory.alloc, k),
     }
 }
 
@@ -61,15 +87,8 @@ fn judge(alloc: Global, plan: &Plan<'_>) -> CheckVerdict
     requires { ArePlan (plan_tree plan.now) }
     ensures { Judges (plan_tree plan.now) result }
 {
-    let Ok(from) = first(alloc, plan.count) else {
-        return CheckVerdict::NoMemory;
-    };
-    let mut failed = Vec::new(alloc);
-    match procedure(alloc, plan, from, &mut failed) {
-        Ok(_) => CheckVerdict::Safe,
-        Err(Halt::NoMemory) => CheckVerdict::NoMemory,
-        Err(Halt::Uncovered(k)) => told(alloc, k),
-    }
+    let events = Bump::new(alloc);
+    judge_in(alloc, &events, *plan)
 }
 
 /// Judges a procedure of the grammar for all identities of its components (draft-ietf-suit-manifest-25, section 6.4).

@@ -8,9 +8,10 @@ ghost use Rattle.path_checker.specs.Wanting.{TestsOwn};
 ghost use Rattle.path_checker.specs.Steps.{knowing};
 
 use crate::judge_plan::facts::{Facts, Fork, Own};
+use crate::judge_plan::happened::Happened;
 use crate::judge_plan::kept::{Kept, Stopped, pass, stop};
-use path_model::Event;
-use std::alloc::{AllocError, Global};
+use crate::judge_plan::memory::Memory;
+use std::alloc::AllocError;
 use suit_commands::TestKind;
 
 // The state under other facts.
@@ -24,40 +25,40 @@ fn under<'a>(k: Kept<'a>, facts: Facts) -> Kept<'a>
 
 // An identity condition that asks for something: where the facts leave it open, both are kept, each with its fact.
 fn own_test<'a>(
-    alloc: Global,
+    memory: Memory<'a>,
     place: u64,
     kind: TestKind,
     component: u32,
     own: &Own,
     k: Kept<'a>,
     next: &mut Vec<Kept<'a>>,
-    failed: &mut Vec<Stopped>,
+    failed: &mut Vec<Stopped<'a>>,
 ) -> Result<(), AllocError>
     ensures { OnOk result (Adds (TestsOwn kind place component (Some own.now)) (k.entry ∷ []) next.old.items next.new.items failed.old.items failed.new.items) }
 {
-    let passed = Event::Tried {
+    let passed = Happened::Tried {
         component,
         kind,
         passed: true,
     };
-    let missed = Event::Tried {
+    let missed = Happened::Tried {
         component,
         kind,
         passed: false,
     };
-    match k.facts.fork(alloc, component, own)? {
+    match k.facts.fork(memory.alloc, component, own)? {
         Fork::Has => {
-            pass(k, passed, next)?;
+            pass(memory, k, passed, next)?;
             Ok(())
         }
         Fork::HasNot => {
-            stop(k, place, missed, failed)?;
+            stop(memory, k, place, missed, failed)?;
             Ok(())
         }
         Fork::Either(has, has_not) => {
-            let other = k.copy_with(alloc, has_not)?;
-            pass(under(k, has), passed, next)?;
-            stop(other, place, missed, failed)?;
+            let other = k.copy_with(memory.alloc, has_not)?;
+            pass(memory, under(k, has), passed, next)?;
+            stop(memory, other, place, missed, failed)?;
             Ok(())
         }
     }
@@ -65,13 +66,13 @@ fn own_test<'a>(
 
 // A condition on the identity.
 fn identity_test<'a>(
-    alloc: Global,
+    memory: Memory<'a>,
     place: u64,
     kind: TestKind,
     component: u32,
     k: Kept<'a>,
     next: &mut Vec<Kept<'a>>,
-    failed: &mut Vec<Stopped>,
+    failed: &mut Vec<Stopped<'a>>,
 ) -> Result<(), AllocError>
     requires room { component < 8 }
     requires kinds { IsOnIdentity kind }
@@ -79,16 +80,16 @@ fn identity_test<'a>(
 {
     match k.params.wanted(kind, component) {
         Some(own) => {
-            own_test(alloc, place, kind, component, &own, k, next, failed)?;
+            own_test(memory, place, kind, component, &own, k, next, failed)?;
             Ok(())
         }
         None => {
-            let missed = Event::Tried {
+            let missed = Happened::Tried {
                 component,
                 kind,
                 passed: false,
             };
-            stop(k, place, missed, failed)?;
+            stop(memory, k, place, missed, failed)?;
             Ok(())
         }
     }
@@ -96,102 +97,103 @@ fn identity_test<'a>(
 
 // Image match, under the digest and size in force.
 fn image_match<'a>(
-    alloc: Global,
+    memory: Memory<'a>,
     place: u64,
     component: u32,
     k: Kept<'a>,
     next: &mut Vec<Kept<'a>>,
-    failed: &mut Vec<Stopped>,
+    failed: &mut Vec<Stopped<'a>>,
 ) -> Result<(), AllocError>
     requires room { component < 8 }
     ensures { OnOk result (Adds (λ identities. Tests TestKind.ImageMatch identities place component) (k.entry ∷ []) next.old.items next.new.items failed.old.items failed.new.items) }
 {
     match k.params.digest(component) {
         None => {
-            stop(k, place, Event::Missed { component }, failed)?;
+            stop(memory, k, place, Happened::Missed { component }, failed)?;
             Ok(())
         }
         Some(digest) => {
             let size = k.params.size(component);
-            let matched = Event::Matched {
+            let matched = Happened::Matched {
                 component,
                 digest,
                 size,
             };
-            pass(k.copy(alloc)?, matched, next)?;
-            stop(k, place, Event::Missed { component }, failed)?;
+            pass(memory, k.copy(memory.alloc)?, matched, next)?;
+            stop(memory, k, place, Happened::Missed { component }, failed)?;
             Ok(())
         }
     }
 }
 
 fn check_content<'a>(
-    alloc: Global,
+    memory: Memory<'a>,
     place: u64,
     component: u32,
     k: Kept<'a>,
     next: &mut Vec<Kept<'a>>,
-    failed: &mut Vec<Stopped>,
+    failed: &mut Vec<Stopped<'a>>,
 ) -> Result<(), AllocError>
     requires room { component < 8 }
     ensures { OnOk result (Adds (λ identities. Tests TestKind.CheckContent identities place component) (k.entry ∷ []) next.old.items next.new.items failed.old.items failed.new.items) }
 {
-    let missed = Event::Tried {
+    let missed = Happened::Tried {
         component,
         kind: TestKind::CheckContent,
         passed: false,
     };
     if k.params.has_content(component) {
-        let passed = Event::Tried {
+        let passed = Happened::Tried {
             component,
             kind: TestKind::CheckContent,
             passed: true,
         };
-        pass(k.copy(alloc)?, passed, next)?;
-        stop(k, place, missed, failed)?;
+        pass(memory, k.copy(memory.alloc)?, passed, next)?;
+        stop(memory, k, place, missed, failed)?;
         return Ok(());
     }
-    stop(k, place, missed, failed)?;
+    stop(memory, k, place, missed, failed)?;
     Ok(())
 }
 
 fn abort<'a>(
+    memory: Memory<'a>,
     place: u64,
     component: u32,
     k: Kept<'a>,
-    failed: &mut Vec<Stopped>,
+    failed: &mut Vec<Stopped<'a>>,
 ) -> Result<(), AllocError>
     ensures { OnOk result ((n : List TheKept) → Adds (λ identities. Tests TestKind.Abort identities place component) (k.entry ∷ []) n n failed.old.items failed.new.items) }
 {
-    let missed = Event::Tried {
+    let missed = Happened::Tried {
         component,
         kind: TestKind::Abort,
         passed: false,
     };
-    stop(k, place, missed, failed)?;
+    stop(memory, k, place, missed, failed)?;
     Ok(())
 }
 
 /// A condition: the states after it, and its failures.
 pub(crate) fn test<'a>(
-    alloc: Global,
+    memory: Memory<'a>,
     place: u64,
     kind: TestKind,
     component: u32,
     k: Kept<'a>,
     next: &mut Vec<Kept<'a>>,
-    failed: &mut Vec<Stopped>,
+    failed: &mut Vec<Stopped<'a>>,
 ) -> Result<(), AllocError>
     requires room { component < 8 }
     ensures { OnOk result (Adds (λ identities. Tests kind identities place component) (k.entry ∷ []) next.old.items next.new.items failed.old.items failed.new.items) }
 {
     match kind {
-        TestKind::Vendor => identity_test(alloc, place, kind, component, k, next, failed),
-        TestKind::Class => identity_test(alloc, place, kind, component, k, next, failed),
-        TestKind::Device => identity_test(alloc, place, kind, component, k, next, failed),
-        TestKind::Slot => identity_test(alloc, place, kind, component, k, next, failed),
-        TestKind::ImageMatch => image_match(alloc, place, component, k, next, failed),
-        TestKind::CheckContent => check_content(alloc, place, component, k, next, failed),
-        TestKind::Abort => abort(place, component, k, failed),
+        TestKind::Vendor => identity_test(memory, place, kind, component, k, next, failed),
+        TestKind::Class => identity_test(memory, place, kind, component, k, next, failed),
+        TestKind::Device => identity_test(memory, place, kind, component, k, next, failed),
+        TestKind::Slot => identity_test(memory, place, kind, component, k, next, failed),
+        TestKind::ImageMatch => image_match(memory, place, component, k, next, failed),
+        TestKind::CheckContent => check_content(memory, place, component, k, next, failed),
+        TestKind::Abort => abort(memory, place, component, k, failed),
     }
 }

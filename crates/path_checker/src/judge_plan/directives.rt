@@ -7,13 +7,16 @@ ghost use Rattle.path_checker.specs.Steps.{soft_after_all};
 ghost use Rattle.path_checker.specs.Halting.{Halts};
 
 use crate::judge_plan::halt::Halt;
+use crate::judge_plan::happened::Happened;
+use crate::judge_plan::history::History;
 use crate::judge_plan::kept::{Kept, pass, went};
-use path_model::{Event, Events, has_matched};
-use std::alloc::{AllocError, Global};
+use crate::judge_plan::memory::Memory;
+use std::alloc::AllocError;
 use suit_commands::ActKind;
 use suit_params::{Param, ParamList};
 
 fn write<'a>(
+    memory: Memory<'a>,
     place: u64,
     component: u32,
     k: Kept<'a>,
@@ -23,12 +26,13 @@ fn write<'a>(
     ensures { OnOk result ((f : List TheStopped) → Adds (λ identities. Acts ActKind.Write place component) (k.entry ∷ []) next.old.items next.new.items f f) }
 {
     if k.params.has_content(component) {
-        pass(k, Event::Wrote { component }, next)?;
+        pass(memory, k, Happened::Wrote { component }, next)?;
     }
     Ok(())
 }
 
 fn fetch<'a>(
+    memory: Memory<'a>,
     place: u64,
     component: u32,
     k: Kept<'a>,
@@ -38,12 +42,13 @@ fn fetch<'a>(
     ensures { OnOk result ((f : List TheStopped) → Adds (λ identities. Acts ActKind.Fetch place component) (k.entry ∷ []) next.old.items next.new.items f f) }
 {
     if k.params.has_uri(component) {
-        pass(k, Event::Wrote { component }, next)?;
+        pass(memory, k, Happened::Wrote { component }, next)?;
     }
     Ok(())
 }
 
 fn copy<'a>(
+    memory: Memory<'a>,
     place: u64,
     component: u32,
     k: Kept<'a>,
@@ -54,7 +59,7 @@ fn copy<'a>(
 {
     match k.params.source(component) {
         Some(_) => {
-            pass(k, Event::Wrote { component }, next)?;
+            pass(memory, k, Happened::Wrote { component }, next)?;
             Ok(())
         }
         None => Ok(()),
@@ -63,6 +68,7 @@ fn copy<'a>(
 
 // Both sides are written.
 fn swap<'a>(
+    memory: Memory<'a>,
     place: u64,
     component: u32,
     k: Kept<'a>,
@@ -73,8 +79,8 @@ fn swap<'a>(
 {
     match k.params.source(component) {
         Some(source) => {
-            let one = went(k, Event::Wrote { component })?;
-            pass(one, Event::Wrote { component: source }, next)?;
+            let one = went(memory, k, Happened::Wrote { component })?;
+            pass(memory, one, Happened::Wrote { component: source }, next)?;
             Ok(())
         }
         None => Ok(()),
@@ -82,6 +88,7 @@ fn swap<'a>(
 }
 
 fn invoke<'a>(
+    memory: Memory<'a>,
     place: u64,
     component: u32,
     k: Kept<'a>,
@@ -94,23 +101,23 @@ fn invoke<'a>(
     let size = k.params.size(component);
     match k.params.digest(component) {
         None => {
-            let bad = Event::Invoked {
+            let bad = Happened::Invoked {
                 component,
                 digest: None,
                 size,
                 passed: false,
             };
-            Err(Halt::Uncovered(went(k, bad)?))
+            Err(Halt::Uncovered(went(memory, k, bad)?))
         }
         Some(digest) => {
-            let covered = has_matched(k.events.as_slice(), component, &digest, size);
-            let event = Event::Invoked {
+            let covered = k.history.has_matched(component, digest, size);
+            let event = Happened::Invoked {
                 component,
                 digest: Some(digest),
                 size,
                 passed: covered,
             };
-            let to = went(k, event)?;
+            let to = went(memory, k, event)?;
             if covered {
                 next.push(to)?;
                 Ok(())
@@ -123,6 +130,7 @@ fn invoke<'a>(
 
 /// A directive that acts on contents: the states after it. Where it fails, the procedure ends.
 pub(crate) fn act<'a>(
+    memory: Memory<'a>,
     place: u64,
     kind: ActKind,
     component: u32,
@@ -134,27 +142,26 @@ pub(crate) fn act<'a>(
     ensures err { IfErr result (λ h. Halts (λ identities. Acts kind place component) (k.entry ∷ []) h) }
 {
     match kind {
-        ActKind::Write => Ok(write(place, component, k, next)?),
-        ActKind::Fetch => Ok(fetch(place, component, k, next)?),
-        ActKind::Copy => Ok(copy(place, component, k, next)?),
-        ActKind::Swap => Ok(swap(place, component, k, next)?),
-        ActKind::Invoke => invoke(place, component, k, next),
+        ActKind::Write => Ok(write(memory, place, component, k, next)?),
+        ActKind::Fetch => Ok(fetch(memory, place, component, k, next)?),
+        ActKind::Copy => Ok(copy(memory, place, component, k, next)?),
+        ActKind::Swap => Ok(swap(memory, place, component, k, next)?),
+        ActKind::Invoke => invoke(memory, place, component, k, next),
     }
 }
 
 // ---- override parameters
 
-fn push_sets(
-    alloc: Global,
-    events: &mut Events,
+fn push_sets<'a>(
+    memory: Memory<'a>,
+    history: &mut History<'a>,
     component: u32,
-    list: &ParamList,
+    list: &'a ParamList,
 ) -> Result<(), AllocError>
-    ensures { OnOk result (events.new ≡ events.old ++ set_events component list.now) }
+    ensures { OnOk result (history.new ≡ history.old ++ set_events component list.now) }
 {
     for param in list.as_slice() {
-        let param = param.copy(alloc)?;
-        events.push(Event::Set { component, param })?;
+        history.push(memory.events, Happened::Set { component, param })?;
     }
     Ok(())
 }
@@ -180,7 +187,7 @@ fn soft_after_all(soft_failure: bool, list: &ParamList) -> bool
 
 /// Override parameters: the state after it.
 pub(crate) fn overrides<'a>(
-    alloc: Global,
+    memory: Memory<'a>,
     list: &'a ParamList,
     component: u32,
     k: Kept<'a>,
@@ -190,7 +197,7 @@ pub(crate) fn overrides<'a>(
     ensures { OnOk result ((f : List TheStopped) → Adds (λ identities. Overrides list.now component) (k.entry ∷ []) next.old.items next.new.items f f) }
 {
     let mut k = k;
-    push_sets(alloc, &mut k.events, component, list)?;
+    push_sets(memory, &mut k.history, component, list)?;
     k.params.override_with(component, list);
     k.soft_failure = soft_after_all(k.soft_failure, list);
     next.push(k)?;

@@ -1,10 +1,11 @@
 //! What is known of the identities of all components.
 
-ghost use Rattle.std.specs.Prelude.{◌≡◌, ◌<◌, length, slice_set, IfOk};
+ghost use Rattle.std.specs.Prelude.{◌≡◌, ◌<◌, length, slice_set, IsTrue, IfOk};
 ghost use Rattle.path_checker.specs.declared.judge_plan.facts.Own.TheVariants.{Vendor, Class, Device, Slot};
 ghost use Rattle.path_checker.specs.Knowing.{nothing, nothing_known};
 ghost use Rattle.path_checker.specs.Forking.{Forks, ForksOne};
 
+use crate::judge_plan::fingerprint::mixed;
 use crate::judge_plan::known::{IdentifierFork, KnownIdentifier, KnownSlot, SlotFork};
 use std::alloc::{AllocError, Global};
 use std::marker::Model;
@@ -80,6 +81,24 @@ impl Knowledge {
             device: self.device.copy(alloc)?,
             slot: self.slot.copy(alloc)?,
         })
+    }
+
+    // Whether the same is known.
+    fn is_same(&self, other: &Knowledge) -> bool
+        ensures { IsTrue result → self.now ≡ other.now }
+    {
+        self.vendor.is_same(&other.vendor)
+            && self.class.is_same(&other.class)
+            && self.device.is_same(&other.device)
+            && self.slot.is_same(&other.slot)
+    }
+
+    fn fingerprint(&self) -> u64 {
+        let names = mixed(self.vendor.fingerprint(), self.class.fingerprint());
+        mixed(
+            names,
+            mixed(self.device.fingerprint(), self.slot.fingerprint()),
+        )
     }
 
     fn with_vendor(&self, alloc: Global, vendor: KnownIdentifier) -> Result<Knowledge, AllocError>
@@ -223,6 +242,33 @@ impl Facts {
             held.push(known.copy(alloc)?)?;
         }
         Ok(Facts { held })
+    }
+
+    /// Whether the same is known.
+    pub(crate) fn is_same(&self, other: &Facts) -> bool
+        ensures { IsTrue result → self.now ≡ other.now }
+    {
+        let (mine, theirs) = (self.as_slice(), other.as_slice());
+        if mine.len() != theirs.len() {
+            return false;
+        }
+        let mut index = 0;
+        while index < mine.len() {
+            if !mine[index].is_same(&theirs[index]) {
+                return false;
+            }
+            index += 1;
+        }
+        true
+    }
+
+    /// A number that is equal where the same is known.
+    pub(crate) fn fingerprint(&self) -> u64 {
+        let mut print = 0;
+        for known in &self.held {
+            print = mixed(print, known.fingerprint());
+        }
+        print
     }
 
     /// What is known of each component, lent.

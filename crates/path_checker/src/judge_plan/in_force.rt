@@ -1,13 +1,17 @@
 //! The parameters in force, and their values.
 
-ghost use Rattle.std.specs.Prelude.{◌≡◌, ◌<◌, Some, is_some};
+ghost use Rattle.std.specs.Prelude.{◌≡◌, ◌<◌, Some, is_some, IsTrue};
 ghost use Rattle.std.specs.Option.{option_copied};
+ghost use Rattle.suit_params.specs.declared.param.ParamKey.{ParamKey as TheKey};
 ghost use Rattle.suit_params.specs.declared.param.ParamKey.TheVariants.{Content, Uri, Source};
 ghost use Rattle.suit_params.specs.ParamKeys.{key_of};
 ghost use Rattle.suit_params.specs.InForce.{none_in_force, in_force, overridden, identifier_of, number_of, bytes_of, digest_in, size_in};
 ghost use Rattle.path_checker.specs.Wanting.{wanted_by};
 
 use crate::judge_plan::facts::Own;
+use crate::judge_plan::fingerprint::{mixed, of_param};
+use crate::judge_plan::same_param::same_param;
+use path_model::overriding_laws;
 use std::marker::Model;
 use suit_commands::TestKind;
 use suit_params::{Digest, Param, ParamKey, ParamList, Params, in_force_laws};
@@ -80,6 +84,7 @@ impl<'a> InForce<'a> {
         ensures { result ≡ none_in_force }
     {
         in_force_laws();
+        overriding_laws();
         InForce {
             params: Params::new(),
         }
@@ -99,16 +104,96 @@ impl<'a> InForce<'a> {
         requires room { component < 8 }
         ensures { self.new ≡ overridden self.old component list.now }
     {
+        overriding_laws();
         self.params.override_with(component, list);
     }
 
-    /// The digest of a component.
-    pub(crate) fn digest(&self, component: u32) -> Option<Digest>
+    // Whether the same is in force for a component under a key.
+    fn is_same_under(&self, other: &InForce<'_>, component: u32, key: ParamKey) -> bool
         requires room { component < 8 }
-        ensures { result ≡ digest_in self.now component }
+        ensures { IsTrue result → in_force self.now component key ≡ in_force other.now component key }
+    {
+        same_param(
+            self.params.get(component, key),
+            other.params.get(component, key),
+        )
+    }
+
+    // Whether the same is in force for a component.
+    fn is_same_at(&self, other: &InForce<'_>, component: u32) -> bool
+        requires room { component < 8 }
+        ensures { IsTrue result → (key : TheKey) → in_force self.now component key ≡ in_force other.now component key }
+    {
+        self.is_same_under(other, component, ParamKey::Vendor)
+            && self.is_same_under(other, component, ParamKey::Class)
+            && self.is_same_under(other, component, ParamKey::Device)
+            && self.is_same_under(other, component, ParamKey::Digest)
+            && self.is_same_under(other, component, ParamKey::Slot)
+            && self.is_same_under(other, component, ParamKey::Strict)
+            && self.is_same_under(other, component, ParamKey::Soft)
+            && self.is_same_under(other, component, ParamKey::Size)
+            && self.is_same_under(other, component, ParamKey::Content)
+            && self.is_same_under(other, component, ParamKey::Uri)
+            && self.is_same_under(other, component, ParamKey::Source)
+            && self.is_same_under(other, component, ParamKey::Args)
+    }
+
+    /// Whether the same is in force.
+    pub(crate) fn is_same(&self, other: &InForce<'_>) -> bool
+        ensures { IsTrue result → self.now ≡ other.now }
+    {
+        overriding_laws();
+        let _ = &self.params;
+        let _ = &other.params;
+        let mut component = 0;
+        while component < 8 {
+            if !self.is_same_at(other, component) {
+                return false;
+            }
+            component += 1;
+        }
+        true
+    }
+
+    /// A number that is equal where the same is in force. It looks at so many components alone.
+    pub(crate) fn fingerprint(&self, count: usize) -> u64 {
+        let mut print = 0;
+        let mut component: u32 = 0;
+        while component < 8 && (component as usize) < count {
+            print = mixed(print, self.fingerprint_at(component));
+            component += 1;
+        }
+        print
+    }
+
+    fn fingerprint_at(&self, component: u32) -> u64
+        requires room { component < 8 }
+    {
+        let mut print = 0;
+        for key in &[
+            ParamKey::Vendor,
+            ParamKey::Class,
+            ParamKey::Device,
+            ParamKey::Digest,
+            ParamKey::Slot,
+            ParamKey::Size,
+            ParamKey::Content,
+            ParamKey::Uri,
+            ParamKey::Source,
+            ParamKey::Args,
+        ] {
+            print = mixed(print, of_param(self.params.get(component, *key)));
+        }
+        print
+    }
+
+    /// The digest of a component.
+    pub(crate) fn digest(&self, component: u32) -> Option<&'a Digest>
+        requires room { component < 8 }
+        ensures { option_copied result ≡ digest_in self.now component }
     {
         match self.params.get(component, ParamKey::Digest) {
-            Some(Param::Digest(digest)) => Some(*digest),
+            Some(Param::Digest(digest)) => Some(digest),
             _ => None,
         }
     }

@@ -67,7 +67,7 @@ pub(crate) fn enter_all<'a>(
         let selection = Selected::one(alloc, component)?;
         inside.push(Kept {
             facts: k.facts,
-            events: k.events,
+            history: k.history,
             params: outer.params.copy(),
             selection,
             soft_failure: true,
@@ -95,13 +95,13 @@ pub(crate) fn leave_all<'a>(
 }
 
 // Back from one that failed softly: all is as it was.
-fn resume<'a>(alloc: Global, outer: &Outer<'a>, stop: Stopped) -> Result<Kept<'a>, AllocError>
-    ensures { IfOk result (λ k. k ≡ resumed outer.now stop) }
+fn resume<'a>(alloc: Global, outer: &Outer<'a>, stop: Stopped<'a>) -> Result<Kept<'a>, AllocError>
+    ensures { IfOk result (λ k. k ≡ resumed outer.now stop.entry) }
 {
     let selection = outer.selection.copy(alloc)?;
     Ok(Kept {
         facts: stop.facts,
-        events: stop.events,
+        history: stop.history,
         params: outer.params.copy(),
         selection,
         soft_failure: outer.soft_failure,
@@ -112,12 +112,12 @@ fn resume<'a>(alloc: Global, outer: &Outer<'a>, stop: Stopped) -> Result<Kept<'a
 pub(crate) fn split<'a>(
     alloc: Global,
     outer: &Outer<'a>,
-    stops: Vec<Stopped>,
+    stops: Vec<Stopped<'a>>,
     next: &mut Vec<Kept<'a>>,
-    failed: &mut Vec<Stopped>,
+    failed: &mut Vec<Stopped<'a>>,
 ) -> Result<(), AllocError>
-    ensures soft { OnOk result (next.new.items ≡ next.old.items ++ softly outer.now stops.items) }
-    ensures hard { OnOk result (failed.new.items ≡ failed.old.items ++ hardly outer.now stops.items) }
+    ensures soft { OnOk result (next.new.items ≡ next.old.items ++ softly outer.now stops.entry.items) }
+    ensures hard { OnOk result (failed.new.items ≡ failed.old.items ++ hardly outer.now stops.entry.items) }
 {
     for stop in stops {
         if stop.soft_failure {
@@ -136,14 +136,14 @@ pub(crate) fn exhaust<'a>(
     place: u64,
     outer: &Outer<'a>,
     from: Vec<Kept<'a>>,
-    failed: &mut Vec<Stopped>,
+    failed: &mut Vec<Stopped<'a>>,
 ) -> Result<(), AllocError>
     ensures { OnOk result (failed.new.items ≡ failed.old.items ++ exhausted outer.now place from.entry.items) }
 {
     for k in from {
         failed.push(Stopped {
             facts: k.facts,
-            events: k.events,
+            history: k.history,
             place,
             soft_failure: outer.soft_failure,
         })?;

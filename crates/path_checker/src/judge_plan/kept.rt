@@ -1,21 +1,26 @@
 //! The states that a judgement keeps.
 
-ghost use Rattle.std.specs.Prelude.{◌≡◌, [], ◌∷◌, ◌++◌, IfOk, OnOk};
+ghost use Rattle.std.specs.Prelude.{◌≡◌, [], ◌∷◌, ◌++◌, IsTrue, IfOk, OnOk};
+ghost use Rattle.path_checker.specs.Happening.{event_of};
+ghost use Rattle.path_checker.specs.Merging.{SameState, SameStop};
 ghost use Rattle.path_checker.specs.Steps.{with_events, knowing, stopped_by};
 ghost use Rattle.path_model.specs.declared.event.Event.TheVariants.{Failed};
 
 use crate::judge_plan::facts::Facts;
+use crate::judge_plan::fingerprint::mixed;
+use crate::judge_plan::happened::Happened;
+use crate::judge_plan::history::History;
 use crate::judge_plan::in_force::InForce;
+use crate::judge_plan::memory::Memory;
 use crate::judge_plan::selected::Selected;
-use path_model::{Event, Events};
 use std::alloc::{AllocError, Global};
 use std::marker::Model;
 
-/// A state, what is known of the identities there, and the events that led to it.
+/// A state, what is known of the identities there, and what happened before.
 #[derive(Drop)]
 pub(crate) struct Kept<'a> {
     pub facts: Facts,
-    pub events: Events,
+    pub history: History<'a>,
     pub params: InForce<'a>,
     pub selection: Selected,
     pub soft_failure: bool,
@@ -28,34 +33,72 @@ impl<'a> Model for Kept<'a> {
 
     ghost view = { λ a. record {
       facts = a.facts;
-      events = a.events;
+      events = a.history;
       state = record { parameters = a.params; selection = a.selection; soft_failure = a.soft_failure };
     } };
 }
 
 /// A failed condition at a place, with the soft failure that its sequence held.
 #[derive(Drop)]
-pub(crate) struct Stopped {
+pub(crate) struct Stopped<'a> {
     pub facts: Facts,
-    pub events: Events,
+    pub history: History<'a>,
     pub place: u64,
     pub soft_failure: bool,
 }
 
-impl Model for Stopped {
+impl<'a> Model for Stopped<'a> {
     ghost use Rattle.path_checker.specs.Exploring.{Stopped as TheStopped};
 
     ghost Value = { TheStopped };
 
     ghost view = { λ a. record {
       facts = a.facts;
-      events = a.events;
+      events = a.history;
       place = a.place;
       soft_failure = a.soft_failure;
     } };
 }
 
+impl<'a> Stopped<'a> {
+    /// Whether they are the same but for the place and how they were come to.
+    pub(crate) fn is_same(&self, other: &Stopped<'_>) -> bool
+        ensures { IsTrue result → SameStop self.now other.now }
+    {
+        self.soft_failure == other.soft_failure
+            && self.facts.is_same(&other.facts)
+            && self.history.same_matches(&other.history)
+    }
+
+    /// A number that is equal where they are the same.
+    pub(crate) fn fingerprint(&self) -> u64 {
+        mixed(
+            mixed(self.soft_failure as u64, self.facts.fingerprint()),
+            self.history.fingerprint(),
+        )
+    }
+}
+
 impl<'a> Kept<'a> {
+    /// Whether they are the same but for how they were come to.
+    pub(crate) fn is_same(&self, other: &Kept<'_>) -> bool
+        ensures { IsTrue result → SameState self.now other.now }
+    {
+        self.soft_failure == other.soft_failure
+            && self.selection.is_same(&other.selection)
+            && self.facts.is_same(&other.facts)
+            && self.params.is_same(&other.params)
+            && self.history.same_matches(&other.history)
+    }
+
+    /// A number that is equal where they are the same.
+    pub(crate) fn fingerprint(&self) -> u64 {
+        let selected = mixed(self.soft_failure as u64, self.selection.fingerprint());
+        let count = self.facts.as_slice().len();
+        let known = mixed(self.facts.fingerprint(), self.params.fingerprint(count));
+        mixed(mixed(selected, known), self.history.fingerprint())
+    }
+
     /// The same in memory of its own.
     pub(crate) fn copy(&self, alloc: Global) -> Result<Kept<'a>, AllocError>
         ensures { IfOk result (λ k. k ≡ self.now) }
@@ -68,11 +111,10 @@ impl<'a> Kept<'a> {
     pub(crate) fn copy_with(&self, alloc: Global, facts: Facts) -> Result<Kept<'a>, AllocError>
         ensures { IfOk result (λ k. k ≡ knowing self.now facts) }
     {
-        let events = self.events.copy(alloc)?;
         let selection = self.selection.copy(alloc)?;
         Ok(Kept {
             facts,
-            events,
+            history: self.history.copy(),
             params: self.params.copy(),
             selection,
             soft_failure: self.soft_failure,
@@ -81,24 +123,33 @@ impl<'a> Kept<'a> {
 }
 
 /// The state after one more event.
-pub(crate) fn went<'a>(k: Kept<'a>, event: Event) -> Result<Kept<'a>, AllocError>
-    ensures { IfOk result (λ to. to ≡ with_events k.entry (event ∷ [])) }
+pub(crate) fn went<'a>(
+    memory: Memory<'a>,
+    k: Kept<'a>,
+    event: Happened<'a>,
+) -> Result<Kept<'a>, AllocError>
+    ensures { IfOk result (λ to. to ≡ with_events k.entry (event_of event.entry ∷ [])) }
 {
     let mut k = k;
-    k.events.push(event)?;
+    k.history.push(memory.events, event)?;
     Ok(k)
 }
 
 /// The end by a failed condition, which an event tells.
-pub(crate) fn fail(k: Kept<'_>, place: u64, event: Event) -> Result<Stopped, AllocError>
-    ensures { IfOk result (λ to. to ≡ stopped_by k.entry (event ∷ Failed place ∷ []) place) }
+pub(crate) fn fail<'a>(
+    memory: Memory<'a>,
+    k: Kept<'a>,
+    place: u64,
+    event: Happened<'a>,
+) -> Result<Stopped<'a>, AllocError>
+    ensures { IfOk result (λ to. to ≡ stopped_by k.entry (event_of event.entry ∷ Failed place ∷ []) place) }
 {
     let mut k = k;
-    k.events.push(event)?;
-    k.events.push(Event::Failed { place })?;
+    k.history.push(memory.events, event)?;
+    k.history.push(memory.events, Happened::Failed { place })?;
     Ok(Stopped {
         facts: k.facts,
-        events: k.events,
+        history: k.history,
         place,
         soft_failure: k.soft_failure,
     })
@@ -106,27 +157,29 @@ pub(crate) fn fail(k: Kept<'_>, place: u64, event: Event) -> Result<Stopped, All
 
 /// Keeps the state after one more event.
 pub(crate) fn pass<'a>(
+    memory: Memory<'a>,
     k: Kept<'a>,
-    event: Event,
+    event: Happened<'a>,
     next: &mut Vec<Kept<'a>>,
 ) -> Result<(), AllocError>
-    ensures { OnOk result (next.new.items ≡ next.old.items ++ with_events k.entry (event ∷ []) ∷ []) }
+    ensures { OnOk result (next.new.items ≡ next.old.items ++ with_events k.entry (event_of event.entry ∷ []) ∷ []) }
 {
-    let to = went(k, event)?;
+    let to = went(memory, k, event)?;
     next.push(to)?;
     Ok(())
 }
 
 /// Keeps the end by a failed condition, which an event tells.
-pub(crate) fn stop(
-    k: Kept<'_>,
+pub(crate) fn stop<'a>(
+    memory: Memory<'a>,
+    k: Kept<'a>,
     place: u64,
-    event: Event,
-    failed: &mut Vec<Stopped>,
+    event: Happened<'a>,
+    failed: &mut Vec<Stopped<'a>>,
 ) -> Result<(), AllocError>
-    ensures { OnOk result (failed.new.items ≡ failed.old.items ++ stopped_by k.entry (event ∷ Failed place ∷ []) place ∷ []) }
+    ensures { OnOk result (failed.new.items ≡ failed.old.items ++ stopped_by k.entry (event_of event.entry ∷ Failed place ∷ []) place ∷ []) }
 {
-    let to = fail(k, place, event)?;
+    let to = fail(memory, k, place, event)?;
     failed.push(to)?;
     Ok(())
 }

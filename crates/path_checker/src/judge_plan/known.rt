@@ -5,6 +5,7 @@ ghost use Rattle.path_checker.specs.Knowing.{Agrees};
 ghost use Rattle.path_checker.specs.Forking.{ForksIdentifier, ForksSlot};
 
 use crate::judge_plan::choice::least_outside;
+use crate::judge_plan::fingerprint::{mixed, of_bytes, of_number};
 use std::alloc::{AllocError, Global};
 use std::marker::Model;
 
@@ -54,6 +55,22 @@ pub(crate) enum SlotFork {
     Either(KnownSlot, KnownSlot),
 }
 
+fn same_identifiers(ones: &[[u8; 16]], others: &[[u8; 16]]) -> bool
+    ensures { IsTrue result → ones.now ≡ others.now }
+{
+    if ones.len() != others.len() {
+        return false;
+    }
+    let mut index = 0;
+    while index < ones.len() {
+        if ones[index] != others[index] {
+            return false;
+        }
+        index += 1;
+    }
+    true
+}
+
 impl KnownIdentifier {
     /// Nothing is known. Takes no memory.
     pub(crate) fn new(alloc: Global) -> KnownIdentifier
@@ -73,6 +90,21 @@ impl KnownIdentifier {
             value: self.value,
             others: Vec::from_slice(alloc, &self.others)?,
         })
+    }
+
+    /// Whether the same is known.
+    pub(crate) fn is_same(&self, other: &KnownIdentifier) -> bool
+        ensures { IsTrue result → self.now ≡ other.now }
+    {
+        self.value == other.value && same_identifiers(&self.others, &other.others)
+    }
+
+    /// A number that is equal where the same is known.
+    pub(crate) fn fingerprint(&self) -> u64 {
+        match &self.value {
+            Some(value) => of_bytes(&value[..]),
+            None => self.others.len() as u64,
+        }
     }
 
     /// The identifier, where it is known, and otherwise none.
@@ -149,6 +181,18 @@ impl KnownSlot {
             value: self.value,
             others: Vec::from_slice(alloc, &self.others)?,
         })
+    }
+
+    /// Whether the same is known.
+    pub(crate) fn is_same(&self, other: &KnownSlot) -> bool
+        ensures { IsTrue result → self.now ≡ other.now }
+    {
+        self.value == other.value && self.others == other.others
+    }
+
+    /// A number that is equal where the same is known.
+    pub(crate) fn fingerprint(&self) -> u64 {
+        mixed(of_number(self.value), self.others.len() as u64)
     }
 
     /// The slot, where it is known, and otherwise the least number that it may be.

@@ -12,12 +12,13 @@ ghost use Rattle.path_checker.specs.Halting.{Halts};
 
 use crate::judge_plan::facts::Facts;
 use crate::judge_plan::halt::Halt;
+use crate::judge_plan::history::History;
 use crate::judge_plan::in_force::InForce;
 use crate::judge_plan::inner::restart_all;
 use crate::judge_plan::kept::{Kept, Stopped};
+use crate::judge_plan::memory::Memory;
 use crate::judge_plan::selected::Selected;
 use crate::judge_plan::walk::sequence;
-use path_model::Events;
 use std::alloc::{AllocError, Global};
 use suit_commands::{Plan, Sequence};
 
@@ -30,7 +31,7 @@ pub(crate) fn first<'a>(alloc: Global, count: u32) -> Result<Vec<Kept<'a>>, Allo
     let mut from = Vec::new(alloc);
     from.push(Kept {
         facts,
-        events: Events::new(alloc),
+        history: History::new(),
         params: InForce::new(),
         selection,
         soft_failure: false,
@@ -40,38 +41,38 @@ pub(crate) fn first<'a>(alloc: Global, count: u32) -> Result<Vec<Kept<'a>>, Allo
 
 // Runs a member or the shared sequence from each of the states.
 fn part<'a>(
-    alloc: Global,
+    memory: Memory<'a>,
     count: u32,
     lent: Option<&'a Sequence>,
     from: Vec<Kept<'a>>,
-    failed: &mut Vec<Stopped>,
+    failed: &mut Vec<Stopped<'a>>,
 ) -> Result<Vec<Kept<'a>>, Halt<'a>>
     requires small { IsSmallSequence count (lent_tree lent) }
     ensures ok { IfOk result (λ v. Adds (FromStart (lent_tree lent.entry) count) from.entry.items [] v.items failed.old.items failed.new.items) }
     ensures err { IfErr result (λ h. Halts (FromStart (lent_tree lent.entry) count) from.entry.items h) }
 {
-    let started = restart_all(alloc, from)?;
+    let started = restart_all(memory.alloc, from)?;
     match lent {
-        Some(inner) => sequence(alloc, count, inner, started, failed),
+        Some(inner) => sequence(memory, count, inner, started, failed),
         None => Ok(started),
     }
 }
 
 /// Runs a procedure from each of the states.
 pub(crate) fn procedure<'a>(
-    alloc: Global,
+    memory: Memory<'a>,
     plan: &Plan<'a>,
     from: Vec<Kept<'a>>,
-    failed: &mut Vec<Stopped>,
+    failed: &mut Vec<Stopped<'a>>,
 ) -> Result<Vec<Kept<'a>>, Halt<'a>>
     requires { ArePlan (plan_tree plan.now) }
     ensures ok { IfOk result (λ v. Adds (RunsPlan (plan_tree plan.now)) from.entry.items [] v.items failed.old.items failed.new.items) }
     ensures err { IfErr result (λ h. Halts (RunsPlan (plan_tree plan.now)) from.entry.items h) }
 {
-    let after_shared = part(alloc, plan.count, plan.shared, from, failed)?;
-    let after_first = part(alloc, plan.count, plan.first, after_shared, failed)?;
-    let before_second = part(alloc, plan.count, plan.shared, after_first, failed)?;
-    let after_second = part(alloc, plan.count, plan.second, before_second, failed)?;
-    let before_third = part(alloc, plan.count, plan.shared, after_second, failed)?;
-    part(alloc, plan.count, plan.third, before_third, failed)
+    let after_shared = part(memory, plan.count, plan.shared, from, failed)?;
+    let after_first = part(memory, plan.count, plan.first, after_shared, failed)?;
+    let before_second = part(memory, plan.count, plan.shared, after_first, failed)?;
+    let after_second = part(memory, plan.count, plan.second, before_second, failed)?;
+    let before_third = part(memory, plan.count, plan.shared, after_second, failed)?;
+    part(memory, plan.count, plan.third, before_third, failed)
 }

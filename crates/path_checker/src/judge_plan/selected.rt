@@ -1,10 +1,11 @@
 //! The selected components.
 
-ghost use Rattle.std.specs.Prelude.{◌≡◌, ◌<◌, ◌≤◌, [], ◌∷◌, IfOk};
+ghost use Rattle.std.specs.Prelude.{◌≡◌, ◌<◌, ◌≤◌, [], ◌∷◌, IsTrue, IfOk};
 ghost use Rattle.std.specs.List.{range_with_len};
 ghost use Rattle.suit_commands.specs.Selections.{selected_by};
 ghost use Rattle.path_checker.specs.Small.{AreSmall, SelectsSmall};
 
+use crate::judge_plan::fingerprint::mixed;
 use std::alloc::{AllocError, Global};
 use std::marker::Model;
 use suit_commands::Selection;
@@ -74,6 +75,22 @@ impl Selected {
     {
         let held = Vec::from_slice(alloc, &self.held)?;
         Ok(Selected { held })
+    }
+
+    /// Whether the same components are selected, in the same order.
+    pub(crate) fn is_same(&self, other: &Selected) -> bool
+        ensures { IsTrue result → self.now ≡ other.now }
+    {
+        self.held == other.held
+    }
+
+    /// A number that is equal where the same components are selected.
+    pub(crate) fn fingerprint(&self) -> u64 {
+        let mut print = 0;
+        for component in &self.held {
+            print = mixed(print, *component as u64);
+        }
+        print
     }
 
     /// The components, lent.

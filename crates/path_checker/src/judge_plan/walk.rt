@@ -16,6 +16,8 @@ use crate::judge_plan::directives::{act, overrides};
 use crate::judge_plan::halt::Halt;
 use crate::judge_plan::inner::{Outer, enter, enter_all, exhaust, leave_all, outer_of, split};
 use crate::judge_plan::kept::{Kept, Stopped};
+use crate::judge_plan::memory::Memory;
+use crate::judge_plan::merged::{merged_states, settled};
 use crate::judge_plan::selected::Selected;
 use std::alloc::{AllocError, Global};
 use suit_commands::{Branches, Command, Selection, Sequence, Step};
@@ -23,50 +25,55 @@ use suit_commands::{Branches, Command, Selection, Sequence, Step};
 /// Runs a sequence from each of the states.
 #[cycle(walk)]
 pub(crate) fn sequence<'a>(
-    alloc: Global,
+    memory: Memory<'a>,
     count: u32,
     sequence: &'a Sequence,
     from: Vec<Kept<'a>>,
-    failed: &mut Vec<Stopped>,
+    failed: &mut Vec<Stopped<'a>>,
 ) -> Result<Vec<Kept<'a>>, Halt<'a>>
     requires small { IsSmallSequence count sequence.now }
     ensures ok { IfOk result (λ v. Adds (λ identities. Runs sequence.now identities count) from.entry.items [] v.items failed.old.items failed.new.items) }
     ensures err { IfErr result (λ h. Halts (λ identities. Runs sequence.now identities count) from.entry.items h) }
 {
     let mut now = from;
+    let mut stops = Vec::new(memory.alloc);
+    let mut left = 0;
     for step in sequence.as_slice() {
-        now = command(alloc, count, step, now, failed)?;
+        now = command(memory, count, step, now, &mut stops)?;
+        stops = settled(memory.alloc, stops, &mut left)?;
     }
+    failed.append(&mut stops)?;
     Ok(now)
 }
 
 // Does a command in each of the states.
 #[cycle(walk)]
 fn command<'a>(
-    alloc: Global,
+    memory: Memory<'a>,
     count: u32,
     step: &'a Step,
     from: Vec<Kept<'a>>,
-    failed: &mut Vec<Stopped>,
+    failed: &mut Vec<Stopped<'a>>,
 ) -> Result<Vec<Kept<'a>>, Halt<'a>>
     requires small { IsSmallCommand count (command_tree step.now.command) }
     ensures ok { IfOk result (λ v. Adds (λ identities. Does (command_tree step.now.command) identities count step.now.place) from.entry.items [] v.items failed.old.items failed.new.items) }
     ensures err { IfErr result (λ h. Halts (λ identities. Does (command_tree step.now.command) identities count step.now.place) from.entry.items h) }
 {
     let mut now = from;
-    let mut next = Vec::new(alloc);
+    let mut next = Vec::new(memory.alloc);
     while let Some(k) = now.pop() {
         match &step.command {
-            Command::Index(selection) => next.push(select(alloc, selection, count, k)?)?,
-            _ => each(alloc, count, step, k, &mut next, failed)?,
+            Command::Index(selection) => next.push(select(memory, selection, count, k)?)?,
+            _ => each(memory, count, step, k, &mut next, failed)?,
         }
     }
-    Ok(next)
+    let merged = merged_states(memory.alloc, next)?;
+    Ok(merged)
 }
 
 // The state after set component index.
 fn select<'a>(
-    alloc: Global,
+    memory: Memory<'a>,
     selection: &Selection,
     count: u32,
     k: Kept<'a>,
@@ -75,29 +82,29 @@ fn select<'a>(
     ensures { IfOk result (λ to. to ≡ with_selection k.entry (selected_by selection.now count)) }
 {
     let mut k = k;
-    k.selection = Selected::by(alloc, selection, count)?;
+    k.selection = Selected::by(memory.alloc, selection, count)?;
     Ok(k)
 }
 
 // Does a command at each selected component.
 #[cycle(walk)]
 fn each<'a>(
-    alloc: Global,
+    memory: Memory<'a>,
     count: u32,
     step: &'a Step,
     k: Kept<'a>,
     next: &mut Vec<Kept<'a>>,
-    failed: &mut Vec<Stopped>,
+    failed: &mut Vec<Stopped<'a>>,
 ) -> Result<(), Halt<'a>>
     requires small { IsSmallCommand count (command_tree step.now.command) }
     ensures ok { OnOk result (Adds (λ identities. Each (λ c. At (command_tree step.now.command) count step.now.place c identities) k.entry.state.selection) (k.entry ∷ []) next.old.items next.new.items failed.old.items failed.new.items) }
     ensures err { IfErr result (λ h. Halts (λ identities. Each (λ c. At (command_tree step.now.command) count step.now.place c identities) k.entry.state.selection) (k.entry ∷ []) h) }
 {
-    let selection = k.selection.copy(alloc)?;
-    let mut now = Vec::new(alloc);
+    let selection = k.selection.copy(memory.alloc)?;
+    let mut now = Vec::new(memory.alloc);
     now.push(k)?;
     for component in selection.as_slice() {
-        now = all_at(alloc, count, step, *component, now, failed)?;
+        now = all_at(memory, count, step, *component, now, failed)?;
     }
     next.append(&mut now)?;
     Ok(())
@@ -106,12 +113,12 @@ fn each<'a>(
 // Does a command at one component in each of the states.
 #[cycle(walk)]
 fn all_at<'a>(
-    alloc: Global,
+    memory: Memory<'a>,
     count: u32,
     step: &'a Step,
     component: u32,
     from: Vec<Kept<'a>>,
-    failed: &mut Vec<Stopped>,
+    failed: &mut Vec<Stopped<'a>>,
 ) -> Result<Vec<Kept<'a>>, Halt<'a>>
     requires room { component < 8 }
     requires small { IsSmallCommand count (command_tree step.now.command) }
@@ -119,9 +126,9 @@ fn all_at<'a>(
     ensures err { IfErr result (λ h. Halts (At (command_tree step.now.command) count step.now.place component) from.entry.items h) }
 {
     let mut now = from;
-    let mut next = Vec::new(alloc);
+    let mut next = Vec::new(memory.alloc);
     while let Some(k) = now.pop() {
-        one(alloc, count, step, component, k, &mut next, failed)?;
+        one(memory, count, step, component, k, &mut next, failed)?;
     }
     Ok(next)
 }
@@ -129,13 +136,13 @@ fn all_at<'a>(
 // Does a command at one component.
 #[cycle(walk)]
 fn one<'a>(
-    alloc: Global,
+    memory: Memory<'a>,
     count: u32,
     step: &'a Step,
     component: u32,
     k: Kept<'a>,
     next: &mut Vec<Kept<'a>>,
-    failed: &mut Vec<Stopped>,
+    failed: &mut Vec<Stopped<'a>>,
 ) -> Result<(), Halt<'a>>
     requires room { component < 8 }
     requires small { IsSmallCommand count (command_tree step.now.command) }
@@ -144,65 +151,65 @@ fn one<'a>(
 {
     match &step.command {
         Command::Test { kind, .. } => {
-            Ok(test(alloc, step.place, *kind, component, k, next, failed)?)
+            Ok(test(memory, step.place, *kind, component, k, next, failed)?)
         }
-        Command::Act { kind, .. } => act(step.place, *kind, component, k, next),
+        Command::Act { kind, .. } => act(memory, step.place, *kind, component, k, next),
         Command::Index(_) => Ok(next.push(k)?),
-        Command::Override(list) => Ok(overrides(alloc, list, component, k, next)?),
+        Command::Override(list) => Ok(overrides(memory, list, component, k, next)?),
         Command::TryEach(branches) => {
             try_each(
-                alloc, count, branches, step.place, component, k, next, failed,
+                memory, count, branches, step.place, component, k, next, failed,
             )
         }
-        Command::Run(inner) => run(alloc, count, inner, component, k, next, failed),
+        Command::Run(inner) => run(memory, count, inner, component, k, next, failed),
     }
 }
 
 // Runs an inner sequence.
 #[cycle(walk)]
 fn run<'a>(
-    alloc: Global,
+    memory: Memory<'a>,
     count: u32,
     inner: &'a Sequence,
     component: u32,
     k: Kept<'a>,
     next: &mut Vec<Kept<'a>>,
-    failed: &mut Vec<Stopped>,
+    failed: &mut Vec<Stopped<'a>>,
 ) -> Result<(), Halt<'a>>
     requires room { component < 8 }
     requires small { IsSmallSequence count inner.now }
     ensures ok { OnOk result (Adds (λ identities. RunsInner (Runs inner.now identities count) component) (k.entry ∷ []) next.old.items next.new.items failed.old.items failed.new.items) }
     ensures err { IfErr result (λ h. Halts (λ identities. RunsInner (Runs inner.now identities count) component) (k.entry ∷ []) h) }
 {
-    let outer = outer_of(alloc, &k)?;
-    let mut from = Vec::new(alloc);
-    from.push(enter(alloc, component, false, k)?)?;
-    let mut stops = Vec::new(alloc);
-    let done = sequence(alloc, count, inner, from, &mut stops)?;
-    leave_all(alloc, &outer, done, next)?;
-    Ok(split(alloc, &outer, stops, next, failed)?)
+    let outer = outer_of(memory.alloc, &k)?;
+    let mut from = Vec::new(memory.alloc);
+    from.push(enter(memory.alloc, component, false, k)?)?;
+    let mut stops = Vec::new(memory.alloc);
+    let done = sequence(memory, count, inner, from, &mut stops)?;
+    leave_all(memory.alloc, &outer, done, next)?;
+    Ok(split(memory.alloc, &outer, stops, next, failed)?)
 }
 
 // Tries the branches in order.
 #[cycle(walk)]
 fn try_each<'a>(
-    alloc: Global,
+    memory: Memory<'a>,
     count: u32,
     branches: &'a Branches,
     place: u64,
     component: u32,
     k: Kept<'a>,
     next: &mut Vec<Kept<'a>>,
-    failed: &mut Vec<Stopped>,
+    failed: &mut Vec<Stopped<'a>>,
 ) -> Result<(), Halt<'a>>
     requires room { component < 8 }
     requires small { AreSmallBranches count branches.now }
     ensures ok { OnOk result (Adds (λ identities. Tries branches.now identities count place component) (k.entry ∷ []) next.old.items next.new.items failed.old.items failed.new.items) }
     ensures err { IfErr result (λ h. Halts (λ identities. Tries branches.now identities count place component) (k.entry ∷ []) h) }
 {
-    let outer = outer_of(alloc, &k)?;
+    let outer = outer_of(memory.alloc, &k)?;
     let outer = &outer;
-    let mut now = Vec::new(alloc);
+    let mut now = Vec::new(memory.alloc);
     now.push(k)?;
     for branch in branches.as_slice() {
         match branch {
@@ -211,7 +218,7 @@ fn try_each<'a>(
                 return Ok(());
             }
             Some(inner) => {
-                now = one_branch(alloc, count, inner, component, outer, now, next, failed)?
+                now = one_branch(memory, count, inner, component, outer, now, next, failed)?
             }
         }
     }
@@ -221,25 +228,25 @@ fn try_each<'a>(
 // Runs a branch from each of the states, which are the one before the try each.
 #[cycle(walk)]
 fn one_branch<'a>(
-    alloc: Global,
+    memory: Memory<'a>,
     count: u32,
     inner: &'a Sequence,
     component: u32,
     outer: &Outer<'a>,
     from: Vec<Kept<'a>>,
     next: &mut Vec<Kept<'a>>,
-    failed: &mut Vec<Stopped>,
+    failed: &mut Vec<Stopped<'a>>,
 ) -> Result<Vec<Kept<'a>>, Halt<'a>>
     requires room { component < 8 }
     requires small { IsSmallSequence count inner.now }
     ensures ok { IfOk result (λ v. BranchAdds (λ identities. Runs inner.now identities count) outer.now component from.entry.items v.items next.old.items next.new.items failed.old.items failed.new.items) }
     ensures err { IfErr result (λ h. Halts (λ identities. Runs inner.now identities count) (all_entered outer.now component true from.entry.items) h) }
 {
-    let inside = enter_all(alloc, component, outer, from)?;
-    let mut stops = Vec::new(alloc);
-    let done = sequence(alloc, count, inner, inside, &mut stops)?;
-    leave_all(alloc, outer, done, next)?;
-    let mut rest = Vec::new(alloc);
-    split(alloc, outer, stops, &mut rest, failed)?;
+    let inside = enter_all(memory.alloc, component, outer, from)?;
+    let mut stops = Vec::new(memory.alloc);
+    let done = sequence(memory, count, inner, inside, &mut stops)?;
+    leave_all(memory.alloc, outer, done, next)?;
+    let mut rest = Vec::new(memory.alloc);
+    split(memory.alloc, outer, stops, &mut rest, failed)?;
     Ok(rest)
 }

@@ -9,11 +9,11 @@ pub returns-in_ok-went-in-None-clause-err : goal.returns-in_ok-went-in-None-clau
 returns-in_ok-went-in-None-clause-err c = Uncovers-invoke c.args.place c.args.component c.args.k c.in_ok-went-in-None.field-0 c.k.inside.params _ _ (ap (λ k. k.state.parameters) c.k.view_is) c.in-None.ensures c.size-size.ensures (λ h. h) c.in_ok-went-in-None.ensures
 
 pub returns-in_ok-push-in-Some-clause-ok : goal.returns-in_ok-push-in-Some-clause-ok
-returns-in_ok-push-in-Some-clause-ok c = Adds-invoke c.args.place c.args.component c.args.k c.in_ok-to-in-Some.to c.k.inside.params c.in-Some.digest c.size-size.result c.args.next.now.items c.push.new.self.items (ap (λ k. k.state.parameters) c.k.view_is) c.in-Some.ensures c.size-size.ensures
-    (subst (λ es. HasMatched es c.args.component c.in-Some.digest c.size-size.result) (c.as_slice.ensures ∙ ap (λ k. k.events) c.k.view_is) (c.if-covered.ensures.0 (search rules)))
-    (c.in_ok-to-in-Some.ensures ∙ ap (λ b. with_events c.args.k (Invoked c.args.component (Some c.in-Some.digest) c.size-size.result b ∷ [])) c.if-covered.true) c.in_ok-push-in-Some.ensures.items
+returns-in_ok-push-in-Some-clause-ok c = Adds-invoke c.args.place c.args.component c.args.k c.in_ok-to-in-Some.to c.k.inside.params c.in-Some.digest.now c.size-size.result c.args.next.now.items c.push.new.self.items (ap (λ k. k.state.parameters) c.k.view_is) c.in-Some.ensures c.size-size.ensures
+    (subst (λ es. HasMatched es c.args.component c.in-Some.digest.now c.size-size.result) (ap (λ k. k.events) c.k.view_is) (c.if-covered.ensures.0 (search rules)))
+    (c.in_ok-to-in-Some.ensures ∙ ap (λ b. with_events c.args.k (Invoked c.args.component (Some c.in-Some.digest.now) c.size-size.result b ∷ [])) c.if-covered.true) c.in_ok-push-in-Some.ensures.items
 
 pub returns-else-covered-clause-err : goal.returns-else-covered-clause-err
-returns-else-covered-clause-err c = Uncovers-invoke c.args.place c.args.component c.args.k c.in_ok-to-in-Some.to c.k.inside.params (Some c.in-Some.digest) c.size-size.result (ap (λ k. k.state.parameters) c.k.view_is) c.in-Some.ensures c.size-size.ensures
-    (λ h. never_true (c.if-covered.ensures.1 (subst (λ es. HasMatched es c.args.component c.in-Some.digest c.size-size.result) (sym (c.as_slice.ensures ∙ ap (λ k. k.events) c.k.view_is)) h)))
-    (c.in_ok-to-in-Some.ensures ∙ ap (λ b. with_events c.args.k (Invoked c.args.component (Some c.in-Some.digest) c.size-size.result b ∷ [])) c.if-covered.false)
+returns-else-covered-clause-err c = Uncovers-invoke c.args.place c.args.component c.args.k c.in_ok-to-in-Some.to c.k.inside.params (Some c.in-Some.digest.now) c.size-size.result (ap (λ k. k.state.parameters) c.k.view_is) c.in-Some.ensures c.size-size.ensures
+    (λ h. never_true (c.if-covered.ensures.1 (subst (λ es. HasMatched es c.args.component c.in-Some.digest.now c.size-size.result) (sym (ap (λ k. k.events) c.k.view_is)) h)))
+    (c.in_ok-to-in-Some.ensures ∙ ap (λ b. with_events c.args.k (Invoked c.args.component (Some c.in-Some.digest.now) c.size-size.result b ∷ [])) c.if-covered.false)

@@ -1,4 +1,4 @@
-use Rattle.std.proofs.Common.{rules, ◌≡◌, ◌<◌, ◌≤◌, ◌+◌, [], ◌∷◌, ◌++◌, drop, sym, ap, ◌∙◌, subst, arith}
+use Rattle.std.proofs.Common.{rules, ◌≡◌, ◌<◌, ◌≤◌, ◌+◌, [], ◌∷◌, ◌++◌, List, drop, sym, ap, ◌∙◌, subst, arith}
 use Rattle.std.proofs.lemmas.List.{drop_all}
 use Rattle.std.proofs.lemmas.Result.{err_from_is_err_and, on_ok_weaker}
 use Rattle.std.specs.Prelude.{OnOk, IfErr}
@@ -10,7 +10,7 @@ use Rattle.suit_commands.specs.declared.command.Step.{Step}
 use Rattle.suit_commands.specs.declared.command.Command.{Command}
 use Rattle.suit_commands.specs.declared.command.Branches.TheDeep.{deep-Step}
 use Rattle.suit_commands.specs.Smaller.{step_smaller, branch_smaller}
-use Rattle.path_checker.specs.Exploring.{Course, Adds}
+use Rattle.path_checker.specs.Exploring.{Course, Stopped, Adds}
 use Rattle.path_checker.specs.Steps.{At}
 use Rattle.path_checker.specs.Halting.{Halts}
 use Rattle.path_checker.specs.Small.{IsSmallSequence, IsSmallCommand, AreSmallBranches}
@@ -19,6 +19,7 @@ use Rattle.path_checker.proofs.Smallness.{small_step, small_index, small_branch}
 use Rattle.path_checker.proofs.Walking.{Walks, Walks-start, Walks-step, Walks-stops, Walks-end, runs_course, does_course}
 use Rattle.path_checker.proofs.Popping.{Pops-step, Pops-halt, Pops-end, none_left, each_course, does_each, Adds-same, Halts-same, Adds-index, Adds-at_index, Each-step, Each-stops}
 use Rattle.path_checker.proofs.Branching.{Trying, Trying-start, Trying-branch, Trying-halt, Trying-null, Trying-end, rest_course, at_some, at_none, Adds-run, Halts-run, Adds-branch, Adds-appended}
+use Rattle.path_checker.proofs.Merging.{Adds-states, Adds-behind, Walks-stops_merged}
 use Rattle.path_checker.proofs.judge_plan.walk.+walk.Goals as goal
 
 pub all_at-loop-k-preserved : goal.all_at-loop-k-preserved
@@ -105,7 +106,7 @@ pub sequence-loop-step-init : goal.sequence-loop-step-init
 sequence-loop-step-init t c = record {
   whole = c.as_slice-step-items.ensures;
   small = subst (λ (s : SequenceTree). IsSmallSequence c.args.count s) (sym c.as_slice-step-items.ensures) c.requires.small;
-  walks = subst (λ (s : SequenceTree). Walks (runs_course c.args.sequence.now c.args.count) c.args.from.items c.args.failed.now.items (runs_course s c.args.count) c.args.from.items c.args.failed.now.items) (sym c.as_slice-step-items.ensures) (Walks-start (runs_course c.args.sequence.now c.args.count) c.args.from.items c.args.failed.now.items);
+  walks = subst (λ (s : SequenceTree). Walks (runs_course c.args.sequence.now c.args.count) c.args.from.items [] (runs_course s c.args.count) c.args.from.items c.new-stops.result.items) (sym c.as_slice-step-items.ensures) (subst (λ (f : List Stopped). Walks (runs_course c.args.sequence.now c.args.count) c.args.from.items [] (runs_course c.args.sequence.now c.args.count) c.args.from.items f) (sym c.new-stops.ensures.items) (Walks-start (runs_course c.args.sequence.now c.args.count) c.args.from.items []));
 }
 
 pub sequence-command-requires : goal.sequence-command-requires
@@ -116,19 +117,20 @@ sequence-command-requires t c =
 
 pub sequence-returns-in_err-now-clause-err : goal.sequence-returns-in_err-now-clause-err
 sequence-returns-in_err-now-clause-err t c =
-    let p = err_from_is_err_and c.from_residual.result c.from_residual.ensures.1 in rw (p.1, p.2) (Walks-stops c.as_slice-step-items.result.now c.loop-step.step-index c.args.count c.step-item.result c.loop-step-test.true (runs_course c.args.sequence.now c.args.count) c.args.from.items c.loop-step.now.items c.args.failed.now.items c.loop-step.failed.items c.loop-step.invariant.walks c.in_err-now.field-0.0 (subst (λ (s : Step). Halts (does_course (command_tree s.command) c.args.count s.place) c.loop-step.now.items c.in_err-now.field-0.0) c.step-item.is c.in_err-now.ensures.err))
+    let p = err_from_is_err_and c.from_residual.result c.from_residual.ensures.1 in rw (p.1, p.2) (Walks-stops c.as_slice-step-items.result.now c.loop-step.step-index c.args.count c.step-item.result c.loop-step-test.true (runs_course c.args.sequence.now c.args.count) c.args.from.items c.loop-step.now.items [] c.loop-step.stops.items c.loop-step.invariant.walks c.in_err-now.field-0.0 (subst (λ (s : Step). Halts (does_course (command_tree s.command) c.args.count s.place) c.loop-step.now.items c.in_err-now.field-0.0) c.step-item.is c.in_err-now.ensures.err))
 
 pub sequence-loop-step-preserved : goal.sequence-loop-step-preserved
 sequence-loop-step-preserved t c = record {
   whole = c.loop-step.invariant.whole;
   small = (small_step c.args.count c.as_slice-step-items.result.now c.loop-step.step-index c.step-item.result c.loop-step-test.true c.loop-step.invariant.small).1;
-  walks = Walks-step c.as_slice-step-items.result.now c.loop-step.step-index c.args.count c.step-item.result c.loop-step-test.true (runs_course c.args.sequence.now c.args.count) c.args.from.items c.loop-step.now.items c.args.failed.now.items c.loop-step.failed.items c.loop-step.invariant.walks c.in_ok-now.now.items c.command.new.failed.items (subst (λ (s : Step). Adds (does_course (command_tree s.command) c.args.count s.place) c.loop-step.now.items [] c.in_ok-now.now.items c.loop-step.failed.items c.command.new.failed.items) c.step-item.is c.in_ok-now.ensures.ok);
+  walks = Walks-stops_merged (runs_course c.args.sequence.now c.args.count) _ c.args.from.items c.in_ok-now.now.items c.command.new.failed.items c.in_ok-stops.stops.items (Walks-step c.as_slice-step-items.result.now c.loop-step.step-index c.args.count c.step-item.result c.loop-step-test.true (runs_course c.args.sequence.now c.args.count) c.args.from.items c.loop-step.now.items [] c.loop-step.stops.items c.loop-step.invariant.walks c.in_ok-now.now.items c.command.new.failed.items (subst (λ (s : Step). Adds (does_course (command_tree s.command) c.args.count s.place) c.loop-step.now.items [] c.in_ok-now.now.items c.loop-step.stops.items c.command.new.failed.items) c.step-item.is c.in_ok-now.ensures.ok)) c.in_ok-stops.ensures;
 }
 
 pub sequence-returns-clause-ok : goal.sequence-returns-clause-ok
 sequence-returns-clause-ok t c =
     let none : drop c.loop-step.step-index c.as_slice-step-items.result.now ≡ [] = drop_all c.loop-step.step-index c.as_slice-step-items.result.now c.loop-step-test.false in
-    Walks-end (runs_course c.args.sequence.now c.args.count) c.args.from.items c.loop-step.now.items c.args.failed.now.items c.loop-step.failed.items (subst (λ xs. Walks (runs_course c.args.sequence.now c.args.count) c.args.from.items c.args.failed.now.items (runs_course (sequence_tree xs) c.args.count) c.loop-step.now.items c.loop-step.failed.items) none c.loop-step.invariant.walks)
+    Adds-behind (runs_course c.args.sequence.now c.args.count) c.args.from.items c.loop-step.now.items c.args.failed.now.items c.append.new.self.items c.loop-step.stops.items
+    (Walks-end (runs_course c.args.sequence.now c.args.count) c.args.from.items c.loop-step.now.items [] c.loop-step.stops.items (subst (λ xs. Walks (runs_course c.args.sequence.now c.args.count) c.args.from.items [] (runs_course (sequence_tree xs) c.args.count) c.loop-step.now.items c.loop-step.stops.items) none c.loop-step.invariant.walks)) c.in_ok-append.ensures.items
 
 pub try_each-loop-branch-init : goal.try_each-loop-branch-init
 try_each-loop-branch-init t c =
@@ -168,7 +170,8 @@ try_each-one_branch-requires t c =
 pub command-returns-clause-ok : goal.command-returns-clause-ok
 command-returns-clause-ok t c =
     let none : c.loop-k.now.items ≡ [] = none_left c.loop-k.now.items (λ lt. let l : 0 < vec_len c.loop-k.now = search rules in never_true (c.in_default.ensures.variant.1 l)) in
-    Pops-end (does_course (command_tree c.args.step.now.command) c.args.count c.args.step.now.place) c.args.from.items c.args.failed.now.items c.loop-k.now.items c.loop-k.next.items c.loop-k.failed.items c.loop-k.invariant none
+    Adds-states (does_course (command_tree c.args.step.now.command) c.args.count c.args.step.now.place) c.args.from.items c.loop-k.next.items c.in_ok-merged.merged.items c.args.failed.now.items c.loop-k.failed.items
+    (Pops-end (does_course (command_tree c.args.step.now.command) c.args.count c.args.step.now.place) c.args.from.items c.args.failed.now.items c.loop-k.now.items c.loop-k.next.items c.loop-k.failed.items c.loop-k.invariant none) c.in_ok-merged.ensures
 
 pub one_branch-returns-clause-ok : goal.one_branch-returns-clause-ok
 one_branch-returns-clause-ok t c = Adds-branch (runs_course c.args.inner.now c.args.count) c.args.outer.now c.args.component c.args.from.items c.in_ok-inside.inside.items c.in_ok-done.done.items c.args.next.now.items c.leave_all.new.next.items c.new-rest.result.items c.split.new.next.items c.new-stops.result.items c.sequence.new.failed.items c.args.failed.now.items c.split.new.failed.items c.in_ok-inside.ensures c.new-stops.ensures.items c.in_ok-done.ensures.ok c.in_ok-leave_all.ensures c.new-rest.ensures.items c.in_ok-split.ensures.soft c.in_ok-split.ensures.hard

@@ -24,7 +24,7 @@ abbrev pub invariant-sequence-loop-step : goal.invariant-sequence-loop-step
 invariant-sequence-loop-step l = record {
   whole : sequence_tree l.step-items ≡ l.sequence;
   small : IsSmallSequence l.count (sequence_tree (drop l.step-index l.step-items));
-  walks : Walks (runs_course l.sequence l.count) l.fn.from.items l.initial.failed.items (runs_course (sequence_tree (drop l.step-index l.step-items)) l.count) l.now.items l.failed.items;
+  walks : Walks (runs_course l.sequence l.count) l.fn.from.items [] (runs_course (sequence_tree (drop l.step-index l.step-items)) l.count) l.now.items l.stops.items;
 }
 
 abbrev pub invariant-each-loop-component : goal.invariant-each-loop-component

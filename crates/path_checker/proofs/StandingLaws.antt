@@ -1,0 +1,100 @@
+-- The matches that stand after one more event.
+use Rattle.std.proofs.Common.{◌≡◌, ℕ, List, [], ◌∷◌, ◌++◌, Option, refl, sym, subst, inl, inr}
+use Rattle.std.specs.Prelude.{◌⊎◌}
+use Rattle.suit_params.specs.declared.digest.Digest.{Digest}
+use Rattle.path_model.specs.declared.event.Event.{Event}
+use Rattle.path_model.specs.declared.event.Event.TheVariants.{Matched, Wrote}
+use Rattle.path_model.specs.Safe.{WritesTo, HasMatched}
+use Rattle.path_model.specs.Following.{SameMatches}
+use Rattle.path_checker.specs.declared.judge_plan.happened.Happened.{Happened}
+use Rattle.path_checker.specs.declared.judge_plan.happened.Happened.TheVariants as lent
+use Rattle.path_checker.specs.Happening.{event_of}
+use Rattle.path_checker.specs.Exploring.{In}
+use Rattle.path_checker.specs.Standing.{Stands, StandsAfter, LeavesOut}
+use Rattle.path_checker.proofs.Histories.{stands, stands_joined}
+
+-- ---- a match that stands after one more event is that event, or stood before and was not ended
+
+only_one : (e : Event) (before since : List Event) (c : ℕ) (d : Digest) (s : Option ℕ) → e ∷ [] ≡ before ++ Matched c d s ∷ since → e ≡ Matched c d s
+only_one e [] since c d s is = cc
+only_one e (x ∷ []) since c d s is = absurd cc
+only_one e (x ∷ (y ∷ before)) since c d s is = absurd cc
+
+stood : (events : List Event) (e : Event) (c : ℕ) (d : Digest) (s : Option ℕ) → HasMatched (events ++ e ∷ []) c d s → (e ≡ Matched c d s) ⊎ (HasMatched events c d s × (WritesTo c e → ⊥))
+stood events e c d s h = elim (stands events (e ∷ []) h.before h.since c d s h.is h.unwritten) [
+  | inl one ↦ inl (only_one e one.before one.since c d s one.is)
+  | inr both ↦ inr (both.0, both.1.0)
+]
+
+comes : (events : List Event) (c : ℕ) (d : Digest) (s : Option ℕ) → HasMatched (events ++ Matched c d s ∷ []) c d s
+comes events c d s = record { before = events; since = []; is = refl; unwritten = tt }
+
+stays : (events : List Event) (e : Event) (c : ℕ) (d : Digest) (s : Option ℕ) → (WritesTo c e → ⊥) → HasMatched events c d s → HasMatched (events ++ e ∷ []) c d s
+stays events e c d s quiet h = stands_joined events (e ∷ []) c d s (inr (h, (quiet, tt)))
+
+-- ---- what a list of them becomes
+
+pub stands_none : Stands [] []
+stands_none c d s = (λ h. absurd h, λ h. never h.before h.since h.is)
+  where
+    never : (before since : List Event) → [] ≡ before ++ Matched c d s ∷ since → ⊥
+    never [] since is = absurd cc
+    never (x ∷ before) since is = absurd cc
+
+pub after_again : (matches : List Event) (c : ℕ) (d : Digest) (s : Option ℕ) → In (Matched c d s) matches → StandsAfter matches (Matched c d s) matches
+after_again matches c d s there events stand c' d' s' = (
+  λ h. stays events (Matched c d s) c' d' s' (λ n. n) ((stand c' d' s').0 h),
+  λ h. elim (stood events (Matched c d s) c' d' s' h) [
+    | inl is ↦ subst (λ (x : Event). In x matches) is there
+    | inr h ↦ (stand c' d' s').1 h.0
+  ],
+)
+
+pub after_match : (matches : List Event) (c : ℕ) (d : Digest) (s : Option ℕ) → StandsAfter matches (Matched c d s) (Matched c d s ∷ matches)
+after_match matches c d s events stand c' d' s' = (
+  λ h. elim h [
+    | inl is ↦ subst (λ (x : Event). HasMatched (events ++ x ∷ []) c' d' s') (sym is) (comes events c' d' s')
+    | inr h ↦ stays events (Matched c d s) c' d' s' (λ n. n) ((stand c' d' s').0 h)
+  ],
+  λ h. elim (stood events (Matched c d s) c' d' s' h) [
+    | inl is ↦ inl is
+    | inr h ↦ inr ((stand c' d' s').1 h.0)
+  ],
+)
+
+pub after_write : (matches after : List Event) (c : ℕ) → LeavesOut c matches after → StandsAfter matches (Wrote c) after
+after_write matches after c leaves events stand c' d' s' = (
+  λ h. let x = (leaves (Matched c' d' s')).0 h in stays events (Wrote c) c' d' s' (λ w. x.1 (sym w)) ((stand c' d' s').0 x.0),
+  λ h. elim (stood events (Wrote c) c' d' s' h) [
+    | inl is ↦ absurd cc
+    | inr h ↦ (leaves (Matched c' d' s')).1 ((stand c' d' s').1 h.0, λ m. h.1 (sym m))
+  ],
+)
+
+-- an event that neither matches nor writes
+abbrev IsPlain : Event → Type 0
+IsPlain e = (c : ℕ) (d : Digest) (s : Option ℕ) → (e ≡ Matched c d s → ⊥) × (WritesTo c e → ⊥)
+
+after_plain : (matches : List Event) (e : Event) → IsPlain e → StandsAfter matches e matches
+after_plain matches e plain events stand c d s = (
+  λ h. stays events e c d s (plain c d s).1 ((stand c d s).0 h),
+  λ h. elim (stood events e c d s h) [
+    | inl is ↦ absurd ((plain c d s).0 is)
+    | inr h ↦ (stand c d s).1 h.0
+  ],
+)
+
+pub after_other : (matches : List Event) (h : Happened) → ((c : _) (d : _) (s : _) → h ≡ lent.Matched c d s → ⊥) → ((c : ℕ) → h ≡ lent.Wrote c → ⊥) → StandsAfter matches (event_of h) matches
+after_other matches (lent.Set c p) no_match no_write = after_plain matches _ (λ c' d' s'. (λ is. absurd cc, λ w. w))
+after_other matches (lent.Tried c k p) no_match no_write = after_plain matches _ (λ c' d' s'. (λ is. absurd cc, λ w. w))
+after_other matches (lent.Matched c d s) no_match no_write = absurd (no_match c d s refl)
+after_other matches (lent.Missed c) no_match no_write = after_plain matches _ (λ c' d' s'. (λ is. absurd cc, λ w. w))
+after_other matches (lent.Wrote c) no_match no_write = absurd (no_write c refl)
+after_other matches (lent.Invoked c d s p) no_match no_write = after_plain matches _ (λ c' d' s'. (λ is. absurd cc, λ w. w))
+after_other matches (lent.Failed p) no_match no_write = after_plain matches _ (λ c' d' s'. (λ is. absurd cc, λ w. w))
+
+-- ---- where each of the matches that stand is among the others, and the other way round
+
+pub same_standing : (matches others events more : List Event) → Stands matches events → Stands others more → ((e : Event) → In e matches → In e others) → ((e : Event) → In e others → In e matches) → SameMatches events more
+same_standing matches others events more a b there back c d s =
+    (λ h. (b c d s).0 (there (Matched c d s) ((a c d s).1 h)), λ h. (a c d s).0 (back (Matched c d s) ((b c d s).1 h)))

@@ -1,0 +1,10 @@
+-- Lists of events that share what they begin with: the last event comes first.
+use Rattle.std.specs.Prelude.{List, [], ◌∷◌, Option, Some, None}
+use Rattle.std.specs.Borrow.{Bor}
+use Rattle.path_model.specs.declared.event.Event.{Event}
+use Rattle.path_checker.specs.declared.judge_plan.chain.Link.{Link}
+use Rattle.path_checker.specs.Happening.{event_of}
+
+abbrev pub events_from : Option (Bor Link) → List Event
+events_from None = []
+events_from (Some link) = event_of link.now.event ∷ link.now.before

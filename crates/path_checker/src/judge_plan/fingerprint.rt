@@ -1,0 +1,43 @@
+//! Numbers that are equal for equal states, and mostly differ for others.
+
+use suit_params::Param;
+
+/// A number that depends on both.
+pub(crate) fn mixed(print: u64, number: u64) -> u64 {
+    let product = (print ^ number).wrapping_mul(0x9e37_79b9_7f4a_7c15);
+    product ^ (product >> 32)
+}
+
+/// One of bytes.
+pub(crate) fn of_bytes(bytes: &[u8]) -> u64 {
+    let mut print = 1;
+    for byte in bytes {
+        print = mixed(print, *byte as u64);
+    }
+    print
+}
+
+/// One of a value that may be absent.
+pub(crate) fn of_number(number: Option<u64>) -> u64 {
+    match number {
+        Some(number) => mixed(2, number),
+        None => 0,
+    }
+}
+
+/// One of a parameter, which of a long one tells its length alone.
+pub(crate) fn of_param(param: Option<&Param>) -> u64 {
+    match param {
+        Some(Param::Vendor(id)) => of_bytes(&id[..]),
+        Some(Param::Class(id)) => of_bytes(&id[..]),
+        Some(Param::Device(id)) => of_bytes(&id[..]),
+        Some(Param::Digest(digest)) => of_bytes(&digest.bytes[..]),
+        Some(Param::Slot(number)) => mixed(3, *number),
+        Some(Param::Size(size)) => mixed(4, *size),
+        Some(Param::Source(component)) => mixed(5, *component as u64),
+        Some(Param::Content(bytes)) => mixed(6, bytes.len() as u64),
+        Some(Param::Uri(text)) => mixed(7, text.len() as u64),
+        Some(Param::Args(bytes)) => mixed(8, bytes.len() as u64),
+        _ => 0,
+    }
+}

@@ -1,0 +1,118 @@
+//! What happened before a state.
+
+ghost use Rattle.std.specs.Prelude.{◌≡◌, ◌↔◌, [], ◌∷◌, ◌++◌, IsTrue, IfOk, OnOk};
+ghost use Rattle.path_model.specs.Safe.{HasMatched};
+ghost use Rattle.path_model.specs.Following.{SameMatches};
+ghost use Rattle.path_checker.specs.Happening.{event_of};
+ghost use Rattle.path_checker.specs.Standing.{StandsAfter};
+
+use crate::judge_plan::chain::Chain;
+use crate::judge_plan::happened::Happened;
+use bumpalo::Bump;
+use path_model::Events;
+use std::alloc::{AllocError, Global};
+use std::marker::Model;
+use suit_params::Digest;
+
+/// The events that led to a state, and the matches that stand after them. To copy one takes no memory.
+#[derive(Drop)]
+pub(crate) struct History<'a> {
+    all: Chain<'a>,
+    standing: Chain<'a>,
+}
+
+impl<'a> Model for History<'a> {
+    ghost use Rattle.std.specs.Prelude.{List};
+    ghost use Rattle.path_model.specs.declared.event.Event.{Event};
+
+    ghost Value = { List Event };
+
+    ghost use Rattle.path_checker.specs.Standing.{in_order, Stands};
+
+    ghost view = { λ a. in_order a.all };
+
+    ghost invariant = { λ a. Stands a.standing (in_order a.all) };
+}
+
+// The matches that stand after one more event.
+fn standing_after<'a>(
+    bump: &'a Bump,
+    standing: &Chain<'a>,
+    event: Happened<'a>,
+) -> Result<Chain<'a>, AllocError>
+    ensures { IfOk result (StandsAfter standing.now (event_of event.entry)) }
+{
+    match event {
+        Happened::Matched {
+            component,
+            digest,
+            size,
+        } => {
+            if standing.has_match(component, digest, size) {
+                Ok(standing.copy())
+            } else {
+                standing.with(bump, event)
+            }
+        }
+        Happened::Wrote { component } => standing.without(bump, component),
+        _ => Ok(standing.copy()),
+    }
+}
+
+impl<'a> History<'a> {
+    /// Nothing has happened.
+    pub(crate) fn new() -> History<'a>
+        ensures { result ≡ [] }
+    {
+        History {
+            all: Chain::new(),
+            standing: Chain::new(),
+        }
+    }
+
+    /// The same.
+    pub(crate) fn copy(&self) -> History<'a>
+        ensures { result ≡ self.now }
+    {
+        let all = self.all.copy();
+        let standing = self.standing.copy();
+        History { all, standing }
+    }
+
+    /// Adds what happened last.
+    pub(crate) fn push(&mut self, bump: &'a Bump, event: Happened<'a>) -> Result<(), AllocError>
+        ensures { OnOk result (self.new ≡ self.old ++ event_of event.entry ∷ []) }
+    {
+        let standing = standing_after(bump, &self.standing, event)?;
+        let all = self.all.with(bump, event)?;
+        self.all = all;
+        self.standing = standing;
+        Ok(())
+    }
+
+    /// Whether a component stands as matched under a digest and a size.
+    pub(crate) fn has_matched(&self, component: u32, digest: &Digest, size: Option<u64>) -> bool
+        ensures { IsTrue result ↔ HasMatched self.now component digest.now size }
+    {
+        self.standing.has_match(component, digest, size)
+    }
+
+    /// Whether the same matches stand.
+    pub(crate) fn same_matches(&self, other: &History<'_>) -> bool
+        ensures { IsTrue result → SameMatches self.now other.now }
+    {
+        self.standing.is_within(&other.standing) && other.standing.is_within(&self.standing)
+    }
+
+    /// A number that is equal where the same matches stand.
+    pub(crate) fn fingerprint(&self) -> u64 {
+        self.standing.fingerprint()
+    }
+
+    /// The events, in memory of their own.
+    pub(crate) fn told(&self, alloc: Global) -> Result<Events, AllocError>
+        ensures { IfOk result (λ events. events ≡ self.now) }
+    {
+        self.all.told(alloc)
+    }
+}

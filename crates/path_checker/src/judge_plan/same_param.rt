@@ -1,0 +1,37 @@
+//! Whether parameters are equal.
+
+ghost use Rattle.std.specs.Prelude.{◌≡◌, IsTrue};
+ghost use Rattle.std.specs.Option.{option_copied};
+
+use suit_params::Param;
+
+fn same(one: &Param, other: &Param) -> bool
+    ensures { IsTrue result → one.now ≡ other.now }
+{
+    match (one, other) {
+        (Param::Vendor(id), Param::Vendor(other)) => *id == *other,
+        (Param::Class(id), Param::Class(other)) => *id == *other,
+        (Param::Device(id), Param::Device(other)) => *id == *other,
+        (Param::Digest(digest), Param::Digest(other)) => *digest == *other,
+        (Param::Slot(number), Param::Slot(other)) => *number == *other,
+        (Param::Strict(value), Param::Strict(other)) => *value == *other,
+        (Param::Soft(value), Param::Soft(other)) => *value == *other,
+        (Param::Size(size), Param::Size(other)) => *size == *other,
+        (Param::Content(bytes), Param::Content(other)) => bytes.as_slice() == other.as_slice(),
+        (Param::Uri(text), Param::Uri(other)) => text.as_str() == other.as_str(),
+        (Param::Source(component), Param::Source(other)) => *component == *other,
+        (Param::Args(bytes), Param::Args(other)) => bytes.as_slice() == other.as_slice(),
+        _ => false,
+    }
+}
+
+/// Whether both are absent, or both are there and equal.
+pub(crate) fn same_param(one: Option<&Param>, other: Option<&Param>) -> bool
+    ensures { IsTrue result → option_copied one.entry ≡ option_copied other.entry }
+{
+    match (one, other) {
+        (None, None) => true,
+        (Some(one), Some(other)) => same(one, other),
+        _ => false,
+    }
+}
