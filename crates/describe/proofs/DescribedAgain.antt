@@ -11,21 +11,24 @@ use Rattle.suit_commands.specs.SequenceLaws.{SequenceLaws}
 use Rattle.suit_commands.specs.SequenceMaking.{sequence_item, unplaced, unplaced_command, unplaced_branches}
 use Rattle.suit_commands.specs.Tree.{CommandTree, Test, Act, Index, Override, TryEach, RunSequence, SequenceTree, NoSteps, StepThen, BranchesTree, NoBranches, BranchThen, NullThen}
 use Rattle.suit_envelope.specs.EnvelopeLaws.{EnvelopeLaws}
+use Rattle.suit_envelope.specs.Envelopes.{EnvelopeSays}
 use Rattle.suit_envelope.specs.Members.{string_digest}
 use Rattle.suit_manifest.specs.declared.manifest.Manifest.{Manifest}
 use Rattle.suit_manifest.specs.declared.manifest.Member.{Member}
 use Rattle.suit_manifest.specs.declared.manifest.Member.TheVariants as members
+use Rattle.suit_manifest.specs.declared.manifest.Members.{Members as ApartMembers}
 use Rattle.suit_manifest.specs.declared.manifest.TextMember.{TextMember}
 use Rattle.suit_manifest.specs.declared.manifest.TextMember.TheVariants as texts
 use Rattle.suit_manifest.specs.ManifestLaws.{ManifestLaws}
 use Rattle.suit_manifest.specs.ManifestMaking.{unplaced_held, unplaced_severed, unplaced_manifest}
 use Rattle.suit_manifest.specs.ManifestWriting.{IsGrammatical, IsSevered, IsDigestBytes}
 use Rattle.suit_manifest.specs.Manifests.{count_said}
+use Rattle.suit_manifest.specs.MembersApart.{HasMember, HasMembers}
 use Rattle.suit_params.specs.declared.digest.Digest.{Digest}
 use Rattle.json_fields.specs.declared.flaw.Flaw.{Flaw}
 use Rattle.author.specs.Making.{apart_member, apart_text as made_text, made_manifest}
 use Rattle.author.specs.Members.{is_one_item}
-use Rattle.describe.specs.Again.{IsThere, MadeAgain}
+use Rattle.describe.specs.Again.{IsThere, AreThere, MadeAgain}
 use Rattle.describe.specs.MemberData.{is_severed, apart_text}
 use Rattle.describe.specs.Describing.{text_there}
 use Rattle.describe.proofs.DescriptionReads.{AreReadable, made, reads}
@@ -85,6 +88,20 @@ module _ (laws : SequenceLaws) (count : ℕ) (held : Option (List ℕ)) (place :
   member_reads (members.Apart digest) None there allowed is = is
   member_reads (members.Apart digest) (Some s) there allowed is =
       laws.allowed false count levels_allowed place there.says_so.item s there.says_so.spells.valid there.says_so.says_so
+
+-- ---- members that were taken are there
+
+is_there : (count : ℕ) (held : Option (List ℕ)) (place : ℕ) (x : Member) (apart : Option SequenceTree) → HasMember count held place x apart → IsThere count held place x apart
+is_there count held place members.Empty apart h = tt
+is_there count held place (members.Here s) apart h = tt
+is_there count held place (members.Apart digest) None h = tt
+is_there count held place (members.Apart digest) (Some s) h = h
+
+pub are_there : (said : EnvelopeSays) (m : Manifest) (apart : ApartMembers) → HasMembers said m apart → AreThere said m apart
+are_there said m apart h = record {
+  payload_fetch = is_there (count_said m) said.payload_fetch said.payload_fetch_place m.payload_fetch apart.payload_fetch h.payload_fetch;
+  install = is_there (count_said m) said.install said.install_place m.install apart.install h.install;
+}
 
 -- ---- the text
 

@@ -17,3 +17,4 @@ pub mod PayloadFacts
 pub mod DescriptionReads
 pub mod DescribedAgain
 pub mod NoFloats
+pub mod NoFiles

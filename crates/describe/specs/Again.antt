@@ -1,5 +1,5 @@
 -- What is described is made again: a description stands for the manifest that it was written of.
-use Rattle.std.specs.Prelude.{◌≡◌, ℕ, false, List, Option, Some, None}
+use Rattle.std.specs.Prelude.{◌≡◌, ℕ, false, List, [], Option, Some, None}
 use Rattle.det_cbor.specs.DataItem.{spell}
 use Rattle.serde_json.specs.Data.{Data}
 use Rattle.serde_json.specs.Written.{has_float}
@@ -14,7 +14,8 @@ use Rattle.suit_manifest.specs.declared.manifest.Member.TheVariants.{Empty, Here
 use Rattle.suit_manifest.specs.declared.manifest.Members.{Members}
 use Rattle.suit_manifest.specs.ManifestMaking.{manifest_item, unplaced_manifest}
 use Rattle.suit_manifest.specs.Manifests.{IsManifest, count_said}
-use Rattle.suit_manifest.specs.MembersApart.{IsTaken}
+use Rattle.suit_manifest.specs.MembersApart.{IsTaken, HasMembers}
+use Rattle.author.specs.FileNames.{file_names}
 use Rattle.author.specs.Faults.{IsDescription}
 use Rattle.author.specs.Making.{IsManifestOf}
 use Rattle.describe.specs.Describing.{described_by}
@@ -48,6 +49,13 @@ MadeAgain = (bytes : List ℕ) (said : EnvelopeSays) (payloads files : List (Lis
 abbrev pub HasNoFloat : Type 0
 HasNoFloat = (said : EnvelopeSays) (payloads : List (List ℕ × List ℕ)) (m : Manifest) (apart : Members) → has_float (described_by said payloads m apart) ≡ false
 
+-- and it names no file
+abbrev pub NamesNoFile : Type 0
+NamesNoFile = (said : EnvelopeSays) (payloads : List (List ℕ × List ℕ)) (m : Manifest) (apart : Members) → file_names (described_by said payloads m apart) ≡ []
+
 pub record DescribeLaws : Type 0 where
   pub made_again : MadeAgain
+  -- members of which each that stands apart is there
+  pub taken : (said : EnvelopeSays) (m : Manifest) (apart : Members) → HasMembers said m apart → AreThere said m apart
   pub no_float : HasNoFloat
+  pub no_file : NamesNoFile
