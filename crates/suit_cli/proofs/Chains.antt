@@ -1,5 +1,5 @@
 -- How the code's steps make a chain of stages.
-use Rattle.std.proofs.Common.{◌≡◌, ℕ, List, None, false, Result, Ok, Err, refl, sym, subst}
+use Rattle.std.proofs.Common.{◌≡◌, ℕ, List, [], None, false, Result, Ok, Err, refl, sym, subst}
 use Rattle.std.specs.Result.{IsErrAnd}
 use Rattle.std.specs.Prelude.{OnOk}
 use Rattle.std.specs.declared.alloc.AllocError.{AllocError}
@@ -28,7 +28,7 @@ use Rattle.suit_cli.specs.Judgement.{narrow, AreJudged}
 
 -- a judgement stands anywhere
 pub anywhere : Outside
-anywhere = record { told = false; files = λ name. None; pulled = 0; faults = 0 }
+anywhere = record { told = false; files = λ name. None; pulled = 0; asked = []; faults = 0 }
 
 module _ {A : Type 0} (stage : Stage A) (next : A → Answers) (before after : Outside) where
   pub stopped : (stop : Stop) → Does stage before after (Err stop) → Then stage next before after (ending_of (Err stop))

@@ -1,6 +1,7 @@
 -- Where each command stops.
-use Rattle.std.proofs.Common.{◌≡◌, ℕ, ◌+◌, List, Option, ◌⊎◌, inl, inr, refl, sym, ap, subst, ◌∙◌, arith}
+use Rattle.std.proofs.Common.{◌≡◌, ℕ, ◌+◌, List, [], ◌∷◌, ◌++◌, Option, ◌⊎◌, inl, inr, refl, sym, ap, subst, ◌∙◌, arith}
 use Rattle.std.specs.Prelude.{IsTrue}
+use Rattle.std.proofs.lemmas.List.{append_assoc}
 use Rattle.suit_envelope.specs.Envelopes.{EnvelopeSays}
 use Rattle.suit_envelope.specs.EnvelopeLaws.{EnvelopeLaws}
 use Rattle.suit_envelope.specs.Authentic.{IsAuthentic}
@@ -11,20 +12,22 @@ use Rattle.suit_manifest.specs.ManifestLaws.{ManifestLaws}
 use Rattle.suit_manifest.specs.MembersLaws.{MembersLaws}
 use Rattle.suit_cli.specs.declared.reply.Reply.{Reply}
 use Rattle.suit_cli.specs.declared.reply.Outcome.TheVariants as outcomes
-use Rattle.suit_cli.specs.Outside.{Outside, Reads}
-use Rattle.suit_cli.specs.Stages.{Says, Goes, Declines, Ends}
+use Rattle.suit_cli.specs.Outside.{Outside, Asks, MayAsk, Reads}
+use Rattle.suit_cli.specs.Stages.{Says, HostFault, Goes, Declines, Faults, Ends}
 use Rattle.suit_cli.specs.Inputs.{longest_key, IsRead, IsUnread, IsAbsent, IsTooLong, IsKey, IsNoKey, IsUnreadKey, IsEmptyKey}
 use Rattle.suit_cli.specs.Holding.{HasManifest}
 use Rattle.suit_cli.specs.Shown.{IsShown, authenticity_outcome}
 use Rattle.suit_cli.specs.Commands.{shows_manifest, shows}
-use Rattle.suit_cli.specs.CommandLaws.{NoManifest, CheckLaws, ShowSays, BeforeKey, AtKey, AtLines, ShowsUnder, ShowLaws}
-use Rattle.suit_cli.proofs.OneStage.{passes, stands, one_key}
-use Rattle.suit_cli.proofs.Running.{Reached, reaches, manifest_passed, no_manifest_stands, check_says, check_always, last_says}
+use Rattle.suit_cli.specs.CommandLaws.{NoManifest, CheckLaws, ShowSays, BeforeKey, AtKey, AtLines, ShowsUnder, AskBoth, ShowFaults, FaultsAtFile, FaultsAtKey, ShowLaws}
+use Rattle.suit_cli.proofs.OneStage.{asks_for, asks_reads, passes, stands, one_key}
+use Rattle.suit_cli.proofs.Running.{Reached, reaches, ReachedFault, reaches_fault, check_asks, check_faults, manifest_passed, no_manifest_stands, check_says, check_always, last_says}
 
 pub check_laws : EnvelopeLaws → ManifestLaws → MembersLaws → CheckLaws
 check_laws envelopes manifests members = record {
   only = λ name b a r answer. check_says name b a r answer;
   always = λ name b a r q told says answer. check_always envelopes manifests members name b a told q answer r says;
+  asks = λ name b a r answer. check_asks name b a r answer;
+  faults = λ name b a answer. check_faults name b a answer;
 }
 
 -- ---- a key is read at a later moment, of the same files
@@ -63,19 +66,39 @@ show_says name key_name b a r answer = of_reached (reaches name (shows_manifest 
   of_reached (inl none) = BeforeKey none
   of_reached (inr at) = of_rest at.said at.manifest at.there at.has at.quiet.told at.quiet.files at.on
 
+-- a fault at the key, of the names that were asked for before it
+key_fault : (name key_name : List ℕ) (b m a : Outside) → m.told ≡ b.told → Asks (name ∷ []) b m → MayAsk key_name m a → AskBoth name key_name b a
+key_fault name key_name b m a told first last t = of_last (last (subst IsTrue (sym told) t)) where
+  before : m.asked ≡ b.asked ++ name ∷ []
+  before = first t
+
+  of_last : (a.asked ≡ m.asked) ⊎ (a.asked ≡ m.asked ++ key_name ∷ []) → (a.asked ≡ b.asked ++ name ∷ []) ⊎ (a.asked ≡ b.asked ++ (name ∷ key_name ∷ []))
+  of_last (inl is) = inl (is ∙ before)
+  of_last (inr is) = inr (is ∙ ap (λ (l : List (List ℕ)). l ++ key_name ∷ []) before ∙ append_assoc b.asked (name ∷ []) (key_name ∷ []))
+
+show_faults : (name key_name : List ℕ) (b a : Outside) → shows name key_name b a HostFault → ShowFaults name key_name b a
+show_faults name key_name b a answer = of_reached (reaches_fault name (shows_manifest key_name) b a answer) where
+  of_rest : (m : Outside) (said : EnvelopeSays) (manifest : Manifest) → m.told ≡ b.told → Asks (name ∷ []) b m → shows_manifest key_name said manifest m a HostFault → AskBoth name key_name b a
+  of_rest m said manifest told asks (Faults f) = key_fault name key_name b m a told asks f.asks
+  of_rest m said manifest told asks (Goes _ middle _ _ last) = elim last [ ]
+
+  of_reached : MayAsk name b a ⊎ ReachedFault name (shows_manifest key_name) b a → ShowFaults name key_name b a
+  of_reached (inl asks) = FaultsAtFile asks
+  of_reached (inr at) = FaultsAtKey at.said at.manifest at.has (of_rest at.there at.said at.manifest at.quiet.told at.asks at.on)
+
 module _ (envelopes : EnvelopeLaws) (manifests : ManifestLaws) (name key_name : List ℕ) (b a : Outside) (told : IsTrue b.told) (q : Reply) (answer : shows name key_name b a (Says q)) where
-  still_key : Reads (longest_key + 1) b b
-  still_key = record { quiet = record { told = refl; files = λ t. refl; pulled = λ t. omega arith }; faults = refl }
+  still_key : Reads (longest_key + 1) key_name b (asks_for key_name b)
+  still_key = asks_reads (longest_key + 1) key_name b
 
   key_stands : (said : EnvelopeSays) (manifest : Manifest) (r : Reply) → HasManifest name b said manifest → IsNoKey key_name b r → q ≡ r
   key_stands said manifest r has none =
       let s = manifest_passed envelopes manifests name (shows_manifest key_name) b a told q said manifest has answer in
-      stands _ _ (one_key key_name) b s.0 b a q s.1 r (still_key, none) s.2
+      stands _ _ (one_key key_name) b s.0 (asks_for key_name b) a q s.1 r (still_key, none) s.2
 
   is_shown : (said : EnvelopeSays) (manifest : Manifest) (key : List ℕ) → ShowsUnder name key_name b said manifest key → IsShown said manifest key q
   is_shown said manifest key under =
       let s = manifest_passed envelopes manifests name (shows_manifest key_name) b a told q said manifest under.has answer in
-      let k = passes _ _ (one_key key_name) b s.0 b a q s.1 key (still_key, under.has_key) s.2 in
+      let k = passes _ _ (one_key key_name) b s.0 (asks_for key_name b) a q s.1 key (still_key, under.has_key) s.2 in
       last_says _ k.0 a q k.2
 
 module _ (said : EnvelopeSays) (manifest : Manifest) (key : List ℕ) (r : Reply) (shown : IsShown said manifest key r) where
@@ -96,6 +119,7 @@ show_laws envelopes manifests = record {
   no_manifest = λ name key_name b a r q told none answer. no_manifest_stands envelopes manifests name (shows_manifest key_name) b a told q r none answer;
   no_key = λ name key_name b a said manifest r q told has none answer. key_stands envelopes manifests name key_name b a told q answer said manifest r has none;
   shown = λ name key_name b a said manifest key r told under answer. is_shown envelopes manifests name key_name b a told r answer said manifest key under;
+  faults = λ name key_name b a answer. show_faults name key_name b a answer;
   authentic = λ said manifest key r shown is. is_authentic said manifest key r shown is;
   not_authentic = λ said manifest key r shown never. is_not said manifest key r shown never;
 }

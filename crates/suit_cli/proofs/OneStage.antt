@@ -1,5 +1,5 @@
 -- The uniqueness of stages: one that gives one value or one refusal, and never both, makes a chain that goes one way.
-use Rattle.std.proofs.Common.{◌≡◌, ℕ, List, [], Option, Some, None, refl, sym, ap, subst, ◌∙◌, ◌<◌, ◌≤◌, ◌⊎◌, inl, inr, length, arith}
+use Rattle.std.proofs.Common.{◌≡◌, ℕ, List, [], ◌∷◌, ◌++◌, Option, Some, None, refl, sym, ap, subst, ◌∙◌, ◌<◌, ◌≤◌, ◌⊎◌, inl, inr, length, arith}
 use Rattle.std.specs.Prelude.{IsTrue}
 use Rattle.std.proofs.lemmas.Option.{same_Some}
 use Rattle.suit_params.specs.declared.refusal.Refusal.{Refusal}
@@ -36,6 +36,16 @@ pub record Alike (first second : Outside) : Type 0 where
 
 pub alike_self : (o : Outside) → IsTrue o.told → Alike o o
 alike_self o told = record { told = told; told_too = told; files = refl }
+
+-- the moment once a name was asked for, of which nothing else changed
+abbrev pub asks_for : List ℕ → Outside → Outside
+asks_for name o = record o { asked = o.asked ++ name ∷ [] }
+
+pub asks_reads : (most : ℕ) (name : List ℕ) (o : Outside) → Reads most name o (asks_for name o)
+asks_reads most name o = record { quiet = record { told = refl; files = λ t. refl; pulled = λ t. omega arith }; asks = λ t. refl; faults = refl }
+
+pub alike_asked : (name : List ℕ) (o o' : Outside) → Alike (asks_for name o) o' → Alike o o'
+alike_asked name o o' alike = record { told = alike.told; told_too = alike.told_too; files = alike.files }
 
 pub record IsOne {A : Type 0} (stage : Stage A) : Type 1 where
   pub gives : (b b' a a' : Outside) (x y : A) → Alike b b' → stage.gives b a x → stage.gives b' a' y → (y ≡ x) × Alike a a'
@@ -84,8 +94,8 @@ module _ {A : Type 0} (good : A → Type 0) (bad : Reply → Type 0)
 
 -- ---- files
 
-module _ (most : ℕ) (b b' a a' : Outside) (alike : Alike b b') where
-  pub alike_after : Reads most b a → Reads most b' a' → Alike a a'
+module _ (most : ℕ) (name : List ℕ) (b b' a a' : Outside) (alike : Alike b b') where
+  pub alike_after : Reads most name b a → Reads most name b' a' → Alike a a'
   alike_after first second = record {
     told = subst IsTrue (sym first.quiet.told) alike.told;
     told_too = subst IsTrue (sym second.quiet.told) alike.told_too;
@@ -124,7 +134,7 @@ module _ (limit : ℕ) (name : List ℕ) (b b' : Outside) (alike : Alike b b') w
 
 pub one_file : (limit : ℕ) (name : List ℕ) → IsOne (file limit name)
 one_file limit name = record {
-  gives = λ b b' a a' x y alike g h. (one_read limit name b b' alike x y g.1 h.1, alike_after _ b b' a a' alike g.0 h.0);
+  gives = λ b b' a a' x y alike g h. (one_read limit name b b' alike x y g.1 h.1, alike_after _ _ b b' a a' alike g.0 h.0);
   declines = λ b b' a a' r q alike g h. one_unread limit name b b' alike r q g.1 h.1;
   never = λ b b' a a' x q alike g h. read_not_unread limit name b b' alike x q g.1 h.1;
 }
@@ -143,7 +153,7 @@ module _ (name : List ℕ) (b b' : Outside) (alike : Alike b b') where
 
 pub one_key : (name : List ℕ) → IsOne (key_in name)
 one_key name = record {
-  gives = λ b b' a a' x y alike g h. (one_read longest_key name b b' alike x y g.1.read h.1.read, alike_after _ b b' a a' alike g.0 h.0);
+  gives = λ b b' a a' x y alike g h. (one_read longest_key name b b' alike x y g.1.read h.1.read, alike_after _ _ b b' a a' alike g.0 h.0);
   declines = λ b b' a a' r q alike g h. one_no_key name b b' alike r q g.1 h.1;
   never = λ b b' a a' x q alike g h. key_not_both name b b' alike x q g.1 h.1;
 }

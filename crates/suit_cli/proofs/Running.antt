@@ -1,5 +1,5 @@
 -- What a run that had an answer and put it says of its status.
-use Rattle.std.proofs.Common.{◌≡◌, ℕ, List, Some, None, ◌⊎◌, inl, inr, refl, sym, subst, ◌∙◌, ◌+◌, arith}
+use Rattle.std.proofs.Common.{◌≡◌, ℕ, List, [], ◌∷◌, ◌++◌, Some, None, ◌⊎◌, inl, inr, refl, sym, subst, ◌∙◌, ◌+◌, arith}
 use Rattle.std.specs.Prelude.{IsTrue}
 use Rattle.std.proofs.lemmas.Option.{same_Some}
 use Rattle.suit_commands.specs.Tree.{PlanTree}
@@ -18,8 +18,8 @@ use Rattle.suit_cli.specs.declared.reply.Outcome.{Outcome}
 use Rattle.suit_cli.specs.declared.reply.Outcome.TheVariants as outcomes
 use Rattle.suit_cli.specs.Replies.{IsReply}
 use Rattle.suit_cli.specs.Words.{Task, Check, Show, task_of}
-use Rattle.suit_cli.specs.Outside.{Outside, Quiet, Reads}
-use Rattle.suit_cli.specs.Stages.{Ending, Says, HostFault, NoMemory, Answers, Goes, Declines, Last, Ends}
+use Rattle.suit_cli.specs.Outside.{Outside, Quiet, Asks, MayAsk, Reads}
+use Rattle.suit_cli.specs.Stages.{Ending, Says, HostFault, NoMemory, Answers, Goes, Declines, Faults, Last, Ends}
 use Rattle.suit_cli.specs.Statuses.{status_of, ending_status}
 use Rattle.suit_cli.specs.Inputs.{longest_file, longest_key, IsUnread, IsAbsent, IsTooLong, IsNoKey, IsUnreadKey, IsEmptyKey}
 use Rattle.suit_cli.specs.Envelopes.{TellsLack}
@@ -30,7 +30,7 @@ use Rattle.suit_cli.specs.Shown.{IsShown, authenticity_outcome}
 use Rattle.suit_cli.specs.Commands.{in_manifest, judges_manifest, checks, shows_manifest, shows, does}
 use Rattle.suit_cli.specs.Program.{answers}
 use Rattle.suit_cli.proofs.BadPathLaws.{IsBadPath-not_safe}
-use Rattle.suit_cli.proofs.OneStage.{Alike, alike_self, passes, stands, one_reply, one_file, one_envelope, one_short, one_manifest, one_members, one_narrow}
+use Rattle.suit_cli.proofs.OneStage.{Alike, alike_self, asks_for, asks_reads, alike_asked, passes, stands, one_reply, one_file, one_envelope, one_short, one_manifest, one_members, one_narrow}
 
 -- ---- the outcomes of stages that decline
 
@@ -94,6 +94,7 @@ pub record Reached (name : List ℕ) (next : EnvelopeSays → Manifest → Answe
   pub has : HasManifest name b said manifest
   pub there : Outside
   pub quiet : Quiet (longest_file + 1) b there
+  pub asks : Asks (name ∷ []) b there
   pub on : next said manifest there a (Says r)
 
 pub reaches : (name : List ℕ) (next : EnvelopeSays → Manifest → Answers) (b a : Outside) (r : Reply) → in_manifest name next b a (Says r) → NoManifest name b r ⊎ Reached name next b a r
@@ -110,6 +111,33 @@ reaches name next b a r (Goes bytes m0 _ read (Goes said m1 _ env (Goes u m2 _ s
       has = record { in_envelope = record { bytes = bytes; read = read.1; are_bytes = env.1.0; envelope = env.1.1 }; is_short = short.1; says = man.1 };
       there = m3;
       quiet = subst (λ (o : Outside). Quiet (longest_file + 1) b o) (sym (man.0 ∙ short.0 ∙ env.0)) read.0.quiet;
+      asks = subst (λ (o : Outside). Asks (name ∷ []) b o) (sym (man.0 ∙ short.0 ∙ env.0)) read.0.asks;
+      on = rest;
+    })
+
+-- a fault comes at the file, or behind the manifest
+pub record ReachedFault (name : List ℕ) (next : EnvelopeSays → Manifest → Answers) (b a : Outside) : Type 0 where
+  pub said : EnvelopeSays
+  pub manifest : Manifest
+  pub has : HasManifest name b said manifest
+  pub there : Outside
+  pub quiet : Quiet (longest_file + 1) b there
+  pub asks : Asks (name ∷ []) b there
+  pub on : next said manifest there a HostFault
+
+pub reaches_fault : (name : List ℕ) (next : EnvelopeSays → Manifest → Answers) (b a : Outside) → in_manifest name next b a HostFault → MayAsk name b a ⊎ ReachedFault name next b a
+reaches_fault name next b a (Faults f) = inl f.asks
+reaches_fault name next b a (Goes bytes m0 _ read (Faults f)) = absurd f
+reaches_fault name next b a (Goes bytes m0 _ read (Goes said m1 _ env (Faults f))) = absurd f
+reaches_fault name next b a (Goes bytes m0 _ read (Goes said m1 _ env (Goes u m2 _ short (Faults f)))) = absurd f
+reaches_fault name next b a (Goes bytes m0 _ read (Goes said m1 _ env (Goes u m2 _ short (Goes manifest m3 _ man rest)))) =
+    inr (record {
+      said = said;
+      manifest = manifest;
+      has = record { in_envelope = record { bytes = bytes; read = read.1; are_bytes = env.1.0; envelope = env.1.1 }; is_short = short.1; says = man.1 };
+      there = m3;
+      quiet = subst (λ (o : Outside). Quiet (longest_file + 1) b o) (sym (man.0 ∙ short.0 ∙ env.0)) read.0.quiet;
+      asks = subst (λ (o : Outside). Asks (name ∷ []) b o) (sym (man.0 ∙ short.0 ∙ env.0)) read.0.asks;
       on = rest;
     })
 
@@ -120,8 +148,8 @@ no_manifest_declines name b r (AtLength said has long) = declining r _ _ long.sa
 no_manifest_declines name b r (AtManifest said has short bad) = declining r _ _ bad.says tt
 
 module _ (envelopes : EnvelopeLaws) (manifests : ManifestLaws) (name : List ℕ) (next : EnvelopeSays → Manifest → Answers) (b a : Outside) (told : IsTrue b.told) (q : Reply) where
-  still : Reads (longest_file + 1) b b
-  still = record { quiet = record { told = refl; files = λ t. refl; pulled = λ t. omega arith }; faults = refl }
+  still : Reads (longest_file + 1) name b (asks_for name b)
+  still = asks_reads (longest_file + 1) name b
 
   alike : Alike b b
   alike = alike_self b told
@@ -130,24 +158,24 @@ module _ (envelopes : EnvelopeLaws) (manifests : ManifestLaws) (name : List ℕ)
   pub manifest_passed : (said : EnvelopeSays) (manifest : Manifest) → HasManifest name b said manifest → in_manifest name next b a (Says q) → (m : Outside) × Alike b m × next said manifest m a (Says q)
   manifest_passed said manifest has answer =
       let e = has.in_envelope in
-      let s0 = passes _ _ (one_file longest_file name) b b b a q alike e.bytes (still, e.read) answer in
-      let s1 = passes _ _ (one_envelope envelopes e.bytes) b s0.0 b a q s0.1 said (refl, (e.are_bytes, e.envelope)) s0.2 in
+      let s0 = passes _ _ (one_file longest_file name) b b (asks_for name b) a q alike e.bytes (still, e.read) answer in
+      let s1 = passes _ _ (one_envelope envelopes e.bytes) b s0.0 b a q (alike_asked name b s0.0 s0.1) said (refl, (e.are_bytes, e.envelope)) s0.2 in
       let s2 = passes _ _ (one_short said) b s1.0 b a q s1.1 tt (refl, has.is_short) s1.2 in
       passes _ _ (one_manifest envelopes manifests e.bytes said e.envelope) b s2.0 b a q s2.1 manifest (refl, has.says) s2.2
 
   -- and what stops it before has the last word
   pub no_manifest_stands : (r : Reply) → NoManifest name b r → in_manifest name next b a (Says q) → q ≡ r
-  no_manifest_stands r (AtFile u) answer = stands _ _ (one_file longest_file name) b b b a q alike r (still, u) answer
+  no_manifest_stands r (AtFile u) answer = stands _ _ (one_file longest_file name) b b (asks_for name b) a q alike r (still, u) answer
   no_manifest_stands r (AtEnvelope bytes read all bad) answer =
-      let s0 = passes _ _ (one_file longest_file name) b b b a q alike bytes (still, read) answer in
-      stands _ _ (one_envelope envelopes bytes) b s0.0 b a q s0.1 r (refl, (all, bad)) s0.2
+      let s0 = passes _ _ (one_file longest_file name) b b (asks_for name b) a q alike bytes (still, read) answer in
+      stands _ _ (one_envelope envelopes bytes) b s0.0 b a q (alike_asked name b s0.0 s0.1) r (refl, (all, bad)) s0.2
   no_manifest_stands r (AtLength said e long) answer =
-      let s0 = passes _ _ (one_file longest_file name) b b b a q alike e.bytes (still, e.read) answer in
-      let s1 = passes _ _ (one_envelope envelopes e.bytes) b s0.0 b a q s0.1 said (refl, (e.are_bytes, e.envelope)) s0.2 in
+      let s0 = passes _ _ (one_file longest_file name) b b (asks_for name b) a q alike e.bytes (still, e.read) answer in
+      let s1 = passes _ _ (one_envelope envelopes e.bytes) b s0.0 b a q (alike_asked name b s0.0 s0.1) said (refl, (e.are_bytes, e.envelope)) s0.2 in
       stands _ _ (one_short said) b s1.0 b a q s1.1 r (refl, long) s1.2
   no_manifest_stands r (AtManifest said e short bad) answer =
-      let s0 = passes _ _ (one_file longest_file name) b b b a q alike e.bytes (still, e.read) answer in
-      let s1 = passes _ _ (one_envelope envelopes e.bytes) b s0.0 b a q s0.1 said (refl, (e.are_bytes, e.envelope)) s0.2 in
+      let s0 = passes _ _ (one_file longest_file name) b b (asks_for name b) a q alike e.bytes (still, e.read) answer in
+      let s1 = passes _ _ (one_envelope envelopes e.bytes) b s0.0 b a q (alike_asked name b s0.0 s0.1) said (refl, (e.are_bytes, e.envelope)) s0.2 in
       let s2 = passes _ _ (one_short said) b s1.0 b a q s1.1 tt (refl, short) s1.2 in
       stands _ _ (one_manifest envelopes manifests e.bytes said e.envelope) b s2.0 b a q s2.1 r (refl, bad) s2.2
 
@@ -177,6 +205,34 @@ check_says name b a r answer = of_reached (reaches name judges_manifest b a r an
   of_reached : NoManifest name b r ⊎ Reached name judges_manifest b a r → CheckSays name b r
   of_reached (inl none) = BeforeMembers none
   of_reached (inr at) = judges_says name b at.there a r at.said at.manifest at.has at.on
+
+-- what it asks for
+judges_still : (said : EnvelopeSays) (manifest : Manifest) (m a : Outside) (r : Reply) → judges_manifest said manifest m a (Says r) → a ≡ m
+judges_still said manifest m a r (Declines _ d) = d.0
+judges_still said manifest m a r (Goes members m0 _ mem (Declines _ d)) = d.0 ∙ mem.0
+judges_still said manifest m a r (Goes members m0 _ mem (Goes v m1 _ first (Declines _ d))) = d.0 ∙ first.0 ∙ mem.0
+judges_still said manifest m a r (Goes members m0 _ mem (Goes v m1 _ first (Goes w m2 _ second (Ends _ same judged)))) = same ∙ second.0 ∙ first.0 ∙ mem.0
+
+judges_never_fault : (said : EnvelopeSays) (manifest : Manifest) (m a : Outside) → judges_manifest said manifest m a HostFault → ⊥
+judges_never_fault said manifest m a (Faults f) = f
+judges_never_fault said manifest m a (Goes members m0 _ mem (Faults f)) = f
+judges_never_fault said manifest m a (Goes members m0 _ mem (Goes v m1 _ first (Faults f))) = f
+judges_never_fault said manifest m a (Goes members m0 _ mem (Goes v m1 _ first (Goes _ middle _ _ last))) = elim last [ ]
+
+pub check_faults : (name : List ℕ) (b a : Outside) → checks name b a HostFault → MayAsk name b a
+check_faults name b a answer = of_reached (reaches_fault name judges_manifest b a answer) where
+  of_reached : MayAsk name b a ⊎ ReachedFault name judges_manifest b a → MayAsk name b a
+  of_reached (inl asks) = asks
+  of_reached (inr at) = absurd (judges_never_fault at.said at.manifest at.there a at.on)
+
+pub check_asks : (name : List ℕ) (b a : Outside) (r : Reply) → checks name b a (Says r) → Asks (name ∷ []) b a
+check_asks name b a r (Declines _ d) = d.0.asks
+check_asks name b a r (Goes bytes m0 _ read (Declines _ d)) = subst (λ (o : Outside). Asks (name ∷ []) b o) (sym d.0) read.0.asks
+check_asks name b a r (Goes bytes m0 _ read (Goes said m1 _ env (Declines _ d))) = subst (λ (o : Outside). Asks (name ∷ []) b o) (sym (d.0 ∙ env.0)) read.0.asks
+check_asks name b a r (Goes bytes m0 _ read (Goes said m1 _ env (Goes u m2 _ short (Declines _ d)))) =
+    subst (λ (o : Outside). Asks (name ∷ []) b o) (sym (d.0 ∙ short.0 ∙ env.0)) read.0.asks
+check_asks name b a r (Goes bytes m0 _ read (Goes said m1 _ env (Goes u m2 _ short (Goes manifest m3 _ man rest)))) =
+    subst (λ (o : Outside). Asks (name ∷ []) b o) (sym (judges_still said manifest m3 a r rest ∙ man.0 ∙ short.0 ∙ env.0)) read.0.asks
 
 -- it declines, or judges both procedures
 pub record IsJudged (name : List ℕ) (before : Outside) (reply : Reply) : Type 0 where

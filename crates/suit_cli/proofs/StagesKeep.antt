@@ -4,7 +4,7 @@ use Rattle.std.specs.Prelude.{IsTrue}
 use Rattle.suit_edge.specs.Faults.{Faulted}
 use Rattle.suit_cli.specs.declared.reply.Reply.{Reply}
 use Rattle.suit_cli.specs.Words.{Task, Check, Show, task_of}
-use Rattle.suit_cli.specs.Outside.{Outside, Quiet, Reads, Fails}
+use Rattle.suit_cli.specs.Outside.{Outside, Quiet}
 use Rattle.suit_cli.specs.Stages.{Ending, Says, HostFault, NoMemory, Answers, Stage, judging, reading, Then, Goes, Declines, Faults, Lacks, Last, Ends, EndsWithout}
 use Rattle.suit_cli.specs.Inputs.{longest_file, longest_key}
 use Rattle.suit_cli.specs.Commands.{checks, shows, does}
@@ -23,19 +23,28 @@ pub record KeptBy (most : ℕ) (e : Ending) (b a : Outside) : Type 0 where
 abbrev pub Keeps : ℕ → Answers → Type 0
 Keeps most answers = (b a : Outside) (e : Ending) → answers b a e → KeptBy most e b a
 
+-- no fault was counted, or one was
+pub record Calm (most : ℕ) (b a : Outside) : Type 0 where
+  pub quiet : Quiet most b a
+  pub faults : a.faults ≡ b.faults
+
+pub record Faulty (most : ℕ) (b a : Outside) : Type 0 where
+  pub quiet : Quiet most b a
+  pub faulted : Faulted b.faults a.faults
+
 pub record StageKeeps {A : Type 0} (most : ℕ) (stage : Stage A) : Type 0 where
-  pub gives : (b a : Outside) (x : A) → stage.gives b a x → Reads most b a
-  pub declines : (b a : Outside) (r : Reply) → stage.declines b a r → Reads most b a
-  pub faults : (b a : Outside) → stage.faults b a → Fails most b a
-  pub lacks : (b a : Outside) → stage.lacks b a → Reads most b a
+  pub gives : (b a : Outside) (x : A) → stage.gives b a x → Calm most b a
+  pub declines : (b a : Outside) (r : Reply) → stage.declines b a r → Calm most b a
+  pub faults : (b a : Outside) → stage.faults b a → Faulty most b a
+  pub lacks : (b a : Outside) → stage.lacks b a → Calm most b a
 
 -- ---- joining
 
 pub same_quiet : (most : ℕ) (b a : Outside) → a ≡ b → Quiet most b a
 same_quiet most b a same = subst (λ (o : Outside). Quiet most b o) (sym same) (record { told = refl; files = λ t. refl; pulled = λ t. omega arith })
 
-same_reads : (most : ℕ) (b a : Outside) → a ≡ b → Reads most b a
-same_reads most b a same = record { quiet = same_quiet most b a same; faults = ap (λ (o : Outside). o.faults) same }
+same_calm : (most : ℕ) (b a : Outside) → a ≡ b → Calm most b a
+same_calm most b a same = record { quiet = same_quiet most b a same; faults = ap (λ (o : Outside). o.faults) same }
 
 quiet_more : (n m : ℕ) (b a : Outside) → Quiet n b a → Quiet (n + m) b a
 quiet_more n m b a q = record { told = q.told; files = q.files; pulled = λ t. let h = q.pulled t in omega (arith, h) }
@@ -64,14 +73,19 @@ module _ {A : Type 0} (n m : ℕ) (stage : Stage A) (next : A → Answers) (keep
 
 pub judging_keeps : {A : Type 0} (good : A → Type 0) (bad : Reply → Type 0) → StageKeeps 0 (judging good bad)
 judging_keeps good bad = record {
-  gives = λ b a x g. same_reads 0 b a g.0;
-  declines = λ b a r d. same_reads 0 b a d.0;
+  gives = λ b a x g. same_calm 0 b a g.0;
+  declines = λ b a r d. same_calm 0 b a d.0;
   faults = λ b a f. absurd f;
-  lacks = λ b a l. same_reads 0 b a l;
+  lacks = λ b a l. same_calm 0 b a l;
 }
 
-pub reading_keeps : {A : Type 0} (most : ℕ) (good : Outside → A → Type 0) (bad : Outside → Reply → Type 0) → StageKeeps most (reading most good bad)
-reading_keeps most good bad = record { gives = λ b a x g. g.0; declines = λ b a r d. d.0; faults = λ b a f. f; lacks = λ b a l. l }
+pub reading_keeps : {A : Type 0} (most : ℕ) (name : List ℕ) (good : Outside → A → Type 0) (bad : Outside → Reply → Type 0) → StageKeeps most (reading most name good bad)
+reading_keeps most name good bad = record {
+  gives = λ b a x g. record { quiet = g.0.quiet; faults = g.0.faults };
+  declines = λ b a r d. record { quiet = d.0.quiet; faults = d.0.faults };
+  faults = λ b a f. record { quiet = f.quiet; faulted = f.faulted };
+  lacks = λ b a l. record { quiet = l.quiet; faults = l.faults };
+}
 
 pub last_keeps : (says : Reply → Type 0) → Keeps 0 (Last says)
 last_keeps says b a _ (Ends r same is) = record { quiet = same_quiet 0 b a same; counts = ap (λ (o : Outside). o.faults) same }
@@ -81,14 +95,14 @@ last_keeps says b a _ (EndsWithout same) = record { quiet = same_quiet 0 b a sam
 
 pub checks_keeps : (name : List ℕ) → Keeps (longest_file + 1) (checks name)
 checks_keeps name =
-    then_keeps 1048577 0 _ _ (reading_keeps _ _ _) (λ bytes. then_keeps 0 0 _ _ (judging_keeps _ _) (λ said. then_keeps 0 0 _ _ (judging_keeps _ _) (λ u.
+    then_keeps 1048577 0 _ _ (reading_keeps _ _ _ _) (λ bytes. then_keeps 0 0 _ _ (judging_keeps _ _) (λ said. then_keeps 0 0 _ _ (judging_keeps _ _) (λ u.
     then_keeps 0 0 _ _ (judging_keeps _ _) (λ manifest. then_keeps 0 0 _ _ (judging_keeps _ _) (λ members. then_keeps 0 0 _ _ (judging_keeps _ _) (λ v.
     then_keeps 0 0 _ _ (judging_keeps _ _) (λ w. last_keeps _)))))))
 
 pub shows_keeps : (name key_name : List ℕ) → Keeps ((longest_file + 1) + (longest_key + 1)) (shows name key_name)
 shows_keeps name key_name =
-    then_keeps 1048577 65 _ _ (reading_keeps _ _ _) (λ bytes. then_keeps 0 65 _ _ (judging_keeps _ _) (λ said. then_keeps 0 65 _ _ (judging_keeps _ _) (λ u.
-    then_keeps 0 65 _ _ (judging_keeps _ _) (λ manifest. then_keeps 65 0 _ _ (reading_keeps _ _ _) (λ key. last_keeps _)))))
+    then_keeps 1048577 65 _ _ (reading_keeps _ _ _ _) (λ bytes. then_keeps 0 65 _ _ (judging_keeps _ _) (λ said. then_keeps 0 65 _ _ (judging_keeps _ _) (λ u.
+    then_keeps 0 65 _ _ (judging_keeps _ _) (λ manifest. then_keeps 65 0 _ _ (reading_keeps _ _ _ _) (λ key. last_keeps _)))))
 
 does_keeps : (task : Task) → Keeps (most_pulled (Some task)) (does task)
 does_keeps (Check name) = checks_keeps name

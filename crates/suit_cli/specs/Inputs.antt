@@ -32,7 +32,7 @@ pub data IsUnread (limit : ℕ) (name : List ℕ) (before : Outside) (reply : Re
 
 -- the whole file; one byte more than the limit shows that it is too long
 abbrev pub file : ℕ → List ℕ → Stage (List ℕ)
-file limit name = reading (limit + 1) (IsRead limit name) (IsUnread limit name)
+file limit name = reading (limit + 1) name (IsRead limit name) (IsUnread limit name)
 
 -- ---- the key
 
@@ -46,4 +46,4 @@ pub data IsNoKey (name : List ℕ) (before : Outside) (reply : Reply) : Type 0 w
   IsEmptyKey : IsRead longest_key name before [] → IsReply reply outcomes.Refused empty_key_line → IsNoKey name before reply
 
 abbrev pub key_in : List ℕ → Stage (List ℕ)
-key_in name = reading (longest_key + 1) (IsKey name) (IsNoKey name)
+key_in name = reading (longest_key + 1) name (IsKey name) (IsNoKey name)

@@ -1,32 +1,44 @@
 -- What a command finds outside of it, and what it leaves there.
-use Rattle.std.specs.Prelude.{◌≡◌, ◌≤◌, ◌+◌, ℕ, Bool, IsTrue, List, Option}
+use Rattle.std.specs.Prelude.{◌≡◌, ◌⊎◌, ◌≤◌, ◌+◌, ℕ, Bool, IsTrue, List, [], ◌∷◌, ◌++◌, Option}
 use Rattle.suit_edge.specs.Faults.{Faulted}
 
 -- the bytes of the files, by their names
 abbrev pub Files : Type 0
 Files = List ℕ → Option (List ℕ)
 
--- The outside at a moment. Files, and the number of bytes that were pulled from them, count where the host tells of them.
+-- The outside at a moment. Files, the number of bytes that were pulled from them, and the names that were asked for, count
+-- where the host tells of them.
 pub record Outside : Type 0 where
   pub told : Bool
   pub files : Files
   pub pulled : ℕ
+  pub asked : List (List ℕ)
   pub faults : ℕ
 
--- nothing changed but that at most so many bytes were pulled, whatever became of the count of faults
+-- nothing changed but that at most so many bytes were pulled, whatever names were asked for and became of the count of faults
 pub record Quiet (most : ℕ) (before after : Outside) : Type 0 where
   pub told : after.told ≡ before.told
   pub files : IsTrue before.told → after.files ≡ before.files
   pub pulled : IsTrue before.told → after.pulled ≤ before.pulled + most
 
--- and no fault was counted
-pub record Reads (most : ℕ) (before after : Outside) : Type 0 where
+-- these names were asked for, in their order, after all others
+abbrev pub Asks : List (List ℕ) → Outside → Outside → Type 0
+Asks names before after = IsTrue before.told → after.asked ≡ before.asked ++ names
+
+-- this one was, and no other; or a fault came before the host told it
+abbrev pub MayAsk : List ℕ → Outside → Outside → Type 0
+MayAsk name before after = IsTrue before.told → (after.asked ≡ before.asked) ⊎ (after.asked ≡ before.asked ++ name ∷ [])
+
+-- so much was pulled of the file with that name, and no fault was counted
+pub record Reads (most : ℕ) (name : List ℕ) (before after : Outside) : Type 0 where
   pub quiet : Quiet most before after
+  pub asks : Asks (name ∷ []) before after
   pub faults : after.faults ≡ before.faults
 
--- or the host counted one
-pub record Fails (most : ℕ) (before after : Outside) : Type 0 where
+-- or the host counted one at that file
+pub record Fails (most : ℕ) (name : List ℕ) (before after : Outside) : Type 0 where
   pub quiet : Quiet most before after
+  pub asks : MayAsk name before after
   pub faulted : Faulted before.faults after.faults
 
 -- the sink at a moment: the bytes that were put, where it tells of them

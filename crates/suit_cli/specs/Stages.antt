@@ -1,5 +1,5 @@
 -- An answer is made in stages, one after another.
-use Rattle.std.specs.Prelude.{◌≡◌, ℕ, Result, Ok, Err}
+use Rattle.std.specs.Prelude.{◌≡◌, ℕ, List, Result, Ok, Err}
 use Rattle.suit_cli.specs.declared.reply.Reply.{Reply}
 use Rattle.suit_cli.specs.declared.reply.Stop.{Stop}
 use Rattle.suit_cli.specs.declared.reply.Stop.TheVariants as stops
@@ -33,13 +33,13 @@ judging good bad = record {
   lacks = λ before after. after ≡ before;
 }
 
--- reading pulls at most so many bytes, and judges what it found
-abbrev pub reading : {A : Type 0} → ℕ → (Outside → A → Type 0) → (Outside → Reply → Type 0) → Stage A
-reading most good bad = record {
-  gives = λ before after a. Reads most before after × good before a;
-  declines = λ before after reply. Reads most before after × bad before reply;
-  faults = Fails most;
-  lacks = Reads most;
+-- reading pulls at most so many bytes of the file with a name, and of no other, and judges what it found
+abbrev pub reading : {A : Type 0} → ℕ → List ℕ → (Outside → A → Type 0) → (Outside → Reply → Type 0) → Stage A
+reading most name good bad = record {
+  gives = λ before after a. Reads most name before after × good before a;
+  declines = λ before after reply. Reads most name before after × bad before reply;
+  faults = Fails most name;
+  lacks = Reads most name;
 }
 
 -- ---- one stage after another

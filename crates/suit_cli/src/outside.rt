@@ -6,14 +6,15 @@ use suit_edge::{Host, Sink};
 pub trait SeenHost: Host {
     ghost use Rattle.suit_cli.specs.Outside.{Outside};
 
-    /// What it tells of its files and of the bytes that were pulled from them, and its count of faults.
+    /// What it tells of its files, of the bytes that were pulled from them and of the names that were asked for, and its
+    /// count of faults.
     ghost seen: { Self → Outside };
 }
 
 impl<H: Host> SeenHost for H {
     ghost use Rattle.suit_cli.specs.Outside.{Outside};
 
-    ghost seen = { λ h. record { told = H.told; files = H.file h; pulled = H.pulled h; faults = H.faults h } };
+    ghost seen = { λ h. record { told = H.told; files = H.file h; pulled = H.pulled h; asked = H.asked h; faults = H.faults h } };
 }
 
 /// A sink at a moment.
