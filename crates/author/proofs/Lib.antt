@@ -1,4 +1,5 @@
 pub mod Growing
+pub mod ParamPlaces
 pub mod Counts
 pub mod Naming
 pub mod OneFault
@@ -6,3 +7,12 @@ pub mod Likes
 pub mod SameFlaws
 pub mod SameSequences
 pub mod SameFields
+pub mod Keeps
+pub mod ParamGrammar
+pub mod Grammar
+pub mod OneItem
+pub mod DescriptionGrammar
+pub mod DescriptionLawProofs
+pub mod PayloadsAscend
+pub mod MadeAnswers
+pub mod MadeWrappers

@@ -1,6 +1,6 @@
 -- What is wrong with a description, and which components it has, does not depend on its files.
 use Rattle.std.proofs.Common.{◌≡◌, ℕ, List, [], Bool, false, true, Option, Some, None, Result, Ok, Err, refl, ap, arith}
-use Rattle.std.specs.Prelude.{is_some, codes}
+use Rattle.std.specs.Prelude.{is_some, unwrap_or, codes}
 use mathlib.Core.Logic.{∥∥₁_elim}
 use Rattle.serde_json.specs.Data.{Data}
 use Rattle.serde_json.specs.Find.{as_object}
@@ -64,7 +64,7 @@ module _ (f g : Files) where
     like_known : (t u : Fields) (name : Option FieldName) (d : Data) → FieldsLike t u → Like FieldsLike (takes_known t name d) (takes_known u name d)
     like_known t u None d h = BothFlawed _
     like_known t u (Some names.SequenceNumber) d h = like_then FieldsLike _ _ _ (λ n. BothRead _ _ (h.0, h.1, h.2, refl))
-    like_known t u (Some names.Components) d h = like_then FieldsLike _ _ _ (λ ids. BothRead _ _ (h.0, h.1, refl, h.3))
+    like_known t u (Some names.Components) d h = like_then FieldsLike _ _ _ (λ ids. BothRead _ _ (h.0, h.1, ap (λ (o : Option (List (List (List ℕ)))). Some (unwrap_or o ids)) h.2, h.3))
     like_known t u (Some names.Reference) d h = like_then FieldsLike _ _ _ (λ text. BothRead _ _ h)
     like_known t u (Some names.Shared) d h = like_bind Any FieldsLike _ _ _ _ (like_commands t u true d h) (λ x y e. BothRead _ _ h)
     like_known t u (Some names.Validate) d h = like_bind Any FieldsLike _ _ _ _ (like_commands t u false d h) (λ x y e. BothRead _ _ h)

@@ -1,5 +1,5 @@
 -- What a description stands for, where its files have these bytes; or the first flaw of its fields.
-use Rattle.std.specs.Prelude.{ℕ, ◌^◌, ◌-◌, nat_lt, Bool, true, false, if◌then◌else◌, List, [], codes, Option, Some, None, Result, Ok}
+use Rattle.std.specs.Prelude.{ℕ, ◌^◌, ◌-◌, nat_lt, Bool, true, false, if◌then◌else◌, List, [], codes, Option, Some, None, unwrap_or, Result, Ok}
 use Rattle.det_cbor.specs.HeadReading.{◌>>=◌}
 use Rattle.serde_json.specs.Data.{Data}
 use Rattle.serde_json.specs.Events.{items_len}
@@ -62,10 +62,11 @@ scope_of t shared = record { files = t.source.files; shared = shared; count = t.
 abbrev pub field_sequence : Fields → Bool → Data → Result SequenceTree Flaw
 field_sequence t shared d = member_sequence (scope_of t shared) d
 
+-- an object has each key once; of components that stand twice the first would count, as they do above
 abbrev pub takes_known : Fields → Option FieldName → Data → Result Fields Flaw
 takes_known t None d = flawed Field
 takes_known t (Some names.SequenceNumber) d = number_of d >>= λ n. Ok (record t { sequence = Some n })
-takes_known t (Some names.Components) d = identifiers_of d >>= λ ids. Ok (record t { components = Some ids })
+takes_known t (Some names.Components) d = identifiers_of d >>= λ ids. Ok (record t { components = Some (unwrap_or t.components ids) })
 takes_known t (Some names.Reference) d = text_of d >>= λ text. Ok (record t { reference = Some text })
 takes_known t (Some names.Shared) d = field_sequence t true d >>= λ s. Ok (record t { shared = Some s })
 takes_known t (Some names.Validate) d = field_sequence t false d >>= λ s. Ok (record t { validate = Some s })

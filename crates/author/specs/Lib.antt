@@ -18,3 +18,6 @@ pub mod FileNames
 pub mod Faults
 pub mod Held
 pub mod Making
+pub mod Severances
+pub mod MadeEnvelopes
+pub mod DescriptionLaws

@@ -1,5 +1,8 @@
 -- Parameters of a description: an object, from names to values.
-use Rattle.std.specs.Prelude.{ℕ, ◌^◌, ◌-◌, nat_lt, if◌then◌else◌, List, [], ◌∷◌, Option, Some, None, Result, Ok}
+use Rattle.std.specs.Prelude.{◌≡◌, ◌<◌, ◌≤◌, ℕ, ◌^◌, ◌-◌, nat_lt, if◌then◌else◌, List, [], ◌∷◌, length, Option, Some, None, Result, Ok, Err}
+use Rattle.std.specs.List.{insert, slice_set}
+use Rattle.std.specs.declared.cmp.Ordering.{Ordering}
+use Rattle.std.specs.Ordering.{nat_cmp, match_ordering}
 use Rattle.det_cbor.specs.HeadReading.{◌>>=◌}
 use Rattle.serde_json.specs.Data.{Data}
 use Rattle.json_fields.specs.declared.flaw.Flaw.{Flaw}
@@ -37,10 +40,18 @@ param_value scope keys.Uri d = text_of d >>= λ text. Ok (params.Uri text)
 param_value scope keys.Source d = index_of scope.count d >>= λ i. Ok (params.Source i)
 param_value scope keys.Args d = hex_of d >>= λ bytes. Ok (params.Args bytes)
 
--- a parameter in its place among those that ascend by number
+abbrev pub param_order : Param → Param → Ordering
+param_order p q = nat_cmp (key_number (key_of p)) (key_number (key_of q))
+
+-- a parameter in its place among those that ascend by number, in place of one under the same key
 abbrev pub placed_among : Param → List Param → List Param
 placed_among p [] = p ∷ []
-placed_among p (q ∷ qs) = if nat_lt (key_number (key_of p)) (key_number (key_of q)) then p ∷ q ∷ qs else q ∷ placed_among p qs
+placed_among p (q ∷ qs) = match_ordering (param_order p q) (p ∷ q ∷ qs) (p ∷ qs) (q ∷ placed_among p qs)
+
+-- where one of the same key is, or else where the parameter is put
+abbrev pub IsPlaceOf : List Param → Param → Result ℕ ℕ → Type 0
+IsPlaceOf list p (Ok i) = (i < length list) × (slice_set list i p ≡ placed_among p list)
+IsPlaceOf list p (Err i) = (i ≤ length list) × (insert list i p ≡ placed_among p list)
 
 -- the parameters that were read
 pub record ParamsSoFar : Type 0 where

@@ -1,5 +1,6 @@
--- Integrated payloads of a description: an object from keys to `{"file": NAME}` or `{"hex": HEX}`.
-use Rattle.std.specs.Prelude.{ℕ, if◌then◌else◌, List, [], ◌∷◌, ◌++◌, codes, Option, Some, None, Result, Ok}
+-- Integrated payloads of a description: an object from keys to `{"file": NAME}` or `{"hex": HEX}`. They stand in the order
+-- of an envelope's map.
+use Rattle.std.specs.Prelude.{ℕ, if◌then◌else◌, List, [], codes, Option, Some, None, Result, Ok}
 use Rattle.std.specs.Str.{bytes_eq}
 use Rattle.det_cbor.specs.HeadReading.{◌>>=◌}
 use Rattle.serde_json.specs.Data.{Data}
@@ -8,6 +9,7 @@ use Rattle.json_fields.specs.declared.flaw.FlawKind.TheVariants.{Field}
 use Rattle.json_fields.specs.Flaws.{flawed}
 use Rattle.json_fields.specs.Values.{text_of, hex_of}
 use Rattle.json_fields.specs.Objects.{Takes, object_of}
+use Rattle.suit_envelope.specs.PayloadOrder.{put_payload}
 use Rattle.author.specs.declared.payload_fields.PayloadField.{PayloadField}
 use Rattle.author.specs.Files.{bytes_of}
 
@@ -33,7 +35,7 @@ pub record PayloadsSoFar : Type 0 where
   pub list : List (List ℕ × List ℕ)
 
 abbrev pub takes_payload : Takes PayloadsSoFar
-takes_payload t key d = payload_of t.files d >>= λ bytes. Ok (record t { list = t.list ++ (key, bytes) ∷ [] })
+takes_payload t key d = payload_of t.files d >>= λ bytes. Ok (record t { list = put_payload (key, bytes) t.list })
 
 abbrev pub payloads_of : List (List ℕ × List ℕ) → Data → Result (List (List ℕ × List ℕ)) Flaw
 payloads_of files d = object_of takes_payload (record { files = files; list = [] }) d >>= λ t. Ok t.list

@@ -72,7 +72,9 @@ impl Draft for Fields<'_> {
         };
         match name {
             FieldName::SequenceNumber => self.sequence = Some(whole(alloc, value)?),
-            FieldName::Components => self.components = Some(identifiers(alloc, value)?),
+            FieldName::Components => {
+                self.components.get_or_insert(identifiers(alloc, value)?);
+            }
             FieldName::Reference => self.reference = Some(text(alloc, value)?),
             FieldName::Shared => self.shared = Some(self.commands(alloc, value, true)?),
             FieldName::Validate => self.validate = Some(self.commands(alloc, value, false)?),
@@ -117,7 +119,7 @@ pub(crate) struct Described {
     pub(crate) manifest: Manifest,
     /// Which of the members are severed.
     pub(crate) severed: Severed,
-    /// By ascending keys.
+    /// In the order of an envelope's map.
     pub(crate) payloads: PayloadList,
     /// The name of the key.
     pub(crate) kid: Option<Bytes>,

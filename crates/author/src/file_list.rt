@@ -1,9 +1,9 @@
 //! Files by their names.
 
 ghost use Rattle.std.specs.Prelude.{◌≡◌, [], ◌∷◌, ◌++◌, length, OnOk, OnErr};
-ghost use Rattle.author.specs.Files.{bytes_of};
+ghost use Rattle.author.specs.Files.{bytes_of, has_file, has_files};
 
-use det_cbor::{Bytes, Text};
+use det_cbor::{Bytes, Names, Text};
 use std::alloc::{AllocError, Global};
 use std::marker::Model;
 
@@ -44,6 +44,30 @@ impl FileList {
         ensures { result ≡ length self.now }
     {
         self.held.len()
+    }
+
+    /// Whether there is a file of this name.
+    pub fn has(&self, name: &str) -> bool
+        ensures { result ≡ has_file self.now name.now }
+    {
+        for (other, _) in &self.held {
+            if other.as_str() == name {
+                return true;
+            }
+        }
+        false
+    }
+
+    /// Whether there is a file of each of these names.
+    pub fn has_all(&self, names: &Names) -> bool
+        ensures { result ≡ has_files self.now names.now }
+    {
+        for name in names.as_slice() {
+            if !self.has(name.as_str()) {
+                return false;
+            }
+        }
+        true
     }
 
     /// The bytes of the first file of a name, and no bytes where there is none.

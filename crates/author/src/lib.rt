@@ -15,6 +15,10 @@ mod file_value;
 mod held;
 mod identifiers;
 mod index_argument;
+mod law;
+mod made_envelope;
+mod made_wrapper;
+mod make_fault;
 mod making;
 mod member_fields;
 mod param_fields;
@@ -28,9 +32,16 @@ pub use describing::description;
 pub use fault::DescriptionFault;
 pub use file_list::FileList;
 pub use held::Description;
+pub use law::description_laws;
+pub use made_envelope::make;
+pub use make_fault::MakeFault;
 pub use making::manifest_of;
 
 #[cfg(test)]
+mod make_tests;
+#[cfg(test)]
 mod making_tests;
+#[cfg(test)]
+mod spelling_tests;
 #[cfg(test)]
 mod table_tests;

@@ -1,10 +1,9 @@
 //! Parameters of a description.
 
-ghost use Rattle.std.specs.Prelude.{◌≡◌, ◌≤◌, [], length, OnOk};
-ghost use Rattle.std.specs.List.{insert};
+ghost use Rattle.std.specs.Prelude.{◌≡◌, OnOk};
 ghost use Rattle.serde_json.specs.View.{view};
 ghost use Rattle.json_fields.specs.Answers.{Gives};
-ghost use Rattle.author.specs.ParamValues.{number_of, index_of, param_value, params_of, placed_among};
+ghost use Rattle.author.specs.ParamValues.{number_of, index_of, param_value, params_of, placed_among, IsPlaceOf};
 
 use crate::file_value::{content, digest, size};
 use crate::param_name::param_named;
@@ -12,6 +11,7 @@ use crate::scope::Scope;
 use json_fields::{Draft, FlawKind, JsonFault, flag, flawed, hex, number, object, text, uuid};
 use serde_json::Value;
 use std::alloc::{AllocError, Global};
+use std::cmp::Ordering;
 use std::marker::Model;
 use suit_params::{Param, ParamKey, ParamList};
 
@@ -69,24 +69,29 @@ impl<'a> Model for ParamFields<'a> {
     ghost view = { λ a. record { scope = a.scope.now; list = a.list.items } };
 }
 
-// Where a parameter is put among those that ascend by number: before the first that has a larger one.
-fn place_for(list: &[Param], param: &Param) -> usize
-    ensures within { result ≤ length list.now }
-    ensures placed { insert list.now result param.now ≡ placed_among param.now list.now }
+// Where a parameter of the same key is among those that ascend by number, or else where it is put.
+fn place_of(list: &[Param], param: &Param) -> Result<usize, usize>
+    ensures { IsPlaceOf list.now param.now result }
 {
+    let number = param.key().number();
     for (i, other) in list.iter().enumerate() {
-        if param.key().number() < other.key().number() {
-            return i;
+        match number.cmp(&other.key().number()) {
+            Ordering::Less => return Err(i),
+            Ordering::Equal => return Ok(i),
+            Ordering::Greater => {}
         }
     }
-    list.len()
+    Err(list.len())
 }
 
 fn place(list: &mut Vec<Param>, param: Param) -> Result<(), AllocError>
     ensures { OnOk result (list.new.items ≡ placed_among param list.old.items) }
 {
-    let at = place_for(list.as_slice(), &param);
-    Ok(list.insert(at, param)?)
+    match place_of(list.as_slice(), &param) {
+        Ok(at) => list[at] = param,
+        Err(at) => list.insert(at, param)?,
+    }
+    Ok(())
 }
 
 impl Draft for ParamFields<'_> {

@@ -85,12 +85,12 @@ impl Draft for PayloadFields<'_> {
     fn take(&mut self, alloc: Global, key: &str, value: &Value) -> Result<(), JsonFault> {
         let bytes = payload(alloc, value, self.files)?;
         let key = Text::from_str(alloc, key)?;
-        self.list.push(key, bytes)?;
+        self.list.put(key, bytes)?;
         Ok(())
     }
 }
 
-/// An object from keys to payloads, in the order of the keys.
+/// An object from keys to payloads, which ascend by the spellings of their keys.
 pub(crate) fn payloads(
     alloc: Global,
     value: &Value,

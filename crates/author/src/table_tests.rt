@@ -6,7 +6,7 @@ use std::alloc::{AllocError, Global};
 use std::test::Fail;
 
 // What is answered to a text of JSON.
-fn told(alloc: Global, text: &str) -> Result<String, AllocError> {
+pub(crate) fn told(alloc: Global, text: &str) -> Result<String, AllocError> {
     let Ok(value) = Value::from_str(alloc, text) else {
         return String::from_str(alloc, "no json");
     };
@@ -26,7 +26,7 @@ fn told(alloc: Global, text: &str) -> Result<String, AllocError> {
 }
 
 // Members before and behind those that each description has.
-fn with(alloc: Global, members: &str) -> Result<String, AllocError> {
+pub(crate) fn with(alloc: Global, members: &str) -> Result<String, AllocError> {
     format!(in alloc; "{{\"sequence\":1,\"components\":[[\"00\"]],{members}}}")
 }
 

@@ -1,0 +1,158 @@
+-- What is answered to a description that is made into an envelope.
+use Rattle.std.proofs.Common.{◌≡◌, ℕ, ◌<◌, ◌≤◌, ◌^◌, ◌-◌, length, min, List, [], ◌∷◌, Result, Ok, Err, refl, sym, ap, subst, ◌∙◌, arith, inl, inr}
+use Rattle.std.specs.Prelude.{IfOk, IfErr}
+use Rattle.serde_json.specs.Data.{Data}
+use Rattle.json_fields.specs.declared.flaw.Flaw.{Flaw}
+use Rattle.suit_envelope.specs.Authentic.{IsAuthentic}
+use Rattle.suit_envelope.specs.Envelopes.{EnvelopeSays}
+use Rattle.suit_envelope.specs.Macs.{ThisVerifies}
+use Rattle.suit_envelope.specs.Making.{SaysParts}
+use Rattle.suit_envelope.specs.Members.{string_digest}
+use Rattle.suit_envelope.specs.Said.{said_by, EnvelopeOf}
+use Rattle.suit_envelope.specs.Trimmed.{trimmed}
+use Rattle.suit_envelope.specs.declared.envelope.Envelope.{Envelope}
+use Rattle.suit_params.specs.Refusing.{SaysWhole}
+use Rattle.suit_manifest.specs.ManifestMaking.{placed_manifest}
+use Rattle.suit_manifest.specs.ManifestWriting.{ManifestFits, IsWrittenManifest, IsGrammatical}
+use Rattle.suit_manifest.specs.Manifests.{IsManifest}
+use Rattle.suit_params.specs.declared.refusal.Refusal.{Refusal}
+use Rattle.suit_envelope.specs.declared.parts.EnvelopeParts.{EnvelopeParts}
+use Rattle.author.specs.declared.fields.Described.{Described}
+use Rattle.author.specs.declared.making.Parted.{Parted}
+use Rattle.author.specs.declared.make_fault.MakeFault.{MakeFault}
+use Rattle.author.specs.declared.make_fault.MakeFault.TheVariants.{TooLong, NoMemory}
+use Rattle.author.specs.Descriptions.{described}
+use Rattle.author.specs.DescriptionLaws.{DescriptionLaws}
+use Rattle.author.specs.Faults.{IsDescription}
+use Rattle.author.specs.Making.{made_manifest}
+use Rattle.author.specs.Severances.{parted}
+use Rattle.author.specs.MadeEnvelopes.{made_parts, made_bytes, trimmed_bytes, IsShort, Passes, Trimmed, Whole, AnswersShort, IsMadeOf, IsTooLong, IsMakeFaultOf, IsMadeAs, IsTooLongBy, HasOneBlock, IsAuthenticUnder, HoldsPartsOf, HoldsManifestOf}
+use Rattle.author.proofs.DescriptionLawProofs.{is_description}
+
+-- ---- lengths
+
+not_passed : (parts : EnvelopeParts) (limit : ℕ) → IsShort parts → Passes parts limit → ⊥
+not_passed parts _ short (Trimmed long) = absurd (omega (short.0, arith))
+not_passed parts _ short (Whole trimmed long) = absurd (omega (short.1, arith))
+
+one_limit : (parts : EnvelopeParts) (m n : ℕ) → Passes parts m → Passes parts n → m ≡ n
+one_limit parts _ _ (Trimmed a) (Trimmed b) = refl
+one_limit parts _ _ (Trimmed a) (Whole b c) = absurd (omega arith)
+one_limit parts _ _ (Whole a b) (Trimmed c) = absurd (omega arith)
+one_limit parts _ _ (Whole a b) (Whole c d) = refl
+
+abbrev said_in : EnvelopeSays → Result EnvelopeSays Refusal → EnvelopeSays
+said_in other (Ok said) = said
+said_in other (Err r) = other
+
+abbrev pub told : EnvelopeSays → Result EnvelopeSays Refusal
+told said = Ok said
+
+-- of an envelope that says the parts
+pub trimmed_same : (parts : EnvelopeParts) (said : EnvelopeSays) (e : Envelope) → told (said_by e) ≡ told said → SaysParts parts said → trimmed e.wrapper.now e.manifest.now ≡ trimmed_bytes parts
+trimmed_same parts said e is says =
+    let same : said_by e ≡ said = ap (said_in said) is in
+    ap (λ s. trimmed s.wrapper s.manifest) same ∙ rw (says.wrapper, says.manifest) refl
+
+pub trimmed_long : (parts : EnvelopeParts) (said : EnvelopeSays) (e : Envelope) (n : ℕ) → told (said_by e) ≡ told said → SaysParts parts said
+    → n ≡ min (length (trimmed e.wrapper.now e.manifest.now)) (2 ^ 64 - 1) → 16384 < n → Passes parts 16384
+trimmed_long parts said e n is says counted long = let same = trimmed_same parts said e is says in Trimmed (rw (← same) (omega (arith, counted, long)))
+
+trimmed_short : (parts : EnvelopeParts) (said : EnvelopeSays) (e : Envelope) (n : ℕ) → told (said_by e) ≡ told said → SaysParts parts said
+    → n ≡ min (length (trimmed e.wrapper.now e.manifest.now)) (2 ^ 64 - 1) → n ≤ 16384 → length (trimmed_bytes parts) ≤ 16384
+trimmed_short parts said e n is says counted short = let same = trimmed_same parts said e is says in rw (← same) (omega (arith, counted, short))
+
+pub whole_long : (parts : EnvelopeParts) (said : EnvelopeSays) (e : Envelope) (n : ℕ) (bytes : List ℕ) → told (said_by e) ≡ told said → SaysParts parts said
+    → n ≡ min (length (trimmed e.wrapper.now e.manifest.now)) (2 ^ 64 - 1) → n ≤ 16384 → bytes ≡ made_bytes parts → 1048576 < length bytes → Passes parts 1048576
+whole_long parts said e n bytes is says counted short made long = Whole (trimmed_short parts said e n is says counted short) (subst (λ (b : List ℕ). 1048576 < length b) made long)
+
+pub both_short : (parts : EnvelopeParts) (said : EnvelopeSays) (e : Envelope) (n : ℕ) (bytes : List ℕ) → told (said_by e) ≡ told said → SaysParts parts said
+    → n ≡ min (length (trimmed e.wrapper.now e.manifest.now)) (2 ^ 64 - 1) → n ≤ 16384 → bytes ≡ made_bytes parts → length bytes ≤ 1048576 → AnswersShort parts (Ok bytes)
+both_short parts said e n bytes is says counted short made few = (made, (trimmed_short parts said e n is says counted short, subst (λ (b : List ℕ). length b ≤ 1048576) made few))
+
+pub never_refused : (said : EnvelopeSays) (r : Refusal) → Err r ≡ told said → ⊥
+never_refused said r e = absurd cc
+
+-- ---- answers
+
+abbrev said_or : Described → Result Described Flaw → Described
+said_or p (Ok q) = q
+said_or p (Err f) = p
+
+module _ (d : Data) (files : List (List ℕ × List ℕ)) (key : List ℕ) (said : Described) (reads : described files d ≡ Ok said) where
+  abbrev parts : EnvelopeParts
+  parts = made_parts key (parted said)
+
+  same_parts : (other : Described) → described files d ≡ Ok other → made_parts key (parted other) ≡ parts
+  same_parts other e = ap (λ r. made_parts key (parted (said_or said r))) (sym e ∙ reads)
+
+  -- the parts that were made are those
+  pub of_parts : (p : EnvelopeParts) (q : Parted) (result : Result (List ℕ) MakeFault) → q ≡ parted said → p ≡ made_parts key q → AnswersShort p result → AnswersShort parts result
+  of_parts p q result e k h = subst (λ (x : EnvelopeParts). AnswersShort x result) (k ∙ ap (made_parts key) e) h
+
+  pub answers_ok : (result : Result (List ℕ) MakeFault) → AnswersShort parts result → IfOk result (IsMadeOf d files key)
+  answers_ok (Ok bytes) h = record { said = said; reads = reads; short = h.1; is = h.0 }
+  answers_ok (Err fault) h = tt
+
+  pub answers_err : (result : Result (List ℕ) MakeFault) → AnswersShort parts result → IfErr result (IsMakeFaultOf d files key)
+  answers_err (Ok bytes) h = tt
+  answers_err (Err (TooLong limit)) h = record { said = said; reads = reads; passes = h }
+  answers_err (Err NoMemory) h = tt
+
+  pub answers_envelope : (result : Result (List ℕ) MakeFault) → AnswersShort parts result → (bytes : List ℕ) → IsMadeOf d files key bytes → IsMadeAs bytes result
+  answers_envelope (Ok made) h bytes m = h.0 ∙ sym (m.is ∙ ap made_bytes (same_parts m.said m.reads))
+  answers_envelope (Err (TooLong limit)) h bytes m = absurd (not_passed parts limit (subst IsShort (same_parts m.said m.reads) m.short) h)
+  answers_envelope (Err NoMemory) h bytes m = refl
+
+  pub answers_limit : (result : Result (List ℕ) MakeFault) → AnswersShort parts result → (limit : ℕ) → IsTooLong d files key limit → IsTooLongBy limit result
+  answers_limit (Ok made) h limit m = not_passed parts limit h.1 (subst (λ (p : EnvelopeParts). Passes p limit) (same_parts m.said m.reads) m.passes)
+  answers_limit (Err (TooLong other)) h limit m = inl (ap TooLong (one_limit parts other limit h (subst (λ (p : EnvelopeParts). Passes p limit) (same_parts m.said m.reads) m.passes)))
+  answers_limit (Err NoMemory) h limit m = inr refl
+
+-- ---- the envelope is authentic
+
+block_of : (key wrapper manifest : List ℕ) → HasOneBlock key wrapper manifest → IsAuthentic wrapper manifest key
+block_of key wrapper manifest h = record {
+  digest = string_digest manifest;
+  blocks = h.block ∷ [];
+  says = h.says;
+  stated = refl;
+  verifies = ThisVerifies h.block [] h.verifies;
+}
+
+pub authentic_made : (key bytes : List ℕ) (parts : EnvelopeParts) (said : EnvelopeSays) → EnvelopeOf bytes said → SaysParts parts said → HasOneBlock key parts.wrapper parts.manifest → IsAuthenticUnder key bytes
+authentic_made key bytes parts said envelope says h =
+    let block : HasOneBlock key said.wrapper said.manifest = rw (says.wrapper, says.manifest) h in
+    record { said = said; envelope = envelope; tagged = says.tagged; one_block = block; authentic = block_of key said.wrapper said.manifest block }
+
+-- ---- the parts and the manifest are those of the description
+
+pub holds_parts : (d : Data) (files : List (List ℕ × List ℕ)) (key bytes : List ℕ) (described_as : Described) (p : EnvelopeParts) (q : Parted) (said : EnvelopeSays) → described files d ≡ Ok described_as
+    → q ≡ parted described_as → p ≡ made_parts key q → EnvelopeOf bytes said → SaysParts p said → HoldsPartsOf d files key bytes
+holds_parts d files key bytes described_as p q said reads e k envelope says = record {
+  described_as = described_as;
+  reads = reads;
+  said = said;
+  envelope = envelope;
+  parts = subst (λ (x : EnvelopeParts). SaysParts x said) (k ∙ ap (made_parts key) e) says;
+}
+
+grammatical : DescriptionLaws → (d : Data) (files : List (List ℕ × List ℕ)) (said : Described) (q : Parted) → ∥ IsDescription d ∥₁ → described files d ≡ Ok said → q ≡ parted said → ManifestFits q.manifest
+    → IsGrammatical q.manifest
+grammatical law d files said q accepted reads e fits =
+    let same : q.manifest ≡ made_manifest said = ap (λ (x : Parted). x.manifest) e in
+    subst IsGrammatical (sym same) (law.grammatical d files said (is_description d accepted) reads (subst ManifestFits same fits))
+
+pub holds_manifest : DescriptionLaws → (d : Data) (files : List (List ℕ × List ℕ)) (bytes : List ℕ) (described_as : Described) (p : EnvelopeParts) (q : Parted) (said : EnvelopeSays)
+    → ∥ IsDescription d ∥₁ → described files d ≡ Ok described_as → q ≡ parted described_as → ManifestFits q.manifest → IsWrittenManifest q.manifest p.manifest → EnvelopeOf bytes said → SaysParts p said
+    → HoldsManifestOf d files bytes
+holds_manifest law d files bytes described_as p q said accepted reads e fits written envelope says =
+    let place : ℕ = said.manifest_place in
+    let held : SaysWhole IsManifest place p.manifest (placed_manifest place q.manifest) = written.says place (grammatical law d files described_as q accepted reads e fits) in
+    record {
+      said = said;
+      envelope = envelope;
+      manifest = q.manifest;
+      is = record { said = described_as; reads = reads; is = ap (λ (x : Parted). x.manifest) e };
+      says_so = subst (λ (b : List ℕ). SaysWhole IsManifest place b (placed_manifest place q.manifest)) (sym says.manifest) held;
+    }

@@ -1,0 +1,44 @@
+use Rattle.std.proofs.lemmas.Result.{IfOk-weaker}
+use Rattle.author.specs.Held.{value_of}
+use Rattle.author.specs.MadeEnvelopes.{IsAuthenticUnder, HoldsPartsOf, HoldsManifestOf}
+use Rattle.author.proofs.MadeAnswers.{of_parts, answers_ok, answers_envelope, answers_limit, authentic_made, holds_parts, holds_manifest}
+use Rattle.author.proofs.made_envelope.make.Goals as goal
+
+pub returns-clause-ok : goal.returns-clause-ok
+returns-clause-ok c =
+    let d = value_of c.args.description.now in
+    let said = c.in_ok-said.said in
+    let short = of_parts d c.args.files.now c.args.key.now said c.in_ok-said.ensures c.in_ok-parts.parts c.in_ok-parted.parted c.encode_short.result c.in_ok-parted.ensures c.in_ok-parts.ensures.is c.encode_short.ensures.answers in
+    answers_ok d c.args.files.now c.args.key.now said c.in_ok-said.ensures c.encode_short.result short
+
+pub returns-clause-every_envelope : goal.returns-clause-every_envelope
+returns-clause-every_envelope c =
+    let d = value_of c.args.description.now in
+    let said = c.in_ok-said.said in
+    let short = of_parts d c.args.files.now c.args.key.now said c.in_ok-said.ensures c.in_ok-parts.parts c.in_ok-parted.parted c.encode_short.result c.in_ok-parted.ensures c.in_ok-parts.ensures.is c.encode_short.ensures.answers in
+    answers_envelope d c.args.files.now c.args.key.now said c.in_ok-said.ensures c.encode_short.result short
+
+pub returns-clause-every_limit : goal.returns-clause-every_limit
+returns-clause-every_limit c =
+    let d = value_of c.args.description.now in
+    let said = c.in_ok-said.said in
+    let short = of_parts d c.args.files.now c.args.key.now said c.in_ok-said.ensures c.in_ok-parts.parts c.in_ok-parted.parted c.encode_short.result c.in_ok-parted.ensures c.in_ok-parts.ensures.is c.encode_short.ensures.answers in
+    answers_limit d c.args.files.now c.args.key.now said c.in_ok-said.ensures c.encode_short.result short
+
+pub returns-clause-parts : goal.returns-clause-parts
+returns-clause-parts c =
+    let d = value_of c.args.description.now in
+    IfOk-weaker c.encode_short.result _ (HoldsPartsOf d c.args.files.now c.args.key.now)
+    (λ bytes e. holds_parts d c.args.files.now c.args.key.now bytes c.in_ok-said.said c.in_ok-parts.parts c.in_ok-parted.parted e.0 c.in_ok-said.ensures c.in_ok-parted.ensures c.in_ok-parts.ensures.is e.1.0 e.1.1) c.encode_short.ensures.says
+
+pub returns-clause-authentic : goal.returns-clause-authentic
+returns-clause-authentic c =
+    IfOk-weaker c.encode_short.result _ (IsAuthenticUnder c.args.key.now)
+    (λ bytes e. authentic_made c.args.key.now bytes c.in_ok-parts.parts e.0 e.1.0 e.1.1 c.in_ok-parts.ensures.one_block) c.encode_short.ensures.says
+
+pub returns-clause-manifest : goal.returns-clause-manifest
+returns-clause-manifest c =
+    let d = value_of c.args.description.now in
+    IfOk-weaker c.encode_short.result _ (HoldsManifestOf d c.args.files.now)
+    (λ bytes e. holds_manifest c.description_laws.ensures d c.args.files.now bytes c.in_ok-said.said c.in_ok-parts.parts c.in_ok-parted.parted e.0 c.args.description.now.accepted c.in_ok-said.ensures c.in_ok-parted.ensures
+    c.in_ok-parts.ensures.fits c.in_ok-parts.ensures.written e.1.0 e.1.1) c.encode_short.ensures.says

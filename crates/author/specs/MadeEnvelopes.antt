@@ -1,0 +1,131 @@
+-- The envelope of a description: its wrapper states the manifest's digest, and has one block that is made with the key
+-- (draft-ietf-suit-manifest-25, sections 8.2 and 8.3).
+use Rattle.std.specs.Prelude.{◌≡◌, ◌⊎◌, ◌<◌, ◌≤◌, ℕ, true, List, [], ◌∷◌, length, Option, Result, Ok, Err}
+use Rattle.det_cbor.specs.DataItem.{spell}
+use Rattle.serde_json.specs.Data.{Data}
+use Rattle.hmac_mac0.specs.Mac0.{made_item, Verifies}
+use Rattle.suit_params.specs.Refusing.{SaysWhole}
+use Rattle.suit_envelope.specs.Authentic.{payload_of, IsAuthentic}
+use Rattle.suit_envelope.specs.Envelopes.{EnvelopeSays}
+use Rattle.suit_envelope.specs.Making.{envelope_made, SaysParts}
+use Rattle.suit_envelope.specs.Members.{string_digest}
+use Rattle.suit_envelope.specs.Said.{EnvelopeOf}
+use Rattle.suit_envelope.specs.Trimmed.{trimmed}
+use Rattle.suit_envelope.specs.WrapperParts.{wrapper_item, WrapperSays}
+use Rattle.suit_envelope.specs.declared.parts.EnvelopeParts.{EnvelopeParts}
+use Rattle.suit_manifest.specs.declared.manifest.Manifest.{Manifest}
+use Rattle.suit_manifest.specs.ManifestMaking.{manifest_item, placed_manifest}
+use Rattle.suit_manifest.specs.Manifests.{IsManifest}
+use Rattle.author.specs.declared.fields.Described.{Described}
+use Rattle.author.specs.declared.making.Parted.{Parted}
+use Rattle.author.specs.declared.make_fault.MakeFault.{MakeFault}
+use Rattle.author.specs.declared.make_fault.MakeFault.TheVariants.{TooLong, NoMemory}
+use Rattle.author.specs.Descriptions.{described}
+use Rattle.author.specs.Making.{IsManifestOf}
+use Rattle.author.specs.Severances.{parted}
+
+-- ---- the parts
+
+abbrev pub made_block : List ℕ → Option (List ℕ) → List ℕ → List ℕ
+made_block key kid digest = spell (made_item key kid (payload_of digest))
+
+abbrev pub made_wrapper : List ℕ → Option (List ℕ) → List ℕ → List ℕ
+made_wrapper key kid digest = spell (wrapper_item digest (made_block key kid digest ∷ []))
+
+abbrev pub parts_round : List ℕ → Parted → List ℕ → EnvelopeParts
+parts_round key p manifest = record {
+  wrapper = made_wrapper key p.kid (string_digest manifest);
+  manifest = manifest;
+  payload_fetch = p.payload_fetch;
+  install = p.install;
+  text = p.text;
+  payloads = p.payloads;
+}
+
+abbrev pub made_parts : List ℕ → Parted → EnvelopeParts
+made_parts key p = parts_round key p (spell (manifest_item p.manifest))
+
+-- ---- the bytes, and the bytes of the trimmed envelope
+
+abbrev pub made_bytes : EnvelopeParts → List ℕ
+made_bytes parts = spell (envelope_made parts)
+
+abbrev pub trimmed_bytes : EnvelopeParts → List ℕ
+trimmed_bytes parts = trimmed parts.wrapper parts.manifest
+
+-- at most 16,384 bytes trimmed, and at most 1,048,576 whole
+abbrev pub IsShort : EnvelopeParts → Type 0
+IsShort parts = (length (trimmed_bytes parts) ≤ 16384) × (length (made_bytes parts) ≤ 1048576)
+
+-- the first of the two limits that is passed
+pub data Passes (parts : EnvelopeParts) : ℕ → Type 0 where
+  Trimmed : 16384 < length (trimmed_bytes parts) → Passes parts 16384
+  Whole : length (trimmed_bytes parts) ≤ 16384 → 1048576 < length (made_bytes parts) → Passes parts 1048576
+
+-- a fault by the limit that is passed, or for want of memory
+abbrev pub IsLengthFault : EnvelopeParts → MakeFault → Type 0
+IsLengthFault parts (TooLong limit) = Passes parts limit
+IsLengthFault parts NoMemory = Unit {0}
+
+abbrev pub AnswersShort : EnvelopeParts → Result (List ℕ) MakeFault → Type 0
+AnswersShort parts (Ok bytes) = (bytes ≡ made_bytes parts) × IsShort parts
+AnswersShort parts (Err fault) = IsLengthFault parts fault
+
+-- ---- the envelope of the description that a value is, with its files
+
+pub record IsMadeOf (d : Data) (files : List (List ℕ × List ℕ)) (key bytes : List ℕ) : Type 0 where
+  pub said : Described
+  pub reads : described files d ≡ Ok said
+  pub short : IsShort (made_parts key (parted said))
+  pub is : bytes ≡ made_bytes (made_parts key (parted said))
+
+pub record IsTooLong (d : Data) (files : List (List ℕ × List ℕ)) (key : List ℕ) (limit : ℕ) : Type 0 where
+  pub said : Described
+  pub reads : described files d ≡ Ok said
+  pub passes : Passes (made_parts key (parted said)) limit
+
+abbrev pub IsMakeFaultOf : Data → List (List ℕ × List ℕ) → List ℕ → MakeFault → Type 0
+IsMakeFaultOf d files key (TooLong limit) = IsTooLong d files key limit
+IsMakeFaultOf d files key NoMemory = Unit {0}
+
+-- these bytes were made, unless there was no memory
+abbrev pub IsMadeAs : List ℕ → Result (List ℕ) MakeFault → Type 0
+IsMadeAs bytes (Ok made) = made ≡ bytes
+IsMadeAs bytes (Err fault) = fault ≡ NoMemory
+
+-- this limit was told, unless there was no memory
+abbrev pub IsTooLongBy : ℕ → Result (List ℕ) MakeFault → Type 0
+IsTooLongBy limit (Ok made) = ⊥
+IsTooLongBy limit (Err fault) = (fault ≡ TooLong limit) ⊎ (fault ≡ NoMemory)
+
+-- ---- what the bytes say
+
+-- the wrapper states the manifest's digest and has one block, which verifies under the key
+pub record HasOneBlock (key wrapper manifest : List ℕ) : Type 0 where
+  pub block : List ℕ
+  pub says : WrapperSays wrapper (string_digest manifest) (block ∷ [])
+  pub verifies : Verifies block key (payload_of (string_digest manifest))
+
+-- a tagged envelope that is authentic under the key, by one block
+pub record IsAuthenticUnder (key bytes : List ℕ) : Type 0 where
+  pub said : EnvelopeSays
+  pub envelope : EnvelopeOf bytes said
+  pub tagged : said.tagged ≡ true
+  pub one_block : HasOneBlock key said.wrapper said.manifest
+  pub authentic : IsAuthentic said.wrapper said.manifest key
+
+-- an envelope that says the parts of the description
+pub record HoldsPartsOf (d : Data) (files : List (List ℕ × List ℕ)) (key bytes : List ℕ) : Type 0 where
+  pub described_as : Described
+  pub reads : described files d ≡ Ok described_as
+  pub said : EnvelopeSays
+  pub envelope : EnvelopeOf bytes said
+  pub parts : SaysParts (made_parts key (parted described_as)) said
+
+-- an envelope whose manifest is that of the description, with the places that it has there
+pub record HoldsManifestOf (d : Data) (files : List (List ℕ × List ℕ)) (bytes : List ℕ) : Type 0 where
+  pub said : EnvelopeSays
+  pub envelope : EnvelopeOf bytes said
+  pub manifest : Manifest
+  pub is : IsManifestOf d files manifest
+  pub says_so : SaysWhole IsManifest said.manifest_place said.manifest (placed_manifest said.manifest_place manifest)

@@ -1,0 +1,103 @@
+//! The envelope of a description.
+
+ghost use Rattle.std.specs.Prelude.{◌≡◌, ℕ, List, None, IfOk, IfErr, IsTrue};
+ghost use Rattle.suit_envelope.specs.Envelopes.{EnvelopeSays};
+ghost use Rattle.suit_envelope.specs.Making.{AreAscending, SaysParts};
+ghost use Rattle.suit_envelope.specs.Said.{EnvelopeOf};
+ghost use Rattle.suit_envelope.specs.WrapperParts.{HasWrapper};
+ghost use Rattle.suit_manifest.specs.ManifestWriting.{IsWrittenManifest, ManifestFits};
+ghost use Rattle.author.specs.FileNames.{file_names};
+ghost use Rattle.author.specs.Files.{has_files};
+ghost use Rattle.author.specs.Held.{value_of};
+ghost use Rattle.author.specs.MadeEnvelopes.{made_parts, AnswersShort, HasOneBlock, IsMadeOf, IsTooLong, IsMakeFaultOf, IsMadeAs, IsTooLongBy, IsAuthenticUnder, HoldsPartsOf, HoldsManifestOf};
+
+use crate::made_wrapper::made_wrapper;
+use crate::making::{Parted, part, string_digest};
+use crate::parts::parts_of;
+use crate::{Description, FileList, MakeFault, description_laws};
+use det_cbor::Bytes;
+use std::alloc::{AllocError, Global};
+use suit_envelope::{EnvelopeParts, decode_envelope, encode_envelope, trimmed_length};
+use suit_manifest::encode_manifest;
+
+// The longest envelopes, in bytes.
+const MAX_TRIMMED: u64 = 16_384;
+
+const MAX_WHOLE: u64 = 1_048_576;
+
+// What the envelope is made of.
+fn made_parts(alloc: Global, parted: Parted, key: &[u8]) -> Result<EnvelopeParts, AllocError>
+    ensures is { IfOk result (λ parts. parts ≡ made_parts key.now parted) }
+    ensures one_block { IfOk result (λ parts. HasOneBlock key.now parts.wrapper parts.manifest) }
+    ensures written { IfOk result (λ parts. IsWrittenManifest parted.manifest parts.manifest) }
+    ensures fits { IfOk result (λ _. ManifestFits parted.manifest) }
+{
+    let manifest = encode_manifest(alloc, &parted.manifest)?;
+    let digest = string_digest(alloc, manifest.as_slice())?;
+    let kid = match &parted.kid {
+        Some(kid) => Some(kid.as_slice()),
+        None => None,
+    };
+    let wrapper = made_wrapper(alloc, key, kid, &digest)?;
+    Ok(EnvelopeParts {
+        wrapper,
+        manifest,
+        payload_fetch: parted.payload_fetch,
+        install: parted.install,
+        text: parted.text,
+        payloads: parted.payloads,
+    })
+}
+
+// The envelope of its parts, as far as it is not too long. Its trimmed length is judged first.
+#[tactic(auto, using(crate::proofs::MadeAnswers::trimmed_same))]
+fn encode_short(alloc: Global, parts: &EnvelopeParts) -> Result<Bytes, MakeFault>
+    requires wrapper { HasWrapper parts.now.wrapper }
+    requires payloads { AreAscending None parts.now.payloads }
+    ensures answers { AnswersShort parts.now result }
+    ensures says { IfOk result (λ bytes. (said : EnvelopeSays) × (EnvelopeOf bytes said × SaysParts parts.now said)) }
+{
+    let bytes = encode_envelope(alloc, parts)?;
+    match decode_envelope(bytes.as_slice()) {
+        Ok(envelope) => {
+            if trimmed_length(&envelope) > MAX_TRIMMED {
+                return Err(MakeFault::TooLong(MAX_TRIMMED));
+            }
+        }
+        Err(_) => unreachable!(),
+    }
+    if bytes.len() as u64 > MAX_WHOLE {
+        return Err(MakeFault::TooLong(MAX_WHOLE));
+    }
+    Ok(bytes)
+}
+
+/// The tagged envelope of a description, where its files have these bytes (draft-ietf-suit-manifest-25, section 8.2).
+/// The members to be severed and the payloads stand beside its manifest. It is authentic under the key: its wrapper has
+/// just one block, which verifies.
+///
+/// An envelope is refused of which the wrapper and the manifest alone take more than 16,384 bytes, and then one of more
+/// than 1,048,576.
+pub fn make(
+    alloc: Global,
+    description: &Description,
+    files: &FileList,
+    key: &[u8],
+) -> Result<Bytes, MakeFault>
+    requires files { IsTrue (has_files files.now (file_names (value_of description.now))) }
+    ensures ok { IfOk result (IsMadeOf (value_of description.now) files.now key.now) }
+    ensures refused { IfErr result (IsMakeFaultOf (value_of description.now) files.now key.now) }
+    ensures every_envelope { (bytes : List ℕ) → IsMadeOf (value_of description.now) files.now key.now bytes
+        → IsMadeAs bytes result }
+    ensures every_limit { (limit : ℕ) → IsTooLong (value_of description.now) files.now key.now limit
+        → IsTooLongBy limit result }
+    ensures parts { IfOk result (HoldsPartsOf (value_of description.now) files.now key.now) }
+    ensures authentic { IfOk result (IsAuthenticUnder key.now) }
+    ensures manifest { IfOk result (HoldsManifestOf (value_of description.now) files.now) }
+{
+    description_laws();
+    let said = parts_of(alloc, description, files)?;
+    let parted = part(alloc, said)?;
+    let parts = made_parts(alloc, parted, key)?;
+    encode_short(alloc, &parts)
+}

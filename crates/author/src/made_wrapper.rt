@@ -1,0 +1,58 @@
+//! The authentication wrapper of an envelope that is made.
+
+ghost use Rattle.std.specs.Prelude.{◌≡◌, ◌∷◌, [], length, IfOk, option_map};
+ghost use Rattle.det_cbor.specs.DataItem.{ByteString, ArrayOf, NoItems, ItemThen, spell, IsString, IsValid};
+ghost use Rattle.suit_params.specs.Digests.{digest_item};
+ghost use Rattle.hmac_mac0.specs.Mac0.{Verifies};
+ghost use Rattle.suit_envelope.specs.Authentic.{payload_of};
+ghost use Rattle.suit_envelope.specs.WrapperParts.{WrapperSays};
+ghost use Rattle.author.specs.MadeEnvelopes.{made_block};
+
+use det_cbor::{Bytes, HeadKind, push_count, push_kind, push_string};
+use hmac_mac0::make_block;
+use std::alloc::{AllocError, Global};
+use suit_params::Digest;
+
+// A digest's array (draft-ietf-suit-manifest-25, section 10).
+fn digest_bytes(alloc: Global, digest: &Digest) -> Result<Bytes, AllocError>
+    ensures spelling { IfOk result (λ bytes. bytes ≡ spell (digest_item digest.now.bytes)) }
+    ensures valid { IfOk result (λ _. IsValid (digest_item digest.now.bytes)) }
+    ensures long { length digest.now.bytes ≡ 32 }
+{
+    let mut out = Bytes::new(alloc);
+    push_count(&mut out, 2)?;
+    push_kind(&mut out, HeadKind::Negative, 15)?;
+    push_string(&mut out, &digest.bytes)?;
+    Ok(out)
+}
+
+// An array of both byte strings.
+fn both(alloc: Global, stated: &[u8], block: &[u8]) -> Result<Bytes, AllocError>
+    ensures is { IfOk result (λ w. w ≡ spell (ArrayOf
+        (ItemThen (ByteString stated.now) (ItemThen (ByteString block.now) NoItems)))) }
+    ensures strings { IfOk result (λ _. IsString stated.now × IsString block.now) }
+{
+    let mut out = Bytes::new(alloc);
+    push_count(&mut out, 2)?;
+    push_string(&mut out, stated)?;
+    push_string(&mut out, block)?;
+    Ok(out)
+}
+
+/// The wrapper that states a digest, with one block under a key (draft-ietf-suit-manifest-25, section 8.3). The block's
+/// payload is the digest's array.
+pub(crate) fn made_wrapper(
+    alloc: Global,
+    key: &[u8],
+    kid: Option<&[u8]>,
+    digest: &Digest,
+) -> Result<Bytes, AllocError>
+    ensures says { IfOk result (λ w. WrapperSays w digest.now.bytes
+        (made_block key.now (option_map (λ k. k.now) kid.entry) digest.now.bytes ∷ [])) }
+    ensures verifies { IfOk result (λ _. Verifies
+        (made_block key.now (option_map (λ k. k.now) kid.entry) digest.now.bytes) key.now (payload_of digest.now.bytes)) }
+{
+    let stated = digest_bytes(alloc, digest)?;
+    let block = make_block(alloc, key, kid, stated.as_slice())?;
+    both(alloc, stated.as_slice(), block.as_slice())
+}

@@ -1,0 +1,25 @@
+//! Why no envelope is made.
+
+use std::alloc::AllocError;
+use thiserror::Error;
+
+/// Why no envelope is made.
+#[derive(Clone, Copy, Debug, PartialEq, Eq, Error)]
+pub enum MakeFault {
+    /// The limit in bytes that the envelope passes, trimmed or whole.
+    #[error("longer than {0} bytes")]
+    TooLong(u64),
+    #[error("out of memory")]
+    NoMemory,
+}
+
+impl From<AllocError> for MakeFault {
+    ghost use Rattle.std.specs.Prelude.{◌≡◌};
+    ghost use Rattle.author.specs.declared.make_fault.MakeFault.TheVariants.{NoMemory};
+
+    ghost from_gives = { λ _ f. f ≡ NoMemory };
+
+    fn from(_: AllocError) -> MakeFault {
+        MakeFault::NoMemory
+    }
+}
