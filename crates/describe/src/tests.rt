@@ -6,8 +6,8 @@ use det_cbor::{Bytes, Text};
 use serde_json::Value;
 use std::alloc::Global;
 use std::test::Fail;
-use suit_commands::{Sequence, encode_sequence};
-use suit_envelope::{EnvelopeParts, PayloadList, decode_envelope, encode_envelope};
+use suit_commands::Sequence;
+use suit_envelope::decode_envelope;
 use suit_manifest::{Manifest, Member, Members, encode_manifest};
 
 // The manifest of a description that names no file.
@@ -17,44 +17,44 @@ fn manifest(alloc: Global, json: &str) -> Result<Manifest, Fail> {
     Ok(manifest_of(alloc, &read, &FileList::new(alloc))?)
 }
 
-// The parts of an envelope of a manifest, whose wrapper states a digest of zeros.
-fn parts(alloc: Global, manifest: &Manifest) -> Result<EnvelopeParts, Fail> {
-    let wrapper = hex::decode(
-        alloc,
-        "815824822f58200000000000000000000000000000000000000000000000000000000000000000",
-    )?;
-    Ok(EnvelopeParts {
-        wrapper: Bytes::from_vec(wrapper),
-        manifest: encode_manifest(alloc, manifest)?,
-        payload_fetch: None,
-        install: None,
-        text: None,
-        payloads: PayloadList::new(alloc),
-    })
-}
+// {2: a wrapper without blocks, 3: h'a0'}.
+const EMPTY: &str =
+    "a2025827815824822f582000000000000000000000000000000000000000000000000000000000000000000341a0";
 
-// The description of an envelope of these parts, as text.
+// The description of a manifest in an envelope of these bytes, as text. The envelope has this text member.
 fn described(
     alloc: Global,
-    parts: &EnvelopeParts,
+    whole: &str,
+    text: Option<&[u8]>,
     manifest: &Manifest,
     members: &Members,
 ) -> Result<String, Fail> {
-    let whole = encode_envelope(alloc, parts)?;
-    let envelope = decode_envelope(whole.as_slice())?;
+    let whole = hex::decode(alloc, whole)?;
+    let mut envelope = decode_envelope(whole.as_slice())?;
+    envelope.text = text;
     let value = describe(alloc, &envelope, manifest, members)?;
     Ok(value.to_string(alloc)?)
 }
 
-// The description of a described manifest.
-fn again(alloc: Global, json: &str) -> Result<String, Fail> {
-    let manifest = manifest(alloc, json)?;
-    let parts = parts(alloc, &manifest)?;
-    let members = Members {
+fn no_members() -> Members {
+    Members {
         payload_fetch: None,
         install: None,
-    };
-    described(alloc, &parts, &manifest, &members)
+    }
+}
+
+// The description of a described manifest, of which the same bytes are made.
+fn again(alloc: Global, json: &str) -> Result<String, Fail> {
+    let first = manifest(alloc, json)?;
+    let text = described(alloc, EMPTY, None, &first, &no_members())?;
+    let second = manifest(alloc, text.as_str())?;
+    let first_bytes = encode_manifest(alloc, &first)?;
+    let second_bytes = encode_manifest(alloc, &second)?;
+    if first_bytes.as_slice() == second_bytes.as_slice() {
+        Ok(text)
+    } else {
+        Err(Fail::from("another manifest is made"))
+    }
 }
 
 // Descriptions as they are written: one without optional fields, then conditions, directives, selections, parameters,
@@ -93,35 +93,23 @@ fn files_are_written_as_what_they_hold(rt: HostRuntime) -> Result<(), Fail> {
         Bytes::from_slice(alloc, b"abc")?,
     )?;
     let manifest = manifest_of(alloc, &description(alloc, &value)?, &files)?;
-    let parts = parts(alloc, &manifest)?;
-    let members = Members {
-        payload_fetch: None,
-        install: None,
-    };
     assert_eq!(rt;
-        described(alloc, &parts, &manifest, &members)?.as_str(),
+        described(alloc, EMPTY, None, &manifest, &no_members())?.as_str(),
         "{\"components\":[[\"00\"]],\"invoke\":[[\"invoke\",15]],\"sequence\":1,\"shared\":[[\"set\",{\"digest\":\"ba7816bf8f01cfea414140de5dae2223b00361a396177a9cb410ff61f20015ad\",\"size\":3}]],\"validate\":[[\"match\",15]]}"
     );
     Ok(())
 }
 
+// 107({2: a wrapper without blocks, 3: h'a0', "b": h'01', "aa": h''}).
+const PAYLOADS: &str =
+    "d86ba4025827815824822f582000000000000000000000000000000000000000000000000000000000000000000341a06162410162616140";
+
 #[test]
 fn payloads_are_written_by_their_keys(rt: HostRuntime) -> Result<(), Fail> {
     let alloc = rt.alloc();
     let manifest = manifest(alloc, WRITTEN[0])?;
-    let mut parts = parts(alloc, &manifest)?;
-    for (key, payload) in [("b", b"\x01".as_slice()), ("aa", b"".as_slice())] {
-        parts.payloads.push(
-            Text::from_str(alloc, key)?,
-            Bytes::from_slice(alloc, payload)?,
-        )?;
-    }
-    let members = Members {
-        payload_fetch: None,
-        install: None,
-    };
     assert_eq!(rt;
-        described(alloc, &parts, &manifest, &members)?.as_str(),
+        described(alloc, PAYLOADS, None, &manifest, &no_members())?.as_str(),
         "{\"components\":[[\"00\"]],\"payloads\":{\"aa\":{\"hex\":\"\"},\"b\":{\"hex\":\"01\"}},\"sequence\":18446744073709551615}"
     );
     Ok(())
@@ -134,34 +122,22 @@ const SEVERED: &str =
 const WHOLE: &str =
     "{\"components\":[[\"00\"]],\"install\":[[\"invoke\",15]],\"payload-fetch\":[[\"fetch\",15]],\"sequence\":1,\"text\":\"a0\"}";
 
-// The content of a member that the manifest holds.
-fn content(alloc: Global, member: &Member) -> Result<Option<Bytes>, Fail> {
-    match member {
-        Member::Here(sequence) => Ok(Some(encode_sequence(alloc, sequence)?)),
-        _ => Ok(None),
-    }
-}
-
-// A description of an envelope that holds the two members of `WHOLE`, and this text.
-fn severed(alloc: Global, text: &[u8]) -> Result<String, Fail> {
-    let whole = manifest(alloc, WHOLE)?;
-    let manifest = manifest(alloc, SEVERED)?;
-    let mut parts = parts(alloc, &manifest)?;
-    parts.payload_fetch = content(alloc, &whole.payload_fetch)?;
-    parts.install = content(alloc, &whole.install)?;
-    parts.text = Some(Bytes::from_slice(alloc, text)?);
-    let members = Members {
-        payload_fetch: held(whole.payload_fetch),
-        install: held(whole.install),
-    };
-    described(alloc, &parts, &manifest, &members)
-}
-
 fn held(member: Member) -> Option<Sequence> {
     match member {
         Member::Here(sequence) => Some(sequence),
         _ => None,
     }
+}
+
+// The description of an envelope that holds the two members of `WHOLE`, and this text.
+fn severed(alloc: Global, text: &[u8]) -> Result<String, Fail> {
+    let whole = manifest(alloc, WHOLE)?;
+    let members = Members {
+        payload_fetch: held(whole.payload_fetch),
+        install: held(whole.install),
+    };
+    let manifest = manifest(alloc, SEVERED)?;
+    described(alloc, EMPTY, Some(text), &manifest, &members)
 }
 
 #[test]
