@@ -4,3 +4,4 @@ pub mod Memory
 pub mod Writing
 pub mod Short
 pub mod Composing
+pub mod Lifting

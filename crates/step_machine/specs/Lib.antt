@@ -3,3 +3,4 @@ pub mod Holding
 pub mod Conditions
 pub mod Directives
 pub mod Comes
+pub mod Devices

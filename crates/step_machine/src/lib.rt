@@ -13,6 +13,3 @@ pub use conditions::passes;
 pub use directives::write;
 pub use spot::{Spot, Standing};
 pub use stop::Stop;
-
-#[cfg(test)]
-mod leaf_tests;
