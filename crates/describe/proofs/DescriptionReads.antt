@@ -130,7 +130,7 @@ module _ (said : EnvelopeSays) (payloads : List (List ℕ × List ℕ)) (m : Man
         list,
         (
           t1,
-          components_taken t0 m.components h.some h.components,
+          components_taken t0 m.components refl h.some h.components,
           (
             t2,
             install_taken t1 m.install apart.install refl small (for_count (λ n. MemberReads n m.install apart.install) h.install),

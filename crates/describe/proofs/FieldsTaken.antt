@@ -55,9 +55,9 @@ reads_to t w (f ∷ fs) h = read_if t h.0 f.0 f.1 fs h.1 ∙ reads_to h.0 w fs h
 
 -- ---- heads
 
-pub components_taken : (t : Fields) (ids : List (List (List ℕ))) → 1 ≤ length ids → AllByRecursion IsReadable ids
+pub components_taken : (t : Fields) (ids : List (List (List ℕ))) → t.components ≡ None → 1 ≤ length ids → AllByRecursion IsReadable ids
     → TakesIf t (codes "components") (Some (identifiers_data ids)) (record t { components = Some ids })
-components_taken t ids some h = rw (identifiers_read ids some h) refl
+components_taken t ids empty some h = rw (identifiers_read ids some h, empty) refl
 
 pub number_taken : (t : Fields) (n : ℕ) → n < 2 ^ 64 → TakesIf t (codes "sequence") (Some (number_data n)) (record t { sequence = Some n })
 number_taken t n h = rw (number_read (2 ^ 64 - 1) n (omega arith)) refl

@@ -15,25 +15,38 @@ number_of p = key_number (key_of p)
 before : (p q : Param) (qs : List Param) → number_of p < number_of q → placed_among p (q ∷ qs) ≡ p ∷ q ∷ qs
 before p q qs lt = grind (arith, nat_tests)
 
-after : (p q : Param) (qs : List Param) → number_of q ≤ number_of p → placed_among p (q ∷ qs) ≡ q ∷ placed_among p qs
-after p q qs le = grind (arith, nat_tests)
+after : (p q : Param) (qs : List Param) → number_of q < number_of p → placed_among p (q ∷ qs) ≡ q ∷ placed_among p qs
+after p q qs gt = grind (arith, nat_tests)
+
+instead : (p q : Param) (qs : List Param) → number_of p ≡ number_of q → placed_among p (q ∷ qs) ≡ p ∷ qs
+instead p q qs same = grind (arith, nat_tests)
 
 -- ---- the order does not matter
 
 lower_first : (p q : Param) (rs : List Param) → number_of p < number_of q → placed_among p (placed_among q rs) ≡ placed_among q (placed_among p rs)
-lower_first p q [] lt = before p q [] lt ∙ sym (after q p [] (omega arith))
+lower_first p q [] lt = before p q [] lt ∙ sym (after q p [] lt)
 lower_first p q (r ∷ rs) lt =
     elim (cases_lt (number_of q) (number_of r)) [
       | inl q_first ↦
           ap (placed_among p) (before q r rs q_first) ∙ before p q (r ∷ rs) lt
-          ∙ sym (ap (placed_among q) (before p r rs (omega arith)) ∙ after q p (r ∷ rs) (omega arith) ∙ ap (λ ps. p ∷ ps) (before q r rs q_first))
-      | inr r_before_q ↦ elim (cases_lt (number_of p) (number_of r)) [
-        | inl p_first ↦
-            ap (placed_among p) (after q r rs r_before_q) ∙ before p r (placed_among q rs) p_first
-            ∙ sym (ap (placed_among q) (before p r rs p_first) ∙ after q p (r ∷ rs) (omega arith) ∙ ap (λ ps. p ∷ ps) (after q r rs r_before_q))
-        | inr r_before_p ↦
-            ap (placed_among p) (after q r rs r_before_q) ∙ after p r (placed_among q rs) r_before_p ∙ ap (λ ps. r ∷ ps) (lower_first p q rs lt)
-            ∙ sym (ap (placed_among q) (after p r rs r_before_p) ∙ after q r (placed_among p rs) r_before_q)
+          ∙ sym (ap (placed_among q) (before p r rs (omega arith)) ∙ after q p (r ∷ rs) lt ∙ ap (λ ps. p ∷ ps) (before q r rs q_first))
+      | inr r_within ↦ elim (cases_lt (number_of r) (number_of q)) [
+        | inl r_before_q ↦ elim (cases_lt (number_of p) (number_of r)) [
+          | inl p_first ↦
+              ap (placed_among p) (after q r rs r_before_q) ∙ before p r (placed_among q rs) p_first
+              ∙ sym (ap (placed_among q) (before p r rs p_first) ∙ after q p (r ∷ rs) lt ∙ ap (λ ps. p ∷ ps) (after q r rs r_before_q))
+          | inr r_not_after_p ↦ elim (cases_lt (number_of r) (number_of p)) [
+            | inl r_before_p ↦
+                ap (placed_among p) (after q r rs r_before_q) ∙ after p r (placed_among q rs) r_before_p ∙ ap (λ ps. r ∷ ps) (lower_first p q rs lt)
+                ∙ sym (ap (placed_among q) (after p r rs r_before_p) ∙ after q r (placed_among p rs) r_before_q)
+            | inr p_within ↦
+                ap (placed_among p) (after q r rs r_before_q) ∙ instead p r (placed_among q rs) (omega arith)
+                ∙ sym (ap (placed_among q) (instead p r rs (omega arith)) ∙ after q p rs lt)
+          ]
+        ]
+        | inr q_within ↦
+            ap (placed_among p) (instead q r rs (omega arith)) ∙ before p q rs lt
+            ∙ sym (ap (placed_among q) (before p r rs (omega arith)) ∙ after q p (r ∷ rs) lt ∙ ap (λ ps. p ∷ ps) (instead q r rs (omega arith)))
       ]
     ]
 

@@ -1,11 +1,12 @@
 -- Integrated payloads are read where their contents are bytes.
-use Rattle.std.proofs.Common.{◌≡◌, ℕ, List, [], ◌∷◌, ◌++◌, Ok, Ordering, Less, Equal, Greater, nat_cmp, refl}
+use Rattle.std.proofs.Common.{◌≡◌, ℕ, List, [], ◌∷◌, Ok, Ordering, Less, Equal, Greater, nat_cmp, refl}
 use Rattle.std.specs.Cmp.Lexicographic.{slice_cmp}
 use Rattle.std.specs.List.{AllByRecursion}
 use Rattle.std.specs.Ordering.{match_ordering}
 use Rattle.det_cbor.specs.DataItem.{IsByte}
 use Rattle.serde_json.specs.Data.{Data, object, Members, no_members, member, put}
 use Rattle.json_fields.specs.Objects.{members_of}
+use Rattle.suit_envelope.specs.PayloadOrder.{put_payload}
 use Rattle.author.specs.Payloads.{payload_of, takes_payload, payloads_of}
 use Rattle.describe.specs.PayloadData.{payload_data, with_payloads}
 use Rattle.describe.proofs.ValuesRead.{hex_read}
@@ -36,7 +37,7 @@ module _ (files : List (List ℕ × List ℕ)) where
       → (list : List (List ℕ × List ℕ)) × (members_of takes_payload (record { files = files; list = so_far }) ms ≡ Ok (record { files = files; list = list }))
   all_read no_members so_far h = (so_far, refl)
   all_read (member k d ms) so_far h =
-      let later = all_read ms (so_far ++ (k, h.0.0) ∷ []) h.1 in
+      let later = all_read ms (put_payload (k, h.0.0) so_far) h.1 in
       (later.0, rw h.0.1 later.1)
 
   pub payloads_read : (ps : List (List ℕ × List ℕ)) → AllByRecursion (λ p. AllByRecursion IsByte p.1) ps
