@@ -21,17 +21,15 @@ fn manifest(alloc: Global, json: &str) -> Result<Manifest, Fail> {
 const EMPTY: &str =
     "a2025827815824822f582000000000000000000000000000000000000000000000000000000000000000000341a0";
 
-// The description of a manifest in an envelope of these bytes, as text. The envelope has this text member.
+// The description of a manifest in an envelope of these bytes, as text.
 fn described(
     alloc: Global,
     whole: &str,
-    text: Option<&[u8]>,
     manifest: &Manifest,
     members: &Members,
 ) -> Result<String, Fail> {
     let whole = hex::decode(alloc, whole)?;
-    let mut envelope = decode_envelope(whole.as_slice())?;
-    envelope.text = text;
+    let envelope = decode_envelope(whole.as_slice())?;
     let value = describe(alloc, &envelope, manifest, members)?;
     Ok(value.to_string(alloc)?)
 }
@@ -46,7 +44,7 @@ fn no_members() -> Members {
 // The description of a described manifest, of which the same bytes are made.
 fn again(alloc: Global, json: &str) -> Result<String, Fail> {
     let first = manifest(alloc, json)?;
-    let text = described(alloc, EMPTY, None, &first, &no_members())?;
+    let text = described(alloc, EMPTY, &first, &no_members())?;
     let second = manifest(alloc, text.as_str())?;
     let first_bytes = encode_manifest(alloc, &first)?;
     let second_bytes = encode_manifest(alloc, &second)?;
@@ -94,7 +92,7 @@ fn files_are_written_as_what_they_hold(rt: HostRuntime) -> Result<(), Fail> {
     )?;
     let manifest = manifest_of(alloc, &description(alloc, &value)?, &files)?;
     assert_eq!(rt;
-        described(alloc, EMPTY, None, &manifest, &no_members())?.as_str(),
+        described(alloc, EMPTY, &manifest, &no_members())?.as_str(),
         "{\"components\":[[\"00\"]],\"invoke\":[[\"invoke\",15]],\"sequence\":1,\"shared\":[[\"set\",{\"digest\":\"ba7816bf8f01cfea414140de5dae2223b00361a396177a9cb410ff61f20015ad\",\"size\":3}]],\"validate\":[[\"match\",15]]}"
     );
     Ok(())
@@ -109,7 +107,7 @@ fn payloads_are_written_by_their_keys(rt: HostRuntime) -> Result<(), Fail> {
     let alloc = rt.alloc();
     let manifest = manifest(alloc, WRITTEN[0])?;
     assert_eq!(rt;
-        described(alloc, PAYLOADS, None, &manifest, &no_members())?.as_str(),
+        described(alloc, PAYLOADS, &manifest, &no_members())?.as_str(),
         "{\"components\":[[\"00\"]],\"payloads\":{\"aa\":{\"hex\":\"\"},\"b\":{\"hex\":\"01\"}},\"sequence\":18446744073709551615}"
     );
     Ok(())
@@ -129,24 +127,31 @@ fn held(member: Member) -> Option<Sequence> {
     }
 }
 
-// The description of an envelope that holds the two members of `WHOLE`, and this text.
-fn severed(alloc: Global, text: &[u8]) -> Result<String, Fail> {
+// {2: a wrapper without blocks, 3: h'a0', 23: h'a0'}, and with the text h'a1'.
+const WITH_TEXT: &str =
+    "a3025827815824822f582000000000000000000000000000000000000000000000000000000000000000000341a01741a0";
+
+const WITH_OTHER: &str =
+    "a3025827815824822f582000000000000000000000000000000000000000000000000000000000000000000341a01741a1";
+
+// The description of an envelope of these bytes, where the two members of `WHOLE` are there.
+fn severed(alloc: Global, envelope: &str) -> Result<String, Fail> {
     let whole = manifest(alloc, WHOLE)?;
     let members = Members {
         payload_fetch: held(whole.payload_fetch),
         install: held(whole.install),
     };
     let manifest = manifest(alloc, SEVERED)?;
-    described(alloc, EMPTY, Some(text), &manifest, &members)
+    described(alloc, envelope, &manifest, &members)
 }
 
 #[test]
 fn severed_members_are_written_with_their_content(rt: HostRuntime) -> Result<(), Fail> {
     let alloc = rt.alloc();
-    assert_eq!(rt; severed(alloc, b"\xa0")?.as_str(), SEVERED);
+    assert_eq!(rt; severed(alloc, WITH_TEXT)?.as_str(), SEVERED);
     // The digest of the text was made by another program.
     assert_eq!(rt;
-        severed(alloc, b"\xa1")?.as_str(),
+        severed(alloc, WITH_OTHER)?.as_str(),
         "{\"components\":[[\"00\"]],\"install\":[[\"invoke\",15]],\"payload-fetch\":[[\"fetch\",15]],\"sequence\":1,\"sever\":[\"payload-fetch\",\"install\"],\"text\":{\"digest\":\"ba59ea8f4f88a2fcd9aaf9a83d236bb75f1f528637b999a25866124a877ffb15\"}}"
     );
     Ok(())
