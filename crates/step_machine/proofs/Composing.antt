@@ -1,15 +1,14 @@
 -- How plays of parts compose, where no events are kept.
-use Rattle.std.proofs.Common.{◌≡◌, ℕ, Bool, true, false, List, [], ◌∷◌, ◌++◌, Option, Some, Ok, Err, refl, sym, ap, subst, ◌∙◌, inl, inr}
+use Rattle.std.proofs.Common.{◌≡◌, ℕ, Ok, Err, refl, sym, ap, subst, ◌∙◌, inl, inr}
 use Rattle.std.specs.Prelude.{Result}
-use Rattle.path_model.specs.declared.event.Event.{Event}
 use Rattle.path_model.specs.declared.cause.Cause.{Cause}
 use Rattle.path_model.specs.declared.cause.Cause.TheVariants as causes
-use Rattle.path_model.specs.Behaviour.{State, Ending, Done, Condition, Directive}
+use Rattle.path_model.specs.Behaviour.{State, Ending, Done}
 use Rattle.path_model.specs.Plays.{Outcome, Play, behind, going_on, NextIsCut, in_turn}
 use Rattle.path_model.specs.DevicePlays.{Device}
 use Rattle.step_machine.specs.declared.stop.Stop.{Stop}
 use Rattle.step_machine.specs.declared.stop.Stop.TheVariants as stops
-use Rattle.step_machine.specs.Directives.{Stops, IsCutSo, StopsSo}
+use Rattle.step_machine.specs.Directives.{Stops, IsCutSo}
 use Rattle.step_machine.specs.Comes.{Comes}
 
 stops_as : (p : ℕ) (cause : Cause) (v : Device) (o other : Outcome Device) → o.ending ≡ other.ending → o.cause ≡ other.cause → o.world ≡ other.world → Stops p cause v other → Stops p cause v o

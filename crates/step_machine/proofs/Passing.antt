@@ -1,6 +1,6 @@
 -- A condition passes in a play exactly where it holds, and a play is cut where the content could not be read.
 use Rattle.std.proofs.Common.{◌≡◌, ℕ, Bool, true, false, List, Option, Some, None, refl, sym, ap, subst, ◌∙◌}
-use Rattle.std.specs.Prelude.{◌↔◌, IsTrue, IsSome, slice_get}
+use Rattle.std.specs.Prelude.{◌↔◌, IsTrue, slice_get}
 use Rattle.std.proofs.lemmas.Bool.{true≢false}
 use Rattle.suit_params.specs.declared.digest.Digest.{Digest}
 use Rattle.suit_params.specs.declared.param.ParamKey.TheVariants as keys
@@ -10,7 +10,7 @@ use Rattle.suit_commands.specs.declared.kinds.TestKind.TheVariants as tests
 use Rattle.path_model.specs.declared.identity.Identity.{Identity}
 use Rattle.path_model.specs.declared.event.Event.{Event}
 use Rattle.path_model.specs.declared.event.Event.TheVariants.{Tried, Matched, Missed}
-use Rattle.path_model.specs.Behaviour.{State, Ending, Done, Condition}
+use Rattle.path_model.specs.Behaviour.{State, Done, Condition}
 use Rattle.path_model.specs.Conditions.{vendor_of, class_of, device_of, slot_of}
 use Rattle.path_model.specs.Settings.{Setting}
 use Rattle.path_model.specs.DevicePlays.{Device, content_at, tested, matched, is_image, is_content, same_identifier, same_number, unread, condition_play}

@@ -1,7 +1,7 @@
 -- Places that are left alone, of wider ranges.
-use Rattle.std.proofs.Common.{◌≤◌, ◌<◌, ◌+◌, ℕ, arith, inl, inr}
-use Rattle.suit_edge.specs.Flash.{Flash, Keeps, IsFlash}
-use Rattle.suit_edge.specs.FlashLaws.{keeps_fewer, keeps_then}
+use Rattle.std.proofs.Common.{◌≤◌, ◌+◌, ℕ, arith, inl, inr}
+use Rattle.suit_edge.specs.Flash.{Flash, Keeps}
+use Rattle.suit_edge.specs.FlashLaws.{keeps_fewer}
 use Rattle.suit_edge.specs.Ranges.{Outside}
 
 outside_wider : (p n q m : ℕ) → p ≤ q → q + m ≤ p + n → (i : ℕ) → Outside p n i → Outside q m i

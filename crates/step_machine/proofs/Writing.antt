@@ -1,5 +1,5 @@
 -- A write, as plays have it.
-use Rattle.std.proofs.Common.{◌≡◌, ◌≤◌, ◌<◌, ◌+◌, ℕ, Bool, true, false, List, [], ◌∷◌, ◌++◌, Option, Some, None, Ok, Err, length, refl, sym, ap, subst, ◌∙◌, arith}
+use Rattle.std.proofs.Common.{◌≡◌, ◌≤◌, ◌<◌, ℕ, Bool, true, false, List, [], ◌∷◌, Option, Some, None, Ok, Err, length, refl, sym, ap, subst, ◌∙◌, arith}
 use Rattle.std.specs.Prelude.{nat_le, if◌then◌else◌, slice_set}
 use Rattle.std.proofs.lemmas.Bool.{le-leb, lt-leb, true≢false}
 use Rattle.std.proofs.lemmas.List.{set-get_or}
@@ -7,14 +7,14 @@ use Rattle.suit_params.specs.declared.param.ParamKey.TheVariants as keys
 use Rattle.suit_params.specs.InForce.{Parameters, in_force, bytes_of}
 use Rattle.suit_commands.specs.declared.kinds.ActKind.TheVariants as acts
 use Rattle.path_model.specs.declared.event.Event.{Event}
-use Rattle.path_model.specs.declared.event.Event.TheVariants.{Wrote, Failed}
+use Rattle.path_model.specs.declared.event.Event.TheVariants.{Wrote}
 use Rattle.path_model.specs.declared.cause.Cause.{Cause}
 use Rattle.path_model.specs.declared.cause.Cause.TheVariants as causes
-use Rattle.path_model.specs.Behaviour.{State, Done, Directive}
-use Rattle.path_model.specs.Settings.{Setting, capacity_of}
-use Rattle.path_model.specs.Plays.{Outcome, Play}
-use Rattle.path_model.specs.DevicePlays.{Device, content_at, with_content, Change, Made, Refused, concluded, filled, acted, ActIsCut, WriteLeaves, directive_play}
-use Rattle.step_machine.specs.Directives.{Stops, IsCutSo, ActsSo, WritesAs}
+use Rattle.path_model.specs.Behaviour.{State}
+use Rattle.path_model.specs.Settings.{capacity_of}
+use Rattle.path_model.specs.Plays.{Outcome}
+use Rattle.path_model.specs.DevicePlays.{Device, content_at, with_content, Made, Refused, concluded, filled, acted, ActIsCut, WriteLeaves, directive_play}
+use Rattle.step_machine.specs.Directives.{Stops, WritesAs}
 
 when_true : {A : Type 0} (b : Bool) (x y : A) → b ≡ true → (if b then x else y) ≡ x
 when_true true x y e = refl

@@ -1,6 +1,5 @@
 -- What a part of a procedure comes to on a device, as its play has it. No events are kept.
-use Rattle.std.specs.Prelude.{◌≡◌, ℕ, Bool, Result, Ok, Err}
-use Rattle.path_model.specs.declared.cause.Cause.{Cause}
+use Rattle.std.specs.Prelude.{◌≡◌, Result, Ok, Err}
 use Rattle.path_model.specs.Behaviour.{State, Done, Condition}
 use Rattle.path_model.specs.Plays.{Play}
 use Rattle.path_model.specs.DevicePlays.{Device}

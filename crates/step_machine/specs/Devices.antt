@@ -1,5 +1,5 @@
 -- The contents of components that stand so, as a device of plays has them.
-use Rattle.std.specs.Prelude.{◌≡◌, ◌≢◌, ◌<◌, ℕ, List, length, map, get_or}
+use Rattle.std.specs.Prelude.{◌≢◌, ◌<◌, ℕ, List, length, map, get_or}
 use Rattle.flash_layout.specs.Layouts.{AreClear}
 use Rattle.flash_layout.specs.Slots.{extent_of}
 use Rattle.flash_slots.specs.RamContents.{Held}

@@ -1,5 +1,5 @@
 -- Whether a condition holds of a component: of its parameters in force, of what it is, and of its content.
-use Rattle.std.specs.Prelude.{◌≡◌, ℕ, Bool, false, List, Option, Some, None, IsSome}
+use Rattle.std.specs.Prelude.{ℕ, Bool, false, List, Option, Some, None, IsSome}
 use Rattle.suit_params.specs.declared.digest.Digest.{Digest}
 use Rattle.suit_params.specs.declared.param.ParamKey.TheVariants as keys
 use Rattle.suit_params.specs.InForce.{Parameters, in_force, identifier_of, number_of, bytes_of, digest_in, size_in}

@@ -1,7 +1,7 @@
 use Rattle.std.proofs.Common.{◌≡◌, ◌≤◌, length, Some, sym, ap, ◌∙◌, arith}
 use Rattle.suit_params.specs.declared.param.ParamKey.TheVariants as keys
 use Rattle.suit_params.specs.InForce.{in_force, bytes_of}
-use Rattle.step_machine.specs.Spots.{content_of, room_at}
+use Rattle.step_machine.specs.Spots.{content_of}
 use Rattle.step_machine.proofs.Memory.{ram_same}
 use Rattle.step_machine.proofs.Writing.{write_cut}
 use Rattle.step_machine.proofs.directives.write.Goals as goal

@@ -1,6 +1,5 @@
-use Rattle.std.proofs.Common.{◌≡◌, ◌≤◌, ◌+◌, length, ℕ, ap, arith}
+use Rattle.std.proofs.Common.{◌≡◌, ◌≤◌, ◌+◌, length, ap, arith}
 use Rattle.flash_layout.specs.declared.slot.Slot.{Slot}
-use Rattle.flash_layout.specs.Slots.{extent_of}
 use Rattle.suit_edge.specs.FlashLaws.{keeps_then}
 use Rattle.suit_edge.specs.Ranges.{Outside}
 use Rattle.step_machine.proofs.Ranging.{keeps_wider}
