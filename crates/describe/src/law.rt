@@ -2,6 +2,7 @@
 
 ghost use Rattle.describe.specs.Again.{DescribeLaws};
 
+use det_cbor::item_splitting;
 use suit_commands::sequence_laws;
 use suit_envelope::envelope_laws;
 use suit_manifest::manifest_laws;
@@ -12,6 +13,7 @@ use suit_manifest::manifest_laws;
 pub fn describe_laws()
     ensures { DescribeLaws }
 {
+    item_splitting();
     envelope_laws();
     sequence_laws();
     manifest_laws();

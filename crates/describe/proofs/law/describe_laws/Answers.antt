@@ -1,4 +1,3 @@
-use Rattle.det_cbor.proofs.SplitLaws.{split_again}
 use Rattle.describe.proofs.DescribedAgain.{made_again, are_there}
 use Rattle.describe.proofs.NoFiles.{no_files}
 use Rattle.describe.proofs.NoFloats.{no_float}
@@ -6,7 +5,7 @@ use Rattle.describe.proofs.law.describe_laws.Goals as goal
 
 pub returns : goal.returns
 returns c = record {
-  made_again = made_again split_again c.envelope_laws.ensures c.sequence_laws.ensures c.manifest_laws.ensures;
+  made_again = made_again c.item_splitting.ensures.every_item c.envelope_laws.ensures c.sequence_laws.ensures c.manifest_laws.ensures;
   taken = are_there;
   no_float = no_float;
   no_file = no_files;
