@@ -28,7 +28,8 @@ fn with_value<'a>(
     command: Command<'a>,
     id: &'a str,
 ) -> Result<Command<'a>, AllocError>
-    ensures { IfOk result (λ c. app_of c ≡ with_rule (app_of command.entry) (value_rule id.entry.now)) }
+    ensures { IfOk result (λ c. app_of c
+        ≡ with_rule (app_of command.entry) (value_rule id.entry.now)) }
 {
     command.arg(Arg::new(alloc, id).required(true).action(ArgAction::Set))
 }
@@ -39,7 +40,8 @@ fn with_option<'a>(
     command: Command<'a>,
     id: &'a str,
 ) -> Result<Command<'a>, AllocError>
-    ensures { IfOk result (λ c. app_of c ≡ with_rule (app_of command.entry) (option_rule id.entry.now)) }
+    ensures { IfOk result (λ c. app_of c
+        ≡ with_rule (app_of command.entry) (option_rule id.entry.now)) }
 {
     command.arg(Arg::new(alloc, id).action(ArgAction::Set))
 }
@@ -50,7 +52,8 @@ fn with_values<'a>(
     command: Command<'a>,
     id: &'a str,
 ) -> Result<Command<'a>, AllocError>
-    ensures { IfOk result (λ c. app_of c ≡ with_rule (app_of command.entry) (values_rule id.entry.now)) }
+    ensures { IfOk result (λ c. app_of c
+        ≡ with_rule (app_of command.entry) (values_rule id.entry.now)) }
 {
     command.arg(Arg::new(alloc, id).num_args(0..))
 }
@@ -133,7 +136,8 @@ pub(crate) fn option_of<'a>(matches: &ArgMatches<'a>, id: &str) -> Option<&'a st
 
 /// The values of an argument that has any number of them.
 pub(crate) fn values_of<'m, 'a>(matches: &'m ArgMatches<'a>, id: &str) -> Option<&'m [&'a str]>
-    ensures { option_map (λ s. texts s.now) result ≡ all_of id.now (rows_of (found_of matches.entry.now)) }
+    ensures { option_map (λ s. texts s.now) result
+        ≡ all_of id.now (rows_of (found_of matches.entry.now)) }
 {
     matches.get_strs(id)
 }

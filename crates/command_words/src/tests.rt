@@ -1,7 +1,7 @@
 //! Tests of the words, by tables.
 
 use crate::{Command, command_of};
-use std::alloc::Global;
+use std::alloc::{AllocError, Global};
 use std::test::Fail;
 
 /// An example: words, and what they ask for.
@@ -200,6 +200,18 @@ fn other_words_are_usage(rt: HostRuntime) -> Result<(), Fail> {
     Ok(())
 }
 
+/// The words of an update with these answers.
+fn update_words<'a>(alloc: Global, answers: &'a [String]) -> Result<Vec<&'a str>, AllocError> {
+    let mut words = Vec::new(alloc);
+    words.push("run")?;
+    words.push("update")?;
+    words.push("f")?;
+    for answer in answers {
+        words.push(answer.as_str())?;
+    }
+    Ok(words)
+}
+
 #[test]
 fn at_most_64_uris_are_answered(rt: HostRuntime) -> Result<(), Fail> {
     let alloc = rt.alloc();
@@ -207,13 +219,14 @@ fn at_most_64_uris_are_answered(rt: HostRuntime) -> Result<(), Fail> {
     for number in 0..65u8 {
         answers.push(format!(in alloc; "uri{number}=name")?)?;
     }
-    let mut words = vec![in alloc; "run", "update", "f"]?;
-    for answer in &answers {
-        let is_usage = command_of(alloc, words.as_slice())?.is_none();
-        assert!(rt; !is_usage);
-        words.push(answer.as_str())?;
-    }
-    let is_usage = command_of(alloc, words.as_slice())?.is_none();
-    assert!(rt; is_usage);
+    let words = update_words(alloc, answers.as_slice())?;
+    let all = words.as_slice();
+    assert_eq!(rt; line(alloc, all)?.as_str(), "usage");
+    let but_one = all.get(..67).ok_or("no words")?;
+    assert!(rt;
+        line(alloc, but_one)?
+            .as_str()
+            .starts_with("update <f> <uri0> is <name> <uri1>")
+    );
     Ok(())
 }
