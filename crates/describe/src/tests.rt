@@ -10,11 +10,19 @@ use suit_commands::Sequence;
 use suit_envelope::decode_envelope;
 use suit_manifest::{Manifest, Member, Members, encode_manifest};
 
-// The manifest of a description that names no file.
-fn manifest(alloc: Global, json: &str) -> Result<Manifest, Fail> {
+// The manifest of a description with these files.
+fn manifest_with(alloc: Global, json: &str, files: &FileList) -> Result<Manifest, Fail> {
     let value = Value::from_str(alloc, json)?;
     let read = description(alloc, &value)?;
-    Ok(manifest_of(alloc, &read, &FileList::new(alloc))?)
+    if !files.has_all(read.files()) {
+        return Err(Fail::new("another file is named"));
+    }
+    Ok(manifest_of(alloc, &read, files)?)
+}
+
+// The manifest of a description that names no file.
+fn manifest(alloc: Global, json: &str) -> Result<Manifest, Fail> {
+    manifest_with(alloc, json, &FileList::new(alloc))
 }
 
 // {2: a wrapper without blocks, 3: h'a0'}.
@@ -78,19 +86,18 @@ fn what_is_described_is_described_again(rt: HostRuntime) -> Result<(), Fail> {
     Ok(())
 }
 
+const NAMING: &str =
+    "{\"sequence\":1,\"components\":[[\"00\"]],\"shared\":[[\"set\",{\"digest\":{\"file\":\"abc.img\"},\"size\":{\"file\":\"abc.img\"}}]],\"validate\":[[\"match\",15]],\"invoke\":[[\"invoke\",15]]}";
+
 #[test]
 fn files_are_written_as_what_they_hold(rt: HostRuntime) -> Result<(), Fail> {
     let alloc = rt.alloc();
-    let value = Value::from_str(
-        alloc,
-        "{\"sequence\":1,\"components\":[[\"00\"]],\"shared\":[[\"set\",{\"digest\":{\"file\":\"abc.img\"},\"size\":{\"file\":\"abc.img\"}}]],\"validate\":[[\"match\",15]],\"invoke\":[[\"invoke\",15]]}",
-    )?;
     let mut files = FileList::new(alloc);
     files.push(
         Text::from_str(alloc, "abc.img")?,
         Bytes::from_slice(alloc, b"abc")?,
     )?;
-    let manifest = manifest_of(alloc, &description(alloc, &value)?, &files)?;
+    let manifest = manifest_with(alloc, NAMING, &files)?;
     assert_eq!(rt;
         described(alloc, EMPTY, &manifest, &no_members())?.as_str(),
         "{\"components\":[[\"00\"]],\"invoke\":[[\"invoke\",15]],\"sequence\":1,\"shared\":[[\"set\",{\"digest\":\"ba7816bf8f01cfea414140de5dae2223b00361a396177a9cb410ff61f20015ad\",\"size\":3}]],\"validate\":[[\"match\",15]]}"
