@@ -8,7 +8,7 @@ mod words;
 use source::Started;
 use std::process::ExitCode;
 use suit_cli::{Status, run};
-use suit_edge::{FileHost, StdSink};
+use suit_edge::{FileDisk, FileHost, StdSink};
 use words::command_line;
 
 /// The status where there is no memory for the words.
@@ -20,8 +20,9 @@ fn main(rt: HostRuntime) -> ExitCode {
         return ExitCode::from(OUT_OF_MEMORY);
     };
     let mut host = FileHost::new(&rt);
+    let mut flash = FileDisk::new(&rt);
     let mut out = StdSink::new(&rt);
-    let Status(code) = run(alloc, &words, &mut host, &mut out);
+    let Status(code) = run(alloc, &words, &mut host, &mut flash, &mut out);
     ExitCode::from(code)
 }
 

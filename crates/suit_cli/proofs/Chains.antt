@@ -28,12 +28,12 @@ use Rattle.suit_cli.specs.Judgement.{narrow, AreJudged}
 
 -- a judgement stands anywhere
 pub anywhere : Outside
-anywhere = record { told = false; files = λ name. None; pulled = 0; asked = []; faults = 0 }
+anywhere = record { told = false; files = λ name. None; pulled = 0; asked = []; faults = 0; flash = record { told = false; size = 0; reads = []; faults = 0 } }
 
 module _ {A : Type 0} (stage : Stage A) (next : A → Answers) (before after : Outside) where
   pub stopped : (stop : Stop) → Does stage before after (Err stop) → Then stage next before after (ending_of (Err stop))
   stopped (stops.Declined reply) does = Declines reply does
-  stopped stops.HostFault does = Faults does
+  stopped (stops.Fault object) does = Faults object does
   stopped stops.NoMemory does = Lacks does
 
   -- the answer ends at a stage
@@ -53,7 +53,7 @@ member_told said manifest (faults.Severed name) (stops.Declined reply) lacks tel
 member_told said manifest (faults.Differs name stated found) (stops.Declined reply) lacks tells here = (refl, record { fault = faults.Differs name stated found; lacks = lacks; says = tells })
 member_told said manifest (faults.Refused refusal) (stops.Declined reply) lacks tells here = (refl, record { fault = faults.Refused refusal; lacks = lacks; says = tells })
 member_told said manifest faults.NoMemory (stops.Declined reply) lacks tells here = absurd tells
-member_told said manifest fault stops.HostFault lacks tells here = absurd tells
+member_told said manifest fault (stops.Fault object) lacks tells here = absurd tells
 member_told said manifest fault stops.NoMemory lacks tells here = refl
 
 -- ---- procedures by their trees

@@ -13,12 +13,15 @@ use Rattle.suit_manifest.specs.MembersLaws.{MembersLaws}
 use Rattle.suit_cli.specs.declared.reply.Reply.{Reply}
 use Rattle.suit_cli.specs.declared.reply.Outcome.TheVariants as outcomes
 use Rattle.suit_cli.specs.Outside.{Outside, Asks, MayAsk, Reads}
-use Rattle.suit_cli.specs.Stages.{Says, HostFault, Goes, Declines, Faults, Ends}
-use Rattle.suit_cli.specs.Inputs.{longest_key, IsRead, IsUnread, IsAbsent, IsTooLong, IsKey, IsNoKey, IsUnreadKey, IsEmptyKey}
+use Rattle.suit_cli.specs.declared.reply.Object.{Object}
+use Rattle.suit_cli.specs.declared.reply.Object.TheVariants as objects
+use Rattle.suit_cli.specs.Stages.{Says, FaultOf, at_host, Goes, Declines, Faults, Ends}
+use Rattle.suit_cli.specs.Inputs.{longest_key, IsKey, IsNoKey}
 use Rattle.suit_cli.specs.Holding.{HasManifest}
 use Rattle.suit_cli.specs.Shown.{IsShown, authenticity_outcome}
 use Rattle.suit_cli.specs.Commands.{shows_manifest, shows}
 use Rattle.suit_cli.specs.CommandLaws.{NoManifest, CheckLaws, ShowSays, BeforeKey, AtKey, AtLines, ShowsUnder, AskBoth, ShowFaults, FaultsAtFile, FaultsAtKey, ShowLaws}
+use Rattle.suit_cli.proofs.SameFiles.{no_key_here, key_here}
 use Rattle.suit_cli.proofs.OneStage.{asks_for, asks_reads, passes, stands, one_key}
 use Rattle.suit_cli.proofs.Running.{Reached, reaches, ReachedFault, reaches_fault, check_asks, check_faults, manifest_passed, no_manifest_stands, check_says, check_always, last_says}
 
@@ -27,31 +30,8 @@ check_laws envelopes manifests members = record {
   only = λ name b a r answer. check_says name b a r answer;
   always = λ name b a r q told says answer. check_always envelopes manifests members name b a told q answer r says;
   asks = λ name b a r answer. check_asks name b a r answer;
-  faults = λ name b a answer. check_faults name b a answer;
+  faults = λ name b a object answer. check_faults name object b a answer;
 }
-
--- ---- a key is read at a later moment, of the same files
-
-module _ (m b : Outside) (same_told : m.told ≡ b.told) (same : IsTrue b.told → m.files ≡ b.files) where
-  told_there : IsTrue b.told → IsTrue m.told
-  told_there t = subst IsTrue (sym same_told) t
-
-  file_there : (name : List ℕ) → IsTrue b.told → m.files name ≡ b.files name
-  file_there name t = ap (λ (f : List ℕ → Option (List ℕ)). f name) (same t)
-
-  read_here : (limit : ℕ) (name x : List ℕ) → IsRead limit name m x → IsRead limit name b x
-  read_here limit name x read = record { holds = λ t. sym (file_there name t) ∙ read.holds (told_there t); fits = read.fits }
-
-  unread_here : (limit : ℕ) (name : List ℕ) (r : Reply) → IsUnread limit name m r → IsUnread limit name b r
-  unread_here limit name r (IsAbsent none says) = IsAbsent (λ t. sym (file_there name t) ∙ none (told_there t)) says
-  unread_here limit name r (IsTooLong long says) = IsTooLong (λ t. let l = long (told_there t) in (l.0, sym (file_there name t) ∙ l.1, l.2)) says
-
-  no_key_here : (name : List ℕ) (r : Reply) → IsNoKey name m r → IsNoKey name b r
-  no_key_here name r (IsUnreadKey u) = IsUnreadKey (unread_here longest_key name r u)
-  no_key_here name r (IsEmptyKey read says) = IsEmptyKey (read_here longest_key name _ read) says
-
-  key_here : (name x : List ℕ) → IsKey name m x → IsKey name b x
-  key_here name x key = record { read = read_here longest_key name x key.read; some = key.some }
 
 -- ---- `show`
 
@@ -76,15 +56,18 @@ key_fault name key_name b m a told first last t = of_last (last (subst IsTrue (s
   of_last (inl is) = inl (is ∙ before)
   of_last (inr is) = inr (is ∙ ap (λ (l : List (List ℕ)). l ++ key_name ∷ []) before ∙ append_assoc b.asked (name ∷ []) (key_name ∷ []))
 
-show_faults : (name key_name : List ℕ) (b a : Outside) → shows name key_name b a HostFault → ShowFaults name key_name b a
-show_faults name key_name b a answer = of_reached (reaches_fault name (shows_manifest key_name) b a answer) where
-  of_rest : (m : Outside) (said : EnvelopeSays) (manifest : Manifest) → m.told ≡ b.told → Asks (name ∷ []) b m → shows_manifest key_name said manifest m a HostFault → AskBoth name key_name b a
-  of_rest m said manifest told asks (Faults f) = key_fault name key_name b m a told asks f.asks
-  of_rest m said manifest told asks (Goes _ middle _ _ last) = elim last [ ]
+show_faults : (name key_name : List ℕ) (object : Object) (b a : Outside) → shows name key_name b a (FaultOf object) → at_host (ShowFaults name key_name) object b a
+show_faults name key_name object b a answer = of_reached object (reaches_fault name (shows_manifest key_name) object b a answer) where
+  of_rest : (m : Outside) (said : EnvelopeSays) (manifest : Manifest) → HasManifest name b said manifest → m.told ≡ b.told → Asks (name ∷ []) b m → (o : Object)
+      → shows_manifest key_name said manifest m a (FaultOf o) → at_host (ShowFaults name key_name) o b a
+  of_rest m said manifest has told asks objects.Host (Faults _ f) = FaultsAtKey said manifest has (key_fault name key_name b m a told asks f.asks)
+  of_rest m said manifest has told asks objects.Flash (Faults _ f) = absurd f
+  of_rest m said manifest has told asks o (Goes _ middle _ _ last) = elim last [ ]
 
-  of_reached : MayAsk name b a ⊎ ReachedFault name (shows_manifest key_name) b a → ShowFaults name key_name b a
-  of_reached (inl asks) = FaultsAtFile asks
-  of_reached (inr at) = FaultsAtKey at.said at.manifest at.has (of_rest at.there at.said at.manifest at.quiet.told at.asks at.on)
+  of_reached : (o : Object) → at_host (MayAsk name) o b a ⊎ ReachedFault name (shows_manifest key_name) o b a → at_host (ShowFaults name key_name) o b a
+  of_reached objects.Host (inl asks) = FaultsAtFile asks
+  of_reached objects.Flash (inl asks) = absurd asks
+  of_reached o (inr at) = of_rest at.there at.said at.manifest at.has at.quiet.told at.asks o at.on
 
 module _ (envelopes : EnvelopeLaws) (manifests : ManifestLaws) (name key_name : List ℕ) (b a : Outside) (told : IsTrue b.told) (q : Reply) (answer : shows name key_name b a (Says q)) where
   still_key : Reads (longest_key + 1) key_name b (asks_for key_name b)
@@ -119,7 +102,7 @@ show_laws envelopes manifests = record {
   no_manifest = λ name key_name b a r q told none answer. no_manifest_stands envelopes manifests name (shows_manifest key_name) b a told q r none answer;
   no_key = λ name key_name b a said manifest r q told has none answer. key_stands envelopes manifests name key_name b a told q answer said manifest r has none;
   shown = λ name key_name b a said manifest key r told under answer. is_shown envelopes manifests name key_name b a told r answer said manifest key under;
-  faults = λ name key_name b a answer. show_faults name key_name b a answer;
+  faults = λ name key_name b a object answer. show_faults name key_name object b a answer;
   authentic = λ said manifest key r shown is. is_authentic said manifest key r shown is;
   not_authentic = λ said manifest key r shown never. is_not said manifest key r shown never;
 }

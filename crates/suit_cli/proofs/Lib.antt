@@ -8,3 +8,11 @@ pub mod BadPathLaws
 pub mod StagesKeep
 pub mod RunClauses
 pub mod CommandLawProofs
+pub mod SameFiles
+pub mod Leaving
+pub mod Initing
+pub mod KeyReading
+pub mod KeyBytes
+pub mod StatusLines
+pub mod OneAnswers
+pub mod FlashLawProofs

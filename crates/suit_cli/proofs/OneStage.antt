@@ -42,7 +42,7 @@ abbrev pub asks_for : List ℕ → Outside → Outside
 asks_for name o = record o { asked = o.asked ++ name ∷ [] }
 
 pub asks_reads : (most : ℕ) (name : List ℕ) (o : Outside) → Reads most name o (asks_for name o)
-asks_reads most name o = record { quiet = record { told = refl; files = λ t. refl; pulled = λ t. omega arith }; asks = λ t. refl; faults = refl }
+asks_reads most name o = record { quiet = record { told = refl; files = λ t. refl; pulled = λ t. omega arith }; asks = λ t. refl; faults = refl; flash = refl }
 
 pub alike_asked : (name : List ℕ) (o o' : Outside) → Alike (asks_for name o) o' → Alike o o'
 alike_asked name o o' alike = record { told = alike.told; told_too = alike.told_too; files = alike.files }
@@ -106,10 +106,10 @@ module _ (limit : ℕ) (name : List ℕ) (b b' : Outside) (alike : Alike b b') w
   same_file : b'.files name ≡ b.files name
   same_file = ap (λ (f : List ℕ → Option (List ℕ)). f name) alike.files
 
-  one_read : (x y : List ℕ) → IsRead limit name b x → IsRead limit name b' y → y ≡ x
+  pub one_read : (x y : List ℕ) → IsRead limit name b x → IsRead limit name b' y → y ≡ x
   one_read x y first second = same_Some y x (sym (second.holds alike.told_too) ∙ same_file ∙ first.holds alike.told)
 
-  read_not_unread : (x : List ℕ) (q : Reply) → IsRead limit name b x → IsUnread limit name b' q → ⊥
+  pub read_not_unread : (x : List ℕ) (q : Reply) → IsRead limit name b x → IsUnread limit name b' q → ⊥
   read_not_unread x q read (IsAbsent none says) =
       let never : None ≡ Some x = sym (none alike.told_too) ∙ same_file ∙ read.holds alike.told in
       absurd cc
@@ -120,7 +120,7 @@ module _ (limit : ℕ) (name : List ℕ) (b b' : Outside) (alike : Alike b b') w
       let within : length x ≤ limit = read.fits in
       omega arith
 
-  one_unread : (r q : Reply) → IsUnread limit name b r → IsUnread limit name b' q → q ≡ r
+  pub one_unread : (r q : Reply) → IsUnread limit name b r → IsUnread limit name b' q → q ≡ r
   one_unread r q (IsAbsent none says) (IsAbsent none' says') = one_reply r q _ _ says says'
   one_unread r q (IsTooLong long says) (IsTooLong long' says') = one_reply r q _ _ says says'
   one_unread r q (IsAbsent none says) (IsTooLong long says') =
@@ -140,14 +140,14 @@ one_file limit name = record {
 }
 
 module _ (name : List ℕ) (b b' : Outside) (alike : Alike b b') where
-  one_no_key : (r q : Reply) → IsNoKey name b r → IsNoKey name b' q → q ≡ r
+  pub one_no_key : (r q : Reply) → IsNoKey name b r → IsNoKey name b' q → q ≡ r
   one_no_key r q (IsUnreadKey u) (IsUnreadKey v) = one_unread longest_key name b b' alike r q u v
   one_no_key r q (IsUnreadKey u) (IsEmptyKey read says) =
       absurd (read_not_unread longest_key name b' b (record { told = alike.told_too; told_too = alike.told; files = sym alike.files }) [] r read u)
   one_no_key r q (IsEmptyKey read says) (IsUnreadKey u) = absurd (read_not_unread longest_key name b b' alike [] q read u)
   one_no_key r q (IsEmptyKey read says) (IsEmptyKey read' says') = one_reply r q _ _ says says'
 
-  key_not_both : (x : List ℕ) (q : Reply) → IsKey name b x → IsNoKey name b' q → ⊥
+  pub key_not_both : (x : List ℕ) (q : Reply) → IsKey name b x → IsNoKey name b' q → ⊥
   key_not_both x q key (IsUnreadKey u) = read_not_unread longest_key name b b' alike x q key.read u
   key_not_both x q key (IsEmptyKey read says) = key.some (sym (one_read longest_key name b b' alike x [] key.read read))
 

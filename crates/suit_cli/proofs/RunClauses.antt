@@ -1,6 +1,6 @@
 -- What a run comes to, clause by clause.
 use Rattle.std.proofs.Common.{◌≡◌, ℕ, List, Some, None, ◌⊎◌, inl, inr, refl, sym, ap, subst, ◌∙◌, ◌++◌, arith}
-use Rattle.std.specs.Prelude.{IsTrue, ◌≢◌}
+use Rattle.std.specs.Prelude.{IsTrue, ◌≢◌, ◌<◌}
 use Rattle.suit_edge.specs.Faults.{Faulted}
 use Rattle.suit_commands.specs.Tree.{PlanTree}
 use Rattle.suit_envelope.specs.EnvelopeLaws.{EnvelopeLaws}
@@ -11,14 +11,16 @@ use Rattle.suit_manifest.specs.MembersLaws.{MembersLaws}
 use Rattle.suit_cli.specs.declared.reply.Reply.{Reply}
 use Rattle.suit_cli.specs.declared.reply.Outcome.TheVariants as outcomes
 use Rattle.suit_cli.specs.Texts.{usage_line}
-use Rattle.suit_cli.specs.Words.{Check, Show, task_of}
+use Rattle.suit_cli.specs.declared.reply.Object.{Object}
+use Rattle.suit_cli.specs.declared.reply.Object.TheVariants as objects
+use Rattle.suit_cli.specs.Words.{Check, Show, RunInit, RunStatus, task_of}
 use Rattle.suit_cli.specs.Outside.{Outside, Sunk, Quiet}
-use Rattle.suit_cli.specs.Stages.{Ending, Says, HostFault, NoMemory, Goes, Declines}
+use Rattle.suit_cli.specs.Stages.{Ending, Says, FaultOf, NoMemory, Goes, Declines}
 use Rattle.suit_cli.specs.Statuses.{status_of, ending_status, ending_text}
 use Rattle.suit_cli.specs.Judgement.{AreSafe, AreJudged, JudgedSafe, JudgedUnsafe}
 use Rattle.suit_cli.specs.Shown.{authenticity_outcome}
-use Rattle.suit_cli.specs.Program.{answers, PutsText, IsPut, IsCut, Runs, EndsIn, IsStatus, OfEnding, OfSinkFault, ChecksProcedures, IsCheck, ChecksSafe, ChecksUnsafe, IsUsage, IsCutOff, most_pulled}
-use Rattle.suit_cli.proofs.Running.{Declining, IsJudged, checked, judged_when, judged_safe, judged_unsafe, done_safe, unsafe_shows, IsShownOf, showed, status_done, status_unsafe, status_usage, not_seven, not_nine_ending, does_of, judged_task, unsafe_refuted}
+use Rattle.suit_cli.specs.Program.{answers, PutsText, IsPut, IsCut, Runs, EndsIn, IsStatus, OfEnding, OfSinkFault, ChecksProcedures, IsCheck, ChecksSafe, ChecksUnsafe, IsUsage, IsCutOff, AreCounted, most_pulled}
+use Rattle.suit_cli.proofs.Running.{Declining, IsJudged, checked, judged_when, judged_safe, judged_unsafe, done_safe, unsafe_shows, IsShownOf, showed, status_done, status_unsafe, status_usage, not_seven, not_eight, not_nine_ending, inited, stated, plain_not, does_of, judged_task, unsafe_refuted}
 use Rattle.suit_cli.proofs.StagesKeep.{Counts, answers_keeps}
 
 -- ---- an ending with a status
@@ -28,10 +30,11 @@ record IsSaid (e : Ending) (n : ℕ) : Type 0 where
   pub is : e ≡ Says reply
   pub status : status_of reply.outcome ≡ n
 
-said_with : (e : Ending) (n : ℕ) → ending_status e ≡ n → (n ≡ 7 → ⊥) → (n ≡ 11 → ⊥) → IsSaid e n
-said_with (Says r) n is fault lack = record { reply = r; is = refl; status = is }
-said_with HostFault n is fault lack = absurd (fault (sym is))
-said_with NoMemory n is fault lack = absurd (lack (sym is))
+said_with : (e : Ending) (n : ℕ) → ending_status e ≡ n → n < 7 → IsSaid e n
+said_with (Says r) n is low = record { reply = r; is = refl; status = is }
+said_with (FaultOf objects.Host) n is low = absurd (omega (arith, is, low))
+said_with (FaultOf objects.Flash) n is low = absurd (omega (arith, is, low))
+said_with NoMemory n is low = absurd (omega (arith, is, low))
 
 record IsPutAs (sb sa : Sunk) (e : Ending) (n : ℕ) : Type 0 where
   pub status : ending_status e ≡ n
@@ -62,6 +65,8 @@ usage_of words b a r (Goes (Show name key) m _ g rest) is = absurd (of_show (sho
   of_show : Declining r.outcome ⊎ IsShownOf r → ⊥
   of_show (inl d) = subst Declining is d
   of_show (inr s) = of_answer s.shown.answer s.shown.outcome_is
+usage_of words b a r (Goes (RunInit device key) m _ g rest) is = absurd (plain_not r.outcome _ (inited device key m a r rest) is (λ d. d) (λ e. cc))
+usage_of words b a r (Goes RunStatus m _ g rest) is = absurd (plain_not r.outcome _ (stated m a r rest) is (λ d. d) (λ e. cc))
 
 no_task_usage : (words : List (List ℕ)) (b a : Outside) (r : Reply) → task_of words ≡ None → answers words b a (Says r) → status_of r.outcome ≡ 2
 no_task_usage words b a r none (Declines _ d) = ap status_of d.1.1.outcome_is
@@ -75,17 +80,18 @@ module _ (words : List (List ℕ)) (b a : Outside) (sb sa : Sunk) (result : ℕ)
   ends_in n all = of_puts runs.puts where
     of_ending : (e : Ending) → answers words b a e → result ≡ ending_status e → EndsIn n result
     of_ending (Says r) answer is = inl (is ∙ all r answer)
-    of_ending HostFault answer is = inr (inl is)
-    of_ending NoMemory answer is = inr (inr (inr is))
+    of_ending (FaultOf objects.Host) answer is = inr (inl is)
+    of_ending (FaultOf objects.Flash) answer is = inr (inr (inl is))
+    of_ending NoMemory answer is = inr (inr (inr (inr is)))
 
     of_puts : PutsText sb sa (ending_status runs.ending) (ending_text runs.ending) result → EndsIn n result
     of_puts (IsPut is still puts) = of_ending runs.ending runs.answer is
-    of_puts (IsCut is faulted puts) = inr (inr (inl is))
+    of_puts (IsCut is faulted puts) = inr (inr (inr (inl is)))
 
   pub yes : IsTrue b.told → IsCheck words → result ≡ 0 → ChecksSafe words b
   yes told check zero =
       let put = put_as sb sa runs.ending result 0 runs.puts zero (λ e. omega arith) in
-      let said = said_with runs.ending 0 put.status (λ e. omega arith) (λ e. omega arith) in
+      let said = said_with runs.ending 0 put.status (omega arith) in
       let answer = subst (answers words b a) said.is runs.answer in
       let done = status_done said.reply.outcome said.status in
       of_check said.reply done (checked check.0 b a said.reply (does_of words b a said.reply (Check check.0) check.1 answer))
@@ -102,7 +108,7 @@ module _ (words : List (List ℕ)) (b a : Outside) (sb sa : Sunk) (result : ℕ)
   pub no_path : IsTrue b.told → result ≡ 1 → ChecksUnsafe words b sb sa
   no_path told one =
       let put = put_as sb sa runs.ending result 1 runs.puts one (λ e. omega arith) in
-      let said = said_with runs.ending 1 put.status (λ e. omega arith) (λ e. omega arith) in
+      let said = said_with runs.ending 1 put.status (omega arith) in
       let answer = subst (answers words b a) said.is runs.answer in
       let outcome = status_unsafe said.reply.outcome said.status in
       let task = judged_task words b a said.reply answer outcome in
@@ -138,7 +144,7 @@ module _ (words : List (List ℕ)) (b a : Outside) (sb sa : Sunk) (result : ℕ)
   pub usage : result ≡ 2 → IsUsage words sb sa
   usage two =
       let put = put_as sb sa runs.ending result 2 runs.puts two (λ e. omega arith) in
-      let said = said_with runs.ending 2 put.status (λ e. omega arith) (λ e. omega arith) in
+      let said = said_with runs.ending 2 put.status (omega arith) in
       let answer = subst (answers words b a) said.is runs.answer in
       let found = usage_of words b a said.reply answer (status_usage said.reply.outcome said.status) in
       record {
@@ -158,38 +164,51 @@ module _ (words : List (List ℕ)) (b a : Outside) (sb sa : Sunk) (result : ℕ)
     of_puts (IsPut is still puts) = OfEnding runs.ending is
     of_puts (IsCut is faulted puts) = OfSinkFault is
 
-  counts : Counts runs.ending b.faults a.faults
-  counts = (answers_keeps words b a runs.ending runs.answer).counts
+  kept : Counts runs.ending b a
+  kept = (answers_keeps words b a runs.ending runs.answer).counts
 
-  pub host_fault : result ≡ 7 → Faulted b.faults a.faults
-  host_fault seven =
-      let put = put_as sb sa runs.ending result 7 runs.puts seven (λ e. omega arith) in
-      of_ending runs.ending put.status counts
-    where
-      of_ending : (e : Ending) → ending_status e ≡ 7 → Counts e b.faults a.faults → Faulted b.faults a.faults
-      of_ending (Says r) is c = absurd (not_seven r.outcome is)
-      of_ending HostFault is c = c
-      of_ending NoMemory is c = absurd (omega arith)
+  -- of each object, by the status of an ending that was put
+  host_counts : (e : Ending) → Counts e b a → (ending_status e ≡ 7 → Faulted b.faults a.faults) × (ending_status e ≢ 7 → a.faults ≡ b.faults)
+  host_counts (Says r) c = (λ is. absurd (not_seven r.outcome is), λ never. c.host)
+  host_counts (FaultOf objects.Host) c = (λ is. c.host refl, λ never. absurd (never refl))
+  host_counts (FaultOf objects.Flash) c = (λ is. absurd (omega (arith, is)), λ never. c.only_host (λ e. cc))
+  host_counts NoMemory c = (λ is. absurd (omega (arith, is)), λ never. c.host)
 
-  pub only_host_fault : result ≢ 7 → result ≢ 9 → a.faults ≡ b.faults
-  only_host_fault not_fault not_cut = of_puts runs.puts where
-    of_ending : (e : Ending) → result ≡ ending_status e → Counts e b.faults a.faults → a.faults ≡ b.faults
-    of_ending (Says r) is c = c
-    of_ending HostFault is c = absurd (not_fault is)
-    of_ending NoMemory is c = c
+  flash_counts : (e : Ending) → Counts e b a → (ending_status e ≡ 8 → Faulted b.flash.faults a.flash.faults) × (ending_status e ≢ 8 → a.flash.faults ≡ b.flash.faults)
+  flash_counts (Says r) c = (λ is. absurd (not_eight r.outcome is), λ never. c.flash)
+  flash_counts (FaultOf objects.Host) c = (λ is. absurd (omega (arith, is)), λ never. c.only_flash (λ e. cc))
+  flash_counts (FaultOf objects.Flash) c = (λ is. c.flash refl, λ never. absurd (never refl))
+  flash_counts NoMemory c = (λ is. absurd (omega (arith, is)), λ never. c.flash)
 
-    of_puts : PutsText sb sa (ending_status runs.ending) (ending_text runs.ending) result → a.faults ≡ b.faults
-    of_puts (IsPut is still puts) = of_ending runs.ending is counts
-    of_puts (IsCut is faulted puts) = absurd (not_cut is)
+  put_status : result ≢ 9 → result ≡ ending_status runs.ending
+  put_status never = of_puts runs.puts where
+    of_puts : PutsText sb sa (ending_status runs.ending) (ending_text runs.ending) result → result ≡ ending_status runs.ending
+    of_puts (IsPut is still puts) = is
+    of_puts (IsCut is faulted puts) = absurd (never is)
 
-  pub output_fault : result ≡ 9 → IsCutOff words b a sb sa
-  output_fault nine = of_puts runs.puts where
-    of_puts : PutsText sb sa (ending_status runs.ending) (ending_text runs.ending) result → IsCutOff words b a sb sa
-    of_puts (IsPut is still puts) = absurd (not_nine_ending runs.ending (sym is ∙ nine))
-    of_puts (IsCut is faulted puts) = record { faulted = faulted; ending = runs.ending; answer = runs.answer; puts = puts }
+  seven_not_nine : result ≡ 7 → result ≢ 9
+  seven_not_nine is nine = omega (arith, is, nine)
 
-  pub only_output_fault : result ≢ 9 → sa.faults ≡ sb.faults
+  eight_not_nine : result ≡ 8 → result ≢ 9
+  eight_not_nine is nine = omega (arith, is, nine)
+
+  only_output_fault : result ≢ 9 → sa.faults ≡ sb.faults
   only_output_fault never = of_puts runs.puts where
     of_puts : PutsText sb sa (ending_status runs.ending) (ending_text runs.ending) result → sa.faults ≡ sb.faults
     of_puts (IsPut is still puts) = still
     of_puts (IsCut is faulted puts) = absurd (never is)
+
+  pub counts : AreCounted b a sb sa result
+  counts = record {
+    host = λ is. (host_counts runs.ending kept).0 (sym (put_status (seven_not_nine is)) ∙ is);
+    only_host = λ never cut. (host_counts runs.ending kept).1 (λ e. never (put_status cut ∙ e));
+    flash = λ is. (flash_counts runs.ending kept).0 (sym (put_status (eight_not_nine is)) ∙ is);
+    only_flash = λ never cut. (flash_counts runs.ending kept).1 (λ e. never (put_status cut ∙ e));
+    only_output = only_output_fault;
+  }
+
+  pub cut_off : result ≡ 9 → IsCutOff words b a sb sa
+  cut_off nine = of_puts runs.puts where
+    of_puts : PutsText sb sa (ending_status runs.ending) (ending_text runs.ending) result → IsCutOff words b a sb sa
+    of_puts (IsPut is still puts) = absurd (not_nine_ending runs.ending (sym is ∙ nine))
+    of_puts (IsCut is faulted puts) = record { faulted = faulted; ending = runs.ending; answer = runs.answer; puts = puts }

@@ -17,9 +17,11 @@ use Rattle.suit_cli.specs.declared.reply.Reply.{Reply}
 use Rattle.suit_cli.specs.declared.reply.Outcome.{Outcome}
 use Rattle.suit_cli.specs.declared.reply.Outcome.TheVariants as outcomes
 use Rattle.suit_cli.specs.Replies.{IsReply}
-use Rattle.suit_cli.specs.Words.{Task, Check, Show, task_of}
-use Rattle.suit_cli.specs.Outside.{Outside, Quiet, Asks, MayAsk, Reads}
-use Rattle.suit_cli.specs.Stages.{Ending, Says, HostFault, NoMemory, Answers, Goes, Declines, Faults, Last, Ends}
+use Rattle.suit_cli.specs.declared.reply.Object.{Object}
+use Rattle.suit_cli.specs.declared.reply.Object.TheVariants as objects
+use Rattle.suit_cli.specs.Words.{Task, Check, Show, RunInit, RunStatus, task_of}
+use Rattle.suit_cli.specs.Outside.{Outside, Flashed, Quiet, Asks, MayAsk, Reads}
+use Rattle.suit_cli.specs.Stages.{Ending, Says, FaultOf, NoMemory, Answers, at_host, Goes, Declines, Faults, Last, Ends, IsSaid}
 use Rattle.suit_cli.specs.Statuses.{status_of, ending_status}
 use Rattle.suit_cli.specs.Inputs.{longest_file, longest_key, IsUnread, IsAbsent, IsTooLong, IsNoKey, IsUnreadKey, IsEmptyKey}
 use Rattle.suit_cli.specs.Envelopes.{TellsLack}
@@ -27,7 +29,9 @@ use Rattle.suit_cli.specs.Holding.{HasManifest, HasProcedures}
 use Rattle.suit_cli.specs.CommandLaws.{NoManifest, AtFile, AtEnvelope, AtLength, AtManifest, CheckSays, BeforeMembers, AtMembers, AtUpdateWidth, AtInvocationWidth, AtPaths, SameButPath}
 use Rattle.suit_cli.specs.Judgement.{IsNarrow, AreSafe, AreJudged, JudgedSafe, JudgedUnsafe, ShowUnsafe, UpdateUnsafe, InvocationUnsafe}
 use Rattle.suit_cli.specs.Shown.{IsShown, authenticity_outcome}
-use Rattle.suit_cli.specs.Commands.{in_manifest, judges_manifest, checks, shows_manifest, shows, does}
+use Rattle.suit_cli.specs.Devices.{IsNoDevice, IsNoJson, IsNoLayout}
+use Rattle.suit_cli.specs.Installed.{HoldsNone, IsBlank, IsBad}
+use Rattle.suit_cli.specs.Commands.{in_manifest, judges_manifest, checks, shows_manifest, shows, inits_as, inits, tells_status, does}
 use Rattle.suit_cli.specs.Program.{answers}
 use Rattle.suit_cli.proofs.BadPathLaws.{IsBadPath-not_safe}
 use Rattle.suit_cli.proofs.OneStage.{Alike, alike_self, asks_for, asks_reads, alike_asked, passes, stands, one_reply, one_file, one_envelope, one_short, one_manifest, one_members, one_narrow}
@@ -37,6 +41,9 @@ use Rattle.suit_cli.proofs.OneStage.{Alike, alike_self, asks_for, asks_reads, al
 abbrev pub Declining : Outcome → Type 0
 Declining outcomes.Refused = Unit {0}
 Declining outcomes.TooWide = Unit {0}
+Declining outcomes.Unconfigured = Unit {0}
+Declining outcomes.NotBlank = Unit {0}
+Declining outcomes.NothingInstalled = Unit {0}
 Declining outcomes.Severed = Unit {0}
 Declining outcomes.Differs = Unit {0}
 Declining outcomes.Absent = Unit {0}
@@ -46,7 +53,7 @@ Declining outcomes.Unsafe = ⊥
 Declining outcomes.Usage = ⊥
 Declining outcomes.NotAuthentic = ⊥
 
-declining : (r : Reply) (o : Outcome) (t : List ℕ) → IsReply r o t → Declining o → Declining r.outcome
+pub declining : (r : Reply) (o : Outcome) (t : List ℕ) → IsReply r o t → Declining o → Declining r.outcome
 declining r o t says d = subst Declining (sym says.outcome_is) d
 
 pub unread_declines : (limit : ℕ) (name : List ℕ) (b : Outside) (r : Reply) → IsUnread limit name b r → Declining r.outcome
@@ -116,21 +123,22 @@ reaches name next b a r (Goes bytes m0 _ read (Goes said m1 _ env (Goes u m2 _ s
     })
 
 -- a fault comes at the file, or behind the manifest
-pub record ReachedFault (name : List ℕ) (next : EnvelopeSays → Manifest → Answers) (b a : Outside) : Type 0 where
+pub record ReachedFault (name : List ℕ) (next : EnvelopeSays → Manifest → Answers) (object : Object) (b a : Outside) : Type 0 where
   pub said : EnvelopeSays
   pub manifest : Manifest
   pub has : HasManifest name b said manifest
   pub there : Outside
   pub quiet : Quiet (longest_file + 1) b there
   pub asks : Asks (name ∷ []) b there
-  pub on : next said manifest there a HostFault
+  pub on : next said manifest there a (FaultOf object)
 
-pub reaches_fault : (name : List ℕ) (next : EnvelopeSays → Manifest → Answers) (b a : Outside) → in_manifest name next b a HostFault → MayAsk name b a ⊎ ReachedFault name next b a
-reaches_fault name next b a (Faults f) = inl f.asks
-reaches_fault name next b a (Goes bytes m0 _ read (Faults f)) = absurd f
-reaches_fault name next b a (Goes bytes m0 _ read (Goes said m1 _ env (Faults f))) = absurd f
-reaches_fault name next b a (Goes bytes m0 _ read (Goes said m1 _ env (Goes u m2 _ short (Faults f)))) = absurd f
-reaches_fault name next b a (Goes bytes m0 _ read (Goes said m1 _ env (Goes u m2 _ short (Goes manifest m3 _ man rest)))) =
+pub reaches_fault : (name : List ℕ) (next : EnvelopeSays → Manifest → Answers) (object : Object) (b a : Outside) → in_manifest name next b a (FaultOf object) → at_host (MayAsk name) object b a ⊎ ReachedFault name next object b a
+reaches_fault name next objects.Host b a (Faults _ f) = inl f.asks
+reaches_fault name next objects.Flash b a (Faults _ f) = absurd f
+reaches_fault name next object b a (Goes bytes m0 _ read (Faults _ f)) = absurd f
+reaches_fault name next object b a (Goes bytes m0 _ read (Goes said m1 _ env (Faults _ f))) = absurd f
+reaches_fault name next object b a (Goes bytes m0 _ read (Goes said m1 _ env (Goes u m2 _ short (Faults _ f)))) = absurd f
+reaches_fault name next object b a (Goes bytes m0 _ read (Goes said m1 _ env (Goes u m2 _ short (Goes manifest m3 _ man rest)))) =
     inr (record {
       said = said;
       manifest = manifest;
@@ -213,17 +221,17 @@ judges_still said manifest m a r (Goes members m0 _ mem (Declines _ d)) = d.0 �
 judges_still said manifest m a r (Goes members m0 _ mem (Goes v m1 _ first (Declines _ d))) = d.0 ∙ first.0 ∙ mem.0
 judges_still said manifest m a r (Goes members m0 _ mem (Goes v m1 _ first (Goes w m2 _ second (Ends _ same judged)))) = same ∙ second.0 ∙ first.0 ∙ mem.0
 
-judges_never_fault : (said : EnvelopeSays) (manifest : Manifest) (m a : Outside) → judges_manifest said manifest m a HostFault → ⊥
-judges_never_fault said manifest m a (Faults f) = f
-judges_never_fault said manifest m a (Goes members m0 _ mem (Faults f)) = f
-judges_never_fault said manifest m a (Goes members m0 _ mem (Goes v m1 _ first (Faults f))) = f
-judges_never_fault said manifest m a (Goes members m0 _ mem (Goes v m1 _ first (Goes _ middle _ _ last))) = elim last [ ]
+judges_never_fault : (said : EnvelopeSays) (manifest : Manifest) (object : Object) (m a : Outside) → judges_manifest said manifest m a (FaultOf object) → ⊥
+judges_never_fault said manifest object m a (Faults _ f) = f
+judges_never_fault said manifest object m a (Goes members m0 _ mem (Faults _ f)) = f
+judges_never_fault said manifest object m a (Goes members m0 _ mem (Goes v m1 _ first (Faults _ f))) = f
+judges_never_fault said manifest object m a (Goes members m0 _ mem (Goes v m1 _ first (Goes _ middle _ _ last))) = elim last [ ]
 
-pub check_faults : (name : List ℕ) (b a : Outside) → checks name b a HostFault → MayAsk name b a
-check_faults name b a answer = of_reached (reaches_fault name judges_manifest b a answer) where
-  of_reached : MayAsk name b a ⊎ ReachedFault name judges_manifest b a → MayAsk name b a
+pub check_faults : (name : List ℕ) (object : Object) (b a : Outside) → checks name b a (FaultOf object) → at_host (MayAsk name) object b a
+check_faults name object b a answer = of_reached (reaches_fault name judges_manifest object b a answer) where
+  of_reached : at_host (MayAsk name) object b a ⊎ ReachedFault name judges_manifest object b a → at_host (MayAsk name) object b a
   of_reached (inl asks) = asks
-  of_reached (inr at) = absurd (judges_never_fault at.said at.manifest at.there a at.on)
+  of_reached (inr at) = absurd (judges_never_fault at.said at.manifest object at.there a at.on)
 
 pub check_asks : (name : List ℕ) (b a : Outside) (r : Reply) → checks name b a (Says r) → Asks (name ∷ []) b a
 check_asks name b a r (Declines _ d) = d.0.asks
@@ -310,6 +318,41 @@ showed name key_name b a r answer = of_reached (reaches name (shows_manifest key
   of_reached (inl none) = inl (no_manifest_declines name b r none)
   of_reached (inr at) = of_rest at.said at.manifest at.there at.on
 
+-- ---- an answer of `run init` or `run status`
+
+-- it declines, or is done
+abbrev pub Plain : Outcome → Type 0
+Plain outcome = Declining outcome ⊎ (outcome ≡ outcomes.Done)
+
+pub no_device_declines : (size : ℕ) (bytes : List ℕ) (r : Reply) → IsNoDevice size bytes r → Declining r.outcome
+no_device_declines size bytes r (IsNoJson none says) = declining r _ _ says tt
+no_device_declines size bytes r (IsNoLayout value fault utf8 reads refuses tells) = subst Declining (sym tells.outcome_is) tt
+
+inited_as : (size : ℕ) (device key_name : List ℕ) (b a : Outside) (r : Reply) → inits_as size device key_name b a (Says r) → Plain r.outcome
+inited_as size device key_name b a r (Declines _ d) = inl (unread_declines _ _ _ r d.1)
+inited_as size device key_name b a r (Goes bytes m0 _ read (Declines _ d)) = inl (no_device_declines _ _ r d.1)
+inited_as size device key_name b a r (Goes bytes m0 _ read (Goes layout m1 _ lay (Declines _ d))) = inl (no_key_declines _ _ r d.1)
+inited_as size device key_name b a r (Goes bytes m0 _ read (Goes layout m1 _ lay (Goes key m2 _ k (Declines _ d)))) = inl (declining r _ _ d.1.says tt)
+inited_as size device key_name b a r (Goes bytes m0 _ read (Goes layout m1 _ lay (Goes key m2 _ k (Goes u m3 _ f (IsSaid _ same says))))) = inr says.outcome_is
+
+pub inited : (device key_name : List ℕ) (b a : Outside) (r : Reply) → inits device key_name b a (Says r) → Plain r.outcome
+inited device key_name b a r (Declines _ d) = inl (declining r _ _ d.1.says tt)
+inited device key_name b a r (Goes size m _ g rest) = inited_as size device key_name m a r rest
+
+holds_none_declines : (flash : Flashed) (r : Reply) → HoldsNone flash r → Declining r.outcome
+holds_none_declines flash r (IsBlank blank says) = declining r _ _ says tt
+holds_none_declines flash r (IsBad bad says) = declining r _ _ says tt
+
+pub stated : (b a : Outside) (r : Reply) → tells_status b a (Says r) → Plain r.outcome
+stated b a r (Declines _ d) = inl (holds_none_declines _ r d.1)
+stated b a r (Goes config m0 _ g (Declines _ d)) = inl (declining r _ _ d.1.says tt)
+stated b a r (Goes config m0 _ g (Goes installed m1 _ h (Declines _ d))) = absurd d.1
+stated b a r (Goes config m0 _ g (Goes installed m1 _ h (Goes lines m2 _ l (Ends _ same says)))) = inr says.outcome_is
+
+pub plain_not : (o p : Outcome) → Plain o → o ≡ p → (Declining p → ⊥) → (p ≡ outcomes.Done → ⊥) → ⊥
+plain_not o p (inl d) is never done = never (subst Declining is d)
+plain_not o p (inr d) is never done = done (sym is ∙ d)
+
 -- ---- outcomes by their statuses
 
 pub status_done : (o : Outcome) → status_of o ≡ 0 → o ≡ outcomes.Done
@@ -319,6 +362,9 @@ status_done outcomes.Usage e = absurd (omega arith)
 status_done outcomes.Refused e = absurd (omega arith)
 status_done outcomes.NotAuthentic e = absurd (omega arith)
 status_done outcomes.TooWide e = absurd (omega arith)
+status_done outcomes.Unconfigured e = absurd (omega arith)
+status_done outcomes.NotBlank e = absurd (omega arith)
+status_done outcomes.NothingInstalled e = absurd (omega arith)
 status_done outcomes.Severed e = absurd (omega arith)
 status_done outcomes.Differs e = absurd (omega arith)
 status_done outcomes.Absent e = absurd (omega arith)
@@ -331,6 +377,9 @@ status_unsafe outcomes.Usage e = absurd (omega arith)
 status_unsafe outcomes.Refused e = absurd (omega arith)
 status_unsafe outcomes.NotAuthentic e = absurd (omega arith)
 status_unsafe outcomes.TooWide e = absurd (omega arith)
+status_unsafe outcomes.Unconfigured e = absurd (omega arith)
+status_unsafe outcomes.NotBlank e = absurd (omega arith)
+status_unsafe outcomes.NothingInstalled e = absurd (omega arith)
 status_unsafe outcomes.Severed e = absurd (omega arith)
 status_unsafe outcomes.Differs e = absurd (omega arith)
 status_unsafe outcomes.Absent e = absurd (omega arith)
@@ -343,6 +392,9 @@ status_usage outcomes.Unsafe e = absurd (omega arith)
 status_usage outcomes.Refused e = absurd (omega arith)
 status_usage outcomes.NotAuthentic e = absurd (omega arith)
 status_usage outcomes.TooWide e = absurd (omega arith)
+status_usage outcomes.Unconfigured e = absurd (omega arith)
+status_usage outcomes.NotBlank e = absurd (omega arith)
+status_usage outcomes.NothingInstalled e = absurd (omega arith)
 status_usage outcomes.Severed e = absurd (omega arith)
 status_usage outcomes.Differs e = absurd (omega arith)
 status_usage outcomes.Absent e = absurd (omega arith)
@@ -355,10 +407,28 @@ not_seven outcomes.Usage e = omega arith
 not_seven outcomes.Refused e = omega arith
 not_seven outcomes.NotAuthentic e = omega arith
 not_seven outcomes.TooWide e = omega arith
+not_seven outcomes.Unconfigured e = omega arith
+not_seven outcomes.NotBlank e = omega arith
+not_seven outcomes.NothingInstalled e = omega arith
 not_seven outcomes.Severed e = omega arith
 not_seven outcomes.Differs e = omega arith
 not_seven outcomes.Absent e = omega arith
 not_seven outcomes.TooLong e = omega arith
+
+pub not_eight : (o : Outcome) → status_of o ≡ 8 → ⊥
+not_eight outcomes.Done e = omega arith
+not_eight outcomes.Unsafe e = omega arith
+not_eight outcomes.Usage e = omega arith
+not_eight outcomes.Refused e = omega arith
+not_eight outcomes.NotAuthentic e = omega arith
+not_eight outcomes.TooWide e = omega arith
+not_eight outcomes.Unconfigured e = omega arith
+not_eight outcomes.NotBlank e = omega arith
+not_eight outcomes.NothingInstalled e = omega arith
+not_eight outcomes.Severed e = omega arith
+not_eight outcomes.Differs e = omega arith
+not_eight outcomes.Absent e = omega arith
+not_eight outcomes.TooLong e = omega arith
 
 not_nine : (o : Outcome) → status_of o ≡ 9 → ⊥
 not_nine outcomes.Done e = omega arith
@@ -367,6 +437,9 @@ not_nine outcomes.Usage e = omega arith
 not_nine outcomes.Refused e = omega arith
 not_nine outcomes.NotAuthentic e = omega arith
 not_nine outcomes.TooWide e = omega arith
+not_nine outcomes.Unconfigured e = omega arith
+not_nine outcomes.NotBlank e = omega arith
+not_nine outcomes.NothingInstalled e = omega arith
 not_nine outcomes.Severed e = omega arith
 not_nine outcomes.Differs e = omega arith
 not_nine outcomes.Absent e = omega arith
@@ -374,7 +447,8 @@ not_nine outcomes.TooLong e = omega arith
 
 pub not_nine_ending : (e : Ending) → ending_status e ≡ 9 → ⊥
 not_nine_ending (Says r) is = not_nine r.outcome is
-not_nine_ending HostFault is = omega arith
+not_nine_ending (FaultOf objects.Host) is = omega arith
+not_nine_ending (FaultOf objects.Flash) is = omega arith
 not_nine_ending NoMemory is = omega arith
 
 -- ---- the answer to the words
@@ -401,3 +475,5 @@ judged_task words b a r (Goes (Show name key) m _ g rest) is = absurd (of_show (
   of_show : Declining r.outcome ⊎ IsShownOf r → ⊥
   of_show (inl d) = subst Declining is d
   of_show (inr s) = of_answer s.shown.answer s.shown.outcome_is
+judged_task words b a r (Goes (RunInit device key) m _ g rest) is = absurd (plain_not r.outcome _ (inited device key m a r rest) is (λ d. d) (λ e. cc))
+judged_task words b a r (Goes RunStatus m _ g rest) is = absurd (plain_not r.outcome _ (stated m a r rest) is (λ d. d) (λ e. cc))

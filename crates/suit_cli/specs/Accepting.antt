@@ -20,5 +20,5 @@ FindsEnvelope bytes result = Finds (envelope_in bytes) (said_or_stop result)
 -- a fault of a member is told so, unless there was no memory
 abbrev pub TellsFault : MemberFault → Stop → Type 0
 TellsFault fault (stops.Declined reply) = TellsLack reply fault
-TellsFault fault stops.HostFault = ⊥
+TellsFault fault (stops.Fault object) = ⊥
 TellsFault fault stops.NoMemory = Unit {0}

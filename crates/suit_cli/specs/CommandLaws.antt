@@ -11,7 +11,8 @@ use Rattle.suit_manifest.specs.Procedures.{update_tree, invocation_tree}
 use Rattle.suit_cli.specs.declared.reply.Reply.{Reply}
 use Rattle.suit_cli.specs.declared.reply.Outcome.TheVariants as outcomes
 use Rattle.suit_cli.specs.Outside.{Outside, Asks, MayAsk}
-use Rattle.suit_cli.specs.Stages.{Says, HostFault}
+use Rattle.suit_cli.specs.declared.reply.Object.{Object}
+use Rattle.suit_cli.specs.Stages.{Says, FaultOf, at_host}
 use Rattle.suit_cli.specs.Inputs.{longest_file, IsRead, IsUnread, IsKey, IsNoKey}
 use Rattle.suit_cli.specs.Envelopes.{AreBytes, IsRefused, IsShort, IsLong, RefusesItsManifest, IsLack}
 use Rattle.suit_cli.specs.Judgement.{IsNarrow, IsWide, AreJudged}
@@ -55,9 +56,9 @@ pub record CheckLaws : Type 0 where
   -- and where a cause stands, each answer that is neither a fault nor want of memory is its reply
   pub always : (name : List ℕ) (before after : Outside) (reply other : Reply) → IsTrue before.told → CheckSays name before reply → checks name before after (Says other)
       → SameButPath reply other
-  -- the file alone is asked for; and a fault comes at the file alone
+  -- the file alone is asked for; and only the host faults, at the file
   pub asks : (name : List ℕ) (before after : Outside) (reply : Reply) → checks name before after (Says reply) → Asks (name ∷ []) before after
-  pub faults : (name : List ℕ) (before after : Outside) → checks name before after HostFault → MayAsk name before after
+  pub faults : (name : List ℕ) (before after : Outside) (object : Object) → checks name before after (FaultOf object) → at_host (MayAsk name) object before after
 
 -- ---- `show FILE KEY`
 
@@ -79,7 +80,7 @@ abbrev pub AskBoth : List ℕ → List ℕ → Outside → Outside → Type 0
 AskBoth name key_name before after =
     IsTrue before.told → (after.asked ≡ before.asked ++ name ∷ []) ⊎ (after.asked ≡ before.asked ++ (name ∷ key_name ∷ []))
 
--- A fault comes at the file, or at the key; at the key only behind a manifest that is accepted.
+-- A fault of the host comes at the file, or at the key; at the key only behind a manifest that is accepted.
 pub data ShowFaults (name key_name : List ℕ) (before after : Outside) : Type 0 where
   FaultsAtFile : MayAsk name before after → ShowFaults name key_name before after
   FaultsAtKey : (said : EnvelopeSays) (manifest : Manifest) → HasManifest name before said manifest → AskBoth name key_name before after
@@ -96,7 +97,8 @@ pub record ShowLaws : Type 0 where
   -- where there are both, it shows them
   pub shown : (name key_name : List ℕ) (before after : Outside) (said : EnvelopeSays) (manifest : Manifest) (key : List ℕ) (reply : Reply) → IsTrue before.told
       → ShowsUnder name key_name before said manifest key → shows name key_name before after (Says reply) → IsShown said manifest key reply
-  pub faults : (name key_name : List ℕ) (before after : Outside) → shows name key_name before after HostFault → ShowFaults name key_name before after
+  pub faults : (name key_name : List ℕ) (before after : Outside) (object : Object) → shows name key_name before after (FaultOf object)
+      → at_host (ShowFaults name key_name) object before after
   -- status 0 exactly where the envelope is authentic under the key, and otherwise 4
   pub authentic : (said : EnvelopeSays) (manifest : Manifest) (key : List ℕ) (reply : Reply) → IsShown said manifest key reply
       → IsAuthentic said.wrapper said.manifest key → reply.outcome ≡ outcomes.Done

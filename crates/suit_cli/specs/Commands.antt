@@ -3,12 +3,15 @@ use Rattle.std.specs.Prelude.{ℕ, List}
 use Rattle.suit_envelope.specs.Envelopes.{EnvelopeSays}
 use Rattle.suit_manifest.specs.declared.manifest.Manifest.{Manifest}
 use Rattle.suit_manifest.specs.Procedures.{update_tree, invocation_tree}
-use Rattle.suit_cli.specs.Words.{Task, Check, Show}
+use Rattle.suit_cli.specs.Words.{Task, Check, Show, RunInit, RunStatus}
 use Rattle.suit_cli.specs.Stages.{Answers, ◌>>=◌, Last}
-use Rattle.suit_cli.specs.Inputs.{longest_file, file, key_in}
+use Rattle.suit_cli.specs.Inputs.{longest_file, longest_device, file, key_in}
 use Rattle.suit_cli.specs.Envelopes.{envelope_in, short, manifest_in, members_in}
 use Rattle.suit_cli.specs.Judgement.{narrow, AreJudged}
 use Rattle.suit_cli.specs.Shown.{IsShown}
+use Rattle.suit_cli.specs.Devices.{device_in, key_of}
+use Rattle.suit_cli.specs.Formatting.{unused, formats}
+use Rattle.suit_cli.specs.Installed.{config_in, record_in, lines_in, IsStatus}
 
 -- up to the manifest in a file, and then on
 abbrev pub in_file : List ℕ → (EnvelopeSays → Manifest → Answers) → Answers
@@ -45,6 +48,27 @@ shows_file bytes key_name = in_file bytes (shows_manifest key_name)
 abbrev pub shows : List ℕ → List ℕ → Answers
 shows name key_name = in_manifest name (shows_manifest key_name)
 
+-- `run init DEVICE KEY`: the gate, the device's description, the key, and the format
+abbrev pub inits_as : ℕ → List ℕ → List ℕ → Answers
+inits_as size device key_name =
+    file longest_device device >>= λ bytes.
+    device_in size bytes >>= λ layout.
+    key_in key_name >>= λ key.
+    formats layout (key_of key)
+
+abbrev pub inits : List ℕ → List ℕ → Answers
+inits device key_name = unused >>= λ size. inits_as size device key_name
+
+-- `run status`: the configuration, the record, and the lengths of the contents
+abbrev pub tells_status : Answers
+tells_status =
+    config_in >>= λ config.
+    record_in >>= λ installed.
+    lines_in config.0 installed >>= λ lines.
+    Last (IsStatus installed lines)
+
 abbrev pub does : Task → Answers
 does (Check name) = checks name
 does (Show name key_name) = shows name key_name
+does (RunInit device key_name) = inits device key_name
+does RunStatus = tells_status

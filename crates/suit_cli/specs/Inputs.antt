@@ -11,6 +11,10 @@ use Rattle.suit_cli.specs.Stages.{Stage, reading}
 abbrev pub longest_file : ℕ
 longest_file = 1048576
 
+-- the longest description of a device, in bytes
+abbrev pub longest_device : ℕ
+longest_device = 65536
+
 -- the longest key, in bytes
 abbrev pub longest_key : ℕ
 longest_key = 64

@@ -10,7 +10,11 @@ pub mod Envelopes
 pub mod Accepting
 pub mod Judgement
 pub mod Shown
+pub mod Devices
+pub mod Formatting
+pub mod Installed
 pub mod Commands
 pub mod Holding
 pub mod CommandLaws
+pub mod FlashLaws
 pub mod Program

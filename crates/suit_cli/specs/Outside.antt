@@ -6,6 +6,13 @@ use Rattle.suit_edge.specs.Faults.{Faulted}
 abbrev pub Files : Type 0
 Files = List ℕ → Option (List ℕ)
 
+-- The flash at a moment: its size, what reads give where it tells, and its count of faults.
+pub record Flashed : Type 0 where
+  pub told : Bool
+  pub size : ℕ
+  pub reads : List ℕ
+  pub faults : ℕ
+
 -- The outside at a moment. Files, the number of bytes that were pulled from them, and the names that were asked for, count
 -- where the host tells of them.
 pub record Outside : Type 0 where
@@ -14,6 +21,7 @@ pub record Outside : Type 0 where
   pub pulled : ℕ
   pub asked : List (List ℕ)
   pub faults : ℕ
+  pub flash : Flashed
 
 -- nothing changed but that at most so many bytes were pulled, whatever names were asked for and became of the count of faults
 pub record Quiet (most : ℕ) (before after : Outside) : Type 0 where
@@ -34,12 +42,38 @@ pub record Reads (most : ℕ) (name : List ℕ) (before after : Outside) : Type 
   pub quiet : Quiet most before after
   pub asks : Asks (name ∷ []) before after
   pub faults : after.faults ≡ before.faults
+  pub flash : after.flash ≡ before.flash
 
 -- or the host counted one at that file
 pub record Fails (most : ℕ) (name : List ℕ) (before after : Outside) : Type 0 where
   pub quiet : Quiet most before after
   pub asks : MayAsk name before after
   pub faulted : Faulted before.faults after.faults
+  pub flash : after.flash ≡ before.flash
+
+-- ---- the flash
+
+-- the outside with another flash
+abbrev pub with_flash : Outside → Flashed → Outside
+with_flash here flash = record here { flash = flash }
+
+-- it is as it was
+pub record IsStill (before after : Flashed) : Type 0 where
+  pub told : after.told ≡ before.told
+  pub size : after.size ≡ before.size
+  pub reads : IsTrue before.told → after.reads ≡ before.reads
+
+-- it was looked at, and no fault was counted
+pub record Looks (before after : Outside) : Type 0 where
+  pub beside : after ≡ with_flash before after.flash
+  pub still : IsStill before.flash after.flash
+  pub faults : after.flash.faults ≡ before.flash.faults
+
+-- or the flash counted one
+pub record LooksInVain (before after : Outside) : Type 0 where
+  pub beside : after ≡ with_flash before after.flash
+  pub still : IsStill before.flash after.flash
+  pub faulted : Faulted before.flash.faults after.flash.faults
 
 -- the sink at a moment: the bytes that were put, where it tells of them
 pub record Sunk : Type 0 where

@@ -1,17 +1,19 @@
 -- What a run of the program comes to.
-use Rattle.std.specs.Prelude.{◌≡◌, ◌⊎◌, ◌+◌, ℕ, IsTrue, List, ◌++◌, take, Option, Some, None}
+use Rattle.std.specs.Prelude.{◌≡◌, ◌≢◌, ◌⊎◌, ◌+◌, ℕ, IsTrue, List, ◌++◌, take, Option, Some, None}
 use Rattle.suit_edge.specs.Faults.{Faulted}
+use Rattle.suit_edge.specs.Flash.{Flash, Now}
 use Rattle.suit_commands.specs.Tree.{PlanTree}
 use Rattle.suit_cli.specs.declared.reply.Outcome.TheVariants as outcomes
 use Rattle.suit_cli.specs.Texts.{usage_line}
-use Rattle.suit_cli.specs.Words.{Task, Check, Show, task_of}
+use Rattle.suit_cli.specs.Words.{Task, Check, Show, RunInit, RunStatus, task_of}
 use Rattle.suit_cli.specs.Replies.{IsReply}
 use Rattle.suit_cli.specs.Outside.{Outside, Sunk}
 use Rattle.suit_cli.specs.Stages.{Stage, judging, Ending, Answers, ◌>>=◌}
 use Rattle.suit_cli.specs.Statuses.{ending_status, ending_text, sink_fault_status}
-use Rattle.suit_cli.specs.Inputs.{longest_file, longest_key}
+use Rattle.suit_cli.specs.Inputs.{longest_file, longest_device, longest_key}
 use Rattle.suit_cli.specs.Judgement.{AreSafe, ShowUnsafe}
 use Rattle.suit_cli.specs.Holding.{HasProcedures}
+use Rattle.suit_cli.specs.Formatting.{MayLeave}
 use Rattle.suit_cli.specs.Commands.{does}
 
 -- ---- the answer to the words
@@ -43,13 +45,13 @@ pub record Runs (words : List (List ℕ)) (before after : Outside) (sunk_before 
 -- ---- statuses
 
 abbrev pub IsExcuse : ℕ → Type 0
-IsExcuse result = (result ≡ 7) ⊎ (result ≡ 9) ⊎ (result ≡ 11)
+IsExcuse result = (result ≡ 7) ⊎ (result ≡ 8) ⊎ (result ≡ 9) ⊎ (result ≡ 11)
 
 -- this status, unless a fault or want of memory came first
 abbrev pub EndsIn : ℕ → ℕ → Type 0
 EndsIn status result = (result ≡ status) ⊎ IsExcuse result
 
--- those of an answer, of a fault of the host or of the sink, and of want of memory
+-- those of an answer, of a fault of the host, the flash or the sink, and of want of memory
 pub data IsStatus (result : ℕ) : Type 0 where
   OfEnding : (ending : Ending) → result ≡ ending_status ending → IsStatus result
   OfSinkFault : result ≡ sink_fault_status → IsStatus result
@@ -106,3 +108,23 @@ abbrev pub most_pulled : Option Task → ℕ
 most_pulled None = 0
 most_pulled (Some (Check name)) = longest_file + 1
 most_pulled (Some (Show name key)) = (longest_file + 1) + (longest_key + 1)
+most_pulled (Some (RunInit device key)) = (longest_device + 1) + (longest_key + 1)
+most_pulled (Some RunStatus) = 0
+
+-- ---- power losses
+
+-- What a power loss at a moment of the run may leave, by an image. All commands but `run init` leave those of the start.
+abbrev pub MayBeLeft : Option Task → Outside → Flash → List ℕ → Type 0
+MayBeLeft (Some (RunInit device key)) before start image = MayLeave device key before start image
+MayBeLeft _ before start image = Now start image
+
+-- ---- counts of faults
+
+-- Each status of a fault comes only where the count of its object rose. Where it does not come, and the sink did not fail
+-- either, that count stays.
+pub record AreCounted (before after : Outside) (sunk_before sunk_after : Sunk) (result : ℕ) : Type 0 where
+  pub host : result ≡ 7 → Faulted before.faults after.faults
+  pub only_host : result ≢ 7 → result ≢ 9 → after.faults ≡ before.faults
+  pub flash : result ≡ 8 → Faulted before.flash.faults after.flash.faults
+  pub only_flash : result ≢ 8 → result ≢ 9 → after.flash.faults ≡ before.flash.faults
+  pub only_output : result ≢ 9 → sunk_after.faults ≡ sunk_before.faults

@@ -1,35 +1,45 @@
 -- An answer is made in stages, one after another.
 use Rattle.std.specs.Prelude.{◌≡◌, ℕ, List, Result, Ok, Err}
+use Rattle.suit_cli.specs.declared.reply.Object.{Object}
+use Rattle.suit_cli.specs.declared.reply.Object.TheVariants as objects
 use Rattle.suit_cli.specs.declared.reply.Reply.{Reply}
 use Rattle.suit_cli.specs.declared.reply.Stop.{Stop}
 use Rattle.suit_cli.specs.declared.reply.Stop.TheVariants as stops
-use Rattle.suit_cli.specs.Outside.{Outside, Reads, Fails}
+use Rattle.suit_cli.specs.Outside.{Outside, Flashed, Reads, Fails, Looks, LooksInVain}
 
 -- what an answer ends with
 pub data Ending : Type 0 where
   Says : Reply → Ending
-  HostFault : Ending
+  FaultOf : Object → Ending
   NoMemory : Ending
 
 -- by the outside before and after
 abbrev pub Answers : Type 1
 Answers = Outside → Outside → Ending → Type 0
 
--- A stage gives a value, or declines with a reply, or its object faults, or it lacks memory.
+-- A stage gives a value, or declines with a reply, or an object faults in it, or it lacks memory.
 pub record Stage (A : Type 0) : Type 1 where
   pub gives : Outside → Outside → A → Type 0
   pub declines : Outside → Outside → Reply → Type 0
-  pub faults : Outside → Outside → Type 0
+  pub faults : Object → Outside → Outside → Type 0
   pub lacks : Outside → Outside → Type 0
 
--- ---- the two kinds of stages
+-- ---- the kinds of stages
+
+abbrev pub at_host : (Outside → Outside → Type 0) → Object → Outside → Outside → Type 0
+at_host In objects.Host = In
+at_host In objects.Flash = λ before after. ⊥
+
+abbrev pub at_flash : (Outside → Outside → Type 0) → Object → Outside → Outside → Type 0
+at_flash In objects.Host = λ before after. ⊥
+at_flash In objects.Flash = In
 
 -- a judgement on values alone changes nothing outside, and nothing outside can fail in it
 abbrev pub judging : {A : Type 0} → (A → Type 0) → (Reply → Type 0) → Stage A
 judging good bad = record {
   gives = λ before after a. (after ≡ before) × good a;
   declines = λ before after reply. (after ≡ before) × bad reply;
-  faults = λ before after. ⊥;
+  faults = λ object before after. ⊥;
   lacks = λ before after. after ≡ before;
 }
 
@@ -38,8 +48,17 @@ abbrev pub reading : {A : Type 0} → ℕ → List ℕ → (Outside → A → Ty
 reading most name good bad = record {
   gives = λ before after a. Reads most name before after × good before a;
   declines = λ before after reply. Reads most name before after × bad before reply;
-  faults = Fails most name;
+  faults = at_host (Fails most name);
   lacks = Reads most name;
+}
+
+-- looking at the flash changes nothing outside, and judges what it found
+abbrev pub looking : {A : Type 0} → (Flashed → A → Type 0) → (Flashed → Reply → Type 0) → Stage A
+looking good bad = record {
+  gives = λ before after a. Looks before after × good before.flash a;
+  declines = λ before after reply. Looks before after × bad before.flash reply;
+  faults = at_flash LooksInVain;
+  lacks = Looks;
 }
 
 -- ---- one stage after another
@@ -48,7 +67,7 @@ reading most name good bad = record {
 pub data Then {A : Type 0} (stage : Stage A) (next : A → Answers) (before after : Outside) : Ending → Type 0 where
   Goes : (a : A) (middle : Outside) (ending : Ending) → stage.gives before middle a → next a middle after ending → Then stage next before after ending
   Declines : (reply : Reply) → stage.declines before after reply → Then stage next before after (Says reply)
-  Faults : stage.faults before after → Then stage next before after HostFault
+  Faults : (object : Object) → stage.faults object before after → Then stage next before after (FaultOf object)
   Lacks : stage.lacks before after → Then stage next before after NoMemory
 
 infixr 10 ◌>>=◌
@@ -60,13 +79,17 @@ pub data Last (says : Reply → Type 0) (before after : Outside) : Ending → Ty
   Ends : (reply : Reply) → after ≡ before → says reply → Last says before after (Says reply)
   EndsWithout : after ≡ before → Last says before after NoMemory
 
+-- a reply that was made before, so that no memory is lacking
+pub data Said (says : Reply → Type 0) (before after : Outside) : Ending → Type 0 where
+  IsSaid : (reply : Reply) → after ≡ before → says reply → Said says before after (Says reply)
+
 -- ---- what the code answers
 
 -- a value of a stage, or why there is none
 abbrev pub Does : {A : Type 0} → Stage A → Outside → Outside → Result A Stop → Type 0
 Does stage before after (Ok a) = stage.gives before after a
 Does stage before after (Err (stops.Declined reply)) = stage.declines before after reply
-Does stage before after (Err stops.HostFault) = stage.faults before after
+Does stage before after (Err (stops.Fault object)) = stage.faults object before after
 Does stage before after (Err stops.NoMemory) = stage.lacks before after
 
 -- of a judgement, wherever it stands
@@ -76,7 +99,7 @@ Finds stage result = (here : Outside) → Does stage here here result
 abbrev pub ending_of : Result Reply Stop → Ending
 ending_of (Ok reply) = Says reply
 ending_of (Err (stops.Declined reply)) = Says reply
-ending_of (Err stops.HostFault) = HostFault
+ending_of (Err (stops.Fault object)) = FaultOf object
 ending_of (Err stops.NoMemory) = NoMemory
 
 -- of judgements alone

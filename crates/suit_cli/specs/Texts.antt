@@ -91,6 +91,9 @@ invocation_unsafe_lines = codes "update safe\ninvocation unsafe\n"
 abbrev pub host_fault_line : List ℕ
 host_fault_line = codes "host fault\n"
 
+abbrev pub flash_fault_line : List ℕ
+flash_fault_line = codes "flash fault\n"
+
 abbrev pub out_of_memory_line : List ℕ
 out_of_memory_line = codes "out of memory\n"
 

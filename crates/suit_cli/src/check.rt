@@ -3,6 +3,7 @@
 ghost use Rattle.std.specs.Prelude.{◌≡◌, ◌≤◌, ◌<◌, ◌^◌, ◌+◌, length};
 ghost use Rattle.suit_envelope.specs.Said.{said_by};
 ghost use Rattle.suit_envelope.specs.Places.{MembersEndBelow};
+ghost use Rattle.suit_cli.specs.Outside.{Flashed};
 ghost use Rattle.suit_cli.specs.Stages.{Tells, ending_of};
 ghost use Rattle.suit_cli.specs.Inputs.{longest_file};
 ghost use Rattle.suit_cli.specs.Envelopes.{ManifestOf};
@@ -51,8 +52,9 @@ fn judge_file(alloc: Global, bytes: &[u8]) -> Result<Reply, Stop>
 
 /// The reply to `check NAME`.
 pub(crate) fn check<H: Host>(alloc: Global, name: &str, host: &mut H) -> Result<Reply, Stop>
-    ensures { checks name.now
-        (⟦<H as SeenHost>⟧.seen host.old) (⟦<H as SeenHost>⟧.seen host.new) (ending_of result) }
+    ensures { (flash : Flashed) → checks name.now
+        (⟦<H as SeenHost>⟧.seen host.old flash) (⟦<H as SeenHost>⟧.seen host.new flash)
+        (ending_of result) }
 {
     let bytes = read(alloc, name, LONGEST_FILE, host)?;
     judge_file(alloc, bytes.as_slice())

@@ -1,7 +1,10 @@
 //! What holds of the answers of each command, whatever makes them.
 
 ghost use Rattle.suit_cli.specs.CommandLaws.{CheckLaws, ShowLaws};
+ghost use Rattle.suit_cli.specs.FlashLaws.{InitLaws, StatusLaws};
 
+use flash_layout::config_laws;
+use rollback_record::record_laws;
 use suit_envelope::envelope_laws;
 use suit_manifest::{manifest_laws, members_laws};
 
@@ -24,4 +27,22 @@ pub fn show_laws()
 {
     envelope_laws();
     manifest_laws();
+}
+
+/// Does nothing. Its contract has the laws of `run init DEVICE KEY`: each reply has its cause, in the order of the checks,
+/// and where a cause stands, each answer is that reply, unless an object failed or memory was wanting. Only which flaw of
+/// a description is told is left open. Where it is done, the flash has the described layout and the key, no record and each slot empty; and otherwise, and
+/// after want of memory, the flash is as it was.
+pub fn init_laws()
+    ensures { InitLaws }
+{}
+
+/// Does nothing. Its contract has the laws of `run status` over a flash that tells what it holds: each reply has its
+/// cause, and where a cause stands, each answer is that reply, unless the flash failed or memory was wanting. The flash
+/// stays as it is.
+pub fn status_laws()
+    ensures { StatusLaws }
+{
+    config_laws();
+    record_laws();
 }

@@ -1,8 +1,11 @@
-//! The program, over a host and a sink.
+//! The program, over a host, a flash and a sink.
 #![tactic(auto)]
 
 mod accept;
 mod check;
+mod components;
+mod device;
+mod init;
 mod input;
 mod judgement;
 mod law;
@@ -12,16 +15,19 @@ mod outside;
 mod program;
 mod reply;
 mod show;
+mod status;
 mod why;
 mod words;
 
-pub use law::{check_laws, show_laws};
-pub use outside::{SeenHost, SeenSink};
+pub use law::{check_laws, init_laws, show_laws, status_laws};
+pub use outside::{SeenDisk, SeenHost, SeenSink};
 pub use program::{Status, run};
 pub use reply::Outcome;
 
 #[cfg(test)]
 mod command_rows;
+#[cfg(test)]
+mod flash_tests;
 #[cfg(test)]
 mod item_rows;
 #[cfg(test)]

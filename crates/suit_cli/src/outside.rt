@@ -1,20 +1,34 @@
-//! The outside as contracts see it: a host and a sink, each at a moment as one record.
+//! The outside as contracts see it: a host beside a flash, and a sink, each at a moment as one record.
 
-use suit_edge::{Host, Sink};
+use suit_edge::{Disk, Host, Sink};
 
 /// A host at a moment.
 pub trait SeenHost: Host {
-    ghost use Rattle.suit_cli.specs.Outside.{Outside};
+    ghost use Rattle.suit_cli.specs.Outside.{Outside, Flashed};
 
-    /// What it tells of its files, of the bytes that were pulled from them and of the names that were asked for, and its
+    /// Beside a flash: what it tells of its files, of the bytes that were pulled from them and of the names that were asked for, and its
     /// count of faults.
-    ghost seen: { Self → Outside };
+    ghost seen: { Self → Flashed → Outside };
 }
 
 impl<H: Host> SeenHost for H {
     ghost use Rattle.suit_cli.specs.Outside.{Outside};
 
-    ghost seen = { λ h. record { told = H.told; files = H.file h; pulled = H.pulled h; asked = H.asked h; faults = H.faults h } };
+    ghost seen = { λ h f. record { told = H.told; files = H.file h; pulled = H.pulled h; asked = H.asked h; faults = H.faults h; flash = f } };
+}
+
+/// A flash at a moment.
+pub trait SeenDisk: Disk {
+    ghost use Rattle.suit_cli.specs.Outside.{Flashed};
+
+    /// Its size, what it tells that reads give, and its count of faults.
+    ghost seen: { Self → Flashed };
+}
+
+impl<D: Disk> SeenDisk for D {
+    ghost use Rattle.suit_cli.specs.Outside.{Flashed};
+
+    ghost seen = { λ d. record { told = D.told; size = D.extent d; reads = (D.flash d).reads; faults = D.faults d } };
 }
 
 /// A sink at a moment.

@@ -1,7 +1,8 @@
 //! The top call: all that the program does.
 
-ghost use Rattle.std.specs.Prelude.{◌≡◌, ◌≢◌, IsTrue, List, ℕ, None};
-ghost use Rattle.suit_edge.specs.Faults.{Faulted};
+ghost use Rattle.std.specs.Prelude.{◌≡◌, ◌≤◌, IsTrue, List, ℕ, None};
+ghost use Rattle.suit_edge.specs.Flash.{Passes};
+ghost use Rattle.flash_layout.specs.declared.frame.TheConstants.{VERSION_1};
 ghost use Rattle.suit_commands.specs.Tree.{PlanTree};
 ghost use Rattle.suit_cli.specs.Words.{task_of};
 ghost use Rattle.suit_cli.specs.Outside.{Quiet};
@@ -20,17 +21,21 @@ ghost use Rattle.suit_cli.specs.Program.{
   ChecksUnsafe,
   IsUsage,
   IsCutOff,
+  AreCounted,
+  MayBeLeft,
   most_pulled,
 };
 
 use crate::check::check;
-use crate::outside::{SeenHost, SeenSink};
+use crate::init::init;
+use crate::outside::{SeenDisk, SeenHost, SeenSink};
 use crate::reply::{Outcome, Reply, Stop, declined};
 use crate::show::show;
+use crate::status::status;
 use crate::words::{Command, command_of};
 use det_cbor::Names;
 use std::alloc::Global;
-use suit_edge::{Edge, Host, Sink};
+use suit_edge::{Disk, Edge, Host, Sink};
 use suit_envelope::envelope_laws;
 use suit_manifest::{manifest_laws, members_laws};
 
@@ -42,14 +47,27 @@ const USAGE: &str =
     "usage: suit make DESCRIPTION KEY OUT | show FILE [KEY] | check FILE | run init DEVICE KEY | run update FILE [URI=NAME]... | run boot | run status | drill NUMBER\n";
 
 // The answer to the words.
-fn answer<H: Host>(alloc: Global, words: &Names, host: &mut H) -> Result<Reply, Stop>
-    ensures { answers words.now
-        (⟦<H as SeenHost>⟧.seen host.old) (⟦<H as SeenHost>⟧.seen host.new) (ending_of result) }
+fn answer<H: Host, D: Disk>(
+    alloc: Global,
+    words: &Names,
+    host: &mut H,
+    flash: &mut D,
+) -> Result<Reply, Stop>
+    requires { VERSION_1.size ≤ D.extent flash.old }
+    ensures answer { answers words.now
+        (⟦<H as SeenHost>⟧.seen host.old (⟦<D as SeenDisk>⟧.seen flash.old))
+        (⟦<H as SeenHost>⟧.seen host.new (⟦<D as SeenDisk>⟧.seen flash.new)) (ending_of result) }
+    ensures extent { D.extent flash.new ≡ D.extent flash.old }
+    ensures any_moment { IsTrue D.told → Passes (D.flash flash.old) (D.flash flash.new)
+        (MayBeLeft (task_of words.now)
+        (⟦<H as SeenHost>⟧.seen host.old (⟦<D as SeenDisk>⟧.seen flash.old)) (D.flash flash.old)) }
 {
     match command_of(words) {
         None => Err(declined(Reply::fixed(alloc, Outcome::Usage, USAGE))),
         Some(Command::Check(name)) => check(alloc, name, host),
         Some(Command::Show(name, key)) => show(alloc, name, key, host),
+        Some(Command::RunInit(device, key)) => init(alloc, device, key, host, flash),
+        Some(Command::RunStatus) => status(alloc, flash),
     }
 }
 
@@ -73,31 +91,41 @@ fn put<K: Sink>(out: &mut K, answer: Result<Reply, Stop>) -> Status
         Ok(reply) | Err(Stop::Declined(reply)) => {
             put_text(out, reply.outcome.status(), reply.text.as_str())
         }
-        Err(Stop::HostFault) => put_text(out, 7, "host fault\n"),
+        Err(Stop::Fault(object)) => put_text(out, object.status(), object.line()),
         Err(Stop::NoMemory) => put_text(out, 11, "out of memory\n"),
     }
 }
 
-/// Does all that the program does. The words do not hold the program's name.
-pub fn run<H: Host, K: Sink>(alloc: Global, words: &Names, host: &mut H, out: &mut K) -> Status
-    // The words have an answer, made in stages over what the host tells; its lines are put, whole or up to a fault of
-    // the sink, and its status is the result.
+/// Does all that the program does. The words do not hold the program's name. The flash needs its first 49,152 bytes, where
+/// the configuration, the records and the banks stand.
+pub fn run<H: Host, D: Disk, K: Sink>(
+    alloc: Global,
+    words: &Names,
+    host: &mut H,
+    flash: &mut D,
+    out: &mut K,
+) -> Status
+    requires { VERSION_1.size ≤ D.extent flash.old }
+
+    // The words have an answer, made in stages over what the host and the flash tell; its lines are put, whole or up to
+    // a fault of the sink, and its status is the result.
     ensures runs { Runs words.now
-        (⟦<H as SeenHost>⟧.seen host.old) (⟦<H as SeenHost>⟧.seen host.new)
+        (⟦<H as SeenHost>⟧.seen host.old (⟦<D as SeenDisk>⟧.seen flash.old))
+        (⟦<H as SeenHost>⟧.seen host.new (⟦<D as SeenDisk>⟧.seen flash.new))
         (⟦<K as SeenSink>⟧.seen out.old) (⟦<K as SeenSink>⟧.seen out.new) result.0 }
 
     // The headline: yes exactly where each invoke is covered on every path of both procedures, and otherwise a path
     // where one is not.
-    ensures yes { IsTrue H.told → IsCheck words.now → result.0 ≡ 0 →
-        ChecksSafe words.now (⟦<H as SeenHost>⟧.seen host.old) }
-    ensures only_yes { (update invocation : PlanTree) →
-        ChecksProcedures words.now (⟦<H as SeenHost>⟧.seen host.old) update invocation →
+    ensures yes { IsTrue H.told → IsCheck words.now → result.0 ≡ 0 → ChecksSafe words.now
+        (⟦<H as SeenHost>⟧.seen host.old (⟦<D as SeenDisk>⟧.seen flash.old)) }
+    ensures only_yes { (update invocation : PlanTree) → ChecksProcedures words.now
+        (⟦<H as SeenHost>⟧.seen host.old (⟦<D as SeenDisk>⟧.seen flash.old)) update invocation →
         AreSafe update invocation → EndsIn 0 result.0 }
-    ensures no { IsTrue H.told → result.0 ≡ 1 →
-        ChecksUnsafe words.now (⟦<H as SeenHost>⟧.seen host.old)
+    ensures no { IsTrue H.told → result.0 ≡ 1 → ChecksUnsafe words.now
+        (⟦<H as SeenHost>⟧.seen host.old (⟦<D as SeenDisk>⟧.seen flash.old))
         (⟦<K as SeenSink>⟧.seen out.old) (⟦<K as SeenSink>⟧.seen out.new) }
-    ensures only_no { (update invocation : PlanTree) →
-        ChecksProcedures words.now (⟦<H as SeenHost>⟧.seen host.old) update invocation →
+    ensures only_no { (update invocation : PlanTree) → ChecksProcedures words.now
+        (⟦<H as SeenHost>⟧.seen host.old (⟦<D as SeenDisk>⟧.seen flash.old)) update invocation →
         (AreSafe update invocation → ⊥) → EndsIn 1 result.0 }
 
     // Usage, exactly where the words are no command.
@@ -105,23 +133,31 @@ pub fn run<H: Host, K: Sink>(alloc: Global, words: &Names, host: &mut H, out: &m
         IsUsage words.now (⟦<K as SeenSink>⟧.seen out.old) (⟦<K as SeenSink>⟧.seen out.new) }
     ensures only_usage { task_of words.now ≡ None → EndsIn 2 result.0 }
 
-    // Nothing outside changes but what was pulled of the files.
+    // No file changes, and so much is pulled of them.
     ensures stays { Quiet (most_pulled (task_of words.now))
-        (⟦<H as SeenHost>⟧.seen host.old) (⟦<H as SeenHost>⟧.seen host.new) }
+        (⟦<H as SeenHost>⟧.seen host.old (⟦<D as SeenDisk>⟧.seen flash.old))
+        (⟦<H as SeenHost>⟧.seen host.new (⟦<D as SeenDisk>⟧.seen flash.new)) }
+
+    // The flash keeps its size; and what a power loss at any moment of the run may leave of it.
+    ensures size { D.extent flash.new ≡ D.extent flash.old }
+    ensures any_moment { IsTrue D.told → Passes (D.flash flash.old) (D.flash flash.new)
+        (MayBeLeft (task_of words.now)
+        (⟦<H as SeenHost>⟧.seen host.old (⟦<D as SeenDisk>⟧.seen flash.old)) (D.flash flash.old)) }
 
     // Statuses and faults.
     ensures status { IsStatus result.0 }
-    ensures host_fault { result.0 ≡ 7 → Faulted (H.faults host.old) (H.faults host.new) }
-    ensures only_host_fault { result.0 ≢ 7 → result.0 ≢ 9 →
-        H.faults host.new ≡ H.faults host.old }
-    ensures output_fault { result.0 ≡ 9 → IsCutOff words.now
-        (⟦<H as SeenHost>⟧.seen host.old) (⟦<H as SeenHost>⟧.seen host.new)
+    ensures counts { AreCounted
+        (⟦<H as SeenHost>⟧.seen host.old (⟦<D as SeenDisk>⟧.seen flash.old))
+        (⟦<H as SeenHost>⟧.seen host.new (⟦<D as SeenDisk>⟧.seen flash.new))
+        (⟦<K as SeenSink>⟧.seen out.old) (⟦<K as SeenSink>⟧.seen out.new) result.0 }
+    ensures cut_off { result.0 ≡ 9 → IsCutOff words.now
+        (⟦<H as SeenHost>⟧.seen host.old (⟦<D as SeenDisk>⟧.seen flash.old))
+        (⟦<H as SeenHost>⟧.seen host.new (⟦<D as SeenDisk>⟧.seen flash.new))
         (⟦<K as SeenSink>⟧.seen out.old) (⟦<K as SeenSink>⟧.seen out.new) }
-    ensures only_output_fault { result.0 ≢ 9 → K.faults out.new ≡ K.faults out.old }
 {
     envelope_laws();
     manifest_laws();
     members_laws();
-    let answer = answer(alloc, words, host);
+    let answer = answer(alloc, words, host, flash);
     put(out, answer)
 }

@@ -3,7 +3,7 @@
 ghost use Rattle.std.specs.Prelude.{◌≡◌, ◌++◌, codes};
 ghost use Rattle.suit_cli.specs.declared.reply.Outcome.TheVariants as outcomes;
 ghost use Rattle.suit_cli.specs.Replies.{Makes, stop_of};
-ghost use Rattle.suit_cli.specs.Statuses.{status_of};
+ghost use Rattle.suit_cli.specs.Statuses.{status_of, fault_status, fault_line};
 ghost use Rattle.suit_cli.specs.Lines.{path_lines};
 ghost use Rattle.suit_cli.specs.Texts.{refusal_line};
 
@@ -29,6 +29,12 @@ pub enum Outcome {
     NotAuthentic,
     /// There is too much to judge in a procedure.
     TooWide,
+    /// The flash has no configuration, or a bad one.
+    Unconfigured,
+    /// The flash has a configuration already.
+    NotBlank,
+    /// No record stands in the flash.
+    NothingInstalled,
     /// A member that stands apart is not in the envelope.
     Severed,
     /// A member that stands apart has another digest than the manifest states.
@@ -51,10 +57,42 @@ impl Outcome {
             Outcome::Refused => 3,
             Outcome::NotAuthentic => 4,
             Outcome::TooWide => 12,
+            Outcome::Unconfigured => 13,
+            Outcome::NotBlank => 14,
+            Outcome::NothingInstalled => 15,
             Outcome::Severed => 16,
             Outcome::Differs => 17,
             Outcome::Absent => 20,
             Outcome::TooLong => 21,
+        }
+    }
+}
+
+/// An object of the outside, whose calls may fail.
+#[derive(Clone, Copy, Debug, PartialEq, Eq)]
+pub(crate) enum Object {
+    Host,
+    Flash,
+}
+
+impl Object {
+    /// The status where a call of it failed.
+    pub(crate) fn status(self) -> u8
+        ensures { result ≡ fault_status self }
+    {
+        match self {
+            Object::Host => 7,
+            Object::Flash => 8,
+        }
+    }
+
+    /// The line that says so.
+    pub(crate) fn line(self) -> &'static str
+        ensures { result.now ≡ fault_line self }
+    {
+        match self {
+            Object::Host => "host fault\n",
+            Object::Flash => "flash fault\n",
         }
     }
 }
@@ -71,8 +109,8 @@ pub(crate) struct Reply {
 pub(crate) enum Stop {
     /// A stage was not passed, as this reply says.
     Declined(Reply),
-    /// A call of the host failed, and its count of faults rose.
-    HostFault,
+    /// A call of this object failed, and its count of faults rose.
+    Fault(Object),
     /// Memory was wanting.
     NoMemory,
 }

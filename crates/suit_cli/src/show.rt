@@ -5,6 +5,7 @@ ghost use Rattle.suit_envelope.specs.Said.{said_by};
 ghost use Rattle.suit_envelope.specs.WrapperParts.{WrapperSays, HasWrapper};
 ghost use Rattle.suit_cli.specs.Texts.{tagged_line, block_line, authenticity_line};
 ghost use Rattle.suit_cli.specs.Shown.{HasKind, kind_text, AddsBlocks, IsShown, authenticity_outcome};
+ghost use Rattle.suit_cli.specs.Outside.{Flashed};
 ghost use Rattle.suit_cli.specs.Stages.{ending_of};
 ghost use Rattle.suit_cli.specs.Inputs.{longest_file};
 ghost use Rattle.suit_cli.specs.Commands.{shows_manifest, shows_file, shows};
@@ -122,8 +123,9 @@ fn show_manifest<H: Host>(
     host: &mut H,
 ) -> Result<Reply, Stop>
     requires { HasWrapper envelope.now.wrapper.now }
-    ensures { shows_manifest key_name.now (said_by envelope.now) manifest.now
-        (⟦<H as SeenHost>⟧.seen host.old) (⟦<H as SeenHost>⟧.seen host.new) (ending_of result) }
+    ensures { (flash : Flashed) → shows_manifest key_name.now (said_by envelope.now) manifest.now
+        (⟦<H as SeenHost>⟧.seen host.old flash) (⟦<H as SeenHost>⟧.seen host.new flash)
+        (ending_of result) }
 {
     let key = read_key(alloc, key_name, host)?;
     Ok(show_lines(alloc, envelope, manifest, key.as_slice())?)
@@ -137,8 +139,9 @@ fn show_file<H: Host>(
     host: &mut H,
 ) -> Result<Reply, Stop>
     requires { length bytes.now ≤ longest_file }
-    ensures { shows_file bytes.now key_name.now
-        (⟦<H as SeenHost>⟧.seen host.old) (⟦<H as SeenHost>⟧.seen host.new) (ending_of result) }
+    ensures { (flash : Flashed) → shows_file bytes.now key_name.now
+        (⟦<H as SeenHost>⟧.seen host.old flash) (⟦<H as SeenHost>⟧.seen host.new flash)
+        (ending_of result) }
 {
     envelope_laws();
     let envelope = envelope_in(alloc, bytes)?;
@@ -154,8 +157,9 @@ pub(crate) fn show<H: Host>(
     key_name: &str,
     host: &mut H,
 ) -> Result<Reply, Stop>
-    ensures { shows name.now key_name.now
-        (⟦<H as SeenHost>⟧.seen host.old) (⟦<H as SeenHost>⟧.seen host.new) (ending_of result) }
+    ensures { (flash : Flashed) → shows name.now key_name.now
+        (⟦<H as SeenHost>⟧.seen host.old flash) (⟦<H as SeenHost>⟧.seen host.new flash)
+        (ending_of result) }
 {
     let bytes = read(alloc, name, LONGEST_FILE, host)?;
     show_file(alloc, bytes.as_slice(), key_name, host)

@@ -8,7 +8,7 @@ use crate::{Status, run};
 use det_cbor::{Names, Text};
 use std::alloc::{AllocError, Global};
 use std::test::Fail;
-use suit_edge::{MemoryHost, MemorySink};
+use suit_edge::{MemoryDisk, MemoryHost, MemorySink};
 
 /// An envelope whose invocation selects component 0, and then 2,047 times at each of 2,047 runs of a sequence: what
 /// stands before the first list of zeros, between both, and behind.
@@ -46,7 +46,8 @@ fn ran(
     let mut host = MemoryHost::new(alloc, host_fails)?;
     host.add("e1.suit", file)?;
     let mut sink = MemorySink::new(alloc, sink_fails)?;
-    let Status(status) = run(alloc, &words, &mut host, &mut sink);
+    let mut flash = MemoryDisk::new(alloc, 49_152, &[])?;
+    let Status(status) = run(alloc, &words, &mut host, &mut flash, &mut sink);
     Ok((status, sink.bytes().to_vec(alloc)?))
 }
 
@@ -172,7 +173,7 @@ fn each_fault_of_an_item_is_told(rt: HostRuntime) -> Result<(), Fail> {
 #[test]
 fn other_words_are_usage(rt: HostRuntime) -> Result<(), Fail> {
     let alloc = rt.alloc();
-    let lines: [&[&str]; 7] = [
+    let lines: [&[&str]; 9] = [
         &[],
         &["check"],
         &["check", "a", "b"],
@@ -180,6 +181,8 @@ fn other_words_are_usage(rt: HostRuntime) -> Result<(), Fail> {
         &["check", "-"],
         &["help"],
         &["e1.suit", "check"],
+        &["run", "stat"],
+        &["run", "init", "d", "-k"],
     ];
     for words in &lines {
         let (status, text) = ran(alloc, words, b"", &[], &[])?;

@@ -12,6 +12,10 @@ pub(crate) enum Command<'a> {
     Check(&'a str),
     /// To show the envelope in the first file, and whether it is authentic under the key in the second.
     Show(&'a str, &'a str),
+    /// To format the flash by the device's description in the first file, with the key in the second.
+    RunInit(&'a str, &'a str),
+    /// To show what is installed in the flash.
+    RunStatus,
 }
 
 // A word that begins with a dash names no file.
@@ -29,6 +33,8 @@ pub(crate) fn command_of(words: &Names) -> Option<Command<'_>>
         [command, file] => {
             if command.as_str() == "check" && is_name(file) {
                 Some(Command::Check(file.as_str()))
+            } else if command.as_str() == "run" && file.as_str() == "status" {
+                Some(Command::RunStatus)
             } else {
                 None
             }
@@ -36,6 +42,17 @@ pub(crate) fn command_of(words: &Names) -> Option<Command<'_>>
         [command, file, key] => {
             if command.as_str() == "show" && is_name(file) && is_name(key) {
                 Some(Command::Show(file.as_str(), key.as_str()))
+            } else {
+                None
+            }
+        }
+        [command, kind, device, key] => {
+            if command.as_str() == "run"
+                && kind.as_str() == "init"
+                && is_name(device)
+                && is_name(key)
+            {
+                Some(Command::RunInit(device.as_str(), key.as_str()))
             } else {
                 None
             }

@@ -4,7 +4,7 @@ use crate::tests::{STORED, names};
 use crate::{Status, run};
 use std::alloc::{AllocError, Global};
 use std::test::Fail;
-use suit_edge::{MemoryHost, MemorySink};
+use suit_edge::{MemoryDisk, MemoryHost, MemorySink};
 
 /// The manifest of the stored envelope behind a wrapper with its digest, a block of another kind, and a
 /// Mac0 block under the key of 32 bytes 01.
@@ -44,7 +44,8 @@ fn shown(
     host.add("e.suit", envelope)?;
     host.add("k", key)?;
     let mut sink = MemorySink::new(alloc, &[])?;
-    let Status(status) = run(alloc, &words, &mut host, &mut sink);
+    let mut flash = MemoryDisk::new(alloc, 49_152, &[])?;
+    let Status(status) = run(alloc, &words, &mut host, &mut flash, &mut sink);
     Ok((status, sink.bytes().to_vec(alloc)?))
 }
 

@@ -1,0 +1,87 @@
+-- What stands between the stages of `run init`.
+use Rattle.std.proofs.Common.{◌≡◌, ℕ, ◌≤◌, List, [], ◌∷◌, length, sym, ap, subst, ◌∙◌, refl, arith, Result, Ok, Err}
+use Rattle.std.specs.Prelude.{◌≢◌, IfOk, IsTrue, Some, None, codes}
+use Rattle.std.specs.Str.{IsUtf8}
+use Rattle.std.specs.declared.alloc.AllocError.{AllocError}
+use Rattle.serde_json.specs.Data.{Data}
+use Rattle.serde_json.specs.Read.{read}
+use Rattle.flash_layout.specs.declared.layout.Entry.{Entry}
+use Rattle.flash_layout.specs.declared.layout_fault.LayoutFault.{LayoutFault}
+use Rattle.flash_layout.specs.declared.layout_fault.LayoutFault.TheVariants as faults
+use Rattle.flash_layout.specs.LayoutFaults.{IsFaultOf, RefusesLayout}
+use Rattle.suit_cli.specs.declared.reply.Reply.{Reply}
+use Rattle.suit_cli.specs.declared.reply.Stop.{Stop}
+use Rattle.suit_cli.specs.declared.reply.Outcome.TheVariants as outcomes
+use Rattle.suit_edge.specs.Gate.{IsOpen}
+use Rattle.flash_layout.specs.declared.frame.TheConstants.{CONFIG_GATE}
+use Rattle.flash_layout.specs.declared.key.Key.{Key}
+use Rattle.suit_cli.specs.Outside.{Outside, Flashed, Looks, with_flash}
+use Rattle.suit_cli.specs.Replies.{Makes, stop_of}
+use Rattle.suit_cli.specs.Stages.{Ending, Does, Finds, ending_of}
+use Rattle.suit_cli.specs.Formatting.{formatting, formats}
+use Rattle.suit_cli.specs.Inputs.{IsRead, IsKey}
+use Rattle.suit_cli.proofs.Chains.{stopped}
+use Rattle.suit_cli.proofs.SameFiles.{key_here}
+use Rattle.suit_cli.specs.Devices.{IsNoJson, IsNoLayout, TellsLayout, bad_json_line, device_in}
+
+-- ---- a description
+
+module _ (size : ℕ) (x y : List ℕ) (same : x ≡ y) (result : Result (List Entry) Stop) where
+  pub device_of : Finds (device_in size x) result → Finds (device_in size y) result
+  device_of finds = subst (λ (b : List ℕ). Finds (device_in size b) result) same finds
+
+-- it is no JSON, which was told unless there was no memory
+pub no_json_there : (size : ℕ) (bytes : List ℕ) (made : Result Reply AllocError) → (IsUtf8 bytes → read bytes ≡ None) → Makes made outcomes.Refused bad_json_line
+    → (here : Outside) → Does (device_in size bytes) here here (Err (stop_of made))
+no_json_there size bytes (Ok reply) none says here = (refl, IsNoJson none says)
+no_json_there size bytes (Err e) none says here = refl
+
+-- only a fault that has a line is told
+fault_stands : (size : ℕ) (d : Data) (fault : LayoutFault) (reply : Reply) → IsFaultOf size d fault → TellsLayout fault reply → RefusesLayout size d fault
+fault_stands size d (faults.BadField pointer) reply is tells = is
+fault_stands size d (faults.BadHex pointer) reply is tells = is
+fault_stands size d (faults.BadUuid pointer) reply is tells = is
+fault_stands size d (faults.TooMany n) reply is tells = is
+fault_stands size d (faults.TwoAlike i j) reply is tells = is
+fault_stands size d (faults.Overlap i j) reply is tells = is
+fault_stands size d (faults.Outside i) reply is tells = is
+fault_stands size d faults.NoMemory reply is tells = absurd tells.line
+
+pub no_layout_there : (size : ℕ) (bytes : List ℕ) (d : Data) (fault : LayoutFault) (made : Result Reply AllocError) → IsUtf8 bytes → read bytes ≡ Some d → IsFaultOf size d fault
+    → IfOk made (TellsLayout fault) → (here : Outside) → Does (device_in size bytes) here here (Err (stop_of made))
+no_layout_there size bytes d fault (Ok reply) utf8 reads is tells here = (refl, IsNoLayout d fault utf8 reads (fault_stands size d fault reply is tells) tells)
+no_layout_there size bytes d fault (Err e) utf8 reads is tells here = refl
+
+-- ---- a key
+
+pub some_bytes : (key : List ℕ) → key ≢ [] → 1 ≤ length key
+some_bytes [] some = absurd (some refl)
+some_bytes (byte ∷ bytes) some = omega arith
+
+-- ---- the format
+
+pub looks_self : (o : Outside) → Looks o o
+looks_self o = record { beside = refl; still = record { told = refl; size = refl; reads = λ t. refl }; faults = refl }
+
+-- the gate is open after all, which was told unless there was no memory
+pub in_use_there : (layout : List Entry) (key : Key) (before after : Outside) → Looks before after → (IsTrue before.flash.told → IsOpen before.flash.reads CONFIG_GATE)
+    → (made : Result Reply AllocError) (stop : Stop) → Makes made outcomes.NotBlank (codes "not blank\n") → stop ≡ stop_of made
+    → formats layout key before after (ending_of (Err stop))
+in_use_there layout key before after looks opened made stop says is =
+    subst (λ (s : Stop). formats layout key before after (ending_of (Err s))) (sym is) (stopped (formatting layout key) _ before after (stop_of made) (of_made made says))
+  where
+    of_made : (m : Result Reply AllocError) → Makes m outcomes.NotBlank (codes "not blank\n") → Does (formatting layout key) before after (Err (stop_of m))
+    of_made (Ok reply) told = (looks, record { opened = opened; says = told })
+    of_made (Err e) told = looks
+
+pub by_key : (layout : List Entry) (x y : Key) → x ≡ y → (before after : Outside) (ending : Ending) → formats layout x before after ending → formats layout y before after ending
+by_key layout x y same before after ending told = subst (λ (k : Key). formats layout k before after ending) same told
+
+-- ---- the same files beside another flash
+
+pub as_seen : (before : Outside) (f : Flashed) (limit : ℕ) (name bytes : List ℕ) → IsRead limit name (with_flash before f) bytes → IsRead limit name before bytes
+as_seen before f limit name bytes read = record { holds = read.holds; fits = read.fits }
+
+pub key_seen : (before m : Outside) (f : Flashed) → m.told ≡ before.told → (IsTrue before.told → m.files ≡ before.files) → (name key : List ℕ) → IsKey name (with_flash m f) key → IsKey name before key
+key_seen before m f told files name key is =
+    key_here m before told files name key (record { read = record { holds = is.read.holds; fits = is.read.fits }; some = is.some })

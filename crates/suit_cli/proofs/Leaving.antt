@@ -1,0 +1,87 @@
+-- What a power loss during a command may leave.
+use Rattle.std.proofs.Common.{◌≡◌, ℕ, List, Option, Some, inl, inr, sym, subst, refl}
+use Rattle.std.specs.Prelude.{IsTrue}
+use Rattle.suit_edge.specs.Flash.{Flash, Now, Passes, IsFlash, IsSame}
+use Rattle.suit_edge.specs.FlashLaws.{starts, weakens, joined, each_now}
+use Rattle.flash_layout.specs.declared.frame.TheConstants.{VERSION_1}
+use Rattle.flash_layout.specs.declared.key.Key.{Key}
+use Rattle.flash_layout.specs.declared.layout.Entry.{Entry}
+use Rattle.flash_layout.specs.Formats.{IsBlankOrFormatted}
+use Rattle.suit_cli.specs.Words.{Task, RunInit}
+use Rattle.suit_cli.specs.Outside.{Outside, Flashed, with_flash}
+use Rattle.suit_cli.specs.Inputs.{longest_device, IsRead, IsKey}
+use Rattle.suit_cli.specs.Devices.{IsDevice, key_of}
+use Rattle.suit_cli.specs.Formatting.{IsShut, MayBe, MayFormat, MayLeave}
+use Rattle.suit_cli.specs.Program.{MayBeLeft}
+
+-- no call
+pub still : (a : Flash) → Passes a a (Now a)
+still a = starts a (Now a) (λ image now. now)
+
+-- ---- by the words
+
+-- of a command that leaves the images of the start
+pub leaves : (task t : Option Task) (before : Outside) (a b : Flash) → task ≡ t → ((image : List ℕ) → Now a image → MayBeLeft t before a image) → Passes a b (Now a)
+    → Passes a b (MayBeLeft task before a)
+leaves task t before a b is here run =
+    weakens a b (Now a) (MayBeLeft task before a) (λ image now. subst (λ (u : Option Task). MayBeLeft u before a image) (sym is) (here image now)) run
+
+pub leaves_init : (task : Option Task) (device key_name : List ℕ) (before : Outside) (a b : Flash) → task ≡ Some (RunInit device key_name) → Passes a b (MayLeave device key_name before a)
+    → Passes a b (MayBeLeft task before a)
+leaves_init task device key_name before a b is run =
+    weakens a b (MayLeave device key_name before a) (MayBeLeft task before a) (λ image may. subst (λ (u : Option Task). MayBeLeft u before a image) (sym is) may) run
+
+-- ---- `run init`
+
+-- before the format
+pub not_yet : (P : List ℕ → Type 0) (a b : Flash) → Passes a b (Now a) → Passes a b (MayBe a P)
+not_yet P a b run = weakens a b (Now a) (MayBe a P) (λ image now. inl now) run
+
+-- the key by its bytes
+pub way_by_key : (extent : ℕ) (layout : List Entry) (x y : Key) → x ≡ y → (a b : Flash) → Passes a b (MayBe a (IsBlankOrFormatted VERSION_1 extent layout x a))
+    → Passes a b (MayBe a (IsBlankOrFormatted VERSION_1 extent layout y a))
+way_by_key extent layout x y same a b run = subst (λ (k : Key). Passes a b (MayBe a (IsBlankOrFormatted VERSION_1 extent layout k a))) same run
+
+-- the format by what was read
+pub formats_by : (size extent : ℕ) (device key_name bytes key : List ℕ) (layout : List Entry) (before : Outside) (a b : Flash) → size ≡ extent
+    → IsRead longest_device device before bytes → IsDevice size bytes layout → IsKey key_name before key
+    → Passes a b (MayBe a (IsBlankOrFormatted VERSION_1 extent layout (key_of key) a)) → Passes a b (MayBe a (MayFormat size device key_name before a))
+formats_by size extent device key_name bytes key layout before a b same read describes has_key run =
+    weakens a b (MayBe a (IsBlankOrFormatted VERSION_1 extent layout (key_of key) a)) (MayBe a (MayFormat size device key_name before a)) (λ image may. of_image image may) run
+  where
+    of_image : (image : List ℕ) → MayBe a (IsBlankOrFormatted VERSION_1 extent layout (key_of key) a) image → MayBe a (MayFormat size device key_name before a) image
+    of_image image (inl now) = inl now
+    of_image image (inr way) = inr (record {
+      bytes = bytes;
+      layout = layout;
+      key = key;
+      holds = read;
+      describes = describes;
+      has_key = has_key;
+      blank_or_formatted = subst (λ (n : ℕ). IsBlankOrFormatted VERSION_1 n layout (key_of key) a image) (sym same) way;
+    })
+
+-- behind the look at the gate
+module _ (device key_name : List ℕ) (before : Outside) (seen : Flashed) (a b c : Flash) (law : IsFlash b before.flash.size) (same : IsSame a b) (shut : IsShut before.flash) (size : ℕ) (is : size ≡ before.flash.size) where
+  earlier : (image : List ℕ) → Now b image → Now a image
+  earlier image now = each_now a b before.flash.size (Now a) law same.images image now
+
+  as_before : (image : List ℕ) → MayFormat size device key_name (with_flash before seen) b image → MayFormat before.flash.size device key_name before a image
+  as_before image way = record {
+    bytes = way.bytes;
+    layout = way.layout;
+    key = way.key;
+    holds = record { holds = way.holds.holds; fits = way.holds.fits };
+    describes = subst (λ (n : ℕ). IsDevice n way.bytes way.layout) is way.describes;
+    has_key = record { read = record { holds = way.has_key.read.holds; fits = way.has_key.read.fits }; some = way.has_key.some };
+    blank_or_formatted = λ blank. subst (λ (n : ℕ). IsBlankOrFormatted VERSION_1 n way.layout (key_of way.key) b image) is way.blank_or_formatted (λ first now. blank first (earlier first now));
+  }
+
+  of_image : (image : List ℕ) → MayBe b (MayFormat size device key_name (with_flash before seen) b) image → MayLeave device key_name before a image
+  of_image image (inl now) = inl (earlier image now)
+  of_image image (inr way) = inr (shut, as_before image way)
+
+  pub formats_later : Passes b c (MayBe b (MayFormat size device key_name (with_flash before seen) b)) → Passes a c (MayLeave device key_name before a)
+  formats_later run =
+      joined a b c (MayLeave device key_name before a) (weakens a b (Now a) (MayLeave device key_name before a) (λ image now. inl now) same.images)
+      (weakens b c (MayBe b (MayFormat size device key_name (with_flash before seen) b)) (MayLeave device key_name before a) of_image run)

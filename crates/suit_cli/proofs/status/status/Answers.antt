@@ -1,0 +1,79 @@
+use Rattle.std.proofs.Common.{ℕ, List, Ok, Err, refl, sym, subst, ◌∙◌}
+use Rattle.std.specs.List.{All}
+use Rattle.std.specs.Prelude.{◌≤◌, length}
+use Rattle.suit_edge.specs.FlashLaws.{same_flash_then}
+use Rattle.flash_layout.specs.declared.layout.Entry.{Entry}
+use Rattle.flash_layout.specs.Layouts.{IsEntry}
+use Rattle.suit_cli.specs.Outside.{Outside, with_flash}
+use Rattle.suit_cli.specs.Stages.{Goes, Ends}
+use Rattle.suit_cli.specs.Installed.{IsStatus}
+use Rattle.suit_cli.proofs.Chains.{ends_there, lacks_last}
+use Rattle.suit_cli.proofs.StatusLines.{lines_of}
+use Rattle.suit_cli.proofs.status.status.Goals as goal
+
+pub returns-in_err-config-clause-answer : goal.returns-in_err-config-clause-answer
+returns-in_err-config-clause-answer g c here =
+    ends_there _ _ _ _ c.from_residual.result c.in_err-config.field-0.0 c.from_residual.ensures.1 (c.in_err-config.ensures.finds here)
+
+pub returns-in_err-installed-clause-answer : goal.returns-in_err-installed-clause-answer
+returns-in_err-installed-clause-answer g c here =
+    Goes c.in_ok-config.config _ _ (c.in_ok-config.ensures.finds here)
+    (ends_there _ _ _ _ c.from_residual-in_err-installed.result c.in_err-installed.field-0.0 c.from_residual-in_err-installed.ensures.1 (c.in_err-installed.ensures.finds here))
+
+pub returns-in_err-installed-clause-same : goal.returns-in_err-installed-clause-same
+returns-in_err-installed-clause-same g c t =
+    same_flash_then _ _ _ _ (g.met.D.Disk.obeys c.config_in.new.flash t) (c.in_ok-config.ensures.same t) (c.in_err-installed.ensures.same t)
+
+pub component_lines-requires-clause-few : goal.component_lines-requires-clause-few
+component_lines-requires-clause-few g c =
+    subst (λ (l : List Entry). length l ≤ 8) (sym c.as_slice.ensures) c.in_ok-config.ensures.allowed.few
+
+pub component_lines-requires-clause-each : goal.component_lines-requires-clause-each
+component_lines-requires-clause-each g c =
+    subst (λ (l : List Entry). All (IsEntry (g.D.Disk.extent c.record_in.new.flash)) l) (sym c.as_slice.ensures)
+    (subst (λ (n : ℕ). All (IsEntry n) c.in_ok-config.config.0) (sym (c.in_ok-installed.ensures.extent ∙ c.in_ok-config.ensures.extent)) c.in_ok-config.ensures.allowed.each)
+
+pub returns-in_err-lines-clause-answer : goal.returns-in_err-lines-clause-answer
+returns-in_err-lines-clause-answer g c here =
+    let d = g.D.Disk in
+    let before : Outside = with_flash here (record { told = d.told; size = d.extent c.record_in.new.flash; reads = (d.flash c.record_in.new.flash).reads; faults = d.faults c.record_in.new.flash }) in
+    let after : Outside = with_flash here (record { told = d.told; size = d.extent c.component_lines.new.flash; reads = (d.flash c.component_lines.new.flash).reads; faults = d.faults c.component_lines.new.flash }) in
+    Goes c.in_ok-config.config _ _ (c.in_ok-config.ensures.finds here)
+    (Goes c.in_ok-installed.installed _ _ (c.in_ok-installed.ensures.finds here)
+    (ends_there _ _ _ _ c.from_residual-in_err-lines.result c.in_err-lines.field-0.0 c.from_residual-in_err-lines.ensures.1
+    (lines_of _ _ c.as_slice.ensures c.in_ok-installed.installed (Err c.in_err-lines.field-0.0) before after (c.in_err-lines.ensures.finds here))))
+
+pub returns-in_err-lines-clause-same : goal.returns-in_err-lines-clause-same
+returns-in_err-lines-clause-same g c t =
+    same_flash_then _ _ _ _ (g.met.D.Disk.obeys c.record_in.new.flash t)
+    (same_flash_then _ _ _ _ (g.met.D.Disk.obeys c.config_in.new.flash t) (c.in_ok-config.ensures.same t) (c.in_ok-installed.ensures.same t)) (c.in_err-lines.ensures.same t)
+
+pub returns-in_err-status_lines-clause-answer : goal.returns-in_err-status_lines-clause-answer
+returns-in_err-status_lines-clause-answer g c here =
+    let d = g.D.Disk in
+    let before : Outside = with_flash here (record { told = d.told; size = d.extent c.record_in.new.flash; reads = (d.flash c.record_in.new.flash).reads; faults = d.faults c.record_in.new.flash }) in
+    let after : Outside = with_flash here (record { told = d.told; size = d.extent c.component_lines.new.flash; reads = (d.flash c.component_lines.new.flash).reads; faults = d.faults c.component_lines.new.flash }) in
+    Goes c.in_ok-config.config _ _ (c.in_ok-config.ensures.finds here)
+    (Goes c.in_ok-installed.installed _ _ (c.in_ok-installed.ensures.finds here)
+    (Goes c.in_ok-lines.lines _ _ (lines_of _ _ c.as_slice.ensures c.in_ok-installed.installed (Ok c.in_ok-lines.lines) before after (c.in_ok-lines.ensures.finds here))
+    (lacks_last _ _ c.from_residual-in_err-status_lines.result c.from_residual-in_err-status_lines.ensures.1)))
+
+pub returns-in_err-status_lines-clause-same : goal.returns-in_err-status_lines-clause-same
+returns-in_err-status_lines-clause-same g c t =
+    same_flash_then _ _ _ _ (g.met.D.Disk.obeys c.record_in.new.flash t)
+    (same_flash_then _ _ _ _ (g.met.D.Disk.obeys c.config_in.new.flash t) (c.in_ok-config.ensures.same t) (c.in_ok-installed.ensures.same t)) (c.in_ok-lines.ensures.same t)
+
+pub returns-clause-answer : goal.returns-clause-answer
+returns-clause-answer g c here =
+    let d = g.D.Disk in
+    let before : Outside = with_flash here (record { told = d.told; size = d.extent c.record_in.new.flash; reads = (d.flash c.record_in.new.flash).reads; faults = d.faults c.record_in.new.flash }) in
+    let after : Outside = with_flash here (record { told = d.told; size = d.extent c.component_lines.new.flash; reads = (d.flash c.component_lines.new.flash).reads; faults = d.faults c.component_lines.new.flash }) in
+    Goes c.in_ok-config.config _ _ (c.in_ok-config.ensures.finds here)
+    (Goes c.in_ok-installed.installed _ _ (c.in_ok-installed.ensures.finds here)
+    (Goes c.in_ok-lines.lines _ _ (lines_of _ _ c.as_slice.ensures c.in_ok-installed.installed (Ok c.in_ok-lines.lines) before after (c.in_ok-lines.ensures.finds here))
+    (Ends c.in_ok-status_lines.field-0 refl (subst (λ (l : List ℕ). IsStatus c.in_ok-installed.installed l c.in_ok-status_lines.field-0) c.as_str.ensures c.in_ok-status_lines.ensures))))
+
+pub returns-clause-same : goal.returns-clause-same
+returns-clause-same g c t =
+    same_flash_then _ _ _ _ (g.met.D.Disk.obeys c.record_in.new.flash t)
+    (same_flash_then _ _ _ _ (g.met.D.Disk.obeys c.config_in.new.flash t) (c.in_ok-config.ensures.same t) (c.in_ok-installed.ensures.same t)) (c.in_ok-lines.ensures.same t)

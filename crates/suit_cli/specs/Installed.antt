@@ -1,0 +1,102 @@
+-- The stages that read what is installed in the flash.
+use Rattle.std.specs.Prelude.{◌≡◌, ℕ, ◌+◌, ◌==◌, ◌&&◌, IsTrue, List, [], ◌∷◌, ◌++◌, length, slice_index, Option, Some, None, Result, Ok, Err, codes, if◌then◌else◌}
+use Rattle.std.specs.Fmt.{decimal}
+use Rattle.hex.specs.Hex.{encode_lower}
+use Rattle.suit_edge.specs.Faults.{Faulted}
+use Rattle.flash_layout.specs.declared.frame.TheConstants.{VERSION_1}
+use Rattle.flash_layout.specs.declared.key.Key.{Key}
+use Rattle.flash_layout.specs.declared.layout.Entry.{Entry}
+use Rattle.flash_layout.specs.declared.layout.Memory.{Memory}
+use Rattle.flash_layout.specs.declared.layout.Memory.TheVariants as memory
+use Rattle.flash_layout.specs.declared.slot.Record.{Record}
+use Rattle.flash_layout.specs.Configs.{ConfigOf, Configured, Blank, Bad}
+use Rattle.flash_layout.specs.Frames.{head_of}
+use Rattle.flash_layout.specs.Layouts.{slot_starts}
+use Rattle.flash_layout.specs.Slots.{slot_at, slot_content}
+use Rattle.rollback_record.specs.HeadRecord.{RecordOf}
+use Rattle.suit_cli.specs.declared.reply.Object.TheVariants as objects
+use Rattle.suit_cli.specs.declared.reply.Stop.{Stop}
+use Rattle.suit_cli.specs.declared.reply.Stop.TheVariants as stops
+use Rattle.suit_cli.specs.declared.reply.Reply.{Reply}
+use Rattle.suit_cli.specs.declared.reply.Outcome.TheVariants as outcomes
+use Rattle.suit_cli.specs.Lines.{joined, number_line}
+use Rattle.suit_cli.specs.Replies.{IsReply}
+use Rattle.suit_cli.specs.Outside.{Flashed}
+use Rattle.suit_cli.specs.Stages.{Stage, looking}
+
+-- ---- the configuration
+
+abbrev pub Holds : Flashed → List Entry × Key → Type 0
+Holds flash config = IsTrue flash.told → ConfigOf VERSION_1 flash.size (head_of VERSION_1 flash.reads) (Configured config.0 config.1)
+
+pub data HoldsNone (flash : Flashed) (reply : Reply) : Type 0 where
+  IsBlank : (IsTrue flash.told → ConfigOf VERSION_1 flash.size (head_of VERSION_1 flash.reads) Blank) → IsReply reply outcomes.Unconfigured (codes "blank\n") → HoldsNone flash reply
+  IsBad : (IsTrue flash.told → ConfigOf VERSION_1 flash.size (head_of VERSION_1 flash.reads) Bad) → IsReply reply outcomes.Unconfigured (codes "bad config\n") → HoldsNone flash reply
+
+abbrev pub config_in : Stage (List Entry × Key)
+config_in = looking Holds HoldsNone
+
+-- ---- the record
+
+abbrev pub IsInstalled : Flashed → Record → Type 0
+IsInstalled flash installed = IsTrue flash.told → RecordOf VERSION_1 (head_of VERSION_1 flash.reads) (Some installed)
+
+pub record IsNothing (flash : Flashed) (reply : Reply) : Type 0 where
+  pub none : IsTrue flash.told → RecordOf VERSION_1 (head_of VERSION_1 flash.reads) None
+  pub says : IsReply reply outcomes.NothingInstalled (codes "nothing installed\n")
+
+abbrev pub record_in : Stage Record
+record_in = looking IsInstalled IsNothing
+
+-- ---- the contents
+
+-- the slot that a component's content stands in: the one that the record names, where the component has it
+abbrev pub slot_in_use : Entry → ℕ → ℕ
+slot_in_use e active = if (active == 1) && (e.slots == 2) then 1 else 0
+
+-- how many bytes it has
+abbrev pub length_in : Entry → ℕ → List ℕ → ℕ
+length_in e number image = length (slot_content (slot_at e (slice_index (slot_starts e) number)) image)
+
+abbrev pub slot_line : ℕ → ℕ → ℕ → List ℕ
+slot_line i number size = joined (codes "component " ∷ decimal i ∷ codes " slot " ∷ decimal number ∷ codes " length " ∷ decimal size ∷ codes "\n" ∷ [])
+
+abbrev pub ram_line : ℕ → List ℕ
+ram_line i = joined (codes "component " ∷ decimal i ∷ codes " ram\n" ∷ [])
+
+abbrev pub line_of : Memory → ℕ → ℕ → ℕ → List ℕ
+line_of memory.Flash i number size = slot_line i number size
+line_of memory.Ram i number size = ram_line i
+
+abbrev pub component_line : ℕ → Entry → ℕ → List ℕ → List ℕ
+component_line i e active image = line_of e.memory i (slot_in_use e active) (length_in e (slot_in_use e active) image)
+
+-- a line for each component
+abbrev pub component_lines : ℕ → List Entry → List ℕ → List ℕ → List ℕ
+component_lines i [] active image = []
+component_lines i (e ∷ layout) active image = component_line i e (slice_index active i) image ++ component_lines (i + 1) layout active image
+
+-- as the flash reads, where it tells; no length declines
+abbrev pub lines_in : List Entry → Record → Stage (List ℕ)
+lines_in layout installed = looking (λ flash lines. IsTrue flash.told → lines ≡ component_lines 0 layout installed.active flash.reads) (λ flash reply. ⊥)
+
+-- how the count of faults stands where the flash alone may fail
+abbrev pub FlashCounts : {A : Type 0} → Result A Stop → ℕ → ℕ → Type 0
+FlashCounts (Ok a) before now = now ≡ before
+FlashCounts (Err (stops.Declined reply)) before now = ⊥
+FlashCounts (Err (stops.Fault objects.Host)) before now = ⊥
+FlashCounts (Err (stops.Fault objects.Flash)) before now = Faulted before now
+FlashCounts (Err stops.NoMemory) before now = now ≡ before
+
+-- ---- the lines
+
+abbrev pub digest_line : List ℕ → List ℕ
+digest_line digest = joined (codes "digest " ∷ encode_lower digest ∷ codes "\n" ∷ [])
+
+abbrev pub record_lines : Record → List ℕ
+record_lines r =
+    number_line (codes "sequence") r.sequence ++ (number_line (codes "generation") r.generation
+    ++ (number_line (codes "bank") r.bank ++ digest_line r.digest.bytes))
+
+abbrev pub IsStatus : Record → List ℕ → Reply → Type 0
+IsStatus installed lines reply = IsReply reply outcomes.Done (record_lines installed ++ lines)

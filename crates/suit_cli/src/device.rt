@@ -1,0 +1,85 @@
+//! The stage that judges a device's description, and the key of a flash.
+
+ghost use Rattle.std.specs.Prelude.{◌≡◌, ◌≤◌, IfOk, length, string_bytes};
+ghost use Rattle.flash_layout.specs.declared.frame.TheConstants.{VERSION_1};
+ghost use Rattle.flash_layout.specs.Layouts.{IsKey, IsLayout};
+ghost use Rattle.suit_cli.specs.Devices.{device_in, key_of, IsFaultLine, TellsLayout, pointed_line};
+ghost use Rattle.suit_cli.specs.Stages.{Finds};
+
+use crate::reply::{Outcome, Reply, Stop, declined};
+use det_cbor::Text;
+use flash_layout::{Key, Layout, LayoutFault, layout_of};
+use serde_json::Value;
+use std::alloc::{AllocError, Global};
+
+fn pointed_line(alloc: Global, word: &str, pointer: &str) -> Result<String, AllocError>
+    ensures { IfOk result (λ t. string_bytes t ≡ pointed_line word.now pointer.now) }
+{
+    format!(in alloc; "{word} {pointer}\n")
+}
+
+// What is wrong with a description.
+fn fault_line(alloc: Global, fault: LayoutFault) -> Result<String, AllocError>
+    ensures { IfOk result (λ t. IsFaultLine fault (string_bytes t)) }
+{
+    match fault {
+        LayoutFault::BadField(pointer) => pointed_line(alloc, "bad field", pointer.as_str()),
+        LayoutFault::BadHex(pointer) => pointed_line(alloc, "bad hex", pointer.as_str()),
+        LayoutFault::BadUuid(pointer) => pointed_line(alloc, "bad uuid", pointer.as_str()),
+        LayoutFault::TooMany(count) => format!(in alloc; "{count} components\n"),
+        LayoutFault::TwoAlike { first, second } => {
+            format!(in alloc; "components {first} and {second} are alike\n")
+        }
+        LayoutFault::Overlap { first, second } => {
+            format!(in alloc; "slots of {first} and {second} overlap\n")
+        }
+        LayoutFault::Outside(component) => format!(in alloc; "slot of {component} is outside\n"),
+        LayoutFault::NoMemory => Err(AllocError),
+    }
+}
+
+fn refused_layout(alloc: Global, fault: LayoutFault) -> Result<Reply, AllocError>
+    ensures { IfOk result (TellsLayout fault) }
+{
+    let line = fault_line(alloc, fault)?;
+    Ok(Reply {
+        outcome: Outcome::Refused,
+        text: Text::from_string(line),
+    })
+}
+
+/// The layout of a flash of this size that a description says.
+pub(crate) fn device_in(alloc: Global, size: u64, bytes: &[u8]) -> Result<Layout, Stop>
+    ensures finds { Finds (device_in size bytes.now) result }
+    ensures allowed { IfOk result (IsLayout VERSION_1 size) }
+{
+    let value = match Value::from_slice(alloc, bytes) {
+        Ok(value) => value,
+        Err(error) => {
+            return if error.is_memory() {
+                Err(Stop::NoMemory)
+            } else {
+                Err(declined(Reply::fixed(alloc, Outcome::Refused, "bad json\n")))
+            };
+        }
+    };
+    match layout_of(alloc, &value, size) {
+        Ok(layout) => Ok(layout),
+        Err(fault) => Err(declined(refused_layout(alloc, fault))),
+    }
+}
+
+/// The key of 1 to 64 bytes.
+pub(crate) fn key_of(bytes: &[u8]) -> Key
+    requires some { 1 ≤ length bytes.now }
+    requires few { length bytes.now ≤ 64 }
+    ensures is { result ≡ key_of bytes.now }
+    ensures allowed { IsKey result }
+{
+    let mut key = [0u8; 64];
+    key[..bytes.len()].copy_from_slice(bytes);
+    Key {
+        bytes: key,
+        length: bytes.len() as u8,
+    }
+}

@@ -1,0 +1,109 @@
+//! The command `run init`: the format of a blank flash.
+
+ghost use Rattle.std.specs.Prelude.{◌≡◌, ◌≤◌, IfOk, IsTrue};
+ghost use Rattle.suit_edge.specs.Flash.{IsSame, Passes};
+ghost use Rattle.flash_layout.specs.declared.frame.TheConstants.{VERSION_1};
+ghost use Rattle.flash_layout.specs.Formats.{IsBlankOrFormatted};
+ghost use Rattle.flash_layout.specs.Layouts.{IsKey, IsLayout};
+ghost use Rattle.suit_cli.specs.Outside.{Outside, with_flash};
+ghost use Rattle.suit_cli.specs.Stages.{Does, ending_of};
+ghost use Rattle.suit_cli.specs.Formatting.{unused, formats, MayBe, MayFormat, MayLeave};
+ghost use Rattle.suit_cli.specs.Commands.{inits_as, inits};
+
+use crate::device::{device_in, key_of};
+use crate::input::{LONGEST_DEVICE, read, read_key};
+use crate::outside::{SeenDisk, SeenHost};
+use crate::reply::{Object, Outcome, Reply, Stop, declined};
+use flash_layout::{CONFIG_GATE, Formatted, Key, Layout, format};
+use std::alloc::Global;
+use suit_edge::{Disk, Edge, Host, OPEN};
+
+// The size of a flash whose configuration page is not in use.
+fn unused<D: Disk>(alloc: Global, flash: &mut D) -> Result<u64, Stop>
+    requires { VERSION_1.size ≤ D.extent flash.old }
+    ensures finds { (here : Outside) → Does unused
+        (with_flash here (⟦<D as SeenDisk>⟧.seen flash.old))
+        (with_flash here (⟦<D as SeenDisk>⟧.seen flash.new)) result }
+    ensures extent { D.extent flash.new ≡ D.extent flash.old }
+    ensures size { IfOk result (λ size. size ≡ D.extent flash.old) }
+    ensures same { IsTrue D.told → IsSame (D.flash flash.old) (D.flash flash.new) }
+{
+    let size = flash.size();
+    let mut gate = [0u8; 1];
+    match flash.read_at(CONFIG_GATE, &mut gate) {
+        Edge::Failed => return Err(Stop::Fault(Object::Flash)),
+        Edge::Done => {}
+    }
+    if gate[0] == OPEN {
+        return Err(declined(Reply::fixed(alloc, Outcome::NotBlank, "not blank\n")));
+    }
+    Ok(size)
+}
+
+// The format. The reply is made before the first write, which no want of memory follows.
+fn formats<D: Disk>(alloc: Global, layout: &Layout, key: &Key, flash: &mut D) -> Result<Reply, Stop>
+    requires large { VERSION_1.size ≤ D.extent flash.old }
+    requires layout { IsLayout VERSION_1 (D.extent flash.old) layout.now }
+    requires key { IsKey key.now }
+    ensures formats { (here : Outside) → formats layout.now key.now
+        (with_flash here (⟦<D as SeenDisk>⟧.seen flash.old))
+        (with_flash here (⟦<D as SeenDisk>⟧.seen flash.new)) (ending_of result) }
+    ensures extent { D.extent flash.new ≡ D.extent flash.old }
+    ensures any_moment { IsTrue D.told → Passes (D.flash flash.old) (D.flash flash.new)
+        (MayBe (D.flash flash.old)
+        (IsBlankOrFormatted VERSION_1 (D.extent flash.old) layout.now key.now (D.flash flash.old))) }
+{
+    let ready = Reply::fixed(alloc, Outcome::Done, "ready\n")?;
+    match format(flash, layout, key) {
+        Formatted::Done => Ok(ready),
+        Formatted::NotBlank => Err(declined(Reply::fixed(alloc, Outcome::NotBlank, "not blank\n"))),
+        Formatted::FlashFault => Err(Stop::Fault(Object::Flash)),
+    }
+}
+
+// The device's description, the key, and the format by them.
+fn init_as<H: Host, D: Disk>(
+    alloc: Global,
+    size: u64,
+    device: &str,
+    key_name: &str,
+    host: &mut H,
+    flash: &mut D,
+) -> Result<Reply, Stop>
+    requires large { VERSION_1.size ≤ D.extent flash.old }
+    requires size { size ≡ D.extent flash.old }
+    ensures answer { inits_as size device.now key_name.now
+        (⟦<H as SeenHost>⟧.seen host.old (⟦<D as SeenDisk>⟧.seen flash.old))
+        (⟦<H as SeenHost>⟧.seen host.new (⟦<D as SeenDisk>⟧.seen flash.new)) (ending_of result) }
+    ensures extent { D.extent flash.new ≡ D.extent flash.old }
+    ensures any_moment { IsTrue D.told → Passes (D.flash flash.old) (D.flash flash.new)
+        (MayBe (D.flash flash.old) (MayFormat size device.now key_name.now
+        (⟦<H as SeenHost>⟧.seen host.old (⟦<D as SeenDisk>⟧.seen flash.old)) (D.flash flash.old))) }
+{
+    let bytes = read(alloc, device, LONGEST_DEVICE, host)?;
+    let layout = device_in(alloc, size, bytes.as_slice())?;
+    let key_bytes = read_key(alloc, key_name, host)?;
+    let key = key_of(key_bytes.as_slice());
+    formats(alloc, &layout, &key, flash)
+}
+
+/// The reply to `run init DEVICE KEY`. All is judged before the first write.
+pub(crate) fn init<H: Host, D: Disk>(
+    alloc: Global,
+    device: &str,
+    key_name: &str,
+    host: &mut H,
+    flash: &mut D,
+) -> Result<Reply, Stop>
+    requires { VERSION_1.size ≤ D.extent flash.old }
+    ensures answer { inits device.now key_name.now
+        (⟦<H as SeenHost>⟧.seen host.old (⟦<D as SeenDisk>⟧.seen flash.old))
+        (⟦<H as SeenHost>⟧.seen host.new (⟦<D as SeenDisk>⟧.seen flash.new)) (ending_of result) }
+    ensures extent { D.extent flash.new ≡ D.extent flash.old }
+    ensures any_moment { IsTrue D.told → Passes (D.flash flash.old) (D.flash flash.new)
+        (MayLeave device.now key_name.now
+        (⟦<H as SeenHost>⟧.seen host.old (⟦<D as SeenDisk>⟧.seen flash.old)) (D.flash flash.old)) }
+{
+    let size = unused(alloc, flash)?;
+    init_as(alloc, size, device, key_name, host, flash)
+}

@@ -1,0 +1,107 @@
+//! The command `run status`: what is installed.
+
+ghost use Rattle.std.specs.Prelude.{◌≡◌, ◌≤◌, ◌++◌, IfOk, IsTrue, string_bytes};
+ghost use Rattle.suit_edge.specs.Flash.{IsSame};
+ghost use Rattle.flash_layout.specs.declared.frame.TheConstants.{VERSION_1};
+ghost use Rattle.flash_layout.specs.Layouts.{IsLayout};
+ghost use Rattle.suit_cli.specs.declared.reply.Outcome.TheVariants as outcomes;
+ghost use Rattle.suit_cli.specs.Lines.{number_line};
+ghost use Rattle.suit_cli.specs.Outside.{Outside, with_flash};
+ghost use Rattle.suit_cli.specs.Replies.{Makes};
+ghost use Rattle.suit_cli.specs.Stages.{Does, ending_of};
+ghost use Rattle.suit_cli.specs.Installed.{config_in, record_in, digest_line, record_lines};
+ghost use Rattle.suit_cli.specs.Commands.{tells_status};
+
+use crate::components::component_lines;
+use crate::outside::SeenDisk;
+use crate::reply::{Object, Outcome, Reply, Stop, declined};
+use det_cbor::Text;
+use flash_layout::{FlashFault, Key, Layout, Loaded, Record, load_config};
+use rollback_record::load_record;
+use std::alloc::{AllocError, Global};
+use suit_edge::Disk;
+use suit_params::Digest;
+
+// The configuration of a flash that has one.
+fn config_in<D: Disk>(alloc: Global, flash: &mut D) -> Result<(Layout, Key), Stop>
+    ensures finds { (here : Outside) → Does config_in
+        (with_flash here (⟦<D as SeenDisk>⟧.seen flash.old))
+        (with_flash here (⟦<D as SeenDisk>⟧.seen flash.new)) result }
+    ensures extent { D.extent flash.new ≡ D.extent flash.old }
+    ensures allowed { IfOk result (λ config. IsLayout VERSION_1 (D.extent flash.old) config.0) }
+    ensures same { IsTrue D.told → IsSame (D.flash flash.old) (D.flash flash.new) }
+{
+    match load_config(alloc, flash) {
+        Loaded::Config(layout, key) => Ok((layout, key)),
+        Loaded::Blank => Err(declined(Reply::fixed(alloc, Outcome::Unconfigured, "blank\n"))),
+        Loaded::BadConfig => Err(declined(Reply::fixed(
+            alloc,
+            Outcome::Unconfigured,
+            "bad config\n",
+        ))),
+        Loaded::FlashFault => Err(Stop::Fault(Object::Flash)),
+        Loaded::NoMemory => Err(Stop::NoMemory),
+    }
+}
+
+// The record of a flash that has one.
+fn record_in<D: Disk>(alloc: Global, flash: &mut D) -> Result<Record, Stop>
+    ensures finds { (here : Outside) → Does record_in
+        (with_flash here (⟦<D as SeenDisk>⟧.seen flash.old))
+        (with_flash here (⟦<D as SeenDisk>⟧.seen flash.new)) result }
+    ensures extent { D.extent flash.new ≡ D.extent flash.old }
+    ensures same { IsTrue D.told → IsSame (D.flash flash.old) (D.flash flash.new) }
+{
+    match load_record(flash) {
+        Ok(Some(record)) => Ok(record),
+        Ok(None) => Err(declined(Reply::fixed(
+            alloc,
+            Outcome::NothingInstalled,
+            "nothing installed\n",
+        ))),
+        Err(FlashFault) => Err(Stop::Fault(Object::Flash)),
+    }
+}
+
+fn number_line(alloc: Global, word: &str, number: u64) -> Result<String, AllocError>
+    ensures { IfOk result (λ t. string_bytes t ≡ number_line word.now number) }
+{
+    format!(in alloc; "{word} {number}\n")
+}
+
+fn digest_line(alloc: Global, digest: &Digest) -> Result<String, AllocError>
+    ensures { IfOk result (λ t. string_bytes t ≡ digest_line digest.now.bytes) }
+{
+    let text = hex::encode(alloc, &digest.bytes)?;
+    format!(in alloc; "digest {text}\n")
+}
+
+// The lines of the record, and those of the components behind them.
+fn status_lines(alloc: Global, installed: &Record, lines: &str) -> Result<Reply, AllocError>
+    ensures { Makes result outcomes.Done (record_lines installed.now ++ lines.now) }
+{
+    let mut text = Text::new(alloc);
+    text.push_str(number_line(alloc, "sequence", installed.sequence)?.as_str())?;
+    text.push_str(number_line(alloc, "generation", installed.generation)?.as_str())?;
+    text.push_str(number_line(alloc, "bank", u64::from(installed.bank))?.as_str())?;
+    text.push_str(digest_line(alloc, &installed.digest)?.as_str())?;
+    text.push_str(lines)?;
+    Ok(Reply {
+        outcome: Outcome::Done,
+        text,
+    })
+}
+
+/// The reply to `run status`. Changes nothing in the flash.
+pub(crate) fn status<D: Disk>(alloc: Global, flash: &mut D) -> Result<Reply, Stop>
+    ensures answer { (here : Outside) → tells_status
+        (with_flash here (⟦<D as SeenDisk>⟧.seen flash.old))
+        (with_flash here (⟦<D as SeenDisk>⟧.seen flash.new)) (ending_of result) }
+    ensures extent { D.extent flash.new ≡ D.extent flash.old }
+    ensures same { IsTrue D.told → IsSame (D.flash flash.old) (D.flash flash.new) }
+{
+    let config = config_in(alloc, flash)?;
+    let installed = record_in(alloc, flash)?;
+    let lines = component_lines(alloc, config.0.as_slice(), &installed, flash)?;
+    Ok(status_lines(alloc, &installed, lines.as_str())?)
+}
