@@ -5,3 +5,6 @@ pub mod Writing
 pub mod Short
 pub mod Composing
 pub mod Lifting
+pub mod Image
+pub mod Launching
+pub mod FetchPlays

@@ -16,21 +16,21 @@ use Rattle.path_model.specs.Plays.{Outcome}
 use Rattle.path_model.specs.DevicePlays.{Device, content_at, with_content, Made, Refused, concluded, filled, acted, ActIsCut, WriteLeaves, directive_play}
 use Rattle.step_machine.specs.Directives.{Stops, WritesAs}
 
-when_true : {A : Type 0} (b : Bool) (x y : A) → b ≡ true → (if b then x else y) ≡ x
+pub when_true : {A : Type 0} (b : Bool) (x y : A) → b ≡ true → (if b then x else y) ≡ x
 when_true true x y e = refl
 when_true false x y e = absurd (true≢false (sym e))
 
-when_false : {A : Type 0} (b : Bool) (x y : A) → b ≡ false → (if b then x else y) ≡ y
+pub when_false : {A : Type 0} (b : Bool) (x y : A) → b ≡ false → (if b then x else y) ≡ y
 when_false true x y e = absurd (true≢false e)
 when_false false x y e = refl
 
 -- the same content changes nothing
-with_same : (w : Device) (c : ℕ) (content : List ℕ) → content_at w c ≡ content → c < length w.contents → with_content w c content ≡ w
+pub with_same : (w : Device) (c : ℕ) (content : List ℕ) → content_at w c ≡ content → c < length w.contents → with_content w c content ≡ w
 with_same w c content here inside =
     ap (λ (xs : List (List ℕ)). record { contents = xs; launches = w.launches })
     (ap (slice_set w.contents c) (sym here) ∙ set-get_or w.contents c [])
 
-stopped : (p : ℕ) (es : List Event) (s : State) (cause : Cause) (w v : Device) (o : Outcome Device) → o ≡ concluded p es s (Refused cause w) → w ≡ v → Stops p cause v o
+pub stopped : (p : ℕ) (es : List Event) (s : State) (cause : Cause) (w v : Device) (o : Outcome Device) → o ≡ concluded p es s (Refused cause w) → w ≡ v → Stops p cause v o
 stopped p es s cause w v o is same = record {
   ending = ap (λ (x : Outcome Device). x.ending) is;
   named = ap (λ (x : Outcome Device). x.cause) is;

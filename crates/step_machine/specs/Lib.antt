@@ -4,3 +4,5 @@ pub mod Conditions
 pub mod Directives
 pub mod Comes
 pub mod Devices
+pub mod Invoking
+pub mod Fetching

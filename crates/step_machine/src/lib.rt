@@ -5,11 +5,17 @@ mod conditions;
 mod contents;
 mod directives;
 mod filling;
+mod invoking;
+#[cfg(test)]
+mod leaf_tests;
 mod params_in_force;
+mod payloads;
+mod pieces;
 mod spot;
 mod stop;
 
 pub use conditions::passes;
 pub use directives::write;
+pub use invoking::invoke;
 pub use spot::{Spot, Standing};
 pub use stop::Stop;

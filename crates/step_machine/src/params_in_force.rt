@@ -2,6 +2,7 @@
 
 ghost use Rattle.std.specs.Option.{option_copied};
 ghost use Rattle.std.specs.Prelude.{◌≡◌};
+ghost use Rattle.step_machine.specs.Invoking.{digest_bytes};
 ghost use Rattle.suit_params.specs.InForce.{bytes_of, digest_of, identifier_of, number_of};
 
 use suit_params::{Digest, Param};
@@ -33,6 +34,15 @@ pub(crate) fn digest(param: Option<&Param>) -> Option<Digest>
 {
     match param {
         Some(Param::Digest(digest)) => Some(*digest),
+        _ => None,
+    }
+}
+
+pub(crate) fn named_digest<'a>(param: Option<&'a Param>) -> Option<&'a [u8]>
+    ensures { option_copied result ≡ digest_bytes (digest_of (option_copied param.entry)) }
+{
+    match param {
+        Some(Param::Digest(digest)) => Some(&digest.bytes[..]),
         _ => None,
     }
 }

@@ -1,0 +1,72 @@
+-- What a fetch comes to for a component, as plays have it, and what becomes of a file that is taken piece by piece.
+use Rattle.std.specs.Prelude.{◌≡◌, ◌<◌, ◌≤◌, ◌+◌, ◌==◌, ℕ, if◌then◌else◌, List, [], ◌++◌, Option, Result, Ok, Err, get_or, length, take}
+use Rattle.std.specs.Option.{option_and_then}
+use Rattle.suit_edge.specs.Faults.{Faulted}
+use Rattle.suit_params.specs.InForce.{Parameters}
+use Rattle.suit_commands.specs.declared.kinds.ActKind.TheVariants as acts
+use Rattle.path_model.specs.declared.cause.Cause.{Cause}
+use Rattle.path_model.specs.declared.cause.Cause.TheVariants as causes
+use Rattle.path_model.specs.Behaviour.{State}
+use Rattle.path_model.specs.Settings.{Setting, capacity_of, found_under}
+use Rattle.path_model.specs.DevicePlays.{Device, content_at, with_content, directive_play}
+use Rattle.step_machine.specs.Directives.{ActsSo}
+
+-- ---- one piece
+
+-- the next piece of what is left of a file stands at the front of the room; it has no bytes only at the end
+pub record IsPiece (n : ℕ) (rest later room : List ℕ) : Type 0 where
+  pub is : rest ≡ take n room ++ later
+  pub end : n ≡ 0 → rest ≡ []
+
+-- no more bytes are given than are wanted; where more are left than that, it is refused
+abbrev pub GivesPiece : Result ℕ Cause → ℕ → List ℕ → List ℕ → List ℕ → Type 0
+GivesPiece (Ok n) wanted rest later room = IsPiece n rest later room
+GivesPiece (Err causes.TooLarge) wanted rest later room = wanted < length rest
+GivesPiece (Err _) wanted rest later room = Unit {0}
+
+-- at most one byte more than is wanted was handed out
+abbrev pub PullsPiece : Result ℕ Cause → ℕ → ℕ → ℕ → Type 0
+PullsPiece (Ok n) wanted before now = now ≡ before + n
+PullsPiece (Err _) wanted before now = now ≤ before + (wanted + 1)
+
+-- the host's count rose for its fault, and stayed otherwise; nothing else stops a piece but its size
+abbrev pub PieceCounts : Result ℕ Cause → ℕ → ℕ → Type 0
+PieceCounts (Ok n) before now = now ≡ before
+PieceCounts (Err causes.TooLarge) before now = now ≡ before
+PieceCounts (Err causes.HostFault) before now = Faulted before now
+PieceCounts (Err _) before now = ⊥
+
+-- ---- a whole file
+
+-- It became the content. Or it was too large or the host failed, and the content is empty. Or the flash failed.
+abbrev pub TakesIn : Result (Unit {0}) Cause → ℕ → List ℕ → List ℕ → Type 0
+TakesIn (Ok _) capacity file content = (length file ≤ capacity) × (content ≡ file)
+TakesIn (Err causes.TooLarge) capacity file content = (capacity < length file) × (content ≡ [])
+TakesIn (Err causes.HostFault) capacity file content = content ≡ []
+TakesIn (Err causes.FlashFault) capacity file content = length content ≤ capacity
+TakesIn (Err _) capacity file content = ⊥
+
+-- the counts of the host and of the flash: the one rose whose fault it was, and no other
+abbrev pub FetchCounts : Result (Unit {0}) Cause → ℕ → ℕ → ℕ → ℕ → Type 0
+FetchCounts (Err causes.HostFault) before now disk_before disk_now = Faulted before now × (disk_now ≡ disk_before)
+FetchCounts (Err causes.FlashFault) before now disk_before disk_now = (now ≡ before) × Faulted disk_before disk_now
+FetchCounts (Err causes.LaunchFault) before now disk_before disk_now = ⊥
+FetchCounts _ before now disk_before disk_now = (now ≡ before) × (disk_now ≡ disk_before)
+
+-- ---- as plays have it
+
+-- what a URI names, of these payloads, these names of files and these files
+abbrev pub payload_by : List (List ℕ × List ℕ) → List (List ℕ × List ℕ) → (List ℕ → Option (List ℕ)) → List ℕ → Option (List ℕ)
+payload_by payloads words files uri =
+    if get_or uri 0 0 == 35 then found_under payloads uri
+    else option_and_then files (found_under words uri)
+
+-- in each setting with these payloads and files, and on each device where the component has that room and holds the
+-- content before, and holds the content after
+abbrev pub FetchesAs : ℕ → ℕ → Parameters → List (List ℕ × List ℕ) → List (List ℕ × List ℕ) → (List ℕ → Option (List ℕ)) → List ℕ → List ℕ → Result (Unit {0}) Cause → Type 0
+FetchesAs component capacity parameters payloads words files before after result =
+    (setting : Setting) (place : ℕ) (state : State) (device : Device)
+    → state.parameters ≡ parameters → capacity_of setting component ≡ capacity
+    → setting.payloads ≡ payloads → setting.words ≡ words → setting.files ≡ files
+    → content_at device component ≡ before → component < length device.contents
+    → ActsSo (directive_play setting acts.Fetch place component) place state device result (with_content device component after)

@@ -1,0 +1,63 @@
+-- What an invoke comes to for a component, as plays have it.
+use Rattle.std.specs.Prelude.{◌≡◌, ◌≤◌, ℕ, List, [], ◌∷◌, ◌++◌, true, Option, Result, Ok, Err, option_map}
+use Rattle.suit_edge.specs.declared.launch.Launch.{Launch}
+use Rattle.suit_edge.specs.declared.launcher.Image.{Image}
+use Rattle.suit_edge.specs.declared.launcher.Launched.{Launched as Answer}
+use Rattle.suit_edge.specs.declared.launcher.Launched.TheVariants as answers
+use Rattle.suit_edge.specs.Faults.{Faulted}
+use Rattle.suit_edge.specs.Launch.{AreImage}
+use Rattle.suit_params.specs.declared.digest.Digest.{Digest}
+use Rattle.suit_params.specs.InForce.{Parameters}
+use Rattle.suit_commands.specs.declared.kinds.ActKind.TheVariants as acts
+use Rattle.path_model.specs.declared.cause.Cause.{Cause}
+use Rattle.path_model.specs.declared.cause.Cause.TheVariants as causes
+use Rattle.path_model.specs.Behaviour.{State, Done}
+use Rattle.path_model.specs.Settings.{Setting}
+use Rattle.path_model.specs.Plays.{Play}
+use Rattle.path_model.specs.DevicePlays.{Launched, Device, content_at, directive_play}
+use Rattle.step_machine.specs.Directives.{StopsSo}
+
+-- on a flash that tells what it reads, the image has these bytes
+abbrev pub IsImageOf : List ℕ → List ℕ → Image → Type 0
+IsImageOf reads content image = (bytes : List ℕ) → AreImage image true reads bytes → bytes ≡ content
+
+-- the bytes of a digest, if there is one
+abbrev pub digest_bytes : Option Digest → Option (List ℕ)
+digest_bytes digest = option_map (λ d. d.bytes) digest
+
+-- an answer of a launcher as the outcome of an invoke
+abbrev pub result_of : Answer → Result (Unit {0}) Cause
+result_of answers.Done = Ok tt
+result_of answers.DiskFailed = Err causes.FlashFault
+result_of answers.Failed = Err causes.LaunchFault
+
+-- a launch as plays have it
+abbrev pub launched_as : Launch → Launched
+launched_as launch = record {
+  component = launch.component;
+  bytes = launch.bytes;
+  digest = option_map (λ bytes. record { bytes = bytes }) launch.digest;
+  size = launch.size;
+  args = launch.args;
+}
+
+-- where it is done there is one launch more, and that is the one of the play; otherwise there is none, and the play is cut
+abbrev pub LaunchesSo : Play Device → ℕ → State → Device → List Launch → List Launch → Result (Unit {0}) Cause → Type 0
+LaunchesSo play place state device before now (Ok _) =
+    (launch : Launch) × (now ≡ before ++ launch ∷ []) × ((play.comes state device).ending ≡ Done state)
+    × ((play.comes state device).world ≡ record { contents = device.contents; launches = device.launches ++ launched_as launch ∷ [] })
+LaunchesSo play place state device before now (Err cause) = (now ≡ before) × StopsSo play place state device cause device
+
+-- on each device where the component holds this
+abbrev pub InvokesAs : ℕ → Parameters → List ℕ → List Launch → List Launch → Result (Unit {0}) Cause → Type 0
+InvokesAs component parameters content before now result =
+    (setting : Setting) (place : ℕ) (state : State) (device : Device)
+    → state.parameters ≡ parameters → content_at device component ≡ content
+    → LaunchesSo (directive_play setting acts.Invoke place component) place state device before now result
+
+-- the counts of the launcher and of the flash: one of them rose for its fault
+abbrev pub InvokeCounts : Result (Unit {0}) Cause → ℕ → ℕ → ℕ → ℕ → Type 0
+InvokeCounts (Ok _) before now disk_before disk_now = (now ≡ before) × (disk_now ≡ disk_before)
+InvokeCounts (Err causes.LaunchFault) before now disk_before disk_now = Faulted before now × (disk_before ≤ disk_now)
+InvokeCounts (Err causes.FlashFault) before now disk_before disk_now = (before ≤ now) × Faulted disk_before disk_now
+InvokeCounts (Err _) before now disk_before disk_now = ⊥
