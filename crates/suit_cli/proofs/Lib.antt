@@ -14,5 +14,6 @@ pub mod Initing
 pub mod KeyReading
 pub mod KeyBytes
 pub mod StatusLines
+pub mod OneFlaw
 pub mod OneAnswers
 pub mod FlashLawProofs

@@ -2,64 +2,22 @@
 use Rattle.std.proofs.Common.{◌≡◌, ◌⊎◌, ◌<◌, ◌≤◌, ◌++◌, inl, inr, ℕ, List, [], ◌∷◌, length, Option, Some, None, Result, Ok, Err, sym, ap, subst, ◌∙◌, arith}
 use Rattle.std.specs.Prelude.{IsTrue}
 use Rattle.std.proofs.lemmas.Option.{same_Some}
-use Rattle.serde_json.specs.Data.{Data}
 use Rattle.flash_layout.specs.declared.frame.TheConstants.{VERSION_1}
 use Rattle.flash_layout.specs.declared.key.Key.{Key}
 use Rattle.flash_layout.specs.declared.layout.Entry.{Entry}
-use Rattle.flash_layout.specs.declared.layout_fault.LayoutFault.{LayoutFault}
 use Rattle.flash_layout.specs.declared.slot.Record.{Record}
 use Rattle.flash_layout.specs.Configs.{Config, Configured, Blank, Bad}
 use Rattle.flash_layout.specs.Frames.{head_of}
-use Rattle.flash_layout.specs.LayoutFaults.{AreHeld, RefusesEntries, Many, Alike, Shared, Beyond, IsLayoutOf, RefusesLayout, BadValue, BadEntries}
 use Rattle.suit_cli.specs.declared.reply.Reply.{Reply}
 use Rattle.suit_cli.specs.declared.reply.Outcome.TheVariants as outcomes
 use Rattle.suit_cli.specs.Replies.{IsReply}
 use Rattle.suit_cli.specs.Outside.{Outside}
 use Rattle.suit_cli.specs.Inputs.{longest_device}
-use Rattle.suit_cli.specs.Devices.{IsDevice, IsNoDevice, IsNoJson, IsNoLayout}
+use Rattle.suit_cli.specs.Devices.{IsDevice, IsNoDevice}
 use Rattle.suit_cli.specs.Installed.{Holds, HoldsNone, IsBlank, IsBad, IsInstalled, IsNothing, component_lines, record_lines}
-use Rattle.suit_cli.specs.FlashLaws.{InitSays, AtGate, AtDevice, AtDescription, AtKey, AtFormat, SameButFlaw, StatusSays, AtConfig, AtRecord, AtLines}
+use Rattle.suit_cli.specs.FlashLaws.{InitSays, AtGate, AtDevice, AtDescription, AtKey, AtFormat, StatusSays, AtConfig, AtRecord, AtLines}
+use Rattle.suit_cli.proofs.OneFlaw.{device_not_both, one_no_device}
 use Rattle.suit_cli.proofs.OneStage.{alike_self, one_reply, one_read, read_not_unread, one_unread, one_no_key, key_not_both}
-
--- ---- descriptions
-
-some_entry : (layout : List Entry) (j : ℕ) → j < length layout → Entry
-some_entry [] j within = absurd (omega (arith, within))
-some_entry (e ∷ layout) j within = e
-
-entries_not_held : (size : ℕ) (layout : List Entry) (fault : LayoutFault) → AreHeld size layout → RefusesEntries size layout fault → ⊥
-entries_not_held size layout fault held (Many above) = omega (arith, above, held.few)
-entries_not_held size layout fault held (Alike i j few first) =
-    let d = some_entry layout j first.inside in held.apart i j first.first.below first.inside d (first.first.same d)
-entries_not_held size layout fault held (Shared i j few apart overlap) =
-    overlap.first.shares (held.clear i (omega (arith, overlap.first.from, overlap.first.inside)) j overlap.first.from overlap.first.inside)
-entries_not_held size layout fault held (Beyond i few apart clear beyond) = beyond.outside (held.inside i beyond.inside)
-
-abbrev layout_in : {E : Type 0} → Result (List Entry) E → List Entry
-layout_in (Ok layout) = layout
-layout_in (Err e) = []
-
-layout_not_refused : (size : ℕ) (value : Data) (layout : List Entry) (fault : LayoutFault) → IsLayoutOf size value layout → RefusesLayout size value fault → ⊥
-layout_not_refused size value layout fault is (BadValue flaw reads) =
-    let never : Err flaw ≡ Ok layout = sym reads ∙ is.reads in absurd cc
-layout_not_refused size value layout fault is (BadEntries other _ reads entries) =
-    let same : other ≡ layout = ap layout_in (sym reads ∙ is.reads) in
-    entries_not_held size layout fault is.held (subst (λ (l : List Entry). RefusesEntries size l fault) same entries)
-
-device_not_both : (size : ℕ) (bytes : List ℕ) (layout : List Entry) (r : Reply) → IsDevice size bytes layout → IsNoDevice size bytes r → ⊥
-device_not_both size bytes layout r device (IsNoJson none says) =
-    let never : None ≡ Some device.value = sym (none device.utf8) ∙ device.reads in absurd cc
-device_not_both size bytes layout r device (IsNoLayout value fault utf8 reads refuses says) =
-    let same : value ≡ device.value = same_Some value device.value (sym reads ∙ device.reads) in
-    layout_not_refused size device.value layout fault device.describes (subst (λ (v : Data). RefusesLayout size v fault) same refuses)
-
-one_no_device : (size : ℕ) (bytes : List ℕ) (r q : Reply) → IsNoDevice size bytes r → IsNoDevice size bytes q → SameButFlaw r q
-one_no_device size bytes r q (IsNoJson none says) (IsNoJson none' says') = inl (one_reply r q _ _ says says')
-one_no_device size bytes r q (IsNoJson none says) (IsNoLayout value fault utf8 reads refuses tells) =
-    let never : None ≡ Some value = sym (none utf8) ∙ reads in absurd cc
-one_no_device size bytes r q (IsNoLayout value fault utf8 reads refuses tells) (IsNoJson none says) =
-    let never : None ≡ Some value = sym (none utf8) ∙ reads in absurd cc
-one_no_device size bytes r q (IsNoLayout value fault utf8 reads refuses tells) (IsNoLayout value' fault' utf8' reads' refuses' tells') = inr (tells.outcome_is, tells'.outcome_is)
 
 -- ---- `run init`
 
@@ -75,8 +33,8 @@ module _ (device key_name : List ℕ) (b : Outside) (told : IsTrue b.told) (t : 
   described_or x y layout r first second describes none =
       device_not_both b.flash.size x layout r describes (subst (λ (l : List ℕ). IsNoDevice b.flash.size l r) (same_bytes x y first second) none)
 
-  pub one_init : (r q : Reply) → InitSays device key_name b r → InitSays device key_name b q → SameButFlaw r q
-  one_init r q (AtGate x) (AtGate y) = inl (one_reply r q _ _ x.says y.says)
+  pub one_init : (r q : Reply) → InitSays device key_name b r → InitSays device key_name b q → q ≡ r
+  one_init r q (AtGate x) (AtGate y) = one_reply r q _ _ x.says y.says
   one_init r q (AtGate x) (AtDevice shut u) = absurd (shut t (x.opened t))
   one_init r q (AtGate x) (AtDescription bytes shut h n) = absurd (shut t (x.opened t))
   one_init r q (AtGate x) (AtKey bytes layout shut h l k) = absurd (shut t (x.opened t))
@@ -85,7 +43,7 @@ module _ (device key_name : List ℕ) (b : Outside) (told : IsTrue b.told) (t : 
   one_init r q (AtDescription bytes shut h n) (AtGate x) = absurd (shut t (x.opened t))
   one_init r q (AtKey bytes layout shut h l k) (AtGate x) = absurd (shut t (x.opened t))
   one_init r q (AtFormat bytes layout key shut h l k says) (AtGate x) = absurd (shut t (x.opened t))
-  one_init r q (AtDevice shut u) (AtDevice shut' v) = inl (one_unread longest_device device b b (alike_self b told) r q u v)
+  one_init r q (AtDevice shut u) (AtDevice shut' v) = one_unread longest_device device b b (alike_self b told) r q u v
   one_init r q (AtDevice shut u) (AtDescription bytes shut' h n) = absurd (unread_or bytes r h u)
   one_init r q (AtDevice shut u) (AtKey bytes layout shut' h l k) = absurd (unread_or bytes r h u)
   one_init r q (AtDevice shut u) (AtFormat bytes layout key shut' h l k says) = absurd (unread_or bytes r h u)
@@ -98,10 +56,10 @@ module _ (device key_name : List ℕ) (b : Outside) (told : IsTrue b.told) (t : 
   one_init r q (AtDescription y shut k m) (AtFormat x layout key shut' h l n says) = absurd (described_or x y layout r h k l m)
   one_init r q (AtKey x layout shut' h l n) (AtDescription y shut k m) = absurd (described_or x y layout q h k l m)
   one_init r q (AtFormat x layout key shut' h l n says) (AtDescription y shut k m) = absurd (described_or x y layout q h k l m)
-  one_init r q (AtKey x layout shut h l n) (AtKey y layout' shut' k l' m) = inl (one_no_key key_name b b (alike_self b told) r q n m)
+  one_init r q (AtKey x layout shut h l n) (AtKey y layout' shut' k l' m) = one_no_key key_name b b (alike_self b told) r q n m
   one_init r q (AtKey x layout shut h l n) (AtFormat y layout' key shut' k l' m says) = absurd (key_not_both key_name b b (alike_self b told) key r m n)
   one_init r q (AtFormat y layout' key shut' k l' m says) (AtKey x layout shut h l n) = absurd (key_not_both key_name b b (alike_self b told) key q m n)
-  one_init r q (AtFormat x layout key shut h l n says) (AtFormat y layout' key' shut' k l' m says') = inl (one_reply r q _ _ says says')
+  one_init r q (AtFormat x layout key shut h l n says) (AtFormat y layout' key' shut' k l' m says') = one_reply r q _ _ says says'
 
 -- ---- `run status`
 

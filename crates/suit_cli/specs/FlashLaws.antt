@@ -1,5 +1,5 @@
 -- Where `run init` and `run status` stop, and with which reply: what follows from their stages.
-use Rattle.std.specs.Prelude.{◌≡◌, ◌⊎◌, ℕ, IsTrue, List, ◌++◌, codes}
+use Rattle.std.specs.Prelude.{◌≡◌, ℕ, IsTrue, List, ◌++◌, codes}
 use Rattle.flash_layout.specs.declared.frame.TheConstants.{VERSION_1}
 use Rattle.flash_layout.specs.declared.key.Key.{Key}
 use Rattle.flash_layout.specs.declared.layout.Entry.{Entry}
@@ -34,10 +34,6 @@ pub data InitSays (device key_name : List ℕ) (before : Outside) (reply : Reply
   AtFormat : (bytes : List ℕ) (layout : List Entry) (key : List ℕ) → IsShut before.flash → IsRead longest_device device before bytes
       → IsDevice before.flash.size bytes layout → IsKey key_name before key → IsReply reply outcomes.Done (codes "ready\n") → InitSays device key_name before reply
 
--- two replies are one, but for which flaw of a description is told
-abbrev pub SameButFlaw : Reply → Reply → Type 0
-SameButFlaw reply other = (other ≡ reply) ⊎ ((reply.outcome ≡ outcomes.Refused) × (other.outcome ≡ outcomes.Refused))
-
 -- the described layout and the key stand in the flash, no record, and each slot is empty
 pub record IsReady (device key_name : List ℕ) (before after : Outside) : Type 0 where
   pub bytes : List ℕ
@@ -53,7 +49,7 @@ pub record InitLaws : Type 0 where
   pub only : (device key_name : List ℕ) (before after : Outside) (reply : Reply) → inits device key_name before after (Says reply) → InitSays device key_name before reply
   -- and where a cause stands, each answer that is neither a fault nor want of memory is its reply
   pub always : (device key_name : List ℕ) (before after : Outside) (reply other : Reply) → IsTrue before.told → IsTrue before.flash.told
-      → InitSays device key_name before reply → inits device key_name before after (Says other) → SameButFlaw reply other
+      → InitSays device key_name before reply → inits device key_name before after (Says other) → other ≡ reply
   -- where it is done, the flash is ready
   pub ready : (device key_name : List ℕ) (before after : Outside) (reply : Reply) → IsTrue before.flash.told → inits device key_name before after (Says reply)
       → reply.outcome ≡ outcomes.Done → IsReady device key_name before after

@@ -10,6 +10,9 @@ ghost use Rattle.suit_cli.specs.Stages.{Does, ending_of};
 ghost use Rattle.suit_cli.specs.Formatting.{unused, formats, MayBe, MayFormat, MayLeave};
 ghost use Rattle.suit_cli.specs.Commands.{inits_as, inits};
 
+#[cfg(test)]
+pub(crate) mod tests;
+
 use crate::device::{device_in, key_of};
 use crate::input::{LONGEST_DEVICE, read, read_key};
 use crate::outside::{SeenDisk, SeenHost};

@@ -30,9 +30,9 @@ pub fn show_laws()
 }
 
 /// Does nothing. Its contract has the laws of `run init DEVICE KEY`: each reply has its cause, in the order of the checks,
-/// and where a cause stands, each answer is that reply, unless an object failed or memory was wanting. Only which flaw of
-/// a description is told is left open. Where it is done, the flash has the described layout and the key, no record and each slot empty; and otherwise, and
-/// after want of memory, the flash is as it was.
+/// and where a cause stands, each answer is that reply, unless an object failed or memory was wanting. Where it is done,
+/// the flash has the described layout and the key, no record and each slot empty; and otherwise, and after want of memory,
+/// the flash is as it was.
 pub fn init_laws()
     ensures { InitLaws }
 {}

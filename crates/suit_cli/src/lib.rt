@@ -27,8 +27,6 @@ pub use reply::Outcome;
 #[cfg(test)]
 mod command_rows;
 #[cfg(test)]
-mod flash_tests;
-#[cfg(test)]
 mod item_rows;
 #[cfg(test)]
 mod refusal_rows;

@@ -12,6 +12,9 @@ ghost use Rattle.suit_cli.specs.Stages.{Does, ending_of};
 ghost use Rattle.suit_cli.specs.Installed.{config_in, record_in, digest_line, record_lines};
 ghost use Rattle.suit_cli.specs.Commands.{tells_status};
 
+#[cfg(test)]
+mod tests;
+
 use crate::components::component_lines;
 use crate::outside::SeenDisk;
 use crate::reply::{Object, Outcome, Reply, Stop, declined};

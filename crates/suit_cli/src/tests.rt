@@ -1,14 +1,16 @@
 //! Tests of the program on objects in memory.
 
-use crate::command_rows::refused_commands;
-use crate::item_rows::refused_items;
-use crate::refusal_rows::{refused_envelopes, refused_manifests};
-use crate::rows::{last_lines, whole};
+ghost use Rattle.std.specs.Prelude.{◌≡◌, ◌≤◌, IfOk, length};
+
+use crate::command_rows::REFUSED_COMMANDS;
+use crate::item_rows::REFUSED_ITEMS;
+use crate::refusal_rows::{REFUSED_ENVELOPES, REFUSED_MANIFESTS};
+use crate::rows::{LAST_LINES, Row, WHOLE, row_of};
 use crate::{Status, run};
 use det_cbor::{Names, Text};
 use std::alloc::{AllocError, Global};
 use std::test::Fail;
-use suit_edge::{MemoryDisk, MemoryHost, MemorySink};
+use suit_edge::{Disk, Host, MemoryDisk, MemoryHost, MemorySink, Sink};
 
 /// An envelope whose invocation selects component 0, and then 2,047 times at each of 2,047 runs of a sequence: what
 /// stands before the first list of zeros, between both, and behind.
@@ -26,7 +28,11 @@ pub(crate) const STORED: &str =
 const USAGE: &str =
     "usage: suit make DESCRIPTION KEY OUT | show FILE [KEY] | check FILE | run init DEVICE KEY | run update FILE [URI=NAME]... | run boot | run status | drill NUMBER\n";
 
-pub(crate) fn names(alloc: Global, words: &[&str]) -> Result<Names, AllocError> {
+const CHECK: [&str; 2] = ["check", "e1.suit"];
+
+// ---- runs
+
+fn names(alloc: Global, words: &[&str]) -> Result<Names, AllocError> {
     let mut names = Names::new(alloc);
     for word in words {
         names.push(Text::from_str(alloc, word)?)?;
@@ -34,51 +40,101 @@ pub(crate) fn names(alloc: Global, words: &[&str]) -> Result<Names, AllocError> 
     Ok(names)
 }
 
-/// What a run over one file put, and its status.
-fn ran(
-    alloc: Global,
-    words: &[&str],
-    file: &[u8],
-    host_fails: &[u64],
-    sink_fails: &[u64],
-) -> Result<(u8, Vec<u8>), AllocError> {
-    let words = names(alloc, words)?;
-    let mut host = MemoryHost::new(alloc, host_fails)?;
-    host.add("e1.suit", file)?;
-    let mut sink = MemorySink::new(alloc, sink_fails)?;
-    let mut flash = MemoryDisk::new(alloc, 49_152, &[])?;
-    let Status(status) = run(alloc, &words, &mut host, &mut flash, &mut sink);
-    Ok((status, sink.bytes().to_vec(alloc)?))
+/// A flash of 65,536 zero bytes, of which these calls fail.
+pub(crate) fn blank(alloc: Global, fails: &[u64]) -> Result<MemoryDisk, AllocError>
+    ensures { IfOk result (λ flash. length flash.first ≡ 65536) }
+{
+    MemoryDisk::new(alloc, 65_536, fails)
 }
 
-const CHECK: [&str; 2] = ["check", "e1.suit"];
+// The status of a run on these words.
+fn status_of<H: Host, D: Disk, K: Sink>(
+    alloc: Global,
+    words: &[&str],
+    host: &mut H,
+    flash: &mut D,
+    sink: &mut K,
+) -> Result<u8, AllocError>
+    requires { 49152 ≤ D.extent flash.old }
+    ensures { D.extent flash.new ≡ D.extent flash.old }
+{
+    let words = names(alloc, words)?;
+    let Status(status) = run(alloc, &words, host, flash, sink);
+    Ok(status)
+}
+
+/// Whether a run on these words answers so.
+pub(crate) fn answers<H: Host, D: Disk>(
+    alloc: Global,
+    words: &[&str],
+    host: &mut H,
+    flash: &mut D,
+    says: (u8, &str),
+) -> Result<bool, AllocError>
+    requires { 49152 ≤ D.extent flash.old }
+    ensures { D.extent flash.new ≡ D.extent flash.old }
+{
+    let mut sink = MemorySink::new(alloc, &[])?;
+    let status = status_of(alloc, words, host, flash, &mut sink)?;
+    Ok(status == says.0 && sink.bytes() == says.1.as_bytes())
+}
+
+/// Whether a run that needs no flash answers so.
+pub(crate) fn answers_by_files<H: Host>(
+    alloc: Global,
+    words: &[&str],
+    host: &mut H,
+    says: (u8, &str),
+) -> Result<bool, AllocError> {
+    let mut flash = blank(alloc, &[])?;
+    answers(alloc, words, host, &mut flash, says)
+}
+
+// A host with one file, of which these calls fail.
+fn with_file(alloc: Global, file: &[u8], fails: &[u64]) -> Result<MemoryHost, AllocError> {
+    let mut host = MemoryHost::new(alloc, fails)?;
+    host.add("e1.suit", file)?;
+    Ok(host)
+}
+
+// Whether `check` of the file answers so.
+fn checks(alloc: Global, file: &[u8], says: (u8, &str)) -> Result<bool, AllocError> {
+    let mut host = with_file(alloc, file, &[])?;
+    answers_by_files(alloc, &CHECK, &mut host, says)
+}
+
+// The status of `check` of the host's file, whose lines go into the sink.
+fn check_into<H: Host, K: Sink>(
+    alloc: Global,
+    host: &mut H,
+    sink: &mut K,
+) -> Result<u8, AllocError> {
+    let mut flash = blank(alloc, &[])?;
+    status_of(alloc, &CHECK, host, &mut flash, sink)
+}
+
+// ---- manifests
+
+// Whether the file of the row is answered by just its lines.
+fn is_whole(alloc: Global, text: &str) -> Result<bool, Fail> {
+    let row = row_of(text).ok_or("no row")?;
+    let file = hex::decode(alloc, row.file)?;
+    let lines = format!(in alloc; "{}\n", row.lines)?;
+    Ok(checks(alloc, file.as_slice(), (row.status, lines.as_str()))?)
+}
 
 #[test]
 fn manifests_are_judged(rt: HostRuntime) -> Result<(), Fail> {
-    let alloc = rt.alloc();
-    for rows in [
-        whole(),
-        refused_items(),
-        refused_envelopes(),
-        refused_manifests(),
-        refused_commands(),
+    for table in [
+        WHOLE,
+        REFUSED_ITEMS,
+        REFUSED_ENVELOPES,
+        REFUSED_MANIFESTS,
+        REFUSED_COMMANDS,
     ] {
-        for row in rows {
-            let file = hex::decode(alloc, row.file)?;
-            let (status, text) = ran(alloc, &CHECK, file.as_slice(), &[], &[])?;
-            let shows = row.shows;
-            assert_eq!(rt; text.as_slice(), row.text.as_bytes(), "{shows}");
-            assert_eq!(rt; status, row.status, "{shows}");
+        for row in table.split("\n\n") {
+            assert!(rt; is_whole(rt.alloc(), row)?, "{row}");
         }
-    }
-    for row in last_lines() {
-        let file = hex::decode(alloc, row.file)?;
-        let (status, text) = ran(alloc, &CHECK, file.as_slice(), &[], &[])?;
-        let shows = row.shows;
-        let begins = b"update safe\ninvocation unsafe\nidentity 0 vendor none";
-        assert!(rt; text.as_slice().starts_with(begins), "{shows}");
-        assert!(rt; contains(text.as_slice(), row.text.as_bytes()), "{shows}");
-        assert_eq!(rt; status, row.status, "{shows}");
     }
     Ok(())
 }
@@ -95,99 +151,126 @@ fn contains(text: &[u8], lines: &[u8]) -> bool {
     false
 }
 
+// Whether it is the status of the row, and the text a path with the lines.
+fn is_path(row: Row<'_>, status: u8, text: &[u8]) -> bool {
+    status == row.status
+        && text.starts_with(b"update safe\ninvocation unsafe\nidentity 0 vendor none")
+        && contains(text, row.lines.as_bytes())
+}
+
+// Whether the file of the row is answered by a path with its lines.
+fn is_on_path(alloc: Global, text: &str) -> Result<bool, Fail> {
+    let row = row_of(text).ok_or("no row")?;
+    let file = hex::decode(alloc, row.file)?;
+    let mut host = with_file(alloc, file.as_slice(), &[])?;
+    let mut sink = MemorySink::new(alloc, &[])?;
+    let status = check_into(alloc, &mut host, &mut sink)?;
+    Ok(is_path(row, status, sink.bytes()))
+}
+
 #[test]
-fn a_procedure_may_be_too_wide(rt: HostRuntime) -> Result<(), Fail> {
-    let alloc = rt.alloc();
+fn unsafe_paths_are_told(rt: HostRuntime) -> Result<(), Fail> {
+    for row in LAST_LINES.split("\n\n") {
+        assert!(rt; is_on_path(rt.alloc(), row)?, "{row}");
+    }
+    Ok(())
+}
+
+// The envelope of that width.
+fn wide(alloc: Global) -> Result<Vec<u8>, Fail> {
     let mut bytes = hex::decode(alloc, WIDE_START)?;
     bytes.resize(bytes.len() + 2_047, 0)?;
     bytes.extend_from_slice(hex::decode(alloc, WIDE_MIDDLE)?.as_slice())?;
     bytes.resize(bytes.len() + 2_047, 0)?;
     bytes.extend_from_slice(hex::decode(alloc, WIDE_END)?.as_slice())?;
-    let (status, text) = ran(alloc, &CHECK, bytes.as_slice(), &[], &[])?;
-    assert_eq!(rt; text.as_slice(), b"too wide: 4194305\n".as_slice());
-    assert_eq!(rt; status, 12);
+    Ok(bytes)
+}
+
+#[test]
+fn a_procedure_may_be_too_wide(rt: HostRuntime) -> Result<(), Fail> {
+    let file = wide(rt.alloc())?;
+    assert!(rt; checks(rt.alloc(), file.as_slice(), (12, "too wide: 4194305\n"))?);
     Ok(())
+}
+
+// ---- envelopes
+
+// Whether the first bytes of an envelope are told as truncated.
+fn is_truncated(alloc: Global, bytes: &[u8], length: usize) -> Result<bool, Fail> {
+    let prefix = bytes.get(..length).ok_or("no prefix")?;
+    let line = format!(in alloc; "refused at {length}: truncated\n")?;
+    Ok(checks(alloc, prefix, (3, line.as_str()))?)
 }
 
 #[test]
 fn a_prefix_of_an_envelope_is_truncated(rt: HostRuntime) -> Result<(), Fail> {
-    let alloc = rt.alloc();
-    let stored = hex::decode(alloc, STORED)?;
+    let stored = hex::decode(rt.alloc(), STORED)?;
     for length in 0..119usize {
-        let prefix = stored.as_slice().get(..length).ok_or("no prefix")?;
-        let (status, text) = ran(alloc, &CHECK, prefix, &[], &[])?;
-        let line = format!(in alloc; "refused at {length}: truncated\n")?;
-        assert_eq!(rt; status, 3, "length {length}");
-        assert_eq!(rt; text.as_slice(), line.as_bytes(), "length {length}");
+        assert!(rt;
+            is_truncated(rt.alloc(), stored.as_slice(), length)?,
+            "length {length}"
+        );
     }
     Ok(())
+}
+
+// The start of the stored envelope, with a manifest of so many zeros.
+fn of_zeros(alloc: Global, zeros: u16) -> Result<Vec<u8>, Fail> {
+    let mut bytes = hex::decode(alloc, &STORED[..90])?;
+    bytes.push(0x03)?;
+    bytes.push(0x59)?;
+    bytes.extend_from_slice(&u16::to_be_bytes(zeros))?;
+    bytes.resize(bytes.len() + usize::from(zeros), 0)?;
+    Ok(bytes)
 }
 
 #[test]
 fn an_envelope_without_its_other_members_has_16384_bytes(rt: HostRuntime) -> Result<(), Fail> {
-    let alloc = rt.alloc();
-    let rows = [
-        (16_335, 3, "refused at 50: trailing\n"),
-        (16_336, 21, "too long envelope\n"),
-    ];
-    for (zeros, says_status, says) in &rows {
-        let mut bytes = hex::decode(alloc, &STORED[..90])?;
-        bytes.push(0x03)?;
-        bytes.push(0x59)?;
-        bytes.extend_from_slice(&u16::to_be_bytes(*zeros))?;
-        bytes.resize(bytes.len() + usize::from(*zeros), 0)?;
-        let (status, text) = ran(alloc, &CHECK, bytes.as_slice(), &[], &[])?;
-        assert_eq!(rt; status, *says_status);
-        assert_eq!(rt; text.as_slice(), says.as_bytes());
-    }
+    let longest = of_zeros(rt.alloc(), 16_335)?;
+    assert!(rt;
+        checks(
+            rt.alloc(),
+            longest.as_slice(),
+            (3, "refused at 50: trailing\n")
+        )?
+    );
+    let longer = of_zeros(rt.alloc(), 16_336)?;
+    assert!(rt; checks(rt.alloc(), longer.as_slice(), (21, "too long envelope\n"))?);
     Ok(())
 }
 
-#[test]
-fn each_fault_of_an_item_is_told(rt: HostRuntime) -> Result<(), Fail> {
-    let alloc = rt.alloc();
-    let rows = [
-        ("1817", "refused at 0: not shortest\n"),
-        ("821f00", "refused at 1: indefinite\n"),
-        ("81fb", "refused at 1: kind\n"),
-        ("61ff", "refused at 0: bad text\n"),
-        ("a203010201", "refused at 3: order\n"),
-        ("a203010301", "refused at 3: repeated\n"),
-        (
-            "8181818181818181818181818181818180",
-            "refused at 16: too deep\n",
-        ),
-        ("81818181818181818181818181818180", "refused at 0: shape\n"),
-        ("0000", "refused at 1: trailing\n"),
-        ("1a0001", "refused at 3: truncated\n"),
-    ];
-    for (file, line) in &rows {
-        let bytes = hex::decode(alloc, file)?;
-        let (status, text) = ran(alloc, &CHECK, bytes.as_slice(), &[], &[])?;
-        assert_eq!(rt; status, 3, "{file}");
-        assert_eq!(rt; text.as_slice(), line.as_bytes(), "{file}");
+// ---- words and files
+
+// Whether the words between spaces are usage.
+fn is_usage(alloc: Global, line: &str) -> Result<bool, AllocError> {
+    let mut words = Vec::new(alloc);
+    for word in line.split_whitespace() {
+        words.push(word)?;
     }
-    Ok(())
+    let mut host = MemoryHost::new(alloc, &[])?;
+    answers_by_files(alloc, words.as_slice(), &mut host, (2, USAGE))
 }
 
 #[test]
 fn other_words_are_usage(rt: HostRuntime) -> Result<(), Fail> {
-    let alloc = rt.alloc();
-    let lines: [&[&str]; 9] = [
-        &[],
-        &["check"],
-        &["check", "a", "b"],
-        &["check", "-v"],
-        &["check", "-"],
-        &["help"],
-        &["e1.suit", "check"],
-        &["run", "stat"],
-        &["run", "init", "d", "-k"],
+    let lines = [
+        "",
+        "check",
+        "check a b",
+        "check -v",
+        "check -",
+        "help",
+        "e1.suit check",
+        "run stat",
+        "run init d -k",
+        "show",
+        "show e.suit",
+        "show -e k",
+        "show e.suit -k",
+        "show e.suit k k",
     ];
-    for words in &lines {
-        let (status, text) = ran(alloc, words, b"", &[], &[])?;
-        assert_eq!(rt; status, 2);
-        assert_eq!(rt; text.as_slice(), USAGE.as_bytes());
+    for line in &lines {
+        assert!(rt; is_usage(rt.alloc(), line)?, "{line}");
     }
     Ok(())
 }
@@ -195,47 +278,44 @@ fn other_words_are_usage(rt: HostRuntime) -> Result<(), Fail> {
 #[test]
 fn a_file_is_absent_or_too_long(rt: HostRuntime) -> Result<(), Fail> {
     let alloc = rt.alloc();
-    let (status, text) = ran(alloc, &["check", "nofile"], b"", &[], &[])?;
-    assert_eq!(rt; status, 20);
-    assert_eq!(rt; text.as_slice(), b"absent nofile\n".as_slice());
+    let mut host = MemoryHost::new(alloc, &[])?;
+    let absent = (20, "absent nofile\n");
+    assert!(rt; answers_by_files(alloc, &["check", "nofile"], &mut host, absent)?);
 
     let long = vec![in alloc; 0u8; 1_048_577]?;
-    let (status, text) = ran(alloc, &CHECK, long.as_slice(), &[], &[])?;
-    assert_eq!(rt; status, 21);
-    assert_eq!(rt; text.as_slice(), b"too long e1.suit\n".as_slice());
-
+    assert!(rt; checks(alloc, long.as_slice(), (21, "too long e1.suit\n"))?);
     let longest = long.as_slice().get(1..).ok_or("no byte")?;
-    let (status, _text) = ran(alloc, &CHECK, longest, &[], &[])?;
-    assert_eq!(rt; status, 3);
+    assert!(rt; checks(alloc, longest, (3, "refused at 1: trailing\n"))?);
     Ok(())
+}
+
+// Whether a call of the host that fails is told.
+fn tells_fault(alloc: Global, call: u64) -> Result<bool, Fail> {
+    let stored = hex::decode(alloc, STORED)?;
+    let mut host = with_file(alloc, stored.as_slice(), &[call])?;
+    Ok(answers_by_files(alloc, &CHECK, &mut host, (7, "host fault\n"))?)
 }
 
 #[test]
 fn each_call_of_the_host_may_fail(rt: HostRuntime) -> Result<(), Fail> {
-    let alloc = rt.alloc();
-    let stored = hex::decode(alloc, STORED)?;
-    for call in 0..3u64 {
-        let (status, text) = ran(alloc, &CHECK, stored.as_slice(), &[call], &[])?;
-        assert_eq!(rt; status, 7, "call {call}");
-        assert_eq!(rt; text.as_slice(), b"host fault\n".as_slice(), "call {call}");
+    for call in 0..4u64 {
+        assert_eq!(rt; tells_fault(rt.alloc(), call)?, call < 3, "call {call}");
     }
-    let (status, _text) = ran(alloc, &CHECK, stored.as_slice(), &[3], &[])?;
-    assert_eq!(rt; status, 0);
     Ok(())
+}
+
+// The status of `check` of the stored envelope and how many bytes are put, where these puts fail.
+fn put_of(alloc: Global, fails: &[u64]) -> Result<(u8, usize), Fail> {
+    let stored = hex::decode(alloc, STORED)?;
+    let mut host = with_file(alloc, stored.as_slice(), &[])?;
+    let mut sink = MemorySink::new(alloc, fails)?;
+    let status = check_into(alloc, &mut host, &mut sink)?;
+    Ok((status, sink.bytes().len()))
 }
 
 #[test]
 fn the_sink_may_fail(rt: HostRuntime) -> Result<(), Fail> {
-    let alloc = rt.alloc();
-    let stored = hex::decode(alloc, STORED)?;
-    let (status, text) = ran(alloc, &CHECK, stored.as_slice(), &[], &[0])?;
-    assert_eq!(rt; status, 9);
-    assert_eq!(rt; text.len(), 0);
-    let (status, text) = ran(alloc, &CHECK, stored.as_slice(), &[], &[1])?;
-    assert_eq!(rt; status, 0);
-    assert_eq!(rt;
-        text.as_slice(),
-        b"update safe\ninvocation safe\n".as_slice()
-    );
+    assert_eq!(rt; put_of(rt.alloc(), &[0])?, (9, 0));
+    assert_eq!(rt; put_of(rt.alloc(), &[1])?, (0, 28));
     Ok(())
 }

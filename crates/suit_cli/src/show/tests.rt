@@ -1,10 +1,9 @@
 //! Tests of `show FILE KEY` on objects in memory. The digest and the tags were computed by another program.
 
-use crate::tests::{STORED, names};
-use crate::{Status, run};
+use crate::tests::{STORED, answers_by_files};
 use std::alloc::{AllocError, Global};
 use std::test::Fail;
-use suit_edge::{MemoryDisk, MemoryHost, MemorySink};
+use suit_edge::MemoryHost;
 
 /// The manifest of the stored envelope behind a wrapper with its digest, a block of another kind, and a
 /// Mac0 block under the key of 32 bytes 01.
@@ -31,22 +30,23 @@ const SHOW: [&str; 3] = ["show", "e.suit", "k"];
 /// The place of the last byte of the tag.
 const TAG_END: usize = 96;
 
-/// What a run over an envelope and a key put, and its status. The files stay.
-fn shown(
+// A host with an envelope and a key, of which these calls fail.
+fn with_files(
     alloc: Global,
-    words: &[&str],
     envelope: &[u8],
     key: &[u8],
-    host_fails: &[u64],
-) -> Result<(u8, Vec<u8>), AllocError> {
-    let words = names(alloc, words)?;
-    let mut host = MemoryHost::new(alloc, host_fails)?;
+    fails: &[u64],
+) -> Result<MemoryHost, AllocError> {
+    let mut host = MemoryHost::new(alloc, fails)?;
     host.add("e.suit", envelope)?;
     host.add("k", key)?;
-    let mut sink = MemorySink::new(alloc, &[])?;
-    let mut flash = MemoryDisk::new(alloc, 49_152, &[])?;
-    let Status(status) = run(alloc, &words, &mut host, &mut flash, &mut sink);
-    Ok((status, sink.bytes().to_vec(alloc)?))
+    Ok(host)
+}
+
+// Whether `show` of the envelope under the key answers so.
+fn shows(alloc: Global, envelope: &[u8], key: &[u8], says: (u8, &str)) -> Result<bool, AllocError> {
+    let mut host = with_files(alloc, envelope, key, &[])?;
+    answers_by_files(alloc, &SHOW, &mut host, says)
 }
 
 /// A file, a key, and what comes of them.
@@ -126,85 +126,66 @@ const ROWS: [Row; 11] = [
     },
 ];
 
+// Whether a row is answered by its text.
+fn is_shown(alloc: Global, row: &Row) -> Result<bool, Fail> {
+    let envelope = hex::decode(alloc, row.envelope)?;
+    Ok(shows(alloc, envelope.as_slice(), row.key, (row.status, row.text))?)
+}
+
 #[test]
 fn an_envelope_is_shown_under_a_key(rt: HostRuntime) -> Result<(), Fail> {
-    let alloc = rt.alloc();
     for row in &ROWS {
-        let envelope = hex::decode(alloc, row.envelope)?;
-        let (status, text) = shown(alloc, &SHOW, envelope.as_slice(), row.key, &[])?;
-        let says = row.text;
-        assert_eq!(rt; text.as_slice(), row.text.as_bytes(), "{says}");
-        assert_eq!(rt; status, row.status, "{says}");
+        assert!(rt; is_shown(rt.alloc(), row)?, "{}", row.text);
     }
     Ok(())
 }
 
 #[test]
-fn another_tag_differs_and_no_tag_is_told(rt: HostRuntime) -> Result<(), Fail> {
-    let alloc = rt.alloc();
-    let envelope = hex::decode(alloc, AUTHENTIC)?;
-    let mut changed = envelope.as_slice().to_vec(alloc)?;
+fn another_tag_differs(rt: HostRuntime) -> Result<(), Fail> {
+    let mut changed = hex::decode(rt.alloc(), AUTHENTIC)?;
     *changed.get_mut(TAG_END).ok_or("no tag")? = 0x70;
-    let (status, text) = shown(alloc, &SHOW, changed.as_slice(), &KEY, &[])?;
     let differs =
         "tagged yes\nblock 0 other\nblock 1 mac0\nmember shared here\nmember validate here\nmember load none\nmember invoke here\nmember payload-fetch none\nmember install none\nmember text none\nnot authentic: mac differs\n";
-    assert_eq!(rt; text.as_slice(), differs.as_bytes());
-    assert_eq!(rt; status, 4);
+    assert!(rt; shows(rt.alloc(), changed.as_slice(), &KEY, (4, differs))?);
+    Ok(())
+}
 
+#[test]
+fn an_envelope_without_its_tag_is_shown(rt: HostRuntime) -> Result<(), Fail> {
+    let envelope = hex::decode(rt.alloc(), AUTHENTIC)?;
     let untagged = envelope.as_slice().get(2..).ok_or("no bytes")?;
-    let (status, text) = shown(alloc, &SHOW, untagged, &KEY, &[])?;
     let plain =
         "tagged no\nblock 0 other\nblock 1 mac0\nmember shared here\nmember validate here\nmember load none\nmember invoke here\nmember payload-fetch none\nmember install none\nmember text none\nauthentic\n";
-    assert_eq!(rt; text.as_slice(), plain.as_bytes());
-    assert_eq!(rt; status, 0);
+    assert!(rt; shows(rt.alloc(), untagged, &KEY, (0, plain))?);
     Ok(())
+}
+
+// Whether `show` of these two files answers so.
+fn shows_of(alloc: Global, file: &str, key: &str, says: (u8, &str)) -> Result<bool, Fail> {
+    let envelope = hex::decode(alloc, AUTHENTIC)?;
+    let mut host = with_files(alloc, envelope.as_slice(), &KEY, &[])?;
+    Ok(answers_by_files(alloc, &["show", file, key], &mut host, says)?)
 }
 
 #[test]
 fn a_file_or_a_key_is_absent(rt: HostRuntime) -> Result<(), Fail> {
-    let alloc = rt.alloc();
-    let envelope = hex::decode(alloc, AUTHENTIC)?;
-    let rows = [
-        (["show", "e.suit", "no key"], 20, "absent no key\n"),
-        (["show", "no file", "no key"], 20, "absent no file\n"),
-        (["show", "k", "no key"], 3, "refused at 1: trailing\n"),
-    ];
-    for (words, says_status, says) in &rows {
-        let (status, text) = shown(alloc, words, envelope.as_slice(), &KEY, &[])?;
-        assert_eq!(rt; text.as_slice(), says.as_bytes(), "{says}");
-        assert_eq!(rt; status, *says_status, "{says}");
-    }
+    assert!(rt; shows_of(rt.alloc(), "e.suit", "no key", (20, "absent no key\n"))?);
+    assert!(rt; shows_of(rt.alloc(), "no file", "no key", (20, "absent no file\n"))?);
+    assert!(rt; shows_of(rt.alloc(), "k", "no key", (3, "refused at 1: trailing\n"))?);
     Ok(())
 }
 
-#[test]
-fn other_words_are_usage(rt: HostRuntime) -> Result<(), Fail> {
-    let alloc = rt.alloc();
-    let lines: [&[&str]; 5] = [
-        &["show"],
-        &["show", "e.suit"],
-        &["show", "-e", "k"],
-        &["show", "e.suit", "-k"],
-        &["show", "e.suit", "k", "k"],
-    ];
-    for words in &lines {
-        let (status, text) = shown(alloc, words, b"", &KEY, &[])?;
-        assert_eq!(rt; status, 2);
-        assert!(rt; text.as_slice().starts_with(b"usage: suit make"));
-    }
-    Ok(())
+// Whether a call of the host that fails is told.
+fn tells_fault(alloc: Global, call: u64) -> Result<bool, Fail> {
+    let envelope = hex::decode(alloc, AUTHENTIC)?;
+    let mut host = with_files(alloc, envelope.as_slice(), &KEY, &[call])?;
+    Ok(answers_by_files(alloc, &SHOW, &mut host, (7, "host fault\n"))?)
 }
 
 #[test]
 fn each_call_of_the_host_may_fail(rt: HostRuntime) -> Result<(), Fail> {
-    let alloc = rt.alloc();
-    let envelope = hex::decode(alloc, AUTHENTIC)?;
-    for call in 0..6u64 {
-        let (status, text) = shown(alloc, &SHOW, envelope.as_slice(), &KEY, &[call])?;
-        assert_eq!(rt; status, 7, "call {call}");
-        assert_eq!(rt; text.as_slice(), b"host fault\n".as_slice(), "call {call}");
+    for call in 0..7u64 {
+        assert_eq!(rt; tells_fault(rt.alloc(), call)?, call < 6, "call {call}");
     }
-    let (status, _text) = shown(alloc, &SHOW, envelope.as_slice(), &KEY, &[6])?;
-    assert_eq!(rt; status, 0);
     Ok(())
 }
