@@ -67,8 +67,8 @@ fn manifests_are_judged(rt: HostRuntime) -> Result<(), Fail> {
             let file = hex::decode(alloc, row.file)?;
             let (status, text) = ran(alloc, &CHECK, file.as_slice(), &[], &[])?;
             let shows = row.shows;
-            assert_eq!(rt; text.as_slice(), row.text.as_bytes(), "{shows}");
-            assert_eq!(rt; status, row.status, "{shows}");
+            assert!(rt; text.as_slice() == row.text.as_bytes(), "{shows}");
+            assert!(rt; status == row.status, "{shows}");
         }
     }
     for row in last_lines() {
@@ -78,7 +78,7 @@ fn manifests_are_judged(rt: HostRuntime) -> Result<(), Fail> {
         let begins = b"update safe\ninvocation unsafe\nidentity 0 vendor none";
         assert!(rt; text.as_slice().starts_with(begins), "{shows}");
         assert!(rt; contains(text.as_slice(), row.text.as_bytes()), "{shows}");
-        assert_eq!(rt; status, row.status, "{shows}");
+        assert!(rt; status == row.status, "{shows}");
     }
     Ok(())
 }
@@ -104,8 +104,8 @@ fn a_procedure_may_be_too_wide(rt: HostRuntime) -> Result<(), Fail> {
     bytes.resize(bytes.len() + 2_047, 0)?;
     bytes.extend_from_slice(hex::decode(alloc, WIDE_END)?.as_slice())?;
     let (status, text) = ran(alloc, &CHECK, bytes.as_slice(), &[], &[])?;
-    assert_eq!(rt; text.as_slice(), b"too wide: 4194305\n".as_slice());
-    assert_eq!(rt; status, 12);
+    assert!(rt; text.as_slice() == b"too wide: 4194305\n".as_slice());
+    assert!(rt; status == 12);
     Ok(())
 }
 
@@ -117,8 +117,8 @@ fn a_prefix_of_an_envelope_is_truncated(rt: HostRuntime) -> Result<(), Fail> {
         let prefix = stored.as_slice().get(..length).ok_or("no prefix")?;
         let (status, text) = ran(alloc, &CHECK, prefix, &[], &[])?;
         let line = format!(in alloc; "refused at {length}: truncated\n")?;
-        assert_eq!(rt; status, 3, "length {length}");
-        assert_eq!(rt; text.as_slice(), line.as_bytes(), "length {length}");
+        assert!(rt; status == 3, "length {length}");
+        assert!(rt; text.as_slice() == line.as_bytes(), "length {length}");
     }
     Ok(())
 }
@@ -137,8 +137,8 @@ fn an_envelope_without_its_other_members_has_16384_bytes(rt: HostRuntime) -> Res
         bytes.extend_from_slice(&u16::to_be_bytes(*zeros))?;
         bytes.resize(bytes.len() + usize::from(*zeros), 0)?;
         let (status, text) = ran(alloc, &CHECK, bytes.as_slice(), &[], &[])?;
-        assert_eq!(rt; status, *says_status);
-        assert_eq!(rt; text.as_slice(), says.as_bytes());
+        assert!(rt; status == *says_status);
+        assert!(rt; text.as_slice() == says.as_bytes());
     }
     Ok(())
 }
@@ -164,14 +164,14 @@ fn each_fault_of_an_item_is_told(rt: HostRuntime) -> Result<(), Fail> {
     for (file, line) in &rows {
         let bytes = hex::decode(alloc, file)?;
         let (status, text) = ran(alloc, &CHECK, bytes.as_slice(), &[], &[])?;
-        assert_eq!(rt; status, 3, "{file}");
-        assert_eq!(rt; text.as_slice(), line.as_bytes(), "{file}");
+        assert!(rt; status == 3, "{file}");
+        assert!(rt; text.as_slice() == line.as_bytes(), "{file}");
     }
     Ok(())
 }
 
 #[test]
-fn other_words_are_usage(rt: HostRuntime) -> Result<(), Fail> {
+fn other_words_are_usage(rt: HostRuntime) -> Result<(), AllocError> {
     let alloc = rt.alloc();
     let lines: [&[&str]; 9] = [
         &[],
@@ -186,8 +186,8 @@ fn other_words_are_usage(rt: HostRuntime) -> Result<(), Fail> {
     ];
     for words in &lines {
         let (status, text) = ran(alloc, words, b"", &[], &[])?;
-        assert_eq!(rt; status, 2);
-        assert_eq!(rt; text.as_slice(), USAGE.as_bytes());
+        assert!(rt; status == 2);
+        assert!(rt; text.as_slice() == USAGE.as_bytes());
     }
     Ok(())
 }
@@ -196,17 +196,17 @@ fn other_words_are_usage(rt: HostRuntime) -> Result<(), Fail> {
 fn a_file_is_absent_or_too_long(rt: HostRuntime) -> Result<(), Fail> {
     let alloc = rt.alloc();
     let (status, text) = ran(alloc, &["check", "nofile"], b"", &[], &[])?;
-    assert_eq!(rt; status, 20);
-    assert_eq!(rt; text.as_slice(), b"absent nofile\n".as_slice());
+    assert!(rt; status == 20);
+    assert!(rt; text.as_slice() == b"absent nofile\n".as_slice());
 
     let long = vec![in alloc; 0u8; 1_048_577]?;
     let (status, text) = ran(alloc, &CHECK, long.as_slice(), &[], &[])?;
-    assert_eq!(rt; status, 21);
-    assert_eq!(rt; text.as_slice(), b"too long e1.suit\n".as_slice());
+    assert!(rt; status == 21);
+    assert!(rt; text.as_slice() == b"too long e1.suit\n".as_slice());
 
     let longest = long.as_slice().get(1..).ok_or("no byte")?;
     let (status, _text) = ran(alloc, &CHECK, longest, &[], &[])?;
-    assert_eq!(rt; status, 3);
+    assert!(rt; status == 3);
     Ok(())
 }
 
@@ -216,11 +216,14 @@ fn each_call_of_the_host_may_fail(rt: HostRuntime) -> Result<(), Fail> {
     let stored = hex::decode(alloc, STORED)?;
     for call in 0..3u64 {
         let (status, text) = ran(alloc, &CHECK, stored.as_slice(), &[call], &[])?;
-        assert_eq!(rt; status, 7, "call {call}");
-        assert_eq!(rt; text.as_slice(), b"host fault\n".as_slice(), "call {call}");
+        assert!(rt; status == 7, "call {call}");
+        assert!(rt;
+            text.as_slice() == b"host fault\n".as_slice(),
+            "call {call}"
+        );
     }
     let (status, _text) = ran(alloc, &CHECK, stored.as_slice(), &[3], &[])?;
-    assert_eq!(rt; status, 0);
+    assert!(rt; status == 0);
     Ok(())
 }
 
@@ -229,13 +232,10 @@ fn the_sink_may_fail(rt: HostRuntime) -> Result<(), Fail> {
     let alloc = rt.alloc();
     let stored = hex::decode(alloc, STORED)?;
     let (status, text) = ran(alloc, &CHECK, stored.as_slice(), &[], &[0])?;
-    assert_eq!(rt; status, 9);
-    assert_eq!(rt; text.len(), 0);
+    assert!(rt; status == 9);
+    assert!(rt; text.len() == 0);
     let (status, text) = ran(alloc, &CHECK, stored.as_slice(), &[], &[1])?;
-    assert_eq!(rt; status, 0);
-    assert_eq!(rt;
-        text.as_slice(),
-        b"update safe\ninvocation safe\n".as_slice()
-    );
+    assert!(rt; status == 0);
+    assert!(rt; text.as_slice() == b"update safe\ninvocation safe\n".as_slice());
     Ok(())
 }

@@ -133,8 +133,8 @@ fn an_envelope_is_shown_under_a_key(rt: HostRuntime) -> Result<(), Fail> {
         let envelope = hex::decode(alloc, row.envelope)?;
         let (status, text) = shown(alloc, &SHOW, envelope.as_slice(), row.key, &[])?;
         let says = row.text;
-        assert_eq!(rt; text.as_slice(), row.text.as_bytes(), "{says}");
-        assert_eq!(rt; status, row.status, "{says}");
+        assert!(rt; text.as_slice() == row.text.as_bytes(), "{says}");
+        assert!(rt; status == row.status, "{says}");
     }
     Ok(())
 }
@@ -148,15 +148,15 @@ fn another_tag_differs_and_no_tag_is_told(rt: HostRuntime) -> Result<(), Fail> {
     let (status, text) = shown(alloc, &SHOW, changed.as_slice(), &KEY, &[])?;
     let differs =
         "tagged yes\nblock 0 other\nblock 1 mac0\nmember shared here\nmember validate here\nmember load none\nmember invoke here\nmember payload-fetch none\nmember install none\nmember text none\nnot authentic: mac differs\n";
-    assert_eq!(rt; text.as_slice(), differs.as_bytes());
-    assert_eq!(rt; status, 4);
+    assert!(rt; text.as_slice() == differs.as_bytes());
+    assert!(rt; status == 4);
 
     let untagged = envelope.as_slice().get(2..).ok_or("no bytes")?;
     let (status, text) = shown(alloc, &SHOW, untagged, &KEY, &[])?;
     let plain =
         "tagged no\nblock 0 other\nblock 1 mac0\nmember shared here\nmember validate here\nmember load none\nmember invoke here\nmember payload-fetch none\nmember install none\nmember text none\nauthentic\n";
-    assert_eq!(rt; text.as_slice(), plain.as_bytes());
-    assert_eq!(rt; status, 0);
+    assert!(rt; text.as_slice() == plain.as_bytes());
+    assert!(rt; status == 0);
     Ok(())
 }
 
@@ -171,14 +171,14 @@ fn a_file_or_a_key_is_absent(rt: HostRuntime) -> Result<(), Fail> {
     ];
     for (words, says_status, says) in &rows {
         let (status, text) = shown(alloc, words, envelope.as_slice(), &KEY, &[])?;
-        assert_eq!(rt; text.as_slice(), says.as_bytes(), "{says}");
-        assert_eq!(rt; status, *says_status, "{says}");
+        assert!(rt; text.as_slice() == says.as_bytes(), "{says}");
+        assert!(rt; status == *says_status, "{says}");
     }
     Ok(())
 }
 
 #[test]
-fn other_words_are_usage(rt: HostRuntime) -> Result<(), Fail> {
+fn other_words_are_usage(rt: HostRuntime) -> Result<(), AllocError> {
     let alloc = rt.alloc();
     let lines: [&[&str]; 5] = [
         &["show"],
@@ -189,7 +189,7 @@ fn other_words_are_usage(rt: HostRuntime) -> Result<(), Fail> {
     ];
     for words in &lines {
         let (status, text) = shown(alloc, words, b"", &KEY, &[])?;
-        assert_eq!(rt; status, 2);
+        assert!(rt; status == 2);
         assert!(rt; text.as_slice().starts_with(b"usage: suit make"));
     }
     Ok(())
@@ -201,10 +201,13 @@ fn each_call_of_the_host_may_fail(rt: HostRuntime) -> Result<(), Fail> {
     let envelope = hex::decode(alloc, AUTHENTIC)?;
     for call in 0..6u64 {
         let (status, text) = shown(alloc, &SHOW, envelope.as_slice(), &KEY, &[call])?;
-        assert_eq!(rt; status, 7, "call {call}");
-        assert_eq!(rt; text.as_slice(), b"host fault\n".as_slice(), "call {call}");
+        assert!(rt; status == 7, "call {call}");
+        assert!(rt;
+            text.as_slice() == b"host fault\n".as_slice(),
+            "call {call}"
+        );
     }
     let (status, _text) = shown(alloc, &SHOW, envelope.as_slice(), &KEY, &[6])?;
-    assert_eq!(rt; status, 0);
+    assert!(rt; status == 0);
     Ok(())
 }
