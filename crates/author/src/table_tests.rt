@@ -31,7 +31,7 @@ pub(crate) fn with(alloc: Global, members: &str) -> Result<String, AllocError> {
 }
 
 #[test]
-fn whole_values(rt: HostRuntime) -> Result<(), Fail> {
+fn whole_values(rt: HostRuntime) -> Result<(), AllocError> {
     let alloc = rt.alloc();
     for (text, wanted) in [
         ("7", "field "),
@@ -102,13 +102,13 @@ fn whole_values(rt: HostRuntime) -> Result<(), Fail> {
             "field /components/0",
         ),
     ] {
-        assert_eq!(rt; told(alloc, text)?.as_str(), wanted, "{text}");
+        assert!(rt; told(alloc, text)?.as_str() == wanted, "{text}");
     }
     Ok(())
 }
 
 #[test]
-fn commands_and_parameters(rt: HostRuntime) -> Result<(), Fail> {
+fn commands_and_parameters(rt: HostRuntime) -> Result<(), AllocError> {
     let alloc = rt.alloc();
     for (members, wanted) in [
         ("\"validate\":[]", "field /validate"),
@@ -236,13 +236,13 @@ fn commands_and_parameters(rt: HostRuntime) -> Result<(), Fail> {
         ),
     ] {
         let text = with(alloc, members)?;
-        assert_eq!(rt; told(alloc, text.as_str())?.as_str(), wanted, "{members}");
+        assert!(rt; told(alloc, text.as_str())?.as_str() == wanted, "{members}");
     }
     Ok(())
 }
 
 #[test]
-fn other_members(rt: HostRuntime) -> Result<(), Fail> {
+fn other_members(rt: HostRuntime) -> Result<(), AllocError> {
     let alloc = rt.alloc();
     for (members, wanted) in [
         ("\"reference\":7", "field /reference"),
@@ -304,7 +304,7 @@ fn other_members(rt: HostRuntime) -> Result<(), Fail> {
         ),
     ] {
         let text = with(alloc, members)?;
-        assert_eq!(rt; told(alloc, text.as_str())?.as_str(), wanted, "{members}");
+        assert!(rt; told(alloc, text.as_str())?.as_str() == wanted, "{members}");
     }
     Ok(())
 }
@@ -319,10 +319,10 @@ fn files_are_named_once_in_order(rt: HostRuntime) -> Result<(), Fail> {
     let value = Value::from_str(alloc, text.as_str())?;
     let described = description(alloc, &value)?;
     let names = described.files();
-    assert_eq!(rt; names.len(), 3);
+    assert!(rt; names.len() == 3);
     let names = names.as_slice();
-    assert_eq!(rt; names[0].as_str(), "c");
-    assert_eq!(rt; names[1].as_str(), "a");
-    assert_eq!(rt; names[2].as_str(), "b");
+    assert!(rt; names[0].as_str() == "c");
+    assert!(rt; names[1].as_str() == "a");
+    assert!(rt; names[2].as_str() == "b");
     Ok(())
 }

@@ -110,22 +110,22 @@ fn holds(disk: &mut MemoryDisk, content: &[u8]) -> bool
 }
 
 #[test]
-fn a_content_is_read_in_parts(rt: HostRuntime) -> Result<(), Fail> {
+fn a_content_is_read_in_parts(rt: HostRuntime) -> Result<(), AllocError> {
     let mut disk = with_old(rt.alloc())?;
     assert!(rt; length(&mut disk, SLOT) == Ok(3));
     assert!(rt; replace(&mut disk) == Ok(()));
     assert!(rt; length(&mut disk, SLOT) == Ok(5));
     let mut room = [0u8; 2];
     assert!(rt; read(&mut disk, SLOT, 1, &mut room) == Ok(2));
-    assert_eq!(rt; room, *b"ew");
+    assert!(rt; room == *b"ew");
     assert!(rt; read(&mut disk, SLOT, 4, &mut room) == Ok(1));
-    assert_eq!(rt; room, *b"rw");
+    assert!(rt; room == *b"rw");
     assert!(rt; read(&mut disk, SLOT, 5, &mut room) == Ok(0));
     Ok(())
 }
 
 #[test]
-fn a_length_above_the_capacity_is_none(rt: HostRuntime) -> Result<(), Fail> {
+fn a_length_above_the_capacity_is_none(rt: HostRuntime) -> Result<(), AllocError> {
     let mut disk = with_old(rt.alloc())?;
     assert!(rt; disk.write_at(15, &[6]) == Edge::Done);
     assert!(rt; length(&mut disk, SLOT) == Ok(0));
@@ -133,7 +133,7 @@ fn a_length_above_the_capacity_is_none(rt: HostRuntime) -> Result<(), Fail> {
 }
 
 #[test]
-fn a_content_is_cut_at_each_call(rt: HostRuntime) -> Result<(), Fail> {
+fn a_content_is_cut_at_each_call(rt: HostRuntime) -> Result<(), AllocError> {
     let wanted: [[&[u8]; 3]; 8] = [
         [b"old", b"old", b"old"],
         [b"old", b"", b"old"],
@@ -147,7 +147,7 @@ fn a_content_is_cut_at_each_call(rt: HostRuntime) -> Result<(), Fail> {
     for (passes, contents) in wanted.iter().enumerate() {
         let disk = with_old(rt.alloc())?;
         let mut fuse = FuseDisk::new(disk, passes as u64);
-        assert_eq!(rt; replace(&mut fuse) == Ok(()), passes == 7);
+        assert!(rt; (replace(&mut fuse) == Ok(())) == (passes == 7));
         let disk = fuse.into_disk();
         for (content, choice) in contents.iter().zip(CHOICES.iter()) {
             let mut left = disk.after_loss(rt.alloc(), *choice)?;
@@ -158,7 +158,7 @@ fn a_content_is_cut_at_each_call(rt: HostRuntime) -> Result<(), Fail> {
 }
 
 #[test]
-fn a_content_is_told_in_each_way(rt: HostRuntime) -> Result<(), Fail> {
+fn a_content_is_told_in_each_way(rt: HostRuntime) -> Result<(), AllocError> {
     let mut disk = with_old(rt.alloc())?;
     assert!(rt; is_old(&mut disk) == Ok(true));
     let mut room = [0u8; 2];
@@ -168,7 +168,7 @@ fn a_content_is_told_in_each_way(rt: HostRuntime) -> Result<(), Fail> {
 }
 
 #[test]
-fn a_read_that_fails_is_told(rt: HostRuntime) -> Result<(), Fail> {
+fn a_read_that_fails_is_told(rt: HostRuntime) -> Result<(), AllocError> {
     for number in 2..11u64 {
         let mut disk = with_failing(rt.alloc(), number)?;
         assert!(rt; is_old(&mut disk) == Err(FlashFault), "call {number}");
@@ -178,10 +178,10 @@ fn a_read_that_fails_is_told(rt: HostRuntime) -> Result<(), Fail> {
 }
 
 #[test]
-fn a_read_is_cut_at_each_call(rt: HostRuntime) -> Result<(), Fail> {
+fn a_read_is_cut_at_each_call(rt: HostRuntime) -> Result<(), AllocError> {
     for passes in 0..10u64 {
         let mut fuse = FuseDisk::new(with_old(rt.alloc())?, passes);
-        assert_eq!(rt; is_old(&mut fuse) == Ok(true), passes == 9);
+        assert!(rt; (is_old(&mut fuse) == Ok(true)) == (passes == 9));
         let disk = fuse.into_disk();
         for choice in CHOICES.iter() {
             let mut left = disk.after_loss(rt.alloc(), *choice)?;
@@ -200,7 +200,7 @@ fn holds_any(disk: &mut MemoryDisk) -> bool
 }
 
 #[test]
-fn a_write_that_fails_is_told(rt: HostRuntime) -> Result<(), Fail> {
+fn a_write_that_fails_is_told(rt: HostRuntime) -> Result<(), AllocError> {
     for number in 2..9u64 {
         let mut disk = with_failing(rt.alloc(), number)?;
         assert!(rt;

@@ -3,9 +3,6 @@
 ghost use Rattle.std.specs.Prelude.{◌≡◌, ◌++◌, [], List, ℕ};
 ghost use Rattle.hmac_mac0.specs.Hmac.{hmac_of};
 
-#[cfg(test)]
-mod tests;
-
 use crate::key::{padded, xored};
 use sha2::{Digest, Sha256};
 

@@ -4,9 +4,6 @@ ghost use Rattle.std.specs.Prelude.{◌≡◌, ◌↔◌, List, ℕ};
 ghost use Rattle.hmac_mac0.specs.Mac0.{IsMac0, Verifies};
 ghost use Rattle.hmac_mac0.specs.Verdict.{IsJustified};
 
-#[cfg(test)]
-mod tests;
-
 use crate::block::read_block;
 use crate::compare::are_equal;
 use crate::structure::tag;

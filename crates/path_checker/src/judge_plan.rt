@@ -105,10 +105,3 @@ pub fn check(alloc: Global, plan: &Plan<'_>) -> CheckVerdict
     }
     judge(alloc, plan)
 }
-
-#[cfg(test)]
-mod all_runs;
-#[cfg(test)]
-mod small_plans;
-#[cfg(test)]
-mod tests;

@@ -4,9 +4,6 @@ ghost use Rattle.std.specs.Prelude.{◌≡◌, OnOk, OnErr};
 ghost use Rattle.suit_commands.specs.Tree.{NoSteps, NoBranches};
 ghost use Rattle.suit_commands.specs.View.{command_tree, sequence_tree, branches_tree, step_after, branch_after};
 
-#[cfg(test)]
-mod tests;
-
 use crate::{ActKind, Selection, TestKind};
 use std::alloc::{AllocError, Global};
 use std::marker::Model;

@@ -10,9 +10,6 @@ ghost use Rattle.suit_commands.specs.SequenceFaults.{RefusesSequence};
 ghost use Rattle.suit_commands.specs.SequenceReading.{whole_sequence};
 ghost use Rattle.suit_commands.specs.Tree.{SequenceTree};
 
-#[cfg(test)]
-mod tests;
-
 use crate::Sequence;
 use crate::sequence_reading::read_array;
 use det_cbor::Cursor;

@@ -7,9 +7,6 @@ ghost use Rattle.suit_commands.specs.SequenceWriting.{StepsFit, CommandFits, Bra
 ghost use Rattle.suit_commands.specs.Tree.{TryEach};
 ghost use Rattle.suit_commands.specs.View.{command_tree};
 
-#[cfg(test)]
-mod tests;
-
 use crate::writing::push_selection;
 use crate::{Branches, Command, Sequence};
 use det_cbor::{Bytes, push_count, push_null, push_number, push_string};

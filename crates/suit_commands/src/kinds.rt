@@ -68,34 +68,3 @@ impl ActKind {
         }
     }
 }
-
-#[cfg(test)]
-mod tests {
-    use super::*;
-
-    #[test]
-    fn codes_are_those_of_the_draft(rt: HostRuntime) {
-        let conditions = [
-            (TestKind::Vendor, 1),
-            (TestKind::Class, 2),
-            (TestKind::ImageMatch, 3),
-            (TestKind::Slot, 5),
-            (TestKind::CheckContent, 6),
-            (TestKind::Abort, 14),
-            (TestKind::Device, 24),
-        ];
-        for (kind, code) in conditions {
-            assert_eq!(rt; kind.number(), code);
-        }
-        let directives = [
-            (ActKind::Write, 18),
-            (ActKind::Fetch, 21),
-            (ActKind::Copy, 22),
-            (ActKind::Invoke, 23),
-            (ActKind::Swap, 31),
-        ];
-        for (kind, code) in directives {
-            assert_eq!(rt; kind.number(), code);
-        }
-    }
-}

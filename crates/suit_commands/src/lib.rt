@@ -37,6 +37,3 @@ pub use numbers::{spread, width, work};
 pub use plan::Plan;
 pub use plan_targets::targets;
 pub use selection::Selection;
-
-#[cfg(test)]
-mod tree_makers;

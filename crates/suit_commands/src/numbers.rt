@@ -5,9 +5,6 @@ ghost use Rattle.suit_commands.specs.Capped.{capped};
 ghost use Rattle.suit_commands.specs.Numbers.{work_of, ways_of, start_ways, work_number, spread_number, width_number};
 ghost use Rattle.suit_commands.specs.Plans.{lent_tree, plan_tree};
 
-#[cfg(test)]
-mod tests;
-
 use crate::capped::{plus, product};
 use crate::ways_walk::sequence_ways;
 use crate::work_walk::sequence_work;

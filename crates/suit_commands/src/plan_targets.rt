@@ -7,9 +7,6 @@ ghost use Rattle.suit_commands.specs.Indexed.{AreIndexed};
 ghost use Rattle.suit_commands.specs.Plans.{lent_tree, plan_tree};
 ghost use Rattle.suit_commands.specs.Targets.{Writes, Swaps, Sources, InSome, IsTarget};
 
-#[cfg(test)]
-mod tests;
-
 use crate::reach_walk::sequence_reach;
 use crate::source_walk::sequence_sources;
 use crate::swap_walk::has_swap;

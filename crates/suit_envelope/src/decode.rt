@@ -9,9 +9,6 @@ ghost use Rattle.suit_envelope.specs.Places.{PartsEndBelow};
 ghost use Rattle.suit_envelope.specs.WrapperParts.{HasWrapper};
 ghost use Rattle.suit_envelope.specs.Said.{said_by, EnvelopeOf, RefusesBytes};
 
-#[cfg(test)]
-mod tests;
-
 use crate::Envelope;
 use crate::map::envelope_of;
 use det_cbor::Cursor;

@@ -9,9 +9,6 @@ ghost use Rattle.suit_envelope.specs.Payloads.{HasPayloads};
 ghost use Rattle.suit_envelope.specs.WrapperParts.{HasWrapper};
 ghost use Rattle.suit_envelope.specs.Making.{member_then, payload_pairs, pairs_made, envelope_made, AreAscending, IsPayload, SaysParts};
 
-#[cfg(test)]
-mod tests;
-
 use crate::writing::{push_pair, push_start};
 use crate::{EnvelopeParts, PayloadList};
 use det_cbor::{Bytes, push_string, push_text};

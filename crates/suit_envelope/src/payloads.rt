@@ -6,9 +6,6 @@ ghost use Rattle.det_cbor.specs.HeadReading.{map_ok};
 ghost use Rattle.suit_envelope.specs.Payloads.{HasPayloads, payload_under};
 ghost use Rattle.suit_envelope.specs.PayloadReading.{text_from, is_wanted, pair_from, found_from, counted_from, payload_from};
 
-#[cfg(test)]
-mod tests;
-
 use crate::Envelope;
 use det_cbor::{Cursor, HeadKind};
 use suit_params::{Refusal, bytes_left, read_bytes, read_content, read_head};

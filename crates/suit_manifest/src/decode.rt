@@ -11,9 +11,6 @@ ghost use Rattle.suit_manifest.specs.Manifests.{IsManifest, RefusesManifest};
 ghost use Rattle.suit_manifest.specs.ManifestJudging.{manifest_of};
 ghost use Rattle.suit_manifest.specs.ManifestReading.{values_from, pairs_from, manifest_at, manifest_from};
 
-#[cfg(test)]
-mod tests;
-
 use crate::Manifest;
 use crate::common::{Common, read_common};
 use crate::later::{Later, read_later};

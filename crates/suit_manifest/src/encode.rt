@@ -6,9 +6,6 @@ ghost use Rattle.suit_commands.specs.SequenceWriting.{IsU64};
 ghost use Rattle.suit_manifest.specs.ManifestMaking.{common_item, start_pairs, manifest_item};
 ghost use Rattle.suit_manifest.specs.ManifestWriting.{CommonFits, ManifestFits, IsWrittenManifest};
 
-#[cfg(test)]
-mod tests;
-
 use crate::Manifest;
 use crate::encode_components::push_components;
 use crate::pair_counts::{common_count, manifest_count};

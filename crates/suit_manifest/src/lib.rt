@@ -32,6 +32,3 @@ pub use members::{MemberFault, members_of};
 pub use members_law::members_laws;
 pub use plans::{invocation_plan, update_plan};
 pub use procedure_law::procedure_laws;
-
-#[cfg(test)]
-mod manifest_makers;

@@ -7,9 +7,6 @@ ghost use Rattle.suit_manifest.specs.declared.manifest.Members.{Members};
 ghost use Rattle.suit_manifest.specs.declared.members.MemberFault.{MemberFault};
 ghost use Rattle.suit_manifest.specs.MembersApart.{HasPayloadFetch, HasInstall, LacksPayloadFetch, LacksInstall, HasMembers, LacksMembers, IsLackBy, IsTakenAs, IsLackedAs};
 
-#[cfg(test)]
-mod tests;
-
 use crate::plans::component_count;
 use crate::severable::apart;
 use crate::{Manifest, Members};

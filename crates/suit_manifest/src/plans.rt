@@ -5,9 +5,6 @@ ghost use Rattle.suit_commands.specs.Plans.{lent_tree, plan_tree};
 ghost use Rattle.suit_manifest.specs.Manifests.{count_said};
 ghost use Rattle.suit_manifest.specs.Procedures.{tree_or_empty, member_tree, update_tree, invocation_tree};
 
-#[cfg(test)]
-mod tests;
-
 use crate::{Manifest, Member, Members};
 use suit_commands::{Plan, Sequence};
 

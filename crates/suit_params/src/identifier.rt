@@ -181,10 +181,9 @@ impl Identifiers {
 #[cfg(test)]
 mod tests {
     use super::*;
-    use std::test::Fail;
 
     #[test]
-    fn identifiers_hold_what_was_pushed(rt: HostRuntime) -> Result<(), Fail> {
+    fn identifiers_hold_what_was_pushed(rt: HostRuntime) -> Result<(), AllocError> {
         let alloc = rt.alloc();
         let mut identifiers = Identifiers::new(alloc);
         assert!(rt; identifiers.is_empty());
@@ -193,10 +192,10 @@ mod tests {
         first.push(Bytes::from_slice(alloc, b"abc")?)?;
         identifiers.push(first)?;
         identifiers.push(Identifier::new(alloc))?;
-        assert_eq!(rt; identifiers.len(), 2);
+        assert!(rt; identifiers.len() == 2);
         let parts = identifiers.as_slice()[0].as_slice();
-        assert_eq!(rt; parts.len(), 2);
-        assert_eq!(rt; parts[1].as_slice(), b"abc".as_slice());
+        assert!(rt; parts.len() == 2);
+        assert!(rt; parts[1].as_slice() == b"abc".as_slice());
         assert!(rt; identifiers.as_slice()[1].as_slice().is_empty());
         Ok(())
     }

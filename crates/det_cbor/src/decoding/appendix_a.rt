@@ -3,7 +3,7 @@
 use crate::Reason;
 use crate::decoding::tests::Reading::{Refused, Spells};
 use crate::decoding::tests::{Reading, is_read};
-use std::test::Fail;
+use std::alloc::AllocError;
 
 // A bignum is a tag in front of a byte string. Of simple values there are false, true and null.
 const EXAMPLES: [(&[u8], Reading); 81] = [
@@ -183,7 +183,7 @@ const EXAMPLES: [(&[u8], Reading); 81] = [
 ];
 
 #[test]
-fn the_examples_of_rfc_8949_are_read_and_written(rt: HostRuntime) -> Result<(), Fail> {
+fn the_examples_of_rfc_8949_are_read_and_written(rt: HostRuntime) -> Result<(), AllocError> {
     for (bytes, reading) in EXAMPLES {
         is_read(&rt, rt.alloc(), bytes, reading)?;
     }

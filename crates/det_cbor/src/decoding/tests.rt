@@ -5,7 +5,6 @@ use crate::{CborFault, CborRefusal, Cursor, Item, Reason, decode, encode, valid}
 use Reading::{Refused, Spells};
 use std::alloc::{AllocError, Global};
 use std::process::Abort;
-use std::test::Fail;
 
 /// The reading of some bytes: an item, here in diagnostic notation, or a fault at a place.
 #[derive(Clone, Copy, Debug)]
@@ -25,16 +24,16 @@ pub(crate) fn is_read(
     let skipped = cursor.skip();
     match (decode(alloc, bytes), reading) {
         (Ok((item, used)), Spells(notation)) => {
-            assert_eq!(rt; used, bytes.len(), "{bytes:?}");
-            assert_eq!(rt; skipped, Ok(bytes));
+            assert!(rt; used == bytes.len(), "{bytes:?}");
+            assert!(rt; skipped == Ok(bytes));
             is_item(rt, alloc, &item, notation, bytes)
         }
         (Err(CborFault::Refused { place, reason }), Refused(at, why)) => {
-            assert_eq!(rt; place, at, "{bytes:?}");
-            assert_eq!(rt; reason, why, "{bytes:?}");
+            assert!(rt; place == at, "{bytes:?}");
+            assert!(rt; reason == why, "{bytes:?}");
             let place = at + 100;
-            assert_eq!(rt; skipped, Err(CborRefusal { place, reason }));
-            assert_eq!(rt; cursor.place(), 100);
+            assert!(rt; skipped == Err(CborRefusal { place, reason }));
+            assert!(rt; cursor.place() == 100);
             Ok(())
         }
         (Err(CborFault::NoMemory), _) => Err(AllocError),
@@ -54,15 +53,15 @@ fn is_item(
 ) -> Result<(), AllocError> {
     let mut written = String::new(alloc);
     write_item(alloc, &mut written, item)?;
-    assert_eq!(rt; written.as_str(), notation);
+    assert!(rt; written.as_str() == notation);
     assert!(rt; valid(item));
     let again = encode(alloc, item)?;
-    assert_eq!(rt; again.as_slice(), bytes);
+    assert!(rt; again.as_slice() == bytes);
     Ok(())
 }
 
 #[test]
-fn faults_are_refused_at_their_places(rt: HostRuntime) -> Result<(), Fail> {
+fn faults_are_refused_at_their_places(rt: HostRuntime) -> Result<(), AllocError> {
     let table: [(&[u8], Reading); 16] = [
         (b"", Refused(0, Reason::Truncated)),
         (b"\x18", Refused(1, Reason::Truncated)),
@@ -95,7 +94,7 @@ fn faults_are_refused_at_their_places(rt: HostRuntime) -> Result<(), Fail> {
 
 // The lower five bits 28 to 31, cut short or not.
 #[test]
-fn reserved_heads_are_refused_of_each_major_type(rt: HostRuntime) -> Result<(), Fail> {
+fn reserved_heads_are_refused_of_each_major_type(rt: HostRuntime) -> Result<(), AllocError> {
     for major in 0..8u8 {
         for low in 28..32u8 {
             let first = 32 * major + low;
@@ -112,7 +111,7 @@ fn reserved_heads_are_refused_of_each_major_type(rt: HostRuntime) -> Result<(), 
 }
 
 #[test]
-fn sixteen_levels_are_read_and_seventeen_are_not(rt: HostRuntime) -> Result<(), Fail> {
+fn sixteen_levels_are_read_and_seventeen_are_not(rt: HostRuntime) -> Result<(), AllocError> {
     let deepest = b"\x81\x81\x81\x81\x81\x81\x81\x81\x81\x81\x81\x81\xc1\xa1\x80\x81\xf6";
     let reading = Spells("[[[[[[[[[[[[1({[]: [null]})]]]]]]]]]]]]");
     is_read(&rt, rt.alloc(), deepest, reading)?;
@@ -125,7 +124,7 @@ fn sixteen_levels_are_read_and_seventeen_are_not(rt: HostRuntime) -> Result<(), 
 }
 
 #[test]
-fn what_is_cut_short_is_truncated_at_its_end(rt: HostRuntime) -> Result<(), Fail> {
+fn what_is_cut_short_is_truncated_at_its_end(rt: HostRuntime) -> Result<(), AllocError> {
     let whole: &[u8] = b"\xa2\x61a\x19\x03\xe8\xd8\x18\x42\x00\x01\x82\xf4\x63\xe6\xb0\xb4";
     for length in 0..whole.len() {
         let reading = Refused(length as u64, Reason::Truncated);
@@ -139,12 +138,12 @@ fn a_cursor_hands_out_heads_and_bytes(rt: HostRuntime) {
     let mut cursor = Cursor::new(b"\x82\x43abc\xf5\x05", 7);
     assert!(rt; cursor.head().is_ok_and(|head| head.value == 2));
     assert!(rt; cursor.head().is_ok_and(|head| head.value == 3));
-    assert_eq!(rt; cursor.bytes(3), Ok(b"abc".as_slice()));
+    assert!(rt; cursor.bytes(3) == Ok(b"abc".as_slice()));
     assert!(rt; cursor.head().is_ok_and(|head| head.value == 1));
     let refusal = CborRefusal {
         place: 14,
         reason: Reason::Truncated,
     };
-    assert_eq!(rt; cursor.bytes(2), Err(refusal));
-    assert_eq!(rt; cursor.left(), 1);
+    assert!(rt; cursor.bytes(2) == Err(refusal));
+    assert!(rt; cursor.left() == 1);
 }

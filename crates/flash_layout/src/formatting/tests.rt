@@ -68,31 +68,31 @@ fn state(alloc: Global, disk: &mut MemoryDisk) -> Result<(bool, bool), AllocErro
 }
 
 #[test]
-fn a_flash_is_formatted_once(rt: HostRuntime) -> Result<(), Fail> {
+fn a_flash_is_formatted_once(rt: HostRuntime) -> Result<(), AllocError> {
     let alloc = rt.alloc();
     let mut disk = used(alloc, &[])?;
     assert!(rt; formats(alloc, &mut disk)? == Some(Formatted::Done));
     assert!(rt; formats(alloc, &mut disk)? == Some(Formatted::NotBlank));
     let mut left = disk.after_loss(alloc, 0)?;
-    assert_eq!(rt; state(alloc, &mut left)?, (true, true));
+    assert!(rt; state(alloc, &mut left)? == (true, true));
     Ok(())
 }
 
 #[test]
-fn a_power_loss_leaves_a_flash_blank_or_formatted(rt: HostRuntime) -> Result<(), Fail> {
+fn a_power_loss_leaves_a_flash_blank_or_formatted(rt: HostRuntime) -> Result<(), AllocError> {
     let alloc = rt.alloc();
     for passes in 0..=CALLS {
         let disk = used(alloc, &[])?.after_loss(alloc, u64::MAX)?;
         let mut fuse = FuseDisk::new(disk, passes);
         let done = formats(alloc, &mut fuse)? == Some(Formatted::Done);
-        assert_eq!(rt; done, passes == CALLS);
-        assert_eq!(rt; fuse.starved(), 0);
+        assert!(rt; done == (passes == CALLS));
+        assert!(rt; fuse.starved() == 0);
         let cut = fuse.into_disk();
         for choice in CHOICES {
             let mut left = cut.after_loss(alloc, choice)?;
             let (configured, empty) = state(alloc, &mut left)?;
             let opened = passes == CALLS || passes == CALLS - 1 && choice == u64::MAX;
-            assert_eq!(rt; configured, opened, "{passes} calls, {choice}");
+            assert!(rt; configured == opened, "{passes} calls, {choice}");
             assert!(rt; empty || !configured, "{passes} calls, {choice}");
         }
     }
@@ -100,7 +100,7 @@ fn a_power_loss_leaves_a_flash_blank_or_formatted(rt: HostRuntime) -> Result<(),
 }
 
 #[test]
-fn a_call_that_fails_is_told(rt: HostRuntime) -> Result<(), Fail> {
+fn a_call_that_fails_is_told(rt: HostRuntime) -> Result<(), AllocError> {
     let alloc = rt.alloc();
     for failing in 0..CALLS {
         let mut disk = MemoryDisk::new(alloc, SIZE, &[failing])?;

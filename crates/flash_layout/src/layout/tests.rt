@@ -61,18 +61,18 @@ fn page(alloc: Global) -> Result<[u8; PAGE_BYTES], AllocError> {
 }
 
 #[test]
-fn a_page_has_its_fields_at_their_places(rt: HostRuntime) -> Result<(), Fail> {
+fn a_page_has_its_fields_at_their_places(rt: HostRuntime) -> Result<(), AllocError> {
     let page = page(rt.alloc())?;
-    assert_eq!(rt; &page[0..7], [0xA5, 1, 2, 1, 0x61, 0x62, 0].as_slice());
+    assert!(rt; &page[0..7] == [0xA5, 1, 2, 1, 0x61, 0x62, 0].as_slice());
     // flash, two slots, three bytes of identifier: an array of one byte string of one byte
-    assert_eq!(rt; &page[68..75], [0, 2, 3, 0x81, 0x41, 0, 0].as_slice());
+    assert!(rt; &page[68..75] == [0, 2, 3, 0x81, 0x41, 0, 0].as_slice());
     // no vendor, and a class
-    assert_eq!(rt; page[135], 0);
-    assert_eq!(rt; &page[152..154], [1, 7].as_slice());
-    assert_eq!(rt; &page[186..194], [0, 0, 0, 0, 0, 0, 4, 0].as_slice());
-    assert_eq!(rt; &page[194..202], [0, 0, 0, 0, 0, 0, 0xC0, 0].as_slice());
-    assert_eq!(rt; &page[202..210], [0, 0, 0, 0, 0, 0, 0xC4, 8].as_slice());
-    assert_eq!(rt; page[210], 0);
+    assert!(rt; page[135] == 0);
+    assert!(rt; &page[152..154] == [1, 7].as_slice());
+    assert!(rt; &page[186..194] == [0, 0, 0, 0, 0, 0, 4, 0].as_slice());
+    assert!(rt; &page[194..202] == [0, 0, 0, 0, 0, 0, 0xC0, 0].as_slice());
+    assert!(rt; &page[202..210] == [0, 0, 0, 0, 0, 0, 0xC4, 8].as_slice());
+    assert!(rt; page[210] == 0);
     Ok(())
 }
 
@@ -81,12 +81,12 @@ fn a_page_is_read_back(rt: HostRuntime) -> Result<(), Fail> {
     let alloc = rt.alloc();
     match decode_page(alloc, SIZE, &page(alloc)?)? {
         Some((layout, key)) => {
-            assert_eq!(rt; layout.len(), 1);
+            assert!(rt; layout.len() == 1);
             assert!(rt; is_key(&key));
             match layout.as_slice().first() {
                 Some(entry) => {
-                    assert_eq!(rt; entry.starts, [49152, 50184]);
-                    assert_eq!(rt; entry.capacity, 1024);
+                    assert!(rt; entry.starts == [49152, 50184]);
+                    assert!(rt; entry.capacity == 1024);
                     assert!(rt; entry.class == Some([7; 16]));
                 }
                 None => assert!(rt; false),
@@ -107,7 +107,7 @@ fn reads_with(alloc: Global, at: usize, byte: u8) -> Result<bool, AllocError> {
 }
 
 #[test]
-fn a_damaged_page_is_refused(rt: HostRuntime) -> Result<(), Fail> {
+fn a_damaged_page_is_refused(rt: HostRuntime) -> Result<(), AllocError> {
     let alloc = rt.alloc();
     assert!(rt; reads_with(alloc, 0, 0xA5)?);
     let damages: [(usize, u8); 18] = [
@@ -138,7 +138,7 @@ fn a_damaged_page_is_refused(rt: HostRuntime) -> Result<(), Fail> {
 }
 
 #[test]
-fn slots_that_share_a_byte_are_refused(rt: HostRuntime) -> Result<(), Fail> {
+fn slots_that_share_a_byte_are_refused(rt: HostRuntime) -> Result<(), AllocError> {
     let alloc = rt.alloc();
     assert!(rt;
         is_layout(
@@ -193,7 +193,7 @@ fn a_configuration_is_loaded(rt: HostRuntime) -> Result<(), Fail> {
 }
 
 #[test]
-fn components_have_their_places(rt: HostRuntime) -> Result<(), Fail> {
+fn components_have_their_places(rt: HostRuntime) -> Result<(), AllocError> {
     let alloc = rt.alloc();
     let mut layout = layout_with(alloc, component(alloc, [49152, 50184], 1024)?)?;
     let mut other = component(alloc, [52000, 54000], 1024)?;
@@ -205,15 +205,15 @@ fn components_have_their_places(rt: HostRuntime) -> Result<(), Fail> {
     assert!(rt; layout.len() <= 8);
     match places(&layout, &components) {
         Ok(found) => {
-            assert_eq!(rt; found.count, 2);
-            assert_eq!(rt; found.layout_index, [1, 0, 0, 0, 0, 0, 0, 0]);
+            assert!(rt; found.count == 2);
+            assert!(rt; found.layout_index == [1, 0, 0, 0, 0, 0, 0, 0]);
         }
         Err(_) => assert!(rt; false),
     }
     components.push(identifier(alloc, 5)?)?;
     match places(&layout, &components) {
         Ok(_) => assert!(rt; false),
-        Err(unknown) => assert_eq!(rt; unknown.component, 2),
+        Err(unknown) => assert!(rt; unknown.component == 2),
     }
     Ok(())
 }

@@ -84,7 +84,7 @@ fn left_of(disk: &MemoryDisk, alloc: Global, choice: u64) -> Result<[u8; SIZE], 
 }
 
 #[test]
-fn a_gated_write_is_cut_at_each_call(rt: HostRuntime) -> Result<(), Fail> {
+fn a_gated_write_is_cut_at_each_call(rt: HostRuntime) -> Result<(), AllocError> {
     let wanted = [
         [Page::Old, Page::Old, Page::Old],
         [Page::Old, Page::Old, Page::Old],
@@ -98,12 +98,12 @@ fn a_gated_write_is_cut_at_each_call(rt: HostRuntime) -> Result<(), Fail> {
     for (passes, pages) in wanted.iter().enumerate() {
         let mut fuse = with_fuse(rt.alloc(), passes as u64)?;
         let edge = write_gated(&mut fuse, PLACE, PLACE + 1, b"new.");
-        assert_eq!(rt; edge == Edge::Done, passes == 7);
-        assert_eq!(rt; fuse.starved(), 0);
+        assert!(rt; (edge == Edge::Done) == (passes == 7));
+        assert!(rt; fuse.starved() == 0);
         let disk = fuse.into_disk();
         for (page, choice) in pages.iter().zip(CHOICES.iter()) {
             let bytes = left_of(&disk, rt.alloc(), *choice)?;
-            assert_eq!(rt; page_of(&bytes), *page, "{passes} calls, {choice}");
+            assert!(rt; page_of(&bytes) == *page, "{passes} calls, {choice}");
             assert!(rt; front_is(&bytes, 0));
             assert!(rt; rest_is_blank(&bytes));
         }
@@ -112,11 +112,11 @@ fn a_gated_write_is_cut_at_each_call(rt: HostRuntime) -> Result<(), Fail> {
 }
 
 #[test]
-fn a_page_vouches_for_bytes_at_each_cut(rt: HostRuntime) -> Result<(), Fail> {
+fn a_page_vouches_for_bytes_at_each_cut(rt: HostRuntime) -> Result<(), AllocError> {
     for passes in 0..12u64 {
         let mut fuse = with_fuse(rt.alloc(), passes)?;
         let edge = vouch(&mut fuse, 0, &[7; 40], PLACE, PLACE + 1, b"new.");
-        assert_eq!(rt; edge == Edge::Done, passes == 11);
+        assert!(rt; (edge == Edge::Done) == (passes == 11));
         let disk = fuse.into_disk();
         for choice in CHOICES {
             let bytes = left_of(&disk, rt.alloc(), choice)?;
@@ -130,7 +130,7 @@ fn a_page_vouches_for_bytes_at_each_cut(rt: HostRuntime) -> Result<(), Fail> {
 }
 
 #[test]
-fn a_disk_fails_at_each_call_in_turn(rt: HostRuntime) -> Result<(), Fail> {
+fn a_disk_fails_at_each_call_in_turn(rt: HostRuntime) -> Result<(), AllocError> {
     for failing in 0..4u64 {
         let mut disk = MemoryDisk::new(rt.alloc(), SIZE, &[failing])?;
         let mut room = [9; 2];
@@ -138,20 +138,20 @@ fn a_disk_fails_at_each_call_in_turn(rt: HostRuntime) -> Result<(), Fail> {
         let read = disk.read_at(3, &mut room);
         let size = disk.size();
         let sync = disk.sync();
-        assert_eq!(rt; write == Edge::Failed, failing == 0);
-        assert_eq!(rt; read == Edge::Failed, failing == 1);
-        assert_eq!(rt; sync == Edge::Failed, failing == 2);
-        assert_eq!(rt; size, 64);
-        assert_eq!(rt; disk.starved(), 0);
+        assert!(rt; (write == Edge::Failed) == (failing == 0));
+        assert!(rt; (read == Edge::Failed) == (failing == 1));
+        assert!(rt; (sync == Edge::Failed) == (failing == 2));
+        assert!(rt; size == 64);
+        assert!(rt; disk.starved() == 0);
         let held = match failing {
             0 => [0, 0],
             1 => [9, 9],
             _ => [97, 98],
         };
-        assert_eq!(rt; room, held);
+        assert!(rt; room == held);
         let bytes = left_of(&disk, rt.alloc(), 0)?;
         let kept = failing == 1 || failing == 3;
-        assert_eq!(rt; bytes[3] == 97, kept);
+        assert!(rt; (bytes[3] == 97) == kept);
     }
     Ok(())
 }
@@ -184,7 +184,7 @@ fn a_real_disk_is_made_filled_and_left_alone(rt: HostRuntime) -> Result<(), Fail
     fs::write(&rt, NAME, longer.as_slice())?;
     assert!(rt; writes(&rt, 4_194_300, b"abcd"), "longer");
     let file = fs::read(&rt, NAME)?;
-    assert_eq!(rt; file.len(), 4_194_306);
+    assert!(rt; file.len() == 4_194_306);
     assert!(rt; file.ends_with(b"abcd\x05\x05"));
     fs::remove_file(&rt, NAME)?;
     fs::create_dir(&rt, NAME)?;

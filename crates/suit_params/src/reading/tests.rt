@@ -3,7 +3,6 @@
 use crate::{Digest, Refusal, Why, only_item, read_content, read_digest, read_item, same_place};
 use det_cbor::{Cursor, Reason};
 use std::alloc::{AllocError, Global};
-use std::test::Fail;
 
 // These bytes, and 32 bytes of 7 behind them.
 fn with_bytes_behind(alloc: Global, front: &[u8]) -> Result<Vec<u8>, AllocError> {
@@ -13,19 +12,19 @@ fn with_bytes_behind(alloc: Global, front: &[u8]) -> Result<Vec<u8>, AllocError>
 }
 
 #[test]
-fn a_digest_is_read(rt: HostRuntime) -> Result<(), Fail> {
+fn a_digest_is_read(rt: HostRuntime) -> Result<(), AllocError> {
     let mut bytes = with_bytes_behind(rt.alloc(), b"\x82\x2f\x58\x20")?;
     bytes.push(0)?;
     let mut cursor = Cursor::new(bytes.as_slice(), 100);
     let digest = Digest { bytes: [7; 32] };
-    assert_eq!(rt; read_digest(&mut cursor), Ok(digest));
-    assert_eq!(rt; cursor.place(), 136);
-    assert_eq!(rt; cursor.left(), 1);
+    assert!(rt; read_digest(&mut cursor) == Ok(digest));
+    assert!(rt; cursor.place() == 136);
+    assert!(rt; cursor.left() == 1);
     Ok(())
 }
 
 #[test]
-fn what_is_no_digest_is_refused_at_its_place(rt: HostRuntime) -> Result<(), Fail> {
+fn what_is_no_digest_is_refused_at_its_place(rt: HostRuntime) -> Result<(), AllocError> {
     let table: [(&[u8], u64, Why); 20] = [
         // -15, 16 and -43 are other algorithms, whatever the second element is
         (b"\x82\x2e\x58\x20", 100, Why::Algorithm),
@@ -57,13 +56,12 @@ fn what_is_no_digest_is_refused_at_its_place(rt: HostRuntime) -> Result<(), Fail
     for (front, place, why) in table {
         let bytes = with_bytes_behind(rt.alloc(), front)?;
         let mut cursor = Cursor::new(bytes.as_slice(), 100);
-        assert_eq!(rt;
-            read_digest(&mut cursor),
-            Err(Refusal { place, why }),
+        assert!(rt;
+            read_digest(&mut cursor) == Err(Refusal { place, why }),
             "{front:?}"
         );
-        assert_eq!(rt; cursor.place(), 100);
-        assert_eq!(rt; cursor.left(), bytes.len());
+        assert!(rt; cursor.place() == 100);
+        assert!(rt; cursor.left() == bytes.len());
     }
     Ok(())
 }
@@ -72,10 +70,10 @@ fn what_is_no_digest_is_refused_at_its_place(rt: HostRuntime) -> Result<(), Fail
 fn a_byte_string_is_read_as_its_content(rt: HostRuntime) {
     let mut cursor = Cursor::new(b"\x42\xaa\xbb\x62ab", 5);
     assert!(rt; read_content(&mut cursor).is_ok_and(|c| c.place() == 6 && c.left() == 2));
-    assert_eq!(rt; cursor.place(), 8);
+    assert!(rt; cursor.place() == 8);
     let mut copy = same_place(&mut cursor);
     assert!(rt; read_item(&mut copy).is_ok_and(|c| c.place() == 8 && c.left() == 3));
-    assert_eq!(rt; copy.left(), 0);
+    assert!(rt; copy.left() == 0);
     let refusal = Refusal {
         place: 8,
         why: Why::Shape,

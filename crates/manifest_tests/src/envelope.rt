@@ -1,0 +1,5 @@
+//! Tests of envelopes.
+
+mod decoding;
+mod encoding;
+mod payloads;

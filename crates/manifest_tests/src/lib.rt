@@ -1,0 +1,12 @@
+//! Tests of `hmac_mac0`, `suit_commands`, `suit_envelope` and `suit_manifest`, over their public calls alone: a crate that
+//! holds its own tests is proved twice.
+#![tactic(auto)]
+
+#[cfg(test)]
+mod commands;
+#[cfg(test)]
+mod envelope;
+#[cfg(test)]
+mod mac;
+#[cfg(test)]
+mod manifest;

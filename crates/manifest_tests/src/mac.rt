@@ -1,0 +1,4 @@
+//! Tests of Mac0 blocks.
+
+mod blocks;
+mod pieces;

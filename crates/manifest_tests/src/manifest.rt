@@ -1,0 +1,7 @@
+//! Tests of manifests.
+
+mod decoding;
+mod encoding;
+mod manifest_makers;
+mod members;
+mod plans;
