@@ -8,3 +8,5 @@ pub mod Lifting
 pub mod Image
 pub mod Launching
 pub mod FetchPlays
+pub mod Keys
+pub mod TakenFiles

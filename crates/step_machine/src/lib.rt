@@ -4,6 +4,7 @@
 mod conditions;
 mod contents;
 mod directives;
+mod fetching;
 mod filling;
 mod invoking;
 #[cfg(test)]
@@ -13,9 +14,13 @@ mod payloads;
 mod pieces;
 mod spot;
 mod stop;
+mod taking;
+mod uris;
 
 pub use conditions::passes;
 pub use directives::write;
+pub use fetching::fetch;
 pub use invoking::invoke;
 pub use spot::{Spot, Standing};
 pub use stop::Stop;
+pub use uris::Uris;
