@@ -4,6 +4,8 @@
 mod conditions;
 mod contents;
 mod directives;
+#[cfg(test)]
+mod fetch_tests;
 mod fetching;
 mod filling;
 mod invoking;
