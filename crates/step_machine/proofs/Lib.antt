@@ -2,9 +2,13 @@ pub mod Passing
 pub mod Ranging
 pub mod Memory
 pub mod Writing
+pub mod Sourceless
+pub mod CopyPlays
+pub mod Rooms
 pub mod Short
 pub mod Composing
 pub mod Lifting
 pub mod Image
 pub mod Launching
 pub mod FetchPlays
+pub mod Both

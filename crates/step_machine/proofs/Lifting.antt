@@ -17,7 +17,7 @@ use Rattle.step_machine.specs.Devices.{contents_of, AreSpotsClear, IsApart}
 
 -- ---- one other content
 
-clear_outside : (p m q n : ℕ) → AreClear p m q n → (i : ℕ) → q ≤ i → i < q + n → Outside p m i
+pub clear_outside : (p m q n : ℕ) → AreClear p m q n → (i : ℕ) → q ≤ i → i < q + n → Outside p m i
 clear_outside p m q n clear i lo hi = elim (cases_lt q p) [
   | inl lt ↦ let below : q + n ≤ p = clear.1 (omega (arith, lt)) in inl (omega (arith, below, hi))
   | inr le ↦ let above : p + m ≤ q = clear.0 le in inr (omega (arith, above, lo))
@@ -30,7 +30,7 @@ kept_slot K slot f g fits inside kept =
     let end : slot.start + extent_of slot ≤ length g.reads = omega (arith, fits, size) in
     ap (content_in slot.capacity) (same_range g.reads f.reads slot.start (slot.start + extent_of slot) size end (λ i lo hi. kept.reads.same i (inside i lo hi)))
 
-kept_content : (a b : Spot) (ram after : List Held) (f g : Flash) → AreSpotsClear a b → IsSpot (length f.reads) ram b → IsRamBut a ram after → Keeps (OutsideSpot a) f g
+pub kept_content : (a b : Spot) (ram after : List Held) (f g : Flash) → AreSpotsClear a b → IsSpot (length f.reads) ram b → IsRamBut a ram after → Keeps (OutsideSpot a) f g
     → content_of b after g.reads ≡ content_of b ram f.reads
 kept_content (spots.Flash x) (spots.Flash y) ram after f g clear fits but kept =
     kept_slot (OutsideSpot (spots.Flash x)) y f g fits (clear_outside x.start (extent_of x) y.start (extent_of y) clear) kept

@@ -8,14 +8,14 @@ use Rattle.step_machine.specs.declared.spot.Spot.TheVariants as spots
 use Rattle.step_machine.specs.Spots.{IsRamBut}
 
 -- what is held after a change
-held-holding : (ram : List Held) (c : ℕ) (content : List ℕ) → c < length ram → held_by (holding ram c content) c ≡ record { capacity = (held_by ram c).capacity; content = content }
-held-holding ram c content lt = get_or-set_same ram c (record { capacity = (held_by ram c).capacity; content = content }) (empty 0) lt
+pub held_holding : (ram : List Held) (c : ℕ) (content : List ℕ) → c < length ram → held_by (holding ram c content) c ≡ record { capacity = (held_by ram c).capacity; content = content }
+held_holding ram c content lt = get_or-set_same ram c (record { capacity = (held_by ram c).capacity; content = content }) (empty 0) lt
 
 -- emptied, and then put behind nothing
 pub refilled : (old middle new : List Held) (c : ℕ) (bytes : List ℕ) → c < length old → middle ≡ holding old c [] → new ≡ holding middle c ((held_by middle c).content ++ bytes) → new ≡ holding old c bytes
 refilled old middle new c bytes lt is put =
     let emptied : Held = record { capacity = (held_by old c).capacity; content = [] } in
-    let here : held_by middle c ≡ emptied = ap (λ (r : List Held). held_by r c) is ∙ held-holding old c [] lt in
+    let here : held_by middle c ≡ emptied = ap (λ (r : List Held). held_by r c) is ∙ held_holding old c [] lt in
     let filled : Held = record { capacity = (held_by old c).capacity; content = bytes } in
     put ∙ ap (λ (h : Held). slice_set middle c (record { capacity = h.capacity; content = h.content ++ bytes })) here
     ∙ ap (λ (r : List Held). slice_set r c filled) is ∙ set-set old c emptied filled
@@ -24,7 +24,7 @@ refilled old middle new c bytes lt is put =
 pub overfull : (old middle : List Held) (c : ℕ) (bytes : List ℕ) → c < length old → middle ≡ holding old c [] → length bytes ≤ (held_by old c).capacity → (held_by middle c).capacity < length (held_by middle c).content + length bytes → ⊥
 overfull old middle c bytes lt is fits large =
     let emptied : Held = record { capacity = (held_by old c).capacity; content = [] } in
-    let here : held_by middle c ≡ emptied = ap (λ (r : List Held). held_by r c) is ∙ held-holding old c [] lt in
+    let here : held_by middle c ≡ emptied = ap (λ (r : List Held). held_by r c) is ∙ held_holding old c [] lt in
     let room : (held_by middle c).capacity ≡ (held_by old c).capacity = ap (λ (h : Held). h.capacity) here in
     let none : length (held_by middle c).content ≡ 0 = ap (λ (h : Held). length h.content) here in
     omega (arith, fits, large, room, none)

@@ -1,8 +1,10 @@
 //! The step machine: procedures that run on devices.
 #![tactic(auto)]
 
+mod areas;
 mod conditions;
 mod contents;
+mod copying;
 mod directives;
 mod filling;
 mod invoking;
@@ -15,6 +17,7 @@ mod spot;
 mod stop;
 
 pub use conditions::passes;
+pub use copying::copy;
 pub use directives::write;
 pub use invoking::invoke;
 pub use spot::{Spot, Standing};
