@@ -88,3 +88,9 @@ put_behind old middle new c piece lt was put =
     let long : length middle ≡ length old = ram_long (spots.Ram c) old middle (x, was) in
     let content : (held_by new c).content ≡ all = ap (λ (r : List Held). (held_by r c).content) put ∙ ap (λ (h : Held). h.content) (held_holding middle c all (omega (arith, lt, long))) in
     (put ∙ ap (λ (r : List Held). holding r c all) was ∙ holding_again old c x all ∙ ap (holding old c) (sym content), content)
+
+pub both_spot : (a b e : Spot) (size now : ℕ) (ram after : List Held) → now ≡ size → IsRamButBoth a b ram after → IsSpot size ram e → IsSpot now after e
+both_spot a b e size now ram after same (m, one, two) inside = spot_stays b e size now m after same two (spot_stays a e size size ram m refl one inside)
+
+pub both_room : (a b e : Spot) (ram after : List Held) → IsRamButBoth a b ram after → room_at e after ≡ room_at e ram
+both_room a b e ram after (m, one, two) = room_stays b e m after two ∙ room_stays a e ram m one

@@ -12,3 +12,6 @@ pub mod Image
 pub mod Launching
 pub mod FetchPlays
 pub mod Both
+pub mod SwapPlays
+pub mod Mixed
+pub mod LiftingBoth

@@ -23,7 +23,7 @@ clear_outside p m q n clear i lo hi = elim (cases_lt q p) [
   | inr le ↦ let above : p + m ≤ q = clear.0 le in inr (omega (arith, above, lo))
 ]
 
-kept_slot : (K : ℕ → Type 0) (slot : Slot) (f g : Flash) → slot.start + extent_of slot ≤ length f.reads → ((i : ℕ) → slot.start ≤ i → i < slot.start + extent_of slot → K i) → Keeps K f g
+pub kept_slot : (K : ℕ → Type 0) (slot : Slot) (f g : Flash) → slot.start + extent_of slot ≤ length f.reads → ((i : ℕ) → slot.start ≤ i → i < slot.start + extent_of slot → K i) → Keeps K f g
     → slot_content slot g.reads ≡ slot_content slot f.reads
 kept_slot K slot f g fits inside kept =
     let size : length g.reads ≡ length f.reads = kept.reads.size in

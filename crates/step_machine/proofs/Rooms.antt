@@ -1,5 +1,5 @@
 -- Contents and pieces as bytes of their rooms.
-use Rattle.std.proofs.Common.{◌≡◌, ◌≤◌, ◌<◌, ◌+◌, ◌-◌, ℕ, List, ◌++◌, length, take, drop, sym, ap, ◌∙◌, arith, take-take, get_or-set_other}
+use Rattle.std.proofs.Common.{◌≡◌, ◌≤◌, ◌<◌, ◌+◌, ◌-◌, ℕ, List, ◌++◌, length, take, drop, refl, sym, ap, ◌∙◌, arith, take-take, get_or-set_other}
 use Rattle.std.proofs.Math.Seq.{take-add}
 use Rattle.std.proofs.lemmas.List.{take_all, take_at, drop-take}
 use Rattle.std.proofs.lemmas.List.Edits.{length-between}
@@ -13,7 +13,7 @@ use Rattle.flash_slots.proofs.Room.{area_front}
 use Rattle.flash_slots.proofs.Stored.{inner_range}
 use Rattle.step_machine.specs.declared.spot.Spot.{Spot}
 use Rattle.step_machine.specs.declared.spot.Spot.TheVariants as spots
-use Rattle.step_machine.specs.Areas.{area_at}
+use Rattle.step_machine.specs.Areas.{IsHeld, KeepsFront, area_at, size_at}
 use Rattle.step_machine.specs.Spots.{content_of, IsSpot, OutsideSpot, IsRamBut}
 use Rattle.step_machine.specs.Devices.{AreSpotsClear}
 use Rattle.step_machine.proofs.Image.{content_range}
@@ -67,5 +67,39 @@ kept_area (spots.Flash x) (spots.Ram j) ram after f g clear fits but kept = ap (
 kept_area (spots.Ram i) (spots.Flash y) ram after f g clear fits but kept =
     kept_room (OutsideSpot (spots.Ram i)) y f g fits (λ k lo hi. tt) kept
 kept_area (spots.Ram i) (spots.Ram j) ram after f g clear fits (content, is) kept =
+    ap (λ (r : List Held). (held_by r j).content) is
+    ∙ ap (λ (h : Held). h.content) (get_or-set_other ram i j (record { capacity = (held_by ram i).capacity; content = content }) (empty 0) clear)
+
+-- ---- rooms that change in place
+
+pub held_spot : (spot : Spot) (size : ℕ) (ram : List Held) → IsSpot size ram spot → IsHeld spot ram
+held_spot (spots.Flash slot) size ram inside = tt
+held_spot (spots.Ram component) size ram inside = inside
+
+pub area_long : (spot : Spot) (ram : List Held) (reads : List ℕ) → IsSpot (length reads) ram spot → length (area_at spot ram reads) ≡ size_at spot ram
+area_long (spots.Flash slot) ram reads inside =
+    omega (arith, length-between reads (slot.start + 8) (slot.start + 8 + slot.capacity) (omega (arith, inside)))
+area_long (spots.Ram component) ram reads inside = refl
+
+-- the first bytes stay
+pub front_stays : (spot : Spot) (old new : List Held) (reads : List ℕ) (n : ℕ) → KeepsFront spot old new → n ≤ size_at spot old → take n (area_at spot new reads) ≡ take n (area_at spot old reads)
+front_stays (spots.Flash slot) old new reads n kept few = refl
+front_stays (spots.Ram component) old new reads n kept few =
+    let long : ℕ = length (held_by old component).content in
+    sym (take-take n long (held_by new component).content few) ∙ ap (take n) kept
+
+-- the sizes stay where another content changes
+pub size_stays : (a b : Spot) (ram after : List Held) → AreSpotsClear a b → IsRamBut a ram after → size_at b after ≡ size_at b ram
+size_stays a (spots.Flash y) ram after clear but = refl
+size_stays (spots.Flash x) (spots.Ram j) ram after clear but = ap (λ (r : List Held). length (held_by r j).content) but
+size_stays (spots.Ram i) (spots.Ram j) ram after clear (content, is) =
+    ap (λ (r : List Held). length (held_by r j).content) is
+    ∙ ap (λ (h : Held). length h.content) (get_or-set_other ram i j (record { capacity = (held_by ram i).capacity; content = content }) (empty 0) clear)
+
+-- and the first bytes of another do
+pub front_but : (a b : Spot) (ram after : List Held) (reads : List ℕ) → AreSpotsClear a b → IsRamBut a ram after → area_at b after reads ≡ area_at b ram reads
+front_but a (spots.Flash y) ram after reads clear but = refl
+front_but (spots.Flash x) (spots.Ram j) ram after reads clear but = ap (λ (r : List Held). (held_by r j).content) but
+front_but (spots.Ram i) (spots.Ram j) ram after reads clear (content, is) =
     ap (λ (r : List Held). (held_by r j).content) is
     ∙ ap (λ (h : Held). h.content) (get_or-set_other ram i j (record { capacity = (held_by ram i).capacity; content = content }) (empty 0) clear)

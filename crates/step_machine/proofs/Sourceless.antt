@@ -1,5 +1,5 @@
 -- A copy and a swap without a source, as plays have it.
-use Rattle.std.proofs.Common.{◌≡◌, ℕ, List, [], ◌∷◌, None, Err, ap, refl}
+use Rattle.std.proofs.Common.{◌≡◌, ℕ, [], ◌∷◌, None, Err, ap, refl}
 use Rattle.suit_params.specs.declared.param.ParamKey.TheVariants as keys
 use Rattle.suit_params.specs.InForce.{in_force, number_of}
 use Rattle.suit_commands.specs.declared.kinds.ActKind.TheVariants as acts

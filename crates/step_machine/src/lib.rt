@@ -6,6 +6,7 @@ mod conditions;
 mod contents;
 mod copying;
 mod directives;
+mod exchanging;
 mod filling;
 mod invoking;
 #[cfg(test)]
@@ -15,6 +16,7 @@ mod payloads;
 mod pieces;
 mod spot;
 mod stop;
+mod swapping;
 
 pub use conditions::passes;
 pub use copying::copy;
@@ -22,3 +24,4 @@ pub use directives::write;
 pub use invoking::invoke;
 pub use spot::{Spot, Standing};
 pub use stop::Stop;
+pub use swapping::swap;
