@@ -2,7 +2,6 @@ pub mod Passing
 pub mod Ranging
 pub mod Memory
 pub mod Writing
-pub mod Sourceless
 pub mod CopyPlays
 pub mod Rooms
 pub mod Short
@@ -14,4 +13,3 @@ pub mod FetchPlays
 pub mod Both
 pub mod SwapPlays
 pub mod Mixed
-pub mod LiftingBoth

@@ -44,14 +44,14 @@ kept_content (spots.Ram i) (spots.Ram j) ram after f g clear fits (content, is) 
 -- ---- all of them
 
 module _ {A B : Type 0} (f g : A → B) where
-  map_same : (l : List A) → ((k : ℕ) (d : A) → k < length l → g (get_or l k d) ≡ f (get_or l k d)) → map g l ≡ map f l
+  pub map_same : (l : List A) → ((k : ℕ) (d : A) → k < length l → g (get_or l k d) ≡ f (get_or l k d)) → map g l ≡ map f l
   map_same [] same = refl
   map_same (x ∷ l) same =
       let here : g x ≡ f x = same 0 x (omega arith) in
       let rest = map_same l (λ k d lt. same (suc k) d (omega (arith, lt))) in
       ap (λ (y : B). y ∷ map g l) here ∙ ap (λ (ys : List B). f x ∷ ys) rest
 
-  map_but : (l : List A) (c : ℕ) (d : A) → c < length l → ((k : ℕ) (d : A) → k < length l → k ≢ c → g (get_or l k d) ≡ f (get_or l k d)) → map g l ≡ set (map f l) c (g (get_or l c d))
+  pub map_but : (l : List A) (c : ℕ) (d : A) → c < length l → ((k : ℕ) (d : A) → k < length l → k ≢ c → g (get_or l k d) ≡ f (get_or l k d)) → map g l ≡ set (map f l) c (g (get_or l c d))
   map_but [] c d lt same = absurd (omega (arith, lt))
   map_but (x ∷ l) zero d lt same =
       ap (λ (ys : List B). g x ∷ ys) (map_same l (λ k e below. same (suc k) e (omega (arith, below)) (omega arith)))

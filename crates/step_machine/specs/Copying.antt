@@ -1,5 +1,4 @@
--- What a copy and a swap come to for two components, as plays have it (draft-ietf-suit-manifest-25, sections 8.4.10.5 and
--- 8.4.10.7).
+-- What a copy and a swap come to for two components, as plays have it (draft-ietf-suit-manifest-25, section 8.4.10).
 use Rattle.std.specs.Prelude.{◌≡◌, ◌≢◌, ◌<◌, ℕ, List, Some, Result, length}
 use Rattle.suit_params.specs.declared.param.ParamKey.TheVariants as keys
 use Rattle.suit_params.specs.InForce.{in_force, number_of}

@@ -4,6 +4,8 @@
 mod areas;
 mod conditions;
 mod contents;
+#[cfg(test)]
+mod copy_tests;
 mod copying;
 mod directives;
 mod exchanging;
