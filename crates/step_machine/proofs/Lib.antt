@@ -2,6 +2,8 @@ pub mod Passing
 pub mod Ranging
 pub mod Memory
 pub mod Writing
+pub mod CopyPlays
+pub mod Rooms
 pub mod Short
 pub mod Composing
 pub mod Lifting
@@ -10,3 +12,6 @@ pub mod Launching
 pub mod FetchPlays
 pub mod Keys
 pub mod TakenFiles
+pub mod Both
+pub mod SwapPlays
+pub mod Mixed

@@ -6,3 +6,5 @@ pub mod Comes
 pub mod Devices
 pub mod Invoking
 pub mod Fetching
+pub mod Copying
+pub mod Areas
