@@ -7,4 +7,10 @@ pub mod Devices
 pub mod Invoking
 pub mod Fetching
 pub mod Copying
+pub mod Worlds
+pub mod PlanRuns
+pub mod Running
+pub mod Allowing
+pub mod Parts
+pub mod Overriding
 pub mod Areas
