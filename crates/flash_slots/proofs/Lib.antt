@@ -2,4 +2,5 @@ pub mod Stored
 pub mod Whole
 pub mod Since
 pub mod Over
+pub mod Room
 mod Rams

@@ -88,7 +88,7 @@ split_range l q a b fits =
     let e3 : q + a + b - (q + a) ≡ b = omega arith in
     ap (λ (k : ℕ). take k (drop q l)) e1 ∙ take-add a b (drop q l) ∙ sym (ap (λ (k : ℕ). take k (drop q l) ++ slice_range l (q + a) (q + a + b)) e2 ∙ ap (λ (k : ℕ). take a (drop q l) ++ take k (drop (q + a) l)) e3 ∙ ap (λ (m : List ℕ). take a (drop q l) ++ take b m) (sym (drop-drop a q l)))
 
-inner_range : (image : List ℕ) (p n from k : ℕ) → from + k ≤ n → take k (drop from (slice_range image p (p + n))) ≡ slice_range image (p + from) (p + from + k)
+pub inner_range : (image : List ℕ) (p n from k : ℕ) → from + k ≤ n → take k (drop from (slice_range image p (p + n))) ≡ slice_range image (p + from) (p + from + k)
 inner_range image p n from k inside =
     let e1 : p + n - p ≡ n = omega arith in
     let e2 : n ≡ from + (n - from) = omega arith in

@@ -27,6 +27,10 @@ part_of slot from n image = slice_range image (slot.start + LENGTH_SIZE + from) 
 abbrev pub pieces_of : Slot → ℕ → List ℕ → List ℕ
 pieces_of slot n image = slice_range image (slot.start + LENGTH_SIZE) (slot.start + LENGTH_SIZE + n)
 
+-- all bytes of the room for the content, whatever its length
+abbrev pub area_of : Slot → List ℕ → List ℕ
+area_of slot image = pieces_of slot slot.capacity image
+
 abbrev pub IsEmptySlot : Slot → List ℕ → Type 0
 IsEmptySlot slot image = slot_content slot image ≡ []
 

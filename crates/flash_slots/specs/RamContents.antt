@@ -1,5 +1,5 @@
 -- Contents in working memory: for each component of a layout how many bytes it may hold there, and those that it holds.
-use Rattle.std.specs.Prelude.{◌≡◌, ◌<◌, ◌≤◌, ◌+◌, ℕ, List, [], ◌++◌, length, map, slice_index_or, slice_set, Result, Ok, Err}
+use Rattle.std.specs.Prelude.{◌≡◌, ◌<◌, ◌≤◌, ◌+◌, ℕ, List, [], ◌++◌, length, map, take, slice_index_or, slice_set, Result, Ok, Err}
 use Rattle.flash_layout.specs.declared.layout.Entry.{Entry}
 use Rattle.flash_layout.specs.declared.layout.Memory.{Memory}
 use Rattle.flash_layout.specs.declared.layout.Memory.TheVariants as memory
@@ -47,3 +47,9 @@ AppendsTo old component piece new (Ok _) =
     (length (held_by old component).content + length piece ≤ (held_by old component).capacity) × (new ≡ holding old component ((held_by old component).content ++ piece))
 AppendsTo old component piece new (Err e) =
     ((held_by old component).capacity < length (held_by old component).content + length piece) × (e.capacity ≡ (held_by old component).capacity) × (new ≡ old)
+
+-- The content has so many bytes, and begins with those that it had. There is as much room as before.
+pub record Stretches (old : Held) (size : ℕ) (new : Held) : Type 0 where
+  pub capacity : new.capacity ≡ old.capacity
+  pub long : length new.content ≡ size
+  pub front : take (length old.content) new.content ≡ old.content

@@ -1,6 +1,6 @@
 //! Room in working memory for one content.
 
-ghost use Rattle.flash_slots.specs.RamContents.{Appends, empty};
+ghost use Rattle.flash_slots.specs.RamContents.{Appends, Stretches, empty};
 ghost use Rattle.std.specs.Prelude.{◌≡◌, ◌≤◌, ◌+◌, ◌++◌, IfOk, length, take};
 ghost use Rattle.suit_edge.specs.Ranges.{written};
 
@@ -102,6 +102,15 @@ impl Area {
         requires { size ≤ length self.old.content }
         ensures capacity { self.new.capacity ≡ self.old.capacity }
         ensures content { self.new.content ≡ take size self.old.content }
+    {
+        self.used = size;
+    }
+
+    /// Lets the content have so many bytes: those behind the ones before are any.
+    pub(crate) fn stretch(&mut self, size: usize)
+        requires behind { length self.old.content ≤ size }
+        requires fits { size ≤ self.old.capacity }
+        ensures { Stretches self.old size self.new }
     {
         self.used = size;
     }

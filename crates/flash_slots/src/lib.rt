@@ -3,6 +3,7 @@
 
 mod area;
 mod law;
+mod overwriting;
 mod passing;
 mod ram;
 #[cfg(test)]
@@ -14,7 +15,8 @@ mod writing;
 
 pub use area::TooLarge;
 pub use law::ram_laws;
+pub use overwriting::{overwrite, set_length};
 pub use passing::{digest, same_content};
 pub use ram::Ram;
-pub use reading::{length, read};
+pub use reading::{length, read, read_some};
 pub use writing::{AppendFault, Writing, begin};

@@ -1,6 +1,6 @@
 //! Contents in working memory.
 
-ghost use Rattle.flash_slots.specs.RamContents.{AppendsTo, empty_ram, held_by, holding, ram_capacity};
+ghost use Rattle.flash_slots.specs.RamContents.{AppendsTo, Stretches, empty_ram, held_by, holding, ram_capacity};
 ghost use Rattle.std.specs.Prelude.{◌≡◌, ◌<◌, ◌≤◌, ◌+◌, [], IfOk, length, take};
 ghost use Rattle.suit_edge.specs.Ranges.{written};
 
@@ -94,5 +94,17 @@ impl Ram {
     {
         let area = &mut self.areas[component as usize];
         area.cut(size);
+    }
+
+    /// Lets a component's content have so many bytes: those behind the ones before are any.
+    pub fn stretch(&mut self, component: u32, size: usize)
+        requires component { component < length self.old }
+        requires behind { length (held_by self.old component).content ≤ size }
+        requires fits { size ≤ (held_by self.old component).capacity }
+        ensures held { Stretches (held_by self.old component) size (held_by self.new component) }
+        ensures others { self.new ≡ holding self.old component (held_by self.new component).content }
+    {
+        let area = &mut self.areas[component as usize];
+        area.stretch(size);
     }
 }

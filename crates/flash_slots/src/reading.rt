@@ -31,8 +31,9 @@ pub fn length<D: Disk>(disk: &mut D, slot: Slot) -> Result<u64, FlashFault>
     }
 }
 
-// Reads a content of that size from one of its bytes on, as much as fits in the room.
-pub(crate) fn read_some<D: Disk>(
+/// Reads so many of the first bytes of the room for the content, from one of them on, as much as fits, and says how many
+/// bytes that are. Where it fails, the room holds any bytes.
+pub fn read_some<D: Disk>(
     disk: &mut D,
     slot: Slot,
     size: u64,

@@ -11,7 +11,7 @@ use Rattle.step_machine.specs.declared.stop.Stop.TheVariants as stops
 use Rattle.step_machine.specs.Directives.{Stops, IsCutSo}
 use Rattle.step_machine.specs.Comes.{Comes}
 
-stops_as : (p : ℕ) (cause : Cause) (v : Device) (o other : Outcome Device) → o.ending ≡ other.ending → o.cause ≡ other.cause → o.world ≡ other.world → Stops p cause v other → Stops p cause v o
+pub stops_as : (p : ℕ) (cause : Cause) (v : Device) (o other : Outcome Device) → o.ending ≡ other.ending → o.cause ≡ other.cause → o.world ≡ other.world → Stops p cause v other → Stops p cause v o
 stops_as p cause v o other e c w h = record { ending = e ∙ h.ending; named = c ∙ h.named; world = w ∙ h.world }
 
 module _ (first second : Play Device) (s t : State) (w v : Device) (done : (first.comes s w).ending ≡ Done t) (left : (first.comes s w).world ≡ v) where

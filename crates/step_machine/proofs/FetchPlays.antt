@@ -1,5 +1,5 @@
 -- A fetch, as plays have it.
-use Rattle.std.proofs.Common.{◌≡◌, ◌≤◌, ◌<◌, ℕ, Bool, true, false, List, [], ◌∷◌, Option, Some, None, Ok, Err, length, refl, sym, ap, subst, ◌∙◌, arith, inl, inr}
+use Rattle.std.proofs.Common.{◌≡◌, ◌≤◌, ◌<◌, ℕ, List, [], ◌∷◌, Option, Some, None, Ok, Err, length, refl, sym, ap, subst, ◌∙◌, arith, inl, inr}
 use Rattle.std.specs.Prelude.{Result, nat_le}
 use Rattle.std.proofs.lemmas.Bool.{le-leb, lt-leb}
 use Rattle.suit_params.specs.declared.param.ParamKey.TheVariants as keys
@@ -11,8 +11,8 @@ use Rattle.path_model.specs.declared.cause.Cause.TheVariants as causes
 use Rattle.path_model.specs.Behaviour.{State}
 use Rattle.path_model.specs.Settings.{Setting, capacity_of, payload_of}
 use Rattle.path_model.specs.Plays.{Outcome}
-use Rattle.path_model.specs.DevicePlays.{Device, Change, Made, Refused, with_content, concluded, fetched, acted, ActIsCut, FetchLeaves, directive_play}
-use Rattle.step_machine.specs.Fetching.{FetchesAs, TakesIn, payload_by}
+use Rattle.path_model.specs.DevicePlays.{Device, Made, Refused, with_content, concluded, fetched, acted, ActIsCut, FetchLeaves, directive_play}
+use Rattle.step_machine.specs.Fetching.{FetchesAs, TakesIn, TakesNamed, payload_by}
 use Rattle.step_machine.proofs.Writing.{stopped, when_false, when_true, with_same}
 
 module _ (c cap : ℕ) (ps : Parameters) (payloads words : List (List ℕ × List ℕ)) (files : List ℕ → Option (List ℕ)) where
@@ -123,3 +123,19 @@ module _ (c cap : ℕ) (ps : Parameters) (payloads words : List (List ℕ × Lis
     fetch_taken (Err causes.SelfCopy) before after file found is = absurd is
     fetch_taken (Err causes.Absent) before after file found is = absurd is
     fetch_taken (Err causes.LaunchFault) before after file found is = absurd is
+
+    -- ---- what a URI names, where it was looked for
+
+    pub fetch_named : (r : Result (Unit {0}) Cause) (named : Option (List ℕ)) (before after : List ℕ) → payload_by payloads words files uri ≡ named → TakesNamed r cap named before after
+        → FetchesAs c cap ps payloads words files before after r
+    fetch_named (Ok u) named before after is (file, some, takes) = fetch_taken (Ok u) before after file (is ∙ some) takes
+    fetch_named (Err causes.TooLarge) named before after is (file, some, takes) = fetch_taken (Err causes.TooLarge) before after file (is ∙ some) takes
+    fetch_named (Err causes.FlashFault) named before after is (file, some, takes) = fetch_taken (Err causes.FlashFault) before after file (is ∙ some) takes
+    fetch_named (Err causes.Absent) named before after is (none, same) =
+        subst (λ (x : List ℕ). FetchesAs c cap ps payloads words files before x (Err causes.Absent)) (sym same) (fetch_absent before (is ∙ none))
+    fetch_named (Err causes.HostFault) named before after is (inl same) =
+        subst (λ (x : List ℕ). FetchesAs c cap ps payloads words files before x (Err causes.HostFault)) (sym same) (fetch_unstarted before)
+    fetch_named (Err causes.HostFault) named before after is (inr empty) = fetch_emptied before after empty
+    fetch_named (Err causes.Missing) named before after is (file, some, takes) = absurd takes
+    fetch_named (Err causes.SelfCopy) named before after is (file, some, takes) = absurd takes
+    fetch_named (Err causes.LaunchFault) named before after is (file, some, takes) = absurd takes

@@ -17,20 +17,20 @@ use Rattle.step_machine.specs.Devices.{contents_of, AreSpotsClear, IsApart}
 
 -- ---- one other content
 
-clear_outside : (p m q n : ℕ) → AreClear p m q n → (i : ℕ) → q ≤ i → i < q + n → Outside p m i
+pub clear_outside : (p m q n : ℕ) → AreClear p m q n → (i : ℕ) → q ≤ i → i < q + n → Outside p m i
 clear_outside p m q n clear i lo hi = elim (cases_lt q p) [
   | inl lt ↦ let below : q + n ≤ p = clear.1 (omega (arith, lt)) in inl (omega (arith, below, hi))
   | inr le ↦ let above : p + m ≤ q = clear.0 le in inr (omega (arith, above, lo))
 ]
 
-kept_slot : (K : ℕ → Type 0) (slot : Slot) (f g : Flash) → slot.start + extent_of slot ≤ length f.reads → ((i : ℕ) → slot.start ≤ i → i < slot.start + extent_of slot → K i) → Keeps K f g
+pub kept_slot : (K : ℕ → Type 0) (slot : Slot) (f g : Flash) → slot.start + extent_of slot ≤ length f.reads → ((i : ℕ) → slot.start ≤ i → i < slot.start + extent_of slot → K i) → Keeps K f g
     → slot_content slot g.reads ≡ slot_content slot f.reads
 kept_slot K slot f g fits inside kept =
     let size : length g.reads ≡ length f.reads = kept.reads.size in
     let end : slot.start + extent_of slot ≤ length g.reads = omega (arith, fits, size) in
     ap (content_in slot.capacity) (same_range g.reads f.reads slot.start (slot.start + extent_of slot) size end (λ i lo hi. kept.reads.same i (inside i lo hi)))
 
-kept_content : (a b : Spot) (ram after : List Held) (f g : Flash) → AreSpotsClear a b → IsSpot (length f.reads) ram b → IsRamBut a ram after → Keeps (OutsideSpot a) f g
+pub kept_content : (a b : Spot) (ram after : List Held) (f g : Flash) → AreSpotsClear a b → IsSpot (length f.reads) ram b → IsRamBut a ram after → Keeps (OutsideSpot a) f g
     → content_of b after g.reads ≡ content_of b ram f.reads
 kept_content (spots.Flash x) (spots.Flash y) ram after f g clear fits but kept =
     kept_slot (OutsideSpot (spots.Flash x)) y f g fits (clear_outside x.start (extent_of x) y.start (extent_of y) clear) kept
@@ -44,14 +44,14 @@ kept_content (spots.Ram i) (spots.Ram j) ram after f g clear fits (content, is) 
 -- ---- all of them
 
 module _ {A B : Type 0} (f g : A → B) where
-  map_same : (l : List A) → ((k : ℕ) (d : A) → k < length l → g (get_or l k d) ≡ f (get_or l k d)) → map g l ≡ map f l
+  pub map_same : (l : List A) → ((k : ℕ) (d : A) → k < length l → g (get_or l k d) ≡ f (get_or l k d)) → map g l ≡ map f l
   map_same [] same = refl
   map_same (x ∷ l) same =
       let here : g x ≡ f x = same 0 x (omega arith) in
       let rest = map_same l (λ k d lt. same (suc k) d (omega (arith, lt))) in
       ap (λ (y : B). y ∷ map g l) here ∙ ap (λ (ys : List B). f x ∷ ys) rest
 
-  map_but : (l : List A) (c : ℕ) (d : A) → c < length l → ((k : ℕ) (d : A) → k < length l → k ≢ c → g (get_or l k d) ≡ f (get_or l k d)) → map g l ≡ set (map f l) c (g (get_or l c d))
+  pub map_but : (l : List A) (c : ℕ) (d : A) → c < length l → ((k : ℕ) (d : A) → k < length l → k ≢ c → g (get_or l k d) ≡ f (get_or l k d)) → map g l ≡ set (map f l) c (g (get_or l c d))
   map_but [] c d lt same = absurd (omega (arith, lt))
   map_but (x ∷ l) zero d lt same =
       ap (λ (ys : List B). g x ∷ ys) (map_same l (λ k e below. same (suc k) e (omega (arith, below)) (omega arith)))

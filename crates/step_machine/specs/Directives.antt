@@ -43,7 +43,9 @@ WritesAs kind component capacity parameters before after result =
     → component < length device.contents
     → ActsSo (directive_play setting kind place component) place state device result (with_content device component after)
 
--- the flash's count of faults rose for a fault of the flash, and stayed otherwise
+-- the flash's count of faults rose for a fault of the flash, and stayed otherwise; no other object has a fault
 abbrev pub CauseCounts : Result (Unit {0}) Cause → ℕ → ℕ → Type 0
 CauseCounts (Err causes.FlashFault) before now = Faulted before now
+CauseCounts (Err causes.HostFault) before now = ⊥
+CauseCounts (Err causes.LaunchFault) before now = ⊥
 CauseCounts _ before now = now ≡ before

@@ -1,5 +1,5 @@
 -- What a fetch comes to for a component, as plays have it, and what becomes of a file that is taken piece by piece.
-use Rattle.std.specs.Prelude.{◌≡◌, ◌<◌, ◌≤◌, ◌+◌, ◌==◌, ℕ, if◌then◌else◌, List, [], ◌++◌, Option, Result, Ok, Err, get_or, length, take}
+use Rattle.std.specs.Prelude.{◌≡◌, ◌⊎◌, ◌<◌, ◌≤◌, ◌+◌, ◌==◌, ℕ, if◌then◌else◌, List, [], ◌++◌, Option, Some, None, Result, Ok, Err, get_or, length, take}
 use Rattle.std.specs.Option.{option_and_then}
 use Rattle.suit_edge.specs.Faults.{Faulted}
 use Rattle.suit_params.specs.InForce.{Parameters}
@@ -52,6 +52,21 @@ FetchCounts (Err causes.HostFault) before now disk_before disk_now = Faulted bef
 FetchCounts (Err causes.FlashFault) before now disk_before disk_now = (now ≡ before) × Faulted disk_before disk_now
 FetchCounts (Err causes.LaunchFault) before now disk_before disk_now = ⊥
 FetchCounts _ before now disk_before disk_now = (now ≡ before) × (disk_now ≡ disk_before)
+
+-- all of it was put, or it was too large, or a fault came
+abbrev pub PutsIn : Result (Unit {0}) Cause → ℕ → List ℕ → List ℕ → Type 0
+PutsIn (Ok _) capacity file put = (length file ≤ capacity) × (put ≡ file)
+PutsIn (Err causes.TooLarge) capacity file put = capacity < length file
+PutsIn (Err causes.HostFault) capacity file put = Unit {0}
+PutsIn (Err causes.FlashFault) capacity file put = Unit {0}
+PutsIn (Err _) capacity file put = ⊥
+
+-- What was named became the content. Where nothing was, the content stays, and a fault of the host leaves it or empties it.
+abbrev pub TakesNamed : Result (Unit {0}) Cause → ℕ → Option (List ℕ) → List ℕ → List ℕ → Type 0
+TakesNamed (Err causes.Absent) capacity named before after = (named ≡ None) × (after ≡ before)
+TakesNamed (Err causes.HostFault) capacity named before after = (after ≡ before) ⊎ (after ≡ [])
+TakesNamed result capacity named before after =
+    (file : List ℕ) × (named ≡ Some file) × TakesIn result capacity file after
 
 -- ---- as plays have it
 

@@ -6,3 +6,11 @@ pub mod Comes
 pub mod Devices
 pub mod Invoking
 pub mod Fetching
+pub mod Copying
+pub mod Worlds
+pub mod PlanRuns
+pub mod Running
+pub mod Allowing
+pub mod Parts
+pub mod Overriding
+pub mod Areas

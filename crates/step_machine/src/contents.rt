@@ -2,9 +2,10 @@
 
 ghost use Rattle.flash_slots.specs.Contents.{ResultCounts};
 ghost use Rattle.sha2.specs.Sha256.{sha256};
-ghost use Rattle.std.specs.Prelude.{◌≡◌, ◌<◌, IfOk, IsTrue, length};
+ghost use Rattle.std.specs.Prelude.{◌≡◌, ◌<◌, ◌≤◌, IfOk, IsTrue, length};
 ghost use Rattle.std.specs.Str.{bytes_eq};
-ghost use Rattle.step_machine.specs.Spots.{IsSpot, content_of};
+ghost use Rattle.step_machine.specs.Areas.{size_at};
+ghost use Rattle.step_machine.specs.Spots.{IsSpot, content_of, room_at};
 ghost use Rattle.suit_edge.specs.Flash.{Grows, IsSame};
 
 use crate::Spot;
@@ -56,6 +57,8 @@ pub(crate) fn length_at<D: Disk>(disk: &mut D, ram: &Ram, spot: Spot) -> Result<
     requires spot { IsSpot (D.extent disk.old) ram.now spot }
     ensures size { D.extent disk.new ≡ D.extent disk.old }
     ensures counts { ResultCounts result (D.faults disk.old) (D.faults disk.new) }
+    ensures few { IfOk result (λ n. n ≤ room_at spot ram.now) }
+    ensures area { IfOk result (λ n. n ≤ size_at spot ram.now) }
     ensures exact { IsTrue D.told → IfOk result (λ n. n ≡ length (content_of spot ram.now (D.flash disk.old).reads)) }
     ensures same { IsTrue D.told → IsSame (D.flash disk.old) (D.flash disk.new) }
     ensures grows { IsTrue D.told → Grows (D.flash disk.old) (D.flash disk.new) }
@@ -91,5 +94,18 @@ pub(crate) fn same_at<D: Disk>(
             Err(FlashFault) => Err(FlashFault),
         },
         Spot::Ram(component) => Ok(is_equal(ram.content(component), bytes)),
+    }
+}
+
+// A content has no more bytes than there is room for. The call does nothing: its contract is the law.
+pub(crate) fn content_fits<D: Disk>(disk: &D, ram: &Ram, spot: Spot)
+    requires { IsSpot (D.extent disk.now) ram.now spot }
+    ensures { length (content_of spot ram.now (D.flash disk.now).reads) ≤ room_at spot ram.now }
+{
+    match spot {
+        Spot::Flash(_) => {}
+        Spot::Ram(component) => {
+            let _content = ram.content(component);
+        }
     }
 }

@@ -1,21 +1,48 @@
 //! The step machine: procedures that run on devices.
 #![tactic(auto)]
 
+mod acting;
+mod areas;
 mod conditions;
 mod contents;
+#[cfg(test)]
+mod copy_tests;
+mod copying;
 mod directives;
+mod exchanging;
+#[cfg(test)]
+mod fetch_tests;
+mod fetching;
 mod filling;
 mod invoking;
 #[cfg(test)]
 mod leaf_tests;
+mod machine;
+mod outside;
+mod overriding;
 mod params_in_force;
 mod payloads;
 mod pieces;
+mod plan_end;
+mod procedure;
+mod progress;
+mod running;
 mod spot;
 mod stop;
+mod swapping;
+mod taking;
+mod uris;
+mod world;
 
 pub use conditions::passes;
+pub use copying::copy;
 pub use directives::write;
+pub use fetching::fetch;
 pub use invoking::invoke;
+pub use plan_end::PlanEnd;
+pub use procedure::run_plan;
 pub use spot::{Spot, Standing};
 pub use stop::Stop;
+pub use swapping::swap;
+pub use uris::Uris;
+pub use world::{SlotChoice, World};

@@ -1,17 +1,31 @@
-//! A payload that is held becomes a content.
+//! Payloads of the envelope.
 
-ghost use Rattle.std.specs.Prelude.{◌≡◌, ◌<◌, IsTrue};
-ghost use Rattle.step_machine.specs.Directives.{CauseCounts};
-ghost use Rattle.step_machine.specs.Fetching.{TakesIn};
+ghost use Rattle.path_model.specs.Settings.{found_under};
+ghost use Rattle.std.specs.Prelude.{◌≡◌, ◌<◌, ℕ, IsTrue, List, option_map};
+ghost use Rattle.step_machine.specs.Fetching.{FetchCounts, TakesIn};
 ghost use Rattle.step_machine.specs.Spots.{IsRamBut, IsSpot, OutsideSpot, content_of, room_at};
 ghost use Rattle.suit_edge.specs.Flash.{Grows, Keeps};
+ghost use Rattle.suit_envelope.specs.Payloads.{HasPayloads};
 
 use crate::Standing;
 use crate::filling::fill;
+use det_cbor::as_text;
 use flash_layout::FlashFault;
 use flash_slots::Ram;
 use path_model::Cause;
 use suit_edge::Disk;
+use suit_envelope::{Envelope, payload};
+
+// The payload with the key of these bytes. Bytes that are no text are no key.
+pub(crate) fn payload_with<'a>(envelope: &Envelope<'a>, key: &[u8]) -> Option<&'a [u8]>
+    ensures { (payloads : List (List ℕ × List ℕ)) → HasPayloads envelope.now.whole.now payloads
+        → option_map (λ content. content.now) result ≡ found_under payloads key.now }
+{
+    match as_text(key) {
+        Some(text) => payload(envelope, text),
+        None => None,
+    }
+}
 
 // The payload becomes the content. One that is too large leaves the content empty.
 pub(crate) fn fill_with<D: Disk>(
@@ -23,7 +37,7 @@ pub(crate) fn fill_with<D: Disk>(
     requires spot { IsSpot (D.extent disk.old) ram.old standing.now.spot }
     requires room { room_at standing.now.spot ram.old ≡ standing.now.capacity }
     ensures size { D.extent disk.new ≡ D.extent disk.old }
-    ensures counts { CauseCounts result (D.faults disk.old) (D.faults disk.new) }
+    ensures counts { (host : ℕ) → FetchCounts result host host (D.faults disk.old) (D.faults disk.new) }
     ensures ram { IsRamBut standing.now.spot ram.old ram.new }
     ensures takes { IsTrue D.told → TakesIn result standing.now.capacity payload.now
         (content_of standing.now.spot ram.new (D.flash disk.new).reads) }

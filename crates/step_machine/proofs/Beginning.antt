@@ -1,0 +1,170 @@
+-- A procedure that has come so far, and goes on or stops there.
+use Rattle.std.proofs.Common.{◌≡◌, List, [], ◌∷◌, ◌++◌, Result, Ok, Err, map, refl, sym, ap, subst, ◌∙◌, append_assoc}
+use Rattle.std.specs.Prelude.{IsTrue}
+use Rattle.std.proofs.lemmas.List.{append-nil}
+use Rattle.suit_edge.specs.declared.launch.Launch.{Launch}
+use Rattle.suit_edge.specs.Flash.{IsFlash}
+use Rattle.suit_edge.specs.FlashLaws.{keeps_start, keeps_then, grows_start, grows_then}
+use Rattle.suit_commands.specs.Plans.{plan_tree}
+use Rattle.path_model.specs.Behaviour.{State}
+use Rattle.path_model.specs.Settings.{Setting}
+use Rattle.path_model.specs.Plays.{Play}
+use Rattle.path_model.specs.DevicePlays.{Device, Launched}
+use Rattle.step_machine.specs.declared.stop.Stop.{Stop}
+use Rattle.step_machine.specs.declared.machine.Machine.{Machine}
+use Rattle.step_machine.specs.Comes.{Comes}
+use Rattle.step_machine.specs.Invoking.{launched_as}
+use Rattle.step_machine.specs.PlanRuns.{Counts, OutsideTargets}
+use Rattle.step_machine.specs.Running.{Moment, Stays, StopCounts, Fits, Part, Runs, AreSources, counts_at, device_at}
+use Rattle.step_machine.specs.Parts.{nothing_part, then_part}
+use Rattle.step_machine.proofs.Composing.{then_comes, first_stops}
+
+-- ---- what stays
+
+pub stays_start : (machine : Machine) (m : Moment) → Stays machine m m
+stays_start machine m = record {
+  host = refl;
+  disk = refl;
+  launcher = refl;
+  size = refl;
+  rooms = refl;
+  files = λ t. refl;
+  keeps = λ t. keeps_start (OutsideTargets (plan_tree machine.plan.now) machine.standings.now) m.disk.flash;
+  grows = λ t. grows_start m.disk.flash;
+}
+
+abbrev pub Obeys : Moment → Type 0
+Obeys m = IsTrue m.disk.told → IsFlash m.disk.flash m.disk.size
+
+pub stays_then : (machine : Machine) (a b c : Moment) → Obeys b → Stays machine a b → Stays machine b c → Stays machine a c
+stays_then machine a b c law first second = record {
+  host = second.host ∙ first.host;
+  disk = second.disk ∙ first.disk;
+  launcher = second.launcher ∙ first.launcher;
+  size = second.size ∙ first.size;
+  rooms = second.rooms ∙ first.rooms;
+  files = λ t. second.files (subst IsTrue (sym first.host) t) ∙ first.files t;
+  keeps = λ t.
+      let u = subst IsTrue (sym first.disk) t in
+      keeps_then (OutsideTargets (plan_tree machine.plan.now) machine.standings.now) a.disk.flash b.disk.flash c.disk.flash b.disk.size (law u) (first.keeps t) (second.keeps u);
+  grows = λ t.
+      let u = subst IsTrue (sym first.disk) t in
+      grows_then a.disk.flash b.disk.flash c.disk.flash (first.keeps t).images.later (first.grows t) (second.grows u);
+}
+
+pub fits_then : (machine : Machine) (a b : Moment) (setting : Setting) → Stays machine a b → Fits machine a setting → Fits machine b setting
+fits_then machine a b setting stays fits = record {
+  host = subst IsTrue (sym stays.host) fits.host;
+  disk = subst IsTrue (sym stays.disk) fits.disk;
+  launcher = subst IsTrue (sym stays.launcher) fits.launcher;
+  identities = fits.identities;
+  capacities = fits.capacities;
+  payloads = fits.payloads;
+  words = fits.words;
+  files = fits.files ∙ sym (stays.files fits.host);
+}
+
+-- ---- what came to pass before the rest
+
+-- what the rest comes to, the whole comes to
+pub record Led (machine : Machine) (whole rest : Play Device) (s0 : State) (m0 : Moment) (s : State) (m : Moment) (prior : List Launched) : Type 0 where
+  pub gained : List Launch
+  pub added : m.launcher.launches ≡ m0.launcher.launches ++ gained
+  pub leads : (r : Result (Unit {0}) Stop) (t : State) (after : Device) → Comes rest s (device_at machine m (prior ++ map launched_as gained)) r t after
+      → Comes whole s0 (device_at machine m0 prior) r t after
+
+pub record Begun (machine : Machine) (whole rest : Part) (s0 : State) (m0 : Moment) (s : State) (m : Moment) : Type 0 where
+  pub stays : Stays machine m0 m
+  pub counts : counts_at m ≡ counts_at m0
+  pub sources : AreSources machine s.parameters
+  pub leads : (setting : Setting) → Fits machine m0 setting → (prior : List Launched) → Led machine (whole setting) (rest setting) s0 m0 s m prior
+
+pub begun : (machine : Machine) (whole : Part) (s : State) (m : Moment) → AreSources machine s.parameters → Begun machine whole whole s m s m
+begun machine whole s m sources = record {
+  stays = stays_start machine m;
+  counts = refl;
+  sources = sources;
+  leads = λ setting fits prior. record {
+    gained = [];
+    added = sym (append-nil m.launcher.launches);
+    leads = λ r t after comes. subst (λ (l : List Launched). Comes (whole setting) s (device_at machine m l) r t after) (append-nil prior) comes;
+  };
+}
+
+map-append : {A B : Type 0} (f : A → B) (xs ys : List A) → map f (xs ++ ys) ≡ map f xs ++ map f ys
+map-append f [] ys = refl
+map-append f (x ∷ xs) ys = ap (λ l. f x ∷ l) (map-append f xs ys)
+
+-- the launches of one after another
+pub joined : (prior : List Launched) (one other : List Launch) → (prior ++ map launched_as one) ++ map launched_as other ≡ prior ++ map launched_as (one ++ other)
+joined prior one other =
+    append_assoc prior (map launched_as one) (map launched_as other)
+    ∙ ap (λ (l : List Launched). prior ++ l) (sym (map-append launched_as one other))
+
+module _ (machine : Machine) (whole rest : Part) (s0 : State) (m0 : Moment) (s : State) (m : Moment) (law : Obeys m) (b : Begun machine whole rest s0 m0 s m) where
+  -- the rest runs, and so does the whole
+  pub runs_last : (r : Result (Unit {0}) Stop) (t : State) (n : Moment) → Runs machine rest s m r t n → Runs machine whole s0 m0 r t n
+  runs_last r t n last = record {
+    stays = stays_then machine m0 m n law b.stays last.stays;
+    counts = subst (λ (x : Counts). StopCounts r x (counts_at n)) b.counts last.counts;
+    sources = last.sources;
+    goes = λ setting fits prior.
+        let led = b.leads setting fits prior in
+        let more = last.goes setting (fits_then machine m0 m setting b.stays fits) (prior ++ map launched_as led.gained) in
+        record {
+          gained = led.gained ++ more.gained;
+          added = more.added ∙ ap (λ (l : List Launch). l ++ more.gained) led.added ∙ append_assoc m0.launcher.launches led.gained more.gained;
+          comes = led.leads r t (device_at machine n (prior ++ map launched_as (led.gained ++ more.gained)))
+              (subst (λ (l : List Launched). Comes (rest setting) s (device_at machine m (prior ++ map launched_as led.gained)) r t (device_at machine n l)) (joined prior led.gained more.gained) more.comes);
+        };
+  }
+
+module _ (machine : Machine) (whole first second : Part) (s0 : State) (m0 : Moment) (s : State) (m : Moment) (law : Obeys m) (b : Begun machine whole (then_part first second) s0 m0 s m) where
+  -- the first is stopped, and so is the whole
+  pub runs_stopped : (stop : Stop) (t : State) (n : Moment) → Runs machine first s m (Err stop) t n → Runs machine whole s0 m0 (Err stop) t n
+  runs_stopped stop t n one =
+      runs_last machine whole (then_part first second) s0 m0 s m law b (Err stop) t n (record {
+        stays = one.stays;
+        counts = one.counts;
+        sources = one.sources;
+        goes = λ setting fits prior.
+            let g = one.goes setting fits prior in
+            record {
+              gained = g.gained;
+              added = g.added;
+              comes = first_stops (first setting) (second setting) s (device_at machine m prior) stop t (device_at machine n (prior ++ map launched_as g.gained)) g.comes;
+            };
+      })
+
+  -- the first is done
+  pub begun_then : (u : Unit {0}) (t : State) (n : Moment) → Runs machine first s m (Ok u) t n → Begun machine whole second s0 m0 t n
+  begun_then u t n one = record {
+    stays = stays_then machine m0 m n law b.stays one.stays;
+    counts = one.counts ∙ b.counts;
+    sources = one.sources;
+    leads = λ setting fits prior.
+        let led = b.leads setting fits prior in
+        let more = one.goes setting (fits_then machine m0 m setting b.stays fits) (prior ++ map launched_as led.gained) in
+        record {
+          gained = led.gained ++ more.gained;
+          added = more.added ∙ ap (λ (l : List Launch). l ++ more.gained) led.added ∙ append_assoc m0.launcher.launches led.gained more.gained;
+          leads = λ r v after comes.
+              let here : Comes (second setting) t (device_at machine n ((prior ++ map launched_as led.gained) ++ map launched_as more.gained)) r v after =
+              subst (λ (l : List Launched). Comes (second setting) t (device_at machine n l) r v after) (sym (joined prior led.gained more.gained)) comes in
+              led.leads r v after (then_comes (first setting) (second setting) s t (device_at machine m (prior ++ map launched_as led.gained)) (device_at machine n ((prior ++ map launched_as led.gained) ++ map launched_as more.gained)) more.comes.0 more.comes.1 r v after here);
+        };
+  }
+
+-- nothing is left
+pub runs_done : (machine : Machine) (whole : Part) (s0 : State) (m0 : Moment) (s : State) (m : Moment) (u : Unit {0}) → Obeys m → Begun machine whole nothing_part s0 m0 s m → Runs machine whole s0 m0 (Ok u) s m
+runs_done machine whole s0 m0 s m u law b =
+    runs_last machine whole nothing_part s0 m0 s m law b (Ok u) s m (record {
+      stays = stays_start machine m;
+      counts = refl;
+      sources = b.sources;
+      goes = λ setting fits prior. record {
+        gained = [];
+        added = sym (append-nil m.launcher.launches);
+        comes = (refl, ap (device_at machine m) (sym (append-nil prior)));
+      };
+    })

@@ -1,0 +1,264 @@
+-- Sequences, selections and the sequences of a try each, by their first and the rest.
+use Rattle.std.proofs.Common.{◌≡◌, ℕ, ◌+◌, ◌<◌, add-one, Bool, true, false, List, [], ◌∷◌, ◌++◌, Option, Some, None, Result, Ok, Err, length, get_or, drop, map, refl, sym, ap, ◌∙◌, subst, append_assoc, suc}
+use Rattle.std.proofs.Math.Seq.{drop-cons}
+use Rattle.std.proofs.lemmas.List.{append-nil}
+use Rattle.suit_edge.specs.declared.launch.Launch.{Launch}
+use Rattle.suit_commands.specs.declared.command.Step.{Step}
+use Rattle.suit_commands.specs.Tree.{CommandTree, Test, Act, Index, Override, TryEach, RunSequence, SequenceTree, NoBranches}
+use Rattle.suit_commands.specs.Selections.{selected_by}
+use Rattle.suit_commands.specs.declared.selection.Selection.{Selection}
+use Rattle.suit_commands.specs.View.{sequence_tree, command_tree, branches_tree}
+use Rattle.suit_params.specs.declared.param.Param.{Param}
+use Rattle.path_model.specs.Behaviour.{State, Done}
+use Rattle.path_model.specs.Directives.{after_override}
+use Rattle.path_model.specs.Runs.{entry_state, completed_state}
+use Rattle.path_model.specs.Settings.{Setting}
+use Rattle.path_model.specs.Plays.{Outcome, Play, running_inner, trying_branch}
+use Rattle.path_model.specs.DevicePlays.{Device, Launched}
+use Rattle.path_model.specs.declared.cause.Cause.{Cause}
+use Rattle.path_model.specs.declared.cause.Cause.TheVariants as causes
+use Rattle.step_machine.specs.declared.machine.Machine.{Machine}
+use Rattle.step_machine.specs.declared.stop.Stop.{Stop}
+use Rattle.step_machine.specs.declared.stop.Stop.TheVariants as stops
+use Rattle.step_machine.specs.Comes.{Comes}
+use Rattle.step_machine.specs.Directives.{Stops, IsCutSo}
+use Rattle.step_machine.specs.Invoking.{launched_as}
+use Rattle.step_machine.specs.PlanRuns.{Counts}
+use Rattle.step_machine.specs.Running.{Moment, StopCounts, Part, Runs, AreSources, counts_at, device_at}
+use Rattle.step_machine.specs.Parts.{nothing_part, then_part, sequence_part, command_part, branches_part, at_part, each_part, passed_on}
+use Rattle.step_machine.proofs.Beginning.{Obeys, Begun, stays_start, stays_then, fits_then, joined}
+use Rattle.step_machine.proofs.Composing.{stops_as}
+use Rattle.step_machine.proofs.Inner.{run_completes, run_fails_softly, run_passes_on, try_completes, try_passes_on, others_come}
+
+-- ---- the first and the rest
+
+pub rest_of_steps : (steps : List Step) (i count : ℕ) (d : Step) → i < length steps
+    → sequence_part (sequence_tree (drop i steps)) count
+    ≡ then_part (command_part (command_tree (get_or steps i d).command) count (get_or steps i d).place) (sequence_part (sequence_tree (drop (i + 1) steps)) count)
+rest_of_steps steps i count d lt =
+    ap (λ (xs : List Step). sequence_part (sequence_tree xs) count) (drop-cons steps i d lt)
+    ∙ ap (λ (n : ℕ). then_part (command_part (command_tree (get_or steps i d).command) count (get_or steps i d).place) (sequence_part (sequence_tree (drop n steps)) count)) (sym (add-one i))
+
+pub rest_of_each : (command : CommandTree) (count place : ℕ) (list : List ℕ) (i d : ℕ) → i < length list
+    → each_part command count place (drop i list)
+    ≡ then_part (at_part command count place (get_or list i d)) (each_part command count place (drop (i + 1) list))
+rest_of_each command count place list i d lt =
+    ap (λ (xs : List ℕ). each_part command count place xs) (drop-cons list i d lt)
+    ∙ ap (λ (n : ℕ). then_part (at_part command count place (get_or list i d)) (each_part command count place (drop n list))) (sym (add-one i))
+
+abbrev pub trying_part : Part → Part → ℕ → Part
+trying_part inner others component setting = trying_branch Device (inner setting) (others setting) component
+
+abbrev pub inner_part : Part → ℕ → Part
+inner_part inner component setting = running_inner Device (inner setting) component
+
+branch_then : (branch : Option SequenceTree) (rest : List (Option SequenceTree)) (count place component : ℕ) (inner : SequenceTree) → branch ≡ Some inner
+    → branches_part (branches_tree (branch ∷ rest)) count place component ≡ trying_part (sequence_part inner count) (branches_part (branches_tree rest) count place component) component
+branch_then branch rest count place component inner e =
+    ap (λ (b : Option SequenceTree). branches_part (branches_tree (b ∷ rest)) count place component) e
+
+pub rest_of_branches : (branches : List (Option SequenceTree)) (i count place component : ℕ) (d : Option SequenceTree) (inner : SequenceTree) → i < length branches → get_or branches i d ≡ Some inner
+    → branches_part (branches_tree (drop i branches)) count place component
+    ≡ trying_part (sequence_part inner count) (branches_part (branches_tree (drop (i + 1) branches)) count place component) component
+rest_of_branches branches i count place component d inner lt some =
+    ap (λ (xs : List (Option SequenceTree)). branches_part (branches_tree xs) count place component) (drop-cons branches i d lt)
+    ∙ branch_then (get_or branches i d) _ count place component inner some
+    ∙ ap (λ (n : ℕ). trying_part (sequence_part inner count) (branches_part (branches_tree (drop n branches)) count place component) component) (sym (add-one i))
+
+pub null_branch : (branches : List (Option SequenceTree)) (i count place component : ℕ) (d : Option SequenceTree) → i < length branches → get_or branches i d ≡ None
+    → branches_part (branches_tree (drop i branches)) count place component ≡ nothing_part
+null_branch branches i count place component d lt none =
+    ap (λ (xs : List (Option SequenceTree)). branches_part (branches_tree xs) count place component) (drop-cons branches i d lt)
+    ∙ ap (λ (b : Option SequenceTree). branches_part (branches_tree (b ∷ drop (suc i) branches)) count place component) none
+
+-- ---- plays that come to the same
+
+module _ (p q : Play Device) (s z : State) (w : Device) (same : q.comes z w ≡ p.comes s w) (cuts : (o : Outcome Device) → p.IsCut s w o → q.IsCut z w o) where
+  stops_same : (a : ℕ) (cause : Cause) (v : Device) → Stops a cause v (p.comes s w) → Stops a cause v (q.comes z w)
+  stops_same a cause v h =
+      stops_as a cause v (q.comes z w) (p.comes s w) (ap (λ (x : Outcome Device). x.ending) same) (ap (λ (x : Outcome Device). x.cause) same) (ap (λ (x : Outcome Device). x.world) same) h
+
+  cut_same : (a : ℕ) (cause : Cause) (v : Device) → IsCutSo p a s w cause v → IsCutSo q a z w cause v
+  cut_same a cause v h = record { outcome = h.outcome; cut = cuts h.outcome h.cut; stops = h.stops }
+
+  pub comes_same : (r : Result (Unit {0}) Stop) (t : State) (v : Device) → Comes p s w r t v → Comes q z w r t v
+  comes_same (Ok x) t v (e, is) = (ap (λ (o : Outcome Device). o.ending) same ∙ e, ap (λ (o : Outcome Device). o.world) same ∙ is)
+  comes_same (Err (stops.Condition a soft)) t v (e, is) = (ap (λ (o : Outcome Device). o.ending) same ∙ e, ap (λ (o : Outcome Device). o.world) same ∙ is)
+  comes_same (Err (stops.Directive a causes.Missing)) t v h = stops_same a causes.Missing v h
+  comes_same (Err (stops.Directive a causes.SelfCopy)) t v h = stops_same a causes.SelfCopy v h
+  comes_same (Err (stops.Directive a causes.TooLarge)) t v h = stops_same a causes.TooLarge v h
+  comes_same (Err (stops.Directive a causes.Absent)) t v h = stops_same a causes.Absent v h
+  comes_same (Err (stops.Directive a causes.HostFault)) t v h = cut_same a causes.HostFault v h
+  comes_same (Err (stops.Directive a causes.FlashFault)) t v h = cut_same a causes.FlashFault v h
+  comes_same (Err (stops.Directive a causes.LaunchFault)) t v h = cut_same a causes.LaunchFault v h
+
+-- a part is done for the selected components
+pub runs_command : (machine : Machine) (command : CommandTree) (count place : ℕ) (s : State) (m : Moment) (r : Result (Unit {0}) Stop) (t : State) (n : Moment)
+    → ((selection : Selection) → command ≡ Index selection → ⊥)
+    → Runs machine (each_part command count place s.selection) s m r t n → Runs machine (command_part command count place) s m r t n
+runs_command machine (Index selection) count place s m r t n not one = absurd (not selection refl)
+runs_command machine (Test kind report) count place s m r t n not one = record {
+  stays = one.stays;
+  counts = one.counts;
+  sources = one.sources;
+  goes = λ setting fits prior. let g = one.goes setting fits prior in record {
+    gained = g.gained;
+    added = g.added;
+    comes = comes_same (each_part (Test kind report) count place s.selection setting) (command_part (Test kind report) count place setting) s s _ refl (λ o cut. cut) r t _ g.comes;
+  };
+}
+runs_command machine (Act kind report) count place s m r t n not one = record {
+  stays = one.stays;
+  counts = one.counts;
+  sources = one.sources;
+  goes = λ setting fits prior. let g = one.goes setting fits prior in record {
+    gained = g.gained;
+    added = g.added;
+    comes = comes_same (each_part (Act kind report) count place s.selection setting) (command_part (Act kind report) count place setting) s s _ refl (λ o cut. cut) r t _ g.comes;
+  };
+}
+runs_command machine (Override list) count place s m r t n not one = record {
+  stays = one.stays;
+  counts = one.counts;
+  sources = one.sources;
+  goes = λ setting fits prior. let g = one.goes setting fits prior in record {
+    gained = g.gained;
+    added = g.added;
+    comes = comes_same (each_part (Override list) count place s.selection setting) (command_part (Override list) count place setting) s s _ refl (λ o cut. cut) r t _ g.comes;
+  };
+}
+runs_command machine (TryEach branches) count place s m r t n not one = record {
+  stays = one.stays;
+  counts = one.counts;
+  sources = one.sources;
+  goes = λ setting fits prior. let g = one.goes setting fits prior in record {
+    gained = g.gained;
+    added = g.added;
+    comes = comes_same (each_part (TryEach branches) count place s.selection setting) (command_part (TryEach branches) count place setting) s s _ refl (λ o cut. cut) r t _ g.comes;
+  };
+}
+runs_command machine (RunSequence inner) count place s m r t n not one = record {
+  stays = one.stays;
+  counts = one.counts;
+  sources = one.sources;
+  goes = λ setting fits prior. let g = one.goes setting fits prior in record {
+    gained = g.gained;
+    added = g.added;
+    comes = comes_same (each_part (RunSequence inner) count place s.selection setting) (command_part (RunSequence inner) count place setting) s s _ refl (λ o cut. cut) r t _ g.comes;
+  };
+}
+
+-- ---- at once
+
+-- nothing outside changes
+pub runs_at_once : (machine : Machine) (part : Part) (s : State) (m : Moment) (r : Result (Unit {0}) Stop) (t : State) → StopCounts r (counts_at m) (counts_at m) → AreSources machine t.parameters
+    → ((setting : Setting) (w : Device) → Comes (part setting) s w r t w) → Runs machine part s m r t m
+runs_at_once machine part s m r t counts sources comes = record {
+  stays = stays_start machine m;
+  counts = counts;
+  sources = sources;
+  goes = λ setting fits prior. record {
+    gained = [];
+    added = sym (append-nil m.launcher.launches);
+    comes = subst (λ (l : List Launched). Comes (part setting) s (device_at machine m prior) r t (device_at machine m l)) (sym (append-nil prior)) (comes setting (device_at machine m prior));
+  };
+}
+
+pub runs_nothing : (machine : Machine) (s : State) (m : Moment) → AreSources machine s.parameters → Runs machine nothing_part s m (Ok tt) s m
+runs_nothing machine s m sources = runs_at_once machine nothing_part s m (Ok tt) s refl sources (λ setting w. (refl, refl))
+
+pub runs_exhausted : (machine : Machine) (count place component : ℕ) (s : State) (m : Moment) → AreSources machine s.parameters
+    → Runs machine (branches_part NoBranches count place component) s m (Err (stops.Condition place s.soft_failure)) s m
+runs_exhausted machine count place component s m sources =
+    runs_at_once machine (branches_part NoBranches count place component) s m (Err (stops.Condition place s.soft_failure)) s refl sources (λ setting w. (refl, refl))
+
+pub runs_index : (machine : Machine) (selection : Selection) (count place : ℕ) (s t : State) (m : Moment) → AreSources machine s.parameters
+    → t ≡ record s { selection = selected_by selection count }
+    → Runs machine (command_part (Index selection) count place) s m (Ok tt) t m
+runs_index machine selection count place s t m sources is =
+    subst (λ (x : State). Runs machine (command_part (Index selection) count place) s m (Ok tt) x m) (sym is)
+    (runs_at_once machine (command_part (Index selection) count place) s m (Ok tt) (record s { selection = selected_by selection count }) refl sources (λ setting w. (refl, refl)))
+
+pub runs_override : (machine : Machine) (list : List Param) (count place component : ℕ) (s t : State) (m : Moment) → AreSources machine t.parameters
+    → t ≡ after_override s component list
+    → Runs machine (at_part (Override list) count place component) s m (Ok tt) t m
+runs_override machine list count place component s t m sources is =
+    runs_at_once machine (at_part (Override list) count place component) s m (Ok tt) t refl sources (λ setting w. (ap Done (sym is), refl))
+
+-- ---- inner sequences
+
+passed_counts : (stop out : Stop) (soft : Bool) (a b : Counts) → passed_on stop soft ≡ Some out → StopCounts (Err stop) a b → StopCounts (Err out) a b
+passed_counts (stops.Condition p true) out soft a b e h = absurd cc
+passed_counts (stops.Condition p false) out soft a b e h =
+    let same : stops.Condition p soft ≡ out = cc in subst (λ (o : Stop). StopCounts (Err o) a b) same h
+passed_counts (stops.Directive p cause) out soft a b e h =
+    let same : stops.Directive p cause ≡ out = cc in subst (λ (o : Stop). StopCounts (Err o) a b) same h
+
+module _ (machine : Machine) (inner : Part) (c : ℕ) (s : State) (m n : Moment) (t : State) where
+  pub inner_done : Runs machine inner (entry_state s c false) m (Ok tt) t n → Runs machine (inner_part inner c) s m (Ok tt) (completed_state s t) n
+  inner_done one = record {
+    stays = one.stays;
+    counts = one.counts;
+    sources = one.sources;
+    goes = λ setting fits prior. let g = one.goes setting fits prior in record { gained = g.gained; added = g.added; comes = run_completes (inner setting) c s (device_at machine m prior) t _ g.comes };
+  }
+
+  pub inner_soft : (stop : Stop) → passed_on stop s.soft_failure ≡ None → AreSources machine s.parameters → Runs machine inner (entry_state s c false) m (Err stop) t n → Runs machine (inner_part inner c) s m (Ok tt) s n
+  inner_soft (stops.Condition p true) e sources one = record {
+    stays = one.stays;
+    counts = one.counts;
+    sources = sources;
+    goes = λ setting fits prior. let g = one.goes setting fits prior in record { gained = g.gained; added = g.added; comes = run_fails_softly (inner setting) c s (device_at machine m prior) p t _ g.comes };
+  }
+  inner_soft (stops.Condition p false) e sources one = absurd cc
+  inner_soft (stops.Directive p cause) e sources one = absurd cc
+
+  pub inner_stops : (stop out : Stop) → passed_on stop s.soft_failure ≡ Some out → AreSources machine s.parameters → Runs machine inner (entry_state s c false) m (Err stop) t n → Runs machine (inner_part inner c) s m (Err out) s n
+  inner_stops stop out e sources one = record {
+    stays = one.stays;
+    counts = passed_counts stop out s.soft_failure (counts_at m) (counts_at n) e one.counts;
+    sources = sources;
+    goes = λ setting fits prior. let g = one.goes setting fits prior in record { gained = g.gained; added = g.added; comes = run_passes_on (inner setting) c s (device_at machine m prior) stop out t s _ e g.comes };
+  }
+
+  module _ (others : Part) where
+    pub branch_done : Runs machine inner (entry_state s c true) m (Ok tt) t n → Runs machine (trying_part inner others c) s m (Ok tt) (completed_state s t) n
+    branch_done one = record {
+      stays = one.stays;
+      counts = one.counts;
+      sources = one.sources;
+      goes = λ setting fits prior. let g = one.goes setting fits prior in record { gained = g.gained; added = g.added; comes = try_completes (inner setting) (others setting) c s (device_at machine m prior) t _ g.comes };
+    }
+
+    pub branch_stops : (stop out : Stop) → passed_on stop s.soft_failure ≡ Some out → AreSources machine s.parameters → Runs machine inner (entry_state s c true) m (Err stop) t n → Runs machine (trying_part inner others c) s m (Err out) s n
+    branch_stops stop out e sources one = record {
+      stays = one.stays;
+      counts = passed_counts stop out s.soft_failure (counts_at m) (counts_at n) e one.counts;
+      sources = sources;
+      goes = λ setting fits prior. let g = one.goes setting fits prior in record { gained = g.gained; added = g.added; comes = try_passes_on (inner setting) (others setting) c s (device_at machine m prior) stop out t s _ e g.comes };
+    }
+
+-- a branch failed softly: the others are left
+module _ (machine : Machine) (whole inner others : Part) (c : ℕ) (s0 : State) (m0 : Moment) (s : State) (m n : Moment) (t : State) (law : Obeys m) (b : Begun machine whole (trying_part inner others c) s0 m0 s m) where
+  soft_branch : (p : ℕ) → Runs machine inner (entry_state s c true) m (Err (stops.Condition p true)) t n → Begun machine whole others s0 m0 s n
+  soft_branch p one = record {
+    stays = stays_then machine m0 m n law b.stays one.stays;
+    counts = one.counts ∙ b.counts;
+    sources = b.sources;
+    leads = λ setting fits prior.
+        let led = b.leads setting fits prior in
+        let more = one.goes setting (fits_then machine m0 m setting b.stays fits) (prior ++ map launched_as led.gained) in
+        record {
+          gained = led.gained ++ more.gained;
+          added = more.added ∙ ap (λ (l : List Launch). l ++ more.gained) led.added ∙ append_assoc m0.launcher.launches led.gained more.gained;
+          leads = λ r v after comes.
+              let here : Comes (others setting) s (device_at machine n ((prior ++ map launched_as led.gained) ++ map launched_as more.gained)) r v after =
+              subst (λ (l : List Launched). Comes (others setting) s (device_at machine n l) r v after) (sym (joined prior led.gained more.gained)) comes in
+              led.leads r v after (others_come (inner setting) (others setting) c s (device_at machine m (prior ++ map launched_as led.gained)) p (device_at machine n ((prior ++ map launched_as led.gained) ++ map launched_as more.gained)) more.comes.0 more.comes.1 r v after here);
+        };
+  }
+
+  pub begun_tried : (stop : Stop) → passed_on stop s.soft_failure ≡ None → Runs machine inner (entry_state s c true) m (Err stop) t n → Begun machine whole others s0 m0 s n
+  begun_tried (stops.Condition p true) e one = soft_branch p one
+  begun_tried (stops.Condition p false) e one = absurd cc
+  begun_tried (stops.Directive p cause) e one = absurd cc

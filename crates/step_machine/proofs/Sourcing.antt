@@ -1,0 +1,96 @@
+-- Sources in force, after an override.
+use Rattle.std.proofs.Common.{◌≡◌, ◌<◌, ℕ, Bool, true, false, if◌then◌else◌, List, [], ◌∷◌, Option, Some, length, refl, sym, ap, ◌∙◌, arith, inl, inr, ◌⊎◌, ⊎_elim}
+use Rattle.std.specs.Prelude.{◌==◌}
+use Rattle.std.specs.List.{AllByRecursion}
+use Rattle.suit_params.specs.declared.param.Param.{Param}
+use Rattle.suit_params.specs.declared.param.Param.TheVariants as params
+use Rattle.suit_params.specs.declared.param.ParamKey.TheVariants as keys
+use Rattle.suit_params.specs.InForce.{Parameters, in_force, number_of, last_of, rank, with_param, overridden, IsOverridden}
+use Rattle.suit_params.specs.ParamKeys.{key_of}
+use Rattle.suit_params.specs.ParamMaking.{IsBelow}
+use Rattle.suit_commands.specs.Targets.{NamesSource}
+use Rattle.suit_commands.specs.Tree.{Override}
+use Rattle.path_model.specs.Directives.{after_override, soft_after}
+use Rattle.step_machine.specs.declared.machine.Machine.{Machine}
+use Rattle.step_machine.specs.Allowing.{AllowsCommand}
+use Rattle.step_machine.specs.Overriding.{soft_after_list}
+use Rattle.step_machine.specs.Running.{AreSources}
+
+-- a list names the source, or it was in force before
+Named : List Param → ℕ → Option Param → Type 0
+Named list source before = NamesSource list source ⊎ (number_of before ≡ Some source)
+
+later : (p : Param) (list : List Param) (source : ℕ) → NamesSource list source → NamesSource (p ∷ list) source
+later (params.Source x) list source h = inr h
+later (params.Vendor x) list source h = h
+later (params.Class x) list source h = h
+later (params.Device x) list source h = h
+later (params.Digest x) list source h = h
+later (params.Slot x) list source h = h
+later (params.Strict x) list source h = h
+later (params.Soft x) list source h = h
+later (params.Size x) list source h = h
+later (params.Content x) list source h = h
+later (params.Uri x) list source h = h
+later (params.Args x) list source h = h
+
+first : (p : Param) (list : List Param) (source : ℕ) (before : Option Param) → number_of (if rank (key_of p) == 9 then Some p else before) ≡ Some source → NamesSource (p ∷ list) source ⊎ (number_of before ≡ Some source)
+first (params.Source x) list source before e = let same : source ≡ x = cc in inl (inl same)
+first (params.Vendor x) list source before e = inr e
+first (params.Class x) list source before e = inr e
+first (params.Device x) list source before e = inr e
+first (params.Digest x) list source before e = inr e
+first (params.Slot x) list source before e = inr e
+first (params.Strict x) list source before e = inr e
+first (params.Soft x) list source before e = inr e
+first (params.Size x) list source before e = inr e
+first (params.Content x) list source before e = inr e
+first (params.Uri x) list source before e = inr e
+first (params.Args x) list source before e = inr e
+
+named : (list : List Param) (source : ℕ) (before : Option Param) → number_of (last_of list keys.Source before) ≡ Some source → NamesSource list source ⊎ (number_of before ≡ Some source)
+named [] source before e = inr e
+named (p ∷ list) source before e =
+    ⊎_elim (λ h. inl (later p list source h)) (λ h. first p list source before h)
+    (named list source (if rank (key_of p) == 9 then Some p else before) e)
+
+below : (list : List Param) (count source : ℕ) → AllByRecursion (IsBelow count) list → NamesSource list source → source < count
+below [] count source all h = absurd h
+below (params.Source x ∷ list) count source all (inl e) = let lt : x < count = all.0 in omega (arith, lt, e)
+below (params.Source x ∷ list) count source all (inr h) = below list count source all.1 h
+below (params.Vendor x ∷ list) count source all h = below list count source all.1 h
+below (params.Class x ∷ list) count source all h = below list count source all.1 h
+below (params.Device x ∷ list) count source all h = below list count source all.1 h
+below (params.Digest x ∷ list) count source all h = below list count source all.1 h
+below (params.Slot x ∷ list) count source all h = below list count source all.1 h
+below (params.Strict x ∷ list) count source all h = below list count source all.1 h
+below (params.Soft x ∷ list) count source all h = below list count source all.1 h
+below (params.Size x ∷ list) count source all h = below list count source all.1 h
+below (params.Content x ∷ list) count source all h = below list count source all.1 h
+below (params.Uri x ∷ list) count source all h = below list count source all.1 h
+below (params.Args x ∷ list) count source all h = below list count source all.1 h
+
+chosen : {A : Type 0} (b : Bool) (x y z : A) → z ≡ (if b then x else y) → (z ≡ x) ⊎ (z ≡ y)
+chosen true x y z e = inl e
+chosen false x y z e = inr e
+
+pub sources_after : (machine : Machine) (old new : Parameters) (component : ℕ) (list : List Param) (k : ℕ) → component < 8 → machine.plan.now.count ≡ length machine.standings.now
+    → AllowsCommand machine (Override list) (k ∷ []) → IsOverridden old new component list → AreSources machine old → AreSources machine new
+sources_after machine old new component list k few count allowed is sources other source lt e =
+    ⊎_elim
+    (λ here.
+    ⊎_elim
+    (λ h. let b : source < machine.plan.now.count = below list machine.plan.now.count source allowed.indexed h in
+    (omega (arith, b, count), allowed.sources source h))
+    (λ h. sources component source few h)
+    (named list source (in_force old component keys.Source) (sym (ap number_of here) ∙ e)))
+    (λ there. sources other source lt (sym (ap number_of there) ∙ e))
+    (chosen (other == component) (last_of list keys.Source (in_force old component keys.Source)) (in_force old other keys.Source) (in_force new other keys.Source) (is other keys.Source lt))
+
+-- ---- the state after it
+
+pub override_is : (parameters : Parameters) (selection : List ℕ) (soft : Bool) (component : ℕ) (list : List Param)
+    → after_override (record { parameters = parameters; selection = selection; soft_failure = soft }) component list
+    ≡ record { parameters = overridden parameters component list; selection = selection; soft_failure = soft_after_list soft list }
+override_is parameters selection soft component [] = refl
+override_is parameters selection soft component (p ∷ list) = override_is (with_param parameters component p) selection (soft_after soft p) component list

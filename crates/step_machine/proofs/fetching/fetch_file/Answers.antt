@@ -1,0 +1,20 @@
+use Rattle.std.proofs.Common.{ℕ, List, Option, refl, sym, ap, subst}
+use Rattle.std.specs.Option.{option_and_then}
+use Rattle.step_machine.specs.Fetching.{TakesNamed}
+use Rattle.step_machine.specs.Spots.{content_of}
+use Rattle.step_machine.proofs.Memory.{ram_same}
+use Rattle.step_machine.proofs.fetching.fetch_file.Goals as goal
+
+pub returns-in-Some-clause-takes : goal.returns-in-Some-clause-takes
+returns-in-Some-clause-takes g c t u =
+    let standing = c.args.standing.now in
+    let before = content_of standing.spot c.args.ram.now (g.D.Disk.flash c.args.disk.now).reads in
+    let after = content_of standing.spot c.fetch_named.new.ram (g.D.Disk.flash c.fetch_named.new.disk).reads in
+    subst (λ (o : Option (List ℕ)). TakesNamed c.fetch_named.result standing.capacity (option_and_then (g.H.Host.file c.args.host.now) o) before after)
+    c.in-Some.ensures (c.fetch_named.ensures.takes t u)
+
+pub returns-in-None-clause-takes : goal.returns-in-None-clause-takes
+returns-in-None-clause-takes g c t u = (ap (option_and_then (g.H.Host.file c.args.host.now)) (sym c.in-None.ensures), refl)
+
+pub returns-in-None-clause-ram : goal.returns-in-None-clause-ram
+returns-in-None-clause-ram g c = ram_same c.args.standing.now.spot c.args.ram.now

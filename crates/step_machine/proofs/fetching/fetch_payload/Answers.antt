@@ -1,0 +1,16 @@
+use Rattle.std.proofs.Common.{refl, sym}
+use Rattle.step_machine.specs.Spots.{content_of}
+use Rattle.step_machine.proofs.Memory.{ram_same}
+use Rattle.step_machine.proofs.TakenFiles.{found_takes}
+use Rattle.step_machine.proofs.fetching.fetch_payload.Goals as goal
+
+pub returns-in-Some-clause-takes : goal.returns-in-Some-clause-takes
+returns-in-Some-clause-takes g c t payloads has =
+    let standing = c.args.standing.now in
+    found_takes _ standing.capacity _ c.in-Some.payload.now (content_of standing.spot c.args.ram.now (g.D.Disk.flash c.args.disk.now).reads) _ (sym (c.in-Some.ensures payloads has)) (c.fill_with.ensures.takes t)
+
+pub returns-in-None-clause-takes : goal.returns-in-None-clause-takes
+returns-in-None-clause-takes g c t payloads has = (sym (c.in-None.ensures payloads has), refl)
+
+pub returns-in-None-clause-ram : goal.returns-in-None-clause-ram
+returns-in-None-clause-ram g c = ram_same c.args.standing.now.spot c.args.ram.now

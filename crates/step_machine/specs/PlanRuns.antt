@@ -1,0 +1,87 @@
+-- How a procedure that runs on a device ends, by its play, and what it leaves alone.
+use Rattle.std.specs.Prelude.{◌≡◌, ◌<◌, ◌≤◌, ℕ, Bool, List, ◌++◌, Option, Result, Ok, Err, length, get_or, map}
+use Rattle.suit_edge.specs.declared.launch.Launch.{Launch}
+use Rattle.suit_edge.specs.Faults.{Faulted}
+use Rattle.suit_commands.specs.Tree.{PlanTree}
+use Rattle.suit_commands.specs.Targets.{IsTarget}
+use Rattle.path_model.specs.declared.cause.Cause.{Cause}
+use Rattle.path_model.specs.declared.cause.Cause.TheVariants as causes
+use Rattle.path_model.specs.Behaviour.{State, Done, Condition}
+use Rattle.path_model.specs.Path.{first_state}
+use Rattle.path_model.specs.Settings.{Setting}
+use Rattle.path_model.specs.DevicePlays.{Device, first_device, plan_play, played}
+use Rattle.step_machine.specs.declared.plan_end.PlanEnd.{PlanEnd}
+use Rattle.step_machine.specs.declared.plan_end.PlanEnd.TheVariants as ends
+use Rattle.step_machine.specs.declared.spot.Standing.{Standing}
+use Rattle.step_machine.specs.declared.stop.Stop.{Stop}
+use Rattle.step_machine.specs.declared.stop.Stop.TheVariants as stops
+use Rattle.step_machine.specs.Directives.{StopsSo}
+use Rattle.step_machine.specs.Invoking.{launched_as}
+use Rattle.step_machine.specs.Spots.{OutsideSpot}
+
+-- the setting of components that stand so, with these payloads, these URIs and these files
+abbrev pub setting_of : List Standing → List (List ℕ × List ℕ) → List (List ℕ × List ℕ) → (List ℕ → Option (List ℕ)) → Setting
+setting_of standings payloads words files = record {
+  identities = map (λ (s : Standing). s.identity) standings;
+  capacities = map (λ (s : Standing). s.capacity) standings;
+  payloads = payloads;
+  words = words;
+  files = files;
+}
+
+-- ---- by its play
+
+-- Without a fault it ends as its play does, and leaves what that leaves. With a fault it ends as some play does that the
+-- fault cut short.
+abbrev pub EndsAs : PlanTree → Setting → List (List ℕ) → PlanEnd → Device → Type 0
+EndsAs plan setting contents ends.Done after =
+    (next : State) × ((played plan setting contents).ending ≡ Done next) × ((played plan setting contents).world ≡ after)
+EndsAs plan setting contents (ends.ConditionFailed place) after =
+    (soft_failure : Bool) × ((played plan setting contents).ending ≡ Condition place soft_failure)
+    × ((played plan setting contents).world ≡ after)
+EndsAs plan setting contents (ends.DirectiveFailed place cause) after =
+    StopsSo (plan_play plan setting) place first_state (first_device contents) cause after
+
+-- the contents before and after, and the launches before and after, of which those gained are the play's
+pub record PlaysPlan (plan : PlanTree) (setting : Setting) (end : PlanEnd) (before after : List (List ℕ)) (launched now : List Launch) : Type 0 where
+  pub gained : List Launch
+  pub added : now ≡ launched ++ gained
+  pub ends : EndsAs plan setting before end (record { contents = after; launches = map launched_as gained })
+
+-- how a procedure ends of which a sequence ended so
+abbrev pub end_of : Result (Unit {0}) Stop → PlanEnd
+end_of (Ok _) = ends.Done
+end_of (Err (stops.Condition place soft_failure)) = ends.ConditionFailed place
+end_of (Err (stops.Directive place cause)) = ends.DirectiveFailed place cause
+
+-- ---- counts of faults
+
+pub record Counts : Type 0 where
+  pub host : ℕ
+  pub disk : ℕ
+  pub launcher : ℕ
+
+abbrev pub counts_of : ℕ → ℕ → ℕ → Counts
+counts_of host disk launcher = record { host = host; disk = disk; launcher = launcher }
+
+-- the count rose of the object whose fault it was
+abbrev pub CountsFor : Cause → Counts → Counts → Type 0
+CountsFor causes.HostFault before now =
+    Faulted before.host now.host × (now.disk ≡ before.disk) × (now.launcher ≡ before.launcher)
+CountsFor causes.FlashFault before now =
+    (now.host ≡ before.host) × Faulted before.disk now.disk × (before.launcher ≤ now.launcher)
+CountsFor causes.LaunchFault before now =
+    (now.host ≡ before.host) × (before.disk ≤ now.disk) × Faulted before.launcher now.launcher
+CountsFor _ before now = now ≡ before
+
+abbrev pub EndCounts : PlanEnd → Counts → Counts → Type 0
+EndCounts ends.Done before now = now ≡ before
+EndCounts (ends.ConditionFailed place) before now = now ≡ before
+EndCounts (ends.DirectiveFailed place cause) before now = CountsFor cause before now
+
+-- ---- what it leaves alone
+
+-- outside the slots that the components stand for which the procedure may write
+abbrev pub OutsideTargets : PlanTree → List Standing → ℕ → Type 0
+OutsideTargets plan standings i =
+    (k : ℕ) (d : Standing) → k < length standings → IsTarget plan k → OutsideSpot (get_or standings k d).spot i

@@ -1,0 +1,148 @@
+-- What a part of a procedure does on a device, from a moment to a later one.
+use Rattle.std.specs.Prelude.{◌≡◌, ◌<◌, ℕ, Bool, IsTrue, List, [], ◌∷◌, ◌++◌, Option, Some, Result, Ok, Err, length, map}
+use Rattle.std.specs.List.{AllByRecursion, range_with_len}
+use Rattle.suit_edge.specs.Flash.{Flash, Grows, Keeps}
+use Rattle.suit_edge.specs.declared.launch.Launch.{Launch}
+use Rattle.suit_params.specs.InForce.{Parameters, in_force, number_of}
+use Rattle.suit_params.specs.declared.param.ParamKey.TheVariants as keys
+use Rattle.suit_envelope.specs.Payloads.{HasPayloads}
+use Rattle.suit_commands.specs.Plans.{plan_tree}
+use Rattle.suit_commands.specs.Targets.{InSome, Sources}
+use Rattle.path_model.specs.Behaviour.{State}
+use Rattle.path_model.specs.Settings.{Setting}
+use Rattle.path_model.specs.Plays.{Play}
+use Rattle.path_model.specs.DevicePlays.{Device, Launched}
+use Rattle.path_model.specs.declared.cause.Cause.{Cause}
+use Rattle.flash_slots.specs.RamContents.{Held}
+use Rattle.step_machine.specs.declared.stop.Stop.{Stop}
+use Rattle.step_machine.specs.declared.stop.Stop.TheVariants as stops
+use Rattle.step_machine.specs.declared.spot.Standing.{Standing}
+use Rattle.step_machine.specs.declared.machine.Machine.{Machine}
+use Rattle.step_machine.specs.declared.progress.Progress.{Progress}
+use Rattle.step_machine.specs.declared.progress.Selected.{Selected}
+use Rattle.step_machine.specs.declared.progress.Selected.TheVariants as selected
+use Rattle.step_machine.specs.Comes.{Comes}
+use Rattle.step_machine.specs.Devices.{contents_of}
+use Rattle.step_machine.specs.Invoking.{launched_as}
+use Rattle.step_machine.specs.PlanRuns.{Counts, counts_of, CountsFor, OutsideTargets}
+use Rattle.step_machine.specs.Worlds.{AreStandings}
+
+-- ---- a moment
+
+pub record HostAt : Type 0 where
+  pub told : Bool
+  pub files : List ℕ → Option (List ℕ)
+  pub faults : ℕ
+
+pub record DiskAt : Type 1 where
+  pub told : Bool
+  pub size : ℕ
+  pub flash : Flash
+  pub faults : ℕ
+
+pub record LauncherAt : Type 0 where
+  pub told : Bool
+  pub launches : List Launch
+  pub faults : ℕ
+
+pub record Moment : Type 1 where
+  pub host : HostAt
+  pub disk : DiskAt
+  pub launcher : LauncherAt
+  pub ram : List Held
+
+abbrev pub moment : HostAt → DiskAt → LauncherAt → List Held → Moment
+moment host disk launcher ram = record { host = host; disk = disk; launcher = launcher; ram = ram }
+
+abbrev pub counts_at : Moment → Counts
+counts_at m = counts_of m.host.faults m.disk.faults m.launcher.faults
+
+-- the device of plays, after these launches
+abbrev pub device_at : Machine → Moment → List Launched → Device
+device_at machine m launches =
+    record { contents = contents_of machine.standings.now m.ram m.disk.flash.reads; launches = launches }
+
+-- ---- the state of a running sequence
+
+abbrev pub selected_list : Selected → List ℕ
+selected_list (selected.One component) = component ∷ []
+selected_list (selected.All count) = range_with_len 0 count
+selected_list (selected.Listed list) = list.now
+
+abbrev pub state_of : Progress → State
+state_of progress = record {
+  parameters = progress.params;
+  selection = selected_list progress.selected;
+  soft_failure = progress.soft_failure;
+}
+
+-- a source in force is one of the components, and the procedure names it as one
+abbrev pub AreSources : Machine → Parameters → Type 0
+AreSources machine parameters =
+    (component source : ℕ) → component < 8 → number_of (in_force parameters component keys.Source) ≡ Some source
+    → (source < length machine.standings.now) × InSome (plan_tree machine.plan.now) (λ s. Sources s source)
+
+pub record IsUnderWay (machine : Machine) (state : State) : Type 0 where
+  pub sources : AreSources machine state.parameters
+  pub selection : AllByRecursion (λ c. c < length machine.standings.now) state.selection
+
+-- the components stand within this flash and this memory
+pub record IsReady (machine : Machine) (size : ℕ) (ram : List Held) : Type 0 where
+  pub standings : AreStandings size ram machine.standings.now
+  pub count : machine.plan.now.count ≡ length machine.standings.now
+
+-- ---- from a moment to a later one
+
+-- what holds however it ends
+pub record Stays (machine : Machine) (before after : Moment) : Type 0 where
+  pub host : after.host.told ≡ before.host.told
+  pub disk : after.disk.told ≡ before.disk.told
+  pub launcher : after.launcher.told ≡ before.launcher.told
+  pub size : after.disk.size ≡ before.disk.size
+  pub rooms : map (λ (held : Held). held.capacity) after.ram ≡ map (λ (held : Held). held.capacity) before.ram
+  pub files : IsTrue before.host.told → after.host.files ≡ before.host.files
+  pub keeps : IsTrue before.disk.told → Keeps (OutsideTargets (plan_tree machine.plan.now) machine.standings.now) before.disk.flash after.disk.flash
+  pub grows : IsTrue before.disk.told → Grows before.disk.flash after.disk.flash
+
+-- where it was stopped by a fault, the count of its object rose
+abbrev pub StopCounts : Result (Unit {0}) Stop → Counts → Counts → Type 0
+StopCounts (Ok _) before now = now ≡ before
+StopCounts (Err (stops.Condition place soft_failure)) before now = now ≡ before
+StopCounts (Err (stops.Directive place cause)) before now = CountsFor cause before now
+
+-- all tells, and the setting is that of the machine
+pub record Fits (machine : Machine) (at : Moment) (setting : Setting) : Type 0 where
+  pub host : IsTrue at.host.told
+  pub disk : IsTrue at.disk.told
+  pub launcher : IsTrue at.launcher.told
+  pub identities : setting.identities ≡ map (λ (s : Standing). s.identity) machine.standings.now
+  pub capacities : setting.capacities ≡ map (λ (s : Standing). s.capacity) machine.standings.now
+  pub payloads : HasPayloads machine.envelope.now.whole.now setting.payloads
+  pub words : setting.words ≡ machine.uris.now
+  pub files : setting.files ≡ at.host.files
+
+abbrev pub Part : Type 1
+Part = Setting → Play Device
+
+-- the play comes to it, and to the launches that were gained
+pub record Gained (machine : Machine) (play : Play Device) (state : State) (before : Moment) (result : Result (Unit {0}) Stop) (next : State) (after : Moment) (prior : List Launched) : Type 0 where
+  pub gained : List Launch
+  pub added : after.launcher.launches ≡ before.launcher.launches ++ gained
+  pub comes : Comes play state (device_at machine before prior) result next (device_at machine after (prior ++ map launched_as gained))
+
+abbrev pub Goes : Machine → Part → State → Moment → Result (Unit {0}) Stop → State → Moment → Type 0
+Goes machine part state before result next after =
+    (setting : Setting) → Fits machine before setting → (prior : List Launched)
+    → Gained machine (part setting) state before result next after prior
+
+pub record Runs (machine : Machine) (part : Part) (state : State) (before : Moment) (result : Result (Unit {0}) Stop) (next : State) (after : Moment) : Type 0 where
+  pub stays : Stays machine before after
+  pub counts : StopCounts result (counts_at before) (counts_at after)
+  pub sources : AreSources machine next.parameters
+  pub goes : Goes machine part state before result next after
+
+-- ---- where a directive stopped
+
+abbrev pub stopped : ℕ → Result (Unit {0}) Cause → Result (Unit {0}) Stop
+stopped place (Ok u) = Ok u
+stopped place (Err cause) = Err (stops.Directive place cause)

@@ -1,0 +1,65 @@
+//! The rooms for contents, wherever they stand, are read in pieces.
+
+ghost use Rattle.flash_slots.specs.Contents.{ResultCounts};
+ghost use Rattle.flash_slots.specs.RamContents.{held_by};
+ghost use Rattle.std.specs.Prelude.{◌≡◌, ◌<◌, ◌≤◌, ◌-◌, IfOk, IsTrue, drop, length, min, take};
+ghost use Rattle.step_machine.specs.Areas.{area_at, size_at};
+ghost use Rattle.step_machine.specs.Spots.{IsSpot};
+ghost use Rattle.suit_edge.specs.Flash.{Grows, IsSame};
+
+use crate::Spot;
+use flash_layout::FlashFault;
+use flash_slots::{Ram, read_some};
+use suit_edge::Disk;
+
+// Bytes from that one on, as many as fit in the room.
+fn copy_some(bytes: &[u8], from: usize, room: &mut [u8]) -> usize
+    requires { from ≤ length bytes.now }
+    ensures count { result ≡ min (length room.old) (length bytes.now - from) }
+    ensures bytes { take result room.new ≡ take result (drop from bytes.now) }
+{
+    let rest = &bytes[from..];
+    let count = room.len().min(rest.len());
+    room[..count].copy_from_slice(&rest[..count]);
+    count
+}
+
+// A piece of a content in working memory.
+fn read_held(ram: &Ram, component: u32, size: usize, from: usize, room: &mut [u8]) -> usize
+    requires component { component < length ram.now }
+    requires size { size ≤ length (held_by ram.now component).content }
+    requires within { from ≤ size }
+    ensures count { result ≡ min (length room.old) (size - from) }
+    ensures bytes { take result room.new ≡ take result (drop from (held_by ram.now component).content) }
+{
+    let content = ram.content(component);
+    copy_some(&content[..size], from, room)
+}
+
+// Reads so many of the first bytes, from one of them on, as much as fits in the room.
+pub(crate) fn read_piece<D: Disk>(
+    disk: &mut D,
+    ram: &Ram,
+    spot: Spot,
+    size: u64,
+    from: u64,
+    room: &mut [u8],
+) -> Result<usize, FlashFault>
+    requires spot { IsSpot (D.extent disk.old) ram.now spot }
+    requires area { size ≤ size_at spot ram.now }
+    requires within { from ≤ size }
+    ensures size { D.extent disk.new ≡ D.extent disk.old }
+    ensures counts { ResultCounts result (D.faults disk.old) (D.faults disk.new) }
+    ensures count { IfOk result (λ n. n ≡ min (length room.old) (size - from)) }
+    ensures bytes { IsTrue D.told → IfOk result (λ n. take n room.new ≡ take n (drop from (area_at spot ram.now (D.flash disk.old).reads))) }
+    ensures same { IsTrue D.told → IsSame (D.flash disk.old) (D.flash disk.new) }
+    ensures grows { IsTrue D.told → Grows (D.flash disk.old) (D.flash disk.new) }
+{
+    match spot {
+        Spot::Flash(slot) => match read_some(disk, slot, size, from, room) {
+            Ok(count) => Ok(count),
+            Err(FlashFault) => Err(FlashFault),
+        },
+        Spot::Ram(component) => Ok(read_held(ram, component, size as usize, from as usize, room)),
+    }
+}

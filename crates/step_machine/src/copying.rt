@@ -1,0 +1,215 @@
+//! Copy: the content of a component becomes that of another.
+
+ghost use Rattle.flash_layout.specs.Slots.{LiesWithin, extent_of, slot_content};
+ghost use Rattle.flash_slots.specs.Contents.{ResultCounts, pieces_of};
+ghost use Rattle.flash_slots.specs.RamContents.{held_by};
+ghost use Rattle.std.specs.Prelude.{◌≡◌, ◌<◌, ◌≤◌, IsTrue, OnOk, length, take};
+ghost use Rattle.step_machine.specs.Areas.{area_at, size_at};
+ghost use Rattle.step_machine.specs.Copying.{AreApart, CopiesAs};
+ghost use Rattle.step_machine.specs.Devices.{AreSpotsClear};
+ghost use Rattle.step_machine.specs.Directives.{CauseCounts};
+ghost use Rattle.step_machine.specs.Spots.{IsRamBut, IsSpot, OutsideSpot, content_of, room_at};
+ghost use Rattle.step_machine.specs.declared.spot.Spot.TheVariants as spots;
+ghost use Rattle.suit_edge.specs.Flash.{Grows, IsSame, Keeps};
+ghost use Rattle.suit_edge.specs.Ranges.{Outside};
+
+use crate::areas::read_piece;
+use crate::contents::{content_fits, length_at};
+use crate::{Spot, Standing};
+use flash_layout::{FlashFault, Slot};
+use flash_slots::{Ram, Writing, begin};
+use path_model::Cause;
+use suit_edge::Disk;
+
+// The first bytes of a source are put into a slot that was emptied.
+fn put_pieces<D: Disk>(
+    disk: &mut D,
+    ram: &Ram,
+    writing: &mut Writing,
+    source: Spot,
+    size: u64,
+    room: &mut [u8],
+) -> Result<(), FlashFault>
+    requires slot { LiesWithin (D.extent disk.old) writing.old.slot }
+    requires none { writing.old.written ≡ 0 }
+    requires fits { size ≤ writing.old.slot.capacity }
+    requires source { IsSpot (D.extent disk.old) ram.now source }
+    requires area { size ≤ size_at source ram.now }
+    requires clear { AreSpotsClear (spots.Flash writing.old.slot) source }
+    requires room { 0 < length room.old }
+    ensures size { D.extent disk.new ≡ D.extent disk.old }
+    ensures counts { ResultCounts result (D.faults disk.old) (D.faults disk.new) }
+    ensures slot { writing.new.slot ≡ writing.old.slot }
+    ensures written { OnOk result (writing.new.written ≡ size) }
+    ensures pieces { IsTrue D.told → OnOk result (pieces_of writing.new.slot size (D.flash disk.new).reads
+        ≡ take size (area_at source ram.now (D.flash disk.old).reads)) }
+    ensures keeps { IsTrue D.told → Keeps (Outside writing.old.slot.start (extent_of writing.old.slot)) (D.flash disk.old) (D.flash disk.new) }
+    ensures grows { IsTrue D.told → Grows (D.flash disk.old) (D.flash disk.new) }
+{
+    let mut from: u64 = 0;
+    while from < size {
+        let count = match read_piece(disk, ram, source, size, from, room) {
+            Ok(count) => count,
+            Err(FlashFault) => return Err(FlashFault),
+        };
+        match writing.append(disk, &room[..count]) {
+            Ok(()) => {}
+            Err(_) => return Err(FlashFault),
+        }
+        from += count as u64;
+    }
+    Ok(())
+}
+
+// The first bytes of a source become the content of a slot that has room for them.
+fn copy_to_slot<D: Disk>(
+    disk: &mut D,
+    ram: &Ram,
+    slot: Slot,
+    source: Spot,
+    size: u64,
+    room: &mut [u8],
+) -> Result<(), FlashFault>
+    requires slot { LiesWithin (D.extent disk.old) slot }
+    requires fits { size ≤ slot.capacity }
+    requires source { IsSpot (D.extent disk.old) ram.now source }
+    requires area { size ≤ size_at source ram.now }
+    requires clear { AreSpotsClear (spots.Flash slot) source }
+    requires room { 0 < length room.old }
+    ensures size { D.extent disk.new ≡ D.extent disk.old }
+    ensures counts { ResultCounts result (D.faults disk.old) (D.faults disk.new) }
+    ensures content { IsTrue D.told → OnOk result (slot_content slot (D.flash disk.new).reads
+        ≡ take size (area_at source ram.now (D.flash disk.old).reads)) }
+    ensures keeps { IsTrue D.told → Keeps (Outside slot.start (extent_of slot)) (D.flash disk.old) (D.flash disk.new) }
+    ensures grows { IsTrue D.told → Grows (D.flash disk.old) (D.flash disk.new) }
+{
+    let mut writing = match begin(disk, slot) {
+        Ok(writing) => writing,
+        Err(FlashFault) => return Err(FlashFault),
+    };
+    match put_pieces(disk, ram, &mut writing, source, size, room) {
+        Ok(()) => {}
+        Err(FlashFault) => return Err(FlashFault),
+    }
+    match writing.finish(disk) {
+        Ok(()) => Ok(()),
+        Err(FlashFault) => Err(FlashFault),
+    }
+}
+
+// The first bytes of a source become the content of a component in working memory that has room for them.
+fn copy_to_ram<D: Disk>(
+    disk: &mut D,
+    ram: &mut Ram,
+    component: u32,
+    source: Spot,
+    size: u64,
+    room: &mut [u8],
+) -> Result<(), FlashFault>
+    requires component { component < length ram.old }
+    requires fits { size ≤ (held_by ram.old component).capacity }
+    requires source { IsSpot (D.extent disk.old) ram.old source }
+    requires area { size ≤ size_at source ram.old }
+    requires clear { AreSpotsClear (spots.Ram component) source }
+    requires room { 0 < length room.old }
+    ensures size { D.extent disk.new ≡ D.extent disk.old }
+    ensures counts { ResultCounts result (D.faults disk.old) (D.faults disk.new) }
+    ensures content { IsTrue D.told → OnOk result ((held_by ram.new component).content ≡ take size (area_at source ram.old (D.flash disk.old).reads)) }
+    ensures ram { IsRamBut (spots.Ram component) ram.old ram.new }
+    ensures short { length (held_by ram.new component).content ≤ (held_by ram.old component).capacity }
+    ensures same { IsTrue D.told → IsSame (D.flash disk.old) (D.flash disk.new) }
+    ensures grows { IsTrue D.told → Grows (D.flash disk.old) (D.flash disk.new) }
+{
+    ram.clear(component);
+    let mut from: u64 = 0;
+    while from < size {
+        let count = match read_piece(disk, ram, source, size, from, room) {
+            Ok(count) => count,
+            Err(FlashFault) => return Err(FlashFault),
+        };
+        match ram.append(component, &room[..count]) {
+            Ok(()) => {}
+            Err(_) => return Err(FlashFault),
+        }
+        from += count as u64;
+    }
+    Ok(())
+}
+
+// The first bytes of a source become a content, where there is room for them.
+fn copy_content<D: Disk>(
+    disk: &mut D,
+    ram: &mut Ram,
+    spot: Spot,
+    source: Spot,
+    size: u64,
+    room: &mut [u8],
+) -> Result<(), FlashFault>
+    requires spot { IsSpot (D.extent disk.old) ram.old spot }
+    requires fits { size ≤ room_at spot ram.old }
+    requires source { IsSpot (D.extent disk.old) ram.old source }
+    requires area { size ≤ size_at source ram.old }
+    requires clear { AreSpotsClear spot source }
+    requires room { 0 < length room.old }
+    ensures size { D.extent disk.new ≡ D.extent disk.old }
+    ensures counts { ResultCounts result (D.faults disk.old) (D.faults disk.new) }
+    ensures content { IsTrue D.told → OnOk result (content_of spot ram.new (D.flash disk.new).reads
+        ≡ take size (area_at source ram.old (D.flash disk.old).reads)) }
+    ensures short { IsTrue D.told → length (content_of spot ram.new (D.flash disk.new).reads) ≤ room_at spot ram.old }
+    ensures ram { IsRamBut spot ram.old ram.new }
+    ensures keeps { IsTrue D.told → Keeps (OutsideSpot spot) (D.flash disk.old) (D.flash disk.new) }
+    ensures grows { IsTrue D.told → Grows (D.flash disk.old) (D.flash disk.new) }
+{
+    match spot {
+        Spot::Flash(slot) => match copy_to_slot(disk, ram, slot, source, size, room) {
+            Ok(()) => Ok(()),
+            Err(FlashFault) => Err(FlashFault),
+        },
+        Spot::Ram(component) => match copy_to_ram(disk, ram, component, source, size, room) {
+            Ok(()) => Ok(()),
+            Err(FlashFault) => Err(FlashFault),
+        },
+    }
+}
+
+/// Copy: the content becomes that of the source, which is read through the room (draft-ietf-suit-manifest-25, section
+/// 8.4.10). Where it is refused nothing changes, and after a fault of the flash the component holds any content. The
+/// source stays.
+pub fn copy<D: Disk>(
+    disk: &mut D,
+    ram: &mut Ram,
+    standing: &Standing,
+    source: &Standing,
+    room: &mut [u8],
+) -> Result<(), Cause>
+    requires spot { IsSpot (D.extent disk.old) ram.old standing.now.spot }
+    requires source { IsSpot (D.extent disk.old) ram.old source.now.spot }
+    requires apart { AreApart standing.now.component standing.now.spot source.now.component source.now.spot }
+    requires capacity { room_at standing.now.spot ram.old ≡ standing.now.capacity }
+    requires room { 0 < length room.old }
+    ensures size { D.extent disk.new ≡ D.extent disk.old }
+    ensures counts { CauseCounts result (D.faults disk.old) (D.faults disk.new) }
+    ensures ram { IsRamBut standing.now.spot ram.old ram.new }
+    ensures copies { IsTrue D.told → CopiesAs standing.now.component standing.now.capacity source.now.component
+        (content_of source.now.spot ram.old (D.flash disk.old).reads)
+        (content_of standing.now.spot ram.old (D.flash disk.old).reads) (content_of standing.now.spot ram.new (D.flash disk.new).reads) result }
+    ensures source { IsTrue D.told → content_of source.now.spot ram.new (D.flash disk.new).reads ≡ content_of source.now.spot ram.old (D.flash disk.old).reads }
+    ensures keeps { IsTrue D.told → Keeps (OutsideSpot standing.now.spot) (D.flash disk.old) (D.flash disk.new) }
+    ensures grows { IsTrue D.told → Grows (D.flash disk.old) (D.flash disk.new) }
+{
+    if source.component == standing.component {
+        return Err(Cause::SelfCopy);
+    }
+    content_fits(disk, ram, standing.spot);
+    let size = match length_at(disk, ram, source.spot) {
+        Ok(size) => size,
+        Err(FlashFault) => return Err(Cause::FlashFault),
+    };
+    if standing.capacity < size {
+        return Err(Cause::TooLarge);
+    }
+    match copy_content(disk, ram, standing.spot, source.spot, size, room) {
+        Ok(()) => Ok(()),
+        Err(FlashFault) => Err(Cause::FlashFault),
+    }
+}

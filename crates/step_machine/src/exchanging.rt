@@ -1,0 +1,230 @@
+//! The rooms for contents are changed in place.
+
+ghost use Rattle.flash_slots.specs.Contents.{ResultCounts};
+ghost use Rattle.std.specs.Prelude.{◌≡◌, ◌<◌, ◌≤◌, ◌+◌, ◌++◌, IsTrue, OnOk, drop, length, take};
+ghost use Rattle.step_machine.specs.Areas.{IsHeld, KeepsFront, area_at, size_at};
+ghost use Rattle.step_machine.specs.Copying.{IsRamButBoth, OutsideBoth};
+ghost use Rattle.step_machine.specs.Devices.{AreSpotsClear};
+ghost use Rattle.step_machine.specs.Spots.{IsRamBut, IsSpot, OutsideSpot, content_of, room_at};
+ghost use Rattle.suit_edge.specs.Flash.{Grows, Keeps};
+ghost use Rattle.suit_edge.specs.Ranges.{written};
+
+use crate::Spot;
+use crate::areas::read_piece;
+use flash_layout::FlashFault;
+use flash_slots::{Ram, overwrite, set_length};
+use suit_edge::Disk;
+
+// A content of working memory has at least so many bytes from now on: those behind its own are any.
+fn stretch(ram: &mut Ram, spot: Spot, size: u64)
+    requires spot { IsHeld spot ram.old }
+    requires fits { size ≤ room_at spot ram.old }
+    ensures long { size ≤ size_at spot ram.new }
+    ensures front { KeepsFront spot ram.old ram.new }
+    ensures ram { IsRamBut spot ram.old ram.new }
+{
+    match spot {
+        Spot::Flash(_) => {}
+        Spot::Ram(component) => {
+            if (ram.content(component).len() as u64) < size {
+                ram.stretch(component, size as usize);
+            }
+        }
+    }
+}
+
+// A piece is put over a room, from one of its bytes on.
+fn write_piece<D: Disk>(
+    disk: &mut D,
+    ram: &mut Ram,
+    spot: Spot,
+    from: u64,
+    piece: &[u8],
+) -> Result<(), FlashFault>
+    requires spot { IsSpot (D.extent disk.old) ram.old spot }
+    requires within { from + length piece.now ≤ size_at spot ram.old }
+    ensures size { D.extent disk.new ≡ D.extent disk.old }
+    ensures counts { ResultCounts result (D.faults disk.old) (D.faults disk.new) }
+    ensures area { IsTrue D.told → OnOk result (area_at spot ram.new (D.flash disk.new).reads ≡ written (area_at spot ram.old (D.flash disk.old).reads) from piece.now) }
+    ensures long { size_at spot ram.new ≡ size_at spot ram.old }
+    ensures ram { IsRamBut spot ram.old ram.new }
+    ensures keeps { IsTrue D.told → Keeps (OutsideSpot spot) (D.flash disk.old) (D.flash disk.new) }
+    ensures grows { IsTrue D.told → Grows (D.flash disk.old) (D.flash disk.new) }
+{
+    match spot {
+        Spot::Flash(slot) => match overwrite(disk, slot, from, piece) {
+            Ok(()) => Ok(()),
+            Err(FlashFault) => Err(FlashFault),
+        },
+        Spot::Ram(component) => {
+            ram.put(component, from as usize, piece);
+            Ok(())
+        }
+    }
+}
+
+// The first bytes of a room become its content.
+fn set_size<D: Disk>(disk: &mut D, ram: &mut Ram, spot: Spot, size: u64) -> Result<(), FlashFault>
+    requires spot { IsSpot (D.extent disk.old) ram.old spot }
+    requires within { size ≤ size_at spot ram.old }
+    ensures size { D.extent disk.new ≡ D.extent disk.old }
+    ensures counts { ResultCounts result (D.faults disk.old) (D.faults disk.new) }
+    ensures content { IsTrue D.told → OnOk result (content_of spot ram.new (D.flash disk.new).reads ≡ take size (area_at spot ram.old (D.flash disk.old).reads)) }
+    ensures ram { IsRamBut spot ram.old ram.new }
+    ensures keeps { IsTrue D.told → Keeps (OutsideSpot spot) (D.flash disk.old) (D.flash disk.new) }
+    ensures grows { IsTrue D.told → Grows (D.flash disk.old) (D.flash disk.new) }
+{
+    match spot {
+        Spot::Flash(slot) => match set_length(disk, slot, size) {
+            Ok(()) => Ok(()),
+            Err(FlashFault) => Err(FlashFault),
+        },
+        Spot::Ram(component) => {
+            ram.cut(component, size as usize);
+            Ok(())
+        }
+    }
+}
+
+// Two pieces change places, through rooms that are just as long.
+fn exchange_piece<D: Disk>(
+    disk: &mut D,
+    ram: &mut Ram,
+    one: Spot,
+    other: Spot,
+    from: u64,
+    size: u64,
+    room: &mut [u8],
+    spare: &mut [u8],
+) -> Result<(), FlashFault>
+    requires one { IsSpot (D.extent disk.old) ram.old one }
+    requires other { IsSpot (D.extent disk.old) ram.old other }
+    requires clear { AreSpotsClear one other }
+    requires alike { length spare.old ≡ length room.old }
+    requires within { from + length room.old ≤ size }
+    requires area { size ≤ size_at one ram.old }
+    requires other_area { size ≤ size_at other ram.old }
+    ensures size { D.extent disk.new ≡ D.extent disk.old }
+    ensures counts { ResultCounts result (D.faults disk.old) (D.faults disk.new) }
+    ensures one { IsTrue D.told → OnOk result (area_at one ram.new (D.flash disk.new).reads
+        ≡ written (area_at one ram.old (D.flash disk.old).reads) from (take (length room.old) (drop from (area_at other ram.old (D.flash disk.old).reads)))) }
+    ensures other { IsTrue D.told → OnOk result (area_at other ram.new (D.flash disk.new).reads
+        ≡ written (area_at other ram.old (D.flash disk.old).reads) from (take (length room.old) (drop from (area_at one ram.old (D.flash disk.old).reads)))) }
+    ensures long { size_at one ram.new ≡ size_at one ram.old }
+    ensures other_long { size_at other ram.new ≡ size_at other ram.old }
+    ensures ram { IsRamButBoth one other ram.old ram.new }
+    ensures keeps { IsTrue D.told → Keeps (OutsideBoth one other) (D.flash disk.old) (D.flash disk.new) }
+    ensures grows { IsTrue D.told → Grows (D.flash disk.old) (D.flash disk.new) }
+{
+    match read_piece(disk, ram, one, size, from, room) {
+        Ok(_) => {}
+        Err(FlashFault) => return Err(FlashFault),
+    }
+    match read_piece(disk, ram, other, size, from, spare) {
+        Ok(_) => {}
+        Err(FlashFault) => return Err(FlashFault),
+    }
+    match write_piece(disk, ram, one, from, spare) {
+        Ok(()) => {}
+        Err(FlashFault) => return Err(FlashFault),
+    }
+    match write_piece(disk, ram, other, from, room) {
+        Ok(()) => Ok(()),
+        Err(FlashFault) => Err(FlashFault),
+    }
+}
+
+// The first bytes of two rooms change places.
+fn exchange_pieces<D: Disk>(
+    disk: &mut D,
+    ram: &mut Ram,
+    one: Spot,
+    other: Spot,
+    size: u64,
+    room: &mut [u8],
+    spare: &mut [u8],
+) -> Result<(), FlashFault>
+    requires one { IsSpot (D.extent disk.old) ram.old one }
+    requires other { IsSpot (D.extent disk.old) ram.old other }
+    requires clear { AreSpotsClear one other }
+    requires within { size ≤ size_at one ram.old }
+    requires other_within { size ≤ size_at other ram.old }
+    requires room { 0 < length room.old }
+    requires spare { 0 < length spare.old }
+    ensures size { D.extent disk.new ≡ D.extent disk.old }
+    ensures counts { ResultCounts result (D.faults disk.old) (D.faults disk.new) }
+    ensures one { IsTrue D.told → OnOk result (take size (area_at one ram.new (D.flash disk.new).reads) ≡ take size (area_at other ram.old (D.flash disk.old).reads)) }
+    ensures other { IsTrue D.told → OnOk result (take size (area_at other ram.new (D.flash disk.new).reads) ≡ take size (area_at one ram.old (D.flash disk.old).reads)) }
+    ensures long { size_at one ram.new ≡ size_at one ram.old }
+    ensures other_long { size_at other ram.new ≡ size_at other ram.old }
+    ensures ram { IsRamButBoth one other ram.old ram.new }
+    ensures keeps { IsTrue D.told → Keeps (OutsideBoth one other) (D.flash disk.old) (D.flash disk.new) }
+    ensures grows { IsTrue D.told → Grows (D.flash disk.old) (D.flash disk.new) }
+{
+    let limit = room.len().min(spare.len()) as u64;
+    let mut from: u64 = 0;
+    while from < size {
+        let count = limit.min(size - from) as usize;
+        match exchange_piece(
+            disk,
+            ram,
+            one,
+            other,
+            from,
+            size,
+            &mut room[..count],
+            &mut spare[..count],
+        ) {
+            Ok(()) => {}
+            Err(FlashFault) => return Err(FlashFault),
+        }
+        from += count as u64;
+    }
+    Ok(())
+}
+
+// Two contents of these sizes change places, where there is room for each.
+pub(crate) fn exchange<D: Disk>(
+    disk: &mut D,
+    ram: &mut Ram,
+    one: Spot,
+    other: Spot,
+    sizes: (u64, u64),
+    room: &mut [u8],
+    spare: &mut [u8],
+) -> Result<(), FlashFault>
+    requires one { IsSpot (D.extent disk.old) ram.old one }
+    requires other { IsSpot (D.extent disk.old) ram.old other }
+    requires clear { AreSpotsClear one other }
+    requires size { sizes.0 ≤ size_at one ram.old }
+    requires other_size { sizes.1 ≤ size_at other ram.old }
+    requires own { sizes.0 ≤ room_at one ram.old }
+    requires other_own { sizes.1 ≤ room_at other ram.old }
+    requires fits { sizes.1 ≤ room_at one ram.old }
+    requires other_fits { sizes.0 ≤ room_at other ram.old }
+    requires room { 0 < length room.old }
+    requires spare { 0 < length spare.old }
+    ensures size { D.extent disk.new ≡ D.extent disk.old }
+    ensures counts { ResultCounts result (D.faults disk.old) (D.faults disk.new) }
+    ensures one { IsTrue D.told → OnOk result (content_of one ram.new (D.flash disk.new).reads ≡ take sizes.1 (area_at other ram.old (D.flash disk.old).reads)) }
+    ensures other { IsTrue D.told → OnOk result (content_of other ram.new (D.flash disk.new).reads ≡ take sizes.0 (area_at one ram.old (D.flash disk.old).reads)) }
+    ensures ram { IsRamButBoth one other ram.old ram.new }
+    ensures keeps { IsTrue D.told → Keeps (OutsideBoth one other) (D.flash disk.old) (D.flash disk.new) }
+    ensures grows { IsTrue D.told → Grows (D.flash disk.old) (D.flash disk.new) }
+{
+    let size = sizes.0.max(sizes.1);
+    stretch(ram, one, size);
+    stretch(ram, other, size);
+    match exchange_pieces(disk, ram, one, other, size, room, spare) {
+        Ok(()) => {}
+        Err(FlashFault) => return Err(FlashFault),
+    }
+    match set_size(disk, ram, one, sizes.1) {
+        Ok(()) => {}
+        Err(FlashFault) => return Err(FlashFault),
+    }
+    match set_size(disk, ram, other, sizes.0) {
+        Ok(()) => Ok(()),
+        Err(FlashFault) => Err(FlashFault),
+    }
+}

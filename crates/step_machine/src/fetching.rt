@@ -1,0 +1,154 @@
+//! Fetch, at one component.
+
+ghost use Rattle.path_model.specs.Settings.{found_under};
+ghost use Rattle.std.specs.Prelude.{◌≡◌, ◌<◌, ◌≤◌, ◌+◌, ◌==◌, ℕ, IsTrue, List, get_or, length, option_map};
+ghost use Rattle.std.specs.Option.{option_and_then};
+ghost use Rattle.step_machine.specs.Fetching.{FetchCounts, FetchesAs, TakesNamed};
+ghost use Rattle.step_machine.specs.Spots.{IsRamBut, IsSpot, OutsideSpot, content_of, room_at};
+ghost use Rattle.suit_edge.specs.Flash.{Grows, Keeps};
+ghost use Rattle.suit_envelope.specs.Payloads.{HasPayloads};
+
+use crate::params_in_force::bytes;
+use crate::payloads::{fill_with, payload_with};
+use crate::taking::take_into;
+use crate::{Standing, Uris};
+use flash_slots::Ram;
+use path_model::Cause;
+use suit_edge::{Disk, Host, Started};
+use suit_envelope::Envelope;
+use suit_params::{ParamKey, Params};
+
+// Whether a URI is the key of a payload.
+fn is_key(uri: &[u8]) -> bool
+    ensures { result ≡ (get_or uri.now 0 0 == 35) }
+{
+    match uri.first() {
+        Some(first) => *first == b'#',
+        None => false,
+    }
+}
+
+// The payload with this key becomes the content.
+fn fetch_payload<D: Disk>(
+    disk: &mut D,
+    ram: &mut Ram,
+    envelope: &Envelope<'_>,
+    standing: &Standing,
+    key: &[u8],
+) -> Result<(), Cause>
+    requires spot { IsSpot (D.extent disk.old) ram.old standing.now.spot }
+    requires capacity { room_at standing.now.spot ram.old ≡ standing.now.capacity }
+    ensures size { D.extent disk.new ≡ D.extent disk.old }
+    ensures counts { (host : ℕ) → FetchCounts result host host (D.faults disk.old) (D.faults disk.new) }
+    ensures ram { IsRamBut standing.now.spot ram.old ram.new }
+    ensures takes { IsTrue D.told → (payloads : List (List ℕ × List ℕ)) → HasPayloads envelope.now.whole.now payloads
+        → TakesNamed result standing.now.capacity (found_under payloads key.now)
+        (content_of standing.now.spot ram.old (D.flash disk.old).reads) (content_of standing.now.spot ram.new (D.flash disk.new).reads) }
+    ensures keeps { IsTrue D.told → Keeps (OutsideSpot standing.now.spot) (D.flash disk.old) (D.flash disk.new) }
+    ensures grows { IsTrue D.told → Grows (D.flash disk.old) (D.flash disk.new) }
+{
+    match payload_with(envelope, key) {
+        Some(payload) => fill_with(disk, ram, standing, payload),
+        None => Err(Cause::Absent),
+    }
+}
+
+// The file of this name becomes the content. It is started first, so that where there is none nothing changes.
+fn fetch_named<H: Host, D: Disk>(
+    host: &mut H,
+    disk: &mut D,
+    ram: &mut Ram,
+    standing: &Standing,
+    name: &str,
+    room: &mut [u8],
+) -> Result<(), Cause>
+    requires spot { IsSpot (D.extent disk.old) ram.old standing.now.spot }
+    requires capacity { room_at standing.now.spot ram.old ≡ standing.now.capacity }
+    requires room { 0 < length room.old }
+    ensures size { D.extent disk.new ≡ D.extent disk.old }
+    ensures counts { FetchCounts result (H.faults host.old) (H.faults host.new) (D.faults disk.old) (D.faults disk.new) }
+    ensures files { IsTrue H.told → H.file host.new ≡ H.file host.old }
+    ensures pulled { IsTrue H.told → H.pulled host.new ≤ H.pulled host.old + (standing.now.capacity + 1) }
+    ensures ram { IsRamBut standing.now.spot ram.old ram.new }
+    ensures takes { IsTrue D.told → IsTrue H.told → TakesNamed result standing.now.capacity (H.file host.old name.now)
+        (content_of standing.now.spot ram.old (D.flash disk.old).reads) (content_of standing.now.spot ram.new (D.flash disk.new).reads) }
+    ensures keeps { IsTrue D.told → Keeps (OutsideSpot standing.now.spot) (D.flash disk.old) (D.flash disk.new) }
+    ensures grows { IsTrue D.told → Grows (D.flash disk.old) (D.flash disk.new) }
+{
+    match host.start(name) {
+        Started::Done => take_into(host, disk, ram, standing, room),
+        Started::Absent => Err(Cause::Absent),
+        Started::Failed => Err(Cause::HostFault),
+    }
+}
+
+// The file that answers the URI becomes the content.
+fn fetch_file<H: Host, D: Disk>(
+    host: &mut H,
+    disk: &mut D,
+    ram: &mut Ram,
+    uris: &Uris,
+    standing: &Standing,
+    uri: &[u8],
+    room: &mut [u8],
+) -> Result<(), Cause>
+    requires spot { IsSpot (D.extent disk.old) ram.old standing.now.spot }
+    requires capacity { room_at standing.now.spot ram.old ≡ standing.now.capacity }
+    requires room { 0 < length room.old }
+    ensures size { D.extent disk.new ≡ D.extent disk.old }
+    ensures counts { FetchCounts result (H.faults host.old) (H.faults host.new) (D.faults disk.old) (D.faults disk.new) }
+    ensures files { IsTrue H.told → H.file host.new ≡ H.file host.old }
+    ensures pulled { IsTrue H.told → H.pulled host.new ≤ H.pulled host.old + (standing.now.capacity + 1) }
+    ensures ram { IsRamBut standing.now.spot ram.old ram.new }
+    ensures takes { IsTrue D.told → IsTrue H.told
+        → TakesNamed result standing.now.capacity (option_and_then (H.file host.old) (found_under uris.now uri.now))
+        (content_of standing.now.spot ram.old (D.flash disk.old).reads) (content_of standing.now.spot ram.new (D.flash disk.new).reads) }
+    ensures keeps { IsTrue D.told → Keeps (OutsideSpot standing.now.spot) (D.flash disk.old) (D.flash disk.new) }
+    ensures grows { IsTrue D.told → Grows (D.flash disk.old) (D.flash disk.new) }
+{
+    match uris.name_of(uri) {
+        Some(name) => fetch_named(host, disk, ram, standing, name, room),
+        None => Err(Cause::Absent),
+    }
+}
+
+/// Fetch: the content becomes what the URI in force names (draft-ietf-suit-manifest-25, section 8.4.10): a payload of the
+/// envelope where it begins with `#`, and otherwise the file that answers it. Where there is none nothing changes. One that
+/// is too large leaves the content empty, a fault of the host leaves the old content or none, and one of the flash any. At
+/// most one byte more is pulled than there is room for.
+pub fn fetch<H: Host, D: Disk>(
+    host: &mut H,
+    disk: &mut D,
+    ram: &mut Ram,
+    envelope: &Envelope<'_>,
+    uris: &Uris,
+    standing: &Standing,
+    params: &Params<'_>,
+    room: &mut [u8],
+) -> Result<(), Cause>
+    requires component { standing.now.component < 8 }
+    requires spot { IsSpot (D.extent disk.old) ram.old standing.now.spot }
+    requires capacity { room_at standing.now.spot ram.old ≡ standing.now.capacity }
+    requires room { 0 < length room.old }
+    ensures size { D.extent disk.new ≡ D.extent disk.old }
+    ensures counts { FetchCounts result (H.faults host.old) (H.faults host.new) (D.faults disk.old) (D.faults disk.new) }
+    ensures files { IsTrue H.told → H.file host.new ≡ H.file host.old }
+    ensures pulled { IsTrue H.told → H.pulled host.new ≤ H.pulled host.old + (standing.now.capacity + 1) }
+    ensures ram { IsRamBut standing.now.spot ram.old ram.new }
+    ensures fetches { IsTrue D.told → IsTrue H.told
+        → (payloads : List (List ℕ × List ℕ)) → HasPayloads envelope.now.whole.now payloads
+        → FetchesAs standing.now.component standing.now.capacity params.now payloads uris.now (H.file host.old)
+        (content_of standing.now.spot ram.old (D.flash disk.old).reads) (content_of standing.now.spot ram.new (D.flash disk.new).reads) result }
+    ensures keeps { IsTrue D.told → Keeps (OutsideSpot standing.now.spot) (D.flash disk.old) (D.flash disk.new) }
+    ensures grows { IsTrue D.told → Grows (D.flash disk.old) (D.flash disk.new) }
+{
+    match bytes(params.get(standing.component, ParamKey::Uri)) {
+        None => Err(Cause::Missing),
+        Some(uri) => {
+            if is_key(uri) {
+                return fetch_payload(disk, ram, envelope, standing, uri);
+            }
+            fetch_file(host, disk, ram, uris, standing, uri, room)
+        }
+    }
+}

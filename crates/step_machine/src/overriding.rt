@@ -1,0 +1,42 @@
+//! Override parameters.
+
+ghost use Rattle.path_model.specs.Directives.{after_override, soft_after};
+ghost use Rattle.std.specs.Prelude.{◌≡◌, ◌<◌};
+ghost use Rattle.step_machine.specs.Running.{state_of};
+ghost use Rattle.step_machine.specs.Overriding.{soft_after_list};
+ghost use Rattle.suit_params.specs.InForce.{IsOverridden};
+
+use crate::progress::Progress;
+use suit_params::{Param, ParamList};
+
+// Soft failure after one parameter is overridden.
+fn soft_after(soft_failure: bool, param: &Param) -> bool
+    ensures { result ≡ soft_after soft_failure param.now }
+{
+    match param {
+        Param::Soft(value) => *value,
+        _ => soft_failure,
+    }
+}
+
+// Soft failure after a list of them is.
+fn soft_after_list(soft_failure: bool, list: &ParamList) -> bool
+    ensures { result ≡ soft_after_list soft_failure list.now }
+{
+    let mut soft = soft_failure;
+    for param in list.as_slice() {
+        soft = soft_after(soft, param);
+    }
+    soft
+}
+
+/// Overrides a component's parameters, and soft failure where the list has it.
+pub(crate) fn override_with<'p>(component: u32, list: &'p ParamList, state: &mut Progress<'p>)
+    requires { component < 8 }
+    ensures after { state_of state.new ≡ after_override (state_of state.old) component list.now }
+    ensures last { IsOverridden state.old.params state.new.params component list.now }
+    ensures selected { state.new.selected ≡ state.old.selected }
+{
+    state.params.override_with(component, list);
+    state.soft_failure = soft_after_list(state.soft_failure, list);
+}

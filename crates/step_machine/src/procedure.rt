@@ -1,0 +1,211 @@
+//! Procedures, run on a device.
+
+ghost use Rattle.flash_slots.specs.RamContents.{Held};
+ghost use Rattle.path_model.specs.Behaviour.{State};
+ghost use Rattle.path_model.specs.Path.{first_state};
+ghost use Rattle.std.specs.Prelude.{◌≡◌, ◌<◌, ◌∷◌, [], ℕ, IsTrue, List, length, map};
+ghost use Rattle.step_machine.specs.Allowing.{AllowsSequence};
+ghost use Rattle.step_machine.specs.Devices.{contents_of};
+ghost use Rattle.step_machine.specs.Parts.{plan_part, starting_part};
+ghost use Rattle.step_machine.specs.PlanRuns.{EndCounts, OutsideTargets, PlaysPlan, counts_of, end_of, setting_of};
+ghost use Rattle.step_machine.specs.Running.{AreSources, IsReady, Runs, moment, state_of};
+ghost use Rattle.step_machine.specs.Worlds.{AreStandings};
+ghost use Rattle.suit_commands.specs.Allowed.{IsPlan};
+ghost use Rattle.suit_commands.specs.Plans.{lent_tree, plan_tree};
+ghost use Rattle.suit_edge.specs.Flash.{Grows, Keeps};
+ghost use Rattle.suit_envelope.specs.Payloads.{HasPayloads};
+
+use crate::machine::{Machine, Pieces};
+use crate::outside::{DiskSeen, HostSeen, LauncherSeen};
+use crate::progress::{Progress, Selected};
+use crate::running::sequence;
+use crate::{PlanEnd, Stop, World};
+use flash_slots::Ram;
+use suit_commands::{Plan, Sequence};
+use suit_edge::{Disk, Host, Launcher};
+use suit_params::Params;
+
+// Runs a member or the shared sequence, where there is one. It begins with component 0 selected and soft failure false.
+fn part<'p, H: Host, D: Disk, L: Launcher>(
+    machine: &Machine<'_>,
+    host: &mut H,
+    disk: &mut D,
+    launcher: &mut L,
+    ram: &mut Ram,
+    pieces: &mut Pieces,
+    lent: Option<&'p Sequence>,
+    state: &mut Progress<'p>,
+) -> Result<(), Stop>
+    requires ready { IsReady machine.now (D.extent disk.old) ram.old }
+    requires some { 0 < length machine.now.standings.now }
+    requires allowed { AllowsSequence machine.now (lent_tree lent) (0 ∷ []) }
+    requires sources { AreSources machine.now state.old.params }
+    ensures runs { Runs machine.now (starting_part (lent_tree lent.entry) machine.now.plan.now.count) (state_of state.old)
+        (moment (⟦<H as HostSeen>⟧.seen host.old) (⟦<D as DiskSeen>⟧.seen disk.old) (⟦<L as LauncherSeen>⟧.seen launcher.old) ram.old)
+        result (state_of state.new)
+        (moment (⟦<H as HostSeen>⟧.seen host.new) (⟦<D as DiskSeen>⟧.seen disk.new) (⟦<L as LauncherSeen>⟧.seen launcher.new) ram.new) }
+{
+    state.selected = Selected::One(0);
+    state.soft_failure = false;
+    match lent {
+        Some(inner) => sequence(machine, host, disk, launcher, ram, pieces, inner, state),
+        None => Ok(()),
+    }
+}
+
+// Runs the shared sequence before each of the three members.
+fn procedure<'p, H: Host, D: Disk, L: Launcher>(
+    machine: &Machine<'p>,
+    host: &mut H,
+    disk: &mut D,
+    launcher: &mut L,
+    ram: &mut Ram,
+    pieces: &mut Pieces,
+    state: &mut Progress<'p>,
+) -> Result<(), Stop>
+    requires ready { IsReady machine.now (D.extent disk.old) ram.old }
+    requires plan { IsPlan (plan_tree machine.now.plan.now) }
+    requires sources { AreSources machine.now state.old.params }
+    ensures runs { Runs machine.now (plan_part (plan_tree machine.now.plan.now)) (state_of state.old)
+        (moment (⟦<H as HostSeen>⟧.seen host.old) (⟦<D as DiskSeen>⟧.seen disk.old) (⟦<L as LauncherSeen>⟧.seen launcher.old) ram.old)
+        result (state_of state.new)
+        (moment (⟦<H as HostSeen>⟧.seen host.new) (⟦<D as DiskSeen>⟧.seen disk.new) (⟦<L as LauncherSeen>⟧.seen launcher.new) ram.new) }
+{
+    let plan = machine.plan;
+    if let Err(stop) = part(
+        machine,
+        host,
+        disk,
+        launcher,
+        ram,
+        pieces,
+        plan.shared,
+        state,
+    ) {
+        return Err(stop);
+    }
+    if let Err(stop) = part(
+        machine, host, disk, launcher, ram, pieces, plan.first, state,
+    ) {
+        return Err(stop);
+    }
+    if let Err(stop) = part(
+        machine,
+        host,
+        disk,
+        launcher,
+        ram,
+        pieces,
+        plan.shared,
+        state,
+    ) {
+        return Err(stop);
+    }
+    if let Err(stop) = part(
+        machine,
+        host,
+        disk,
+        launcher,
+        ram,
+        pieces,
+        plan.second,
+        state,
+    ) {
+        return Err(stop);
+    }
+    if let Err(stop) = part(
+        machine,
+        host,
+        disk,
+        launcher,
+        ram,
+        pieces,
+        plan.shared,
+        state,
+    ) {
+        return Err(stop);
+    }
+    part(
+        machine, host, disk, launcher, ram, pieces, plan.third, state,
+    )
+}
+
+// Runs the procedure from its first state.
+fn started<H: Host, D: Disk, L: Launcher>(
+    machine: &Machine<'_>,
+    host: &mut H,
+    disk: &mut D,
+    launcher: &mut L,
+    ram: &mut Ram,
+    pieces: &mut Pieces,
+) -> Result<(), Stop>
+    requires ready { IsReady machine.now (D.extent disk.old) ram.old }
+    requires plan { IsPlan (plan_tree machine.now.plan.now) }
+    ensures runs { (next : State) × Runs machine.now (plan_part (plan_tree machine.now.plan.now)) first_state
+        (moment (⟦<H as HostSeen>⟧.seen host.old) (⟦<D as DiskSeen>⟧.seen disk.old) (⟦<L as LauncherSeen>⟧.seen launcher.old) ram.old)
+        result next
+        (moment (⟦<H as HostSeen>⟧.seen host.new) (⟦<D as DiskSeen>⟧.seen disk.new) (⟦<L as LauncherSeen>⟧.seen launcher.new) ram.new) }
+{
+    let params = Params::new();
+    let mut state = Progress {
+        params,
+        selected: Selected::One(0),
+        soft_failure: false,
+    };
+    procedure(machine, host, disk, launcher, ram, pieces, &mut state)
+}
+
+fn end_of(ended: Result<(), Stop>) -> PlanEnd
+    ensures { result ≡ end_of ended }
+{
+    match ended {
+        Ok(()) => PlanEnd::Done,
+        Err(Stop::Condition { place, .. }) => PlanEnd::ConditionFailed { place },
+        Err(Stop::Directive { place, cause }) => PlanEnd::DirectiveFailed { place, cause },
+    }
+}
+
+/// Runs a procedure on a device (draft-ietf-suit-manifest-25, section 6.4). It ends as its play on the contents does, and
+/// leaves the contents and makes the launches that its play has. Where a fault comes it ends there, as a play that the
+/// fault cut short. Takes no memory.
+pub fn run_plan<H: Host, D: Disk, L: Launcher>(
+    host: &mut H,
+    disk: &mut D,
+    launcher: &mut L,
+    world: &mut World<'_>,
+    plan: &Plan<'_>,
+) -> PlanEnd
+    requires standings { AreStandings (D.extent disk.old) world.old.ram world.old.standings.items }
+    requires plan { IsPlan (plan_tree plan.now) }
+    requires count { plan.now.count ≡ length world.old.standings.items }
+    ensures standings { world.new.standings.items ≡ world.old.standings.items }
+    ensures rooms { map (λ (held : Held). held.capacity) world.new.ram ≡ map (λ (held : Held). held.capacity) world.old.ram }
+    ensures size { D.extent disk.new ≡ D.extent disk.old }
+    ensures counts { EndCounts result (counts_of (H.faults host.old) (D.faults disk.old) (L.faults launcher.old))
+        (counts_of (H.faults host.new) (D.faults disk.new) (L.faults launcher.new)) }
+    ensures files { IsTrue H.told → H.file host.new ≡ H.file host.old }
+    ensures plays { IsTrue H.told → IsTrue D.told → IsTrue L.told
+        → (payloads : List (List ℕ × List ℕ)) → HasPayloads world.old.envelope.now.whole.now payloads
+        → PlaysPlan (plan_tree plan.now)
+        (setting_of world.old.standings.items payloads world.old.uris.now (H.file host.old)) result
+        (contents_of world.old.standings.items world.old.ram (D.flash disk.old).reads)
+        (contents_of world.old.standings.items world.new.ram (D.flash disk.new).reads)
+        (L.launches launcher.old) (L.launches launcher.new) }
+    ensures keeps { IsTrue D.told → Keeps (OutsideTargets (plan_tree plan.now) world.old.standings.items)
+        (D.flash disk.old) (D.flash disk.new) }
+    ensures grows { IsTrue D.told → Grows (D.flash disk.old) (D.flash disk.new) }
+{
+    let standings = world.standings.as_slice();
+    let machine = Machine {
+        plan,
+        standings,
+        uris: world.uris,
+        envelope: world.envelope,
+    };
+    let mut pieces = Pieces {
+        one: [0; 4096],
+        other: [0; 4096],
+    };
+    let ended = started(&machine, host, disk, launcher, &mut world.ram, &mut pieces);
+    end_of(ended)
+}

@@ -1,0 +1,175 @@
+//! A file that was started becomes a content.
+
+ghost use Rattle.flash_layout.specs.Slots.{LiesWithin, extent_of, slot_content};
+ghost use Rattle.flash_slots.specs.Contents.{pieces_of};
+ghost use Rattle.flash_slots.specs.RamContents.{held_by, holding};
+ghost use Rattle.std.specs.Prelude.{◌≡◌, ◌<◌, ◌≤◌, ◌+◌, [], ℕ, IsTrue, length};
+ghost use Rattle.step_machine.specs.Fetching.{FetchCounts, PutsIn, TakesIn};
+ghost use Rattle.step_machine.specs.Spots.{IsRamBut, IsSpot, OutsideSpot, content_of, room_at};
+ghost use Rattle.suit_edge.specs.Flash.{Grows, Keeps};
+ghost use Rattle.suit_edge.specs.Ranges.{Outside};
+
+use crate::pieces::next_piece;
+use crate::{Spot, Standing};
+use flash_layout::{FlashFault, Slot};
+use flash_slots::{AppendFault, Ram, TooLarge, Writing, begin};
+use path_model::Cause;
+use suit_edge::{Disk, Host};
+
+// ---- a slot
+
+// Each piece of the file is put behind those before it, up to the file's end.
+fn append_file<H: Host, D: Disk>(
+    host: &mut H,
+    disk: &mut D,
+    writing: &mut Writing,
+    capacity: u64,
+    room: &mut [u8],
+) -> Result<(), Cause>
+    requires slot { LiesWithin (D.extent disk.old) writing.old.slot }
+    requires none { writing.old.written ≡ 0 }
+    requires capacity { writing.old.slot.capacity ≡ capacity }
+    requires room { 0 < length room.old }
+    ensures size { D.extent disk.new ≡ D.extent disk.old }
+    ensures counts { FetchCounts result (H.faults host.old) (H.faults host.new) (D.faults disk.old) (D.faults disk.new) }
+    ensures files { IsTrue H.told → H.file host.new ≡ H.file host.old }
+    ensures pulled { IsTrue H.told → H.pulled host.new ≤ H.pulled host.old + (capacity + 1) }
+    ensures slot { writing.new.slot ≡ writing.old.slot }
+    ensures within { writing.new.written ≤ capacity }
+    ensures puts { IsTrue D.told → IsTrue H.told → PutsIn result capacity (H.rest host.old)
+        (pieces_of writing.old.slot writing.new.written (D.flash disk.new).reads) }
+    ensures empty { IsTrue D.told → slot_content writing.old.slot (D.flash disk.old).reads ≡ []
+        → slot_content writing.old.slot (D.flash disk.new).reads ≡ [] }
+    ensures keeps { IsTrue D.told → Keeps (Outside writing.old.slot.start (extent_of writing.old.slot)) (D.flash disk.old) (D.flash disk.new) }
+    ensures grows { IsTrue D.told → Grows (D.flash disk.old) (D.flash disk.new) }
+{
+    let mut left = capacity;
+    loop {
+        let count = next_piece(host, left, room)?;
+        if count == 0 {
+            return Ok(());
+        }
+        match writing.append(disk, &room[..count]) {
+            Ok(()) => left -= count as u64,
+            Err(AppendFault::TooLarge(_)) => return Err(Cause::TooLarge),
+            Err(AppendFault::FlashFault) => return Err(Cause::FlashFault),
+        }
+    }
+}
+
+// The file becomes the content of a slot. Where it stops the slot is empty, or holds any content after a fault of the flash.
+fn take_into_slot<H: Host, D: Disk>(
+    host: &mut H,
+    disk: &mut D,
+    slot: Slot,
+    room: &mut [u8],
+) -> Result<(), Cause>
+    requires slot { LiesWithin (D.extent disk.old) slot }
+    requires room { 0 < length room.old }
+    ensures size { D.extent disk.new ≡ D.extent disk.old }
+    ensures counts { FetchCounts result (H.faults host.old) (H.faults host.new) (D.faults disk.old) (D.faults disk.new) }
+    ensures files { IsTrue H.told → H.file host.new ≡ H.file host.old }
+    ensures pulled { IsTrue H.told → H.pulled host.new ≤ H.pulled host.old + (slot.capacity + 1) }
+    ensures takes { IsTrue D.told → IsTrue H.told → TakesIn result slot.capacity (H.rest host.old) (slot_content slot (D.flash disk.new).reads) }
+    ensures keeps { IsTrue D.told → Keeps (Outside slot.start (extent_of slot)) (D.flash disk.old) (D.flash disk.new) }
+    ensures grows { IsTrue D.told → Grows (D.flash disk.old) (D.flash disk.new) }
+{
+    let mut writing = match begin(disk, slot) {
+        Ok(writing) => writing,
+        Err(FlashFault) => return Err(Cause::FlashFault),
+    };
+    append_file(host, disk, &mut writing, slot.capacity, room)?;
+    match writing.finish(disk) {
+        Ok(()) => Ok(()),
+        Err(FlashFault) => Err(Cause::FlashFault),
+    }
+}
+
+// ---- working memory
+
+// Each piece of the file is put behind those before it, up to the file's end.
+fn append_file_in_ram<H: Host>(
+    host: &mut H,
+    ram: &mut Ram,
+    component: u32,
+    capacity: u64,
+    room: &mut [u8],
+) -> Result<(), Cause>
+    requires component { component < length ram.old }
+    requires none { (held_by ram.old component).content ≡ [] }
+    requires capacity { (held_by ram.old component).capacity ≡ capacity }
+    requires room { 0 < length room.old }
+    ensures counts { (flash : ℕ) → FetchCounts result (H.faults host.old) (H.faults host.new) flash flash }
+    ensures files { IsTrue H.told → H.file host.new ≡ H.file host.old }
+    ensures pulled { IsTrue H.told → H.pulled host.new ≤ H.pulled host.old + (capacity + 1) }
+    ensures ram { ram.new ≡ holding ram.old component (held_by ram.new component).content }
+    ensures puts { IsTrue H.told → PutsIn result capacity (H.rest host.old) (held_by ram.new component).content }
+{
+    let mut left = capacity;
+    loop {
+        let count = next_piece(host, left, room)?;
+        if count == 0 {
+            return Ok(());
+        }
+        match ram.append(component, &room[..count]) {
+            Ok(()) => left -= count as u64,
+            Err(TooLarge { .. }) => return Err(Cause::TooLarge),
+        }
+    }
+}
+
+// The file becomes the content of a component in working memory, which is emptied where it stops.
+fn take_into_ram<H: Host>(
+    host: &mut H,
+    ram: &mut Ram,
+    component: u32,
+    capacity: u64,
+    room: &mut [u8],
+) -> Result<(), Cause>
+    requires component { component < length ram.old }
+    requires capacity { (held_by ram.old component).capacity ≡ capacity }
+    requires room { 0 < length room.old }
+    ensures counts { (flash : ℕ) → FetchCounts result (H.faults host.old) (H.faults host.new) flash flash }
+    ensures files { IsTrue H.told → H.file host.new ≡ H.file host.old }
+    ensures pulled { IsTrue H.told → H.pulled host.new ≤ H.pulled host.old + (capacity + 1) }
+    ensures ram { ram.new ≡ holding ram.old component (held_by ram.new component).content }
+    ensures takes { IsTrue H.told → TakesIn result capacity (H.rest host.old) (held_by ram.new component).content }
+{
+    ram.clear(component);
+    match append_file_in_ram(host, ram, component, capacity, room) {
+        Ok(()) => Ok(()),
+        Err(cause) => {
+            ram.clear(component);
+            Err(cause)
+        }
+    }
+}
+
+// ---- either
+
+// The file becomes the content, piece by piece. At most one byte more is pulled than there is room for.
+pub(crate) fn take_into<H: Host, D: Disk>(
+    host: &mut H,
+    disk: &mut D,
+    ram: &mut Ram,
+    standing: &Standing,
+    room: &mut [u8],
+) -> Result<(), Cause>
+    requires spot { IsSpot (D.extent disk.old) ram.old standing.now.spot }
+    requires capacity { room_at standing.now.spot ram.old ≡ standing.now.capacity }
+    requires room { 0 < length room.old }
+    ensures size { D.extent disk.new ≡ D.extent disk.old }
+    ensures counts { FetchCounts result (H.faults host.old) (H.faults host.new) (D.faults disk.old) (D.faults disk.new) }
+    ensures files { IsTrue H.told → H.file host.new ≡ H.file host.old }
+    ensures pulled { IsTrue H.told → H.pulled host.new ≤ H.pulled host.old + (standing.now.capacity + 1) }
+    ensures ram { IsRamBut standing.now.spot ram.old ram.new }
+    ensures takes { IsTrue D.told → IsTrue H.told → TakesIn result standing.now.capacity (H.rest host.old)
+        (content_of standing.now.spot ram.new (D.flash disk.new).reads) }
+    ensures keeps { IsTrue D.told → Keeps (OutsideSpot standing.now.spot) (D.flash disk.old) (D.flash disk.new) }
+    ensures grows { IsTrue D.told → Grows (D.flash disk.old) (D.flash disk.new) }
+{
+    match standing.spot {
+        Spot::Flash(slot) => take_into_slot(host, disk, slot, room),
+        Spot::Ram(component) => take_into_ram(host, ram, component, standing.capacity, room),
+    }
+}

@@ -1,0 +1,122 @@
+//! What a procedure runs on, beside the flash, the host and the launcher.
+
+ghost use Rattle.flash_layout.specs.declared.frame.Frame.{Frame};
+ghost use Rattle.flash_layout.specs.Layouts.{IsLayout};
+ghost use Rattle.flash_slots.specs.RamContents.{empty_ram};
+ghost use Rattle.std.specs.Prelude.{◌≡◌, ◌<◌, ℕ, IfOk, length};
+ghost use Rattle.step_machine.specs.Worlds.{AreDistinct, AreStandings, HaveTwo, IsChoice, StandAs, spot_of, standing_of};
+
+use crate::{Spot, Standing, Uris};
+use flash_layout::{Entry, Layout, Memory, Places, Slot};
+use flash_slots::Ram;
+use path_model::Identity;
+use std::alloc::{AllocError, Global};
+use suit_envelope::Envelope;
+
+/// The number of the slot that each component of the layout stands for, 0 or 1; 0 in working memory.
+#[derive(Clone, Copy, Debug, PartialEq, Eq)]
+pub struct SlotChoice {
+    pub number: [u8; 8],
+}
+
+/// The components of a procedure and where their contents stand, the contents in working memory, and where payloads come
+/// from: the envelope's own, and files by their URIs.
+#[derive(Drop)]
+pub struct World<'a> {
+    pub(crate) standings: Vec<Standing>,
+    pub(crate) ram: Ram,
+    pub(crate) uris: &'a Uris,
+    pub(crate) envelope: &'a Envelope<'a>,
+}
+
+// The list of a component's starts has room for two.
+fn has_two(entry: &Entry)
+    ensures { length entry.now.starts ≡ 2 }
+{
+    let starts = &entry.starts[..];
+    let _count = starts.len();
+}
+
+// Where the content of a component stands.
+fn spot_of(entry: &Entry, index: u32, number: u8) -> Spot
+    requires { number < 2 }
+    ensures { result ≡ spot_of entry.now.memory entry.now index number }
+{
+    match entry.memory {
+        Memory::Flash => Spot::Flash(Slot {
+            start: entry.starts[number as usize],
+            capacity: entry.capacity,
+        }),
+        Memory::Ram => Spot::Ram(index),
+    }
+}
+
+fn standing_of(entry: &Entry, component: u32, index: u32, number: u8) -> Standing
+    requires { number < 2 }
+    ensures { result ≡ standing_of entry.now component index number }
+{
+    Standing {
+        component,
+        identity: Identity {
+            vendor: entry.vendor,
+            class: entry.class,
+            device: entry.device,
+            slot: number as u64,
+        },
+        capacity: entry.capacity,
+        spot: spot_of(entry, index, number),
+    }
+}
+
+fn stand(
+    alloc: Global,
+    layout: &Layout,
+    places: &Places,
+    slots: &SlotChoice,
+) -> Result<Vec<Standing>, AllocError>
+    requires places { AreDistinct layout.now places.now }
+    requires slots { IsChoice layout.now slots.now }
+    ensures stand { IfOk result (λ list. StandAs layout.now places.now slots.now list.items) }
+    ensures two { IfOk result (λ list. HaveTwo layout.now places.now places.now.count) }
+{
+    let entries = layout.as_slice();
+    let mut list = Vec::new(alloc);
+    for component in 0..places.count {
+        let index = places.layout_index[component as usize];
+        let entry = &entries[index as usize];
+        has_two(entry);
+        list.push(standing_of(entry, component, index, slots.number[index as usize]))?;
+    }
+    Ok(list)
+}
+
+impl<'a> World<'a> {
+    /// The components of a manifest that have these places in the layout, each standing for the chosen slot. Contents in
+    /// working memory are empty. All memory that a procedure needs is taken here.
+    pub fn new(
+        alloc: Global,
+        layout: &Layout,
+        places: &Places,
+        slots: &SlotChoice,
+        uris: &'a Uris,
+        envelope: &'a Envelope<'a>,
+    ) -> Result<World<'a>, AllocError>
+        requires places { AreDistinct layout.now places.now }
+        requires slots { IsChoice layout.now slots.now }
+        ensures stand { IfOk result (λ world. StandAs layout.now places.now slots.now world.standings.items) }
+        ensures ram { IfOk result (λ world. world.ram ≡ empty_ram layout.now) }
+        ensures uris { IfOk result (λ world. world.uris.now ≡ uris.now) }
+        ensures envelope { IfOk result (λ world. world.envelope.now ≡ envelope.now) }
+        ensures fit { IfOk result (λ world. (frame : Frame) (size : ℕ) → IsLayout frame size layout.now
+            → AreStandings size world.ram world.standings.items) }
+    {
+        let ram = Ram::new(alloc, layout)?;
+        let standings = stand(alloc, layout, places, slots)?;
+        Ok(World {
+            standings,
+            ram,
+            uris,
+            envelope,
+        })
+    }
+}
