@@ -1,5 +1,5 @@
 -- Where each command stops.
-use Rattle.std.proofs.Common.{◌≡◌, ℕ, ◌+◌, List, [], ◌∷◌, ◌++◌, Option, ◌⊎◌, inl, inr, refl, sym, ap, subst, ◌∙◌, arith}
+use Rattle.std.proofs.Common.{◌≡◌, ℕ, ◌+◌, List, [], ◌∷◌, ◌++◌, ◌⊎◌, inl, inr, refl, sym, ap, subst, ◌∙◌}
 use Rattle.std.specs.Prelude.{IsTrue}
 use Rattle.std.proofs.lemmas.List.{append_assoc}
 use Rattle.suit_envelope.specs.Envelopes.{EnvelopeSays}
@@ -16,7 +16,7 @@ use Rattle.suit_cli.specs.Outside.{Outside, Asks, MayAsk, Reads}
 use Rattle.suit_cli.specs.declared.reply.Object.{Object}
 use Rattle.suit_cli.specs.declared.reply.Object.TheVariants as objects
 use Rattle.suit_cli.specs.Stages.{Says, FaultOf, at_host, Goes, Declines, Faults, Ends}
-use Rattle.suit_cli.specs.Inputs.{longest_key, IsKey, IsNoKey}
+use Rattle.suit_cli.specs.Inputs.{longest_key, IsNoKey}
 use Rattle.suit_cli.specs.Holding.{HasManifest}
 use Rattle.suit_cli.specs.Shown.{IsShown, authenticity_outcome}
 use Rattle.suit_cli.specs.Commands.{shows_manifest, shows}

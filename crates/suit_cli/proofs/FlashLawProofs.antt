@@ -3,21 +3,20 @@ use Rattle.std.proofs.Common.{◌≡◌, ◌⊎◌, inl, inr, ℕ, List, refl, s
 use Rattle.std.specs.Prelude.{IsTrue}
 use Rattle.suit_edge.specs.Gate.{IsOpen}
 use Rattle.flash_layout.specs.declared.frame.TheConstants.{VERSION_1, CONFIG_GATE}
-use Rattle.flash_layout.specs.declared.key.Key.{Key}
 use Rattle.flash_layout.specs.declared.layout.Entry.{Entry}
 use Rattle.flash_layout.specs.declared.slot.Record.{Record}
-use Rattle.flash_layout.specs.Configs.{Config, ConfigOf, Configured, Blank, Bad}
+use Rattle.flash_layout.specs.Configs.{Config, ConfigOf}
 use Rattle.flash_layout.specs.Formats.{IsFormatted}
 use Rattle.flash_layout.specs.Frames.{head_of}
 use Rattle.rollback_record.specs.HeadRecord.{RecordOf}
 use Rattle.suit_cli.specs.declared.reply.Reply.{Reply}
 use Rattle.suit_cli.specs.declared.reply.Outcome.TheVariants as outcomes
-use Rattle.suit_cli.specs.Outside.{Outside, Flashed, IsStill, Looks, Reads, with_flash}
+use Rattle.suit_cli.specs.Outside.{Outside, Flashed, IsStill, Looks, Reads}
 use Rattle.suit_cli.specs.Stages.{Says, NoMemory, Goes, Declines, Lacks, Ends, IsSaid}
-use Rattle.suit_cli.specs.Inputs.{longest_device, IsRead, IsUnread, IsAbsent, IsTooLong, IsKey, IsNoKey, IsUnreadKey, IsEmptyKey}
+use Rattle.suit_cli.specs.Inputs.{longest_device}
 use Rattle.suit_cli.specs.Devices.{IsDevice, IsNoDevice, key_of}
-use Rattle.suit_cli.specs.Formatting.{IsShut, IsUnused, IsInUse, Formats}
-use Rattle.suit_cli.specs.Installed.{Holds, HoldsNone, IsBlank, IsBad, IsInstalled, IsNothing, component_lines}
+use Rattle.suit_cli.specs.Formatting.{IsShut, IsInUse}
+use Rattle.suit_cli.specs.Installed.{component_lines}
 use Rattle.suit_cli.specs.Commands.{inits_as, inits, tells_status}
 use Rattle.suit_cli.specs.FlashLaws.{InitSays, AtGate, AtDevice, AtDescription, AtKey, AtFormat, IsReady, InitLaws, StatusSays, AtConfig, AtRecord, AtLines, StatusLaws}
 use Rattle.suit_cli.proofs.Running.{Declining, declining, unread_declines, no_key_declines, no_device_declines}

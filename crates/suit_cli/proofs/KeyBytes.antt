@@ -1,5 +1,5 @@
 -- The key of a flash by its bytes.
-use Rattle.std.proofs.Common.{◌≡◌, ◌∙◌, ◌≤◌, ◌<◌, ◌+◌, ◌-◌, ◌++◌, ℕ, List, length, drop, replicate, get_or, get_or-append-add, refl, ap, sym, subst, arith}
+use Rattle.std.proofs.Common.{◌≡◌, ◌∙◌, ◌≤◌, ◌<◌, ◌+◌, ◌-◌, ◌++◌, ℕ, List, length, drop, replicate, get_or, get_or-append-add, ap, subst, arith}
 use Rattle.std.proofs.lemmas.List.{drop-replicate, get_or-replicate}
 use Rattle.flash_layout.specs.declared.key.Key.{Key}
 use Rattle.flash_layout.specs.Layouts.{IsKey}

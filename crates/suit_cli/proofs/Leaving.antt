@@ -1,6 +1,5 @@
 -- What a power loss during a command may leave.
-use Rattle.std.proofs.Common.{◌≡◌, ℕ, List, Option, Some, inl, inr, sym, subst, refl}
-use Rattle.std.specs.Prelude.{IsTrue}
+use Rattle.std.proofs.Common.{◌≡◌, ℕ, List, Option, Some, inl, inr, sym, subst}
 use Rattle.suit_edge.specs.Flash.{Flash, Now, Passes, IsFlash, IsSame}
 use Rattle.suit_edge.specs.FlashLaws.{starts, weakens, joined, each_now}
 use Rattle.flash_layout.specs.declared.frame.TheConstants.{VERSION_1}

@@ -11,7 +11,6 @@ use Rattle.suit_manifest.specs.MembersLaws.{MembersLaws}
 use Rattle.suit_cli.specs.declared.reply.Reply.{Reply}
 use Rattle.suit_cli.specs.declared.reply.Outcome.TheVariants as outcomes
 use Rattle.suit_cli.specs.Texts.{usage_line}
-use Rattle.suit_cli.specs.declared.reply.Object.{Object}
 use Rattle.suit_cli.specs.declared.reply.Object.TheVariants as objects
 use Rattle.suit_cli.specs.Words.{Check, Show, RunInit, RunStatus, task_of}
 use Rattle.suit_cli.specs.Outside.{Outside, Sunk, Quiet}

@@ -10,7 +10,7 @@ use Rattle.suit_cli.specs.Outside.{Outside, Flashed, Quiet, Reads, Fails, Looks,
 use Rattle.suit_cli.specs.Stages.{Ending, Says, FaultOf, NoMemory, Answers, Stage, judging, reading, looking, at_host, at_flash, Then, Goes, Declines, Faults, Lacks, Last, Ends, EndsWithout, Said, IsSaid}
 use Rattle.flash_layout.specs.declared.key.Key.{Key}
 use Rattle.flash_layout.specs.declared.layout.Entry.{Entry}
-use Rattle.suit_cli.specs.Formatting.{formatting, formats, FormatsInVain}
+use Rattle.suit_cli.specs.Formatting.{formatting, FormatsInVain}
 use Rattle.suit_cli.specs.Inputs.{longest_file, longest_device, longest_key}
 use Rattle.suit_cli.specs.Commands.{checks, shows, inits, inits_as, tells_status, does}
 use Rattle.suit_cli.specs.Program.{answers, most_pulled}

@@ -1,5 +1,5 @@
 -- The stages of `run status`.
-use Rattle.std.proofs.Common.{◌≡◌, ◌<◌, ◌+◌, ◌++◌, ◌∷◌, ◌∙◌, ℕ, List, length, drop, get_or, drop-cons, add-one, suc, refl, ap, sym, subst, append_assoc, Result, Ok, Err}
+use Rattle.std.proofs.Common.{◌≡◌, ◌<◌, ◌+◌, ◌++◌, ◌∷◌, ◌∙◌, ℕ, List, length, drop, get_or, drop-cons, add-one, suc, ap, sym, subst, append_assoc, Result, Ok, Err}
 use Rattle.std.specs.Prelude.{IsTrue, codes, slice_index}
 use Rattle.std.specs.Result.{IsErrAnd}
 use Rattle.std.specs.declared.alloc.AllocError.{AllocError}

@@ -275,17 +275,23 @@ fn other_words_are_usage(rt: HostRuntime) -> Result<(), Fail> {
     Ok(())
 }
 
+// Whether `check` of a file that is not there answers so.
+fn checks_none(alloc: Global, says: (u8, &str)) -> Result<bool, AllocError> {
+    let mut host = MemoryHost::new(alloc, &[])?;
+    answers_by_files(alloc, &CHECK, &mut host, says)
+}
+
+// Whether `check` of a file of so many zeros answers so.
+fn checks_zeros(alloc: Global, count: usize, says: (u8, &str)) -> Result<bool, AllocError> {
+    let file = vec![in alloc; 0u8; count]?;
+    checks(alloc, file.as_slice(), says)
+}
+
 #[test]
 fn a_file_is_absent_or_too_long(rt: HostRuntime) -> Result<(), Fail> {
-    let alloc = rt.alloc();
-    let mut host = MemoryHost::new(alloc, &[])?;
-    let absent = (20, "absent nofile\n");
-    assert!(rt; answers_by_files(alloc, &["check", "nofile"], &mut host, absent)?);
-
-    let long = vec![in alloc; 0u8; 1_048_577]?;
-    assert!(rt; checks(alloc, long.as_slice(), (21, "too long e1.suit\n"))?);
-    let longest = long.as_slice().get(1..).ok_or("no byte")?;
-    assert!(rt; checks(alloc, longest, (3, "refused at 1: trailing\n"))?);
+    assert!(rt; checks_none(rt.alloc(), (20, "absent e1.suit\n"))?);
+    assert!(rt; checks_zeros(rt.alloc(), 1_048_577, (21, "too long e1.suit\n"))?);
+    assert!(rt; checks_zeros(rt.alloc(), 1_048_576, (3, "refused at 1: trailing\n"))?);
     Ok(())
 }
 

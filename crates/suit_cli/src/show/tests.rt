@@ -135,15 +135,7 @@ fn is_shown(alloc: Global, row: &Row) -> Result<bool, Fail> {
 #[test]
 fn an_envelope_is_shown_under_a_key(rt: HostRuntime) -> Result<(), Fail> {
     for row in &ROWS {
-<<<<<<< HEAD
         assert!(rt; is_shown(rt.alloc(), row)?, "{}", row.text);
-=======
-        let envelope = hex::decode(alloc, row.envelope)?;
-        let (status, text) = shown(alloc, &SHOW, envelope.as_slice(), row.key, &[])?;
-        let says = row.text;
-        assert!(rt; text.as_slice() == row.text.as_bytes(), "{says}");
-        assert!(rt; status == row.status, "{says}");
->>>>>>> 538900549c64e3a86f3fa1f7ea1b03b1ddb06db3
     }
     Ok(())
 }
@@ -154,14 +146,9 @@ fn another_tag_differs(rt: HostRuntime) -> Result<(), Fail> {
     *changed.get_mut(TAG_END).ok_or("no tag")? = 0x70;
     let differs =
         "tagged yes\nblock 0 other\nblock 1 mac0\nmember shared here\nmember validate here\nmember load none\nmember invoke here\nmember payload-fetch none\nmember install none\nmember text none\nnot authentic: mac differs\n";
-<<<<<<< HEAD
     assert!(rt; shows(rt.alloc(), changed.as_slice(), &KEY, (4, differs))?);
     Ok(())
 }
-=======
-    assert!(rt; text.as_slice() == differs.as_bytes());
-    assert!(rt; status == 4);
->>>>>>> 538900549c64e3a86f3fa1f7ea1b03b1ddb06db3
 
 #[test]
 fn an_envelope_without_its_tag_is_shown(rt: HostRuntime) -> Result<(), Fail> {
@@ -169,12 +156,7 @@ fn an_envelope_without_its_tag_is_shown(rt: HostRuntime) -> Result<(), Fail> {
     let untagged = envelope.as_slice().get(2..).ok_or("no bytes")?;
     let plain =
         "tagged no\nblock 0 other\nblock 1 mac0\nmember shared here\nmember validate here\nmember load none\nmember invoke here\nmember payload-fetch none\nmember install none\nmember text none\nauthentic\n";
-<<<<<<< HEAD
     assert!(rt; shows(rt.alloc(), untagged, &KEY, (0, plain))?);
-=======
-    assert!(rt; text.as_slice() == plain.as_bytes());
-    assert!(rt; status == 0);
->>>>>>> 538900549c64e3a86f3fa1f7ea1b03b1ddb06db3
     Ok(())
 }
 
@@ -187,7 +169,6 @@ fn shows_of(alloc: Global, file: &str, key: &str, says: (u8, &str)) -> Result<bo
 
 #[test]
 fn a_file_or_a_key_is_absent(rt: HostRuntime) -> Result<(), Fail> {
-<<<<<<< HEAD
     assert!(rt; shows_of(rt.alloc(), "e.suit", "no key", (20, "absent no key\n"))?);
     assert!(rt; shows_of(rt.alloc(), "no file", "no key", (20, "absent no file\n"))?);
     assert!(rt; shows_of(rt.alloc(), "k", "no key", (3, "refused at 1: trailing\n"))?);
@@ -199,60 +180,12 @@ fn tells_fault(alloc: Global, call: u64) -> Result<bool, Fail> {
     let envelope = hex::decode(alloc, AUTHENTIC)?;
     let mut host = with_files(alloc, envelope.as_slice(), &KEY, &[call])?;
     Ok(answers_by_files(alloc, &SHOW, &mut host, (7, "host fault\n"))?)
-=======
-    let alloc = rt.alloc();
-    let envelope = hex::decode(alloc, AUTHENTIC)?;
-    let rows = [
-        (["show", "e.suit", "no key"], 20, "absent no key\n"),
-        (["show", "no file", "no key"], 20, "absent no file\n"),
-        (["show", "k", "no key"], 3, "refused at 1: trailing\n"),
-    ];
-    for (words, says_status, says) in &rows {
-        let (status, text) = shown(alloc, words, envelope.as_slice(), &KEY, &[])?;
-        assert!(rt; text.as_slice() == says.as_bytes(), "{says}");
-        assert!(rt; status == *says_status, "{says}");
-    }
-    Ok(())
-}
-
-#[test]
-fn other_words_are_usage(rt: HostRuntime) -> Result<(), AllocError> {
-    let alloc = rt.alloc();
-    let lines: [&[&str]; 5] = [
-        &["show"],
-        &["show", "e.suit"],
-        &["show", "-e", "k"],
-        &["show", "e.suit", "-k"],
-        &["show", "e.suit", "k", "k"],
-    ];
-    for words in &lines {
-        let (status, text) = shown(alloc, words, b"", &KEY, &[])?;
-        assert!(rt; status == 2);
-        assert!(rt; text.as_slice().starts_with(b"usage: suit make"));
-    }
-    Ok(())
->>>>>>> 538900549c64e3a86f3fa1f7ea1b03b1ddb06db3
 }
 
 #[test]
 fn each_call_of_the_host_may_fail(rt: HostRuntime) -> Result<(), Fail> {
-<<<<<<< HEAD
     for call in 0..7u64 {
         assert_eq!(rt; tells_fault(rt.alloc(), call)?, call < 6, "call {call}");
     }
-=======
-    let alloc = rt.alloc();
-    let envelope = hex::decode(alloc, AUTHENTIC)?;
-    for call in 0..6u64 {
-        let (status, text) = shown(alloc, &SHOW, envelope.as_slice(), &KEY, &[call])?;
-        assert!(rt; status == 7, "call {call}");
-        assert!(rt;
-            text.as_slice() == b"host fault\n".as_slice(),
-            "call {call}"
-        );
-    }
-    let (status, _text) = shown(alloc, &SHOW, envelope.as_slice(), &KEY, &[6])?;
-    assert!(rt; status == 0);
->>>>>>> 538900549c64e3a86f3fa1f7ea1b03b1ddb06db3
     Ok(())
 }

@@ -1,12 +1,12 @@
 //! Tests of `run status` on objects in memory.
 
-ghost use Rattle.std.specs.Prelude.{◌≡◌, ◌≤◌};
+ghost use Rattle.std.specs.Prelude.{◌≡◌, ◌≤◌, IfOk, IfSome, length};
 
 use crate::init::tests::inits;
 use crate::tests::{answers, blank};
 use std::alloc::{AllocError, Global};
 use std::test::Fail;
-use suit_edge::{Disk, Edge, MemoryHost};
+use suit_edge::{Disk, Edge, MemoryDisk, MemoryHost};
 
 /// A device of a component with two slots and one in working memory.
 const DEVICE: &str =
@@ -42,14 +42,30 @@ fn install<D: Disk>(flash: &mut D) -> bool
         && flash.write_at(50_184, &[0, 0, 0, 0, 0, 0, 0, 3]) == Edge::Done
 }
 
+// A flash that was formatted.
+fn ready(alloc: Global) -> Result<Option<MemoryDisk>, AllocError>
+    ensures { IfOk result (λ flash. IfSome flash (λ flash. length flash.first ≡ 65536)) }
+{
+    let mut flash = blank(alloc, &[])?;
+    if inits(alloc, DEVICE, b"key", &mut flash, (0, "ready\n"))? {
+        Ok(Some(flash))
+    } else {
+        Ok(None)
+    }
+}
+
+#[test]
+fn a_blank_flash_is_told(rt: HostRuntime) -> Result<(), Fail> {
+    let mut flash = blank(rt.alloc(), &[])?;
+    assert!(rt; tells(rt.alloc(), &mut flash, (13, "blank\n"))?);
+    Ok(())
+}
+
 #[test]
 fn what_is_installed_is_told(rt: HostRuntime) -> Result<(), Fail> {
-    let alloc = rt.alloc();
-    let mut flash = blank(alloc, &[])?;
-    assert!(rt; tells(alloc, &mut flash, (13, "blank\n"))?);
-    assert!(rt; inits(alloc, DEVICE, b"key", &mut flash, (0, "ready\n"))?);
-    assert!(rt; tells(alloc, &mut flash, (15, "nothing installed\n"))?);
+    let mut flash = ready(rt.alloc())?.ok_or("not ready")?;
+    assert!(rt; tells(rt.alloc(), &mut flash, (15, "nothing installed\n"))?);
     assert!(rt; install(&mut flash));
-    assert!(rt; tells(alloc, &mut flash, (0, LINES))?);
+    assert!(rt; tells(rt.alloc(), &mut flash, (0, LINES))?);
     Ok(())
 }

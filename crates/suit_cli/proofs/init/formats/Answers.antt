@@ -1,4 +1,4 @@
-use Rattle.std.proofs.Common.{◌≡◌, ℕ, List, refl, inr, ap, sym, subst}
+use Rattle.std.proofs.Common.{refl, inr}
 use Rattle.suit_edge.specs.FlashLaws.{weakens}
 use Rattle.suit_cli.specs.declared.reply.Object.TheVariants as objects
 use Rattle.suit_cli.specs.declared.reply.Stop.TheVariants as stops

@@ -1,4 +1,4 @@
-use Rattle.std.proofs.Common.{◌≡◌, ℕ, ◌≤◌, List, length, Ok, Err, sym, ap, subst, ◌∙◌, refl}
+use Rattle.std.proofs.Common.{ℕ, ◌≤◌, List, length, Ok, Err, sym, ap, subst, ◌∙◌}
 use Rattle.flash_layout.specs.declared.frame.TheConstants.{VERSION_1}
 use Rattle.flash_layout.specs.Layouts.{IsLayout}
 use Rattle.suit_cli.specs.Outside.{Outside}

@@ -1,5 +1,5 @@
-use Rattle.std.proofs.Common.{refl, sym, ap, subst, ◌∙◌, Option, Some}
-use Rattle.suit_cli.specs.Words.{Task, Check, Show, RunInit, RunStatus, task_said}
+use Rattle.std.proofs.Common.{refl, sym, ap, ◌∙◌, Some}
+use Rattle.suit_cli.specs.Words.{Check, Show, RunInit, RunStatus, task_said}
 use Rattle.suit_cli.specs.declared.words.Command.{Command}
 use Rattle.suit_cli.specs.Outside.{Outside}
 use Rattle.suit_cli.specs.Stages.{Goes}
