@@ -1,0 +1,5 @@
+mod BankBytes
+mod ConfigSlots
+mod Installs
+mod SlotsApart
+mod MomentProofs

@@ -1,0 +1,6 @@
+pub mod Banks
+pub mod Records
+pub mod Installing
+pub mod Choices
+pub mod Moments
+pub mod MomentLaws

@@ -1,0 +1,8 @@
+//! Laws of updates. The calls here do nothing: their contracts are the laws.
+
+ghost use Rattle.update_proc.specs.MomentLaws.{EachMoment};
+
+/// What becomes of the contents of slots while a procedure runs, while a bank is written and while the record is committed.
+pub fn moment_laws()
+    ensures { EachMoment }
+{}
