@@ -1,6 +1,7 @@
 -- Which slot each component stands for in an update. These definitions are this project's own.
-use Rattle.std.specs.Prelude.{◌≡◌, ◌<◌, ◌-◌, ℕ, List, get_or, length, replicate, slice_index, Option, Some, None}
+use Rattle.std.specs.Prelude.{◌≡◌, ◌⊎◌, ◌<◌, ◌-◌, ℕ, List, get_or, length, replicate, slice_index, Option, Some, None}
 use Rattle.suit_commands.specs.Tree.{PlanTree}
+use Rattle.suit_commands.specs.Bits.{HasBit}
 use Rattle.suit_commands.specs.Targets.{IsTarget}
 use Rattle.flash_layout.specs.declared.layout.Entry.{Entry}
 use Rattle.flash_layout.specs.declared.layout.Memory.TheVariants as memory
@@ -23,6 +24,13 @@ pub record IsWritten (tree : PlanTree) (places : Places) (i : ℕ) : Type 0 wher
   pub target : IsTarget tree component
   pub there : slice_index places.layout_index component ≡ i
 
+-- the same, of a set of components
+pub record HasWritten (places : Places) (bits i : ℕ) : Type 0 where
+  pub component : ℕ
+  pub few : component < places.count
+  pub member : HasBit bits component
+  pub there : slice_index places.layout_index component ≡ i
+
 -- it has another slot beside the one in use
 abbrev pub HasOther : List Entry → ℕ → Type 0
 HasOther layout i = (i < length layout) × ((e : Entry) → (get_or layout i e).slots ≡ 2)
@@ -32,6 +40,7 @@ pub record AreChosen (layout : List Entry) (places : Places) (tree : PlanTree) (
   pub size : length numbers ≡ 8
   pub other : (i : ℕ) → IsWritten tree places i → HasOther layout i → slice_index numbers i ≡ 1 - slice_index active i
   pub same : (i : ℕ) → (IsWritten tree places i × HasOther layout i → ⊥) → slice_index numbers i ≡ slice_index active i
+  pub either : (i : ℕ) → (slice_index numbers i ≡ slice_index active i) ⊎ (HasOther layout i × (slice_index numbers i ≡ 1 - slice_index active i))
 
 -- ---- slots
 

@@ -3,11 +3,13 @@
 
 mod bank;
 mod bank_reading;
+mod choosing;
 mod installing;
 mod law;
 mod offer;
 
 pub use bank::write_bank;
+pub use choosing::choose;
 pub use installing::install;
-pub use law::moment_laws;
+pub use law::{choice_law, moment_laws};
 pub use offer::Offer;
