@@ -5,3 +5,4 @@ mod ConfigSlots
 mod Installs
 mod SlotsApart
 mod MomentProofs
+mod WholeUpdate

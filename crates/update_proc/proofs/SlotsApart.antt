@@ -39,12 +39,12 @@ module _ (size : ℕ) (layout : List Entry) (allowed : IsLayout VERSION_1 size l
   in_flash i inside flash = subst (λ (m : Memory). IsOfMemory size (entry i) m) flash (All-get_or (IsEntry size) layout i d inside allowed.each).held
 
   module _ (i n : ℕ) (s : Slot) (is : IsSlotOf layout i n s) where
-    start_at : get_or (slot_starts (entry i)) n 0 ≡ s.start
+    pub start_at : get_or (slot_starts (entry i)) n 0 ≡ s.start
     start_at =
         ap (λ (m : Memory). get_or (starts_in m (take (entry i).slots (entry i).starts)) n 0) (is.flash d) ∙ get_or-take (entry i).slots (entry i).starts n 0 (is.number d)
         ∙ sym (ap (λ (x : Slot). x.start) (is.is d))
 
-    start_in : n < length (slot_starts (entry i))
+    pub start_in : n < length (slot_starts (entry i))
     start_in =
         let long : length (slot_starts (entry i)) ≡ length (take (entry i).slots (entry i).starts) = ap (λ (m : Memory). length (starts_in m (take (entry i).slots (entry i).starts))) (is.flash d) in
         let two = (All-get_or IsTypedEntry layout i d is.inside typed).starts in
