@@ -1,0 +1,71 @@
+-- What stands on the flash at each moment of an update: the contents of slots.
+use Rattle.std.proofs.Common.{◌≡◌, inr, ⊎_elim, ◌<◌, ◌≤◌, ℕ, ◌-◌, List, length, get_or, Option, [], Some, None, ◌∙◌, subst, arith}
+use Rattle.std.specs.List.{All}
+use Rattle.suit_commands.specs.Tree.{PlanTree}
+use Rattle.suit_edge.specs.Ranges.{SameOn}
+use Rattle.flash_layout.specs.declared.frame.TheConstants.{VERSION_1}
+use Rattle.flash_layout.specs.declared.layout.Entry.{Entry}
+use Rattle.flash_layout.specs.declared.layout.Memory.TheVariants as memory
+use Rattle.flash_layout.specs.declared.place.Places.{Places}
+use Rattle.flash_layout.specs.declared.slot.Record.{Record}
+use Rattle.flash_layout.specs.declared.slot.Slot.{Slot}
+use Rattle.flash_layout.specs.Layouts.{AreClear, IsLayout, IsTypedEntry}
+use Rattle.flash_layout.specs.Slots.{extent_of}
+use Rattle.update_proc.specs.Banks.{BesideBank}
+use Rattle.update_proc.specs.Choices.{AreChosen, HaveTwoSlots, IsInUse, IsTouched, active_slots}
+use Rattle.update_proc.specs.Installing.{IsRecording}
+use Rattle.update_proc.specs.MomentLaws.{EachMoment}
+use Rattle.update_proc.specs.Moments.{HasContentsOf, HasInUse, IsNew, IsOld, KeepsContents, OutsideTouched}
+use Rattle.update_proc.proofs.SlotsApart.{content_kept, lies, one_or_clear, untouched}
+
+some_entry : Entry
+some_entry = record { identifier = []; memory = memory.Ram; slots = 0; starts = []; capacity = 0; vendor = None; class = None; device = None }
+
+-- what lies behind the head is beside the banks
+behind_bank : (held : Option Record) (bytes : List ℕ) → length bytes ≤ 16384 → (k : ℕ) → 49152 ≤ k → BesideBank held bytes k
+behind_bank None bytes fits k high = inr (omega (arith, fits, high))
+behind_bank (Some r) bytes fits k high = inr (omega (arith, fits, high))
+
+-- a range that is not empty is not clear of itself
+not_clear : (p m : ℕ) → 0 < m → AreClear p m p m → ⊥
+not_clear p m some c = let low : p ≤ p = omega arith in let far = c.0 low in omega (arith, far, some)
+
+not_its_other : (n : ℕ) → n ≡ 1 - n → ⊥
+not_its_other n e = omega (arith, e)
+
+module _ (size : ℕ) (layout : List Entry) (allowed : IsLayout VERSION_1 size layout) (typed : All IsTypedEntry layout) where
+  procedure : (places : Places) (tree : PlanTree) (numbers before image : List ℕ) → length before ≡ size → SameOn (OutsideTouched layout places tree numbers) before image → KeepsContents layout places tree numbers before image
+  procedure places tree numbers before image long same i n slot is not =
+      content_kept size layout allowed typed some_entry i n slot is before image long same.size
+      (λ k within. same.same k (λ other touched. untouched size layout allowed typed some_entry places tree numbers i n slot other is not touched k within))
+
+  filling : (held : Option Record) (bytes before image : List ℕ) → length before ≡ size → length bytes ≤ 16384 → SameOn (BesideBank held bytes) before image → HasContentsOf layout before image
+  filling held bytes before image long fits same i n slot is =
+      let low = (lies size layout allowed typed some_entry i n slot is).0 in
+      content_kept size layout allowed typed some_entry i n slot is before image long same.size
+      (λ k within. same.same k (behind_bank held bytes fits k (omega (arith, low, within.0))))
+
+  recording : (held : Option Record) (new : Record) (made image : List ℕ) → length made ≡ size → IsRecording held new made image → HasContentsOf layout made image
+  recording held new made image long is i n slot at =
+      let low = (lies size layout allowed typed some_entry i n slot at).0 in
+      let two = is.two in
+      content_kept size layout allowed typed some_entry i n slot at made image long is.beside.size
+      (λ k within. is.beside.same k (inr (omega (arith, low, within.0, two))))
+
+  -- a slot in use is not written, where each component that is written has two
+  in_use : (places : Places) (tree : PlanTree) (active numbers : List ℕ) → HaveTwoSlots layout places tree → AreChosen layout places tree active numbers → (slot : Slot) → IsInUse layout active slot → IsTouched layout places tree numbers slot → ⊥
+  in_use places tree active numbers two chosen slot used touched = ⊎_elim
+      (λ same. not_its_other (get_or active touched.index 0) (subst (λ (k : ℕ). get_or active k 0 ≡ get_or numbers touched.index 0) same.0 same.1 ∙ chosen.other touched.index touched.written (touched.stands.inside, λ e. two touched.index e touched.written (touched.stands.flash e))))
+      (λ clear. not_clear slot.start (extent_of slot) (omega arith) clear)
+      (one_or_clear size layout allowed typed some_entry used.index touched.index (get_or active used.index 0) (get_or numbers touched.index 0) slot slot used.stands touched.stands)
+
+  old : (places : Places) (tree : PlanTree) (numbers : List ℕ) (held : Option Record) (first image : List ℕ) → HaveTwoSlots layout places tree → AreChosen layout places tree (active_slots held) numbers
+      → IsOld layout places tree numbers held first image → HasInUse layout (active_slots held) first image
+  old places tree numbers held first image two chosen is slot used =
+      is.contents used.index (get_or (active_slots held) used.index 0) slot used.stands (in_use places tree (active_slots held) numbers two chosen slot used)
+
+  new : (r : Record) (made image : List ℕ) → IsNew layout r made image → HasInUse layout r.active made image
+  new r made image is slot used = is.contents used.index (get_or r.active used.index 0) slot used.stands
+
+pub each_moment : EachMoment
+each_moment size layout allowed typed = record { procedure = procedure size layout allowed typed; filling = filling size layout allowed typed; recording = recording size layout allowed typed; old = old size layout allowed typed; new = new size layout allowed typed }

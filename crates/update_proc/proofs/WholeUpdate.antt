@@ -1,0 +1,114 @@
+-- Each image since an update began has the old record and the old contents of slots that are not written, or the new record
+-- and the contents that the procedure made.
+use Rattle.std.proofs.Common.{◌≡◌, ◌⊎◌, inl, inr, ⊎_elim, ◌<◌, ◌≤◌, ℕ, zero, suc, List, [], ◌∷◌, length, get_or, Option, IfSome, sym, ◌∙◌, ap, subst, arith}
+use Rattle.std.specs.List.{All, Contains}
+use Rattle.std.proofs.lemmas.List.{get_or-map, length-map}
+use Rattle.std.proofs.lemmas.List.Elements.{All-contains, Contains-append_left, Contains-append_right}
+use Rattle.suit_commands.specs.Tree.{PlanTree}
+use Rattle.suit_edge.specs.Flash.{Flash, ImageOn, IsFirmOn, IsFlash, Now, Passes}
+use Rattle.suit_edge.specs.FlashLaws.{each_now, each_read, joined, weakens}
+use Rattle.suit_edge.specs.RangeLaws.{same_range}
+use Rattle.flash_layout.specs.declared.frame.TheConstants.{VERSION_1}
+use Rattle.flash_layout.specs.declared.key.Key.{Key}
+use Rattle.flash_layout.specs.declared.layout.Entry.{Entry}
+use Rattle.flash_layout.specs.declared.place.Places.{Places}
+use Rattle.flash_layout.specs.declared.slot.Record.{Record}
+use Rattle.flash_layout.specs.declared.slot.Slot.{Slot}
+use Rattle.flash_layout.specs.Configs.{ConfigOf, Configured}
+use Rattle.flash_layout.specs.Frames.{head_of}
+use Rattle.flash_layout.specs.Layouts.{IsLayout, IsTypedEntry, slot_starts}
+use Rattle.flash_layout.specs.Slots.{layout_slots, slot_at, slot_content, slots_of}
+use Rattle.rollback_record.specs.Committing.{InHead}
+use Rattle.rollback_record.specs.HeadRecord.{IsLoadable, RecordOf}
+use Rattle.rollback_record.specs.SoundFlash.{Settled, Sound}
+use Rattle.rollback_record.specs.SoundLaws.{SoundLaws}
+use Rattle.update_proc.specs.Choices.{IsSlotOf}
+use Rattle.update_proc.specs.Installing.{Filling, IsInstalling, Recording}
+use Rattle.update_proc.specs.MomentLaws.{MomentLaws}
+use Rattle.update_proc.specs.Moments.{HasContentsOf, IsNew, IsOld, OutsideTouched}
+use Rattle.update_proc.proofs.Installs.{filling_still}
+use Rattle.update_proc.proofs.SlotsApart.{lies, start_at, start_in}
+
+-- ---- the slots of a layout
+
+flat_contains : (layout : List Entry) (i : ℕ) (d : Entry) (s : Slot) → i < length layout → Contains (slots_of (get_or layout i d)) s → Contains (layout_slots layout) s
+flat_contains [] i d s lt is = absurd (omega (arith, lt))
+flat_contains (e ∷ layout) zero d s lt is = Contains-append_left (slots_of e) (layout_slots layout) s is
+flat_contains (e ∷ layout) (suc i) d s lt is = Contains-append_right (slots_of e) (layout_slots layout) s (flat_contains layout i d s (omega (arith, lt)) is)
+
+module _ (size : ℕ) (layout : List Entry) (allowed : IsLayout VERSION_1 size layout) (typed : All IsTypedEntry layout) (d : Entry) where
+  -- each is listed
+  pub listed : (i n : ℕ) (s : Slot) → IsSlotOf layout i n s → Contains (layout_slots layout) s
+  listed i n s is =
+      let e = get_or layout i d in
+      let inside : n < length (slot_starts e) = start_in size layout allowed typed d i n s is in
+      let start : get_or (slot_starts e) n 0 ≡ get_or e.starts n 0 = start_at size layout allowed typed d i n s is ∙ ap (λ (x : Slot). x.start) (is.is d) in
+      flat_contains layout i d s is.inside
+      (n, omega (arith, inside, length-map (slot_starts e) (slot_at e)), get_or-map (slot_at e) (slot_starts e) n 0 s inside ∙ ap (slot_at e) start ∙ sym (is.is d))
+
+  -- and none that is written stands in the head
+  pub head_out : (places : Places) (tree : PlanTree) (numbers : List ℕ) (i : ℕ) → i < 49152 → OutsideTouched layout places tree numbers i
+  head_out places tree numbers i low slot touched =
+      let high = (lies size layout allowed typed d touched.index (get_or numbers touched.index 0) slot touched.stands).0 in
+      inl (omega (arith, low, high))
+
+-- ---- while the procedure runs
+
+module _ (size : ℕ) (layout : List Entry) (laws : MomentLaws size layout) (places : Places) (tree : PlanTree) (numbers : List ℕ) (held : Option Record) (a : Flash) (law : IsFlash a size) (large : 49152 ≤ size)
+    (was : RecordOf VERSION_1 (head_of VERSION_1 a.reads) held)
+    (out_of_head : (i : ℕ) → i < 49152 → OutsideTouched layout places tree numbers i)
+    (firm_head : (image : List ℕ) → Now a image → head_of VERSION_1 image ≡ head_of VERSION_1 a.reads)
+    (firm_slots : (image : List ℕ) → Now a image → HasContentsOf layout a.reads image) where
+  pub still_old : (image : List ℕ) → ImageOn (OutsideTouched layout places tree numbers) a image → IsOld layout places tree numbers held a.reads image
+  still_old image on =
+      let long : length on.from ≡ size = law.sized a.clock on.from (omega arith) on.was in
+      let head : head_of VERSION_1 image ≡ head_of VERSION_1 on.from =
+      same_range image on.from 0 49152 on.same.size (omega (arith, on.same.size, long, large)) (λ i low high. on.same.same i (out_of_head i high)) in
+      record {
+        record_is = subst (λ (h : List ℕ). RecordOf VERSION_1 h held) (sym (head ∙ firm_head on.from on.was)) was;
+        contents = λ i n slot is not. laws.procedure places tree numbers on.from image long on.same i n slot is not ∙ firm_slots on.from on.was i n slot is;
+      }
+
+  -- ---- and while its envelope is written and recorded
+
+  module _ (b : Flash) (law_b : IsFlash b size) (run : Passes a b (ImageOn (OutsideTouched layout places tree numbers) a)) (sound_laws : SoundLaws) (new : Record) (bytes : List ℕ) (few : IfSome held (IsLoadable VERSION_1)) (fits : length bytes ≤ 16384)
+      (sound : Sound VERSION_1 b.reads) (firm : IsFirmOn (InHead VERSION_1) b) where
+    old_run : Passes a b (IsOld layout places tree numbers held a.reads)
+    old_run = weakens a b (ImageOn (OutsideTouched layout places tree numbers) a) (IsOld layout places tree numbers held a.reads) still_old run
+
+    reads_old : IsOld layout places tree numbers held a.reads b.reads
+    reads_old = each_read a b size (IsOld layout places tree numbers held a.reads) law_b old_run
+
+    installing : (image : List ℕ) → IsInstalling held new bytes b image → IsOld layout places tree numbers held a.reads image ⊎ IsNew layout new b.reads image
+    installing image (Filling on) =
+        let before = each_now a b size (IsOld layout places tree numbers held a.reads) law_b old_run on.from on.was in
+        let long : length on.from ≡ size = law_b.sized b.clock on.from (omega arith) on.was in
+        let large_b : 49152 ≤ length b.reads = omega (arith, law_b.fits, large) in
+        inl (record {
+          record_is = (filling_still sound_laws held new bytes b large_b few fits reads_old.record_is sound firm image on).held_is;
+          contents = λ i n slot is not. laws.filling held bytes on.from image long fits on.same i n slot is ∙ before.contents i n slot is not;
+        })
+    installing image (Recording made filled is) =
+        let long : length made ≡ size = filled.beside.size ∙ law_b.fits in
+        let contents : HasContentsOf layout b.reads image = λ i n slot at. laws.recording held new made image long is i n slot at ∙ laws.filling held bytes b.reads made law_b.fits fits filled.beside i n slot at in
+        ⊎_elim
+        (λ old. inl (record { record_is = old; contents = λ i n slot at not. contents i n slot at ∙ reads_old.contents i n slot at not }))
+        (λ now. inr (record { record_is = now; contents = contents }))
+        is.record_is
+
+    -- at each moment from the start on
+    pub old_or_new : (d : Flash) → Passes b d (IsInstalling held new bytes b) → Passes a d (λ image. IsOld layout places tree numbers held a.reads image ⊎ IsNew layout new b.reads image)
+    old_or_new d since =
+        joined a b d (λ image. IsOld layout places tree numbers held a.reads image ⊎ IsNew layout new b.reads image)
+        (weakens a b (IsOld layout places tree numbers held a.reads) (λ image. IsOld layout places tree numbers held a.reads image ⊎ IsNew layout new b.reads image) (λ image old. inl old) old_run)
+        (weakens b d (IsInstalling held new bytes b) (λ image. IsOld layout places tree numbers held a.reads image ⊎ IsNew layout new b.reads image) installing since)
+
+-- ---- on a settled flash
+
+module _ (layout : List Entry) (key : Key) (a : Flash) (settled : Settled VERSION_1 a) (config : ConfigOf VERSION_1 (length a.reads) (head_of VERSION_1 a.reads) (Configured layout key)) where
+  pub settled_head : (image : List ℕ) → Now a image → head_of VERSION_1 image ≡ head_of VERSION_1 a.reads
+  settled_head image now = (settled.sure image now).head
+
+  pub settled_slots : ((i n : ℕ) (s : Slot) → IsSlotOf layout i n s → Contains (layout_slots layout) s) → (image : List ℕ) → Now a image → HasContentsOf layout a.reads image
+  settled_slots listed image now i n slot is =
+      All-contains (λ s. slot_content s image ≡ slot_content s a.reads) (layout_slots layout) slot ((settled.sure image now).slots layout key config) (listed i n slot is)

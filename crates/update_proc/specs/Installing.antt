@@ -1,0 +1,48 @@
+-- What stands on the flash at each moment while an envelope is written to a bank and then recorded.
+use Rattle.std.specs.Prelude.{◌≡◌, ◌<◌, ◌^◌, ◌-◌, ℕ, List, length, slice_index, Option}
+use Rattle.suit_edge.specs.Flash.{Flash, ImageOn}
+use Rattle.suit_edge.specs.Ranges.{Outside, SameOn}
+use Rattle.flash_layout.specs.declared.frame.TheConstants.{VERSION_1}
+use Rattle.flash_layout.specs.declared.key.Key.{Key}
+use Rattle.flash_layout.specs.declared.layout.Entry.{Entry}
+use Rattle.flash_layout.specs.declared.slot.Record.{Record}
+use Rattle.flash_layout.specs.Configs.{ConfigOf, Configured}
+use Rattle.flash_layout.specs.Frames.{config_page_of, head_of, record_place}
+use Rattle.rollback_record.specs.declared.page.TheConstants.{RECORD_BYTES}
+use Rattle.rollback_record.specs.Committing.{HasHeldOrNew}
+use Rattle.rollback_record.specs.RecordPage.{IsActiveSlot}
+use Rattle.rollback_record.specs.SoundFlash.{IsInstalled, recorded_bank}
+use Rattle.update_proc.specs.Banks.{BesideBank}
+
+-- the envelope stands in the bank of the new record, and nothing else changed
+pub record IsFilled (held : Option Record) (new : Record) (bytes before made : List ℕ) : Type 0 where
+  pub beside : SameOn (BesideBank held bytes) before made
+  pub holds : recorded_bank VERSION_1 (head_of VERSION_1 made) new ≡ bytes
+
+-- one record page is being written, and the record is still the held one, or it is the new one
+pub record IsRecording (held : Option Record) (new : Record) (made image : List ℕ) : Type 0 where
+  pub which : ℕ
+  pub two : which < 2
+  pub beside : SameOn (Outside (record_place VERSION_1 which) RECORD_BYTES) made image
+  pub record_is : HasHeldOrNew VERSION_1 held new image
+
+-- the bank is being written, or it is whole and the new record is being committed
+pub data IsInstalling (held : Option Record) (new : Record) (bytes : List ℕ) (start : Flash) (image : List ℕ) : Type 0 where
+  Filling : ImageOn (BesideBank held bytes) start image → IsInstalling held new bytes start image
+  Recording : (made : List ℕ) → IsFilled held new bytes start.reads made → IsRecording held new made image
+      → IsInstalling held new bytes start image
+
+-- each component of a layout has the slot that is to be in use
+abbrev pub HasActiveSlots : List ℕ → List ℕ → Type 0
+HasActiveSlots image active =
+    (i : ℕ) → i < 8 → IsActiveSlot (config_page_of VERSION_1 (head_of VERSION_1 image)) i (slice_index active i)
+
+-- a record after which another one may come
+abbrev pub IsNotWorn : Record → Type 0
+IsNotWorn r = r.generation < 2 ^ 64 - 1
+
+-- under the layout and the key of this image, the bytes may be installed under the record
+abbrev pub MayBeInstalled : List ℕ → List ℕ → Record → Type 0
+MayBeInstalled image bytes new =
+    (layout : List Entry) (key : Key) → ConfigOf VERSION_1 (length image) (head_of VERSION_1 image) (Configured layout key)
+    → IsInstalled layout key bytes new

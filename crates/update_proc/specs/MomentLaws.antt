@@ -1,0 +1,34 @@
+-- Laws of what stands on the flash at each moment of an update.
+use Rattle.std.specs.Prelude.{◌≡◌, ◌≤◌, ℕ, List, All, length, Option}
+use Rattle.suit_commands.specs.Tree.{PlanTree}
+use Rattle.suit_edge.specs.Ranges.{SameOn}
+use Rattle.flash_layout.specs.declared.frame.TheConstants.{VERSION_1}
+use Rattle.flash_layout.specs.declared.layout.Entry.{Entry}
+use Rattle.flash_layout.specs.declared.place.Places.{Places}
+use Rattle.flash_layout.specs.declared.slot.Record.{Record}
+use Rattle.flash_layout.specs.Layouts.{IsLayout, IsTypedEntry}
+use Rattle.update_proc.specs.Banks.{BesideBank}
+use Rattle.update_proc.specs.Choices.{AreChosen, HaveTwoSlots, active_slots}
+use Rattle.update_proc.specs.Installing.{IsRecording}
+use Rattle.update_proc.specs.Moments.{HasContentsOf, HasInUse, IsNew, IsOld, KeepsContents, OutsideTouched}
+
+-- on a flash of that size with that layout
+pub record MomentLaws (size : ℕ) (layout : List Entry) : Type 0 where
+  -- while no place changes but in slots that may be written, all other contents stay
+  pub procedure : (places : Places) (tree : PlanTree) (numbers before image : List ℕ) → length before ≡ size
+      → SameOn (OutsideTouched layout places tree numbers) before image → KeepsContents layout places tree numbers before image
+  -- while a bank is written, each content stays
+  pub filling : (held : Option Record) (bytes before image : List ℕ) → length before ≡ size → length bytes ≤ VERSION_1.bank_size
+      → SameOn (BesideBank held bytes) before image → HasContentsOf layout before image
+  -- and while the record is committed
+  pub recording : (held : Option Record) (new : Record) (made image : List ℕ) → length made ≡ size
+      → IsRecording held new made image → HasContentsOf layout made image
+  -- Where each component that may be written has two slots, the old record has the old contents of the slots in use by it,
+  pub old : (places : Places) (tree : PlanTree) (numbers : List ℕ) (held : Option Record) (first image : List ℕ)
+      → HaveTwoSlots layout places tree → AreChosen layout places tree (active_slots held) numbers
+      → IsOld layout places tree numbers held first image → HasInUse layout (active_slots held) first image
+  -- and the new record those that were made
+  pub new : (r : Record) (made image : List ℕ) → IsNew layout r made image → HasInUse layout r.active made image
+
+abbrev pub EachMoment : Type 0
+EachMoment = (size : ℕ) (layout : List Entry) → IsLayout VERSION_1 size layout → All IsTypedEntry layout → MomentLaws size layout

@@ -1,0 +1,44 @@
+-- What stands on the flash at each moment of an update.
+use Rattle.std.specs.Prelude.{◌≡◌, ℕ, List, Option, Some}
+use Rattle.suit_commands.specs.Tree.{PlanTree}
+use Rattle.flash_layout.specs.declared.frame.TheConstants.{VERSION_1}
+use Rattle.flash_layout.specs.declared.layout.Entry.{Entry}
+use Rattle.flash_layout.specs.declared.place.Places.{Places}
+use Rattle.flash_layout.specs.declared.slot.Record.{Record}
+use Rattle.flash_layout.specs.declared.slot.Slot.{Slot}
+use Rattle.flash_layout.specs.Frames.{head_of}
+use Rattle.flash_layout.specs.Slots.{extent_of, slot_content}
+use Rattle.suit_edge.specs.Ranges.{Outside}
+use Rattle.rollback_record.specs.HeadRecord.{RecordOf}
+use Rattle.update_proc.specs.Choices.{IsInUse, IsSlotOf, IsTouched}
+
+-- all places but those of slots that components stand for which may be written
+abbrev pub OutsideTouched : List Entry → Places → PlanTree → List ℕ → ℕ → Type 0
+OutsideTouched layout places tree numbers i =
+    (slot : Slot) → IsTouched layout places tree numbers slot → Outside slot.start (extent_of slot) i
+
+-- the contents of all other slots
+abbrev pub KeepsContents : List Entry → Places → PlanTree → List ℕ → List ℕ → List ℕ → Type 0
+KeepsContents layout places tree numbers before image =
+    (i number : ℕ) (slot : Slot) → IsSlotOf layout i number slot → (IsTouched layout places tree numbers slot → ⊥)
+    → slot_content slot image ≡ slot_content slot before
+
+-- the contents of all slots
+abbrev pub HasContentsOf : List Entry → List ℕ → List ℕ → Type 0
+HasContentsOf layout made image =
+    (i number : ℕ) (slot : Slot) → IsSlotOf layout i number slot → slot_content slot image ≡ slot_content slot made
+
+-- the flash has the old record, and no content changed but those that may be written
+pub record IsOld (layout : List Entry) (places : Places) (tree : PlanTree) (numbers : List ℕ) (held : Option Record) (first image : List ℕ) : Type 0 where
+  pub record_is : RecordOf VERSION_1 (head_of VERSION_1 image) held
+  pub contents : KeepsContents layout places tree numbers first image
+
+-- it has the new record, and the contents that were made
+pub record IsNew (layout : List Entry) (new : Record) (made image : List ℕ) : Type 0 where
+  pub record_is : RecordOf VERSION_1 (head_of VERSION_1 image) (Some new)
+  pub contents : HasContentsOf layout made image
+
+-- the content of each slot that is in use
+abbrev pub HasInUse : List Entry → List ℕ → List ℕ → List ℕ → Type 0
+HasInUse layout active made image =
+    (slot : Slot) → IsInUse layout active slot → slot_content slot image ≡ slot_content slot made

@@ -1,0 +1,129 @@
+//! Writing the envelope to a bank.
+
+ghost use Rattle.flash_layout.specs.FaultCounts.{ResultCounts};
+ghost use Rattle.flash_layout.specs.Frames.{bank_of, bank_place, head_of};
+ghost use Rattle.rollback_record.specs.HeadRecord.{IsLoadable};
+ghost use Rattle.std.specs.Prelude.{◌≡◌, ◌<◌, ◌≤◌, IfOk, IfSome, IsTrue, OnOk, length, option_map};
+ghost use Rattle.suit_edge.specs.Flash.{Grows, IsSame, IsSettled, Keeps};
+ghost use Rattle.suit_edge.specs.Ranges.{Outside};
+ghost use Rattle.update_proc.specs.Banks.{BesideBank, bank_for, is_kept};
+
+use crate::bank_reading::is_recorded;
+use flash_layout::{FlashFault, Record, VERSION_1, bank};
+use suit_edge::{Disk, Edge, write_and_sync};
+
+// Writes the envelope to that bank, and makes sure of all that is pending.
+fn fill_bank<D: Disk>(disk: &mut D, which: u8, bytes: &[u8]) -> Result<u8, FlashFault>
+    requires size { VERSION_1.size ≤ D.extent disk.old }
+    requires which { which < 2 }
+    requires fits { length bytes.now ≤ VERSION_1.bank_size }
+    ensures size { D.extent disk.new ≡ D.extent disk.old }
+    ensures counts { ResultCounts result (D.faults disk.old) (D.faults disk.new) }
+    ensures which { IfOk result (λ bank. bank ≡ which) }
+    ensures holds { IsTrue D.told → OnOk result
+        (bank_of VERSION_1 (head_of VERSION_1 (D.flash disk.new).reads) which (length bytes.now) ≡ bytes.now) }
+    ensures settled { IsTrue D.told → OnOk result (IsSettled (D.flash disk.new)) }
+    ensures keeps { IsTrue D.told
+        → Keeps (Outside (bank_place VERSION_1 which) (length bytes.now)) (D.flash disk.old) (D.flash disk.new) }
+    ensures grows { IsTrue D.told → Grows (D.flash disk.old) (D.flash disk.new) }
+{
+    match write_and_sync(disk, bank(u64::from(which)), bytes) {
+        Edge::Failed => Err(FlashFault),
+        Edge::Done => Ok(which),
+    }
+}
+
+// Makes sure of all that is pending, and leaves the bank as it is.
+fn keep_bank<D: Disk>(disk: &mut D, which: u8) -> Result<u8, FlashFault>
+    ensures size { D.extent disk.new ≡ D.extent disk.old }
+    ensures counts { ResultCounts result (D.faults disk.old) (D.faults disk.new) }
+    ensures which { IfOk result (λ bank. bank ≡ which) }
+    ensures settled { IsTrue D.told → OnOk result (IsSettled (D.flash disk.new)) }
+    ensures same { IsTrue D.told → IsSame (D.flash disk.old) (D.flash disk.new) }
+    ensures grows { IsTrue D.told → Grows (D.flash disk.old) (D.flash disk.new) }
+{
+    match disk.sync() {
+        Edge::Failed => Err(FlashFault),
+        Edge::Done => Ok(which),
+    }
+}
+
+/// Brings an envelope to a bank: the one that the record does not name, or the first one without a record. Where the
+/// record's bank holds the same bytes already, it is kept and nothing is written. Answers the bank. Then the envelope is
+/// sure, with all that was pending. At each moment nothing has changed but that range of the other bank.
+pub fn write_bank<D: Disk>(
+    disk: &mut D,
+    held: Option<&Record>,
+    bytes: &[u8],
+    room: &mut [u8],
+) -> Result<u8, FlashFault>
+    requires size { VERSION_1.size ≤ D.extent disk.old }
+    requires held { IfSome (option_map (λ r. r.now) held) (IsLoadable VERSION_1) }
+    requires fits { length bytes.now ≤ VERSION_1.bank_size }
+    requires room { 0 < length room.old }
+    ensures size { D.extent disk.new ≡ D.extent disk.old }
+    ensures counts { ResultCounts result (D.faults disk.old) (D.faults disk.new) }
+    ensures which { IfOk result (λ bank. bank < 2) }
+    ensures chosen { IsTrue D.told → IfOk result
+        (λ bank. bank ≡ bank_for (option_map (λ r. r.now) held.entry) (D.flash disk.old).reads bytes.now) }
+    ensures holds { IsTrue D.told → IfOk result (λ bank.
+        bank_of VERSION_1 (head_of VERSION_1 (D.flash disk.new).reads) bank (length bytes.now) ≡ bytes.now) }
+    ensures settled { IsTrue D.told → OnOk result (IsSettled (D.flash disk.new)) }
+    ensures kept { IsTrue D.told → IsTrue (is_kept (option_map (λ r. r.now) held.entry) (D.flash disk.old).reads bytes.now)
+        → IsSame (D.flash disk.old) (D.flash disk.new) }
+    ensures keeps { IsTrue D.told
+        → Keeps (BesideBank (option_map (λ r. r.now) held.entry) bytes.now) (D.flash disk.old) (D.flash disk.new) }
+    ensures grows { IsTrue D.told → Grows (D.flash disk.old) (D.flash disk.new) }
+{
+    match held {
+        None => match fill_bank(disk, 0, bytes) {
+            Ok(bank) => Ok(bank),
+            Err(FlashFault) => Err(FlashFault),
+        },
+        Some(held) => match write_beside(disk, held, bytes, room) {
+            Ok(bank) => Ok(bank),
+            Err(FlashFault) => Err(FlashFault),
+        },
+    }
+}
+
+// The same, beside a record.
+fn write_beside<D: Disk>(
+    disk: &mut D,
+    held: &Record,
+    bytes: &[u8],
+    room: &mut [u8],
+) -> Result<u8, FlashFault>
+    requires size { VERSION_1.size ≤ D.extent disk.old }
+    requires held { IsLoadable VERSION_1 held.now }
+    requires fits { length bytes.now ≤ VERSION_1.bank_size }
+    requires room { 0 < length room.old }
+    ensures size { D.extent disk.new ≡ D.extent disk.old }
+    ensures counts { ResultCounts result (D.faults disk.old) (D.faults disk.new) }
+    ensures which { IfOk result (λ bank. bank < 2) }
+    ensures chosen { IsTrue D.told → IfOk result (λ bank. bank ≡ bank_for (Some held.now) (D.flash disk.old).reads bytes.now) }
+    ensures holds { IsTrue D.told → IfOk result (λ bank.
+        bank_of VERSION_1 (head_of VERSION_1 (D.flash disk.new).reads) bank (length bytes.now) ≡ bytes.now) }
+    ensures settled { IsTrue D.told → OnOk result (IsSettled (D.flash disk.new)) }
+    ensures kept { IsTrue D.told → IsTrue (is_kept (Some held.now) (D.flash disk.old).reads bytes.now)
+        → IsSame (D.flash disk.old) (D.flash disk.new) }
+    ensures keeps { IsTrue D.told
+        → Keeps (BesideBank (Some held.now) bytes.now) (D.flash disk.old) (D.flash disk.new) }
+    ensures grows { IsTrue D.told → Grows (D.flash disk.old) (D.flash disk.new) }
+{
+    let recorded = match is_recorded(disk, held, bytes, room) {
+        Ok(recorded) => recorded,
+        Err(FlashFault) => return Err(FlashFault),
+    };
+    if recorded {
+        match keep_bank(disk, held.bank) {
+            Ok(bank) => Ok(bank),
+            Err(FlashFault) => Err(FlashFault),
+        }
+    } else {
+        match fill_bank(disk, 1 - held.bank, bytes) {
+            Ok(bank) => Ok(bank),
+            Err(FlashFault) => Err(FlashFault),
+        }
+    }
+}

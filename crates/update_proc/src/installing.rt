@@ -1,0 +1,88 @@
+//! An envelope is written to a bank, and recorded.
+
+ghost use Rattle.flash_layout.specs.FaultCounts.{ResultCounts};
+ghost use Rattle.flash_layout.specs.Frames.{head_of};
+ghost use Rattle.rollback_record.specs.Committing.{InHead};
+ghost use Rattle.rollback_record.specs.HeadRecord.{IsLoadable, RecordOf};
+ghost use Rattle.rollback_record.specs.SoundFlash.{Follows, IsNoEarlier, Sound};
+ghost use Rattle.std.specs.Prelude.{◌≡◌, ◌<◌, ◌≤◌, IfOk, IfSome, IsTrue, OnOk, Some, length, option_map};
+ghost use Rattle.suit_edge.specs.Flash.{Grows, IsFirmOn, IsSettled, Passes};
+ghost use Rattle.update_proc.specs.Installing.{HasActiveSlots, IsInstalling, IsNotWorn, MayBeInstalled};
+ghost use Rattle.update_proc.specs.Records.{new_record, next_generation};
+
+use crate::Offer;
+use crate::bank::write_bank;
+use flash_layout::{FlashFault, Record, VERSION_1};
+use rollback_record::{commit, sound_laws};
+use suit_edge::Disk;
+
+// The generation of the next record.
+fn generation_after(held: Option<&Record>) -> u64
+    requires { IfSome (option_map (λ r. r.now) held) IsNotWorn }
+    ensures { result ≡ next_generation (option_map (λ r. r.now) held.entry) }
+{
+    match held {
+        None => 1,
+        Some(held) => held.generation + 1,
+    }
+}
+
+/// Writes the envelope to the bank that the record does not name, unless the record's bank holds it already, and records
+/// it. A power loss now must leave the head of the flash as it reads. Up to the last moment the flash holds the record that
+/// it held, with its envelope.
+pub fn install<D: Disk>(
+    disk: &mut D,
+    held: Option<&Record>,
+    offer: &Offer,
+    bytes: &[u8],
+    room: &mut [u8],
+) -> Result<Record, FlashFault>
+    requires size { VERSION_1.size ≤ D.extent disk.old }
+    requires loadable { IfSome (option_map (λ r. r.now) held) (IsLoadable VERSION_1) }
+    requires worn { IfSome (option_map (λ r. r.now) held) IsNotWorn }
+    requires fits { length bytes.now ≤ VERSION_1.bank_size }
+    requires room { 0 < length room.old }
+    requires held { IsTrue D.told
+        → RecordOf VERSION_1 (head_of VERSION_1 (D.flash disk.old).reads) (option_map (λ r. r.now) held) }
+    requires active { IsTrue D.told → HasActiveSlots (D.flash disk.old).reads offer.now.active }
+    requires firm { IsTrue D.told → IsFirmOn (InHead VERSION_1) (D.flash disk.old) }
+    requires sound { IsTrue D.told → Sound VERSION_1 (D.flash disk.old).reads }
+    ensures size { D.extent disk.new ≡ D.extent disk.old }
+    ensures counts { ResultCounts result (D.faults disk.old) (D.faults disk.new) }
+    ensures answer { IsTrue D.told → IfOk result
+        (λ r. r ≡ new_record (option_map (λ r. r.now) held.entry) (D.flash disk.old).reads bytes.now offer.now.sequence offer.now.digest offer.now.active) }
+    ensures recorded { IsTrue D.told
+        → IfOk result (λ r. RecordOf VERSION_1 (head_of VERSION_1 (D.flash disk.new).reads) (Some r)) }
+    ensures settled { IsTrue D.told → OnOk result (IsSettled (D.flash disk.new)) }
+    ensures any_moment { IsTrue D.told → let held = option_map (λ r. r.now) held.entry in
+        let start = D.flash disk.old in
+        Passes start (D.flash disk.new)
+        (IsInstalling held (new_record held start.reads bytes.now offer.now.sequence offer.now.digest offer.now.active) bytes.now start) }
+    ensures sound { IsTrue D.told → let held = option_map (λ r. r.now) held.entry in
+        let start = D.flash disk.old in
+        MayBeInstalled start.reads bytes.now (new_record held start.reads bytes.now offer.now.sequence offer.now.digest offer.now.active)
+        → Passes start (D.flash disk.new) (Sound VERSION_1) }
+    ensures follows { IsTrue D.told → let held = option_map (λ r. r.now) held.entry in
+        let start = D.flash disk.old in
+        IfSome held (λ r. IsNoEarlier r (new_record held start.reads bytes.now offer.now.sequence offer.now.digest offer.now.active))
+        → Passes start (D.flash disk.new) (Follows VERSION_1 start.reads) }
+    ensures grows { IsTrue D.told → Grows (D.flash disk.old) (D.flash disk.new) }
+{
+    sound_laws();
+    let bank = match write_bank(disk, held, bytes, room) {
+        Ok(bank) => bank,
+        Err(FlashFault) => return Err(FlashFault),
+    };
+    let new = Record {
+        generation: generation_after(held),
+        sequence: offer.sequence,
+        bank,
+        length: bytes.len() as u64,
+        digest: offer.digest,
+        active: offer.active,
+    };
+    match commit(disk, held, &new) {
+        Ok(()) => Ok(new),
+        Err(FlashFault) => Err(FlashFault),
+    }
+}

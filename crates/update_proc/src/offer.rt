@@ -1,0 +1,15 @@
+//! What is to be installed.
+
+use flash_layout::MAX_ENTRIES;
+use suit_params::Digest;
+
+/// What an update's record says beside its generation and its envelope.
+#[derive(Clone, Copy, Debug, PartialEq, Eq)]
+pub struct Offer {
+    /// The sequence number of the manifest.
+    pub sequence: u64,
+    /// The digest of the manifest.
+    pub digest: Digest,
+    /// The slot of each component of the layout that is to be in use.
+    pub active: [u8; MAX_ENTRIES],
+}
