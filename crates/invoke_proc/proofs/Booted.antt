@@ -1,0 +1,176 @@
+-- What a boot says of the flash, from what its stages say.
+use Rattle.std.proofs.Common.{◌≡◌, ◌⊎◌, inl, inr, ⊎_elim, ℕ, List, Option, Some, Err, refl, sym, subst, arith}
+use Rattle.suit_edge.specs.Flash.{Flash, IsFlash, IsSame, IsSettled}
+use Rattle.suit_edge.specs.FlashLaws.{keeps_same, keeps_then, same_flash_then}
+use Rattle.suit_edge.specs.declared.launch.Launch.{Launch}
+use Rattle.suit_envelope.specs.Envelopes.{EnvelopeSays, map_entries}
+use Rattle.suit_envelope.specs.Payloads.{HasPayloads, integrated_payloads}
+use Rattle.suit_envelope.specs.Said.{EnvelopeOf}
+use Rattle.suit_manifest.specs.declared.manifest.Manifest.{Manifest}
+use Rattle.suit_manifest.specs.Procedures.{invocation_tree}
+use Rattle.path_model.specs.declared.cause.Cause.TheVariants as causes
+use Rattle.flash_layout.specs.declared.key.Key.{Key}
+use Rattle.flash_layout.specs.declared.layout.Entry.{Entry}
+use Rattle.flash_layout.specs.declared.slot.Record.{Record}
+use Rattle.rollback_record.specs.SoundFlash.{key_bytes}
+use Rattle.step_machine.specs.declared.plan_end.PlanEnd.{PlanEnd}
+use Rattle.step_machine.specs.declared.plan_end.PlanEnd.TheVariants as plays
+use Rattle.step_machine.specs.PlanRuns.{Counts, OutsideTargets, counts_of}
+use Rattle.invoke_proc.specs.declared.bank.NoBank.{NoBank}
+use Rattle.invoke_proc.specs.declared.bank.NoBank.TheVariants as banks
+use Rattle.invoke_proc.specs.declared.boot_end.BootEnd.{BootEnd}
+use Rattle.invoke_proc.specs.declared.boot_end.BootEnd.TheVariants as ends
+use Rattle.invoke_proc.specs.Banks.{BankCounts, IsNoBank, bank_in, record_in, without_bank}
+use Rattle.invoke_proc.specs.Booting.{Answers, IfUnfaulted, IsStartEnd, KeepsBoot, KeepsOthers, KeptSo, PlayedSo, PlaysBoot, PlaysOn, Starts}
+use Rattle.invoke_proc.specs.Counting.{BootCounts}
+use Rattle.invoke_proc.specs.Starting.{IsDeclined, IsStarted}
+
+-- ---- where no envelope is read
+
+pub none_answers : (layout : List Entry) (key : Key) (reads : List ℕ) (fault : NoBank) → IsNoBank reads fault → Answers layout key reads (without_bank fault)
+none_answers layout key reads banks.NothingInstalled is = is
+none_answers layout key reads banks.FlashFault is = is
+none_answers layout key reads banks.NoMemory is = is
+
+pub none_counts : (A : Type 0) (fault : NoBank) (h d e l : ℕ) → BankCounts {A = A} (Err fault) d e → BootCounts (without_bank fault) (counts_of h d l) (counts_of h e l)
+none_counts A banks.NothingInstalled h d e l is = subst (λ (n : ℕ). counts_of h n l ≡ counts_of h d l) (sym is) refl
+none_counts A banks.FlashFault h d e l is = (omega arith, is, omega arith)
+none_counts A banks.NoMemory h d e l is = subst (λ (n : ℕ). counts_of h n l ≡ counts_of h d l) (sym is) refl
+
+pub none_plays : (P : PlanEnd → Type 0) (launches : List Launch) (fault : NoBank) → PlayedSo P launches launches (without_bank fault)
+none_plays P launches banks.NothingInstalled = refl
+none_plays P launches banks.FlashFault = inl refl
+none_plays P launches banks.NoMemory = refl
+
+pub none_keeps : (Kept Same : Type 0) (fault : NoBank) → Same → KeptSo Kept Same (without_bank fault)
+none_keeps Kept Same banks.NothingInstalled same = same
+none_keeps Kept Same banks.FlashFault same = inl same
+none_keeps Kept Same banks.NoMemory same = same
+
+-- ---- of any answer
+
+pub always : (P : Type 0) (answer : BootEnd) → P → IfUnfaulted answer P
+always P ends.Ended p = p
+always P ends.NothingInstalled p = p
+always P (ends.BadBank r) p = p
+always P (ends.NotAuthentic l) p = p
+always P (ends.UnknownComponent i) p = p
+always P (ends.Condition place) p = p
+always P (ends.Stopped place causes.Missing) p = p
+always P (ends.Stopped place causes.SelfCopy) p = p
+always P (ends.Stopped place causes.TooLarge) p = p
+always P (ends.Stopped place causes.Absent) p = p
+always P (ends.Stopped place causes.HostFault) p = p
+always P (ends.Stopped place causes.FlashFault) p = tt
+always P (ends.Stopped place causes.LaunchFault) p = p
+always P ends.FlashFault p = tt
+always P ends.NoMemory p = p
+
+pub played_as : (P Q : PlanEnd → Type 0) (launched now : List Launch) (answer : BootEnd) → ((end : PlanEnd) → P end → Q end) → PlayedSo P launched now answer
+    → PlayedSo Q launched now answer
+played_as P Q launched now ends.Ended to p = to plays.Done p
+played_as P Q launched now ends.NothingInstalled to p = p
+played_as P Q launched now (ends.BadBank r) to p = p
+played_as P Q launched now (ends.NotAuthentic l) to p = p
+played_as P Q launched now (ends.UnknownComponent i) to p = p
+played_as P Q launched now (ends.Condition place) to p = to (plays.ConditionFailed place) p
+played_as P Q launched now (ends.Stopped place cause) to p = to (plays.DirectiveFailed place cause) p
+played_as P Q launched now ends.FlashFault to p = ⊎_elim (λ same. inl same) (λ some. inr (some.0, to some.0 some.1)) p
+played_as P Q launched now ends.NoMemory to p = p
+
+pub kept_as : (P Q R S : Type 0) (answer : BootEnd) → (P → Q) → (R → S) → KeptSo P R answer → KeptSo Q S answer
+kept_as P Q R S ends.Ended to also p = to p
+kept_as P Q R S ends.NothingInstalled to also p = also p
+kept_as P Q R S (ends.BadBank r) to also p = also p
+kept_as P Q R S (ends.NotAuthentic l) to also p = also p
+kept_as P Q R S (ends.UnknownComponent i) to also p = also p
+kept_as P Q R S (ends.Condition place) to also p = to p
+kept_as P Q R S (ends.Stopped place cause) to also p = to p
+kept_as P Q R S ends.FlashFault to also p = ⊎_elim (λ same. inl (also same)) (λ kept. inr (to kept)) p
+kept_as P Q R S ends.NoMemory to also p = also p
+
+-- ---- where it is declined
+
+module _ (layout : List Entry) (key : Key) (reads : List ℕ) (r : Record) (recorded : record_in reads (Some r)) where
+  pub declined_answers : (bytes : List ℕ) (end : BootEnd) → bytes ≡ bank_in reads r → IsDeclined layout (key_bytes key) bytes end → Answers layout key reads end
+  declined_answers bytes (ends.BadBank refusal) same is = (r, recorded, subst (λ (l : List ℕ). IsDeclined layout (key_bytes key) l (ends.BadBank refusal)) same is)
+  declined_answers bytes (ends.NotAuthentic l) same is = (r, recorded, subst (λ (b : List ℕ). IsDeclined layout (key_bytes key) b (ends.NotAuthentic l)) same is)
+  declined_answers bytes (ends.UnknownComponent i) same is = (r, recorded, subst (λ (b : List ℕ). IsDeclined layout (key_bytes key) b (ends.UnknownComponent i)) same is)
+  declined_answers bytes ends.NoMemory same is = (r, recorded)
+  declined_answers bytes _ same is = absurd is
+
+  -- ---- where something is started
+
+  module _ (m : Manifest) (starts : Starts layout key reads r m) where
+    pub start_answers : (end : BootEnd) → IsStartEnd end → Answers layout key reads end
+    start_answers ends.Ended is = (r, m, starts)
+    start_answers (ends.Condition place) is = (r, m, starts)
+    start_answers (ends.Stopped place cause) is = (r, m, starts)
+    start_answers ends.FlashFault is = tt
+    start_answers ends.NoMemory is = (r, recorded)
+    start_answers _ is = absurd is
+
+pub declined_counts : (layout : List Entry) (key bytes : List ℕ) (end : BootEnd) (a b : Counts) → IsDeclined layout key bytes end → b ≡ a → BootCounts end a b
+declined_counts layout key bytes (ends.BadBank refusal) a b is same = same
+declined_counts layout key bytes (ends.NotAuthentic l) a b is same = same
+declined_counts layout key bytes (ends.UnknownComponent i) a b is same = same
+declined_counts layout key bytes ends.NoMemory a b is same = same
+declined_counts layout key bytes _ a b is same = absurd is
+
+pub declined_plays : (layout : List Entry) (key bytes : List ℕ) (end : BootEnd) (P : PlanEnd → Type 0) (launches : List Launch) → IsDeclined layout key bytes end
+    → PlayedSo P launches launches end
+declined_plays layout key bytes (ends.BadBank refusal) P launches is = refl
+declined_plays layout key bytes (ends.NotAuthentic l) P launches is = refl
+declined_plays layout key bytes (ends.UnknownComponent i) P launches is = refl
+declined_plays layout key bytes ends.NoMemory P launches is = refl
+declined_plays layout key bytes _ P launches is = absurd is
+
+pub declined_keeps : (layout : List Entry) (key bytes : List ℕ) (end : BootEnd) (Kept Same : Type 0) → IsDeclined layout key bytes end → Same → KeptSo Kept Same end
+declined_keeps layout key bytes (ends.BadBank refusal) Kept Same is same = same
+declined_keeps layout key bytes (ends.NotAuthentic l) Kept Same is same = same
+declined_keeps layout key bytes (ends.UnknownComponent i) Kept Same is same = same
+declined_keeps layout key bytes ends.NoMemory Kept Same is same = same
+declined_keeps layout key bytes _ Kept Same is same = absurd is
+
+-- ---- from the moment before the bank was read
+
+pub started_from : (layout : List Entry) (key : Key) (reads bytes : List ℕ) (r : Record) (said : EnvelopeSays) (m : Manifest) → record_in reads (Some r)
+    → bytes ≡ bank_in reads r → IsStarted layout (key_bytes key) bytes said m → Starts layout key reads r m
+started_from layout key reads bytes r said m recorded same is = record {
+  recorded = recorded;
+  said = said;
+  started = subst (λ (l : List ℕ). IsStarted layout (key_bytes key) l said m) same is;
+}
+
+pub payloads_in : (bytes : List ℕ) (said : EnvelopeSays) → EnvelopeOf bytes said → (payloads : List (List ℕ × List ℕ)) × HasPayloads bytes payloads
+payloads_in bytes said envelope = (integrated_payloads (map_entries envelope.says_so.map), record { said = said; envelope = envelope; are = refl })
+
+pub plays_boot : (layout : List Entry) (key : Key) (files : List ℕ → Option (List ℕ)) (reads before after bytes : List ℕ) (launched now : List Launch) (r : Record) (m : Manifest)
+    (payloads : List (List ℕ × List ℕ)) → Starts layout key reads r m → bytes ≡ bank_in reads r → HasPayloads bytes payloads → before ≡ reads
+    → (end : PlanEnd) → PlaysOn layout m r.active payloads files before after launched now end → PlaysBoot layout key files reads after launched now end
+plays_boot layout key files reads before after bytes launched now r m payloads starts same has read end on = record {
+  installed = r;
+  manifest = m;
+  starts = starts;
+  payloads = payloads;
+  has = subst (λ (l : List ℕ). HasPayloads l payloads) same has;
+  on = subst (λ (l : List ℕ). PlaysOn layout m r.active payloads files l after launched now end) read on;
+}
+
+pub keeps_boot : (layout : List Entry) (key : Key) (r : Record) (m : Manifest) (a b c : Flash) (size : ℕ) → IsFlash b size → IsSame a b
+    → Starts layout key a.reads r m → KeepsOthers layout m r.active b c → KeepsBoot layout key a c
+keeps_boot layout key r m a b c size law same starts others = record {
+  installed = r;
+  manifest = m;
+  starts = starts;
+  others = record {
+    standings = others.standings;
+    stand = others.stand;
+    keeps =
+        let K = OutsideTargets (invocation_tree m) others.standings in
+        keeps_then K a b c size law (keeps_same K a b same) others.keeps;
+  };
+}
+
+pub settled_from : (a b c : Flash) (size : ℕ) → IsFlash b size → IsSame a b → IsSame b c ⊎ IsSettled c → IsSame a c ⊎ IsSettled c
+settled_from a b c size law same end = ⊎_elim (λ still. inl (same_flash_then a b c size law same still)) (λ settled. inr settled) end

@@ -1,0 +1,143 @@
+-- Places, slots and spots of the components of a manifest.
+use Rattle.std.proofs.Common.{◌≡◌, ◌≢◌, inl, ◌<◌, ◌≤◌, ℕ, suc, List, [], ◌∷◌, length, map, get_or, take, Some, None, refl, sym, ◌∙◌, ap, subst, arith, get_or-take}
+use Rattle.std.specs.Prelude.{◌==◌, ◌&&◌, if◌then◌else◌}
+use Rattle.std.specs.List.{All, AllByRecursion}
+use Rattle.std.proofs.lemmas.Option.{slice_get-get_or}
+use Rattle.std.proofs.lemmas.List.{length-map, length-take-le}
+use Rattle.suit_commands.specs.Tree.{PlanTree}
+use Rattle.suit_manifest.specs.Components.{AreApart}
+use Rattle.flash_layout.specs.declared.frame.TheConstants.{VERSION_1}
+use Rattle.flash_layout.specs.declared.layout.Entry.{Entry}
+use Rattle.flash_layout.specs.declared.layout.Memory.{Memory}
+use Rattle.flash_layout.specs.declared.layout.Memory.TheVariants as memory
+use Rattle.flash_layout.specs.declared.place.Places.{Places}
+use Rattle.flash_layout.specs.Layouts.{IsBehindHead, IsInFlash, IsLayout, IsOfMemory, IsTypedEntry, slot_size, starts_in}
+use Rattle.flash_layout.specs.Placement.{ArePlaces, HaveOtherPlaces}
+use Rattle.rollback_record.specs.Committing.{InHead}
+use Rattle.step_machine.specs.declared.spot.Standing.{Standing}
+use Rattle.step_machine.specs.declared.world.SlotChoice.{SlotChoice}
+use Rattle.step_machine.specs.PlanRuns.{OutsideTargets}
+use Rattle.step_machine.specs.Spots.{OutsideSpot}
+use Rattle.step_machine.specs.Worlds.{AreDistinct, IsChoice, StandAs, spot_of}
+use Rattle.path_model.specs.Path.{AreIdentities, IsIdentity}
+use Rattle.invoke_proc.specs.Booting.{StandActive}
+use Rattle.invoke_proc.specs.Typing.{HasIdentifiers}
+use Rattle.invoke_proc.specs.Choice.{AreActive}
+
+-- ---- places
+
+-- some entry
+abbrev none : Entry
+none = record { identifier = []; memory = memory.Ram; slots = 0; starts = []; capacity = 0; vendor = None; class = None; device = None }
+
+abbrev Ids : Type 0
+Ids = List (List (List ℕ))
+
+apart_at : (ids : Ids) (j k : ℕ) (d : List (List ℕ)) → AreApart ids → j < k → k < length ids → get_or ids j d ≢ get_or ids k d
+apart_at ids j k d apart below inside same =
+    apart j k below inside (slice_get-get_or ids j d (omega arith) ∙ ap (λ (id : List (List ℕ)). Some id) same ∙ sym (slice_get-get_or ids k d inside))
+
+other_places : (layout : List Entry) (ids : Ids) (p : Places) → ArePlaces layout ids p → HaveOtherPlaces ids p
+other_places layout ids p are j k d below lt other same =
+    let one = are.each j d (omega (arith, below, lt)) in
+    let two = are.each k d lt in
+    other (sym (one.1 none) ∙ ap (λ (i : ℕ). (get_or layout i none).identifier) same ∙ two.1 none)
+
+pub are_distinct : (layout : List Entry) (ids : Ids) (places : Places) → length ids ≤ 8 → AreApart ids → ArePlaces layout ids places → HaveOtherPlaces ids places
+    → AreDistinct layout places
+are_distinct layout ids places few apart are other = record {
+  few = omega (arith, are.count, few);
+  inside = λ k below. (are.each k [] (omega (arith, are.count, below))).0;
+  other = λ j k below inside. let within : k < length ids = omega (arith, are.count, inside) in other j k [] below within (apart_at ids j k [] apart below within);
+}
+
+-- ---- slots
+
+-- a component has one or two slots
+slots_few : (size : ℕ) (e : Entry) (m : Memory) → IsOfMemory size e m → (1 ≤ e.slots) × (e.slots ≤ 2)
+slots_few size e memory.Flash held = (held.0, held.1)
+slots_few size e memory.Ram held = (omega (arith, held.0), omega (arith, held.0))
+
+some_slot : (slots number : ℕ) → 1 ≤ slots → (if (number == 1) && (slots == 2) then 1 else 0) < slots
+some_slot slots number some = grind (arith, some)
+
+all_identities : (standings : List Standing) → ((k : ℕ) (d : Standing) → k < length standings → IsIdentity (get_or standings k d).identity)
+    → AllByRecursion IsIdentity (map (λ (s : Standing). s.identity) standings)
+all_identities [] all = tt
+all_identities (s ∷ standings) all = (all 0 s (omega arith), all_identities standings (λ k d below. all (suc k) d (omega arith)))
+
+module _ (size : ℕ) (layout : List Entry) (is : IsLayout VERSION_1 size layout) where
+  few_at : (i : ℕ) (e : Entry) → i < length layout → (1 ≤ (get_or layout i e).slots) × ((get_or layout i e).slots ≤ 2)
+  few_at i e inside = let at = get_or layout i e in slots_few size at at.memory (is.each i e inside).held
+
+  in_use : (active : List ℕ) (slots : SlotChoice) → AreActive layout active slots.number → (i : ℕ) (e : Entry) → i < length layout
+      → get_or slots.number i 0 < (get_or layout i e).slots
+  in_use active slots are i e inside =
+      subst (λ (n : ℕ). n < (get_or layout i e).slots) (sym (are.each i e inside)) (some_slot (get_or layout i e).slots (get_or active i 0) (few_at i e inside).0)
+
+  pub is_choice : (active : List ℕ) (slots : SlotChoice) → AreActive layout active slots.number → IsChoice layout slots
+  is_choice active slots are = record {
+    few = is.few;
+    one = in_use active slots are;
+    two = λ i e inside. (few_at i e inside).1;
+  }
+
+  -- ---- spots
+
+  starts_behind : (e : Entry) (n : ℕ) → IsInFlash size e → e.memory ≡ memory.Flash → length e.starts ≡ 2 → n < e.slots → 49152 ≤ get_or e.starts n 0
+  starts_behind e n held flash long below =
+      let fits : e.slots ≤ length e.starts = omega (arith, long, held.1) in
+      let starts : All (λ p. IsBehindHead size p (slot_size e)) (take e.slots e.starts) =
+      subst (λ (m : Memory). All (λ p. IsBehindHead size p (slot_size e)) (starts_in m (take e.slots e.starts))) flash held.4 in
+      subst (λ (p : ℕ). 49152 ≤ p) (get_or-take e.slots e.starts n 0 below) (starts n 0 (omega (arith, below, length-take-le e.slots e.starts fits))).0
+
+  -- the head lies outside the slots
+  outside_of : (e : Entry) (m : Memory) (index n i : ℕ) → e.memory ≡ m → IsOfMemory size e m → length e.starts ≡ 2 → n < e.slots → InHead VERSION_1 i
+      → OutsideSpot (spot_of m e index n) i
+  outside_of e memory.Flash index n i same held long below inside = inl (omega (arith, inside.1, starts_behind e n held same long below))
+  outside_of e memory.Ram index n i same held long below inside = tt
+
+  pub head_outside : (plan : PlanTree) (places : Places) (slots : SlotChoice) (standings : List Standing) → All IsTypedEntry layout → AreDistinct layout places
+      → IsChoice layout slots → StandAs layout places slots standings → (i : ℕ) → InHead VERSION_1 i → OutsideTargets plan standings i
+  head_outside plan places slots standings typed distinct choice stand i inside k d below target =
+      let short : k < places.count = omega (arith, below, stand.count) in
+      let index = get_or places.layout_index k 0 in
+      let e = get_or layout index none in
+      let there = distinct.inside k short in
+      subst (λ (s : Standing). OutsideSpot s.spot i) (sym (stand.each k d none short))
+      (outside_of e e.memory index (get_or slots.number index 0) i refl (is.each index none there).held (typed index none there).starts (choice.one index none there) inside)
+
+  -- ---- identities
+
+  module _ (places : Places) (slots : SlotChoice) (standings : List Standing) (typed : All HasIdentifiers layout) (distinct : AreDistinct layout places)
+      (choice : IsChoice layout slots) (stand : StandAs layout places slots standings) where
+    identity_at : (k : ℕ) (d : Standing) → k < length standings → IsIdentity (get_or standings k d).identity
+    identity_at k d below =
+        let short : k < places.count = omega (arith, below, stand.count) in
+        let index = get_or places.layout_index k 0 in
+        let there = distinct.inside k short in
+        let is_typed = typed index none there in
+        let few : get_or slots.number index 0 < 2 = omega (arith, choice.one index none there, choice.two index none there) in
+        subst (λ (s : Standing). IsIdentity s.identity) (sym (stand.each k d none short))
+        (record { vendor = is_typed.vendor; class = is_typed.class; device = is_typed.device; slot = omega (arith, few) })
+
+    pub are_identities : (plan : PlanTree) → plan.count ≡ length standings → AreIdentities plan (map (λ (s : Standing). s.identity) standings)
+    are_identities plan count = record {
+      count = length-map standings (λ (s : Standing). s.identity) ∙ sym count;
+      each = all_identities standings identity_at;
+    }
+
+  -- ---- components that stand in their active slots
+
+  module _ (ids : Ids) (active : List ℕ) (standings : List Standing) (few : length ids ≤ 8) (apart : AreApart ids) (s : StandActive layout ids active standings) where
+    distinct_there : AreDistinct layout s.places
+    distinct_there = are_distinct layout ids s.places few apart s.placed (other_places layout ids s.places s.placed)
+
+    chosen_there : IsChoice layout s.slots
+    chosen_there = is_choice active s.slots s.chosen
+
+    pub head_stays : (plan : PlanTree) → All IsTypedEntry layout → (i : ℕ) → InHead VERSION_1 i → OutsideTargets plan standings i
+    head_stays plan typed = head_outside plan s.places s.slots standings typed distinct_there chosen_there s.stand
+
+    pub identities_there : (plan : PlanTree) → All HasIdentifiers layout → plan.count ≡ length ids → AreIdentities plan (map (λ (s : Standing). s.identity) standings)
+    identities_there plan typed count = are_identities s.places s.slots standings typed distinct_there chosen_there s.stand plan (omega (arith, count, s.stand.count, s.placed.count))

@@ -1,0 +1,188 @@
+-- A boot of a sound flash: nothing is refused, and each launch has its digest.
+use Rattle.std.proofs.Common.{◌≡◌, ◌⊎◌, ⊎_elim, ℕ, List, [], length, map, Option, Some, None, refl, sym, ◌∙◌, subst, arith}
+use Rattle.std.specs.List.{All, AllByRecursion}
+use Rattle.std.proofs.lemmas.List.{append-nil}
+use Rattle.suit_edge.specs.Flash.{Flash, IsFlash, IsSame, IsSettled, Keeps, Passes}
+use Rattle.suit_edge.specs.FlashLaws.{each_read, keeps_fewer, keeps_same}
+use Rattle.suit_edge.specs.declared.launch.Launch.{Launch}
+use Rattle.suit_commands.specs.Tree.{PlanTree}
+use Rattle.suit_manifest.specs.declared.manifest.Manifest.{Manifest}
+use Rattle.suit_manifest.specs.ManifestLaws.{ManifestLaws}
+use Rattle.suit_manifest.specs.Procedures.{invocation_tree}
+use Rattle.path_model.specs.declared.cause.Cause.{Cause}
+use Rattle.path_model.specs.declared.cause.Cause.TheVariants as causes
+use Rattle.path_model.specs.DevicePlays.{Device, played}
+use Rattle.path_model.specs.Path.{AreIdentities}
+use Rattle.path_model.specs.PlayLaws.{FaultedSafeLaunches, HasItsDigest, SafeLaunches}
+use Rattle.path_model.specs.Safe.{Safe}
+use Rattle.path_model.specs.Settings.{Setting}
+use Rattle.flash_layout.specs.declared.frame.TheConstants.{VERSION_1}
+use Rattle.flash_layout.specs.declared.key.Key.{Key}
+use Rattle.flash_layout.specs.declared.layout.Entry.{Entry}
+use Rattle.flash_layout.specs.declared.slot.Record.{Record}
+use Rattle.flash_layout.specs.ConfigLaws.{OneAnswer as OneConfigAnswer}
+use Rattle.flash_layout.specs.Configs.{Blank, ConfigOf, Configured}
+use Rattle.flash_layout.specs.Frames.{head_of}
+use Rattle.flash_layout.specs.Layouts.{IsLayout, IsTypedEntry}
+use Rattle.rollback_record.specs.Committing.{InHead}
+use Rattle.rollback_record.specs.RecordLaws.{OneAnswer}
+use Rattle.rollback_record.specs.SettledLaws.{settled_still, settles}
+use Rattle.rollback_record.specs.SoundFlash.{IsInstalled, IsSoundHead, Settled, Sound, SoundBlank, SoundEmpty, SoundInstalled, key_bytes}
+use Rattle.step_machine.specs.declared.plan_end.PlanEnd.{PlanEnd}
+use Rattle.step_machine.specs.declared.plan_end.PlanEnd.TheVariants as plays
+use Rattle.step_machine.specs.Devices.{contents_of}
+use Rattle.flash_slots.specs.RamContents.{empty_ram}
+use Rattle.step_machine.specs.Invoking.{launched_as}
+use Rattle.step_machine.specs.PlanRuns.{EndsAs, OutsideTargets, setting_of}
+use Rattle.invoke_proc.specs.declared.boot_end.BootEnd.{BootEnd}
+use Rattle.invoke_proc.specs.declared.boot_end.BootEnd.TheVariants as ends
+use Rattle.invoke_proc.specs.declared.boot_end.Lacking.{Lacking}
+use Rattle.suit_params.specs.declared.refusal.Refusal.{Refusal}
+use Rattle.invoke_proc.specs.Banks.{bank_in, record_in}
+use Rattle.invoke_proc.specs.BootLaws.{BootLaws}
+use Rattle.invoke_proc.specs.Booting.{Answers, GainsSafe, KeepsBoot, KeptSo, PlayedSo, PlaysBoot, Starts}
+use Rattle.invoke_proc.specs.Sound.{IsUnrefused}
+use Rattle.invoke_proc.specs.Typing.{HasIdentifiers}
+use Rattle.invoke_proc.proofs.Places.{head_stays, identities_there}
+
+-- ---- what is installed
+
+the_layout : (a b : List Entry) (k l : Key) → Configured a k ≡ Configured b l → (a ≡ b) × (k ≡ l)
+the_layout a b k l same = grind (arith, same)
+
+not_blank : (layout : List Entry) (key : Key) → Blank ≡ Configured layout key → ⊥
+not_blank layout key same = grind (arith, same)
+
+the_record : (a b : Record) → Some a ≡ Some b → a ≡ b
+the_record a b same = grind (arith, same)
+
+not_none : (r : Record) → None ≡ Some r → ⊥
+not_none r same = grind (arith, same)
+
+module _ (configs : OneConfigAnswer) (records : OneAnswer) (laws : BootLaws) (layout : List Entry) (key : Key) (reads : List ℕ)
+    (config : ConfigOf VERSION_1 (length reads) (head_of VERSION_1 reads) (Configured layout key)) where
+  abbrev head : List ℕ
+  head = head_of VERSION_1 reads
+
+  installed_of : (r : Record) → IsSoundHead VERSION_1 (length reads) head → record_in reads (Some r) → IsInstalled layout key (bank_in reads r) r
+  installed_of r (SoundBlank is) recorded = absurd (not_blank layout key (configs VERSION_1 (length reads) head Blank (Configured layout key) is config))
+  installed_of r (SoundEmpty other k is none) recorded = absurd (not_none r (records VERSION_1 head None (Some r) none recorded))
+  installed_of r (SoundInstalled other k s is held installed) recorded =
+      let same = the_layout other layout k key (configs VERSION_1 (length reads) head (Configured other k) (Configured layout key) is config) in
+      let one = the_record s r (records VERSION_1 head (Some s) (Some r) held recorded) in
+      subst (λ (t : Record). IsInstalled layout key (bank_in reads t) t) one
+      (subst (λ (l : Key). IsInstalled layout l (bank_in reads s) s) same.1
+      (subst (λ (l : List Entry). IsInstalled l k (bank_in reads s) s) same.0 installed))
+
+  pub unrefused : (answer : BootEnd) → Sound VERSION_1 reads → Answers layout key reads answer → IsUnrefused answer
+  unrefused (ends.BadBank refusal) sound is =
+      let installed = installed_of is.0 sound is.1 in
+      let start = laws.installed layout key (bank_in reads is.0) is.0 installed in
+      no_bad refusal (laws.none layout (key_bytes key) (bank_in reads is.0) start.0 installed.said (ends.BadBank refusal) installed.are_bytes start.1 is.2)
+    where
+      no_bad : (r : Refusal) → ends.BadBank r ≡ ends.NoMemory → ⊥
+      no_bad r same = grind (arith, same)
+  unrefused (ends.NotAuthentic lacking) sound is =
+      let installed = installed_of is.0 sound is.1 in
+      let start = laws.installed layout key (bank_in reads is.0) is.0 installed in
+      no_bad lacking (laws.none layout (key_bytes key) (bank_in reads is.0) start.0 installed.said (ends.NotAuthentic lacking) installed.are_bytes start.1 is.2)
+    where
+      no_bad : (l : Lacking) → ends.NotAuthentic l ≡ ends.NoMemory → ⊥
+      no_bad l same = grind (arith, same)
+  unrefused (ends.UnknownComponent component) sound is =
+      let installed = installed_of is.0 sound is.1 in
+      let start = laws.installed layout key (bank_in reads is.0) is.0 installed in
+      no_bad component (laws.none layout (key_bytes key) (bank_in reads is.0) start.0 installed.said (ends.UnknownComponent component) installed.are_bytes start.1 is.2)
+    where
+      no_bad : (i : ℕ) → ends.UnknownComponent i ≡ ends.NoMemory → ⊥
+      no_bad i same = grind (arith, same)
+  unrefused _ sound is = tt
+
+  -- what is started is what was judged safe
+  pub safe_start : (r : Record) (m : Manifest) → Sound VERSION_1 reads → Starts layout key reads r m → Safe (invocation_tree m)
+  safe_start r m sound starts =
+      let installed = installed_of r sound starts.recorded in
+      let start = laws.installed layout key (bank_in reads r) r installed in
+      let same = laws.same layout (key_bytes key) (bank_in reads r) start.0 starts.said installed.said m installed.are_bytes start.1 starts.started in
+      subst (λ (n : Manifest). Safe (invocation_tree n)) same.1 installed.safe
+
+-- ---- launches
+
+module _ (safe : SafeLaunches) (faulted : FaultedSafeLaunches) (plan : PlanTree) (setting : Setting) (contents : List (List ℕ)) (is : Safe plan)
+    (ids : AreIdentities plan setting.identities) (after : Device) where
+  abbrev HaveDigests : Device → Type 0
+  HaveDigests device = AllByRecursion HasItsDigest device.launches
+
+  of_play : (played plan setting contents).world ≡ after → HaveDigests after
+  of_play same = subst HaveDigests same (safe plan setting contents is ids)
+
+  of_stop : (place : ℕ) (cause : Cause) → EndsAs plan setting contents (plays.DirectiveFailed place cause) after → HaveDigests after
+  of_stop place causes.Missing end = of_play end.world
+  of_stop place causes.SelfCopy end = of_play end.world
+  of_stop place causes.TooLarge end = of_play end.world
+  of_stop place causes.Absent end = of_play end.world
+  of_stop place causes.HostFault end = subst HaveDigests end.stops.world (faulted plan setting contents end.outcome end.cut is ids)
+  of_stop place causes.FlashFault end = subst HaveDigests end.stops.world (faulted plan setting contents end.outcome end.cut is ids)
+  of_stop place causes.LaunchFault end = subst HaveDigests end.stops.world (faulted plan setting contents end.outcome end.cut is ids)
+
+  pub have_digests : (end : PlanEnd) → EndsAs plan setting contents end after → HaveDigests after
+  have_digests plays.Done end = of_play end.2
+  have_digests (plays.ConditionFailed place) end = of_play end.2
+  have_digests (plays.DirectiveFailed place cause) end = of_stop place cause end
+
+module _ (safe : SafeLaunches) (faulted : FaultedSafeLaunches) (manifests : ManifestLaws) (size : ℕ) (layout : List Entry) (is : IsLayout VERSION_1 size layout)
+    (typed : All HasIdentifiers layout) (key : Key) (files : List ℕ → Option (List ℕ)) (before after : List ℕ) (launched now : List Launch) where
+  pub gains : (end : PlanEnd) → (p : PlaysBoot layout key files before after launched now end) → Safe (invocation_tree p.manifest) → GainsSafe launched now
+  gains end p safe_plan =
+      let holds = p.starts.started.says.holds in
+      let grammar = manifests.grammatical p.starts.said.manifest_place holds.item p.manifest holds.says_so in
+      record {
+        gained = p.on.plays.gained;
+        added = p.on.plays.added;
+        safe =
+            have_digests safe faulted (invocation_tree p.manifest) (setting_of p.on.standings p.payloads [] files) (contents_of p.on.standings (empty_ram layout) before) safe_plan
+            (identities_there size layout is p.manifest.components p.installed.active p.on.standings grammar.few grammar.apart p.on.stand (invocation_tree p.manifest) typed refl)
+            (record { contents = contents_of p.on.standings p.on.ram after; launches = map launched_as p.on.plays.gained }) end p.on.plays.ends;
+      }
+
+  nothing_gained : now ≡ launched → GainsSafe launched now
+  nothing_gained same = record { gained = []; added = same ∙ sym (append-nil launched); safe = tt }
+
+  pub played_gains : (P : PlanEnd → Type 0) (answer : BootEnd) → ((end : PlanEnd) → P end → GainsSafe launched now) → PlayedSo P launched now answer → GainsSafe launched now
+  played_gains P ends.Ended to p = to plays.Done p
+  played_gains P (ends.Condition place) to p = to (plays.ConditionFailed place) p
+  played_gains P (ends.Stopped place cause) to p = to (plays.DirectiveFailed place cause) p
+  played_gains P ends.FlashFault to p = ⊎_elim (λ same. nothing_gained same) (λ some. to some.0 some.1) p
+  played_gains P ends.NothingInstalled to p = nothing_gained p
+  played_gains P (ends.BadBank r) to p = nothing_gained p
+  played_gains P (ends.NotAuthentic l) to p = nothing_gained p
+  played_gains P (ends.UnknownComponent i) to p = nothing_gained p
+  played_gains P ends.NoMemory to p = nothing_gained p
+
+-- ---- the head
+
+module _ (manifests : ManifestLaws) (size : ℕ) (layout : List Entry) (is : IsLayout VERSION_1 size layout) (typed : All IsTypedEntry layout) (key : Key) (a b : Flash) where
+  boot_kept : KeepsBoot layout key a b → Keeps (InHead VERSION_1) a b
+  boot_kept kept =
+      let holds = kept.starts.started.says.holds in
+      let grammar = manifests.grammatical kept.starts.said.manifest_place holds.item kept.manifest holds.says_so in
+      let plan = invocation_tree kept.manifest in
+      keeps_fewer (InHead VERSION_1) (OutsideTargets plan kept.others.standings)
+      (head_stays size layout is kept.manifest.components kept.installed.active kept.others.standings grammar.few grammar.apart kept.others.stand plan typed)
+      a b kept.others.keeps
+
+  pub head_kept : (answer : BootEnd) → KeptSo (KeepsBoot layout key a b) (IsSame a b) answer → Keeps (InHead VERSION_1) a b
+  head_kept ends.Ended k = boot_kept k
+  head_kept (ends.Condition place) k = boot_kept k
+  head_kept (ends.Stopped place cause) k = boot_kept k
+  head_kept ends.FlashFault k = ⊎_elim (λ same. keeps_same (InHead VERSION_1) a b same) (λ kept. boot_kept kept) k
+  head_kept ends.NothingInstalled k = keeps_same (InHead VERSION_1) a b k
+  head_kept (ends.BadBank r) k = keeps_same (InHead VERSION_1) a b k
+  head_kept (ends.NotAuthentic l) k = keeps_same (InHead VERSION_1) a b k
+  head_kept (ends.UnknownComponent i) k = keeps_same (InHead VERSION_1) a b k
+  head_kept ends.NoMemory k = keeps_same (InHead VERSION_1) a b k
+
+-- at the end, where nothing is pending, or nothing was started
+pub settled_end : (a b : Flash) (size : ℕ) → IsFlash b size → Settled VERSION_1 a → Passes a b (Sound VERSION_1) → IsSame a b ⊎ IsSettled b → Settled VERSION_1 b
+settled_end a b size law settled sound end =
+    ⊎_elim (λ same. settled_still VERSION_1 a b size law same settled) (λ none. settles VERSION_1 b none (each_read a b size (Sound VERSION_1) law sound)) end

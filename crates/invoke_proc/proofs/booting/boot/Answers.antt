@@ -1,0 +1,61 @@
+use Rattle.std.proofs.Common.{ℕ, sym, subst}
+use Rattle.flash_layout.specs.declared.frame.TheConstants.{VERSION_1}
+use Rattle.flash_layout.specs.Configs.{ConfigOf, Configured}
+use Rattle.flash_layout.specs.Frames.{head_of}
+use Rattle.rollback_record.specs.SoundFlash.{Settled}
+use Rattle.invoke_proc.specs.Booting.{PlaysBoot}
+use Rattle.invoke_proc.proofs.Played.{unfaulted}
+use Rattle.invoke_proc.proofs.Since.{follows_since, sound_since}
+use Rattle.invoke_proc.proofs.SoundBoot.{gains, head_kept, played_gains, safe_start, settled_end, unrefused}
+use Rattle.invoke_proc.proofs.booting.boot.Goals as goal
+
+pub returns-clause-unrefused : goal.returns-clause-unrefused
+returns-clause-unrefused g c t sound =
+    let d = g.D.Disk in
+    let reads = (d.flash c.args.disk.now).reads in
+    let config = subst (λ (n : ℕ). ConfigOf VERSION_1 n (head_of VERSION_1 reads) (Configured c.args.layout.now c.args.key.now)) (sym (g.met.D.Disk.obeys c.args.disk.now t).fits) (c.requires.held t) in
+    unrefused c.config_laws.ensures.answer c.record_laws.ensures.answer c.boot_laws.ensures c.args.layout.now c.args.key.now reads config c.start_installed.result sound
+    (c.start_installed.ensures.answers t)
+
+pub returns-clause-safe : goal.returns-clause-safe
+returns-clause-safe g c th td tl sound =
+    let d = g.D.Disk in
+    let reads = (d.flash c.args.disk.now).reads in
+    let after = (d.flash c.start_installed.new.disk).reads in
+    let files = g.H.Host.file c.args.host.now in
+    let launched = g.L.Launcher.launches c.args.launcher.now in
+    let now = g.L.Launcher.launches c.start_installed.new.launcher in
+    let layout = c.args.layout.now in
+    let key = c.args.key.now in
+    let size = d.extent c.args.disk.now in
+    let config = subst (λ (n : ℕ). ConfigOf VERSION_1 n (head_of VERSION_1 reads) (Configured layout key)) (sym (g.met.D.Disk.obeys c.args.disk.now td).fits) (c.requires.held td) in
+    played_gains c.play_laws.ensures.safe c.play_laws.ensures.faulted_safe c.manifest_laws.ensures size layout c.requires.allowed.layout_is c.typed.ensures key files reads after launched now
+    (PlaysBoot layout key files reads after launched now) c.start_installed.result
+    (λ end p. gains c.play_laws.ensures.safe c.play_laws.ensures.faulted_safe c.manifest_laws.ensures size layout c.requires.allowed.layout_is c.typed.ensures key files reads after launched now end p
+    (safe_start c.config_laws.ensures.answer c.record_laws.ensures.answer c.boot_laws.ensures layout key reads config p.installed p.manifest sound p.starts))
+    (c.start_installed.ensures.plays th td tl)
+
+pub returns-clause-sound : goal.returns-clause-sound
+returns-clause-sound g c t settled =
+    let d = g.D.Disk in
+    let a = d.flash c.args.disk.now in
+    let b = d.flash c.start_installed.new.disk in
+    sound_since c.sound_laws.ensures a b (d.extent c.args.disk.now) (g.met.D.Disk.obeys c.args.disk.now t) c.requires.allowed.whole settled
+    (head_kept c.manifest_laws.ensures (d.extent c.args.disk.now) c.args.layout.now c.requires.allowed.layout_is c.requires.allowed.typed.entries c.args.key.now a b c.start_installed.result (c.start_installed.ensures.keeps t))
+
+pub returns-clause-follows : goal.returns-clause-follows
+returns-clause-follows g c t settled =
+    let d = g.D.Disk in
+    let a = d.flash c.args.disk.now in
+    let b = d.flash c.start_installed.new.disk in
+    follows_since c.sound_laws.ensures a b (d.extent c.args.disk.now) (g.met.D.Disk.obeys c.args.disk.now t) c.requires.allowed.whole settled
+    (head_kept c.manifest_laws.ensures (d.extent c.args.disk.now) c.args.layout.now c.requires.allowed.layout_is c.requires.allowed.typed.entries c.args.key.now a b c.start_installed.result (c.start_installed.ensures.keeps t))
+
+pub returns-clause-settled : goal.returns-clause-settled
+returns-clause-settled g c t settled =
+    let d = g.D.Disk in
+    let a = d.flash c.args.disk.now in
+    let b = d.flash c.start_installed.new.disk in
+    unfaulted _ (Settled VERSION_1 b) c.start_installed.result
+    (settled_end a b _ (g.met.D.Disk.obeys c.start_installed.new.disk t) settled (returns-clause-sound g c t settled))
+    (c.start_installed.ensures.settled t)

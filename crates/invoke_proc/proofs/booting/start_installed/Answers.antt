@@ -1,0 +1,82 @@
+use Rattle.std.proofs.Common.{ℕ, List, sym, subst, ◌∙◌}
+use Rattle.suit_edge.specs.Flash.{IsSame}
+use Rattle.suit_edge.specs.FlashLaws.{same_flash_then}
+use Rattle.suit_envelope.specs.Payloads.{HasPayloads}
+use Rattle.suit_envelope.specs.Said.{said_by}
+use Rattle.invoke_proc.specs.Booting.{KeepsBoot, KeepsOthers, PlaysBoot, PlaysOn}
+use Rattle.invoke_proc.proofs.Booted as booted
+use Rattle.invoke_proc.proofs.Places.{are_distinct}
+use Rattle.invoke_proc.proofs.Played.{unfaulted}
+use Rattle.invoke_proc.proofs.booting.start_installed.Goals as goal
+
+pub returns-in-Err-judge-clause-answers : goal.returns-in-Err-judge-clause-answers
+returns-in-Err-judge-clause-answers g c t =
+    booted.declined_answers c.args.layout.now c.args.key.now (g.D.Disk.flash c.args.disk.now).reads c.in-Ok.bank.installed (c.in-Ok.ensures.recorded t) c.as_slice.result.now
+    c.in-Err-judge.end (c.as_slice.ensures.value ∙ c.in-Ok.ensures.bytes t) c.in-Err-judge.ensures.declined
+
+pub start-requires-clause-distinct : goal.start-requires-clause-distinct
+start-requires-clause-distinct g c =
+    let m = c.in-Ok-judge.startable.manifest in
+    let holds = c.in-Ok-judge.ensures.started.says.holds in
+    let grammar = c.manifest_laws.ensures.grammatical _ holds.item m holds.says_so in
+    are_distinct c.args.layout.now m.components c.in-Ok-judge.startable.places grammar.few grammar.apart c.in-Ok-judge.ensures.placed c.in-Ok-judge.ensures.other
+
+pub start-requires-clause-plan : goal.start-requires-clause-plan
+start-requires-clause-plan g c =
+    let holds = c.in-Ok-judge.ensures.started.says.holds in
+    c.procedure_laws.ensures.invocation _ holds.item c.in-Ok-judge.startable.manifest holds.says_so
+
+pub returns-clause-answers : goal.returns-clause-answers
+returns-clause-answers g c t =
+    let reads = (g.D.Disk.flash c.args.disk.now).reads in
+    let r = c.in-Ok.bank.installed in
+    let recorded = c.in-Ok.ensures.recorded t in
+    let m = c.in-Ok-judge.startable.manifest in
+    booted.start_answers c.args.layout.now c.args.key.now reads r recorded m
+    (booted.started_from c.args.layout.now c.args.key.now reads c.as_slice.result.now r (said_by c.in-Ok-judge.startable.envelope) m recorded
+    (c.as_slice.ensures.value ∙ c.in-Ok.ensures.bytes t) c.in-Ok-judge.ensures.started)
+    c.start.result c.start.ensures.starts
+
+pub returns-clause-plays : goal.returns-clause-plays
+returns-clause-plays g c th td tl =
+    let d = g.D.Disk in
+    let reads = (d.flash c.args.disk.now).reads in
+    let before = (d.flash c.find_bank.new.disk).reads in
+    let after = (d.flash c.start.new.disk).reads in
+    let files = g.H.Host.file c.args.host.now in
+    let launched = g.L.Launcher.launches c.args.launcher.now in
+    let now = g.L.Launcher.launches c.start.new.launcher in
+    let bytes = c.as_slice.result.now in
+    let r = c.in-Ok.bank.installed in
+    let m = c.in-Ok-judge.startable.manifest in
+    let said = said_by c.in-Ok-judge.startable.envelope in
+    let found = booted.payloads_in bytes said c.in-Ok-judge.ensures.started.says.envelope in
+    let same = c.as_slice.ensures.value ∙ c.in-Ok.ensures.bytes td in
+    let starts = booted.started_from c.args.layout.now c.args.key.now reads bytes r said m (c.in-Ok.ensures.recorded td) same c.in-Ok-judge.ensures.started in
+    booted.played_as (PlaysOn c.args.layout.now m r.active found.0 files before after launched now) (PlaysBoot c.args.layout.now c.args.key.now files reads after launched now)
+    launched now c.start.result
+    (booted.plays_boot c.args.layout.now c.args.key.now files reads before after bytes launched now r m found.0 starts same found.1 (c.in-Ok.ensures.same td).reads)
+    (c.start.ensures.plays th td tl found.0 (subst (λ (l : List ℕ). HasPayloads l found.0) (sym c.in-Ok-judge.ensures.whole) found.1))
+
+pub returns-clause-keeps : goal.returns-clause-keeps
+returns-clause-keeps g c t =
+    let d = g.D.Disk in
+    let a = d.flash c.args.disk.now in
+    let b = d.flash c.find_bank.new.disk in
+    let e = d.flash c.start.new.disk in
+    let r = c.in-Ok.bank.installed in
+    let m = c.in-Ok-judge.startable.manifest in
+    let law = g.met.D.Disk.obeys c.find_bank.new.disk t in
+    let starts = booted.started_from c.args.layout.now c.args.key.now a.reads c.as_slice.result.now r (said_by c.in-Ok-judge.startable.envelope) m (c.in-Ok.ensures.recorded t)
+    (c.as_slice.ensures.value ∙ c.in-Ok.ensures.bytes t) c.in-Ok-judge.ensures.started in
+    booted.kept_as (KeepsOthers c.args.layout.now m r.active b e) (KeepsBoot c.args.layout.now c.args.key.now a e) (IsSame b e) (IsSame a e) c.start.result
+    (booted.keeps_boot c.args.layout.now c.args.key.now r m a b e _ law (c.in-Ok.ensures.same t) starts)
+    (same_flash_then a b e _ law (c.in-Ok.ensures.same t)) (c.start.ensures.keeps t)
+
+pub returns-clause-settled : goal.returns-clause-settled
+returns-clause-settled g c t =
+    let d = g.D.Disk in
+    let a = d.flash c.args.disk.now in
+    let b = d.flash c.find_bank.new.disk in
+    let e = d.flash c.start.new.disk in
+    unfaulted _ _ c.start.result (booted.settled_from a b e _ (g.met.D.Disk.obeys c.find_bank.new.disk t) (c.in-Ok.ensures.same t)) (c.start.ensures.settled t)

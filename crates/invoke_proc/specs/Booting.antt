@@ -1,0 +1,147 @@
+-- What a boot starts, by what the flash reads, and what it answers, launches and leaves.
+use Rattle.std.specs.Prelude.{◌≡◌, ◌⊎◌, ℕ, List, [], ◌++◌, Option, Some, None, map}
+use Rattle.std.specs.List.{AllByRecursion}
+use Rattle.suit_edge.specs.Flash.{Flash, Keeps}
+use Rattle.suit_edge.specs.Faults.{Faulted}
+use Rattle.suit_edge.specs.declared.launch.Launch.{Launch}
+use Rattle.suit_envelope.specs.Envelopes.{EnvelopeSays}
+use Rattle.suit_envelope.specs.Payloads.{HasPayloads}
+use Rattle.suit_manifest.specs.declared.manifest.Manifest.{Manifest}
+use Rattle.suit_manifest.specs.Procedures.{invocation_tree}
+use Rattle.path_model.specs.declared.cause.Cause.TheVariants as causes
+use Rattle.path_model.specs.PlayLaws.{HasItsDigest}
+use Rattle.flash_layout.specs.declared.key.Key.{Key}
+use Rattle.flash_layout.specs.declared.layout.Entry.{Entry}
+use Rattle.flash_layout.specs.declared.place.Places.{Places}
+use Rattle.flash_layout.specs.declared.slot.Record.{Record}
+use Rattle.flash_layout.specs.Placement.{ArePlaces}
+use Rattle.flash_slots.specs.RamContents.{Held, empty_ram}
+use Rattle.rollback_record.specs.SoundFlash.{key_bytes}
+use Rattle.step_machine.specs.declared.plan_end.PlanEnd.{PlanEnd}
+use Rattle.step_machine.specs.declared.plan_end.PlanEnd.TheVariants as plays
+use Rattle.step_machine.specs.declared.spot.Standing.{Standing}
+use Rattle.step_machine.specs.declared.world.SlotChoice.{SlotChoice}
+use Rattle.step_machine.specs.Devices.{contents_of}
+use Rattle.step_machine.specs.Invoking.{launched_as}
+use Rattle.step_machine.specs.PlanRuns.{OutsideTargets, PlaysPlan, setting_of}
+use Rattle.step_machine.specs.Worlds.{StandAs}
+use Rattle.invoke_proc.specs.declared.boot_end.BootEnd.{BootEnd}
+use Rattle.invoke_proc.specs.declared.boot_end.BootEnd.TheVariants as ends
+use Rattle.invoke_proc.specs.Banks.{bank_in, record_in}
+use Rattle.invoke_proc.specs.Choice.{AreActive}
+use Rattle.invoke_proc.specs.Starting.{IsDeclined, IsStarted}
+
+-- ---- what is started
+
+-- each component of a manifest stands for the slot of it that is active
+pub record StandActive (layout : List Entry) (ids : List (List (List ℕ))) (active : List ℕ) (standings : List Standing) : Type 0 where
+  pub places : Places
+  pub placed : ArePlaces layout ids places
+  pub slots : SlotChoice
+  pub chosen : AreActive layout active slots.number
+  pub stand : StandAs layout places slots standings
+
+-- the flash has a record, whose bank starts a manifest
+pub record Starts (layout : List Entry) (key : Key) (reads : List ℕ) (r : Record) (manifest : Manifest) : Type 0 where
+  pub recorded : record_in reads (Some r)
+  pub said : EnvelopeSays
+  pub started : IsStarted layout (key_bytes key) (bank_in reads r) said manifest
+
+-- ---- what is answered
+
+-- before anything is started; or something is
+abbrev pub Answers : List Entry → Key → List ℕ → BootEnd → Type 0
+Answers layout key reads ends.NothingInstalled = record_in reads None
+Answers layout key reads (ends.BadBank refusal) = (r : Record) × record_in reads (Some r) × IsDeclined layout (key_bytes key) (bank_in reads r) (ends.BadBank refusal)
+Answers layout key reads (ends.NotAuthentic lacking) = (r : Record) × record_in reads (Some r) × IsDeclined layout (key_bytes key) (bank_in reads r) (ends.NotAuthentic lacking)
+Answers layout key reads (ends.UnknownComponent component) = (r : Record) × record_in reads (Some r) × IsDeclined layout (key_bytes key) (bank_in reads r) (ends.UnknownComponent component)
+Answers layout key reads ends.Ended = (r : Record) × (m : Manifest) × Starts layout key reads r m
+Answers layout key reads (ends.Condition place) = (r : Record) × (m : Manifest) × Starts layout key reads r m
+Answers layout key reads (ends.Stopped place cause) = (r : Record) × (m : Manifest) × Starts layout key reads r m
+Answers layout key reads ends.FlashFault = Unit {0}
+Answers layout key reads ends.NoMemory = (r : Record) × record_in reads (Some r)
+
+-- ---- what is played
+
+-- The invocation procedure of the manifest is played on the active slots, with working memory empty, no names of files,
+-- and these payloads. It ends so, and leaves these contents and launches.
+pub record PlaysOn (layout : List Entry) (manifest : Manifest) (active : List ℕ) (payloads : List (List ℕ × List ℕ)) (files : List ℕ → Option (List ℕ))
+    (before after : List ℕ) (launched now : List Launch) (end : PlanEnd) : Type 0 where
+  pub standings : List Standing
+  pub stand : StandActive layout manifest.components active standings
+  pub ram : List Held
+  pub plays : PlaysPlan (invocation_tree manifest) (setting_of standings payloads [] files) end
+      (contents_of standings (empty_ram layout) before) (contents_of standings ram after) launched now
+
+-- that of what the flash has, with the payloads of the bank's envelope
+pub record PlaysBoot (layout : List Entry) (key : Key) (files : List ℕ → Option (List ℕ)) (before after : List ℕ) (launched now : List Launch) (end : PlanEnd)
+    : Type 0 where
+  pub installed : Record
+  pub manifest : Manifest
+  pub starts : Starts layout key before installed manifest
+  pub payloads : List (List ℕ × List ℕ)
+  pub has : HasPayloads (bank_in before installed) payloads
+  pub on : PlaysOn layout manifest installed.active payloads files before after launched now end
+
+-- The procedure was played and ended so; or nothing was launched. A fault of the flash that no command met came before
+-- the procedure, or behind it.
+abbrev pub PlayedSo : (PlanEnd → Type 0) → List Launch → List Launch → BootEnd → Type 0
+PlayedSo P launched now ends.Ended = P plays.Done
+PlayedSo P launched now (ends.Condition place) = P (plays.ConditionFailed place)
+PlayedSo P launched now (ends.Stopped place cause) = P (plays.DirectiveFailed place cause)
+PlayedSo P launched now ends.FlashFault = (now ≡ launched) ⊎ ((end : PlanEnd) × P end)
+PlayedSo P launched now _ = now ≡ launched
+
+-- the answer of a procedure that ended so
+abbrev pub end_of : PlanEnd → BootEnd
+end_of plays.Done = ends.Ended
+end_of (plays.ConditionFailed place) = ends.Condition place
+end_of (plays.DirectiveFailed place cause) = ends.Stopped place cause
+
+-- what was launched has its digest, and its size where one is in force
+pub record GainsSafe (launched now : List Launch) : Type 0 where
+  pub gained : List Launch
+  pub added : now ≡ launched ++ gained
+  pub safe : AllByRecursion HasItsDigest (map launched_as gained)
+
+-- ---- what is left
+
+-- nothing changed but slots that components stand for which the procedure may write
+pub record KeepsOthers (layout : List Entry) (manifest : Manifest) (active : List ℕ) (old new : Flash) : Type 0 where
+  pub standings : List Standing
+  pub stand : StandActive layout manifest.components active standings
+  pub keeps : Keeps (OutsideTargets (invocation_tree manifest) standings) old new
+
+pub record KeepsBoot (layout : List Entry) (key : Key) (old new : Flash) : Type 0 where
+  pub installed : Record
+  pub manifest : Manifest
+  pub starts : Starts layout key old.reads installed manifest
+  pub others : KeepsOthers layout manifest installed.active old new
+
+-- where the procedure was played, that was kept, and otherwise nothing changed
+abbrev pub KeptSo : Type 0 → Type 0 → BootEnd → Type 0
+KeptSo Kept Same ends.Ended = Kept
+KeptSo Kept Same (ends.Condition place) = Kept
+KeptSo Kept Same (ends.Stopped place cause) = Kept
+KeptSo Kept Same ends.FlashFault = Same ⊎ Kept
+KeptSo Kept Same _ = Same
+
+-- no fault of the flash
+abbrev pub IfUnfaulted : BootEnd → Type 0 → Type 0
+IfUnfaulted ends.FlashFault P = Unit {0}
+IfUnfaulted (ends.Stopped place causes.FlashFault) P = Unit {0}
+IfUnfaulted _ P = P
+
+-- ---- inside
+
+-- what comes once something is started
+abbrev pub IsStartEnd : BootEnd → Type 0
+IsStartEnd ends.NothingInstalled = ⊥
+IsStartEnd (ends.BadBank refusal) = ⊥
+IsStartEnd (ends.NotAuthentic lacking) = ⊥
+IsStartEnd (ends.UnknownComponent component) = ⊥
+IsStartEnd _ = Unit {0}
+
+-- a procedure that ended so is answered so, or the flash failed behind it
+abbrev pub SettledSo : PlanEnd → BootEnd → ℕ → ℕ → Type 0
+SettledSo end answer before now = ((answer ≡ end_of end) × (now ≡ before)) ⊎ ((answer ≡ ends.FlashFault) × Faulted before now)

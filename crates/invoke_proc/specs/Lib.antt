@@ -1,0 +1,8 @@
+pub mod Choice
+pub mod Counting
+pub mod Starting
+pub mod Banks
+pub mod BootLaws
+pub mod Booting
+pub mod Typing
+pub mod Sound

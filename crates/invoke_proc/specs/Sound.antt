@@ -1,0 +1,10 @@
+-- What a boot of a sound flash does not answer.
+use Rattle.invoke_proc.specs.declared.boot_end.BootEnd.{BootEnd}
+use Rattle.invoke_proc.specs.declared.boot_end.BootEnd.TheVariants as ends
+
+-- what the record's bank holds is not refused
+abbrev pub IsUnrefused : BootEnd → Type 0
+IsUnrefused (ends.BadBank refusal) = ⊥
+IsUnrefused (ends.NotAuthentic lacking) = ⊥
+IsUnrefused (ends.UnknownComponent component) = ⊥
+IsUnrefused _ = Unit {0}

@@ -1,0 +1,129 @@
+//! The boot.
+
+ghost use Rattle.flash_layout.specs.declared.frame.TheConstants.{VERSION_1};
+ghost use Rattle.flash_layout.specs.Configs.{ConfigOf, Configured, IsAllowed};
+ghost use Rattle.flash_layout.specs.Frames.{head_of};
+ghost use Rattle.invoke_proc.specs.Banks.{without_bank};
+ghost use Rattle.invoke_proc.specs.Booting.{Answers, GainsSafe, IfUnfaulted, KeepsBoot, KeptSo, PlayedSo, PlaysBoot};
+ghost use Rattle.invoke_proc.specs.Counting.{BootCounts};
+ghost use Rattle.invoke_proc.specs.Sound.{IsUnrefused};
+ghost use Rattle.rollback_record.specs.SoundFlash.{Follows, Settled, Sound};
+ghost use Rattle.std.specs.Prelude.{◌≡◌, ◌⊎◌, IsTrue};
+ghost use Rattle.step_machine.specs.PlanRuns.{counts_of};
+ghost use Rattle.suit_edge.specs.Flash.{Grows, IsSame, IsSettled, Passes};
+
+use crate::BootEnd;
+use crate::bank::{NoBank, find_bank};
+use crate::judging::judge;
+use crate::law::boot_laws;
+use crate::running::start;
+use crate::typing::typed;
+use flash_layout::{Key, Layout, config_laws};
+use path_model::play_laws;
+use rollback_record::{record_laws, sound_laws};
+use std::alloc::Global;
+use suit_edge::{Disk, Host, Launcher};
+use suit_manifest::{manifest_laws, procedure_laws};
+
+// The answer where no envelope is read.
+fn without_bank(fault: NoBank) -> BootEnd
+    ensures { result ≡ without_bank fault }
+{
+    match fault {
+        NoBank::NothingInstalled => BootEnd::NothingInstalled,
+        NoBank::FlashFault => BootEnd::FlashFault,
+        NoBank::NoMemory => BootEnd::NoMemory,
+    }
+}
+
+// Starts what the flash has, whether it is sound or not.
+fn start_installed<H: Host, D: Disk, L: Launcher>(
+    alloc: Global,
+    host: &mut H,
+    disk: &mut D,
+    launcher: &mut L,
+    layout: &Layout,
+    key: &Key,
+) -> BootEnd
+    requires { IsAllowed VERSION_1 (D.extent disk.old) layout.now key.now }
+    ensures size { D.extent disk.new ≡ D.extent disk.old }
+    ensures counts { BootCounts result (counts_of (H.faults host.old) (D.faults disk.old) (L.faults launcher.old))
+        (counts_of (H.faults host.new) (D.faults disk.new) (L.faults launcher.new)) }
+    ensures files { IsTrue H.told → H.file host.new ≡ H.file host.old }
+    ensures answers { IsTrue D.told → Answers layout.now key.now (D.flash disk.old).reads result }
+    ensures plays { IsTrue H.told → IsTrue D.told → IsTrue L.told
+        → PlayedSo (PlaysBoot layout.now key.now (H.file host.old) (D.flash disk.old).reads (D.flash disk.new).reads
+        (L.launches launcher.old) (L.launches launcher.new)) (L.launches launcher.old) (L.launches launcher.new) result }
+    ensures keeps { IsTrue D.told → KeptSo (KeepsBoot layout.now key.now (D.flash disk.old) (D.flash disk.new))
+        (IsSame (D.flash disk.old) (D.flash disk.new)) result }
+    ensures settled { IsTrue D.told → IfUnfaulted result
+        (IsSame (D.flash disk.old) (D.flash disk.new) ⊎ IsSettled (D.flash disk.new)) }
+    ensures grows { IsTrue D.told → Grows (D.flash disk.old) (D.flash disk.new) }
+{
+    manifest_laws();
+    procedure_laws();
+    let bank = match find_bank(alloc, disk) {
+        Ok(bank) => bank,
+        Err(fault) => return without_bank(fault),
+    };
+    let startable = match judge(alloc, layout, key, bank.bytes.as_slice()) {
+        Ok(startable) => startable,
+        Err(end) => return end,
+    };
+    start(
+        alloc,
+        host,
+        disk,
+        launcher,
+        layout,
+        &bank.installed,
+        &startable,
+    )
+}
+
+/// Starts what is installed (draft-ietf-suit-manifest-25, section 6): the invocation procedure of the manifest in the
+/// bank of the flash's record, on the active slots, with working memory empty.
+///
+/// The bank is judged first: the envelope and its manifest, whether the envelope is authentic under the key, and whether
+/// the layout has the manifest's components. All memory is taken before anything is launched or written. The layout and
+/// the key are those of the flash. Names of files are answered by none.
+pub fn boot<H: Host, D: Disk, L: Launcher>(
+    alloc: Global,
+    host: &mut H,
+    disk: &mut D,
+    launcher: &mut L,
+    layout: &Layout,
+    key: &Key,
+) -> BootEnd
+    requires allowed { IsAllowed VERSION_1 (D.extent disk.old) layout.now key.now }
+    requires held { IsTrue D.told → ConfigOf VERSION_1 (D.extent disk.old) (head_of VERSION_1 (D.flash disk.old).reads) (Configured layout.now key.now) }
+    ensures size { D.extent disk.new ≡ D.extent disk.old }
+    ensures counts { BootCounts result (counts_of (H.faults host.old) (D.faults disk.old) (L.faults launcher.old))
+        (counts_of (H.faults host.new) (D.faults disk.new) (L.faults launcher.new)) }
+    ensures files { IsTrue H.told → H.file host.new ≡ H.file host.old }
+    ensures answers { IsTrue D.told → Answers layout.now key.now (D.flash disk.old).reads result }
+    ensures unrefused { IsTrue D.told → Sound VERSION_1 (D.flash disk.old).reads → IsUnrefused result }
+    ensures plays { IsTrue H.told → IsTrue D.told → IsTrue L.told
+        → PlayedSo (PlaysBoot layout.now key.now (H.file host.old) (D.flash disk.old).reads (D.flash disk.new).reads
+        (L.launches launcher.old) (L.launches launcher.new)) (L.launches launcher.old) (L.launches launcher.new) result }
+    ensures safe { IsTrue H.told → IsTrue D.told → IsTrue L.told → Sound VERSION_1 (D.flash disk.old).reads
+        → GainsSafe (L.launches launcher.old) (L.launches launcher.new) }
+    ensures keeps { IsTrue D.told → KeptSo (KeepsBoot layout.now key.now (D.flash disk.old) (D.flash disk.new))
+        (IsSame (D.flash disk.old) (D.flash disk.new)) result }
+    ensures sound { IsTrue D.told → Settled VERSION_1 (D.flash disk.old)
+        → Passes (D.flash disk.old) (D.flash disk.new) (Sound VERSION_1) }
+    ensures follows { IsTrue D.told → Settled VERSION_1 (D.flash disk.old)
+        → Passes (D.flash disk.old) (D.flash disk.new) (Follows VERSION_1 (D.flash disk.old).reads) }
+    ensures settled { IsTrue D.told → Settled VERSION_1 (D.flash disk.old)
+        → IfUnfaulted result (Settled VERSION_1 (D.flash disk.new)) }
+    ensures grows { IsTrue D.told → Grows (D.flash disk.old) (D.flash disk.new) }
+{
+    typed(layout);
+    config_laws();
+    record_laws();
+    sound_laws();
+    manifest_laws();
+    play_laws();
+    boot_laws();
+    start_installed(alloc, host, disk, launcher, layout, key)
+}

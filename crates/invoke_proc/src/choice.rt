@@ -1,0 +1,30 @@
+//! The slots that are active.
+
+ghost use Rattle.invoke_proc.specs.Choice.{AreActive, slot_in_use};
+ghost use Rattle.std.specs.Prelude.{◌≡◌, ◌≤◌, ◌<◌, length};
+
+use flash_layout::{Entry, Layout, MAX_ENTRIES};
+
+// The slot of this number, where the component has a second one; otherwise its first.
+fn slot_in_use(entry: &Entry, number: u8) -> u8
+    ensures { result ≡ slot_in_use entry.now number }
+{
+    if number == 1 && entry.slots == 2 {
+        1
+    } else {
+        0
+    }
+}
+
+/// The slots that stand for the components of a layout in the invocation procedure: those that are active.
+pub(crate) fn active_slots(layout: &Layout, active: &[u8; MAX_ENTRIES]) -> [u8; MAX_ENTRIES]
+    requires { length layout.now ≤ 8 }
+    ensures { AreActive layout.now active.now result }
+{
+    let entries = layout.as_slice();
+    let mut numbers = [0u8; MAX_ENTRIES];
+    for i in 0..entries.len() {
+        numbers[i] = slot_in_use(&entries[i], active[i]);
+    }
+    numbers
+}

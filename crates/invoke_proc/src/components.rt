@@ -1,0 +1,49 @@
+//! The components of a manifest, each in the slot that is active.
+
+ghost use Rattle.flash_layout.specs.declared.frame.TheConstants.{VERSION_1};
+ghost use Rattle.flash_layout.specs.Layouts.{IsLayout};
+ghost use Rattle.flash_layout.specs.Placement.{ArePlaces};
+ghost use Rattle.flash_slots.specs.RamContents.{empty_ram};
+ghost use Rattle.invoke_proc.specs.Booting.{StandActive};
+ghost use Rattle.std.specs.Prelude.{◌≡◌, ℕ, IfOk, length};
+ghost use Rattle.step_machine.specs.Worlds.{AreDistinct, AreStandings};
+
+use crate::choice::active_slots;
+use crate::judging::Startable;
+use flash_layout::{Layout, Record};
+use std::alloc::{AllocError, Global};
+use step_machine::{SlotChoice, Uris, World};
+
+/// What the invocation procedure runs on: each component of the manifest in its active slot, and working memory empty.
+pub(crate) fn world_in<'a>(
+    alloc: Global,
+    layout: &Layout,
+    installed: &Record,
+    uris: &'a Uris,
+    startable: &'a Startable<'a>,
+) -> Result<World<'a>, AllocError>
+    requires layout { (size : ℕ) × IsLayout VERSION_1 size layout.now }
+    requires placed { ArePlaces layout.now startable.now.manifest.components startable.now.places }
+    requires distinct { AreDistinct layout.now startable.now.places }
+    ensures stand { IfOk result (λ w. StandActive layout.now startable.now.manifest.components installed.now.active w.standings.items) }
+    ensures count { IfOk result (λ w. length w.standings.items ≡ length startable.now.manifest.components) }
+    ensures ram { IfOk result (λ w. w.ram ≡ empty_ram layout.now) }
+    ensures uris { IfOk result (λ w. w.uris.now ≡ uris.now) }
+    ensures envelope { IfOk result (λ w. w.envelope.now ≡ startable.now.envelope) }
+    ensures fit { IfOk result (λ w. (size : ℕ) → IsLayout VERSION_1 size layout.now → AreStandings size w.ram w.standings.items) }
+{
+    let slots = SlotChoice {
+        number: active_slots(layout, &installed.active),
+    };
+    match World::new(
+        alloc,
+        layout,
+        &startable.places,
+        &slots,
+        uris,
+        &startable.envelope,
+    ) {
+        Ok(world) => Ok(world),
+        Err(AllocError) => Err(AllocError),
+    }
+}
