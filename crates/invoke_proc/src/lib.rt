@@ -14,3 +14,6 @@ mod typing;
 pub use boot_end::{BootEnd, Lacking};
 pub use booting::boot;
 pub use law::boot_laws;
+
+#[cfg(test)]
+mod tests;
