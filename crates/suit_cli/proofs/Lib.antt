@@ -16,3 +16,10 @@ pub mod KeyBytes
 pub mod StatusLines
 pub mod OneAnswers
 pub mod FlashLawProofs
+pub mod Describing
+pub mod TaskAnswers
+pub mod DescribingLawProofs
+pub mod DescriptionTexts
+pub mod Authoring
+pub mod MakeLawProofs
+pub mod StagesLet

@@ -180,9 +180,8 @@ fn a_file_or_a_key_is_absent(rt: HostRuntime) -> Result<(), Fail> {
 #[test]
 fn other_words_are_usage(rt: HostRuntime) -> Result<(), Fail> {
     let alloc = rt.alloc();
-    let lines: [&[&str]; 5] = [
+    let lines: [&[&str]; 4] = [
         &["show"],
-        &["show", "e.suit"],
         &["show", "-e", "k"],
         &["show", "e.suit", "-k"],
         &["show", "e.suit", "k", "k"],
