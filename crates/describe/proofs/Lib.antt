@@ -18,3 +18,4 @@ pub mod DescriptionReads
 pub mod DescribedAgain
 pub mod NoFloats
 pub mod NoFiles
+pub mod ThereFacts

@@ -7,3 +7,4 @@ pub mod SeverData
 pub mod PayloadData
 pub mod Describing
 pub mod Again
+pub mod MembersThere

@@ -3,6 +3,7 @@
 
 mod commands;
 mod describing;
+mod held_members;
 mod identifiers;
 mod law;
 mod members;
@@ -13,6 +14,7 @@ mod severing;
 mod values;
 
 pub use describing::describe;
+pub use held_members::members_there;
 pub use law::describe_laws;
 
 #[cfg(test)]

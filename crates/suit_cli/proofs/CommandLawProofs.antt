@@ -36,13 +36,13 @@ check_laws envelopes manifests members = record {
 -- ---- `show`
 
 show_says : (name key_name : List ℕ) (b a : Outside) (r : Reply) → shows name key_name b a (Says r) → ShowSays name key_name b r
-show_says name key_name b a r answer = of_reached (reaches name (shows_manifest key_name) b a r answer) where
+show_says name key_name b a r answer = of_reached (reaches name (λ bytes. shows_manifest key_name) b a r answer) where
   of_rest : (said : EnvelopeSays) (manifest : Manifest) (m : Outside) → HasManifest name b said manifest → m.told ≡ b.told → (IsTrue b.told → m.files ≡ b.files)
       → shows_manifest key_name said manifest m a (Says r) → ShowSays name key_name b r
   of_rest said manifest m has told files (Declines _ d) = AtKey said manifest has (no_key_here m b told files key_name r d.1)
   of_rest said manifest m has told files (Goes key n _ k (Ends _ same shown)) = AtLines said manifest key has (key_here m b told files key_name key k.1) shown
 
-  of_reached : NoManifest name b r ⊎ Reached name (shows_manifest key_name) b a r → ShowSays name key_name b r
+  of_reached : NoManifest name b r ⊎ Reached name (λ bytes. shows_manifest key_name) b a r → ShowSays name key_name b r
   of_reached (inl none) = BeforeKey none
   of_reached (inr at) = of_rest at.said at.manifest at.there at.has at.quiet.told at.quiet.files at.on
 
@@ -57,14 +57,14 @@ key_fault name key_name b m a told first last t = of_last (last (subst IsTrue (s
   of_last (inr is) = inr (is ∙ ap (λ (l : List (List ℕ)). l ++ key_name ∷ []) before ∙ append_assoc b.asked (name ∷ []) (key_name ∷ []))
 
 show_faults : (name key_name : List ℕ) (object : Object) (b a : Outside) → shows name key_name b a (FaultOf object) → at_host (ShowFaults name key_name) object b a
-show_faults name key_name object b a answer = of_reached object (reaches_fault name (shows_manifest key_name) object b a answer) where
+show_faults name key_name object b a answer = of_reached object (reaches_fault name (λ bytes. shows_manifest key_name) object b a answer) where
   of_rest : (m : Outside) (said : EnvelopeSays) (manifest : Manifest) → HasManifest name b said manifest → m.told ≡ b.told → Asks (name ∷ []) b m → (o : Object)
       → shows_manifest key_name said manifest m a (FaultOf o) → at_host (ShowFaults name key_name) o b a
   of_rest m said manifest has told asks objects.Host (Faults _ f) = FaultsAtKey said manifest has (key_fault name key_name b m a told asks f.asks)
   of_rest m said manifest has told asks objects.Flash (Faults _ f) = absurd f
   of_rest m said manifest has told asks o (Goes _ middle _ _ last) = elim last [ ]
 
-  of_reached : (o : Object) → at_host (MayAsk name) o b a ⊎ ReachedFault name (shows_manifest key_name) o b a → at_host (ShowFaults name key_name) o b a
+  of_reached : (o : Object) → at_host (MayAsk name) o b a ⊎ ReachedFault name (λ bytes. shows_manifest key_name) o b a → at_host (ShowFaults name key_name) o b a
   of_reached objects.Host (inl asks) = FaultsAtFile asks
   of_reached objects.Flash (inl asks) = absurd asks
   of_reached o (inr at) = of_rest at.there at.said at.manifest at.has at.quiet.told at.asks o at.on
@@ -75,12 +75,12 @@ module _ (envelopes : EnvelopeLaws) (manifests : ManifestLaws) (name key_name : 
 
   key_stands : (said : EnvelopeSays) (manifest : Manifest) (r : Reply) → HasManifest name b said manifest → IsNoKey key_name b r → q ≡ r
   key_stands said manifest r has none =
-      let s = manifest_passed envelopes manifests name (shows_manifest key_name) b a told q said manifest has answer in
+      let s = manifest_passed envelopes manifests name (λ bytes. shows_manifest key_name) b a told q said manifest has answer in
       stands _ _ (one_key key_name) b s.0 (asks_for key_name b) a q s.1 r (still_key, none) s.2
 
   is_shown : (said : EnvelopeSays) (manifest : Manifest) (key : List ℕ) → ShowsUnder name key_name b said manifest key → IsShown said manifest key q
   is_shown said manifest key under =
-      let s = manifest_passed envelopes manifests name (shows_manifest key_name) b a told q said manifest under.has answer in
+      let s = manifest_passed envelopes manifests name (λ bytes. shows_manifest key_name) b a told q said manifest under.has answer in
       let k = passes _ _ (one_key key_name) b s.0 (asks_for key_name b) a q s.1 key (still_key, under.has_key) s.2 in
       last_says _ k.0 a q k.2
 
@@ -99,7 +99,7 @@ module _ (said : EnvelopeSays) (manifest : Manifest) (key : List ℕ) (r : Reply
 pub show_laws : EnvelopeLaws → ManifestLaws → ShowLaws
 show_laws envelopes manifests = record {
   only = λ name key_name b a r answer. show_says name key_name b a r answer;
-  no_manifest = λ name key_name b a r q told none answer. no_manifest_stands envelopes manifests name (shows_manifest key_name) b a told q r none answer;
+  no_manifest = λ name key_name b a r q told none answer. no_manifest_stands envelopes manifests name (λ bytes. shows_manifest key_name) b a told q r none answer;
   no_key = λ name key_name b a said manifest r q told has none answer. key_stands envelopes manifests name key_name b a told q answer said manifest r has none;
   shown = λ name key_name b a said manifest key r told under answer. is_shown envelopes manifests name key_name b a told r answer said manifest key under;
   faults = λ name key_name b a object answer. show_faults name key_name object b a answer;

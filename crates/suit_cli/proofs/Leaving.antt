@@ -1,12 +1,13 @@
 -- What a power loss during a command may leave.
-use Rattle.std.proofs.Common.{◌≡◌, ℕ, List, Option, Some, inl, inr, sym, subst}
+use Rattle.std.proofs.Common.{◌≡◌, ℕ, List, Option, Some, None, inl, inr, sym, subst, refl}
+use Rattle.std.specs.Prelude.{IsTrue}
 use Rattle.suit_edge.specs.Flash.{Flash, Now, Passes, IsFlash, IsSame}
 use Rattle.suit_edge.specs.FlashLaws.{starts, weakens, joined, each_now}
 use Rattle.flash_layout.specs.declared.frame.TheConstants.{VERSION_1}
 use Rattle.flash_layout.specs.declared.key.Key.{Key}
 use Rattle.flash_layout.specs.declared.layout.Entry.{Entry}
 use Rattle.flash_layout.specs.Formats.{IsBlankOrFormatted}
-use Rattle.suit_cli.specs.Words.{Task, RunInit}
+use Rattle.suit_cli.specs.Words.{Task, Make, Describe, Show, Check, RunInit, RunStatus}
 use Rattle.suit_cli.specs.Outside.{Outside, Flashed, with_flash}
 use Rattle.suit_cli.specs.Inputs.{longest_device, IsRead, IsKey}
 use Rattle.suit_cli.specs.Devices.{IsDevice, key_of}
@@ -19,16 +20,17 @@ still a = starts a (Now a) (λ image now. now)
 
 -- ---- by the words
 
--- of a command that leaves the images of the start
-pub leaves : (task t : Option Task) (before : Outside) (a b : Flash) → task ≡ t → ((image : List ℕ) → Now a image → MayBeLeft t before a image) → Passes a b (Now a)
-    → Passes a b (MayBeLeft task before a)
-leaves task t before a b is here run =
-    weakens a b (Now a) (MayBeLeft task before a) (λ image now. subst (λ (u : Option Task). MayBeLeft u before a image) (sym is) (here image now)) run
-
-pub leaves_init : (task : Option Task) (device key_name : List ℕ) (before : Outside) (a b : Flash) → task ≡ Some (RunInit device key_name) → Passes a b (MayLeave device key_name before a)
-    → Passes a b (MayBeLeft task before a)
-leaves_init task device key_name before a b is run =
-    weakens a b (MayLeave device key_name before a) (MayBeLeft task before a) (λ image may. subst (λ (u : Option Task). MayBeLeft u before a image) (sym is) may) run
+-- the images of the start, of all words
+pub start_left : (task : Option Task) (before : Outside) (a : Flash) → Passes a a (MayBeLeft task before a)
+start_left task before a = weakens a a (Now a) (MayBeLeft task before a) (λ image now. of_task task image now) (still a) where
+  of_task : (t : Option Task) (image : List ℕ) → Now a image → MayBeLeft t before a image
+  of_task None image now = now
+  of_task (Some (Make description key_name out)) image now = now
+  of_task (Some (Describe name)) image now = now
+  of_task (Some (Show name key_name)) image now = now
+  of_task (Some (Check name)) image now = now
+  of_task (Some (RunInit device key_name)) image now = inl now
+  of_task (Some RunStatus) image now = now
 
 -- ---- `run init`
 

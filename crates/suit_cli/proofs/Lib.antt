@@ -17,3 +17,10 @@ pub mod StatusLines
 pub mod OneFlaw
 pub mod OneAnswers
 pub mod FlashLawProofs
+pub mod Describing
+pub mod TaskAnswers
+pub mod DescribingLawProofs
+pub mod DescriptionTexts
+pub mod Authoring
+pub mod MakeLawProofs
+pub mod StagesLet

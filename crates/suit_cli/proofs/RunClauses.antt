@@ -12,15 +12,19 @@ use Rattle.suit_cli.specs.declared.reply.Reply.{Reply}
 use Rattle.suit_cli.specs.declared.reply.Outcome.TheVariants as outcomes
 use Rattle.suit_cli.specs.Texts.{usage_line}
 use Rattle.suit_cli.specs.declared.reply.Object.TheVariants as objects
-use Rattle.suit_cli.specs.Words.{Check, Show, RunInit, RunStatus, task_of}
-use Rattle.suit_cli.specs.Outside.{Outside, Sunk, Quiet}
+use Rattle.suit_cli.specs.Words.{Make, Describe, Show, Check, RunInit, RunStatus, task_of}
+use Rattle.suit_cli.specs.Outside.{Outside, Sunk}
 use Rattle.suit_cli.specs.Stages.{Ending, Says, FaultOf, NoMemory, Goes, Declines}
 use Rattle.suit_cli.specs.Statuses.{status_of, ending_status, ending_text}
 use Rattle.suit_cli.specs.Judgement.{AreSafe, AreJudged, JudgedSafe, JudgedUnsafe}
 use Rattle.suit_cli.specs.Shown.{authenticity_outcome}
-use Rattle.suit_cli.specs.Program.{answers, PutsText, IsPut, IsCut, Runs, EndsIn, IsStatus, OfEnding, OfSinkFault, ChecksProcedures, IsCheck, ChecksSafe, ChecksUnsafe, IsUsage, IsCutOff, AreCounted, most_pulled}
-use Rattle.suit_cli.proofs.Running.{Declining, IsJudged, checked, judged_when, judged_safe, judged_unsafe, done_safe, unsafe_shows, IsShownOf, showed, status_done, status_unsafe, status_usage, not_seven, not_eight, not_nine_ending, inited, stated, plain_not, does_of, judged_task, unsafe_refuted}
-use Rattle.suit_cli.proofs.StagesKeep.{Counts, answers_keeps}
+use Rattle.suit_cli.specs.Program.{answers, PutsText, IsPut, IsCut, Runs, EndsIn, IsStatus, OfEnding, OfSinkFault, ChecksProcedures, IsCheck, ChecksSafe, ChecksUnsafe, IsUsage, IsCutOff, AreCounted, LeavesFor}
+use Rattle.suit_cli.proofs.Running.{Declining, IsJudged, checked, judged_when, judged_safe, judged_unsafe, done_safe, unsafe_shows, IsShownOf, showed, status_done, status_unsafe, status_usage, not_seven, not_eight, not_nine_ending, inited, stated, plain_not, unsafe_refuted}
+use Rattle.suit_cli.proofs.Describing.{described}
+use Rattle.suit_cli.proofs.TaskAnswers.{does_of, judged_task}
+use Rattle.suit_cli.proofs.MakeLawProofs.{made_as}
+use Rattle.suit_cli.proofs.StagesKeep.{Counts}
+use Rattle.suit_cli.proofs.StagesLet.{answers_lets}
 
 -- ---- an ending with a status
 
@@ -46,6 +50,8 @@ put_as sb sa e result n (IsCut is faulted puts) same never = absurd (never (sym 
 -- usage, by an answer
 usage_of : (words : List (List ℕ)) (b a : Outside) (r : Reply) → answers words b a (Says r) → r.outcome ≡ outcomes.Usage → (task_of words ≡ None) × (r.text ≡ usage_line)
 usage_of words b a r (Declines _ d) is = (d.1.0, d.1.1.text_is)
+usage_of words b a r (Goes (Make description key out) m _ g rest) is = absurd (plain_not r.outcome _ (made_as description key out m a r rest) is (λ d. d) (λ e. cc))
+usage_of words b a r (Goes (Describe name) m _ g rest) is = absurd (plain_not r.outcome _ (described name m a r rest) is (λ d. d) (λ e. cc))
 usage_of words b a r (Goes (Check name) m _ g rest) is = absurd (of_check (checked name m a r rest)) where
   of_judged : (u i : PlanTree) → AreJudged u i r → ⊥
   of_judged u i (JudgedSafe safe says) = let never = sym says.outcome_is ∙ is in cc
@@ -154,8 +160,8 @@ module _ (words : List (List ℕ)) (b a : Outside) (sb sa : Sunk) (result : ℕ)
   pub only_usage : task_of words ≡ None → EndsIn 2 result
   only_usage none = ends_in 2 (λ r answer. no_task_usage words b a r none answer)
 
-  pub stays : Quiet (most_pulled (task_of words)) b a
-  stays = (answers_keeps words b a runs.ending runs.answer).quiet
+  pub stays : LeavesFor words b a
+  stays = (answers_lets words b a runs.ending runs.answer).leaves
 
   pub is_status : IsStatus result
   is_status = of_puts runs.puts where
@@ -164,7 +170,7 @@ module _ (words : List (List ℕ)) (b a : Outside) (sb sa : Sunk) (result : ℕ)
     of_puts (IsCut is faulted puts) = OfSinkFault is
 
   kept : Counts runs.ending b a
-  kept = (answers_keeps words b a runs.ending runs.answer).counts
+  kept = (answers_lets words b a runs.ending runs.answer).counts
 
   -- of each object, by the status of an ending that was put
   host_counts : (e : Ending) → Counts e b a → (ending_status e ≡ 7 → Faulted b.faults a.faults) × (ending_status e ≢ 7 → a.faults ≡ b.faults)

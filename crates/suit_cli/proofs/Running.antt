@@ -1,7 +1,6 @@
 -- What a run that had an answer and put it says of its status.
 use Rattle.std.proofs.Common.{◌≡◌, ℕ, List, [], ◌∷◌, Some, None, ◌⊎◌, inl, inr, refl, sym, subst, ◌∙◌, ◌+◌, arith}
 use Rattle.std.specs.Prelude.{IsTrue}
-use Rattle.std.proofs.lemmas.Option.{same_Some}
 use Rattle.suit_commands.specs.Tree.{PlanTree}
 use Rattle.suit_envelope.specs.Envelopes.{EnvelopeSays}
 use Rattle.suit_envelope.specs.EnvelopeLaws.{EnvelopeLaws}
@@ -19,7 +18,6 @@ use Rattle.suit_cli.specs.declared.reply.Outcome.TheVariants as outcomes
 use Rattle.suit_cli.specs.Replies.{IsReply}
 use Rattle.suit_cli.specs.declared.reply.Object.{Object}
 use Rattle.suit_cli.specs.declared.reply.Object.TheVariants as objects
-use Rattle.suit_cli.specs.Words.{Task, Check, Show, RunInit, RunStatus, task_of}
 use Rattle.suit_cli.specs.Outside.{Outside, Flashed, Quiet, Asks, MayAsk, Reads}
 use Rattle.suit_cli.specs.Stages.{Ending, Says, FaultOf, NoMemory, Answers, at_host, Goes, Declines, Faults, Last, Ends, IsSaid}
 use Rattle.suit_cli.specs.Statuses.{status_of, ending_status}
@@ -32,7 +30,6 @@ use Rattle.suit_cli.specs.Shown.{IsShown, authenticity_outcome}
 use Rattle.suit_cli.specs.Devices.{IsNoDevice, IsNoJson, IsNoLayout}
 use Rattle.suit_cli.specs.Installed.{HoldsNone, IsBlank, IsBad}
 use Rattle.suit_cli.specs.Commands.{in_manifest, judges_manifest, checks, shows_manifest, shows, inits_as, inits, tells_status, does}
-use Rattle.suit_cli.specs.Program.{answers}
 use Rattle.suit_cli.proofs.BadPathLaws.{IsBadPath-not_safe}
 use Rattle.suit_cli.proofs.OneStage.{Alike, alike_self, asks_for, asks_reads, alike_asked, passes, stands, one_reply, one_file, one_envelope, one_short, one_manifest, one_members, one_narrow}
 
@@ -64,7 +61,7 @@ pub no_key_declines : (name : List ℕ) (b : Outside) (r : Reply) → IsNoKey na
 no_key_declines name b r (IsUnreadKey u) = unread_declines longest_key name b r u
 no_key_declines name b r (IsEmptyKey read says) = declining r _ _ says tt
 
-lack_told : (r : Reply) (fault : MemberFault) → TellsLack r fault → Declining r.outcome
+pub lack_told : (r : Reply) (fault : MemberFault) → TellsLack r fault → Declining r.outcome
 lack_told r (faults.Severed name) says = declining r _ _ says tt
 lack_told r (faults.Differs name stated found) says = declining r _ _ says tt
 lack_told r (faults.Refused refusal) says = declining r _ _ says tt
@@ -95,16 +92,16 @@ unsafe_shows u i r (JudgedUnsafe is unsafe) outcome = unsafe
 -- ---- up to the manifest
 
 -- of a host that tells: it stops there, or a manifest is reached
-pub record Reached (name : List ℕ) (next : EnvelopeSays → Manifest → Answers) (b a : Outside) (r : Reply) : Type 0 where
+pub record Reached (name : List ℕ) (next : List ℕ → EnvelopeSays → Manifest → Answers) (b a : Outside) (r : Reply) : Type 0 where
   pub said : EnvelopeSays
   pub manifest : Manifest
   pub has : HasManifest name b said manifest
   pub there : Outside
   pub quiet : Quiet (longest_file + 1) b there
   pub asks : Asks (name ∷ []) b there
-  pub on : next said manifest there a (Says r)
+  pub on : next has.in_envelope.bytes said manifest there a (Says r)
 
-pub reaches : (name : List ℕ) (next : EnvelopeSays → Manifest → Answers) (b a : Outside) (r : Reply) → in_manifest name next b a (Says r) → NoManifest name b r ⊎ Reached name next b a r
+pub reaches : (name : List ℕ) (next : List ℕ → EnvelopeSays → Manifest → Answers) (b a : Outside) (r : Reply) → in_manifest name next b a (Says r) → NoManifest name b r ⊎ Reached name next b a r
 reaches name next b a r (Declines _ d) = inl (AtFile d.1)
 reaches name next b a r (Goes bytes m0 _ read (Declines _ d)) = inl (AtEnvelope bytes read.1 d.1.0 d.1.1)
 reaches name next b a r (Goes bytes m0 _ read (Goes said m1 _ env (Declines _ d))) =
@@ -123,16 +120,16 @@ reaches name next b a r (Goes bytes m0 _ read (Goes said m1 _ env (Goes u m2 _ s
     })
 
 -- a fault comes at the file, or behind the manifest
-pub record ReachedFault (name : List ℕ) (next : EnvelopeSays → Manifest → Answers) (object : Object) (b a : Outside) : Type 0 where
+pub record ReachedFault (name : List ℕ) (next : List ℕ → EnvelopeSays → Manifest → Answers) (object : Object) (b a : Outside) : Type 0 where
   pub said : EnvelopeSays
   pub manifest : Manifest
   pub has : HasManifest name b said manifest
   pub there : Outside
   pub quiet : Quiet (longest_file + 1) b there
   pub asks : Asks (name ∷ []) b there
-  pub on : next said manifest there a (FaultOf object)
+  pub on : next has.in_envelope.bytes said manifest there a (FaultOf object)
 
-pub reaches_fault : (name : List ℕ) (next : EnvelopeSays → Manifest → Answers) (object : Object) (b a : Outside) → in_manifest name next b a (FaultOf object) → at_host (MayAsk name) object b a ⊎ ReachedFault name next object b a
+pub reaches_fault : (name : List ℕ) (next : List ℕ → EnvelopeSays → Manifest → Answers) (object : Object) (b a : Outside) → in_manifest name next b a (FaultOf object) → at_host (MayAsk name) object b a ⊎ ReachedFault name next object b a
 reaches_fault name next objects.Host b a (Faults _ f) = inl f.asks
 reaches_fault name next objects.Flash b a (Faults _ f) = absurd f
 reaches_fault name next object b a (Goes bytes m0 _ read (Faults _ f)) = absurd f
@@ -155,7 +152,7 @@ no_manifest_declines name b r (AtEnvelope bytes read all bad) = declining r _ _ 
 no_manifest_declines name b r (AtLength said has long) = declining r _ _ long.says tt
 no_manifest_declines name b r (AtManifest said has short bad) = declining r _ _ bad.says tt
 
-module _ (envelopes : EnvelopeLaws) (manifests : ManifestLaws) (name : List ℕ) (next : EnvelopeSays → Manifest → Answers) (b a : Outside) (told : IsTrue b.told) (q : Reply) where
+module _ (envelopes : EnvelopeLaws) (manifests : ManifestLaws) (name : List ℕ) (next : List ℕ → EnvelopeSays → Manifest → Answers) (b a : Outside) (told : IsTrue b.told) (q : Reply) where
   still : Reads (longest_file + 1) name b (asks_for name b)
   still = asks_reads (longest_file + 1) name b
 
@@ -163,7 +160,7 @@ module _ (envelopes : EnvelopeLaws) (manifests : ManifestLaws) (name : List ℕ)
   alike = alike_self b told
 
   -- a manifest is passed
-  pub manifest_passed : (said : EnvelopeSays) (manifest : Manifest) → HasManifest name b said manifest → in_manifest name next b a (Says q) → (m : Outside) × Alike b m × next said manifest m a (Says q)
+  pub manifest_passed : (said : EnvelopeSays) (manifest : Manifest) (has : HasManifest name b said manifest) → in_manifest name next b a (Says q) → (m : Outside) × Alike b m × next has.in_envelope.bytes said manifest m a (Says q)
   manifest_passed said manifest has answer =
       let e = has.in_envelope in
       let s0 = passes _ _ (one_file longest_file name) b b (asks_for name b) a q alike e.bytes (still, e.read) answer in
@@ -209,8 +206,8 @@ judges_says name b m a r said manifest has (Goes members m0 _ mem (Goes v m1 _ f
     }) judged
 
 pub check_says : (name : List ℕ) (b a : Outside) (r : Reply) → checks name b a (Says r) → CheckSays name b r
-check_says name b a r answer = of_reached (reaches name judges_manifest b a r answer) where
-  of_reached : NoManifest name b r ⊎ Reached name judges_manifest b a r → CheckSays name b r
+check_says name b a r answer = of_reached (reaches name (λ bytes. judges_manifest) b a r answer) where
+  of_reached : NoManifest name b r ⊎ Reached name (λ bytes. judges_manifest) b a r → CheckSays name b r
   of_reached (inl none) = BeforeMembers none
   of_reached (inr at) = judges_says name b at.there a r at.said at.manifest at.has at.on
 
@@ -227,20 +224,31 @@ judges_never_fault said manifest object m a (Goes members m0 _ mem (Faults _ f))
 judges_never_fault said manifest object m a (Goes members m0 _ mem (Goes v m1 _ first (Faults _ f))) = f
 judges_never_fault said manifest object m a (Goes members m0 _ mem (Goes v m1 _ first (Goes _ middle _ _ last))) = elim last [ ]
 
+-- of a command that judges what is in its file and no more
+module _ (name : List ℕ) (next : List ℕ → EnvelopeSays → Manifest → Answers) (b a : Outside) where
+  pub file_faults : ((bytes : List ℕ) (said : EnvelopeSays) (manifest : Manifest) (object : Object) (m : Outside) → next bytes said manifest m a (FaultOf object) → ⊥)
+      → (object : Object) → in_manifest name next b a (FaultOf object) → at_host (MayAsk name) object b a
+  file_faults never object answer = of_reached (reaches_fault name next object b a answer) where
+    of_reached : at_host (MayAsk name) object b a ⊎ ReachedFault name next object b a → at_host (MayAsk name) object b a
+    of_reached (inl asks) = asks
+    of_reached (inr at) = absurd (never at.has.in_envelope.bytes at.said at.manifest object at.there at.on)
+
+  pub file_asks : (r : Reply) → ((bytes : List ℕ) (said : EnvelopeSays) (manifest : Manifest) (m : Outside) → next bytes said manifest m a (Says r) → a ≡ m)
+      → in_manifest name next b a (Says r) → Asks (name ∷ []) b a
+  file_asks r still (Declines _ d) = d.0.asks
+  file_asks r still (Goes bytes m0 _ read (Declines _ d)) = subst (λ (o : Outside). Asks (name ∷ []) b o) (sym d.0) read.0.asks
+  file_asks r still (Goes bytes m0 _ read (Goes said m1 _ env (Declines _ d))) = subst (λ (o : Outside). Asks (name ∷ []) b o) (sym (d.0 ∙ env.0)) read.0.asks
+  file_asks r still (Goes bytes m0 _ read (Goes said m1 _ env (Goes u m2 _ short (Declines _ d)))) =
+      subst (λ (o : Outside). Asks (name ∷ []) b o) (sym (d.0 ∙ short.0 ∙ env.0)) read.0.asks
+  file_asks r still (Goes bytes m0 _ read (Goes said m1 _ env (Goes u m2 _ short (Goes manifest m3 _ man rest)))) =
+      subst (λ (o : Outside). Asks (name ∷ []) b o) (sym (still bytes said manifest m3 rest ∙ man.0 ∙ short.0 ∙ env.0)) read.0.asks
+
 pub check_faults : (name : List ℕ) (object : Object) (b a : Outside) → checks name b a (FaultOf object) → at_host (MayAsk name) object b a
-check_faults name object b a answer = of_reached (reaches_fault name judges_manifest object b a answer) where
-  of_reached : at_host (MayAsk name) object b a ⊎ ReachedFault name judges_manifest object b a → at_host (MayAsk name) object b a
-  of_reached (inl asks) = asks
-  of_reached (inr at) = absurd (judges_never_fault at.said at.manifest object at.there a at.on)
+check_faults name object b a answer =
+    file_faults name (λ bytes. judges_manifest) b a (λ bytes said manifest o m f. judges_never_fault said manifest o m a f) object answer
 
 pub check_asks : (name : List ℕ) (b a : Outside) (r : Reply) → checks name b a (Says r) → Asks (name ∷ []) b a
-check_asks name b a r (Declines _ d) = d.0.asks
-check_asks name b a r (Goes bytes m0 _ read (Declines _ d)) = subst (λ (o : Outside). Asks (name ∷ []) b o) (sym d.0) read.0.asks
-check_asks name b a r (Goes bytes m0 _ read (Goes said m1 _ env (Declines _ d))) = subst (λ (o : Outside). Asks (name ∷ []) b o) (sym (d.0 ∙ env.0)) read.0.asks
-check_asks name b a r (Goes bytes m0 _ read (Goes said m1 _ env (Goes u m2 _ short (Declines _ d)))) =
-    subst (λ (o : Outside). Asks (name ∷ []) b o) (sym (d.0 ∙ short.0 ∙ env.0)) read.0.asks
-check_asks name b a r (Goes bytes m0 _ read (Goes said m1 _ env (Goes u m2 _ short (Goes manifest m3 _ man rest)))) =
-    subst (λ (o : Outside). Asks (name ∷ []) b o) (sym (judges_still said manifest m3 a r rest ∙ man.0 ∙ short.0 ∙ env.0)) read.0.asks
+check_asks name b a r answer = file_asks name (λ bytes. judges_manifest) b a r (λ bytes said manifest m on. judges_still said manifest m a r on) answer
 
 -- it declines, or judges both procedures
 pub record IsJudged (name : List ℕ) (before : Outside) (reply : Reply) : Type 0 where
@@ -266,7 +274,7 @@ module _ (envelopes : EnvelopeLaws) (manifests : ManifestLaws) (members : Member
   pub judged_when : (update invocation : PlanTree) → HasProcedures name b update invocation → AreJudged update invocation q
   judged_when update invocation has =
       let e = has.has_manifest.in_envelope in
-      let s3 = manifest_passed envelopes manifests name judges_manifest b a told q has.said has.manifest has.has_manifest answer in
+      let s3 = manifest_passed envelopes manifests name (λ bytes. judges_manifest) b a told q has.said has.manifest has.has_manifest answer in
       let s4 = passes _ _ (one_members members e.bytes has.said has.manifest e.envelope) b s3.0 b a q s3.1 has.members (refl, has.has_members) s3.2 in
       let n0 = subst IsNarrow has.update_is has.update_narrow in
       let n1 = subst IsNarrow has.invocation_is has.invocation_narrow in
@@ -282,19 +290,19 @@ module _ (envelopes : EnvelopeLaws) (manifests : ManifestLaws) (members : Member
   one_judged u i r (JudgedUnsafe is unsafe) (JudgedSafe safe says) = absurd (unsafe_refuted u i r.text unsafe safe)
 
   pub check_always : (r : Reply) → CheckSays name b r → SameButPath r q
-  check_always r (BeforeMembers none) = inl (no_manifest_stands envelopes manifests name judges_manifest b a told q r none answer)
+  check_always r (BeforeMembers none) = inl (no_manifest_stands envelopes manifests name (λ bytes. judges_manifest) b a told q r none answer)
   check_always r (AtMembers said manifest has lack) =
       let e = has.in_envelope in
-      let s3 = manifest_passed envelopes manifests name judges_manifest b a told q said manifest has answer in
+      let s3 = manifest_passed envelopes manifests name (λ bytes. judges_manifest) b a told q said manifest has answer in
       inl (stands _ _ (one_members members e.bytes said manifest e.envelope) b s3.0 b a q s3.1 r (refl, lack) s3.2)
   check_always r (AtUpdateWidth said manifest taken has mem wide) =
       let e = has.in_envelope in
-      let s3 = manifest_passed envelopes manifests name judges_manifest b a told q said manifest has answer in
+      let s3 = manifest_passed envelopes manifests name (λ bytes. judges_manifest) b a told q said manifest has answer in
       let s4 = passes _ _ (one_members members e.bytes said manifest e.envelope) b s3.0 b a q s3.1 taken (refl, mem) s3.2 in
       inl (stands _ _ (one_narrow (update_tree manifest taken)) b s4.0 b a q s4.1 r (refl, wide) s4.2)
   check_always r (AtInvocationWidth said manifest taken has mem small wide) =
       let e = has.in_envelope in
-      let s3 = manifest_passed envelopes manifests name judges_manifest b a told q said manifest has answer in
+      let s3 = manifest_passed envelopes manifests name (λ bytes. judges_manifest) b a told q said manifest has answer in
       let s4 = passes _ _ (one_members members e.bytes said manifest e.envelope) b s3.0 b a q s3.1 taken (refl, mem) s3.2 in
       let s5 = passes _ _ (one_narrow (update_tree manifest taken)) b s4.0 b a q s4.1 tt (refl, small) s4.2 in
       inl (stands _ _ (one_narrow (invocation_tree manifest)) b s5.0 b a q s5.1 r (refl, wide) s5.2)
@@ -309,12 +317,12 @@ pub record IsShownOf (reply : Reply) : Type 0 where
   pub shown : IsShown said manifest key reply
 
 pub showed : (name key_name : List ℕ) (b a : Outside) (r : Reply) → shows name key_name b a (Says r) → Declining r.outcome ⊎ IsShownOf r
-showed name key_name b a r answer = of_reached (reaches name (shows_manifest key_name) b a r answer) where
+showed name key_name b a r answer = of_reached (reaches name (λ bytes. shows_manifest key_name) b a r answer) where
   of_rest : (said : EnvelopeSays) (manifest : Manifest) (m : Outside) → shows_manifest key_name said manifest m a (Says r) → Declining r.outcome ⊎ IsShownOf r
   of_rest said manifest m (Declines _ d) = inl (no_key_declines _ _ r d.1)
   of_rest said manifest m (Goes key m0 _ k (Ends _ same shown)) = inr (record { said = said; manifest = manifest; key = key; shown = shown })
 
-  of_reached : NoManifest name b r ⊎ Reached name (shows_manifest key_name) b a r → Declining r.outcome ⊎ IsShownOf r
+  of_reached : NoManifest name b r ⊎ Reached name (λ bytes. shows_manifest key_name) b a r → Declining r.outcome ⊎ IsShownOf r
   of_reached (inl none) = inl (no_manifest_declines name b r none)
   of_reached (inr at) = of_rest at.said at.manifest at.there at.on
 
@@ -450,30 +458,3 @@ not_nine_ending (Says r) is = not_nine r.outcome is
 not_nine_ending (FaultOf objects.Host) is = omega arith
 not_nine_ending (FaultOf objects.Flash) is = omega arith
 not_nine_ending NoMemory is = omega arith
-
--- ---- the answer to the words
-
--- a reply to words that are those of a task
-pub does_of : (words : List (List ℕ)) (b a : Outside) (r : Reply) (task : Task) → task_of words ≡ Some task → answers words b a (Says r) → does task b a (Says r)
-does_of words b a r task word (Declines _ d) = let never : None ≡ Some task = sym d.1.0 ∙ word in absurd cc
-does_of words b a r task word (Goes other m _ g rest) =
-    let same : other ≡ task = same_Some other task (sym g.1 ∙ word) in
-    subst (λ (o : Outside). does task o a (Says r)) g.0 (subst (λ (t : Task). does t m a (Says r)) same rest)
-
--- which of them judge
-pub judged_task : (words : List (List ℕ)) (b a : Outside) (r : Reply) → answers words b a (Says r) → r.outcome ≡ outcomes.Unsafe
-    → (name : List ℕ) × (task_of words ≡ Some (Check name)) × checks name b a (Says r)
-judged_task words b a r (Declines _ d) is = let never = sym d.1.1.outcome_is ∙ is in absurd cc
-judged_task words b a r (Goes (Check name) m _ g rest) is = (name, g.1, subst (λ (o : Outside). checks name o a (Says r)) g.0 rest)
-judged_task words b a r (Goes (Show name key) m _ g rest) is = absurd (of_show (showed name key m a r rest)) where
-  of_answer : (answer : Authenticity) → r.outcome ≡ authenticity_outcome answer → ⊥
-  of_answer authenticities.Yes e = let never = sym is ∙ e in cc
-  of_answer (authenticities.DigestDiffers stated found) e = let never = sym is ∙ e in cc
-  of_answer authenticities.NoMac e = let never = sym is ∙ e in cc
-  of_answer (authenticities.MacDiffers expected found) e = let never = sym is ∙ e in cc
-
-  of_show : Declining r.outcome ⊎ IsShownOf r → ⊥
-  of_show (inl d) = subst Declining is d
-  of_show (inr s) = of_answer s.shown.answer s.shown.outcome_is
-judged_task words b a r (Goes (RunInit device key) m _ g rest) is = absurd (plain_not r.outcome _ (inited device key m a r rest) is (λ d. d) (λ e. cc))
-judged_task words b a r (Goes RunStatus m _ g rest) is = absurd (plain_not r.outcome _ (stated m a r rest) is (λ d. d) (λ e. cc))

@@ -3,7 +3,7 @@ use Rattle.std.proofs.Common.{◌≡◌, ℕ, List, Some, refl, sym, ap, subst, 
 use Rattle.std.specs.Prelude.{IsTrue}
 use Rattle.suit_edge.specs.Faults.{Faulted}
 use Rattle.suit_cli.specs.declared.reply.Reply.{Reply}
-use Rattle.suit_cli.specs.Words.{Task, Check, Show, RunInit, RunStatus, task_of}
+use Rattle.suit_cli.specs.Words.{Task, Describe, Show, Check, RunInit, RunStatus, task_of}
 use Rattle.suit_cli.specs.declared.reply.Object.{Object}
 use Rattle.suit_cli.specs.declared.reply.Object.TheVariants as objects
 use Rattle.suit_cli.specs.Outside.{Outside, Flashed, Quiet, Reads, Fails, Looks, LooksInVain, with_flash}
@@ -12,7 +12,7 @@ use Rattle.flash_layout.specs.declared.key.Key.{Key}
 use Rattle.flash_layout.specs.declared.layout.Entry.{Entry}
 use Rattle.suit_cli.specs.Formatting.{formatting, FormatsInVain}
 use Rattle.suit_cli.specs.Inputs.{longest_file, longest_device, longest_key}
-use Rattle.suit_cli.specs.Commands.{checks, shows, inits, inits_as, tells_status, does}
+use Rattle.suit_cli.specs.Commands.{describes, shows, checks, inits, inits_as, tells_status, does}
 use Rattle.suit_cli.specs.Program.{answers, most_pulled}
 
 -- only an answer that is a fault counted one, of its object
@@ -59,7 +59,7 @@ not_flash is = cc
 not_host : objects.Flash ≡ objects.Host → ⊥
 not_host is = cc
 
-host_fault : (b a : Outside) → Faulted b.faults a.faults → a.flash ≡ b.flash → FaultedAt objects.Host b a
+pub host_fault : (b a : Outside) → Faulted b.faults a.faults → a.flash ≡ b.flash → FaultedAt objects.Host b a
 host_fault b a faulted same = record {
   host = λ is. faulted;
   only_host = λ never. absurd (never refl);
@@ -80,7 +80,7 @@ flash_fault b a faulted beside = record {
 pub same_quiet : (most : ℕ) (b a : Outside) → a ≡ b → Quiet most b a
 same_quiet most b a same = subst (λ (o : Outside). Quiet most b o) (sym same) (record { told = refl; files = λ t. refl; pulled = λ t. omega arith })
 
-same_counts : (b a : Outside) → a ≡ b → Unfaulted b a
+pub same_counts : (b a : Outside) → a ≡ b → Unfaulted b a
 same_counts b a same = record { host = ap (λ (o : Outside). o.faults) same; flash = ap (λ (o : Outside). o.flash.faults) same }
 
 same_calm : (most : ℕ) (b a : Outside) → a ≡ b → Calm most b a
@@ -98,10 +98,10 @@ beside_calm most b a beside faults =
 looks_calm : (b a : Outside) → Looks b a → Calm 0 b a
 looks_calm b a looks = beside_calm 0 b a looks.beside looks.faults
 
-quiet_more : (n m : ℕ) (b a : Outside) → Quiet n b a → Quiet (n + m) b a
+pub quiet_more : (n m : ℕ) (b a : Outside) → Quiet n b a → Quiet (n + m) b a
 quiet_more n m b a q = record { told = q.told; files = q.files; pulled = λ t. let h = q.pulled t in omega (arith, h) }
 
-quiet_then : (n m : ℕ) (b c a : Outside) → Quiet n b c → Quiet m c a → Quiet (n + m) b a
+pub quiet_then : (n m : ℕ) (b c a : Outside) → Quiet n b c → Quiet m c a → Quiet (n + m) b a
 quiet_then n m b c a first second =
     let later : IsTrue b.told → IsTrue c.told = λ t. subst IsTrue (sym first.told) t in
     record {
@@ -110,7 +110,7 @@ quiet_then n m b c a first second =
       pulled = λ t. let h = first.pulled t in let k = second.pulled (later t) in omega (arith, h, k);
     }
 
-counts_then : (e : Ending) (b c a : Outside) → Unfaulted b c → Counts e c a → Counts e b a
+pub counts_then : (e : Ending) (b c a : Outside) → Unfaulted b c → Counts e c a → Counts e b a
 counts_then (Says r) b c a first second = record { host = second.host ∙ first.host; flash = second.flash ∙ first.flash }
 counts_then NoMemory b c a first second = record { host = second.host ∙ first.host; flash = second.flash ∙ first.flash }
 counts_then (FaultOf object) b c a first second = record {
@@ -189,6 +189,11 @@ checks_keeps name =
     then_keeps 0 0 _ _ (judging_keeps _ _) (λ manifest. then_keeps 0 0 _ _ (judging_keeps _ _) (λ members. then_keeps 0 0 _ _ (judging_keeps _ _) (λ v.
     then_keeps 0 0 _ _ (judging_keeps _ _) (λ w. last_keeps _)))))))
 
+pub describes_keeps : (name : List ℕ) → Keeps (longest_file + 1) (describes name)
+describes_keeps name =
+    then_keeps 1048577 0 _ _ (reading_keeps _ _ _ _) (λ bytes. then_keeps 0 0 _ _ (judging_keeps _ _) (λ said. then_keeps 0 0 _ _ (judging_keeps _ _) (λ u.
+    then_keeps 0 0 _ _ (judging_keeps _ _) (λ manifest. then_keeps 0 0 _ _ (judging_keeps _ _) (λ members. then_keeps 0 0 _ _ (judging_keeps _ _) (λ v. last_keeps _))))))
+
 pub shows_keeps : (name key_name : List ℕ) → Keeps ((longest_file + 1) + (longest_key + 1)) (shows name key_name)
 shows_keeps name key_name =
     then_keeps 1048577 65 _ _ (reading_keeps _ _ _ _) (λ bytes. then_keeps 0 65 _ _ (judging_keeps _ _) (λ said. then_keeps 0 65 _ _ (judging_keeps _ _) (λ u.
@@ -199,23 +204,8 @@ inits_as_keeps size device key_name =
     then_keeps 65537 65 _ _ (reading_keeps _ _ _ _) (λ bytes. then_keeps 0 65 _ _ (judging_keeps _ _) (λ layout. then_keeps 65 0 _ _ (reading_keeps _ _ _ _) (λ key.
     then_keeps 0 0 _ _ (formatting_keeps layout _) (λ u. said_keeps _))))
 
-inits_keeps : (device key_name : List ℕ) → Keeps ((longest_device + 1) + (longest_key + 1)) (inits device key_name)
+pub inits_keeps : (device key_name : List ℕ) → Keeps ((longest_device + 1) + (longest_key + 1)) (inits device key_name)
 inits_keeps device key_name = then_keeps 0 65602 _ _ (looking_keeps _ _) (λ size. inits_as_keeps size device key_name)
 
-tells_keeps : Keeps 0 tells_status
+pub tells_keeps : Keeps 0 tells_status
 tells_keeps = then_keeps 0 0 _ _ (looking_keeps _ _) (λ config. then_keeps 0 0 _ _ (looking_keeps _ _) (λ installed. then_keeps 0 0 _ _ (looking_keeps _ _) (λ lines. last_keeps _)))
-
-does_keeps : (task : Task) → Keeps (most_pulled (Some task)) (does task)
-does_keeps (Check name) = checks_keeps name
-does_keeps (Show name key_name) = shows_keeps name key_name
-does_keeps (RunInit device key_name) = inits_keeps device key_name
-does_keeps RunStatus = tells_keeps
-
-pub answers_keeps : (words : List (List ℕ)) → Keeps (most_pulled (task_of words)) (answers words)
-answers_keeps words b a _ (Goes task c e g rest) =
-    let kept = does_keeps task c a e rest in
-    let from : KeptBy (most_pulled (Some task)) e b a = subst (λ (o : Outside). KeptBy (most_pulled (Some task)) e o a) g.0 kept in
-    subst (λ (t : _). KeptBy (most_pulled t) e b a) (sym g.1) from
-answers_keeps words b a _ (Declines r d) = record { quiet = same_quiet _ b a d.0; counts = same_counts b a d.0 }
-answers_keeps words b a _ (Faults object f) = absurd f
-answers_keeps words b a _ (Lacks l) = record { quiet = same_quiet _ b a l; counts = same_counts b a l }

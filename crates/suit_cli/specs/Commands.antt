@@ -3,12 +3,14 @@ use Rattle.std.specs.Prelude.{ℕ, List}
 use Rattle.suit_envelope.specs.Envelopes.{EnvelopeSays}
 use Rattle.suit_manifest.specs.declared.manifest.Manifest.{Manifest}
 use Rattle.suit_manifest.specs.Procedures.{update_tree, invocation_tree}
-use Rattle.suit_cli.specs.Words.{Task, Check, Show, RunInit, RunStatus}
+use Rattle.suit_cli.specs.Words.{Task, Make, Describe, Show, Check, RunInit, RunStatus}
 use Rattle.suit_cli.specs.Stages.{Answers, ◌>>=◌, Last}
 use Rattle.suit_cli.specs.Inputs.{longest_file, longest_device, file, key_in}
 use Rattle.suit_cli.specs.Envelopes.{envelope_in, short, manifest_in, members_in}
 use Rattle.suit_cli.specs.Judgement.{narrow, AreJudged}
 use Rattle.suit_cli.specs.Shown.{IsShown}
+use Rattle.suit_cli.specs.Describing.{there_in, text_in, IsDescribed}
+use Rattle.suit_cli.specs.Authoring.{longest_description, description_in, makes_described}
 use Rattle.suit_cli.specs.Devices.{device_in, key_of}
 use Rattle.suit_cli.specs.Formatting.{unused, formats}
 use Rattle.suit_cli.specs.Installed.{config_in, record_in, lines_in, IsStatus}
@@ -21,8 +23,8 @@ in_file bytes next =
     manifest_in said >>= λ manifest.
     next said manifest
 
-abbrev pub in_manifest : List ℕ → (EnvelopeSays → Manifest → Answers) → Answers
-in_manifest name next = file longest_file name >>= λ bytes. in_file bytes next
+abbrev pub in_manifest : List ℕ → (List ℕ → EnvelopeSays → Manifest → Answers) → Answers
+in_manifest name next = file longest_file name >>= λ bytes. in_file bytes (next bytes)
 
 -- `check FILE`: the members, the widths of both procedures, and their paths
 abbrev pub judges_manifest : EnvelopeSays → Manifest → Answers
@@ -36,7 +38,7 @@ abbrev pub judges_file : List ℕ → Answers
 judges_file bytes = in_file bytes judges_manifest
 
 abbrev pub checks : List ℕ → Answers
-checks name = in_manifest name judges_manifest
+checks name = in_manifest name (λ bytes. judges_manifest)
 
 -- `show FILE KEY`: the key, and then the lines
 abbrev pub shows_manifest : List ℕ → EnvelopeSays → Manifest → Answers
@@ -46,7 +48,27 @@ abbrev pub shows_file : List ℕ → List ℕ → Answers
 shows_file bytes key_name = in_file bytes (shows_manifest key_name)
 
 abbrev pub shows : List ℕ → List ℕ → Answers
-shows name key_name = in_manifest name (shows_manifest key_name)
+shows name key_name = in_manifest name (λ bytes. shows_manifest key_name)
+
+-- `show FILE`: the members that are there, the text, and then the description
+abbrev pub describes_manifest : List ℕ → EnvelopeSays → Manifest → Answers
+describes_manifest bytes said manifest =
+    there_in said manifest >>= λ members.
+    text_in said manifest >>= λ _.
+    Last (IsDescribed bytes said manifest members)
+
+abbrev pub describes_file : List ℕ → Answers
+describes_file bytes = in_file bytes (describes_manifest bytes)
+
+abbrev pub describes : List ℕ → Answers
+describes name = in_manifest name describes_manifest
+
+-- `make DESCRIPTION KEY OUT`: the description, the key, the named files, the envelope, and its store
+abbrev pub makes : List ℕ → List ℕ → List ℕ → Answers
+makes description key_name out =
+    file longest_description description >>= λ bytes.
+    description_in bytes >>= λ value.
+    makes_described value key_name out
 
 -- `run init DEVICE KEY`: the gate, the device's description, the key, and the format
 abbrev pub inits_as : ℕ → List ℕ → List ℕ → Answers
@@ -68,7 +90,9 @@ tells_status =
     Last (IsStatus installed lines)
 
 abbrev pub does : Task → Answers
-does (Check name) = checks name
+does (Make description key_name out) = makes description key_name out
+does (Describe name) = describes name
 does (Show name key_name) = shows name key_name
+does (Check name) = checks name
 does (RunInit device key_name) = inits device key_name
 does RunStatus = tells_status

@@ -10,11 +10,15 @@ pub mod Envelopes
 pub mod Accepting
 pub mod Judgement
 pub mod Shown
+pub mod Describing
 pub mod Devices
+pub mod Authoring
 pub mod Formatting
 pub mod Installed
 pub mod Commands
 pub mod Holding
 pub mod CommandLaws
+pub mod DescribingLaws
+pub mod MakeLaws
 pub mod FlashLaws
 pub mod Program

@@ -1,5 +1,5 @@
 -- What a command finds outside of it, and what it leaves there.
-use Rattle.std.specs.Prelude.{◌≡◌, ◌⊎◌, ◌≤◌, ◌+◌, ℕ, Bool, IsTrue, List, [], ◌∷◌, ◌++◌, Option}
+use Rattle.std.specs.Prelude.{◌≡◌, ◌≢◌, ◌⊎◌, ◌≤◌, ◌+◌, ℕ, Bool, IsTrue, List, [], ◌∷◌, ◌++◌, Option, Some, None}
 use Rattle.suit_edge.specs.Faults.{Faulted}
 
 -- the bytes of the files, by their names
@@ -50,6 +50,40 @@ pub record Fails (most : ℕ) (name : List ℕ) (before after : Outside) : Type 
   pub asks : MayAsk name before after
   pub faulted : Faulted before.faults after.faults
   pub flash : after.flash ≡ before.flash
+
+-- ---- a file that is stored
+
+-- nothing changed but the file with this name, and perhaps the count of faults
+pub record LeavesOthers (name : List ℕ) (before after : Outside) : Type 0 where
+  pub told : after.told ≡ before.told
+  pub others : IsTrue before.told → (other : List ℕ) → other ≢ name → after.files other ≡ before.files other
+  pub pulled : IsTrue before.told → after.pulled ≡ before.pulled
+  pub asked : IsTrue before.told → after.asked ≡ before.asked
+  pub flash : after.flash ≡ before.flash
+
+-- it has these bytes, and no fault was counted
+pub record Stores (name bytes : List ℕ) (before after : Outside) : Type 0 where
+  pub beside : LeavesOthers name before after
+  pub file : IsTrue before.told → after.files name ≡ Some bytes
+  pub faults : after.faults ≡ before.faults
+
+-- or the host counted one, and nothing is known of that file
+pub record StoresInVain (name : List ℕ) (before after : Outside) : Type 0 where
+  pub beside : LeavesOthers name before after
+  pub faulted : Faulted before.faults after.faults
+
+-- ---- what is left of the files
+
+-- all are as they were, or all but the one with this name
+abbrev pub FilesStay : Option (List ℕ) → Files → Files → Type 0
+FilesStay None before after = after ≡ before
+FilesStay (Some name) before after = (other : List ℕ) → other ≢ name → after other ≡ before other
+
+-- they are so, and at most so many bytes were pulled
+pub record Leaves (most : ℕ) (stored : Option (List ℕ)) (before after : Outside) : Type 0 where
+  pub told : after.told ≡ before.told
+  pub files : IsTrue before.told → FilesStay stored before.files after.files
+  pub pulled : IsTrue before.told → after.pulled ≤ before.pulled + most
 
 -- ---- the flash
 

@@ -5,12 +5,13 @@ use Rattle.suit_edge.specs.Flash.{Flash, Now}
 use Rattle.suit_commands.specs.Tree.{PlanTree}
 use Rattle.suit_cli.specs.declared.reply.Outcome.TheVariants as outcomes
 use Rattle.suit_cli.specs.Texts.{usage_line}
-use Rattle.suit_cli.specs.Words.{Task, Check, Show, RunInit, RunStatus, task_of}
+use Rattle.suit_cli.specs.Words.{Task, Make, Describe, Show, Check, RunInit, RunStatus, task_of}
 use Rattle.suit_cli.specs.Replies.{IsReply}
-use Rattle.suit_cli.specs.Outside.{Outside, Sunk}
+use Rattle.suit_cli.specs.Outside.{Outside, Files, Sunk, Leaves}
 use Rattle.suit_cli.specs.Stages.{Stage, judging, Ending, Answers, ◌>>=◌}
 use Rattle.suit_cli.specs.Statuses.{ending_status, ending_text, sink_fault_status}
 use Rattle.suit_cli.specs.Inputs.{longest_file, longest_device, longest_key}
+use Rattle.suit_cli.specs.Authoring.{longest_description, names_held, most_named}
 use Rattle.suit_cli.specs.Judgement.{AreSafe, ShowUnsafe}
 use Rattle.suit_cli.specs.Holding.{HasProcedures}
 use Rattle.suit_cli.specs.Formatting.{MayLeave}
@@ -101,15 +102,30 @@ pub record IsCutOff (words : List (List ℕ)) (before after : Outside) (sunk_bef
   pub answer : answers words before after ending
   pub puts : IsTrue sunk_before.told → (n : ℕ) × (sunk_after.put ≡ sunk_before.put ++ take n (ending_text ending))
 
--- ---- how much is pulled
+-- ---- what is left of the files
 
--- of each file at most one byte more than its limit
-abbrev pub most_pulled : Option Task → ℕ
-most_pulled None = 0
-most_pulled (Some (Check name)) = longest_file + 1
-most_pulled (Some (Show name key)) = (longest_file + 1) + (longest_key + 1)
-most_pulled (Some (RunInit device key)) = (longest_device + 1) + (longest_key + 1)
-most_pulled (Some RunStatus) = 0
+-- how much is pulled: of each file at most one byte more than its limit. `make` reads the files that its description names.
+abbrev pub most_pulled : Option Task → Files → ℕ
+most_pulled None files = 0
+most_pulled (Some (Make description key out)) files = (longest_description + 1) + ((longest_key + 1) + most_named (names_held (files description)))
+most_pulled (Some (Describe name)) files = longest_file + 1
+most_pulled (Some (Show name key)) files = (longest_file + 1) + (longest_key + 1)
+most_pulled (Some (Check name)) files = longest_file + 1
+most_pulled (Some (RunInit device key)) files = (longest_device + 1) + (longest_key + 1)
+most_pulled (Some RunStatus) files = 0
+
+-- the file that is stored
+abbrev pub stored_by : Option Task → Option (List ℕ)
+stored_by None = None
+stored_by (Some (Make description key out)) = Some out
+stored_by (Some (Describe name)) = None
+stored_by (Some (Show name key)) = None
+stored_by (Some (Check name)) = None
+stored_by (Some (RunInit device key)) = None
+stored_by (Some RunStatus) = None
+
+abbrev pub LeavesFor : List (List ℕ) → Outside → Outside → Type 0
+LeavesFor words before after = Leaves (most_pulled (task_of words) before.files) (stored_by (task_of words)) before after
 
 -- ---- power losses
 

@@ -1,5 +1,5 @@
 -- An answer is made in stages, one after another.
-use Rattle.std.specs.Prelude.{◌≡◌, ℕ, List, Result, Ok, Err}
+use Rattle.std.specs.Prelude.{◌≡◌, ◌⊎◌, ℕ, List, Result, Ok, Err}
 use Rattle.suit_cli.specs.declared.reply.Object.{Object}
 use Rattle.suit_cli.specs.declared.reply.Object.TheVariants as objects
 use Rattle.suit_cli.specs.declared.reply.Reply.{Reply}
@@ -59,6 +59,24 @@ looking good bad = record {
   declines = λ before after reply. Looks before after × bad before.flash reply;
   faults = at_flash LooksInVain;
   lacks = Looks;
+}
+
+-- ---- two stages as one
+
+-- the first gives a value, and this is said of it from then on
+pub record After {A : Type 0} (first : Stage A) (says : A → Outside → Outside → Type 0) (before after : Outside) : Type 0 where
+  pub value : A
+  pub middle : Outside
+  pub given : first.gives before middle value
+  pub later : says value middle after
+
+-- one and then another; memory may be wanting before them
+abbrev pub in_turn : {A B : Type 0} → Stage A → (A → Stage B) → Stage B
+in_turn first next = record {
+  gives = λ before after b. After first (λ a m n. (next a).gives m n b) before after;
+  declines = λ before after reply. first.declines before after reply ⊎ After first (λ a m n. (next a).declines m n reply) before after;
+  faults = λ object before after. first.faults object before after ⊎ After first (λ a m n. (next a).faults object m n) before after;
+  lacks = λ before after. (after ≡ before) ⊎ (first.lacks before after ⊎ After first (λ a m n. (next a).lacks m n) before after);
 }
 
 -- ---- one stage after another

@@ -25,6 +25,7 @@ const LONGEST_TRIMMED: u64 = 16_384;
 pub(crate) fn envelope_in(alloc: Global, bytes: &[u8]) -> Result<Envelope<'_>, Stop>
     ensures finds { FindsEnvelope bytes.now result }
     ensures wrapper { IfOk result (λ e. HasWrapper e.wrapper.now) }
+    ensures whole { IfOk result (λ e. e.whole.now ≡ bytes.now) }
 {
     match decode_envelope(bytes) {
         Ok(envelope) => Ok(envelope),
@@ -65,8 +66,8 @@ fn name_text(name: MemberName) -> &'static str
     }
 }
 
-// A reply that a member differs.
-fn differs(alloc: Global, name: MemberName) -> Result<Reply, AllocError>
+/// A reply that a member differs.
+pub(crate) fn differs(alloc: Global, name: MemberName) -> Result<Reply, AllocError>
     ensures { Makes result outcomes.Differs (differs_line name) }
 {
     let name = name_text(name);
@@ -77,8 +78,8 @@ fn differs(alloc: Global, name: MemberName) -> Result<Reply, AllocError>
     })
 }
 
-// Why a member is not taken.
-fn lack(alloc: Global, fault: MemberFault) -> Stop
+/// Why a member is not taken.
+pub(crate) fn lack(alloc: Global, fault: MemberFault) -> Stop
     ensures { TellsFault fault result }
 {
     match fault {

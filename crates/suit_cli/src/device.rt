@@ -12,7 +12,8 @@ use flash_layout::{Key, Layout, LayoutFault, layout_of};
 use serde_json::Value;
 use std::alloc::{AllocError, Global};
 
-fn pointed_line(alloc: Global, word: &str, pointer: &str) -> Result<String, AllocError>
+/// A word, and the place of a value.
+pub(crate) fn pointed_line(alloc: Global, word: &str, pointer: &str) -> Result<String, AllocError>
     ensures { IfOk result (λ t. string_bytes t ≡ pointed_line word.now pointer.now) }
 {
     format!(in alloc; "{word} {pointer}\n")

@@ -1,6 +1,8 @@
 //! What holds of the answers of each command, whatever makes them.
 
 ghost use Rattle.suit_cli.specs.CommandLaws.{CheckLaws, ShowLaws};
+ghost use Rattle.suit_cli.specs.DescribingLaws.{DescribingLaws};
+ghost use Rattle.suit_cli.specs.MakeLaws.{MakeLaws};
 ghost use Rattle.suit_cli.specs.FlashLaws.{InitLaws, StatusLaws};
 
 use flash_layout::config_laws;
@@ -28,6 +30,24 @@ pub fn show_laws()
     envelope_laws();
     manifest_laws();
 }
+
+/// Does nothing. Its contract has the laws of `show FILE` over a host that tells what it holds: each reply has its cause
+/// in the file, and where a cause stands, each answer is that reply, unless the host failed or memory was wanting.
+pub fn describing_laws()
+    ensures { DescribingLaws }
+{
+    envelope_laws();
+    manifest_laws();
+    members_laws();
+}
+
+/// Does nothing. Its contract has the laws of `make DESCRIPTION KEY OUT` over a host that tells what it holds: each reply
+/// has its cause, in the order of the checks, and where a cause stands, each answer is that reply, unless the host failed
+/// or memory was wanting. Where it is done, the described envelope is stored, authentic under the key; otherwise, and
+/// after want of memory, the files are as they were; and whatever it ends with, so are all but the one that it names.
+pub fn make_laws()
+    ensures { MakeLaws }
+{}
 
 /// Does nothing. Its contract has the laws of `run init DEVICE KEY`: each reply has its cause, in the order of the checks,
 /// and where a cause stands, each answer is that reply, unless an object failed or memory was wanting. Where it is done,

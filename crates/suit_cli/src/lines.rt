@@ -120,7 +120,8 @@ fn image_texts(
     format!(in alloc; "{word} {component} {digest} {size}\n")
 }
 
-fn number_line(alloc: Global, word: &str, number: u64) -> Result<String, AllocError>
+/// A word and a number.
+pub(crate) fn number_line(alloc: Global, word: &str, number: u64) -> Result<String, AllocError>
     ensures { IfOk result (λ t. string_bytes t ≡ number_line word.now number) }
 {
     format!(in alloc; "{word} {number}\n")

@@ -1,12 +1,12 @@
 //! The top call: all that the program does.
 
-ghost use Rattle.std.specs.Prelude.{◌≡◌, ◌≤◌, IsTrue, List, ℕ, None};
+ghost use Rattle.std.specs.Prelude.{◌≡◌, ◌≤◌, IsTrue, List, ℕ, Some, None};
 ghost use Rattle.suit_edge.specs.Flash.{Passes};
 ghost use Rattle.flash_layout.specs.declared.frame.TheConstants.{VERSION_1};
 ghost use Rattle.suit_commands.specs.Tree.{PlanTree};
-ghost use Rattle.suit_cli.specs.Words.{task_of};
-ghost use Rattle.suit_cli.specs.Outside.{Quiet};
+ghost use Rattle.suit_cli.specs.Words.{task_of, task_said};
 ghost use Rattle.suit_cli.specs.Stages.{Ending, ending_of};
+ghost use Rattle.suit_cli.specs.Commands.{does};
 ghost use Rattle.suit_cli.specs.Judgement.{AreSafe};
 ghost use Rattle.suit_cli.specs.Program.{
   answers,
@@ -22,17 +22,19 @@ ghost use Rattle.suit_cli.specs.Program.{
   IsUsage,
   IsCutOff,
   AreCounted,
+  LeavesFor,
   MayBeLeft,
-  most_pulled,
 };
 
 use crate::check::check;
 use crate::init::init;
+use crate::make::make_envelope;
 use crate::outside::{SeenDisk, SeenHost, SeenSink};
 use crate::reply::{Outcome, Reply, Stop, declined};
 use crate::show::show;
+use crate::show_description::show_description;
 use crate::status::status;
-use crate::words::{Command, command_of};
+use crate::words::{Command, command_of, lent};
 use det_cbor::Names;
 use std::alloc::Global;
 use suit_edge::{Disk, Edge, Host, Sink};
@@ -45,6 +47,32 @@ pub struct Status(pub u8);
 
 const USAGE: &str =
     "usage: suit make DESCRIPTION KEY OUT | show FILE [KEY] | check FILE | run init DEVICE KEY | run update FILE [URI=NAME]... | run boot | run status | drill NUMBER\n";
+
+// The answer to a command.
+fn perform<H: Host, D: Disk>(
+    alloc: Global,
+    command: Command<'_>,
+    host: &mut H,
+    flash: &mut D,
+) -> Result<Reply, Stop>
+    requires { VERSION_1.size ≤ D.extent flash.old }
+    ensures answer { does (task_said command.entry)
+        (⟦<H as SeenHost>⟧.seen host.old (⟦<D as SeenDisk>⟧.seen flash.old))
+        (⟦<H as SeenHost>⟧.seen host.new (⟦<D as SeenDisk>⟧.seen flash.new)) (ending_of result) }
+    ensures extent { D.extent flash.new ≡ D.extent flash.old }
+    ensures any_moment { IsTrue D.told → Passes (D.flash flash.old) (D.flash flash.new)
+        (MayBeLeft (Some (task_said command.entry))
+        (⟦<H as SeenHost>⟧.seen host.old (⟦<D as SeenDisk>⟧.seen flash.old)) (D.flash flash.old)) }
+{
+    match command {
+        Command::Make(description, key, out) => make_envelope(alloc, description, key, out, host),
+        Command::Describe(name) => show_description(alloc, name, host),
+        Command::Show(name, key) => show(alloc, name, key, host),
+        Command::Check(name) => check(alloc, name, host),
+        Command::RunInit(device, key) => init(alloc, device, key, host, flash),
+        Command::RunStatus => status(alloc, flash),
+    }
+}
 
 // The answer to the words.
 fn answer<H: Host, D: Disk>(
@@ -62,12 +90,10 @@ fn answer<H: Host, D: Disk>(
         (MayBeLeft (task_of words.now)
         (⟦<H as SeenHost>⟧.seen host.old (⟦<D as SeenDisk>⟧.seen flash.old)) (D.flash flash.old)) }
 {
-    match command_of(words) {
+    let words = lent(alloc, words)?;
+    match command_of(alloc, words.as_slice())? {
         None => Err(declined(Reply::fixed(alloc, Outcome::Usage, USAGE))),
-        Some(Command::Check(name)) => check(alloc, name, host),
-        Some(Command::Show(name, key)) => show(alloc, name, key, host),
-        Some(Command::RunInit(device, key)) => init(alloc, device, key, host, flash),
-        Some(Command::RunStatus) => status(alloc, flash),
+        Some(command) => perform(alloc, command, host, flash),
     }
 }
 
@@ -133,8 +159,8 @@ pub fn run<H: Host, D: Disk, K: Sink>(
         IsUsage words.now (⟦<K as SeenSink>⟧.seen out.old) (⟦<K as SeenSink>⟧.seen out.new) }
     ensures only_usage { task_of words.now ≡ None → EndsIn 2 result.0 }
 
-    // No file changes, and so much is pulled of them.
-    ensures stays { Quiet (most_pulled (task_of words.now))
+    // No file changes but the one that `make` stores, and so much is pulled of them.
+    ensures stays { LeavesFor words.now
         (⟦<H as SeenHost>⟧.seen host.old (⟦<D as SeenDisk>⟧.seen flash.old))
         (⟦<H as SeenHost>⟧.seen host.new (⟦<D as SeenDisk>⟧.seen flash.new)) }
 

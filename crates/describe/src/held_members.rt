@@ -1,0 +1,101 @@
+//! The members that stand apart from their manifest, as far as its envelope holds them.
+
+ghost use Rattle.std.specs.Prelude.{◌≡◌, ◌<◌, ◌^◌, length, IfOk, IfErr, option_map};
+ghost use Rattle.suit_envelope.specs.Places.{MembersEndBelow};
+ghost use Rattle.suit_envelope.specs.Said.{said_by};
+ghost use Rattle.suit_manifest.specs.declared.manifest.Members.{Members};
+ghost use Rattle.suit_manifest.specs.declared.members.MemberFault.{MemberFault};
+ghost use Rattle.suit_manifest.specs.MembersApart.{HasMembers, LacksMembers, IsLackBy, IsTakenAs, IsLackedAs};
+ghost use Rattle.describe.specs.Again.{AreThere};
+ghost use Rattle.describe.specs.MembersThere.{if_held, only_there};
+
+use std::alloc::{AllocError, Global};
+use suit_envelope::Envelope;
+use suit_manifest::{Manifest, Member, MemberFault, Members, TextMember, members_of};
+use suit_params::{Identifier, Identifiers};
+
+fn copied(alloc: Global, identifier: &Identifier) -> Result<Identifier, AllocError>
+    ensures { IfOk result (λ copy. copy ≡ identifier.now) }
+{
+    let mut copy = Identifier::new(alloc);
+    for part in identifier.as_slice() {
+        copy.push(part.copy(alloc)?)?;
+    }
+    Ok(copy)
+}
+
+fn all_copied(alloc: Global, identifiers: &Identifiers) -> Result<Identifiers, AllocError>
+    ensures { IfOk result (λ copies. copies ≡ identifiers.now) }
+{
+    let mut copies = Identifiers::new(alloc);
+    for identifier in identifiers.as_slice() {
+        copies.push(copied(alloc, identifier)?)?;
+    }
+    Ok(copies)
+}
+
+// A member that stands apart, where the envelope holds it.
+fn if_held(held: Option<&[u8]>, member: &Member) -> Member
+    ensures { result ≡ if_held (option_map (λ s. s.now) held.entry) member.now }
+{
+    match held {
+        None => Member::Empty,
+        Some(_) => match member {
+            Member::Empty => Member::Empty,
+            Member::Here(_) => Member::Empty,
+            Member::Apart(stated) => Member::Apart(*stated),
+        },
+    }
+}
+
+// The manifest with those of its members that stand apart and are held, and no other.
+fn only_there(
+    alloc: Global,
+    envelope: &Envelope<'_>,
+    manifest: &Manifest,
+) -> Result<Manifest, AllocError>
+    ensures { IfOk result (λ m. m ≡ only_there (said_by envelope.now) manifest.now) }
+{
+    Ok(Manifest {
+        sequence: manifest.sequence,
+        components: all_copied(alloc, &manifest.components)?,
+        shared: None,
+        reference: None,
+        validate: None,
+        load: None,
+        invoke: None,
+        payload_fetch: if_held(envelope.payload_fetch, &manifest.payload_fetch),
+        install: if_held(envelope.install, &manifest.install),
+        text: TextMember::Empty,
+    })
+}
+
+/// The members whose digests the manifest states and which the envelope holds: as `members_of`, but what the envelope
+/// does not hold is left out and not told. So `Severed` never comes.
+///
+/// Needs fewer than 2^32 components, and an envelope whose members end at places below 2^64, as each that
+/// `decode_envelope` gives does.
+pub fn members_there(
+    alloc: Global,
+    envelope: &Envelope<'_>,
+    manifest: &Manifest,
+) -> Result<Members, MemberFault>
+    requires few { length manifest.now.components < 2 ^ 32 }
+    requires places { MembersEndBelow (2 ^ 64) (said_by envelope.now) }
+    ensures ok { IfOk result
+        (HasMembers (said_by envelope.now) (only_there (said_by envelope.now) manifest.now)) }
+    ensures refused { IfErr result (IsLackBy
+        (LacksMembers (said_by envelope.now) (only_there (said_by envelope.now) manifest.now))) }
+    ensures every_members { (members : Members)
+        → HasMembers (said_by envelope.now) (only_there (said_by envelope.now) manifest.now) members
+        → IsTakenAs members result }
+    ensures every_fault { (fault : MemberFault)
+        → LacksMembers (said_by envelope.now) (only_there (said_by envelope.now) manifest.now) fault
+        → IsLackedAs fault result }
+    ensures there { IfOk result (AreThere (said_by envelope.now) manifest.now) }
+{
+    match only_there(alloc, envelope, manifest) {
+        Ok(there) => members_of(alloc, envelope, &there),
+        Err(_) => Err(MemberFault::NoMemory),
+    }
+}

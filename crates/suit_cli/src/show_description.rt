@@ -1,0 +1,129 @@
+//! The command `show` without a key: the description of an envelope.
+
+ghost use Rattle.std.specs.Prelude.{◌≡◌, ◌<◌, ◌≤◌, ◌^◌, ◌+◌, ℕ, List, IfOk, length, string_bytes};
+ghost use Rattle.serde_json.specs.Written.{compact_text};
+ghost use Rattle.suit_envelope.specs.Said.{said_by};
+ghost use Rattle.suit_envelope.specs.Payloads.{HasPayloads};
+ghost use Rattle.suit_envelope.specs.Places.{MembersEndBelow};
+ghost use Rattle.describe.specs.Describing.{described_by};
+ghost use Rattle.suit_cli.specs.Outside.{Flashed};
+ghost use Rattle.suit_cli.specs.Stages.{Finds, Tells, ending_of};
+ghost use Rattle.suit_cli.specs.Inputs.{longest_file};
+ghost use Rattle.suit_cli.specs.Envelopes.{ManifestOf};
+ghost use Rattle.suit_cli.specs.Describing.{there_in, text_in, IsDescribed};
+ghost use Rattle.suit_cli.specs.Commands.{describes_manifest, describes_file, describes};
+
+#[cfg(test)]
+mod tests;
+
+use crate::accept::{differs, envelope_in, lack, manifest_in, short};
+use crate::input::{LONGEST_FILE, read};
+use crate::outside::SeenHost;
+use crate::reply::{Outcome, Reply, Stop, declined};
+use describe::{describe, describe_laws, members_there};
+use det_cbor::Text;
+use std::alloc::{AllocError, Global};
+use suit_edge::Host;
+use suit_envelope::{Envelope, MemberBytes, MemberName, envelope_laws, member};
+use suit_manifest::{Manifest, Members, TextMember};
+
+// The members that stand apart, as far as the envelope holds them.
+fn there_in(alloc: Global, envelope: &Envelope<'_>, manifest: &Manifest) -> Result<Members, Stop>
+    requires few { length manifest.now.components < 2 ^ 32 }
+    requires places { MembersEndBelow (2 ^ 64) (said_by envelope.now) }
+    ensures { Finds (there_in (said_by envelope.now) manifest.now) result }
+{
+    match members_there(alloc, envelope, manifest) {
+        Ok(members) => Ok(members),
+        Err(fault) => Err(lack(alloc, fault)),
+    }
+}
+
+// Whether the text is the one that the manifest states.
+fn text_in(alloc: Global, envelope: &Envelope<'_>, manifest: &Manifest) -> Result<(), Stop>
+    ensures { Finds (text_in (said_by envelope.now) manifest.now) result }
+{
+    match &manifest.text {
+        TextMember::Empty => Ok(()),
+        TextMember::Here(_) => Ok(()),
+        TextMember::Apart(stated) => match member(envelope, MemberName::Text, stated) {
+            MemberBytes::Got(_) => Ok(()),
+            MemberBytes::Severed => Ok(()),
+            MemberBytes::Differs { .. } => Err(declined(differs(alloc, MemberName::Text))),
+        },
+    }
+}
+
+// The text of the description.
+fn description_text(
+    alloc: Global,
+    envelope: &Envelope<'_>,
+    manifest: &Manifest,
+    members: &Members,
+) -> Result<String, AllocError>
+    ensures { IfOk result (λ text. (payloads : List (List ℕ × List ℕ)) → HasPayloads envelope.now.whole.now payloads
+        → string_bytes text ≡ compact_text (described_by (said_by envelope.now) payloads manifest.now members.now)) }
+{
+    describe_laws();
+    describe(alloc, envelope, manifest, members)?.to_string(alloc)
+}
+
+// The description, as a line.
+fn described(
+    alloc: Global,
+    envelope: &Envelope<'_>,
+    manifest: &Manifest,
+    members: &Members,
+) -> Result<Reply, AllocError>
+    ensures { IfOk result
+        (IsDescribed envelope.now.whole.now (said_by envelope.now) manifest.now members.now) }
+{
+    let mut text = Text::from_string(description_text(alloc, envelope, manifest, members)?);
+    text.push_str("\n")?;
+    Ok(Reply {
+        outcome: Outcome::Done,
+        text,
+    })
+}
+
+// The members, the text, and the description.
+fn describe_manifest(
+    alloc: Global,
+    envelope: &Envelope<'_>,
+    manifest: &Manifest,
+) -> Result<Reply, Stop>
+    requires places { MembersEndBelow (2 ^ 64) (said_by envelope.now) }
+    requires manifest { ManifestOf (said_by envelope.now) manifest.now }
+    ensures { Tells
+        (describes_manifest envelope.now.whole.now (said_by envelope.now) manifest.now) result }
+{
+    let members = there_in(alloc, envelope, manifest)?;
+    text_in(alloc, envelope, manifest)?;
+    Ok(described(alloc, envelope, manifest, &members)?)
+}
+
+// Of a file's bytes.
+fn describe_file(alloc: Global, bytes: &[u8]) -> Result<Reply, Stop>
+    requires { length bytes.now ≤ longest_file }
+    ensures { Tells (describes_file bytes.now) result }
+{
+    envelope_laws();
+    let envelope = envelope_in(alloc, bytes)?;
+    short(alloc, &envelope)?;
+    let manifest = manifest_in(alloc, &envelope)?;
+    describe_manifest(alloc, &envelope, &manifest)
+}
+
+/// The reply to `show NAME`.
+pub(crate) fn show_description<H: Host>(
+    alloc: Global,
+    name: &str,
+    host: &mut H,
+) -> Result<Reply, Stop>
+    ensures { (flash : Flashed) → describes name.now
+        (⟦<H as SeenHost>⟧.seen host.old flash) (⟦<H as SeenHost>⟧.seen host.new flash)
+        (ending_of result) }
+{
+    let bytes = read(alloc, name, LONGEST_FILE, host)?;
+    describe_file(alloc, bytes.as_slice())
+}
