@@ -1,5 +1,5 @@
 -- What an update is answered with, by how its procedure ended and by what came behind it.
-use Rattle.std.proofs.Common.{◌≡◌, ◌⊎◌, inl, inr, ⊎_elim, ◌<◌, ◌≤◌, ℕ, ◌+◌, ◌-◌, ◌^◌, List, [], length, Option, Some, None, IfSome, refl, sym, ◌∙◌, ap, subst, arith}
+use Rattle.std.proofs.Common.{◌≡◌, ⊎_elim, ◌<◌, ◌≤◌, ℕ, ◌-◌, ◌^◌, List, Option, Some, None, IfSome, refl, sym, ◌∙◌, ap, subst, arith}
 use Rattle.std.specs.Prelude.{◌≢◌}
 use Rattle.suit_edge.specs.Faults.{Faulted}
 use Rattle.suit_edge.specs.declared.launch.Launch.{Launch}
@@ -9,7 +9,6 @@ use Rattle.path_model.specs.declared.cause.Cause.TheVariants as causes
 use Rattle.flash_layout.specs.declared.frame.TheConstants.{VERSION_1}
 use Rattle.flash_layout.specs.declared.layout.Entry.{Entry}
 use Rattle.flash_layout.specs.declared.slot.Record.{Record}
-use Rattle.flash_layout.specs.Frames.{head_of}
 use Rattle.flash_layout.specs.Slots.{slot_content}
 use Rattle.rollback_record.specs.HeadRecord.{IsLoadable, RecordOf}
 use Rattle.rollback_record.specs.Judging.{IsAcceptable}

@@ -1,5 +1,5 @@
 -- The slots that are in use, and those that are chosen.
-use Rattle.std.proofs.Common.{◌≡◌, ◌⊎◌, inl, inr, ⊎_elim, ◌<◌, ◌≤◌, ℕ, ◌-◌, List, [], length, get_or, Option, Some, None, IfSome, refl, sym, ◌∙◌, ap, subst, arith}
+use Rattle.std.proofs.Common.{◌≡◌, inl, inr, ⊎_elim, ◌<◌, ◌≤◌, ℕ, ◌-◌, List, [], length, get_or, Option, Some, None, IfSome, refl, sym, ◌∙◌, ap, subst, arith}
 use Rattle.std.specs.Prelude.{◌==◌, ◌&&◌, if◌then◌else◌}
 use Rattle.std.proofs.lemmas.List.{get_or_past}
 use Rattle.std.proofs.lemmas.Bool.{cases_lt}
@@ -15,10 +15,10 @@ use Rattle.flash_layout.specs.Configs.{ConfigOf, Configured}
 use Rattle.flash_layout.specs.Frames.{config_page_of, head_of}
 use Rattle.flash_layout.specs.Layouts.{IsLayout, IsOfMemory}
 use Rattle.rollback_record.specs.HeadRecord.{IsLoadable, RecordOf}
-use Rattle.rollback_record.specs.RecordPage.{HasSecondSlot, IsActiveSlot}
+use Rattle.rollback_record.specs.RecordPage.{HasSecondSlot}
 use Rattle.step_machine.specs.Worlds.{IsChoice}
-use Rattle.update_proc.specs.Choices.{AreChosen, HasOther, active_slots}
-use Rattle.update_proc.specs.InUse.{AreInUse, slot_in_use}
+use Rattle.update_proc.specs.Choices.{AreChosen, active_slots}
+use Rattle.update_proc.specs.InUse.{AreInUse}
 use Rattle.update_proc.proofs.ActiveSlots.{held_active}
 use Rattle.update_proc.proofs.ConfigSlots.{has_two}
 

@@ -15,6 +15,7 @@ use Rattle.rollback_record.specs.HeadRecord.{RecordOf}
 use Rattle.rollback_record.specs.SettledLaws.{head_is_firm}
 use Rattle.rollback_record.specs.SoundFlash.{Follows, FollowsBlank, FollowsOn, GoesOn, Settled, Sound}
 use Rattle.rollback_record.specs.SoundLaws.{SoundLaws}
+
 -- the head of an image with the same bytes there
 pub same_head : (a c : List ℕ) → 49152 ≤ length a → SameOn (InHead VERSION_1) a c → head_of VERSION_1 c ≡ head_of VERSION_1 a
 same_head a c large same = same_range c a 0 49152 same.size (omega (arith, same.size, large)) (λ i low high. same.same i (omega arith, omega (arith, high)))

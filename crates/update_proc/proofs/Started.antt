@@ -1,11 +1,11 @@
 -- A procedure that ran on the chosen slots of a settled flash: what it left alone, and what comes behind it.
-use Rattle.std.proofs.Common.{◌≡◌, ◌⊎◌, inl, inr, ⊎_elim, ◌<◌, ◌≤◌, ℕ, ◌+◌, ◌-◌, List, [], length, get_or, Option, Some, None, IfSome, refl, sym, ◌∙◌, ap, subst, arith}
+use Rattle.std.proofs.Common.{◌≡◌, ◌⊎◌, ⊎_elim, ◌<◌, ◌≤◌, ℕ, ◌+◌, ◌-◌, List, [], length, get_or, Option, Some, None, IfSome, refl, sym, ◌∙◌, ap, subst, arith}
 use Rattle.std.specs.Prelude.{if◌then◌else◌}
 use Rattle.std.specs.Str.{bytes_eq}
-use Rattle.std.specs.List.{All, Contains}
+use Rattle.std.specs.List.{All}
 use Rattle.suit_commands.specs.Tree.{PlanTree}
 use Rattle.suit_commands.specs.Targets.{IsTarget}
-use Rattle.suit_edge.specs.Flash.{Flash, ImageOn, IsFirmOn, IsFlash, Keeps, Now, Passes}
+use Rattle.suit_edge.specs.Flash.{Flash, IsFirmOn, IsFlash, Keeps, Passes}
 use Rattle.suit_edge.specs.FlashLaws.{each_now, each_read, firm_then, joined, keeps_fewer, weakens}
 use Rattle.suit_edge.specs.Ranges.{Outside}
 use Rattle.suit_params.specs.declared.digest.Digest.{Digest}
@@ -16,7 +16,6 @@ use Rattle.flash_layout.specs.declared.layout.Memory.{Memory}
 use Rattle.flash_layout.specs.declared.layout.Memory.TheVariants as memory
 use Rattle.flash_layout.specs.declared.place.Places.{Places}
 use Rattle.flash_layout.specs.declared.slot.Record.{Record}
-use Rattle.flash_layout.specs.declared.slot.Slot.{Slot}
 use Rattle.flash_layout.specs.Configs.{ConfigOf, Configured}
 use Rattle.flash_layout.specs.Frames.{head_of}
 use Rattle.flash_layout.specs.Layouts.{IsLayout, IsTypedEntry}
@@ -27,18 +26,17 @@ use Rattle.rollback_record.specs.RecordLaws.{OneAnswer}
 use Rattle.rollback_record.specs.SettledLaws.{head_is_firm}
 use Rattle.rollback_record.specs.SoundFlash.{Follows, IsInstalled, IsNoEarlier, Settled, Sound, recorded_bank}
 use Rattle.rollback_record.specs.SoundLaws.{SoundLaws}
-use Rattle.step_machine.specs.declared.spot.Spot.{Spot}
 use Rattle.step_machine.specs.declared.spot.Standing.{Standing}
 use Rattle.step_machine.specs.PlanRuns.{OutsideTargets}
 use Rattle.step_machine.specs.Spots.{OutsideSpot}
 use Rattle.step_machine.specs.Worlds.{AreDistinct, IsChoice, StandAs, spot_of}
 use Rattle.update_proc.specs.ChoiceLaws.{ChoiceLaw}
-use Rattle.update_proc.specs.Choices.{AreChosen, IsSlotOf, IsTouched, IsWritten, active_slots}
+use Rattle.update_proc.specs.Choices.{AreChosen, IsTouched, active_slots}
 use Rattle.update_proc.specs.Ends.{NowOr}
 use Rattle.update_proc.specs.Installing.{HasActiveSlots, IsInstalling, MayBeInstalled}
-use Rattle.update_proc.specs.MomentLaws.{EachMoment, MomentLaws}
+use Rattle.update_proc.specs.MomentLaws.{EachMoment}
 use Rattle.update_proc.specs.Moments.{IsNew, IsOld, OutsideTouched}
-use Rattle.update_proc.specs.Records.{new_record, next_generation}
+use Rattle.update_proc.specs.Records.{new_record}
 use Rattle.update_proc.proofs.Finished.{not_held}
 use Rattle.update_proc.proofs.Numbering.{other_default}
 use Rattle.update_proc.proofs.Since.{config_there, follows_since, same_head, sound_since}

@@ -6,7 +6,6 @@ use Rattle.suit_params.specs.declared.digest.Digest.{Digest}
 use Rattle.path_model.specs.declared.cause.Cause.TheVariants as causes
 use Rattle.flash_layout.specs.declared.slot.Record.{Record}
 use Rattle.rollback_record.specs.Judging.{IsAcceptable, IsJudged}
-use Rattle.rollback_record.specs.declared.judging.Judged.{Judged}
 use Rattle.rollback_record.specs.declared.judging.Judged.TheVariants as judged
 use Rattle.step_machine.specs.declared.plan_end.PlanEnd.{PlanEnd}
 use Rattle.step_machine.specs.declared.plan_end.PlanEnd.TheVariants as plays

@@ -10,7 +10,6 @@ use Rattle.flash_slots.specs.RamContents.{Held, empty_ram}
 use Rattle.step_machine.specs.declared.plan_end.PlanEnd.{PlanEnd}
 use Rattle.step_machine.specs.declared.plan_end.PlanEnd.TheVariants as plays
 use Rattle.step_machine.specs.declared.spot.Standing.{Standing}
-use Rattle.step_machine.specs.declared.world.SlotChoice.{SlotChoice}
 use Rattle.step_machine.specs.Devices.{contents_of}
 use Rattle.step_machine.specs.PlanRuns.{PlaysPlan, setting_of}
 use Rattle.step_machine.specs.Worlds.{StandAs}

@@ -41,7 +41,9 @@ fn refusal(held: Option<&Record>, sequence: u64, digest: &Digest) -> Option<Upda
     match judge(held, sequence, digest) {
         Judged::Accepted => None,
         Judged::Lower { recorded, offered } => Some(UpdateEnd::Lower { recorded, offered }),
-        Judged::OtherDigest { recorded, offered } => { Some(UpdateEnd::OtherDigest { recorded, offered }) }
+        Judged::OtherDigest { recorded, offered } => {
+            Some(UpdateEnd::OtherDigest { recorded, offered })
+        }
         Judged::Worn => Some(UpdateEnd::Worn),
     }
 }

@@ -1,7 +1,7 @@
 use Rattle.update_proc.specs.Choices.{active_slots}
 use Rattle.std.proofs.Common.{Bor, Option, option_map}
 use Rattle.flash_layout.specs.declared.slot.Record.{Record}
-use Rattle.update_proc.proofs.InUseSlots.{at_most_one, is_choice}
+use Rattle.update_proc.proofs.InUseSlots.{at_most_one}
 use Rattle.update_proc.proofs.in_use.choose_slots.Goals as goal
 
 abbrev held_of : Option (Bor Record) → Option Record

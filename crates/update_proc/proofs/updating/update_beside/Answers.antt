@@ -1,4 +1,4 @@
-use Rattle.std.proofs.Common.{◌≡◌, ◌⊎◌, ◌<◌, ◌≤◌, ℕ, ◌^◌, List, Bor, Option, length, inl, option_map, refl, sym, ◌∙◌, ap, subst, arith}
+use Rattle.std.proofs.Common.{◌⊎◌, ◌≤◌, ℕ, List, Bor, Option, length, inl, option_map, sym, ◌∙◌, ap, subst, arith}
 use Rattle.suit_commands.specs.Allowed.{IsPlan}
 use Rattle.suit_commands.specs.Plans.{plan_tree}
 use Rattle.suit_commands.specs.Tree.{PlanTree}
@@ -11,7 +11,6 @@ use Rattle.flash_layout.specs.declared.slot.Record.{Record}
 use Rattle.rollback_record.specs.SettledLaws.{each_sound}
 use Rattle.rollback_record.specs.SoundFlash.{Follows, Sound}
 use Rattle.step_machine.specs.PlanRuns.{counts_of}
-use Rattle.step_machine.specs.declared.plan_end.PlanEnd.{PlanEnd}
 use Rattle.update_proc.specs.Choices.{AreChosen, active_slots}
 use Rattle.update_proc.specs.Installing.{MayBeInstalled}
 use Rattle.update_proc.specs.Records.{new_record}
