@@ -16,7 +16,7 @@ some_entry : Entry
 some_entry = record { identifier = []; memory = memory.Ram; slots = 0; starts = []; capacity = 0; vendor = None; class = None; device = None }
 
 -- the slots that are in use
-held_active : (head : List ℕ) (held : Option Record) → RecordOf VERSION_1 head held → (i : ℕ) → i < 8 → IsActiveSlot (config_page_of VERSION_1 head) i (get_or (active_slots held) i 0)
+pub held_active : (head : List ℕ) (held : Option Record) → RecordOf VERSION_1 head held → (i : ℕ) → i < 8 → IsActiveSlot (config_page_of VERSION_1 head) i (get_or (active_slots held) i 0)
 held_active head None none i low = inl (get_or-replicate 8 i 0 0 low)
 held_active head (Some r) is i low = is.counts.page.fields.active i low
 

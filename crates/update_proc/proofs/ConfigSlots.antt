@@ -1,5 +1,5 @@
 -- How many slots a component has, by the bytes of the configuration page.
-use Rattle.std.proofs.Common.{◌≡◌, ◌<◌, ◌≤◌, ℕ, zero, suc, ◌+◌, ◌-◌, ◌*◌, List, [], ◌∷◌, ◌++◌, length, get_or, replicate, Option, Some, None, refl, ◌∙◌, ap, arith, append_assoc, length-append}
+use Rattle.std.proofs.Common.{◌≡◌, ◌<◌, ◌≤◌, ℕ, zero, suc, ◌+◌, ◌-◌, ◌*◌, List, [], ◌∷◌, ◌++◌, length, get_or, replicate, Option, Some, None, refl, sym, ◌∙◌, ap, arith, append_assoc, length-append}
 use Rattle.std.specs.Prelude.{IfSome}
 use Rattle.std.specs.List.{All}
 use Rattle.std.proofs.lemmas.List.{get_or-append_right, length-replicate}
@@ -90,3 +90,9 @@ module _ (size : ℕ) (page : List ℕ) (layout : List Entry) (key : Key) (is : 
   -- a component of the layout that has two slots has a second one
   pub second_slot : (i : ℕ) (d : Entry) → i < length layout → (get_or layout i d).slots ≡ 2 → HasSecondSlot page i
   second_slot i d lt two = (omega (arith, lt, count_at), slots_in i d lt ∙ two)
+
+  -- and what has a second one is a component of the layout that has two
+  pub has_two : (i : ℕ) → HasSecondSlot page i → (i < length layout) × ((d : Entry) → (get_or layout i d).slots ≡ 2)
+  has_two i second =
+      let inside : i < length layout = omega (arith, second.0, count_at) in
+      (inside, λ d. sym (slots_in i d inside) ∙ second.1)

@@ -6,3 +6,7 @@ mod Installs
 mod SlotsApart
 mod MomentProofs
 mod WholeUpdate
+mod InUseSlots
+mod Since
+mod Started
+mod Finished

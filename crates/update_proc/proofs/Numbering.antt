@@ -17,7 +17,7 @@ module _ (tree : PlanTree) (places : Places) (bits i : ℕ) (exact : (component 
   from_written h = record { component = h.component; few = h.few; member = (exact h.component).1 h.target; there = h.there }
 
 -- how many slots a component has, whatever stands for one that is not there
-other_default : (xs : List Entry) (i : ℕ) (d e : Entry) → i < length xs → get_or xs i d ≡ get_or xs i e
+pub other_default : (xs : List Entry) (i : ℕ) (d e : Entry) → i < length xs → get_or xs i d ≡ get_or xs i e
 other_default [] i d e lt = absurd (omega (arith, lt))
 other_default (x ∷ xs) zero d e lt = refl
 other_default (x ∷ xs) (suc i) d e lt = other_default xs i d e (omega (arith, lt))

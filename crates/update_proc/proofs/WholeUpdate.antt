@@ -23,6 +23,7 @@ use Rattle.rollback_record.specs.HeadRecord.{IsLoadable, RecordOf}
 use Rattle.rollback_record.specs.SoundFlash.{Settled, Sound}
 use Rattle.rollback_record.specs.SoundLaws.{SoundLaws}
 use Rattle.update_proc.specs.Choices.{IsSlotOf}
+use Rattle.update_proc.specs.Ends.{NowOr}
 use Rattle.update_proc.specs.Installing.{Filling, IsInstalling, Recording}
 use Rattle.update_proc.specs.MomentLaws.{MomentLaws}
 use Rattle.update_proc.specs.Moments.{HasContentsOf, IsNew, IsOld, OutsideTouched}
@@ -76,7 +77,7 @@ module _ (size : ℕ) (layout : List Entry) (laws : MomentLaws size layout) (pla
     old_run : Passes a b (IsOld layout places tree numbers held a.reads)
     old_run = weakens a b (ImageOn (OutsideTouched layout places tree numbers) a) (IsOld layout places tree numbers held a.reads) still_old run
 
-    reads_old : IsOld layout places tree numbers held a.reads b.reads
+    pub reads_old : IsOld layout places tree numbers held a.reads b.reads
     reads_old = each_read a b size (IsOld layout places tree numbers held a.reads) law_b old_run
 
     installing : (image : List ℕ) → IsInstalling held new bytes b image → IsOld layout places tree numbers held a.reads image ⊎ IsNew layout new b.reads image
@@ -102,6 +103,16 @@ module _ (size : ℕ) (layout : List Entry) (laws : MomentLaws size layout) (pla
         joined a b d (λ image. IsOld layout places tree numbers held a.reads image ⊎ IsNew layout new b.reads image)
         (weakens a b (IsOld layout places tree numbers held a.reads) (λ image. IsOld layout places tree numbers held a.reads image ⊎ IsNew layout new b.reads image) (λ image old. inl old) old_run)
         (weakens b d (IsInstalling held new bytes b) (λ image. IsOld layout places tree numbers held a.reads image ⊎ IsNew layout new b.reads image) installing since)
+
+    -- the same where what stands may be left alone instead
+    moment_of : (image : List ℕ) → NowOr (IsInstalling held new bytes b) b image → IsOld layout places tree numbers held a.reads image ⊎ IsNew layout new b.reads image
+    moment_of image is = ⊎_elim (λ now. inl (each_now a b size (IsOld layout places tree numbers held a.reads) law_b old_run image now)) (installing image) is
+
+    pub finished : (d : Flash) → Passes b d (NowOr (IsInstalling held new bytes b) b) → Passes a d (λ image. IsOld layout places tree numbers held a.reads image ⊎ IsNew layout new b.reads image)
+    finished d since =
+        joined a b d (λ image. IsOld layout places tree numbers held a.reads image ⊎ IsNew layout new b.reads image)
+        (weakens a b (IsOld layout places tree numbers held a.reads) (λ image. IsOld layout places tree numbers held a.reads image ⊎ IsNew layout new b.reads image) (λ image old. inl old) old_run)
+        (weakens b d (NowOr (IsInstalling held new bytes b) b) (λ image. IsOld layout places tree numbers held a.reads image ⊎ IsNew layout new b.reads image) moment_of since)
 
 -- ---- on a settled flash
 

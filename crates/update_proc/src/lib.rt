@@ -4,12 +4,19 @@
 mod bank;
 mod bank_reading;
 mod choosing;
+mod finishing;
+mod in_use;
 mod installing;
 mod law;
 mod offer;
+mod starting;
+mod update_end;
+mod updating;
 
 pub use bank::write_bank;
 pub use choosing::choose;
 pub use installing::install;
 pub use law::{choice_law, moment_laws};
 pub use offer::Offer;
+pub use update_end::UpdateEnd;
+pub use updating::update_beside;

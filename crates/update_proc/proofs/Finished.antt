@@ -1,0 +1,224 @@
+-- What an update is answered with, by how its procedure ended and by what came behind it.
+use Rattle.std.proofs.Common.{◌≡◌, ⊎_elim, ◌<◌, ◌≤◌, ℕ, ◌-◌, ◌^◌, List, Option, Some, None, IfSome, refl, sym, ◌∙◌, ap, subst, arith}
+use Rattle.std.specs.Prelude.{◌≢◌}
+use Rattle.suit_edge.specs.Faults.{Faulted}
+use Rattle.suit_edge.specs.declared.launch.Launch.{Launch}
+use Rattle.suit_params.specs.declared.digest.Digest.{Digest}
+use Rattle.path_model.specs.declared.cause.Cause.{Cause}
+use Rattle.path_model.specs.declared.cause.Cause.TheVariants as causes
+use Rattle.flash_layout.specs.declared.frame.TheConstants.{VERSION_1}
+use Rattle.flash_layout.specs.declared.layout.Entry.{Entry}
+use Rattle.flash_layout.specs.declared.slot.Record.{Record}
+use Rattle.flash_layout.specs.Slots.{slot_content}
+use Rattle.rollback_record.specs.HeadRecord.{IsLoadable, RecordOf}
+use Rattle.rollback_record.specs.Judging.{IsAcceptable}
+use Rattle.rollback_record.specs.RecordLaws.{OneAnswer}
+use Rattle.rollback_record.specs.SoundFlash.{IsNoEarlier}
+use Rattle.step_machine.specs.declared.plan_end.PlanEnd.{PlanEnd}
+use Rattle.step_machine.specs.declared.plan_end.PlanEnd.TheVariants as plays
+use Rattle.step_machine.specs.declared.spot.Standing.{Standing}
+use Rattle.step_machine.specs.Devices.{contents_of}
+use Rattle.step_machine.specs.PlanRuns.{Counts, CountsFor, EndCounts, PlaysPlan, counts_of, setting_of}
+use Rattle.step_machine.specs.Worlds.{StandAs}
+use Rattle.suit_commands.specs.Tree.{PlanTree}
+use Rattle.flash_layout.specs.declared.place.Places.{Places}
+use Rattle.flash_slots.specs.RamContents.{Held, empty_ram}
+use Rattle.update_proc.specs.Choices.{AreChosen, active_slots}
+use Rattle.update_proc.specs.declared.update_end.UpdateEnd.{UpdateEnd}
+use Rattle.update_proc.specs.declared.update_end.UpdateEnd.TheVariants as ends
+use Rattle.update_proc.specs.Ends.{FinishedSo, FlashFailed, IfInstalled, IfStopped, IfUnfaulted, IsEnd, IsRefusal, IsStartEnd, JudgedSo, UpdateCounts}
+use Rattle.update_proc.specs.Installing.{IsNotWorn}
+use Rattle.update_proc.specs.Moments.{HasContentsOf}
+use Rattle.update_proc.specs.Records.{next_generation}
+use Rattle.update_proc.specs.Updates.{KeptSo, PlayedSo, PlaysUpdate}
+
+-- ---- what was accepted
+
+pub not_worn : (held : Option Record) (sequence : ℕ) (digest : Digest) → IfSome held (IsLoadable VERSION_1) → IsAcceptable sequence digest held → IfSome held IsNotWorn
+not_worn None sequence digest few is = tt
+not_worn (Some r) sequence digest few is = below r.generation few.typed.generation is.1
+  where
+    below : (n : ℕ) → n < 2 ^ 64 → n ≢ 2 ^ 64 - 1 → n < 2 ^ 64 - 1
+    below n low other = omega (arith, low, other)
+
+pub no_earlier : (held : Option Record) (new : Record) (sequence : ℕ) (digest : Digest) → new.sequence ≡ sequence → new.digest ≡ digest → IsAcceptable sequence digest held → IfSome held (λ r. IsNoEarlier r new)
+no_earlier None new sequence digest number same is = tt
+no_earlier (Some r) new sequence digest number same is = record {
+  number = omega (arith, number, is.0.number);
+  same = λ equal. sym (same ∙ is.0.same (sym number ∙ sym equal));
+}
+
+-- a record has another generation than the one before it
+abbrev generation_of : Option Record → ℕ
+generation_of None = 0
+generation_of (Some r) = r.generation
+
+no_loop : (held : Option Record) (n : ℕ) → n ≡ next_generation held → generation_of held ≡ n → ⊥
+no_loop None n is same = omega (arith, is, same)
+no_loop (Some r) n is same = omega (arith, is, same)
+
+pub not_held : (one : OneAnswer) (head : List ℕ) (held : Option Record) (new : Record) → new.generation ≡ next_generation held → RecordOf VERSION_1 head held → RecordOf VERSION_1 head (Some new) → ⊥
+not_held one head held new is old now = no_loop held new.generation is (ap generation_of (one VERSION_1 head held (Some new) old now))
+
+-- ---- counts
+
+abbrev NotFallen : Counts → Counts → Type 0
+NotFallen before now = (before.host ≤ now.host) × (before.disk ≤ now.disk) × (before.launcher ≤ now.launcher)
+
+kept_counts : (a b : Counts) → b ≡ a → NotFallen a b
+kept_counts a b same = (omega (arith, ap (λ (c : Counts). c.host) same), omega (arith, ap (λ (c : Counts). c.disk) same), omega (arith, ap (λ (c : Counts). c.launcher) same))
+
+for_cause : (cause : Cause) (a b : Counts) → CountsFor cause a b → NotFallen a b
+for_cause causes.Missing a b is = kept_counts a b is
+for_cause causes.SelfCopy a b is = kept_counts a b is
+for_cause causes.TooLarge a b is = kept_counts a b is
+for_cause causes.Absent a b is = kept_counts a b is
+for_cause causes.HostFault a b is = (is.0.later, omega (arith, is.1), omega (arith, is.2))
+for_cause causes.FlashFault a b is = (omega (arith, is.0), is.1.later, is.2)
+for_cause causes.LaunchFault a b is = (omega (arith, is.0), is.1, is.2.later)
+
+at_end_counts : (end : PlanEnd) (a b : Counts) → EndCounts end a b → NotFallen a b
+at_end_counts plays.Done a b is = kept_counts a b is
+at_end_counts (plays.ConditionFailed place) a b is = kept_counts a b is
+at_end_counts (plays.DirectiveFailed place cause) a b is = for_cause cause a b is
+
+failed_behind : (h d l i e m f : ℕ) → NotFallen (counts_of h d l) (counts_of i e m) → Faulted e f → FlashFailed (counts_of h d l) (counts_of i f m)
+failed_behind h d l i e m f not fault = (not.0, record { later = omega (arith, not.1, fault.later); rose = λ short. omega (arith, not.1, fault.rose short) }, not.2)
+
+end_counts : (end : PlanEnd) (answer : UpdateEnd) (a b : Counts) → IsEnd end answer → EndCounts end a b → UpdateCounts answer a b
+end_counts plays.Done answer a b (r, same) is = subst (λ (x : UpdateEnd). UpdateCounts x a b) (sym same) is
+end_counts (plays.ConditionFailed place) answer a b same is = subst (λ (x : UpdateEnd). UpdateCounts x a b) (sym same) is
+end_counts (plays.DirectiveFailed place cause) answer a b same is = subst (λ (x : UpdateEnd). UpdateCounts x a b) (sym same) is
+
+start_end : (end : PlanEnd) (answer : UpdateEnd) → IsEnd end answer → IsStartEnd answer
+start_end plays.Done answer (r, same) = subst IsStartEnd (sym same) tt
+start_end (plays.ConditionFailed place) answer same = subst IsStartEnd (sym same) tt
+start_end (plays.DirectiveFailed place cause) answer same = subst IsStartEnd (sym same) tt
+
+-- ---- what follows of an end
+
+-- some end has P, where the procedure's has
+left_end : (P : UpdateEnd → Type 0) (end : PlanEnd) (answer : UpdateEnd) → ((r : Record) → answer ≡ ends.Installed r → end ≡ plays.Done → P (ends.Installed r))
+    → ((place : ℕ) → end ≡ plays.ConditionFailed place → P (ends.Condition place)) → ((place : ℕ) (cause : Cause) → end ≡ plays.DirectiveFailed place cause → P (ends.Stopped place cause))
+    → IsEnd end answer → P answer
+left_end P plays.Done answer done condition stopped (r, same) = subst P (sym same) (done r same refl)
+left_end P (plays.ConditionFailed place) answer done condition stopped same = subst P (sym same) (condition place refl)
+left_end P (plays.DirectiveFailed place cause) answer done condition stopped same = subst P (sym same) (stopped place cause refl)
+
+module _ (end : PlanEnd) (answer : UpdateEnd) (d e : ℕ) (finished : FinishedSo end answer d e) where
+  pub counts_after : (h b l i m : ℕ) → EndCounts end (counts_of h b l) (counts_of i d m) → UpdateCounts answer (counts_of h b l) (counts_of i e m)
+  counts_after h b l i m is = ⊎_elim
+      (λ so. end_counts end answer (counts_of h b l) (counts_of i e m) so.0 (subst (λ (n : ℕ). EndCounts end (counts_of h b l) (counts_of i n m)) (sym so.1) is))
+      (λ fault. subst (λ (a : UpdateEnd). UpdateCounts a (counts_of h b l) (counts_of i e m)) (sym fault.0)
+      (failed_behind h b l i d m e (at_end_counts end (counts_of h b l) (counts_of i d m) is) fault.1))
+      finished
+
+  pub starts_after : IsStartEnd answer
+  starts_after = ⊎_elim (λ so. start_end end answer so.0) (λ fault. subst IsStartEnd (sym fault.0) tt) finished
+
+  -- P holds of the answer, where it does of each that may come
+  pub after : (P : UpdateEnd → Type 0) → ((r : Record) → answer ≡ ends.Installed r → end ≡ plays.Done → P (ends.Installed r))
+      → ((place : ℕ) → end ≡ plays.ConditionFailed place → P (ends.Condition place)) → ((place : ℕ) (cause : Cause) → end ≡ plays.DirectiveFailed place cause → P (ends.Stopped place cause))
+      → P ends.FlashFault → P answer
+  after P done condition stopped fault_is = ⊎_elim (λ so. left_end P end answer done condition stopped so.0) (λ fault. subst P (sym fault.0) fault_is) finished
+
+-- what holds without a fault of the flash is weakened
+pub unfaulted : (P Q : Type 0) (answer : UpdateEnd) → (P → Q) → IfUnfaulted answer P → IfUnfaulted answer Q
+unfaulted P Q (ends.Installed r) to p = to p
+unfaulted P Q (ends.Lower a b) to p = to p
+unfaulted P Q (ends.OtherDigest a b) to p = to p
+unfaulted P Q ends.Worn to p = to p
+unfaulted P Q (ends.Condition place) to p = to p
+unfaulted P Q (ends.Stopped place causes.Missing) to p = to p
+unfaulted P Q (ends.Stopped place causes.SelfCopy) to p = to p
+unfaulted P Q (ends.Stopped place causes.TooLarge) to p = to p
+unfaulted P Q (ends.Stopped place causes.Absent) to p = to p
+unfaulted P Q (ends.Stopped place causes.HostFault) to p = to p
+unfaulted P Q (ends.Stopped place causes.FlashFault) to p = tt
+unfaulted P Q (ends.Stopped place causes.LaunchFault) to p = to p
+unfaulted P Q ends.FlashFault to p = tt
+unfaulted P Q ends.NoMemory to p = to p
+
+-- ---- what was stopped reads as before
+
+pub stopped_at : (end : PlanEnd) (place : ℕ) (P : Type 0) → IfStopped end P → end ≡ plays.ConditionFailed place → P
+stopped_at end place P is same = subst (λ (e : PlanEnd). IfStopped e P) same is
+
+pub stopped_by : (end : PlanEnd) (place : ℕ) (cause : Cause) (P : Type 0) → IfStopped end P → end ≡ plays.DirectiveFailed place cause → P
+stopped_by end place cause P is same = subst (λ (e : PlanEnd). IfStopped e P) same is
+
+pub installed_as : (answer : UpdateEnd) (r : Record) (P : Record → Type 0) → IfInstalled answer P → answer ≡ ends.Installed r → P r
+installed_as answer r P is same = subst (λ (a : UpdateEnd). IfInstalled a P) same is
+
+pub reads_same : (layout : List Entry) (made after : List ℕ) → after ≡ made → HasContentsOf layout made after
+reads_same layout made after same i n slot is = ap (λ (l : List ℕ). slot_content slot l) same
+
+-- ---- what was played, from the world that it was played on
+
+pub plays_update : (layout : List Entry) (places : Places) (tree : PlanTree) (held : Option Record) (payloads words uris : List (List ℕ × List ℕ)) (files : List ℕ → Option (List ℕ))
+    (before made : List ℕ) (launched now : List Launch) (end : PlanEnd) (numbers : List ℕ) (standings : List Standing) (ram left : List Held)
+    → AreChosen layout places tree (active_slots held) numbers → StandAs layout places (record { number = numbers }) standings → ram ≡ empty_ram layout → words ≡ uris
+    → PlaysPlan tree (setting_of standings payloads words files) end (contents_of standings ram before) (contents_of standings left made) launched now
+    → PlaysUpdate layout places tree held payloads uris files before made launched now end
+plays_update layout places tree held payloads words uris files before made launched now end numbers standings ram left chosen stand none same played = record {
+  numbers = numbers;
+  chosen = chosen;
+  standings = standings;
+  stand = stand;
+  ram = left;
+  plays =
+      subst (λ (r : List Held). PlaysPlan tree (setting_of standings payloads uris files) end (contents_of standings r before) (contents_of standings left made) launched now) none
+      (subst (λ (u : List (List ℕ × List ℕ)). PlaysPlan tree (setting_of standings payloads u files) end (contents_of standings ram before) (contents_of standings left made) launched now) same played);
+}
+
+-- ---- what is refused
+
+pub refused_counts : (answer : UpdateEnd) (a : Counts) → IsRefusal answer → UpdateCounts answer a a
+refused_counts (ends.Lower m n) a is = refl
+refused_counts (ends.OtherDigest m n) a is = refl
+refused_counts ends.Worn a is = refl
+refused_counts (ends.Installed r) a is = elim is [ ]
+refused_counts (ends.Condition place) a is = elim is [ ]
+refused_counts (ends.Stopped place cause) a is = elim is [ ]
+refused_counts ends.FlashFault a is = elim is [ ]
+refused_counts ends.NoMemory a is = elim is [ ]
+
+pub refused_kept : (Kept Same : Type 0) (answer : UpdateEnd) → IsRefusal answer → Same → KeptSo Kept Same answer
+refused_kept Kept Same (ends.Lower m n) is same = same
+refused_kept Kept Same (ends.OtherDigest m n) is same = same
+refused_kept Kept Same ends.Worn is same = same
+refused_kept Kept Same (ends.Installed r) is same = elim is [ ]
+refused_kept Kept Same (ends.Condition place) is same = elim is [ ]
+refused_kept Kept Same (ends.Stopped place cause) is same = elim is [ ]
+refused_kept Kept Same ends.FlashFault is same = elim is [ ]
+refused_kept Kept Same ends.NoMemory is same = elim is [ ]
+
+pub refused_played : (Plays : List ℕ → PlanEnd → Type 0) (layout : List Entry) (image : List ℕ) (launched : List Launch) (answer : UpdateEnd) → IsRefusal answer → PlayedSo Plays layout image launched launched answer
+refused_played Plays layout image launched (ends.Lower m n) is = refl
+refused_played Plays layout image launched (ends.OtherDigest m n) is = refl
+refused_played Plays layout image launched ends.Worn is = refl
+refused_played Plays layout image launched (ends.Installed r) is = elim is [ ]
+refused_played Plays layout image launched (ends.Condition place) is = elim is [ ]
+refused_played Plays layout image launched (ends.Stopped place cause) is = elim is [ ]
+refused_played Plays layout image launched ends.FlashFault is = elim is [ ]
+refused_played Plays layout image launched ends.NoMemory is = elim is [ ]
+
+pub refused_settled : (P : Type 0) (answer : UpdateEnd) → IsRefusal answer → P → IfUnfaulted answer P
+refused_settled P (ends.Lower m n) is p = p
+refused_settled P (ends.OtherDigest m n) is p = p
+refused_settled P ends.Worn is p = p
+refused_settled P (ends.Installed r) is p = elim is [ ]
+refused_settled P (ends.Condition place) is p = elim is [ ]
+refused_settled P (ends.Stopped place cause) is p = elim is [ ]
+refused_settled P ends.FlashFault is p = elim is [ ]
+refused_settled P ends.NoMemory is p = elim is [ ]
+
+pub accepted_judged : (sequence : ℕ) (digest : Digest) (held : Option Record) (answer : UpdateEnd) → IsStartEnd answer → IsAcceptable sequence digest held → JudgedSo sequence digest held answer
+accepted_judged sequence digest held (ends.Installed r) is so = so
+accepted_judged sequence digest held (ends.Condition place) is so = so
+accepted_judged sequence digest held (ends.Stopped place cause) is so = so
+accepted_judged sequence digest held ends.FlashFault is so = tt
+accepted_judged sequence digest held ends.NoMemory is so = so
+accepted_judged sequence digest held (ends.Lower m n) is so = elim is [ ]
+accepted_judged sequence digest held (ends.OtherDigest m n) is so = elim is [ ]
+accepted_judged sequence digest held ends.Worn is so = elim is [ ]

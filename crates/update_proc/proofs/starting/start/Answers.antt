@@ -1,0 +1,204 @@
+use Rattle.std.proofs.Common.{◌≡◌, ◌≤◌, ℕ, List, Bor, Option, Some, inl, inr, option_map, refl, sym, ◌∙◌, subst}
+use Rattle.suit_commands.specs.Plans.{plan_tree}
+use Rattle.suit_edge.specs.Flash.{IsFlash, IsSame, IsSettled}
+use Rattle.suit_edge.specs.FlashLaws.{grows_start, grows_then, same_flash, starts}
+use Rattle.suit_envelope.specs.Payloads.{HasPayloads}
+use Rattle.suit_envelope.specs.declared.envelope.Envelope.{Envelope}
+use Rattle.flash_layout.specs.declared.frame.TheConstants.{VERSION_1}
+use Rattle.flash_layout.specs.declared.slot.Record.{Record}
+use Rattle.flash_layout.specs.Frames.{head_of}
+use Rattle.rollback_record.specs.HeadRecord.{RecordOf}
+use Rattle.rollback_record.specs.SettledLaws.{each_sound}
+use Rattle.rollback_record.specs.SoundFlash.{Follows, Sound}
+use Rattle.step_machine.specs.declared.plan_end.PlanEnd.{PlanEnd}
+use Rattle.update_proc.specs.declared.update_end.UpdateEnd.{UpdateEnd}
+use Rattle.update_proc.specs.Choices.{active_slots}
+use Rattle.update_proc.specs.Records.{new_record}
+use Rattle.update_proc.specs.Updates.{KeepsUpdate, KeptSo, PlayedSo, PlaysUpdate}
+use Rattle.update_proc.proofs.Finished.{after, counts_after, installed_as, no_earlier, not_worn, plays_update, reads_same, starts_after, stopped_at, stopped_by, unfaulted}
+use Rattle.update_proc.proofs.InUseSlots.{chosen_as, in_use_as_held}
+use Rattle.update_proc.proofs.Since.{follows_now}
+use Rattle.update_proc.proofs.Started.{active_b, firm_b, follows_all, moment_at_end, moments_of, new_at_end, new_is, old_at_end, sound_all, sound_b, was_b}
+use Rattle.update_proc.proofs.starting.start.Goals as goal
+
+abbrev held_of : Option (Bor Record) → Option Record
+held_of held = option_map (λ r. r.now) held
+
+pub choose_slots-slots-requires-clause-layout : goal.choose_slots-slots-requires-clause-layout
+choose_slots-slots-requires-clause-layout g c =
+    (g.D.Disk.extent c.args.disk.now, c.requires.layout)
+
+pub choose_slots-slots-requires-clause-places : goal.choose_slots-slots-requires-clause-places
+choose_slots-slots-requires-clause-places g c =
+    c.requires.distinct.few
+
+pub choose_slots-slots-requires-clause-plan : goal.choose_slots-slots-requires-clause-plan
+choose_slots-slots-requires-clause-plan g c =
+    c.requires.plan
+
+pub new-requires-clause-places : goal.new-requires-clause-places
+new-requires-clause-places g c =
+    c.requires.distinct
+
+pub new-requires-clause-slots : goal.new-requires-clause-slots
+new-requires-clause-slots g c =
+    c.choose_slots-slots.ensures.choice
+
+pub returns-in-Err-clause-size : goal.returns-in-Err-clause-size
+returns-in-Err-clause-size g c =
+    refl
+
+pub returns-in-Err-clause-counts : goal.returns-in-Err-clause-counts
+returns-in-Err-clause-counts g c =
+    refl
+
+pub returns-in-Err-clause-files : goal.returns-in-Err-clause-files
+returns-in-Err-clause-files g c t =
+    refl
+
+pub returns-in-Err-clause-plays : goal.returns-in-Err-clause-plays
+returns-in-Err-clause-plays g c th td tl payloads has =
+    refl
+
+pub returns-in-Err-clause-keeps : goal.returns-in-Err-clause-keeps
+returns-in-Err-clause-keeps g c t =
+    same_flash (g.D.Disk.flash c.args.disk.now)
+
+pub returns-in-Err-clause-sound : goal.returns-in-Err-clause-sound
+returns-in-Err-clause-sound g c t may =
+    starts (g.D.Disk.flash c.args.disk.now) (Sound VERSION_1) (each_sound VERSION_1 (g.D.Disk.flash c.args.disk.now) (c.requires.settled t))
+
+pub returns-in-Err-clause-follows : goal.returns-in-Err-clause-follows
+returns-in-Err-clause-follows g c t =
+    starts (g.D.Disk.flash c.args.disk.now) (Follows VERSION_1 (g.D.Disk.flash c.args.disk.now).reads) (follows_now c.sound_laws.ensures (g.D.Disk.flash c.args.disk.now) (c.requires.settled t))
+
+pub returns-in-Err-clause-settled : goal.returns-in-Err-clause-settled
+returns-in-Err-clause-settled g c t =
+    inl (same_flash (g.D.Disk.flash c.args.disk.now))
+
+pub returns-in-Err-clause-grows : goal.returns-in-Err-clause-grows
+returns-in-Err-clause-grows g c t =
+    grows_start (g.D.Disk.flash c.args.disk.now)
+
+pub run_plan-end-requires-clause-standings : goal.run_plan-end-requires-clause-standings
+run_plan-end-requires-clause-standings g c =
+    c.in-Ok.ensures.fit VERSION_1 (g.D.Disk.extent c.args.disk.now) c.requires.layout
+
+pub run_plan-end-requires-clause-plan : goal.run_plan-end-requires-clause-plan
+run_plan-end-requires-clause-plan g c =
+    c.requires.plan
+
+pub run_plan-end-requires-clause-count : goal.run_plan-end-requires-clause-count
+run_plan-end-requires-clause-count g c =
+    c.requires.count ∙ sym c.in-Ok.ensures.stand.count
+
+pub slice_bounds-finish-end : goal.slice_bounds-finish-end
+slice_bounds-finish-end g c =
+    refl
+
+pub finish-requires-clause-size : goal.finish-requires-clause-size
+finish-requires-clause-size g c =
+    subst (λ (n : ℕ). 49152 ≤ n) (sym c.run_plan-end.ensures.size) c.requires.size
+
+pub finish-requires-clause-loadable : goal.finish-requires-clause-loadable
+finish-requires-clause-loadable g c =
+    c.requires.loadable
+
+pub finish-requires-clause-worn : goal.finish-requires-clause-worn
+finish-requires-clause-worn g c =
+    not_worn (held_of c.args.held) c.args.accepted.now.sequence c.args.accepted.now.digest c.requires.loadable c.requires.judged
+
+pub finish-requires-clause-fits : goal.finish-requires-clause-fits
+finish-requires-clause-fits g c =
+    c.requires.fits
+
+pub finish-requires-clause-held : goal.finish-requires-clause-held
+finish-requires-clause-held g c t =
+    let chosen = (chosen_as c.args.layout.now c.args.places.now (plan_tree c.args.plan.now) c.choose_slots-slots.ensures.chosen.0 (active_slots (held_of c.args.held)) c.choose_slots-slots.result.number (in_use_as_held (g.D.Disk.extent c.args.disk.now) (g.D.Disk.flash c.args.disk.now).reads c.args.layout.now (c.requires.config t).0 (held_of c.args.held) (c.requires.config t).1 (c.requires.held t) c.requires.loadable c.choose_slots-slots.ensures.chosen.0 c.choose_slots-slots.ensures.chosen.1) c.choose_slots-slots.ensures.chosen.2) in
+    let law_b = (subst (λ (n : ℕ). IsFlash (g.D.Disk.flash c.run_plan-end.new.disk) n) c.run_plan-end.ensures.size (g.met.D.Disk.obeys c.run_plan-end.new.disk t)) in
+    was_b c.sound_laws.ensures c.moment_laws.ensures c.choice_law.ensures (g.D.Disk.extent c.args.disk.now) c.requires.size c.args.layout.now c.requires.layout c.args.places.now (plan_tree c.args.plan.now) (held_of c.args.held) c.requires.loadable c.choose_slots-slots.result.number c.in-Ok.world.standings.items c.requires.distinct c.choose_slots-slots.ensures.choice c.in-Ok.ensures.stand chosen (g.D.Disk.flash c.args.disk.now) (g.D.Disk.flash c.run_plan-end.new.disk) (g.met.D.Disk.obeys c.args.disk.now t) law_b (c.requires.config t).0 (c.requires.config t).1 (c.requires.settled t) (c.requires.held t) (c.run_plan-end.ensures.keeps t)
+
+pub finish-requires-clause-active : goal.finish-requires-clause-active
+finish-requires-clause-active g c t =
+    let chosen = (chosen_as c.args.layout.now c.args.places.now (plan_tree c.args.plan.now) c.choose_slots-slots.ensures.chosen.0 (active_slots (held_of c.args.held)) c.choose_slots-slots.result.number (in_use_as_held (g.D.Disk.extent c.args.disk.now) (g.D.Disk.flash c.args.disk.now).reads c.args.layout.now (c.requires.config t).0 (held_of c.args.held) (c.requires.config t).1 (c.requires.held t) c.requires.loadable c.choose_slots-slots.ensures.chosen.0 c.choose_slots-slots.ensures.chosen.1) c.choose_slots-slots.ensures.chosen.2) in
+    let law_b = (subst (λ (n : ℕ). IsFlash (g.D.Disk.flash c.run_plan-end.new.disk) n) c.run_plan-end.ensures.size (g.met.D.Disk.obeys c.run_plan-end.new.disk t)) in
+    active_b c.sound_laws.ensures c.moment_laws.ensures c.choice_law.ensures (g.D.Disk.extent c.args.disk.now) c.requires.size c.args.layout.now c.requires.layout c.args.places.now (plan_tree c.args.plan.now) (held_of c.args.held) c.requires.loadable c.choose_slots-slots.result.number c.in-Ok.world.standings.items c.requires.distinct c.choose_slots-slots.ensures.choice c.in-Ok.ensures.stand chosen (g.D.Disk.flash c.args.disk.now) (g.D.Disk.flash c.run_plan-end.new.disk) (g.met.D.Disk.obeys c.args.disk.now t) law_b (c.requires.config t).0 (c.requires.config t).1 (c.requires.settled t) (c.requires.held t) (c.run_plan-end.ensures.keeps t)
+
+pub finish-requires-clause-firm : goal.finish-requires-clause-firm
+finish-requires-clause-firm g c t =
+    let chosen = (chosen_as c.args.layout.now c.args.places.now (plan_tree c.args.plan.now) c.choose_slots-slots.ensures.chosen.0 (active_slots (held_of c.args.held)) c.choose_slots-slots.result.number (in_use_as_held (g.D.Disk.extent c.args.disk.now) (g.D.Disk.flash c.args.disk.now).reads c.args.layout.now (c.requires.config t).0 (held_of c.args.held) (c.requires.config t).1 (c.requires.held t) c.requires.loadable c.choose_slots-slots.ensures.chosen.0 c.choose_slots-slots.ensures.chosen.1) c.choose_slots-slots.ensures.chosen.2) in
+    let law_b = (subst (λ (n : ℕ). IsFlash (g.D.Disk.flash c.run_plan-end.new.disk) n) c.run_plan-end.ensures.size (g.met.D.Disk.obeys c.run_plan-end.new.disk t)) in
+    firm_b c.sound_laws.ensures c.moment_laws.ensures c.choice_law.ensures (g.D.Disk.extent c.args.disk.now) c.requires.size c.args.layout.now c.requires.layout c.args.places.now (plan_tree c.args.plan.now) (held_of c.args.held) c.requires.loadable c.choose_slots-slots.result.number c.in-Ok.world.standings.items c.requires.distinct c.choose_slots-slots.ensures.choice c.in-Ok.ensures.stand chosen (g.D.Disk.flash c.args.disk.now) (g.D.Disk.flash c.run_plan-end.new.disk) (g.met.D.Disk.obeys c.args.disk.now t) law_b (c.requires.config t).0 (c.requires.config t).1 (c.requires.settled t) (c.requires.held t) (c.run_plan-end.ensures.keeps t)
+
+pub finish-requires-clause-sound : goal.finish-requires-clause-sound
+finish-requires-clause-sound g c t =
+    let chosen = (chosen_as c.args.layout.now c.args.places.now (plan_tree c.args.plan.now) c.choose_slots-slots.ensures.chosen.0 (active_slots (held_of c.args.held)) c.choose_slots-slots.result.number (in_use_as_held (g.D.Disk.extent c.args.disk.now) (g.D.Disk.flash c.args.disk.now).reads c.args.layout.now (c.requires.config t).0 (held_of c.args.held) (c.requires.config t).1 (c.requires.held t) c.requires.loadable c.choose_slots-slots.ensures.chosen.0 c.choose_slots-slots.ensures.chosen.1) c.choose_slots-slots.ensures.chosen.2) in
+    let law_b = (subst (λ (n : ℕ). IsFlash (g.D.Disk.flash c.run_plan-end.new.disk) n) c.run_plan-end.ensures.size (g.met.D.Disk.obeys c.run_plan-end.new.disk t)) in
+    sound_b c.sound_laws.ensures c.moment_laws.ensures c.choice_law.ensures (g.D.Disk.extent c.args.disk.now) c.requires.size c.args.layout.now c.requires.layout c.args.places.now (plan_tree c.args.plan.now) (held_of c.args.held) c.requires.loadable c.choose_slots-slots.result.number c.in-Ok.world.standings.items c.requires.distinct c.choose_slots-slots.ensures.choice c.in-Ok.ensures.stand chosen (g.D.Disk.flash c.args.disk.now) (g.D.Disk.flash c.run_plan-end.new.disk) (g.met.D.Disk.obeys c.args.disk.now t) law_b (c.requires.config t).0 (c.requires.config t).1 (c.requires.settled t) (c.requires.held t) (c.run_plan-end.ensures.keeps t)
+
+pub returns-clause-size : goal.returns-clause-size
+returns-clause-size g c =
+    c.finish.ensures.size ∙ c.run_plan-end.ensures.size
+
+pub returns-clause-starts : goal.returns-clause-starts
+returns-clause-starts g c =
+    starts_after c.run_plan-end.result c.finish.result _ _ c.finish.ensures.answer
+
+pub returns-clause-counts : goal.returns-clause-counts
+returns-clause-counts g c =
+    counts_after c.run_plan-end.result c.finish.result _ _ c.finish.ensures.answer _ _ _ _ _ c.run_plan-end.ensures.counts
+
+pub returns-clause-files : goal.returns-clause-files
+returns-clause-files g c t =
+    c.run_plan-end.ensures.files t
+
+pub returns-clause-sound : goal.returns-clause-sound
+returns-clause-sound g c t may =
+    let chosen = (chosen_as c.args.layout.now c.args.places.now (plan_tree c.args.plan.now) c.choose_slots-slots.ensures.chosen.0 (active_slots (held_of c.args.held)) c.choose_slots-slots.result.number (in_use_as_held (g.D.Disk.extent c.args.disk.now) (g.D.Disk.flash c.args.disk.now).reads c.args.layout.now (c.requires.config t).0 (held_of c.args.held) (c.requires.config t).1 (c.requires.held t) c.requires.loadable c.choose_slots-slots.ensures.chosen.0 c.choose_slots-slots.ensures.chosen.1) c.choose_slots-slots.ensures.chosen.2) in
+    let law_b = (subst (λ (n : ℕ). IsFlash (g.D.Disk.flash c.run_plan-end.new.disk) n) c.run_plan-end.ensures.size (g.met.D.Disk.obeys c.run_plan-end.new.disk t)) in
+    let law_d = (subst (λ (n : ℕ). IsFlash (g.D.Disk.flash c.finish.new.disk) n) (c.finish.ensures.size ∙ c.run_plan-end.ensures.size) (g.met.D.Disk.obeys c.finish.new.disk t)) in
+    sound_all c.sound_laws.ensures c.moment_laws.ensures c.choice_law.ensures (g.D.Disk.extent c.args.disk.now) c.requires.size c.args.layout.now c.requires.layout c.args.places.now (plan_tree c.args.plan.now) (held_of c.args.held) c.requires.loadable c.choose_slots-slots.result.number c.in-Ok.world.standings.items c.requires.distinct c.choose_slots-slots.ensures.choice c.in-Ok.ensures.stand chosen (g.D.Disk.flash c.args.disk.now) (g.D.Disk.flash c.run_plan-end.new.disk) (g.met.D.Disk.obeys c.args.disk.now t) law_b (c.requires.config t).0 (c.requires.config t).1 (c.requires.settled t) (c.requires.held t) (c.run_plan-end.ensures.keeps t) c.args.accepted.now.bytes.now c.args.accepted.now.sequence c.args.accepted.now.digest c.requires.fits (g.D.Disk.flash c.finish.new.disk) law_d (c.finish.ensures.sound t) (may c.choose_slots-slots.result.number chosen)
+
+pub returns-clause-follows : goal.returns-clause-follows
+returns-clause-follows g c t =
+    let chosen = (chosen_as c.args.layout.now c.args.places.now (plan_tree c.args.plan.now) c.choose_slots-slots.ensures.chosen.0 (active_slots (held_of c.args.held)) c.choose_slots-slots.result.number (in_use_as_held (g.D.Disk.extent c.args.disk.now) (g.D.Disk.flash c.args.disk.now).reads c.args.layout.now (c.requires.config t).0 (held_of c.args.held) (c.requires.config t).1 (c.requires.held t) c.requires.loadable c.choose_slots-slots.ensures.chosen.0 c.choose_slots-slots.ensures.chosen.1) c.choose_slots-slots.ensures.chosen.2) in
+    let law_b = (subst (λ (n : ℕ). IsFlash (g.D.Disk.flash c.run_plan-end.new.disk) n) c.run_plan-end.ensures.size (g.met.D.Disk.obeys c.run_plan-end.new.disk t)) in
+    let law_d = (subst (λ (n : ℕ). IsFlash (g.D.Disk.flash c.finish.new.disk) n) (c.finish.ensures.size ∙ c.run_plan-end.ensures.size) (g.met.D.Disk.obeys c.finish.new.disk t)) in
+    follows_all c.sound_laws.ensures c.moment_laws.ensures c.choice_law.ensures (g.D.Disk.extent c.args.disk.now) c.requires.size c.args.layout.now c.requires.layout c.args.places.now (plan_tree c.args.plan.now) (held_of c.args.held) c.requires.loadable c.choose_slots-slots.result.number c.in-Ok.world.standings.items c.requires.distinct c.choose_slots-slots.ensures.choice c.in-Ok.ensures.stand chosen (g.D.Disk.flash c.args.disk.now) (g.D.Disk.flash c.run_plan-end.new.disk) (g.met.D.Disk.obeys c.args.disk.now t) law_b (c.requires.config t).0 (c.requires.config t).1 (c.requires.settled t) (c.requires.held t) (c.run_plan-end.ensures.keeps t) c.args.accepted.now.bytes.now c.args.accepted.now.sequence c.args.accepted.now.digest c.requires.fits (g.D.Disk.flash c.finish.new.disk) law_d (c.finish.ensures.follows t)
+    (no_earlier (held_of c.args.held) (new_record (held_of c.args.held) (g.D.Disk.flash c.run_plan-end.new.disk).reads c.args.accepted.now.bytes.now c.args.accepted.now.sequence c.args.accepted.now.digest c.choose_slots-slots.result.number) c.args.accepted.now.sequence c.args.accepted.now.digest refl refl c.requires.judged)
+
+pub returns-clause-settled : goal.returns-clause-settled
+returns-clause-settled g c t =
+    unfaulted (IsSettled (g.D.Disk.flash c.finish.new.disk)) _ c.finish.result (λ s. inr s) (c.finish.ensures.settled t)
+
+pub returns-clause-grows : goal.returns-clause-grows
+returns-clause-grows g c t =
+    grows_then (g.D.Disk.flash c.args.disk.now) (g.D.Disk.flash c.run_plan-end.new.disk) (g.D.Disk.flash c.finish.new.disk) (c.run_plan-end.ensures.keeps t).images.later (c.run_plan-end.ensures.grows t) (c.finish.ensures.grows t)
+
+pub returns-clause-keeps : goal.returns-clause-keeps
+returns-clause-keeps g c t =
+    let chosen = (chosen_as c.args.layout.now c.args.places.now (plan_tree c.args.plan.now) c.choose_slots-slots.ensures.chosen.0 (active_slots (held_of c.args.held)) c.choose_slots-slots.result.number (in_use_as_held (g.D.Disk.extent c.args.disk.now) (g.D.Disk.flash c.args.disk.now).reads c.args.layout.now (c.requires.config t).0 (held_of c.args.held) (c.requires.config t).1 (c.requires.held t) c.requires.loadable c.choose_slots-slots.ensures.chosen.0 c.choose_slots-slots.ensures.chosen.1) c.choose_slots-slots.ensures.chosen.2) in
+    let law_b = (subst (λ (n : ℕ). IsFlash (g.D.Disk.flash c.run_plan-end.new.disk) n) c.run_plan-end.ensures.size (g.met.D.Disk.obeys c.run_plan-end.new.disk t)) in
+    let law_d = (subst (λ (n : ℕ). IsFlash (g.D.Disk.flash c.finish.new.disk) n) (c.finish.ensures.size ∙ c.run_plan-end.ensures.size) (g.met.D.Disk.obeys c.finish.new.disk t)) in
+    let moments = moments_of c.sound_laws.ensures c.moment_laws.ensures c.choice_law.ensures (g.D.Disk.extent c.args.disk.now) c.requires.size c.args.layout.now c.requires.layout c.args.places.now (plan_tree c.args.plan.now) (held_of c.args.held) c.requires.loadable c.choose_slots-slots.result.number c.in-Ok.world.standings.items c.requires.distinct c.choose_slots-slots.ensures.choice c.in-Ok.ensures.stand chosen (g.D.Disk.flash c.args.disk.now) (g.D.Disk.flash c.run_plan-end.new.disk) (g.met.D.Disk.obeys c.args.disk.now t) law_b (c.requires.config t).0 (c.requires.config t).1 (c.requires.settled t) (c.requires.held t) (c.run_plan-end.ensures.keeps t) c.args.accepted.now.bytes.now c.args.accepted.now.sequence c.args.accepted.now.digest c.requires.fits (g.D.Disk.flash c.finish.new.disk) law_d (c.finish.ensures.any_moment t) in
+    let Kept : UpdateEnd → Type 0 = KeepsUpdate c.args.layout.now c.args.places.now (plan_tree c.args.plan.now) (held_of c.args.held) (λ numbers. new_record (held_of c.args.held) (g.D.Disk.flash c.args.disk.now).reads c.args.accepted.now.bytes.now c.args.accepted.now.sequence c.args.accepted.now.digest numbers) (g.D.Disk.flash c.args.disk.now) (g.D.Disk.flash c.finish.new.disk) in
+    after c.run_plan-end.result c.finish.result _ _ c.finish.ensures.answer (λ answer. KeptSo (Kept answer) (IsSame (g.D.Disk.flash c.args.disk.now) (g.D.Disk.flash c.finish.new.disk)) answer)
+    (λ r same ended. record { numbers = c.choose_slots-slots.result.number; chosen = chosen; made = (g.D.Disk.flash c.run_plan-end.new.disk).reads; any_moment = moments; left = ((installed_as c.finish.result r (λ r. r ≡ new_record (held_of c.args.held) (g.D.Disk.flash c.run_plan-end.new.disk).reads c.args.accepted.now.bytes.now c.args.accepted.now.sequence c.args.accepted.now.digest c.choose_slots-slots.result.number) (c.finish.ensures.new t) same) ∙ new_is c.sound_laws.ensures c.moment_laws.ensures c.choice_law.ensures (g.D.Disk.extent c.args.disk.now) c.requires.size c.args.layout.now c.requires.layout c.args.places.now (plan_tree c.args.plan.now) (held_of c.args.held) c.requires.loadable c.choose_slots-slots.result.number c.in-Ok.world.standings.items c.requires.distinct c.choose_slots-slots.ensures.choice c.in-Ok.ensures.stand chosen (g.D.Disk.flash c.args.disk.now) (g.D.Disk.flash c.run_plan-end.new.disk) (g.met.D.Disk.obeys c.args.disk.now t) law_b (c.requires.config t).0 (c.requires.config t).1 (c.requires.settled t) (c.requires.held t) (c.run_plan-end.ensures.keeps t) c.args.accepted.now.bytes.now c.args.accepted.now.sequence c.args.accepted.now.digest c.requires.fits (g.D.Disk.flash c.finish.new.disk) law_d, new_at_end c.sound_laws.ensures c.moment_laws.ensures c.choice_law.ensures (g.D.Disk.extent c.args.disk.now) c.requires.size c.args.layout.now c.requires.layout c.args.places.now (plan_tree c.args.plan.now) (held_of c.args.held) c.requires.loadable c.choose_slots-slots.result.number c.in-Ok.world.standings.items c.requires.distinct c.choose_slots-slots.ensures.choice c.in-Ok.ensures.stand chosen (g.D.Disk.flash c.args.disk.now) (g.D.Disk.flash c.run_plan-end.new.disk) (g.met.D.Disk.obeys c.args.disk.now t) law_b (c.requires.config t).0 (c.requires.config t).1 (c.requires.settled t) (c.requires.held t) (c.run_plan-end.ensures.keeps t) c.args.accepted.now.bytes.now c.args.accepted.now.sequence c.args.accepted.now.digest c.requires.fits (g.D.Disk.flash c.finish.new.disk) law_d (c.finish.ensures.any_moment t) c.record_laws.ensures.answer r (installed_as c.finish.result r (λ r. r ≡ new_record (held_of c.args.held) (g.D.Disk.flash c.run_plan-end.new.disk).reads c.args.accepted.now.bytes.now c.args.accepted.now.sequence c.args.accepted.now.digest c.choose_slots-slots.result.number) (c.finish.ensures.new t) same) (installed_as c.finish.result r (λ r. RecordOf VERSION_1 (head_of VERSION_1 (g.D.Disk.flash c.finish.new.disk).reads) (Some r)) (c.finish.ensures.recorded t) same)) })
+    (λ place ended. record { numbers = c.choose_slots-slots.result.number; chosen = chosen; made = (g.D.Disk.flash c.run_plan-end.new.disk).reads; any_moment = moments; left = old_at_end c.sound_laws.ensures c.moment_laws.ensures c.choice_law.ensures (g.D.Disk.extent c.args.disk.now) c.requires.size c.args.layout.now c.requires.layout c.args.places.now (plan_tree c.args.plan.now) (held_of c.args.held) c.requires.loadable c.choose_slots-slots.result.number c.in-Ok.world.standings.items c.requires.distinct c.choose_slots-slots.ensures.choice c.in-Ok.ensures.stand chosen (g.D.Disk.flash c.args.disk.now) (g.D.Disk.flash c.run_plan-end.new.disk) (g.met.D.Disk.obeys c.args.disk.now t) law_b (c.requires.config t).0 (c.requires.config t).1 (c.requires.settled t) (c.requires.held t) (c.run_plan-end.ensures.keeps t) c.args.accepted.now.bytes.now c.args.accepted.now.sequence c.args.accepted.now.digest c.requires.fits (g.D.Disk.flash c.finish.new.disk) law_d (stopped_at c.run_plan-end.result place ((g.D.Disk.flash c.finish.new.disk).reads ≡ (g.D.Disk.flash c.run_plan-end.new.disk).reads) (c.finish.ensures.stays t) ended) })
+    (λ place cause ended. record { numbers = c.choose_slots-slots.result.number; chosen = chosen; made = (g.D.Disk.flash c.run_plan-end.new.disk).reads; any_moment = moments; left = old_at_end c.sound_laws.ensures c.moment_laws.ensures c.choice_law.ensures (g.D.Disk.extent c.args.disk.now) c.requires.size c.args.layout.now c.requires.layout c.args.places.now (plan_tree c.args.plan.now) (held_of c.args.held) c.requires.loadable c.choose_slots-slots.result.number c.in-Ok.world.standings.items c.requires.distinct c.choose_slots-slots.ensures.choice c.in-Ok.ensures.stand chosen (g.D.Disk.flash c.args.disk.now) (g.D.Disk.flash c.run_plan-end.new.disk) (g.met.D.Disk.obeys c.args.disk.now t) law_b (c.requires.config t).0 (c.requires.config t).1 (c.requires.settled t) (c.requires.held t) (c.run_plan-end.ensures.keeps t) c.args.accepted.now.bytes.now c.args.accepted.now.sequence c.args.accepted.now.digest c.requires.fits (g.D.Disk.flash c.finish.new.disk) law_d (stopped_by c.run_plan-end.result place cause ((g.D.Disk.flash c.finish.new.disk).reads ≡ (g.D.Disk.flash c.run_plan-end.new.disk).reads) (c.finish.ensures.stays t) ended) })
+    (inr (record { numbers = c.choose_slots-slots.result.number; chosen = chosen; made = (g.D.Disk.flash c.run_plan-end.new.disk).reads; any_moment = moments; left = moment_at_end c.sound_laws.ensures c.moment_laws.ensures c.choice_law.ensures (g.D.Disk.extent c.args.disk.now) c.requires.size c.args.layout.now c.requires.layout c.args.places.now (plan_tree c.args.plan.now) (held_of c.args.held) c.requires.loadable c.choose_slots-slots.result.number c.in-Ok.world.standings.items c.requires.distinct c.choose_slots-slots.ensures.choice c.in-Ok.ensures.stand chosen (g.D.Disk.flash c.args.disk.now) (g.D.Disk.flash c.run_plan-end.new.disk) (g.met.D.Disk.obeys c.args.disk.now t) law_b (c.requires.config t).0 (c.requires.config t).1 (c.requires.settled t) (c.requires.held t) (c.run_plan-end.ensures.keeps t) c.args.accepted.now.bytes.now c.args.accepted.now.sequence c.args.accepted.now.digest c.requires.fits (g.D.Disk.flash c.finish.new.disk) law_d (c.finish.ensures.any_moment t) }))
+
+pub returns-clause-plays : goal.returns-clause-plays
+returns-clause-plays g c th t tl payloads has =
+    let chosen = (chosen_as c.args.layout.now c.args.places.now (plan_tree c.args.plan.now) c.choose_slots-slots.ensures.chosen.0 (active_slots (held_of c.args.held)) c.choose_slots-slots.result.number (in_use_as_held (g.D.Disk.extent c.args.disk.now) (g.D.Disk.flash c.args.disk.now).reads c.args.layout.now (c.requires.config t).0 (held_of c.args.held) (c.requires.config t).1 (c.requires.held t) c.requires.loadable c.choose_slots-slots.ensures.chosen.0 c.choose_slots-slots.ensures.chosen.1) c.choose_slots-slots.ensures.chosen.2) in
+    let law_b = (subst (λ (n : ℕ). IsFlash (g.D.Disk.flash c.run_plan-end.new.disk) n) c.run_plan-end.ensures.size (g.met.D.Disk.obeys c.run_plan-end.new.disk t)) in
+    let law_d = (subst (λ (n : ℕ). IsFlash (g.D.Disk.flash c.finish.new.disk) n) (c.finish.ensures.size ∙ c.run_plan-end.ensures.size) (g.met.D.Disk.obeys c.finish.new.disk t)) in
+    let Plays : List ℕ → PlanEnd → Type 0 = λ made end. PlaysUpdate c.args.layout.now c.args.places.now (plan_tree c.args.plan.now) (held_of c.args.held) payloads c.args.uris.now (g.H.Host.file c.args.host.now) (g.D.Disk.flash c.args.disk.now).reads made (g.L.Launcher.launches c.args.launcher.now) (g.L.Launcher.launches c.run_plan-end.new.launcher) end in
+    let play : Plays (g.D.Disk.flash c.run_plan-end.new.disk).reads c.run_plan-end.result = plays_update c.args.layout.now c.args.places.now (plan_tree c.args.plan.now) (held_of c.args.held) payloads c.in-Ok.world.uris.now c.args.uris.now (g.H.Host.file c.args.host.now) (g.D.Disk.flash c.args.disk.now).reads (g.D.Disk.flash c.run_plan-end.new.disk).reads (g.L.Launcher.launches c.args.launcher.now) (g.L.Launcher.launches c.run_plan-end.new.launcher) c.run_plan-end.result c.choose_slots-slots.result.number c.in-Ok.world.standings.items c.in-Ok.world.ram c.run_plan-end.new.world.ram chosen c.in-Ok.ensures.stand c.in-Ok.ensures.ram c.in-Ok.ensures.uris
+    (c.run_plan-end.ensures.plays th t tl payloads (subst (λ (e : Envelope). HasPayloads e.whole.now payloads) (sym c.in-Ok.ensures.envelope) has)) in
+    after c.run_plan-end.result c.finish.result _ _ c.finish.ensures.answer
+    (λ answer. PlayedSo Plays c.args.layout.now (g.D.Disk.flash c.finish.new.disk).reads (g.L.Launcher.launches c.args.launcher.now) (g.L.Launcher.launches c.run_plan-end.new.launcher) answer)
+    (λ r same ended. record { made = (g.D.Disk.flash c.run_plan-end.new.disk).reads; plays = subst (Plays (g.D.Disk.flash c.run_plan-end.new.disk).reads) ended play; left = (new_at_end c.sound_laws.ensures c.moment_laws.ensures c.choice_law.ensures (g.D.Disk.extent c.args.disk.now) c.requires.size c.args.layout.now c.requires.layout c.args.places.now (plan_tree c.args.plan.now) (held_of c.args.held) c.requires.loadable c.choose_slots-slots.result.number c.in-Ok.world.standings.items c.requires.distinct c.choose_slots-slots.ensures.choice c.in-Ok.ensures.stand chosen (g.D.Disk.flash c.args.disk.now) (g.D.Disk.flash c.run_plan-end.new.disk) (g.met.D.Disk.obeys c.args.disk.now t) law_b (c.requires.config t).0 (c.requires.config t).1 (c.requires.settled t) (c.requires.held t) (c.run_plan-end.ensures.keeps t) c.args.accepted.now.bytes.now c.args.accepted.now.sequence c.args.accepted.now.digest c.requires.fits (g.D.Disk.flash c.finish.new.disk) law_d (c.finish.ensures.any_moment t) c.record_laws.ensures.answer r (installed_as c.finish.result r (λ r. r ≡ new_record (held_of c.args.held) (g.D.Disk.flash c.run_plan-end.new.disk).reads c.args.accepted.now.bytes.now c.args.accepted.now.sequence c.args.accepted.now.digest c.choose_slots-slots.result.number) (c.finish.ensures.new t) same) (installed_as c.finish.result r (λ r. RecordOf VERSION_1 (head_of VERSION_1 (g.D.Disk.flash c.finish.new.disk).reads) (Some r)) (c.finish.ensures.recorded t) same)).contents })
+    (λ place ended. record { made = (g.D.Disk.flash c.run_plan-end.new.disk).reads; plays = subst (Plays (g.D.Disk.flash c.run_plan-end.new.disk).reads) ended play; left = reads_same c.args.layout.now (g.D.Disk.flash c.run_plan-end.new.disk).reads (g.D.Disk.flash c.finish.new.disk).reads (stopped_at c.run_plan-end.result place ((g.D.Disk.flash c.finish.new.disk).reads ≡ (g.D.Disk.flash c.run_plan-end.new.disk).reads) (c.finish.ensures.stays t) ended) })
+    (λ place cause ended. record { made = (g.D.Disk.flash c.run_plan-end.new.disk).reads; plays = subst (Plays (g.D.Disk.flash c.run_plan-end.new.disk).reads) ended play; left = reads_same c.args.layout.now (g.D.Disk.flash c.run_plan-end.new.disk).reads (g.D.Disk.flash c.finish.new.disk).reads (stopped_by c.run_plan-end.result place cause ((g.D.Disk.flash c.finish.new.disk).reads ≡ (g.D.Disk.flash c.run_plan-end.new.disk).reads) (c.finish.ensures.stays t) ended) })
+    (inr ((g.D.Disk.flash c.run_plan-end.new.disk).reads, c.run_plan-end.result, play))

@@ -1,0 +1,75 @@
+-- What an update plays, what it leaves, and what stands at each moment of it.
+use Rattle.std.specs.Prelude.{◌≡◌, ◌⊎◌, ℕ, List, Option}
+use Rattle.suit_commands.specs.Tree.{PlanTree}
+use Rattle.suit_edge.specs.Flash.{Flash, Passes}
+use Rattle.suit_edge.specs.declared.launch.Launch.{Launch}
+use Rattle.flash_layout.specs.declared.layout.Entry.{Entry}
+use Rattle.flash_layout.specs.declared.place.Places.{Places}
+use Rattle.flash_layout.specs.declared.slot.Record.{Record}
+use Rattle.flash_slots.specs.RamContents.{Held, empty_ram}
+use Rattle.step_machine.specs.declared.plan_end.PlanEnd.{PlanEnd}
+use Rattle.step_machine.specs.declared.plan_end.PlanEnd.TheVariants as plays
+use Rattle.step_machine.specs.declared.spot.Standing.{Standing}
+use Rattle.step_machine.specs.Devices.{contents_of}
+use Rattle.step_machine.specs.PlanRuns.{PlaysPlan, setting_of}
+use Rattle.step_machine.specs.Worlds.{StandAs}
+use Rattle.update_proc.specs.declared.update_end.UpdateEnd.{UpdateEnd}
+use Rattle.update_proc.specs.declared.update_end.UpdateEnd.TheVariants as ends
+use Rattle.update_proc.specs.Choices.{AreChosen, active_slots}
+use Rattle.update_proc.specs.Moments.{HasContentsOf, IsNew, IsOld}
+
+-- ---- what is played
+
+-- The procedure is played on the chosen slots, with working memory empty, these payloads, these names of files and these
+-- files. It ends so, and leaves these contents and launches.
+pub record PlaysUpdate (layout : List Entry) (places : Places) (tree : PlanTree) (held : Option Record) (payloads words : List (List ℕ × List ℕ))
+    (files : List ℕ → Option (List ℕ)) (before made : List ℕ) (launched now : List Launch) (end : PlanEnd) : Type 0 where
+  pub numbers : List ℕ
+  pub chosen : AreChosen layout places tree (active_slots held) numbers
+  pub standings : List Standing
+  pub stand : StandAs layout places (record { number = numbers }) standings
+  pub ram : List Held
+  pub plays : PlaysPlan tree (setting_of standings payloads words files) end
+      (contents_of standings (empty_ram layout) before) (contents_of standings ram made) launched now
+
+-- and those contents are left
+pub record PlaysAndLeaves (Plays : List ℕ → PlanEnd → Type 0) (layout : List Entry) (after : List ℕ) (end : PlanEnd) : Type 0 where
+  pub made : List ℕ
+  pub plays : Plays made end
+  pub left : HasContentsOf layout made after
+
+-- The procedure was played and ended so; or nothing was launched. A fault of the flash that no command met came before
+-- the procedure, or behind it.
+abbrev pub PlayedSo : (List ℕ → PlanEnd → Type 0) → List Entry → List ℕ → List Launch → List Launch → UpdateEnd → Type 0
+PlayedSo Plays layout after launched now (ends.Installed r) = PlaysAndLeaves Plays layout after plays.Done
+PlayedSo Plays layout after launched now (ends.Condition place) = PlaysAndLeaves Plays layout after (plays.ConditionFailed place)
+PlayedSo Plays layout after launched now (ends.Stopped place cause) = PlaysAndLeaves Plays layout after (plays.DirectiveFailed place cause)
+PlayedSo Plays layout after launched now ends.FlashFault = (now ≡ launched) ⊎ ((made : List ℕ) × (end : PlanEnd) × Plays made end)
+PlayedSo Plays layout after launched now _ = now ≡ launched
+
+-- ---- what is left
+
+-- the new record and contents after Installed, the old record otherwise, and one of them after a fault of the flash behind
+-- the procedure
+abbrev pub LeftSo : (Record → Type 0) → Type 0 → Type 0 → UpdateEnd → Type 0
+LeftSo Is Old New (ends.Installed r) = Is r × New
+LeftSo Is Old New ends.FlashFault = Old ⊎ New
+LeftSo Is Old New _ = Old
+
+-- At each moment the flash has the old record, and no content changed but those of slots that may be written; or it has
+-- the new record, and the contents that were made.
+pub record KeepsUpdate (layout : List Entry) (places : Places) (tree : PlanTree) (held : Option Record) (new : List ℕ → Record) (old now : Flash) (answer : UpdateEnd)
+    : Type 0 where
+  pub numbers : List ℕ
+  pub chosen : AreChosen layout places tree (active_slots held) numbers
+  pub made : List ℕ
+  pub any_moment : Passes old now (λ image. IsOld layout places tree numbers held old.reads image ⊎ IsNew layout (new numbers) made image)
+  pub left : LeftSo (λ r. r ≡ new numbers) (IsOld layout places tree numbers held old.reads now.reads) (IsNew layout (new numbers) made now.reads) answer
+
+-- where the procedure was run, that was kept, and otherwise nothing changed
+abbrev pub KeptSo : Type 0 → Type 0 → UpdateEnd → Type 0
+KeptSo Kept Same (ends.Installed r) = Kept
+KeptSo Kept Same (ends.Condition place) = Kept
+KeptSo Kept Same (ends.Stopped place cause) = Kept
+KeptSo Kept Same ends.FlashFault = Same ⊎ Kept
+KeptSo Kept Same _ = Same

@@ -1,0 +1,98 @@
+//! What comes behind a procedure: its envelope is installed where it is done, and otherwise all is made sure of.
+
+ghost use Rattle.flash_layout.specs.Frames.{head_of};
+ghost use Rattle.rollback_record.specs.Committing.{InHead};
+ghost use Rattle.rollback_record.specs.HeadRecord.{IsLoadable, RecordOf};
+ghost use Rattle.rollback_record.specs.SoundFlash.{Follows, IsNoEarlier, Sound};
+ghost use Rattle.std.specs.Prelude.{◌≡◌, ◌<◌, ◌≤◌, IfSome, IsTrue, Some, length, option_map};
+ghost use Rattle.suit_edge.specs.Flash.{Grows, IsFirmOn, IsSame, IsSettled, Passes};
+ghost use Rattle.update_proc.specs.Ends.{FinishedSo, IfInstalled, IfStopped, IfUnfaulted, NowOr, SettledSo};
+ghost use Rattle.update_proc.specs.Installing.{HasActiveSlots, IsInstalling, IsNotWorn, MayBeInstalled};
+ghost use Rattle.update_proc.specs.Records.{new_record};
+ghost use Rattle.update_proc.specs.declared.update_end.UpdateEnd.TheVariants as ends;
+
+use crate::{Offer, UpdateEnd, install};
+use flash_layout::{FlashFault, Record, VERSION_1};
+use path_model::Cause;
+use step_machine::PlanEnd;
+use suit_edge::{Disk, Edge};
+
+// Makes sure of all that is pending, and answers so.
+fn settle<D: Disk>(disk: &mut D, end: UpdateEnd) -> UpdateEnd
+    ensures size { D.extent disk.new ≡ D.extent disk.old }
+    ensures answer { SettledSo end result (D.faults disk.old) (D.faults disk.new) }
+    ensures settled { IsTrue D.told → IfUnfaulted result (IsSettled (D.flash disk.new)) }
+    ensures same { IsTrue D.told → IsSame (D.flash disk.old) (D.flash disk.new) }
+    ensures grows { IsTrue D.told → Grows (D.flash disk.old) (D.flash disk.new) }
+{
+    match disk.sync() {
+        Edge::Done => end,
+        Edge::Failed => UpdateEnd::FlashFault,
+    }
+}
+
+// Makes sure of what a directive left that failed, unless the flash failed there.
+fn stop<D: Disk>(disk: &mut D, place: u64, cause: Cause) -> UpdateEnd
+    ensures size { D.extent disk.new ≡ D.extent disk.old }
+    ensures answer { SettledSo (ends.Stopped place cause) result (D.faults disk.old) (D.faults disk.new) }
+    ensures settled { IsTrue D.told → IfUnfaulted result (IsSettled (D.flash disk.new)) }
+    ensures same { IsTrue D.told → IsSame (D.flash disk.old) (D.flash disk.new) }
+    ensures grows { IsTrue D.told → Grows (D.flash disk.old) (D.flash disk.new) }
+{
+    match cause {
+        Cause::FlashFault => UpdateEnd::Stopped { place, cause },
+        _ => settle(disk, UpdateEnd::Stopped { place, cause }),
+    }
+}
+
+/// Installs the envelope where the procedure is done, and otherwise makes sure of what it left, unless a fault of the flash
+/// ended it.
+pub(crate) fn finish<D: Disk>(
+    disk: &mut D,
+    end: PlanEnd,
+    held: Option<&Record>,
+    offer: &Offer,
+    bytes: &[u8],
+    room: &mut [u8],
+) -> UpdateEnd
+    requires size { VERSION_1.size ≤ D.extent disk.old }
+    requires loadable { IfSome (option_map (λ r. r.now) held) (IsLoadable VERSION_1) }
+    requires worn { IfSome (option_map (λ r. r.now) held) IsNotWorn }
+    requires fits { length bytes.now ≤ VERSION_1.bank_size }
+    requires room { 0 < length room.old }
+    requires held { IsTrue D.told
+        → RecordOf VERSION_1 (head_of VERSION_1 (D.flash disk.old).reads) (option_map (λ r. r.now) held) }
+    requires active { IsTrue D.told → HasActiveSlots (D.flash disk.old).reads offer.now.active }
+    requires firm { IsTrue D.told → IsFirmOn (InHead VERSION_1) (D.flash disk.old) }
+    requires sound { IsTrue D.told → Sound VERSION_1 (D.flash disk.old).reads }
+    ensures size { D.extent disk.new ≡ D.extent disk.old }
+    ensures answer { FinishedSo end result (D.faults disk.old) (D.faults disk.new) }
+    ensures new { IsTrue D.told → IfInstalled result
+        (λ r. r ≡ new_record (option_map (λ r. r.now) held.entry) (D.flash disk.old).reads bytes.now offer.now.sequence offer.now.digest offer.now.active) }
+    ensures recorded { IsTrue D.told
+        → IfInstalled result (λ r. RecordOf VERSION_1 (head_of VERSION_1 (D.flash disk.new).reads) (Some r)) }
+    ensures stays { IsTrue D.told → IfStopped end ((D.flash disk.new).reads ≡ (D.flash disk.old).reads) }
+    ensures settled { IsTrue D.told → IfUnfaulted result (IsSettled (D.flash disk.new)) }
+    ensures any_moment { IsTrue D.told → let held = option_map (λ r. r.now) held.entry in
+        let start = D.flash disk.old in
+        Passes start (D.flash disk.new) (NowOr
+        (IsInstalling held (new_record held start.reads bytes.now offer.now.sequence offer.now.digest offer.now.active) bytes.now start) start) }
+    ensures sound { IsTrue D.told → let held = option_map (λ r. r.now) held.entry in
+        let start = D.flash disk.old in
+        MayBeInstalled start.reads bytes.now (new_record held start.reads bytes.now offer.now.sequence offer.now.digest offer.now.active)
+        → Passes start (D.flash disk.new) (NowOr (Sound VERSION_1) start) }
+    ensures follows { IsTrue D.told → let held = option_map (λ r. r.now) held.entry in
+        let start = D.flash disk.old in
+        IfSome held (λ r. IsNoEarlier r (new_record held start.reads bytes.now offer.now.sequence offer.now.digest offer.now.active))
+        → Passes start (D.flash disk.new) (NowOr (Follows VERSION_1 start.reads) start) }
+    ensures grows { IsTrue D.told → Grows (D.flash disk.old) (D.flash disk.new) }
+{
+    match end {
+        PlanEnd::Done => match install(disk, held, offer, bytes, room) {
+            Ok(record) => UpdateEnd::Installed(record),
+            Err(FlashFault) => UpdateEnd::FlashFault,
+        },
+        PlanEnd::ConditionFailed { place } => settle(disk, UpdateEnd::Condition { place }),
+        PlanEnd::DirectiveFailed { place, cause } => stop(disk, place, cause),
+    }
+}

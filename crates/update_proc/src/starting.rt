@@ -1,0 +1,114 @@
+//! The update procedure is run, and its envelope installed.
+
+ghost use Rattle.flash_layout.specs.declared.key.Key.{Key};
+ghost use Rattle.flash_layout.specs.Configs.{ConfigOf, Configured};
+ghost use Rattle.flash_layout.specs.Frames.{head_of};
+ghost use Rattle.flash_layout.specs.Layouts.{IsLayout};
+ghost use Rattle.rollback_record.specs.HeadRecord.{IsLoadable, RecordOf};
+ghost use Rattle.rollback_record.specs.Judging.{IsAcceptable};
+ghost use Rattle.rollback_record.specs.SoundFlash.{Follows, Settled, Sound};
+ghost use Rattle.std.specs.Prelude.{◌≡◌, ◌≤◌, ◌⊎◌, ℕ, IfSome, IsTrue, List, length, option_map};
+ghost use Rattle.step_machine.specs.PlanRuns.{counts_of};
+ghost use Rattle.step_machine.specs.Worlds.{AreDistinct};
+ghost use Rattle.suit_commands.specs.Allowed.{IsPlan};
+ghost use Rattle.suit_commands.specs.Plans.{plan_tree};
+ghost use Rattle.suit_edge.specs.Flash.{Grows, IsSame, IsSettled, Passes};
+ghost use Rattle.suit_envelope.specs.Payloads.{HasPayloads};
+ghost use Rattle.update_proc.specs.Choices.{AreChosen, active_slots};
+ghost use Rattle.update_proc.specs.Ends.{IfUnfaulted, IsStartEnd, UpdateCounts};
+ghost use Rattle.update_proc.specs.Installing.{MayBeInstalled};
+ghost use Rattle.update_proc.specs.Records.{new_record};
+ghost use Rattle.update_proc.specs.Updates.{KeepsUpdate, KeptSo, PlayedSo, PlaysUpdate};
+
+use crate::finishing::finish;
+use crate::in_use::choose_slots;
+use crate::{Offer, UpdateEnd, choice_law, moment_laws};
+use flash_layout::{Layout, Places, Record, VERSION_1};
+use rollback_record::{record_laws, sound_laws};
+use std::alloc::{AllocError, Global};
+use step_machine::{Uris, World, run_plan};
+use suit_commands::Plan;
+use suit_edge::{Disk, Host, Launcher};
+use suit_envelope::Envelope;
+use suit_params::Digest;
+
+/// An accepted update: the bytes to be installed with the number and the digest of their manifest.
+#[derive(Clone, Copy)]
+pub(crate) struct Accepted<'a> {
+    pub bytes: &'a [u8],
+    pub sequence: u64,
+    pub digest: Digest,
+}
+
+/// Runs the procedure of an accepted update on the chosen slots, with working memory empty, and installs the envelope where
+/// the procedure is done. All memory is taken before anything is launched or written.
+pub(crate) fn start<H: Host, D: Disk, L: Launcher>(
+    alloc: Global,
+    host: &mut H,
+    disk: &mut D,
+    launcher: &mut L,
+    layout: &Layout,
+    places: &Places,
+    envelope: &Envelope<'_>,
+    plan: &Plan<'_>,
+    uris: &Uris,
+    held: Option<&Record>,
+    accepted: &Accepted<'_>,
+) -> UpdateEnd
+    requires size { VERSION_1.size ≤ D.extent disk.old }
+    requires layout { IsLayout VERSION_1 (D.extent disk.old) layout.now }
+    requires distinct { AreDistinct layout.now places.now }
+    requires plan { IsPlan (plan_tree plan.now) }
+    requires count { plan.now.count ≡ places.now.count }
+    requires loadable { IfSome (option_map (λ r. r.now) held) (IsLoadable VERSION_1) }
+    requires judged { IsAcceptable accepted.now.sequence accepted.now.digest (option_map (λ r. r.now) held) }
+    requires fits { length accepted.now.bytes.now ≤ VERSION_1.bank_size }
+    requires held { IsTrue D.told
+        → RecordOf VERSION_1 (head_of VERSION_1 (D.flash disk.old).reads) (option_map (λ r. r.now) held) }
+    requires config { IsTrue D.told → (key : Key)
+        × ConfigOf VERSION_1 (D.extent disk.old) (head_of VERSION_1 (D.flash disk.old).reads) (Configured layout.now key) }
+    requires settled { IsTrue D.told → Settled VERSION_1 (D.flash disk.old) }
+    ensures size { D.extent disk.new ≡ D.extent disk.old }
+    ensures starts { IsStartEnd result }
+    ensures counts { UpdateCounts result (counts_of (H.faults host.old) (D.faults disk.old) (L.faults launcher.old))
+        (counts_of (H.faults host.new) (D.faults disk.new) (L.faults launcher.new)) }
+    ensures files { IsTrue H.told → H.file host.new ≡ H.file host.old }
+    ensures plays { IsTrue H.told → IsTrue D.told → IsTrue L.told → let held = option_map (λ r. r.now) held.entry in
+        (payloads : List (List ℕ × List ℕ)) → HasPayloads envelope.now.whole.now payloads
+        → PlayedSo (λ made end. PlaysUpdate layout.now places.now (plan_tree plan.now) held payloads uris.now (H.file host.old)
+        (D.flash disk.old).reads made (L.launches launcher.old) (L.launches launcher.new) end)
+        layout.now (D.flash disk.new).reads (L.launches launcher.old) (L.launches launcher.new) result }
+    ensures keeps { IsTrue D.told → let held = option_map (λ r. r.now) held.entry in
+        let start = D.flash disk.old in
+        KeptSo (KeepsUpdate layout.now places.now (plan_tree plan.now) held
+        (λ numbers. new_record held start.reads accepted.now.bytes.now accepted.now.sequence accepted.now.digest numbers)
+        start (D.flash disk.new) result) (IsSame start (D.flash disk.new)) result }
+    ensures sound { IsTrue D.told → let held = option_map (λ r. r.now) held.entry in
+        let start = D.flash disk.old in
+        ((numbers : List ℕ) → AreChosen layout.now places.now (plan_tree plan.now) (active_slots held) numbers
+        → MayBeInstalled start.reads accepted.now.bytes.now
+        (new_record held start.reads accepted.now.bytes.now accepted.now.sequence accepted.now.digest numbers))
+        → Passes start (D.flash disk.new) (Sound VERSION_1) }
+    ensures follows { IsTrue D.told → Passes (D.flash disk.old) (D.flash disk.new) (Follows VERSION_1 (D.flash disk.old).reads) }
+    ensures settled { IsTrue D.told → IfUnfaulted result
+        (IsSame (D.flash disk.old) (D.flash disk.new) ⊎ IsSettled (D.flash disk.new)) }
+    ensures grows { IsTrue D.told → Grows (D.flash disk.old) (D.flash disk.new) }
+{
+    record_laws();
+    sound_laws();
+    moment_laws();
+    choice_law();
+    let slots = choose_slots(layout, places, plan, held);
+    let mut world = match World::new(alloc, layout, places, &slots, uris, envelope) {
+        Ok(world) => world,
+        Err(AllocError) => return UpdateEnd::NoMemory,
+    };
+    let offer = Offer {
+        sequence: accepted.sequence,
+        digest: accepted.digest,
+        active: slots.number,
+    };
+    let mut room = [0u8; 4096];
+    let end = run_plan(host, disk, launcher, &mut world, plan);
+    finish(disk, end, held, &offer, accepted.bytes, &mut room)
+}
