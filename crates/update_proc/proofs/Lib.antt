@@ -10,3 +10,4 @@ mod InUseSlots
 mod Since
 mod Started
 mod Finished
+mod Reread

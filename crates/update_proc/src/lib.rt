@@ -5,6 +5,7 @@ mod bank;
 mod bank_reading;
 mod choosing;
 mod finishing;
+mod flash_update;
 mod in_use;
 mod installing;
 mod law;
@@ -15,6 +16,7 @@ mod updating;
 
 pub use bank::write_bank;
 pub use choosing::choose;
+pub use flash_update::update;
 pub use installing::install;
 pub use law::{choice_law, moment_laws};
 pub use offer::Offer;

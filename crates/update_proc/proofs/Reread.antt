@@ -1,0 +1,115 @@
+-- An update whose record was read first: what holds since the read holds since before it.
+use Rattle.std.proofs.Common.{◌≡◌, ◌⊎◌, inl, inr, ℕ, List, [], Bor, length, Option, Some, None, option_map, sym, ap, subst}
+use Rattle.std.specs.Option.{option_copied}
+use Rattle.suit_commands.specs.Tree.{PlanTree}
+use Rattle.suit_edge.specs.Flash.{Flash, IsFlash, IsSame, IsSettled, Now, Passes}
+use Rattle.suit_edge.specs.FlashLaws.{joined, same_flash_then, weakens}
+use Rattle.suit_envelope.specs.WrapperParts.{WrapperSays}
+use Rattle.suit_params.specs.declared.digest.Digest.{Digest}
+use Rattle.flash_layout.specs.declared.frame.TheConstants.{VERSION_1}
+use Rattle.flash_layout.specs.declared.key.Key.{Key}
+use Rattle.flash_layout.specs.declared.layout.Entry.{Entry}
+use Rattle.flash_layout.specs.declared.layout.Memory.TheVariants as memory
+use Rattle.flash_layout.specs.declared.place.Places.{Places}
+use Rattle.flash_layout.specs.declared.slot.Record.{Record}
+use Rattle.flash_layout.specs.Configs.{ConfigOf, Configured}
+use Rattle.flash_layout.specs.Frames.{head_of}
+use Rattle.flash_layout.specs.Layouts.{IsLayout}
+use Rattle.rollback_record.specs.HeadRecord.{RecordOf}
+use Rattle.rollback_record.specs.RecordLaws.{OneAnswer}
+use Rattle.rollback_record.specs.SettledLaws.{each_sound}
+use Rattle.rollback_record.specs.SoundFlash.{Follows, Settled, Sound}
+use Rattle.rollback_record.specs.SoundLaws.{SoundLaws}
+use Rattle.update_proc.specs.declared.update_end.UpdateEnd.{UpdateEnd}
+use Rattle.update_proc.specs.declared.update_end.UpdateEnd.TheVariants as ends
+use Rattle.update_proc.specs.Moments.{IsNew, IsOld}
+use Rattle.update_proc.specs.Offered.{ForOffer}
+use Rattle.update_proc.specs.Records.{new_record}
+use Rattle.update_proc.specs.Updates.{KeepsUpdate, KeptSo, LeftSo}
+use Rattle.update_proc.proofs.Since.{follows_now}
+use Rattle.update_proc.proofs.WholeUpdate.{listed, settled_head, settled_slots}
+
+none : Entry
+none = record { identifier = []; memory = memory.Ram; slots = 0; starts = []; capacity = 0; vendor = None; class = None; device = None }
+
+-- ---- one record and one digest
+
+digest_as : (a b : Digest) → a.bytes ≡ b.bytes → a ≡ b
+digest_as a b same = ap (λ (l : List ℕ). record { bytes = l }) same
+
+as_loaded : (o : Option (Bor Record)) (loaded : Option Record) → option_copied o ≡ loaded → option_map (λ r. r.now) o ≡ loaded
+as_loaded None loaded same = same
+as_loaded (Some r) loaded same = same
+
+-- the record that is handed on is the one that was read
+pub recorded_as : (head : List ℕ) (o : Option (Bor Record)) (loaded : Option Record) → option_copied o ≡ loaded → RecordOf VERSION_1 head loaded
+    → RecordOf VERSION_1 head (option_map (λ r. r.now) o)
+recorded_as head o loaded same is = subst (λ (p : Option Record). RecordOf VERSION_1 head p) (sym (as_loaded o loaded same)) is
+
+-- what holds of the record that was read and of the digest that was stated holds of each such
+pub for_offer : (one : OneAnswer) (image wrapper : List ℕ) (P : Option Record → Digest → Type 0) (held : Option Record) (stated : Digest)
+    → RecordOf VERSION_1 (head_of VERSION_1 image) held → ((digest : List ℕ) (blocks : List (List ℕ)) → WrapperSays wrapper digest blocks → stated.bytes ≡ digest)
+    → P held stated → ForOffer image wrapper P
+for_offer one image wrapper P held stated is says p other digest blocks there said =
+    subst (λ (o : Option Record). P o digest) (one VERSION_1 (head_of VERSION_1 image) held other is there)
+    (subst (λ (d : Digest). P held d) (digest_as stated digest (says digest.bytes blocks said)) p)
+
+-- ---- what was kept
+
+pub kept_from : (K L S T : Type 0) → (K → L) → (S → T) → (answer : UpdateEnd) → KeptSo K S answer → KeptSo L T answer
+kept_from K L S T k s (ends.Installed r) is = k is
+kept_from K L S T k s (ends.Lower m n) is = s is
+kept_from K L S T k s (ends.OtherDigest m n) is = s is
+kept_from K L S T k s ends.Worn is = s is
+kept_from K L S T k s (ends.Condition place) is = k is
+kept_from K L S T k s (ends.Stopped place cause) is = k is
+kept_from K L S T k s ends.FlashFault (inl is) = inl (s is)
+kept_from K L S T k s ends.FlashFault (inr is) = inr (k is)
+kept_from K L S T k s ends.NoMemory is = s is
+
+-- ---- from before the read
+
+module _ (a b c : Flash) (same : IsSame a b) where
+  -- what holds of each image since
+  pub since_read : (P : List ℕ → Type 0) → ((image : List ℕ) → Now a image → P image) → Passes b c P → Passes a c P
+  since_read P here run = joined a b c P (weakens a b (Now a) P here same.images) run
+
+  pub sound_from : Settled VERSION_1 a → Passes b c (Sound VERSION_1) → Passes a c (Sound VERSION_1)
+  sound_from settled run = since_read (Sound VERSION_1) (each_sound VERSION_1 a settled) run
+
+  pub follows_from : SoundLaws → Settled VERSION_1 a → Passes b c (Follows VERSION_1 b.reads) → Passes a c (Follows VERSION_1 a.reads)
+  follows_from laws settled run =
+      since_read (Follows VERSION_1 a.reads) (follows_now laws a settled)
+      (subst (λ (l : List ℕ). Passes b c (Follows VERSION_1 l)) same.reads run)
+
+  pub settled_from : (size : ℕ) → IsFlash b size → IsSame b c ⊎ IsSettled c → IsSame a c ⊎ IsSettled c
+  settled_from size law (inl is) = inl (same_flash_then a b c size law same is)
+  settled_from size law (inr is) = inr is
+
+  module _ (size : ℕ) (law : IsFlash a size) (layout : List Entry) (allowed : IsLayout VERSION_1 size layout) (places : Places) (tree : PlanTree)
+      (held : Option Record) (key : Key) (config : ConfigOf VERSION_1 size (head_of VERSION_1 a.reads) (Configured layout key)) (settled : Settled VERSION_1 a)
+      (was : RecordOf VERSION_1 (head_of VERSION_1 a.reads) held) (bytes : List ℕ) (sequence : ℕ) (digest : Digest) where
+    config_a : ConfigOf VERSION_1 (length a.reads) (head_of VERSION_1 a.reads) (Configured layout key)
+    config_a = subst (λ (n : ℕ). ConfigOf VERSION_1 n (head_of VERSION_1 a.reads) (Configured layout key)) (sym law.fits) config
+
+    -- what a power loss then may have left has the old record and the old contents
+    old_now : (numbers : List ℕ) (image : List ℕ) → Now a image → IsOld layout places tree numbers held a.reads image
+    old_now numbers image now = record {
+      record_is = subst (λ (h : List ℕ). RecordOf VERSION_1 h held) (sym (settled_head layout key a settled config_a image now)) was;
+      contents = λ i n slot is not. settled_slots layout key a settled config_a (listed size layout allowed config.typed.entries none) image now i n slot is;
+    }
+
+    pub keeps_from : (answer : UpdateEnd) → KeepsUpdate layout places tree held (λ numbers. new_record held b.reads bytes sequence digest numbers) b c answer
+        → KeepsUpdate layout places tree held (λ numbers. new_record held a.reads bytes sequence digest numbers) a c answer
+    keeps_from answer k = record {
+      numbers = k.numbers;
+      chosen = k.chosen;
+      made = k.made;
+      any_moment =
+          since_read (λ image. IsOld layout places tree k.numbers held a.reads image ⊎ IsNew layout (new_record held a.reads bytes sequence digest k.numbers) k.made image)
+          (λ image now. inl (old_now k.numbers image now))
+          (subst (λ (l : List ℕ). Passes b c (λ image. IsOld layout places tree k.numbers held l image ⊎ IsNew layout (new_record held l bytes sequence digest k.numbers) k.made image))
+          same.reads k.any_moment);
+      left = subst (λ (l : List ℕ). LeftSo (λ r. r ≡ new_record held l bytes sequence digest k.numbers) (IsOld layout places tree k.numbers held l c.reads)
+          (IsNew layout (new_record held l bytes sequence digest k.numbers) k.made c.reads) answer) same.reads k.left;
+    }

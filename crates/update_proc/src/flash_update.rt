@@ -1,0 +1,108 @@
+//! An update of a flash: what is recorded is read, and then the envelope is judged, played and installed beside it.
+
+ghost use Rattle.flash_layout.specs.Configs.{ConfigOf, Configured};
+ghost use Rattle.flash_layout.specs.Frames.{head_of};
+ghost use Rattle.flash_layout.specs.Layouts.{IsLayout};
+ghost use Rattle.flash_layout.specs.declared.key.Key.{Key};
+ghost use Rattle.rollback_record.specs.SoundFlash.{Follows, Settled, Sound};
+ghost use Rattle.std.specs.Prelude.{◌≡◌, ◌≤◌, ◌⊎◌, ℕ, IsTrue, List, length};
+ghost use Rattle.step_machine.specs.PlanRuns.{counts_of};
+ghost use Rattle.step_machine.specs.Worlds.{AreDistinct};
+ghost use Rattle.suit_commands.specs.Allowed.{IsPlan};
+ghost use Rattle.suit_edge.specs.Flash.{Grows, IsSame, IsSettled, Passes};
+ghost use Rattle.suit_envelope.specs.Payloads.{HasPayloads};
+ghost use Rattle.suit_envelope.specs.Trimmed.{trimmed};
+ghost use Rattle.suit_envelope.specs.WrapperParts.{HasWrapper};
+ghost use Rattle.suit_manifest.specs.Procedures.{update_tree};
+ghost use Rattle.update_proc.specs.Choices.{AreChosen, active_slots};
+ghost use Rattle.update_proc.specs.Ends.{IfUnfaulted, JudgedSo, UpdateCounts};
+ghost use Rattle.update_proc.specs.Installing.{MayBeInstalled};
+ghost use Rattle.update_proc.specs.Offered.{ForOffer};
+ghost use Rattle.update_proc.specs.Records.{new_record};
+ghost use Rattle.update_proc.specs.Updates.{KeepsUpdate, KeptSo, PlayedSo, PlaysUpdate};
+
+use crate::{UpdateEnd, update_beside};
+use flash_layout::{FlashFault, Layout, Places, VERSION_1};
+use rollback_record::{load_record, record_laws, sound_laws};
+use std::alloc::Global;
+use step_machine::Uris;
+use suit_edge::{Disk, Host, Launcher};
+use suit_envelope::{Envelope, stated_digest};
+use suit_manifest::{Manifest, Members};
+
+/// Updates a settled flash (draft-ietf-suit-manifest-25, section 6): the manifest is judged beside the record that the flash
+/// holds, its update procedure is run on the chosen slots, and where that is done the trimmed envelope is written to a bank
+/// and recorded. All memory is taken before anything is launched or written.
+pub fn update<H: Host, D: Disk, L: Launcher>(
+    alloc: Global,
+    host: &mut H,
+    disk: &mut D,
+    launcher: &mut L,
+    layout: &Layout,
+    places: &Places,
+    envelope: &Envelope<'_>,
+    manifest: &Manifest,
+    members: &Members,
+    uris: &Uris,
+) -> UpdateEnd
+    requires size { VERSION_1.size ≤ D.extent disk.old }
+    requires layout { IsLayout VERSION_1 (D.extent disk.old) layout.now }
+    requires distinct { AreDistinct layout.now places.now }
+    requires count { length manifest.now.components ≡ places.now.count }
+    requires plan { IsPlan (update_tree manifest.now members.now) }
+    requires wrapper { HasWrapper envelope.now.wrapper.now }
+    requires fits { length (trimmed envelope.now.wrapper.now envelope.now.manifest.now) ≤ VERSION_1.bank_size }
+    requires config { IsTrue D.told → (key : Key)
+        × ConfigOf VERSION_1 (D.extent disk.old) (head_of VERSION_1 (D.flash disk.old).reads) (Configured layout.now key) }
+    requires settled { IsTrue D.told → Settled VERSION_1 (D.flash disk.old) }
+    ensures size { D.extent disk.new ≡ D.extent disk.old }
+    ensures judged { IsTrue D.told → ForOffer (D.flash disk.old).reads envelope.now.wrapper.now
+        (λ held digest. JudgedSo manifest.now.sequence digest held result) }
+    ensures counts { UpdateCounts result (counts_of (H.faults host.old) (D.faults disk.old) (L.faults launcher.old))
+        (counts_of (H.faults host.new) (D.faults disk.new) (L.faults launcher.new)) }
+    ensures files { IsTrue H.told → H.file host.new ≡ H.file host.old }
+    ensures plays { IsTrue H.told → IsTrue D.told → IsTrue L.told
+        → ForOffer (D.flash disk.old).reads envelope.now.wrapper.now (λ held digest.
+        (payloads : List (List ℕ × List ℕ)) → HasPayloads envelope.now.whole.now payloads
+        → PlayedSo (λ made end. PlaysUpdate layout.now places.now (update_tree manifest.now members.now) held payloads uris.now
+        (H.file host.old) (D.flash disk.old).reads made (L.launches launcher.old) (L.launches launcher.new) end)
+        layout.now (D.flash disk.new).reads (L.launches launcher.old) (L.launches launcher.new) result) }
+    ensures keeps { IsTrue D.told → let start = D.flash disk.old in
+        let bytes = trimmed envelope.now.wrapper.now envelope.now.manifest.now in
+        ForOffer start.reads envelope.now.wrapper.now (λ held digest.
+        KeptSo (KeepsUpdate layout.now places.now (update_tree manifest.now members.now) held
+        (λ numbers. new_record held start.reads bytes manifest.now.sequence digest numbers)
+        start (D.flash disk.new) result) (IsSame start (D.flash disk.new)) result) }
+    ensures sound { IsTrue D.told → let start = D.flash disk.old in
+        let bytes = trimmed envelope.now.wrapper.now envelope.now.manifest.now in
+        ForOffer start.reads envelope.now.wrapper.now (λ held digest.
+        ((numbers : List ℕ) → AreChosen layout.now places.now (update_tree manifest.now members.now) (active_slots held) numbers
+        → MayBeInstalled start.reads bytes (new_record held start.reads bytes manifest.now.sequence digest numbers))
+        → Passes start (D.flash disk.new) (Sound VERSION_1)) }
+    ensures follows { IsTrue D.told → Passes (D.flash disk.old) (D.flash disk.new) (Follows VERSION_1 (D.flash disk.old).reads) }
+    ensures settled { IsTrue D.told → IfUnfaulted result
+        (IsSame (D.flash disk.old) (D.flash disk.new) ⊎ IsSettled (D.flash disk.new)) }
+    ensures grows { IsTrue D.told → Grows (D.flash disk.old) (D.flash disk.new) }
+{
+    record_laws();
+    sound_laws();
+    let held = match load_record(disk) {
+        Ok(held) => held,
+        Err(FlashFault) => return UpdateEnd::FlashFault,
+    };
+    let digest = stated_digest(envelope);
+    update_beside(
+        alloc,
+        host,
+        disk,
+        launcher,
+        layout,
+        places,
+        envelope,
+        manifest,
+        members,
+        uris,
+        held.as_ref(),
+        &digest,
+    )
+}
