@@ -94,7 +94,7 @@ fn slots_are_judged(rt: HostRuntime) -> Result<(), AllocError> {
 }
 
 #[test]
-fn components_are_judged_together(rt: HostRuntime) -> Result<(), AllocError> {
+fn components_are_judged_together(rt: HostRuntime) -> Result<(), Fail> {
     let alloc = rt.alloc();
     for (first, second, other, wanted) in [
         ("49152", "50184", "01", "accepted"),
@@ -111,15 +111,12 @@ fn components_are_judged_together(rt: HostRuntime) -> Result<(), AllocError> {
         let second = in_flash(alloc, other, second)?;
         let both = format!(in alloc; "{},{}", first.as_str(), second.as_str())?;
         let device = device_of(alloc, both.as_str())?;
-        assert!(rt;
-            told(alloc, device.as_str())?.as_str() == wanted,
-            "{wanted}"
-        );
+        assert_eq!(rt; told(alloc, device.as_str())?.as_str(), wanted, "{wanted}");
     }
     let ram = "{\"capacity\":1,\"id\":[],\"kind\":\"ram\"}";
     let nine = format!(in alloc; "{ram},{ram},{ram},{ram},{ram},{ram},{ram},{ram},{ram}")?;
     let device = device_of(alloc, nine.as_str())?;
-    assert!(rt; told(alloc, device.as_str())?.as_str() == "many 9");
+    assert_eq!(rt; told(alloc, device.as_str())?.as_str(), "many 9");
     Ok(())
 }
 
