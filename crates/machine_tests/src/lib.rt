@@ -1,0 +1,18 @@
+//! Tests of `step_machine`, over its public calls and the objects in memory alone: a crate that holds its own tests is
+//! proved twice.
+#![tactic(auto)]
+
+#[cfg(test)]
+mod conditions;
+#[cfg(test)]
+mod devices;
+#[cfg(test)]
+mod directives;
+#[cfg(test)]
+mod fetched;
+#[cfg(test)]
+mod launches;
+#[cfg(test)]
+mod playing;
+#[cfg(test)]
+mod sequences;

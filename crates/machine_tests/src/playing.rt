@@ -1,0 +1,153 @@
+//! Procedures that are run on the device, and what they launch.
+
+ghost use Rattle.std.specs.Prelude.{◌≡◌, IfSome};
+ghost use Rattle.suit_commands.specs.Allowed.{IsMember, IsPlan, IsShared};
+ghost use Rattle.suit_commands.specs.Plans.{plan_tree};
+
+use crate::devices::{ENVELOPE, SIZE, blank, keeper, layout, words, world};
+use std::alloc::{AllocError, Global};
+use step_machine::{PlanEnd, run_plan};
+use suit_commands::{Plan, Sequence, decode_sequence, sequence_laws};
+use suit_edge::{Disk, Host, Launch, Launcher, Launches, MemoryLauncher};
+use suit_envelope::decode_envelope;
+
+/// A launch that is wanted.
+#[derive(Clone, Copy)]
+pub(crate) struct Wanted<'a> {
+    pub component: u32,
+    pub bytes: &'a [u8],
+    pub digest: Option<&'a [u8]>,
+    pub size: Option<u64>,
+    pub args: Option<&'a [u8]>,
+}
+
+/// The member that the bytes spell, at place 100.
+pub(crate) fn member(alloc: Global, bytes: &[u8]) -> Option<Sequence>
+    ensures { IfSome result (IsMember 3) }
+{
+    sequence_laws();
+    match decode_sequence(alloc, bytes, 100, false, 3) {
+        Ok(sequence) => Some(sequence),
+        Err(_) => None,
+    }
+}
+
+/// The shared sequence that the bytes spell, at place 100.
+pub(crate) fn shared(alloc: Global, bytes: &[u8]) -> Option<Sequence>
+    ensures { IfSome result (IsShared 3) }
+{
+    sequence_laws();
+    match decode_sequence(alloc, bytes, 100, true, 3) {
+        Ok(sequence) => Some(sequence),
+        Err(_) => None,
+    }
+}
+
+/// Runs a procedure, and answers how it ended.
+pub(crate) fn end_of<H: Host, D: Disk, L: Launcher>(
+    alloc: Global,
+    host: &mut H,
+    disk: &mut D,
+    launcher: &mut L,
+    plan: &Plan<'_>,
+) -> Result<Option<PlanEnd>, AllocError>
+    requires size { D.extent disk.old ≡ SIZE }
+    requires plan { IsPlan (plan_tree plan.now) }
+    requires count { plan.now.count ≡ 3 }
+    ensures size { D.extent disk.new ≡ SIZE }
+{
+    let Some(layout) = layout(alloc)? else {
+        return Ok(None);
+    };
+    let uris = words(alloc)?;
+    let Ok(envelope) = decode_envelope(&ENVELOPE) else {
+        return Ok(None);
+    };
+    let mut world = world(alloc, &layout, &uris, &envelope)?;
+    Ok(Some(run_plan(host, disk, launcher, &mut world, plan)))
+}
+
+/// Runs a procedure of one member.
+pub(crate) fn member_end<H: Host, D: Disk, L: Launcher>(
+    alloc: Global,
+    host: &mut H,
+    disk: &mut D,
+    launcher: &mut L,
+    bytes: &[u8],
+) -> Result<Option<PlanEnd>, AllocError>
+    requires size { D.extent disk.old ≡ SIZE }
+    ensures size { D.extent disk.new ≡ SIZE }
+{
+    let Some(sequence) = member(alloc, bytes) else {
+        return Ok(None);
+    };
+    let plan = Plan {
+        shared: None,
+        first: Some(&sequence),
+        second: None,
+        third: None,
+        count: 3,
+    };
+    end_of(alloc, host, disk, launcher, &plan)
+}
+
+// Runs procedures of one member in turn: whether each ends as is wanted.
+fn all_end<H: Host, D: Disk, L: Launcher>(
+    alloc: Global,
+    host: &mut H,
+    disk: &mut D,
+    launcher: &mut L,
+    rows: &[(&[u8], PlanEnd)],
+) -> Result<bool, AllocError>
+    requires size { D.extent disk.old ≡ SIZE }
+    ensures size { D.extent disk.new ≡ SIZE }
+{
+    for row in rows {
+        if member_end(alloc, host, disk, launcher, row.0)? != Some(row.1) {
+            return Ok(false);
+        }
+    }
+    Ok(true)
+}
+
+/// The same on a flash of zeros and a launcher without launches, where these calls of the host fail.
+pub(crate) fn rows_end(
+    alloc: Global,
+    host_fails: &[u64],
+    rows: &[(&[u8], PlanEnd)],
+) -> Result<bool, AllocError> {
+    let mut host = keeper(alloc, host_fails)?;
+    let mut disk = blank(alloc, &[])?;
+    let mut launcher = MemoryLauncher::new(alloc, &[])?;
+    all_end(alloc, &mut host, &mut disk, &mut launcher, rows)
+}
+
+fn is_wanted(launch: &Launch, wanted: &Wanted<'_>) -> bool {
+    let digest = match &launch.digest {
+        Some(digest) => wanted.digest == Some(digest.as_slice()),
+        None => wanted.digest.is_none(),
+    };
+    let args = match &launch.args {
+        Some(args) => wanted.args == Some(args.as_slice()),
+        None => wanted.args.is_none(),
+    };
+    digest
+        && args
+        && launch.component == wanted.component
+        && launch.bytes.as_slice() == wanted.bytes
+        && launch.size == wanted.size
+}
+
+/// Whether these were launched, and no others.
+pub(crate) fn are_launched(launches: &Launches, wanted: &[Wanted<'_>]) -> bool {
+    let found = launches.as_slice();
+    if found.len() != wanted.len() {
+        return false;
+    }
+    for k in 0..wanted.len() {
+        if !is_wanted(&found[k], &wanted[k]) {
+            return false;
+        }
+    }
+    true
+}
