@@ -32,7 +32,7 @@ const CHECK: [&str; 2] = ["check", "e1.suit"];
 
 // ---- runs
 
-pub fn names(alloc: Global, words: &[&str]) -> Result<Names, AllocError> {
+fn names(alloc: Global, words: &[&str]) -> Result<Names, AllocError> {
     let mut names = Names::new(alloc);
     for word in words {
         names.push(Text::from_str(alloc, word)?)?;

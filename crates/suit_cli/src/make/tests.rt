@@ -1,10 +1,9 @@
 //! Tests of `make` on objects in memory. The expected bytes were computed by another program.
 
-use crate::tests::names;
-use crate::{Status, run};
+use crate::tests::answers_by_files;
 use std::alloc::{AllocError, Global};
 use std::test::Fail;
-use suit_edge::{Host, MemoryDisk, MemoryHost, MemorySink, Pulled, Started};
+use suit_edge::{Host, MemoryHost, Started};
 
 const DESCRIPTION: &str =
     "{\"sequence\":1,\"components\":[[\"00\"]],\"shared\":[[\"set\",{\"digest\":{\"file\":\"abc.img\"},\"size\":{\"file\":\"abc.img\"}}]],\"validate\":[[\"match\",15]],\"invoke\":[[\"invoke\",15]]}";
@@ -17,74 +16,78 @@ const ENVELOPE: &str =
 
 const MAKE: [&str; 4] = ["make", "d.json", "k", "o.suit"];
 
-/// What a run over a description put, its status, and what the host holds then.
-fn made(
-    alloc: Global,
-    words: &[&str],
-    description: &str,
-    host_fails: &[u64],
-) -> Result<(u8, Vec<u8>, MemoryHost), AllocError> {
-    let words = names(alloc, words)?;
-    let mut host = MemoryHost::new(alloc, host_fails)?;
+const FAULT: (u8, &str) = (7, "host fault\n");
+
+// A host with a description, a key and an image, of which these calls fail.
+fn with_files(alloc: Global, description: &str, fails: &[u64]) -> Result<MemoryHost, AllocError> {
+    let mut host = MemoryHost::new(alloc, fails)?;
     host.add("d.json", description.as_bytes())?;
     host.add("k", b"a key")?;
     host.add("abc.img", b"abc")?;
-    let mut sink = MemorySink::new(alloc, &[])?;
-    let mut flash = MemoryDisk::new(alloc, 49_152, &[])?;
-    let Status(status) = run(alloc, &words, &mut host, &mut flash, &mut sink);
-    Ok((status, sink.bytes().to_vec(alloc)?, host))
+    Ok(host)
+}
+
+// Whether the host has a file with just these bytes.
+fn holds<H: Host>(host: &mut H, name: &str, wanted: &[u8]) -> bool {
+    let mut room = [0u8; 200];
+    if host.start(name) != Started::Done {
+        return false;
+    }
+    let _pulled = host.pull(&mut room);
+    room.starts_with(wanted)
+}
+
+// Whether the envelope of the description is made so, and stands as these bytes.
+fn makes(alloc: Global, description: &str, says: &str, wanted: &[u8]) -> Result<bool, AllocError> {
+    let mut host = with_files(alloc, description, &[])?;
+    let made = answers_by_files(alloc, &MAKE, &mut host, (0, says))?;
+    Ok(made && holds(&mut host, "o.suit", wanted))
 }
 
 #[test]
 fn an_envelope_is_made_and_stored(rt: HostRuntime) -> Result<(), Fail> {
-    let alloc = rt.alloc();
-    let (status, text, mut host) = made(alloc, &MAKE, DESCRIPTION, &[])?;
-    assert_eq!(rt; text.as_slice(), b"made 163\n".as_slice());
-    assert_eq!(rt; status, 0);
-    let mut room = [0u8; 200];
-    assert_eq!(rt; host.start("o.suit"), Started::Done);
-    assert_eq!(rt; host.pull(&mut room), Pulled::Got(163));
-    let envelope = hex::decode(alloc, ENVELOPE)?;
-    assert_eq!(rt; &room[..163], envelope.as_slice());
-
-    let (_status, text, _host) = made(alloc, &MAKE, WITH_INSTALL, &[])?;
-    assert_eq!(rt; text.as_slice(), b"made 175\n".as_slice());
+    let envelope = hex::decode(rt.alloc(), ENVELOPE)?;
+    assert!(rt; makes(rt.alloc(), DESCRIPTION, "made 163\n", envelope.as_slice())?);
     Ok(())
 }
 
 #[test]
-fn nothing_is_stored_where_it_is_refused(rt: HostRuntime) -> Result<(), Fail> {
-    let alloc = rt.alloc();
-    let rows = [
-        ("{", 3, "bad json\n"),
-        ("{}", 3, "bad field /components\n"),
-        (
-            "{\"sequence\":1,\"components\":[[\"00\"],[\"00\"]]}",
-            3,
-            "components 0 and 1 are alike\n",
-        ),
-        (
-            "{\"sequence\":1,\"components\":[[\"00\"]],\"payloads\":{\"#a\":{\"file\":\"b\"}}}",
-            20,
-            "absent b\n",
-        ),
-    ];
-    for (description, says_status, says) in &rows {
-        let (status, text, mut host) = made(alloc, &MAKE, description, &[])?;
-        assert_eq!(rt; text.as_slice(), says.as_bytes(), "{says}");
-        assert_eq!(rt; status, *says_status, "{says}");
-        assert_eq!(rt; host.start("o.suit"), Started::Absent, "{says}");
-    }
+fn a_member_more_is_made(rt: HostRuntime) -> Result<(), AllocError> {
+    assert!(rt; makes(rt.alloc(), WITH_INSTALL, "made 175\n", b"")?);
     Ok(())
 }
 
+// Whether the description is refused so, and nothing is stored.
+fn refuses(alloc: Global, description: &str, says: (u8, &str)) -> Result<bool, AllocError> {
+    let mut host = with_files(alloc, description, &[])?;
+    let refused = answers_by_files(alloc, &MAKE, &mut host, says)?;
+    Ok(refused && host.start("o.suit") == Started::Absent)
+}
+
+const ALIKE: &str = "{\"sequence\":1,\"components\":[[\"00\"],[\"00\"]]}";
+
+const NAMES_NONE: &str =
+    "{\"sequence\":1,\"components\":[[\"00\"]],\"payloads\":{\"#a\":{\"file\":\"b\"}}}";
+
 #[test]
-fn each_call_of_the_host_may_fail(rt: HostRuntime) -> Result<(), Fail> {
-    let alloc = rt.alloc();
+fn nothing_is_stored_where_it_is_refused(rt: HostRuntime) -> Result<(), AllocError> {
+    assert!(rt; refuses(rt.alloc(), "{", (3, "bad json\n"))?);
+    assert!(rt; refuses(rt.alloc(), "{}", (3, "bad field /components\n"))?);
+    assert!(rt; refuses(rt.alloc(), ALIKE, (3, "components 0 and 1 are alike\n"))?);
+    assert!(rt; refuses(rt.alloc(), NAMES_NONE, (20, "absent b\n"))?);
+    Ok(())
+}
+
+// Whether a call of the host that fails is told.
+fn tells_fault(alloc: Global, call: u64) -> Result<bool, AllocError> {
+    let mut host = with_files(alloc, DESCRIPTION, &[call])?;
+    answers_by_files(alloc, &MAKE, &mut host, FAULT)
+}
+
+#[test]
+fn each_call_of_the_host_may_fail(rt: HostRuntime) -> Result<(), AllocError> {
     for call in 0..10u64 {
-        let (status, text, _host) = made(alloc, &MAKE, DESCRIPTION, &[call])?;
-        assert_eq!(rt; status, 7, "call {call}");
-        assert_eq!(rt; text.as_slice(), b"host fault\n".as_slice(), "call {call}");
+        assert!(rt; tells_fault(rt.alloc(), call)?, "call {call}");
     }
     Ok(())
 }
