@@ -9,6 +9,8 @@ mod devices;
 #[cfg(test)]
 mod directives;
 #[cfg(test)]
+mod faults;
+#[cfg(test)]
 mod fetched;
 #[cfg(test)]
 mod launches;
