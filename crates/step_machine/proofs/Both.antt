@@ -94,3 +94,17 @@ both_spot a b e size now ram after same (m, one, two) inside = spot_stays b e si
 
 pub both_room : (a b e : Spot) (ram after : List Held) → IsRamButBoth a b ram after → room_at e after ≡ room_at e ram
 both_room a b e ram after (m, one, two) = room_stays b e m after two ∙ room_stays a e ram m one
+
+-- nothing has changed
+pub both_same : (a b : Spot) (ram : List Held) → IsRamButBoth a b ram ram
+both_same a b ram = first_changed a b ram ram (ram_same a ram)
+
+-- each is stretched, and then both change
+pub stretched_then : (a b : Spot) (ram one two three : List Held) → AreSpotsClear a b → IsRamBut a ram one → IsRamBut b one two → IsRamButBoth a b two three → IsRamButBoth a b ram three
+stretched_then a b ram one two three clear first second both = both_then a b ram two three clear (one, first, second) both
+
+pub first_then : (a b : Spot) (ram middle after : List Held) → AreSpotsClear a b → IsRamButBoth a b ram middle → IsRamBut a middle after → IsRamButBoth a b ram after
+first_then a b ram middle after clear both is = both_then a b ram middle after clear both (first_changed a b middle after is)
+
+pub second_then : (a b : Spot) (ram middle after : List Held) → AreSpotsClear a b → IsRamButBoth a b ram middle → IsRamBut b middle after → IsRamButBoth a b ram after
+second_then a b ram middle after clear both is = both_then a b ram middle after clear both (second_changed a b middle after is)

@@ -14,6 +14,17 @@ use Rattle.step_machine.specs.Comes.{Comes}
 pub stops_as : (p : ℕ) (cause : Cause) (v : Device) (o other : Outcome Device) → o.ending ≡ other.ending → o.cause ≡ other.cause → o.world ≡ other.world → Stops p cause v other → Stops p cause v o
 stops_as p cause v o other e c w h = record { ending = e ∙ h.ending; named = c ∙ h.named; world = w ∙ h.world }
 
+-- a play that ends so, and is stopped and cut so, as another one is
+module _ (p q : Play Device) (s z : State) (w x : Device) (ends : (q.comes z x).ending ≡ (p.comes s w).ending) (world : (q.comes z x).world ≡ (p.comes s w).world)
+    (stops_so : (a : ℕ) (cause : Cause) (v : Device) → Stops a cause v (p.comes s w) → Stops a cause v (q.comes z x)) (cut_so : (a : ℕ) (cause : Cause) (v : Device) → IsCutSo p a s w cause v → IsCutSo q a z x cause v) where
+  pub comes_by : (r : Result (Unit {0}) Stop) (t : State) (v : Device) → Comes p s w r t v → Comes q z x r t v
+  comes_by (Ok u) t v (e, is) = (ends ∙ e, world ∙ is)
+  comes_by (Err (stops.Condition a soft)) t v (e, is) = (ends ∙ e, world ∙ is)
+  comes_by (Err (stops.Directive a causes.HostFault)) t v h = cut_so a causes.HostFault v h
+  comes_by (Err (stops.Directive a causes.FlashFault)) t v h = cut_so a causes.FlashFault v h
+  comes_by (Err (stops.Directive a causes.LaunchFault)) t v h = cut_so a causes.LaunchFault v h
+  comes_by (Err (stops.Directive a cause)) t v h = stops_so a cause v h
+
 module _ (first second : Play Device) (s t : State) (w v : Device) (done : (first.comes s w).ending ≡ Done t) (left : (first.comes s w).world ≡ v) where
   one : Outcome Device
   one = first.comes s w
@@ -46,15 +57,8 @@ module _ (first second : Play Device) (s t : State) (w v : Device) (done : (firs
   -- the first is done, and the second comes to this
   pub then_comes : (r : Result (Unit {0}) Stop) (next : State) (u : Device) → Comes second t v r next u → Comes (in_turn Device first second) s w r next u
   unfolding both
-  then_comes (Ok x) next u (ends, is) = (ap (λ (o : Outcome Device). o.ending) gone_on ∙ ends, ap (λ (o : Outcome Device). o.world) gone_on ∙ is)
-  then_comes (Err (stops.Condition p soft)) next u (ends, is) = (ap (λ (o : Outcome Device). o.ending) gone_on ∙ ends, ap (λ (o : Outcome Device). o.world) gone_on ∙ is)
-  then_comes (Err (stops.Directive p causes.Missing)) next u h = stops_then p causes.Missing u h
-  then_comes (Err (stops.Directive p causes.SelfCopy)) next u h = stops_then p causes.SelfCopy u h
-  then_comes (Err (stops.Directive p causes.TooLarge)) next u h = stops_then p causes.TooLarge u h
-  then_comes (Err (stops.Directive p causes.Absent)) next u h = stops_then p causes.Absent u h
-  then_comes (Err (stops.Directive p causes.HostFault)) next u h = cut_then p causes.HostFault u h
-  then_comes (Err (stops.Directive p causes.FlashFault)) next u h = cut_then p causes.FlashFault u h
-  then_comes (Err (stops.Directive p causes.LaunchFault)) next u h = cut_then p causes.LaunchFault u h
+  then_comes r next u h =
+      comes_by second (in_turn Device first second) t s v w (ap (λ (o : Outcome Device). o.ending) gone_on) (ap (λ (o : Outcome Device). o.world) gone_on) stops_then cut_then r next u h
 
 module _ (first second : Play Device) (s : State) (w : Device) where
   stops_first : (p : ℕ) (cause : Cause) (u : Device) → Stops p cause u (first.comes s w) → Stops p cause u ((in_turn Device first second).comes s w)
@@ -76,10 +80,7 @@ module _ (first second : Play Device) (s : State) (w : Device) where
       let o = first.comes s w in
       let goes = ap (going_on Device second.comes o.events o.cause o.world) ends in
       (ap (λ (x : Outcome Device). x.ending) goes, ap (λ (x : Outcome Device). x.world) goes ∙ is)
-  first_stops (stops.Directive p causes.Missing) next u h = stops_first p causes.Missing u h
-  first_stops (stops.Directive p causes.SelfCopy) next u h = stops_first p causes.SelfCopy u h
-  first_stops (stops.Directive p causes.TooLarge) next u h = stops_first p causes.TooLarge u h
-  first_stops (stops.Directive p causes.Absent) next u h = stops_first p causes.Absent u h
   first_stops (stops.Directive p causes.HostFault) next u h = cut_first p causes.HostFault u h
   first_stops (stops.Directive p causes.FlashFault) next u h = cut_first p causes.FlashFault u h
   first_stops (stops.Directive p causes.LaunchFault) next u h = cut_first p causes.LaunchFault u h
+  first_stops (stops.Directive p cause) next u h = stops_first p cause u h

@@ -1,18 +1,15 @@
 -- Two contents that have changed, and the rest of flash and memory stayed.
-use Rattle.std.proofs.Common.{◌≡◌, ◌≢◌, ◌≤◌, ◌<◌, ◌+◌, ℕ, zero, suc, List, [], ◌∷◌, None, Result, Err, length, get_or, set, map, refl, sym, ap, subst, ◌∙◌, arith, get_or-set_other}
+use Rattle.std.proofs.Common.{◌≡◌, ◌≢◌, ◌≤◌, ◌<◌, ◌+◌, ℕ, zero, suc, List, [], ◌∷◌, None, Err, length, get_or, set, map, refl, sym, ap, subst, ◌∙◌, arith, get_or-set_other}
 use Rattle.std.specs.Prelude.{IsTrue}
-use Rattle.std.proofs.lemmas.List.{append-nil}
 use Rattle.suit_edge.specs.Flash.{Flash, Grows, Keeps}
 use Rattle.suit_edge.specs.FlashLaws.{keeps_fewer}
 use Rattle.suit_params.specs.declared.param.ParamKey.TheVariants as keys
 use Rattle.suit_params.specs.InForce.{in_force, number_of}
 use Rattle.suit_commands.specs.Plans.{plan_tree}
 use Rattle.suit_commands.specs.declared.kinds.ActKind.TheVariants as acts
-use Rattle.path_model.specs.declared.cause.Cause.{Cause}
 use Rattle.path_model.specs.declared.cause.Cause.TheVariants as causes
 use Rattle.path_model.specs.declared.event.Event.TheVariants.{Wrote}
 use Rattle.path_model.specs.Behaviour.{State}
-use Rattle.path_model.specs.Settings.{Setting}
 use Rattle.path_model.specs.Plays.{Outcome}
 use Rattle.path_model.specs.DevicePlays.{Device, Launched, with_content, acted, copied, swapped}
 use Rattle.flash_layout.specs.declared.slot.Slot.{Slot}
@@ -23,18 +20,15 @@ use Rattle.step_machine.specs.declared.spot.Standing.{Standing}
 use Rattle.step_machine.specs.declared.stop.Stop.TheVariants as stops
 use Rattle.step_machine.specs.declared.machine.Machine.{Machine}
 use Rattle.step_machine.specs.Allowing.{MayWrite}
-use Rattle.step_machine.specs.Comes.{Comes}
 use Rattle.step_machine.specs.Copying.{IsRamButBoth, OutsideBoth}
 use Rattle.step_machine.specs.Devices.{AreSpotsClear, IsApart}
-use Rattle.step_machine.specs.Directives.{ActsSo}
 use Rattle.step_machine.specs.PlanRuns.{OutsideTargets}
 use Rattle.step_machine.specs.Parts.{act_part}
-use Rattle.step_machine.specs.Running.{Moment, Stays, StopCounts, Part, Fits, Runs, IsReady, AreSources, counts_at, device_at, stopped}
+use Rattle.step_machine.specs.Running.{Moment, Stays, Runs, IsReady, AreSources, device_at}
 use Rattle.step_machine.specs.Spots.{content_of, IsSpot, OutsideSpot, IsRamBut}
-use Rattle.step_machine.proofs.Beginning.{Obeys}
-use Rattle.step_machine.proofs.Leaves.{no_standing, acts_come, same_rooms}
+use Rattle.step_machine.proofs.Leaves.{no_standing, same_rooms}
 use Rattle.step_machine.proofs.Lifting.{clear_outside, kept_slot, map_same, map_but}
-use Rattle.step_machine.proofs.Parting.{runs_at_once}
+use Rattle.step_machine.proofs.Beginning.{runs_at_once}
 
 ram_content : (a b : Spot) (ram after : List Held) (reads : List ℕ) → AreSpotsClear a b → IsRamBut a ram after → content_of b after reads ≡ content_of b ram reads
 ram_content (spots.Flash x) (spots.Flash y) ram after reads clear but = refl
@@ -86,7 +80,7 @@ module _ (machine : Machine) (m n : Moment) (i j : ℕ) (d : Standing) (lt : i <
       subst (λ (s : Standing). AreSpotsClear s.spot (get_or machine.standings.now x e).spot) (same_at machine.standings.now k e d under)
       (ready.standings.apart k under x e inside other)
 
-  two_device : length m.disk.flash.reads ≡ m.disk.size → Keeps (OutsideBoth (get_or machine.standings.now i d).spot (get_or machine.standings.now j d).spot) m.disk.flash n.disk.flash → (launches : List Launched)
+  pub two_device : length m.disk.flash.reads ≡ m.disk.size → Keeps (OutsideBoth (get_or machine.standings.now i d).spot (get_or machine.standings.now j d).spot) m.disk.flash n.disk.flash → (launches : List Launched)
       → with_content (with_content (device_at machine m launches) i (content_of (get_or machine.standings.now i d).spot n.ram n.disk.flash.reads)) j (content_of (get_or machine.standings.now j d).spot n.ram n.disk.flash.reads)
       ≡ device_at machine n launches
   two_device size keeps launches =
@@ -108,25 +102,6 @@ module _ (machine : Machine) (m n : Moment) (i j : ℕ) (d : Standing) (lt : i <
     files = files;
     keeps = λ t. keeps_fewer (OutsideTargets (plan_tree machine.plan.now) machine.standings.now) (OutsideBoth (get_or machine.standings.now i d).spot (get_or machine.standings.now j d).spot) (λ x out. (out i d lt may, out j d below other)) m.disk.flash n.disk.flash (keeps t);
     grows = grows;
-  }
-
-  pub two_run : (part : Part) (s : State) (place : ℕ) (r : Result (Unit {0}) Cause) → Obeys m → Stays machine m n → n.launcher.launches ≡ m.launcher.launches
-      → StopCounts (stopped place r) (counts_at m) (counts_at n) → AreSources machine s.parameters
-      → (IsTrue m.disk.told → Keeps (OutsideBoth (get_or machine.standings.now i d).spot (get_or machine.standings.now j d).spot) m.disk.flash n.disk.flash)
-      → ((setting : Setting) → Fits machine m setting → (prior : List Launched) → ActsSo (part setting) place s (device_at machine m prior) r
-      (with_content (with_content (device_at machine m prior) i (content_of (get_or machine.standings.now i d).spot n.ram n.disk.flash.reads)) j (content_of (get_or machine.standings.now j d).spot n.ram n.disk.flash.reads)))
-      → Runs machine part s m (stopped place r) s n
-  two_run part s place r law stays launches counts sources keeps acts = record {
-    stays = stays;
-    counts = counts;
-    sources = sources;
-    goes = λ setting fits prior. record {
-      gained = [];
-      added = launches ∙ sym (append-nil m.launcher.launches);
-      comes = subst (λ (v : Device). Comes (part setting) s (device_at machine m prior) (stopped place r) s v)
-          (two_device (law fits.disk).fits (keeps fits.disk) prior ∙ ap (device_at machine n) (sym (append-nil prior)))
-          (acts_come (part setting) place s (device_at machine m prior) _ r (acts setting fits prior));
-    };
   }
 
 pub apart_here : (standings : List Standing) (i j : ℕ) → i < length standings → IsApart standings i → j < length standings → j ≢ i → AreSpotsClear (get_or standings i no_standing).spot (get_or standings j no_standing).spot

@@ -11,7 +11,7 @@ use Rattle.step_machine.specs.declared.stop.Stop.TheVariants as stops
 use Rattle.step_machine.specs.Directives.{Stops, IsCutSo}
 use Rattle.step_machine.specs.Comes.{Comes}
 use Rattle.step_machine.specs.Parts.{passed_on}
-use Rattle.step_machine.proofs.Composing.{stops_as}
+use Rattle.step_machine.proofs.Composing.{comes_by, stops_as}
 
 -- ---- run sequence
 
@@ -41,13 +41,10 @@ module _ (inner : Play Device) (c : ℕ) (s : State) (w : Device) where
       subst (λ (o : Stop). Comes (running_inner Device inner c) s w (Err o) u v) same (passes cause h)
     where
       passes : (why : Cause) → Comes inner (entry_state s c false) w (Err (stops.Directive p why)) t v → Comes (running_inner Device inner c) s w (Err (stops.Directive p why)) u v
-      passes causes.Missing x = run_stops p causes.Missing v x
-      passes causes.SelfCopy x = run_stops p causes.SelfCopy v x
-      passes causes.TooLarge x = run_stops p causes.TooLarge v x
-      passes causes.Absent x = run_stops p causes.Absent v x
       passes causes.HostFault x = run_cut p causes.HostFault v x
       passes causes.FlashFault x = run_cut p causes.FlashFault v x
       passes causes.LaunchFault x = run_cut p causes.LaunchFault v x
+      passes why x = run_stops p why v x
 
 -- ---- try each
 
@@ -88,13 +85,10 @@ module _ (inner others : Play Device) (c : ℕ) (s : State) (w : Device) where
       subst (λ (o : Stop). Comes (trying_branch Device inner others c) s w (Err o) u v) same (passes cause h)
     where
       passes : (why : Cause) → Comes inner (entry_state s c true) w (Err (stops.Directive p why)) t v → Comes (trying_branch Device inner others c) s w (Err (stops.Directive p why)) u v
-      passes causes.Missing x = try_stops p causes.Missing v x
-      passes causes.SelfCopy x = try_stops p causes.SelfCopy v x
-      passes causes.TooLarge x = try_stops p causes.TooLarge v x
-      passes causes.Absent x = try_stops p causes.Absent v x
       passes causes.HostFault x = try_cut p causes.HostFault v x
       passes causes.FlashFault x = try_cut p causes.FlashFault v x
       passes causes.LaunchFault x = try_cut p causes.LaunchFault v x
+      passes why x = try_stops p why v x
 
   -- the branch failed softly, and the others come to this
   module _ (q : ℕ) (v : Device) (ends : (inner.comes (entry_state s c true) w).ending ≡ Condition q true) (left : (inner.comes (entry_state s c true) w).world ≡ v) where
@@ -118,12 +112,5 @@ module _ (inner others : Play Device) (c : ℕ) (s : State) (w : Device) where
         }
 
     pub others_come : (r : Result (Unit {0}) Stop) (t : State) (u : Device) → Comes others s v r t u → Comes (trying_branch Device inner others c) s w r t u
-    others_come (Ok x) t u (e, is) = (ap (λ (o : Outcome Device). o.ending) tried ∙ e, ap (λ (o : Outcome Device). o.world) tried ∙ is)
-    others_come (Err (stops.Condition p soft)) t u (e, is) = (ap (λ (o : Outcome Device). o.ending) tried ∙ e, ap (λ (o : Outcome Device). o.world) tried ∙ is)
-    others_come (Err (stops.Directive p causes.Missing)) t u h = others_stop p causes.Missing u h
-    others_come (Err (stops.Directive p causes.SelfCopy)) t u h = others_stop p causes.SelfCopy u h
-    others_come (Err (stops.Directive p causes.TooLarge)) t u h = others_stop p causes.TooLarge u h
-    others_come (Err (stops.Directive p causes.Absent)) t u h = others_stop p causes.Absent u h
-    others_come (Err (stops.Directive p causes.HostFault)) t u h = others_cut p causes.HostFault u h
-    others_come (Err (stops.Directive p causes.FlashFault)) t u h = others_cut p causes.FlashFault u h
-    others_come (Err (stops.Directive p causes.LaunchFault)) t u h = others_cut p causes.LaunchFault u h
+    others_come r t u h =
+        comes_by others (trying_branch Device inner others c) s s v w (ap (λ (o : Outcome Device). o.ending) tried) (ap (λ (o : Outcome Device). o.world) tried) others_stop others_cut r t u h

@@ -1,7 +1,7 @@
 -- A directive at one component, on the whole device.
 use Rattle.std.proofs.Common.{◌≡◌, ◌<◌, ℕ, zero, suc, List, [], ◌∷◌, None, Result, Ok, Err, get_or, length, map, refl, sym, ap, subst, ◌∙◌, arith}
 use Rattle.std.specs.Prelude.{IsTrue, slice_set}
-use Rattle.std.proofs.lemmas.List.{append-nil, get_or-map, length-map}
+use Rattle.std.proofs.lemmas.List.{get_or-map, length-map}
 use Rattle.suit_edge.specs.Flash.{Grows, Keeps}
 use Rattle.suit_edge.specs.FlashLaws.{keeps_fewer}
 use Rattle.suit_commands.specs.Plans.{plan_tree}
@@ -12,6 +12,7 @@ use Rattle.path_model.specs.Settings.{Setting, capacity_of}
 use Rattle.path_model.specs.Plays.{Play}
 use Rattle.path_model.specs.DevicePlays.{Device, Launched, content_at, with_content}
 use Rattle.flash_slots.specs.RamContents.{Held, held_by}
+use Rattle.step_machine.specs.declared.stop.Stop.{Stop}
 use Rattle.step_machine.specs.declared.spot.Spot.{Spot}
 use Rattle.step_machine.specs.declared.spot.Spot.TheVariants as spots
 use Rattle.step_machine.specs.declared.spot.Standing.{Standing}
@@ -23,7 +24,7 @@ use Rattle.step_machine.specs.Fetching.{FetchCounts}
 use Rattle.step_machine.specs.PlanRuns.{counts_of, OutsideTargets}
 use Rattle.step_machine.specs.Running.{Moment, Stays, StopCounts, Fits, Part, Runs, IsReady, AreSources, counts_at, device_at, stopped}
 use Rattle.step_machine.specs.Spots.{IsRamBut, IsSpot, OutsideSpot, content_of}
-use Rattle.step_machine.proofs.Beginning.{Obeys}
+use Rattle.step_machine.proofs.Beginning.{runs_quietly}
 use Rattle.step_machine.proofs.Lifting.{one_changed}
 
 -- what stands at no index
@@ -52,32 +53,37 @@ same_rooms (spots.Ram c) old new (content, e) =
 
 pub cause_counts : (r : Result (Unit {0}) Cause) (place host before now launcher : ℕ) → CauseCounts r before now → StopCounts (stopped place r) (counts_of host before launcher) (counts_of host now launcher)
 cause_counts (Ok u) place host before now launcher e = ap (λ (x : ℕ). counts_of host x launcher) e
-cause_counts (Err causes.Missing) place host before now launcher e = ap (λ (x : ℕ). counts_of host x launcher) e
-cause_counts (Err causes.SelfCopy) place host before now launcher e = ap (λ (x : ℕ). counts_of host x launcher) e
-cause_counts (Err causes.TooLarge) place host before now launcher e = ap (λ (x : ℕ). counts_of host x launcher) e
-cause_counts (Err causes.Absent) place host before now launcher e = ap (λ (x : ℕ). counts_of host x launcher) e
 cause_counts (Err causes.FlashFault) place host before now launcher e = (refl, e, omega arith)
 cause_counts (Err causes.HostFault) place host before now launcher e = absurd e
 cause_counts (Err causes.LaunchFault) place host before now launcher e = absurd e
+cause_counts (Err _) place host before now launcher e = ap (λ (x : ℕ). counts_of host x launcher) e
 
 two_counts : (launcher host host_now before now : ℕ) → (host_now ≡ host) × (now ≡ before) → counts_of host_now now launcher ≡ counts_of host before launcher
 two_counts launcher host host_now before now (e, f) = ap (λ (x : ℕ). counts_of x now launcher) e ∙ ap (λ (x : ℕ). counts_of host x launcher) f
 
 pub fetch_counts : (r : Result (Unit {0}) Cause) (place host host_now before now launcher : ℕ) → FetchCounts r host host_now before now → StopCounts (stopped place r) (counts_of host before launcher) (counts_of host_now now launcher)
 fetch_counts (Ok u) place host host_now before now launcher e = two_counts launcher host host_now before now e
-fetch_counts (Err causes.Missing) place host host_now before now launcher e = two_counts launcher host host_now before now e
-fetch_counts (Err causes.SelfCopy) place host host_now before now launcher e = two_counts launcher host host_now before now e
-fetch_counts (Err causes.TooLarge) place host host_now before now launcher e = two_counts launcher host host_now before now e
-fetch_counts (Err causes.Absent) place host host_now before now launcher e = two_counts launcher host host_now before now e
 fetch_counts (Err causes.HostFault) place host host_now before now launcher (e, f) = (e, f, refl)
 fetch_counts (Err causes.FlashFault) place host host_now before now launcher (e, f) = (e, f, omega arith)
 fetch_counts (Err causes.LaunchFault) place host host_now before now launcher e = absurd e
+fetch_counts (Err _) place host host_now before now launcher e = two_counts launcher host host_now before now e
 
 -- ---- a directive as a part of a procedure
 
 pub acts_come : (play : Play Device) (place : ℕ) (s : State) (w v : Device) (r : Result (Unit {0}) Cause) → ActsSo play place s w r v → Comes play s w (stopped place r) s v
 acts_come play place s w v (Ok u) a = a
 acts_come play place s w v (Err cause) a = a
+
+-- it makes no launch, and leaves the device so
+pub acts_run : (machine : Machine) (m n : Moment) (part : Part) (s : State) (place : ℕ) (r : Result (Unit {0}) Cause) (result : Result (Unit {0}) Stop) (leaves : List Launched → Device) → result ≡ stopped place r
+    → Stays machine m n → n.launcher.launches ≡ m.launcher.launches → StopCounts (stopped place r) (counts_at m) (counts_at n) → AreSources machine s.parameters
+    → (IsTrue m.disk.told → (prior : List Launched) → leaves prior ≡ device_at machine n prior)
+    → ((setting : Setting) → Fits machine m setting → (prior : List Launched) → ActsSo (part setting) place s (device_at machine m prior) r (leaves prior)) → Runs machine part s m result s n
+acts_run machine m n part s place r result leaves is stays launches counts sources left acts =
+    subst (λ (x : Result (Unit {0}) Stop). Runs machine part s m x s n) (sym is)
+    (runs_quietly machine part s m n (stopped place r) s stays counts sources launches (λ setting fits prior.
+    subst (λ (v : Device). Comes (part setting) s (device_at machine m prior) (stopped place r) s v) (left fits.disk prior)
+    (acts_come (part setting) place s (device_at machine m prior) _ r (acts setting fits prior))))
 
 module _ (machine : Machine) (m : Moment) (c : ℕ) (d : Standing) (lt : c < length machine.standings.now) (setting : Setting) (fits : Fits machine m setting) (prior : List Launched) where
   -- the setting and the device at one component
@@ -114,21 +120,3 @@ module _ (machine : Machine) (m n : Moment) (c : ℕ) (d : Standing) (lt : c < l
       ap (λ (l : List (List ℕ)). record { contents = l; launches = launches })
       (sym (one_changed machine.standings.now c d m.ram n.ram m.disk.flash n.disk.flash lt (ready.standings.apart c lt)
       (λ k e below. subst (λ (x : ℕ). IsSpot x m.ram (get_or machine.standings.now k e).spot) (sym size) (ready.standings.each k e below).spot) but keeps))
-
-  pub one_runs : (part : Part) (s : State) (place : ℕ) (r : Result (Unit {0}) Cause) → Obeys m → Stays machine m n → n.launcher.launches ≡ m.launcher.launches
-      → StopCounts (stopped place r) (counts_at m) (counts_at n) → AreSources machine s.parameters
-      → (IsTrue m.disk.told → Keeps (OutsideSpot (get_or machine.standings.now c d).spot) m.disk.flash n.disk.flash)
-      → ((setting : Setting) → Fits machine m setting → (prior : List Launched) → ActsSo (part setting) place s (device_at machine m prior) r (with_content (device_at machine m prior) c (content_of (get_or machine.standings.now c d).spot n.ram n.disk.flash.reads)))
-      → Runs machine part s m (stopped place r) s n
-  one_runs part s place r law stays launches counts sources keeps acts = record {
-    stays = stays;
-    counts = counts;
-    sources = sources;
-    goes = λ setting fits prior. record {
-      gained = [];
-      added = launches ∙ sym (append-nil m.launcher.launches);
-      comes = subst (λ (v : Device). Comes (part setting) s (device_at machine m prior) (stopped place r) s v)
-          (one_device (law fits.disk).fits (keeps fits.disk) prior ∙ ap (device_at machine n) (sym (append-nil prior)))
-          (acts_come (part setting) place s (device_at machine m prior) _ r (acts setting fits prior));
-    };
-  }

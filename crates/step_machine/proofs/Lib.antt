@@ -26,3 +26,6 @@ pub mod SwapPlays
 pub mod Mixed
 pub mod Fitting
 pub mod Standings
+pub mod Turns
+pub mod Directing
+pub mod Reading

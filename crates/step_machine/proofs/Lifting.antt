@@ -30,16 +30,27 @@ kept_slot K slot f g fits inside kept =
     let end : slot.start + extent_of slot ≤ length g.reads = omega (arith, fits, size) in
     ap (content_in slot.capacity) (same_range g.reads f.reads slot.start (slot.start + extent_of slot) size end (λ i lo hi. kept.reads.same i (inside i lo hi)))
 
+-- what a spot holds, by what is read of a slot
+abbrev pub found_at : (Slot → List ℕ → List ℕ) → Spot → List Held → List ℕ → List ℕ
+found_at read (spots.Flash slot) ram reads = read slot reads
+found_at read (spots.Ram j) ram reads = (held_by ram j).content
+
+module _ (read : Slot → List ℕ → List ℕ)
+    (stays : (K : ℕ → Type 0) (slot : Slot) (f g : Flash) → slot.start + extent_of slot ≤ length f.reads → ((i : ℕ) → slot.start ≤ i → i < slot.start + extent_of slot → K i) → Keeps K f g → read slot g.reads ≡ read slot f.reads) where
+  pub kept_found : (a b : Spot) (ram after : List Held) (f g : Flash) → AreSpotsClear a b → IsSpot (length f.reads) ram b → IsRamBut a ram after → Keeps (OutsideSpot a) f g
+      → found_at read b after g.reads ≡ found_at read b ram f.reads
+  kept_found (spots.Flash x) (spots.Flash y) ram after f g clear fits but kept =
+      stays (OutsideSpot (spots.Flash x)) y f g fits (clear_outside x.start (extent_of x) y.start (extent_of y) clear) kept
+  kept_found (spots.Flash x) (spots.Ram j) ram after f g clear fits but kept = ap (λ (r : List Held). (held_by r j).content) but
+  kept_found (spots.Ram i) (spots.Flash y) ram after f g clear fits but kept = stays (OutsideSpot (spots.Ram i)) y f g fits (λ k lo hi. tt) kept
+  kept_found (spots.Ram i) (spots.Ram j) ram after f g clear fits (content, is) kept =
+      ap (λ (r : List Held). (held_by r j).content) is
+      ∙ ap (λ (h : Held). h.content) (get_or-set_other ram i j (record { capacity = (held_by ram i).capacity; content = content }) (empty 0) clear)
+
 pub kept_content : (a b : Spot) (ram after : List Held) (f g : Flash) → AreSpotsClear a b → IsSpot (length f.reads) ram b → IsRamBut a ram after → Keeps (OutsideSpot a) f g
     → content_of b after g.reads ≡ content_of b ram f.reads
-kept_content (spots.Flash x) (spots.Flash y) ram after f g clear fits but kept =
-    kept_slot (OutsideSpot (spots.Flash x)) y f g fits (clear_outside x.start (extent_of x) y.start (extent_of y) clear) kept
-kept_content (spots.Flash x) (spots.Ram j) ram after f g clear fits but kept = ap (λ (r : List Held). (held_by r j).content) but
-kept_content (spots.Ram i) (spots.Flash y) ram after f g clear fits but kept =
-    kept_slot (OutsideSpot (spots.Ram i)) y f g fits (λ k lo hi. tt) kept
-kept_content (spots.Ram i) (spots.Ram j) ram after f g clear fits (content, is) kept =
-    ap (λ (r : List Held). (held_by r j).content) is
-    ∙ ap (λ (h : Held). h.content) (get_or-set_other ram i j (record { capacity = (held_by ram i).capacity; content = content }) (empty 0) clear)
+kept_content a (spots.Flash y) ram after f g clear fits but kept = kept_found slot_content kept_slot a (spots.Flash y) ram after f g clear fits but kept
+kept_content a (spots.Ram j) ram after f g clear fits but kept = kept_found slot_content kept_slot a (spots.Ram j) ram after f g clear fits but kept
 
 -- ---- all of them
 

@@ -32,6 +32,7 @@ use Rattle.step_machine.specs.PlanRuns.{counts_of, OutsideTargets}
 use Rattle.step_machine.specs.Running.{Moment, Stays, StopCounts, Fits, Gained, Runs, AreSources, counts_at, device_at, stopped}
 use Rattle.step_machine.specs.Parts.{test_part, act_part}
 use Rattle.step_machine.specs.Spots.{content_of}
+use Rattle.step_machine.proofs.Beginning.{runs_quietly}
 use Rattle.step_machine.proofs.Leaves.{content_here}
 
 -- ---- how a condition ends
@@ -97,17 +98,9 @@ module _ (machine : Machine) (m n : Moment) (kind : TestKind) (p c : ℕ) (s : S
   runs_test : (r : Result (Unit {0}) Stop) → StopCounts r (counts_at m) (counts_at n)
       → ((setting : Setting) → Fits machine m setting → (prior : List Launched) → Comes (condition_play setting kind p c) s (device_at machine m prior) r s (device_at machine m prior))
       → Runs machine (test_part kind p c) s m r s n
-  runs_test r counts comes = record {
-    stays = stays;
-    counts = counts;
-    sources = sources;
-    goes = λ setting fits prior. record {
-      gained = [];
-      added = launches ∙ sym (append-nil m.launcher.launches);
-      comes = subst (λ (v : Device). Comes (condition_play setting kind p c) s (device_at machine m prior) r s v)
-          (same_device machine m n prior ram (same fits.disk).reads ∙ ap (device_at machine n) (sym (append-nil prior))) (comes setting fits prior);
-    };
-  }
+  runs_test r counts comes =
+      runs_quietly machine (test_part kind p c) s m n r s stays counts sources launches (λ setting fits prior.
+      subst (λ (v : Device). Comes (condition_play setting kind p c) s (device_at machine m prior) r s v) (same_device machine m n prior ram (same fits.disk).reads) (comes setting fits prior))
 
   identity_here : (setting : Setting) → Fits machine m setting → slice_get setting.identities c ≡ Some (get_or machine.standings.now c d).identity
   identity_here setting fits = ap (λ (l : List Identity). slice_get l c) fits.identities ∙ got machine.standings.now c lt
@@ -117,26 +110,32 @@ module _ (machine : Machine) (m n : Moment) (kind : TestKind) (p c : ℕ) (s : S
       got (x ∷ l) zero below = refl
       got (x ∷ l) (suc i) below = got l i (omega (arith, below))
 
-  pub test_passed : StopCounts (Ok tt) (counts_at m) (counts_at n)
-      → (IsTrue m.disk.told → PassesAs kind c s.parameters (get_or machine.standings.now c d).identity (content_of (get_or machine.standings.now c d).spot m.ram m.disk.flash.reads) true)
-      → Runs machine (test_part kind p c) s m (Ok tt) s n
-  test_passed counts exact =
-      runs_test (Ok tt) counts (λ setting fits prior.
-      condition_comes setting kind p c s (device_at machine m prior) (exact fits.disk setting p s (device_at machine m prior) refl (identity_here setting fits) (content_here machine m c d lt setting fits prior)))
+  module _ (component : (get_or machine.standings.now c d).component ≡ c) where
+    passes_here : (b x : Bool) → b ≡ x → (IsTrue m.disk.told → PassesAs kind (get_or machine.standings.now c d).component s.parameters (get_or machine.standings.now c d).identity (content_of (get_or machine.standings.now c d).spot m.ram m.disk.flash.reads) b)
+        → (setting : Setting) → Fits machine m setting → (prior : List Launched) → IsTrue x ↔ Passes setting kind p c s (device_at machine m prior)
+    passes_here b x is exact setting fits prior =
+        subst (λ (k : ℕ). PassesAs kind k s.parameters (get_or machine.standings.now c d).identity (content_of (get_or machine.standings.now c d).spot m.ram m.disk.flash.reads) x) component
+        (subst (λ (y : Bool). PassesAs kind (get_or machine.standings.now c d).component s.parameters (get_or machine.standings.now c d).identity (content_of (get_or machine.standings.now c d).spot m.ram m.disk.flash.reads) y) is (exact fits.disk))
+        setting p s (device_at machine m prior) refl (identity_here setting fits) (content_here machine m c d lt setting fits prior)
 
-  pub test_failed : StopCounts (Err (stops.Condition p s.soft_failure)) (counts_at m) (counts_at n)
-      → (IsTrue m.disk.told → PassesAs kind c s.parameters (get_or machine.standings.now c d).identity (content_of (get_or machine.standings.now c d).spot m.ram m.disk.flash.reads) false)
-      → Runs machine (test_part kind p c) s m (Err (stops.Condition p s.soft_failure)) s n
-  test_failed counts exact =
-      runs_test (Err (stops.Condition p s.soft_failure)) counts (λ setting fits prior.
-      condition_fails setting kind p c s (device_at machine m prior) (exact fits.disk setting p s (device_at machine m prior) refl (identity_here setting fits) (content_here machine m c d lt setting fits prior)))
+    pub test_passed : (b : Bool) → b ≡ true → StopCounts (Ok tt) (counts_at m) (counts_at n)
+        → (IsTrue m.disk.told → PassesAs kind (get_or machine.standings.now c d).component s.parameters (get_or machine.standings.now c d).identity (content_of (get_or machine.standings.now c d).spot m.ram m.disk.flash.reads) b)
+        → Runs machine (test_part kind p c) s m (Ok tt) s n
+    test_passed b is counts exact =
+        runs_test (Ok tt) counts (λ setting fits prior. condition_comes setting kind p c s (device_at machine m prior) (passes_here b true is exact setting fits prior))
 
-  pub test_cut : StopCounts (Err (stops.Directive p causes.FlashFault)) (counts_at m) (counts_at n)
-      → (IsTrue m.disk.told → CutsPlay kind c s.parameters)
-      → Runs machine (test_part kind p c) s m (Err (stops.Directive p causes.FlashFault)) s n
-  test_cut counts cuts =
-      runs_test (Err (stops.Directive p causes.FlashFault)) counts (λ setting fits prior.
-      condition_cut setting kind p c s (device_at machine m prior) (cuts fits.disk setting p s (device_at machine m prior) refl))
+    pub test_failed : (b : Bool) → b ≡ false → StopCounts (Err (stops.Condition p s.soft_failure)) (counts_at m) (counts_at n)
+        → (IsTrue m.disk.told → PassesAs kind (get_or machine.standings.now c d).component s.parameters (get_or machine.standings.now c d).identity (content_of (get_or machine.standings.now c d).spot m.ram m.disk.flash.reads) b)
+        → Runs machine (test_part kind p c) s m (Err (stops.Condition p s.soft_failure)) s n
+    test_failed b is counts exact =
+        runs_test (Err (stops.Condition p s.soft_failure)) counts (λ setting fits prior. condition_fails setting kind p c s (device_at machine m prior) (passes_here b false is exact setting fits prior))
+
+    pub test_cut : StopCounts (Err (stops.Directive p causes.FlashFault)) (counts_at m) (counts_at n)
+        → (IsTrue m.disk.told → CutsPlay kind (get_or machine.standings.now c d).component s.parameters)
+        → Runs machine (test_part kind p c) s m (Err (stops.Directive p causes.FlashFault)) s n
+    test_cut counts cuts =
+        runs_test (Err (stops.Directive p causes.FlashFault)) counts (λ setting fits prior.
+        condition_cut setting kind p c s (device_at machine m prior) (subst (λ (k : ℕ). CutsPlay kind k s.parameters) component (cuts fits.disk) setting p s (device_at machine m prior) refl))
 
 -- ---- a launch
 
@@ -144,11 +143,7 @@ pub invoke_counts : (r : Result (Unit {0}) Cause) (place host before now disk_be
 invoke_counts (Ok u) place host before now disk_before disk_now (e, f) = ap (λ (x : ℕ). counts_of host x now) f ∙ ap (λ (x : ℕ). counts_of host disk_before x) e
 invoke_counts (Err causes.LaunchFault) place host before now disk_before disk_now (e, f) = (refl, f, e)
 invoke_counts (Err causes.FlashFault) place host before now disk_before disk_now (e, f) = (refl, f, e)
-invoke_counts (Err causes.Missing) place host before now disk_before disk_now e = absurd e
-invoke_counts (Err causes.SelfCopy) place host before now disk_before disk_now e = absurd e
-invoke_counts (Err causes.TooLarge) place host before now disk_before disk_now e = absurd e
-invoke_counts (Err causes.Absent) place host before now disk_before disk_now e = absurd e
-invoke_counts (Err causes.HostFault) place host before now disk_before disk_now e = absurd e
+invoke_counts (Err _) place host before now disk_before disk_now e = absurd e
 
 module _ (machine : Machine) (m n : Moment) (p c : ℕ) (s : State) (d : Standing) (lt : c < length machine.standings.now) (stays : Stays machine m n) (ram : n.ram ≡ m.ram)
     (same : IsTrue m.disk.told → IsSame m.disk.flash n.disk.flash) (sources : AreSources machine s.parameters) where

@@ -1,10 +1,8 @@
 -- Sequences, selections and the sequences of a try each, by their first and the rest.
-use Rattle.std.proofs.Common.{◌≡◌, ℕ, ◌+◌, ◌<◌, add-one, Bool, true, false, List, [], ◌∷◌, ◌++◌, Option, Some, None, Result, Ok, Err, length, get_or, drop, map, refl, sym, ap, ◌∙◌, subst, append_assoc, suc}
+use Rattle.std.proofs.Common.{◌≡◌, ℕ, ◌+◌, ◌<◌, add-one, Bool, true, false, List, ◌∷◌, Option, Some, None, Result, Ok, Err, length, get_or, drop, refl, sym, ap, ◌∙◌, subst, suc}
 use Rattle.std.proofs.Math.Seq.{drop-cons}
-use Rattle.std.proofs.lemmas.List.{append-nil}
-use Rattle.suit_edge.specs.declared.launch.Launch.{Launch}
 use Rattle.suit_commands.specs.declared.command.Step.{Step}
-use Rattle.suit_commands.specs.Tree.{CommandTree, Test, Act, Index, Override, TryEach, RunSequence, SequenceTree, NoBranches}
+use Rattle.suit_commands.specs.Tree.{CommandTree, Index, Override, SequenceTree, NoBranches}
 use Rattle.suit_commands.specs.Selections.{selected_by}
 use Rattle.suit_commands.specs.declared.selection.Selection.{Selection}
 use Rattle.suit_commands.specs.View.{sequence_tree, command_tree, branches_tree}
@@ -12,22 +10,19 @@ use Rattle.suit_params.specs.declared.param.Param.{Param}
 use Rattle.path_model.specs.Behaviour.{State, Done}
 use Rattle.path_model.specs.Directives.{after_override}
 use Rattle.path_model.specs.Runs.{entry_state, completed_state}
-use Rattle.path_model.specs.Settings.{Setting}
 use Rattle.path_model.specs.Plays.{Outcome, Play, running_inner, trying_branch}
-use Rattle.path_model.specs.DevicePlays.{Device, Launched}
+use Rattle.path_model.specs.DevicePlays.{Device}
 use Rattle.path_model.specs.declared.cause.Cause.{Cause}
-use Rattle.path_model.specs.declared.cause.Cause.TheVariants as causes
 use Rattle.step_machine.specs.declared.machine.Machine.{Machine}
 use Rattle.step_machine.specs.declared.stop.Stop.{Stop}
 use Rattle.step_machine.specs.declared.stop.Stop.TheVariants as stops
 use Rattle.step_machine.specs.Comes.{Comes}
 use Rattle.step_machine.specs.Directives.{Stops, IsCutSo}
-use Rattle.step_machine.specs.Invoking.{launched_as}
 use Rattle.step_machine.specs.PlanRuns.{Counts}
-use Rattle.step_machine.specs.Running.{Moment, StopCounts, Part, Runs, AreSources, counts_at, device_at}
+use Rattle.step_machine.specs.Running.{Moment, StopCounts, Part, Runs, AreSources, counts_at}
 use Rattle.step_machine.specs.Parts.{nothing_part, then_part, sequence_part, command_part, branches_part, at_part, each_part, passed_on}
-use Rattle.step_machine.proofs.Beginning.{Obeys, Begun, stays_start, stays_then, fits_then, joined}
-use Rattle.step_machine.proofs.Composing.{stops_as}
+use Rattle.step_machine.proofs.Beginning.{Obeys, Begun, begun_after, runs_as, runs_at_once}
+use Rattle.step_machine.proofs.Composing.{comes_by, stops_as}
 use Rattle.step_machine.proofs.Inner.{run_completes, run_fails_softly, run_passes_on, try_completes, try_passes_on, others_come}
 
 -- ---- the first and the rest
@@ -82,87 +77,23 @@ module _ (p q : Play Device) (s z : State) (w : Device) (same : q.comes z w ≡ 
   cut_same a cause v h = record { outcome = h.outcome; cut = cuts h.outcome h.cut; stops = h.stops }
 
   pub comes_same : (r : Result (Unit {0}) Stop) (t : State) (v : Device) → Comes p s w r t v → Comes q z w r t v
-  comes_same (Ok x) t v (e, is) = (ap (λ (o : Outcome Device). o.ending) same ∙ e, ap (λ (o : Outcome Device). o.world) same ∙ is)
-  comes_same (Err (stops.Condition a soft)) t v (e, is) = (ap (λ (o : Outcome Device). o.ending) same ∙ e, ap (λ (o : Outcome Device). o.world) same ∙ is)
-  comes_same (Err (stops.Directive a causes.Missing)) t v h = stops_same a causes.Missing v h
-  comes_same (Err (stops.Directive a causes.SelfCopy)) t v h = stops_same a causes.SelfCopy v h
-  comes_same (Err (stops.Directive a causes.TooLarge)) t v h = stops_same a causes.TooLarge v h
-  comes_same (Err (stops.Directive a causes.Absent)) t v h = stops_same a causes.Absent v h
-  comes_same (Err (stops.Directive a causes.HostFault)) t v h = cut_same a causes.HostFault v h
-  comes_same (Err (stops.Directive a causes.FlashFault)) t v h = cut_same a causes.FlashFault v h
-  comes_same (Err (stops.Directive a causes.LaunchFault)) t v h = cut_same a causes.LaunchFault v h
+  comes_same r t v h =
+      comes_by p q s z w w (ap (λ (o : Outcome Device). o.ending) same) (ap (λ (o : Outcome Device). o.world) same) stops_same cut_same r t v h
+
+-- which are selected stays
+abbrev pub IsEach : CommandTree → Type 0
+IsEach (Index selection) = ⊥
+IsEach _ = Unit {0}
 
 -- a part is done for the selected components
-pub runs_command : (machine : Machine) (command : CommandTree) (count place : ℕ) (s : State) (m : Moment) (r : Result (Unit {0}) Stop) (t : State) (n : Moment)
-    → ((selection : Selection) → command ≡ Index selection → ⊥)
+pub runs_command : (machine : Machine) (command : CommandTree) (count place : ℕ) (s : State) (m : Moment) (r : Result (Unit {0}) Stop) (t : State) (n : Moment) → IsEach command
     → Runs machine (each_part command count place s.selection) s m r t n → Runs machine (command_part command count place) s m r t n
-runs_command machine (Index selection) count place s m r t n not one = absurd (not selection refl)
-runs_command machine (Test kind report) count place s m r t n not one = record {
-  stays = one.stays;
-  counts = one.counts;
-  sources = one.sources;
-  goes = λ setting fits prior. let g = one.goes setting fits prior in record {
-    gained = g.gained;
-    added = g.added;
-    comes = comes_same (each_part (Test kind report) count place s.selection setting) (command_part (Test kind report) count place setting) s s _ refl (λ o cut. cut) r t _ g.comes;
-  };
-}
-runs_command machine (Act kind report) count place s m r t n not one = record {
-  stays = one.stays;
-  counts = one.counts;
-  sources = one.sources;
-  goes = λ setting fits prior. let g = one.goes setting fits prior in record {
-    gained = g.gained;
-    added = g.added;
-    comes = comes_same (each_part (Act kind report) count place s.selection setting) (command_part (Act kind report) count place setting) s s _ refl (λ o cut. cut) r t _ g.comes;
-  };
-}
-runs_command machine (Override list) count place s m r t n not one = record {
-  stays = one.stays;
-  counts = one.counts;
-  sources = one.sources;
-  goes = λ setting fits prior. let g = one.goes setting fits prior in record {
-    gained = g.gained;
-    added = g.added;
-    comes = comes_same (each_part (Override list) count place s.selection setting) (command_part (Override list) count place setting) s s _ refl (λ o cut. cut) r t _ g.comes;
-  };
-}
-runs_command machine (TryEach branches) count place s m r t n not one = record {
-  stays = one.stays;
-  counts = one.counts;
-  sources = one.sources;
-  goes = λ setting fits prior. let g = one.goes setting fits prior in record {
-    gained = g.gained;
-    added = g.added;
-    comes = comes_same (each_part (TryEach branches) count place s.selection setting) (command_part (TryEach branches) count place setting) s s _ refl (λ o cut. cut) r t _ g.comes;
-  };
-}
-runs_command machine (RunSequence inner) count place s m r t n not one = record {
-  stays = one.stays;
-  counts = one.counts;
-  sources = one.sources;
-  goes = λ setting fits prior. let g = one.goes setting fits prior in record {
-    gained = g.gained;
-    added = g.added;
-    comes = comes_same (each_part (RunSequence inner) count place s.selection setting) (command_part (RunSequence inner) count place setting) s s _ refl (λ o cut. cut) r t _ g.comes;
-  };
-}
+runs_command machine (Index selection) count place s m r t n each one = absurd each
+runs_command machine command count place s m r t n each one =
+    runs_as machine (each_part command count place s.selection) (command_part command count place) s s m n r r t t one one.counts one.sources
+    (λ setting w v h. comes_same (each_part command count place s.selection setting) (command_part command count place setting) s s w refl (λ o cut. cut) r t v h)
 
 -- ---- at once
-
--- nothing outside changes
-pub runs_at_once : (machine : Machine) (part : Part) (s : State) (m : Moment) (r : Result (Unit {0}) Stop) (t : State) → StopCounts r (counts_at m) (counts_at m) → AreSources machine t.parameters
-    → ((setting : Setting) (w : Device) → Comes (part setting) s w r t w) → Runs machine part s m r t m
-runs_at_once machine part s m r t counts sources comes = record {
-  stays = stays_start machine m;
-  counts = counts;
-  sources = sources;
-  goes = λ setting fits prior. record {
-    gained = [];
-    added = sym (append-nil m.launcher.launches);
-    comes = subst (λ (l : List Launched). Comes (part setting) s (device_at machine m prior) r t (device_at machine m l)) (sym (append-nil prior)) (comes setting (device_at machine m prior));
-  };
-}
 
 pub runs_nothing : (machine : Machine) (s : State) (m : Moment) → AreSources machine s.parameters → Runs machine nothing_part s m (Ok tt) s m
 runs_nothing machine s m sources = runs_at_once machine nothing_part s m (Ok tt) s refl sources (λ setting w. (refl, refl))
@@ -196,69 +127,36 @@ passed_counts (stops.Directive p cause) out soft a b e h =
 
 module _ (machine : Machine) (inner : Part) (c : ℕ) (s : State) (m n : Moment) (t : State) where
   pub inner_done : Runs machine inner (entry_state s c false) m (Ok tt) t n → Runs machine (inner_part inner c) s m (Ok tt) (completed_state s t) n
-  inner_done one = record {
-    stays = one.stays;
-    counts = one.counts;
-    sources = one.sources;
-    goes = λ setting fits prior. let g = one.goes setting fits prior in record { gained = g.gained; added = g.added; comes = run_completes (inner setting) c s (device_at machine m prior) t _ g.comes };
-  }
+  inner_done one =
+      runs_as machine inner (inner_part inner c) (entry_state s c false) s m n (Ok tt) (Ok tt) t (completed_state s t) one one.counts one.sources (λ setting w v h. run_completes (inner setting) c s w t v h)
 
   pub inner_soft : (stop : Stop) → passed_on stop s.soft_failure ≡ None → AreSources machine s.parameters → Runs machine inner (entry_state s c false) m (Err stop) t n → Runs machine (inner_part inner c) s m (Ok tt) s n
-  inner_soft (stops.Condition p true) e sources one = record {
-    stays = one.stays;
-    counts = one.counts;
-    sources = sources;
-    goes = λ setting fits prior. let g = one.goes setting fits prior in record { gained = g.gained; added = g.added; comes = run_fails_softly (inner setting) c s (device_at machine m prior) p t _ g.comes };
-  }
+  inner_soft (stops.Condition p true) e sources one =
+      runs_as machine inner (inner_part inner c) (entry_state s c false) s m n (Err (stops.Condition p true)) (Ok tt) t s one one.counts sources (λ setting w v h. run_fails_softly (inner setting) c s w p t v h)
   inner_soft (stops.Condition p false) e sources one = absurd cc
   inner_soft (stops.Directive p cause) e sources one = absurd cc
 
   pub inner_stops : (stop out : Stop) → passed_on stop s.soft_failure ≡ Some out → AreSources machine s.parameters → Runs machine inner (entry_state s c false) m (Err stop) t n → Runs machine (inner_part inner c) s m (Err out) s n
-  inner_stops stop out e sources one = record {
-    stays = one.stays;
-    counts = passed_counts stop out s.soft_failure (counts_at m) (counts_at n) e one.counts;
-    sources = sources;
-    goes = λ setting fits prior. let g = one.goes setting fits prior in record { gained = g.gained; added = g.added; comes = run_passes_on (inner setting) c s (device_at machine m prior) stop out t s _ e g.comes };
-  }
+  inner_stops stop out e sources one =
+      runs_as machine inner (inner_part inner c) (entry_state s c false) s m n (Err stop) (Err out) t s one (passed_counts stop out s.soft_failure (counts_at m) (counts_at n) e one.counts) sources
+      (λ setting w v h. run_passes_on (inner setting) c s w stop out t s v e h)
 
   module _ (others : Part) where
     pub branch_done : Runs machine inner (entry_state s c true) m (Ok tt) t n → Runs machine (trying_part inner others c) s m (Ok tt) (completed_state s t) n
-    branch_done one = record {
-      stays = one.stays;
-      counts = one.counts;
-      sources = one.sources;
-      goes = λ setting fits prior. let g = one.goes setting fits prior in record { gained = g.gained; added = g.added; comes = try_completes (inner setting) (others setting) c s (device_at machine m prior) t _ g.comes };
-    }
+    branch_done one =
+        runs_as machine inner (trying_part inner others c) (entry_state s c true) s m n (Ok tt) (Ok tt) t (completed_state s t) one one.counts one.sources
+        (λ setting w v h. try_completes (inner setting) (others setting) c s w t v h)
 
     pub branch_stops : (stop out : Stop) → passed_on stop s.soft_failure ≡ Some out → AreSources machine s.parameters → Runs machine inner (entry_state s c true) m (Err stop) t n → Runs machine (trying_part inner others c) s m (Err out) s n
-    branch_stops stop out e sources one = record {
-      stays = one.stays;
-      counts = passed_counts stop out s.soft_failure (counts_at m) (counts_at n) e one.counts;
-      sources = sources;
-      goes = λ setting fits prior. let g = one.goes setting fits prior in record { gained = g.gained; added = g.added; comes = try_passes_on (inner setting) (others setting) c s (device_at machine m prior) stop out t s _ e g.comes };
-    }
+    branch_stops stop out e sources one =
+        runs_as machine inner (trying_part inner others c) (entry_state s c true) s m n (Err stop) (Err out) t s one (passed_counts stop out s.soft_failure (counts_at m) (counts_at n) e one.counts) sources
+        (λ setting w v h. try_passes_on (inner setting) (others setting) c s w stop out t s v e h)
 
 -- a branch failed softly: the others are left
-module _ (machine : Machine) (whole inner others : Part) (c : ℕ) (s0 : State) (m0 : Moment) (s : State) (m n : Moment) (t : State) (law : Obeys m) (b : Begun machine whole (trying_part inner others c) s0 m0 s m) where
-  soft_branch : (p : ℕ) → Runs machine inner (entry_state s c true) m (Err (stops.Condition p true)) t n → Begun machine whole others s0 m0 s n
-  soft_branch p one = record {
-    stays = stays_then machine m0 m n law b.stays one.stays;
-    counts = one.counts ∙ b.counts;
-    sources = b.sources;
-    leads = λ setting fits prior.
-        let led = b.leads setting fits prior in
-        let more = one.goes setting (fits_then machine m0 m setting b.stays fits) (prior ++ map launched_as led.gained) in
-        record {
-          gained = led.gained ++ more.gained;
-          added = more.added ∙ ap (λ (l : List Launch). l ++ more.gained) led.added ∙ append_assoc m0.launcher.launches led.gained more.gained;
-          leads = λ r v after comes.
-              let here : Comes (others setting) s (device_at machine n ((prior ++ map launched_as led.gained) ++ map launched_as more.gained)) r v after =
-              subst (λ (l : List Launched). Comes (others setting) s (device_at machine n l) r v after) (sym (joined prior led.gained more.gained)) comes in
-              led.leads r v after (others_come (inner setting) (others setting) c s (device_at machine m (prior ++ map launched_as led.gained)) p (device_at machine n ((prior ++ map launched_as led.gained) ++ map launched_as more.gained)) more.comes.0 more.comes.1 r v after here);
-        };
-  }
-
-  pub begun_tried : (stop : Stop) → passed_on stop s.soft_failure ≡ None → Runs machine inner (entry_state s c true) m (Err stop) t n → Begun machine whole others s0 m0 s n
-  begun_tried (stops.Condition p true) e one = soft_branch p one
-  begun_tried (stops.Condition p false) e one = absurd cc
-  begun_tried (stops.Directive p cause) e one = absurd cc
+pub begun_tried : (machine : Machine) (whole inner others : Part) (c : ℕ) (s0 : State) (m0 : Moment) (s : State) (m n : Moment) (t : State) → Obeys m → Begun machine whole (trying_part inner others c) s0 m0 s m
+    → (stop : Stop) → passed_on stop s.soft_failure ≡ None → Runs machine inner (entry_state s c true) m (Err stop) t n → Begun machine whole others s0 m0 s n
+begun_tried machine whole inner others c s0 m0 s m n t law b (stops.Condition p false) e one = absurd cc
+begun_tried machine whole inner others c s0 m0 s m n t law b (stops.Directive p cause) e one = absurd cc
+begun_tried machine whole inner others c s0 m0 s m n t law b (stops.Condition p true) e one =
+    begun_after machine whole inner (trying_part inner others c) others s0 m0 s m law b (entry_state s c true) (Err (stops.Condition p true)) t s n one one.counts b.sources
+    (λ setting w v h r x after comes. others_come (inner setting) (others setting) c s w p v h.0 h.1 r x after comes)

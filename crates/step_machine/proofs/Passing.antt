@@ -29,25 +29,24 @@ matched_passes : (p c : ℕ) (size : Option ℕ) (s : State) (w : Device) (d : O
 matched_passes p c size s w None = ((λ e. absurd (true≢false (sym e))), (λ e. absurd (no_condition p s.soft_failure s e)))
 matched_passes p c size s w (Some d) = tested_passes p (Matched c d size) (Missed c) s w (is_image d size (content_at w c))
 
+-- a test of the identity
+tried_passes : (kind : TestKind) (p c : ℕ) (s : State) (w : Device) (o : Option Identity) (identity : Identity) → o ≡ Some identity → (test : Option Identity → Bool)
+    → IsTrue (test (Some identity)) ↔ ((tested p (Tried c kind true) (Tried c kind false) s w (test o)).ending ≡ Done s)
+tried_passes kind p c s w o identity is test =
+    subst (λ (x : Option Identity). IsTrue (test (Some identity)) ↔ ((tested p (Tried c kind true) (Tried c kind false) s w (test x)).ending ≡ Done s)) (sym is)
+    (tested_passes p (Tried c kind true) (Tried c kind false) s w (test (Some identity)))
+
 -- the same, of the component as a device has it
 holds_passes : (setting : Setting) (kind : TestKind) (p c : ℕ) (s : State) (w : Device) (identity : Identity) → slice_get setting.identities c ≡ Some identity
     → IsTrue (holds kind c s.parameters identity (content_at w c)) ↔ Passes setting kind p c s w
 holds_passes setting tests.Vendor p c s w identity is =
-    let wanted = identifier_of (in_force s.parameters c keys.Vendor) in
-    subst (λ (o : Option Identity). IsTrue (same_identifier wanted identity.vendor) ↔ ((tested p (Tried c tests.Vendor true) (Tried c tests.Vendor false) s w (same_identifier wanted (vendor_of o))).ending ≡ Done s)) (sym is)
-    (tested_passes p (Tried c tests.Vendor true) (Tried c tests.Vendor false) s w (same_identifier wanted identity.vendor))
+    tried_passes tests.Vendor p c s w (slice_get setting.identities c) identity is (λ o. same_identifier (identifier_of (in_force s.parameters c keys.Vendor)) (vendor_of o))
 holds_passes setting tests.Class p c s w identity is =
-    let wanted = identifier_of (in_force s.parameters c keys.Class) in
-    subst (λ (o : Option Identity). IsTrue (same_identifier wanted identity.class) ↔ ((tested p (Tried c tests.Class true) (Tried c tests.Class false) s w (same_identifier wanted (class_of o))).ending ≡ Done s)) (sym is)
-    (tested_passes p (Tried c tests.Class true) (Tried c tests.Class false) s w (same_identifier wanted identity.class))
+    tried_passes tests.Class p c s w (slice_get setting.identities c) identity is (λ o. same_identifier (identifier_of (in_force s.parameters c keys.Class)) (class_of o))
 holds_passes setting tests.Device p c s w identity is =
-    let wanted = identifier_of (in_force s.parameters c keys.Device) in
-    subst (λ (o : Option Identity). IsTrue (same_identifier wanted identity.device) ↔ ((tested p (Tried c tests.Device true) (Tried c tests.Device false) s w (same_identifier wanted (device_of o))).ending ≡ Done s)) (sym is)
-    (tested_passes p (Tried c tests.Device true) (Tried c tests.Device false) s w (same_identifier wanted identity.device))
+    tried_passes tests.Device p c s w (slice_get setting.identities c) identity is (λ o. same_identifier (identifier_of (in_force s.parameters c keys.Device)) (device_of o))
 holds_passes setting tests.Slot p c s w identity is =
-    let wanted = number_of (in_force s.parameters c keys.Slot) in
-    subst (λ (o : Option Identity). IsTrue (same_number wanted (Some identity.slot)) ↔ ((tested p (Tried c tests.Slot true) (Tried c tests.Slot false) s w (same_number wanted (slot_of o))).ending ≡ Done s)) (sym is)
-    (tested_passes p (Tried c tests.Slot true) (Tried c tests.Slot false) s w (same_number wanted (Some identity.slot)))
+    tried_passes tests.Slot p c s w (slice_get setting.identities c) identity is (λ o. same_number (number_of (in_force s.parameters c keys.Slot)) (slot_of o))
 holds_passes setting tests.ImageMatch p c s w identity is = matched_passes p c (size_in s.parameters c) s w (digest_in s.parameters c)
 holds_passes setting tests.CheckContent p c s w identity is =
     tested_passes p (Tried c tests.CheckContent true) (Tried c tests.CheckContent false) s w (is_content (bytes_of (in_force s.parameters c keys.Content)) (content_at w c))
@@ -62,11 +61,7 @@ passes_as kind c parameters identity content passed is setting p s w same identi
 looks_cuts : (setting : Setting) (kind : TestKind) (p c : ℕ) (s : State) (w : Device) → Looks kind c s.parameters → (condition_play setting kind p c).IsCut s w (unread p w)
 looks_cuts setting tests.ImageMatch p c s w looks = (looks, refl)
 looks_cuts setting tests.CheckContent p c s w looks = (looks, refl)
-looks_cuts setting tests.Vendor p c s w looks = looks
-looks_cuts setting tests.Class p c s w looks = looks
-looks_cuts setting tests.Device p c s w looks = looks
-looks_cuts setting tests.Slot p c s w looks = looks
-looks_cuts setting tests.Abort p c s w looks = looks
+looks_cuts setting _ p c s w looks = looks
 
 pub cuts_play : (kind : TestKind) (c : ℕ) (parameters : Parameters) → Looks kind c parameters → CutsPlay kind c parameters
 cuts_play kind c parameters looks setting p s w same = looks_cuts setting kind p c s w (subst (Looks kind c) (sym same) looks)

@@ -1,11 +1,14 @@
 -- A whole procedure.
-use Rattle.std.proofs.Common.{◌≡◌, ℕ, zero, suc, [], ◌∷◌, Option, Some, None, Result, Ok, Err, replicate, refl, sym, ap, ◌∙◌, inl, inr}
+use Rattle.std.proofs.Common.{◌≡◌, ℕ, zero, suc, [], ◌∷◌, Option, Some, None, Result, Ok, Err, replicate, refl, sym, ap, subst, ◌∙◌, inl, inr}
 use Rattle.std.specs.Prelude.{slice_get}
 use Rattle.suit_params.specs.declared.param.Param.{Param}
 use Rattle.suit_params.specs.declared.param.ParamKey.TheVariants as keys
 use Rattle.suit_params.specs.InForce.{in_force, number_of, none_in_force, held_at, cell}
 use Rattle.suit_commands.specs.Allowed.{IsPlan}
-use Rattle.suit_commands.specs.Plans.{plan_tree}
+use Rattle.std.specs.Borrow.{Bor}
+use Rattle.suit_commands.specs.Plans.{lent_tree, plan_tree}
+use Rattle.suit_commands.specs.Indexed.{AreIndexed}
+use Rattle.suit_commands.specs.Targets.{InSome, Sources, Swaps, Writes}
 use Rattle.suit_commands.specs.Tree.{SequenceTree, NoSteps}
 use Rattle.suit_commands.proofs.IndexedSteps.{member_indexed, shared_indexed}
 use Rattle.path_model.specs.Behaviour.{State}
@@ -16,64 +19,75 @@ use Rattle.step_machine.specs.declared.stop.Stop.{Stop}
 use Rattle.step_machine.specs.declared.stop.Stop.TheVariants as stops
 use Rattle.step_machine.specs.Allowing.{AllowsSequence}
 use Rattle.step_machine.specs.Devices.{contents_of}
-use Rattle.step_machine.specs.Parts.{sequence_part, starting_part, plan_part}
+use Rattle.step_machine.specs.Parts.{sequence_part, starting_part, then_part, plan_part}
 use Rattle.step_machine.specs.PlanRuns.{Counts, EndCounts, PlaysPlan, end_of}
-use Rattle.step_machine.specs.Running.{Moment, StopCounts, Fits, Runs, AreSources, device_at}
-use Rattle.step_machine.proofs.Parting.{comes_same, runs_at_once}
+use Rattle.step_machine.specs.Running.{Moment, Part, StopCounts, Fits, Runs, AreSources}
+use Rattle.step_machine.proofs.Beginning.{Begun, begun, runs_as, runs_at_once}
+use Rattle.step_machine.proofs.Parting.{comes_same}
 
 -- ---- what its sequences may do
 
+allows_placed : (machine : Machine) (sequence : SequenceTree) → AreIndexed machine.plan.now.count sequence → ((has : SequenceTree → Type 0) → has sequence → InSome (plan_tree machine.plan.now) has) → AllowsSequence machine sequence (0 ∷ [])
+allows_placed machine sequence indexed place = record {
+  indexed = indexed;
+  writes = λ c w. inl (place (λ s. Writes s machine.plan.now.count (0 ∷ []) c) w);
+  swaps = λ w. place Swaps w;
+  sources = λ c w. place (λ s. Sources s c) w;
+}
+
 module _ (machine : Machine) (is : IsPlan (plan_tree machine.plan.now)) where
   pub allows_shared : AllowsSequence machine (plan_tree machine.plan.now).shared (0 ∷ [])
-  allows_shared = record {
-    indexed = shared_indexed machine.plan.now.count (plan_tree machine.plan.now).shared is.shared;
-    writes = λ c w. inl (inl w);
-    swaps = λ w. inl w;
-    sources = λ c w. inl w;
-  }
+  allows_shared = allows_placed machine (plan_tree machine.plan.now).shared (shared_indexed machine.plan.now.count (plan_tree machine.plan.now).shared is.shared) (λ has w. inl w)
 
   pub allows_first : AllowsSequence machine (plan_tree machine.plan.now).first (0 ∷ [])
-  allows_first = record {
-    indexed = member_indexed machine.plan.now.count (plan_tree machine.plan.now).first is.first;
-    writes = λ c w. inl (inr (inl w));
-    swaps = λ w. inr (inl w);
-    sources = λ c w. inr (inl w);
-  }
+  allows_first = allows_placed machine (plan_tree machine.plan.now).first (member_indexed machine.plan.now.count (plan_tree machine.plan.now).first is.first) (λ has w. inr (inl w))
 
   pub allows_second : AllowsSequence machine (plan_tree machine.plan.now).second (0 ∷ [])
-  allows_second = record {
-    indexed = member_indexed machine.plan.now.count (plan_tree machine.plan.now).second is.second;
-    writes = λ c w. inl (inr (inr (inl w)));
-    swaps = λ w. inr (inr (inl w));
-    sources = λ c w. inr (inr (inl w));
-  }
+  allows_second = allows_placed machine (plan_tree machine.plan.now).second (member_indexed machine.plan.now.count (plan_tree machine.plan.now).second is.second) (λ has w. inr (inr (inl w)))
 
   pub allows_third : AllowsSequence machine (plan_tree machine.plan.now).third (0 ∷ [])
-  allows_third = record {
-    indexed = member_indexed machine.plan.now.count (plan_tree machine.plan.now).third is.third;
-    writes = λ c w. inl (inr (inr (inr w)));
-    swaps = λ w. inr (inr (inr w));
-    sources = λ c w. inr (inr (inr w));
-  }
+  allows_third = allows_placed machine (plan_tree machine.plan.now).third (member_indexed machine.plan.now.count (plan_tree machine.plan.now).third is.third) (λ has w. inr (inr (inr w)))
+
+-- ---- one after another
+
+abbrev pub shared_part : Machine → Part
+shared_part machine = starting_part (plan_tree machine.plan.now).shared machine.plan.now.count
+
+-- what is left behind the first so many
+abbrev pub left_5 : Machine → Part
+left_5 machine = starting_part (plan_tree machine.plan.now).third machine.plan.now.count
+
+abbrev pub left_4 : Machine → Part
+left_4 machine = then_part (shared_part machine) (left_5 machine)
+
+abbrev pub left_3 : Machine → Part
+left_3 machine = then_part (starting_part (plan_tree machine.plan.now).second machine.plan.now.count) (left_4 machine)
+
+abbrev pub left_2 : Machine → Part
+left_2 machine = then_part (shared_part machine) (left_3 machine)
+
+abbrev pub left_1 : Machine → Part
+left_1 machine = then_part (starting_part (plan_tree machine.plan.now).first machine.plan.now.count) (left_2 machine)
+
+pub members_begun : (machine : Machine) (s : State) (m : Moment) → AreSources machine s.parameters → Begun machine (plan_part (plan_tree machine.plan.now)) (then_part (shared_part machine) (left_1 machine)) s m s m
+members_begun machine s m sources = begun machine (plan_part (plan_tree machine.plan.now)) s m sources
 
 -- ---- one of them
 
 pub runs_started : (machine : Machine) (sequence : SequenceTree) (count : ℕ) (s : State) (m : Moment) (r : Result (Unit {0}) Stop) (t : State) (n : Moment)
     → Runs machine (sequence_part sequence count) (start_state s) m r t n → Runs machine (starting_part sequence count) s m r t n
-runs_started machine sequence count s m r t n one = record {
-  stays = one.stays;
-  counts = one.counts;
-  sources = one.sources;
-  goes = λ setting fits prior. let g = one.goes setting fits prior in record {
-    gained = g.gained;
-    added = g.added;
-    comes = comes_same (sequence_part sequence count setting) (starting_part sequence count setting) (start_state s) s (device_at machine m prior) refl (λ o cut. cut) r t _ g.comes;
-  };
-}
+runs_started machine sequence count s m r t n one =
+    runs_as machine (sequence_part sequence count) (starting_part sequence count) (start_state s) s m n r r t t one one.counts one.sources
+    (λ setting w v h. comes_same (sequence_part sequence count setting) (starting_part sequence count setting) (start_state s) s w refl (λ o cut. cut) r t v h)
 
 pub runs_absent : (machine : Machine) (count : ℕ) (s : State) (m : Moment) → AreSources machine s.parameters → Runs machine (starting_part NoSteps count) s m (Ok tt) (start_state s) m
 runs_absent machine count s m sources =
     runs_at_once machine (starting_part NoSteps count) s m (Ok tt) (start_state s) refl sources (λ setting w. (refl, refl))
+
+pub lent_as : (machine : Machine) (x y : Option (Bor SequenceTree)) → x ≡ y → (s : State) (m : Moment) (r : Result (Unit {0}) Stop) (t : State) (n : Moment)
+    → Runs machine (starting_part (lent_tree y) machine.plan.now.count) s m r t n → Runs machine (starting_part (lent_tree x) machine.plan.now.count) s m r t n
+lent_as machine x y is s m r t n runs =
+    subst (λ (o : Option (Bor SequenceTree)). Runs machine (starting_part (lent_tree o) machine.plan.now.count) s m r t n) (sym is) runs
 
 -- ---- at first
 

@@ -1,9 +1,10 @@
 -- Contents and pieces as bytes of their rooms.
-use Rattle.std.proofs.Common.{◌≡◌, ◌≤◌, ◌<◌, ◌+◌, ◌-◌, ℕ, List, ◌++◌, length, take, drop, refl, sym, ap, ◌∙◌, arith, take-take, get_or-set_other}
+use Rattle.std.proofs.Common.{◌≡◌, ◌≤◌, ◌<◌, ◌+◌, ◌-◌, ℕ, List, ◌++◌, length, take, drop, refl, sym, ap, subst, ◌∙◌, arith, take-take, get_or-set_other}
 use Rattle.std.proofs.Math.Seq.{take-add}
 use Rattle.std.proofs.lemmas.List.{take_all, take_at, drop-take}
 use Rattle.std.proofs.lemmas.List.Edits.{length-between}
 use Rattle.suit_edge.specs.Flash.{Flash, Keeps}
+use Rattle.suit_edge.specs.Ranges.{written}
 use Rattle.suit_edge.specs.RangeLaws.{same_range}
 use Rattle.flash_layout.specs.declared.slot.Slot.{Slot}
 use Rattle.flash_layout.specs.Slots.{LiesWithin, extent_of, slot_content}
@@ -17,7 +18,8 @@ use Rattle.step_machine.specs.Areas.{IsHeld, KeepsFront, area_at, size_at}
 use Rattle.step_machine.specs.Spots.{content_of, IsSpot, OutsideSpot, IsRamBut}
 use Rattle.step_machine.specs.Devices.{AreSpotsClear}
 use Rattle.step_machine.proofs.Image.{content_range}
-use Rattle.step_machine.proofs.Lifting.{clear_outside}
+use Rattle.step_machine.proofs.Lifting.{kept_found}
+use Rattle.step_machine.proofs.Mixed.{mixed_all, mixed_more}
 use Rattle.step_machine.proofs.Short.{slot_short}
 
 -- ---- what was read
@@ -61,14 +63,8 @@ kept_room K slot f g fits inside kept =
 
 pub kept_area : (a b : Spot) (ram after : List Held) (f g : Flash) → AreSpotsClear a b → IsSpot (length f.reads) ram b → IsRamBut a ram after → Keeps (OutsideSpot a) f g
     → area_at b after g.reads ≡ area_at b ram f.reads
-kept_area (spots.Flash x) (spots.Flash y) ram after f g clear fits but kept =
-    kept_room (OutsideSpot (spots.Flash x)) y f g fits (clear_outside x.start (extent_of x) y.start (extent_of y) clear) kept
-kept_area (spots.Flash x) (spots.Ram j) ram after f g clear fits but kept = ap (λ (r : List Held). (held_by r j).content) but
-kept_area (spots.Ram i) (spots.Flash y) ram after f g clear fits but kept =
-    kept_room (OutsideSpot (spots.Ram i)) y f g fits (λ k lo hi. tt) kept
-kept_area (spots.Ram i) (spots.Ram j) ram after f g clear fits (content, is) kept =
-    ap (λ (r : List Held). (held_by r j).content) is
-    ∙ ap (λ (h : Held). h.content) (get_or-set_other ram i j (record { capacity = (held_by ram i).capacity; content = content }) (empty 0) clear)
+kept_area a (spots.Flash y) ram after f g clear fits but kept = kept_found area_of kept_room a (spots.Flash y) ram after f g clear fits but kept
+kept_area a (spots.Ram j) ram after f g clear fits but kept = kept_found area_of kept_room a (spots.Ram j) ram after f g clear fits but kept
 
 -- ---- rooms that change in place
 
@@ -103,3 +99,25 @@ front_but (spots.Flash x) (spots.Ram j) ram after reads clear but = ap (λ (r : 
 front_but (spots.Ram i) (spots.Ram j) ram after reads clear (content, is) =
     ap (λ (r : List Held). (held_by r j).content) is
     ∙ ap (λ (h : Held). h.content) (get_or-set_other ram i j (record { capacity = (held_by ram i).capacity; content = content }) (empty 0) clear)
+
+-- ---- rooms whose first bytes change places
+
+-- a piece more
+pub piece_mixed : (one other : Spot) (ram later : List Held) (reads now after : List ℕ) (size from n taken : ℕ) → length reads ≡ size → IsSpot size ram one → IsSpot size ram other
+    → from + n ≤ size_at one ram → from + n ≤ size_at other ram → taken ≡ n
+    → area_at one later now ≡ take from (area_at other ram reads) ++ drop from (area_at one ram reads)
+    → area_at other later now ≡ take from (area_at one ram reads) ++ drop from (area_at other ram reads)
+    → after ≡ written (area_at one later now) from (take taken (drop from (area_at other later now)))
+    → after ≡ take (from + n) (area_at other ram reads) ++ drop (from + n) (area_at one ram reads)
+piece_mixed one other ram later reads now after size from n taken fits inside other_inside within other_within count one_is other_is put =
+    let long : length (area_at one ram reads) ≡ size_at one ram = area_long one ram reads (subst (λ (i : ℕ). IsSpot i ram one) (sym fits) inside) in
+    let other_long : length (area_at other ram reads) ≡ size_at other ram = area_long other ram reads (subst (λ (i : ℕ). IsSpot i ram other) (sym fits) other_inside) in
+    put ∙ ap (λ (i : ℕ). written (area_at one later now) from (take i (drop from (area_at other later now)))) count
+    ∙ mixed_more (area_at one ram reads) (area_at other ram reads) (area_at one later now) (area_at other later now) from n (omega (arith, within, long)) (omega (arith, other_within, other_long)) one_is other_is
+
+-- all of them
+pub all_mixed : (one other : Spot) (ram : List Held) (reads after : List ℕ) (size from n : ℕ) → length reads ≡ size → IsSpot size ram other → from ≡ n → n ≤ size_at other ram
+    → after ≡ take from (area_at other ram reads) ++ drop from (area_at one ram reads) → take n after ≡ take n (area_at other ram reads)
+all_mixed one other ram reads after size from n fits inside end few is =
+    let long : length (area_at other ram reads) ≡ size_at other ram = area_long other ram reads (subst (λ (i : ℕ). IsSpot i ram other) (sym fits) inside) in
+    mixed_all (area_at one ram reads) (area_at other ram reads) after n from end (omega (arith, few, long)) is

@@ -1,5 +1,5 @@
 -- Sources in force, after an override.
-use Rattle.std.proofs.Common.{◌≡◌, ◌<◌, ℕ, Bool, true, false, if◌then◌else◌, List, [], ◌∷◌, Option, Some, length, refl, sym, ap, ◌∙◌, arith, inl, inr, ◌⊎◌, ⊎_elim}
+use Rattle.std.proofs.Common.{◌≡◌, ◌<◌, ℕ, Bool, true, false, if◌then◌else◌, List, [], ◌∷◌, Option, Some, length, refl, sym, ap, ◌∙◌, subst, arith, inl, inr, ◌⊎◌, ⊎_elim}
 use Rattle.std.specs.Prelude.{◌==◌}
 use Rattle.std.specs.List.{AllByRecursion}
 use Rattle.suit_params.specs.declared.param.Param.{Param}
@@ -8,13 +8,17 @@ use Rattle.suit_params.specs.declared.param.ParamKey.TheVariants as keys
 use Rattle.suit_params.specs.InForce.{Parameters, in_force, number_of, last_of, rank, with_param, overridden, IsOverridden}
 use Rattle.suit_params.specs.ParamKeys.{key_of}
 use Rattle.suit_params.specs.ParamMaking.{IsBelow}
+use Rattle.suit_commands.specs.declared.command.Command.{Command}
+use Rattle.suit_commands.specs.declared.command.Command.TheVariants as commands
 use Rattle.suit_commands.specs.Targets.{NamesSource}
+use Rattle.suit_commands.specs.View.{command_tree}
+use Rattle.flash_slots.specs.RamContents.{Held}
 use Rattle.suit_commands.specs.Tree.{Override}
 use Rattle.path_model.specs.Directives.{after_override, soft_after}
 use Rattle.step_machine.specs.declared.machine.Machine.{Machine}
 use Rattle.step_machine.specs.Allowing.{AllowsCommand}
 use Rattle.step_machine.specs.Overriding.{soft_after_list}
-use Rattle.step_machine.specs.Running.{AreSources}
+use Rattle.step_machine.specs.Running.{AreSources, IsReady}
 
 -- a list names the source, or it was in force before
 Named : List Param → ℕ → Option Param → Type 0
@@ -22,31 +26,11 @@ Named list source before = NamesSource list source ⊎ (number_of before ≡ Som
 
 later : (p : Param) (list : List Param) (source : ℕ) → NamesSource list source → NamesSource (p ∷ list) source
 later (params.Source x) list source h = inr h
-later (params.Vendor x) list source h = h
-later (params.Class x) list source h = h
-later (params.Device x) list source h = h
-later (params.Digest x) list source h = h
-later (params.Slot x) list source h = h
-later (params.Strict x) list source h = h
-later (params.Soft x) list source h = h
-later (params.Size x) list source h = h
-later (params.Content x) list source h = h
-later (params.Uri x) list source h = h
-later (params.Args x) list source h = h
+later _ list source h = h
 
 first : (p : Param) (list : List Param) (source : ℕ) (before : Option Param) → number_of (if rank (key_of p) == 9 then Some p else before) ≡ Some source → NamesSource (p ∷ list) source ⊎ (number_of before ≡ Some source)
 first (params.Source x) list source before e = let same : source ≡ x = cc in inl (inl same)
-first (params.Vendor x) list source before e = inr e
-first (params.Class x) list source before e = inr e
-first (params.Device x) list source before e = inr e
-first (params.Digest x) list source before e = inr e
-first (params.Slot x) list source before e = inr e
-first (params.Strict x) list source before e = inr e
-first (params.Soft x) list source before e = inr e
-first (params.Size x) list source before e = inr e
-first (params.Content x) list source before e = inr e
-first (params.Uri x) list source before e = inr e
-first (params.Args x) list source before e = inr e
+first _ list source before e = inr e
 
 named : (list : List Param) (source : ℕ) (before : Option Param) → number_of (last_of list keys.Source before) ≡ Some source → NamesSource list source ⊎ (number_of before ≡ Some source)
 named [] source before e = inr e
@@ -58,17 +42,7 @@ below : (list : List Param) (count source : ℕ) → AllByRecursion (IsBelow cou
 below [] count source all h = absurd h
 below (params.Source x ∷ list) count source all (inl e) = let lt : x < count = all.0 in omega (arith, lt, e)
 below (params.Source x ∷ list) count source all (inr h) = below list count source all.1 h
-below (params.Vendor x ∷ list) count source all h = below list count source all.1 h
-below (params.Class x ∷ list) count source all h = below list count source all.1 h
-below (params.Device x ∷ list) count source all h = below list count source all.1 h
-below (params.Digest x ∷ list) count source all h = below list count source all.1 h
-below (params.Slot x ∷ list) count source all h = below list count source all.1 h
-below (params.Strict x ∷ list) count source all h = below list count source all.1 h
-below (params.Soft x ∷ list) count source all h = below list count source all.1 h
-below (params.Size x ∷ list) count source all h = below list count source all.1 h
-below (params.Content x ∷ list) count source all h = below list count source all.1 h
-below (params.Uri x ∷ list) count source all h = below list count source all.1 h
-below (params.Args x ∷ list) count source all h = below list count source all.1 h
+below (_ ∷ list) count source all h = below list count source all.1 h
 
 chosen : {A : Type 0} (b : Bool) (x y z : A) → z ≡ (if b then x else y) → (z ≡ x) ⊎ (z ≡ y)
 chosen true x y z e = inl e
@@ -86,6 +60,12 @@ sources_after machine old new component list k few count allowed is sources othe
     (named list source (in_force old component keys.Source) (sym (ap number_of here) ∙ e)))
     (λ there. sources other source lt (sym (ap number_of there) ∙ e))
     (chosen (other == component) (last_of list keys.Source (in_force old component keys.Source)) (in_force old other keys.Source) (in_force new other keys.Source) (is other keys.Source lt))
+
+pub sources_overridden : (machine : Machine) (old new : Parameters) (component : ℕ) (list : List Param) (size : ℕ) (ram : List Held) → component < length machine.standings.now → IsReady machine size ram → (command : Command) → command ≡ commands.Override list
+    → AllowsCommand machine (command_tree command) (component ∷ []) → IsOverridden old new component list → AreSources machine old → AreSources machine new
+sources_overridden machine old new component list size ram inside ready command command_is allowed is sources =
+    sources_after machine old new component list component (omega (arith, inside, ready.standings.few)) ready.count
+    (subst (λ (x : Command). AllowsCommand machine (command_tree x) (component ∷ [])) command_is allowed) is sources
 
 -- ---- the state after it
 

@@ -5,18 +5,12 @@ mod acting;
 mod areas;
 mod conditions;
 mod contents;
-#[cfg(test)]
-mod copy_tests;
 mod copying;
 mod directives;
 mod exchanging;
-#[cfg(test)]
-mod fetch_tests;
 mod fetching;
 mod filling;
 mod invoking;
-#[cfg(test)]
-mod leaf_tests;
 mod machine;
 mod outside;
 mod overriding;

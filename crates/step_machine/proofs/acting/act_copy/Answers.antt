@@ -1,132 +1,38 @@
-use Rattle.std.proofs.Common.{◌^◌, ◌≡◌, ◌<◌, ◌*◌, ◌∙◌, ℕ, Some, None, Result, get_or, refl, sym, ap, subst, arith}
+use Rattle.std.proofs.Common.{◌^◌, ◌≡◌, ◌<◌, ◌*◌, Some, refl, arith}
 use Rattle.suit_params.specs.declared.param.ParamKey.TheVariants as keys
 use Rattle.suit_params.specs.InForce.{in_force, number_of}
-use Rattle.suit_commands.specs.declared.kinds.ActKind.TheVariants as acts
-use Rattle.path_model.specs.Behaviour.{State}
-use Rattle.step_machine.specs.declared.stop.Stop.{Stop}
-use Rattle.step_machine.specs.Copying.{CopiesAs}
-use Rattle.step_machine.specs.Parts.{act_part}
-use Rattle.step_machine.specs.Running.{Moment, Runs, moment, state_of}
-use Rattle.step_machine.specs.Spots.{content_of}
-use Rattle.step_machine.proofs.Leaves.{no_standing, one_stays, one_runs, cause_counts, capacity_here, content_here, within_here}
-use Rattle.step_machine.proofs.Copied.{copy_missing, apart_here}
+use Rattle.step_machine.specs.Running.{state_of}
+use Rattle.step_machine.proofs.Directing.{named_in, source_below, source_spot, source_apart, copy_runs}
+use Rattle.step_machine.proofs.Copied.{copy_missing}
+use Rattle.step_machine.proofs.Leaves.{no_standing, one_stays, cause_counts}
 use Rattle.step_machine.proofs.acting.act_copy.Goals as goal
 
 pub bounds-machine-source : goal.bounds-machine-source
-bounds-machine-source g c =
-    let machine = c.args.machine.now in
-    let at = c.args.component in
-    let m : Moment = moment (record { told = g.H.Host.told; files = g.H.Host.file c.args.host.now; faults = g.H.Host.faults c.args.host.now }) (record { told = g.D.Disk.told; size = g.D.Disk.extent c.args.disk.now; flash = g.D.Disk.flash c.args.disk.now; faults = g.D.Disk.faults c.args.disk.now }) (record { told = g.L.Launcher.told; launches = g.L.Launcher.launches c.args.launcher.now; faults = g.L.Launcher.faults c.args.launcher.now }) c.args.ram.now in
-    let n : Moment = moment (record { told = g.H.Host.told; files = g.H.Host.file c.args.host.now; faults = g.H.Host.faults c.args.host.now }) (record { told = g.D.Disk.told; size = g.D.Disk.extent c.args.disk.now; flash = g.D.Disk.flash c.args.disk.now; faults = g.D.Disk.faults c.args.disk.now }) (record { told = g.L.Launcher.told; launches = g.L.Launcher.launches c.args.launcher.now; faults = g.L.Launcher.faults c.args.launcher.now }) c.args.ram.now in
-    let s : State = state_of c.args.state.now in
-    let lt = c.requires.inside in
-    let one = c.requires.ready.standings.each at no_standing lt in
-    let sources = c.requires.under_way.sources in
-    let counts_host = g.H.Host.faults c.args.host.now in
-    let counts_launcher = g.L.Launcher.faults c.args.launcher.now in
-    let source = c.in-Some.source in
-    let named : number_of (in_force s.parameters at keys.Source) ≡ Some source = sym (ap number_of c.get.ensures) ∙ sym c.number.ensures ∙ c.in-Some.is in
-    let few : at < 8 = omega (arith, lt, c.requires.ready.standings.few) in
-    let below = (sources at source few named).0 in
-    below
+bounds-machine-source g c = source_below c.args.machine.now _ _ (state_of c.args.state.now) c.args.component c.in-Some.source c.requires.inside c.requires.ready c.requires.under_way (named_in (state_of c.args.state.now) c.args.component _ _ _ c.get.ensures c.number.ensures c.in-Some.is)
 
 pub offset_bounds-machine-source : goal.offset_bounds-machine-source
 offset_bounds-machine-source g c =
-    let machine = c.args.machine.now in
-    let at = c.args.component in
-    let m : Moment = moment (record { told = g.H.Host.told; files = g.H.Host.file c.args.host.now; faults = g.H.Host.faults c.args.host.now }) (record { told = g.D.Disk.told; size = g.D.Disk.extent c.args.disk.now; flash = g.D.Disk.flash c.args.disk.now; faults = g.D.Disk.faults c.args.disk.now }) (record { told = g.L.Launcher.told; launches = g.L.Launcher.launches c.args.launcher.now; faults = g.L.Launcher.faults c.args.launcher.now }) c.args.ram.now in
-    let n : Moment = moment (record { told = g.H.Host.told; files = g.H.Host.file c.args.host.now; faults = g.H.Host.faults c.args.host.now }) (record { told = g.D.Disk.told; size = g.D.Disk.extent c.args.disk.now; flash = g.D.Disk.flash c.args.disk.now; faults = g.D.Disk.faults c.args.disk.now }) (record { told = g.L.Launcher.told; launches = g.L.Launcher.launches c.args.launcher.now; faults = g.L.Launcher.faults c.args.launcher.now }) c.args.ram.now in
-    let s : State = state_of c.args.state.now in
-    let lt = c.requires.inside in
-    let one = c.requires.ready.standings.each at no_standing lt in
-    let sources = c.requires.under_way.sources in
-    let counts_host = g.H.Host.faults c.args.host.now in
-    let counts_launcher = g.L.Launcher.faults c.args.launcher.now in
-    let source = c.in-Some.source in
-    let named : number_of (in_force s.parameters at keys.Source) ≡ Some source = sym (ap number_of c.get.ensures) ∙ sym c.number.ensures ∙ c.in-Some.is in
-    let few : at < 8 = omega (arith, lt, c.requires.ready.standings.few) in
-    let below = (sources at source few named).0 in
-    let bound : source * 104 < 2 ^ 64 = omega (arith, below, c.requires.ready.standings.few) in
+    let below = source_below c.args.machine.now _ _ (state_of c.args.state.now) c.args.component c.in-Some.source c.requires.inside c.requires.ready c.requires.under_way (named_in (state_of c.args.state.now) c.args.component _ _ _ c.get.ensures c.number.ensures c.in-Some.is) in
+    let bound : c.in-Some.source * 104 < 2 ^ 64 = omega (arith, below, c.requires.ready.standings.few) in
     search (arith, below, bound)
 
 pub copy-requires-clause-source : goal.copy-requires-clause-source
-copy-requires-clause-source g c =
-    let machine = c.args.machine.now in
-    let at = c.args.component in
-    let m : Moment = moment (record { told = g.H.Host.told; files = g.H.Host.file c.args.host.now; faults = g.H.Host.faults c.args.host.now }) (record { told = g.D.Disk.told; size = g.D.Disk.extent c.args.disk.now; flash = g.D.Disk.flash c.args.disk.now; faults = g.D.Disk.faults c.args.disk.now }) (record { told = g.L.Launcher.told; launches = g.L.Launcher.launches c.args.launcher.now; faults = g.L.Launcher.faults c.args.launcher.now }) c.args.ram.now in
-    let n : Moment = moment (record { told = g.H.Host.told; files = g.H.Host.file c.args.host.now; faults = g.H.Host.faults c.args.host.now }) (record { told = g.D.Disk.told; size = g.D.Disk.extent c.args.disk.now; flash = g.D.Disk.flash c.args.disk.now; faults = g.D.Disk.faults c.args.disk.now }) (record { told = g.L.Launcher.told; launches = g.L.Launcher.launches c.args.launcher.now; faults = g.L.Launcher.faults c.args.launcher.now }) c.args.ram.now in
-    let s : State = state_of c.args.state.now in
-    let lt = c.requires.inside in
-    let one = c.requires.ready.standings.each at no_standing lt in
-    let sources = c.requires.under_way.sources in
-    let counts_host = g.H.Host.faults c.args.host.now in
-    let counts_launcher = g.L.Launcher.faults c.args.launcher.now in
-    let source = c.in-Some.source in
-    let named : number_of (in_force s.parameters at keys.Source) ≡ Some source = sym (ap number_of c.get.ensures) ∙ sym c.number.ensures ∙ c.in-Some.is in
-    let few : at < 8 = omega (arith, lt, c.requires.ready.standings.few) in
-    let below = (sources at source few named).0 in
-    (c.requires.ready.standings.each source no_standing below).spot
+copy-requires-clause-source g c = source_spot c.args.machine.now _ _ (state_of c.args.state.now) c.args.component c.in-Some.source c.requires.inside c.requires.ready c.requires.under_way (named_in (state_of c.args.state.now) c.args.component _ _ _ c.get.ensures c.number.ensures c.in-Some.is)
 
 pub copy-requires-clause-apart : goal.copy-requires-clause-apart
-copy-requires-clause-apart g c other =
-    let machine = c.args.machine.now in
-    let at = c.args.component in
-    let m : Moment = moment (record { told = g.H.Host.told; files = g.H.Host.file c.args.host.now; faults = g.H.Host.faults c.args.host.now }) (record { told = g.D.Disk.told; size = g.D.Disk.extent c.args.disk.now; flash = g.D.Disk.flash c.args.disk.now; faults = g.D.Disk.faults c.args.disk.now }) (record { told = g.L.Launcher.told; launches = g.L.Launcher.launches c.args.launcher.now; faults = g.L.Launcher.faults c.args.launcher.now }) c.args.ram.now in
-    let n : Moment = moment (record { told = g.H.Host.told; files = g.H.Host.file c.args.host.now; faults = g.H.Host.faults c.args.host.now }) (record { told = g.D.Disk.told; size = g.D.Disk.extent c.args.disk.now; flash = g.D.Disk.flash c.args.disk.now; faults = g.D.Disk.faults c.args.disk.now }) (record { told = g.L.Launcher.told; launches = g.L.Launcher.launches c.args.launcher.now; faults = g.L.Launcher.faults c.args.launcher.now }) c.args.ram.now in
-    let s : State = state_of c.args.state.now in
-    let lt = c.requires.inside in
-    let one = c.requires.ready.standings.each at no_standing lt in
-    let sources = c.requires.under_way.sources in
-    let counts_host = g.H.Host.faults c.args.host.now in
-    let counts_launcher = g.L.Launcher.faults c.args.launcher.now in
-    let source = c.in-Some.source in
-    let named : number_of (in_force s.parameters at keys.Source) ≡ Some source = sym (ap number_of c.get.ensures) ∙ sym c.number.ensures ∙ c.in-Some.is in
-    let few : at < 8 = omega (arith, lt, c.requires.ready.standings.few) in
-    let below = (sources at source few named).0 in
-    let two = c.requires.ready.standings.each source no_standing below in
-    apart_here machine.standings.now at source lt (c.requires.ready.standings.apart at lt) below (λ e. other (two.component ∙ e ∙ sym one.component))
+copy-requires-clause-apart g c other = source_apart c.args.machine.now _ _ (state_of c.args.state.now) c.args.component c.in-Some.source c.requires.inside c.requires.ready c.requires.under_way (named_in (state_of c.args.state.now) c.args.component _ _ _ c.get.ensures c.number.ensures c.in-Some.is) other
 
 pub returns-in-Some : goal.returns-in-Some
 returns-in-Some g c =
-    let machine = c.args.machine.now in
-    let at = c.args.component in
-    let m : Moment = moment (record { told = g.H.Host.told; files = g.H.Host.file c.args.host.now; faults = g.H.Host.faults c.args.host.now }) (record { told = g.D.Disk.told; size = g.D.Disk.extent c.args.disk.now; flash = g.D.Disk.flash c.args.disk.now; faults = g.D.Disk.faults c.args.disk.now }) (record { told = g.L.Launcher.told; launches = g.L.Launcher.launches c.args.launcher.now; faults = g.L.Launcher.faults c.args.launcher.now }) c.args.ram.now in
-    let n : Moment = moment (record { told = g.H.Host.told; files = g.H.Host.file c.args.host.now; faults = g.H.Host.faults c.args.host.now }) (record { told = g.D.Disk.told; size = g.D.Disk.extent c.copy.new.disk; flash = g.D.Disk.flash c.copy.new.disk; faults = g.D.Disk.faults c.copy.new.disk }) (record { told = g.L.Launcher.told; launches = g.L.Launcher.launches c.args.launcher.now; faults = g.L.Launcher.faults c.args.launcher.now }) c.copy.new.ram in
-    let s : State = state_of c.args.state.now in
-    let lt = c.requires.inside in
-    let one = c.requires.ready.standings.each at no_standing lt in
-    let sources = c.requires.under_way.sources in
-    let counts_host = g.H.Host.faults c.args.host.now in
-    let counts_launcher = g.L.Launcher.faults c.args.launcher.now in
-    let source = c.in-Some.source in
-    let named : number_of (in_force s.parameters at keys.Source) ≡ Some source = sym (ap number_of c.get.ensures) ∙ sym c.number.ensures ∙ c.in-Some.is in
-    let few : at < 8 = omega (arith, lt, c.requires.ready.standings.few) in
-    let below = (sources at source few named).0 in
-    let two = c.requires.ready.standings.each source no_standing below in
+    let r = c.requires in
     let w = c.copy.ensures in
-    let stays = one_stays machine m n at no_standing lt c.requires.ready w.ram refl refl refl w.size (λ t. refl) c.requires.target w.keeps w.grows in
+    let named : number_of (in_force (state_of c.args.state.now).parameters c.args.component keys.Source) ≡ Some c.in-Some.source = named_in (state_of c.args.state.now) c.args.component _ _ _ c.get.ensures c.number.ensures c.in-Some.is in
     record {
-      runs = subst (λ (r : Result (Unit {0}) Stop). Runs machine (act_part acts.Copy c.args.place at) s m r s n) (sym c.stopped.ensures)
-          (one_runs machine m n at no_standing lt c.requires.ready w.ram (act_part acts.Copy c.args.place at) s c.args.place c.copy.result
-          (λ t. g.met.D.Disk.obeys c.args.disk.now t) stays refl
-          (cause_counts c.copy.result c.args.place counts_host m.disk.faults n.disk.faults counts_launcher w.counts) sources w.keeps
-          (λ setting fits prior.
-          subst (λ (j : ℕ). CopiesAs at (get_or machine.standings.now at no_standing).capacity j (content_of (get_or machine.standings.now source no_standing).spot m.ram m.disk.flash.reads) (content_of (get_or machine.standings.now at no_standing).spot m.ram m.disk.flash.reads) (content_of (get_or machine.standings.now at no_standing).spot n.ram n.disk.flash.reads) c.copy.result) two.component
-          (subst (λ (k : ℕ). CopiesAs k (get_or machine.standings.now at no_standing).capacity (get_or machine.standings.now source no_standing).component (content_of (get_or machine.standings.now source no_standing).spot m.ram m.disk.flash.reads) (content_of (get_or machine.standings.now at no_standing).spot m.ram m.disk.flash.reads) (content_of (get_or machine.standings.now at no_standing).spot n.ram n.disk.flash.reads) c.copy.result) one.component (w.copies fits.disk))
-          setting c.args.place s _ named (capacity_here machine m at no_standing lt setting fits prior) (content_here machine m source no_standing below setting fits prior) (content_here machine m at no_standing lt setting fits prior) (within_here machine m at no_standing lt setting fits prior)));
+      runs = copy_runs c.args.machine.now _ _ (state_of c.args.state.now) c.args.place c.args.component r.inside r.ready r.under_way (λ t. g.met.D.Disk.obeys c.args.disk.now t) c.copy.result _ c.stopped.ensures
+          (one_stays c.args.machine.now _ _ c.args.component no_standing r.inside r.ready w.ram refl refl refl w.size (λ t. refl) r.target w.keeps w.grows) refl
+          (cause_counts c.copy.result c.args.place _ _ _ _ w.counts) w.ram w.keeps c.in-Some.source named w.copies;
     }
 
 pub returns-in-None : goal.returns-in-None
 returns-in-None g c =
-    let machine = c.args.machine.now in
-    let at = c.args.component in
-    let m : Moment = moment (record { told = g.H.Host.told; files = g.H.Host.file c.args.host.now; faults = g.H.Host.faults c.args.host.now }) (record { told = g.D.Disk.told; size = g.D.Disk.extent c.args.disk.now; flash = g.D.Disk.flash c.args.disk.now; faults = g.D.Disk.faults c.args.disk.now }) (record { told = g.L.Launcher.told; launches = g.L.Launcher.launches c.args.launcher.now; faults = g.L.Launcher.faults c.args.launcher.now }) c.args.ram.now in
-    let n : Moment = moment (record { told = g.H.Host.told; files = g.H.Host.file c.args.host.now; faults = g.H.Host.faults c.args.host.now }) (record { told = g.D.Disk.told; size = g.D.Disk.extent c.args.disk.now; flash = g.D.Disk.flash c.args.disk.now; faults = g.D.Disk.faults c.args.disk.now }) (record { told = g.L.Launcher.told; launches = g.L.Launcher.launches c.args.launcher.now; faults = g.L.Launcher.faults c.args.launcher.now }) c.args.ram.now in
-    let s : State = state_of c.args.state.now in
-    let lt = c.requires.inside in
-    let one = c.requires.ready.standings.each at no_standing lt in
-    let sources = c.requires.under_way.sources in
-    let counts_host = g.H.Host.faults c.args.host.now in
-    let counts_launcher = g.L.Launcher.faults c.args.launcher.now in
-    let none : number_of (in_force s.parameters at keys.Source) ≡ None = sym (ap number_of c.get.ensures) ∙ sym c.number.ensures ∙ c.in-None.is in
-    record { runs = copy_missing machine c.args.place at s m sources none }
+    record { runs = copy_missing c.args.machine.now c.args.place c.args.component (state_of c.args.state.now) _ c.requires.under_way.sources (named_in (state_of c.args.state.now) c.args.component _ _ _ c.get.ensures c.number.ensures c.in-None.is) }

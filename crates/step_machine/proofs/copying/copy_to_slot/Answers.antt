@@ -1,29 +1,19 @@
-use Rattle.std.proofs.Common.{◌≡◌, ◌+◌, ◌∙◌, ℕ, length, take, refl, sym, ap, subst, arith}
-use Rattle.suit_edge.specs.Flash.{Keeps}
-use Rattle.suit_edge.specs.FlashLaws.{keeps_then}
-use Rattle.suit_edge.specs.Ranges.{Outside}
+use Rattle.std.proofs.Common.{◌≡◌, ◌∙◌, ℕ, length, take, refl, sym, ap, subst}
 use Rattle.flash_layout.specs.declared.slot.Slot.{Slot}
-use Rattle.flash_layout.specs.Slots.{extent_of, slot_content}
+use Rattle.flash_layout.specs.Slots.{slot_content}
 use Rattle.flash_slots.specs.Contents.{pieces_of}
 use Rattle.step_machine.specs.declared.spot.Spot.TheVariants as spots
 use Rattle.step_machine.specs.Spots.{IsSpot}
-use Rattle.step_machine.proofs.Ranging.{keeps_wider}
+use Rattle.step_machine.proofs.Ranging.{length_put, pieces_put, slot_put}
 use Rattle.step_machine.proofs.Rooms.{kept_area}
 use Rattle.step_machine.proofs.copying.copy_to_slot.Goals as goal
 
 pub returns-in-Err-clause-keeps : goal.returns-in-Err-clause-keeps
-returns-in-Err-clause-keeps g c t =
-    let slot = c.args.slot in
-    keeps_wider slot.start (8 + slot.capacity) slot.start 8 (omega arith) (omega arith) _ _ (c.begin.ensures.keeps t)
+returns-in-Err-clause-keeps g c t = length_put c.args.slot _ _ (c.begin.ensures.keeps t)
 
 pub returns-in-Err-put_pieces-clause-keeps : goal.returns-in-Err-put_pieces-clause-keeps
 returns-in-Err-put_pieces-clause-keeps g c t =
-    let slot = c.args.slot in
-    let begun = g.D.Disk.flash c.begin.new.disk in
-    let put = g.D.Disk.flash c.put_pieces.new.disk in
-    keeps_then (Outside slot.start (8 + slot.capacity)) _ begun _ _ (g.met.D.Disk.obeys c.begin.new.disk t)
-    (keeps_wider slot.start (8 + slot.capacity) slot.start 8 (omega arith) (omega arith) _ _ (c.begin.ensures.keeps t))
-    (subst (λ (x : Slot). Keeps (Outside x.start (extent_of x)) begun put) c.in-Ok.ensures.slot (c.put_pieces.ensures.keeps t))
+    pieces_put c.args.slot c.in-Ok.writing.slot _ _ _ _ c.in-Ok.ensures.slot (g.met.D.Disk.obeys c.begin.new.disk t) (c.begin.ensures.keeps t) (c.put_pieces.ensures.keeps t)
 
 pub returns-in-Ok-finish-clause-content : goal.returns-in-Ok-finish-clause-content
 returns-in-Ok-finish-clause-content g c t =
@@ -35,31 +25,17 @@ returns-in-Ok-finish-clause-content g c t =
     let same_slot : writing.slot ≡ slot = c.put_pieces.ensures.slot ∙ c.in-Ok.ensures.slot in
     let inside : IsSpot (length first.reads) c.args.ram.now c.args.source = subst (λ (n : ℕ). IsSpot n c.args.ram.now c.args.source) (sym (g.met.D.Disk.obeys c.args.disk.now t).fits) c.requires.source in
     let same = kept_area (spots.Flash slot) c.args.source c.args.ram.now c.args.ram.now first begun c.requires.clear inside refl
-    (keeps_wider slot.start (8 + slot.capacity) slot.start 8 (omega arith) (omega arith) _ _ (c.begin.ensures.keeps t)) in
+    (length_put slot first begun (c.begin.ensures.keeps t)) in
     ap (λ (x : Slot). slot_content x (g.D.Disk.flash c.finish.new.disk).reads) (sym same_slot)
     ∙ c.in-Ok-finish.ensures.content t ∙ ap (λ (n : ℕ). pieces_of writing.slot n put.reads) c.in-Ok-put_pieces.ensures.written
     ∙ c.in-Ok-put_pieces.ensures.pieces t ∙ ap (take c.args.size) same
 
 pub returns-in-Ok-finish-clause-keeps : goal.returns-in-Ok-finish-clause-keeps
 returns-in-Ok-finish-clause-keeps g c t =
-    let slot = c.args.slot in
-    let begun = g.D.Disk.flash c.begin.new.disk in
-    let put = g.D.Disk.flash c.put_pieces.new.disk in
-    let start : c.put_pieces.new.writing.slot.start ≡ slot.start = ap (λ (x : Slot). x.start) (c.put_pieces.ensures.slot ∙ c.in-Ok.ensures.slot) in
-    keeps_then (Outside slot.start (8 + slot.capacity)) _ put _ _ (g.met.D.Disk.obeys c.put_pieces.new.disk t)
-    (keeps_then (Outside slot.start (8 + slot.capacity)) _ begun _ _ (g.met.D.Disk.obeys c.begin.new.disk t)
-    (keeps_wider slot.start (8 + slot.capacity) slot.start 8 (omega arith) (omega arith) _ _ (c.begin.ensures.keeps t))
-    (subst (λ (x : Slot). Keeps (Outside x.start (extent_of x)) begun put) c.in-Ok.ensures.slot (c.put_pieces.ensures.keeps t)))
-    (keeps_wider slot.start (8 + slot.capacity) c.put_pieces.new.writing.slot.start 8 (omega (arith, start)) (omega (arith, start)) _ _ (c.finish.ensures.keeps t))
+    slot_put c.args.slot c.in-Ok.writing.slot c.put_pieces.new.writing.slot _ _ _ _ _ _ c.in-Ok.ensures.slot (c.put_pieces.ensures.slot ∙ c.in-Ok.ensures.slot) (g.met.D.Disk.obeys c.begin.new.disk t) (g.met.D.Disk.obeys c.put_pieces.new.disk t)
+    (c.begin.ensures.keeps t) (c.put_pieces.ensures.keeps t) (c.finish.ensures.keeps t)
 
 pub returns-in-Err-finish-clause-keeps : goal.returns-in-Err-finish-clause-keeps
 returns-in-Err-finish-clause-keeps g c t =
-    let slot = c.args.slot in
-    let begun = g.D.Disk.flash c.begin.new.disk in
-    let put = g.D.Disk.flash c.put_pieces.new.disk in
-    let start : c.put_pieces.new.writing.slot.start ≡ slot.start = ap (λ (x : Slot). x.start) (c.put_pieces.ensures.slot ∙ c.in-Ok.ensures.slot) in
-    keeps_then (Outside slot.start (8 + slot.capacity)) _ put _ _ (g.met.D.Disk.obeys c.put_pieces.new.disk t)
-    (keeps_then (Outside slot.start (8 + slot.capacity)) _ begun _ _ (g.met.D.Disk.obeys c.begin.new.disk t)
-    (keeps_wider slot.start (8 + slot.capacity) slot.start 8 (omega arith) (omega arith) _ _ (c.begin.ensures.keeps t))
-    (subst (λ (x : Slot). Keeps (Outside x.start (extent_of x)) begun put) c.in-Ok.ensures.slot (c.put_pieces.ensures.keeps t)))
-    (keeps_wider slot.start (8 + slot.capacity) c.put_pieces.new.writing.slot.start 8 (omega (arith, start)) (omega (arith, start)) _ _ (c.finish.ensures.keeps t))
+    slot_put c.args.slot c.in-Ok.writing.slot c.put_pieces.new.writing.slot _ _ _ _ _ _ c.in-Ok.ensures.slot (c.put_pieces.ensures.slot ∙ c.in-Ok.ensures.slot) (g.met.D.Disk.obeys c.begin.new.disk t) (g.met.D.Disk.obeys c.put_pieces.new.disk t)
+    (c.begin.ensures.keeps t) (c.put_pieces.ensures.keeps t) (c.finish.ensures.keeps t)

@@ -1,42 +1,33 @@
 use Rattle.std.proofs.Common.{◌≡◌, ◌≤◌, ◌+◌, ◌∙◌, List, ℕ, length, take, drop, refl, sym, ap, subst, arith, rules}
 use Rattle.std.proofs.lemmas.List.{length-take-le}
-use Rattle.suit_edge.specs.FlashLaws.{grows_then, keeps_same, keeps_then}
-use Rattle.suit_edge.specs.Ranges.{Outside}
+use Rattle.suit_edge.specs.FlashLaws.{grows_then}
 use Rattle.flash_layout.specs.declared.slot.Slot.{Slot}
 use Rattle.flash_slots.specs.Contents.{pieces_of}
 use Rattle.step_machine.specs.declared.spot.Spot.TheVariants as spots
 use Rattle.step_machine.specs.Areas.{area_at}
 use Rattle.step_machine.specs.Spots.{IsSpot}
-use Rattle.step_machine.proofs.Ranging.{keeps_wider}
+use Rattle.step_machine.proofs.Ranging.{read_and_put}
 use Rattle.step_machine.proofs.Rooms.{kept_area, more_put}
 use Rattle.step_machine.proofs.copying.put_pieces.Goals as goal
 
 pub returns-in-Err-append-clause-keeps : goal.returns-in-Err-append-clause-keeps
 returns-in-Err-append-clause-keeps g c t =
     let slot = c.args.writing.now.slot in
-    let start : c.loop-from.writing.slot.start ≡ slot.start = ap (λ (x : Slot). x.start) c.loop-from.invariant.slot in
+    let written = c.loop-from.invariant.written in
     let few : c.in-Ok.count ≤ length c.read_piece.new.room = omega (arith, c.in-Ok.ensures.count, c.read_piece.auto.room) in
     let count : length (take c.in-Ok.count c.read_piece.new.room) ≡ c.in-Ok.count = length-take-le c.in-Ok.count c.read_piece.new.room few in
     let within : c.loop-from.from + c.in-Ok.count ≤ slot.capacity = omega (arith, c.in-Ok.ensures.count, c.loop-from-test.true, c.requires.fits) in
-    let written = c.loop-from.invariant.written in
-    let K = Outside slot.start (8 + slot.capacity) in
-    let f = g.D.Disk.flash c.loop-from.disk in
-    let h = g.D.Disk.flash c.read_piece.new.disk in
-    keeps_then K _ h _ _ (g.met.D.Disk.obeys c.read_piece.new.disk t)
-    (keeps_then K _ f _ _ (g.met.D.Disk.obeys c.loop-from.disk t) (c.loop-from.invariant.keeps t) (keeps_same K f h (c.read_piece.ensures.same t)))
-    (keeps_wider slot.start (8 + slot.capacity) (c.loop-from.writing.slot.start + 8 + c.loop-from.writing.written) (length (take c.in-Ok.count c.read_piece.new.room)) (omega (arith, start)) (omega (arith, start, written, count, within)) _ _ (c.append.ensures.keeps t))
+    read_and_put slot c.loop-from.writing.slot _ _ _ _ _ _ _ _ c.loop-from.invariant.slot (omega (arith, written, count, within)) (g.met.D.Disk.obeys c.loop-from.disk t) (g.met.D.Disk.obeys c.read_piece.new.disk t) (c.loop-from.invariant.keeps t) (c.read_piece.ensures.same t) (c.append.ensures.keeps t)
 
 pub loop-from-preserved : goal.loop-from-preserved
 loop-from-preserved g c =
     let slot = c.args.writing.now.slot in
-    let start : c.loop-from.writing.slot.start ≡ slot.start = ap (λ (x : Slot). x.start) c.loop-from.invariant.slot in
     let few : c.in-Ok.count ≤ length c.read_piece.new.room = omega (arith, c.in-Ok.ensures.count, c.read_piece.auto.room) in
     let count : length (take c.in-Ok.count c.read_piece.new.room) ≡ c.in-Ok.count = length-take-le c.in-Ok.count c.read_piece.new.room few in
     let within : c.loop-from.from + c.in-Ok.count ≤ slot.capacity = omega (arith, c.in-Ok.ensures.count, c.loop-from-test.true, c.requires.fits) in
     let written = c.loop-from.invariant.written in
     let now : c.append.new.self.written ≡ c.loop-from.from + c.in-Ok.count = omega (arith, c.in-Ok-append.ensures.written, count, written) in
     let kept : c.append.new.self.slot ≡ slot = c.append.ensures.slot ∙ c.loop-from.invariant.slot in
-    let K = Outside slot.start (8 + slot.capacity) in
     record {
       within = omega (arith, c.in-Ok.ensures.count, c.loop-from-test.true);
       room = search rules;
@@ -58,12 +49,7 @@ loop-from-preserved g c =
           ap (λ (n : ℕ). pieces_of slot n last) (sym now) ∙ ap (λ (x : Slot). pieces_of x c.append.new.self.written last) (sym kept)
           ∙ more_put (area_at c.args.source c.args.ram.now first.reads) _ _ piece c.loop-from.from c.in-Ok.count was
           (c.in-Ok.ensures.bytes t ∙ ap (λ (l : List ℕ). take c.in-Ok.count (drop c.loop-from.from l)) same) (c.in-Ok-append.ensures.pieces t);
-      keeps = λ t.
-          let f = g.D.Disk.flash c.loop-from.disk in
-          let h = g.D.Disk.flash c.read_piece.new.disk in
-          keeps_then K _ h _ _ (g.met.D.Disk.obeys c.read_piece.new.disk t)
-          (keeps_then K _ f _ _ (g.met.D.Disk.obeys c.loop-from.disk t) (c.loop-from.invariant.keeps t) (keeps_same K f h (c.read_piece.ensures.same t)))
-          (keeps_wider slot.start (8 + slot.capacity) (c.loop-from.writing.slot.start + 8 + c.loop-from.writing.written) (length (take c.in-Ok.count c.read_piece.new.room)) (omega (arith, start)) (omega (arith, start, written, count, within)) _ _ (c.append.ensures.keeps t));
+      keeps = λ t. read_and_put slot c.loop-from.writing.slot _ _ _ _ _ _ _ _ c.loop-from.invariant.slot (omega (arith, written, count, within)) (g.met.D.Disk.obeys c.loop-from.disk t) (g.met.D.Disk.obeys c.read_piece.new.disk t) (c.loop-from.invariant.keeps t) (c.read_piece.ensures.same t) (c.append.ensures.keeps t);
       grows = λ t.
           let first = g.D.Disk.flash c.args.disk.now in
           let f = g.D.Disk.flash c.loop-from.disk in

@@ -1,14 +1,10 @@
-use Rattle.std.proofs.Common.{◌≡◌, ◌≤◌, ◌+◌, ◌∙◌, ℕ, length, take, drop, refl, sym, ap, subst, arith}
+use Rattle.std.proofs.Common.{◌≡◌, ◌≤◌, ◌+◌, ◌∙◌, length, take, drop, refl, arith}
 use Rattle.std.proofs.lemmas.List.{length-append, length-drop, length-take-le}
 use Rattle.suit_edge.specs.FlashLaws.{grows_start, grows_then, keeps_start, keeps_then}
-use Rattle.suit_edge.specs.Ranges.{written}
-use Rattle.step_machine.specs.Areas.{area_at, size_at}
 use Rattle.step_machine.specs.Copying.{OutsideBoth}
-use Rattle.step_machine.specs.Spots.{IsSpot}
 use Rattle.step_machine.proofs.Both.{both_then, first_changed}
 use Rattle.step_machine.proofs.Memory.{ram_same}
-use Rattle.step_machine.proofs.Mixed.{mixed_all, mixed_more}
-use Rattle.step_machine.proofs.Rooms.{area_long}
+use Rattle.step_machine.proofs.Rooms.{all_mixed, piece_mixed}
 use Rattle.step_machine.proofs.exchanging.exchange_pieces.Goals as goal
 
 pub loop-from-init : goal.loop-from-init
@@ -57,25 +53,11 @@ loop-from-preserved g c =
       size = c.exchange_piece.ensures.size ∙ c.loop-from.invariant.size;
       faults = c.in-Ok.ensures.counts ∙ c.loop-from.invariant.faults;
       one = λ t.
-          let reads = (g.D.Disk.flash c.args.disk.now).reads in
-          let now = (g.D.Disk.flash c.loop-from.disk).reads in
-          let fits = (g.met.D.Disk.obeys c.args.disk.now t).fits in
-          let long : length (area_at one ram reads) ≡ size_at one ram = area_long one ram reads (subst (λ (i : ℕ). IsSpot i ram one) (sym fits) c.requires.one) in
-          let other_long : length (area_at other ram reads) ≡ size_at other ram = area_long other ram reads (subst (λ (i : ℕ). IsSpot i ram other) (sym fits) c.requires.other) in
-          c.in-Ok.ensures.one t
-          ∙ ap (λ (i : ℕ). written (area_at one c.loop-from.ram now) from (take i (drop from (area_at other c.loop-from.ram now)))) room_taken
-          ∙ mixed_more (area_at one ram reads) (area_at other ram reads) (area_at one c.loop-from.ram now) (area_at other c.loop-from.ram now) from n
-          (omega (arith, within, long, c.requires.within)) (omega (arith, within, other_long, c.requires.other_within)) (c.loop-from.invariant.one t) (c.loop-from.invariant.other t);
+          piece_mixed one other ram c.loop-from.ram _ (g.D.Disk.flash c.loop-from.disk).reads _ _ from n _ (g.met.D.Disk.obeys c.args.disk.now t).fits c.requires.one c.requires.other (omega (arith, within, c.requires.within)) (omega (arith, within, c.requires.other_within)) room_taken
+          (c.loop-from.invariant.one t) (c.loop-from.invariant.other t) (c.in-Ok.ensures.one t);
       other = λ t.
-          let reads = (g.D.Disk.flash c.args.disk.now).reads in
-          let now = (g.D.Disk.flash c.loop-from.disk).reads in
-          let fits = (g.met.D.Disk.obeys c.args.disk.now t).fits in
-          let long : length (area_at one ram reads) ≡ size_at one ram = area_long one ram reads (subst (λ (i : ℕ). IsSpot i ram one) (sym fits) c.requires.one) in
-          let other_long : length (area_at other ram reads) ≡ size_at other ram = area_long other ram reads (subst (λ (i : ℕ). IsSpot i ram other) (sym fits) c.requires.other) in
-          c.in-Ok.ensures.other t
-          ∙ ap (λ (i : ℕ). written (area_at other c.loop-from.ram now) from (take i (drop from (area_at one c.loop-from.ram now)))) room_taken
-          ∙ mixed_more (area_at other ram reads) (area_at one ram reads) (area_at other c.loop-from.ram now) (area_at one c.loop-from.ram now) from n
-          (omega (arith, within, other_long, c.requires.other_within)) (omega (arith, within, long, c.requires.within)) (c.loop-from.invariant.other t) (c.loop-from.invariant.one t);
+          piece_mixed other one ram c.loop-from.ram _ (g.D.Disk.flash c.loop-from.disk).reads _ _ from n _ (g.met.D.Disk.obeys c.args.disk.now t).fits c.requires.other c.requires.one (omega (arith, within, c.requires.other_within)) (omega (arith, within, c.requires.within)) room_taken
+          (c.loop-from.invariant.other t) (c.loop-from.invariant.one t) (c.in-Ok.ensures.other t);
       keeps = λ t.
           keeps_then (OutsideBoth one other) _ (g.D.Disk.flash c.loop-from.disk) _ _ (g.met.D.Disk.obeys c.loop-from.disk t) (c.loop-from.invariant.keeps t) (c.exchange_piece.ensures.keeps t);
       grows = λ t.
@@ -84,20 +66,8 @@ loop-from-preserved g c =
 
 pub returns-clause-one : goal.returns-clause-one
 returns-clause-one g c t =
-    let other = c.args.other in
-    let ram = c.args.ram.now in
-    let reads = (g.D.Disk.flash c.args.disk.now).reads in
-    let fits = (g.met.D.Disk.obeys c.args.disk.now t).fits in
-    let long : length (area_at other ram reads) ≡ size_at other ram = area_long other ram reads (subst (λ (i : ℕ). IsSpot i ram other) (sym fits) c.requires.other) in
-    mixed_all (area_at c.args.one ram reads) (area_at other ram reads) (area_at c.args.one c.loop-from.ram (g.D.Disk.flash c.loop-from.disk).reads) c.args.size c.loop-from.from
-    (omega (arith, c.loop-from-test.false, c.loop-from.invariant.within)) (omega (arith, long, c.requires.other_within)) (c.loop-from.invariant.one t)
+    all_mixed c.args.one c.args.other c.args.ram.now _ _ _ c.loop-from.from c.args.size (g.met.D.Disk.obeys c.args.disk.now t).fits c.requires.other (omega (arith, c.loop-from-test.false, c.loop-from.invariant.within)) c.requires.other_within (c.loop-from.invariant.one t)
 
 pub returns-clause-other : goal.returns-clause-other
 returns-clause-other g c t =
-    let one = c.args.one in
-    let ram = c.args.ram.now in
-    let reads = (g.D.Disk.flash c.args.disk.now).reads in
-    let fits = (g.met.D.Disk.obeys c.args.disk.now t).fits in
-    let long : length (area_at one ram reads) ≡ size_at one ram = area_long one ram reads (subst (λ (i : ℕ). IsSpot i ram one) (sym fits) c.requires.one) in
-    mixed_all (area_at c.args.other ram reads) (area_at one ram reads) (area_at c.args.other c.loop-from.ram (g.D.Disk.flash c.loop-from.disk).reads) c.args.size c.loop-from.from
-    (omega (arith, c.loop-from-test.false, c.loop-from.invariant.within)) (omega (arith, long, c.requires.within)) (c.loop-from.invariant.other t)
+    all_mixed c.args.other c.args.one c.args.ram.now _ _ _ c.loop-from.from c.args.size (g.met.D.Disk.obeys c.args.disk.now t).fits c.requires.one (omega (arith, c.loop-from-test.false, c.loop-from.invariant.within)) c.requires.within (c.loop-from.invariant.other t)

@@ -1,30 +1,19 @@
-use Rattle.std.proofs.Common.{◌≡◌, ◌≤◌, ◌<◌, ◌+◌, ◌∙◌, List, length, sym, ap, subst, arith}
-use Rattle.suit_edge.specs.Flash.{Keeps}
+use Rattle.std.proofs.Common.{◌≡◌, ◌≤◌, ◌<◌, ◌+◌, ◌∙◌, List, length, sym, ap, subst}
 use Rattle.suit_edge.specs.Ranges.{written}
 use Rattle.suit_edge.specs.RangeLaws.{length-written}
 use Rattle.flash_slots.specs.RamContents.{Held, held_by}
 use Rattle.step_machine.specs.declared.spot.Spot.{Spot}
 use Rattle.step_machine.specs.Areas.{size_at}
-use Rattle.step_machine.specs.Spots.{IsSpot, OutsideSpot}
+use Rattle.step_machine.specs.Spots.{IsSpot}
 use Rattle.step_machine.proofs.Memory.{held_holding}
-use Rattle.step_machine.proofs.Ranging.{keeps_wider}
+use Rattle.step_machine.proofs.Reading.{piece_kept}
 use Rattle.step_machine.proofs.exchanging.write_piece.Goals as goal
 
 pub returns-in-Ok-clause-keeps : goal.returns-in-Ok-clause-keeps
-returns-in-Ok-clause-keeps g c t =
-    subst (λ (x : Spot). Keeps (OutsideSpot x) (g.D.Disk.flash c.args.disk.now) (g.D.Disk.flash c.overwrite.new.disk)) (sym c.in-Flash.is)
-    (keeps_wider c.in-Flash.slot.start (8 + c.in-Flash.slot.capacity) (c.in-Flash.slot.start + 8 + c.args.from) (length c.args.piece.now) (omega arith) (omega (arith, within)) _ _ (c.overwrite.ensures.keeps t))
-  where
-    within : c.args.from + length c.args.piece.now ≤ c.in-Flash.slot.capacity
-    within = subst (λ (x : Spot). c.args.from + length c.args.piece.now ≤ size_at x c.args.ram.now) c.in-Flash.is c.requires.within
+returns-in-Ok-clause-keeps g c t = piece_kept c.args.spot c.in-Flash.slot c.args.ram.now _ _ c.args.from (length c.args.piece.now) c.in-Flash.is c.requires.within (c.overwrite.ensures.keeps t)
 
 pub returns-in-Err-clause-keeps : goal.returns-in-Err-clause-keeps
-returns-in-Err-clause-keeps g c t =
-    subst (λ (x : Spot). Keeps (OutsideSpot x) (g.D.Disk.flash c.args.disk.now) (g.D.Disk.flash c.overwrite.new.disk)) (sym c.in-Flash.is)
-    (keeps_wider c.in-Flash.slot.start (8 + c.in-Flash.slot.capacity) (c.in-Flash.slot.start + 8 + c.args.from) (length c.args.piece.now) (omega arith) (omega (arith, within)) _ _ (c.overwrite.ensures.keeps t))
-  where
-    within : c.args.from + length c.args.piece.now ≤ c.in-Flash.slot.capacity
-    within = subst (λ (x : Spot). c.args.from + length c.args.piece.now ≤ size_at x c.args.ram.now) c.in-Flash.is c.requires.within
+returns-in-Err-clause-keeps g c t = piece_kept c.args.spot c.in-Flash.slot c.args.ram.now _ _ c.args.from (length c.args.piece.now) c.in-Flash.is c.requires.within (c.overwrite.ensures.keeps t)
 
 pub returns-in-Ram-clause-long : goal.returns-in-Ram-clause-long
 returns-in-Ram-clause-long g c =

@@ -1,14 +1,14 @@
-use Rattle.std.proofs.Common.{◌∙◌, length, refl, sym, ap, subst}
+use Rattle.std.proofs.Common.{◌∙◌, length, refl, sym, ap, subst, rules}
 use Rattle.std.specs.Prelude.{List}
 use Rattle.suit_edge.specs.Flash.{Keeps}
 use Rattle.step_machine.specs.declared.machine.Machine.{Machine}
 use Rattle.step_machine.specs.declared.plan_end.PlanEnd.{PlanEnd}
 use Rattle.step_machine.specs.declared.spot.Standing.{Standing}
 use Rattle.step_machine.specs.Devices.{contents_of}
-use Rattle.step_machine.specs.PlanRuns.{EndCounts, OutsideTargets, PlaysPlan, end_of, setting_of}
+use Rattle.step_machine.specs.PlanRuns.{EndCounts, counts_of, OutsideTargets, PlaysPlan, end_of, setting_of}
 use Rattle.step_machine.specs.Worlds.{AreStandings}
 use Rattle.suit_commands.specs.Plans.{plan_tree}
-use Rattle.step_machine.specs.Running.{Fits, counts_at, Moment, moment}
+use Rattle.step_machine.specs.Running.{Fits, Moment, moment}
 use Rattle.step_machine.proofs.Procedures.{end_counts, plan_plays}
 use Rattle.step_machine.proofs.procedure.run_plan.Goals as goal
 
@@ -20,83 +20,28 @@ started-ended-requires-clause-ready g c =
       count = c.requires.count ∙ ap length (sym e);
     }
 
-pub returns-clause-counts : goal.returns-clause-counts
-returns-clause-counts g c =
-    let items = c.args.world.now.standings.items in
+pub returns : goal.returns
+returns g c =
     let e = c.as_slice-standings.ensures.value in
-    let machine : Machine = record { plan = c.args.plan; standings = c.as_slice-standings.result; uris = c.args.world.now.uris; envelope = c.args.world.now.envelope } in
-    let m : Moment = moment (record { told = g.H.Host.told; files = g.H.Host.file c.args.host.now; faults = g.H.Host.faults c.args.host.now }) (record { told = g.D.Disk.told; size = g.D.Disk.extent c.args.disk.now; flash = g.D.Disk.flash c.args.disk.now; faults = g.D.Disk.faults c.args.disk.now }) (record { told = g.L.Launcher.told; launches = g.L.Launcher.launches c.args.launcher.now; faults = g.L.Launcher.faults c.args.launcher.now }) c.args.world.now.ram in
-    let n : Moment = moment (record { told = g.H.Host.told; files = g.H.Host.file c.started-ended.new.host; faults = g.H.Host.faults c.started-ended.new.host }) (record { told = g.D.Disk.told; size = g.D.Disk.extent c.started-ended.new.disk; flash = g.D.Disk.flash c.started-ended.new.disk; faults = g.D.Disk.faults c.started-ended.new.disk }) (record { told = g.L.Launcher.told; launches = g.L.Launcher.launches c.started-ended.new.launcher; faults = g.L.Launcher.faults c.started-ended.new.launcher }) c.started-ended.new.ram in
-    let runs = c.started-ended.ensures.runs.1 in
     let plan = plan_tree c.args.plan.now in
-    subst (λ (x : PlanEnd). EndCounts x (counts_at m) (counts_at n)) (sym c.end_of.ensures) (end_counts c.started-ended.result (counts_at m) (counts_at n) runs.counts)
-
-pub returns-clause-rooms : goal.returns-clause-rooms
-returns-clause-rooms g c =
-    let items = c.args.world.now.standings.items in
-    let e = c.as_slice-standings.ensures.value in
-    let machine : Machine = record { plan = c.args.plan; standings = c.as_slice-standings.result; uris = c.args.world.now.uris; envelope = c.args.world.now.envelope } in
-    let m : Moment = moment (record { told = g.H.Host.told; files = g.H.Host.file c.args.host.now; faults = g.H.Host.faults c.args.host.now }) (record { told = g.D.Disk.told; size = g.D.Disk.extent c.args.disk.now; flash = g.D.Disk.flash c.args.disk.now; faults = g.D.Disk.faults c.args.disk.now }) (record { told = g.L.Launcher.told; launches = g.L.Launcher.launches c.args.launcher.now; faults = g.L.Launcher.faults c.args.launcher.now }) c.args.world.now.ram in
-    let n : Moment = moment (record { told = g.H.Host.told; files = g.H.Host.file c.started-ended.new.host; faults = g.H.Host.faults c.started-ended.new.host }) (record { told = g.D.Disk.told; size = g.D.Disk.extent c.started-ended.new.disk; flash = g.D.Disk.flash c.started-ended.new.disk; faults = g.D.Disk.faults c.started-ended.new.disk }) (record { told = g.L.Launcher.told; launches = g.L.Launcher.launches c.started-ended.new.launcher; faults = g.L.Launcher.faults c.started-ended.new.launcher }) c.started-ended.new.ram in
     let runs = c.started-ended.ensures.runs.1 in
-    let plan = plan_tree c.args.plan.now in
-    runs.stays.rooms
-
-pub returns-clause-size : goal.returns-clause-size
-returns-clause-size g c =
-    let items = c.args.world.now.standings.items in
-    let e = c.as_slice-standings.ensures.value in
-    let machine : Machine = record { plan = c.args.plan; standings = c.as_slice-standings.result; uris = c.args.world.now.uris; envelope = c.args.world.now.envelope } in
-    let m : Moment = moment (record { told = g.H.Host.told; files = g.H.Host.file c.args.host.now; faults = g.H.Host.faults c.args.host.now }) (record { told = g.D.Disk.told; size = g.D.Disk.extent c.args.disk.now; flash = g.D.Disk.flash c.args.disk.now; faults = g.D.Disk.faults c.args.disk.now }) (record { told = g.L.Launcher.told; launches = g.L.Launcher.launches c.args.launcher.now; faults = g.L.Launcher.faults c.args.launcher.now }) c.args.world.now.ram in
-    let n : Moment = moment (record { told = g.H.Host.told; files = g.H.Host.file c.started-ended.new.host; faults = g.H.Host.faults c.started-ended.new.host }) (record { told = g.D.Disk.told; size = g.D.Disk.extent c.started-ended.new.disk; flash = g.D.Disk.flash c.started-ended.new.disk; faults = g.D.Disk.faults c.started-ended.new.disk }) (record { told = g.L.Launcher.told; launches = g.L.Launcher.launches c.started-ended.new.launcher; faults = g.L.Launcher.faults c.started-ended.new.launcher }) c.started-ended.new.ram in
-    let runs = c.started-ended.ensures.runs.1 in
-    let plan = plan_tree c.args.plan.now in
-    runs.stays.size
-
-pub returns-clause-files : goal.returns-clause-files
-returns-clause-files g c =
-    let items = c.args.world.now.standings.items in
-    let e = c.as_slice-standings.ensures.value in
-    let machine : Machine = record { plan = c.args.plan; standings = c.as_slice-standings.result; uris = c.args.world.now.uris; envelope = c.args.world.now.envelope } in
-    let m : Moment = moment (record { told = g.H.Host.told; files = g.H.Host.file c.args.host.now; faults = g.H.Host.faults c.args.host.now }) (record { told = g.D.Disk.told; size = g.D.Disk.extent c.args.disk.now; flash = g.D.Disk.flash c.args.disk.now; faults = g.D.Disk.faults c.args.disk.now }) (record { told = g.L.Launcher.told; launches = g.L.Launcher.launches c.args.launcher.now; faults = g.L.Launcher.faults c.args.launcher.now }) c.args.world.now.ram in
-    let n : Moment = moment (record { told = g.H.Host.told; files = g.H.Host.file c.started-ended.new.host; faults = g.H.Host.faults c.started-ended.new.host }) (record { told = g.D.Disk.told; size = g.D.Disk.extent c.started-ended.new.disk; flash = g.D.Disk.flash c.started-ended.new.disk; faults = g.D.Disk.faults c.started-ended.new.disk }) (record { told = g.L.Launcher.told; launches = g.L.Launcher.launches c.started-ended.new.launcher; faults = g.L.Launcher.faults c.started-ended.new.launcher }) c.started-ended.new.ram in
-    let runs = c.started-ended.ensures.runs.1 in
-    let plan = plan_tree c.args.plan.now in
-    runs.stays.files
-
-pub returns-clause-grows : goal.returns-clause-grows
-returns-clause-grows g c =
-    let items = c.args.world.now.standings.items in
-    let e = c.as_slice-standings.ensures.value in
-    let machine : Machine = record { plan = c.args.plan; standings = c.as_slice-standings.result; uris = c.args.world.now.uris; envelope = c.args.world.now.envelope } in
-    let m : Moment = moment (record { told = g.H.Host.told; files = g.H.Host.file c.args.host.now; faults = g.H.Host.faults c.args.host.now }) (record { told = g.D.Disk.told; size = g.D.Disk.extent c.args.disk.now; flash = g.D.Disk.flash c.args.disk.now; faults = g.D.Disk.faults c.args.disk.now }) (record { told = g.L.Launcher.told; launches = g.L.Launcher.launches c.args.launcher.now; faults = g.L.Launcher.faults c.args.launcher.now }) c.args.world.now.ram in
-    let n : Moment = moment (record { told = g.H.Host.told; files = g.H.Host.file c.started-ended.new.host; faults = g.H.Host.faults c.started-ended.new.host }) (record { told = g.D.Disk.told; size = g.D.Disk.extent c.started-ended.new.disk; flash = g.D.Disk.flash c.started-ended.new.disk; faults = g.D.Disk.faults c.started-ended.new.disk }) (record { told = g.L.Launcher.told; launches = g.L.Launcher.launches c.started-ended.new.launcher; faults = g.L.Launcher.faults c.started-ended.new.launcher }) c.started-ended.new.ram in
-    let runs = c.started-ended.ensures.runs.1 in
-    let plan = plan_tree c.args.plan.now in
-    runs.stays.grows
-
-pub returns-clause-keeps : goal.returns-clause-keeps
-returns-clause-keeps g c told =
-    let items = c.args.world.now.standings.items in
-    let e = c.as_slice-standings.ensures.value in
-    let machine : Machine = record { plan = c.args.plan; standings = c.as_slice-standings.result; uris = c.args.world.now.uris; envelope = c.args.world.now.envelope } in
-    let m : Moment = moment (record { told = g.H.Host.told; files = g.H.Host.file c.args.host.now; faults = g.H.Host.faults c.args.host.now }) (record { told = g.D.Disk.told; size = g.D.Disk.extent c.args.disk.now; flash = g.D.Disk.flash c.args.disk.now; faults = g.D.Disk.faults c.args.disk.now }) (record { told = g.L.Launcher.told; launches = g.L.Launcher.launches c.args.launcher.now; faults = g.L.Launcher.faults c.args.launcher.now }) c.args.world.now.ram in
-    let n : Moment = moment (record { told = g.H.Host.told; files = g.H.Host.file c.started-ended.new.host; faults = g.H.Host.faults c.started-ended.new.host }) (record { told = g.D.Disk.told; size = g.D.Disk.extent c.started-ended.new.disk; flash = g.D.Disk.flash c.started-ended.new.disk; faults = g.D.Disk.faults c.started-ended.new.disk }) (record { told = g.L.Launcher.told; launches = g.L.Launcher.launches c.started-ended.new.launcher; faults = g.L.Launcher.faults c.started-ended.new.launcher }) c.started-ended.new.ram in
-    let runs = c.started-ended.ensures.runs.1 in
-    let plan = plan_tree c.args.plan.now in
-    subst (λ (l : List Standing). Keeps (OutsideTargets plan l) m.disk.flash n.disk.flash) e (runs.stays.keeps told)
-
-pub returns-clause-plays : goal.returns-clause-plays
-returns-clause-plays g c host_told disk_told launcher_told payloads are =
-    let items = c.args.world.now.standings.items in
-    let e = c.as_slice-standings.ensures.value in
-    let machine : Machine = record { plan = c.args.plan; standings = c.as_slice-standings.result; uris = c.args.world.now.uris; envelope = c.args.world.now.envelope } in
-    let m : Moment = moment (record { told = g.H.Host.told; files = g.H.Host.file c.args.host.now; faults = g.H.Host.faults c.args.host.now }) (record { told = g.D.Disk.told; size = g.D.Disk.extent c.args.disk.now; flash = g.D.Disk.flash c.args.disk.now; faults = g.D.Disk.faults c.args.disk.now }) (record { told = g.L.Launcher.told; launches = g.L.Launcher.launches c.args.launcher.now; faults = g.L.Launcher.faults c.args.launcher.now }) c.args.world.now.ram in
-    let n : Moment = moment (record { told = g.H.Host.told; files = g.H.Host.file c.started-ended.new.host; faults = g.H.Host.faults c.started-ended.new.host }) (record { told = g.D.Disk.told; size = g.D.Disk.extent c.started-ended.new.disk; flash = g.D.Disk.flash c.started-ended.new.disk; faults = g.D.Disk.faults c.started-ended.new.disk }) (record { told = g.L.Launcher.told; launches = g.L.Launcher.launches c.started-ended.new.launcher; faults = g.L.Launcher.faults c.started-ended.new.launcher }) c.started-ended.new.ram in
-    let runs = c.started-ended.ensures.runs.1 in
-    let plan = plan_tree c.args.plan.now in
-    let setting = setting_of machine.standings.now payloads machine.uris.now m.host.files in
-    let fits : Fits machine m setting = record { host = host_told; disk = disk_told; launcher = launcher_told; identities = refl; capacities = refl; payloads = are; words = refl; files = refl } in
-    subst (λ (x : PlanEnd). PlaysPlan plan (setting_of items payloads machine.uris.now m.host.files) x (contents_of items m.ram m.disk.flash.reads) (contents_of items n.ram n.disk.flash.reads) m.launcher.launches n.launcher.launches) (sym c.end_of.ensures)
-    (subst (λ (l : List Standing). PlaysPlan plan (setting_of l payloads machine.uris.now m.host.files) (end_of c.started-ended.result) (contents_of l m.ram m.disk.flash.reads) (contents_of l n.ram n.disk.flash.reads) m.launcher.launches n.launcher.launches) e
-    (plan_plays machine m n c.started-ended.ensures.runs.0 setting fits c.started-ended.result runs))
+    record {
+      standings = search rules;
+      rooms = runs.stays.rooms;
+      size = runs.stays.size;
+      counts = subst (λ (x : PlanEnd). EndCounts x (counts_of (g.H.Host.faults c.args.host.now) (g.D.Disk.faults c.args.disk.now) (g.L.Launcher.faults c.args.launcher.now)) (counts_of (g.H.Host.faults c.started-ended.new.host) (g.D.Disk.faults c.started-ended.new.disk) (g.L.Launcher.faults c.started-ended.new.launcher))) (sym c.end_of.ensures)
+          (end_counts c.started-ended.result _ _ runs.counts);
+      files = runs.stays.files;
+      plays = λ host_told disk_told launcher_told payloads are.
+          let items = c.args.world.now.standings.items in
+          let machine : Machine = record { plan = c.args.plan; standings = c.as_slice-standings.result; uris = c.args.world.now.uris; envelope = c.args.world.now.envelope } in
+          let m : Moment = moment (record { told = g.H.Host.told; files = g.H.Host.file c.args.host.now; faults = g.H.Host.faults c.args.host.now }) (record { told = g.D.Disk.told; size = g.D.Disk.extent c.args.disk.now; flash = g.D.Disk.flash c.args.disk.now; faults = g.D.Disk.faults c.args.disk.now }) (record { told = g.L.Launcher.told; launches = g.L.Launcher.launches c.args.launcher.now; faults = g.L.Launcher.faults c.args.launcher.now }) c.args.world.now.ram in
+          let n : Moment = moment (record { told = g.H.Host.told; files = g.H.Host.file c.started-ended.new.host; faults = g.H.Host.faults c.started-ended.new.host }) (record { told = g.D.Disk.told; size = g.D.Disk.extent c.started-ended.new.disk; flash = g.D.Disk.flash c.started-ended.new.disk; faults = g.D.Disk.faults c.started-ended.new.disk }) (record { told = g.L.Launcher.told; launches = g.L.Launcher.launches c.started-ended.new.launcher; faults = g.L.Launcher.faults c.started-ended.new.launcher }) c.started-ended.new.ram in
+          let setting = setting_of machine.standings.now payloads machine.uris.now m.host.files in
+          let fits : Fits machine m setting = record { host = host_told; disk = disk_told; launcher = launcher_told; identities = refl; capacities = refl; payloads = are; words = refl; files = refl } in
+          subst (λ (x : PlanEnd). PlaysPlan plan (setting_of items payloads machine.uris.now m.host.files) x (contents_of items m.ram m.disk.flash.reads) (contents_of items n.ram n.disk.flash.reads) m.launcher.launches n.launcher.launches) (sym c.end_of.ensures)
+          (subst (λ (l : List Standing). PlaysPlan plan (setting_of l payloads machine.uris.now m.host.files) (end_of c.started-ended.result) (contents_of l m.ram m.disk.flash.reads) (contents_of l n.ram n.disk.flash.reads) m.launcher.launches n.launcher.launches) e
+          (plan_plays machine m n c.started-ended.ensures.runs.0 setting fits c.started-ended.result runs));
+      keeps = λ told. subst (λ (l : List Standing). Keeps (OutsideTargets plan l) (g.D.Disk.flash c.args.disk.now) (g.D.Disk.flash c.started-ended.new.disk)) e (runs.stays.keeps told);
+      grows = runs.stays.grows;
+    }

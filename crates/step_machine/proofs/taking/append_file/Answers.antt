@@ -3,9 +3,8 @@ use Rattle.std.proofs.lemmas.List.{length-take-le}
 use Rattle.flash_layout.specs.declared.slot.Slot.{Slot}
 use Rattle.flash_layout.specs.Slots.{slot_content}
 use Rattle.flash_slots.specs.Contents.{pieces_of}
-use Rattle.suit_edge.specs.FlashLaws.{grows_start, grows_then, keeps_start, keeps_then}
-use Rattle.suit_edge.specs.Ranges.{Outside}
-use Rattle.step_machine.proofs.Ranging.{keeps_wider}
+use Rattle.suit_edge.specs.FlashLaws.{grows_start, grows_then, keeps_start}
+use Rattle.step_machine.proofs.Ranging.{more_put_there}
 use Rattle.step_machine.proofs.TakenFiles.{none_put, piece_put, piece_taken}
 use Rattle.step_machine.proofs.taking.append_file.Goals as goal
 
@@ -29,13 +28,10 @@ loop-count-init g c = record {
 pub returns-in-Err-FlashFault-clause-keeps : goal.returns-in-Err-FlashFault-clause-keeps
 returns-in-Err-FlashFault-clause-keeps g c t =
     let own = c.args.writing.now.slot in
-    let room = c.next_piece.new.room in
     let count = c.in_ok-count.count in
-    let size : length (take count room) ≡ count = length-take-le count room (omega (arith, c.in_ok-count.ensures.fits, c.next_piece.auto.room)) in
-    let start : c.loop-count.writing.slot.start ≡ own.start = ap (λ (x : Slot). x.start) c.loop-count.invariant.slot in
+    let size : length (take count c.next_piece.new.room) ≡ count = length-take-le count c.next_piece.new.room (omega (arith, c.in_ok-count.ensures.fits, c.next_piece.auto.room)) in
     let inside : c.loop-count.writing.written + count ≤ own.capacity = omega (arith, c.requires.capacity, c.loop-count.invariant.all, c.in_ok-count.ensures.few) in
-    keeps_then (Outside own.start (8 + own.capacity)) _ (g.D.Disk.flash c.loop-count.disk) _ _ (g.met.D.Disk.obeys c.loop-count.disk t) (c.loop-count.invariant.keeps t)
-    (keeps_wider own.start (8 + own.capacity) (c.loop-count.writing.slot.start + 8 + c.loop-count.writing.written) (length (take count room)) (omega (arith, start)) (omega (arith, start, size, inside)) _ _ (c.append.ensures.keeps t))
+    more_put_there own c.loop-count.writing.slot _ _ _ _ _ _ c.loop-count.invariant.slot (omega (arith, size, inside)) (g.met.D.Disk.obeys c.loop-count.disk t) (c.loop-count.invariant.keeps t) (c.append.ensures.keeps t)
 
 pub loop-count-preserved : goal.loop-count-preserved
 loop-count-preserved g c =
@@ -51,7 +47,6 @@ loop-count-preserved g c =
     let size : length (take count room) ≡ count = length-take-le count room fits in
     let written : c.append.new.self.written ≡ taken + length (take count room) = c.in-Ok.ensures.written in
     let same : c.loop-count.writing.slot ≡ own = c.loop-count.invariant.slot in
-    let start : c.loop-count.writing.slot.start ≡ own.start = ap (λ (x : Slot). x.start) same in
     let inside : taken + count ≤ own.capacity = omega (arith, c.requires.capacity, c.loop-count.invariant.all, c.in_ok-count.ensures.few) in
     record {
       size = c.append.ensures.size ∙ c.loop-count.invariant.size;
@@ -72,9 +67,7 @@ loop-count-preserved g c =
       empty = λ t e.
           subst (λ (x : Slot). slot_content x new ≡ []) same
           (c.append.ensures.empty t (subst (λ (x : Slot). slot_content x reads ≡ []) (sym same) (c.loop-count.invariant.empty t e)));
-      keeps = λ t.
-          keeps_then (Outside own.start (8 + own.capacity)) _ (g.D.Disk.flash c.loop-count.disk) _ _ (g.met.D.Disk.obeys c.loop-count.disk t) (c.loop-count.invariant.keeps t)
-          (keeps_wider own.start (8 + own.capacity) (c.loop-count.writing.slot.start + 8 + taken) (length (take count room)) (omega (arith, start)) (omega (arith, start, size, inside)) _ _ (c.append.ensures.keeps t));
+      keeps = λ t. more_put_there own c.loop-count.writing.slot _ _ _ _ _ _ same (omega (arith, size, inside)) (g.met.D.Disk.obeys c.loop-count.disk t) (c.loop-count.invariant.keeps t) (c.append.ensures.keeps t);
       grows = λ t.
           grows_then (g.D.Disk.flash c.args.disk.now) (g.D.Disk.flash c.loop-count.disk) (g.D.Disk.flash c.append.new.disk) (c.loop-count.invariant.keeps t).images.later (c.loop-count.invariant.grows t) (c.append.ensures.grows t);
     }
