@@ -144,7 +144,12 @@ pub(crate) fn keeper(alloc: Global, fails: &[u64]) -> Result<MemoryHost, AllocEr
     Ok(host)
 }
 
-fn push(alloc: Global, uris: &mut Uris, uri: &str, name: &str) -> Result<(), AllocError> {
+pub(crate) fn push(
+    alloc: Global,
+    uris: &mut Uris,
+    uri: &str,
+    name: &str,
+) -> Result<(), AllocError> {
     let uri = Text::from_str(alloc, uri)?;
     let name = Text::from_str(alloc, name)?;
     uris.push(uri, name)

@@ -2,7 +2,7 @@
 
 use crate::playing::rows_end;
 use path_model::Cause;
-use std::alloc::AllocError;
+use std::alloc::{AllocError, Global};
 use step_machine::PlanEnd;
 
 // Contents of no bytes, of as many as the slot holds, and of one more, which leaves the slot empty.
@@ -87,9 +87,9 @@ const URIS: [(&[u8], PlanEnd); 8] = [
     ),
 ];
 
-// A file of 9,000 bytes, which the host gives in three pieces.
+// A file of 9,000 bytes, which the host gives in three pieces, where a call of the first fetch fails.
 const STOPPED: [(&[u8], PlanEnd); 3] = [
-    // the third piece fails.
+    // the fetch is stopped.
     (
         b"\x86\x0c\x01\x14\xa1\x15an\x15\x0f",
         PlanEnd::DirectiveFailed {
@@ -109,6 +109,9 @@ const STOPPED: [(&[u8], PlanEnd); 3] = [
     ),
 ];
 
+// No call of the first fetch fails.
+const WHOLE: [(&[u8], PlanEnd); 1] = [(b"\x86\x0c\x01\x14\xa1\x15an\x15\x0f", PlanEnd::Done)];
+
 #[test]
 fn contents_fit_or_leave_a_slot_empty(rt: HostRuntime) -> Result<(), AllocError> {
     assert!(rt; rows_end(rt.alloc(), &[], &SIZES)?);
@@ -121,9 +124,20 @@ fn a_uri_names_a_file_or_a_payload(rt: HostRuntime) -> Result<(), AllocError> {
     Ok(())
 }
 
-// Call 0 starts the file, and call 3 is the third pull.
+// How many calls of the host stop the fetch in turn, until it is done; 0 where that never comes.
+fn stopping_calls(alloc: Global) -> Result<u64, AllocError> {
+    for number in 0..100 {
+        if !rows_end(alloc, &[number], &STOPPED)? {
+            let whole = rows_end(alloc, &[number], &WHOLE)?;
+            return Ok(if whole { number } else { 0 });
+        }
+    }
+    Ok(0)
+}
+
+// The start, three pieces, and the end of the file.
 #[test]
 fn a_fault_of_the_host_leaves_a_slot_empty(rt: HostRuntime) -> Result<(), AllocError> {
-    assert!(rt; rows_end(rt.alloc(), &[3], &STOPPED)?);
+    assert!(rt; stopping_calls(rt.alloc())? == 5);
     Ok(())
 }

@@ -5,6 +5,8 @@
 #[cfg(test)]
 mod conditions;
 #[cfg(test)]
+mod copied;
+#[cfg(test)]
 mod devices;
 #[cfg(test)]
 mod directives;
@@ -13,8 +15,12 @@ mod faults;
 #[cfg(test)]
 mod fetched;
 #[cfg(test)]
+mod fetched_in_pieces;
+#[cfg(test)]
 mod launches;
 #[cfg(test)]
 mod playing;
 #[cfg(test)]
 mod sequences;
+#[cfg(test)]
+mod written;
