@@ -155,15 +155,10 @@ module _ (scope : Scope) where
   mutual
     pub sequences : (levels : ℕ) (d : Data) → Holds (Sequences levels) (sequence_of scope levels d)
     sequences zero d = WasFlawed _
-    sequences (suc levels) null = WasFlawed _
-    sequences (suc levels) (boolean b) = WasFlawed _
-    sequences (suc levels) (number n) = WasFlawed _
-    sequences (suc levels) (string s) = WasFlawed _
-    sequences (suc levels) (object ms) = WasFlawed _
-    sequences (suc levels) (array no_items) = WasFlawed _
     sequences (suc levels) (array (item d ds)) =
         holds_bind (Commands levels) (Sequences (suc levels)) _ _ (holds_under (Commands levels) (index_token 0) (command_of scope levels d) (commands levels d)) (λ c h.
         holds_bind (Steps levels) (Sequences (suc levels)) _ _ (steps levels 1 ds) (λ s hs. WasRead (StepThen 0 c s) (λ fit. (h fit.0, hs fit.1))))
+    sequences (suc levels) _ = WasFlawed _
 
     steps : (levels i : ℕ) (ds : Items) → Holds (Steps levels) (steps_from scope levels i ds)
     steps levels i no_items = WasRead NoSteps (λ fit. tt)
@@ -172,29 +167,16 @@ module _ (scope : Scope) where
         holds_bind (Steps levels) (Steps levels) _ _ (steps levels (suc i) ds) (λ s hs. WasRead (StepThen 0 c s) (λ fit. (h fit.0, hs fit.1))))
 
     commands : (levels : ℕ) (d : Data) → Holds (Commands levels) (command_of scope levels d)
-    commands levels null = WasFlawed _
-    commands levels (boolean b) = WasFlawed _
-    commands levels (number n) = WasFlawed _
-    commands levels (string s) = WasFlawed _
-    commands levels (object ms) = WasFlawed _
-    commands levels (array no_items) = WasFlawed _
-    commands levels (array (item a no_items)) = WasFlawed _
-    commands levels (array (item a (item b (item c ds)))) = WasFlawed _
     commands levels (array (item name (item d no_items))) =
         holds_bind Named (Commands levels) _ _ (holds_under Named (index_token 0) (name_of scope.shared name) (name_holds name)) (λ n h.
         said levels n d (sequence_of scope levels d) (tries_of scope levels d) h (sequences levels d) (tries levels d))
+    commands levels _ = WasFlawed _
 
     tries : (levels : ℕ) (d : Data) → Holds (Tries levels) (tries_of scope levels d)
-    tries levels null = WasFlawed _
-    tries levels (boolean b) = WasFlawed _
-    tries levels (number n) = WasFlawed _
-    tries levels (string s) = WasFlawed _
-    tries levels (object ms) = WasFlawed _
-    tries levels (array no_items) = WasFlawed _
-    tries levels (array (item a no_items)) = WasFlawed _
     tries levels (array (item a (item b ds))) =
         holds_weaker (Branches levels (item a (item b ds))) (Tries levels) (branches_from scope levels 0 (item a (item b ds)))
         (branches levels 0 (item a (item b ds))) (λ bs h. (λ fit. (two a b ds bs h.1, h.0 fit)))
+    tries levels _ = WasFlawed _
 
     branches : (levels i : ℕ) (ds : Items) → Holds (Branches levels ds) (branches_from scope levels i ds)
     branches levels i no_items = WasRead NoBranches ((λ fit. tt), tt)

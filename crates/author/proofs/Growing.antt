@@ -1,7 +1,7 @@
 -- How sequences and branches grow while they are read.
 use Rattle.std.proofs.Common.{◌≡◌, ℕ, zero, suc, ◌+◌, ◌-◌, ◌<◌, ◌≤◌, List, [], ◌∷◌, length, eqb, get_or, drop, add-one, Option, Some, None, Result, Ok, Err, refl, sym, ap, ◌∙◌, arith}
 use Rattle.det_cbor.specs.HeadReading.{◌>>=◌}
-use Rattle.serde_json.specs.Data.{Data, null, boolean, number, string, array, object, Items, no_items, item}
+use Rattle.serde_json.specs.Data.{Data, array, Items, no_items, item}
 use Rattle.serde_json.specs.declared.value.Value.{Value}
 use Rattle.std.proofs.Math.Seq.{drop-cons}
 use Rattle.std.proofs.lemmas.List.{drop_all, length-drop}
@@ -87,13 +87,8 @@ sequence_in scope levels no_items = flawed Field
 sequence_in scope levels (item d ds) = steps_from scope levels 0 (item d ds)
 
 sequence_of-items : (scope : Scope) (levels : ℕ) (d : Data) → sequence_of scope (suc levels) d ≡ sequence_in scope levels (items_in d)
-sequence_of-items scope levels null = refl
-sequence_of-items scope levels (boolean b) = refl
-sequence_of-items scope levels (number n) = refl
-sequence_of-items scope levels (string s) = refl
-sequence_of-items scope levels (array no_items) = refl
 sequence_of-items scope levels (array (item d ds)) = refl
-sequence_of-items scope levels (object ms) = refl
+sequence_of-items scope levels _ = refl
 
 pub sequence_of-listed : (scope : Scope) (levels n : ℕ) (d : Data) (vs : List Value) → levels ≡ suc n → 0 < length vs → items_view vs ≡ items_in d → sequence_of scope levels d ≡ steps_from scope n 0 (items_view vs)
 sequence_of-listed scope levels n d [] e h is = absurd (omega arith)
@@ -109,29 +104,16 @@ command_in scope levels (Some p) = under (index_token 0) (name_of scope.shared p
 command_in scope levels None = flawed Field
 
 pub command_of-pair : (scope : Scope) (levels : ℕ) (d : Data) → command_of scope levels d ≡ command_in scope levels (pair_in (items_in d))
-command_of-pair scope levels null = refl
-command_of-pair scope levels (boolean b) = refl
-command_of-pair scope levels (number n) = refl
-command_of-pair scope levels (string s) = refl
-command_of-pair scope levels (array no_items) = refl
-command_of-pair scope levels (array (item d no_items)) = refl
 command_of-pair scope levels (array (item d (item e no_items))) = refl
-command_of-pair scope levels (array (item d (item e (item f ds)))) = refl
-command_of-pair scope levels (object ms) = refl
+command_of-pair scope levels _ = refl
 
 abbrev pub tries_in : Scope → ℕ → Items → Result BranchesTree Flaw
 tries_in scope levels (item a (item b ds)) = branches_from scope levels 0 (item a (item b ds))
 tries_in scope levels _ = flawed Field
 
 tries_of-items : (scope : Scope) (levels : ℕ) (d : Data) → tries_of scope levels d ≡ tries_in scope levels (items_in d)
-tries_of-items scope levels null = refl
-tries_of-items scope levels (boolean b) = refl
-tries_of-items scope levels (number n) = refl
-tries_of-items scope levels (string s) = refl
-tries_of-items scope levels (array no_items) = refl
-tries_of-items scope levels (array (item d no_items)) = refl
 tries_of-items scope levels (array (item d (item e ds))) = refl
-tries_of-items scope levels (object ms) = refl
+tries_of-items scope levels _ = refl
 
 pub tries_of-two : (scope : Scope) (levels : ℕ) (d : Data) (vs : List Value) → 2 ≤ length vs → items_view vs ≡ items_in d → tries_of scope levels d ≡ branches_from scope levels 0 (items_view vs)
 tries_of-two scope levels d [] h is = absurd (omega arith)

@@ -90,7 +90,7 @@ module _ (d : Data) (files : List (List ℕ × List ℕ)) (key : List ℕ) (said
   pub of_parts : (p : EnvelopeParts) (q : Parted) (result : Result (List ℕ) MakeFault) → q ≡ parted said → p ≡ made_parts key q → AnswersShort p result → AnswersShort parts result
   of_parts p q result e k h = subst (λ (x : EnvelopeParts). AnswersShort x result) (k ∙ ap (made_parts key) e) h
 
-  pub answers_ok : (result : Result (List ℕ) MakeFault) → AnswersShort parts result → IfOk result (IsMadeOf d files key)
+  answers_ok : (result : Result (List ℕ) MakeFault) → AnswersShort parts result → IfOk result (IsMadeOf d files key)
   answers_ok (Ok bytes) h = record { said = said; reads = reads; short = h.1; is = h.0 }
   answers_ok (Err fault) h = tt
 
@@ -99,15 +99,26 @@ module _ (d : Data) (files : List (List ℕ × List ℕ)) (key : List ℕ) (said
   answers_err (Err (TooLong limit)) h = record { said = said; reads = reads; passes = h }
   answers_err (Err NoMemory) h = tt
 
-  pub answers_envelope : (result : Result (List ℕ) MakeFault) → AnswersShort parts result → (bytes : List ℕ) → IsMadeOf d files key bytes → IsMadeAs bytes result
+  answers_envelope : (result : Result (List ℕ) MakeFault) → AnswersShort parts result → (bytes : List ℕ) → IsMadeOf d files key bytes → IsMadeAs bytes result
   answers_envelope (Ok made) h bytes m = h.0 ∙ sym (m.is ∙ ap made_bytes (same_parts m.said m.reads))
   answers_envelope (Err (TooLong limit)) h bytes m = absurd (not_passed parts limit (subst IsShort (same_parts m.said m.reads) m.short) h)
   answers_envelope (Err NoMemory) h bytes m = refl
 
-  pub answers_limit : (result : Result (List ℕ) MakeFault) → AnswersShort parts result → (limit : ℕ) → IsTooLong d files key limit → IsTooLongBy limit result
+  answers_limit : (result : Result (List ℕ) MakeFault) → AnswersShort parts result → (limit : ℕ) → IsTooLong d files key limit → IsTooLongBy limit result
   answers_limit (Ok made) h limit m = not_passed parts limit h.1 (subst (λ (p : EnvelopeParts). Passes p limit) (same_parts m.said m.reads) m.passes)
   answers_limit (Err (TooLong other)) h limit m = inl (ap TooLong (one_limit parts other limit h (subst (λ (p : EnvelopeParts). Passes p limit) (same_parts m.said m.reads) m.passes)))
   answers_limit (Err NoMemory) h limit m = inr refl
+
+-- where these parts were made
+module _ (d : Data) (files : List (List ℕ × List ℕ)) (key : List ℕ) (said : Described) (reads : described files d ≡ Ok said) (p : EnvelopeParts) (q : Parted) (result : Result (List ℕ) MakeFault) (e : q ≡ parted said) (k : p ≡ made_parts key q) (h : AnswersShort p result) where
+  pub made_ok : IfOk result (IsMadeOf d files key)
+  made_ok = answers_ok d files key said reads result (of_parts d files key said reads p q result e k h)
+
+  pub made_envelope : (bytes : List ℕ) → IsMadeOf d files key bytes → IsMadeAs bytes result
+  made_envelope = answers_envelope d files key said reads result (of_parts d files key said reads p q result e k h)
+
+  pub made_limit : (limit : ℕ) → IsTooLong d files key limit → IsTooLongBy limit result
+  made_limit = answers_limit d files key said reads result (of_parts d files key said reads p q result e k h)
 
 -- ---- the envelope is authentic
 

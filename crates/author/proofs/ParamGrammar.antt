@@ -39,17 +39,7 @@ number p = key_number (key_of p)
 
 positive : (key : ParamKey) → 0 < key_number key
 positive keys.Vendor = omega arith
-positive keys.Class = omega arith
-positive keys.Digest = omega arith
-positive keys.Slot = omega arith
-positive keys.Strict = omega arith
-positive keys.Soft = omega arith
-positive keys.Size = omega arith
-positive keys.Content = omega arith
-positive keys.Uri = omega arith
-positive keys.Source = omega arith
-positive keys.Args = omega arith
-positive keys.Device = omega arith
+positive _ = omega arith
 
 above_by_order : (low : ℕ) (p q : Param) (qs : List Param) (o : Ordering) → o ≡ param_order p q → low < number p → AreAbove low (q ∷ qs)
     → (number q < number p → AreAbove (number q) (placed_among p qs)) → AreAbove low (match_ordering o (p ∷ q ∷ qs) (p ∷ qs) (q ∷ placed_among p qs))

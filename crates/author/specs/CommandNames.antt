@@ -38,4 +38,5 @@ allowed shared (names.Act kind) = if shared then flawed Field else Ok (names.Act
 allowed shared name = Ok name
 
 abbrev pub name_of : Bool → Data → Result CommandName Flaw
-name_of shared d = found_or Field (option_and_then command_named (as_str d)) >>= λ name. allowed shared name
+name_of shared d =
+    found_or Field (option_and_then command_named (as_str d)) >>= λ name. allowed shared name

@@ -20,11 +20,16 @@ abbrev pub argument : {A : Type 0} → Result A Flaw → Result A Flaw
 argument read = under (index_token 1) read
 
 -- the command of a name and an argument, which is also read as a sequence and as the branches of a try each
-abbrev pub command_said : Scope → CommandName → Data → Result SequenceTree Flaw → Result BranchesTree Flaw → Result CommandTree Flaw
-command_said scope (names.Test kind) d inner tries = argument (number_up_to 15 d) >>= λ report. Ok (Test kind report)
-command_said scope (names.Act kind) d inner tries = argument (number_up_to 15 d) >>= λ report. Ok (Act kind report)
-command_said scope names.Index d inner tries = argument (selection_of scope.count d) >>= λ selection. Ok (Index selection)
-command_said scope names.Set d inner tries = argument (params_of scope d) >>= λ list. Ok (Override list)
+abbrev pub command_said : Scope → CommandName → Data → Result SequenceTree Flaw
+    → Result BranchesTree Flaw → Result CommandTree Flaw
+command_said scope (names.Test kind) d inner tries =
+    argument (number_up_to 15 d) >>= λ report. Ok (Test kind report)
+command_said scope (names.Act kind) d inner tries =
+    argument (number_up_to 15 d) >>= λ report. Ok (Act kind report)
+command_said scope names.Index d inner tries =
+    argument (selection_of scope.count d) >>= λ selection. Ok (Index selection)
+command_said scope names.Set d inner tries =
+    argument (params_of scope d) >>= λ list. Ok (Override list)
 command_said scope names.Try d inner tries = argument tries >>= λ branches. Ok (TryEach branches)
 command_said scope names.Run d inner tries = argument inner >>= λ s. Ok (RunSequence s)
 
@@ -34,7 +39,8 @@ is_end (item d ds) = false
 
 -- a branch of a try each, the last one or another. It is also read as a sequence.
 abbrev pub branch_said : Bool → Data → Result SequenceTree Flaw → Result (Option SequenceTree) Flaw
-branch_said last d inner = if last && is_some (as_null d) then Ok None else (inner >>= λ s. Ok (Some s))
+branch_said last d inner =
+    if last && is_some (as_null d) then Ok None else (inner >>= λ s. Ok (Some s))
 
 abbrev pub branch_then : Option SequenceTree → BranchesTree → BranchesTree
 branch_then (Some s) bs = BranchThen s bs
@@ -50,21 +56,26 @@ abbrev mutual
 
   pub steps_from : Scope → ℕ → ℕ → Items → Result SequenceTree Flaw
   steps_from scope levels i no_items = Ok NoSteps
-  steps_from scope levels i (item d ds) = under (index_token i) (command_of scope levels d) >>= λ c. steps_from scope levels (suc i) ds >>= λ s. Ok (StepThen 0 c s)
+  steps_from scope levels i (item d ds) =
+      under (index_token i) (command_of scope levels d) >>= λ c. steps_from scope levels (suc i) ds
+      >>= λ s. Ok (StepThen 0 c s)
 
   pub command_of : Scope → ℕ → Data → Result CommandTree Flaw
   command_of scope levels (array (item name (item d no_items))) =
-      under (index_token 0) (name_of scope.shared name) >>= λ n. command_said scope n d (sequence_of scope levels d) (tries_of scope levels d)
+      under (index_token 0) (name_of scope.shared name)
+      >>= λ n. command_said scope n d (sequence_of scope levels d) (tries_of scope levels d)
   command_of scope levels _ = flawed Field
 
   pub tries_of : Scope → ℕ → Data → Result BranchesTree Flaw
-  tries_of scope levels (array (item a (item b ds))) = branches_from scope levels 0 (item a (item b ds))
+  tries_of scope levels (array (item a (item b ds))) =
+      branches_from scope levels 0 (item a (item b ds))
   tries_of scope levels _ = flawed Field
 
   pub branches_from : Scope → ℕ → ℕ → Items → Result BranchesTree Flaw
   branches_from scope levels i no_items = Ok NoBranches
   branches_from scope levels i (item d ds) =
-      under (index_token i) (branch_said (is_end ds) d (sequence_of scope levels d)) >>= λ b. branches_from scope levels (suc i) ds >>= λ bs. Ok (branch_then b bs)
+      under (index_token i) (branch_said (is_end ds) d (sequence_of scope levels d))
+      >>= λ b. branches_from scope levels (suc i) ds >>= λ bs. Ok (branch_then b bs)
 
 -- a branch, where nothing may come after a null one
 abbrev pub branch_of : Scope → ℕ → Bool → Data → Result (Option SequenceTree) Flaw
@@ -72,4 +83,5 @@ branch_of scope levels last d = branch_said last d (sequence_of scope levels d)
 
 -- the command of a name and an argument
 abbrev pub command_named : Scope → ℕ → CommandName → Data → Result CommandTree Flaw
-command_named scope levels name d = command_said scope name d (sequence_of scope levels d) (tries_of scope levels d)
+command_named scope levels name d =
+    command_said scope name d (sequence_of scope levels d) (tries_of scope levels d)

@@ -11,7 +11,10 @@ use Rattle.author.specs.Making.{made_manifest}
 -- the laws: a description stands for something; its manifest, where it fits the types of the code, is one that the grammar
 -- allows; and the keys of its payloads ascend in the order of their spellings
 pub record DescriptionLaws : Type 0 where
-  pub some : (d : Data) (files : List (List ℕ × List ℕ)) → IsDescription d → (p : Described) × (described files d ≡ Ok p)
-  pub grammatical : (d : Data) (files : List (List ℕ × List ℕ)) (p : Described) → IsDescription d → described files d ≡ Ok p
+  pub some : (d : Data) (files : List (List ℕ × List ℕ)) → IsDescription d
+      → (p : Described) × (described files d ≡ Ok p)
+  pub grammatical : (d : Data) (files : List (List ℕ × List ℕ)) (p : Described) → IsDescription d
+      → described files d ≡ Ok p
       → ManifestFits (made_manifest p) → IsGrammatical (made_manifest p)
-  pub payloads : (d : Data) (files : List (List ℕ × List ℕ)) (p : Described) → described files d ≡ Ok p → AreAscending None p.payloads
+  pub payloads : (d : Data) (files : List (List ℕ × List ℕ)) (p : Described)
+      → described files d ≡ Ok p → AreAscending None p.payloads

@@ -65,18 +65,29 @@ field_sequence t shared d = member_sequence (scope_of t shared) d
 -- an object has each key once; of components that stand twice the first would count, as they do above
 abbrev pub takes_known : Fields → Option FieldName → Data → Result Fields Flaw
 takes_known t None d = flawed Field
-takes_known t (Some names.SequenceNumber) d = number_of d >>= λ n. Ok (record t { sequence = Some n })
-takes_known t (Some names.Components) d = identifiers_of d >>= λ ids. Ok (record t { components = Some (unwrap_or t.components ids) })
-takes_known t (Some names.Reference) d = text_of d >>= λ text. Ok (record t { reference = Some text })
-takes_known t (Some names.Shared) d = field_sequence t true d >>= λ s. Ok (record t { shared = Some s })
-takes_known t (Some names.Validate) d = field_sequence t false d >>= λ s. Ok (record t { validate = Some s })
-takes_known t (Some names.Load) d = field_sequence t false d >>= λ s. Ok (record t { load = Some s })
-takes_known t (Some names.Invoke) d = field_sequence t false d >>= λ s. Ok (record t { invoke = Some s })
-takes_known t (Some names.PayloadFetch) d = member_of (scope_of t false) d >>= λ m. Ok (record t { payload_fetch = m })
-takes_known t (Some names.Install) d = member_of (scope_of t false) d >>= λ m. Ok (record t { install = m })
+takes_known t (Some names.SequenceNumber) d =
+    number_of d >>= λ n. Ok (record t { sequence = Some n })
+takes_known t (Some names.Components) d =
+    identifiers_of d >>= λ ids. Ok (record t { components = Some (unwrap_or t.components ids) })
+takes_known t (Some names.Reference) d =
+    text_of d >>= λ text. Ok (record t { reference = Some text })
+takes_known t (Some names.Shared) d =
+    field_sequence t true d >>= λ s. Ok (record t { shared = Some s })
+takes_known t (Some names.Validate) d =
+    field_sequence t false d >>= λ s. Ok (record t { validate = Some s })
+takes_known t (Some names.Load) d =
+    field_sequence t false d >>= λ s. Ok (record t { load = Some s })
+takes_known t (Some names.Invoke) d =
+    field_sequence t false d >>= λ s. Ok (record t { invoke = Some s })
+takes_known t (Some names.PayloadFetch) d =
+    member_of (scope_of t false) d >>= λ m. Ok (record t { payload_fetch = m })
+takes_known t (Some names.Install) d =
+    member_of (scope_of t false) d >>= λ m. Ok (record t { install = m })
 takes_known t (Some names.TextMember) d = text_member_of d >>= λ m. Ok (record t { text = m })
-takes_known t (Some names.Sever) d = severed_of t.source.given d >>= λ s. Ok (record t { severed = s })
-takes_known t (Some names.Payloads) d = payloads_of t.source.files d >>= λ ps. Ok (record t { payloads = ps })
+takes_known t (Some names.Sever) d =
+    severed_of t.source.given d >>= λ s. Ok (record t { severed = s })
+takes_known t (Some names.Payloads) d =
+    payloads_of t.source.files d >>= λ ps. Ok (record t { payloads = ps })
 takes_known t (Some names.Kid) d = hex_of d >>= λ kid. Ok (record t { kid = Some kid })
 
 abbrev pub takes_field : Takes Fields
@@ -104,4 +115,5 @@ whole t ids n = record {
 abbrev pub described : List (List ℕ × List ℕ) → Data → Result Described Flaw
 described files d =
     object_of takes_field (no_fields files d) d >>= λ t.
-    required (codes "components") t.components >>= λ ids. required (codes "sequence") t.sequence >>= λ n. Ok (whole t ids n)
+    required (codes "components") t.components >>= λ ids. required (codes "sequence") t.sequence
+    >>= λ n. Ok (whole t ids n)

@@ -45,7 +45,8 @@ pub record IsDescription (d : Data) : Type 0 where
 -- what is wrong first
 pub data RefusesDescription (d : Data) : DescriptionFault → Type 0 where
   BadValue : (f : Flaw) → described [] d ≡ Err f → RefusesDescription d (fault_of f)
-  BadComponents : (p : Described) (fault : DescriptionFault) → described [] d ≡ Ok p → RefusesComponents p.manifest.components fault → RefusesDescription d fault
+  BadComponents : (p : Described) (fault : DescriptionFault) → described [] d ≡ Ok p
+      → RefusesComponents p.manifest.components fault → RefusesDescription d fault
 
 -- a fault by what is wrong, or for want of memory
 abbrev pub IsFaultOf : Data → DescriptionFault → Type 0

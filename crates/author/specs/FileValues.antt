@@ -14,16 +14,24 @@ use Rattle.author.specs.declared.file_value.FileField.{FileField}
 use Rattle.author.specs.Files.{bytes_of}
 
 abbrev pub takes_file : Takes FileField
-takes_file t key d = if bytes_eq key (codes "file") then (text_of d >>= λ name. Ok (record t { name = Some name })) else flawed Field
+takes_file t key d =
+    if bytes_eq key (codes "file") then (text_of d >>= λ name. Ok (record t { name = Some name }))
+    else flawed Field
 
 abbrev pub file_named : Data → Result (List ℕ) Flaw
-file_named d = object_of takes_file (record { name = None }) d >>= λ t. required (codes "file") t.name
+file_named d =
+    object_of takes_file (record { name = None }) d >>= λ t. required (codes "file") t.name
 
 abbrev pub digest_of : List (List ℕ × List ℕ) → Data → Result (List ℕ) Flaw
-digest_of files d = if is_some (as_object d) then (file_named d >>= λ name. Ok (sha256 (bytes_of files name))) else sized_hex_of 32 d
+digest_of files d =
+    if is_some (as_object d) then (file_named d >>= λ name. Ok (sha256 (bytes_of files name)))
+    else sized_hex_of 32 d
 
 abbrev pub size_of : List (List ℕ × List ℕ) → Data → Result ℕ Flaw
-size_of files d = if is_some (as_object d) then (file_named d >>= λ name. Ok (length (bytes_of files name))) else number_up_to (2 ^ 64 - 1) d
+size_of files d =
+    if is_some (as_object d) then (file_named d >>= λ name. Ok (length (bytes_of files name)))
+    else number_up_to (2 ^ 64 - 1) d
 
 abbrev pub content_of : List (List ℕ × List ℕ) → Data → Result (List ℕ) Flaw
-content_of files d = if is_some (as_object d) then (file_named d >>= λ name. Ok (bytes_of files name)) else hex_of d
+content_of files d =
+    if is_some (as_object d) then (file_named d >>= λ name. Ok (bytes_of files name)) else hex_of d

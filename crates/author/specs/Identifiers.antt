@@ -12,7 +12,8 @@ use Rattle.suit_manifest.specs.Components.{identifier_item}
 
 -- it is spelled in at most 64 bytes
 abbrev pub short_identifier : List (List ℕ) → Result (List (List ℕ)) Flaw
-short_identifier id = if nat_le (length (spell (identifier_item id))) 64 then Ok id else flawed Field
+short_identifier id =
+    if nat_le (length (spell (identifier_item id))) 64 then Ok id else flawed Field
 
 abbrev pub identifier_of : Data → Result (List (List ℕ)) Flaw
 identifier_of d = array_of hex_of d >>= λ id. short_identifier id

@@ -60,7 +60,8 @@ IsShort parts = (length (trimmed_bytes parts) ≤ 16384) × (length (made_bytes 
 -- the first of the two limits that is passed
 pub data Passes (parts : EnvelopeParts) : ℕ → Type 0 where
   Trimmed : 16384 < length (trimmed_bytes parts) → Passes parts 16384
-  Whole : length (trimmed_bytes parts) ≤ 16384 → 1048576 < length (made_bytes parts) → Passes parts 1048576
+  Whole : length (trimmed_bytes parts) ≤ 16384 → 1048576 < length (made_bytes parts)
+      → Passes parts 1048576
 
 -- a fault by the limit that is passed, or for want of memory
 abbrev pub IsLengthFault : EnvelopeParts → MakeFault → Type 0
@@ -79,7 +80,8 @@ pub record IsMadeOf (d : Data) (files : List (List ℕ × List ℕ)) (key bytes 
   pub short : IsShort (made_parts key (parted said))
   pub is : bytes ≡ made_bytes (made_parts key (parted said))
 
-pub record IsTooLong (d : Data) (files : List (List ℕ × List ℕ)) (key : List ℕ) (limit : ℕ) : Type 0 where
+pub record IsTooLong (d : Data) (files : List (List ℕ × List ℕ)) (key : List ℕ) (limit : ℕ)
+    : Type 0 where
   pub said : Described
   pub reads : described files d ≡ Ok said
   pub passes : Passes (made_parts key (parted said)) limit
@@ -115,7 +117,8 @@ pub record IsAuthenticUnder (key bytes : List ℕ) : Type 0 where
   pub authentic : IsAuthentic said.wrapper said.manifest key
 
 -- an envelope that says the parts of the description
-pub record HoldsPartsOf (d : Data) (files : List (List ℕ × List ℕ)) (key bytes : List ℕ) : Type 0 where
+pub record HoldsPartsOf (d : Data) (files : List (List ℕ × List ℕ)) (key bytes : List ℕ)
+    : Type 0 where
   pub described_as : Described
   pub reads : described files d ≡ Ok described_as
   pub said : EnvelopeSays
@@ -123,9 +126,12 @@ pub record HoldsPartsOf (d : Data) (files : List (List ℕ × List ℕ)) (key by
   pub parts : SaysParts (made_parts key (parted described_as)) said
 
 -- an envelope whose manifest is that of the description, with the places that it has there
-pub record HoldsManifestOf (d : Data) (files : List (List ℕ × List ℕ)) (bytes : List ℕ) : Type 0 where
+pub record HoldsManifestOf (d : Data) (files : List (List ℕ × List ℕ)) (bytes : List ℕ)
+    : Type 0 where
   pub said : EnvelopeSays
   pub envelope : EnvelopeOf bytes said
   pub manifest : Manifest
   pub is : IsManifestOf d files manifest
-  pub says_so : SaysWhole IsManifest said.manifest_place said.manifest (placed_manifest said.manifest_place manifest)
+  pub says_so :
+      SaysWhole IsManifest said.manifest_place said.manifest
+      (placed_manifest said.manifest_place manifest)

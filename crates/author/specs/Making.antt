@@ -14,7 +14,8 @@ use Rattle.author.specs.Descriptions.{described}
 
 -- a severed member stands in the manifest as the digest of its byte string in the envelope
 abbrev pub apart_member : Bool → Member → Member
-apart_member true (members.Here s) = members.Apart (record { bytes = string_digest (spell (sequence_item s)) })
+apart_member true (members.Here s) =
+    members.Apart (record { bytes = string_digest (spell (sequence_item s)) })
 apart_member true members.Empty = members.Empty
 apart_member true (members.Apart digest) = members.Apart digest
 apart_member false m = m

@@ -26,16 +26,22 @@ member_sequence scope d = sequence_of scope levels_allowed d
 
 abbrev pub takes_digest : Takes DigestField
 takes_digest t key d =
-    if bytes_eq key (codes "digest") then (sized_hex_of 32 d >>= λ digest. Ok (record t { digest = Some (record { bytes = digest }) }))
+    if bytes_eq key (codes "digest")
+    then
+    (sized_hex_of 32 d
+    >>= λ digest. Ok (record t { digest = Some (record { bytes = digest }) }))
     else flawed Field
 
 -- `{"digest": HEX}`, for a member that is left out
 abbrev pub left_out : Data → Result (List ℕ) Flaw
-left_out d = object_of takes_digest (record { digest = None }) d >>= λ t. required (codes "digest") t.digest >>= λ digest. Ok digest.bytes
+left_out d =
+    object_of takes_digest (record { digest = None }) d >>= λ t. required (codes "digest") t.digest
+    >>= λ digest. Ok digest.bytes
 
 abbrev pub member_of : Scope → Data → Result Member Flaw
 member_of scope d =
-    if is_some (as_object d) then (left_out d >>= λ digest. Ok (members.Apart (record { bytes = digest })))
+    if is_some (as_object d)
+    then (left_out d >>= λ digest. Ok (members.Apart (record { bytes = digest })))
     else (member_sequence scope d >>= λ s. Ok (members.Here s))
 
 abbrev pub ends_here : Option (List ℕ × Position) → Bool
@@ -51,5 +57,6 @@ one_item bytes = if is_one_item bytes then Ok (texts.Here bytes) else flawed Fie
 
 abbrev pub text_member_of : Data → Result TextMember Flaw
 text_member_of d =
-    if is_some (as_object d) then (left_out d >>= λ digest. Ok (texts.Apart (record { bytes = digest })))
+    if is_some (as_object d)
+    then (left_out d >>= λ digest. Ok (texts.Apart (record { bytes = digest })))
     else (hex_of d >>= λ bytes. one_item bytes)

@@ -30,7 +30,8 @@ abbrev pub param_value : Scope → ParamKey → Data → Result Param Flaw
 param_value scope keys.Vendor d = uuid_of d >>= λ id. Ok (params.Vendor id)
 param_value scope keys.Class d = uuid_of d >>= λ id. Ok (params.Class id)
 param_value scope keys.Device d = uuid_of d >>= λ id. Ok (params.Device id)
-param_value scope keys.Digest d = digest_of scope.files d >>= λ digest. Ok (params.Digest (record { bytes = digest }))
+param_value scope keys.Digest d =
+    digest_of scope.files d >>= λ digest. Ok (params.Digest (record { bytes = digest }))
 param_value scope keys.Slot d = number_of d >>= λ n. Ok (params.Slot n)
 param_value scope keys.Strict d = flag_of d >>= λ b. Ok (params.Strict b)
 param_value scope keys.Soft d = flag_of d >>= λ b. Ok (params.Soft b)
@@ -46,7 +47,8 @@ param_order p q = nat_cmp (key_number (key_of p)) (key_number (key_of q))
 -- a parameter in its place among those that ascend by number, in place of one under the same key
 abbrev pub placed_among : Param → List Param → List Param
 placed_among p [] = p ∷ []
-placed_among p (q ∷ qs) = match_ordering (param_order p q) (p ∷ q ∷ qs) (p ∷ qs) (q ∷ placed_among p qs)
+placed_among p (q ∷ qs) =
+    match_ordering (param_order p q) (p ∷ q ∷ qs) (p ∷ qs) (q ∷ placed_among p qs)
 
 -- where one of the same key is, or else where the parameter is put
 abbrev pub IsPlaceOf : List Param → Param → Result ℕ ℕ → Type 0
@@ -60,7 +62,8 @@ pub record ParamsSoFar : Type 0 where
 
 abbrev pub takes_named : ParamsSoFar → Option ParamKey → Data → Result ParamsSoFar Flaw
 takes_named t None d = flawed Field
-takes_named t (Some key) d = param_value t.scope key d >>= λ p. Ok (record t { list = placed_among p t.list })
+takes_named t (Some key) d =
+    param_value t.scope key d >>= λ p. Ok (record t { list = placed_among p t.list })
 
 abbrev pub takes_param : Takes ParamsSoFar
 takes_param t name d = takes_named t (param_named name) d

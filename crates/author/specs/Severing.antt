@@ -52,7 +52,8 @@ one_severed given s d =
 
 abbrev pub severed_from : Severed → ℕ → Severed → Items → Result Severed Flaw
 severed_from given i s no_items = Ok s
-severed_from given i s (item d ds) = under (index_token i) (one_severed given s d) >>= λ more. severed_from given (suc i) more ds
+severed_from given i s (item d ds) =
+    under (index_token i) (one_severed given s d) >>= λ more. severed_from given (suc i) more ds
 
 abbrev pub severed_of : Severed → Data → Result Severed Flaw
 severed_of given d = found_or Field (as_array d) >>= λ ds. severed_from given 0 none_severed ds

@@ -4,28 +4,7 @@ ghost use Rattle.std.specs.Prelude.{◌≡◌, ◌≢◌, ◌<◌, ◌≤◌, �
 ghost use Rattle.suit_manifest.specs.Components.{AreApart, AreAlike};
 ghost use Rattle.author.specs.Alike.{IsFirstLike, HasNoLike};
 
-use det_cbor::Bytes;
 use suit_params::{Identifier, Identifiers};
-
-fn same_parts(a: &[Bytes], b: &[Bytes]) -> bool
-    ensures { IsTrue result ↔ (a.now ≡ b.now) }
-{
-    if a.len() != b.len() {
-        return false;
-    }
-    for i in 0..a.len() {
-        if a[i].as_slice() != b[i].as_slice() {
-            return false;
-        }
-    }
-    true
-}
-
-fn same(a: &Identifier, b: &Identifier) -> bool
-    ensures { IsTrue result ↔ (a.now ≡ b.now) }
-{
-    same_parts(a.as_slice(), b.as_slice())
-}
 
 // The first identifier before another one that is equal to it, by its number.
 fn first_like(ids: &[Identifier], last: usize) -> Option<usize>
@@ -33,7 +12,7 @@ fn first_like(ids: &[Identifier], last: usize) -> Option<usize>
     ensures { MatchOption result (HasNoLike ids.now last) (IsFirstLike ids.now last) }
 {
     for i in 0..last {
-        if same(&ids[i], &ids[last]) {
+        if ids[i].is_same(&ids[last]) {
             return Some(i);
         }
     }

@@ -17,7 +17,8 @@ use suit_params::Identifiers;
 
 // Refuses more than eight components, and then two that are alike.
 fn judge_components(components: &Identifiers) -> Result<(), DescriptionFault>
-    ensures { MatchResult result (λ _. AreFewAndApart components.now) (RefusesComponents components.now) }
+    ensures { MatchResult result (λ _. AreFewAndApart components.now)
+        (RefusesComponents components.now) }
 {
     if components.len() > 8 {
         return Err(DescriptionFault::TooMany(components.len() as u64));
@@ -30,7 +31,8 @@ fn judge_components(components: &Identifiers) -> Result<(), DescriptionFault>
 
 // What a value stands for where its files have no bytes, which is judged alike for all files.
 fn judged(alloc: Global, value: &Value) -> Result<Described, DescriptionFault>
-    ensures { MatchResult result (λ _. IsDescription (view value.now)) (IsFaultOf (view value.now)) }
+    ensures { MatchResult result (λ _. IsDescription (view value.now))
+        (IsFaultOf (view value.now)) }
 {
     match read_fields(alloc, value, &FileList::new(alloc)) {
         Ok(parts) => {

@@ -18,7 +18,8 @@ pub(crate) fn elements(value: &Value) -> &[Value]
 
 /// Both elements of an array of just two.
 pub(crate) fn pair(value: &Value) -> Option<(&Value, &Value)>
-    ensures { option_map (λ p. (view p.0.now, view p.1.now)) result ≡ pair_in (items_in (view value.now)) }
+    ensures { option_map (λ p. (view p.0.now, view p.1.now)) result
+        ≡ pair_in (items_in (view value.now)) }
 {
     let values = elements(value);
     if values.len() == 2 {

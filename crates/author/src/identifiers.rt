@@ -1,6 +1,6 @@
 //! Component identifiers of a description.
 
-ghost use Rattle.std.specs.Prelude.{◌≡◌, ◌++◌, List, length, IfOk, OnOk};
+ghost use Rattle.std.specs.Prelude.{◌≡◌, ◌++◌, List, IfOk, OnOk};
 ghost use Rattle.det_cbor.specs.DataItem.{spell, spell_items, ByteString};
 ghost use Rattle.det_cbor.specs.Heads.{head_bytes};
 ghost use Rattle.serde_json.specs.View.{view};
@@ -9,37 +9,10 @@ ghost use Rattle.suit_manifest.specs.Components.{identifier_item, string_items};
 ghost use Rattle.author.specs.Identifiers.{identifier_of, identifiers_of};
 
 use det_cbor::{Bytes, Head, HeadKind, push_head};
-use json_fields::{FlawKind, Form, JsonFault, array, flawed, hex};
+use json_fields::{FlawKind, Form, HexBytes, JsonFault, array, flawed};
 use serde_json::Value;
 use std::alloc::{AllocError, Global};
 use suit_params::{Identifier, Identifiers};
-
-// Bytes in hexadecimal digits.
-#[derive(Drop)]
-struct HexBytes;
-
-impl Form for HexBytes {
-    type Item = Bytes;
-
-    ghost use Rattle.json_fields.specs.Values.{hex_of};
-
-    ghost reads = { λ _ d. hex_of d };
-
-    fn read(&self, alloc: Global, value: &Value) -> Result<Bytes, JsonFault> {
-        hex(alloc, value)
-    }
-}
-
-// The identifier of these byte strings.
-fn of_parts(alloc: Global, parts: Vec<Bytes>) -> Result<Identifier, AllocError>
-    ensures { IfOk result (λ id. id ≡ parts.items) }
-{
-    let mut identifier = Identifier::new(alloc);
-    for part in parts {
-        identifier.push(part)?;
-    }
-    Ok(identifier)
-}
 
 // Adds byte strings as items.
 fn push_strings(out: &mut Bytes, parts: &[Bytes]) -> Result<(), AllocError>
@@ -81,7 +54,7 @@ fn identifier(alloc: Global, value: &Value) -> Result<Identifier, JsonFault>
     ensures { Gives (λ id. id) result (identifier_of (view value.now)) }
 {
     let parts = array(alloc, value, &HexBytes)?;
-    let identifier = of_parts(alloc, parts)?;
+    let identifier = Identifier::from_vec(parts);
     if spelling(alloc, &identifier)?.len() <= 64 {
         Ok(identifier)
     } else {
@@ -104,23 +77,13 @@ impl Form for OneIdentifier {
     }
 }
 
-fn of_identifiers(alloc: Global, ids: Vec<Identifier>) -> Result<Identifiers, AllocError>
-    ensures { IfOk result (λ list. list ≡ ids.items) }
-{
-    let mut identifiers = Identifiers::new(alloc);
-    for id in ids {
-        identifiers.push(id)?;
-    }
-    Ok(identifiers)
-}
-
 /// An array of at least one identifier.
 pub(crate) fn identifiers(alloc: Global, value: &Value) -> Result<Identifiers, JsonFault>
     ensures { Gives (λ ids. ids) result (identifiers_of (view value.now)) }
 {
     let ids = array(alloc, value, &OneIdentifier)?;
     if ids.len() >= 1 {
-        Ok(of_identifiers(alloc, ids)?)
+        Ok(Identifiers::from_vec(ids))
     } else {
         flawed(alloc, FlawKind::Field)
     }

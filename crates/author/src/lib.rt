@@ -36,12 +36,3 @@ pub use law::description_laws;
 pub use made_envelope::make;
 pub use make_fault::MakeFault;
 pub use making::manifest_of;
-
-#[cfg(test)]
-mod make_tests;
-#[cfg(test)]
-mod making_tests;
-#[cfg(test)]
-mod spelling_tests;
-#[cfg(test)]
-mod table_tests;

@@ -55,7 +55,8 @@ fn encode_short(alloc: Global, parts: &EnvelopeParts) -> Result<Bytes, MakeFault
     requires wrapper { HasWrapper parts.now.wrapper }
     requires payloads { AreAscending None parts.now.payloads }
     ensures answers { AnswersShort parts.now result }
-    ensures says { IfOk result (λ bytes. (said : EnvelopeSays) × (EnvelopeOf bytes said × SaysParts parts.now said)) }
+    ensures says { IfOk result
+        (λ bytes. (said : EnvelopeSays) × (EnvelopeOf bytes said × SaysParts parts.now said)) }
 {
     let bytes = encode_envelope(alloc, parts)?;
     match decode_envelope(bytes.as_slice()) {
@@ -87,7 +88,8 @@ pub fn make(
     requires files { IsTrue (has_files files.now (file_names (value_of description.now))) }
     ensures ok { IfOk result (IsMadeOf (value_of description.now) files.now key.now) }
     ensures refused { IfErr result (IsMakeFaultOf (value_of description.now) files.now key.now) }
-    ensures every_envelope { (bytes : List ℕ) → IsMadeOf (value_of description.now) files.now key.now bytes
+    ensures every_envelope { (bytes : List ℕ)
+        → IsMadeOf (value_of description.now) files.now key.now bytes
         → IsMadeAs bytes result }
     ensures every_limit { (limit : ℕ) → IsTooLong (value_of description.now) files.now key.now limit
         → IsTooLongBy limit result }

@@ -16,6 +16,5 @@ pub mod ManifestFacts
 pub mod PayloadFacts
 pub mod DescriptionReads
 pub mod DescribedAgain
-pub mod NoFloats
-pub mod NoFiles
+pub mod Plain
 pub mod ThereFacts

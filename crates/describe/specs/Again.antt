@@ -28,12 +28,15 @@ IsThere count held place Empty apart = Unit {0}
 IsThere count held place (Here own) apart = Unit {0}
 
 pub record AreThere (said : EnvelopeSays) (m : Manifest) (apart : Members) : Type 0 where
-  pub payload_fetch : IsThere (count_said m) said.payload_fetch said.payload_fetch_place m.payload_fetch apart.payload_fetch
+  pub payload_fetch :
+      IsThere (count_said m) said.payload_fetch said.payload_fetch_place m.payload_fetch
+      apart.payload_fetch
   pub install : IsThere (count_said m) said.install said.install_place m.install apart.install
 
 -- the value is a description; with whatever files, the manifest that it stands for is this one, places apart, and no other;
 -- and that is spelled by these bytes
-pub record StandsFor (d : Data) (files : List (List ℕ × List ℕ)) (m : Manifest) (bytes : List ℕ) : Type 0 where
+pub record StandsFor (d : Data) (files : List (List ℕ × List ℕ)) (m : Manifest) (bytes : List ℕ)
+    : Type 0 where
   pub accepted : IsDescription d
   pub manifest : IsManifestOf d files (unplaced_manifest m)
   pub only : (other : Manifest) → IsManifestOf d files other → other ≡ unplaced_manifest m
@@ -41,21 +44,29 @@ pub record StandsFor (d : Data) (files : List (List ℕ × List ℕ)) (m : Manif
 
 -- the law, for an envelope, its payloads, its manifest, and those of its members that are there
 abbrev pub MadeAgain : Type 0
-MadeAgain = (bytes : List ℕ) (said : EnvelopeSays) (payloads files : List (List ℕ × List ℕ)) (place : ℕ) (m : Manifest) (apart : Members)
-    → EnvelopeOf bytes said → HasPayloads bytes payloads → SaysWhole IsManifest place said.manifest m → AreThere said m apart
+MadeAgain =
+    (bytes : List ℕ) (said : EnvelopeSays) (payloads files : List (List ℕ × List ℕ)) (place : ℕ)
+    (m : Manifest) (apart : Members)
+    → EnvelopeOf bytes said → HasPayloads bytes payloads
+    → SaysWhole IsManifest place said.manifest m → AreThere said m apart
     → StandsFor (described_by said payloads m apart) files m said.manifest
 
 -- no value of a description is a number with a point, so its text is exact
 abbrev pub HasNoFloat : Type 0
-HasNoFloat = (said : EnvelopeSays) (payloads : List (List ℕ × List ℕ)) (m : Manifest) (apart : Members) → has_float (described_by said payloads m apart) ≡ false
+HasNoFloat =
+    (said : EnvelopeSays) (payloads : List (List ℕ × List ℕ)) (m : Manifest) (apart : Members)
+    → has_float (described_by said payloads m apart) ≡ false
 
 -- and it names no file
 abbrev pub NamesNoFile : Type 0
-NamesNoFile = (said : EnvelopeSays) (payloads : List (List ℕ × List ℕ)) (m : Manifest) (apart : Members) → file_names (described_by said payloads m apart) ≡ []
+NamesNoFile =
+    (said : EnvelopeSays) (payloads : List (List ℕ × List ℕ)) (m : Manifest) (apart : Members)
+    → file_names (described_by said payloads m apart) ≡ []
 
 pub record DescribeLaws : Type 0 where
   pub made_again : MadeAgain
   -- members of which each that stands apart is there
-  pub taken : (said : EnvelopeSays) (m : Manifest) (apart : Members) → HasMembers said m apart → AreThere said m apart
+  pub taken : (said : EnvelopeSays) (m : Manifest) (apart : Members) → HasMembers said m apart
+      → AreThere said m apart
   pub no_float : HasNoFloat
   pub no_file : NamesNoFile

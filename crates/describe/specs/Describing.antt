@@ -63,9 +63,12 @@ severable_fields said m apart =
 abbrev pub payload_fields : List (List ℕ × List ℕ) → List Field
 payload_fields payloads = (codes "payloads", payloads_data payloads) ∷ []
 
-abbrev pub described_members : EnvelopeSays → List (List ℕ × List ℕ) → Manifest → ApartMembers → Members
+abbrev pub described_members : EnvelopeSays → List (List ℕ × List ℕ) → Manifest → ApartMembers
+    → Members
 described_members said payloads m apart =
-    with_fields (payload_fields payloads) (with_fields (severable_fields said m apart) (with_fields (sequence_fields m) (with_fields (head_fields m) no_members)))
+    with_fields (payload_fields payloads)
+    (with_fields (severable_fields said m apart)
+    (with_fields (sequence_fields m) (with_fields (head_fields m) no_members)))
 
 abbrev pub described_by : EnvelopeSays → List (List ℕ × List ℕ) → Manifest → ApartMembers → Data
 described_by said payloads m apart = object (described_members said payloads m apart)

@@ -35,7 +35,8 @@ is_severed (members.Apart digest) apart = is_some apart
 -- what the envelope holds, where it has the digest and is one item
 abbrev pub held_text : List ℕ → Option (List ℕ) → Option (List ℕ)
 held_text digest None = None
-held_text digest (Some content) = if bytes_eq (string_digest content) digest && is_one_item content then Some content else None
+held_text digest (Some content) =
+    if bytes_eq (string_digest content) digest && is_one_item content then Some content else None
 
 -- a text that stands apart, as far as its content is known
 abbrev pub apart_text : TextMember → Option (List ℕ) → Option (List ℕ)

@@ -8,7 +8,9 @@ name_if true name names = item (string name) names
 name_if false name names = names
 
 abbrev pub severed_names : Severed → Items
-severed_names s = name_if s.payload_fetch (codes "payload-fetch") (name_if s.install (codes "install") (name_if s.text (codes "text") no_items))
+severed_names s =
+    name_if s.payload_fetch (codes "payload-fetch")
+    (name_if s.install (codes "install") (name_if s.text (codes "text") no_items))
 
 -- left out where there are none
 abbrev pub sever_data : Items → Option Data

@@ -34,7 +34,8 @@ fn put_field(
 }
 
 fn reference_value(alloc: Global, reference: &Option<Text>) -> Result<Option<Value>, AllocError>
-    ensures { IfOk result (λ v. option_map view v ≡ option_map (λ text. string text) reference.now) }
+    ensures { IfOk result
+        (λ v. option_map view v ≡ option_map (λ text. string text) reference.now) }
 {
     match reference {
         Some(text) => Ok(Some(Value::try_from_str(alloc, text.as_str())?)),
@@ -134,7 +135,8 @@ pub fn describe(
     manifest: &Manifest,
     members: &Members,
 ) -> Result<Value, AllocError>
-    ensures { IfOk result (λ v. (payloads : List (List ℕ × List ℕ)) → HasPayloads envelope.now.whole.now payloads
+    ensures { IfOk result
+        (λ v. (payloads : List (List ℕ × List ℕ)) → HasPayloads envelope.now.whole.now payloads
         → view v ≡ described_by (said_by envelope.now) payloads manifest.now members.now) }
 {
     let mut object = Map::new(alloc);

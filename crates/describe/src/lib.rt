@@ -16,6 +16,3 @@ mod values;
 pub use describing::describe;
 pub use held_members::members_there;
 pub use law::describe_laws;
-
-#[cfg(test)]
-mod tests;

@@ -79,7 +79,8 @@ fn is_one_item(bytes: &[u8]) -> bool
 
 // The content of a text with this digest, where the envelope holds it and it is one item.
 fn held_text<'a>(envelope: &Envelope<'a>, stated: &Digest) -> Option<&'a [u8]>
-    ensures { option_map (λ t. t.now) result ≡ held_text stated.now.bytes (said_by envelope.now).text }
+    ensures { option_map (λ t. t.now) result
+        ≡ held_text stated.now.bytes (said_by envelope.now).text }
 {
     match member(envelope, MemberName::Text, stated) {
         MemberBytes::Got(content) => {
@@ -111,7 +112,8 @@ pub(crate) fn text_value(
     text: &TextMember,
     apart: Option<&[u8]>,
 ) -> Result<Option<Value>, AllocError>
-    ensures { IfOk result (λ v. option_map view v ≡ text_data text.now (option_map (λ t. t.now) apart.entry)) }
+    ensures { IfOk result
+        (λ v. option_map view v ≡ text_data text.now (option_map (λ t. t.now) apart.entry)) }
 {
     match text {
         TextMember::Empty => Ok(None),

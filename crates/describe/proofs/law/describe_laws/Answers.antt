@@ -1,6 +1,5 @@
 use Rattle.describe.proofs.DescribedAgain.{made_again, are_there}
-use Rattle.describe.proofs.NoFiles.{no_files}
-use Rattle.describe.proofs.NoFloats.{no_float}
+use Rattle.describe.proofs.Plain.{no_files, no_float}
 use Rattle.describe.proofs.law.describe_laws.Goals as goal
 
 pub returns : goal.returns

@@ -1,7 +1,7 @@
 //! Descriptions that are written, read and written again.
 
-use crate::describe;
 use author::{FileList, description, manifest_of};
+use describe::describe;
 use det_cbor::{Bytes, Text};
 use serde_json::Value;
 use std::alloc::Global;
