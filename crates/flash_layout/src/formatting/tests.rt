@@ -1,19 +1,16 @@
 //! A device that is formatted: twice, with a call that fails, and with a power loss at each call.
 
-ghost use Rattle.std.specs.Prelude.{◌≡◌, ◌<◌, IfOk, length};
+ghost use Rattle.std.specs.Prelude.{◌≡◌, ◌<◌, ◌≤◌, IfOk, length};
 
 use crate::layout::tests::{device, key};
 use crate::{Formatted, Loaded, VERSION_1, format, is_key, is_layout, load_config};
 use std::alloc::{AllocError, Global};
-use std::test::Fail;
 use suit_edge::{Disk, Edge, FuseDisk, MemoryDisk, OPEN};
 
 const SIZE: usize = 65_536;
 
 /// How many calls of the flash the formatting of the device makes.
 const CALLS: u64 = 9;
-
-const CHOICES: [u64; 3] = [0, u64::MAX, 0xAAAA_AAAA_AAAA_AAAA];
 
 // Formats a flash for the device, if it has room.
 fn formats<D: Disk>(alloc: Global, disk: &mut D) -> Result<Option<Formatted>, AllocError>
@@ -51,65 +48,91 @@ fn used(alloc: Global, fails: &[u64]) -> Result<MemoryDisk, AllocError>
     Ok(disk)
 }
 
-// The layout that a flash says, and whether its records and slots are empty.
-fn state(alloc: Global, disk: &mut MemoryDisk) -> Result<(bool, bool), AllocError>
+// Whether eight bytes can be read at a place, and are zeros.
+fn is_zero(disk: &mut MemoryDisk, place: u64) -> bool
+    requires size { length disk.old.first ≡ SIZE }
+    requires place { place ≤ 50184 }
+    ensures { length disk.new.first ≡ SIZE }
+{
+    let mut bytes = [1; 8];
+    disk.read_at(place, &mut bytes) == Edge::Done && bytes == [0; 8]
+}
+
+// Whether the flash's records and slots are empty.
+fn is_empty(disk: &mut MemoryDisk) -> bool
     requires { length disk.old.first ≡ SIZE }
+    ensures { length disk.new.first ≡ SIZE }
+{
+    is_zero(disk, 4096) && is_zero(disk, 8192) && is_zero(disk, 49152) && is_zero(disk, 50184)
+}
+
+// Whether the flash says the device's layout.
+fn is_configured(alloc: Global, disk: &mut MemoryDisk) -> Result<bool, AllocError>
+    requires { length disk.old.first ≡ SIZE }
+    ensures { length disk.new.first ≡ SIZE }
 {
     let layout = device(alloc)?;
-    let configured = match load_config(alloc, disk) {
-        Loaded::Config(found, _) => found.len() == layout.len(),
-        _ => false,
-    };
-    let mut bytes = [1; SIZE];
-    let read = disk.read_at(0, &mut bytes) == Edge::Done;
-    let empty = bytes[4096] == 0 && bytes[8192] == 0;
-    let none = bytes[49152..49160] == [0; 8] && bytes[50184..50192] == [0; 8];
-    Ok((configured, read && empty && none))
+    match load_config(alloc, disk) {
+        Loaded::Config(found, _) => Ok(found.len() == layout.len()),
+        _ => Ok(false),
+    }
 }
 
 #[test]
 fn a_flash_is_formatted_once(rt: HostRuntime) -> Result<(), AllocError> {
-    let alloc = rt.alloc();
-    let mut disk = used(alloc, &[])?;
-    assert!(rt; formats(alloc, &mut disk)? == Some(Formatted::Done));
-    assert!(rt; formats(alloc, &mut disk)? == Some(Formatted::NotBlank));
-    let mut left = disk.after_loss(alloc, 0)?;
-    assert!(rt; state(alloc, &mut left)? == (true, true));
+    let mut disk = used(rt.alloc(), &[])?;
+    assert!(rt; formats(rt.alloc(), &mut disk)? == Some(Formatted::Done));
+    assert!(rt; formats(rt.alloc(), &mut disk)? == Some(Formatted::NotBlank));
+    let mut left = disk.after_loss(rt.alloc(), 0)?;
+    assert!(rt; is_configured(rt.alloc(), &mut left)?);
+    assert!(rt; is_empty(&mut left));
     Ok(())
+}
+
+// Whether a loss leaves the flash configured or not, as told, and empty where it is configured.
+fn is_left(alloc: Global, cut: &MemoryDisk, choice: u64, opened: bool) -> Result<bool, AllocError>
+    requires { length cut.now.first ≡ SIZE }
+{
+    let mut left = cut.after_loss(alloc, choice)?;
+    let configured = is_configured(alloc, &mut left)?;
+    Ok(configured == opened && (!configured || is_empty(&mut left)))
+}
+
+// Whether a formatting on a disk of so many calls is cut, but for the last.
+fn is_cut(alloc: Global, passes: u64) -> Result<bool, AllocError> {
+    let disk = used(alloc, &[])?.after_loss(alloc, u64::MAX)?;
+    let mut fuse = FuseDisk::new(disk, passes);
+    let done = formats(alloc, &mut fuse)? == Some(Formatted::Done);
+    let is_counted = fuse.starved() == 0 && done == (passes == CALLS);
+    let cut = fuse.into_disk();
+    Ok(
+        is_counted
+            && is_left(alloc, &cut, 0, passes == CALLS)?
+            && is_left(alloc, &cut, u64::MAX, CALLS - 1 <= passes)?
+            && is_left(alloc, &cut, 0xAAAA_AAAA_AAAA_AAAA, passes == CALLS)?,
+    )
 }
 
 #[test]
 fn a_power_loss_leaves_a_flash_blank_or_formatted(rt: HostRuntime) -> Result<(), AllocError> {
-    let alloc = rt.alloc();
     for passes in 0..=CALLS {
-        let disk = used(alloc, &[])?.after_loss(alloc, u64::MAX)?;
-        let mut fuse = FuseDisk::new(disk, passes);
-        let done = formats(alloc, &mut fuse)? == Some(Formatted::Done);
-        assert!(rt; done == (passes == CALLS));
-        assert!(rt; fuse.starved() == 0);
-        let cut = fuse.into_disk();
-        for choice in CHOICES {
-            let mut left = cut.after_loss(alloc, choice)?;
-            let (configured, empty) = state(alloc, &mut left)?;
-            let opened = passes == CALLS || passes == CALLS - 1 && choice == u64::MAX;
-            assert!(rt; configured == opened, "{passes} calls, {choice}");
-            assert!(rt; empty || !configured, "{passes} calls, {choice}");
-        }
+        assert!(rt; is_cut(rt.alloc(), passes)?);
     }
     Ok(())
 }
 
+// Whether the failing call is told.
+fn tells_fault(alloc: Global, failing: u64) -> Result<bool, AllocError> {
+    let mut disk = MemoryDisk::new(alloc, SIZE, &[failing])?;
+    Ok(formats(alloc, &mut disk)? == Some(Formatted::FlashFault))
+}
+
 #[test]
 fn a_call_that_fails_is_told(rt: HostRuntime) -> Result<(), AllocError> {
-    let alloc = rt.alloc();
     for failing in 0..CALLS {
-        let mut disk = MemoryDisk::new(alloc, SIZE, &[failing])?;
-        assert!(rt;
-            formats(alloc, &mut disk)? == Some(Formatted::FlashFault),
-            "{failing}"
-        );
+        assert!(rt; tells_fault(rt.alloc(), failing)?);
     }
-    let mut disk = MemoryDisk::new(alloc, SIZE, &[CALLS])?;
-    assert!(rt; formats(alloc, &mut disk)? == Some(Formatted::Done));
+    let mut disk = MemoryDisk::new(rt.alloc(), SIZE, &[CALLS])?;
+    assert!(rt; formats(rt.alloc(), &mut disk)? == Some(Formatted::Done));
     Ok(())
 }
