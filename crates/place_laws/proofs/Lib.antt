@@ -1,0 +1,13 @@
+pub mod ParamsMoved
+pub mod SequencesMoved
+pub mod MapsMoved
+pub mod ManifestMoved
+pub mod Alike
+pub mod CoverAlike
+pub mod LeavesAlike
+pub mod RunsAlike
+pub mod PlansAlike
+pub mod NumbersAlike
+pub mod GrammarAlike
+pub mod HeadBytes
+pub mod Installable

@@ -1,0 +1,4 @@
+pub mod PlacesApart
+pub mod Moving
+pub mod Judging
+pub mod Installing

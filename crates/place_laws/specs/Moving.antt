@@ -1,0 +1,18 @@
+-- What an item says at one place it says at each other place, places apart.
+use Rattle.std.specs.Prelude.{ℕ, List}
+use Rattle.det_cbor.specs.DataItem.{DataItem}
+use Rattle.suit_params.specs.Refusing.{SaysWhole}
+use Rattle.suit_manifest.specs.declared.manifest.Manifest.{Manifest}
+use Rattle.suit_manifest.specs.Manifests.{IsManifest}
+use Rattle.place_laws.specs.PlacesApart.{SameManifest}
+
+abbrev pub ManifestMoves : Type 0
+ManifestMoves =
+    (p q : ℕ) (x : DataItem) (m : Manifest) → IsManifest p x m
+    → (n : Manifest) × IsManifest q x n × SameManifest m n
+
+-- so it is with bytes
+abbrev pub WholeMoves : Type 0
+WholeMoves =
+    (p q : ℕ) (bytes : List ℕ) (m : Manifest) → SaysWhole IsManifest p bytes m
+    → (n : Manifest) × SaysWhole IsManifest q bytes n × SameManifest m n
