@@ -1,5 +1,5 @@
 -- What an update is answered with, by how its procedure ended and by what came behind it.
-use Rattle.std.proofs.Common.{◌≡◌, ⊎_elim, ◌<◌, ◌≤◌, ℕ, ◌-◌, ◌^◌, List, Option, Some, None, IfSome, refl, sym, ◌∙◌, ap, subst, arith}
+use Rattle.std.proofs.Common.{◌≡◌, ◌⊎◌, inl, inr, ⊎_elim, ◌<◌, ◌≤◌, ℕ, ◌-◌, ◌^◌, List, Option, Some, None, IfSome, refl, sym, ◌∙◌, ap, subst, arith}
 use Rattle.std.specs.Prelude.{◌≢◌}
 use Rattle.suit_edge.specs.Faults.{Faulted}
 use Rattle.suit_edge.specs.declared.launch.Launch.{Launch}
@@ -10,7 +10,11 @@ use Rattle.flash_layout.specs.declared.frame.TheConstants.{VERSION_1}
 use Rattle.flash_layout.specs.declared.layout.Entry.{Entry}
 use Rattle.flash_layout.specs.declared.slot.Record.{Record}
 use Rattle.flash_layout.specs.Slots.{slot_content}
+use Rattle.flash_layout.specs.Frames.{head_of}
+use Rattle.rollback_record.specs.Committing.{HasHeldOrNew}
 use Rattle.rollback_record.specs.HeadRecord.{IsLoadable, RecordOf}
+use Rattle.suit_edge.specs.Ranges.{SameOn}
+use Rattle.suit_edge.specs.RangeLaws.{same_start}
 use Rattle.rollback_record.specs.Judging.{IsAcceptable}
 use Rattle.rollback_record.specs.RecordLaws.{OneAnswer}
 use Rattle.rollback_record.specs.SoundFlash.{IsNoEarlier}
@@ -19,7 +23,7 @@ use Rattle.step_machine.specs.declared.plan_end.PlanEnd.TheVariants as plays
 use Rattle.step_machine.specs.declared.spot.Standing.{Standing}
 use Rattle.step_machine.specs.Devices.{contents_of}
 use Rattle.step_machine.specs.PlanRuns.{Counts, CountsFor, EndCounts, PlaysPlan, counts_of, setting_of}
-use Rattle.step_machine.specs.Worlds.{StandAs}
+use Rattle.step_machine.specs.Worlds.{IsChoice, StandAs}
 use Rattle.suit_commands.specs.Tree.{PlanTree}
 use Rattle.flash_layout.specs.declared.place.Places.{Places}
 use Rattle.flash_slots.specs.RamContents.{Held, empty_ram}
@@ -27,10 +31,10 @@ use Rattle.update_proc.specs.Choices.{AreChosen, active_slots}
 use Rattle.update_proc.specs.declared.update_end.UpdateEnd.{UpdateEnd}
 use Rattle.update_proc.specs.declared.update_end.UpdateEnd.TheVariants as ends
 use Rattle.update_proc.specs.Ends.{FinishedSo, FlashFailed, IfInstalled, IfStopped, IfUnfaulted, IsEnd, IsRefusal, IsStartEnd, JudgedSo, UpdateCounts}
-use Rattle.update_proc.specs.Installing.{IsNotWorn}
+use Rattle.update_proc.specs.Installing.{BehindHead, IsNotWorn}
 use Rattle.update_proc.specs.Moments.{HasContentsOf}
 use Rattle.update_proc.specs.Records.{next_generation}
-use Rattle.update_proc.specs.Updates.{KeptSo, PlayedSo, PlaysUpdate}
+use Rattle.update_proc.specs.Updates.{KeptSo, LaunchesBy, PlayedSo, PlaysUpdate}
 
 -- ---- what was accepted
 
@@ -157,12 +161,13 @@ reads_same layout made after same i n slot is = ap (λ (l : List ℕ). slot_cont
 
 pub plays_update : (layout : List Entry) (places : Places) (tree : PlanTree) (held : Option Record) (payloads words uris : List (List ℕ × List ℕ)) (files : List ℕ → Option (List ℕ))
     (before made : List ℕ) (launched now : List Launch) (end : PlanEnd) (numbers : List ℕ) (standings : List Standing) (ram left : List Held)
-    → AreChosen layout places tree (active_slots held) numbers → StandAs layout places (record { number = numbers }) standings → ram ≡ empty_ram layout → words ≡ uris
+    → AreChosen layout places tree (active_slots held) numbers → IsChoice layout (record { number = numbers }) → StandAs layout places (record { number = numbers }) standings → ram ≡ empty_ram layout → words ≡ uris
     → PlaysPlan tree (setting_of standings payloads words files) end (contents_of standings ram before) (contents_of standings left made) launched now
     → PlaysUpdate layout places tree held payloads uris files before made launched now end
-plays_update layout places tree held payloads words uris files before made launched now end numbers standings ram left chosen stand none same played = record {
+plays_update layout places tree held payloads words uris files before made launched now end numbers standings ram left chosen choice stand none same played = record {
   numbers = numbers;
   chosen = chosen;
+  choice = choice;
   standings = standings;
   stand = stand;
   ram = left;
@@ -222,3 +227,35 @@ accepted_judged sequence digest held ends.NoMemory is so = so
 accepted_judged sequence digest held (ends.Lower m n) is so = elim is [ ]
 accepted_judged sequence digest held (ends.OtherDigest m n) is so = elim is [ ]
 accepted_judged sequence digest held ends.Worn is so = elim is [ ]
+
+-- ---- what reads as before
+
+pub as_held : (held : Option Record) (a d : List ℕ) → d ≡ a → RecordOf VERSION_1 (head_of VERSION_1 a) held → {new : Record} → HasHeldOrNew VERSION_1 held new d
+as_held held a d same is = inl (subst (λ (l : List ℕ). RecordOf VERSION_1 (head_of VERSION_1 l) held) (sym same) is)
+
+pub as_read : (a d : List ℕ) → d ≡ a → SameOn BehindHead a d
+as_read a d same = subst (λ (l : List ℕ). SameOn BehindHead a l) (sym same) (same_start BehindHead a)
+
+pub held_as : (held : Option Record) (a d : List ℕ) → d ≡ a → RecordOf VERSION_1 (head_of VERSION_1 a) held → RecordOf VERSION_1 (head_of VERSION_1 d) held
+held_as held a d same is = subst (λ (l : List ℕ). RecordOf VERSION_1 (head_of VERSION_1 l) held) (sym same) is
+
+-- ---- what was launched
+
+pub some_play : (Plays : List ℕ → PlanEnd → Type 0) (layout : List Entry) (after : List ℕ) (launched now : List Launch) (answer : UpdateEnd) → PlayedSo Plays layout after launched now answer
+    → (now ≡ launched) ⊎ ((made : List ℕ) × (end : PlanEnd) × Plays made end)
+some_play Plays layout after launched now (ends.Installed r) is = inr (is.made, plays.Done, is.plays)
+some_play Plays layout after launched now (ends.Condition place) is = inr (is.made, plays.ConditionFailed place, is.plays)
+some_play Plays layout after launched now (ends.Stopped place cause) is = inr (is.made, plays.DirectiveFailed place cause, is.plays)
+some_play Plays layout after launched now ends.FlashFault is = is
+some_play Plays layout after launched now (ends.Lower m n) is = inl is
+some_play Plays layout after launched now (ends.OtherDigest m n) is = inl is
+some_play Plays layout after launched now ends.Worn is = inl is
+some_play Plays layout after launched now ends.NoMemory is = inl is
+
+-- beside the record that was read
+pub launched_by : (Plays : Option Record → List ℕ → PlanEnd → Type 0) (layout : List Entry) (image after : List ℕ) (launched now : List Launch) (answer : UpdateEnd) (held : Option Record)
+    → RecordOf VERSION_1 (head_of VERSION_1 image) held → PlayedSo (Plays held) layout after launched now answer → LaunchesBy Plays image launched now
+launched_by Plays layout image after launched now answer held is played = of_some (some_play (Plays held) layout after launched now answer played) where
+  of_some : (now ≡ launched) ⊎ ((made : List ℕ) × (end : PlanEnd) × Plays held made end) → LaunchesBy Plays image launched now
+  of_some (inl same) = inl same
+  of_some (inr (made, end, play)) = inr (held, is, made, end, play)

@@ -1,6 +1,6 @@
 -- What stands on the flash while an envelope is written to a bank and recorded: it is sound, and goes on from what stood
 -- before.
-use Rattle.std.proofs.Common.{◌≡◌, inl, inr, ⊎_elim, ◌<◌, ◌≤◌, ℕ, ◌+◌, ◌-◌, Bool, true, false, if◌then◌else◌, List, length, get_or, Option, Some, None, IfSome, sym, ◌∙◌, subst, arith}
+use Rattle.std.proofs.Common.{◌≡◌, inl, inr, ⊎_elim, ◌<◌, ◌≤◌, ℕ, ◌+◌, ◌-◌, ◌*◌, Bool, true, false, if◌then◌else◌, List, length, get_or, Option, Some, None, IfSome, sym, ◌∙◌, subst, arith}
 use Rattle.std.proofs.lemmas.Bool.{cases_eq}
 use Rattle.suit_edge.specs.Flash.{Flash, ImageOn, IsFirmOn, IsSettled, Keeps, Passes}
 use Rattle.suit_edge.specs.FlashLaws.{joined, settled_firm, weakens}
@@ -16,15 +16,15 @@ use Rattle.flash_layout.specs.Configs.{ConfigOf, Configured}
 use Rattle.flash_layout.specs.Frames.{bank_place, config_page_of, head_of, record_place}
 use Rattle.rollback_record.specs.declared.page.TheConstants.{RECORD_BYTES}
 use Rattle.rollback_record.specs.Committing.{HasHeldOrNew, InHead, IsNext, IsSpare, KeepsBesideSpare}
-use Rattle.rollback_record.specs.HeadRecord.{IsLoadable, RecordOf}
+use Rattle.rollback_record.specs.HeadRecord.{Counts, IsLoadable, RecordOf, record_bytes}
 use Rattle.rollback_record.specs.RecordPage.{IsActiveSlot, IsInRange}
 use Rattle.rollback_record.specs.SettledLaws.{both}
 use Rattle.rollback_record.specs.SoundFlash.{Follows, IsInstalled, IsNoEarlier, Sound, recorded_bank}
 use Rattle.rollback_record.specs.SoundLaws.{IsCommitted, IsStillSound, SaysRecorded, SoundLaws}
-use Rattle.rollback_record.proofs.Pages.{config_in, head_long}
+use Rattle.rollback_record.proofs.Pages.{bytes_in, config_in, counts_of, head_long}
 use Rattle.update_proc.specs.Banks.{BesideBank, bank_for, is_kept}
 use Rattle.update_proc.specs.Records.{new_record, next_generation}
-use Rattle.update_proc.specs.Installing.{Filling, HasActiveSlots, IsFilled, IsInstalling, IsRecording, MayBeInstalled, Recording}
+use Rattle.update_proc.specs.Installing.{BehindHead, Filling, HasActiveSlots, IsFilled, IsInstalling, IsRecording, MayBeInstalled, Recording}
 
 -- ---- places
 
@@ -42,10 +42,20 @@ says_beside (Some r) bytes fits few i says = ⊎_elim
     second : (r.bank ≡ 0 → ⊥) → bank_place VERSION_1 r.bank ≤ i → bank_place VERSION_1 (1 - r.bank) + length bytes ≤ i
     second other low = omega (arith, other, few.bank, low, fits)
 
+-- the pages before the banks say so
+front_says : (held : Option Record) (i : ℕ) → i < 12288 → SaysRecorded held i
+front_says None i low = low
+front_says (Some r) i low = inl low
+
 -- and in the head
 says_head : (held : Option Record) → IfSome held (IsLoadable VERSION_1) → (i : ℕ) → SaysRecorded held i → i < 49152
 says_head None few i says = omega (arith, says)
 says_head (Some r) few i says = ⊎_elim (λ front. omega (arith, front)) (λ bank. omega (arith, bank.1, few.size, few.bank)) says
+
+-- what lies behind the head is beside the banks
+beside_behind : (held : Option Record) (bytes : List ℕ) → length bytes ≤ 16384 → (i : ℕ) → 49152 ≤ i → BesideBank held bytes i
+beside_behind None bytes fits i high = inr (omega (arith, fits, high))
+beside_behind (Some r) bytes fits i high = inr (omega (arith, fits, high))
 
 -- so does the configuration page
 config_beside : (held : Option Record) (bytes : List ℕ) → IfSome held (IsLoadable VERSION_1) → (i : ℕ) → i < 1204 → BesideBank held bytes i
@@ -78,6 +88,37 @@ module _ (held : Option Record) (bytes a c : List ℕ) (large : 49152 ≤ length
     typed = is.typed;
     page = subst (λ (n : ℕ). IsConfigPage VERSION_1 n (config_page_of VERSION_1 (head_of VERSION_1 a)) layout key) same.size (subst (λ (l : List ℕ). IsConfigPage VERSION_1 (length c) l layout key) config_same is.page);
   }
+
+-- the record that was held stands still
+module _ (held : Option Record) (bytes a c : List ℕ) (large : 49152 ≤ length a) (few : IfSome held (IsLoadable VERSION_1)) (fits : length bytes ≤ 16384)
+    (was : RecordOf VERSION_1 (head_of VERSION_1 a) held) (same : SameOn (BesideBank held bytes) a c) where
+  front : (i : ℕ) → i < 12288 → get_or c i 0 ≡ get_or a i 0
+  front i low = same.same i (says_beside held bytes fits few i (front_says held i low))
+
+  large_c : 49152 ≤ length c
+  large_c = omega (arith, same.size, large)
+
+  page_same : config_page_of VERSION_1 (head_of VERSION_1 a) ≡ config_page_of VERSION_1 (head_of VERSION_1 c)
+  page_same = config_in a ∙ sym (same_range c a 0 1204 same.size (omega (arith, large_c)) (λ i low high. front i (omega (arith, high)))) ∙ sym (config_in c)
+
+  bytes_same : (v : ℕ) → v < 2 → record_bytes VERSION_1 (head_of VERSION_1 a) v ≡ record_bytes VERSION_1 (head_of VERSION_1 c) v
+  bytes_same v two =
+      bytes_in a v two ∙ sym (same_range c a (4096 + v * 4096) (4096 + v * 4096 + 99) same.size (omega (arith, large_c, two)) (λ i low high. front i (omega (arith, high, two)))) ∙ sym (bytes_in c v two)
+
+  counted_before : (v : ℕ) (r : Record) → v < 2 → Counts VERSION_1 (head_of VERSION_1 c) v r → Counts VERSION_1 (head_of VERSION_1 a) v r
+  counted_before v r two is = counts_of c a v r large (sym page_same) (sym (bytes_same v two)) is
+
+  recorded : (o : Option Record) → RecordOf VERSION_1 (head_of VERSION_1 a) o → RecordOf VERSION_1 (head_of VERSION_1 c) o
+  recorded None none = λ v r two is. none v r two (counted_before v r two is)
+  recorded (Some r) h = record {
+    which = h.which;
+    inside = h.inside;
+    counts = counts_of a c h.which r large_c page_same (bytes_same h.which h.inside) h.counts;
+    highest = λ other is. h.highest other (counted_before (1 - h.which) other (omega arith) is);
+  }
+
+  pub still_held : RecordOf VERSION_1 (head_of VERSION_1 c) held
+  still_held = recorded held was
 
 -- ---- the new record
 
@@ -186,3 +227,23 @@ module _ (held : Option Record) (new code : Record) (bytes : List ℕ) (a c d : 
       joined a c d (IsInstalling held new bytes a) (filling held new bytes a c kept)
       (recording held new bytes a c kept d (record { beside = kept.reads; holds = subst (λ (n : Record). recorded_bank VERSION_1 (head_of VERSION_1 c.reads) n ≡ bytes) same holds }) (settled_firm (λ i. Unit {0}) c settled)
       (subst (λ (n : Record). Passes c d (HasHeldOrNew VERSION_1 held n)) same run) spare)
+
+-- ---- behind the head
+
+-- nothing changes while the bank is written
+pub behind_bank : (held : Option Record) (bytes a c : List ℕ) → length bytes ≤ 16384 → SameOn (BesideBank held bytes) a c → SameOn BehindHead a c
+behind_bank held bytes a c fits same = record { size = same.size; same = λ i high. same.same i (beside_behind held bytes fits i high) }
+
+-- nor while the record is committed
+pub behind_commit : (held : Option Record) (bytes a : List ℕ) (c d : Flash) → length bytes ≤ 16384 → SameOn (BesideBank held bytes) a c.reads → KeepsBesideSpare VERSION_1 held c d → SameOn BehindHead a d.reads
+behind_commit held bytes a c d fits same spare =
+    let two : spare.which < 2 = spare_two (head_of VERSION_1 c.reads) held spare.which spare.spare in
+    let first = behind_bank held bytes a c.reads fits same in
+    record {
+      size = spare.keeps.reads.size ∙ first.size;
+      same = λ i high. spare.keeps.reads.same i (inr (omega (arith, high, two))) ∙ first.same i high;
+    }
+
+-- the record that was committed, by its fields
+pub held_or_same : (held : Option Record) (code new : Record) (image : List ℕ) → code ≡ new → HasHeldOrNew VERSION_1 held code image → HasHeldOrNew VERSION_1 held new image
+held_or_same held code new image same is = subst (λ (r : Record). HasHeldOrNew VERSION_1 held r image) same is

@@ -10,4 +10,4 @@ mod InUseSlots
 mod Since
 mod Started
 mod Finished
-mod Reread
+pub mod Reread

@@ -13,7 +13,7 @@ use Rattle.flash_layout.specs.Layouts.{AreClear, IsLayout, IsTypedEntry}
 use Rattle.flash_layout.specs.Slots.{extent_of}
 use Rattle.update_proc.specs.Banks.{BesideBank}
 use Rattle.update_proc.specs.Choices.{AreChosen, HaveTwoSlots, IsInUse, IsTouched, active_slots}
-use Rattle.update_proc.specs.Installing.{IsRecording}
+use Rattle.update_proc.specs.Installing.{BehindHead, IsRecording}
 use Rattle.update_proc.specs.MomentLaws.{EachMoment}
 use Rattle.update_proc.specs.Moments.{HasContentsOf, HasInUse, IsNew, IsOld, KeepsContents, OutsideTouched}
 use Rattle.update_proc.proofs.SlotsApart.{content_kept, lies, one_or_clear, untouched}
@@ -51,6 +51,13 @@ module _ (size : ℕ) (layout : List Entry) (allowed : IsLayout VERSION_1 size l
       let two = is.two in
       content_kept size layout allowed typed some_entry i n slot at made image long is.beside.size
       (λ k within. is.beside.same k (inr (omega (arith, low, within.0, two))))
+
+  -- while nothing changes but the head
+  pub behind : (before image : List ℕ) → length before ≡ size → SameOn BehindHead before image → HasContentsOf layout before image
+  behind before image long same i n slot is =
+      let low = (lies size layout allowed typed some_entry i n slot is).0 in
+      content_kept size layout allowed typed some_entry i n slot is before image long same.size
+      (λ k within. same.same k (omega (arith, low, within.0)))
 
   -- a slot in use is not written, where each component that is written has two
   in_use : (places : Places) (tree : PlanTree) (active numbers : List ℕ) → HaveTwoSlots layout places tree → AreChosen layout places tree active numbers → (slot : Slot) → IsInUse layout active slot → IsTouched layout places tree numbers slot → ⊥

@@ -1,4 +1,4 @@
--- A procedure that ran on the chosen slots of a settled flash: what it left alone, and what comes behind it.
+-- A procedure that ran on the chosen slots of a flash: what it left alone, and what comes behind it.
 use Rattle.std.proofs.Common.{◌≡◌, ◌⊎◌, ⊎_elim, ◌<◌, ◌≤◌, ℕ, ◌+◌, ◌-◌, List, [], length, get_or, Option, Some, None, IfSome, refl, sym, ◌∙◌, ap, subst, arith}
 use Rattle.std.specs.Prelude.{if◌then◌else◌}
 use Rattle.std.specs.Str.{bytes_eq}
@@ -7,7 +7,7 @@ use Rattle.suit_commands.specs.Tree.{PlanTree}
 use Rattle.suit_commands.specs.Targets.{IsTarget}
 use Rattle.suit_edge.specs.Flash.{Flash, IsFirmOn, IsFlash, Keeps, Passes}
 use Rattle.suit_edge.specs.FlashLaws.{each_now, each_read, firm_then, joined, keeps_fewer, weakens}
-use Rattle.suit_edge.specs.Ranges.{Outside}
+use Rattle.suit_edge.specs.Ranges.{Outside, SameOn}
 use Rattle.suit_params.specs.declared.digest.Digest.{Digest}
 use Rattle.flash_layout.specs.declared.frame.TheConstants.{VERSION_1}
 use Rattle.flash_layout.specs.declared.key.Key.{Key}
@@ -33,11 +33,12 @@ use Rattle.step_machine.specs.Worlds.{AreDistinct, IsChoice, StandAs, spot_of}
 use Rattle.update_proc.specs.ChoiceLaws.{ChoiceLaw}
 use Rattle.update_proc.specs.Choices.{AreChosen, IsTouched, active_slots}
 use Rattle.update_proc.specs.Ends.{NowOr}
-use Rattle.update_proc.specs.Installing.{HasActiveSlots, IsInstalling, MayBeInstalled}
+use Rattle.update_proc.specs.Installing.{BehindHead, HasActiveSlots, IsInstalling, MayBeInstalled}
 use Rattle.update_proc.specs.MomentLaws.{EachMoment}
-use Rattle.update_proc.specs.Moments.{IsNew, IsOld, OutsideTouched}
+use Rattle.update_proc.specs.Moments.{IsNew, IsOld, KeepsContents, OutsideTouched}
 use Rattle.update_proc.specs.Records.{new_record}
 use Rattle.update_proc.proofs.Finished.{not_held}
+use Rattle.update_proc.proofs.MomentProofs.{behind}
 use Rattle.update_proc.proofs.Numbering.{other_default}
 use Rattle.update_proc.proofs.Since.{config_there, follows_since, same_head, sound_since}
 use Rattle.update_proc.proofs.WholeUpdate.{finished, head_out, listed, reads_old, settled_head, settled_slots}
@@ -101,7 +102,7 @@ module _ (laws : SoundLaws) (moments : EachMoment) (choosing : ChoiceLaw) (size 
     (choice : IsChoice layout (record { number = numbers })) (stand : StandAs layout places (record { number = numbers }) standings)
     (chosen : AreChosen layout places tree (active_slots held) numbers)
     (a b : Flash) (law : IsFlash a size) (law_b : IsFlash b size) (key : Key) (config : ConfigOf VERSION_1 size (head_of VERSION_1 a.reads) (Configured layout key))
-    (settled : Settled VERSION_1 a) (was : RecordOf VERSION_1 (head_of VERSION_1 a.reads) held) (kept : Keeps (OutsideTargets tree standings) a b) where
+    (was : RecordOf VERSION_1 (head_of VERSION_1 a.reads) held) (kept : Keeps (OutsideTargets tree standings) a b) where
   typed : All IsTypedEntry layout
   typed = config.typed.entries
 
@@ -114,18 +115,6 @@ module _ (laws : SoundLaws) (moments : EachMoment) (choosing : ChoiceLaw) (size 
   kept_head : Keeps (InHead VERSION_1) a b
   kept_head = keeps_fewer (InHead VERSION_1) (OutsideTouched layout places tree numbers) (λ i k. head_out size layout allowed typed none places tree numbers i (omega (arith, k.1))) a b kept_touched
 
-  pub firm_b : IsFirmOn (InHead VERSION_1) b
-  firm_b = firm_then (InHead VERSION_1) a b size law_b (head_is_firm a settled) kept_head
-
-  sound_run : Passes a b (Sound VERSION_1)
-  sound_run = sound_since laws a b size law large settled kept_head
-
-  follows_run : Passes a b (Follows VERSION_1 a.reads)
-  follows_run = follows_since laws a b size law large settled kept_head
-
-  pub sound_b : Sound VERSION_1 b.reads
-  sound_b = each_read a b size (Sound VERSION_1) law_b sound_run
-
   pub head_b : head_of VERSION_1 b.reads ≡ head_of VERSION_1 a.reads
   head_b = same_head a.reads b.reads (omega (arith, law.fits, large)) kept_head.reads
 
@@ -135,57 +124,79 @@ module _ (laws : SoundLaws) (moments : EachMoment) (choosing : ChoiceLaw) (size 
   pub active_b : HasActiveSlots b.reads numbers
   active_b = choosing b.reads layout key held places tree numbers (config_there a.reads a.reads b.reads kept_head.reads.size head_b layout key config_a) was_b chosen
 
-  -- ---- behind it
+  -- no content changed but those of slots that may be written
+  pub contents_since : (d : List ℕ) → SameOn BehindHead b.reads d → KeepsContents layout places tree numbers a.reads d
+  contents_since d same i n slot is not =
+      behind size layout allowed typed b.reads d law_b.fits same i n slot is
+      ∙ (moments size layout allowed typed).procedure places tree numbers a.reads b.reads law.fits kept_touched.reads i n slot is not
 
-  module _ (bytes : List ℕ) (sequence : ℕ) (digest : Digest) (fits : length bytes ≤ 16384) (d : Flash) (law_d : IsFlash d size) where
-    abbrev new : Record
-    new = new_record held a.reads bytes sequence digest numbers
+  pub new_as : (bytes : List ℕ) (sequence : ℕ) (digest : Digest) → new_record held b.reads bytes sequence digest numbers ≡ new_record held a.reads bytes sequence digest numbers
+  new_as bytes sequence digest = same_new held a.reads b.reads bytes sequence digest numbers head_b
 
-    abbrev Moment : List ℕ → Type 0
-    Moment image = IsOld layout places tree numbers held a.reads image ⊎ IsNew layout new b.reads image
+  module _ (settled : Settled VERSION_1 a) where
+    pub firm_b : IsFirmOn (InHead VERSION_1) b
+    firm_b = firm_then (InHead VERSION_1) a b size law_b (head_is_firm a settled) kept_head
 
-    pub new_is : new_record held b.reads bytes sequence digest numbers ≡ new
-    new_is = same_new held a.reads b.reads bytes sequence digest numbers head_b
+    sound_run : Passes a b (Sound VERSION_1)
+    sound_run = sound_since laws a b size law large settled kept_head
 
-    module _ (since : Passes b d (NowOr (IsInstalling held (new_record held b.reads bytes sequence digest numbers) bytes b) b)) where
-      pub moments_of : Passes a d Moment
-      moments_of =
-          finished size layout (moments size layout allowed typed) places tree numbers held a law large was (head_out size layout allowed typed none places tree numbers)
+    follows_run : Passes a b (Follows VERSION_1 a.reads)
+    follows_run = follows_since laws a b size law large settled kept_head
+
+    pub sound_b : Sound VERSION_1 b.reads
+    sound_b = each_read a b size (Sound VERSION_1) law_b sound_run
+
+    -- ---- behind it
+
+    module _ (bytes : List ℕ) (sequence : ℕ) (digest : Digest) (fits : length bytes ≤ 16384) (d : Flash) (law_d : IsFlash d size) where
+      abbrev new : Record
+      new = new_record held a.reads bytes sequence digest numbers
+
+      abbrev Moment : List ℕ → Type 0
+      Moment image = IsOld layout places tree numbers held a.reads image ⊎ IsNew layout new b.reads image
+
+      pub new_is : new_record held b.reads bytes sequence digest numbers ≡ new
+      new_is = same_new held a.reads b.reads bytes sequence digest numbers head_b
+
+      module _ (since : Passes b d (NowOr (IsInstalling held (new_record held b.reads bytes sequence digest numbers) bytes b) b)) where
+        pub moments_of : Passes a d Moment
+        moments_of =
+            finished size layout (moments size layout allowed typed) places tree numbers held a law large was (head_out size layout allowed typed none places tree numbers)
+            (settled_head layout key a settled config_a) (settled_slots layout key a settled config_a (listed size layout allowed typed none))
+            b law_b kept_touched.images laws new bytes few fits sound_b firm_b d
+            (subst (λ (r : Record). Passes b d (NowOr (IsInstalling held r bytes b) b)) new_is since)
+
+        pub moment_at_end : Moment d.reads
+        moment_at_end = each_read a d size Moment law_d moments_of
+
+        -- where the new record stands at the end, so do the contents that were made
+        pub new_at_end : OneAnswer → (r : Record) → r ≡ new_record held b.reads bytes sequence digest numbers → RecordOf VERSION_1 (head_of VERSION_1 d.reads) (Some r) → IsNew layout new b.reads d.reads
+        new_at_end one r same recorded = ⊎_elim
+            (λ old. absurd (not_held one (head_of VERSION_1 d.reads) held new refl old.record_is (subst (λ (n : Record). RecordOf VERSION_1 (head_of VERSION_1 d.reads) (Some n)) (same ∙ new_is) recorded)))
+            (λ now. now)
+            moment_at_end
+
+      pub old_b : IsOld layout places tree numbers held a.reads b.reads
+      old_b =
+          reads_old size layout (moments size layout allowed typed) places tree numbers held a law large was (head_out size layout allowed typed none places tree numbers)
           (settled_head layout key a settled config_a) (settled_slots layout key a settled config_a (listed size layout allowed typed none))
-          b law_b kept_touched.images laws new bytes few fits sound_b firm_b d
-          (subst (λ (r : Record). Passes b d (NowOr (IsInstalling held r bytes b) b)) new_is since)
+          b law_b kept_touched.images laws new bytes few fits sound_b firm_b
 
-      pub moment_at_end : Moment d.reads
-      moment_at_end = each_read a d size Moment law_d moments_of
+      pub old_at_end : d.reads ≡ b.reads → IsOld layout places tree numbers held a.reads d.reads
+      old_at_end same = subst (λ (l : List ℕ). IsOld layout places tree numbers held a.reads l) (sym same) old_b
 
-      -- where the new record stands at the end, so do the contents that were made
-      pub new_at_end : OneAnswer → (r : Record) → r ≡ new_record held b.reads bytes sequence digest numbers → RecordOf VERSION_1 (head_of VERSION_1 d.reads) (Some r) → IsNew layout new b.reads d.reads
-      new_at_end one r same recorded = ⊎_elim
-          (λ old. absurd (not_held one (head_of VERSION_1 d.reads) held new refl old.record_is (subst (λ (n : Record). RecordOf VERSION_1 (head_of VERSION_1 d.reads) (Some n)) (same ∙ new_is) recorded)))
-          (λ now. now)
-          moment_at_end
+      pub sound_all : (IsFirmOn (InHead VERSION_1) b → Sound VERSION_1 b.reads → MayBeInstalled b.reads bytes (new_record held b.reads bytes sequence digest numbers) → Passes b d (NowOr (Sound VERSION_1) b)) → MayBeInstalled a.reads bytes new → Passes a d (Sound VERSION_1)
+      sound_all to may =
+          joined a b d (Sound VERSION_1) sound_run
+          (weakens b d (NowOr (Sound VERSION_1) b) (Sound VERSION_1) (λ image is. ⊎_elim (λ now. each_now a b size (Sound VERSION_1) law_b sound_run image now) (λ s. s) is)
+          (to firm_b sound_b (λ l k there. subst (λ (r : Record). IsInstalled l k bytes r) (sym new_is)
+          (may l k (config_there b.reads b.reads a.reads (sym kept_head.reads.size) (sym head_b) l k there)))))
 
-    pub old_b : IsOld layout places tree numbers held a.reads b.reads
-    old_b =
-        reads_old size layout (moments size layout allowed typed) places tree numbers held a law large was (head_out size layout allowed typed none places tree numbers)
-        (settled_head layout key a settled config_a) (settled_slots layout key a settled config_a (listed size layout allowed typed none))
-        b law_b kept_touched.images laws new bytes few fits sound_b firm_b
-
-    pub old_at_end : d.reads ≡ b.reads → IsOld layout places tree numbers held a.reads d.reads
-    old_at_end same = subst (λ (l : List ℕ). IsOld layout places tree numbers held a.reads l) (sym same) old_b
-
-    pub sound_all : (MayBeInstalled b.reads bytes (new_record held b.reads bytes sequence digest numbers) → Passes b d (NowOr (Sound VERSION_1) b)) → MayBeInstalled a.reads bytes new → Passes a d (Sound VERSION_1)
-    sound_all to may =
-        joined a b d (Sound VERSION_1) sound_run
-        (weakens b d (NowOr (Sound VERSION_1) b) (Sound VERSION_1) (λ image is. ⊎_elim (λ now. each_now a b size (Sound VERSION_1) law_b sound_run image now) (λ s. s) is)
-        (to (λ l k there. subst (λ (r : Record). IsInstalled l k bytes r) (sym new_is)
-        (may l k (config_there b.reads b.reads a.reads (sym kept_head.reads.size) (sym head_b) l k there)))))
-
-    pub follows_all : (IfSome held (λ r. IsNoEarlier r (new_record held b.reads bytes sequence digest numbers)) → Passes b d (NowOr (Follows VERSION_1 b.reads) b))
-        → IfSome held (λ r. IsNoEarlier r (new_record held b.reads bytes sequence digest numbers)) → Passes a d (Follows VERSION_1 a.reads)
-    follows_all to sure =
-        joined a b d (Follows VERSION_1 a.reads) follows_run
-        (weakens b d (NowOr (Follows VERSION_1 b.reads) b) (Follows VERSION_1 a.reads)
-        (λ image is. ⊎_elim (λ now. each_now a b size (Follows VERSION_1 a.reads) law_b follows_run image now)
-        (λ f. laws.onward VERSION_1 a.reads b.reads image (each_read a b size (Follows VERSION_1 a.reads) law_b follows_run) f) is)
-        (to sure))
+      pub follows_all : (IsFirmOn (InHead VERSION_1) b → Sound VERSION_1 b.reads → IfSome held (λ r. IsNoEarlier r (new_record held b.reads bytes sequence digest numbers)) → Passes b d (NowOr (Follows VERSION_1 b.reads) b))
+          → IfSome held (λ r. IsNoEarlier r (new_record held b.reads bytes sequence digest numbers)) → Passes a d (Follows VERSION_1 a.reads)
+      follows_all to sure =
+          joined a b d (Follows VERSION_1 a.reads) follows_run
+          (weakens b d (NowOr (Follows VERSION_1 b.reads) b) (Follows VERSION_1 a.reads)
+          (λ image is. ⊎_elim (λ now. each_now a b size (Follows VERSION_1 a.reads) law_b follows_run image now)
+          (λ f. laws.onward VERSION_1 a.reads b.reads image (each_read a b size (Follows VERSION_1 a.reads) law_b follows_run) f) is)
+          (to firm_b sound_b sure))

@@ -1,5 +1,5 @@
 -- What stands on the flash at each moment while an envelope is written to a bank and then recorded.
-use Rattle.std.specs.Prelude.{◌≡◌, ◌<◌, ◌^◌, ◌-◌, ℕ, List, length, slice_index, Option}
+use Rattle.std.specs.Prelude.{◌≡◌, ◌<◌, ◌≤◌, ◌^◌, ◌-◌, ℕ, List, length, slice_index, Option}
 use Rattle.suit_edge.specs.Flash.{Flash, ImageOn}
 use Rattle.suit_edge.specs.Ranges.{Outside, SameOn}
 use Rattle.flash_layout.specs.declared.frame.TheConstants.{VERSION_1}
@@ -18,6 +18,10 @@ use Rattle.update_proc.specs.Banks.{BesideBank}
 pub record IsFilled (held : Option Record) (new : Record) (bytes before made : List ℕ) : Type 0 where
   pub beside : SameOn (BesideBank held bytes) before made
   pub holds : recorded_bank VERSION_1 (head_of VERSION_1 made) new ≡ bytes
+
+-- the places of the slots
+abbrev pub BehindHead : ℕ → Type 0
+BehindHead i = VERSION_1.size ≤ i
 
 -- one record page is being written, and the record is still the held one, or it is the new one
 pub record IsRecording (held : Option Record) (new : Record) (made image : List ℕ) : Type 0 where

@@ -1,22 +1,25 @@
 -- What an update plays, what it leaves, and what stands at each moment of it.
-use Rattle.std.specs.Prelude.{◌≡◌, ◌⊎◌, ℕ, List, Option}
+use Rattle.std.specs.Prelude.{◌≡◌, ◌⊎◌, ℕ, List, Option, Some}
 use Rattle.suit_commands.specs.Tree.{PlanTree}
 use Rattle.suit_edge.specs.Flash.{Flash, Passes}
 use Rattle.suit_edge.specs.declared.launch.Launch.{Launch}
 use Rattle.flash_layout.specs.declared.layout.Entry.{Entry}
 use Rattle.flash_layout.specs.declared.place.Places.{Places}
 use Rattle.flash_layout.specs.declared.slot.Record.{Record}
+use Rattle.flash_layout.specs.declared.frame.TheConstants.{VERSION_1}
+use Rattle.flash_layout.specs.Frames.{head_of}
+use Rattle.rollback_record.specs.HeadRecord.{RecordOf}
 use Rattle.flash_slots.specs.RamContents.{Held, empty_ram}
 use Rattle.step_machine.specs.declared.plan_end.PlanEnd.{PlanEnd}
 use Rattle.step_machine.specs.declared.plan_end.PlanEnd.TheVariants as plays
 use Rattle.step_machine.specs.declared.spot.Standing.{Standing}
 use Rattle.step_machine.specs.Devices.{contents_of}
 use Rattle.step_machine.specs.PlanRuns.{PlaysPlan, setting_of}
-use Rattle.step_machine.specs.Worlds.{StandAs}
+use Rattle.step_machine.specs.Worlds.{IsChoice, StandAs}
 use Rattle.update_proc.specs.declared.update_end.UpdateEnd.{UpdateEnd}
 use Rattle.update_proc.specs.declared.update_end.UpdateEnd.TheVariants as ends
 use Rattle.update_proc.specs.Choices.{AreChosen, active_slots}
-use Rattle.update_proc.specs.Moments.{HasContentsOf, IsNew, IsOld}
+use Rattle.update_proc.specs.Moments.{HasContentsOf, IsNew, IsOld, KeepsContents}
 
 -- ---- what is played
 
@@ -26,6 +29,7 @@ pub record PlaysUpdate (layout : List Entry) (places : Places) (tree : PlanTree)
     (files : List ℕ → Option (List ℕ)) (before made : List ℕ) (launched now : List Launch) (end : PlanEnd) : Type 0 where
   pub numbers : List ℕ
   pub chosen : AreChosen layout places tree (active_slots held) numbers
+  pub choice : IsChoice layout (record { number = numbers })
   pub standings : List Standing
   pub stand : StandAs layout places (record { number = numbers }) standings
   pub ram : List Held
@@ -47,6 +51,11 @@ PlayedSo Plays layout after launched now (ends.Stopped place cause) = PlaysAndLe
 PlayedSo Plays layout after launched now ends.FlashFault = (now ≡ launched) ⊎ ((made : List ℕ) × (end : PlanEnd) × Plays made end)
 PlayedSo Plays layout after launched now _ = now ≡ launched
 
+-- Whatever was answered, nothing was launched, or the procedure was played beside the record that this image has.
+abbrev pub LaunchesBy : (Option Record → List ℕ → PlanEnd → Type 0) → List ℕ → List Launch → List Launch → Type 0
+LaunchesBy Plays image launched now =
+    (now ≡ launched) ⊎ ((held : Option Record) × RecordOf VERSION_1 (head_of VERSION_1 image) held × (made : List ℕ) × (end : PlanEnd) × Plays held made end)
+
 -- ---- what is left
 
 -- the new record and contents after Installed, the old record otherwise, and one of them after a fault of the flash behind
@@ -55,6 +64,14 @@ abbrev pub LeftSo : (Record → Type 0) → Type 0 → Type 0 → UpdateEnd → 
 LeftSo Is Old New (ends.Installed r) = Is r × New
 LeftSo Is Old New ends.FlashFault = Old ⊎ New
 LeftSo Is Old New _ = Old
+
+-- As the flash reads in the end: no content changed but those of slots that may be written, and this is recorded.
+pub record LeavesUpdate (layout : List Entry) (places : Places) (tree : PlanTree) (held : Option Record) (new : List ℕ → Record) (before after : List ℕ) (answer : UpdateEnd)
+    : Type 0 where
+  pub numbers : List ℕ
+  pub chosen : AreChosen layout places tree (active_slots held) numbers
+  pub contents : KeepsContents layout places tree numbers before after
+  pub left : LeftSo (λ r. r ≡ new numbers) (RecordOf VERSION_1 (head_of VERSION_1 after) held) (RecordOf VERSION_1 (head_of VERSION_1 after) (Some (new numbers))) answer
 
 -- At each moment the flash has the old record, and no content changed but those of slots that may be written; or it has
 -- the new record, and the contents that were made.

@@ -1,13 +1,14 @@
 //! What comes behind a procedure: its envelope is installed where it is done, and otherwise all is made sure of.
 
 ghost use Rattle.flash_layout.specs.Frames.{head_of};
-ghost use Rattle.rollback_record.specs.Committing.{InHead};
+ghost use Rattle.rollback_record.specs.Committing.{HasHeldOrNew, InHead};
 ghost use Rattle.rollback_record.specs.HeadRecord.{IsLoadable, RecordOf};
 ghost use Rattle.rollback_record.specs.SoundFlash.{Follows, IsNoEarlier, Sound};
 ghost use Rattle.std.specs.Prelude.{◌≡◌, ◌<◌, ◌≤◌, IfSome, IsTrue, Some, length, option_map};
+ghost use Rattle.suit_edge.specs.Ranges.{SameOn};
 ghost use Rattle.suit_edge.specs.Flash.{Grows, IsFirmOn, IsSame, IsSettled, Passes};
 ghost use Rattle.update_proc.specs.Ends.{FinishedSo, IfInstalled, IfStopped, IfUnfaulted, NowOr, SettledSo};
-ghost use Rattle.update_proc.specs.Installing.{HasActiveSlots, IsInstalling, IsNotWorn, MayBeInstalled};
+ghost use Rattle.update_proc.specs.Installing.{BehindHead, HasActiveSlots, IsInstalling, IsNotWorn, MayBeInstalled};
 ghost use Rattle.update_proc.specs.Records.{new_record};
 ghost use Rattle.update_proc.specs.declared.update_end.UpdateEnd.TheVariants as ends;
 
@@ -63,8 +64,6 @@ pub(crate) fn finish<D: Disk>(
     requires held { IsTrue D.told
         → RecordOf VERSION_1 (head_of VERSION_1 (D.flash disk.old).reads) (option_map (λ r. r.now) held) }
     requires active { IsTrue D.told → HasActiveSlots (D.flash disk.old).reads offer.now.active }
-    requires firm { IsTrue D.told → IsFirmOn (InHead VERSION_1) (D.flash disk.old) }
-    requires sound { IsTrue D.told → Sound VERSION_1 (D.flash disk.old).reads }
     ensures size { D.extent disk.new ≡ D.extent disk.old }
     ensures answer { FinishedSo end result (D.faults disk.old) (D.faults disk.new) }
     ensures new { IsTrue D.told → IfInstalled result
@@ -73,17 +72,22 @@ pub(crate) fn finish<D: Disk>(
         → IfInstalled result (λ r. RecordOf VERSION_1 (head_of VERSION_1 (D.flash disk.new).reads) (Some r)) }
     ensures stays { IsTrue D.told → IfStopped end ((D.flash disk.new).reads ≡ (D.flash disk.old).reads) }
     ensures settled { IsTrue D.told → IfUnfaulted result (IsSettled (D.flash disk.new)) }
+    ensures reads { IsTrue D.told → let held = option_map (λ r. r.now) held.entry in HasHeldOrNew VERSION_1 held
+        (new_record held (D.flash disk.old).reads bytes.now offer.now.sequence offer.now.digest offer.now.active) (D.flash disk.new).reads }
+    ensures behind { IsTrue D.told → SameOn BehindHead (D.flash disk.old).reads (D.flash disk.new).reads }
     ensures any_moment { IsTrue D.told → let held = option_map (λ r. r.now) held.entry in
         let start = D.flash disk.old in
         Passes start (D.flash disk.new) (NowOr
         (IsInstalling held (new_record held start.reads bytes.now offer.now.sequence offer.now.digest offer.now.active) bytes.now start) start) }
     ensures sound { IsTrue D.told → let held = option_map (λ r. r.now) held.entry in
         let start = D.flash disk.old in
-        MayBeInstalled start.reads bytes.now (new_record held start.reads bytes.now offer.now.sequence offer.now.digest offer.now.active)
+        IsFirmOn (InHead VERSION_1) start → Sound VERSION_1 start.reads
+        → MayBeInstalled start.reads bytes.now (new_record held start.reads bytes.now offer.now.sequence offer.now.digest offer.now.active)
         → Passes start (D.flash disk.new) (NowOr (Sound VERSION_1) start) }
     ensures follows { IsTrue D.told → let held = option_map (λ r. r.now) held.entry in
         let start = D.flash disk.old in
-        IfSome held (λ r. IsNoEarlier r (new_record held start.reads bytes.now offer.now.sequence offer.now.digest offer.now.active))
+        IsFirmOn (InHead VERSION_1) start → Sound VERSION_1 start.reads
+        → IfSome held (λ r. IsNoEarlier r (new_record held start.reads bytes.now offer.now.sequence offer.now.digest offer.now.active))
         → Passes start (D.flash disk.new) (NowOr (Follows VERSION_1 start.reads) start) }
     ensures grows { IsTrue D.told → Grows (D.flash disk.old) (D.flash disk.new) }
 {

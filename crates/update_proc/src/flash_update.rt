@@ -19,7 +19,7 @@ ghost use Rattle.update_proc.specs.Ends.{IfUnfaulted, JudgedSo, UpdateCounts};
 ghost use Rattle.update_proc.specs.Installing.{MayBeInstalled};
 ghost use Rattle.update_proc.specs.Offered.{ForOffer};
 ghost use Rattle.update_proc.specs.Records.{new_record};
-ghost use Rattle.update_proc.specs.Updates.{KeepsUpdate, KeptSo, PlayedSo, PlaysUpdate};
+ghost use Rattle.update_proc.specs.Updates.{KeepsUpdate, KeptSo, LaunchesBy, LeavesUpdate, PlayedSo, PlaysUpdate};
 
 use crate::{UpdateEnd, update_beside};
 use flash_layout::{FlashFault, Layout, Places, VERSION_1};
@@ -30,7 +30,7 @@ use suit_edge::{Disk, Host, Launcher};
 use suit_envelope::{Envelope, stated_digest};
 use suit_manifest::{Manifest, Members};
 
-/// Updates a settled flash (draft-ietf-suit-manifest-25, section 6): the manifest is judged beside the record that the flash
+/// Updates a flash (draft-ietf-suit-manifest-25, section 6): the manifest is judged beside the record that the flash
 /// holds, its update procedure is run on the chosen slots, and where that is done the trimmed envelope is written to a bank
 /// and recorded. All memory is taken before anything is launched or written.
 pub fn update<H: Host, D: Disk, L: Launcher>(
@@ -54,7 +54,6 @@ pub fn update<H: Host, D: Disk, L: Launcher>(
     requires fits { length (trimmed envelope.now.wrapper.now envelope.now.manifest.now) ≤ VERSION_1.bank_size }
     requires config { IsTrue D.told → (key : Key)
         × ConfigOf VERSION_1 (D.extent disk.old) (head_of VERSION_1 (D.flash disk.old).reads) (Configured layout.now key) }
-    requires settled { IsTrue D.told → Settled VERSION_1 (D.flash disk.old) }
     ensures size { D.extent disk.new ≡ D.extent disk.old }
     ensures judged { IsTrue D.told → ForOffer (D.flash disk.old).reads envelope.now.wrapper.now
         (λ held digest. JudgedSo manifest.now.sequence digest held result) }
@@ -67,21 +66,34 @@ pub fn update<H: Host, D: Disk, L: Launcher>(
         → PlayedSo (λ made end. PlaysUpdate layout.now places.now (update_tree manifest.now members.now) held payloads uris.now
         (H.file host.old) (D.flash disk.old).reads made (L.launches launcher.old) (L.launches launcher.new) end)
         layout.now (D.flash disk.new).reads (L.launches launcher.old) (L.launches launcher.new) result) }
-    ensures keeps { IsTrue D.told → let start = D.flash disk.old in
+    ensures launches { IsTrue H.told → IsTrue D.told → IsTrue L.told
+        → (payloads : List (List ℕ × List ℕ)) → HasPayloads envelope.now.whole.now payloads
+        → LaunchesBy (λ held made end. PlaysUpdate layout.now places.now (update_tree manifest.now members.now) held payloads uris.now
+        (H.file host.old) (D.flash disk.old).reads made (L.launches launcher.old) (L.launches launcher.new) end)
+        (D.flash disk.old).reads (L.launches launcher.old) (L.launches launcher.new) }
+    ensures keeps { IsTrue D.told → Settled VERSION_1 (D.flash disk.old) → let start = D.flash disk.old in
         let bytes = trimmed envelope.now.wrapper.now envelope.now.manifest.now in
         ForOffer start.reads envelope.now.wrapper.now (λ held digest.
         KeptSo (KeepsUpdate layout.now places.now (update_tree manifest.now members.now) held
         (λ numbers. new_record held start.reads bytes manifest.now.sequence digest numbers)
         start (D.flash disk.new) result) (IsSame start (D.flash disk.new)) result) }
-    ensures sound { IsTrue D.told → let start = D.flash disk.old in
+    ensures left { IsTrue D.told → let start = (D.flash disk.old).reads in
+        let bytes = trimmed envelope.now.wrapper.now envelope.now.manifest.now in
+        ForOffer start envelope.now.wrapper.now (λ held digest.
+        KeptSo (LeavesUpdate layout.now places.now (update_tree manifest.now members.now) held
+        (λ numbers. new_record held start bytes manifest.now.sequence digest numbers)
+        start (D.flash disk.new).reads result) ((D.flash disk.new).reads ≡ start) result) }
+    ensures sound { IsTrue D.told → Settled VERSION_1 (D.flash disk.old) → let start = D.flash disk.old in
         let bytes = trimmed envelope.now.wrapper.now envelope.now.manifest.now in
         ForOffer start.reads envelope.now.wrapper.now (λ held digest.
         ((numbers : List ℕ) → AreChosen layout.now places.now (update_tree manifest.now members.now) (active_slots held) numbers
         → MayBeInstalled start.reads bytes (new_record held start.reads bytes manifest.now.sequence digest numbers))
         → Passes start (D.flash disk.new) (Sound VERSION_1)) }
-    ensures follows { IsTrue D.told → Passes (D.flash disk.old) (D.flash disk.new) (Follows VERSION_1 (D.flash disk.old).reads) }
+    ensures follows { IsTrue D.told → Settled VERSION_1 (D.flash disk.old)
+        → Passes (D.flash disk.old) (D.flash disk.new) (Follows VERSION_1 (D.flash disk.old).reads) }
     ensures settled { IsTrue D.told → IfUnfaulted result
         (IsSame (D.flash disk.old) (D.flash disk.new) ⊎ IsSettled (D.flash disk.new)) }
+    ensures later { IsTrue D.told → (D.flash disk.old).clock ≤ (D.flash disk.new).clock }
     ensures grows { IsTrue D.told → Grows (D.flash disk.old) (D.flash disk.new) }
 {
     record_laws();

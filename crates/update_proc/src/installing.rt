@@ -2,12 +2,13 @@
 
 ghost use Rattle.flash_layout.specs.FaultCounts.{ResultCounts};
 ghost use Rattle.flash_layout.specs.Frames.{head_of};
-ghost use Rattle.rollback_record.specs.Committing.{InHead};
+ghost use Rattle.rollback_record.specs.Committing.{HasHeldOrNew, InHead};
 ghost use Rattle.rollback_record.specs.HeadRecord.{IsLoadable, RecordOf};
 ghost use Rattle.rollback_record.specs.SoundFlash.{Follows, IsNoEarlier, Sound};
 ghost use Rattle.std.specs.Prelude.{◌≡◌, ◌<◌, ◌≤◌, IfOk, IfSome, IsTrue, OnOk, Some, length, option_map};
+ghost use Rattle.suit_edge.specs.Ranges.{SameOn};
 ghost use Rattle.suit_edge.specs.Flash.{Grows, IsFirmOn, IsSettled, Passes};
-ghost use Rattle.update_proc.specs.Installing.{HasActiveSlots, IsInstalling, IsNotWorn, MayBeInstalled};
+ghost use Rattle.update_proc.specs.Installing.{BehindHead, HasActiveSlots, IsInstalling, IsNotWorn, MayBeInstalled};
 ghost use Rattle.update_proc.specs.Records.{new_record, next_generation};
 
 use crate::Offer;
@@ -28,8 +29,8 @@ fn generation_after(held: Option<&Record>) -> u64
 }
 
 /// Writes the envelope to the bank that the record does not name, unless the record's bank holds it already, and records
-/// it. A power loss now must leave the head of the flash as it reads. Up to the last moment the flash holds the record that
-/// it held, with its envelope.
+/// it. Up to the last moment the flash holds the record that it held, with its envelope, where a power loss at the start
+/// leaves the head as it reads.
 pub fn install<D: Disk>(
     disk: &mut D,
     held: Option<&Record>,
@@ -45,8 +46,6 @@ pub fn install<D: Disk>(
     requires held { IsTrue D.told
         → RecordOf VERSION_1 (head_of VERSION_1 (D.flash disk.old).reads) (option_map (λ r. r.now) held) }
     requires active { IsTrue D.told → HasActiveSlots (D.flash disk.old).reads offer.now.active }
-    requires firm { IsTrue D.told → IsFirmOn (InHead VERSION_1) (D.flash disk.old) }
-    requires sound { IsTrue D.told → Sound VERSION_1 (D.flash disk.old).reads }
     ensures size { D.extent disk.new ≡ D.extent disk.old }
     ensures counts { ResultCounts result (D.faults disk.old) (D.faults disk.new) }
     ensures answer { IsTrue D.told → IfOk result
@@ -54,17 +53,22 @@ pub fn install<D: Disk>(
     ensures recorded { IsTrue D.told
         → IfOk result (λ r. RecordOf VERSION_1 (head_of VERSION_1 (D.flash disk.new).reads) (Some r)) }
     ensures settled { IsTrue D.told → OnOk result (IsSettled (D.flash disk.new)) }
+    ensures reads { IsTrue D.told → let held = option_map (λ r. r.now) held.entry in HasHeldOrNew VERSION_1 held
+        (new_record held (D.flash disk.old).reads bytes.now offer.now.sequence offer.now.digest offer.now.active) (D.flash disk.new).reads }
+    ensures behind { IsTrue D.told → SameOn BehindHead (D.flash disk.old).reads (D.flash disk.new).reads }
     ensures any_moment { IsTrue D.told → let held = option_map (λ r. r.now) held.entry in
         let start = D.flash disk.old in
         Passes start (D.flash disk.new)
         (IsInstalling held (new_record held start.reads bytes.now offer.now.sequence offer.now.digest offer.now.active) bytes.now start) }
     ensures sound { IsTrue D.told → let held = option_map (λ r. r.now) held.entry in
         let start = D.flash disk.old in
-        MayBeInstalled start.reads bytes.now (new_record held start.reads bytes.now offer.now.sequence offer.now.digest offer.now.active)
+        IsFirmOn (InHead VERSION_1) start → Sound VERSION_1 start.reads
+        → MayBeInstalled start.reads bytes.now (new_record held start.reads bytes.now offer.now.sequence offer.now.digest offer.now.active)
         → Passes start (D.flash disk.new) (Sound VERSION_1) }
     ensures follows { IsTrue D.told → let held = option_map (λ r. r.now) held.entry in
         let start = D.flash disk.old in
-        IfSome held (λ r. IsNoEarlier r (new_record held start.reads bytes.now offer.now.sequence offer.now.digest offer.now.active))
+        IsFirmOn (InHead VERSION_1) start → Sound VERSION_1 start.reads
+        → IfSome held (λ r. IsNoEarlier r (new_record held start.reads bytes.now offer.now.sequence offer.now.digest offer.now.active))
         → Passes start (D.flash disk.new) (Follows VERSION_1 start.reads) }
     ensures grows { IsTrue D.told → Grows (D.flash disk.old) (D.flash disk.new) }
 {

@@ -18,7 +18,7 @@ ghost use Rattle.update_proc.specs.Choices.{AreChosen, active_slots};
 ghost use Rattle.update_proc.specs.Ends.{IfUnfaulted, IsStartEnd, UpdateCounts};
 ghost use Rattle.update_proc.specs.Installing.{MayBeInstalled};
 ghost use Rattle.update_proc.specs.Records.{new_record};
-ghost use Rattle.update_proc.specs.Updates.{KeepsUpdate, KeptSo, PlayedSo, PlaysUpdate};
+ghost use Rattle.update_proc.specs.Updates.{KeepsUpdate, KeptSo, LeavesUpdate, PlayedSo, PlaysUpdate};
 
 use crate::finishing::finish;
 use crate::in_use::choose_slots;
@@ -67,7 +67,6 @@ pub(crate) fn start<H: Host, D: Disk, L: Launcher>(
         → RecordOf VERSION_1 (head_of VERSION_1 (D.flash disk.old).reads) (option_map (λ r. r.now) held) }
     requires config { IsTrue D.told → (key : Key)
         × ConfigOf VERSION_1 (D.extent disk.old) (head_of VERSION_1 (D.flash disk.old).reads) (Configured layout.now key) }
-    requires settled { IsTrue D.told → Settled VERSION_1 (D.flash disk.old) }
     ensures size { D.extent disk.new ≡ D.extent disk.old }
     ensures starts { IsStartEnd result }
     ensures counts { UpdateCounts result (counts_of (H.faults host.old) (D.faults disk.old) (L.faults launcher.old))
@@ -78,20 +77,27 @@ pub(crate) fn start<H: Host, D: Disk, L: Launcher>(
         → PlayedSo (λ made end. PlaysUpdate layout.now places.now (plan_tree plan.now) held payloads uris.now (H.file host.old)
         (D.flash disk.old).reads made (L.launches launcher.old) (L.launches launcher.new) end)
         layout.now (D.flash disk.new).reads (L.launches launcher.old) (L.launches launcher.new) result }
-    ensures keeps { IsTrue D.told → let held = option_map (λ r. r.now) held.entry in
+    ensures keeps { IsTrue D.told → Settled VERSION_1 (D.flash disk.old) → let held = option_map (λ r. r.now) held.entry in
         let start = D.flash disk.old in
         KeptSo (KeepsUpdate layout.now places.now (plan_tree plan.now) held
         (λ numbers. new_record held start.reads accepted.now.bytes.now accepted.now.sequence accepted.now.digest numbers)
         start (D.flash disk.new) result) (IsSame start (D.flash disk.new)) result }
-    ensures sound { IsTrue D.told → let held = option_map (λ r. r.now) held.entry in
+    ensures left { IsTrue D.told → let held = option_map (λ r. r.now) held.entry in
+        let start = (D.flash disk.old).reads in
+        KeptSo (LeavesUpdate layout.now places.now (plan_tree plan.now) held
+        (λ numbers. new_record held start accepted.now.bytes.now accepted.now.sequence accepted.now.digest numbers)
+        start (D.flash disk.new).reads result) ((D.flash disk.new).reads ≡ start) result }
+    ensures sound { IsTrue D.told → Settled VERSION_1 (D.flash disk.old) → let held = option_map (λ r. r.now) held.entry in
         let start = D.flash disk.old in
         ((numbers : List ℕ) → AreChosen layout.now places.now (plan_tree plan.now) (active_slots held) numbers
         → MayBeInstalled start.reads accepted.now.bytes.now
         (new_record held start.reads accepted.now.bytes.now accepted.now.sequence accepted.now.digest numbers))
         → Passes start (D.flash disk.new) (Sound VERSION_1) }
-    ensures follows { IsTrue D.told → Passes (D.flash disk.old) (D.flash disk.new) (Follows VERSION_1 (D.flash disk.old).reads) }
+    ensures follows { IsTrue D.told → Settled VERSION_1 (D.flash disk.old)
+        → Passes (D.flash disk.old) (D.flash disk.new) (Follows VERSION_1 (D.flash disk.old).reads) }
     ensures settled { IsTrue D.told → IfUnfaulted result
         (IsSame (D.flash disk.old) (D.flash disk.new) ⊎ IsSettled (D.flash disk.new)) }
+    ensures later { IsTrue D.told → (D.flash disk.old).clock ≤ (D.flash disk.new).clock }
     ensures grows { IsTrue D.told → Grows (D.flash disk.old) (D.flash disk.new) }
 {
     record_laws();

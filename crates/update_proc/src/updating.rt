@@ -19,7 +19,7 @@ ghost use Rattle.update_proc.specs.Choices.{AreChosen, active_slots};
 ghost use Rattle.update_proc.specs.Ends.{IfUnfaulted, IsRefusal, JudgedSo, UpdateCounts};
 ghost use Rattle.update_proc.specs.Installing.{MayBeInstalled};
 ghost use Rattle.update_proc.specs.Records.{new_record};
-ghost use Rattle.update_proc.specs.Updates.{KeepsUpdate, KeptSo, PlayedSo, PlaysUpdate};
+ghost use Rattle.update_proc.specs.Updates.{KeepsUpdate, KeptSo, LeavesUpdate, PlayedSo, PlaysUpdate};
 
 use crate::UpdateEnd;
 use crate::starting::{Accepted, start};
@@ -48,7 +48,7 @@ fn refusal(held: Option<&Record>, sequence: u64, digest: &Digest) -> Option<Upda
     }
 }
 
-/// Updates a settled flash that holds this record (draft-ietf-suit-manifest-25, section 6): the manifest is judged beside
+/// Updates a flash that holds this record (draft-ietf-suit-manifest-25, section 6): the manifest is judged beside
 /// the record, its update procedure is run on the chosen slots, and where that is done the trimmed envelope is written to
 /// a bank and recorded. The digest is that of the manifest. All memory is taken before anything is launched or written.
 pub fn update_beside<H: Host, D: Disk, L: Launcher>(
@@ -76,7 +76,6 @@ pub fn update_beside<H: Host, D: Disk, L: Launcher>(
         → RecordOf VERSION_1 (head_of VERSION_1 (D.flash disk.old).reads) (option_map (λ r. r.now) held) }
     requires config { IsTrue D.told → (key : Key)
         × ConfigOf VERSION_1 (D.extent disk.old) (head_of VERSION_1 (D.flash disk.old).reads) (Configured layout.now key) }
-    requires settled { IsTrue D.told → Settled VERSION_1 (D.flash disk.old) }
     ensures size { D.extent disk.new ≡ D.extent disk.old }
     ensures judged { JudgedSo manifest.now.sequence digest.now (option_map (λ r. r.now) held.entry) result }
     ensures counts { UpdateCounts result (counts_of (H.faults host.old) (D.faults disk.old) (L.faults launcher.old))
@@ -87,21 +86,29 @@ pub fn update_beside<H: Host, D: Disk, L: Launcher>(
         → PlayedSo (λ made end. PlaysUpdate layout.now places.now (update_tree manifest.now members.now) held payloads uris.now
         (H.file host.old) (D.flash disk.old).reads made (L.launches launcher.old) (L.launches launcher.new) end)
         layout.now (D.flash disk.new).reads (L.launches launcher.old) (L.launches launcher.new) result }
-    ensures keeps { IsTrue D.told → let held = option_map (λ r. r.now) held.entry in
+    ensures keeps { IsTrue D.told → Settled VERSION_1 (D.flash disk.old) → let held = option_map (λ r. r.now) held.entry in
         let start = D.flash disk.old in
         let bytes = trimmed envelope.now.wrapper.now envelope.now.manifest.now in
         KeptSo (KeepsUpdate layout.now places.now (update_tree manifest.now members.now) held
         (λ numbers. new_record held start.reads bytes manifest.now.sequence digest.now numbers)
         start (D.flash disk.new) result) (IsSame start (D.flash disk.new)) result }
-    ensures sound { IsTrue D.told → let held = option_map (λ r. r.now) held.entry in
+    ensures left { IsTrue D.told → let held = option_map (λ r. r.now) held.entry in
+        let start = (D.flash disk.old).reads in
+        let bytes = trimmed envelope.now.wrapper.now envelope.now.manifest.now in
+        KeptSo (LeavesUpdate layout.now places.now (update_tree manifest.now members.now) held
+        (λ numbers. new_record held start bytes manifest.now.sequence digest.now numbers)
+        start (D.flash disk.new).reads result) ((D.flash disk.new).reads ≡ start) result }
+    ensures sound { IsTrue D.told → Settled VERSION_1 (D.flash disk.old) → let held = option_map (λ r. r.now) held.entry in
         let start = D.flash disk.old in
         let bytes = trimmed envelope.now.wrapper.now envelope.now.manifest.now in
         ((numbers : List ℕ) → AreChosen layout.now places.now (update_tree manifest.now members.now) (active_slots held) numbers
         → MayBeInstalled start.reads bytes (new_record held start.reads bytes manifest.now.sequence digest.now numbers))
         → Passes start (D.flash disk.new) (Sound VERSION_1) }
-    ensures follows { IsTrue D.told → Passes (D.flash disk.old) (D.flash disk.new) (Follows VERSION_1 (D.flash disk.old).reads) }
+    ensures follows { IsTrue D.told → Settled VERSION_1 (D.flash disk.old)
+        → Passes (D.flash disk.old) (D.flash disk.new) (Follows VERSION_1 (D.flash disk.old).reads) }
     ensures settled { IsTrue D.told → IfUnfaulted result
         (IsSame (D.flash disk.old) (D.flash disk.new) ⊎ IsSettled (D.flash disk.new)) }
+    ensures later { IsTrue D.told → (D.flash disk.old).clock ≤ (D.flash disk.new).clock }
     ensures grows { IsTrue D.told → Grows (D.flash disk.old) (D.flash disk.new) }
 {
     sound_laws();

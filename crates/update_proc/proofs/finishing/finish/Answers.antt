@@ -1,21 +1,34 @@
 use Rattle.std.proofs.Common.{inr}
 use Rattle.suit_edge.specs.FlashLaws.{weakens}
+use Rattle.update_proc.proofs.Finished.{as_held, as_read}
 use Rattle.update_proc.proofs.finishing.finish.Goals as goal
 
 pub returns-in-Ok-clause-any_moment : goal.returns-in-Ok-clause-any_moment
 returns-in-Ok-clause-any_moment g c t = weakens _ _ _ _ (λ image is. inr is) (c.install.ensures.any_moment t)
 
 pub returns-in-Ok-clause-sound : goal.returns-in-Ok-clause-sound
-returns-in-Ok-clause-sound g c t may = weakens _ _ _ _ (λ image is. inr is) (c.install.ensures.sound t may)
+returns-in-Ok-clause-sound g c t firm sound may = weakens _ _ _ _ (λ image is. inr is) (c.install.ensures.sound t firm sound may)
 
 pub returns-in-Ok-clause-follows : goal.returns-in-Ok-clause-follows
-returns-in-Ok-clause-follows g c t sure = weakens _ _ _ _ (λ image is. inr is) (c.install.ensures.follows t sure)
+returns-in-Ok-clause-follows g c t firm sound sure = weakens _ _ _ _ (λ image is. inr is) (c.install.ensures.follows t firm sound sure)
 
 pub returns-in-Err-clause-any_moment : goal.returns-in-Err-clause-any_moment
 returns-in-Err-clause-any_moment g c t = weakens _ _ _ _ (λ image is. inr is) (c.install.ensures.any_moment t)
 
 pub returns-in-Err-clause-sound : goal.returns-in-Err-clause-sound
-returns-in-Err-clause-sound g c t may = weakens _ _ _ _ (λ image is. inr is) (c.install.ensures.sound t may)
+returns-in-Err-clause-sound g c t firm sound may = weakens _ _ _ _ (λ image is. inr is) (c.install.ensures.sound t firm sound may)
 
 pub returns-in-Err-clause-follows : goal.returns-in-Err-clause-follows
-returns-in-Err-clause-follows g c t sure = weakens _ _ _ _ (λ image is. inr is) (c.install.ensures.follows t sure)
+returns-in-Err-clause-follows g c t firm sound sure = weakens _ _ _ _ (λ image is. inr is) (c.install.ensures.follows t firm sound sure)
+
+pub returns-in-ConditionFailed-clause-reads : goal.returns-in-ConditionFailed-clause-reads
+returns-in-ConditionFailed-clause-reads g c t = as_held _ _ _ (c.settle.ensures.same t).reads (c.requires.held t)
+
+pub returns-in-ConditionFailed-clause-behind : goal.returns-in-ConditionFailed-clause-behind
+returns-in-ConditionFailed-clause-behind g c t = as_read _ _ (c.settle.ensures.same t).reads
+
+pub returns-in-DirectiveFailed-clause-reads : goal.returns-in-DirectiveFailed-clause-reads
+returns-in-DirectiveFailed-clause-reads g c t = as_held _ _ _ (c.stop.ensures.same t).reads (c.requires.held t)
+
+pub returns-in-DirectiveFailed-clause-behind : goal.returns-in-DirectiveFailed-clause-behind
+returns-in-DirectiveFailed-clause-behind g c t = as_read _ _ (c.stop.ensures.same t).reads

@@ -1,4 +1,4 @@
-use Rattle.std.proofs.Common.{◌⊎◌, ℕ, List, Bor, Option, option_map, sym, subst}
+use Rattle.std.proofs.Common.{◌≡◌, refl, inl, ◌⊎◌, ℕ, List, Bor, Option, option_map, sym, subst, arith}
 use Rattle.suit_edge.specs.Flash.{IsFlash, IsSame, IsSettled, Now, Passes}
 use Rattle.suit_edge.specs.FlashLaws.{same_flash_then, weakens}
 use Rattle.suit_envelope.specs.Payloads.{HasPayloads}
@@ -6,6 +6,7 @@ use Rattle.suit_envelope.specs.Trimmed.{trimmed}
 use Rattle.suit_manifest.specs.Procedures.{update_tree}
 use Rattle.flash_layout.specs.declared.frame.TheConstants.{VERSION_1}
 use Rattle.flash_layout.specs.declared.slot.Record.{Record}
+use Rattle.suit_params.specs.declared.digest.Digest.{Digest}
 use Rattle.flash_layout.specs.Frames.{head_of}
 use Rattle.rollback_record.specs.HeadRecord.{RecordOf}
 use Rattle.rollback_record.specs.SettledLaws.{each_sound, settled_still}
@@ -14,8 +15,8 @@ use Rattle.update_proc.specs.Choices.{AreChosen, active_slots}
 use Rattle.update_proc.specs.Ends.{JudgedSo}
 use Rattle.update_proc.specs.Installing.{MayBeInstalled}
 use Rattle.update_proc.specs.Records.{new_record}
-use Rattle.update_proc.specs.Updates.{KeepsUpdate, KeptSo, PlayedSo, PlaysUpdate}
-use Rattle.update_proc.proofs.Finished.{unfaulted}
+use Rattle.update_proc.specs.Updates.{KeepsUpdate, KeptSo, LeavesUpdate, PlayedSo, PlaysUpdate}
+use Rattle.update_proc.proofs.Finished.{launched_by, unfaulted}
 use Rattle.update_proc.proofs.Reread.{follows_from, for_offer, keeps_from, kept_from, recorded_as, settled_from, sound_from}
 use Rattle.update_proc.proofs.Since.{follows_now}
 use Rattle.update_proc.proofs.flash_update.update.Goals as goal
@@ -24,20 +25,16 @@ abbrev held_of : Option (Bor Record) → Option Record
 held_of held = option_map (λ r. r.now) held
 
 pub returns-in-Err-clause-sound : goal.returns-in-Err-clause-sound
-returns-in-Err-clause-sound g c t held digest blocks there said may =
-    weakens (g.D.Disk.flash c.args.disk.now) (g.D.Disk.flash c.load_record.new.disk) (Now (g.D.Disk.flash c.args.disk.now)) (Sound VERSION_1) (each_sound VERSION_1 (g.D.Disk.flash c.args.disk.now) (c.requires.settled t)) (c.in-Err.ensures.same t).images
+returns-in-Err-clause-sound g c t settled held digest blocks there said may =
+    weakens (g.D.Disk.flash c.args.disk.now) (g.D.Disk.flash c.load_record.new.disk) (Now (g.D.Disk.flash c.args.disk.now)) (Sound VERSION_1) (each_sound VERSION_1 (g.D.Disk.flash c.args.disk.now) settled) (c.in-Err.ensures.same t).images
 
 pub returns-in-Err-clause-follows : goal.returns-in-Err-clause-follows
-returns-in-Err-clause-follows g c t =
-    weakens (g.D.Disk.flash c.args.disk.now) (g.D.Disk.flash c.load_record.new.disk) (Now (g.D.Disk.flash c.args.disk.now)) (Follows VERSION_1 (g.D.Disk.flash c.args.disk.now).reads) (follows_now c.sound_laws.ensures (g.D.Disk.flash c.args.disk.now) (c.requires.settled t)) (c.in-Err.ensures.same t).images
+returns-in-Err-clause-follows g c t settled =
+    weakens (g.D.Disk.flash c.args.disk.now) (g.D.Disk.flash c.load_record.new.disk) (Now (g.D.Disk.flash c.args.disk.now)) (Follows VERSION_1 (g.D.Disk.flash c.args.disk.now).reads) (follows_now c.sound_laws.ensures (g.D.Disk.flash c.args.disk.now) settled) (c.in-Err.ensures.same t).images
 
 pub update_beside-requires-clause-held : goal.update_beside-requires-clause-held
 update_beside-requires-clause-held g c t =
     subst (λ (l : List ℕ). RecordOf VERSION_1 (head_of VERSION_1 l) (held_of c.as_ref.result)) (sym (c.in-Ok.ensures.same t).reads) (recorded_as (head_of VERSION_1 (g.D.Disk.flash c.args.disk.now).reads) c.as_ref.result c.in-Ok.held c.as_ref.ensures.value (c.in-Ok.ensures.exact t))
-
-pub update_beside-requires-clause-settled : goal.update_beside-requires-clause-settled
-update_beside-requires-clause-settled g c t =
-    settled_still VERSION_1 (g.D.Disk.flash c.args.disk.now) (g.D.Disk.flash c.load_record.new.disk) (g.D.Disk.extent c.args.disk.now) (subst (λ (n : ℕ). IsFlash (g.D.Disk.flash c.load_record.new.disk) n) c.in-Ok.ensures.size (g.met.D.Disk.obeys c.load_record.new.disk t)) (c.in-Ok.ensures.same t) (c.requires.settled t)
 
 pub returns-clause-judged : goal.returns-clause-judged
 returns-clause-judged g c t =
@@ -53,24 +50,55 @@ returns-clause-plays g c th t tl =
     (held_of c.as_ref.result) c.stated_digest-digest.result (recorded_as (head_of VERSION_1 (g.D.Disk.flash c.args.disk.now).reads) c.as_ref.result c.in-Ok.held c.as_ref.ensures.value (c.in-Ok.ensures.exact t)) c.stated_digest-digest.ensures
     (λ payloads has. subst (λ (l : List ℕ). PlayedSo (λ made end. PlaysUpdate c.args.layout.now c.args.places.now (update_tree c.args.manifest.now c.args.members.now) (held_of c.as_ref.result) payloads c.args.uris.now (g.H.Host.file c.args.host.now) l made (g.L.Launcher.launches c.args.launcher.now) (g.L.Launcher.launches c.update_beside.new.launcher) end) c.args.layout.now (g.D.Disk.flash c.update_beside.new.disk).reads (g.L.Launcher.launches c.args.launcher.now) (g.L.Launcher.launches c.update_beside.new.launcher) c.update_beside.result) (c.in-Ok.ensures.same t).reads (c.update_beside.ensures.plays th t tl payloads has))
 
+pub returns-in-Err-clause-launches : goal.returns-in-Err-clause-launches
+returns-in-Err-clause-launches g c th t tl payloads has = inl refl
+
+pub returns-clause-launches : goal.returns-clause-launches
+returns-clause-launches g c th t tl payloads has =
+    launched_by (λ held made end. PlaysUpdate c.args.layout.now c.args.places.now (update_tree c.args.manifest.now c.args.members.now) held payloads c.args.uris.now (g.H.Host.file c.args.host.now) (g.D.Disk.flash c.args.disk.now).reads made (g.L.Launcher.launches c.args.launcher.now) (g.L.Launcher.launches c.update_beside.new.launcher) end)
+    c.args.layout.now (g.D.Disk.flash c.args.disk.now).reads (g.D.Disk.flash c.update_beside.new.disk).reads (g.L.Launcher.launches c.args.launcher.now) (g.L.Launcher.launches c.update_beside.new.launcher) c.update_beside.result
+    (held_of c.as_ref.result) (recorded_as (head_of VERSION_1 (g.D.Disk.flash c.args.disk.now).reads) c.as_ref.result c.in-Ok.held c.as_ref.ensures.value (c.in-Ok.ensures.exact t))
+    (subst (λ (l : List ℕ). PlayedSo (λ made end. PlaysUpdate c.args.layout.now c.args.places.now (update_tree c.args.manifest.now c.args.members.now) (held_of c.as_ref.result) payloads c.args.uris.now (g.H.Host.file c.args.host.now) l made (g.L.Launcher.launches c.args.launcher.now) (g.L.Launcher.launches c.update_beside.new.launcher) end) c.args.layout.now (g.D.Disk.flash c.update_beside.new.disk).reads (g.L.Launcher.launches c.args.launcher.now) (g.L.Launcher.launches c.update_beside.new.launcher) c.update_beside.result) (c.in-Ok.ensures.same t).reads (c.update_beside.ensures.plays th t tl payloads has))
+
 pub returns-clause-keeps : goal.returns-clause-keeps
-returns-clause-keeps g c t =
+returns-clause-keeps g c t settled =
+    let still = settled_still VERSION_1 (g.D.Disk.flash c.args.disk.now) (g.D.Disk.flash c.load_record.new.disk) (g.D.Disk.extent c.args.disk.now) (subst (λ (n : ℕ). IsFlash (g.D.Disk.flash c.load_record.new.disk) n) c.in-Ok.ensures.size (g.met.D.Disk.obeys c.load_record.new.disk t)) (c.in-Ok.ensures.same t) settled in
     for_offer c.record_laws.ensures.answer (g.D.Disk.flash c.args.disk.now).reads c.args.envelope.now.wrapper.now
     (λ held digest. KeptSo (KeepsUpdate c.args.layout.now c.args.places.now (update_tree c.args.manifest.now c.args.members.now) held (λ numbers. new_record held (g.D.Disk.flash c.args.disk.now).reads (trimmed c.args.envelope.now.wrapper.now c.args.envelope.now.manifest.now) c.args.manifest.now.sequence digest numbers) (g.D.Disk.flash c.args.disk.now) (g.D.Disk.flash c.update_beside.new.disk) c.update_beside.result) (IsSame (g.D.Disk.flash c.args.disk.now) (g.D.Disk.flash c.update_beside.new.disk)) c.update_beside.result)
     (held_of c.as_ref.result) c.stated_digest-digest.result (recorded_as (head_of VERSION_1 (g.D.Disk.flash c.args.disk.now).reads) c.as_ref.result c.in-Ok.held c.as_ref.ensures.value (c.in-Ok.ensures.exact t)) c.stated_digest-digest.ensures
-    (kept_from _ _ _ _ (keeps_from (g.D.Disk.flash c.args.disk.now) (g.D.Disk.flash c.load_record.new.disk) (g.D.Disk.flash c.update_beside.new.disk) (c.in-Ok.ensures.same t) (g.D.Disk.extent c.args.disk.now) (g.met.D.Disk.obeys c.args.disk.now t) c.args.layout.now c.requires.layout c.args.places.now (update_tree c.args.manifest.now c.args.members.now) (held_of c.as_ref.result) (c.requires.config t).0 (c.requires.config t).1 (c.requires.settled t) (recorded_as (head_of VERSION_1 (g.D.Disk.flash c.args.disk.now).reads) c.as_ref.result c.in-Ok.held c.as_ref.ensures.value (c.in-Ok.ensures.exact t)) (trimmed c.args.envelope.now.wrapper.now c.args.envelope.now.manifest.now) c.args.manifest.now.sequence c.stated_digest-digest.result c.update_beside.result)
-    (same_flash_then (g.D.Disk.flash c.args.disk.now) (g.D.Disk.flash c.load_record.new.disk) (g.D.Disk.flash c.update_beside.new.disk) (g.D.Disk.extent c.args.disk.now) (subst (λ (n : ℕ). IsFlash (g.D.Disk.flash c.load_record.new.disk) n) c.in-Ok.ensures.size (g.met.D.Disk.obeys c.load_record.new.disk t)) (c.in-Ok.ensures.same t)) c.update_beside.result (c.update_beside.ensures.keeps t))
+    (kept_from _ _ _ _ (keeps_from (g.D.Disk.flash c.args.disk.now) (g.D.Disk.flash c.load_record.new.disk) (g.D.Disk.flash c.update_beside.new.disk) (c.in-Ok.ensures.same t) (g.D.Disk.extent c.args.disk.now) (g.met.D.Disk.obeys c.args.disk.now t) c.args.layout.now c.requires.layout c.args.places.now (update_tree c.args.manifest.now c.args.members.now) (held_of c.as_ref.result) (c.requires.config t).0 (c.requires.config t).1 settled (recorded_as (head_of VERSION_1 (g.D.Disk.flash c.args.disk.now).reads) c.as_ref.result c.in-Ok.held c.as_ref.ensures.value (c.in-Ok.ensures.exact t)) (trimmed c.args.envelope.now.wrapper.now c.args.envelope.now.manifest.now) c.args.manifest.now.sequence c.stated_digest-digest.result c.update_beside.result)
+    (same_flash_then (g.D.Disk.flash c.args.disk.now) (g.D.Disk.flash c.load_record.new.disk) (g.D.Disk.flash c.update_beside.new.disk) (g.D.Disk.extent c.args.disk.now) (subst (λ (n : ℕ). IsFlash (g.D.Disk.flash c.load_record.new.disk) n) c.in-Ok.ensures.size (g.met.D.Disk.obeys c.load_record.new.disk t)) (c.in-Ok.ensures.same t)) c.update_beside.result (c.update_beside.ensures.keeps t still))
+
+pub returns-in-Err-clause-left : goal.returns-in-Err-clause-left
+returns-in-Err-clause-left g c t held digest blocks there said = inl (c.in-Err.ensures.same t).reads
+
+pub returns-clause-left : goal.returns-clause-left
+returns-clause-left g c t =
+    let after = (g.D.Disk.flash c.update_beside.new.disk).reads in
+    let Left : Option Record → Digest → List ℕ → Type 0 = λ held digest before. KeptSo (LeavesUpdate c.args.layout.now c.args.places.now (update_tree c.args.manifest.now c.args.members.now) held (λ numbers. new_record held before (trimmed c.args.envelope.now.wrapper.now c.args.envelope.now.manifest.now) c.args.manifest.now.sequence digest numbers) before after c.update_beside.result) (after ≡ before) c.update_beside.result in
+    for_offer c.record_laws.ensures.answer (g.D.Disk.flash c.args.disk.now).reads c.args.envelope.now.wrapper.now
+    (λ held digest. Left held digest (g.D.Disk.flash c.args.disk.now).reads)
+    (held_of c.as_ref.result) c.stated_digest-digest.result (recorded_as (head_of VERSION_1 (g.D.Disk.flash c.args.disk.now).reads) c.as_ref.result c.in-Ok.held c.as_ref.ensures.value (c.in-Ok.ensures.exact t)) c.stated_digest-digest.ensures
+    (subst (λ (l : List ℕ). Left (held_of c.as_ref.result) c.stated_digest-digest.result l) (c.in-Ok.ensures.same t).reads (c.update_beside.ensures.left t))
+
+pub returns-in-Err-clause-later : goal.returns-in-Err-clause-later
+returns-in-Err-clause-later g c t = (c.in-Err.ensures.same t).images.later
+
+pub returns-clause-later : goal.returns-clause-later
+returns-clause-later g c t = omega (arith, (c.in-Ok.ensures.same t).images.later, c.update_beside.ensures.later t)
 
 pub returns-clause-sound : goal.returns-clause-sound
-returns-clause-sound g c t =
+returns-clause-sound g c t settled =
+    let still = settled_still VERSION_1 (g.D.Disk.flash c.args.disk.now) (g.D.Disk.flash c.load_record.new.disk) (g.D.Disk.extent c.args.disk.now) (subst (λ (n : ℕ). IsFlash (g.D.Disk.flash c.load_record.new.disk) n) c.in-Ok.ensures.size (g.met.D.Disk.obeys c.load_record.new.disk t)) (c.in-Ok.ensures.same t) settled in
     for_offer c.record_laws.ensures.answer (g.D.Disk.flash c.args.disk.now).reads c.args.envelope.now.wrapper.now
     (λ held digest. ((numbers : List ℕ) → AreChosen c.args.layout.now c.args.places.now (update_tree c.args.manifest.now c.args.members.now) (active_slots held) numbers → MayBeInstalled (g.D.Disk.flash c.args.disk.now).reads (trimmed c.args.envelope.now.wrapper.now c.args.envelope.now.manifest.now) (new_record held (g.D.Disk.flash c.args.disk.now).reads (trimmed c.args.envelope.now.wrapper.now c.args.envelope.now.manifest.now) c.args.manifest.now.sequence digest numbers)) → Passes (g.D.Disk.flash c.args.disk.now) (g.D.Disk.flash c.update_beside.new.disk) (Sound VERSION_1))
     (held_of c.as_ref.result) c.stated_digest-digest.result (recorded_as (head_of VERSION_1 (g.D.Disk.flash c.args.disk.now).reads) c.as_ref.result c.in-Ok.held c.as_ref.ensures.value (c.in-Ok.ensures.exact t)) c.stated_digest-digest.ensures
-    (λ may. sound_from (g.D.Disk.flash c.args.disk.now) (g.D.Disk.flash c.load_record.new.disk) (g.D.Disk.flash c.update_beside.new.disk) (c.in-Ok.ensures.same t) (c.requires.settled t) (c.update_beside.ensures.sound t (λ numbers chosen. subst (λ (l : List ℕ). MayBeInstalled l (trimmed c.args.envelope.now.wrapper.now c.args.envelope.now.manifest.now) (new_record (held_of c.as_ref.result) l (trimmed c.args.envelope.now.wrapper.now c.args.envelope.now.manifest.now) c.args.manifest.now.sequence c.stated_digest-digest.result numbers)) (sym (c.in-Ok.ensures.same t).reads) (may numbers chosen))))
+    (λ may. sound_from (g.D.Disk.flash c.args.disk.now) (g.D.Disk.flash c.load_record.new.disk) (g.D.Disk.flash c.update_beside.new.disk) (c.in-Ok.ensures.same t) settled (c.update_beside.ensures.sound t still (λ numbers chosen. subst (λ (l : List ℕ). MayBeInstalled l (trimmed c.args.envelope.now.wrapper.now c.args.envelope.now.manifest.now) (new_record (held_of c.as_ref.result) l (trimmed c.args.envelope.now.wrapper.now c.args.envelope.now.manifest.now) c.args.manifest.now.sequence c.stated_digest-digest.result numbers)) (sym (c.in-Ok.ensures.same t).reads) (may numbers chosen))))
 
 pub returns-clause-follows : goal.returns-clause-follows
-returns-clause-follows g c t =
-    follows_from (g.D.Disk.flash c.args.disk.now) (g.D.Disk.flash c.load_record.new.disk) (g.D.Disk.flash c.update_beside.new.disk) (c.in-Ok.ensures.same t) c.sound_laws.ensures (c.requires.settled t) (c.update_beside.ensures.follows t)
+returns-clause-follows g c t settled =
+    let still = settled_still VERSION_1 (g.D.Disk.flash c.args.disk.now) (g.D.Disk.flash c.load_record.new.disk) (g.D.Disk.extent c.args.disk.now) (subst (λ (n : ℕ). IsFlash (g.D.Disk.flash c.load_record.new.disk) n) c.in-Ok.ensures.size (g.met.D.Disk.obeys c.load_record.new.disk t)) (c.in-Ok.ensures.same t) settled in
+    follows_from (g.D.Disk.flash c.args.disk.now) (g.D.Disk.flash c.load_record.new.disk) (g.D.Disk.flash c.update_beside.new.disk) (c.in-Ok.ensures.same t) c.sound_laws.ensures settled (c.update_beside.ensures.follows t still)
 
 pub returns-clause-settled : goal.returns-clause-settled
 returns-clause-settled g c t =

@@ -1,4 +1,4 @@
-use Rattle.std.proofs.Common.{◌⊎◌, ◌≤◌, ℕ, List, Bor, Option, length, inl, option_map, sym, ◌∙◌, ap, subst, arith}
+use Rattle.std.proofs.Common.{◌≡◌, refl, ◌⊎◌, ◌≤◌, ℕ, List, Bor, Option, length, inl, option_map, sym, ◌∙◌, ap, subst, arith}
 use Rattle.suit_commands.specs.Allowed.{IsPlan}
 use Rattle.suit_commands.specs.Plans.{plan_tree}
 use Rattle.suit_commands.specs.Tree.{PlanTree}
@@ -14,7 +14,7 @@ use Rattle.step_machine.specs.PlanRuns.{counts_of}
 use Rattle.update_proc.specs.Choices.{AreChosen, active_slots}
 use Rattle.update_proc.specs.Installing.{MayBeInstalled}
 use Rattle.update_proc.specs.Records.{new_record}
-use Rattle.update_proc.specs.Updates.{KeepsUpdate, KeptSo, PlayedSo, PlaysUpdate}
+use Rattle.update_proc.specs.Updates.{KeepsUpdate, KeptSo, LeavesUpdate, PlayedSo, PlaysUpdate}
 use Rattle.update_proc.proofs.Finished.{accepted_judged, refused_counts, refused_kept, refused_played, refused_settled}
 use Rattle.update_proc.proofs.Since.{follows_now}
 use Rattle.update_proc.proofs.updating.update_beside.Goals as goal
@@ -35,28 +35,28 @@ returns-in-Some-clause-plays g c th t tl payloads has =
     refused_played (λ made end. PlaysUpdate c.args.layout.now c.args.places.now (update_tree c.args.manifest.now c.args.members.now) (held_of c.args.held) payloads c.args.uris.now (g.H.Host.file c.args.host.now) (g.D.Disk.flash c.args.disk.now).reads made (g.L.Launcher.launches c.args.launcher.now) (g.L.Launcher.launches c.args.launcher.now) end) c.args.layout.now (g.D.Disk.flash c.args.disk.now).reads (g.L.Launcher.launches c.args.launcher.now) c.in-Some.end c.in-Some.ensures.refused
 
 pub returns-in-Some-clause-keeps : goal.returns-in-Some-clause-keeps
-returns-in-Some-clause-keeps g c t =
+returns-in-Some-clause-keeps g c t settled =
     refused_kept _ (IsSame (g.D.Disk.flash c.args.disk.now) (g.D.Disk.flash c.args.disk.now)) c.in-Some.end c.in-Some.ensures.refused (same_flash (g.D.Disk.flash c.args.disk.now))
 
 pub returns-in-Some-clause-sound : goal.returns-in-Some-clause-sound
-returns-in-Some-clause-sound g c t may =
-    starts (g.D.Disk.flash c.args.disk.now) (Sound VERSION_1) (each_sound VERSION_1 (g.D.Disk.flash c.args.disk.now) (c.requires.settled t))
+returns-in-Some-clause-sound g c t settled may =
+    starts (g.D.Disk.flash c.args.disk.now) (Sound VERSION_1) (each_sound VERSION_1 (g.D.Disk.flash c.args.disk.now) settled)
 
 pub returns-in-Some-clause-follows : goal.returns-in-Some-clause-follows
-returns-in-Some-clause-follows g c t =
-    starts (g.D.Disk.flash c.args.disk.now) (Follows VERSION_1 (g.D.Disk.flash c.args.disk.now).reads) (follows_now c.sound_laws.ensures (g.D.Disk.flash c.args.disk.now) (c.requires.settled t))
+returns-in-Some-clause-follows g c t settled =
+    starts (g.D.Disk.flash c.args.disk.now) (Follows VERSION_1 (g.D.Disk.flash c.args.disk.now).reads) (follows_now c.sound_laws.ensures (g.D.Disk.flash c.args.disk.now) settled)
 
 pub returns-in-Some-clause-grows : goal.returns-in-Some-clause-grows
 returns-in-Some-clause-grows g c t =
     grows_start (g.D.Disk.flash c.args.disk.now)
 
 pub returns-in-Err-clause-sound : goal.returns-in-Err-clause-sound
-returns-in-Err-clause-sound g c t may =
-    starts (g.D.Disk.flash c.args.disk.now) (Sound VERSION_1) (each_sound VERSION_1 (g.D.Disk.flash c.args.disk.now) (c.requires.settled t))
+returns-in-Err-clause-sound g c t settled may =
+    starts (g.D.Disk.flash c.args.disk.now) (Sound VERSION_1) (each_sound VERSION_1 (g.D.Disk.flash c.args.disk.now) settled)
 
 pub returns-in-Err-clause-follows : goal.returns-in-Err-clause-follows
-returns-in-Err-clause-follows g c t =
-    starts (g.D.Disk.flash c.args.disk.now) (Follows VERSION_1 (g.D.Disk.flash c.args.disk.now).reads) (follows_now c.sound_laws.ensures (g.D.Disk.flash c.args.disk.now) (c.requires.settled t))
+returns-in-Err-clause-follows g c t settled =
+    starts (g.D.Disk.flash c.args.disk.now) (Follows VERSION_1 (g.D.Disk.flash c.args.disk.now).reads) (follows_now c.sound_laws.ensures (g.D.Disk.flash c.args.disk.now) settled)
 
 pub returns-in-Err-clause-grows : goal.returns-in-Err-clause-grows
 returns-in-Err-clause-grows g c t =
@@ -71,7 +71,7 @@ returns-in-Err-clause-judged g c =
     c.in-None.ensures.accepted
 
 pub returns-in-Err-clause-keeps : goal.returns-in-Err-clause-keeps
-returns-in-Err-clause-keeps g c t =
+returns-in-Err-clause-keeps g c t settled =
     same_flash (g.D.Disk.flash c.args.disk.now)
 
 pub returns-in-Err-clause-settled : goal.returns-in-Err-clause-settled
@@ -122,10 +122,6 @@ pub start-requires-clause-config : goal.start-requires-clause-config
 start-requires-clause-config g c t =
     c.requires.config t
 
-pub start-requires-clause-settled : goal.start-requires-clause-settled
-start-requires-clause-settled g c t =
-    c.requires.settled t
-
 pub returns-clause-size : goal.returns-clause-size
 returns-clause-size g c =
     c.start.ensures.size
@@ -147,18 +143,42 @@ returns-clause-plays g c th t tl payloads has =
     subst (λ (tree : PlanTree). PlayedSo (λ made end. PlaysUpdate c.args.layout.now c.args.places.now tree (held_of c.args.held) payloads c.args.uris.now (g.H.Host.file c.args.host.now) (g.D.Disk.flash c.args.disk.now).reads made (g.L.Launcher.launches c.args.launcher.now) (g.L.Launcher.launches c.start.new.launcher) end) c.args.layout.now (g.D.Disk.flash c.start.new.disk).reads (g.L.Launcher.launches c.args.launcher.now) (g.L.Launcher.launches c.start.new.launcher) c.start.result) c.update_plan-plan.ensures (c.start.ensures.plays th t tl payloads has)
 
 pub returns-clause-keeps : goal.returns-clause-keeps
-returns-clause-keeps g c t =
+returns-clause-keeps g c t settled =
     subst (λ (tree : PlanTree). KeptSo (KeepsUpdate c.args.layout.now c.args.places.now tree (held_of c.args.held) (λ numbers. new_record (held_of c.args.held) (g.D.Disk.flash c.args.disk.now).reads (trimmed c.args.envelope.now.wrapper.now c.args.envelope.now.manifest.now) c.args.manifest.now.sequence c.args.digest.now numbers) (g.D.Disk.flash c.args.disk.now) (g.D.Disk.flash c.start.new.disk) c.start.result) (IsSame (g.D.Disk.flash c.args.disk.now) (g.D.Disk.flash c.start.new.disk)) c.start.result) c.update_plan-plan.ensures
-    (subst (λ (l : List ℕ). KeptSo (KeepsUpdate c.args.layout.now c.args.places.now (plan_tree c.update_plan-plan.result) (held_of c.args.held) (λ numbers. new_record (held_of c.args.held) (g.D.Disk.flash c.args.disk.now).reads l c.args.manifest.now.sequence c.args.digest.now numbers) (g.D.Disk.flash c.args.disk.now) (g.D.Disk.flash c.start.new.disk) c.start.result) (IsSame (g.D.Disk.flash c.args.disk.now) (g.D.Disk.flash c.start.new.disk)) c.start.result) (c.as_slice-whole.ensures ∙ c.in-Ok.ensures.spelling) (c.start.ensures.keeps t))
+    (subst (λ (l : List ℕ). KeptSo (KeepsUpdate c.args.layout.now c.args.places.now (plan_tree c.update_plan-plan.result) (held_of c.args.held) (λ numbers. new_record (held_of c.args.held) (g.D.Disk.flash c.args.disk.now).reads l c.args.manifest.now.sequence c.args.digest.now numbers) (g.D.Disk.flash c.args.disk.now) (g.D.Disk.flash c.start.new.disk) c.start.result) (IsSame (g.D.Disk.flash c.args.disk.now) (g.D.Disk.flash c.start.new.disk)) c.start.result) (c.as_slice-whole.ensures ∙ c.in-Ok.ensures.spelling) (c.start.ensures.keeps t settled))
+
+pub returns-in-Some-clause-left : goal.returns-in-Some-clause-left
+returns-in-Some-clause-left g c t =
+    refused_kept _ (_ ≡ _) c.in-Some.end c.in-Some.ensures.refused refl
+
+pub returns-in-Err-clause-left : goal.returns-in-Err-clause-left
+returns-in-Err-clause-left g c t = refl
+
+pub returns-clause-left : goal.returns-clause-left
+returns-clause-left g c t =
+    let before = (g.D.Disk.flash c.args.disk.now).reads in
+    let after = (g.D.Disk.flash c.start.new.disk).reads in
+    let Left : PlanTree → List ℕ → Type 0 = λ tree bytes. KeptSo (LeavesUpdate c.args.layout.now c.args.places.now tree (held_of c.args.held) (λ numbers. new_record (held_of c.args.held) before bytes c.args.manifest.now.sequence c.args.digest.now numbers) before after c.start.result) (after ≡ before) c.start.result in
+    subst (λ (tree : PlanTree). Left tree (trimmed c.args.envelope.now.wrapper.now c.args.envelope.now.manifest.now)) c.update_plan-plan.ensures
+    (subst (λ (l : List ℕ). Left (plan_tree c.update_plan-plan.result) l) (c.as_slice-whole.ensures ∙ c.in-Ok.ensures.spelling) (c.start.ensures.left t))
+
+pub returns-in-Some-clause-later : goal.returns-in-Some-clause-later
+returns-in-Some-clause-later g c t = omega arith
+
+pub returns-in-Err-clause-later : goal.returns-in-Err-clause-later
+returns-in-Err-clause-later g c t = omega arith
+
+pub returns-clause-later : goal.returns-clause-later
+returns-clause-later g c t = c.start.ensures.later t
 
 pub returns-clause-sound : goal.returns-clause-sound
-returns-clause-sound g c t may =
-    c.start.ensures.sound t (λ numbers chosen. subst (λ (l : List ℕ). MayBeInstalled (g.D.Disk.flash c.args.disk.now).reads l (new_record (held_of c.args.held) (g.D.Disk.flash c.args.disk.now).reads l c.args.manifest.now.sequence c.args.digest.now numbers)) (sym (c.as_slice-whole.ensures ∙ c.in-Ok.ensures.spelling))
+returns-clause-sound g c t settled may =
+    c.start.ensures.sound t settled (λ numbers chosen. subst (λ (l : List ℕ). MayBeInstalled (g.D.Disk.flash c.args.disk.now).reads l (new_record (held_of c.args.held) (g.D.Disk.flash c.args.disk.now).reads l c.args.manifest.now.sequence c.args.digest.now numbers)) (sym (c.as_slice-whole.ensures ∙ c.in-Ok.ensures.spelling))
     (may numbers (subst (λ (tree : PlanTree). AreChosen c.args.layout.now c.args.places.now tree (active_slots (held_of c.args.held)) numbers) c.update_plan-plan.ensures chosen)))
 
 pub returns-clause-follows : goal.returns-clause-follows
-returns-clause-follows g c t =
-    c.start.ensures.follows t
+returns-clause-follows g c t settled =
+    c.start.ensures.follows t settled
 
 pub returns-clause-settled : goal.returns-clause-settled
 returns-clause-settled g c t =
