@@ -8,7 +8,7 @@ mod words;
 use source::Started;
 use std::process::ExitCode;
 use suit_cli::{Status, run};
-use suit_edge::{FileDisk, FileHost, StdSink};
+use suit_edge::{FileDisk, FileHost, FileLauncher, StdSink};
 use words::command_line;
 
 /// The status where there is no memory for the words.
@@ -21,8 +21,16 @@ fn main(rt: HostRuntime) -> ExitCode {
     };
     let mut host = FileHost::new(&rt);
     let mut flash = FileDisk::new(&rt);
+    let mut launcher = FileLauncher::new(alloc, &rt);
     let mut out = StdSink::new(&rt);
-    let Status(code) = run(alloc, &words, &mut host, &mut flash, &mut out);
+    let Status(code) = run(
+        alloc,
+        &words,
+        &mut host,
+        &mut flash,
+        &mut launcher,
+        &mut out,
+    );
     ExitCode::from(code)
 }
 

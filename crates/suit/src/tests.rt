@@ -4,7 +4,7 @@ use det_cbor::{Names, Text};
 use std::alloc::{AllocError, Global};
 use std::test::Fail;
 use suit_cli::{Status, run};
-use suit_edge::{MemoryDisk, MemoryHost, MemorySink};
+use suit_edge::{MemoryDisk, MemoryHost, MemoryLauncher, MemorySink};
 
 /// An envelope whose invocation selects component 0 by a list of 2,047 zeros, and then, at each run of a sequence for
 /// each of them, by another: what stands before the first list, between both, and behind. The zeros are its own bytes.
@@ -39,7 +39,15 @@ fn a_procedure_of_the_greatest_width_is_judged(rt: HostRuntime) -> Result<(), Fa
     host.add("e1.suit", widest(alloc)?.as_slice())?;
     let mut sink = MemorySink::new(alloc, &[])?;
     let mut flash = MemoryDisk::new(alloc, 49_152, &[])?;
-    let Status(status) = run(alloc, &words(alloc)?, &mut host, &mut flash, &mut sink);
+    let mut launcher = MemoryLauncher::new(alloc, &[])?;
+    let Status(status) = run(
+        alloc,
+        &words(alloc)?,
+        &mut host,
+        &mut flash,
+        &mut launcher,
+        &mut sink,
+    );
     assert!(rt; sink.bytes() == b"update safe\ninvocation safe\n".as_slice());
     assert!(rt; status == 0);
     Ok(())

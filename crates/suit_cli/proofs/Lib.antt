@@ -24,3 +24,18 @@ pub mod DescriptionTexts
 pub mod Authoring
 pub mod MakeLawProofs
 pub mod StagesLet
+pub mod Sounding
+pub mod Settling
+pub mod BootAnswers
+pub mod BootKeeping
+pub mod Turns
+pub mod AcceptSteps
+pub mod AcceptedFacts
+pub mod UpdateAnswers
+pub mod UpdateEnds
+pub mod UpdateSound
+pub mod UpdateLawProofs
+pub mod RunEnds
+mod LifeLawProofs
+mod LaunchedLawProofs
+pub mod WordsLawProofs

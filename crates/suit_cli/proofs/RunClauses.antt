@@ -1,5 +1,5 @@
 -- What a run comes to, clause by clause.
-use Rattle.std.proofs.Common.{◌≡◌, ℕ, List, Some, None, ◌⊎◌, inl, inr, refl, sym, ap, subst, ◌∙◌, ◌++◌, arith}
+use Rattle.std.proofs.Common.{◌≡◌, ℕ, List, Option, Some, None, ◌⊎◌, inl, inr, refl, sym, ap, subst, ◌∙◌, ◌++◌, arith}
 use Rattle.std.specs.Prelude.{IsTrue, ◌≢◌, ◌<◌}
 use Rattle.suit_edge.specs.Faults.{Faulted}
 use Rattle.suit_commands.specs.Tree.{PlanTree}
@@ -9,19 +9,21 @@ use Rattle.suit_envelope.specs.declared.authenticity.Authenticity.TheVariants as
 use Rattle.suit_manifest.specs.ManifestLaws.{ManifestLaws}
 use Rattle.suit_manifest.specs.MembersLaws.{MembersLaws}
 use Rattle.suit_cli.specs.declared.reply.Reply.{Reply}
+use Rattle.suit_cli.specs.declared.reply.Outcome.{Outcome}
 use Rattle.suit_cli.specs.declared.reply.Outcome.TheVariants as outcomes
 use Rattle.suit_cli.specs.Texts.{usage_line}
 use Rattle.suit_cli.specs.declared.reply.Object.TheVariants as objects
-use Rattle.suit_cli.specs.Words.{Make, Describe, Show, Check, RunInit, RunStatus, task_of}
+use Rattle.suit_cli.specs.Words.{Task, Make, Describe, Show, Check, RunInit, RunUpdate, RunBoot, RunStatus, task_of}
 use Rattle.suit_cli.specs.Outside.{Outside, Sunk}
 use Rattle.suit_cli.specs.Stages.{Ending, Says, FaultOf, NoMemory, Goes, Declines}
 use Rattle.suit_cli.specs.Statuses.{status_of, ending_status, ending_text}
 use Rattle.suit_cli.specs.Judgement.{AreSafe, AreJudged, JudgedSafe, JudgedUnsafe}
 use Rattle.suit_cli.specs.Shown.{authenticity_outcome}
-use Rattle.suit_cli.specs.Program.{answers, PutsText, IsPut, IsCut, Runs, EndsIn, IsStatus, OfEnding, OfSinkFault, ChecksProcedures, IsCheck, ChecksSafe, ChecksUnsafe, IsUsage, IsCutOff, AreCounted, LeavesFor}
-use Rattle.suit_cli.proofs.Running.{Declining, IsJudged, checked, judged_when, judged_safe, judged_unsafe, done_safe, unsafe_shows, IsShownOf, showed, status_done, status_unsafe, status_usage, not_seven, not_eight, not_nine_ending, inited, stated, plain_not, unsafe_refuted}
+use Rattle.suit_cli.specs.Program.{answers, PutsText, IsPut, IsCut, EndsIn, ChecksProcedures, IsCheck, ChecksSafe, ChecksUnsafe, IsUsage, Judges}
+use Rattle.suit_cli.proofs.Running.{Declining, IsJudged, checked, judged_when, judged_safe, judged_unsafe, done_safe, unsafe_shows, IsShownOf, showed, status_done, status_unsafe, status_usage, not_seven, not_eight, not_nine_ending, inited, begun, stated, plain_not, unsafe_refuted}
 use Rattle.suit_cli.proofs.Describing.{described}
-use Rattle.suit_cli.proofs.TaskAnswers.{does_of, judged_task}
+use Rattle.suit_cli.proofs.AcceptedFacts.{IsUnsafeFile, began}
+use Rattle.suit_cli.proofs.TaskAnswers.{ByCheck, ByUpdate, JudgesTask, does_of, judged_task}
 use Rattle.suit_cli.proofs.MakeLawProofs.{made_as}
 use Rattle.suit_cli.proofs.StagesKeep.{Counts}
 use Rattle.suit_cli.proofs.StagesLet.{answers_lets}
@@ -71,6 +73,11 @@ usage_of words b a r (Goes (Show name key) m _ g rest) is = absurd (of_show (sho
   of_show (inl d) = subst Declining is d
   of_show (inr s) = of_answer s.shown.answer s.shown.outcome_is
 usage_of words b a r (Goes (RunInit device key) m _ g rest) is = absurd (plain_not r.outcome _ (inited device key m a r rest) is (λ d. d) (λ e. cc))
+usage_of words b a r (Goes (RunUpdate name uris) m _ g rest) is = absurd (of_way (began name m a r rest)) where
+  of_way : Declining r.outcome ⊎ IsUnsafeFile name m r → ⊥
+  of_way (inl d) = subst Declining is d
+  of_way (inr u) = let never = sym u.unsafe.outcome_is ∙ is in cc
+usage_of words b a r (Goes RunBoot m _ g rest) is = absurd (plain_not r.outcome _ (begun m a r rest) is (λ d. d) (λ e. cc))
 usage_of words b a r (Goes RunStatus m _ g rest) is = absurd (plain_not r.outcome _ (stated m a r rest) is (λ d. d) (λ e. cc))
 
 no_task_usage : (words : List (List ℕ)) (b a : Outside) (r : Reply) → task_of words ≡ None → answers words b a (Says r) → status_of r.outcome ≡ 2
@@ -79,7 +86,13 @@ no_task_usage words b a r none (Goes task m _ g rest) = let never : None ≡ Som
 
 -- ---- the clauses
 
-module _ (words : List (List ℕ)) (b a : Outside) (sb sa : Sunk) (result : ℕ) (runs : Runs words b a sb sa result) where
+-- an answer in stages, and what was put of it
+pub record Staged (words : List (List ℕ)) (b a : Outside) (sb sa : Sunk) (result : ℕ) : Type 0 where
+  pub ending : Ending
+  pub answer : answers words b a ending
+  pub puts : PutsText sb sa (ending_status ending) (ending_text ending) result
+
+module _ (words : List (List ℕ)) (b a : Outside) (sb sa : Sunk) (result : ℕ) (runs : Staged words b a sb sa result) where
   -- every reply has this status
   ends_in : (n : ℕ) → ((r : Reply) → answers words b a (Says r) → status_of r.outcome ≡ n) → EndsIn n result
   ends_in n all = of_puts runs.puts where
@@ -118,7 +131,7 @@ module _ (words : List (List ℕ)) (b a : Outside) (sb sa : Sunk) (result : ℕ)
       let outcome = status_unsafe said.reply.outcome said.status in
       let task = judged_task words b a said.reply answer outcome in
       let puts : IsTrue sb.told → sa.put ≡ sb.put ++ said.reply.text = λ t. put.puts t ∙ ap (λ (e : Ending). sb.put ++ ending_text e) said.is in
-      of_check task.0 task.1 said.reply outcome puts (checked task.0 b a said.reply task.2)
+      of_task said.reply outcome puts task
     where
       of_check : (name : List ℕ) → task_of words ≡ Some (Check name) → (r : Reply) → r.outcome ≡ outcomes.Unsafe → (IsTrue sb.told → sa.put ≡ sb.put ++ r.text)
           → Declining r.outcome ⊎ IsJudged name b r → ChecksUnsafe words b sb sa
@@ -128,12 +141,28 @@ module _ (words : List (List ℕ)) (b a : Outside) (sb sa : Sunk) (result : ℕ)
           record {
             update = j.update;
             invocation = j.invocation;
-            checks = record { told = told; name = name; word = word; has = j.has };
+            name = name;
+            word = subst (λ (t : Option Task). Judges t name) (sym word) refl;
+            has = j.has;
             not_safe = unsafe_refuted j.update j.invocation r.text shown;
             text = r.text;
             shows_path = shown;
             puts = puts;
           }
+
+      of_task : (r : Reply) → r.outcome ≡ outcomes.Unsafe → (IsTrue sb.told → sa.put ≡ sb.put ++ r.text) → JudgesTask words b a r → ChecksUnsafe words b sb sa
+      of_task r outcome puts (ByCheck name word answer) = of_check name word r outcome puts (checked name b a r answer)
+      of_task r outcome puts (ByUpdate name uris word u) = record {
+        update = u.update;
+        invocation = u.invocation;
+        name = name;
+        word = subst (λ (t : Option Task). Judges t name) (sym word) refl;
+        has = u.has;
+        not_safe = unsafe_refuted u.update u.invocation r.text u.unsafe.shows_path;
+        text = r.text;
+        shows_path = u.unsafe.shows_path;
+        puts = puts;
+      }
 
   module _ (envelopes : EnvelopeLaws) (manifests : ManifestLaws) (members : MembersLaws) (u i : PlanTree) (checks_it : ChecksProcedures words b u i) where
     judged_reply : (r : Reply) → answers words b a (Says r) → AreJudged u i r
@@ -160,60 +189,41 @@ module _ (words : List (List ℕ)) (b a : Outside) (sb sa : Sunk) (result : ℕ)
   pub only_usage : task_of words ≡ None → EndsIn 2 result
   only_usage none = ends_in 2 (λ r answer. no_task_usage words b a r none answer)
 
-  pub stays : LeavesFor words b a
-  stays = (answers_lets words b a runs.ending runs.answer).leaves
-
-  pub is_status : IsStatus result
-  is_status = of_puts runs.puts where
-    of_puts : PutsText sb sa (ending_status runs.ending) (ending_text runs.ending) result → IsStatus result
-    of_puts (IsPut is still puts) = OfEnding runs.ending is
-    of_puts (IsCut is faulted puts) = OfSinkFault is
-
-  kept : Counts runs.ending b a
+  pub kept : Counts runs.ending b a
   kept = (answers_lets words b a runs.ending runs.answer).counts
 
   -- of each object, by the status of an ending that was put
-  host_counts : (e : Ending) → Counts e b a → (ending_status e ≡ 7 → Faulted b.faults a.faults) × (ending_status e ≢ 7 → a.faults ≡ b.faults)
+  pub host_counts : (e : Ending) → Counts e b a → (ending_status e ≡ 7 → Faulted b.faults a.faults) × (ending_status e ≢ 7 → a.faults ≡ b.faults)
   host_counts (Says r) c = (λ is. absurd (not_seven r.outcome is), λ never. c.host)
   host_counts (FaultOf objects.Host) c = (λ is. c.host refl, λ never. absurd (never refl))
   host_counts (FaultOf objects.Flash) c = (λ is. absurd (omega (arith, is)), λ never. c.only_host (λ e. cc))
   host_counts NoMemory c = (λ is. absurd (omega (arith, is)), λ never. c.host)
 
-  flash_counts : (e : Ending) → Counts e b a → (ending_status e ≡ 8 → Faulted b.flash.faults a.flash.faults) × (ending_status e ≢ 8 → a.flash.faults ≡ b.flash.faults)
+  pub flash_counts : (e : Ending) → Counts e b a → (ending_status e ≡ 8 → Faulted b.flash.faults a.flash.faults) × (ending_status e ≢ 8 → a.flash.faults ≡ b.flash.faults)
   flash_counts (Says r) c = (λ is. absurd (not_eight r.outcome is), λ never. c.flash)
   flash_counts (FaultOf objects.Host) c = (λ is. absurd (omega (arith, is)), λ never. c.only_flash (λ e. cc))
   flash_counts (FaultOf objects.Flash) c = (λ is. c.flash refl, λ never. absurd (never refl))
   flash_counts NoMemory c = (λ is. absurd (omega (arith, is)), λ never. c.flash)
 
-  put_status : result ≢ 9 → result ≡ ending_status runs.ending
-  put_status never = of_puts runs.puts where
-    of_puts : PutsText sb sa (ending_status runs.ending) (ending_text runs.ending) result → result ≡ ending_status runs.ending
-    of_puts (IsPut is still puts) = is
-    of_puts (IsCut is faulted puts) = absurd (never is)
+-- no answer in stages is a fault of the launcher
+not_ten_of : (o : Outcome) → status_of o ≡ 10 → ⊥
+not_ten_of outcomes.Done e = omega arith
+not_ten_of outcomes.Unsafe e = omega arith
+not_ten_of outcomes.Usage e = omega arith
+not_ten_of outcomes.Refused e = omega arith
+not_ten_of outcomes.NotAuthentic e = omega arith
+not_ten_of outcomes.TooWide e = omega arith
+not_ten_of outcomes.Unconfigured e = omega arith
+not_ten_of outcomes.NotBlank e = omega arith
+not_ten_of outcomes.NothingInstalled e = omega arith
+not_ten_of outcomes.Severed e = omega arith
+not_ten_of outcomes.Differs e = omega arith
+not_ten_of outcomes.UnknownComponent e = omega arith
+not_ten_of outcomes.Absent e = omega arith
+not_ten_of outcomes.TooLong e = omega arith
 
-  seven_not_nine : result ≡ 7 → result ≢ 9
-  seven_not_nine is nine = omega (arith, is, nine)
-
-  eight_not_nine : result ≡ 8 → result ≢ 9
-  eight_not_nine is nine = omega (arith, is, nine)
-
-  only_output_fault : result ≢ 9 → sa.faults ≡ sb.faults
-  only_output_fault never = of_puts runs.puts where
-    of_puts : PutsText sb sa (ending_status runs.ending) (ending_text runs.ending) result → sa.faults ≡ sb.faults
-    of_puts (IsPut is still puts) = still
-    of_puts (IsCut is faulted puts) = absurd (never is)
-
-  pub counts : AreCounted b a sb sa result
-  counts = record {
-    host = λ is. (host_counts runs.ending kept).0 (sym (put_status (seven_not_nine is)) ∙ is);
-    only_host = λ never cut. (host_counts runs.ending kept).1 (λ e. never (put_status cut ∙ e));
-    flash = λ is. (flash_counts runs.ending kept).0 (sym (put_status (eight_not_nine is)) ∙ is);
-    only_flash = λ never cut. (flash_counts runs.ending kept).1 (λ e. never (put_status cut ∙ e));
-    only_output = only_output_fault;
-  }
-
-  pub cut_off : result ≡ 9 → IsCutOff words b a sb sa
-  cut_off nine = of_puts runs.puts where
-    of_puts : PutsText sb sa (ending_status runs.ending) (ending_text runs.ending) result → IsCutOff words b a sb sa
-    of_puts (IsPut is still puts) = absurd (not_nine_ending runs.ending (sym is ∙ nine))
-    of_puts (IsCut is faulted puts) = record { faulted = faulted; ending = runs.ending; answer = runs.answer; puts = puts }
+pub not_ten : (e : Ending) → ending_status e ≡ 10 → ⊥
+not_ten (Says r) is = not_ten_of r.outcome is
+not_ten (FaultOf objects.Host) is = omega (arith, is)
+not_ten (FaultOf objects.Flash) is = omega (arith, is)
+not_ten NoMemory is = omega (arith, is)

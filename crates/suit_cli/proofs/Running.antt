@@ -29,7 +29,7 @@ use Rattle.suit_cli.specs.Judgement.{IsNarrow, AreSafe, AreJudged, JudgedSafe, J
 use Rattle.suit_cli.specs.Shown.{IsShown, authenticity_outcome}
 use Rattle.suit_cli.specs.Devices.{IsNoDevice, IsNoJson, IsNoLayout}
 use Rattle.suit_cli.specs.Installed.{HoldsNone, IsBlank, IsBad}
-use Rattle.suit_cli.specs.Commands.{in_manifest, judges_manifest, checks, shows_manifest, shows, inits_as, inits, tells_status, does}
+use Rattle.suit_cli.specs.Commands.{in_manifest, judges_manifest, checks, shows_manifest, shows, inits_as, inits, begins_boot, tells_status, does}
 use Rattle.suit_cli.proofs.BadPathLaws.{IsBadPath-not_safe}
 use Rattle.suit_cli.proofs.OneStage.{Alike, alike_self, asks_for, asks_reads, alike_asked, passes, stands, one_reply, one_file, one_envelope, one_short, one_manifest, one_members, one_narrow}
 
@@ -43,12 +43,13 @@ Declining outcomes.NotBlank = Unit {0}
 Declining outcomes.NothingInstalled = Unit {0}
 Declining outcomes.Severed = Unit {0}
 Declining outcomes.Differs = Unit {0}
+Declining outcomes.NotAuthentic = Unit {0}
+Declining outcomes.UnknownComponent = Unit {0}
 Declining outcomes.Absent = Unit {0}
 Declining outcomes.TooLong = Unit {0}
 Declining outcomes.Done = ⊥
 Declining outcomes.Unsafe = ⊥
 Declining outcomes.Usage = ⊥
-Declining outcomes.NotAuthentic = ⊥
 
 pub declining : (r : Reply) (o : Outcome) (t : List ℕ) → IsReply r o t → Declining o → Declining r.outcome
 declining r o t says d = subst Declining (sym says.outcome_is) d
@@ -347,9 +348,13 @@ pub inited : (device key_name : List ℕ) (b a : Outside) (r : Reply) → inits 
 inited device key_name b a r (Declines _ d) = inl (declining r _ _ d.1.says tt)
 inited device key_name b a r (Goes size m _ g rest) = inited_as size device key_name m a r rest
 
-holds_none_declines : (flash : Flashed) (r : Reply) → HoldsNone flash r → Declining r.outcome
+pub holds_none_declines : (flash : Flashed) (r : Reply) → HoldsNone flash r → Declining r.outcome
 holds_none_declines flash r (IsBlank blank says) = declining r _ _ says tt
 holds_none_declines flash r (IsBad bad says) = declining r _ _ says tt
+
+pub begun : (b a : Outside) (r : Reply) → begins_boot b a (Says r) → Plain r.outcome
+begun b a r (Declines _ d) = inl (holds_none_declines _ r d.1)
+begun b a r (Goes config m0 _ g (Ends _ same says)) = absurd says
 
 pub stated : (b a : Outside) (r : Reply) → tells_status b a (Says r) → Plain r.outcome
 stated b a r (Declines _ d) = inl (holds_none_declines _ r d.1)
@@ -375,6 +380,7 @@ status_done outcomes.NotBlank e = absurd (omega arith)
 status_done outcomes.NothingInstalled e = absurd (omega arith)
 status_done outcomes.Severed e = absurd (omega arith)
 status_done outcomes.Differs e = absurd (omega arith)
+status_done outcomes.UnknownComponent e = absurd (omega arith)
 status_done outcomes.Absent e = absurd (omega arith)
 status_done outcomes.TooLong e = absurd (omega arith)
 
@@ -390,6 +396,7 @@ status_unsafe outcomes.NotBlank e = absurd (omega arith)
 status_unsafe outcomes.NothingInstalled e = absurd (omega arith)
 status_unsafe outcomes.Severed e = absurd (omega arith)
 status_unsafe outcomes.Differs e = absurd (omega arith)
+status_unsafe outcomes.UnknownComponent e = absurd (omega arith)
 status_unsafe outcomes.Absent e = absurd (omega arith)
 status_unsafe outcomes.TooLong e = absurd (omega arith)
 
@@ -405,6 +412,7 @@ status_usage outcomes.NotBlank e = absurd (omega arith)
 status_usage outcomes.NothingInstalled e = absurd (omega arith)
 status_usage outcomes.Severed e = absurd (omega arith)
 status_usage outcomes.Differs e = absurd (omega arith)
+status_usage outcomes.UnknownComponent e = absurd (omega arith)
 status_usage outcomes.Absent e = absurd (omega arith)
 status_usage outcomes.TooLong e = absurd (omega arith)
 
@@ -420,6 +428,7 @@ not_seven outcomes.NotBlank e = omega arith
 not_seven outcomes.NothingInstalled e = omega arith
 not_seven outcomes.Severed e = omega arith
 not_seven outcomes.Differs e = omega arith
+not_seven outcomes.UnknownComponent e = omega arith
 not_seven outcomes.Absent e = omega arith
 not_seven outcomes.TooLong e = omega arith
 
@@ -435,6 +444,7 @@ not_eight outcomes.NotBlank e = omega arith
 not_eight outcomes.NothingInstalled e = omega arith
 not_eight outcomes.Severed e = omega arith
 not_eight outcomes.Differs e = omega arith
+not_eight outcomes.UnknownComponent e = omega arith
 not_eight outcomes.Absent e = omega arith
 not_eight outcomes.TooLong e = omega arith
 
@@ -450,6 +460,7 @@ not_nine outcomes.NotBlank e = omega arith
 not_nine outcomes.NothingInstalled e = omega arith
 not_nine outcomes.Severed e = omega arith
 not_nine outcomes.Differs e = omega arith
+not_nine outcomes.UnknownComponent e = omega arith
 not_nine outcomes.Absent e = omega arith
 not_nine outcomes.TooLong e = omega arith
 

@@ -12,7 +12,7 @@ use Rattle.flash_layout.specs.declared.key.Key.{Key}
 use Rattle.flash_layout.specs.declared.layout.Entry.{Entry}
 use Rattle.suit_cli.specs.Formatting.{formatting, FormatsInVain}
 use Rattle.suit_cli.specs.Inputs.{longest_file, longest_device, longest_key}
-use Rattle.suit_cli.specs.Commands.{describes, shows, checks, inits, inits_as, tells_status, does}
+use Rattle.suit_cli.specs.Commands.{describes, shows, checks, inits, inits_as, begins_boot, tells_status, does}
 use Rattle.suit_cli.specs.Program.{answers, most_pulled}
 
 -- only an answer that is a fault counted one, of its object
@@ -206,6 +206,9 @@ inits_as_keeps size device key_name =
 
 pub inits_keeps : (device key_name : List ℕ) → Keeps ((longest_device + 1) + (longest_key + 1)) (inits device key_name)
 inits_keeps device key_name = then_keeps 0 65602 _ _ (looking_keeps _ _) (λ size. inits_as_keeps size device key_name)
+
+pub begins_keeps : Keeps 0 begins_boot
+begins_keeps = then_keeps 0 0 _ _ (looking_keeps _ _) (λ config. last_keeps _)
 
 pub tells_keeps : Keeps 0 tells_status
 tells_keeps = then_keeps 0 0 _ _ (looking_keeps _ _) (λ config. then_keeps 0 0 _ _ (looking_keeps _ _) (λ installed. then_keeps 0 0 _ _ (looking_keeps _ _) (λ lines. last_keeps _)))

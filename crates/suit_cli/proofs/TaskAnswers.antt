@@ -5,13 +5,14 @@ use Rattle.suit_envelope.specs.declared.authenticity.Authenticity.{Authenticity}
 use Rattle.suit_envelope.specs.declared.authenticity.Authenticity.TheVariants as authenticities
 use Rattle.suit_cli.specs.declared.reply.Reply.{Reply}
 use Rattle.suit_cli.specs.declared.reply.Outcome.TheVariants as outcomes
-use Rattle.suit_cli.specs.Words.{Task, Make, Describe, Show, Check, RunInit, RunStatus, task_of}
+use Rattle.suit_cli.specs.Words.{Task, Make, Describe, Show, Check, RunInit, RunUpdate, RunBoot, RunStatus, task_of}
 use Rattle.suit_cli.specs.Outside.{Outside}
 use Rattle.suit_cli.specs.Stages.{Says, Goes, Declines}
 use Rattle.suit_cli.specs.Shown.{authenticity_outcome}
 use Rattle.suit_cli.specs.Commands.{checks, does}
 use Rattle.suit_cli.specs.Program.{answers}
-use Rattle.suit_cli.proofs.Running.{Declining, IsShownOf, showed, inited, stated, plain_not}
+use Rattle.suit_cli.proofs.Running.{Declining, IsShownOf, showed, inited, begun, stated, plain_not}
+use Rattle.suit_cli.proofs.AcceptedFacts.{IsUnsafeFile, began}
 use Rattle.suit_cli.proofs.Describing.{described}
 use Rattle.suit_cli.proofs.MakeLawProofs.{made_as}
 
@@ -23,12 +24,15 @@ does_of words b a r task word (Goes other m _ g rest) =
     subst (λ (o : Outside). does task o a (Says r)) g.0 (subst (λ (t : Task). does t m a (Says r)) same rest)
 
 -- which of them judge
-pub judged_task : (words : List (List ℕ)) (b a : Outside) (r : Reply) → answers words b a (Says r) → r.outcome ≡ outcomes.Unsafe
-    → (name : List ℕ) × (task_of words ≡ Some (Check name)) × checks name b a (Says r)
+pub data JudgesTask (words : List (List ℕ)) (b a : Outside) (r : Reply) : Type 0 where
+  ByCheck : (name : List ℕ) → task_of words ≡ Some (Check name) → checks name b a (Says r) → JudgesTask words b a r
+  ByUpdate : (name : List ℕ) (uris : List (List ℕ × List ℕ)) → task_of words ≡ Some (RunUpdate name uris) → IsUnsafeFile name b r → JudgesTask words b a r
+
+pub judged_task : (words : List (List ℕ)) (b a : Outside) (r : Reply) → answers words b a (Says r) → r.outcome ≡ outcomes.Unsafe → JudgesTask words b a r
 judged_task words b a r (Declines _ d) is = let never = sym d.1.1.outcome_is ∙ is in absurd cc
 judged_task words b a r (Goes (Make description key out) m _ g rest) is = absurd (plain_not r.outcome _ (made_as description key out m a r rest) is (λ d. d) (λ e. cc))
 judged_task words b a r (Goes (Describe name) m _ g rest) is = absurd (plain_not r.outcome _ (described name m a r rest) is (λ d. d) (λ e. cc))
-judged_task words b a r (Goes (Check name) m _ g rest) is = (name, g.1, subst (λ (o : Outside). checks name o a (Says r)) g.0 rest)
+judged_task words b a r (Goes (Check name) m _ g rest) is = ByCheck name g.1 (subst (λ (o : Outside). checks name o a (Says r)) g.0 rest)
 judged_task words b a r (Goes (Show name key) m _ g rest) is = absurd (of_show (showed name key m a r rest)) where
   of_answer : (answer : Authenticity) → r.outcome ≡ authenticity_outcome answer → ⊥
   of_answer authenticities.Yes e = let never = sym is ∙ e in cc
@@ -40,4 +44,9 @@ judged_task words b a r (Goes (Show name key) m _ g rest) is = absurd (of_show (
   of_show (inl d) = subst Declining is d
   of_show (inr s) = of_answer s.shown.answer s.shown.outcome_is
 judged_task words b a r (Goes (RunInit device key) m _ g rest) is = absurd (plain_not r.outcome _ (inited device key m a r rest) is (λ d. d) (λ e. cc))
+judged_task words b a r (Goes (RunUpdate name uris) m _ g rest) is = of_way (began name m a r rest) where
+  of_way : Declining r.outcome ⊎ IsUnsafeFile name m r → JudgesTask words b a r
+  of_way (inl d) = absurd (subst Declining is d)
+  of_way (inr unsafe) = ByUpdate name uris g.1 (subst (λ (o : Outside). IsUnsafeFile name o r) g.0 unsafe)
+judged_task words b a r (Goes RunBoot m _ g rest) is = absurd (plain_not r.outcome _ (begun m a r rest) is (λ d. d) (λ e. cc))
 judged_task words b a r (Goes RunStatus m _ g rest) is = absurd (plain_not r.outcome _ (stated m a r rest) is (λ d. d) (λ e. cc))

@@ -3,18 +3,24 @@ use Rattle.std.specs.Prelude.{◌≡◌, ◌≢◌, ◌⊎◌, ◌+◌, ℕ, IsT
 use Rattle.suit_edge.specs.Faults.{Faulted}
 use Rattle.suit_edge.specs.Flash.{Flash, Now}
 use Rattle.suit_commands.specs.Tree.{PlanTree}
+use Rattle.flash_layout.specs.declared.frame.TheConstants.{VERSION_1}
+use Rattle.rollback_record.specs.SoundFlash.{Settled}
 use Rattle.suit_cli.specs.declared.reply.Outcome.TheVariants as outcomes
 use Rattle.suit_cli.specs.Texts.{usage_line}
-use Rattle.suit_cli.specs.Words.{Task, Make, Describe, Show, Check, RunInit, RunStatus, task_of}
+use Rattle.suit_cli.specs.Words.{Task, Make, Describe, Show, Check, RunInit, RunUpdate, RunBoot, RunStatus, task_of}
 use Rattle.suit_cli.specs.Replies.{IsReply}
 use Rattle.suit_cli.specs.Outside.{Outside, Files, Sunk, Leaves}
 use Rattle.suit_cli.specs.Stages.{Stage, judging, Ending, Answers, ◌>>=◌}
-use Rattle.suit_cli.specs.Statuses.{ending_status, ending_text, sink_fault_status}
+use Rattle.suit_cli.specs.Statuses.{sink_fault_status}
+use Rattle.suit_cli.specs.Launching.{Launching}
+use Rattle.suit_cli.specs.Coming.{Ended, Comes, ended_status, ended_text}
 use Rattle.suit_cli.specs.Inputs.{longest_file, longest_device, longest_key}
 use Rattle.suit_cli.specs.Authoring.{longest_description, names_held, most_named}
 use Rattle.suit_cli.specs.Judgement.{AreSafe, ShowUnsafe}
 use Rattle.suit_cli.specs.Holding.{HasProcedures}
 use Rattle.suit_cli.specs.Formatting.{MayLeave}
+use Rattle.suit_cli.specs.Booting.{BootKeeps}
+use Rattle.suit_cli.specs.Updating.{StaysOrKeeps}
 use Rattle.suit_cli.specs.Commands.{does}
 
 -- ---- the answer to the words
@@ -26,6 +32,10 @@ task_in words = judging (λ task. task_of words ≡ Some task) (λ reply. (task_
 abbrev pub answers : List (List ℕ) → Answers
 answers words = task_in words >>= does
 
+-- the stages of the words, or the boot or the update that they ask for
+abbrev pub ComesTo : List (List ℕ) → Launching → Launching → Outside → Outside → Ended → Type 0
+ComesTo words = Comes (answers words) (λ task. task_of words ≡ Some task)
+
 -- ---- the put
 
 -- lines come whole behind what was put, or up to a fault of the sink, which has its own status
@@ -34,14 +44,14 @@ pub data PutsText (before after : Sunk) (status : ℕ) (text : List ℕ) (result
   IsCut : result ≡ sink_fault_status → Faulted before.faults after.faults → (IsTrue before.told → (n : ℕ) × (after.put ≡ before.put ++ take n text))
       → PutsText before after status text result
 
-abbrev pub Puts : Sunk → Sunk → Ending → ℕ → Type 0
-Puts before after ending result = PutsText before after (ending_status ending) (ending_text ending) result
+abbrev pub Puts : Sunk → Sunk → Ended → ℕ → Type 0
+Puts before after ended result = PutsText before after (ended_status ended) (ended_text ended) result
 
--- the words had an answer over the outside, and it was put
-pub record Runs (words : List (List ℕ)) (before after : Outside) (sunk_before sunk_after : Sunk) (result : ℕ) : Type 0 where
-  pub ending : Ending
-  pub answer : answers words before after ending
-  pub puts : Puts sunk_before sunk_after ending result
+-- the words had an answer over the outside and the launcher, and it was put
+pub record Runs (words : List (List ℕ)) (launched now : Launching) (before after : Outside) (sunk_before sunk_after : Sunk) (result : ℕ) : Type 0 where
+  pub ended : Ended
+  pub comes : ComesTo words launched now before after ended
+  pub puts : Puts sunk_before sunk_after ended result
 
 -- ---- statuses
 
@@ -52,9 +62,9 @@ IsExcuse result = (result ≡ 7) ⊎ (result ≡ 8) ⊎ (result ≡ 9) ⊎ (resu
 abbrev pub EndsIn : ℕ → ℕ → Type 0
 EndsIn status result = (result ≡ status) ⊎ IsExcuse result
 
--- those of an answer, of a fault of the host, the flash or the sink, and of want of memory
+-- those of an answer, a boot or an update, of a fault of the host, the flash, the launcher or the sink, and of want of memory
 pub data IsStatus (result : ℕ) : Type 0 where
-  OfEnding : (ending : Ending) → result ≡ ending_status ending → IsStatus result
+  OfEnded : (ended : Ended) → result ≡ ended_status ended → IsStatus result
   OfSinkFault : result ≡ sink_fault_status → IsStatus result
 
 -- ---- the headline
@@ -76,11 +86,19 @@ pub record ChecksSafe (words : List (List ℕ)) (before : Outside) : Type 0 wher
   pub checks : ChecksProcedures words before update invocation
   pub are_safe : AreSafe update invocation
 
--- they do, both are not safe, and a path that shows it was put
+-- the file whose procedures a task judges: that of `check`, and that of `run update`
+abbrev pub Judges : Option Task → List ℕ → Type 0
+Judges (Some (Check file)) name = file ≡ name
+Judges (Some (RunUpdate file uris)) name = file ≡ name
+Judges _ name = ⊥
+
+-- the words judge a file's procedures, both are not safe, and a path that shows it was put
 pub record ChecksUnsafe (words : List (List ℕ)) (before : Outside) (sunk_before sunk_after : Sunk) : Type 0 where
   pub update : PlanTree
   pub invocation : PlanTree
-  pub checks : ChecksProcedures words before update invocation
+  pub name : List ℕ
+  pub word : Judges (task_of words) name
+  pub has : HasProcedures name before update invocation
   pub not_safe : AreSafe update invocation → ⊥
   pub text : List ℕ
   pub shows_path : ShowUnsafe update invocation text
@@ -96,11 +114,11 @@ pub record IsUsage (words : List (List ℕ)) (sunk_before sunk_after : Sunk) : T
 -- ---- what is cut off
 
 -- the sink counted a fault, and only the beginning of the answer's lines was put
-pub record IsCutOff (words : List (List ℕ)) (before after : Outside) (sunk_before sunk_after : Sunk) : Type 0 where
+pub record IsCutOff (words : List (List ℕ)) (launched now : Launching) (before after : Outside) (sunk_before sunk_after : Sunk) : Type 0 where
   pub faulted : Faulted sunk_before.faults sunk_after.faults
-  pub ending : Ending
-  pub answer : answers words before after ending
-  pub puts : IsTrue sunk_before.told → (n : ℕ) × (sunk_after.put ≡ sunk_before.put ++ take n (ending_text ending))
+  pub ended : Ended
+  pub comes : ComesTo words launched now before after ended
+  pub puts : IsTrue sunk_before.told → (n : ℕ) × (sunk_after.put ≡ sunk_before.put ++ take n (ended_text ended))
 
 -- ---- what is left of the files
 
@@ -112,6 +130,8 @@ most_pulled (Some (Describe name)) files = longest_file + 1
 most_pulled (Some (Show name key)) files = (longest_file + 1) + (longest_key + 1)
 most_pulled (Some (Check name)) files = longest_file + 1
 most_pulled (Some (RunInit device key)) files = (longest_device + 1) + (longest_key + 1)
+most_pulled (Some (RunUpdate name uris)) files = longest_file + 1
+most_pulled (Some RunBoot) files = 0
 most_pulled (Some RunStatus) files = 0
 
 -- the file that is stored
@@ -122,25 +142,76 @@ stored_by (Some (Describe name)) = None
 stored_by (Some (Show name key)) = None
 stored_by (Some (Check name)) = None
 stored_by (Some (RunInit device key)) = None
+stored_by (Some (RunUpdate name uris)) = None
+stored_by (Some RunBoot) = None
 stored_by (Some RunStatus) = None
 
+-- no file changes
+abbrev pub KeepsFiles : Outside → Outside → Type 0
+KeepsFiles before after = (after.told ≡ before.told) × (IsTrue before.told → after.files ≡ before.files)
+
+-- of `run boot` and `run update` no more than that
+abbrev pub LeavesBy : Option Task → Outside → Outside → Type 0
+LeavesBy (Some RunBoot) before after = KeepsFiles before after
+LeavesBy (Some (RunUpdate name uris)) before after = KeepsFiles before after
+LeavesBy task before after = Leaves (most_pulled task before.files) (stored_by task) before after
+
 abbrev pub LeavesFor : List (List ℕ) → Outside → Outside → Type 0
-LeavesFor words before after = Leaves (most_pulled (task_of words) before.files) (stored_by (task_of words)) before after
+LeavesFor words before after = LeavesBy (task_of words) before after
 
 -- ---- power losses
 
--- What a power loss at a moment of the run may leave, by an image. All commands but `run init` leave those of the start.
+-- What a power loss at a moment of the run may leave, by an image. All commands but `run init`, `run boot` and `run update`
+-- leave those of the start.
 abbrev pub MayBeLeft : Option Task → Outside → Flash → List ℕ → Type 0
 MayBeLeft (Some (RunInit device key)) before start image = MayLeave device key before start image
+MayBeLeft (Some RunBoot) before start image = Unit {0}
+MayBeLeft (Some (RunUpdate name uris)) before start image = Unit {0}
 MayBeLeft _ before start image = Now start image
 
 -- ---- counts of faults
 
+-- the commands that run a procedure
+abbrev pub MayLaunch : Option Task → Type 0
+MayLaunch (Some RunBoot) = Unit {0}
+MayLaunch (Some (RunUpdate name uris)) = Unit {0}
+MayLaunch _ = ⊥
+
+-- a fault of the flash that came behind another one in a procedure
+abbrev pub MayHide : List (List ℕ) → ℕ → Type 0
+MayHide words result = MayLaunch (task_of words) × (result ≡ 8)
+
 -- Each status of a fault comes only where the count of its object rose. Where it does not come, and the sink did not fail
--- either, that count stays.
-pub record AreCounted (before after : Outside) (sunk_before sunk_after : Sunk) (result : ℕ) : Type 0 where
+-- either, that count stays, but that in `run boot` and `run update` a fault of the flash may come behind one of another
+-- object, and a launcher may fail where the flash did.
+pub record AreCounted (words : List (List ℕ)) (launched now : Launching) (before after : Outside) (sunk_before sunk_after : Sunk) (result : ℕ) : Type 0 where
   pub host : result ≡ 7 → Faulted before.faults after.faults
-  pub only_host : result ≢ 7 → result ≢ 9 → after.faults ≡ before.faults
+  pub only_host : result ≢ 7 → result ≢ 9 → (MayHide words result → ⊥) → after.faults ≡ before.faults
   pub flash : result ≡ 8 → Faulted before.flash.faults after.flash.faults
-  pub only_flash : result ≢ 8 → result ≢ 9 → after.flash.faults ≡ before.flash.faults
+  pub only_flash : result ≢ 8 → result ≢ 9 → result ≢ 10 → after.flash.faults ≡ before.flash.faults
+  pub launcher : result ≡ 10 → Faulted launched.faults now.faults
+  pub only_launcher : result ≢ 10 → result ≢ 9 → (MayHide words result → ⊥) → now.faults ≡ launched.faults
   pub only_output : result ≢ 9 → sunk_after.faults ≡ sunk_before.faults
+
+-- ---- launches
+
+-- only `run boot` and `run update` launch, or fail at the launcher
+abbrev pub KeepsLauncher : List (List ℕ) → Launching → Launching → Type 0
+KeepsLauncher words launched now = (MayLaunch (task_of words) → ⊥) → now ≡ launched
+
+-- ---- soundness
+
+-- inside: of a boot and of an update it is said by itself
+abbrev pub IfLaunches : Option Task → Type 0 → Type 0
+IfLaunches (Some RunBoot) P = P
+IfLaunches (Some (RunUpdate name uris)) P = P
+IfLaunches _ P = Unit {0}
+
+-- ---- at each moment
+
+-- Of a settled flash, an update keeps the old record and the contents of all slots that it may not write, or leaves the new record
+-- with the contents that its procedure made. A boot keeps all but slots that its procedure may write, of any flash.
+abbrev pub KeepsFor : Option Task → Outside → Flash → Flash → Type 0
+KeepsFor (Some (RunUpdate name uris)) before old now = Settled VERSION_1 old → StaysOrKeeps name before old now
+KeepsFor (Some RunBoot) before old now = BootKeeps before old now
+KeepsFor _ before old now = Unit {0}

@@ -19,6 +19,7 @@ status_of outcomes.NotBlank = 14
 status_of outcomes.NothingInstalled = 15
 status_of outcomes.Severed = 16
 status_of outcomes.Differs = 17
+status_of outcomes.UnknownComponent = 18
 status_of outcomes.Absent = 20
 status_of outcomes.TooLong = 21
 

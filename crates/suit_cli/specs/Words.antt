@@ -1,18 +1,25 @@
 -- The words of the command line.
-use Rattle.std.specs.Prelude.{ℕ, List, Option, Some, None, option_and_then}
+use Rattle.std.specs.Prelude.{ℕ, List, map, Option, Some, None, option_and_then}
+use Rattle.command_words.specs.Tasks.{Answer}
 use Rattle.command_words.specs.Tasks as asked
 use Rattle.command_words.specs.Table as table
 use Rattle.suit_cli.specs.declared.words.Command.{Command}
 use Rattle.suit_cli.specs.declared.words.Command.TheVariants as commands
 
--- what the words ask for, with the names of its files
+-- what the words ask for, with the names of its files; those that answer URIs stand beside their URIs, in the order of the words
 pub data Task : Type 0 where
   Make : (description key out : List ℕ) → Task
   Describe : List ℕ → Task
   Show : List ℕ → List ℕ → Task
   Check : List ℕ → Task
   RunInit : List ℕ → List ℕ → Task
+  RunUpdate : List ℕ → List (List ℕ × List ℕ) → Task
+  RunBoot : Task
   RunStatus : Task
+
+-- a URI, and the name of the file that answers it
+abbrev pub named_by : Answer → List ℕ × List ℕ
+named_by answer = (answer.uri, answer.name)
 
 -- the commands that are built: words that ask for another are usage as yet
 abbrev pub built : asked.Task → Option Task
@@ -21,8 +28,8 @@ built (asked.Describe file) = Some (Describe file)
 built (asked.Show file key) = Some (Show file key)
 built (asked.Check file) = Some (Check file)
 built (asked.Init device key) = Some (RunInit device key)
-built (asked.Update file uris) = None
-built asked.Boot = None
+built (asked.Update file uris) = Some (RunUpdate file (map named_by uris))
+built asked.Boot = Some RunBoot
 built asked.Status = Some RunStatus
 built (asked.Drill number) = None
 
@@ -36,4 +43,6 @@ task_said (commands.Describe file) = Describe file.now
 task_said (commands.Show file key) = Show file.now key.now
 task_said (commands.Check file) = Check file.now
 task_said (commands.RunInit device key) = RunInit device.now key.now
+task_said (commands.RunUpdate file uris) = RunUpdate file.now uris
+task_said commands.RunBoot = RunBoot
 task_said commands.RunStatus = RunStatus

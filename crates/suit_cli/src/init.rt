@@ -9,15 +9,14 @@ ghost use Rattle.suit_cli.specs.Outside.{Outside, with_flash};
 ghost use Rattle.suit_cli.specs.Stages.{Does, ending_of};
 ghost use Rattle.suit_cli.specs.Formatting.{unused, formats, MayBe, MayFormat, MayLeave};
 ghost use Rattle.suit_cli.specs.Commands.{inits_as, inits};
-
-#[cfg(test)]
-pub(crate) mod tests;
+ghost use Rattle.suit_cli.specs.Settling.{StaysSettled};
 
 use crate::device::{device_in, key_of};
 use crate::input::{LONGEST_DEVICE, read, read_key};
 use crate::outside::{SeenDisk, SeenHost};
 use crate::reply::{Object, Outcome, Reply, Stop, declined};
 use flash_layout::{CONFIG_GATE, Formatted, Key, Layout, format};
+use rollback_record::sound_laws;
 use std::alloc::Global;
 use suit_edge::{Disk, Edge, Host, OPEN};
 
@@ -55,7 +54,10 @@ fn formats<D: Disk>(alloc: Global, layout: &Layout, key: &Key, flash: &mut D) ->
     ensures any_moment { IsTrue D.told → Passes (D.flash flash.old) (D.flash flash.new)
         (MayBe (D.flash flash.old)
         (IsBlankOrFormatted VERSION_1 (D.extent flash.old) layout.now key.now (D.flash flash.old))) }
+    ensures settled { IsTrue D.told → StaysSettled (D.flash flash.old) (D.flash flash.new)
+        (D.faults flash.old) (D.faults flash.new) }
 {
+    sound_laws();
     let ready = Reply::fixed(alloc, Outcome::Done, "ready\n")?;
     match format(flash, layout, key) {
         Formatted::Done => Ok(ready),
@@ -82,6 +84,8 @@ fn init_as<H: Host, D: Disk>(
     ensures any_moment { IsTrue D.told → Passes (D.flash flash.old) (D.flash flash.new)
         (MayBe (D.flash flash.old) (MayFormat size device.now key_name.now
         (⟦<H as SeenHost>⟧.seen host.old (⟦<D as SeenDisk>⟧.seen flash.old)) (D.flash flash.old))) }
+    ensures settled { IsTrue D.told → StaysSettled (D.flash flash.old) (D.flash flash.new)
+        (D.faults flash.old) (D.faults flash.new) }
 {
     let bytes = read(alloc, device, LONGEST_DEVICE, host)?;
     let layout = device_in(alloc, size, bytes.as_slice())?;
@@ -106,6 +110,8 @@ pub(crate) fn init<H: Host, D: Disk>(
     ensures any_moment { IsTrue D.told → Passes (D.flash flash.old) (D.flash flash.new)
         (MayLeave device.now key_name.now
         (⟦<H as SeenHost>⟧.seen host.old (⟦<D as SeenDisk>⟧.seen flash.old)) (D.flash flash.old)) }
+    ensures settled { IsTrue D.told → StaysSettled (D.flash flash.old) (D.flash flash.new)
+        (D.faults flash.old) (D.faults flash.new) }
 {
     let size = unused(alloc, flash)?;
     init_as(alloc, size, device, key_name, host, flash)

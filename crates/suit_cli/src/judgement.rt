@@ -5,6 +5,7 @@ ghost use Rattle.suit_commands.specs.Allowed.{IsPlan};
 ghost use Rattle.suit_commands.specs.Plans.{plan_tree};
 ghost use Rattle.path_model.specs.Safe.{Safe};
 ghost use Rattle.suit_cli.specs.Stages.{Finds, Tells, Last};
+ghost use Rattle.suit_cli.specs.Acceptance.{safe_in};
 ghost use Rattle.suit_cli.specs.Judgement.{narrow, IsNarrow, AreJudged};
 ghost use Rattle.suit_cli.specs.declared.reply.Outcome.TheVariants as outcomes;
 ghost use Rattle.suit_cli.specs.Replies.{Makes};
@@ -77,6 +78,49 @@ fn judge_invocation(alloc: Global, update: &Plan<'_>, invocation: &Plan<'_>) -> 
             "update safe\ninvocation unsafe\n",
             &path,
         )?),
+        CheckVerdict::TooWide(_) => unreachable!(),
+        CheckVerdict::NoMemory => Err(Stop::NoMemory),
+    }
+}
+
+/// Whether both procedures are safe, the update judged first.
+pub(crate) fn judge_safe(
+    alloc: Global,
+    update: &Plan<'_>,
+    invocation: &Plan<'_>,
+) -> Result<(), Stop>
+    requires update_plan { IsPlan (plan_tree update.now) }
+    requires invocation_plan { IsPlan (plan_tree invocation.now) }
+    requires update_narrow { IsNarrow (plan_tree update.now) }
+    requires invocation_narrow { IsNarrow (plan_tree invocation.now) }
+    ensures { Finds (safe_in (plan_tree update.now) (plan_tree invocation.now)) result }
+{
+    match path_checker::check(alloc, update) {
+        CheckVerdict::Safe => safe_invocation(alloc, update, invocation),
+        CheckVerdict::Unsafe(path) => Err(declined(Reply::with_path(
+            alloc,
+            "update unsafe\n",
+            &path,
+        ))),
+        CheckVerdict::TooWide(_) => unreachable!(),
+        CheckVerdict::NoMemory => Err(Stop::NoMemory),
+    }
+}
+
+// Whether the invocation is safe, after a safe update.
+fn safe_invocation(alloc: Global, update: &Plan<'_>, invocation: &Plan<'_>) -> Result<(), Stop>
+    requires plan { IsPlan (plan_tree invocation.now) }
+    requires narrow { IsNarrow (plan_tree invocation.now) }
+    requires safe { Safe (plan_tree update.now) }
+    ensures { Finds (safe_in (plan_tree update.now) (plan_tree invocation.now)) result }
+{
+    match path_checker::check(alloc, invocation) {
+        CheckVerdict::Safe => Ok(()),
+        CheckVerdict::Unsafe(path) => Err(declined(Reply::with_path(
+            alloc,
+            "update safe\ninvocation unsafe\n",
+            &path,
+        ))),
         CheckVerdict::TooWide(_) => unreachable!(),
         CheckVerdict::NoMemory => Err(Stop::NoMemory),
     }

@@ -4,10 +4,13 @@ ghost use Rattle.suit_cli.specs.CommandLaws.{CheckLaws, ShowLaws};
 ghost use Rattle.suit_cli.specs.DescribingLaws.{DescribingLaws};
 ghost use Rattle.suit_cli.specs.MakeLaws.{MakeLaws};
 ghost use Rattle.suit_cli.specs.FlashLaws.{InitLaws, StatusLaws};
+ghost use Rattle.suit_cli.specs.UpdateLaws.{UpdateLaws};
+ghost use Rattle.suit_cli.specs.WordsLaws.{WordsLaws};
 
+use command_words::word_laws;
 use flash_layout::config_laws;
 use rollback_record::record_laws;
-use suit_envelope::envelope_laws;
+use suit_envelope::{authenticity_laws, envelope_laws};
 use suit_manifest::{manifest_laws, members_laws};
 
 /// Does nothing. Its contract has the laws of `check FILE` over a host that tells what it holds: the status and the
@@ -65,4 +68,27 @@ pub fn status_laws()
 {
     config_laws();
     record_laws();
+}
+
+/// Does nothing. Its contract has the laws of the words: each command that is built comes of the words that spell it and
+/// of no others, and words that spell none of them are usage. A word that says which file answers a URI is the URI, `=`
+/// and the name, which has no `=`; there are at most 64, none begins with a dash, and no two have one URI.
+pub fn words_laws()
+    ensures { WordsLaws }
+{
+    word_laws();
+}
+
+/// Does nothing. Its contract has the laws of `run update FILE` over a host and a flash that tell what they hold, before
+/// anything is done: each reply has its cause, in the order of the checks, and where a cause stands, each answer is that
+/// reply, unless an object failed or memory was wanting; only the path that is printed is left open. Where the bytes of the
+/// file are accepted, no answer is such a reply.
+pub fn update_laws()
+    ensures { UpdateLaws }
+{
+    config_laws();
+    envelope_laws();
+    authenticity_laws();
+    manifest_laws();
+    members_laws();
 }

@@ -2,6 +2,9 @@
 #![tactic(auto)]
 
 mod accept;
+mod acceptance;
+mod answer;
+mod boot_lines;
 mod check;
 mod components;
 mod device;
@@ -9,30 +12,28 @@ mod init;
 mod input;
 mod judgement;
 mod law;
+mod life;
 mod lines;
 mod make;
 mod member_lines;
 mod outside;
 mod program;
 mod reply;
+mod run_boot;
+mod run_update;
 mod show;
 mod show_description;
 mod status;
+mod typing;
+mod update_lines;
 mod why;
 mod words;
 
-pub use law::{check_laws, describing_laws, init_laws, make_laws, show_laws, status_laws};
-pub use outside::{SeenDisk, SeenHost, SeenSink};
+pub use law::{
+    check_laws, describing_laws, init_laws, make_laws, show_laws, status_laws, update_laws,
+    words_laws,
+};
+pub use life::{launched_laws, life_laws, new_flash_law, soundness_laws};
+pub use outside::{SeenDisk, SeenHost, SeenLauncher, SeenSink};
 pub use program::{Status, run};
 pub use reply::Outcome;
-
-#[cfg(test)]
-mod command_rows;
-#[cfg(test)]
-mod item_rows;
-#[cfg(test)]
-mod refusal_rows;
-#[cfg(test)]
-mod rows;
-#[cfg(test)]
-mod tests;

@@ -11,9 +11,6 @@ ghost use Rattle.suit_cli.specs.Stages.{Does, Finds, ending_of};
 ghost use Rattle.suit_cli.specs.Authoring.{IsDescriptionLine, TellsDescription, description_in, value_or_stop, files_in, made_in, made_line, stores, makes_described};
 ghost use Rattle.suit_cli.specs.Commands.{makes};
 
-#[cfg(test)]
-mod tests;
-
 use crate::device::pointed_line;
 use crate::input::{read, read_key};
 use crate::lines::number_line;

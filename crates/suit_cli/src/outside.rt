@@ -1,6 +1,6 @@
-//! The outside as contracts see it: a host beside a flash, and a sink, each at a moment as one record.
+//! The outside as contracts see it: a host beside a flash, a launcher, and a sink, each at a moment as one record.
 
-use suit_edge::{Disk, Host, Sink};
+use suit_edge::{Disk, Host, Launcher, Sink};
 
 /// A host at a moment.
 pub trait SeenHost: Host {
@@ -29,6 +29,20 @@ impl<D: Disk> SeenDisk for D {
     ghost use Rattle.suit_cli.specs.Outside.{Flashed};
 
     ghost seen = { λ d. record { told = D.told; size = D.extent d; reads = (D.flash d).reads; faults = D.faults d } };
+}
+
+/// A launcher at a moment.
+pub trait SeenLauncher: Launcher {
+    ghost use Rattle.suit_cli.specs.Launching.{Launching};
+
+    /// What it tells of its launches, and its count of faults.
+    ghost seen: { Self → Launching };
+}
+
+impl<L: Launcher> SeenLauncher for L {
+    ghost use Rattle.suit_cli.specs.Launching.{Launching};
+
+    ghost seen = { λ l. record { told = L.told; launches = L.launches l; faults = L.faults l } };
 }
 
 /// A sink at a moment.

@@ -4,12 +4,11 @@ ghost use Rattle.std.specs.Prelude.{◌≡◌, ◌≤◌, IsTrue, List, ℕ, Som
 ghost use Rattle.suit_edge.specs.Flash.{Passes};
 ghost use Rattle.flash_layout.specs.declared.frame.TheConstants.{VERSION_1};
 ghost use Rattle.suit_commands.specs.Tree.{PlanTree};
-ghost use Rattle.suit_cli.specs.Words.{task_of, task_said};
-ghost use Rattle.suit_cli.specs.Stages.{Ending, ending_of};
+ghost use Rattle.suit_cli.specs.Words.{RunBoot, task_of, task_said};
+ghost use Rattle.suit_cli.specs.Stages.{ending_of};
 ghost use Rattle.suit_cli.specs.Commands.{does};
 ghost use Rattle.suit_cli.specs.Judgement.{AreSafe};
 ghost use Rattle.suit_cli.specs.Program.{
-  answers,
   Puts,
   PutsText,
   Runs,
@@ -24,20 +23,34 @@ ghost use Rattle.suit_cli.specs.Program.{
   AreCounted,
   LeavesFor,
   MayBeLeft,
+  ComesTo,
+  IfLaunches,
+  KeepsFor,
+  KeepsLauncher,
 };
+ghost use Rattle.suit_cli.specs.Settling.{StaysSettled};
+ghost use Rattle.suit_cli.specs.Coming.{Answered, Comes, StaysSound, ended_of};
+ghost use Rattle.invoke_proc.specs.Booting.{GainsSafe};
+ghost use Rattle.rollback_record.specs.SoundFlash.{Settled, Sound};
 
+use crate::answer::Answer;
+use crate::boot_lines::boot_status;
 use crate::check::check;
 use crate::init::init;
 use crate::make::make_envelope;
-use crate::outside::{SeenDisk, SeenHost, SeenSink};
+use crate::outside::{SeenDisk, SeenHost, SeenLauncher, SeenSink};
 use crate::reply::{Outcome, Reply, Stop, declined};
+use crate::run_boot::run_boot;
+use crate::run_update::run_update;
 use crate::show::show;
 use crate::show_description::show_description;
 use crate::status::status;
+use crate::update_lines::update_status;
 use crate::words::{Command, command_of, lent};
 use det_cbor::Names;
+use rollback_record::sound_laws;
 use std::alloc::Global;
-use suit_edge::{Disk, Edge, Host, Sink};
+use suit_edge::{Disk, Edge, Host, Launcher, Sink};
 use suit_envelope::envelope_laws;
 use suit_manifest::{manifest_laws, members_laws};
 
@@ -49,51 +62,76 @@ const USAGE: &str =
     "usage: suit make DESCRIPTION KEY OUT | show FILE [KEY] | check FILE | run init DEVICE KEY | run update FILE [URI=NAME]... | run boot | run status | drill NUMBER\n";
 
 // The answer to a command.
-fn perform<H: Host, D: Disk>(
+fn perform<H: Host, D: Disk, L: Launcher>(
     alloc: Global,
     command: Command<'_>,
     host: &mut H,
     flash: &mut D,
-) -> Result<Reply, Stop>
+    launcher: &mut L,
+) -> Answer
     requires { VERSION_1.size ≤ D.extent flash.old }
-    ensures answer { does (task_said command.entry)
+    ensures answer { Comes (does (task_said command.entry)) (λ task. task_said command.entry ≡ task)
+        (⟦<L as SeenLauncher>⟧.seen launcher.old) (⟦<L as SeenLauncher>⟧.seen launcher.new)
         (⟦<H as SeenHost>⟧.seen host.old (⟦<D as SeenDisk>⟧.seen flash.old))
-        (⟦<H as SeenHost>⟧.seen host.new (⟦<D as SeenDisk>⟧.seen flash.new)) (ending_of result) }
+        (⟦<H as SeenHost>⟧.seen host.new (⟦<D as SeenDisk>⟧.seen flash.new)) (ended_of result) }
     ensures extent { D.extent flash.new ≡ D.extent flash.old }
     ensures any_moment { IsTrue D.told → Passes (D.flash flash.old) (D.flash flash.new)
         (MayBeLeft (Some (task_said command.entry))
         (⟦<H as SeenHost>⟧.seen host.old (⟦<D as SeenDisk>⟧.seen flash.old)) (D.flash flash.old)) }
+    ensures sound { IsTrue D.told → IfLaunches (Some (task_said command.entry))
+        (Settled VERSION_1 (D.flash flash.old) → StaysSound (D.flash flash.old) (D.flash flash.new)) }
+    ensures settled { IsTrue D.told → StaysSettled (D.flash flash.old) (D.flash flash.new)
+        (D.faults flash.old) (D.faults flash.new) }
+    ensures keeps { IsTrue D.told → KeepsFor (Some (task_said command.entry))
+        (⟦<H as SeenHost>⟧.seen host.old (⟦<D as SeenDisk>⟧.seen flash.old)) (D.flash flash.old) (D.flash flash.new) }
 {
     match command {
-        Command::Make(description, key, out) => make_envelope(alloc, description, key, out, host),
-        Command::Describe(name) => show_description(alloc, name, host),
-        Command::Show(name, key) => show(alloc, name, key, host),
-        Command::Check(name) => check(alloc, name, host),
-        Command::RunInit(device, key) => init(alloc, device, key, host, flash),
-        Command::RunStatus => status(alloc, flash),
+        Command::Make(description, key, out) => {
+            Answer::Said(make_envelope(alloc, description, key, out, host))
+        }
+        Command::Describe(name) => Answer::Said(show_description(alloc, name, host)),
+        Command::Show(name, key) => Answer::Said(show(alloc, name, key, host)),
+        Command::Check(name) => Answer::Said(check(alloc, name, host)),
+        Command::RunInit(device, key) => Answer::Said(init(alloc, device, key, host, flash)),
+        Command::RunUpdate(name, uris) => { run_update(alloc, name, &uris, host, flash, launcher) }
+        Command::RunBoot => run_boot(alloc, host, flash, launcher),
+        Command::RunStatus => Answer::Said(status(alloc, flash)),
     }
 }
 
 // The answer to the words.
-fn answer<H: Host, D: Disk>(
+fn answer<H: Host, D: Disk, L: Launcher>(
     alloc: Global,
     words: &Names,
     host: &mut H,
     flash: &mut D,
-) -> Result<Reply, Stop>
+    launcher: &mut L,
+) -> Answer
     requires { VERSION_1.size ≤ D.extent flash.old }
-    ensures answer { answers words.now
+    ensures answer { ComesTo words.now
+        (⟦<L as SeenLauncher>⟧.seen launcher.old) (⟦<L as SeenLauncher>⟧.seen launcher.new)
         (⟦<H as SeenHost>⟧.seen host.old (⟦<D as SeenDisk>⟧.seen flash.old))
-        (⟦<H as SeenHost>⟧.seen host.new (⟦<D as SeenDisk>⟧.seen flash.new)) (ending_of result) }
+        (⟦<H as SeenHost>⟧.seen host.new (⟦<D as SeenDisk>⟧.seen flash.new)) (ended_of result) }
     ensures extent { D.extent flash.new ≡ D.extent flash.old }
     ensures any_moment { IsTrue D.told → Passes (D.flash flash.old) (D.flash flash.new)
         (MayBeLeft (task_of words.now)
         (⟦<H as SeenHost>⟧.seen host.old (⟦<D as SeenDisk>⟧.seen flash.old)) (D.flash flash.old)) }
+    ensures sound { IsTrue D.told → IfLaunches (task_of words.now)
+        (Settled VERSION_1 (D.flash flash.old) → StaysSound (D.flash flash.old) (D.flash flash.new)) }
+    ensures settled { IsTrue D.told → StaysSettled (D.flash flash.old) (D.flash flash.new)
+        (D.faults flash.old) (D.faults flash.new) }
+    ensures keeps { IsTrue D.told → KeepsFor (task_of words.now)
+        (⟦<H as SeenHost>⟧.seen host.old (⟦<D as SeenDisk>⟧.seen flash.old)) (D.flash flash.old) (D.flash flash.new) }
 {
-    let words = lent(alloc, words)?;
-    match command_of(alloc, words.as_slice())? {
-        None => Err(declined(Reply::fixed(alloc, Outcome::Usage, USAGE))),
-        Some(command) => perform(alloc, command, host, flash),
+    sound_laws();
+    let words = match lent(alloc, words) {
+        Ok(words) => words,
+        Err(_) => return Answer::Said(Err(Stop::NoMemory)),
+    };
+    match command_of(alloc, words.as_slice()) {
+        Ok(Some(command)) => perform(alloc, command, host, flash, launcher),
+        Ok(None) => Answer::Said(Err(declined(Reply::fixed(alloc, Outcome::Usage, USAGE)))),
+        Err(_) => Answer::Said(Err(Stop::NoMemory)),
     }
 }
 
@@ -108,12 +146,12 @@ fn put_text<K: Sink>(out: &mut K, status: u8, text: &str) -> Status
     }
 }
 
-// Puts the lines of an answer.
-fn put<K: Sink>(out: &mut K, answer: Result<Reply, Stop>) -> Status
+// Puts the lines of a reply, or why there is none.
+fn put_said<K: Sink>(out: &mut K, said: Result<Reply, Stop>) -> Status
     ensures { Puts
-        (⟦<K as SeenSink>⟧.seen out.old) (⟦<K as SeenSink>⟧.seen out.new) (ending_of answer) result.0 }
+        (⟦<K as SeenSink>⟧.seen out.old) (⟦<K as SeenSink>⟧.seen out.new) (Answered (ending_of said)) result.0 }
 {
-    match answer {
+    match said {
         Ok(reply) | Err(Stop::Declined(reply)) => {
             put_text(out, reply.outcome.status(), reply.text.as_str())
         }
@@ -122,20 +160,34 @@ fn put<K: Sink>(out: &mut K, answer: Result<Reply, Stop>) -> Status
     }
 }
 
+// Puts the lines of an answer.
+fn put<K: Sink>(out: &mut K, answer: Answer) -> Status
+    ensures { Puts
+        (⟦<K as SeenSink>⟧.seen out.old) (⟦<K as SeenSink>⟧.seen out.new) (ended_of answer) result.0 }
+{
+    match answer {
+        Answer::Said(said) => put_said(out, said),
+        Answer::Booted(end, lines) => put_text(out, boot_status(&end), lines.as_str()),
+        Answer::Updated(end, lines) => put_text(out, update_status(&end), lines.as_str()),
+    }
+}
+
 /// Does all that the program does. The words do not hold the program's name. The flash needs its first 49,152 bytes, where
 /// the configuration, the records and the banks stand.
-pub fn run<H: Host, D: Disk, K: Sink>(
+pub fn run<H: Host, D: Disk, L: Launcher, K: Sink>(
     alloc: Global,
     words: &Names,
     host: &mut H,
     flash: &mut D,
+    launcher: &mut L,
     out: &mut K,
 ) -> Status
     requires { VERSION_1.size ≤ D.extent flash.old }
 
-    // The words have an answer, made in stages over what the host and the flash tell; its lines are put, whole or up to
-    // a fault of the sink, and its status is the result.
+    // The words have an answer, made in stages over what the host and the flash tell, or by a boot or an update that the
+    // launcher tells too; its lines are put, whole or up to a fault of the sink, and its status is the result.
     ensures runs { Runs words.now
+        (⟦<L as SeenLauncher>⟧.seen launcher.old) (⟦<L as SeenLauncher>⟧.seen launcher.new)
         (⟦<H as SeenHost>⟧.seen host.old (⟦<D as SeenDisk>⟧.seen flash.old))
         (⟦<H as SeenHost>⟧.seen host.new (⟦<D as SeenDisk>⟧.seen flash.new))
         (⟦<K as SeenSink>⟧.seen out.old) (⟦<K as SeenSink>⟧.seen out.new) result.0 }
@@ -170,13 +222,36 @@ pub fn run<H: Host, D: Disk, K: Sink>(
         (MayBeLeft (task_of words.now)
         (⟦<H as SeenHost>⟧.seen host.old (⟦<D as SeenDisk>⟧.seen flash.old)) (D.flash flash.old)) }
 
+    // Only `run boot` and `run update` launch. What they launch has its digest, and its size where one is in force; of
+    // `run boot` this holds on a sound flash.
+    ensures only_launching { KeepsLauncher words.now
+        (⟦<L as SeenLauncher>⟧.seen launcher.old) (⟦<L as SeenLauncher>⟧.seen launcher.new) }
+    ensures launches { IsTrue H.told → IsTrue D.told → IsTrue L.told
+        → (task_of words.now ≡ Some RunBoot → Sound VERSION_1 (D.flash flash.old).reads)
+        → GainsSafe (L.launches launcher.old) (L.launches launcher.new) }
+
+    // A settled flash stays sound at each moment, and each image goes on from what was read at the start; at the end it is
+    // settled again, unless it counted a fault.
+    ensures sound { IsTrue D.told → Settled VERSION_1 (D.flash flash.old)
+        → StaysSound (D.flash flash.old) (D.flash flash.new) }
+    ensures settled { IsTrue D.told → StaysSettled (D.flash flash.old) (D.flash flash.new)
+        (D.faults flash.old) (D.faults flash.new) }
+
+    // Of a settled flash, `run update` leaves at each moment the old record and the contents of all slots that it may not
+    // write, or the new record and the contents that its procedure made. `run boot` leaves all but slots that its procedure may
+    // write.
+    ensures keeps { IsTrue D.told → KeepsFor (task_of words.now)
+        (⟦<H as SeenHost>⟧.seen host.old (⟦<D as SeenDisk>⟧.seen flash.old)) (D.flash flash.old) (D.flash flash.new) }
+
     // Statuses and faults.
     ensures status { IsStatus result.0 }
-    ensures counts { AreCounted
+    ensures counts { AreCounted words.now
+        (⟦<L as SeenLauncher>⟧.seen launcher.old) (⟦<L as SeenLauncher>⟧.seen launcher.new)
         (⟦<H as SeenHost>⟧.seen host.old (⟦<D as SeenDisk>⟧.seen flash.old))
         (⟦<H as SeenHost>⟧.seen host.new (⟦<D as SeenDisk>⟧.seen flash.new))
         (⟦<K as SeenSink>⟧.seen out.old) (⟦<K as SeenSink>⟧.seen out.new) result.0 }
     ensures cut_off { result.0 ≡ 9 → IsCutOff words.now
+        (⟦<L as SeenLauncher>⟧.seen launcher.old) (⟦<L as SeenLauncher>⟧.seen launcher.new)
         (⟦<H as SeenHost>⟧.seen host.old (⟦<D as SeenDisk>⟧.seen flash.old))
         (⟦<H as SeenHost>⟧.seen host.new (⟦<D as SeenDisk>⟧.seen flash.new))
         (⟦<K as SeenSink>⟧.seen out.old) (⟦<K as SeenSink>⟧.seen out.new) }
@@ -184,6 +259,7 @@ pub fn run<H: Host, D: Disk, K: Sink>(
     envelope_laws();
     manifest_laws();
     members_laws();
-    let answer = answer(alloc, words, host, flash);
+    sound_laws();
+    let answer = answer(alloc, words, host, flash, launcher);
     put(out, answer)
 }

@@ -39,6 +39,8 @@ pub enum Outcome {
     Severed,
     /// A member that stands apart has another digest than the manifest states.
     Differs,
+    /// The flash's layout lacks a component.
+    UnknownComponent,
     /// A file that the words name is not there.
     Absent,
     /// A file is longer than its limit.
@@ -62,6 +64,7 @@ impl Outcome {
             Outcome::NothingInstalled => 15,
             Outcome::Severed => 16,
             Outcome::Differs => 17,
+            Outcome::UnknownComponent => 18,
             Outcome::Absent => 20,
             Outcome::TooLong => 21,
         }

@@ -10,9 +10,6 @@ ghost use Rattle.suit_cli.specs.Stages.{ending_of};
 ghost use Rattle.suit_cli.specs.Inputs.{longest_file};
 ghost use Rattle.suit_cli.specs.Commands.{shows_manifest, shows_file, shows};
 
-#[cfg(test)]
-mod tests;
-
 use crate::accept::{envelope_in, manifest_in, short};
 use crate::input::{LONGEST_FILE, read, read_key};
 use crate::member_lines::push_members;
@@ -35,7 +32,7 @@ fn tagged_line(tagged: bool) -> &'static str
     }
 }
 
-fn authenticity_line(authenticity: Authenticity<'_>) -> &'static str
+pub(crate) fn authenticity_line(authenticity: Authenticity<'_>) -> &'static str
     ensures { result.now ≡ authenticity_line authenticity.entry }
 {
     match authenticity {

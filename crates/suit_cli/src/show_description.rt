@@ -13,9 +13,6 @@ ghost use Rattle.suit_cli.specs.Envelopes.{ManifestOf};
 ghost use Rattle.suit_cli.specs.Describing.{there_in, text_in, IsDescribed};
 ghost use Rattle.suit_cli.specs.Commands.{describes_manifest, describes_file, describes};
 
-#[cfg(test)]
-mod tests;
-
 use crate::accept::{differs, envelope_in, lack, manifest_in, short};
 use crate::input::{LONGEST_FILE, read};
 use crate::outside::SeenHost;

@@ -3,7 +3,7 @@
 ghost use Rattle.std.specs.Prelude.{◌≡◌, ◌≤◌, ◌++◌, IfOk, IsTrue, string_bytes};
 ghost use Rattle.suit_edge.specs.Flash.{IsSame};
 ghost use Rattle.flash_layout.specs.declared.frame.TheConstants.{VERSION_1};
-ghost use Rattle.flash_layout.specs.Layouts.{IsLayout};
+ghost use Rattle.flash_layout.specs.Configs.{IsAllowed};
 ghost use Rattle.suit_cli.specs.declared.reply.Outcome.TheVariants as outcomes;
 ghost use Rattle.suit_cli.specs.Lines.{number_line};
 ghost use Rattle.suit_cli.specs.Outside.{Outside, with_flash};
@@ -11,9 +11,6 @@ ghost use Rattle.suit_cli.specs.Replies.{Makes};
 ghost use Rattle.suit_cli.specs.Stages.{Does, ending_of};
 ghost use Rattle.suit_cli.specs.Installed.{config_in, record_in, digest_line, record_lines};
 ghost use Rattle.suit_cli.specs.Commands.{tells_status};
-
-#[cfg(test)]
-mod tests;
 
 use crate::components::component_lines;
 use crate::outside::SeenDisk;
@@ -25,13 +22,13 @@ use std::alloc::{AllocError, Global};
 use suit_edge::Disk;
 use suit_params::Digest;
 
-// The configuration of a flash that has one.
-fn config_in<D: Disk>(alloc: Global, flash: &mut D) -> Result<(Layout, Key), Stop>
+/// The configuration of a flash that has one.
+pub(crate) fn config_in<D: Disk>(alloc: Global, flash: &mut D) -> Result<(Layout, Key), Stop>
     ensures finds { (here : Outside) → Does config_in
         (with_flash here (⟦<D as SeenDisk>⟧.seen flash.old))
         (with_flash here (⟦<D as SeenDisk>⟧.seen flash.new)) result }
     ensures extent { D.extent flash.new ≡ D.extent flash.old }
-    ensures allowed { IfOk result (λ config. IsLayout VERSION_1 (D.extent flash.old) config.0) }
+    ensures allowed { IfOk result (λ config. IsAllowed VERSION_1 (D.extent flash.old) config.0 config.1) }
     ensures same { IsTrue D.told → IsSame (D.flash flash.old) (D.flash flash.new) }
 {
     match load_config(alloc, flash) {
@@ -66,7 +63,7 @@ fn record_in<D: Disk>(alloc: Global, flash: &mut D) -> Result<Record, Stop>
     }
 }
 
-fn number_line(alloc: Global, word: &str, number: u64) -> Result<String, AllocError>
+pub(crate) fn number_line(alloc: Global, word: &str, number: u64) -> Result<String, AllocError>
     ensures { IfOk result (λ t. string_bytes t ≡ number_line word.now number) }
 {
     format!(in alloc; "{word} {number}\n")

@@ -1,15 +1,18 @@
 //! What the words of the command line ask for.
 
-ghost use Rattle.std.specs.Prelude.{◌≡◌, IfOk, option_map};
+ghost use Rattle.std.specs.Prelude.{◌≡◌, IfOk, map, option_map};
 ghost use Rattle.command_words.specs.Tasks.{texts};
 ghost use Rattle.command_words.specs.Said.{said};
-ghost use Rattle.suit_cli.specs.Words.{built, task_of, task_said};
+ghost use Rattle.command_words.specs.UriWords.{answer_said};
+ghost use Rattle.suit_cli.specs.Words.{built, named_by, task_of, task_said};
 
-use det_cbor::Names;
+use command_words::UriWord;
+use det_cbor::{Names, Text};
 use std::alloc::{AllocError, Global};
+use step_machine::Uris;
 
 /// What the program is asked to do, with the names of its files.
-#[derive(Clone, Copy, Debug, PartialEq, Eq)]
+#[derive(Debug, Drop)]
 pub(crate) enum Command<'a> {
     /// To make an envelope of the description in the first file, authentic under the key in the second, and to store it
     /// under the third name.
@@ -22,6 +25,10 @@ pub(crate) enum Command<'a> {
     Check(&'a str),
     /// To format the flash by the device's description in the first file, with the key in the second.
     RunInit(&'a str, &'a str),
+    /// To install the envelope in this file, with the files that answer URIs.
+    RunUpdate(&'a str, Uris),
+    /// To start what is installed in the flash.
+    RunBoot,
     /// To show what is installed in the flash.
     RunStatus,
 }
@@ -37,11 +44,26 @@ pub(crate) fn lent<'a>(alloc: Global, words: &'a Names) -> Result<Vec<&'a str>, 
     Ok(lent)
 }
 
-// Of the commands that words may ask for, those that are built. The others are usage as yet.
-fn built(command: command_words::Command<'_>) -> Option<Command<'_>>
-    ensures { option_map task_said result ≡ built (said command.entry) }
+// The names of files by their URIs, in the order of their words.
+fn uris_of(alloc: Global, words: &[UriWord<'_>]) -> Result<Uris, AllocError>
+    ensures { IfOk result (λ uris. uris ≡ map named_by (map answer_said words.now)) }
 {
-    match command {
+    let mut uris = Uris::new(alloc);
+    for word in words {
+        let uri = Text::from_str(alloc, word.uri)?;
+        uris.push(uri, Text::from_str(alloc, word.name)?)?;
+    }
+    Ok(uris)
+}
+
+// Of the commands that words may ask for, those that are built. The others are usage as yet.
+fn built<'a>(
+    alloc: Global,
+    command: command_words::Command<'a>,
+) -> Result<Option<Command<'a>>, AllocError>
+    ensures { IfOk result (λ c. option_map task_said c ≡ built (said command.entry)) }
+{
+    Ok(match command {
         command_words::Command::Make {
             description,
             key,
@@ -51,11 +73,13 @@ fn built(command: command_words::Command<'_>) -> Option<Command<'_>>
         command_words::Command::Show { file, key } => Some(Command::Show(file, key)),
         command_words::Command::Check { file } => Some(Command::Check(file)),
         command_words::Command::Init { device, key } => Some(Command::RunInit(device, key)),
-        command_words::Command::Update { .. } => None,
-        command_words::Command::Boot => None,
+        command_words::Command::Update { file, uris } => {
+            Some(Command::RunUpdate(file, uris_of(alloc, uris.as_slice())?))
+        }
+        command_words::Command::Boot => Some(Command::RunBoot),
         command_words::Command::Status => Some(Command::RunStatus),
         command_words::Command::Drill { .. } => None,
-    }
+    })
 }
 
 /// The command that the words are; none where they are usage.
@@ -66,7 +90,7 @@ pub(crate) fn command_of<'a>(
     ensures { IfOk result (λ c. option_map task_said c ≡ task_of (texts words.entry.now)) }
 {
     match command_words::command_of(alloc, words)? {
-        Some(command) => Ok(built(command)),
+        Some(command) => built(alloc, command),
         None => Ok(None),
     }
 }

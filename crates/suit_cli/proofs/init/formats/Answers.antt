@@ -1,11 +1,14 @@
-use Rattle.std.proofs.Common.{refl, inr}
+use Rattle.std.proofs.Common.{refl, inr, subst}
+use Rattle.suit_edge.specs.Flash.{IsFlash}
 use Rattle.suit_edge.specs.FlashLaws.{weakens}
+use Rattle.flash_layout.specs.declared.formatting.Formatted.TheVariants as formatted
 use Rattle.suit_cli.specs.declared.reply.Object.TheVariants as objects
 use Rattle.suit_cli.specs.declared.reply.Stop.TheVariants as stops
 use Rattle.suit_cli.specs.Stages.{Goes, Faults, IsSaid}
 use Rattle.suit_cli.proofs.Chains.{ends_there}
 use Rattle.suit_cli.proofs.Leaving.{still, not_yet}
 use Rattle.suit_cli.proofs.Initing.{looks_self, in_use_there}
+use Rattle.suit_cli.proofs.Settling.{formats_settled, looked}
 use Rattle.suit_cli.proofs.init.formats.Goals as goal
 
 pub returns-in_err-ready-clause-formats : goal.returns-in_err-ready-clause-formats
@@ -54,3 +57,18 @@ returns-in-FlashFault-clause-formats g c here =
 
 pub returns-in-FlashFault-clause-any_moment : goal.returns-in-FlashFault-clause-any_moment
 returns-in-FlashFault-clause-any_moment g c t = weakens _ _ _ _ (λ image way. inr way) (c.in-FlashFault.ensures.any_moment t)
+
+pub returns-in_err-ready-clause-settled : goal.returns-in_err-ready-clause-settled
+returns-in_err-ready-clause-settled g c t settled never = settled
+
+pub returns-in-Done-clause-settled : goal.returns-in-Done-clause-settled
+returns-in-Done-clause-settled g c t =
+    formats_settled c.sound_laws.ensures _ c.args.layout.now c.args.key.now _ formatted.Done _ _ _ _
+    (subst (IsFlash (g.D.Disk.flash c.format.new.disk)) c.in-Done.ensures.size (g.met.D.Disk.obeys c.format.new.disk t)) c.in-Done.ensures.counts
+    (c.in-Done.ensures.not_blank t) (c.in-Done.ensures.formatted t) (c.in-Done.ensures.settled t)
+
+pub returns-in-NotBlank-clause-settled : goal.returns-in-NotBlank-clause-settled
+returns-in-NotBlank-clause-settled g c t = looked _ _ _ _ _ (g.met.D.Disk.obeys c.format.new.disk t) (c.in-NotBlank.ensures.not_blank t).1
+
+pub returns-in-FlashFault-clause-settled : goal.returns-in-FlashFault-clause-settled
+returns-in-FlashFault-clause-settled g c t settled never = absurd (never c.in-FlashFault.ensures.counts)

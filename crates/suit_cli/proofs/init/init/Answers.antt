@@ -4,6 +4,7 @@ use Rattle.suit_cli.specs.Outside.{Outside}
 use Rattle.suit_cli.specs.Stages.{Goes}
 use Rattle.suit_cli.proofs.Chains.{anywhere, ends_there}
 use Rattle.suit_cli.proofs.Leaving.{not_yet, formats_later}
+use Rattle.suit_cli.proofs.Settling.{looked, looked_then}
 use Rattle.suit_cli.proofs.init.init.Goals as goal
 
 pub returns-in_err-size-clause-answer : goal.returns-in_err-size-clause-answer
@@ -40,3 +41,11 @@ returns-clause-any_moment g c told =
     formats_later c.args.device.now c.args.key_name.now _ _ _ _ _
     (subst (IsFlash (g.D.Disk.flash c.unused.new.flash)) c.in_ok-size.ensures.extent (g.met.D.Disk.obeys c.unused.new.flash told))
     (c.in_ok-size.ensures.same told) (c.in_ok-size.ensures.finds anywhere).1.shut c.in_ok-size.size (c.in_ok-size.ensures.finds anywhere).1.size_is (c.init_as.ensures.any_moment told)
+
+pub returns-in_err-size-clause-settled : goal.returns-in_err-size-clause-settled
+returns-in_err-size-clause-settled g c told = looked _ _ _ _ _ (g.met.D.Disk.obeys c.unused.new.flash told) (c.in_err-size.ensures.same told)
+
+pub returns-clause-settled : goal.returns-clause-settled
+returns-clause-settled g c told =
+    looked_then _ _ _ _ _ _ _ (g.met.D.Disk.obeys c.unused.new.flash told) (c.in_ok-size.ensures.same told) (c.in_ok-size.ensures.finds anywhere).0.faults
+    (c.init_as.ensures.settled told)

@@ -103,3 +103,12 @@ returns-clause-any_moment g c told =
     formats_by c.args.size _ c.args.device.now c.args.key_name.now c.in_ok-bytes.bytes c.in_ok-key_bytes.key_bytes c.in_ok-layout.layout _ _ _ c.requires.size
     (as_seen _ anywhere.flash _ _ _ one.1) (device_of c.args.size _ _ c.as_slice.ensures (Ok c.in_ok-layout.layout) c.in_ok-layout.ensures.finds anywhere).1 (key_seen _ middle anywhere.flash one.0.quiet.told one.0.quiet.files _ _ two.1)
     (way_by_key _ c.in_ok-layout.layout _ _ (c.key_of-key.ensures.is ∙ ap key_of c.as_slice-2.ensures) _ _ (c.formats.ensures.any_moment told))
+
+pub returns-in_err-bytes-clause-settled : goal.returns-in_err-bytes-clause-settled
+returns-in_err-bytes-clause-settled g c told settled never = settled
+
+pub returns-in_err-layout-clause-settled : goal.returns-in_err-layout-clause-settled
+returns-in_err-layout-clause-settled g c told settled never = settled
+
+pub returns-in_err-key_bytes-clause-settled : goal.returns-in_err-key_bytes-clause-settled
+returns-in_err-key_bytes-clause-settled g c told settled never = settled

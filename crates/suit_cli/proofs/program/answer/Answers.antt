@@ -1,36 +1,69 @@
-use Rattle.std.proofs.Common.{refl, sym, ap, ◌∙◌, Option}
+use Rattle.std.proofs.Common.{sym, ap, ◌∙◌, Option, Some, None}
 use Rattle.std.specs.Prelude.{option_map}
 use Rattle.command_words.specs.Tasks.{texts}
-use Rattle.suit_cli.specs.declared.reply.Stop.TheVariants as stops
 use Rattle.suit_cli.specs.Words.{task_of, task_said}
 use Rattle.suit_cli.specs.declared.words.Command.{Command}
-use Rattle.suit_cli.specs.Stages.{Goes}
-use Rattle.suit_cli.proofs.Chains.{ends_there, answers_usage}
+use Rattle.suit_cli.proofs.BootAnswers.{comes_starved, comes_usage, comes_task}
 use Rattle.suit_cli.proofs.Leaving.{start_left}
+use Rattle.suit_cli.proofs.Sounding.{if_launches_by, keeps_unmoved, if_unmoved, keeps_by}
 use Rattle.suit_cli.proofs.program.answer.Goals as goal
 
-pub returns-in_err-words-clause-answer : goal.returns-in_err-words-clause-answer
-returns-in_err-words-clause-answer g c = ends_there _ _ _ _ c.from_residual.result stops.NoMemory c.from_residual.ensures.1 refl
+pub returns-in-Err-clause-answer : goal.returns-in-Err-clause-answer
+returns-in-Err-clause-answer g c = comes_starved c.args.words.now _ _
 
-pub returns-in_err-words-clause-any_moment : goal.returns-in_err-words-clause-any_moment
-returns-in_err-words-clause-any_moment g c told = start_left _ _ _
+pub returns-in-Err-clause-any_moment : goal.returns-in-Err-clause-any_moment
+returns-in-Err-clause-any_moment g c told = start_left _ _ _
 
-pub returns-in_err-command_of-clause-answer : goal.returns-in_err-command_of-clause-answer
-returns-in_err-command_of-clause-answer g c = ends_there _ _ _ _ c.from_residual-in_err-command_of.result stops.NoMemory c.from_residual-in_err-command_of.ensures.1 refl
-
-pub returns-in_err-command_of-clause-any_moment : goal.returns-in_err-command_of-clause-any_moment
-returns-in_err-command_of-clause-any_moment g c told = start_left _ _ _
-
-pub returns-in-None-clause-answer : goal.returns-in-None-clause-answer
-returns-in-None-clause-answer g c =
-    answers_usage c.args.words.now _ c.fixed.result c.declined.result (sym (ap task_of (ap texts c.as_slice.ensures.value ∙ c.in_ok-words.ensures)) ∙ sym c.in_ok-command_of.ensures
-    ∙ ap (λ (o : Option Command). option_map task_said o) c.in-None.is)
-    c.fixed.ensures c.declined.ensures
+pub returns-in-Err-clause-sound : goal.returns-in-Err-clause-sound
+returns-in-Err-clause-sound g c told = if_unmoved c.sound_laws.ensures (task_of c.args.words.now) (g.D.Disk.flash c.args.flash.now)
 
 pub returns-clause-answer : goal.returns-clause-answer
-returns-clause-answer g c =
-    Goes (task_said c.in-Some.command) _ _ (
-      refl,
-      sym (ap task_of (ap texts c.as_slice.ensures.value ∙ c.in_ok-words.ensures)) ∙ sym c.in_ok-command_of.ensures
-          ∙ ap (λ (o : Option Command). option_map task_said o) c.in-Some.is,
-    ) c.perform.ensures.answer
+returns-clause-answer g c = comes_starved c.args.words.now _ _
+
+pub returns-clause-any_moment : goal.returns-clause-any_moment
+returns-clause-any_moment g c told = start_left _ _ _
+
+pub returns-clause-sound : goal.returns-clause-sound
+returns-clause-sound g c told = if_unmoved c.sound_laws.ensures (task_of c.args.words.now) (g.D.Disk.flash c.args.flash.now)
+
+pub returns-in-Ok-None-clause-answer : goal.returns-in-Ok-None-clause-answer
+returns-in-Ok-None-clause-answer g c =
+    comes_usage c.args.words.now _ _ c.fixed.result c.declined.result (sym (ap task_of (ap texts c.as_slice.ensures.value ∙ c.in-Ok.ensures)) ∙ sym c.in-Ok-None.ensures
+    ∙ ap (λ (o : Option Command). option_map task_said o) c.in-Ok-None.field-0-is)
+    c.fixed.ensures c.declined.ensures
+
+pub returns-in-Ok-None-clause-any_moment : goal.returns-in-Ok-None-clause-any_moment
+returns-in-Ok-None-clause-any_moment g c told = start_left _ _ _
+
+pub returns-in-Ok-None-clause-sound : goal.returns-in-Ok-None-clause-sound
+returns-in-Ok-None-clause-sound g c told = if_unmoved c.sound_laws.ensures (task_of c.args.words.now) (g.D.Disk.flash c.args.flash.now)
+
+pub returns-in-Ok-Some-clause-answer : goal.returns-in-Ok-Some-clause-answer
+returns-in-Ok-Some-clause-answer g c =
+    comes_task c.args.words.now (task_said c.in-Ok-Some.command)
+    (sym (ap task_of (ap texts c.as_slice.ensures.value ∙ c.in-Ok.ensures)) ∙ sym c.in-Ok-Some.ensures
+    ∙ ap (λ (o : Option Command). option_map task_said o) c.in-Ok-Some.field-0-is)
+    _ _ _ _ _ c.perform.ensures.answer
+
+pub returns-in-Ok-Some-clause-sound : goal.returns-in-Ok-Some-clause-sound
+returns-in-Ok-Some-clause-sound g c told =
+    if_launches_by _ _ _
+    (sym (ap task_of (ap texts c.as_slice.ensures.value ∙ c.in-Ok.ensures)) ∙ sym c.in-Ok-Some.ensures
+    ∙ ap (λ (o : Option Command). option_map task_said o) c.in-Ok-Some.field-0-is)
+    (c.perform.ensures.sound told)
+
+pub returns-in-Err-clause-keeps : goal.returns-in-Err-clause-keeps
+returns-in-Err-clause-keeps g c told = keeps_unmoved (task_of c.args.words.now) _ (g.D.Disk.flash c.args.flash.now)
+
+pub returns-clause-keeps : goal.returns-clause-keeps
+returns-clause-keeps g c told = keeps_unmoved (task_of c.args.words.now) _ (g.D.Disk.flash c.args.flash.now)
+
+pub returns-in-Ok-None-clause-keeps : goal.returns-in-Ok-None-clause-keeps
+returns-in-Ok-None-clause-keeps g c told = keeps_unmoved (task_of c.args.words.now) _ (g.D.Disk.flash c.args.flash.now)
+
+pub returns-in-Ok-Some-clause-keeps : goal.returns-in-Ok-Some-clause-keeps
+returns-in-Ok-Some-clause-keeps g c told =
+    keeps_by _ _ _ _ _
+    (sym (ap task_of (ap texts c.as_slice.ensures.value ∙ c.in-Ok.ensures)) ∙ sym c.in-Ok-Some.ensures
+    ∙ ap (λ (o : Option Command). option_map task_said o) c.in-Ok-Some.field-0-is)
+    (c.perform.ensures.keeps told)

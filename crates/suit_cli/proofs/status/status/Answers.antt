@@ -26,12 +26,12 @@ returns-in_err-installed-clause-same g c t =
 
 pub component_lines-requires-clause-few : goal.component_lines-requires-clause-few
 component_lines-requires-clause-few g c =
-    subst (λ (l : List Entry). length l ≤ 8) (sym c.as_slice.ensures) c.in_ok-config.ensures.allowed.few
+    subst (λ (l : List Entry). length l ≤ 8) (sym c.as_slice.ensures) c.in_ok-config.ensures.allowed.layout_is.few
 
 pub component_lines-requires-clause-each : goal.component_lines-requires-clause-each
 component_lines-requires-clause-each g c =
     subst (λ (l : List Entry). All (IsEntry (g.D.Disk.extent c.record_in.new.flash)) l) (sym c.as_slice.ensures)
-    (subst (λ (n : ℕ). All (IsEntry n) c.in_ok-config.config.0) (sym (c.in_ok-installed.ensures.extent ∙ c.in_ok-config.ensures.extent)) c.in_ok-config.ensures.allowed.each)
+    (subst (λ (n : ℕ). All (IsEntry n) c.in_ok-config.config.0) (sym (c.in_ok-installed.ensures.extent ∙ c.in_ok-config.ensures.extent)) c.in_ok-config.ensures.allowed.layout_is.each)
 
 pub returns-in_err-lines-clause-answer : goal.returns-in_err-lines-clause-answer
 returns-in_err-lines-clause-answer g c here =

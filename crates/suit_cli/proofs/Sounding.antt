@@ -1,0 +1,181 @@
+-- A settled flash stays sound.
+use Rattle.std.proofs.Common.{◌≡◌, ◌⊎◌, inl, inr, ℕ, List, length, Option, Some, None, refl, sym, subst, ◌∙◌, arith}
+use Rattle.std.specs.Prelude.{IsTrue}
+use Rattle.std.proofs.lemmas.List.Edits.{get_or-between}
+use Rattle.suit_edge.specs.Gate.{IsOpen}
+use Rattle.suit_edge.specs.Flash.{Flash, Now, Passes, IsFlash, IsSame}
+use Rattle.suit_edge.specs.FlashLaws.{same_flash, starts, weakens, joined}
+use Rattle.flash_layout.specs.declared.frame.TheConstants.{VERSION_1}
+use Rattle.flash_layout.specs.declared.key.Key.{Key}
+use Rattle.flash_layout.specs.declared.layout.Entry.{Entry}
+use Rattle.flash_layout.specs.Configs.{ConfigOf, IsBlank, Blank, Configured}
+use Rattle.flash_layout.specs.Formats.{IsFormatted}
+use Rattle.flash_layout.specs.Frames.{head_of}
+use Rattle.flash_layout.specs.declared.slot.Record.{Record}
+use Rattle.rollback_record.specs.HeadRecord.{RecordOf}
+use Rattle.rollback_record.specs.SoundFlash.{Follows, FollowsBlank, FollowsOn, IsNoEarlier, Settled, Sound, SoundBlank}
+use Rattle.rollback_record.specs.SoundLaws.{SoundLaws}
+use Rattle.rollback_record.specs.SettledLaws.{both, each_sound, settled_still}
+use Rattle.invoke_proc.specs.declared.boot_end.BootEnd.{BootEnd}
+use Rattle.invoke_proc.specs.declared.boot_end.BootEnd.TheVariants as ends
+use Rattle.invoke_proc.specs.Booting.{KeepsBoot, KeptSo}
+use Rattle.suit_cli.specs.Words.{Task, Make, Describe, Show, Check, RunInit, RunUpdate, RunBoot, RunStatus}
+use Rattle.suit_cli.specs.Outside.{Outside}
+use Rattle.suit_cli.specs.Devices.{key_of}
+use Rattle.suit_cli.specs.Formatting.{MayFormat, MayLeave}
+use Rattle.suit_cli.specs.Coming.{PassesAny, StaysSound}
+use Rattle.suit_cli.specs.Program.{IfLaunches, KeepsFor, MayBeLeft}
+
+-- what goes on to an image goes on to each with the same head
+held_follows : (a b c : List ℕ) → length c ≡ length b → head_of VERSION_1 c ≡ head_of VERSION_1 b → Follows VERSION_1 a b → Follows VERSION_1 a c
+held_follows a b c size head (FollowsBlank blank) = FollowsBlank blank
+held_follows a b c size head (FollowsOn on) = FollowsOn (record {
+  layout = on.layout;
+  key = on.key;
+  was = on.was;
+  is = subst (λ (h : List ℕ). ConfigOf VERSION_1 (length c) h (Configured on.layout on.key)) (sym head)
+      (subst (λ (n : ℕ). ConfigOf VERSION_1 n (head_of VERSION_1 b) (Configured on.layout on.key)) (sym size) on.is);
+  later = λ r was. subst (λ (h : List ℕ). (s : Record) × RecordOf VERSION_1 h (Some s) × IsNoEarlier r s) (sym head) (on.later r was);
+})
+
+module _ (laws : SoundLaws) (a : Flash) (settled : Settled VERSION_1 a) where
+  -- each image of the start
+  each_follows : (image : List ℕ) → Now a image → Follows VERSION_1 a.reads image
+  each_follows image now =
+      held_follows a.reads a.reads image (settled.sure image now).size (settled.sure image now).head (laws.itself VERSION_1 a.reads settled.sound)
+
+  pub stays_start : StaysSound a a
+  stays_start = (starts a (Sound VERSION_1) (each_sound VERSION_1 a settled), starts a (Follows VERSION_1 a.reads) each_follows)
+
+  pub stays_now : (b : Flash) → Passes a b (Now a) → StaysSound a b
+  stays_now b run =
+      (weakens a b (Now a) (Sound VERSION_1) (each_sound VERSION_1 a settled) run, weakens a b (Now a) (Follows VERSION_1 a.reads) each_follows run)
+
+  -- on the way to a format
+  module _ (device key_name : List ℕ) (before : Outside) (b : Flash) (told : IsTrue before.flash.told) (reads : a.reads ≡ before.flash.reads)
+      (law : IsFlash b before.flash.size) (run : Passes a b (MayLeave device key_name before a)) where
+    sized : Passes a b (λ image. length image ≡ before.flash.size)
+    sized = record {
+      later = run.later;
+      each = λ image may. law.sized a.clock image run.later may;
+      before = λ t image le may. inr (law.sized t image (omega (arith, le, run.later)) may);
+    }
+
+    blank_reads : (IsTrue before.flash.told → IsOpen before.flash.reads 0 → ⊥) → IsBlank VERSION_1 (head_of VERSION_1 a.reads)
+    blank_reads shut = inr (λ open_head. shut told (subst (λ (r : List ℕ). IsOpen r 0) reads (sym (get_or-between a.reads 0 49152 0 0 (omega arith)) ∙ open_head)))
+
+    blank_each : IsBlank VERSION_1 (head_of VERSION_1 a.reads) → (image : List ℕ) → Now a image → IsBlank VERSION_1 (head_of VERSION_1 image)
+    blank_each blank image now = subst (IsBlank VERSION_1) (sym (settled.sure image now).head) blank
+
+    formatted_sound : (image : List ℕ) → length image ≡ before.flash.size → MayFormat before.flash.size device key_name before a image
+        → IsBlank VERSION_1 (head_of VERSION_1 a.reads) → Sound VERSION_1 image
+    formatted_sound image size way blank = of_way (way.blank_or_formatted (blank_each blank)) where
+      of_way : (IsBlank VERSION_1 (head_of VERSION_1 image)) ⊎ (IsFormatted VERSION_1 before.flash.size way.layout (key_of way.key) image) → Sound VERSION_1 image
+      of_way (inl none) = SoundBlank none
+      of_way (inr formatted) =
+          laws.formatted VERSION_1 way.layout (key_of way.key) image
+          (subst (λ (n : ℕ). IsFormatted VERSION_1 n way.layout (key_of way.key) image) (sym size) formatted)
+
+    sound_image : (image : List ℕ) → MayLeave device key_name before a image × (length image ≡ before.flash.size) → Sound VERSION_1 image
+    sound_image image (inl now, size) = each_sound VERSION_1 a settled image now
+    sound_image image (inr way, size) = formatted_sound image size way.1 (blank_reads way.0)
+
+    follows_image : (image : List ℕ) → MayLeave device key_name before a image × (length image ≡ before.flash.size) → Follows VERSION_1 a.reads image
+    follows_image image (inl now, size) = each_follows image now
+    follows_image image (inr way, size) = FollowsBlank (blank_reads way.0)
+
+    stays_formatting : StaysSound a b
+    stays_formatting =
+        let all = both a b (MayLeave device key_name before a) (λ image. length image ≡ before.flash.size) run sized in
+        (weakens a b _ (Sound VERSION_1) sound_image all, weakens a b _ (Follows VERSION_1 a.reads) follows_image all)
+
+  -- by the words
+  pub stays_by : (task : Option Task) (before : Outside) (b : Flash) → IsTrue before.flash.told → a.reads ≡ before.flash.reads → IsFlash b before.flash.size
+      → IfLaunches task (Settled VERSION_1 a → StaysSound a b) → Passes a b (MayBeLeft task before a) → StaysSound a b
+  stays_by None before b told reads law boot run = stays_now b run
+  stays_by (Some (Make description key out)) before b told reads law boot run = stays_now b run
+  stays_by (Some (Describe name)) before b told reads law boot run = stays_now b run
+  stays_by (Some (Show name key)) before b told reads law boot run = stays_now b run
+  stays_by (Some (Check name)) before b told reads law boot run = stays_now b run
+  stays_by (Some (RunInit device key)) before b told reads law boot run = stays_formatting device key before b told reads law run
+  stays_by (Some (RunUpdate name uris)) before b told reads law boot run = boot settled
+  stays_by (Some RunBoot) before b told reads law boot run = boot settled
+  stays_by (Some RunStatus) before b told reads law boot run = stays_now b run
+
+  -- behind looks at it
+  pub stays_later : (b c : Flash) → IsSame a b → StaysSound b c → StaysSound a c
+  stays_later b c same run =
+      let first = stays_now b same.images in (
+        joined a b c (Sound VERSION_1) first.0 run.0,
+        joined a b c (Follows VERSION_1 a.reads) first.1 (subst (λ (reads : List ℕ). Passes b c (Follows VERSION_1 reads)) same.reads run.1),
+      )
+
+pub settled_later : (a b : Flash) (size : ℕ) → IsFlash b size → IsSame a b → Settled VERSION_1 a → Settled VERSION_1 b
+settled_later a b size law same settled = settled_still VERSION_1 a b size law same settled
+
+-- ---- any image
+
+pub any_start : (a : Flash) → PassesAny a a
+any_start a = starts a (λ image. Unit {0}) (λ image now. tt)
+
+pub any_of : (a b : Flash) (P : List ℕ → Type 0) → Passes a b P → PassesAny a b
+any_of a b P run = weakens a b P (λ image. Unit {0}) (λ image p. tt) run
+
+pub any_later : (a b c : Flash) → IsSame a b → PassesAny b c → PassesAny a c
+any_later a b c same run = joined a b c (λ image. Unit {0}) (any_of a b (Now a) same.images) run
+
+module _ (layout : List Entry) (key : Key) (a b : Flash) where
+  of_same : IsSame a b → PassesAny a b
+  of_same same = any_of a b (Now a) same.images
+
+  of_kept : KeepsBoot layout key a b → PassesAny a b
+  of_kept kept = any_of a b _ kept.others.keeps.images
+
+  pub any_boot : (end : BootEnd) → KeptSo (KeepsBoot layout key a b) (IsSame a b) end → PassesAny a b
+  any_boot ends.Ended kept = of_kept kept
+  any_boot (ends.Condition place) kept = of_kept kept
+  any_boot (ends.Stopped place cause) kept = of_kept kept
+  any_boot ends.FlashFault kept = of_either kept where
+    of_either : (IsSame a b) ⊎ (KeepsBoot layout key a b) → PassesAny a b
+    of_either (inl same) = of_same same
+    of_either (inr k) = of_kept k
+  any_boot ends.NothingInstalled kept = of_same kept
+  any_boot (ends.BadBank refusal) kept = of_same kept
+  any_boot (ends.NotAuthentic lacking) kept = of_same kept
+  any_boot (ends.UnknownComponent component) kept = of_same kept
+  any_boot ends.NoMemory kept = of_same kept
+
+-- ---- by the words
+
+pub if_launches : (task : Option Task) (P : Type 0) → P → IfLaunches task P
+if_launches None P p = tt
+if_launches (Some (Make description key out)) P p = tt
+if_launches (Some (Describe name)) P p = tt
+if_launches (Some (Show name key)) P p = tt
+if_launches (Some (Check name)) P p = tt
+if_launches (Some (RunInit device key)) P p = tt
+if_launches (Some (RunUpdate name uris)) P p = p
+if_launches (Some RunBoot) P p = p
+if_launches (Some RunStatus) P p = tt
+
+-- where nothing was done
+pub if_unmoved : (laws : SoundLaws) (task : Option Task) (a : Flash) → IfLaunches task (Settled VERSION_1 a → StaysSound a a)
+if_unmoved laws task a = if_launches task (Settled VERSION_1 a → StaysSound a a) (λ settled. stays_start laws a settled)
+
+pub if_launches_by : (task t : Option Task) (P : Type 0) → task ≡ t → IfLaunches t P → IfLaunches task P
+if_launches_by task t P same p = subst (λ (u : Option Task). IfLaunches u P) (sym same) p
+
+-- where nothing was done
+pub keeps_unmoved : (task : Option Task) (before : Outside) (a : Flash) → KeepsFor task before a a
+keeps_unmoved None before a = tt
+keeps_unmoved (Some (Make description key out)) before a = tt
+keeps_unmoved (Some (Describe name)) before a = tt
+keeps_unmoved (Some (Show name key)) before a = tt
+keeps_unmoved (Some (Check name)) before a = tt
+keeps_unmoved (Some (RunInit device key)) before a = tt
+keeps_unmoved (Some (RunUpdate name uris)) before a = λ settled. inl (same_flash a)
+keeps_unmoved (Some RunBoot) before a = inl (same_flash a)
+keeps_unmoved (Some RunStatus) before a = tt
+
+pub keeps_by : (task t : Option Task) (before : Outside) (a b : Flash) → task ≡ t → KeepsFor t before a b → KeepsFor task before a b
+keeps_by task t before a b same kept = subst (λ (u : Option Task). KeepsFor u before a b) (sym same) kept

@@ -1,0 +1,125 @@
+-- The answer to `run update`.
+use Rattle.std.proofs.Common.{◌≡◌, ◌⊎◌, inl, inr, ℕ, List, Option, Result, Ok, Err, refl, sym, subst}
+use Rattle.suit_edge.specs.Flash.{Flash, IsFlash, IsSame}
+use Rattle.suit_edge.specs.FlashLaws.{same_flash_then}
+use Rattle.suit_params.specs.declared.digest.Digest.{Digest}
+use Rattle.suit_envelope.specs.Trimmed.{trimmed}
+use Rattle.suit_envelope.specs.WrapperParts.{WrapperSays}
+use Rattle.suit_manifest.specs.Procedures.{update_tree}
+use Rattle.flash_layout.specs.declared.frame.TheConstants.{VERSION_1}
+use Rattle.flash_layout.specs.declared.key.Key.{Key}
+use Rattle.flash_layout.specs.declared.layout.Entry.{Entry}
+use Rattle.flash_layout.specs.declared.slot.Record.{Record}
+use Rattle.flash_layout.specs.Configs.{ConfigOf, Configured, IsAllowed}
+use Rattle.flash_layout.specs.Frames.{head_of}
+use Rattle.rollback_record.specs.HeadRecord.{RecordOf}
+use Rattle.rollback_record.specs.SoundFlash.{Settled}
+use Rattle.update_proc.specs.declared.update_end.UpdateEnd.{UpdateEnd}
+use Rattle.update_proc.specs.Offered.{ForOffer}
+use Rattle.update_proc.specs.Updates.{KeepsUpdate, KeptSo}
+use Rattle.update_proc.proofs.Reread.{keeps_from, kept_from}
+use Rattle.suit_cli.specs.declared.reply.Reply.{Reply}
+use Rattle.suit_cli.specs.declared.reply.Stop.{Stop}
+use Rattle.suit_cli.specs.Words.{RunUpdate}
+use Rattle.suit_cli.specs.Outside.{Outside}
+use Rattle.suit_cli.specs.Stages.{Ending, NoMemory, Answers, Goes, Last, EndsWithout, Does, ending_of, ◌>>=◌}
+use Rattle.suit_cli.specs.Inputs.{longest_file, IsRead, file}
+use Rattle.suit_cli.specs.Installed.{config_in}
+use Rattle.suit_cli.specs.Launching.{Launching}
+use Rattle.suit_cli.specs.Acceptance.{Accepted, IsAccepted, accepts}
+use Rattle.suit_cli.specs.Commands.{does}
+use Rattle.suit_cli.specs.Coming.{Comes, ByStages, ByUpdate, Ended, Answered, Booted, Updated, UpdatesBy}
+use Rattle.suit_cli.specs.Updating.{KeepsAccepted, KeepsFlash, StaysOrKeeps, new_of}
+use Rattle.suit_cli.proofs.Chains.{stopped}
+
+abbrev Nothing : Answers
+Nothing = Last (λ (reply : Reply). ⊥)
+
+abbrev OfFile : List Entry → Key → List ℕ → Answers
+OfFile layout key name = file longest_file name >>= λ bytes. accepts layout key bytes >>= λ accepted. Nothing
+
+-- ---- in stages
+
+module _ (name : List ℕ) (uris : List (List ℕ × List ℕ)) (l : Launching) (b : Outside) where
+  abbrev Comes_to : Launching → Outside → Ended → Type 0
+  Comes_to m a ended = Comes (does (RunUpdate name uris)) (λ task. RunUpdate name uris ≡ task) l m b a ended
+
+  -- where there is no configuration
+  pub unconfigured_update : (a : Outside) (stop : Stop) → Does config_in b a (Err stop) → Comes_to l a (Answered (ending_of (Err stop)))
+  unconfigured_update a stop found = ByStages _ (stopped config_in (λ config. OfFile config.0 config.1 name) b a stop found) refl
+
+  module _ (layout : List Entry) (key : Key) (c : Outside) (held : config_in.gives b c (layout, key)) where
+    -- where the file is not read
+    pub unread_update : (a : Outside) (stop : Stop) → Does (file longest_file name) c a (Err stop) → Comes_to l a (Answered (ending_of (Err stop)))
+    unread_update a stop found =
+        ByStages _ (Goes (layout, key) c _ held (stopped (file longest_file name) (λ bytes. accepts layout key bytes >>= λ accepted. Nothing) c a stop found)) refl
+
+    module _ (bytes : List ℕ) (d : Outside) (read : (file longest_file name).gives c d bytes) where
+      -- where it is not accepted
+      pub unaccepted_update : (stop : Stop) → Does (accepts layout key bytes) d d (Err stop) → Comes_to l d (Answered (ending_of (Err stop)))
+      unaccepted_update stop found =
+          ByStages _ (Goes (layout, key) c _ held (Goes bytes d _ read (stopped (accepts layout key bytes) (λ accepted. Nothing) d d stop found))) refl
+
+      -- and behind that
+      pub comes_updated : (m : Launching) (a : Outside) (accepted : Accepted) → IsAccepted layout key bytes accepted → (ended : Ended)
+          → UpdatesBy layout bytes accepted uris l m d a ended → Comes_to m a ended
+      comes_updated m a accepted is (Answered ending) by =
+          ByStages ending (Goes (layout, key) c ending held (Goes bytes d ending read (Goes accepted d ending (is d)
+          (subst (λ (e : Ending). Last (λ (reply : Reply). ⊥) d a e) (sym by.0) (EndsWithout by.1))))) by.2
+      comes_updated m a accepted is (Booted end lines) by = absurd by
+      comes_updated m a accepted is (Updated end lines) by = ByUpdate name uris end lines refl (record {
+        layout = layout;
+        key = key;
+        configured = c;
+        held = held;
+        bytes = bytes;
+        middle = d;
+        read = read;
+        accepted = accepted;
+        is_accepted = is;
+        update = by.0;
+        lines_are = by.1;
+      })
+
+-- what was accepted of the same bytes
+pub accepted_as : (layout : List Entry) (key : Key) (x y : List ℕ) → x ≡ y → (a : Accepted) → IsAccepted layout key x a → IsAccepted layout key y a
+accepted_as layout key x y same a is = subst (λ (bytes : List ℕ). IsAccepted layout key bytes a) same is
+
+pub unaccepted_as : (layout : List Entry) (key : Key) (x y : List ℕ) → x ≡ y → (stop : Stop) → ((here : Outside) → Does (accepts layout key x) here here (Err stop))
+    → (here : Outside) → Does (accepts layout key y) here here (Err stop)
+unaccepted_as layout key x y same stop found = subst (λ (bytes : List ℕ). (here : Outside) → Does (accepts layout key bytes) here here (Err stop)) same found
+
+pub updates_as : (layout : List Entry) (x y : List ℕ) → x ≡ y → (a : Accepted) (uris : List (List ℕ × List ℕ)) (l m : Launching) (before after : Outside) (ended : Ended)
+    → UpdatesBy layout x a uris l m before after ended → UpdatesBy layout y a uris l m before after ended
+updates_as layout x y same a uris l m before after ended by = subst (λ (bytes : List ℕ). UpdatesBy layout bytes a uris l m before after ended) same by
+
+-- ---- at each moment, behind the look at the configuration
+
+module _ (name : List ℕ) (before : Outside) (size : ℕ) (is_size : before.flash.size ≡ size) (a b c : Flash) (law_a : IsFlash a size) (law_b : IsFlash b size) (same : IsSame a b)
+    (layout : List Entry) (key : Key) (allowed : IsAllowed VERSION_1 size layout key) (config : ConfigOf VERSION_1 size (head_of VERSION_1 a.reads) (Configured layout key))
+    (settled : Settled VERSION_1 a) (bytes : List ℕ) (read : IsRead longest_file name before bytes) (x : Accepted) (is : IsAccepted layout key bytes x) where
+  abbrev Kept : Flash → UpdateEnd → Option Record → Digest → Type 0
+  Kept start end held digest =
+      KeptSo (KeepsUpdate layout x.places (update_tree x.manifest x.members) held (new_of x held start.reads digest) start c end) (IsSame start c) end
+
+  kept_since : (end : UpdateEnd) → ForOffer b.reads x.said.wrapper (Kept b end) → ForOffer a.reads x.said.wrapper (Kept a end)
+  kept_since end kept held digest blocks there said =
+      kept_from _ _ _ _
+      (keeps_from a b c same size law_a layout allowed.layout_is x.places (update_tree x.manifest x.members) held key config settled there
+      (trimmed x.said.wrapper x.said.manifest) x.manifest.sequence digest end)
+      (same_flash_then a b c size law_b same) end
+      (kept held digest blocks (subst (λ (l : List ℕ). RecordOf VERSION_1 (head_of VERSION_1 l) held) (sym same.reads) there) said)
+
+  pub keeps_since : KeepsAccepted layout x b c → StaysOrKeeps name before a c
+  keeps_since (inl still) = inl (same_flash_then a b c size law_b same still)
+  keeps_since (inr (end, kept)) = inr (record {
+    layout = layout;
+    key = key;
+    config = subst (λ (n : ℕ). ConfigOf VERSION_1 n (head_of VERSION_1 a.reads) (Configured layout key)) (sym is_size) config;
+    bytes = bytes;
+    read = read;
+    accepted = x;
+    is_accepted = is;
+    end = end;
+    kept = kept_since end kept;
+  })

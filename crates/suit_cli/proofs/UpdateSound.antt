@@ -1,0 +1,136 @@
+-- An update of what was accepted: it may be installed, and each launch has its digest.
+use Rattle.std.proofs.Common.{◌≡◌, ◌⊎◌, inl, inr, ℕ, List, [], length, map, Option, Some, None, refl, sym, ◌∙◌, subst, append-nil, arith}
+use Rattle.std.specs.List.{All}
+use Rattle.suit_edge.specs.Flash.{Flash, Passes}
+use Rattle.suit_edge.specs.declared.launch.Launch.{Launch}
+use Rattle.suit_params.specs.declared.digest.Digest.{Digest}
+use Rattle.suit_envelope.specs.Envelopes.{map_entries}
+use Rattle.suit_envelope.specs.Payloads.{HasPayloads, integrated_payloads}
+use Rattle.suit_envelope.specs.Trimmed.{trimmed}
+use Rattle.suit_manifest.specs.ManifestLaws.{ManifestLaws}
+use Rattle.suit_manifest.specs.Procedures.{update_tree}
+use Rattle.path_model.specs.PlayLaws.{FaultedSafeLaunches, SafeLaunches}
+use Rattle.flash_layout.specs.declared.frame.TheConstants.{VERSION_1}
+use Rattle.flash_layout.specs.declared.key.Key.{Key}
+use Rattle.flash_layout.specs.declared.layout.Entry.{Entry}
+use Rattle.flash_layout.specs.declared.slot.Record.{Record}
+use Rattle.flash_layout.specs.ConfigLaws.{OneAnswer}
+use Rattle.flash_layout.specs.Configs.{Blank, ConfigOf, Configured, IsAllowed}
+use Rattle.flash_layout.specs.Frames.{head_of}
+use Rattle.flash_layout.specs.Placement.{HaveOtherPlaces}
+use Rattle.flash_slots.specs.RamContents.{empty_ram}
+use Rattle.rollback_record.specs.HeadRecord.{RecordOf}
+use Rattle.rollback_record.specs.SoundFlash.{IsInstalled, Sound, SoundBlank, SoundEmpty, SoundInstalled}
+use Rattle.step_machine.specs.Devices.{contents_of}
+use Rattle.step_machine.specs.Invoking.{launched_as}
+use Rattle.step_machine.specs.PlanRuns.{setting_of}
+use Rattle.step_machine.specs.Worlds.{AreDistinct}
+use Rattle.step_machine.specs.declared.plan_end.PlanEnd.{PlanEnd}
+use Rattle.invoke_proc.specs.Booting.{GainsSafe}
+use Rattle.invoke_proc.specs.Typing.{HasIdentifiers}
+use Rattle.invoke_proc.proofs.Judged.{has_each}
+use Rattle.invoke_proc.proofs.Places.{are_distinct, are_identities}
+use Rattle.invoke_proc.proofs.SoundBoot.{have_digests}
+use Rattle.update_proc.specs.Choices.{AreChosen, active_slots}
+use Rattle.update_proc.specs.Installing.{MayBeInstalled}
+use Rattle.update_proc.specs.Offered.{ForOffer}
+use Rattle.update_proc.specs.Updates.{LaunchesBy, PlaysUpdate}
+use Rattle.place_laws.specs.Installing.{InstalledAnywhere}
+use Rattle.suit_cli.specs.Acceptance.{Accepted}
+use Rattle.suit_cli.specs.Updating.{new_of}
+use Rattle.suit_cli.proofs.AcceptedFacts.{Facts}
+
+-- ---- the places of its components
+
+module _ (manifests : ManifestLaws) (layout : List Entry) (key : Key) (bytes : List ℕ) (a : Accepted) (f : Facts layout key bytes a) (other : HaveOtherPlaces a.manifest.components a.places) where
+  pub distinct : AreDistinct layout a.places
+  distinct =
+      let grammar = manifests.grammatical a.said.manifest_place f.says.item a.manifest f.says.says_so in
+      are_distinct layout a.manifest.components a.places grammar.few grammar.apart f.placed other
+
+-- ---- a sound flash with a configuration has a record, or none
+
+the_layout : (a b : List Entry) (k l : Key) → Configured a k ≡ Configured b l → (a ≡ b) × (k ≡ l)
+the_layout a b k l same = grind (arith, same)
+
+not_blank : (layout : List Entry) (key : Key) → Blank ≡ Configured layout key → ⊥
+not_blank layout key same = grind (arith, same)
+
+module _ (configs : OneAnswer) (layout : List Entry) (key : Key) (reads : List ℕ) (config : ConfigOf VERSION_1 (length reads) (head_of VERSION_1 reads) (Configured layout key)) where
+  some_record : Sound VERSION_1 reads → (held : Option Record) × RecordOf VERSION_1 (head_of VERSION_1 reads) held
+  some_record (SoundBlank is) = absurd (not_blank layout key (configs VERSION_1 (length reads) (head_of VERSION_1 reads) Blank (Configured layout key) is config))
+  some_record (SoundEmpty other k is none) = (None, none)
+  some_record (SoundInstalled other k r is held installed) = (Some r, held)
+
+  -- ---- it may be installed
+
+  module _ (installs : InstalledAnywhere) (bytes : List ℕ) (a : Accepted) (f : Facts layout key bytes a) where
+    abbrev stated : Digest
+    stated = record { bytes = f.authentic.digest }
+
+    installed : (held : Option Record) (numbers : List ℕ) → IsInstalled layout key (trimmed a.said.wrapper a.said.manifest) (new_of a held reads stated numbers)
+    installed held numbers = installs layout key bytes a.said (new_of a held reads stated numbers) f.envelope (record {
+      place = a.said.manifest_place;
+      said = a.manifest;
+      says = f.says;
+      authentic = f.authentic;
+      number = refl;
+      digest = (f.authentic.blocks, f.authentic.says);
+      components = has_each layout a.manifest.components a.places f.placed;
+      safe = f.safe.invocation_safe;
+      narrow = f.invocation_narrow;
+    })
+
+    may_be : (held : Option Record) (numbers : List ℕ) → MayBeInstalled reads (trimmed a.said.wrapper a.said.manifest) (new_of a held reads stated numbers)
+    may_be held numbers other k is =
+        let same = the_layout layout other key k (configs VERSION_1 (length reads) (head_of VERSION_1 reads) (Configured layout key) (Configured other k) config is) in
+        subst (λ (l : Key). IsInstalled other l (trimmed a.said.wrapper a.said.manifest) (new_of a held reads stated numbers)) same.1
+        (subst (λ (l : List Entry). IsInstalled l key (trimmed a.said.wrapper a.said.manifest) (new_of a held reads stated numbers)) same.0 (installed held numbers))
+
+    -- so each image is sound
+    pub sound_update : (start now : Flash) → Sound VERSION_1 reads
+        → ForOffer reads a.said.wrapper (λ held digest.
+        ((numbers : List ℕ) → AreChosen layout a.places (update_tree a.manifest a.members) (active_slots held) numbers
+        → MayBeInstalled reads (trimmed a.said.wrapper a.said.manifest) (new_of a held reads digest numbers)) → Passes start now (Sound VERSION_1))
+        → Passes start now (Sound VERSION_1)
+    sound_update start now sound offers =
+        let some = some_record sound in
+        offers some.0 stated f.authentic.blocks some.1 f.authentic.says (λ numbers chosen. may_be some.0 numbers)
+
+-- ---- launches
+
+gains_nothing : (launched now : List Launch) → now ≡ launched → GainsSafe launched now
+gains_nothing launched now same = record { gained = []; added = same ∙ sym (append-nil launched); safe = tt }
+
+module _ (safe : SafeLaunches) (faulted : FaultedSafeLaunches) (manifests : ManifestLaws) (size : ℕ) (layout : List Entry) (key : Key) (allowed : IsAllowed VERSION_1 size layout key)
+    (typed : All HasIdentifiers layout) (bytes : List ℕ) (a : Accepted) (f : Facts layout key bytes a) (other : HaveOtherPlaces a.manifest.components a.places)
+    (uris : List (List ℕ × List ℕ)) (files : List ℕ → Option (List ℕ)) (before : List ℕ) (launched now : List Launch) where
+  abbrev payloads : List (List ℕ × List ℕ)
+  payloads = integrated_payloads (map_entries f.envelope.says_so.map)
+
+  pub has_payloads : HasPayloads bytes payloads
+  has_payloads = record { said = a.said; envelope = f.envelope; are = refl }
+
+  abbrev Plays : Option Record → List ℕ → PlanEnd → Type 0
+  Plays held made end = PlaysUpdate layout a.places (update_tree a.manifest a.members) held payloads uris files before made launched now end
+
+  gains_played : (held : Option Record) (made : List ℕ) (end : PlanEnd) → Plays held made end → GainsSafe launched now
+  gains_played held made end p = record {
+    gained = p.plays.gained;
+    added = p.plays.added;
+    safe =
+        have_digests safe faulted (update_tree a.manifest a.members) (setting_of p.standings payloads uris files) (contents_of p.standings (empty_ram layout) before) f.safe.update_safe
+        (are_identities size layout allowed.layout_is a.places (record { number = p.numbers }) p.standings typed (distinct manifests layout key bytes a f other) p.choice p.stand
+        (update_tree a.manifest a.members) (sym f.placed.count ∙ sym p.stand.count))
+        (record { contents = contents_of p.standings p.ram made; launches = map launched_as p.plays.gained }) end p.plays.ends;
+  }
+
+  of_launches : LaunchesBy Plays before launched now → GainsSafe launched now
+  of_launches (inl same) = gains_nothing launched now same
+  of_launches (inr (held, is, made, end, play)) = gains_played held made end play
+
+  -- whatever payloads it is said of
+  pub gains_update : ((p : List (List ℕ × List ℕ)) → HasPayloads bytes p
+      → LaunchesBy (λ held made end. PlaysUpdate layout a.places (update_tree a.manifest a.members) held p uris files before made launched now end) before launched now)
+      → GainsSafe launched now
+  gains_update launches = of_launches (launches payloads has_payloads)

@@ -1,0 +1,14 @@
+use Rattle.std.proofs.Common.{refl}
+use Rattle.suit_commands.specs.Plans.{plan_tree}
+use Rattle.suit_cli.proofs.AcceptSteps.{invocation_unsafe}
+use Rattle.suit_cli.proofs.judgement.safe_invocation.Goals as goal
+
+pub returns-in-Safe : goal.returns-in-Safe
+returns-in-Safe c here = (refl, record { update_safe = c.requires.safe; invocation_safe = c.in-Safe.ensures.judged.1 })
+
+pub returns-in-Unsafe : goal.returns-in-Unsafe
+returns-in-Unsafe c =
+    invocation_unsafe (plan_tree c.args.update.now) (plan_tree c.args.invocation.now) c.in-Unsafe.path c.with_path.result c.declined.result c.declined.ensures c.requires.safe c.in-Unsafe.ensures.judged.1 c.with_path.ensures
+
+pub returns-in-NoMemory : goal.returns-in-NoMemory
+returns-in-NoMemory c here = refl

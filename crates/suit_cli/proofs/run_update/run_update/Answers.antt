@@ -1,0 +1,155 @@
+use Rattle.std.proofs.Common.{ℕ, ◌≤◌, List, length, inl, refl, sym, subst, ◌∙◌}
+use Rattle.suit_edge.specs.Flash.{IsFlash}
+use Rattle.flash_layout.specs.declared.frame.TheConstants.{VERSION_1}
+use Rattle.flash_layout.specs.Configs.{ConfigOf, Configured, IsAllowed}
+use Rattle.flash_layout.specs.Frames.{head_of}
+use Rattle.suit_cli.specs.Outside.{Outside}
+use Rattle.suit_cli.specs.Inputs.{longest_file}
+use Rattle.suit_cli.specs.Acceptance.{accepted_by}
+use Rattle.suit_cli.proofs.Chains.{anywhere}
+use Rattle.suit_cli.proofs.Sounding.{stays_now, stays_later, settled_later, any_of, any_later}
+use Rattle.suit_cli.proofs.UpdateAnswers.{accepted_as, comes_updated, keeps_since, unaccepted_as, unaccepted_update, unconfigured_update, unread_update, updates_as}
+use Rattle.suit_cli.proofs.Settling.{looked, looked_then}
+use Rattle.suit_cli.proofs.run_update.run_update.Goals as goal
+
+pub returns-in-Err-clause-answer : goal.returns-in-Err-clause-answer
+returns-in-Err-clause-answer g c =
+    let h = g.H.Host in
+    let here : Outside = record {
+      told = h.told;
+      files = h.file c.args.host.now;
+      pulled = h.pulled c.args.host.now;
+      asked = h.asked c.args.host.now;
+      faults = h.faults c.args.host.now;
+      flash = anywhere.flash;
+    } in
+    unconfigured_update c.args.name.now c.args.uris.now _ _ _ c.in-Err.stop (c.in-Err.ensures.finds here)
+
+pub returns-in-Err-clause-any_moment : goal.returns-in-Err-clause-any_moment
+returns-in-Err-clause-any_moment g c told = any_of _ _ _ (c.in-Err.ensures.same told).images
+
+pub returns-in-Err-clause-sound : goal.returns-in-Err-clause-sound
+returns-in-Err-clause-sound g c told settled = stays_now c.sound_laws.ensures _ settled _ (c.in-Err.ensures.same told).images
+
+pub returns-in-Err-clause-keeps : goal.returns-in-Err-clause-keeps
+returns-in-Err-clause-keeps g c told settled = inl (c.in-Err.ensures.same told)
+
+pub returns-in-Err-read-clause-answer : goal.returns-in-Err-read-clause-answer
+returns-in-Err-read-clause-answer g c =
+    let h = g.H.Host in
+    let here : Outside = record {
+      told = h.told;
+      files = h.file c.args.host.now;
+      pulled = h.pulled c.args.host.now;
+      asked = h.asked c.args.host.now;
+      faults = h.faults c.args.host.now;
+      flash = anywhere.flash;
+    } in
+    unread_update c.args.name.now c.args.uris.now _ _ c.in-Ok.config.0 c.in-Ok.config.1 _ (c.in-Ok.ensures.finds here) _ c.in-Err-read.stop (c.in-Err-read.ensures _)
+
+pub returns-in-Err-read-clause-any_moment : goal.returns-in-Err-read-clause-any_moment
+returns-in-Err-read-clause-any_moment g c told = any_of _ _ _ (c.in-Ok.ensures.same told).images
+
+pub returns-in-Err-read-clause-sound : goal.returns-in-Err-read-clause-sound
+returns-in-Err-read-clause-sound g c told settled = stays_now c.sound_laws.ensures _ settled _ (c.in-Ok.ensures.same told).images
+
+pub returns-in-Err-read-clause-keeps : goal.returns-in-Err-read-clause-keeps
+returns-in-Err-read-clause-keeps g c told settled = inl (c.in-Ok.ensures.same told)
+
+pub returns-in-Err-accept-clause-answer : goal.returns-in-Err-accept-clause-answer
+returns-in-Err-accept-clause-answer g c =
+    let h = g.H.Host in
+    let here : Outside = record {
+      told = h.told;
+      files = h.file c.args.host.now;
+      pulled = h.pulled c.args.host.now;
+      asked = h.asked c.args.host.now;
+      faults = h.faults c.args.host.now;
+      flash = anywhere.flash;
+    } in
+    unaccepted_update c.args.name.now c.args.uris.now _ _ c.in-Ok.config.0 c.in-Ok.config.1 _ (c.in-Ok.ensures.finds here) c.in-Ok-read.bytes _ (c.in-Ok-read.ensures _) c.in-Err-accept.stop
+    (unaccepted_as c.in-Ok.config.0 c.in-Ok.config.1 _ _ c.as_slice.ensures c.in-Err-accept.stop c.in-Err-accept.ensures.finds _)
+
+pub returns-in-Err-accept-clause-any_moment : goal.returns-in-Err-accept-clause-any_moment
+returns-in-Err-accept-clause-any_moment g c told = any_of _ _ _ (c.in-Ok.ensures.same told).images
+
+pub returns-in-Err-accept-clause-sound : goal.returns-in-Err-accept-clause-sound
+returns-in-Err-accept-clause-sound g c told settled = stays_now c.sound_laws.ensures _ settled _ (c.in-Ok.ensures.same told).images
+
+pub returns-in-Err-accept-clause-keeps : goal.returns-in-Err-accept-clause-keeps
+returns-in-Err-accept-clause-keeps g c told settled = inl (c.in-Ok.ensures.same told)
+
+pub accept-requires-clause-entries : goal.accept-requires-clause-entries
+accept-requires-clause-entries g c = c.in-Ok.ensures.allowed.layout_is.few
+
+pub accept-requires-clause-key : goal.accept-requires-clause-key
+accept-requires-clause-key g c = c.in-Ok.ensures.allowed.key_is
+
+pub accept-requires-clause-size : goal.accept-requires-clause-size
+accept-requires-clause-size g c = subst (λ (l : List ℕ). length l ≤ longest_file) (sym c.as_slice.ensures) (c.in-Ok-read.ensures anywhere.flash).1.fits
+
+pub update_by-requires-clause-allowed : goal.update_by-requires-clause-allowed
+update_by-requires-clause-allowed g c =
+    subst (λ (n : ℕ). IsAllowed VERSION_1 n c.in-Ok.config.0 c.in-Ok.config.1) (sym c.in-Ok.ensures.extent) c.in-Ok.ensures.allowed
+
+pub update_by-requires-clause-held : goal.update_by-requires-clause-held
+update_by-requires-clause-held g c told =
+    subst (λ (n : ℕ). ConfigOf VERSION_1 n (head_of VERSION_1 (g.D.Disk.flash c.config_in.new.flash).reads) (Configured c.in-Ok.config.0 c.in-Ok.config.1)) (sym c.in-Ok.ensures.extent)
+    (subst (λ (reads : List ℕ). ConfigOf VERSION_1 (g.D.Disk.extent c.args.flash.now) (head_of VERSION_1 reads) (Configured c.in-Ok.config.0 c.in-Ok.config.1)) (sym (c.in-Ok.ensures.same told).reads)
+    ((c.in-Ok.ensures.finds anywhere).1 told))
+
+pub update_by-requires-clause-accepted : goal.update_by-requires-clause-accepted
+update_by-requires-clause-accepted g c = accepted_as c.in-Ok.config.0 c.in-Ok.config.1 _ _ (sym c.in-Ok-accept.ensures.whole) (accepted_by c.in-Ok-accept.accepted) c.in-Ok-accept.ensures.finds
+
+pub update_by-requires-clause-wrapper : goal.update_by-requires-clause-wrapper
+update_by-requires-clause-wrapper g c = c.in-Ok-accept.ensures.wrapper
+
+pub update_by-requires-clause-other : goal.update_by-requires-clause-other
+update_by-requires-clause-other g c = c.in-Ok-accept.ensures.other
+
+pub returns-clause-answer : goal.returns-clause-answer
+returns-clause-answer g c =
+    let h = g.H.Host in
+    let here : Outside = record {
+      told = h.told;
+      files = h.file c.args.host.now;
+      pulled = h.pulled c.args.host.now;
+      asked = h.asked c.args.host.now;
+      faults = h.faults c.args.host.now;
+      flash = anywhere.flash;
+    } in
+    comes_updated c.args.name.now c.args.uris.now _ _ c.in-Ok.config.0 c.in-Ok.config.1 _ (c.in-Ok.ensures.finds here) c.in-Ok-read.bytes _ (c.in-Ok-read.ensures _) _ _ (accepted_by c.in-Ok-accept.accepted)
+    (accepted_as c.in-Ok.config.0 c.in-Ok.config.1 _ _ c.as_slice.ensures (accepted_by c.in-Ok-accept.accepted) c.in-Ok-accept.ensures.finds) _
+    (updates_as c.in-Ok.config.0 _ _ (c.in-Ok-accept.ensures.whole ∙ c.as_slice.ensures) (accepted_by c.in-Ok-accept.accepted) c.args.uris.now _ _ _ _ _ c.update_by.ensures.answer)
+
+pub returns-clause-any_moment : goal.returns-clause-any_moment
+returns-clause-any_moment g c told = any_later _ _ _ (c.in-Ok.ensures.same told) (c.update_by.ensures.any_moment told)
+
+pub returns-clause-sound : goal.returns-clause-sound
+returns-clause-sound g c told settled =
+    let same = c.in-Ok.ensures.same told in
+    let law = subst (IsFlash (g.D.Disk.flash c.config_in.new.flash)) c.in-Ok.ensures.extent (g.met.D.Disk.obeys c.config_in.new.flash told) in
+    stays_later c.sound_laws.ensures _ settled _ _ same (c.update_by.ensures.sound told (settled_later _ _ _ law same settled))
+
+pub returns-clause-keeps : goal.returns-clause-keeps
+returns-clause-keeps g c told settled =
+    let same = c.in-Ok.ensures.same told in
+    let law = subst (IsFlash (g.D.Disk.flash c.config_in.new.flash)) c.in-Ok.ensures.extent (g.met.D.Disk.obeys c.config_in.new.flash told) in
+    keeps_since c.args.name.now _ (g.D.Disk.extent c.args.flash.now) refl (g.D.Disk.flash c.args.flash.now) (g.D.Disk.flash c.config_in.new.flash) (g.D.Disk.flash c.update_by.new.flash)
+    (g.met.D.Disk.obeys c.args.flash.now told) law same c.in-Ok.config.0 c.in-Ok.config.1 c.in-Ok.ensures.allowed ((c.in-Ok.ensures.finds anywhere).1 told) settled c.in-Ok-read.bytes (c.in-Ok-read.ensures _).1
+    (accepted_by c.in-Ok-accept.accepted) (accepted_as c.in-Ok.config.0 c.in-Ok.config.1 _ _ c.as_slice.ensures (accepted_by c.in-Ok-accept.accepted) c.in-Ok-accept.ensures.finds)
+    (c.update_by.ensures.keeps told (settled_later _ _ _ law same settled))
+
+pub returns-in-Err-clause-settled : goal.returns-in-Err-clause-settled
+returns-in-Err-clause-settled g c told = looked _ _ _ _ _ (g.met.D.Disk.obeys c.config_in.new.flash told) (c.in-Err.ensures.same told)
+
+pub returns-in-Err-read-clause-settled : goal.returns-in-Err-read-clause-settled
+returns-in-Err-read-clause-settled g c told = looked _ _ _ _ _ (g.met.D.Disk.obeys c.config_in.new.flash told) (c.in-Ok.ensures.same told)
+
+pub returns-in-Err-accept-clause-settled : goal.returns-in-Err-accept-clause-settled
+returns-in-Err-accept-clause-settled g c told = looked _ _ _ _ _ (g.met.D.Disk.obeys c.config_in.new.flash told) (c.in-Ok.ensures.same told)
+
+pub returns-clause-settled : goal.returns-clause-settled
+returns-clause-settled g c told =
+    looked_then _ _ _ _ _ _ _ (g.met.D.Disk.obeys c.config_in.new.flash told) (c.in-Ok.ensures.same told) (c.in-Ok.ensures.finds anywhere).0.faults
+    (c.update_by.ensures.settled told)

@@ -1,0 +1,91 @@
+use Rattle.std.proofs.Common.{ℕ, inl, inr, refl, sym, subst}
+use Rattle.suit_edge.specs.FlashLaws.{same_flash}
+use Rattle.flash_layout.specs.declared.frame.TheConstants.{VERSION_1}
+use Rattle.flash_layout.specs.Configs.{ConfigOf, Configured}
+use Rattle.flash_layout.specs.Frames.{head_of}
+use Rattle.suit_cli.specs.Acceptance.{accepted_by}
+use Rattle.suit_cli.proofs.AcceptedFacts.{facts}
+use Rattle.suit_cli.proofs.Sounding.{any_start, stays_start}
+use Rattle.suit_cli.proofs.UpdateSound.{distinct, gains_update, sound_update}
+use Rattle.suit_cli.proofs.Settling.{updates_settled}
+use Rattle.suit_cli.proofs.run_update.update_by.Goals as goal
+
+pub returns-in-Err-clause-any_moment : goal.returns-in-Err-clause-any_moment
+returns-in-Err-clause-any_moment g c told = any_start _
+
+pub returns-in-Err-clause-sound : goal.returns-in-Err-clause-sound
+returns-in-Err-clause-sound g c told settled = stays_start c.sound_laws.ensures _ settled
+
+pub returns-in-Err-clause-keeps : goal.returns-in-Err-clause-keeps
+returns-in-Err-clause-keeps g c told settled = inl (same_flash _)
+
+pub update-end-requires-clause-size : goal.update-end-requires-clause-size
+update-end-requires-clause-size g c = c.requires.allowed.whole
+
+pub update-end-requires-clause-layout : goal.update-end-requires-clause-layout
+update-end-requires-clause-layout g c = c.requires.allowed.layout_is
+
+pub update-end-requires-clause-distinct : goal.update-end-requires-clause-distinct
+update-end-requires-clause-distinct g c =
+    distinct c.manifest_laws.ensures c.args.layout.now c.args.key.now c.args.accepted.now.envelope.whole.now (accepted_by c.args.accepted.now) (facts c.args.layout.now c.args.key.now c.args.accepted.now.envelope.whole.now (accepted_by c.args.accepted.now) c.requires.accepted) c.requires.other
+
+pub update-end-requires-clause-count : goal.update-end-requires-clause-count
+update-end-requires-clause-count g c = sym (facts c.args.layout.now c.args.key.now c.args.accepted.now.envelope.whole.now (accepted_by c.args.accepted.now) c.requires.accepted).placed.count
+
+pub update-end-requires-clause-plan : goal.update-end-requires-clause-plan
+update-end-requires-clause-plan g c =
+    let f = facts c.args.layout.now c.args.key.now c.args.accepted.now.envelope.whole.now (accepted_by c.args.accepted.now) c.requires.accepted in
+    c.procedure_laws.ensures.update _ f.says.item _ _ _ f.says.says_so f.members
+
+pub update-end-requires-clause-wrapper : goal.update-end-requires-clause-wrapper
+update-end-requires-clause-wrapper g c = c.requires.wrapper
+
+pub update-end-requires-clause-fits : goal.update-end-requires-clause-fits
+update-end-requires-clause-fits g c = (facts c.args.layout.now c.args.key.now c.args.accepted.now.envelope.whole.now (accepted_by c.args.accepted.now) c.requires.accepted).short
+
+pub update-end-requires-clause-config : goal.update-end-requires-clause-config
+update-end-requires-clause-config g c told = (c.args.key.now, c.requires.held told)
+
+pub returns-clause-answer : goal.returns-clause-answer
+returns-clause-answer g c =
+    let u = c.update-end.ensures in
+    let f = facts c.args.layout.now c.args.key.now c.args.accepted.now.envelope.whole.now (accepted_by c.args.accepted.now) c.requires.accepted in (
+      record {
+        told = refl;
+        files = u.files;
+        flash_told = refl;
+        size = u.size;
+        launcher_told = refl;
+        counts = u.counts;
+        judged = u.judged;
+        plays = u.plays;
+        left = u.left;
+        safe = λ th td tl.
+            gains_update c.play_laws.ensures.safe c.play_laws.ensures.faulted_safe c.manifest_laws.ensures (g.D.Disk.extent c.args.flash.now) c.args.layout.now c.args.key.now c.requires.allowed c.typed.ensures
+            c.args.accepted.now.envelope.whole.now (accepted_by c.args.accepted.now) f c.requires.other c.args.uris.now (g.H.Host.file c.args.host.now) (g.D.Disk.flash c.args.flash.now).reads
+            (g.L.Launcher.launches c.args.launcher.now) (g.L.Launcher.launches c.update-end.new.launcher) (u.launches th td tl);
+      },
+      c.update_line-text.ensures,
+    )
+
+pub returns-clause-any_moment : goal.returns-clause-any_moment
+returns-clause-any_moment g c told = record { later = c.update-end.ensures.later told; each = λ image may. tt; before = λ t image le may. inr tt }
+
+pub returns-clause-sound : goal.returns-clause-sound
+returns-clause-sound g c told settled =
+    let a = g.D.Disk.flash c.args.flash.now in
+    let config = subst (λ (n : ℕ). ConfigOf VERSION_1 n (head_of VERSION_1 a.reads) (Configured c.args.layout.now c.args.key.now)) (sym (g.met.D.Disk.obeys c.args.flash.now told).fits) (c.requires.held told) in (
+      sound_update c.config_laws.ensures.answer c.args.layout.now c.args.key.now a.reads config c.installed_anywhere.ensures c.args.accepted.now.envelope.whole.now (accepted_by c.args.accepted.now) (facts c.args.layout.now c.args.key.now c.args.accepted.now.envelope.whole.now (accepted_by c.args.accepted.now) c.requires.accepted)
+          a (g.D.Disk.flash c.update-end.new.disk) settled.sound (c.update-end.ensures.sound told settled),
+      c.update-end.ensures.follows told settled,
+    )
+
+pub returns-clause-keeps : goal.returns-clause-keeps
+returns-clause-keeps g c told settled = inr (c.update-end.result, c.update-end.ensures.keeps told settled)
+
+pub returns-in-Err-clause-settled : goal.returns-in-Err-clause-settled
+returns-in-Err-clause-settled g c told settled never = settled
+
+pub returns-clause-settled : goal.returns-clause-settled
+returns-clause-settled g c told =
+    updates_settled c.update-end.result _ _ _ _ _ (g.met.D.Disk.obeys c.update-end.new.disk told) c.update-end.ensures.counts (λ settled. (returns-clause-sound g c told settled).0) (c.update-end.ensures.settled told)

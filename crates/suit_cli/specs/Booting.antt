@@ -1,0 +1,100 @@
+-- What `run boot` comes to.
+use Rattle.std.specs.Prelude.{◌≡◌, ◌⊎◌, ℕ, IsTrue, List, codes}
+use Rattle.suit_edge.specs.Flash.{Flash, IsSame}
+use Rattle.flash_layout.specs.declared.frame.TheConstants.{VERSION_1}
+use Rattle.flash_layout.specs.declared.key.Key.{Key}
+use Rattle.flash_layout.specs.declared.layout.Entry.{Entry}
+use Rattle.flash_layout.specs.Configs.{ConfigOf, Configured}
+use Rattle.flash_layout.specs.Frames.{head_of}
+use Rattle.rollback_record.specs.SoundFlash.{Sound}
+use Rattle.step_machine.specs.PlanRuns.{counts_of}
+use Rattle.invoke_proc.specs.declared.boot_end.BootEnd.{BootEnd}
+use Rattle.invoke_proc.specs.declared.boot_end.BootEnd.TheVariants as ends
+use Rattle.invoke_proc.specs.declared.boot_end.Lacking.{Lacking}
+use Rattle.invoke_proc.specs.declared.boot_end.Lacking.TheVariants as lacks
+use Rattle.invoke_proc.specs.Booting.{GainsSafe, KeepsBoot, PlayedSo, PlaysBoot}
+use Rattle.invoke_proc.specs.Booting as booting
+use Rattle.invoke_proc.specs.Counting.{BootCounts}
+use Rattle.invoke_proc.specs.Sound.{IsUnrefused}
+use Rattle.suit_cli.specs.Lines.{number_line}
+use Rattle.suit_cli.specs.Launching.{Launching, cause_status, cause_text, stopped_line}
+use Rattle.suit_cli.specs.Texts.{refusal_line, flash_fault_line, out_of_memory_line}
+use Rattle.suit_cli.specs.Outside.{Outside}
+use Rattle.suit_cli.specs.Installed.{config_in}
+
+-- ---- the lines
+
+abbrev pub lacking_line : Lacking → List ℕ
+lacking_line lacks.DigestDiffers = codes "not authentic: digest differs\n"
+lacking_line lacks.NoMac = codes "not authentic: no mac\n"
+lacking_line lacks.MacDiffers = codes "not authentic: mac differs\n"
+
+abbrev pub boot_line : BootEnd → List ℕ
+boot_line ends.Ended = codes "ended\n"
+boot_line ends.NothingInstalled = codes "nothing installed\n"
+boot_line (ends.BadBank refusal) = refusal_line refusal
+boot_line (ends.NotAuthentic lacking) = lacking_line lacking
+boot_line (ends.UnknownComponent component) = number_line (codes "unknown component") component
+boot_line (ends.Condition place) = stopped_line place (codes "condition failed")
+boot_line (ends.Stopped place cause) = stopped_line place (cause_text cause)
+boot_line ends.FlashFault = flash_fault_line
+boot_line ends.NoMemory = out_of_memory_line
+
+-- ---- the statuses
+
+abbrev pub boot_status : BootEnd → ℕ
+boot_status ends.Ended = 0
+boot_status ends.NothingInstalled = 15
+boot_status (ends.BadBank refusal) = 3
+boot_status (ends.NotAuthentic lacking) = 4
+boot_status (ends.UnknownComponent component) = 18
+boot_status (ends.Condition place) = 6
+boot_status (ends.Stopped place cause) = cause_status cause
+boot_status ends.FlashFault = 8
+boot_status ends.NoMemory = 11
+
+-- ---- the boot
+
+-- What is in the flash was started, by this layout and this key, and it ended so: what that says of the record and its
+-- bank, how the procedure was played, and whose fault was counted. What is launched on a sound flash has its digest, and its
+-- size where one is in force.
+pub record IsBoot (layout : List Entry) (key : Key) (launched now : Launching) (before after : Outside) (end : BootEnd) : Type 0 where
+  pub told : after.told ≡ before.told
+  pub files : IsTrue before.told → after.files ≡ before.files
+  pub flash_told : after.flash.told ≡ before.flash.told
+  pub size : after.flash.size ≡ before.flash.size
+  pub launcher_told : now.told ≡ launched.told
+  pub counts : BootCounts end (counts_of before.faults before.flash.faults launched.faults) (counts_of after.faults after.flash.faults now.faults)
+  pub answers : IsTrue before.flash.told → booting.Answers layout key before.flash.reads end
+  pub unrefused : IsTrue before.flash.told → Sound VERSION_1 before.flash.reads → IsUnrefused end
+  pub plays : IsTrue before.told → IsTrue before.flash.told → IsTrue launched.told
+      → PlayedSo (PlaysBoot layout key before.files before.flash.reads after.flash.reads launched.launches now.launches) launched.launches now.launches end
+  pub safe : IsTrue before.told → IsTrue before.flash.told → IsTrue launched.told → Sound VERSION_1 before.flash.reads
+      → GainsSafe launched.launches now.launches
+
+-- the flash holds a configuration, what is installed was started by it, and these lines tell how that ended
+pub record Boots (launched now : Launching) (before after : Outside) (end : BootEnd) (lines : List ℕ) : Type 0 where
+  pub layout : List Entry
+  pub key : Key
+  pub middle : Outside
+  pub held : config_in.gives before middle (layout, key)
+  pub boot : IsBoot layout key launched now middle after end
+  pub lines_are : lines ≡ boot_line end
+
+-- ---- at each moment
+
+-- The flash holds a configuration, and a record whose bank starts a manifest; and at each moment nothing had changed but slots
+-- that components stand for which its invocation procedure may write.
+pub record KeepsBooted (before : Outside) (old now : Flash) : Type 0 where
+  pub layout : List Entry
+  pub key : Key
+  pub config : ConfigOf VERSION_1 before.flash.size (head_of VERSION_1 old.reads) (Configured layout key)
+  pub kept : KeepsBoot layout key old now
+
+-- or nothing changed
+abbrev pub BootKeeps : Outside → Flash → Flash → Type 0
+BootKeeps before old now = IsSame old now ⊎ KeepsBooted before old now
+
+-- inside: the same by a configuration
+abbrev pub KeepsBy : List Entry → Key → Flash → Flash → Type 0
+KeepsBy layout key old now = IsSame old now ⊎ KeepsBoot layout key old now

@@ -1,0 +1,65 @@
+-- The life of a flash that this program alone writes: the images that stand on it, one after another.
+use Rattle.std.specs.Prelude.{◌≡◌, ◌⊎◌, ℕ, List, [], ◌∷◌, length, Some, All, AllPairs}
+use Rattle.flash_layout.specs.declared.frame.Frame.{Frame}
+use Rattle.flash_layout.specs.declared.key.Key.{Key}
+use Rattle.flash_layout.specs.declared.layout.Entry.{Entry}
+use Rattle.flash_layout.specs.declared.slot.Record.{Record}
+use Rattle.flash_layout.specs.Configs.{ConfigOf, Configured}
+use Rattle.flash_layout.specs.Formats.{IsFormatted}
+use Rattle.flash_layout.specs.Frames.{head_of}
+use Rattle.suit_params.specs.declared.refusal.Refusal.{Refusal}
+use Rattle.suit_envelope.specs.Said.{RefusesBytes}
+use Rattle.rollback_record.specs.HeadRecord.{RecordOf}
+use Rattle.rollback_record.specs.SoundFlash.{Follows, IsInstalled, IsNoEarlier, Sound, recorded_bank}
+
+-- ---- lives
+
+abbrev pub AreZeros : List ℕ → Type 0
+AreZeros image = All (λ byte. byte ≡ 0) image
+
+-- of zero bytes alone, or sound
+abbrev pub Begins : Frame → List ℕ → Type 0
+Begins frame image = AreZeros image ⊎ Sound frame image
+
+-- each later image is sound, and goes on from the one before it
+abbrev pub LivesOn : Frame → List ℕ → List (List ℕ) → Type 0
+LivesOn frame image [] = Unit {0}
+LivesOn frame image (next ∷ later) = Sound frame next × Follows frame image next × LivesOn frame next later
+
+abbrev pub IsLife : Frame → List (List ℕ) → Type 0
+IsLife frame [] = Unit {0}
+IsLife frame (first ∷ later) = Begins frame first × LivesOn frame first later
+
+-- ---- what is recorded
+
+-- the image has the layout, the key and the record
+pub record HasRecorded (frame : Frame) (layout : List Entry) (key : Key) (r : Record) (image : List ℕ) : Type 0 where
+  pub config : ConfigOf frame (length image) (head_of frame image) (Configured layout key)
+  pub record_is : RecordOf frame (head_of frame image) (Some r)
+
+-- where the one has a record, the other has the same layout and key, and a record whose number is not lower
+abbrev pub NeverLower : Frame → List ℕ → List ℕ → Type 0
+NeverLower frame a b = (layout : List Entry) (key : Key) (r : Record) → HasRecorded frame layout key r a
+    → (s : Record) × HasRecorded frame layout key s b × IsNoEarlier r s
+
+pub record LifeLaws : Type 0 where
+  -- each image of a life is sound,
+  pub sound : (frame : Frame) (images : List (List ℕ)) → IsLife frame images → All (Sound frame) images
+  -- goes on from each earlier one,
+  pub follows : (frame : Frame) (images : List (List ℕ)) → IsLife frame images → AllPairs (Follows frame) images
+  -- and so never records a lower number
+  pub numbers : (frame : Frame) (images : List (List ℕ)) → IsLife frame images → AllPairs (NeverLower frame) images
+
+-- ---- what is sound, and what is not
+
+pub record SoundnessLaws : Type 0 where
+  -- zero bytes alone are
+  pub zeros : (frame : Frame) (image : List ℕ) → AreZeros image → Sound frame image
+  -- so is what formatting leaves
+  pub formatted : (frame : Frame) (layout : List Entry) (key : Key) (image : List ℕ) → IsFormatted frame (length image) layout key image → Sound frame image
+  -- what a sound image has recorded is installed: authentic under its key, with the record's number and digest, and safe
+  pub installed : (frame : Frame) (layout : List Entry) (key : Key) (r : Record) (image : List ℕ) → HasRecorded frame layout key r image → Sound frame image
+      → IsInstalled layout key (recorded_bank frame (head_of frame image) r) r
+  -- an image is not, whose record's bank spells no envelope
+  pub no_envelope : (frame : Frame) (layout : List Entry) (key : Key) (r : Record) (image : List ℕ) (why : Refusal) → HasRecorded frame layout key r image
+      → RefusesBytes (recorded_bank frame (head_of frame image) r) why → Sound frame image → ⊥

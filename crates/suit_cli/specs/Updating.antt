@@ -1,0 +1,131 @@
+-- What `run update` comes to.
+use Rattle.std.specs.Prelude.{◌≡◌, ◌⊎◌, ℕ, ◌∷◌, [], IsTrue, List, Option, codes}
+use Rattle.std.specs.Fmt.{decimal}
+use Rattle.suit_edge.specs.Flash.{Flash, IsSame}
+use Rattle.suit_envelope.specs.Payloads.{HasPayloads}
+use Rattle.suit_envelope.specs.Trimmed.{trimmed}
+use Rattle.suit_manifest.specs.Procedures.{update_tree}
+use Rattle.suit_params.specs.declared.digest.Digest.{Digest}
+use Rattle.flash_layout.specs.declared.frame.TheConstants.{VERSION_1}
+use Rattle.flash_layout.specs.declared.key.Key.{Key}
+use Rattle.flash_layout.specs.declared.layout.Entry.{Entry}
+use Rattle.flash_layout.specs.declared.slot.Record.{Record}
+use Rattle.flash_layout.specs.Configs.{ConfigOf, Configured}
+use Rattle.flash_layout.specs.Frames.{head_of}
+use Rattle.step_machine.specs.PlanRuns.{counts_of}
+use Rattle.invoke_proc.specs.Booting.{GainsSafe}
+use Rattle.update_proc.specs.declared.update_end.UpdateEnd.{UpdateEnd}
+use Rattle.update_proc.specs.declared.update_end.UpdateEnd.TheVariants as ends
+use Rattle.update_proc.specs.Ends.{JudgedSo, UpdateCounts}
+use Rattle.update_proc.specs.Offered.{ForOffer}
+use Rattle.update_proc.specs.Records.{new_record}
+use Rattle.update_proc.specs.Updates.{KeepsUpdate, KeptSo, LeavesUpdate, PlayedSo, PlaysUpdate}
+use Rattle.suit_cli.specs.Lines.{joined, number_line}
+use Rattle.suit_cli.specs.Texts.{flash_fault_line, out_of_memory_line}
+use Rattle.suit_cli.specs.Outside.{Outside}
+use Rattle.suit_cli.specs.Inputs.{longest_file, IsRead, file}
+use Rattle.suit_cli.specs.Installed.{config_in}
+use Rattle.suit_cli.specs.Launching.{Launching, cause_status, cause_text, stopped_line}
+use Rattle.suit_cli.specs.Acceptance.{Accepted, IsAccepted}
+
+-- ---- the lines
+
+abbrev pub rollback_line : ℕ → ℕ → List ℕ
+rollback_line recorded offered = joined (codes "rollback: recorded " ∷ decimal recorded ∷ codes ", offered " ∷ decimal offered ∷ codes "\n" ∷ [])
+
+abbrev pub other_manifest_line : ℕ → List ℕ
+other_manifest_line number = joined (codes "rollback: number " ∷ decimal number ∷ codes " has another manifest\n" ∷ [])
+
+-- of a manifest with this number
+abbrev pub update_line : ℕ → UpdateEnd → List ℕ
+update_line number (ends.Installed installed) = number_line (codes "installed") number
+update_line number (ends.Lower recorded offered) = rollback_line recorded offered
+update_line number (ends.OtherDigest recorded offered) = other_manifest_line number
+update_line number ends.Worn = codes "record worn\n"
+update_line number (ends.Condition place) = stopped_line place (codes "condition failed")
+update_line number (ends.Stopped place cause) = stopped_line place (cause_text cause)
+update_line number ends.FlashFault = flash_fault_line
+update_line number ends.NoMemory = out_of_memory_line
+
+-- ---- the statuses
+
+abbrev pub update_status : UpdateEnd → ℕ
+update_status (ends.Installed installed) = 0
+update_status (ends.Lower recorded offered) = 5
+update_status (ends.OtherDigest recorded offered) = 5
+update_status ends.Worn = 19
+update_status (ends.Condition place) = 6
+update_status (ends.Stopped place cause) = cause_status cause
+update_status ends.FlashFault = 8
+update_status ends.NoMemory = 11
+
+-- ---- the update
+
+-- what comes to be recorded beside what this image of the flash holds
+abbrev pub new_of : Accepted → Option Record → List ℕ → Digest → List ℕ → Record
+new_of a held image digest numbers = new_record held image (trimmed a.said.wrapper a.said.manifest) a.manifest.sequence digest numbers
+
+-- The envelope that these bytes spell was accepted, and installed so, with these names of files for URIs: how it was judged
+-- beside the record, how the procedure was played, what the flash is left with, and whose fault was counted. What is
+-- launched has its digest, and its size where one is in force.
+pub record IsUpdate (layout : List Entry) (bytes : List ℕ) (a : Accepted) (uris : List (List ℕ × List ℕ)) (launched now : Launching) (before after : Outside) (end : UpdateEnd)
+    : Type 0 where
+  pub told : after.told ≡ before.told
+  pub files : IsTrue before.told → after.files ≡ before.files
+  pub flash_told : after.flash.told ≡ before.flash.told
+  pub size : after.flash.size ≡ before.flash.size
+  pub launcher_told : now.told ≡ launched.told
+  pub counts : UpdateCounts end (counts_of before.faults before.flash.faults launched.faults) (counts_of after.faults after.flash.faults now.faults)
+  pub judged : IsTrue before.flash.told → ForOffer before.flash.reads a.said.wrapper (λ held digest. JudgedSo a.manifest.sequence digest held end)
+  pub plays : IsTrue before.told → IsTrue before.flash.told → IsTrue launched.told → ForOffer before.flash.reads a.said.wrapper (λ held digest.
+      (payloads : List (List ℕ × List ℕ)) → HasPayloads bytes payloads
+      → PlayedSo (λ made play. PlaysUpdate layout a.places (update_tree a.manifest a.members) held payloads uris before.files before.flash.reads made launched.launches now.launches play)
+      layout after.flash.reads launched.launches now.launches end)
+  pub left : IsTrue before.flash.told → ForOffer before.flash.reads a.said.wrapper (λ held digest.
+      KeptSo (LeavesUpdate layout a.places (update_tree a.manifest a.members) held (new_of a held before.flash.reads digest) before.flash.reads after.flash.reads end)
+      (after.flash.reads ≡ before.flash.reads) end)
+  pub safe : IsTrue before.told → IsTrue before.flash.told → IsTrue launched.told → GainsSafe launched.launches now.launches
+
+-- the flash holds a configuration, the file was read and accepted under it, an update was made of it, and these lines tell
+-- how that ended
+pub record Updates (name : List ℕ) (uris : List (List ℕ × List ℕ)) (launched now : Launching) (before after : Outside) (end : UpdateEnd) (lines : List ℕ)
+    : Type 0 where
+  pub layout : List Entry
+  pub key : Key
+  pub configured : Outside
+  pub held : config_in.gives before configured (layout, key)
+  pub bytes : List ℕ
+  pub middle : Outside
+  pub read : (file longest_file name).gives configured middle bytes
+  pub accepted : Accepted
+  pub is_accepted : IsAccepted layout key bytes accepted
+  pub update : IsUpdate layout bytes accepted uris launched now middle after end
+  pub lines_are : lines ≡ update_line accepted.manifest.sequence end
+
+-- ---- at each moment
+
+-- The file with that name was accepted, and at each moment the flash had the old record, and no content changed but those of
+-- slots that may be written; or it had the new record, and the contents that were made. This holds of a settled flash.
+pub record KeepsFlash (name : List ℕ) (before : Outside) (old now : Flash) : Type 0 where
+  pub layout : List Entry
+  pub key : Key
+  pub config : ConfigOf VERSION_1 before.flash.size (head_of VERSION_1 old.reads) (Configured layout key)
+  pub bytes : List ℕ
+  pub read : IsRead longest_file name before bytes
+  pub accepted : Accepted
+  pub is_accepted : IsAccepted layout key bytes accepted
+  pub end : UpdateEnd
+  pub kept : ForOffer old.reads accepted.said.wrapper (λ held digest.
+      KeptSo (KeepsUpdate layout accepted.places (update_tree accepted.manifest accepted.members) held (new_of accepted held old.reads digest) old now end) (IsSame old now) end)
+
+-- or nothing changed
+abbrev pub StaysOrKeeps : List ℕ → Outside → Flash → Flash → Type 0
+StaysOrKeeps name before old now = IsSame old now ⊎ KeepsFlash name before old now
+
+-- ---- inside
+
+-- the same, once an envelope was accepted
+abbrev pub KeepsAccepted : List Entry → Accepted → Flash → Flash → Type 0
+KeepsAccepted layout a old now =
+    IsSame old now ⊎ ((end : UpdateEnd) × ForOffer old.reads a.said.wrapper (λ held digest.
+    KeptSo (KeepsUpdate layout a.places (update_tree a.manifest a.members) held (new_of a held old.reads digest) old now end) (IsSame old now) end))

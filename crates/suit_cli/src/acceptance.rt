@@ -1,0 +1,196 @@
+//! What an update judges of an envelope before anything is done.
+
+ghost use Rattle.std.specs.Prelude.{◌≡◌, ◌↔◌, ◌≤◌, ◌<◌, ◌^◌, IfOk, IsTrue, codes, length};
+ghost use Rattle.flash_layout.specs.Layouts.{IsKey};
+ghost use Rattle.flash_layout.specs.Placement.{HaveOtherPlaces};
+ghost use Rattle.rollback_record.specs.SoundFlash.{key_bytes};
+ghost use Rattle.suit_commands.specs.Allowed.{IsPlan};
+ghost use Rattle.suit_envelope.specs.Places.{MembersEndBelow};
+ghost use Rattle.suit_envelope.specs.Said.{said_by};
+ghost use Rattle.suit_envelope.specs.WrapperParts.{HasWrapper};
+ghost use Rattle.suit_envelope.specs.declared.authenticity.Authenticity.TheVariants.{Yes};
+ghost use Rattle.suit_manifest.specs.Procedures.{invocation_tree, update_tree};
+ghost use Rattle.suit_cli.specs.declared.reply.Outcome.TheVariants as outcomes;
+ghost use Rattle.suit_cli.specs.Acceptance.{FindsAccepted, accepts, accepts_manifest, authentic_in, judges, places_in};
+ghost use Rattle.suit_cli.specs.Envelopes.{ManifestOf};
+ghost use Rattle.suit_cli.specs.Inputs.{longest_file};
+ghost use Rattle.suit_cli.specs.Lines.{number_line};
+ghost use Rattle.suit_cli.specs.Replies.{Makes};
+ghost use Rattle.suit_cli.specs.Stages.{Finds};
+
+use crate::accept::{envelope_in, manifest_in, members_in, short};
+use crate::judgement::{judge_safe, narrow};
+use crate::reply::{Outcome, Reply, Stop, declined};
+use crate::show::authenticity_line;
+use crate::status::number_line;
+use det_cbor::Text;
+use flash_layout::{Key, Layout, Places, places};
+use std::alloc::{AllocError, Global};
+use suit_envelope::{Authenticity, Envelope, authentic, envelope_laws};
+use suit_manifest::{
+    Manifest, Members, invocation_plan, manifest_laws, procedure_laws, update_plan,
+};
+
+/// What may be installed: an envelope, its manifest, the places of the manifest's components in the flash's layout, and
+/// the members that stand apart.
+#[derive(Drop)]
+pub(crate) struct Acceptable<'a> {
+    pub(crate) envelope: Envelope<'a>,
+    pub(crate) manifest: Manifest,
+    pub(crate) places: Places,
+    pub(crate) members: Members,
+}
+
+// The bytes of the key.
+fn key_bytes(key: &Key) -> &[u8]
+    requires { IsKey key.now }
+    ensures { result.now ≡ key_bytes key.now }
+{
+    &key.bytes[..key.length as usize]
+}
+
+fn is_yes(answer: &Authenticity<'_>) -> bool
+    ensures { IsTrue result ↔ (answer.now ≡ Yes) }
+{
+    match answer {
+        Authenticity::Yes => true,
+        _ => false,
+    }
+}
+
+// Whether the envelope is authentic under the flash's key.
+fn authentic_in(alloc: Global, envelope: &Envelope<'_>, key: &Key) -> Result<(), Stop>
+    requires key { IsKey key.now }
+    requires wrapper { HasWrapper envelope.now.wrapper.now }
+    ensures { Finds (authentic_in (said_by envelope.now) (key_bytes key.now)) result }
+{
+    let answer = authentic(envelope, key_bytes(key));
+    if is_yes(&answer) {
+        Ok(())
+    } else {
+        let line = authenticity_line(answer);
+        Err(declined(Reply::fixed(alloc, Outcome::NotAuthentic, line)))
+    }
+}
+
+// A reply that the layout lacks a component.
+fn unknown(alloc: Global, component: u32) -> Result<Reply, AllocError>
+    ensures { Makes result outcomes.UnknownComponent (number_line (codes "unknown component") component) }
+{
+    let line = number_line(alloc, "unknown component", u64::from(component))?;
+    Ok(Reply {
+        outcome: Outcome::UnknownComponent,
+        text: Text::from_string(line),
+    })
+}
+
+// Where the manifest's components stand in the layout.
+fn places_in(alloc: Global, layout: &Layout, manifest: &Manifest) -> Result<Places, Stop>
+    requires entries { length layout.now ≤ 8 }
+    requires components { length manifest.now.components ≤ 8 }
+    ensures finds { Finds (places_in layout.now manifest.now) result }
+    ensures other { IfOk result (HaveOtherPlaces manifest.now.components) }
+{
+    match places(layout, &manifest.components) {
+        Ok(places) => Ok(places),
+        Err(lacking) => Err(declined(unknown(alloc, lacking.component))),
+    }
+}
+
+// Whether both procedures are within the width that is judged, and safe.
+fn judged(alloc: Global, manifest: &Manifest, members: &Members) -> Result<(), Stop>
+    requires components { length manifest.now.components < 2 ^ 32 }
+    requires update { IsPlan (update_tree manifest.now members.now) }
+    requires invocation { IsPlan (invocation_tree manifest.now) }
+    ensures { Finds (judges (update_tree manifest.now members.now) (invocation_tree manifest.now)) result }
+{
+    let update = update_plan(manifest, members);
+    match narrow(alloc, &update) {
+        Ok(()) => {}
+        Err(stop) => return Err(stop),
+    }
+    let invocation = invocation_plan(manifest);
+    match narrow(alloc, &invocation) {
+        Ok(()) => {}
+        Err(stop) => return Err(stop),
+    }
+    match judge_safe(alloc, &update, &invocation) {
+        Ok(()) => Ok(()),
+        Err(stop) => Err(stop),
+    }
+}
+
+// What may be installed of an authentic envelope with this manifest.
+fn accept_manifest<'a>(
+    alloc: Global,
+    layout: &Layout,
+    envelope: &Envelope<'a>,
+    manifest: Manifest,
+) -> Result<Acceptable<'a>, Stop>
+    requires entries { length layout.now ≤ 8 }
+    requires components { length manifest.components ≤ 8 }
+    requires places { MembersEndBelow (2 ^ 64) (said_by envelope.now) }
+    requires manifest { ManifestOf (said_by envelope.now) manifest }
+    ensures finds { FindsAccepted (accepts_manifest layout.now (said_by envelope.now) manifest) result }
+    ensures envelope { IfOk result (λ a. a.envelope ≡ envelope.now) }
+    ensures other { IfOk result (λ a. HaveOtherPlaces a.manifest.components a.places) }
+{
+    procedure_laws();
+    let places = match places_in(alloc, layout, &manifest) {
+        Ok(places) => places,
+        Err(stop) => return Err(stop),
+    };
+    let members = match members_in(alloc, envelope, &manifest) {
+        Ok(members) => members,
+        Err(stop) => return Err(stop),
+    };
+    match judged(alloc, &manifest, &members) {
+        Ok(()) => {}
+        Err(stop) => return Err(stop),
+    }
+    Ok(Acceptable {
+        envelope: *envelope,
+        manifest,
+        places,
+        members,
+    })
+}
+
+/// What may be installed of a file's bytes on a flash with this layout and key.
+pub(crate) fn accept<'a>(
+    alloc: Global,
+    layout: &Layout,
+    key: &Key,
+    bytes: &'a [u8],
+) -> Result<Acceptable<'a>, Stop>
+    requires entries { length layout.now ≤ 8 }
+    requires key { IsKey key.now }
+    requires size { length bytes.now ≤ longest_file }
+    ensures finds { FindsAccepted (accepts layout.now key.now bytes.now) result }
+    ensures wrapper { IfOk result (λ a. HasWrapper a.envelope.wrapper.now) }
+    ensures whole { IfOk result (λ a. a.envelope.whole.now ≡ bytes.now) }
+    ensures other { IfOk result (λ a. HaveOtherPlaces a.manifest.components a.places) }
+{
+    envelope_laws();
+    manifest_laws();
+    let envelope = match envelope_in(alloc, bytes) {
+        Ok(envelope) => envelope,
+        Err(stop) => return Err(stop),
+    };
+    match short(alloc, &envelope) {
+        Ok(()) => {}
+        Err(stop) => return Err(stop),
+    }
+    match authentic_in(alloc, &envelope, key) {
+        Ok(()) => {}
+        Err(stop) => return Err(stop),
+    }
+    let manifest = match manifest_in(alloc, &envelope) {
+        Ok(manifest) => manifest,
+        Err(stop) => return Err(stop),
+    };
+    match accept_manifest(alloc, layout, &envelope, manifest) {
+        Ok(acceptable) => Ok(acceptable),
+        Err(stop) => Err(stop),
+    }
+}

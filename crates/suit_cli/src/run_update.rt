@@ -1,0 +1,127 @@
+//! The command `run update`: an envelope is accepted, its update procedure run, and the envelope installed.
+
+ghost use Rattle.std.specs.Prelude.{◌≡◌, IsTrue};
+ghost use Rattle.flash_layout.specs.declared.frame.TheConstants.{VERSION_1};
+ghost use Rattle.flash_layout.specs.Configs.{ConfigOf, Configured, IsAllowed};
+ghost use Rattle.flash_layout.specs.Frames.{head_of};
+ghost use Rattle.flash_layout.specs.Placement.{HaveOtherPlaces};
+ghost use Rattle.rollback_record.specs.SoundFlash.{Settled};
+ghost use Rattle.suit_envelope.specs.WrapperParts.{HasWrapper};
+ghost use Rattle.suit_cli.specs.Acceptance.{IsAccepted, accepted_by};
+ghost use Rattle.suit_cli.specs.Coming.{Comes, PassesAny, StaysSound, UpdatesBy, ended_of};
+ghost use Rattle.suit_cli.specs.Commands.{does};
+ghost use Rattle.suit_cli.specs.Settling.{StaysSettled};
+ghost use Rattle.suit_cli.specs.Updating.{KeepsAccepted, StaysOrKeeps};
+ghost use Rattle.suit_cli.specs.Words.{RunUpdate};
+
+use crate::acceptance::{Acceptable, accept};
+use crate::answer::Answer;
+use crate::input::{LONGEST_FILE, read};
+use crate::outside::{SeenDisk, SeenHost, SeenLauncher};
+use crate::reply::Stop;
+use crate::status::config_in;
+use crate::typing::typed;
+use crate::update_lines::{UPDATE_ROOM, update_line};
+use flash_layout::{Key, Layout, config_laws};
+use path_model::play_laws;
+use place_laws::installed_anywhere;
+use rollback_record::sound_laws;
+use std::alloc::Global;
+use step_machine::Uris;
+use suit_edge::{Disk, Host, Launcher};
+use suit_manifest::{manifest_laws, procedure_laws};
+use update_proc::update;
+
+// The update of an accepted envelope. The room for the line is taken before anything is done.
+fn update_by<H: Host, D: Disk, L: Launcher>(
+    alloc: Global,
+    host: &mut H,
+    flash: &mut D,
+    launcher: &mut L,
+    layout: &Layout,
+    key: &Key,
+    accepted: &Acceptable<'_>,
+    uris: &Uris,
+) -> Answer
+    requires allowed { IsAllowed VERSION_1 (D.extent flash.old) layout.now key.now }
+    requires held { IsTrue D.told → ConfigOf VERSION_1 (D.extent flash.old) (head_of VERSION_1 (D.flash flash.old).reads)
+        (Configured layout.now key.now) }
+    requires accepted { IsAccepted layout.now key.now accepted.now.envelope.whole.now (accepted_by accepted.now) }
+    requires wrapper { HasWrapper accepted.now.envelope.wrapper.now }
+    requires other { HaveOtherPlaces accepted.now.manifest.components accepted.now.places }
+    ensures answer { UpdatesBy layout.now accepted.now.envelope.whole.now (accepted_by accepted.now) uris.now
+        (⟦<L as SeenLauncher>⟧.seen launcher.old) (⟦<L as SeenLauncher>⟧.seen launcher.new)
+        (⟦<H as SeenHost>⟧.seen host.old (⟦<D as SeenDisk>⟧.seen flash.old))
+        (⟦<H as SeenHost>⟧.seen host.new (⟦<D as SeenDisk>⟧.seen flash.new)) (ended_of result) }
+    ensures extent { D.extent flash.new ≡ D.extent flash.old }
+    ensures any_moment { IsTrue D.told → PassesAny (D.flash flash.old) (D.flash flash.new) }
+    ensures sound { IsTrue D.told → Settled VERSION_1 (D.flash flash.old) → StaysSound (D.flash flash.old) (D.flash flash.new) }
+    ensures settled { IsTrue D.told → StaysSettled (D.flash flash.old) (D.flash flash.new) (D.faults flash.old) (D.faults flash.new) }
+    ensures keeps { IsTrue D.told → Settled VERSION_1 (D.flash flash.old)
+        → KeepsAccepted layout.now (accepted_by accepted.now) (D.flash flash.old) (D.flash flash.new) }
+{
+    sound_laws();
+    config_laws();
+    play_laws();
+    manifest_laws();
+    procedure_laws();
+    installed_anywhere();
+    typed(layout);
+    let mut line = String::new(alloc);
+    match line.reserve(UPDATE_ROOM) {
+        Ok(()) => {}
+        Err(_) => return Answer::Said(Err(Stop::NoMemory)),
+    }
+    let end = update(
+        alloc,
+        host,
+        flash,
+        launcher,
+        layout,
+        &accepted.places,
+        &accepted.envelope,
+        &accepted.manifest,
+        &accepted.members,
+        uris,
+    );
+    let text = update_line(line, accepted.manifest.sequence, &end);
+    Answer::Updated(end, text)
+}
+
+/// The answer to `run update NAME [URI=NAME]...`.
+pub(crate) fn run_update<H: Host, D: Disk, L: Launcher>(
+    alloc: Global,
+    name: &str,
+    uris: &Uris,
+    host: &mut H,
+    flash: &mut D,
+    launcher: &mut L,
+) -> Answer
+    ensures answer { Comes (does (RunUpdate name.now uris.now)) (λ task. RunUpdate name.now uris.now ≡ task)
+        (⟦<L as SeenLauncher>⟧.seen launcher.old) (⟦<L as SeenLauncher>⟧.seen launcher.new)
+        (⟦<H as SeenHost>⟧.seen host.old (⟦<D as SeenDisk>⟧.seen flash.old))
+        (⟦<H as SeenHost>⟧.seen host.new (⟦<D as SeenDisk>⟧.seen flash.new)) (ended_of result) }
+    ensures extent { D.extent flash.new ≡ D.extent flash.old }
+    ensures any_moment { IsTrue D.told → PassesAny (D.flash flash.old) (D.flash flash.new) }
+    ensures sound { IsTrue D.told → Settled VERSION_1 (D.flash flash.old) → StaysSound (D.flash flash.old) (D.flash flash.new) }
+    ensures settled { IsTrue D.told → StaysSettled (D.flash flash.old) (D.flash flash.new) (D.faults flash.old) (D.faults flash.new) }
+    ensures keeps { IsTrue D.told → Settled VERSION_1 (D.flash flash.old) → StaysOrKeeps name.now
+        (⟦<H as SeenHost>⟧.seen host.old (⟦<D as SeenDisk>⟧.seen flash.old)) (D.flash flash.old) (D.flash flash.new) }
+{
+    sound_laws();
+    let config = match config_in(alloc, flash) {
+        Ok(config) => config,
+        Err(stop) => return Answer::Said(Err(stop)),
+    };
+    let bytes = match read(alloc, name, LONGEST_FILE, host) {
+        Ok(bytes) => bytes,
+        Err(stop) => return Answer::Said(Err(stop)),
+    };
+    let accepted = match accept(alloc, &config.0, &config.1, bytes.as_slice()) {
+        Ok(accepted) => accepted,
+        Err(stop) => return Answer::Said(Err(stop)),
+    };
+    update_by(
+        alloc, host, flash, launcher, &config.0, &config.1, &accepted, uris,
+    )
+}
