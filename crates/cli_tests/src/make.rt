@@ -1,0 +1,178 @@
+//! Tests of `make` on objects in memory. The expected bytes were computed by another program.
+
+mod argument_rows;
+mod field_rows;
+
+use crate::descriptions::STORED_SAYS;
+use crate::runs::answers_by_files;
+use argument_rows::{REFUSED_ARGUMENTS, REFUSED_PARAMETERS};
+use field_rows::{REFUSED_FIELDS, REFUSED_MEMBERS};
+use std::alloc::{AllocError, Global};
+use std::test::Fail;
+use suit_edge::{Host, MemoryHost, Started};
+
+const DESCRIPTION: &str =
+    "{\"sequence\":1,\"components\":[[\"00\"]],\"shared\":[[\"set\",{\"digest\":{\"file\":\"abc.img\"},\"size\":{\"file\":\"abc.img\"}}]],\"validate\":[[\"match\",15]],\"invoke\":[[\"invoke\",15]]}";
+
+const WITH_INSTALL: &str =
+    "{\"sequence\":1,\"components\":[[\"00\"]],\"shared\":[[\"set\",{\"digest\":{\"file\":\"abc.img\"},\"size\":{\"file\":\"abc.img\"}}]],\"validate\":[[\"match\",15]],\"invoke\":[[\"invoke\",15]],\"install\":[[\"set\",{\"uri\":\"img\"}],[\"fetch\",15]]}";
+
+const ENVELOPE: &str =
+    "d86ba2025853825824822f58201a9560565e58d0ad019dae827e1def7755aad759c564dcc11446bb8629c035b1582ad18443a10105a0f6582020d07a0b6d6e8c35313524a9e71b4f7857551ac0e818340d4076635db40631b3035847a501010201035835a2028181410004582c8214a2035824822f5820ba7816bf8f01cfea414140de5dae2223b00361a396177a9cb410ff61f20015ad0e03074382030f094382170f";
+
+// The second description with its install apart, and its envelope.
+const WITH_SEVERED: &str =
+    "{\"sequence\":1,\"components\":[[\"00\"]],\"shared\":[[\"set\",{\"digest\":{\"file\":\"abc.img\"},\"size\":{\"file\":\"abc.img\"}}]],\"validate\":[[\"match\",15]],\"invoke\":[[\"invoke\",15]],\"install\":[[\"set\",{\"uri\":\"img\"}],[\"fetch\",15]],\"sever\":[\"install\"]}";
+
+const SEVERED: &str =
+    "d86ba3025853825824822f5820f7da94cc0c65d8e7f6fa7db8ae3289288138a0b64066032a5650208bbad40033582ad18443a10105a0f65820dfe11ba524c51b8c224afc07979afbe8972fb5aed5391e88f9d7f8c02248961103586ca601010201035835a2028181410004582c8214a2035824822f5820ba7816bf8f01cfea414140de5dae2223b00361a396177a9cb410ff61f20015ad0e03074382030f094382170f14822f58208cec887aebc30d8879f0a5cdf13265bec7d50e98670afe09827264786de89233144a8414a11563696d67150f";
+
+// What `show` puts of that one.
+const SHOWN_SEVERED: &str =
+    "{\"components\":[[\"00\"]],\"install\":[[\"set\",{\"uri\":\"img\"}],[\"fetch\",15]],\"invoke\":[[\"invoke\",15]],\"sequence\":1,\"sever\":[\"install\"],\"shared\":[[\"set\",{\"digest\":\"ba7816bf8f01cfea414140de5dae2223b00361a396177a9cb410ff61f20015ad\",\"size\":3}]],\"validate\":[[\"match\",15]]}\n";
+
+const MAKE: [&str; 4] = ["make", "d.json", "k", "o.suit"];
+
+const FAULT: (u8, &str) = (7, "host fault\n");
+
+// A host with a description, a key and an image, of which these calls fail.
+fn with_files(alloc: Global, description: &str, fails: &[u64]) -> Result<MemoryHost, AllocError> {
+    let mut host = MemoryHost::new(alloc, fails)?;
+    host.add("d.json", description.as_bytes())?;
+    host.add("k", b"a key")?;
+    host.add("abc.img", b"abc")?;
+    Ok(host)
+}
+
+// Whether the host has a file with just these bytes.
+fn holds<H: Host>(host: &mut H, name: &str, wanted: &[u8]) -> bool {
+    let mut room = [0u8; 300];
+    if host.start(name) != Started::Done {
+        return false;
+    }
+    let _pulled = host.pull(&mut room);
+    room.starts_with(wanted)
+}
+
+// Whether the envelope of the description is made so, and stands as these bytes.
+fn makes(alloc: Global, description: &str, says: &str, wanted: &[u8]) -> Result<bool, AllocError> {
+    let mut host = with_files(alloc, description, &[])?;
+    let made = answers_by_files(alloc, &MAKE, &mut host, (0, says))?;
+    Ok(made && holds(&mut host, "o.suit", wanted))
+}
+
+#[test]
+fn an_envelope_is_made_and_stored(rt: HostRuntime) -> Result<(), Fail> {
+    let envelope = hex::decode(rt.alloc(), ENVELOPE)?;
+    assert!(rt; makes(rt.alloc(), DESCRIPTION, "made 163\n", envelope.as_slice())?);
+    Ok(())
+}
+
+#[test]
+fn a_member_more_is_made(rt: HostRuntime) -> Result<(), AllocError> {
+    assert!(rt; makes(rt.alloc(), WITH_INSTALL, "made 175\n", b"")?);
+    Ok(())
+}
+
+#[test]
+fn a_member_apart_is_made(rt: HostRuntime) -> Result<(), Fail> {
+    let envelope = hex::decode(rt.alloc(), SEVERED)?;
+    assert!(rt; makes(rt.alloc(), WITH_SEVERED, "made 212\n", envelope.as_slice())?);
+    Ok(())
+}
+
+// Whether what `show` puts of an envelope makes that envelope, of which `show` puts the same again.
+fn makes_again(alloc: Global, shown: &str, says: &str, wanted: &[u8]) -> Result<bool, AllocError> {
+    let mut host = with_files(alloc, shown, &[])?;
+    let made = answers_by_files(alloc, &MAKE, &mut host, (0, says))?;
+    let told = answers_by_files(alloc, &["show", "o.suit"], &mut host, (0, shown))?;
+    Ok(made && told && holds(&mut host, "o.suit", wanted))
+}
+
+#[test]
+fn what_is_shown_makes_the_same_envelope(rt: HostRuntime) -> Result<(), Fail> {
+    let envelope = hex::decode(rt.alloc(), ENVELOPE)?;
+    assert!(rt; makes_again(rt.alloc(), STORED_SAYS, "made 163\n", envelope.as_slice())?);
+    let severed = hex::decode(rt.alloc(), SEVERED)?;
+    assert!(rt; makes_again(rt.alloc(), SHOWN_SEVERED, "made 212\n", severed.as_slice())?);
+    Ok(())
+}
+
+// Whether the description is refused so, and nothing is stored.
+fn refuses(alloc: Global, description: &str, says: (u8, &str)) -> Result<bool, AllocError> {
+    let mut host = with_files(alloc, description, &[])?;
+    let refused = answers_by_files(alloc, &MAKE, &mut host, says)?;
+    Ok(refused && host.start("o.suit") == Started::Absent)
+}
+
+const ALIKE: &str = "{\"sequence\":1,\"components\":[[\"00\"],[\"00\"]]}";
+
+const NAMES_NONE: &str =
+    "{\"sequence\":1,\"components\":[[\"00\"]],\"payloads\":{\"#a\":{\"file\":\"b\"}}}";
+
+#[test]
+fn nothing_is_stored_where_it_is_refused(rt: HostRuntime) -> Result<(), AllocError> {
+    assert!(rt; refuses(rt.alloc(), "{", (3, "bad json\n"))?);
+    assert!(rt; refuses(rt.alloc(), "[]", (3, "bad field \n"))?);
+    assert!(rt; refuses(rt.alloc(), ALIKE, (3, "components 0 and 1 are alike\n"))?);
+    assert!(rt; refuses(rt.alloc(), NAMES_NONE, (20, "absent b\n"))?);
+    Ok(())
+}
+
+// Whether the description in the row's first line is refused with its second one.
+fn is_refused(alloc: Global, row: &str) -> Result<bool, AllocError> {
+    match row.split_once('\n') {
+        Some((description, said)) => {
+            let mut line = String::from_str(alloc, said)?;
+            line.push_str("\n")?;
+            refuses(alloc, description, (3, line.as_str()))
+        }
+        None => Ok(false),
+    }
+}
+
+#[test]
+fn each_field_has_its_faults(rt: HostRuntime) -> Result<(), AllocError> {
+    for row in REFUSED_FIELDS.split("\n\n") {
+        assert!(rt; is_refused(rt.alloc(), row)?, "{row}");
+    }
+    Ok(())
+}
+
+#[test]
+fn each_member_apart_and_each_payload_has_its_faults(rt: HostRuntime) -> Result<(), AllocError> {
+    for row in REFUSED_MEMBERS.split("\n\n") {
+        assert!(rt; is_refused(rt.alloc(), row)?, "{row}");
+    }
+    Ok(())
+}
+
+#[test]
+fn each_command_has_its_faults(rt: HostRuntime) -> Result<(), AllocError> {
+    for row in REFUSED_ARGUMENTS.split("\n\n") {
+        assert!(rt; is_refused(rt.alloc(), row)?, "{row}");
+    }
+    Ok(())
+}
+
+#[test]
+fn each_parameter_has_its_faults(rt: HostRuntime) -> Result<(), AllocError> {
+    for row in REFUSED_PARAMETERS.split("\n\n") {
+        assert!(rt; is_refused(rt.alloc(), row)?, "{row}");
+    }
+    Ok(())
+}
+
+// Whether a call of the host that fails is told.
+fn tells_fault(alloc: Global, call: u64) -> Result<bool, AllocError> {
+    let mut host = with_files(alloc, DESCRIPTION, &[call])?;
+    answers_by_files(alloc, &MAKE, &mut host, FAULT)
+}
+
+#[test]
+fn each_call_of_the_host_may_fail(rt: HostRuntime) -> Result<(), AllocError> {
+    for call in 0..10u64 {
+        assert!(rt; tells_fault(rt.alloc(), call)?, "call {call}");
+    }
+    Ok(())
+}

@@ -1,0 +1,71 @@
+//! Tests of `run status` on objects in memory.
+
+ghost use Rattle.std.specs.Prelude.{◌≡◌, ◌≤◌, IfOk, IfSome, length};
+
+use crate::init::inits;
+use cli_tests::{answers, blank};
+use std::alloc::{AllocError, Global};
+use std::test::Fail;
+use suit_edge::{Disk, Edge, MemoryDisk, MemoryHost};
+
+/// A device of a component with two slots and one in working memory.
+const DEVICE: &str =
+    "{\"components\":[{\"capacity\":1024,\"id\":[\"00\"],\"kind\":\"flash\",\"slots\":[49152,50184]},{\"capacity\":16,\"id\":[\"01\"],\"kind\":\"ram\"}]}";
+
+/// A record page: generation 7, sequence number 5, bank 1, 93 bytes, a digest, and slot 1 of component 0.
+const RECORD: [u8; 99] = [
+    165, 0, 0, 0, 0, 0, 0, 0, 7, 0, 0, 0, 0, 0, 0, 0, 5, 1, 0, 0, 0, 0, 0, 0, 0, 93, 32, 17, 17,
+    17, 17, 17, 17, 17, 17, 17, 17, 17, 17, 17, 17, 17, 17, 17, 17, 17, 17, 17, 17, 17, 17, 17, 17,
+    17, 17, 17, 17, 17, 17, 0, 0, 0, 0, 0, 0, 0, 0, 0, 0, 0, 0, 0, 0, 0, 0, 0, 0, 0, 0, 0, 0, 0, 0,
+    0, 0, 0, 0, 0, 0, 0, 0, 1, 0, 0, 0, 0, 0, 0, 0,
+];
+
+/// What is told of them, where slot 1 holds three bytes.
+const LINES: &str =
+    "sequence 5\ngeneration 7\nbank 1\ndigest 1111111111111111111111111111111111111111111111111111111111111111\ncomponent 0 slot 1 length 3\ncomponent 1 ram\n";
+
+/// Whether `run status` answers so.
+fn tells<D: Disk>(alloc: Global, flash: &mut D, says: (u8, &str)) -> Result<bool, AllocError>
+    requires { 49152 ≤ D.extent flash.old }
+    ensures { D.extent flash.new ≡ D.extent flash.old }
+{
+    let mut host = MemoryHost::new(alloc, &[])?;
+    answers(alloc, &["run", "status"], &mut host, flash, says)
+}
+
+// Writes the record page, and the length of the content of slot 1.
+fn install<D: Disk>(flash: &mut D) -> bool
+    requires { 65536 ≤ D.extent flash.old }
+    ensures { D.extent flash.new ≡ D.extent flash.old }
+{
+    flash.write_at(4_096, &RECORD) == Edge::Done
+        && flash.write_at(50_184, &[0, 0, 0, 0, 0, 0, 0, 3]) == Edge::Done
+}
+
+// A flash that was formatted.
+fn ready(alloc: Global) -> Result<Option<MemoryDisk>, AllocError>
+    ensures { IfOk result (λ flash. IfSome flash (λ flash. length flash.first ≡ 65536)) }
+{
+    let mut flash = blank(alloc, &[])?;
+    if inits(alloc, DEVICE, b"key", &mut flash, (0, "ready\n"))? {
+        Ok(Some(flash))
+    } else {
+        Ok(None)
+    }
+}
+
+#[test]
+fn a_blank_flash_is_told(rt: HostRuntime) -> Result<(), Fail> {
+    let mut flash = blank(rt.alloc(), &[])?;
+    assert!(rt; tells(rt.alloc(), &mut flash, (13, "blank\n"))?);
+    Ok(())
+}
+
+#[test]
+fn what_is_installed_is_told(rt: HostRuntime) -> Result<(), Fail> {
+    let mut flash = ready(rt.alloc())?.ok_or("not ready")?;
+    assert!(rt; tells(rt.alloc(), &mut flash, (15, "nothing installed\n"))?);
+    assert!(rt; install(&mut flash));
+    assert!(rt; tells(rt.alloc(), &mut flash, (0, LINES))?);
+    Ok(())
+}
