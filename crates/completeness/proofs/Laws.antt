@@ -1,0 +1,107 @@
+-- The laws of completeness.
+use Rattle.std.proofs.Common.{ℕ, List, refl, ap}
+use Rattle.suit_envelope.specs.EnvelopeLaws.{EnvelopeLaws}
+use Rattle.suit_manifest.specs.ManifestLaws.{ManifestLaws}
+use Rattle.suit_manifest.specs.MembersLaws.{MembersLaws}
+use Rattle.flash_layout.specs.declared.key.Key.{Key}
+use Rattle.flash_layout.specs.declared.layout.Entry.{Entry}
+use Rattle.flash_layout.specs.ConfigLaws.{OneAnswer as OneConfigAnswer}
+use Rattle.rollback_record.specs.RecordLaws.{OneAnswer}
+use Rattle.invoke_proc.specs.BootLaws.{BootLaws}
+use Rattle.suit_cli.specs.Acceptance.{Accepted, IsAccepted}
+use Rattle.suit_cli.specs.Coming.{ended_status}
+use Rattle.suit_cli.specs.LifeLaws.{SoundnessLaws}
+use Rattle.suit_cli.specs.UpdateLaws.{UpdateLaws}
+use Rattle.suit_cli.proofs.AcceptedFacts.{facts}
+use Rattle.completeness.specs.Boots.{BootsWhole}
+use Rattle.completeness.specs.Updates.{Installs, Meets}
+use Rattle.completeness.specs.CompletenessLaws.{CompletenessLaws}
+use Rattle.completeness.proofs.BootProofs.{boot_completes, only_boot}
+use Rattle.completeness.proofs.Runs.{ends_well, says_so}
+use Rattle.completeness.proofs.UpdateProofs.{only_update, update_completes}
+
+module _ (layout : List Entry) (key : Key) (bytes : List ℕ) (a : Accepted) where
+  meets : IsAccepted layout key bytes a → Meets layout key bytes a
+  meets is =
+      let f = facts layout key bytes a is in
+      record {
+        are_bytes = f.are_bytes;
+        envelope = f.envelope;
+        is_short = f.short;
+        authentic = f.authentic;
+        says = f.says;
+        placed = f.placed;
+        members = f.members;
+        update_narrow = f.update_narrow;
+        invocation_narrow = f.invocation_narrow;
+        are_safe = f.safe;
+      }
+
+  accepted : Meets layout key bytes a → IsAccepted layout key bytes a
+  accepted m here = record {
+    value = a.said;
+    middle = here;
+    given = (refl, (m.are_bytes, m.envelope));
+    later =
+        record {
+          value = tt;
+          middle = here;
+          given = (refl, m.is_short);
+          later =
+              record {
+                value = tt;
+                middle = here;
+                given = (refl, m.authentic);
+                later =
+                    record {
+                      value = a.manifest;
+                      middle = here;
+                      given = (refl, m.says);
+                      later =
+                          record {
+                            value = a.places;
+                            middle = here;
+                            given = (refl, m.placed);
+                            later =
+                                record {
+                                  value = a.members;
+                                  middle = here;
+                                  given = (refl, m.members);
+                                  later =
+                                      record {
+                                        value = tt;
+                                        middle = here;
+                                        later = (refl, refl);
+                                        given =
+                                            record {
+                                              value = tt;
+                                              middle = here;
+                                              given = (refl, m.update_narrow);
+                                              later =
+                                                  record { value = tt; middle = here; given = (refl, m.invocation_narrow); later = (refl, m.are_safe) };
+                                            };
+                                      };
+                                };
+                          };
+                    };
+              };
+        };
+  }
+
+pub completeness_laws : OneConfigAnswer → OneAnswer → EnvelopeLaws → ManifestLaws → MembersLaws → BootLaws → UpdateLaws → SoundnessLaws → CompletenessLaws
+completeness_laws configs records envelopes manifests members boots updates soundness = record {
+  accepts = λ layout key bytes a. (meets layout key bytes a, accepted layout key bytes a);
+  update = λ words l n b a ended ready faultless comes. update_completes configs envelopes manifests members updates words l n b a ready ended faultless comes;
+  update_ends = λ words l n b a sb sa result ready faultless runs. ends_well _ _ sb sa result runs.ended (λ done. ap ended_status done.ended_is) (λ starved. starved.lacks.status)
+      (update_completes configs envelopes manifests members updates words l n b a ready runs.ended faultless runs.comes) runs.puts;
+  only_update = λ words l n b a ended held asks told recorded comes zero.
+      only_update configs envelopes manifests members updates words l n b a held told recorded ended asks comes zero;
+  update_says = λ words l n b a sb sa held asks told recorded runs. says_so (λ ready. Installs words l b ready n a) sb sa runs.ended
+      (only_update configs envelopes manifests members updates words l n b a held told recorded runs.ended asks runs.comes) runs.puts;
+  boot = λ words l n b a ended ready faultless comes. boot_completes configs records boots words l n b a ready ended faultless comes;
+  boot_ends = λ words l n b a sb sa result ready faultless runs. ends_well _ _ sb sa result runs.ended (λ done. ap ended_status done.ended_is) (λ starved. starved.status)
+      (boot_completes configs records boots words l n b a ready runs.ended faultless runs.comes) runs.puts;
+  only_boot = λ words l n b a ended word told size sound comes zero. only_boot configs records boots soundness words l n b a told word size sound ended comes zero;
+  boot_says = λ words l n b a sb sa word told size sound runs. says_so (λ ready. BootsWhole words l b ready n a) sb sa runs.ended
+      (only_boot configs records boots soundness words l n b a told word size sound runs.ended runs.comes) runs.puts;
+}

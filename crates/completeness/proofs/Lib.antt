@@ -1,0 +1,9 @@
+pub mod SamePlaces
+pub mod OnePlay
+pub mod Leaving
+pub mod UpdatePlayed
+pub mod Begun
+pub mod UpdateProofs
+pub mod BootProofs
+pub mod Runs
+pub mod Laws

@@ -1,0 +1,94 @@
+-- Given what it needs, a command is done; and it is done only then.
+use Rattle.std.specs.Prelude.{◌≡◌, ◌⊎◌, ◌↔◌, ℕ, List, length, Option, Some}
+use Rattle.flash_layout.specs.declared.frame.TheConstants.{VERSION_1}
+use Rattle.flash_layout.specs.declared.key.Key.{Key}
+use Rattle.flash_layout.specs.declared.layout.Entry.{Entry}
+use Rattle.flash_layout.specs.declared.slot.Record.{Record}
+use Rattle.flash_layout.specs.Frames.{head_of}
+use Rattle.rollback_record.specs.HeadRecord.{RecordOf}
+use Rattle.rollback_record.specs.SoundFlash.{Sound}
+use Rattle.suit_cli.specs.Acceptance.{Accepted, IsAccepted}
+use Rattle.suit_cli.specs.Coming.{Ended, ended_status}
+use Rattle.suit_cli.specs.Launching.{Launching}
+use Rattle.suit_cli.specs.Outside.{Outside, Sunk}
+use Rattle.suit_cli.specs.Program.{ComesTo, Runs}
+use Rattle.suit_cli.specs.Words.{RunBoot, RunUpdate, task_of}
+use Rattle.completeness.specs.Outcomes.{AreTold, EndsWell, IsFaultless, LacksMemory, PutsDone}
+use Rattle.completeness.specs.Updates.{Installs, LeavesFlash, Meets, ReadyToUpdate}
+use Rattle.completeness.specs.Boots.{BootsWhole, ReadyToBoot}
+
+-- ---- `run update`
+
+-- the bytes of a file are accepted exactly where they meet what is asked of them
+abbrev pub AcceptsWhatMeets : Type 0
+AcceptsWhatMeets = (layout : List Entry) (key : Key) (bytes : List ℕ) (a : Accepted) → IsAccepted layout key bytes a ↔ Meets layout key bytes a
+
+-- an update that is ready is installed, or memory is wanting, where no fault is counted
+abbrev pub UpdateCompletes : Type 0
+UpdateCompletes =
+    (words : List (List ℕ)) (launched now : Launching) (before after : Outside) (ended : Ended) (ready : ReadyToUpdate words launched before)
+    → IsFaultless launched now before after → ComesTo words launched now before after ended
+    → Installs words launched before ready now after ended ⊎ LeavesFlash launched now before after ended
+
+-- so the status is 0 or 11, and 9 only where the sink failed
+abbrev pub UpdateEndsWell : Type 0
+UpdateEndsWell =
+    (words : List (List ℕ)) (launched now : Launching) (before after : Outside) (sunk_before sunk_after : Sunk) (result : ℕ) (ready : ReadyToUpdate words launched before)
+    → IsFaultless launched now before after → Runs words launched now before after sunk_before sunk_after result
+    → EndsWell (Installs words launched before ready now after) (LeavesFlash launched now before after) sunk_before sunk_after result
+
+abbrev pub AsksUpdate : List (List ℕ) → Type 0
+AsksUpdate words = (name : List ℕ) × (uris : List (List ℕ × List ℕ)) × (task_of words ≡ Some (RunUpdate name uris))
+
+-- it is done only where it was ready, whatever record the flash holds
+abbrev pub OnlyReadyUpdates : Type 0
+OnlyReadyUpdates =
+    (words : List (List ℕ)) (launched now : Launching) (before after : Outside) (ended : Ended) (held : Option Record) → AsksUpdate words → AreTold launched before
+    → RecordOf VERSION_1 (head_of VERSION_1 before.flash.reads) held → ComesTo words launched now before after ended → ended_status ended ≡ 0
+    → (ready : ReadyToUpdate words launched before) × Installs words launched before ready now after ended
+
+-- so status 0 comes only of that
+abbrev pub UpdateSaysSo : Type 0
+UpdateSaysSo =
+    (words : List (List ℕ)) (launched now : Launching) (before after : Outside) (sunk_before sunk_after : Sunk) (held : Option Record) → AsksUpdate words → AreTold launched before
+    → RecordOf VERSION_1 (head_of VERSION_1 before.flash.reads) held → Runs words launched now before after sunk_before sunk_after 0
+    → (ready : ReadyToUpdate words launched before) × PutsDone (Installs words launched before ready now after) sunk_before sunk_after
+
+-- ---- `run boot`
+
+-- a boot that is ready is played to its end, or memory is wanting, where no fault is counted
+abbrev pub BootCompletes : Type 0
+BootCompletes =
+    (words : List (List ℕ)) (launched now : Launching) (before after : Outside) (ended : Ended) (ready : ReadyToBoot words launched before)
+    → IsFaultless launched now before after → ComesTo words launched now before after ended
+    → BootsWhole words launched before ready now after ended ⊎ LacksMemory launched now before after ended
+
+abbrev pub BootEndsWell : Type 0
+BootEndsWell =
+    (words : List (List ℕ)) (launched now : Launching) (before after : Outside) (sunk_before sunk_after : Sunk) (result : ℕ) (ready : ReadyToBoot words launched before)
+    → IsFaultless launched now before after → Runs words launched now before after sunk_before sunk_after result
+    → EndsWell (BootsWhole words launched before ready now after) (LacksMemory launched now before after) sunk_before sunk_after result
+
+-- on a sound flash it is done only where it was ready
+abbrev pub OnlyReadyBoots : Type 0
+OnlyReadyBoots =
+    (words : List (List ℕ)) (launched now : Launching) (before after : Outside) (ended : Ended) → task_of words ≡ Some RunBoot → AreTold launched before
+    → before.flash.size ≡ length before.flash.reads → Sound VERSION_1 before.flash.reads → ComesTo words launched now before after ended → ended_status ended ≡ 0
+    → (ready : ReadyToBoot words launched before) × BootsWhole words launched before ready now after ended
+
+abbrev pub BootSaysSo : Type 0
+BootSaysSo =
+    (words : List (List ℕ)) (launched now : Launching) (before after : Outside) (sunk_before sunk_after : Sunk) → task_of words ≡ Some RunBoot → AreTold launched before
+    → before.flash.size ≡ length before.flash.reads → Sound VERSION_1 before.flash.reads → Runs words launched now before after sunk_before sunk_after 0
+    → (ready : ReadyToBoot words launched before) × PutsDone (BootsWhole words launched before ready now after) sunk_before sunk_after
+
+pub record CompletenessLaws : Type 0 where
+  pub accepts : AcceptsWhatMeets
+  pub update : UpdateCompletes
+  pub update_ends : UpdateEndsWell
+  pub only_update : OnlyReadyUpdates
+  pub update_says : UpdateSaysSo
+  pub boot : BootCompletes
+  pub boot_ends : BootEndsWell
+  pub only_boot : OnlyReadyBoots
+  pub boot_says : BootSaysSo

@@ -1,0 +1,5 @@
+pub mod Plays
+pub mod Outcomes
+pub mod Updates
+pub mod Boots
+pub mod CompletenessLaws
