@@ -1,0 +1,52 @@
+//! What a session does with files beside the program.
+
+use det_cbor::Bytes;
+use std::alloc::Global;
+use suit_edge::{Host, Sink, Taken, take_all};
+
+/// The longest file that is read, in bytes.
+const LONGEST: u64 = 1_048_576;
+
+// The bytes of a file, if it is there and can be read.
+fn content<H: Host>(alloc: Global, host: &mut H, name: &str) -> Option<Bytes> {
+    match take_all(alloc, host, name, LONGEST) {
+        Taken::Got(bytes) => Some(bytes),
+        _ => None,
+    }
+}
+
+/// Puts the bytes of a file.
+pub(crate) fn print<H: Host, K: Sink>(alloc: Global, host: &mut H, out: &mut K, name: &str) {
+    match content(alloc, host, name) {
+        Some(bytes) => out.put(bytes.as_slice()),
+        None => out.put(b"no such file\n"),
+    };
+}
+
+// The line on two files.
+fn compared(one: Option<Bytes>, other: Option<Bytes>) -> &'static str {
+    let Some(one) = one else {
+        return "no such file\n";
+    };
+    let Some(other) = other else {
+        return "no such file\n";
+    };
+    if one.as_slice() == other.as_slice() {
+        "the same\n"
+    } else {
+        "they differ\n"
+    }
+}
+
+/// Puts whether two files are the same.
+pub(crate) fn compare<H: Host, K: Sink>(
+    alloc: Global,
+    host: &mut H,
+    out: &mut K,
+    one: &str,
+    other: &str,
+) {
+    let one = content(alloc, host, one);
+    let other = content(alloc, host, other);
+    out.put(compared(one, other).as_bytes());
+}
