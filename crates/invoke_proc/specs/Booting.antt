@@ -92,6 +92,11 @@ PlayedSo P launched now (ends.Stopped place cause) = P (plays.DirectiveFailed pl
 PlayedSo P launched now ends.FlashFault = (now ≡ launched) ⊎ ((end : PlanEnd) × P end)
 PlayedSo P launched now _ = now ≡ launched
 
+-- a procedure that has no names of files is not stopped by a fault of the host
+abbrev pub NeverHost : BootEnd → Type 0
+NeverHost (ends.Stopped place causes.HostFault) = ⊥
+NeverHost _ = Unit {0}
+
 -- the answer of a procedure that ended so
 abbrev pub end_of : PlanEnd → BootEnd
 end_of plays.Done = ends.Ended

@@ -4,7 +4,7 @@ ghost use Rattle.flash_layout.specs.declared.frame.TheConstants.{VERSION_1};
 ghost use Rattle.flash_layout.specs.Configs.{ConfigOf, Configured, IsAllowed};
 ghost use Rattle.flash_layout.specs.Frames.{head_of};
 ghost use Rattle.invoke_proc.specs.Banks.{without_bank};
-ghost use Rattle.invoke_proc.specs.Booting.{Answers, GainsSafe, IfUnfaulted, KeepsBoot, KeptSo, PlayedSo, PlaysBoot};
+ghost use Rattle.invoke_proc.specs.Booting.{Answers, GainsSafe, IfUnfaulted, KeepsBoot, KeptSo, NeverHost, PlayedSo, PlaysBoot};
 ghost use Rattle.invoke_proc.specs.Counting.{BootCounts};
 ghost use Rattle.invoke_proc.specs.Sound.{IsUnrefused};
 ghost use Rattle.rollback_record.specs.SoundFlash.{Follows, Settled, Sound};
@@ -106,6 +106,7 @@ pub fn boot<H: Host, D: Disk, L: Launcher>(
     ensures plays { IsTrue H.told → IsTrue D.told → IsTrue L.told
         → PlayedSo (PlaysBoot layout.now key.now (H.file host.old) (D.flash disk.old).reads (D.flash disk.new).reads
         (L.launches launcher.old) (L.launches launcher.new)) (L.launches launcher.old) (L.launches launcher.new) result }
+    ensures host { IsTrue H.told → IsTrue D.told → IsTrue L.told → NeverHost result }
     ensures safe { IsTrue H.told → IsTrue D.told → IsTrue L.told → Sound VERSION_1 (D.flash disk.old).reads
         → GainsSafe (L.launches launcher.old) (L.launches launcher.new) }
     ensures keeps { IsTrue D.told → KeptSo (KeepsBoot layout.now key.now (D.flash disk.old) (D.flash disk.new))

@@ -18,7 +18,7 @@ use Rattle.path_model.specs.Path.{first_state}
 use Rattle.path_model.specs.Settings.{Setting, capacity_of, payload_of}
 use Rattle.path_model.specs.Plays.{Outcome}
 use Rattle.path_model.specs.DevicePlays.{Device, content_at, with_content, tested, unread, comparing, is_image, matched, is_content, condition_play, Change, Made, Refused, concluded, filled, fetched, copied, swapped, fits_into, acted, ActIsCut, acting, WriteLeaves, FetchLeaves, SwapLeaves, directive_play, first_device, plan_play}
-use Rattle.path_model.specs.PlayLaws.{IsFault, EndsSo, EndsByFault, PlayEnds, FaultedEnds}
+use Rattle.path_model.specs.PlayLaws.{IsFault, IsFaultIn, EndsSo, EndsByFault, PlayEnds, FaultedEnds}
 use Rattle.path_model.proofs.PlaysEnd.{Ends, procedure_ends}
 
 tested_ends : (p : ℕ) (passed failed : Event) (s : State) (w : Device) (b : Bool) → EndsSo (tested p passed failed s w b).ending (tested p passed failed s w b).cause
@@ -29,26 +29,26 @@ matched_ends : (p c : ℕ) (size : Option ℕ) (s : State) (w : Device) (d : Opt
 matched_ends p c size s w None = refl
 matched_ends p c size s w (Some d) = tested_ends p (Matched c d size) (Missed c) s w (is_image d size (content_at w c))
 
-unread_ends : (p : ℕ) (w : Device) (o : Outcome Device) → o ≡ unread p w → EndsByFault o.ending o.cause
-unread_ends p w o is = record { place = p; why = causes.FlashFault; fault = tt; ends = ap (λ (x : Outcome Device). x.ending) is; named = ap (λ (x : Outcome Device). x.cause) is }
+unread_ends : (setting : Setting) (p : ℕ) (w : Device) (o : Outcome Device) → o ≡ unread p w → EndsByFault setting o.ending o.cause
+unread_ends setting p w o is = record { place = p; why = causes.FlashFault; fault = tt; ends = ap (λ (x : Outcome Device). x.ending) is; named = ap (λ (x : Outcome Device). x.cause) is }
 
-comparing_ends : (p : ℕ) (kind : TestKind) (c : ℕ) (holds : State → Bool) → Ends Device (comparing p kind c holds)
-comparing_ends p kind c holds = record { whole = λ s w. tested_ends p (Tried c kind true) (Tried c kind false) s w (holds s); cut = λ s w o cut. absurd cut }
+comparing_ends : (setting : Setting) (p : ℕ) (kind : TestKind) (c : ℕ) (holds : State → Bool) → Ends Device setting (comparing p kind c holds)
+comparing_ends setting p kind c holds = record { whole = λ s w. tested_ends p (Tried c kind true) (Tried c kind false) s w (holds s); cut = λ s w o cut. absurd cut }
 
-tests_end : (setting : Setting) (kind : TestKind) (p c : ℕ) → Ends Device (condition_play setting kind p c)
-tests_end setting tests.Vendor p c = comparing_ends p tests.Vendor c _
-tests_end setting tests.Class p c = comparing_ends p tests.Class c _
-tests_end setting tests.Device p c = comparing_ends p tests.Device c _
-tests_end setting tests.Slot p c = comparing_ends p tests.Slot c _
+tests_end : (setting : Setting) (kind : TestKind) (p c : ℕ) → Ends Device setting (condition_play setting kind p c)
+tests_end setting tests.Vendor p c = comparing_ends setting p tests.Vendor c _
+tests_end setting tests.Class p c = comparing_ends setting p tests.Class c _
+tests_end setting tests.Device p c = comparing_ends setting p tests.Device c _
+tests_end setting tests.Slot p c = comparing_ends setting p tests.Slot c _
 tests_end setting tests.ImageMatch p c = record {
   whole = λ s w. matched_ends p c (size_in s.parameters c) s w (digest_in s.parameters c);
-  cut = λ s w o cut. unread_ends p w o cut.1;
+  cut = λ s w o cut. unread_ends setting p w o cut.1;
 }
 tests_end setting tests.CheckContent p c = record {
   whole = λ s w. tested_ends p (Tried c tests.CheckContent true) (Tried c tests.CheckContent false) s w (is_content (bytes_of (in_force s.parameters c keys.Content)) (content_at w c));
-  cut = λ s w o cut. unread_ends p w o cut.1;
+  cut = λ s w o cut. unread_ends setting p w o cut.1;
 }
-tests_end setting tests.Abort p c = comparing_ends p tests.Abort c (λ s. false)
+tests_end setting tests.Abort p c = comparing_ends setting p tests.Abort c (λ s. false)
 
 -- a change that no fault refused
 IsPlain : Change → Type 0
@@ -85,13 +85,13 @@ unfolding IsPlain
 concluded_ends p es s (Made w) h = refl
 concluded_ends p es s (Refused cause w) h = (cause, h, refl)
 
-module _ {A : Type 0} (p : ℕ) (told : A → List Event) (makes : A → Device → Change) (Leaves : A → Cause → Device → Device → Type 0)
-    (plain : (x : A) (w : Device) → IsPlain (makes x w)) (fault : (x : A) (cause : Cause) (w v : Device) → Leaves x cause w v → IsFault cause) where
+module _ {A : Type 0} (setting : Setting) (p : ℕ) (told : A → List Event) (makes : A → Device → Change) (Leaves : A → Cause → Device → Device → Type 0)
+    (plain : (x : A) (w : Device) → IsPlain (makes x w)) (fault : (x : A) (cause : Cause) (w v : Device) → Leaves x cause w v → IsFaultIn setting cause) where
   acted_ends : (s : State) (w : Device) (wanted : Option A) → EndsSo (acted p told makes s w wanted).ending (acted p told makes s w wanted).cause
   acted_ends s w None = (causes.Missing, (λ x. x), refl)
   acted_ends s w (Some x) = concluded_ends p (told x) s (makes x w) (plain x w)
 
-  cut_ends : (s : State) (w : Device) (o : Outcome Device) (wanted : Option A) → ActIsCut p told Leaves s w o wanted → EndsByFault o.ending o.cause
+  cut_ends : (s : State) (w : Device) (o : Outcome Device) (wanted : Option A) → ActIsCut p told Leaves s w o wanted → EndsByFault setting o.ending o.cause
   cut_ends s w o None cut = absurd cut
   cut_ends s w o (Some x) (cause, v, leaves, is) = record {
     place = p;
@@ -101,37 +101,37 @@ module _ {A : Type 0} (p : ℕ) (told : A → List Event) (makes : A → Device 
     named = ap (λ (y : Outcome Device). y.cause) is;
   }
 
-  acting_ends : (wanted : State → Option A) → Ends Device (acting p wanted told makes Leaves)
+  acting_ends : (wanted : State → Option A) → Ends Device setting (acting p wanted told makes Leaves)
   acting_ends wanted = record { whole = λ s w. acted_ends s w (wanted s); cut = λ s w o cut. cut_ends s w o (wanted s) cut }
 
-write_fault : (setting : Setting) (c : ℕ) (cause : Cause) (w v : Device) → WriteLeaves setting c cause w v → IsFault cause
+write_fault : (setting : Setting) (c : ℕ) (cause : Cause) (w v : Device) → WriteLeaves setting c cause w v → IsFaultIn setting cause
 write_fault setting c causes.FlashFault w v h = tt
 write_fault setting c causes.Missing w v h = h
 write_fault setting c causes.SelfCopy w v h = h
 write_fault setting c causes.TooLarge w v h = h
 write_fault setting c causes.Absent w v h = h
-write_fault setting c causes.HostFault w v h = tt
+write_fault setting c causes.HostFault w v h = absurd h
 write_fault setting c causes.LaunchFault w v h = tt
 
-fetch_fault : (setting : Setting) (c : ℕ) (cause : Cause) (w v : Device) → FetchLeaves setting c cause w v → IsFault cause
-fetch_fault setting c causes.FlashFault w v h = tt
-fetch_fault setting c causes.Missing w v h = h
-fetch_fault setting c causes.SelfCopy w v h = h
-fetch_fault setting c causes.TooLarge w v h = h
-fetch_fault setting c causes.Absent w v h = h
-fetch_fault setting c causes.HostFault w v h = tt
-fetch_fault setting c causes.LaunchFault w v h = tt
+fetch_fault : (setting : Setting) (uri : List ℕ) (c : ℕ) (cause : Cause) (w v : Device) → FetchLeaves setting uri c cause w v → IsFaultIn setting cause
+fetch_fault setting uri c causes.FlashFault w v h = tt
+fetch_fault setting uri c causes.Missing w v h = h
+fetch_fault setting uri c causes.SelfCopy w v h = h
+fetch_fault setting uri c causes.TooLarge w v h = h
+fetch_fault setting uri c causes.Absent w v h = h
+fetch_fault setting uri c causes.HostFault w v h = (uri, h.0)
+fetch_fault setting uri c causes.LaunchFault w v h = tt
 
-swap_fault : (setting : Setting) (c source : ℕ) (cause : Cause) (w v : Device) → SwapLeaves setting c source cause w v → IsFault cause
+swap_fault : (setting : Setting) (c source : ℕ) (cause : Cause) (w v : Device) → SwapLeaves setting c source cause w v → IsFaultIn setting cause
 swap_fault setting c source causes.FlashFault w v h = tt
 swap_fault setting c source causes.Missing w v h = h
 swap_fault setting c source causes.SelfCopy w v h = h
 swap_fault setting c source causes.TooLarge w v h = h
 swap_fault setting c source causes.Absent w v h = h
-swap_fault setting c source causes.HostFault w v h = tt
+swap_fault setting c source causes.HostFault w v h = absurd h
 swap_fault setting c source causes.LaunchFault w v h = tt
 
-invoke_ends : (p c : ℕ) (s : State) (w : Device) (o : Outcome Device) (setting : Setting) → (directive_play setting acts.Invoke p c).IsCut s w o → EndsByFault o.ending o.cause
+invoke_ends : (p c : ℕ) (s : State) (w : Device) (o : Outcome Device) (setting : Setting) → (directive_play setting acts.Invoke p c).IsCut s w o → EndsByFault setting o.ending o.cause
 invoke_ends p c s w o setting (causes.LaunchFault, stops, is) =
     record { place = p; why = causes.LaunchFault; fault = tt; ends = ap (λ (x : Outcome Device). x.ending) is; named = ap (λ (x : Outcome Device). x.cause) is }
 invoke_ends p c s w o setting (causes.FlashFault, stops, is) =
@@ -142,19 +142,19 @@ invoke_ends p c s w o setting (causes.SelfCopy, stops, is) = absurd stops
 invoke_ends p c s w o setting (causes.TooLarge, stops, is) = absurd stops
 invoke_ends p c s w o setting (causes.Absent, stops, is) = absurd stops
 
-acts_end : (setting : Setting) (kind : ActKind) (p c : ℕ) → Ends Device (directive_play setting kind p c)
+acts_end : (setting : Setting) (kind : ActKind) (p c : ℕ) → Ends Device setting (directive_play setting kind p c)
 acts_end setting acts.Write p c =
-    acting_ends p (λ x. Wrote c ∷ []) (λ x. filled setting c x) (λ x. WriteLeaves setting c) (λ x w. filled_plain setting c x w) (λ x. write_fault setting c) (λ s. bytes_of (in_force s.parameters c keys.Content))
+    acting_ends setting p (λ x. Wrote c ∷ []) (λ x. filled setting c x) (λ x. WriteLeaves setting c) (λ x w. filled_plain setting c x w) (λ x. write_fault setting c) (λ s. bytes_of (in_force s.parameters c keys.Content))
 acts_end setting acts.Fetch p c =
-    acting_ends p (λ x. Wrote c ∷ []) (λ x. fetched setting c (payload_of setting x)) (λ x. FetchLeaves setting c) (λ x w. fetched_plain setting c (payload_of setting x) w) (λ x. fetch_fault setting c) (λ s. bytes_of (in_force s.parameters c keys.Uri))
+    acting_ends setting p (λ x. Wrote c ∷ []) (λ x. fetched setting c (payload_of setting x)) (λ x. FetchLeaves setting x c) (λ x w. fetched_plain setting c (payload_of setting x) w) (λ x. fetch_fault setting x c) (λ s. bytes_of (in_force s.parameters c keys.Uri))
 acts_end setting acts.Copy p c =
-    acting_ends p (λ x. Wrote c ∷ []) (λ x. copied setting c x) (λ x. WriteLeaves setting c) (λ x w. copied_plain setting c x w) (λ x. write_fault setting c) (λ s. number_of (in_force s.parameters c keys.Source))
+    acting_ends setting p (λ x. Wrote c ∷ []) (λ x. copied setting c x) (λ x. WriteLeaves setting c) (λ x w. copied_plain setting c x w) (λ x. write_fault setting c) (λ s. number_of (in_force s.parameters c keys.Source))
 acts_end setting acts.Swap p c =
-    acting_ends p (λ x. Wrote c ∷ Wrote x ∷ []) (λ x. swapped setting c x) (λ x. SwapLeaves setting c x) (λ x w. swapped_plain setting c x w) (λ x. swap_fault setting c x) (λ s. number_of (in_force s.parameters c keys.Source))
+    acting_ends setting p (λ x. Wrote c ∷ Wrote x ∷ []) (λ x. swapped setting c x) (λ x. SwapLeaves setting c x) (λ x w. swapped_plain setting c x w) (λ x. swap_fault setting c x) (λ s. number_of (in_force s.parameters c keys.Source))
 acts_end setting acts.Invoke p c = record { whole = λ s w. refl; cut = λ s w o cut. invoke_ends p c s w o setting cut }
 
-plan_ends : (plan : PlanTree) (setting : Setting) → Ends Device (plan_play plan setting)
-plan_ends plan setting = procedure_ends Device (condition_play setting) (directive_play setting) plan.count (tests_end setting) (acts_end setting) plan
+plan_ends : (plan : PlanTree) (setting : Setting) → Ends Device setting (plan_play plan setting)
+plan_ends plan setting = procedure_ends Device setting (condition_play setting) (directive_play setting) plan.count (tests_end setting) (acts_end setting) plan
 
 pub play_ends : PlayEnds
 play_ends plan setting contents = (plan_ends plan setting).whole first_state (first_device contents)

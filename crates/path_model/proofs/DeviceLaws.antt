@@ -385,15 +385,15 @@ copy_left setting c causes.Absent w v h = absurd h
 copy_left setting c causes.HostFault w v h = absurd h
 copy_left setting c causes.LaunchFault w v h = absurd h
 
-fetch_left : (setting : Setting) (c : ℕ) (cause : Cause) (w v : Device) → FetchLeaves setting c cause w v → Leaves setting acts.Fetch cause c w v
-fetch_left setting c causes.FlashFault w v h = held_some setting c w v h
-fetch_left setting c causes.HostFault w v h =
-    elim h [ inl is ↦ inl is | inr is ↦ inr (subst (λ (u : Device). Holds c [] w u) (sym is) (holds_with c [] w)) ]
-fetch_left setting c causes.Missing w v h = absurd h
-fetch_left setting c causes.SelfCopy w v h = absurd h
-fetch_left setting c causes.TooLarge w v h = absurd h
-fetch_left setting c causes.Absent w v h = absurd h
-fetch_left setting c causes.LaunchFault w v h = absurd h
+fetch_left : (setting : Setting) (uri : List ℕ) (c : ℕ) (cause : Cause) (w v : Device) → FetchLeaves setting uri c cause w v → Leaves setting acts.Fetch cause c w v
+fetch_left setting uri c causes.FlashFault w v h = held_some setting c w v h
+fetch_left setting uri c causes.HostFault w v h =
+    elim h.1 [ inl is ↦ inl is | inr is ↦ inr (subst (λ (u : Device). Holds c [] w u) (sym is) (holds_with c [] w)) ]
+fetch_left setting uri c causes.Missing w v h = absurd h
+fetch_left setting uri c causes.SelfCopy w v h = absurd h
+fetch_left setting uri c causes.TooLarge w v h = absurd h
+fetch_left setting uri c causes.Absent w v h = absurd h
+fetch_left setting uri c causes.LaunchFault w v h = absurd h
 
 swap_left : (setting : Setting) (c source : ℕ) (cause : Cause) (w v : Device) → SwapLeaves setting c source cause w v → Leaves setting acts.Swap cause c w v
 swap_left setting c source causes.FlashFault w v (m, one, two) = record { source = source; middle = m; one = held_some setting c w m one; other = held_some setting source m v two }
@@ -408,7 +408,7 @@ pub fault_rule : FaultRule
 fault_rule setting acts.Write p c s w o cut =
     cut_fault setting acts.Write p c (λ x. Wrote c ∷ []) (λ x. WriteLeaves setting c) (λ x. write_left setting c) s w o (bytes_of (in_force s.parameters c keys.Content)) cut
 fault_rule setting acts.Fetch p c s w o cut =
-    cut_fault setting acts.Fetch p c (λ x. Wrote c ∷ []) (λ x. FetchLeaves setting c) (λ x. fetch_left setting c) s w o (bytes_of (in_force s.parameters c keys.Uri)) cut
+    cut_fault setting acts.Fetch p c (λ x. Wrote c ∷ []) (λ x. FetchLeaves setting x c) (λ x. fetch_left setting x c) s w o (bytes_of (in_force s.parameters c keys.Uri)) cut
 fault_rule setting acts.Copy p c s w o cut =
     cut_fault setting acts.Copy p c (λ x. Wrote c ∷ []) (λ x. WriteLeaves setting c) (λ x. copy_left setting c) s w o (number_of (in_force s.parameters c keys.Source)) cut
 fault_rule setting acts.Swap p c s w o cut =

@@ -126,15 +126,15 @@ write_leaves setting c causes.Absent w v h = absurd h
 write_leaves setting c causes.HostFault w v h = absurd h
 write_leaves setting c causes.LaunchFault w v h = absurd h
 
-fetch_leaves : (setting : Setting) (c : ℕ) (cause : Cause) (w v : Device) → FetchLeaves setting c cause w v → v.launches ≡ w.launches
-fetch_leaves setting c causes.FlashFault w v h = holds_any_keeps setting c w v h
-fetch_leaves setting c causes.HostFault w v h =
-    elim h [ inl is ↦ ap (λ (x : Device). x.launches) is | inr is ↦ ap (λ (x : Device). x.launches) is ]
-fetch_leaves setting c causes.Missing w v h = absurd h
-fetch_leaves setting c causes.SelfCopy w v h = absurd h
-fetch_leaves setting c causes.TooLarge w v h = absurd h
-fetch_leaves setting c causes.Absent w v h = absurd h
-fetch_leaves setting c causes.LaunchFault w v h = absurd h
+fetch_leaves : (setting : Setting) (uri : List ℕ) (c : ℕ) (cause : Cause) (w v : Device) → FetchLeaves setting uri c cause w v → v.launches ≡ w.launches
+fetch_leaves setting uri c causes.FlashFault w v h = holds_any_keeps setting c w v h
+fetch_leaves setting uri c causes.HostFault w v h =
+    elim h.1 [ inl is ↦ ap (λ (x : Device). x.launches) is | inr is ↦ ap (λ (x : Device). x.launches) is ]
+fetch_leaves setting uri c causes.Missing w v h = absurd h
+fetch_leaves setting uri c causes.SelfCopy w v h = absurd h
+fetch_leaves setting uri c causes.TooLarge w v h = absurd h
+fetch_leaves setting uri c causes.Absent w v h = absurd h
+fetch_leaves setting uri c causes.LaunchFault w v h = absurd h
 
 swap_leaves : (setting : Setting) (c source : ℕ) (cause : Cause) (w v : Device) → SwapLeaves setting c source cause w v → v.launches ≡ w.launches
 swap_leaves setting c source causes.FlashFault w v (m, one, two) = holds_any_keeps setting source m v two ∙ holds_any_keeps setting c w m one
@@ -165,7 +165,7 @@ acts_lead : (setting : Setting) (kind : ActKind) (p c : ℕ) → LeadsOn (direct
 acts_lead setting acts.Write p c =
     acting_leads p (λ x. Wrote c ∷ []) (λ x. filled setting c x) (λ x. WriteLeaves setting c) (λ x w. filled_keeps setting c x w) (λ x. write_leaves setting c) (λ s. bytes_of (in_force s.parameters c keys.Content))
 acts_lead setting acts.Fetch p c =
-    acting_leads p (λ x. Wrote c ∷ []) (λ x. fetched setting c (payload_of setting x)) (λ x. FetchLeaves setting c) (λ x w. fetched_keeps setting c (payload_of setting x) w) (λ x. fetch_leaves setting c) (λ s. bytes_of (in_force s.parameters c keys.Uri))
+    acting_leads p (λ x. Wrote c ∷ []) (λ x. fetched setting c (payload_of setting x)) (λ x. FetchLeaves setting x c) (λ x w. fetched_keeps setting c (payload_of setting x) w) (λ x. fetch_leaves setting x c) (λ s. bytes_of (in_force s.parameters c keys.Uri))
 acts_lead setting acts.Copy p c =
     acting_leads p (λ x. Wrote c ∷ []) (λ x. copied setting c x) (λ x. WriteLeaves setting c) (λ x w. copied_keeps setting c x w) (λ x. write_leaves setting c) (λ s. number_of (in_force s.parameters c keys.Source))
 acts_lead setting acts.Swap p c =

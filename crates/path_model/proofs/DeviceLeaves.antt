@@ -191,7 +191,7 @@ module _ (setting : Setting) where
   acts_follow acts.Fetch p c =
       let wanted : State → Option (List ℕ) = λ s. bytes_of (in_force s.parameters c keys.Uri) in
       other_run Device (λ s. Writes p (wanted s) (λ x. Wrote c ∷ []) s) (Acts acts.Fetch p c) (directive_play setting acts.Fetch p c) (λ s es e r. r)
-      (acting_follows p (λ x. Wrote c ∷ []) (λ x. fetched setting c (payload_of setting x)) (λ x. FetchLeaves setting c) wanted)
+      (acting_follows p (λ x. Wrote c ∷ []) (λ x. fetched setting c (payload_of setting x)) (λ x. FetchLeaves setting x c) wanted)
   acts_follow acts.Copy p c =
       let wanted : State → Option ℕ = λ s. number_of (in_force s.parameters c keys.Source) in
       other_run Device (λ s. Writes p (wanted s) (λ x. Wrote c ∷ []) s) (Acts acts.Copy p c) (directive_play setting acts.Copy p c) (λ s es e r. r)

@@ -8,6 +8,7 @@ use Rattle.path_model.specs.declared.cause.Cause.{Cause}
 use Rattle.path_model.specs.Behaviour.{State, Ending, Done, Condition, Directive}
 use Rattle.path_model.specs.Runs.{entry_state, after_run}
 use Rattle.path_model.specs.Path.{start_state}
+use Rattle.path_model.specs.Settings.{Setting}
 use Rattle.path_model.specs.Plays.{Outcome, Play, going_on, NextIsCut, in_turn, each, each_selected, overriding, running_inner, after_trying, OtherIsCut, sequence_play, command_play, branches_play, starting, procedure}
 use Rattle.path_model.specs.PlayLaws.{EndsSo, EndsByFault}
 
@@ -17,12 +18,12 @@ after_run_ends s (Condition p true) c h = h
 after_run_ends s (Condition p false) c h = h
 after_run_ends s (Directive p) c h = h
 
-module _ (World : Type 0) where
+module _ (World : Type 0) (setting : Setting) where
   pub record Ends (play : Play World) : Type 0 where
     pub whole : (s : State) (w : World) → EndsSo (play.comes s w).ending (play.comes s w).cause
-    pub cut : (s : State) (w : World) (o : Outcome World) → play.IsCut s w o → EndsByFault o.ending o.cause
+    pub cut : (s : State) (w : World) (o : Outcome World) → play.IsCut s w o → EndsByFault setting o.ending o.cause
 
-  fault_as : (o later : Outcome World) → o.ending ≡ later.ending → o.cause ≡ later.cause → EndsByFault later.ending later.cause → EndsByFault o.ending o.cause
+  fault_as : (o later : Outcome World) → o.ending ≡ later.ending → o.cause ≡ later.cause → EndsByFault setting later.ending later.cause → EndsByFault setting o.ending o.cause
   fault_as o later e c h = record { place = h.place; why = h.why; fault = h.fault; ends = e ∙ h.ends; named = c ∙ h.named }
 
   module _ (after : Play World) (g : Ends after) where
@@ -31,7 +32,7 @@ module _ (World : Type 0) where
     goes es c w (Condition p soft) h = h
     goes es c w (Directive p) h = h
 
-    goes_cut : (es : List Event) (w : World) (e : Ending) (o : Outcome World) → NextIsCut World after.IsCut es w e o → EndsByFault o.ending o.cause
+    goes_cut : (es : List Event) (w : World) (e : Ending) (o : Outcome World) → NextIsCut World after.IsCut es w e o → EndsByFault setting o.ending o.cause
     goes_cut es w (Done t) o (later, cut, is) =
         fault_as o later (ap (λ (x : Outcome World). x.ending) is) (ap (λ (x : Outcome World). x.cause) is) (g.cut t w later cut)
     goes_cut es w (Condition p soft) o cut = absurd cut
@@ -43,7 +44,7 @@ module _ (World : Type 0) where
     tries s es c w (Done t) h = h
     tries s es c w (Directive p) h = h
 
-    tries_cut : (s : State) (es : List Event) (w : World) (e : Ending) (o : Outcome World) → OtherIsCut World s after.IsCut es w e o → EndsByFault o.ending o.cause
+    tries_cut : (s : State) (es : List Event) (w : World) (e : Ending) (o : Outcome World) → OtherIsCut World s after.IsCut es w e o → EndsByFault setting o.ending o.cause
     tries_cut s es w (Condition p true) o (later, cut, is) =
         fault_as o later (ap (λ (x : Outcome World). x.ending) is) (ap (λ (x : Outcome World). x.cause) is) (g.cut s w later cut)
     tries_cut s es w (Condition p false) o cut = absurd cut

@@ -260,17 +260,17 @@ write_leaves setting c causes.Absent w v h = absurd h
 write_leaves setting c causes.HostFault w v h = absurd h
 write_leaves setting c causes.LaunchFault w v h = absurd h
 
-fetch_leaves : (setting : Setting) (c : ℕ) (cause : Cause) (w v : Device) → FetchLeaves setting c cause w v → WrittenAt c w v
-fetch_leaves setting c causes.FlashFault w v (bytes, short, is) = subst (WrittenAt c w) (sym is) (written_with c w bytes)
-fetch_leaves setting c causes.HostFault w v h = elim h [
+fetch_leaves : (setting : Setting) (uri : List ℕ) (c : ℕ) (cause : Cause) (w v : Device) → FetchLeaves setting uri c cause w v → WrittenAt c w v
+fetch_leaves setting uri c causes.FlashFault w v (bytes, short, is) = subst (WrittenAt c w) (sym is) (written_with c w bytes)
+fetch_leaves setting uri c causes.HostFault w v h = elim h.1 [
   | inl is ↦ subst (WrittenAt c w) (sym is) (written_same c w)
   | inr is ↦ subst (WrittenAt c w) (sym is) (written_with c w [])
 ]
-fetch_leaves setting c causes.Missing w v h = absurd h
-fetch_leaves setting c causes.SelfCopy w v h = absurd h
-fetch_leaves setting c causes.TooLarge w v h = absurd h
-fetch_leaves setting c causes.Absent w v h = absurd h
-fetch_leaves setting c causes.LaunchFault w v h = absurd h
+fetch_leaves setting uri c causes.Missing w v h = absurd h
+fetch_leaves setting uri c causes.SelfCopy w v h = absurd h
+fetch_leaves setting uri c causes.TooLarge w v h = absurd h
+fetch_leaves setting uri c causes.Absent w v h = absurd h
+fetch_leaves setting uri c causes.LaunchFault w v h = absurd h
 
 -- both sides of a swap
 record BothWritten (c source : ℕ) (w v : Device) : Type 0 where
@@ -334,9 +334,9 @@ acts_keep setting acts.Write p c =
     (λ past x cause w u leaves v. one_wrote past w u c (write_leaves setting c cause w u leaves) v)
     (λ s. bytes_of (in_force s.parameters c keys.Content))
 acts_keep setting acts.Fetch p c =
-    acting_keeps p (λ x. Wrote c ∷ []) (λ x. fetched setting c (payload_of setting x)) (λ x. FetchLeaves setting c)
+    acting_keeps p (λ x. Wrote c ∷ []) (λ x. fetched setting c (payload_of setting x)) (λ x. FetchLeaves setting x c)
     (λ past x w v. one_wrote past w (left_in (fetched setting c (payload_of setting x) w)) c (fetched_writes setting c (payload_of setting x) w) v)
-    (λ past x cause w u leaves v. one_wrote past w u c (fetch_leaves setting c cause w u leaves) v)
+    (λ past x cause w u leaves v. one_wrote past w u c (fetch_leaves setting x c cause w u leaves) v)
     (λ s. bytes_of (in_force s.parameters c keys.Uri))
 acts_keep setting acts.Copy p c =
     acting_keeps p (λ x. Wrote c ∷ []) (λ x. copied setting c x) (λ x. WriteLeaves setting c)

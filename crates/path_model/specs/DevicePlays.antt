@@ -19,7 +19,7 @@ use Rattle.path_model.specs.Behaviour.{State, Done, Condition, Directive}
 use Rattle.path_model.specs.Conditions.{vendor_of, class_of, device_of, slot_of}
 use Rattle.path_model.specs.Directives.{invoke_event}
 use Rattle.path_model.specs.Path.{first_state}
-use Rattle.path_model.specs.Settings.{Setting, capacity_of, payload_of}
+use Rattle.path_model.specs.Settings.{Setting, capacity_of, payload_of, NamesFile}
 use Rattle.path_model.specs.Plays.{Outcome, Play, procedure}
 
 -- one launch: the component, its content, and what its parameters name
@@ -203,12 +203,12 @@ abbrev pub WriteLeaves : Setting → ℕ → Cause → Device → Device → Typ
 WriteLeaves setting component causes.FlashFault before left = HoldsAny setting component before left
 WriteLeaves setting component _ before left = ⊥
 
--- a fault of the host leaves the old content or none
-abbrev pub FetchLeaves : Setting → ℕ → Cause → Device → Device → Type 0
-FetchLeaves setting component causes.HostFault before left =
-    (left ≡ before) ⊎ (left ≡ with_content before component [])
-FetchLeaves setting component causes.FlashFault before left = HoldsAny setting component before left
-FetchLeaves setting component _ before left = ⊥
+-- a fault of the host comes where a file is named, and leaves the old content or none
+abbrev pub FetchLeaves : Setting → List ℕ → ℕ → Cause → Device → Device → Type 0
+FetchLeaves setting uri component causes.HostFault before left =
+    NamesFile setting.words uri × ((left ≡ before) ⊎ (left ≡ with_content before component []))
+FetchLeaves setting uri component causes.FlashFault before left = HoldsAny setting component before left
+FetchLeaves setting uri component _ before left = ⊥
 
 abbrev pub SwapLeaves : Setting → ℕ → ℕ → Cause → Device → Device → Type 0
 SwapLeaves setting component source causes.FlashFault before left =
@@ -252,7 +252,7 @@ directive_play setting acts.Write place component =
     (λ content. Wrote component ∷ []) (λ content. filled setting component content) (λ content. WriteLeaves setting component)
 directive_play setting acts.Fetch place component =
     acting place (λ state. bytes_of (in_force state.parameters component keys.Uri))
-    (λ uri. Wrote component ∷ []) (λ uri. fetched setting component (payload_of setting uri)) (λ uri. FetchLeaves setting component)
+    (λ uri. Wrote component ∷ []) (λ uri. fetched setting component (payload_of setting uri)) (λ uri. FetchLeaves setting uri component)
 directive_play setting acts.Copy place component =
     acting place (λ state. number_of (in_force state.parameters component keys.Source))
     (λ source. Wrote component ∷ []) (λ source. copied setting component source) (λ source. WriteLeaves setting component)

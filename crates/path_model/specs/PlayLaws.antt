@@ -9,7 +9,7 @@ use Rattle.path_model.specs.Safe.{Safe}
 use Rattle.path_model.specs.declared.cause.Cause.{Cause}
 use Rattle.path_model.specs.declared.cause.Cause.TheVariants as causes
 use Rattle.path_model.specs.Behaviour.{Ending, Done, Condition, Directive}
-use Rattle.path_model.specs.Settings.{Setting}
+use Rattle.path_model.specs.Settings.{Setting, NamesFile}
 use Rattle.path_model.specs.Plays.{Outcome}
 use Rattle.path_model.specs.DevicePlays.{Device, Launched, played, IsFaulted}
 
@@ -72,15 +72,22 @@ PlayEnds =
     (plan : PlanTree) (setting : Setting) (contents : List (List ℕ)) → let outcome = played plan setting contents in
     EndsSo outcome.ending outcome.cause
 
+-- a fault that may come in this setting: one of the host where some URI names a file
+abbrev pub IsFaultIn : Setting → Cause → Type 0
+IsFaultIn setting causes.HostFault = (uri : List ℕ) × NamesFile setting.words uri
+IsFaultIn setting causes.FlashFault = Unit {0}
+IsFaultIn setting causes.LaunchFault = Unit {0}
+IsFaultIn setting _ = ⊥
+
 -- what a fault cut short ends at a place, by the fault
-pub record EndsByFault (ending : Ending) (cause : Option Cause) : Type 0 where
+pub record EndsByFault (setting : Setting) (ending : Ending) (cause : Option Cause) : Type 0 where
   pub place : ℕ
   pub why : Cause
-  pub fault : IsFault why
+  pub fault : IsFaultIn setting why
   pub ends : ending ≡ Directive place
   pub named : cause ≡ Some why
 
 abbrev pub FaultedEnds : Type 0
 FaultedEnds =
     (plan : PlanTree) (setting : Setting) (contents : List (List ℕ)) (outcome : Outcome Device)
-    → IsFaulted plan setting contents outcome → EndsByFault outcome.ending outcome.cause
+    → IsFaulted plan setting contents outcome → EndsByFault setting outcome.ending outcome.cause

@@ -1,5 +1,5 @@
 -- What a procedure finds on a device and about it.
-use Rattle.std.specs.Prelude.{ℕ, ◌==◌, if◌then◌else◌, List, [], ◌∷◌, Option, Some, None, get_or}
+use Rattle.std.specs.Prelude.{◌≡◌, ◌≢◌, ℕ, ◌==◌, if◌then◌else◌, List, [], ◌∷◌, Option, Some, None, get_or}
 use Rattle.std.specs.Option.{option_and_then}
 use Rattle.std.specs.Str.{bytes_eq}
 use Rattle.path_model.specs.declared.identity.Identity.{Identity}
@@ -28,3 +28,7 @@ abbrev pub payload_of : Setting → List ℕ → Option (List ℕ)
 payload_of setting uri =
     if get_or uri 0 0 == 35 then found_under setting.payloads uri
     else option_and_then setting.files (found_under setting.words uri)
+
+-- a URI that is no key, and under which some file was named
+abbrev pub NamesFile : List (List ℕ × List ℕ) → List ℕ → Type 0
+NamesFile words uri = (get_or uri 0 0 ≢ 35) × (name : List ℕ) × (found_under words uri ≡ Some name)

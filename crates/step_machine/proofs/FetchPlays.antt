@@ -9,7 +9,7 @@ use Rattle.path_model.specs.declared.event.Event.TheVariants.{Wrote}
 use Rattle.path_model.specs.declared.cause.Cause.{Cause}
 use Rattle.path_model.specs.declared.cause.Cause.TheVariants as causes
 use Rattle.path_model.specs.Behaviour.{State}
-use Rattle.path_model.specs.Settings.{Setting, capacity_of, payload_of}
+use Rattle.path_model.specs.Settings.{Setting, capacity_of, payload_of, NamesFile}
 use Rattle.path_model.specs.Plays.{Outcome}
 use Rattle.path_model.specs.DevicePlays.{Device, Made, Refused, with_content, concluded, fetched, acted, ActIsCut, FetchLeaves, directive_play}
 use Rattle.step_machine.specs.Fetching.{FetchesAs, TakesIn, TakesNamed, payload_by}
@@ -70,32 +70,35 @@ module _ (c cap : ℕ) (ps : Parameters) (payloads words : List (List ℕ × Lis
 
     -- ---- cut by a fault
 
-    leaves : (setting : Setting) (p : ℕ) (s : State) (w left : Device) (cause : Cause) → uri_in s.parameters ≡ Some uri → FetchLeaves setting c cause w left
-        → ActIsCut p (λ x. Wrote c ∷ []) (λ x. FetchLeaves setting c) s w (concluded p (Wrote c ∷ []) s (Refused cause left)) (uri_in s.parameters)
+    leaves : (setting : Setting) (p : ℕ) (s : State) (w left : Device) (cause : Cause) → uri_in s.parameters ≡ Some uri → FetchLeaves setting uri c cause w left
+        → ActIsCut p (λ x. Wrote c ∷ []) (λ x. FetchLeaves setting x c) s w (concluded p (Wrote c ∷ []) s (Refused cause left)) (uri_in s.parameters)
     leaves setting p s w left cause is left_so =
-        subst (λ (o : Option (List ℕ)). ActIsCut p (λ x. Wrote c ∷ []) (λ x. FetchLeaves setting c) s w (concluded p (Wrote c ∷ []) s (Refused cause left)) o) (sym is)
+        subst (λ (o : Option (List ℕ)). ActIsCut p (λ x. Wrote c ∷ []) (λ x. FetchLeaves setting x c) s w (concluded p (Wrote c ∷ []) s (Refused cause left)) o) (sym is)
         (cause, left, left_so, refl)
 
+    named_in : (setting : Setting) → setting.words ≡ words → NamesFile words uri → NamesFile setting.words uri
+    named_in setting is named = subst (λ (x : List (List ℕ × List ℕ)). NamesFile x uri) (sym is) named
+
     -- before anything changed: the file could not be started
-    pub fetch_unstarted : (before : List ℕ) → FetchesAs c cap ps payloads words files before before (Err causes.HostFault)
+    pub fetch_unstarted : (before : List ℕ) → NamesFile words uri → FetchesAs c cap ps payloads words files before before (Err causes.HostFault)
     unfolding uri_in
-    fetch_unstarted before setting p s w same room e f h here inside =
+    fetch_unstarted before named setting p s w same room e f h here inside =
         let outcome : Outcome Device = concluded p (Wrote c ∷ []) s (Refused causes.HostFault w) in
         record {
           outcome = outcome;
-          cut = leaves setting p s w w causes.HostFault (ap uri_in same ∙ some) (inl refl);
+          cut = leaves setting p s w w causes.HostFault (ap uri_in same ∙ some) (named_in setting f named, inl refl);
           stops = stopped p (Wrote c ∷ []) s causes.HostFault w (with_content w c before) outcome refl (sym (with_same w c before here inside));
         }
 
     -- after the content was emptied: a piece could not be pulled
-    pub fetch_emptied : (before after : List ℕ) → after ≡ [] → FetchesAs c cap ps payloads words files before after (Err causes.HostFault)
+    pub fetch_emptied : (before after : List ℕ) → NamesFile words uri → after ≡ [] → FetchesAs c cap ps payloads words files before after (Err causes.HostFault)
     unfolding uri_in
-    fetch_emptied before after is setting p s w same room e f h here inside =
+    fetch_emptied before after named is setting p s w same room e f h here inside =
         let left : Device = with_content w c [] in
         let outcome : Outcome Device = concluded p (Wrote c ∷ []) s (Refused causes.HostFault left) in
         record {
           outcome = outcome;
-          cut = leaves setting p s w left causes.HostFault (ap uri_in same ∙ some) (inr refl);
+          cut = leaves setting p s w left causes.HostFault (ap uri_in same ∙ some) (named_in setting f named, inr refl);
           stops = stopped p (Wrote c ∷ []) s causes.HostFault left (with_content w c after) outcome refl (ap (with_content w c) (sym is));
         }
 
@@ -113,29 +116,29 @@ module _ (c cap : ℕ) (ps : Parameters) (payloads words : List (List ℕ × Lis
 
     -- ---- a file that was started and then taken
 
-    pub fetch_taken : (r : Result (Unit {0}) Cause) (before after file : List ℕ) → payload_by payloads words files uri ≡ Some file → TakesIn r cap file after
+    pub fetch_taken : (r : Result (Unit {0}) Cause) (before after file : List ℕ) → payload_by payloads words files uri ≡ Some file → (r ≡ Err causes.HostFault → NamesFile words uri) → TakesIn r cap file after
         → FetchesAs c cap ps payloads words files before after r
-    fetch_taken (Ok u) before after file found is = fetch_done before after file u found is.0 is.1
-    fetch_taken (Err causes.TooLarge) before after file found is = fetch_large before after file found is.0 is.1
-    fetch_taken (Err causes.HostFault) before after file found is = fetch_emptied before after is
-    fetch_taken (Err causes.FlashFault) before after file found is = fetch_unwritten before after is
-    fetch_taken (Err causes.Missing) before after file found is = absurd is
-    fetch_taken (Err causes.SelfCopy) before after file found is = absurd is
-    fetch_taken (Err causes.Absent) before after file found is = absurd is
-    fetch_taken (Err causes.LaunchFault) before after file found is = absurd is
+    fetch_taken (Ok u) before after file found host is = fetch_done before after file u found is.0 is.1
+    fetch_taken (Err causes.TooLarge) before after file found host is = fetch_large before after file found is.0 is.1
+    fetch_taken (Err causes.HostFault) before after file found host is = fetch_emptied before after (host refl) is
+    fetch_taken (Err causes.FlashFault) before after file found host is = fetch_unwritten before after is
+    fetch_taken (Err causes.Missing) before after file found host is = absurd is
+    fetch_taken (Err causes.SelfCopy) before after file found host is = absurd is
+    fetch_taken (Err causes.Absent) before after file found host is = absurd is
+    fetch_taken (Err causes.LaunchFault) before after file found host is = absurd is
 
     -- ---- what a URI names, where it was looked for
 
-    pub fetch_named : (r : Result (Unit {0}) Cause) (named : Option (List ℕ)) (before after : List ℕ) → payload_by payloads words files uri ≡ named → TakesNamed r cap named before after
+    pub fetch_named : (r : Result (Unit {0}) Cause) (named : Option (List ℕ)) (before after : List ℕ) → payload_by payloads words files uri ≡ named → (r ≡ Err causes.HostFault → NamesFile words uri) → TakesNamed r cap named before after
         → FetchesAs c cap ps payloads words files before after r
-    fetch_named (Ok u) named before after is (file, some, takes) = fetch_taken (Ok u) before after file (is ∙ some) takes
-    fetch_named (Err causes.TooLarge) named before after is (file, some, takes) = fetch_taken (Err causes.TooLarge) before after file (is ∙ some) takes
-    fetch_named (Err causes.FlashFault) named before after is (file, some, takes) = fetch_taken (Err causes.FlashFault) before after file (is ∙ some) takes
-    fetch_named (Err causes.Absent) named before after is (none, same) =
+    fetch_named (Ok u) named before after is host (file, some, takes) = fetch_taken (Ok u) before after file (is ∙ some) host takes
+    fetch_named (Err causes.TooLarge) named before after is host (file, some, takes) = fetch_taken (Err causes.TooLarge) before after file (is ∙ some) host takes
+    fetch_named (Err causes.FlashFault) named before after is host (file, some, takes) = fetch_taken (Err causes.FlashFault) before after file (is ∙ some) host takes
+    fetch_named (Err causes.Absent) named before after is host (none, same) =
         subst (λ (x : List ℕ). FetchesAs c cap ps payloads words files before x (Err causes.Absent)) (sym same) (fetch_absent before (is ∙ none))
-    fetch_named (Err causes.HostFault) named before after is (inl same) =
-        subst (λ (x : List ℕ). FetchesAs c cap ps payloads words files before x (Err causes.HostFault)) (sym same) (fetch_unstarted before)
-    fetch_named (Err causes.HostFault) named before after is (inr empty) = fetch_emptied before after empty
-    fetch_named (Err causes.Missing) named before after is (file, some, takes) = absurd takes
-    fetch_named (Err causes.SelfCopy) named before after is (file, some, takes) = absurd takes
-    fetch_named (Err causes.LaunchFault) named before after is (file, some, takes) = absurd takes
+    fetch_named (Err causes.HostFault) named before after is host (inl same) =
+        subst (λ (x : List ℕ). FetchesAs c cap ps payloads words files before x (Err causes.HostFault)) (sym same) (fetch_unstarted before (host refl))
+    fetch_named (Err causes.HostFault) named before after is host (inr empty) = fetch_emptied before after (host refl) empty
+    fetch_named (Err causes.Missing) named before after is host (file, some, takes) = absurd takes
+    fetch_named (Err causes.SelfCopy) named before after is host (file, some, takes) = absurd takes
+    fetch_named (Err causes.LaunchFault) named before after is host (file, some, takes) = absurd takes

@@ -1,7 +1,8 @@
 //! Fetch, at one component.
 
+ghost use Rattle.path_model.specs.declared.cause.Cause.TheVariants as causes;
 ghost use Rattle.path_model.specs.Settings.{found_under};
-ghost use Rattle.std.specs.Prelude.{◌≡◌, ◌<◌, ◌≤◌, ◌+◌, ◌==◌, ℕ, IsTrue, List, get_or, length, option_map};
+ghost use Rattle.std.specs.Prelude.{◌≡◌, ◌<◌, ◌≤◌, ◌+◌, ◌==◌, ℕ, Err, IsTrue, List, Some, get_or, length, option_map};
 ghost use Rattle.std.specs.Option.{option_and_then};
 ghost use Rattle.step_machine.specs.Fetching.{FetchCounts, FetchesAs, TakesNamed};
 ghost use Rattle.step_machine.specs.Spots.{IsRamBut, IsSpot, OutsideSpot, content_of, room_at};
@@ -103,6 +104,7 @@ fn fetch_file<H: Host, D: Disk>(
     ensures takes { IsTrue D.told → IsTrue H.told
         → TakesNamed result standing.now.capacity (option_and_then (H.file host.old) (found_under uris.now uri.now))
         (content_of standing.now.spot ram.old (D.flash disk.old).reads) (content_of standing.now.spot ram.new (D.flash disk.new).reads) }
+    ensures named { result ≡ Err causes.HostFault → (name : List ℕ) × (found_under uris.now uri.now ≡ Some name) }
     ensures keeps { IsTrue D.told → Keeps (OutsideSpot standing.now.spot) (D.flash disk.old) (D.flash disk.new) }
     ensures grows { IsTrue D.told → Grows (D.flash disk.old) (D.flash disk.new) }
 {

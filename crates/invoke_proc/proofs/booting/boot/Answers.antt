@@ -4,6 +4,7 @@ use Rattle.flash_layout.specs.Configs.{ConfigOf, Configured}
 use Rattle.flash_layout.specs.Frames.{head_of}
 use Rattle.rollback_record.specs.SoundFlash.{Settled}
 use Rattle.invoke_proc.specs.Booting.{PlaysBoot}
+use Rattle.invoke_proc.proofs.HostNever.{never_host}
 use Rattle.invoke_proc.proofs.Played.{unfaulted}
 use Rattle.invoke_proc.proofs.Since.{follows_since, sound_since}
 use Rattle.invoke_proc.proofs.SoundBoot.{gains, head_kept, played_gains, safe_start, settled_end, unrefused}
@@ -16,6 +17,12 @@ returns-clause-unrefused g c t sound =
     let config = subst (λ (n : ℕ). ConfigOf VERSION_1 n (head_of VERSION_1 reads) (Configured c.args.layout.now c.args.key.now)) (sym (g.met.D.Disk.obeys c.args.disk.now t).fits) (c.requires.held t) in
     unrefused c.config_laws.ensures.answer c.record_laws.ensures.answer c.boot_laws.ensures c.args.layout.now c.args.key.now reads config c.start_installed.result sound
     (c.start_installed.ensures.answers t)
+
+pub returns-clause-host : goal.returns-clause-host
+returns-clause-host g c th td tl =
+    never_host c.play_laws.ensures.faulted_ends c.args.layout.now c.args.key.now (g.H.Host.file c.args.host.now) (g.D.Disk.flash c.args.disk.now).reads
+    (g.D.Disk.flash c.start_installed.new.disk).reads (g.L.Launcher.launches c.args.launcher.now) (g.L.Launcher.launches c.start_installed.new.launcher) c.start_installed.result
+    (c.start_installed.ensures.plays th td tl)
 
 pub returns-clause-safe : goal.returns-clause-safe
 returns-clause-safe g c th td tl sound =

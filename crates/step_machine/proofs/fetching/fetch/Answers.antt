@@ -1,12 +1,26 @@
-use Rattle.std.proofs.Common.{sym, ap, ◌∙◌}
-use Rattle.std.specs.Prelude.{◌==◌, get_or}
+use Rattle.std.proofs.Common.{◌≡◌, ◌≢◌, ◌<◌, ℕ, false, Err, sym, ap, subst, ◌∙◌, arith}
+use Rattle.std.specs.Prelude.{◌==◌, Result, get_or}
+use Rattle.std.proofs.lemmas.Bool.{eqb-false}
 use Rattle.std.specs.Option.{option_and_then}
 use Rattle.suit_params.specs.InForce.{bytes_of}
+use Rattle.path_model.specs.declared.cause.Cause.{Cause}
+use Rattle.path_model.specs.declared.cause.Cause.TheVariants as causes
 use Rattle.path_model.specs.Settings.{found_under}
+use Rattle.step_machine.specs.Fetching.{FetchCounts}
 use Rattle.step_machine.proofs.FetchPlays.{fetch_named}
 use Rattle.step_machine.proofs.Memory.{ram_same}
 use Rattle.step_machine.proofs.Writing.{when_false, when_true}
 use Rattle.step_machine.proofs.fetching.fetch.Goals as goal
+
+-- a payload is no file of the host
+never_host : (r : Result (Unit {0}) Cause) (before now : ℕ) → FetchCounts r 0 0 before now → r ≡ Err causes.HostFault → ⊥
+never_host r before now counts is =
+    let faulted = (subst (λ (x : Result (Unit {0}) Cause). FetchCounts x 0 0 before now) is counts).0 in
+    let rose : 0 < 0 = faulted.rose (omega arith) in
+    omega (arith, rose)
+
+other_than : (a b : ℕ) → (a == b) ≡ false → a ≢ b
+other_than a b differ = eqb-false a b differ
 
 pub returns-in-None-clause-ram : goal.returns-in-None-clause-ram
 returns-in-None-clause-ram g c = ram_same c.args.standing.now.spot c.args.ram.now
@@ -14,9 +28,10 @@ returns-in-None-clause-ram g c = ram_same c.args.standing.now.spot c.args.ram.no
 pub returns-then-is_key-clause-fetches : goal.returns-then-is_key-clause-fetches
 returns-then-is_key-clause-fetches g c t u payloads has =
     let by = when_true (get_or c.in-Some.uri.now 0 0 == 35) (found_under payloads c.in-Some.uri.now) (option_and_then (g.H.Host.file c.args.host.now) (found_under c.args.uris.now c.in-Some.uri.now)) (sym c.is_key.ensures ∙ c.if-is_key.true) in
-    fetch_named c.args.standing.now.component c.args.standing.now.capacity c.args.params.now payloads c.args.uris.now (g.H.Host.file c.args.host.now) c.in-Some.uri.now (sym (ap bytes_of c.get.ensures) ∙ sym c.in-Some.ensures) c.fetch_payload.result (found_under payloads c.in-Some.uri.now) _ _ by (c.fetch_payload.ensures.takes t payloads has)
+    fetch_named c.args.standing.now.component c.args.standing.now.capacity c.args.params.now payloads c.args.uris.now (g.H.Host.file c.args.host.now) c.in-Some.uri.now (sym (ap bytes_of c.get.ensures) ∙ sym c.in-Some.ensures) c.fetch_payload.result (found_under payloads c.in-Some.uri.now) _ _ by (λ e. absurd (never_host _ _ _ (c.fetch_payload.ensures.counts 0) e)) (c.fetch_payload.ensures.takes t payloads has)
 
 pub returns-else-is_key-clause-fetches : goal.returns-else-is_key-clause-fetches
 returns-else-is_key-clause-fetches g c t u payloads has =
     let by = when_false (get_or c.in-Some.uri.now 0 0 == 35) (found_under payloads c.in-Some.uri.now) (option_and_then (g.H.Host.file c.args.host.now) (found_under c.args.uris.now c.in-Some.uri.now)) (sym c.is_key.ensures ∙ c.if-is_key.false) in
-    fetch_named c.args.standing.now.component c.args.standing.now.capacity c.args.params.now payloads c.args.uris.now (g.H.Host.file c.args.host.now) c.in-Some.uri.now (sym (ap bytes_of c.get.ensures) ∙ sym c.in-Some.ensures) c.fetch_file.result (option_and_then (g.H.Host.file c.args.host.now) (found_under c.args.uris.now c.in-Some.uri.now)) _ _ by (c.fetch_file.ensures.takes t u)
+    fetch_named c.args.standing.now.component c.args.standing.now.capacity c.args.params.now payloads c.args.uris.now (g.H.Host.file c.args.host.now) c.in-Some.uri.now (sym (ap bytes_of c.get.ensures) ∙ sym c.in-Some.ensures) c.fetch_file.result (option_and_then (g.H.Host.file c.args.host.now) (found_under c.args.uris.now c.in-Some.uri.now)) _ _ by
+    (λ e. let found = c.fetch_file.ensures.named e in (other_than (get_or c.in-Some.uri.now 0 0) 35 (sym c.is_key.ensures ∙ c.if-is_key.false), found.0, found.1)) (c.fetch_file.ensures.takes t u)
