@@ -30,7 +30,7 @@ use Rattle.flash_slots.specs.RamContents.{Held, empty_ram}
 use Rattle.update_proc.specs.Choices.{AreChosen, active_slots}
 use Rattle.update_proc.specs.declared.update_end.UpdateEnd.{UpdateEnd}
 use Rattle.update_proc.specs.declared.update_end.UpdateEnd.TheVariants as ends
-use Rattle.update_proc.specs.Ends.{FinishedSo, FlashFailed, IfInstalled, IfStopped, IfUnfaulted, IsEnd, IsRefusal, IsStartEnd, JudgedSo, UpdateCounts}
+use Rattle.update_proc.specs.Ends.{FinishedSo, FlashFailed, IfInstalled, IfStopped, IfTold, IfUnfaulted, IsEnd, IsRefusal, IsStartEnd, JudgedSo, UpdateCounts}
 use Rattle.update_proc.specs.Installing.{BehindHead, IsNotWorn}
 use Rattle.update_proc.specs.Moments.{HasContentsOf}
 use Rattle.update_proc.specs.Records.{next_generation}
@@ -103,11 +103,11 @@ start_end (plays.DirectiveFailed place cause) answer same = subst IsStartEnd (sy
 
 -- some end has P, where the procedure's has
 left_end : (P : UpdateEnd → Type 0) (end : PlanEnd) (answer : UpdateEnd) → ((r : Record) → answer ≡ ends.Installed r → end ≡ plays.Done → P (ends.Installed r))
-    → ((place : ℕ) → end ≡ plays.ConditionFailed place → P (ends.Condition place)) → ((place : ℕ) (cause : Cause) → end ≡ plays.DirectiveFailed place cause → P (ends.Stopped place cause))
-    → IsEnd end answer → P answer
+    → ((place : ℕ) → answer ≡ ends.Condition place → end ≡ plays.ConditionFailed place → P (ends.Condition place))
+    → ((place : ℕ) (cause : Cause) → answer ≡ ends.Stopped place cause → end ≡ plays.DirectiveFailed place cause → P (ends.Stopped place cause)) → IsEnd end answer → P answer
 left_end P plays.Done answer done condition stopped (r, same) = subst P (sym same) (done r same refl)
-left_end P (plays.ConditionFailed place) answer done condition stopped same = subst P (sym same) (condition place refl)
-left_end P (plays.DirectiveFailed place cause) answer done condition stopped same = subst P (sym same) (stopped place cause refl)
+left_end P (plays.ConditionFailed place) answer done condition stopped same = subst P (sym same) (condition place same refl)
+left_end P (plays.DirectiveFailed place cause) answer done condition stopped same = subst P (sym same) (stopped place cause same refl)
 
 module _ (end : PlanEnd) (answer : UpdateEnd) (d e : ℕ) (finished : FinishedSo end answer d e) where
   pub counts_after : (h b l i m : ℕ) → EndCounts end (counts_of h b l) (counts_of i d m) → UpdateCounts answer (counts_of h b l) (counts_of i e m)
@@ -122,8 +122,8 @@ module _ (end : PlanEnd) (answer : UpdateEnd) (d e : ℕ) (finished : FinishedSo
 
   -- P holds of the answer, where it does of each that may come
   pub after : (P : UpdateEnd → Type 0) → ((r : Record) → answer ≡ ends.Installed r → end ≡ plays.Done → P (ends.Installed r))
-      → ((place : ℕ) → end ≡ plays.ConditionFailed place → P (ends.Condition place)) → ((place : ℕ) (cause : Cause) → end ≡ plays.DirectiveFailed place cause → P (ends.Stopped place cause))
-      → P ends.FlashFault → P answer
+      → ((place : ℕ) → answer ≡ ends.Condition place → end ≡ plays.ConditionFailed place → P (ends.Condition place))
+      → ((place : ℕ) (cause : Cause) → answer ≡ ends.Stopped place cause → end ≡ plays.DirectiveFailed place cause → P (ends.Stopped place cause)) → P ends.FlashFault → P answer
   after P done condition stopped fault_is = ⊎_elim (λ so. left_end P end answer done condition stopped so.0) (λ fault. subst P (sym fault.0) fault_is) finished
 
 -- what holds without a fault of the flash is weakened
@@ -143,13 +143,41 @@ unfaulted P Q (ends.Stopped place causes.LaunchFault) to p = to p
 unfaulted P Q ends.FlashFault to p = tt
 unfaulted P Q ends.NoMemory to p = to p
 
--- ---- what was stopped reads as before
+-- ---- what was stopped is as before
 
 pub stopped_at : (end : PlanEnd) (place : ℕ) (P : Type 0) → IfStopped end P → end ≡ plays.ConditionFailed place → P
 stopped_at end place P is same = subst (λ (e : PlanEnd). IfStopped e P) same is
 
 pub stopped_by : (end : PlanEnd) (place : ℕ) (cause : Cause) (P : Type 0) → IfStopped end P → end ≡ plays.DirectiveFailed place cause → P
 stopped_by end place cause P is same = subst (λ (e : PlanEnd). IfStopped e P) same is
+
+-- it was stopped, or done
+pub stopped_or_done : (end : PlanEnd) (P Stays Did : Type 0) → IfStopped end P → (P → Stays) → (end ≡ plays.Done → Did) → Stays ⊎ Did
+stopped_or_done plays.Done P Stays Did is stays did = inr (did refl)
+stopped_or_done (plays.ConditionFailed place) P Stays Did is stays did = inl (stays is)
+stopped_or_done (plays.DirectiveFailed place cause) P Stays Did is stays did = inl (stays is)
+
+pub any_stopped : (end : PlanEnd) (P : Type 0) → P → IfStopped end P
+any_stopped plays.Done P p = tt
+any_stopped (plays.ConditionFailed place) P p = p
+any_stopped (plays.DirectiveFailed place cause) P p = p
+
+-- and that was told
+pub any_told : (answer : UpdateEnd) (P : Type 0) → P → IfTold answer P
+any_told (ends.Installed r) P p = tt
+any_told (ends.Lower a b) P p = tt
+any_told (ends.OtherDigest a b) P p = tt
+any_told ends.Worn P p = tt
+any_told (ends.Condition place) P p = p
+any_told (ends.Stopped place cause) P p = p
+any_told ends.FlashFault P p = tt
+any_told ends.NoMemory P p = tt
+
+pub told_at : (answer : UpdateEnd) (place : ℕ) (P : Type 0) → IfTold answer P → answer ≡ ends.Condition place → P
+told_at answer place P is same = subst (λ (a : UpdateEnd). IfTold a P) same is
+
+pub told_by : (answer : UpdateEnd) (place : ℕ) (cause : Cause) (P : Type 0) → IfTold answer P → answer ≡ ends.Stopped place cause → P
+told_by answer place cause P is same = subst (λ (a : UpdateEnd). IfTold a P) same is
 
 pub installed_as : (answer : UpdateEnd) (r : Record) (P : Record → Type 0) → IfInstalled answer P → answer ≡ ends.Installed r → P r
 installed_as answer r P is same = subst (λ (a : UpdateEnd). IfInstalled a P) same is

@@ -1,21 +1,34 @@
 -- What stands on the flash at each moment of an update: the contents of slots.
-use Rattle.std.proofs.Common.{◌≡◌, inr, ⊎_elim, ◌<◌, ◌≤◌, ℕ, ◌-◌, List, length, get_or, Option, [], Some, None, ◌∙◌, subst, arith}
+use Rattle.std.proofs.Common.{◌≡◌, inr, ⊎_elim, ◌<◌, ◌≤◌, ℕ, ◌-◌, List, length, get_or, Option, [], Some, None, refl, sym, ◌∙◌, ap, subst, arith}
+use Rattle.std.proofs.lemmas.Bool.{cases_eq}
+use Rattle.std.proofs.lemmas.List.{get_or-map}
 use Rattle.std.specs.List.{All}
 use Rattle.suit_commands.specs.Tree.{PlanTree}
 use Rattle.suit_edge.specs.Ranges.{SameOn}
+use Rattle.suit_edge.specs.declared.launch.Launch.{Launch}
+use Rattle.path_model.specs.DevicePlays.{Device, played}
 use Rattle.flash_layout.specs.declared.frame.TheConstants.{VERSION_1}
 use Rattle.flash_layout.specs.declared.layout.Entry.{Entry}
+use Rattle.flash_layout.specs.declared.layout.Memory.{Memory}
 use Rattle.flash_layout.specs.declared.layout.Memory.TheVariants as memory
 use Rattle.flash_layout.specs.declared.place.Places.{Places}
 use Rattle.flash_layout.specs.declared.slot.Record.{Record}
 use Rattle.flash_layout.specs.declared.slot.Slot.{Slot}
 use Rattle.flash_layout.specs.Layouts.{AreClear, IsLayout, IsTypedEntry}
-use Rattle.flash_layout.specs.Slots.{extent_of}
+use Rattle.flash_layout.specs.Slots.{extent_of, slot_at, slot_content}
+use Rattle.flash_slots.specs.RamContents.{Held, empty_ram}
+use Rattle.step_machine.specs.declared.plan_end.PlanEnd.TheVariants as plays
+use Rattle.step_machine.specs.declared.spot.Standing.{Standing}
+use Rattle.step_machine.specs.Devices.{contents_of}
+use Rattle.step_machine.specs.PlanRuns.{setting_of}
+use Rattle.step_machine.specs.Spots.{content_of}
+use Rattle.step_machine.specs.Worlds.{spot_of, standing_of}
 use Rattle.update_proc.specs.Banks.{BesideBank}
-use Rattle.update_proc.specs.Choices.{AreChosen, HaveTwoSlots, IsInUse, IsTouched, active_slots}
+use Rattle.update_proc.specs.Choices.{AreChosen, HasOther, HaveTwoSlots, IsInUse, IsTouched, IsWritten, active_slots}
 use Rattle.update_proc.specs.Installing.{BehindHead, IsRecording}
 use Rattle.update_proc.specs.MomentLaws.{EachMoment}
-use Rattle.update_proc.specs.Moments.{HasContentsOf, HasInUse, IsNew, IsOld, KeepsContents, OutsideTouched}
+use Rattle.update_proc.specs.Moments.{HasContentsOf, HasInUse, HasPlayed, IsNew, IsOld, KeepsContents, OutsideTouched}
+use Rattle.update_proc.specs.Updates.{PlaysUpdate}
 use Rattle.update_proc.proofs.SlotsApart.{content_kept, lies, one_or_clear, untouched}
 
 some_entry : Entry
@@ -74,5 +87,45 @@ module _ (size : ℕ) (layout : List Entry) (allowed : IsLayout VERSION_1 size l
   new : (r : Record) (made image : List ℕ) → IsNew layout r made image → HasInUse layout r.active made image
   new r made image is slot used = is.contents used.index (get_or r.active used.index 0) slot used.stands
 
+-- ---- what the play made
+
+-- one choice of slots
+one_choice : (layout : List Entry) (places : Places) (tree : PlanTree) (active a b : List ℕ) → AreChosen layout places tree active a → AreChosen layout places tree active b
+    → (i : ℕ) → get_or a i 0 ≡ get_or b i 0
+one_choice layout places tree active a b one other i = ⊎_elim (λ same. same) (λ differs. let apart = unwritten differs in one.same i apart ∙ sym (other.same i apart)) (cases_eq (get_or a i 0) (get_or b i 0)) where
+  unwritten : (get_or a i 0 ≡ get_or b i 0 → ⊥) → IsWritten tree places i × HasOther layout i → ⊥
+  unwritten differs is = differs (one.other i is.0 is.1 ∙ sym (other.other i is.0 is.1))
+
+content_there : (e : Entry) (index n : ℕ) (ram : List Held) (made : List ℕ) → e.memory ≡ memory.Flash
+    → slot_content (slot_at e (get_or e.starts n 0)) made ≡ content_of (spot_of e.memory e index n) ram made
+content_there e index n ram made flash =
+    subst (λ (m : Memory). slot_content (slot_at e (get_or e.starts n 0)) made ≡ content_of (spot_of m e index n) ram made) (sym flash) refl
+
+module _ (layout : List Entry) (places : Places) (tree : PlanTree) (held : Option Record) (payloads words : List (List ℕ × List ℕ)) (files : List ℕ → Option (List ℕ)) (before made image : List ℕ)
+    (launched now : List Launch) (r : Record) (chosen : AreChosen layout places tree (active_slots held) r.active)
+    (play : PlaysUpdate layout places tree held payloads words files before made launched now plays.Done) (is : IsNew layout r made image) where
+  from_play : HasPlayed layout places r.active (played tree (setting_of play.standings payloads words files) (contents_of play.standings (empty_ram layout) before)).world.contents image
+  from_play k slot short stands =
+      let index = get_or places.layout_index k 0 in
+      let e = get_or layout index some_entry in
+      let n = get_or play.numbers index 0 in
+      let d : Standing = standing_of e k index n in
+      let same : get_or r.active index 0 ≡ n = one_choice layout places tree (active_slots held) r.active play.numbers chosen play.chosen index in
+      let inside : k < length play.standings = omega (arith, short, play.stand.count) in
+      is.contents index (get_or r.active index 0) slot stands
+      ∙ ap (λ (s : Slot). slot_content s made) (stands.is some_entry)
+      ∙ ap (λ (m : ℕ). slot_content (slot_at e (get_or e.starts m 0)) made) same
+      ∙ content_there e index n play.ram made (stands.flash some_entry)
+      ∙ ap (λ (s : Standing). content_of s.spot play.ram made) (sym (play.stand.each k d some_entry short))
+      ∙ sym (get_or-map (λ (s : Standing). content_of s.spot play.ram made) play.standings k d [] inside)
+      ∙ ap (λ (v : Device). get_or v.contents k []) (sym play.plays.ends.2)
+
 pub each_moment : EachMoment
-each_moment size layout allowed typed = record { procedure = procedure size layout allowed typed; filling = filling size layout allowed typed; recording = recording size layout allowed typed; old = old size layout allowed typed; new = new size layout allowed typed }
+each_moment size layout allowed typed = record {
+  procedure = procedure size layout allowed typed;
+  filling = filling size layout allowed typed;
+  recording = recording size layout allowed typed;
+  old = old size layout allowed typed;
+  new = new size layout allowed typed;
+  played = from_play layout;
+}

@@ -22,10 +22,10 @@ use Rattle.rollback_record.specs.SoundFlash.{Follows, Settled, Sound}
 use Rattle.rollback_record.specs.SoundLaws.{SoundLaws}
 use Rattle.update_proc.specs.declared.update_end.UpdateEnd.{UpdateEnd}
 use Rattle.update_proc.specs.declared.update_end.UpdateEnd.TheVariants as ends
-use Rattle.update_proc.specs.Moments.{IsNew, IsOld}
+use Rattle.update_proc.specs.Moments.{IsNew, IsOld, KeepsContents}
 use Rattle.update_proc.specs.Offered.{ForOffer}
 use Rattle.update_proc.specs.Records.{new_record}
-use Rattle.update_proc.specs.Updates.{KeepsUpdate, KeptSo, LeftSo}
+use Rattle.update_proc.specs.Updates.{KeepsUpdate, KeptSo, LeftSo, WholeSo}
 use Rattle.update_proc.proofs.Since.{follows_now}
 use Rattle.update_proc.proofs.WholeUpdate.{listed, settled_head, settled_slots}
 
@@ -67,6 +67,17 @@ kept_from K L S T k s ends.FlashFault (inl is) = inl (s is)
 kept_from K L S T k s ends.FlashFault (inr is) = inr (k is)
 kept_from K L S T k s ends.NoMemory is = s is
 
+pub whole_from : (K L S T : Type 0) → (S → T) → (K → L) → (answer : UpdateEnd) → WholeSo S K answer → WholeSo T L answer
+whole_from K L S T s k (ends.Installed r) is = k is
+whole_from K L S T s k (ends.Lower m n) is = s is
+whole_from K L S T s k (ends.OtherDigest m n) is = s is
+whole_from K L S T s k ends.Worn is = s is
+whole_from K L S T s k (ends.Condition place) is = s is
+whole_from K L S T s k (ends.Stopped place cause) is = s is
+whole_from K L S T s k ends.FlashFault (inl is) = inl (s is)
+whole_from K L S T s k ends.FlashFault (inr is) = inr (k is)
+whole_from K L S T s k ends.NoMemory is = s is
+
 -- ---- from before the read
 
 module _ (a b c : Flash) (same : IsSame a b) where
@@ -99,12 +110,21 @@ module _ (a b c : Flash) (same : IsSame a b) where
       contents = λ i n slot is not. settled_slots layout key a settled config_a (listed size layout allowed config.typed.entries none) image now i n slot is;
     }
 
-    pub keeps_from : (answer : UpdateEnd) → KeepsUpdate layout places tree held (λ numbers. new_record held b.reads bytes sequence digest numbers) b c answer
-        → KeepsUpdate layout places tree held (λ numbers. new_record held a.reads bytes sequence digest numbers) a c answer
-    keeps_from answer k = record {
+    old_from : (numbers : List ℕ) → Passes b c (IsOld layout places tree numbers held b.reads) → Passes a c (IsOld layout places tree numbers held a.reads)
+    old_from numbers run =
+        since_read (IsOld layout places tree numbers held a.reads) (old_now numbers)
+        (subst (λ (l : List ℕ). Passes b c (IsOld layout places tree numbers held l)) same.reads run)
+
+    pub keeps_from : (Then Done : List ℕ → Type 0) → ((made : List ℕ) → Then made → Done made) → (answer : UpdateEnd)
+        → KeepsUpdate layout places tree Then held (λ numbers. new_record held b.reads bytes sequence digest numbers) b c answer
+        → KeepsUpdate layout places tree Done held (λ numbers. new_record held a.reads bytes sequence digest numbers) a c answer
+    keeps_from Then Done done answer k = record {
       numbers = k.numbers;
       chosen = k.chosen;
+      accepted = k.accepted;
       made = k.made;
+      others = subst (λ (l : List ℕ). KeepsContents layout places tree k.numbers l k.made) same.reads k.others;
+      whole = whole_from _ _ _ _ (old_from k.numbers) (done k.made) answer k.whole;
       any_moment =
           since_read (λ image. IsOld layout places tree k.numbers held a.reads image ⊎ IsNew layout (new_record held a.reads bytes sequence digest k.numbers) k.made image)
           (λ image now. inl (old_now k.numbers image now))

@@ -5,7 +5,7 @@ use Rattle.std.specs.Str.{bytes_eq}
 use Rattle.std.specs.List.{All}
 use Rattle.suit_commands.specs.Tree.{PlanTree}
 use Rattle.suit_commands.specs.Targets.{IsTarget}
-use Rattle.suit_edge.specs.Flash.{Flash, IsFirmOn, IsFlash, Keeps, Passes}
+use Rattle.suit_edge.specs.Flash.{Flash, IsFirmOn, IsFlash, Keeps, Now, Passes}
 use Rattle.suit_edge.specs.FlashLaws.{each_now, each_read, firm_then, joined, keeps_fewer, weakens}
 use Rattle.suit_edge.specs.Ranges.{Outside, SameOn}
 use Rattle.suit_params.specs.declared.digest.Digest.{Digest}
@@ -41,7 +41,7 @@ use Rattle.update_proc.proofs.Finished.{not_held}
 use Rattle.update_proc.proofs.MomentProofs.{behind}
 use Rattle.update_proc.proofs.Numbering.{other_default}
 use Rattle.update_proc.proofs.Since.{config_there, follows_since, same_head, sound_since}
-use Rattle.update_proc.proofs.WholeUpdate.{finished, head_out, listed, reads_old, settled_head, settled_slots}
+use Rattle.update_proc.proofs.WholeUpdate.{finished, head_out, kept_old, listed, reads_old, settled_head, settled_slots}
 
 none : Entry
 none = record { identifier = []; memory = memory.Ram; slots = 0; starts = []; capacity = 0; vendor = None; class = None; device = None }
@@ -124,11 +124,14 @@ module _ (laws : SoundLaws) (moments : EachMoment) (choosing : ChoiceLaw) (size 
   pub active_b : HasActiveSlots b.reads numbers
   active_b = choosing b.reads layout key held places tree numbers (config_there a.reads a.reads b.reads kept_head.reads.size head_b layout key config_a) was_b chosen
 
-  -- no content changed but those of slots that may be written
+  -- the procedure changed no content but those of slots that may be written
+  pub contents_made : KeepsContents layout places tree numbers a.reads b.reads
+  contents_made i n slot is not = (moments size layout allowed typed).procedure places tree numbers a.reads b.reads law.fits kept_touched.reads i n slot is not
+
+  -- nor did what came behind it
   pub contents_since : (d : List ℕ) → SameOn BehindHead b.reads d → KeepsContents layout places tree numbers a.reads d
   contents_since d same i n slot is not =
-      behind size layout allowed typed b.reads d law_b.fits same i n slot is
-      ∙ (moments size layout allowed typed).procedure places tree numbers a.reads b.reads law.fits kept_touched.reads i n slot is not
+      behind size layout allowed typed b.reads d law_b.fits same i n slot is ∙ contents_made i n slot is not
 
   pub new_as : (bytes : List ℕ) (sequence : ℕ) (digest : Digest) → new_record held b.reads bytes sequence digest numbers ≡ new_record held a.reads bytes sequence digest numbers
   new_as bytes sequence digest = same_new held a.reads b.reads bytes sequence digest numbers head_b
@@ -184,6 +187,13 @@ module _ (laws : SoundLaws) (moments : EachMoment) (choosing : ChoiceLaw) (size 
 
       pub old_at_end : d.reads ≡ b.reads → IsOld layout places tree numbers held a.reads d.reads
       old_at_end same = subst (λ (l : List ℕ). IsOld layout places tree numbers held a.reads l) (sym same) old_b
+
+      -- and the whole time, where nothing was installed
+      pub old_all : Passes b d (Now b) → Passes a d (IsOld layout places tree numbers held a.reads)
+      old_all still =
+          kept_old size layout (moments size layout allowed typed) places tree numbers held a law large was (head_out size layout allowed typed none places tree numbers)
+          (settled_head layout key a settled config_a) (settled_slots layout key a settled config_a (listed size layout allowed typed none))
+          b law_b kept_touched.images laws new bytes few fits sound_b firm_b d still
 
       pub sound_all : (IsFirmOn (InHead VERSION_1) b → Sound VERSION_1 b.reads → MayBeInstalled b.reads bytes (new_record held b.reads bytes sequence digest numbers) → Passes b d (NowOr (Sound VERSION_1) b)) → MayBeInstalled a.reads bytes new → Passes a d (Sound VERSION_1)
       sound_all to may =

@@ -80,6 +80,12 @@ module _ (size : ℕ) (layout : List Entry) (laws : MomentLaws size layout) (pla
     pub reads_old : IsOld layout places tree numbers held a.reads b.reads
     reads_old = each_read a b size (IsOld layout places tree numbers held a.reads) law_b old_run
 
+    -- it stays so while nothing is installed
+    pub kept_old : (d : Flash) → Passes b d (Now b) → Passes a d (IsOld layout places tree numbers held a.reads)
+    kept_old d still =
+        joined a b d (IsOld layout places tree numbers held a.reads) old_run
+        (weakens b d (Now b) (IsOld layout places tree numbers held a.reads) (each_now a b size (IsOld layout places tree numbers held a.reads) law_b old_run) still)
+
     installing : (image : List ℕ) → IsInstalling held new bytes b image → IsOld layout places tree numbers held a.reads image ⊎ IsNew layout new b.reads image
     installing image (Filling on) =
         let before = each_now a b size (IsOld layout places tree numbers held a.reads) law_b old_run on.from on.was in

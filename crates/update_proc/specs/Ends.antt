@@ -55,6 +55,12 @@ abbrev pub IfStopped : PlanEnd → Type 0 → Type 0
 IfStopped plays.Done P = Unit {0}
 IfStopped _ P = P
 
+-- where it is answered that it was
+abbrev pub IfTold : UpdateEnd → Type 0 → Type 0
+IfTold (ends.Condition place) P = P
+IfTold (ends.Stopped place cause) P = P
+IfTold _ P = Unit {0}
+
 abbrev pub IfInstalled : UpdateEnd → (Record → Type 0) → Type 0
 IfInstalled (ends.Installed r) P = P r
 IfInstalled _ P = Unit {0}

@@ -2,15 +2,22 @@
 use Rattle.std.specs.Prelude.{◌≡◌, ◌≤◌, ℕ, List, All, length, Option}
 use Rattle.suit_commands.specs.Tree.{PlanTree}
 use Rattle.suit_edge.specs.Ranges.{SameOn}
+use Rattle.suit_edge.specs.declared.launch.Launch.{Launch}
+use Rattle.path_model.specs.DevicePlays.{played}
 use Rattle.flash_layout.specs.declared.frame.TheConstants.{VERSION_1}
 use Rattle.flash_layout.specs.declared.layout.Entry.{Entry}
 use Rattle.flash_layout.specs.declared.place.Places.{Places}
 use Rattle.flash_layout.specs.declared.slot.Record.{Record}
 use Rattle.flash_layout.specs.Layouts.{IsLayout, IsTypedEntry}
+use Rattle.flash_slots.specs.RamContents.{empty_ram}
+use Rattle.step_machine.specs.declared.plan_end.PlanEnd.TheVariants as plays
+use Rattle.step_machine.specs.Devices.{contents_of}
+use Rattle.step_machine.specs.PlanRuns.{setting_of}
 use Rattle.update_proc.specs.Banks.{BesideBank}
 use Rattle.update_proc.specs.Choices.{AreChosen, HaveTwoSlots, active_slots}
 use Rattle.update_proc.specs.Installing.{IsRecording}
-use Rattle.update_proc.specs.Moments.{HasContentsOf, HasInUse, IsNew, IsOld, KeepsContents, OutsideTouched}
+use Rattle.update_proc.specs.Moments.{HasContentsOf, HasInUse, HasPlayed, IsNew, IsOld, KeepsContents, OutsideTouched}
+use Rattle.update_proc.specs.Updates.{PlaysUpdate}
 
 -- on a flash of that size with that layout
 pub record MomentLaws (size : ℕ) (layout : List Entry) : Type 0 where
@@ -27,8 +34,14 @@ pub record MomentLaws (size : ℕ) (layout : List Entry) : Type 0 where
   pub old : (places : Places) (tree : PlanTree) (numbers : List ℕ) (held : Option Record) (first image : List ℕ)
       → HaveTwoSlots layout places tree → AreChosen layout places tree (active_slots held) numbers
       → IsOld layout places tree numbers held first image → HasInUse layout (active_slots held) first image
-  -- and the new record those that were made
+  -- and the new record those that were made:
   pub new : (r : Record) (made image : List ℕ) → IsNew layout r made image → HasInUse layout r.active made image
+  -- of each component of the procedure, the content that its play to the end leaves there.
+  pub played : (places : Places) (tree : PlanTree) (held : Option Record) (payloads words : List (List ℕ × List ℕ)) (files : List ℕ → Option (List ℕ))
+      (before made image : List ℕ) (launched now : List Launch) (r : Record) → AreChosen layout places tree (active_slots held) r.active
+      → (play : PlaysUpdate layout places tree held payloads words files before made launched now plays.Done) → IsNew layout r made image
+      → HasPlayed layout places r.active
+      (played tree (setting_of play.standings payloads words files) (contents_of play.standings (empty_ram layout) before)).world.contents image
 
 abbrev pub EachMoment : Type 0
 EachMoment = (size : ℕ) (layout : List Entry) → IsLayout VERSION_1 size layout → All IsTypedEntry layout → MomentLaws size layout

@@ -1,5 +1,5 @@
 -- What stands on the flash at each moment of an update.
-use Rattle.std.specs.Prelude.{◌≡◌, ℕ, List, Option, Some}
+use Rattle.std.specs.Prelude.{◌≡◌, ◌<◌, ℕ, List, [], get_or, slice_index, Option, Some}
 use Rattle.suit_commands.specs.Tree.{PlanTree}
 use Rattle.flash_layout.specs.declared.frame.TheConstants.{VERSION_1}
 use Rattle.flash_layout.specs.declared.layout.Entry.{Entry}
@@ -37,6 +37,12 @@ pub record IsOld (layout : List Entry) (places : Places) (tree : PlanTree) (numb
 pub record IsNew (layout : List Entry) (new : Record) (made image : List ℕ) : Type 0 where
   pub record_is : RecordOf VERSION_1 (head_of VERSION_1 image) (Some new)
   pub contents : HasContentsOf layout made image
+
+-- each component of the procedure that stands on the flash has this content in its slot in use
+abbrev pub HasPlayed : List Entry → Places → List ℕ → List (List ℕ) → List ℕ → Type 0
+HasPlayed layout places active contents image =
+    (k : ℕ) (slot : Slot) → k < places.count → let index = slice_index places.layout_index k in
+    IsSlotOf layout index (slice_index active index) slot → slot_content slot image ≡ get_or contents k []
 
 -- the content of each slot that is in use
 abbrev pub HasInUse : List Entry → List ℕ → List ℕ → List ℕ → Type 0

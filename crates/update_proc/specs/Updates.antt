@@ -3,12 +3,14 @@ use Rattle.std.specs.Prelude.{◌≡◌, ◌⊎◌, ℕ, List, Option, Some}
 use Rattle.suit_commands.specs.Tree.{PlanTree}
 use Rattle.suit_edge.specs.Flash.{Flash, Passes}
 use Rattle.suit_edge.specs.declared.launch.Launch.{Launch}
+use Rattle.suit_envelope.specs.Payloads.{HasPayloads}
 use Rattle.flash_layout.specs.declared.layout.Entry.{Entry}
 use Rattle.flash_layout.specs.declared.place.Places.{Places}
 use Rattle.flash_layout.specs.declared.slot.Record.{Record}
 use Rattle.flash_layout.specs.declared.frame.TheConstants.{VERSION_1}
 use Rattle.flash_layout.specs.Frames.{head_of}
 use Rattle.rollback_record.specs.HeadRecord.{RecordOf}
+use Rattle.rollback_record.specs.Judging.{IsAcceptable}
 use Rattle.flash_slots.specs.RamContents.{Held, empty_ram}
 use Rattle.step_machine.specs.declared.plan_end.PlanEnd.{PlanEnd}
 use Rattle.step_machine.specs.declared.plan_end.PlanEnd.TheVariants as plays
@@ -56,6 +58,13 @@ abbrev pub LaunchesBy : (Option Record → List ℕ → PlanEnd → Type 0) → 
 LaunchesBy Plays image launched now =
     (now ≡ launched) ⊎ ((held : Option Record) × RecordOf VERSION_1 (head_of VERSION_1 image) held × (made : List ℕ) × (end : PlanEnd) × Plays held made end)
 
+-- The procedure of an envelope of these bytes is played to its end, with these launches, and makes those contents.
+abbrev pub PlaysToEnd : List Entry → Places → PlanTree → Option Record → List ℕ → List (List ℕ × List ℕ)
+    → (List ℕ → Option (List ℕ)) → List ℕ → List Launch → List Launch → List ℕ → Type 0
+PlaysToEnd layout places tree held bytes uris files before launched now made =
+    (payloads : List (List ℕ × List ℕ)) → HasPayloads bytes payloads
+    → PlaysUpdate layout places tree held payloads uris files before made launched now plays.Done
+
 -- ---- what is left
 
 -- the new record and contents after Installed, the old record otherwise, and one of them after a fault of the flash behind
@@ -65,22 +74,35 @@ LeftSo Is Old New (ends.Installed r) = Is r × New
 LeftSo Is Old New ends.FlashFault = Old ⊎ New
 LeftSo Is Old New _ = Old
 
--- As the flash reads in the end: no content changed but those of slots that may be written, and this is recorded.
+-- As the flash reads in the end: no content changed but those of slots that may be written, and this is recorded. A new
+-- record is acceptable beside the old one.
 pub record LeavesUpdate (layout : List Entry) (places : Places) (tree : PlanTree) (held : Option Record) (new : List ℕ → Record) (before after : List ℕ) (answer : UpdateEnd)
     : Type 0 where
   pub numbers : List ℕ
   pub chosen : AreChosen layout places tree (active_slots held) numbers
+  pub accepted : IsAcceptable (new numbers).sequence (new numbers).digest held
   pub contents : KeepsContents layout places tree numbers before after
   pub left : LeftSo (λ r. r ≡ new numbers) (RecordOf VERSION_1 (head_of VERSION_1 after) held) (RecordOf VERSION_1 (head_of VERSION_1 after) (Some (new numbers))) answer
 
+-- Only a procedure that is done leaves the old record: it is done where it was installed, and where it stopped the old
+-- record stays. After a fault of the flash it is one of the two.
+abbrev pub WholeSo : Type 0 → Type 0 → UpdateEnd → Type 0
+WholeSo Stays Done (ends.Installed r) = Done
+WholeSo Stays Done ends.FlashFault = Stays ⊎ Done
+WholeSo Stays Done _ = Stays
+
 -- At each moment the flash has the old record, and no content changed but those of slots that may be written; or it has
--- the new record, and the contents that were made.
-pub record KeepsUpdate (layout : List Entry) (places : Places) (tree : PlanTree) (held : Option Record) (new : List ℕ → Record) (old now : Flash) (answer : UpdateEnd)
-    : Type 0 where
+-- the new record, and the contents that the procedure made, which is done. Where it is not done, the old record stands at
+-- each moment.
+pub record KeepsUpdate (layout : List Entry) (places : Places) (tree : PlanTree) (Done : List ℕ → Type 0) (held : Option Record)
+    (new : List ℕ → Record) (old now : Flash) (answer : UpdateEnd) : Type 0 where
   pub numbers : List ℕ
   pub chosen : AreChosen layout places tree (active_slots held) numbers
+  pub accepted : IsAcceptable (new numbers).sequence (new numbers).digest held
   pub made : List ℕ
+  pub others : KeepsContents layout places tree numbers old.reads made
   pub any_moment : Passes old now (λ image. IsOld layout places tree numbers held old.reads image ⊎ IsNew layout (new numbers) made image)
+  pub whole : WholeSo (Passes old now (IsOld layout places tree numbers held old.reads)) (Done made) answer
   pub left : LeftSo (λ r. r ≡ new numbers) (IsOld layout places tree numbers held old.reads now.reads) (IsNew layout (new numbers) made now.reads) answer
 
 -- where the procedure was run, that was kept, and otherwise nothing changed

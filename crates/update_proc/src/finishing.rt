@@ -6,8 +6,8 @@ ghost use Rattle.rollback_record.specs.HeadRecord.{IsLoadable, RecordOf};
 ghost use Rattle.rollback_record.specs.SoundFlash.{Follows, IsNoEarlier, Sound};
 ghost use Rattle.std.specs.Prelude.{◌≡◌, ◌<◌, ◌≤◌, IfSome, IsTrue, Some, length, option_map};
 ghost use Rattle.suit_edge.specs.Ranges.{SameOn};
-ghost use Rattle.suit_edge.specs.Flash.{Grows, IsFirmOn, IsSame, IsSettled, Passes};
-ghost use Rattle.update_proc.specs.Ends.{FinishedSo, IfInstalled, IfStopped, IfUnfaulted, NowOr, SettledSo};
+ghost use Rattle.suit_edge.specs.Flash.{Grows, IsFirmOn, IsSame, IsSettled, Now, Passes};
+ghost use Rattle.update_proc.specs.Ends.{FinishedSo, IfInstalled, IfStopped, IfTold, IfUnfaulted, NowOr, SettledSo};
 ghost use Rattle.update_proc.specs.Installing.{BehindHead, HasActiveSlots, IsInstalling, IsNotWorn, MayBeInstalled};
 ghost use Rattle.update_proc.specs.Records.{new_record};
 ghost use Rattle.update_proc.specs.declared.update_end.UpdateEnd.TheVariants as ends;
@@ -70,7 +70,9 @@ pub(crate) fn finish<D: Disk>(
         (λ r. r ≡ new_record (option_map (λ r. r.now) held.entry) (D.flash disk.old).reads bytes.now offer.now.sequence offer.now.digest offer.now.active) }
     ensures recorded { IsTrue D.told
         → IfInstalled result (λ r. RecordOf VERSION_1 (head_of VERSION_1 (D.flash disk.new).reads) (Some r)) }
-    ensures stays { IsTrue D.told → IfStopped end ((D.flash disk.new).reads ≡ (D.flash disk.old).reads) }
+    ensures stays { IsTrue D.told → IfTold result ((D.flash disk.new).reads ≡ (D.flash disk.old).reads) }
+    ensures still { IsTrue D.told
+        → IfStopped end (Passes (D.flash disk.old) (D.flash disk.new) (Now (D.flash disk.old))) }
     ensures settled { IsTrue D.told → IfUnfaulted result (IsSettled (D.flash disk.new)) }
     ensures reads { IsTrue D.told → let held = option_map (λ r. r.now) held.entry in HasHeldOrNew VERSION_1 held
         (new_record held (D.flash disk.old).reads bytes.now offer.now.sequence offer.now.digest offer.now.active) (D.flash disk.new).reads }

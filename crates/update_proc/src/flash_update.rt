@@ -19,7 +19,7 @@ ghost use Rattle.update_proc.specs.Ends.{IfUnfaulted, JudgedSo, UpdateCounts};
 ghost use Rattle.update_proc.specs.Installing.{MayBeInstalled};
 ghost use Rattle.update_proc.specs.Offered.{ForOffer};
 ghost use Rattle.update_proc.specs.Records.{new_record};
-ghost use Rattle.update_proc.specs.Updates.{KeepsUpdate, KeptSo, LaunchesBy, LeavesUpdate, PlayedSo, PlaysUpdate};
+ghost use Rattle.update_proc.specs.Updates.{KeepsUpdate, KeptSo, LaunchesBy, LeavesUpdate, PlayedSo, PlaysToEnd, PlaysUpdate};
 
 use crate::{UpdateEnd, update_beside};
 use flash_layout::{FlashFault, Layout, Places, VERSION_1};
@@ -74,7 +74,11 @@ pub fn update<H: Host, D: Disk, L: Launcher>(
     ensures keeps { IsTrue D.told → Settled VERSION_1 (D.flash disk.old) → let start = D.flash disk.old in
         let bytes = trimmed envelope.now.wrapper.now envelope.now.manifest.now in
         ForOffer start.reads envelope.now.wrapper.now (λ held digest.
-        KeptSo (KeepsUpdate layout.now places.now (update_tree manifest.now members.now) held
+        KeptSo (KeepsUpdate layout.now places.now (update_tree manifest.now members.now)
+        (λ made. IsTrue H.told → IsTrue L.told
+        → PlaysToEnd layout.now places.now (update_tree manifest.now members.now) held
+        envelope.now.whole.now uris.now (H.file host.old) start.reads
+        (L.launches launcher.old) (L.launches launcher.new) made) held
         (λ numbers. new_record held start.reads bytes manifest.now.sequence digest numbers)
         start (D.flash disk.new) result) (IsSame start (D.flash disk.new)) result) }
     ensures left { IsTrue D.told → let start = (D.flash disk.old).reads in

@@ -18,7 +18,7 @@ ghost use Rattle.update_proc.specs.Choices.{AreChosen, active_slots};
 ghost use Rattle.update_proc.specs.Ends.{IfUnfaulted, IsStartEnd, UpdateCounts};
 ghost use Rattle.update_proc.specs.Installing.{MayBeInstalled};
 ghost use Rattle.update_proc.specs.Records.{new_record};
-ghost use Rattle.update_proc.specs.Updates.{KeepsUpdate, KeptSo, LeavesUpdate, PlayedSo, PlaysUpdate};
+ghost use Rattle.update_proc.specs.Updates.{KeepsUpdate, KeptSo, LeavesUpdate, PlayedSo, PlaysToEnd, PlaysUpdate};
 
 use crate::finishing::finish;
 use crate::in_use::choose_slots;
@@ -79,7 +79,11 @@ pub(crate) fn start<H: Host, D: Disk, L: Launcher>(
         layout.now (D.flash disk.new).reads (L.launches launcher.old) (L.launches launcher.new) result }
     ensures keeps { IsTrue D.told → Settled VERSION_1 (D.flash disk.old) → let held = option_map (λ r. r.now) held.entry in
         let start = D.flash disk.old in
-        KeptSo (KeepsUpdate layout.now places.now (plan_tree plan.now) held
+        KeptSo (KeepsUpdate layout.now places.now (plan_tree plan.now)
+        (λ made. IsTrue H.told → IsTrue L.told
+        → PlaysToEnd layout.now places.now (plan_tree plan.now) held
+        envelope.now.whole.now uris.now (H.file host.old) start.reads
+        (L.launches launcher.old) (L.launches launcher.new) made) held
         (λ numbers. new_record held start.reads accepted.now.bytes.now accepted.now.sequence accepted.now.digest numbers)
         start (D.flash disk.new) result) (IsSame start (D.flash disk.new)) result }
     ensures left { IsTrue D.told → let held = option_map (λ r. r.now) held.entry in

@@ -19,7 +19,7 @@ ghost use Rattle.update_proc.specs.Choices.{AreChosen, active_slots};
 ghost use Rattle.update_proc.specs.Ends.{IfUnfaulted, IsRefusal, JudgedSo, UpdateCounts};
 ghost use Rattle.update_proc.specs.Installing.{MayBeInstalled};
 ghost use Rattle.update_proc.specs.Records.{new_record};
-ghost use Rattle.update_proc.specs.Updates.{KeepsUpdate, KeptSo, LeavesUpdate, PlayedSo, PlaysUpdate};
+ghost use Rattle.update_proc.specs.Updates.{KeepsUpdate, KeptSo, LeavesUpdate, PlayedSo, PlaysToEnd, PlaysUpdate};
 
 use crate::UpdateEnd;
 use crate::starting::{Accepted, start};
@@ -89,7 +89,11 @@ pub fn update_beside<H: Host, D: Disk, L: Launcher>(
     ensures keeps { IsTrue D.told → Settled VERSION_1 (D.flash disk.old) → let held = option_map (λ r. r.now) held.entry in
         let start = D.flash disk.old in
         let bytes = trimmed envelope.now.wrapper.now envelope.now.manifest.now in
-        KeptSo (KeepsUpdate layout.now places.now (update_tree manifest.now members.now) held
+        KeptSo (KeepsUpdate layout.now places.now (update_tree manifest.now members.now)
+        (λ made. IsTrue H.told → IsTrue L.told
+        → PlaysToEnd layout.now places.now (update_tree manifest.now members.now) held
+        envelope.now.whole.now uris.now (H.file host.old) start.reads
+        (L.launches launcher.old) (L.launches launcher.new) made) held
         (λ numbers. new_record held start.reads bytes manifest.now.sequence digest.now numbers)
         start (D.flash disk.new) result) (IsSame start (D.flash disk.new)) result }
     ensures left { IsTrue D.told → let held = option_map (λ r. r.now) held.entry in

@@ -1,6 +1,6 @@
 use Rattle.std.proofs.Common.{inr}
 use Rattle.suit_edge.specs.FlashLaws.{weakens}
-use Rattle.update_proc.proofs.Finished.{as_held, as_read}
+use Rattle.update_proc.proofs.Finished.{any_stopped, any_told, as_held, as_read}
 use Rattle.update_proc.proofs.finishing.finish.Goals as goal
 
 pub returns-in-Ok-clause-any_moment : goal.returns-in-Ok-clause-any_moment
@@ -32,3 +32,15 @@ returns-in-DirectiveFailed-clause-reads g c t = as_held _ _ _ (c.stop.ensures.sa
 
 pub returns-in-DirectiveFailed-clause-behind : goal.returns-in-DirectiveFailed-clause-behind
 returns-in-DirectiveFailed-clause-behind g c t = as_read _ _ (c.stop.ensures.same t).reads
+
+pub returns-in-ConditionFailed-clause-stays : goal.returns-in-ConditionFailed-clause-stays
+returns-in-ConditionFailed-clause-stays g c t = any_told _ _ (c.settle.ensures.same t).reads
+
+pub returns-in-DirectiveFailed-clause-stays : goal.returns-in-DirectiveFailed-clause-stays
+returns-in-DirectiveFailed-clause-stays g c t = any_told _ _ (c.stop.ensures.same t).reads
+
+pub returns-in-ConditionFailed-clause-still : goal.returns-in-ConditionFailed-clause-still
+returns-in-ConditionFailed-clause-still g c t = any_stopped c.args.end _ (c.settle.ensures.same t).images
+
+pub returns-in-DirectiveFailed-clause-still : goal.returns-in-DirectiveFailed-clause-still
+returns-in-DirectiveFailed-clause-still g c t = any_stopped c.args.end _ (c.stop.ensures.same t).images

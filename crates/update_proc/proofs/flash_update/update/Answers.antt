@@ -1,3 +1,4 @@
+use Rattle.std.specs.Prelude.{IsTrue}
 use Rattle.std.proofs.Common.{◌≡◌, refl, inl, ◌⊎◌, ℕ, List, Bor, Option, option_map, sym, subst, arith}
 use Rattle.suit_edge.specs.Flash.{IsFlash, IsSame, IsSettled, Now, Passes}
 use Rattle.suit_edge.specs.FlashLaws.{same_flash_then, weakens}
@@ -15,7 +16,7 @@ use Rattle.update_proc.specs.Choices.{AreChosen, active_slots}
 use Rattle.update_proc.specs.Ends.{JudgedSo}
 use Rattle.update_proc.specs.Installing.{MayBeInstalled}
 use Rattle.update_proc.specs.Records.{new_record}
-use Rattle.update_proc.specs.Updates.{KeepsUpdate, KeptSo, LeavesUpdate, PlayedSo, PlaysUpdate}
+use Rattle.update_proc.specs.Updates.{KeepsUpdate, KeptSo, LeavesUpdate, PlayedSo, PlaysToEnd, PlaysUpdate}
 use Rattle.update_proc.proofs.Finished.{launched_by, unfaulted}
 use Rattle.update_proc.proofs.Reread.{follows_from, for_offer, keeps_from, kept_from, recorded_as, settled_from, sound_from}
 use Rattle.update_proc.proofs.Since.{follows_now}
@@ -64,9 +65,13 @@ pub returns-clause-keeps : goal.returns-clause-keeps
 returns-clause-keeps g c t settled =
     let still = settled_still VERSION_1 (g.D.Disk.flash c.args.disk.now) (g.D.Disk.flash c.load_record.new.disk) (g.D.Disk.extent c.args.disk.now) (subst (λ (n : ℕ). IsFlash (g.D.Disk.flash c.load_record.new.disk) n) c.in-Ok.ensures.size (g.met.D.Disk.obeys c.load_record.new.disk t)) (c.in-Ok.ensures.same t) settled in
     for_offer c.record_laws.ensures.answer (g.D.Disk.flash c.args.disk.now).reads c.args.envelope.now.wrapper.now
-    (λ held digest. KeptSo (KeepsUpdate c.args.layout.now c.args.places.now (update_tree c.args.manifest.now c.args.members.now) held (λ numbers. new_record held (g.D.Disk.flash c.args.disk.now).reads (trimmed c.args.envelope.now.wrapper.now c.args.envelope.now.manifest.now) c.args.manifest.now.sequence digest numbers) (g.D.Disk.flash c.args.disk.now) (g.D.Disk.flash c.update_beside.new.disk) c.update_beside.result) (IsSame (g.D.Disk.flash c.args.disk.now) (g.D.Disk.flash c.update_beside.new.disk)) c.update_beside.result)
+    (λ held digest. KeptSo (KeepsUpdate c.args.layout.now c.args.places.now (update_tree c.args.manifest.now c.args.members.now) (λ made. IsTrue g.H.Host.told → IsTrue g.L.Launcher.told → PlaysToEnd c.args.layout.now c.args.places.now (update_tree c.args.manifest.now c.args.members.now) held c.args.envelope.now.whole.now c.args.uris.now (g.H.Host.file c.args.host.now) (g.D.Disk.flash c.args.disk.now).reads (g.L.Launcher.launches c.args.launcher.now) (g.L.Launcher.launches c.update_beside.new.launcher) made) held (λ numbers. new_record held (g.D.Disk.flash c.args.disk.now).reads (trimmed c.args.envelope.now.wrapper.now c.args.envelope.now.manifest.now) c.args.manifest.now.sequence digest numbers) (g.D.Disk.flash c.args.disk.now) (g.D.Disk.flash c.update_beside.new.disk) c.update_beside.result) (IsSame (g.D.Disk.flash c.args.disk.now) (g.D.Disk.flash c.update_beside.new.disk)) c.update_beside.result)
     (held_of c.as_ref.result) c.stated_digest-digest.result (recorded_as (head_of VERSION_1 (g.D.Disk.flash c.args.disk.now).reads) c.as_ref.result c.in-Ok.held c.as_ref.ensures.value (c.in-Ok.ensures.exact t)) c.stated_digest-digest.ensures
-    (kept_from _ _ _ _ (keeps_from (g.D.Disk.flash c.args.disk.now) (g.D.Disk.flash c.load_record.new.disk) (g.D.Disk.flash c.update_beside.new.disk) (c.in-Ok.ensures.same t) (g.D.Disk.extent c.args.disk.now) (g.met.D.Disk.obeys c.args.disk.now t) c.args.layout.now c.requires.layout c.args.places.now (update_tree c.args.manifest.now c.args.members.now) (held_of c.as_ref.result) (c.requires.config t).0 (c.requires.config t).1 settled (recorded_as (head_of VERSION_1 (g.D.Disk.flash c.args.disk.now).reads) c.as_ref.result c.in-Ok.held c.as_ref.ensures.value (c.in-Ok.ensures.exact t)) (trimmed c.args.envelope.now.wrapper.now c.args.envelope.now.manifest.now) c.args.manifest.now.sequence c.stated_digest-digest.result c.update_beside.result)
+    (kept_from _ _ _ _ (keeps_from (g.D.Disk.flash c.args.disk.now) (g.D.Disk.flash c.load_record.new.disk) (g.D.Disk.flash c.update_beside.new.disk) (c.in-Ok.ensures.same t) (g.D.Disk.extent c.args.disk.now) (g.met.D.Disk.obeys c.args.disk.now t) c.args.layout.now c.requires.layout c.args.places.now (update_tree c.args.manifest.now c.args.members.now) (held_of c.as_ref.result) (c.requires.config t).0 (c.requires.config t).1 settled (recorded_as (head_of VERSION_1 (g.D.Disk.flash c.args.disk.now).reads) c.as_ref.result c.in-Ok.held c.as_ref.ensures.value (c.in-Ok.ensures.exact t)) (trimmed c.args.envelope.now.wrapper.now c.args.envelope.now.manifest.now) c.args.manifest.now.sequence c.stated_digest-digest.result
+    (λ made. IsTrue g.H.Host.told → IsTrue g.L.Launcher.told → PlaysToEnd c.args.layout.now c.args.places.now (update_tree c.args.manifest.now c.args.members.now) (held_of c.as_ref.result) c.args.envelope.now.whole.now c.args.uris.now (g.H.Host.file c.args.host.now) (g.D.Disk.flash c.load_record.new.disk).reads (g.L.Launcher.launches c.args.launcher.now) (g.L.Launcher.launches c.update_beside.new.launcher) made)
+    (λ made. IsTrue g.H.Host.told → IsTrue g.L.Launcher.told → PlaysToEnd c.args.layout.now c.args.places.now (update_tree c.args.manifest.now c.args.members.now) (held_of c.as_ref.result) c.args.envelope.now.whole.now c.args.uris.now (g.H.Host.file c.args.host.now) (g.D.Disk.flash c.args.disk.now).reads (g.L.Launcher.launches c.args.launcher.now) (g.L.Launcher.launches c.update_beside.new.launcher) made)
+    (λ made did th tl. subst (λ (l : List ℕ). PlaysToEnd c.args.layout.now c.args.places.now (update_tree c.args.manifest.now c.args.members.now) (held_of c.as_ref.result) c.args.envelope.now.whole.now c.args.uris.now (g.H.Host.file c.args.host.now) l (g.L.Launcher.launches c.args.launcher.now) (g.L.Launcher.launches c.update_beside.new.launcher) made) (c.in-Ok.ensures.same t).reads (did th tl))
+    c.update_beside.result)
     (same_flash_then (g.D.Disk.flash c.args.disk.now) (g.D.Disk.flash c.load_record.new.disk) (g.D.Disk.flash c.update_beside.new.disk) (g.D.Disk.extent c.args.disk.now) (subst (λ (n : ℕ). IsFlash (g.D.Disk.flash c.load_record.new.disk) n) c.in-Ok.ensures.size (g.met.D.Disk.obeys c.load_record.new.disk t)) (c.in-Ok.ensures.same t)) c.update_beside.result (c.update_beside.ensures.keeps t still))
 
 pub returns-in-Err-clause-left : goal.returns-in-Err-clause-left

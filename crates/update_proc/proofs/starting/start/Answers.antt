@@ -1,6 +1,7 @@
+use Rattle.std.specs.Prelude.{IsTrue}
 use Rattle.std.proofs.Common.{◌≡◌, ◌≤◌, ℕ, List, Bor, Option, Some, inl, inr, option_map, refl, sym, ◌∙◌, subst, arith}
 use Rattle.suit_commands.specs.Plans.{plan_tree}
-use Rattle.suit_edge.specs.Flash.{IsFlash, IsSame, IsSettled}
+use Rattle.suit_edge.specs.Flash.{IsFlash, IsSame, IsSettled, Now, Passes}
 use Rattle.suit_edge.specs.FlashLaws.{grows_start, grows_then, same_flash, starts}
 use Rattle.suit_envelope.specs.Payloads.{HasPayloads}
 use Rattle.suit_envelope.specs.declared.envelope.Envelope.{Envelope}
@@ -11,16 +12,17 @@ use Rattle.rollback_record.specs.HeadRecord.{RecordOf}
 use Rattle.rollback_record.specs.SettledLaws.{each_sound}
 use Rattle.rollback_record.specs.SoundFlash.{Follows, Sound}
 use Rattle.step_machine.specs.declared.plan_end.PlanEnd.{PlanEnd}
+use Rattle.step_machine.specs.declared.plan_end.PlanEnd.TheVariants as plays
 use Rattle.update_proc.specs.declared.update_end.UpdateEnd.{UpdateEnd}
 use Rattle.update_proc.specs.Choices.{active_slots}
 use Rattle.update_proc.specs.Records.{new_record}
-use Rattle.update_proc.specs.Updates.{KeepsUpdate, KeptSo, LeavesUpdate, PlayedSo, PlaysUpdate}
-use Rattle.update_proc.proofs.Finished.{after, counts_after, held_as, installed_as, no_earlier, not_worn, plays_update, reads_same, starts_after, stopped_at, stopped_by, unfaulted}
+use Rattle.update_proc.specs.Updates.{KeepsUpdate, KeptSo, LeavesUpdate, PlayedSo, PlaysToEnd, PlaysUpdate}
+use Rattle.update_proc.proofs.Finished.{after, counts_after, held_as, installed_as, no_earlier, not_worn, plays_update, reads_same, starts_after, stopped_at, stopped_by, stopped_or_done, told_at, told_by, unfaulted}
 use Rattle.update_proc.proofs.InUseSlots.{chosen_as, in_use_as_held}
 use Rattle.update_proc.proofs.Installs.{held_or_same}
 use Rattle.update_proc.proofs.MomentProofs.{behind}
 use Rattle.update_proc.proofs.Since.{follows_now}
-use Rattle.update_proc.proofs.Started.{active_b, contents_since, follows_all, moment_at_end, moments_of, new_as, new_at_end, new_is, old_at_end, sound_all, was_b}
+use Rattle.update_proc.proofs.Started.{active_b, contents_made, contents_since, follows_all, moment_at_end, moments_of, new_as, new_at_end, new_is, old_all, old_at_end, sound_all, was_b}
 use Rattle.update_proc.proofs.starting.start.Goals as goal
 
 abbrev held_of : Option (Bor Record) → Option Record
@@ -177,12 +179,33 @@ returns-clause-keeps g c t settled =
     let law_b = (subst (λ (n : ℕ). IsFlash (g.D.Disk.flash c.run_plan-end.new.disk) n) c.run_plan-end.ensures.size (g.met.D.Disk.obeys c.run_plan-end.new.disk t)) in
     let law_d = (subst (λ (n : ℕ). IsFlash (g.D.Disk.flash c.finish.new.disk) n) (c.finish.ensures.size ∙ c.run_plan-end.ensures.size) (g.met.D.Disk.obeys c.finish.new.disk t)) in
     let moments = moments_of c.sound_laws.ensures c.moment_laws.ensures c.choice_law.ensures (g.D.Disk.extent c.args.disk.now) c.requires.size c.args.layout.now c.requires.layout c.args.places.now (plan_tree c.args.plan.now) (held_of c.args.held) c.requires.loadable c.choose_slots-slots.result.number c.in-Ok.world.standings.items c.requires.distinct c.choose_slots-slots.ensures.choice c.in-Ok.ensures.stand chosen (g.D.Disk.flash c.args.disk.now) (g.D.Disk.flash c.run_plan-end.new.disk) (g.met.D.Disk.obeys c.args.disk.now t) law_b (c.requires.config t).0 (c.requires.config t).1 (c.requires.held t) (c.run_plan-end.ensures.keeps t) settled c.args.accepted.now.bytes.now c.args.accepted.now.sequence c.args.accepted.now.digest c.requires.fits (g.D.Disk.flash c.finish.new.disk) law_d (c.finish.ensures.any_moment t) in
-    let Kept : UpdateEnd → Type 0 = KeepsUpdate c.args.layout.now c.args.places.now (plan_tree c.args.plan.now) (held_of c.args.held) (λ numbers. new_record (held_of c.args.held) (g.D.Disk.flash c.args.disk.now).reads c.args.accepted.now.bytes.now c.args.accepted.now.sequence c.args.accepted.now.digest numbers) (g.D.Disk.flash c.args.disk.now) (g.D.Disk.flash c.finish.new.disk) in
-    after c.run_plan-end.result c.finish.result _ _ c.finish.ensures.answer (λ answer. KeptSo (Kept answer) (IsSame (g.D.Disk.flash c.args.disk.now) (g.D.Disk.flash c.finish.new.disk)) answer)
-    (λ r same ended. record { numbers = c.choose_slots-slots.result.number; chosen = chosen; made = (g.D.Disk.flash c.run_plan-end.new.disk).reads; any_moment = moments; left = ((installed_as c.finish.result r (λ r. r ≡ new_record (held_of c.args.held) (g.D.Disk.flash c.run_plan-end.new.disk).reads c.args.accepted.now.bytes.now c.args.accepted.now.sequence c.args.accepted.now.digest c.choose_slots-slots.result.number) (c.finish.ensures.new t) same) ∙ new_is c.sound_laws.ensures c.moment_laws.ensures c.choice_law.ensures (g.D.Disk.extent c.args.disk.now) c.requires.size c.args.layout.now c.requires.layout c.args.places.now (plan_tree c.args.plan.now) (held_of c.args.held) c.requires.loadable c.choose_slots-slots.result.number c.in-Ok.world.standings.items c.requires.distinct c.choose_slots-slots.ensures.choice c.in-Ok.ensures.stand chosen (g.D.Disk.flash c.args.disk.now) (g.D.Disk.flash c.run_plan-end.new.disk) (g.met.D.Disk.obeys c.args.disk.now t) law_b (c.requires.config t).0 (c.requires.config t).1 (c.requires.held t) (c.run_plan-end.ensures.keeps t) settled c.args.accepted.now.bytes.now c.args.accepted.now.sequence c.args.accepted.now.digest c.requires.fits (g.D.Disk.flash c.finish.new.disk) law_d, new_at_end c.sound_laws.ensures c.moment_laws.ensures c.choice_law.ensures (g.D.Disk.extent c.args.disk.now) c.requires.size c.args.layout.now c.requires.layout c.args.places.now (plan_tree c.args.plan.now) (held_of c.args.held) c.requires.loadable c.choose_slots-slots.result.number c.in-Ok.world.standings.items c.requires.distinct c.choose_slots-slots.ensures.choice c.in-Ok.ensures.stand chosen (g.D.Disk.flash c.args.disk.now) (g.D.Disk.flash c.run_plan-end.new.disk) (g.met.D.Disk.obeys c.args.disk.now t) law_b (c.requires.config t).0 (c.requires.config t).1 (c.requires.held t) (c.run_plan-end.ensures.keeps t) settled c.args.accepted.now.bytes.now c.args.accepted.now.sequence c.args.accepted.now.digest c.requires.fits (g.D.Disk.flash c.finish.new.disk) law_d (c.finish.ensures.any_moment t) c.record_laws.ensures.answer r (installed_as c.finish.result r (λ r. r ≡ new_record (held_of c.args.held) (g.D.Disk.flash c.run_plan-end.new.disk).reads c.args.accepted.now.bytes.now c.args.accepted.now.sequence c.args.accepted.now.digest c.choose_slots-slots.result.number) (c.finish.ensures.new t) same) (installed_as c.finish.result r (λ r. RecordOf VERSION_1 (head_of VERSION_1 (g.D.Disk.flash c.finish.new.disk).reads) (Some r)) (c.finish.ensures.recorded t) same)) })
-    (λ place ended. record { numbers = c.choose_slots-slots.result.number; chosen = chosen; made = (g.D.Disk.flash c.run_plan-end.new.disk).reads; any_moment = moments; left = old_at_end c.sound_laws.ensures c.moment_laws.ensures c.choice_law.ensures (g.D.Disk.extent c.args.disk.now) c.requires.size c.args.layout.now c.requires.layout c.args.places.now (plan_tree c.args.plan.now) (held_of c.args.held) c.requires.loadable c.choose_slots-slots.result.number c.in-Ok.world.standings.items c.requires.distinct c.choose_slots-slots.ensures.choice c.in-Ok.ensures.stand chosen (g.D.Disk.flash c.args.disk.now) (g.D.Disk.flash c.run_plan-end.new.disk) (g.met.D.Disk.obeys c.args.disk.now t) law_b (c.requires.config t).0 (c.requires.config t).1 (c.requires.held t) (c.run_plan-end.ensures.keeps t) settled c.args.accepted.now.bytes.now c.args.accepted.now.sequence c.args.accepted.now.digest c.requires.fits (g.D.Disk.flash c.finish.new.disk) law_d (stopped_at c.run_plan-end.result place ((g.D.Disk.flash c.finish.new.disk).reads ≡ (g.D.Disk.flash c.run_plan-end.new.disk).reads) (c.finish.ensures.stays t) ended) })
-    (λ place cause ended. record { numbers = c.choose_slots-slots.result.number; chosen = chosen; made = (g.D.Disk.flash c.run_plan-end.new.disk).reads; any_moment = moments; left = old_at_end c.sound_laws.ensures c.moment_laws.ensures c.choice_law.ensures (g.D.Disk.extent c.args.disk.now) c.requires.size c.args.layout.now c.requires.layout c.args.places.now (plan_tree c.args.plan.now) (held_of c.args.held) c.requires.loadable c.choose_slots-slots.result.number c.in-Ok.world.standings.items c.requires.distinct c.choose_slots-slots.ensures.choice c.in-Ok.ensures.stand chosen (g.D.Disk.flash c.args.disk.now) (g.D.Disk.flash c.run_plan-end.new.disk) (g.met.D.Disk.obeys c.args.disk.now t) law_b (c.requires.config t).0 (c.requires.config t).1 (c.requires.held t) (c.run_plan-end.ensures.keeps t) settled c.args.accepted.now.bytes.now c.args.accepted.now.sequence c.args.accepted.now.digest c.requires.fits (g.D.Disk.flash c.finish.new.disk) law_d (stopped_by c.run_plan-end.result place cause ((g.D.Disk.flash c.finish.new.disk).reads ≡ (g.D.Disk.flash c.run_plan-end.new.disk).reads) (c.finish.ensures.stays t) ended) })
-    (inr (record { numbers = c.choose_slots-slots.result.number; chosen = chosen; made = (g.D.Disk.flash c.run_plan-end.new.disk).reads; any_moment = moments; left = moment_at_end c.sound_laws.ensures c.moment_laws.ensures c.choice_law.ensures (g.D.Disk.extent c.args.disk.now) c.requires.size c.args.layout.now c.requires.layout c.args.places.now (plan_tree c.args.plan.now) (held_of c.args.held) c.requires.loadable c.choose_slots-slots.result.number c.in-Ok.world.standings.items c.requires.distinct c.choose_slots-slots.ensures.choice c.in-Ok.ensures.stand chosen (g.D.Disk.flash c.args.disk.now) (g.D.Disk.flash c.run_plan-end.new.disk) (g.met.D.Disk.obeys c.args.disk.now t) law_b (c.requires.config t).0 (c.requires.config t).1 (c.requires.held t) (c.run_plan-end.ensures.keeps t) settled c.args.accepted.now.bytes.now c.args.accepted.now.sequence c.args.accepted.now.digest c.requires.fits (g.D.Disk.flash c.finish.new.disk) law_d (c.finish.ensures.any_moment t) }))
+    let b = g.D.Disk.flash c.run_plan-end.new.disk in
+    let d = g.D.Disk.flash c.finish.new.disk in
+    let Done : List ℕ → Type 0 = (λ made. IsTrue g.H.Host.told → IsTrue g.L.Launcher.told → PlaysToEnd c.args.layout.now c.args.places.now (plan_tree c.args.plan.now) (held_of c.args.held) c.args.envelope.now.whole.now c.args.uris.now (g.H.Host.file c.args.host.now) (g.D.Disk.flash c.args.disk.now).reads (g.L.Launcher.launches c.args.launcher.now) (g.L.Launcher.launches c.run_plan-end.new.launcher) made) in
+    let did : c.run_plan-end.result ≡ plays.Done → Done b.reads = λ ended th tl payloads has.
+    subst (λ (end : PlanEnd). PlaysUpdate c.args.layout.now c.args.places.now (plan_tree c.args.plan.now) (held_of c.args.held) payloads c.args.uris.now (g.H.Host.file c.args.host.now) (g.D.Disk.flash c.args.disk.now).reads b.reads (g.L.Launcher.launches c.args.launcher.now) (g.L.Launcher.launches c.run_plan-end.new.launcher) end) ended
+    (plays_update c.args.layout.now c.args.places.now (plan_tree c.args.plan.now) (held_of c.args.held) payloads c.in-Ok.world.uris.now c.args.uris.now (g.H.Host.file c.args.host.now) (g.D.Disk.flash c.args.disk.now).reads (g.D.Disk.flash c.run_plan-end.new.disk).reads (g.L.Launcher.launches c.args.launcher.now) (g.L.Launcher.launches c.run_plan-end.new.launcher) c.run_plan-end.result c.choose_slots-slots.result.number c.in-Ok.world.standings.items c.in-Ok.world.ram c.run_plan-end.new.world.ram chosen c.choose_slots-slots.ensures.choice c.in-Ok.ensures.stand c.in-Ok.ensures.ram c.in-Ok.ensures.uris
+    (c.run_plan-end.ensures.plays th t tl payloads (subst (λ (e : Envelope). HasPayloads e.whole.now payloads) (sym c.in-Ok.ensures.envelope) has))) in
+    let others = contents_made c.sound_laws.ensures c.moment_laws.ensures c.choice_law.ensures (g.D.Disk.extent c.args.disk.now) c.requires.size c.args.layout.now c.requires.layout c.args.places.now (plan_tree c.args.plan.now) (held_of c.args.held) c.requires.loadable c.choose_slots-slots.result.number c.in-Ok.world.standings.items c.requires.distinct c.choose_slots-slots.ensures.choice c.in-Ok.ensures.stand chosen (g.D.Disk.flash c.args.disk.now) (g.D.Disk.flash c.run_plan-end.new.disk) (g.met.D.Disk.obeys c.args.disk.now t) law_b (c.requires.config t).0 (c.requires.config t).1 (c.requires.held t) (c.run_plan-end.ensures.keeps t) in
+    let stays = old_all c.sound_laws.ensures c.moment_laws.ensures c.choice_law.ensures (g.D.Disk.extent c.args.disk.now) c.requires.size c.args.layout.now c.requires.layout c.args.places.now (plan_tree c.args.plan.now) (held_of c.args.held) c.requires.loadable c.choose_slots-slots.result.number c.in-Ok.world.standings.items c.requires.distinct c.choose_slots-slots.ensures.choice c.in-Ok.ensures.stand chosen (g.D.Disk.flash c.args.disk.now) (g.D.Disk.flash c.run_plan-end.new.disk) (g.met.D.Disk.obeys c.args.disk.now t) law_b (c.requires.config t).0 (c.requires.config t).1 (c.requires.held t) (c.run_plan-end.ensures.keeps t) settled c.args.accepted.now.bytes.now c.args.accepted.now.sequence c.args.accepted.now.digest c.requires.fits (g.D.Disk.flash c.finish.new.disk) law_d in
+    let old_left = old_at_end c.sound_laws.ensures c.moment_laws.ensures c.choice_law.ensures (g.D.Disk.extent c.args.disk.now) c.requires.size c.args.layout.now c.requires.layout c.args.places.now (plan_tree c.args.plan.now) (held_of c.args.held) c.requires.loadable c.choose_slots-slots.result.number c.in-Ok.world.standings.items c.requires.distinct c.choose_slots-slots.ensures.choice c.in-Ok.ensures.stand chosen (g.D.Disk.flash c.args.disk.now) (g.D.Disk.flash c.run_plan-end.new.disk) (g.met.D.Disk.obeys c.args.disk.now t) law_b (c.requires.config t).0 (c.requires.config t).1 (c.requires.held t) (c.run_plan-end.ensures.keeps t) settled c.args.accepted.now.bytes.now c.args.accepted.now.sequence c.args.accepted.now.digest c.requires.fits (g.D.Disk.flash c.finish.new.disk) law_d in
+    let Kept : UpdateEnd → Type 0 = KeepsUpdate c.args.layout.now c.args.places.now (plan_tree c.args.plan.now) Done (held_of c.args.held) (λ numbers. new_record (held_of c.args.held) (g.D.Disk.flash c.args.disk.now).reads c.args.accepted.now.bytes.now c.args.accepted.now.sequence c.args.accepted.now.digest numbers) (g.D.Disk.flash c.args.disk.now) d in
+    after c.run_plan-end.result c.finish.result _ _ c.finish.ensures.answer (λ answer. KeptSo (Kept answer) (IsSame (g.D.Disk.flash c.args.disk.now) d) answer)
+    (λ r same ended. record { numbers = c.choose_slots-slots.result.number; chosen = chosen; accepted = c.requires.judged; made = b.reads; others = others; any_moment = moments; whole = did ended; left = ((installed_as c.finish.result r (λ r. r ≡ new_record (held_of c.args.held) (g.D.Disk.flash c.run_plan-end.new.disk).reads c.args.accepted.now.bytes.now c.args.accepted.now.sequence c.args.accepted.now.digest c.choose_slots-slots.result.number) (c.finish.ensures.new t) same) ∙ new_is c.sound_laws.ensures c.moment_laws.ensures c.choice_law.ensures (g.D.Disk.extent c.args.disk.now) c.requires.size c.args.layout.now c.requires.layout c.args.places.now (plan_tree c.args.plan.now) (held_of c.args.held) c.requires.loadable c.choose_slots-slots.result.number c.in-Ok.world.standings.items c.requires.distinct c.choose_slots-slots.ensures.choice c.in-Ok.ensures.stand chosen (g.D.Disk.flash c.args.disk.now) (g.D.Disk.flash c.run_plan-end.new.disk) (g.met.D.Disk.obeys c.args.disk.now t) law_b (c.requires.config t).0 (c.requires.config t).1 (c.requires.held t) (c.run_plan-end.ensures.keeps t) settled c.args.accepted.now.bytes.now c.args.accepted.now.sequence c.args.accepted.now.digest c.requires.fits (g.D.Disk.flash c.finish.new.disk) law_d, new_at_end c.sound_laws.ensures c.moment_laws.ensures c.choice_law.ensures (g.D.Disk.extent c.args.disk.now) c.requires.size c.args.layout.now c.requires.layout c.args.places.now (plan_tree c.args.plan.now) (held_of c.args.held) c.requires.loadable c.choose_slots-slots.result.number c.in-Ok.world.standings.items c.requires.distinct c.choose_slots-slots.ensures.choice c.in-Ok.ensures.stand chosen (g.D.Disk.flash c.args.disk.now) (g.D.Disk.flash c.run_plan-end.new.disk) (g.met.D.Disk.obeys c.args.disk.now t) law_b (c.requires.config t).0 (c.requires.config t).1 (c.requires.held t) (c.run_plan-end.ensures.keeps t) settled c.args.accepted.now.bytes.now c.args.accepted.now.sequence c.args.accepted.now.digest c.requires.fits (g.D.Disk.flash c.finish.new.disk) law_d (c.finish.ensures.any_moment t) c.record_laws.ensures.answer r (installed_as c.finish.result r (λ r. r ≡ new_record (held_of c.args.held) (g.D.Disk.flash c.run_plan-end.new.disk).reads c.args.accepted.now.bytes.now c.args.accepted.now.sequence c.args.accepted.now.digest c.choose_slots-slots.result.number) (c.finish.ensures.new t) same) (installed_as c.finish.result r (λ r. RecordOf VERSION_1 (head_of VERSION_1 (g.D.Disk.flash c.finish.new.disk).reads) (Some r)) (c.finish.ensures.recorded t) same)) })
+    (λ place told ended. let still = stopped_at c.run_plan-end.result place (Passes b d (Now b)) (c.finish.ensures.still t) ended in
+    record { numbers = c.choose_slots-slots.result.number; chosen = chosen; accepted = c.requires.judged; made = b.reads; others = others; any_moment = moments; whole = stays still; left = old_left (told_at c.finish.result place (d.reads ≡ b.reads) (c.finish.ensures.stays t) told) })
+    (λ place cause told ended. let still = stopped_by c.run_plan-end.result place cause (Passes b d (Now b)) (c.finish.ensures.still t) ended in
+    record { numbers = c.choose_slots-slots.result.number; chosen = chosen; accepted = c.requires.judged; made = b.reads; others = others; any_moment = moments; whole = stays still; left = old_left (told_by c.finish.result place cause (d.reads ≡ b.reads) (c.finish.ensures.stays t) told) })
+    (inr (record {
+      numbers = c.choose_slots-slots.result.number;
+      chosen = chosen;
+      accepted = c.requires.judged;
+      made = b.reads;
+      others = others;
+      any_moment = moments;
+      whole = stopped_or_done c.run_plan-end.result (Passes b d (Now b)) _ _ (c.finish.ensures.still t) stays did;
+      left = moment_at_end c.sound_laws.ensures c.moment_laws.ensures c.choice_law.ensures (g.D.Disk.extent c.args.disk.now) c.requires.size c.args.layout.now c.requires.layout c.args.places.now (plan_tree c.args.plan.now) (held_of c.args.held) c.requires.loadable c.choose_slots-slots.result.number c.in-Ok.world.standings.items c.requires.distinct c.choose_slots-slots.ensures.choice c.in-Ok.ensures.stand chosen (g.D.Disk.flash c.args.disk.now) (g.D.Disk.flash c.run_plan-end.new.disk) (g.met.D.Disk.obeys c.args.disk.now t) law_b (c.requires.config t).0 (c.requires.config t).1 (c.requires.held t) (c.run_plan-end.ensures.keeps t) settled c.args.accepted.now.bytes.now c.args.accepted.now.sequence c.args.accepted.now.digest c.requires.fits (g.D.Disk.flash c.finish.new.disk) law_d (c.finish.ensures.any_moment t);
+    }))
 
 pub returns-in-Err-clause-left : goal.returns-in-Err-clause-left
 returns-in-Err-clause-left g c t = refl
@@ -199,10 +222,10 @@ returns-clause-left g c t =
     let Left : UpdateEnd → Type 0 = LeavesUpdate c.args.layout.now c.args.places.now (plan_tree c.args.plan.now) (held_of c.args.held) new (g.D.Disk.flash c.args.disk.now).reads (g.D.Disk.flash c.finish.new.disk).reads in
     after c.run_plan-end.result c.finish.result _ _ c.finish.ensures.answer (λ answer. KeptSo (Left answer) ((g.D.Disk.flash c.finish.new.disk).reads ≡ (g.D.Disk.flash c.args.disk.now).reads) answer)
     (λ r same ended. let is = installed_as c.finish.result r (λ r. r ≡ new_record (held_of c.args.held) (g.D.Disk.flash c.run_plan-end.new.disk).reads c.args.accepted.now.bytes.now c.args.accepted.now.sequence c.args.accepted.now.digest numbers) (c.finish.ensures.new t) same ∙ same_new in
-    record { numbers = numbers; chosen = chosen; contents = contents; left = (is, subst (λ (n : Record). RecordOf VERSION_1 (head_of VERSION_1 (g.D.Disk.flash c.finish.new.disk).reads) (Some n)) is (installed_as c.finish.result r (λ r. RecordOf VERSION_1 (head_of VERSION_1 (g.D.Disk.flash c.finish.new.disk).reads) (Some r)) (c.finish.ensures.recorded t) same)) })
-    (λ place ended. record { numbers = numbers; chosen = chosen; contents = contents; left = held_as (held_of c.args.held) _ _ (stopped_at c.run_plan-end.result place ((g.D.Disk.flash c.finish.new.disk).reads ≡ (g.D.Disk.flash c.run_plan-end.new.disk).reads) (c.finish.ensures.stays t) ended) held_at })
-    (λ place cause ended. record { numbers = numbers; chosen = chosen; contents = contents; left = held_as (held_of c.args.held) _ _ (stopped_by c.run_plan-end.result place cause ((g.D.Disk.flash c.finish.new.disk).reads ≡ (g.D.Disk.flash c.run_plan-end.new.disk).reads) (c.finish.ensures.stays t) ended) held_at })
-    (inr (record { numbers = numbers; chosen = chosen; contents = contents; left = held_or_same (held_of c.args.held) _ _ (g.D.Disk.flash c.finish.new.disk).reads same_new (c.finish.ensures.reads t) }))
+    record { numbers = numbers; chosen = chosen; accepted = c.requires.judged; contents = contents; left = (is, subst (λ (n : Record). RecordOf VERSION_1 (head_of VERSION_1 (g.D.Disk.flash c.finish.new.disk).reads) (Some n)) is (installed_as c.finish.result r (λ r. RecordOf VERSION_1 (head_of VERSION_1 (g.D.Disk.flash c.finish.new.disk).reads) (Some r)) (c.finish.ensures.recorded t) same)) })
+    (λ place told ended. record { numbers = numbers; chosen = chosen; accepted = c.requires.judged; contents = contents; left = held_as (held_of c.args.held) _ _ (told_at c.finish.result place ((g.D.Disk.flash c.finish.new.disk).reads ≡ (g.D.Disk.flash c.run_plan-end.new.disk).reads) (c.finish.ensures.stays t) told) held_at })
+    (λ place cause told ended. record { numbers = numbers; chosen = chosen; accepted = c.requires.judged; contents = contents; left = held_as (held_of c.args.held) _ _ (told_by c.finish.result place cause ((g.D.Disk.flash c.finish.new.disk).reads ≡ (g.D.Disk.flash c.run_plan-end.new.disk).reads) (c.finish.ensures.stays t) told) held_at })
+    (inr (record { numbers = numbers; chosen = chosen; accepted = c.requires.judged; contents = contents; left = held_or_same (held_of c.args.held) _ _ (g.D.Disk.flash c.finish.new.disk).reads same_new (c.finish.ensures.reads t) }))
 
 pub returns-clause-plays : goal.returns-clause-plays
 returns-clause-plays g c th t tl payloads has =
@@ -215,6 +238,6 @@ returns-clause-plays g c th t tl payloads has =
     after c.run_plan-end.result c.finish.result _ _ c.finish.ensures.answer
     (λ answer. PlayedSo Plays c.args.layout.now (g.D.Disk.flash c.finish.new.disk).reads (g.L.Launcher.launches c.args.launcher.now) (g.L.Launcher.launches c.run_plan-end.new.launcher) answer)
     (λ r same ended. record { made = (g.D.Disk.flash c.run_plan-end.new.disk).reads; plays = subst (Plays (g.D.Disk.flash c.run_plan-end.new.disk).reads) ended play; left = behind (g.D.Disk.extent c.args.disk.now) c.args.layout.now c.requires.layout (c.requires.config t).1.typed.entries (g.D.Disk.flash c.run_plan-end.new.disk).reads (g.D.Disk.flash c.finish.new.disk).reads law_b.fits (c.finish.ensures.behind t) })
-    (λ place ended. record { made = (g.D.Disk.flash c.run_plan-end.new.disk).reads; plays = subst (Plays (g.D.Disk.flash c.run_plan-end.new.disk).reads) ended play; left = reads_same c.args.layout.now (g.D.Disk.flash c.run_plan-end.new.disk).reads (g.D.Disk.flash c.finish.new.disk).reads (stopped_at c.run_plan-end.result place ((g.D.Disk.flash c.finish.new.disk).reads ≡ (g.D.Disk.flash c.run_plan-end.new.disk).reads) (c.finish.ensures.stays t) ended) })
-    (λ place cause ended. record { made = (g.D.Disk.flash c.run_plan-end.new.disk).reads; plays = subst (Plays (g.D.Disk.flash c.run_plan-end.new.disk).reads) ended play; left = reads_same c.args.layout.now (g.D.Disk.flash c.run_plan-end.new.disk).reads (g.D.Disk.flash c.finish.new.disk).reads (stopped_by c.run_plan-end.result place cause ((g.D.Disk.flash c.finish.new.disk).reads ≡ (g.D.Disk.flash c.run_plan-end.new.disk).reads) (c.finish.ensures.stays t) ended) })
+    (λ place told ended. record { made = (g.D.Disk.flash c.run_plan-end.new.disk).reads; plays = subst (Plays (g.D.Disk.flash c.run_plan-end.new.disk).reads) ended play; left = reads_same c.args.layout.now (g.D.Disk.flash c.run_plan-end.new.disk).reads (g.D.Disk.flash c.finish.new.disk).reads (told_at c.finish.result place ((g.D.Disk.flash c.finish.new.disk).reads ≡ (g.D.Disk.flash c.run_plan-end.new.disk).reads) (c.finish.ensures.stays t) told) })
+    (λ place cause told ended. record { made = (g.D.Disk.flash c.run_plan-end.new.disk).reads; plays = subst (Plays (g.D.Disk.flash c.run_plan-end.new.disk).reads) ended play; left = reads_same c.args.layout.now (g.D.Disk.flash c.run_plan-end.new.disk).reads (g.D.Disk.flash c.finish.new.disk).reads (told_by c.finish.result place cause ((g.D.Disk.flash c.finish.new.disk).reads ≡ (g.D.Disk.flash c.run_plan-end.new.disk).reads) (c.finish.ensures.stays t) told) })
     (inr ((g.D.Disk.flash c.run_plan-end.new.disk).reads, c.run_plan-end.result, play))

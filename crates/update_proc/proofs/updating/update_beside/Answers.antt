@@ -1,3 +1,4 @@
+use Rattle.std.specs.Prelude.{IsTrue}
 use Rattle.std.proofs.Common.{◌≡◌, refl, ◌⊎◌, ◌≤◌, ℕ, List, Bor, Option, length, inl, option_map, sym, ◌∙◌, ap, subst, arith}
 use Rattle.suit_commands.specs.Allowed.{IsPlan}
 use Rattle.suit_commands.specs.Plans.{plan_tree}
@@ -14,7 +15,7 @@ use Rattle.step_machine.specs.PlanRuns.{counts_of}
 use Rattle.update_proc.specs.Choices.{AreChosen, active_slots}
 use Rattle.update_proc.specs.Installing.{MayBeInstalled}
 use Rattle.update_proc.specs.Records.{new_record}
-use Rattle.update_proc.specs.Updates.{KeepsUpdate, KeptSo, LeavesUpdate, PlayedSo, PlaysUpdate}
+use Rattle.update_proc.specs.Updates.{KeepsUpdate, KeptSo, LeavesUpdate, PlayedSo, PlaysToEnd, PlaysUpdate}
 use Rattle.update_proc.proofs.Finished.{accepted_judged, refused_counts, refused_kept, refused_played, refused_settled}
 use Rattle.update_proc.proofs.Since.{follows_now}
 use Rattle.update_proc.proofs.updating.update_beside.Goals as goal
@@ -144,8 +145,8 @@ returns-clause-plays g c th t tl payloads has =
 
 pub returns-clause-keeps : goal.returns-clause-keeps
 returns-clause-keeps g c t settled =
-    subst (λ (tree : PlanTree). KeptSo (KeepsUpdate c.args.layout.now c.args.places.now tree (held_of c.args.held) (λ numbers. new_record (held_of c.args.held) (g.D.Disk.flash c.args.disk.now).reads (trimmed c.args.envelope.now.wrapper.now c.args.envelope.now.manifest.now) c.args.manifest.now.sequence c.args.digest.now numbers) (g.D.Disk.flash c.args.disk.now) (g.D.Disk.flash c.start.new.disk) c.start.result) (IsSame (g.D.Disk.flash c.args.disk.now) (g.D.Disk.flash c.start.new.disk)) c.start.result) c.update_plan-plan.ensures
-    (subst (λ (l : List ℕ). KeptSo (KeepsUpdate c.args.layout.now c.args.places.now (plan_tree c.update_plan-plan.result) (held_of c.args.held) (λ numbers. new_record (held_of c.args.held) (g.D.Disk.flash c.args.disk.now).reads l c.args.manifest.now.sequence c.args.digest.now numbers) (g.D.Disk.flash c.args.disk.now) (g.D.Disk.flash c.start.new.disk) c.start.result) (IsSame (g.D.Disk.flash c.args.disk.now) (g.D.Disk.flash c.start.new.disk)) c.start.result) (c.as_slice-whole.ensures ∙ c.in-Ok.ensures.spelling) (c.start.ensures.keeps t settled))
+    subst (λ (tree : PlanTree). KeptSo (KeepsUpdate c.args.layout.now c.args.places.now tree (λ made. IsTrue g.H.Host.told → IsTrue g.L.Launcher.told → PlaysToEnd c.args.layout.now c.args.places.now tree (held_of c.args.held) c.args.envelope.now.whole.now c.args.uris.now (g.H.Host.file c.args.host.now) (g.D.Disk.flash c.args.disk.now).reads (g.L.Launcher.launches c.args.launcher.now) (g.L.Launcher.launches c.start.new.launcher) made) (held_of c.args.held) (λ numbers. new_record (held_of c.args.held) (g.D.Disk.flash c.args.disk.now).reads (trimmed c.args.envelope.now.wrapper.now c.args.envelope.now.manifest.now) c.args.manifest.now.sequence c.args.digest.now numbers) (g.D.Disk.flash c.args.disk.now) (g.D.Disk.flash c.start.new.disk) c.start.result) (IsSame (g.D.Disk.flash c.args.disk.now) (g.D.Disk.flash c.start.new.disk)) c.start.result) c.update_plan-plan.ensures
+    (subst (λ (l : List ℕ). KeptSo (KeepsUpdate c.args.layout.now c.args.places.now (plan_tree c.update_plan-plan.result) (λ made. IsTrue g.H.Host.told → IsTrue g.L.Launcher.told → PlaysToEnd c.args.layout.now c.args.places.now (plan_tree c.update_plan-plan.result) (held_of c.args.held) c.args.envelope.now.whole.now c.args.uris.now (g.H.Host.file c.args.host.now) (g.D.Disk.flash c.args.disk.now).reads (g.L.Launcher.launches c.args.launcher.now) (g.L.Launcher.launches c.start.new.launcher) made) (held_of c.args.held) (λ numbers. new_record (held_of c.args.held) (g.D.Disk.flash c.args.disk.now).reads l c.args.manifest.now.sequence c.args.digest.now numbers) (g.D.Disk.flash c.args.disk.now) (g.D.Disk.flash c.start.new.disk) c.start.result) (IsSame (g.D.Disk.flash c.args.disk.now) (g.D.Disk.flash c.start.new.disk)) c.start.result) (c.as_slice-whole.ensures ∙ c.in-Ok.ensures.spelling) (c.start.ensures.keeps t settled))
 
 pub returns-in-Some-clause-left : goal.returns-in-Some-clause-left
 returns-in-Some-clause-left g c t =
