@@ -38,16 +38,16 @@ use Rattle.suit_cli.specs.Commands.{begins_boot}
 use Rattle.suit_cli.specs.Installed.{IsBad, IsBlank}
 use Rattle.suit_cli.specs.Launching.{Launching}
 use Rattle.suit_cli.specs.LifeLaws.{HasRecorded, SoundnessLaws}
-use Rattle.suit_cli.specs.Outside.{FilesStay, Outside}
-use Rattle.suit_cli.specs.Program.{ComesTo, answers, stored_by}
+use Rattle.suit_cli.specs.Outside.{Outside}
+use Rattle.suit_cli.specs.Program.{ComesTo, answers}
 use Rattle.suit_cli.specs.Stages.{Declines, Ending, Ends, FaultOf, Goes, NoMemory, Says}
 use Rattle.suit_cli.specs.Statuses.{ending_status}
-use Rattle.suit_cli.specs.Words.{RunBoot, RunUpdate, Task, task_of}
+use Rattle.suit_cli.specs.Words.{RunBoot, RunUpdate, task_of}
 use Rattle.suit_cli.proofs.Running.{Declining, holds_none_declines, status_done}
-use Rattle.suit_cli.proofs.StagesLet.{answers_lets}
+use Rattle.suit_cli.proofs.Starving.{starved_near}
 use Rattle.suit_cli.proofs.TaskAnswers.{does_of}
 use Rattle.suit_cli.proofs.UpdateEnds.{cause_not_low}
-use Rattle.completeness.specs.Outcomes.{AreTold, IsFaultless, LacksMemory}
+use Rattle.completeness.specs.Outcomes.{AreTold, IsFaultless, LeavesFlash}
 use Rattle.completeness.specs.Plays.{LeavesPlay}
 use Rattle.completeness.specs.Boots.{Activates, BootsWhole, ReadyToBoot, Records, boot_play}
 use Rattle.completeness.proofs.Begun.{never_fault, two_faults}
@@ -178,13 +178,13 @@ module _ (configs : OneConfigAnswer) (records : OneAnswer) (laws : BootLaws) whe
 
       data Way : BootEnd → Type 0 where
         Whole : LeavesPlay ready.on.standings (boot_play R.layout R.is.said R.installed b ready.on) l.launches n.launches a.flash.reads → Way ends.Ended
-        Starved : n.launches ≡ l.launches → Way ends.NoMemory
+        Starved : n.launches ≡ l.launches → a.flash.reads ≡ b.flash.reads → Way ends.NoMemory
 
       way : (end : BootEnd) → IsBoot R.layout R.key l n mid a end → Way end
       way ends.Ended u =
           let p = plays_there plays.Done (u.plays (subst IsTrue (sym sees.told) ready.told.host) mid_flash_told ready.told.launcher) in
           Whole (leaves (invocation_tree R.is.said) _ _ _ _ _ ready.on.standings p.ram a.flash.reads refl p.plays_so)
-      way ends.NoMemory u = Starved (u.plays (subst IsTrue (sym sees.told) ready.told.host) mid_flash_told ready.told.launcher)
+      way ends.NoMemory u = Starved (u.plays (subst IsTrue (sym sees.told) ready.told.host) mid_flash_told ready.told.launcher) (u.left mid_flash_told ∙ sees.reads)
       way ends.NothingInstalled u =
           let never = records VERSION_1 (head_of VERSION_1 b.flash.reads) None (Some R.installed) (recorded_there None (u.answers mid_flash_told)) R.recorded in absurd cc
       way (ends.BadBank refusal) u = let x = u.answers mid_flash_told in let never = declined_there x.0 x.1 (ends.BadBank refusal) x.2 in absurd cc
@@ -197,11 +197,13 @@ module _ (configs : OneConfigAnswer) (records : OneAnswer) (laws : BootLaws) whe
       way ends.FlashFault u = absurd (faultless.flash (subst (λ (z : ℕ). Faulted z a.flash.faults) sees.flash_faults u.counts.1))
 
     of_way : (end : BootEnd) (lines : List ℕ) (u : Boots l n b a end lines) (faultless : IsFaultless l n b a) → Way u.middle (boot_sees l n b a end lines u ready.told) faultless end
-        → BootsWhole words l b ready n a (Booted end lines) ⊎ LacksMemory l n b a (Booted end lines)
+        → BootsWhole words l b ready n a (Booted end lines) ⊎ LeavesFlash l n b a (Booted end lines)
     of_way _ lines u faultless (Whole left) =
         inl (record { ended_is = ap (λ (z : List ℕ). Booted ends.Ended z) u.lines_are; left = left; files = boot_files l n b a ends.Ended lines u ready.told })
-    of_way _ lines u faultless (Starved same) =
-        inr (record { status = refl; line = u.lines_are; launches = same; files = boot_files l n b a ends.NoMemory lines u ready.told })
+    of_way _ lines u faultless (Starved same reads) = inr (record {
+      lacks = record { status = refl; line = u.lines_are; launches = same; files = boot_files l n b a ends.NoMemory lines u ready.told };
+      reads = reads;
+    })
 
     boot_there : (end : BootEnd) (lines : List ℕ) (u : Boots l n b a end lines) → IsBoot R.layout R.key l n u.middle a end
     boot_there end lines u =
@@ -209,18 +211,21 @@ module _ (configs : OneConfigAnswer) (records : OneAnswer) (laws : BootLaws) whe
         (u.held.1 ready.told.flash) (R.configured ready.told.flash)) in
         subst (λ (z : Key). IsBoot R.layout z l n u.middle a end) config.1 (subst (λ (z : List Entry). IsBoot z u.key l n u.middle a end) config.0 u.boot)
 
-    of_stages : (e : Ending) → answers words b a e → n ≡ l → IsFaultless l n b a → BootsWhole words l b ready n a (Answered e) ⊎ LacksMemory l n b a (Answered e)
+    of_stages : (e : Ending) → answers words b a e → n ≡ l → IsFaultless l n b a → BootsWhole words l b ready n a (Answered e) ⊎ LeavesFlash l n b a (Answered e)
     of_stages (Says reply) answer same faultless =
         absurd (never_reply configs R.layout R.key b a ready.told.flash (R.configured ready.told.flash) (Says reply) tt (does_of words b a reply RunBoot ready.asks answer))
     of_stages (FaultOf object) answer same faultless = absurd (never_fault words l n b a (FaultOf object) answer tt faultless)
     of_stages NoMemory answer same faultless = inr (record {
-      status = refl;
-      line = refl;
-      launches = ap (λ (x : Launching). x.launches) same;
-      files = subst (λ (t : Option Task). FilesStay (stored_by t) b.files a.files) ready.asks ((answers_lets words b a NoMemory answer).leaves.files ready.told.host);
+      lacks = record {
+        status = refl;
+        line = refl;
+        launches = ap (λ (x : Launching). x.launches) same;
+        files = (starved_near words b a NoMemory refl answer).files ready.told.host;
+      };
+      reads = (starved_near words b a NoMemory refl answer).flash.reads ready.told.flash;
     })
 
-    pub boot_completes : (ended : Ended) → IsFaultless l n b a → ComesTo words l n b a ended → BootsWhole words l b ready n a ended ⊎ LacksMemory l n b a ended
+    pub boot_completes : (ended : Ended) → IsFaultless l n b a → ComesTo words l n b a ended → BootsWhole words l b ready n a ended ⊎ LeavesFlash l n b a ended
     boot_completes _ faultless (ByStages e answer same) = of_stages e answer same faultless
     boot_completes _ faultless (ByBoot end lines word u) =
         of_way end lines u faultless (way u.middle (boot_sees l n b a end lines u ready.told) faultless end (boot_there end lines u))

@@ -99,7 +99,7 @@ completeness_laws configs records envelopes manifests members boots updates soun
   update_says = λ words l n b a sb sa held asks told recorded runs. says_so (λ ready. Installs words l b ready n a) sb sa runs.ended
       (only_update configs envelopes manifests members updates words l n b a held told recorded runs.ended asks runs.comes) runs.puts;
   boot = λ words l n b a ended ready faultless comes. boot_completes configs records boots words l n b a ready ended faultless comes;
-  boot_ends = λ words l n b a sb sa result ready faultless runs. ends_well _ _ sb sa result runs.ended (λ done. ap ended_status done.ended_is) (λ starved. starved.status)
+  boot_ends = λ words l n b a sb sa result ready faultless runs. ends_well _ _ sb sa result runs.ended (λ done. ap ended_status done.ended_is) (λ starved. starved.lacks.status)
       (boot_completes configs records boots words l n b a ready runs.ended faultless runs.comes) runs.puts;
   only_boot = λ words l n b a ended word told size sound comes zero. only_boot configs records boots soundness words l n b a told word size sound ended comes zero;
   boot_says = λ words l n b a sb sa word told size sound runs. says_so (λ ready. BootsWhole words l b ready n a) sb sa runs.ended

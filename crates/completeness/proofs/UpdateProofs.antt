@@ -28,12 +28,12 @@ use Rattle.suit_cli.specs.Coming.{Answered, ByBoot, ByStages, ByUpdate, Ended, U
 use Rattle.suit_cli.specs.Envelopes.{ManifestOf}
 use Rattle.suit_cli.specs.Inputs.{IsRead, longest_file}
 use Rattle.suit_cli.specs.Launching.{Launching}
-use Rattle.suit_cli.specs.Outside.{Flashed, Files, FilesStay, Outside}
-use Rattle.suit_cli.specs.Program.{ComesTo, answers, stored_by}
+use Rattle.suit_cli.specs.Outside.{Flashed, Files, Outside}
+use Rattle.suit_cli.specs.Program.{ComesTo, answers}
 use Rattle.suit_cli.specs.Stages.{Ending, FaultOf, NoMemory, Says}
 use Rattle.suit_cli.specs.UpdateLaws.{UpdateLaws}
 use Rattle.suit_cli.specs.Updating.{IsUpdate, Updates, update_line, update_status}
-use Rattle.suit_cli.specs.Words.{RunBoot, RunUpdate, Task, task_of}
+use Rattle.suit_cli.specs.Words.{RunBoot, RunUpdate, task_of}
 use Rattle.invoke_proc.proofs.Booted.{payloads_in}
 use Rattle.suit_envelope.specs.WrapperParts.{WrapperSays}
 use Rattle.suit_cli.specs.Statuses.{ending_status}
@@ -42,11 +42,11 @@ use Rattle.suit_cli.proofs.UpdateEnds.{cause_not_low}
 use Rattle.completeness.specs.CompletenessLaws.{AsksUpdate}
 use Rattle.suit_cli.proofs.AcceptedFacts.{Facts, began, facts}
 use Rattle.suit_cli.proofs.OneStage.{alike_self, one_envelope, one_manifest, one_members, one_read}
-use Rattle.suit_cli.proofs.StagesLet.{answers_lets}
+use Rattle.suit_cli.proofs.Starving.{starved_near}
 use Rattle.suit_cli.proofs.TaskAnswers.{does_of}
-use Rattle.completeness.specs.Outcomes.{AreTold, IsFaultless}
-use Rattle.completeness.specs.Updates.{Installs, LeavesFlash, Offers, ReadyToUpdate, Sets, digest_of, record_for}
-use Rattle.completeness.proofs.Begun.{by_task, never_fault, two_faults, update_still}
+use Rattle.completeness.specs.Outcomes.{AreTold, IsFaultless, LeavesFlash}
+use Rattle.completeness.specs.Updates.{Installs, Offers, ReadyToUpdate, Sets, digest_of, record_for}
+use Rattle.completeness.proofs.Begun.{never_fault, two_faults}
 use Rattle.completeness.proofs.SamePlaces.{AreSame, same_places}
 use Rattle.completeness.proofs.UpdatePlayed.{InstalledSo, SeesSame, installed_so, way}
 
@@ -194,10 +194,9 @@ module _ (configs : OneAnswer) (envelopes : EnvelopeLaws) (manifests : ManifestL
         status = refl;
         line = refl;
         launches = ap (λ (x : Launching). x.launches) same;
-        files = subst (λ (t : Option Task). FilesStay (stored_by t) b.files a.files) ready.asks ((answers_lets words b a NoMemory answer).leaves.files ready.told.host);
+        files = (starved_near words b a NoMemory refl answer).files ready.told.host;
       };
-      reads = ⊎_elim (λ begun. update_still ready.name b a begun ready.told.flash) (λ at_once. ap (λ (o : Outside). o.flash.reads) at_once.1)
-          (by_task words (RunUpdate ready.name ready.uris) ready.asks b a NoMemory answer);
+      reads = (starved_near words b a NoMemory refl answer).flash.reads ready.told.flash;
     })
 
     pub update_completes : (ended : Ended) → IsFaultless l n b a → ComesTo words l n b a ended → Installs words l b ready n a ended ⊎ LeavesFlash l n b a ended

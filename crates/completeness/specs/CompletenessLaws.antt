@@ -13,8 +13,8 @@ use Rattle.suit_cli.specs.Launching.{Launching}
 use Rattle.suit_cli.specs.Outside.{Outside, Sunk}
 use Rattle.suit_cli.specs.Program.{ComesTo, Runs}
 use Rattle.suit_cli.specs.Words.{RunBoot, RunUpdate, task_of}
-use Rattle.completeness.specs.Outcomes.{AreTold, EndsWell, IsFaultless, LacksMemory, PutsDone}
-use Rattle.completeness.specs.Updates.{Installs, LeavesFlash, Meets, ReadyToUpdate}
+use Rattle.completeness.specs.Outcomes.{AreTold, EndsWell, IsFaultless, LeavesFlash, PutsDone}
+use Rattle.completeness.specs.Updates.{Installs, Meets, ReadyToUpdate}
 use Rattle.completeness.specs.Boots.{BootsWhole, ReadyToBoot}
 
 -- ---- `run update`
@@ -56,18 +56,18 @@ UpdateSaysSo =
 
 -- ---- `run boot`
 
--- a boot that is ready is played to its end, or memory is wanting, where no fault is counted
+-- a boot that is ready is played to its end, or memory is wanting and the flash is left as it was, where no fault is counted
 abbrev pub BootCompletes : Type 0
 BootCompletes =
     (words : List (List ℕ)) (launched now : Launching) (before after : Outside) (ended : Ended) (ready : ReadyToBoot words launched before)
     → IsFaultless launched now before after → ComesTo words launched now before after ended
-    → BootsWhole words launched before ready now after ended ⊎ LacksMemory launched now before after ended
+    → BootsWhole words launched before ready now after ended ⊎ LeavesFlash launched now before after ended
 
 abbrev pub BootEndsWell : Type 0
 BootEndsWell =
     (words : List (List ℕ)) (launched now : Launching) (before after : Outside) (sunk_before sunk_after : Sunk) (result : ℕ) (ready : ReadyToBoot words launched before)
     → IsFaultless launched now before after → Runs words launched now before after sunk_before sunk_after result
-    → EndsWell (BootsWhole words launched before ready now after) (LacksMemory launched now before after) sunk_before sunk_after result
+    → EndsWell (BootsWhole words launched before ready now after) (LeavesFlash launched now before after) sunk_before sunk_after result
 
 -- on a sound flash it is done only where it was ready
 abbrev pub OnlyReadyBoots : Type 0

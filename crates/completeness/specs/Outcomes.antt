@@ -26,6 +26,11 @@ pub record LacksMemory (launched now : Launching) (before after : Outside) (ende
   pub launches : now.launches ≡ launched.launches
   pub files : after.files ≡ before.files
 
+-- and the flash reads as before
+pub record LeavesFlash (launched now : Launching) (before after : Outside) (ended : Ended) : Type 0 where
+  pub lacks : LacksMemory launched now before after ended
+  pub reads : after.flash.reads ≡ before.flash.reads
+
 -- The lines of what it came to are put, with status 0 where it was done and 11 where memory was wanting; or the sink
 -- counted a fault, and the status is 9, whichever of the two it was.
 pub data EndsWell (IsDone Lacks : Ended → Type 0) (before after : Sunk) (result : ℕ) : Type 0 where

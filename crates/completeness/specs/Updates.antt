@@ -38,7 +38,7 @@ use Rattle.suit_cli.specs.Lines.{number_line}
 use Rattle.suit_cli.specs.Outside.{Outside}
 use Rattle.suit_cli.specs.Updating.{new_of}
 use Rattle.suit_cli.specs.Words.{RunUpdate, task_of}
-use Rattle.completeness.specs.Outcomes.{AreTold, LacksMemory}
+use Rattle.completeness.specs.Outcomes.{AreTold}
 use Rattle.completeness.specs.Plays.{Completes, LeavesPlay}
 
 -- ---- acceptance
@@ -131,8 +131,3 @@ pub record Installs (words : List (List ℕ)) (launched : Launching) (before : O
   pub others : let o = ready.offers in
       KeepsContents o.layout o.accepted.places (procedure_of o.accepted) ready.sets.numbers before.flash.reads after.flash.reads
   pub files : after.files ≡ before.files
-
--- or memory was wanting, and the flash reads as before
-pub record LeavesFlash (launched now : Launching) (before after : Outside) (ended : Ended) : Type 0 where
-  pub lacks : LacksMemory launched now before after ended
-  pub reads : after.flash.reads ≡ before.flash.reads

@@ -1,5 +1,5 @@
 -- What stands at each moment of a boot.
-use Rattle.std.proofs.Common.{◌⊎◌, inl, inr, ℕ, List, subst}
+use Rattle.std.proofs.Common.{◌≡◌, ◌⊎◌, inl, inr, ℕ, List, subst}
 use Rattle.suit_edge.specs.Flash.{Flash, IsFlash, IsSame}
 use Rattle.suit_edge.specs.FlashLaws.{keeps_same, keeps_then, same_flash_then}
 use Rattle.flash_layout.specs.declared.frame.TheConstants.{VERSION_1}
@@ -24,6 +24,19 @@ kept_so Kept Same (ends.BadBank refusal) same = inl same
 kept_so Kept Same (ends.NotAuthentic lacking) same = inl same
 kept_so Kept Same (ends.UnknownComponent component) same = inl same
 kept_so Kept Same ends.NoMemory same = inl same
+
+-- so the flash reads as before, where nothing was played
+pub reads_left : (Kept : Type 0) (a b : Flash) (end : BootEnd) → KeptSo Kept (IsSame a b) end → KeptSo (Unit {0}) (b.reads ≡ a.reads) end
+reads_left Kept a b ends.Ended kept = tt
+reads_left Kept a b (ends.Condition place) kept = tt
+reads_left Kept a b (ends.Stopped place cause) kept = tt
+reads_left Kept a b ends.FlashFault (inl same) = inl same.reads
+reads_left Kept a b ends.FlashFault (inr kept) = inr tt
+reads_left Kept a b ends.NothingInstalled same = same.reads
+reads_left Kept a b (ends.BadBank refusal) same = same.reads
+reads_left Kept a b (ends.NotAuthentic lacking) same = same.reads
+reads_left Kept a b (ends.UnknownComponent component) same = same.reads
+reads_left Kept a b ends.NoMemory same = same.reads
 
 -- behind a look at the configuration
 module _ (before : Outside) (a b c : Flash) (size : ℕ) (law : IsFlash b size) (same : IsSame a b) (layout : List Entry) (key : Key)

@@ -40,21 +40,21 @@ still_same f g same = subst (λ (x : Flashed). IsStill f x) (sym same) (still_se
 
 -- ---- the same files and a flash that is as it was
 
-record IsNear (b m : Outside) : Type 0 where
+pub record IsNear (b m : Outside) : Type 0 where
   pub told : m.told ≡ b.told
   pub files : IsTrue b.told → m.files ≡ b.files
   pub flash : IsStill b.flash m.flash
 
-near_looks : (b m : Outside) → Looks b m → IsNear b m
+pub near_looks : (b m : Outside) → Looks b m → IsNear b m
 near_looks b m looks = record { told = ap (λ (o : Outside). o.told) looks.beside; files = λ t. ap (λ (o : Outside). o.files) looks.beside; flash = looks.still }
 
-near_reads : (most : ℕ) (name : List ℕ) (b m : Outside) → Reads most name b m → IsNear b m
+pub near_reads : (most : ℕ) (name : List ℕ) (b m : Outside) → Reads most name b m → IsNear b m
 near_reads most name b m reads = record { told = reads.quiet.told; files = reads.quiet.files; flash = still_same _ _ reads.flash }
 
-near_same : (b m : Outside) → m ≡ b → IsNear b m
+pub near_same : (b m : Outside) → m ≡ b → IsNear b m
 near_same b m same = subst (λ (o : Outside). IsNear b o) (sym same) (record { told = refl; files = λ t. refl; flash = still_self b.flash })
 
-near_then : (b m n : Outside) → IsNear b m → IsNear m n → IsNear b n
+pub near_then : (b m n : Outside) → IsNear b m → IsNear m n → IsNear b n
 near_then b m n first second = record {
   told = second.told ∙ first.told;
   files = λ t. second.files (subst IsTrue (sym first.told) t) ∙ first.files t;

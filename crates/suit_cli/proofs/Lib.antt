@@ -35,7 +35,10 @@ pub mod UpdateAnswers
 pub mod UpdateEnds
 pub mod UpdateSound
 pub mod UpdateLawProofs
+pub mod Starving
+pub mod BootHosts
 pub mod RunEnds
 mod LifeLawProofs
+mod NoPayloads
 mod LaunchedLawProofs
 pub mod WordsLawProofs

@@ -1,5 +1,5 @@
 -- What a run comes to, in stages, by a boot or by an update.
-use Rattle.std.proofs.Common.{◌≡◌, ℕ, List, [], ◌++◌, append-nil, Option, Some, None, ◌⊎◌, inl, inr, refl, sym, ap, subst, ◌∙◌, ◌≤◌, arith}
+use Rattle.std.proofs.Common.{◌≡◌, ℕ, List, [], ◌++◌, length, append-nil, Option, Some, None, ◌⊎◌, inl, inr, refl, sym, ap, subst, ◌∙◌, ◌≤◌, arith}
 use Rattle.std.specs.Prelude.{IsTrue, ◌≢◌}
 use Rattle.suit_edge.specs.declared.launch.Launch.{Launch}
 use Rattle.suit_commands.specs.Tree.{PlanTree}
@@ -7,6 +7,7 @@ use Rattle.suit_envelope.specs.EnvelopeLaws.{EnvelopeLaws}
 use Rattle.suit_manifest.specs.ManifestLaws.{ManifestLaws}
 use Rattle.suit_manifest.specs.MembersLaws.{MembersLaws}
 use Rattle.flash_layout.specs.declared.frame.TheConstants.{VERSION_1}
+use Rattle.flash_layout.specs.ConfigLaws.{OneAnswer}
 use Rattle.rollback_record.specs.SoundFlash.{Sound}
 use Rattle.step_machine.specs.PlanRuns.{Counts, counts_of}
 use Rattle.invoke_proc.specs.declared.boot_end.BootEnd.{BootEnd}
@@ -21,11 +22,13 @@ use Rattle.suit_cli.specs.Booting.{Boots, boot_status}
 use Rattle.suit_cli.specs.Coming.{Ended, Answered, Booted, Updated, ByStages, ByBoot, ByUpdate, ended_status, ended_text}
 use Rattle.suit_cli.specs.Updating.{Updates, update_status}
 use Rattle.update_proc.specs.declared.update_end.UpdateEnd.{UpdateEnd}
-use Rattle.suit_cli.specs.Program.{ComesTo, Puts, PutsText, IsPut, IsCut, Runs, EndsIn, IsStatus, OfEnded, OfSinkFault, ChecksProcedures, IsCheck, ChecksSafe, ChecksUnsafe, IsUsage, IsCutOff, MayHide, MayLaunch, AreCounted, LeavesBy, LeavesFor, KeepsLauncher, most_pulled, stored_by}
+use Rattle.suit_cli.specs.Program.{ComesTo, Puts, PutsText, IsPut, IsCut, Runs, EndsIn, IsStatus, OfEnded, OfSinkFault, ChecksProcedures, IsCheck, ChecksSafe, ChecksUnsafe, IsUsage, IsCutOff, MayHide, MayLaunch, AreCounted, AsFound, IsForUpdate, LeavesBy, LeavesFor, KeepsLauncher, most_pulled, stored_by}
 use Rattle.suit_cli.proofs.Running as running
 use Rattle.suit_cli.proofs.RunClauses as staged
 use Rattle.suit_cli.proofs.RunClauses.{Staged}
 use Rattle.suit_cli.proofs.StagesLet.{answers_lets}
+use Rattle.suit_cli.proofs.BootHosts.{boots_without, stages_without}
+use Rattle.suit_cli.proofs.Starving.{boot_starved, starved_near, update_starved}
 use Rattle.suit_cli.proofs.UpdateEnds.{ByStatus, by_cause, cause_not_low, cause_not_nine, flash_failed, unfaulted, update_counts, update_files, update_not, update_not_nine, update_safe, update_told}
 
 -- ---- one way or the other
@@ -258,6 +261,26 @@ module _ (words : List (List ℕ)) (l m : Launching) (b a : Outside) (sb sa : Su
           only_launcher = λ never cut hides. by.only_launcher (λ e. never (put_status _ _ puts cut ∙ e)) (λ e. hides (subst MayLaunch (sym word) tt, put_status _ _ puts cut ∙ e));
           only_output = only_output_fault;
         }
+
+  pub no_host : IsTrue b.told → IsTrue b.flash.told → IsTrue l.told → task_of words ≡ Some RunBoot → result ≡ 7 → ⊥
+  no_host told flash_told launcher_told is_boot seven = of_way way where
+    of_way : Way words l m b a sb sa result → ⊥
+    of_way (InStages run same) = stages_without words is_boot b a run.ending run.answer (sym (put_status _ _ run.puts (λ nine. omega (arith, seven, nine))) ∙ seven)
+    of_way (AsBoot end lines word boots puts) =
+        boots_without l m b a end lines boots told flash_told launcher_told (sym (put_status _ _ puts (λ nine. omega (arith, seven, nine))) ∙ seven)
+    of_way (AsUpdate name uris end lines word updates puts) = let never : Some (RunUpdate name uris) ≡ Some RunBoot = sym word ∙ is_boot in absurd cc
+
+  pub starved : OneAnswer → (IsTrue b.flash.told → b.flash.size ≡ length b.flash.reads) → result ≡ 11
+      → (IsTrue b.flash.told → IsForUpdate (task_of words) → Sound VERSION_1 b.flash.reads) → AsFound l m b a
+  starved configs size eleven sound = of_way way where
+    of_way : Way words l m b a sb sa result → AsFound l m b a
+    of_way (InStages run same) =
+        let near = starved_near words b a run.ending (sym (put_status _ _ run.puts (λ nine. omega (arith, eleven, nine))) ∙ eleven) run.answer in
+        record { files = near.files; reads = near.flash.reads; launches = λ host flash launcher. ap (λ (x : Launching). x.launches) same }
+    of_way (AsBoot end lines word boots puts) = boot_starved l m b a end lines boots (sym (put_status _ _ puts (λ nine. omega (arith, eleven, nine))) ∙ eleven)
+    of_way (AsUpdate name uris end lines word updates puts) =
+        update_starved name uris l m b a configs end lines updates (sym (put_status _ _ puts (λ nine. omega (arith, eleven, nine))) ∙ eleven) size
+        (λ told. sound told (subst IsForUpdate (sym word) tt))
 
   pub cut_off : result ≡ 9 → IsCutOff words l m b a sb sa
   cut_off nine = of_puts runs.puts where

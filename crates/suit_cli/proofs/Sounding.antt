@@ -23,7 +23,9 @@ use Rattle.suit_cli.specs.Words.{Task, Make, Describe, Show, Check, RunInit, Run
 use Rattle.suit_cli.specs.Outside.{Outside}
 use Rattle.suit_cli.specs.Devices.{key_of}
 use Rattle.suit_cli.specs.Formatting.{MayFormat, MayLeave}
-use Rattle.suit_cli.specs.Coming.{PassesAny, StaysSound}
+use Rattle.suit_cli.specs.Stages.{Ending}
+use Rattle.suit_cli.specs.Launching.{Launching}
+use Rattle.suit_cli.specs.Coming.{Answered, Ended, PassesAny, StaysSound}
 use Rattle.suit_cli.specs.Program.{IfLaunches, KeepsFor, MayBeLeft}
 
 -- what goes on to an image goes on to each with the same head
@@ -166,16 +168,16 @@ pub if_launches_by : (task t : Option Task) (P : Type 0) → task ≡ t → IfLa
 if_launches_by task t P same p = subst (λ (u : Option Task). IfLaunches u P) (sym same) p
 
 -- where nothing was done
-pub keeps_unmoved : (task : Option Task) (before : Outside) (a : Flash) → KeepsFor task before a a
-keeps_unmoved None before a = tt
-keeps_unmoved (Some (Make description key out)) before a = tt
-keeps_unmoved (Some (Describe name)) before a = tt
-keeps_unmoved (Some (Show name key)) before a = tt
-keeps_unmoved (Some (Check name)) before a = tt
-keeps_unmoved (Some (RunInit device key)) before a = tt
-keeps_unmoved (Some (RunUpdate name uris)) before a = λ settled. inl (same_flash a)
-keeps_unmoved (Some RunBoot) before a = inl (same_flash a)
-keeps_unmoved (Some RunStatus) before a = tt
+pub keeps_unmoved : (task : Option Task) (l m : Launching) (before : Outside) (ending : Ending) (a : Flash) → KeepsFor task l m before (Answered ending) a a
+keeps_unmoved None l m before ending a = tt
+keeps_unmoved (Some (Make description key out)) l m before ending a = tt
+keeps_unmoved (Some (Describe name)) l m before ending a = tt
+keeps_unmoved (Some (Show name key)) l m before ending a = tt
+keeps_unmoved (Some (Check name)) l m before ending a = tt
+keeps_unmoved (Some (RunInit device key)) l m before ending a = tt
+keeps_unmoved (Some (RunUpdate name uris)) l m before ending a = λ settled. same_flash a
+keeps_unmoved (Some RunBoot) l m before ending a = inl (same_flash a)
+keeps_unmoved (Some RunStatus) l m before ending a = tt
 
-pub keeps_by : (task t : Option Task) (before : Outside) (a b : Flash) → task ≡ t → KeepsFor t before a b → KeepsFor task before a b
-keeps_by task t before a b same kept = subst (λ (u : Option Task). KeepsFor u before a b) (sym same) kept
+pub keeps_by : (task t : Option Task) (l m : Launching) (before : Outside) (ended : Ended) (a b : Flash) → task ≡ t → KeepsFor t l m before ended a b → KeepsFor task l m before ended a b
+keeps_by task t l m before ended a b same kept = subst (λ (u : Option Task). KeepsFor u l m before ended a b) (sym same) kept

@@ -1,10 +1,9 @@
 -- The answer to `run update`.
-use Rattle.std.proofs.Common.{◌≡◌, ◌⊎◌, inl, inr, ℕ, List, Option, Result, Ok, Err, refl, sym, subst}
+use Rattle.std.specs.Prelude.{IsTrue}
+use Rattle.std.proofs.Common.{◌≡◌, ℕ, List, Option, Result, Ok, Err, refl, sym, subst}
 use Rattle.suit_edge.specs.Flash.{Flash, IsFlash, IsSame}
 use Rattle.suit_edge.specs.FlashLaws.{same_flash_then}
-use Rattle.suit_params.specs.declared.digest.Digest.{Digest}
 use Rattle.suit_envelope.specs.Trimmed.{trimmed}
-use Rattle.suit_envelope.specs.WrapperParts.{WrapperSays}
 use Rattle.suit_manifest.specs.Procedures.{update_tree}
 use Rattle.flash_layout.specs.declared.frame.TheConstants.{VERSION_1}
 use Rattle.flash_layout.specs.declared.key.Key.{Key}
@@ -12,25 +11,27 @@ use Rattle.flash_layout.specs.declared.layout.Entry.{Entry}
 use Rattle.flash_layout.specs.declared.slot.Record.{Record}
 use Rattle.flash_layout.specs.Configs.{ConfigOf, Configured, IsAllowed}
 use Rattle.flash_layout.specs.Frames.{head_of}
+use Rattle.flash_layout.specs.ConfigLaws.{OneAnswer}
 use Rattle.rollback_record.specs.HeadRecord.{RecordOf}
 use Rattle.rollback_record.specs.SoundFlash.{Settled}
 use Rattle.update_proc.specs.declared.update_end.UpdateEnd.{UpdateEnd}
-use Rattle.update_proc.specs.Offered.{ForOffer}
-use Rattle.update_proc.specs.Updates.{KeepsUpdate, KeptSo}
+use Rattle.update_proc.specs.Updates.{PlaysToEnd}
 use Rattle.update_proc.proofs.Reread.{keeps_from, kept_from}
 use Rattle.suit_cli.specs.declared.reply.Reply.{Reply}
 use Rattle.suit_cli.specs.declared.reply.Stop.{Stop}
 use Rattle.suit_cli.specs.Words.{RunUpdate}
-use Rattle.suit_cli.specs.Outside.{Outside}
+use Rattle.suit_cli.specs.Outside.{Files, Outside}
 use Rattle.suit_cli.specs.Stages.{Ending, NoMemory, Answers, Goes, Last, EndsWithout, Does, ending_of, ◌>>=◌}
 use Rattle.suit_cli.specs.Inputs.{longest_file, IsRead, file}
 use Rattle.suit_cli.specs.Installed.{config_in}
 use Rattle.suit_cli.specs.Launching.{Launching}
 use Rattle.suit_cli.specs.Acceptance.{Accepted, IsAccepted, accepts}
 use Rattle.suit_cli.specs.Commands.{does}
-use Rattle.suit_cli.specs.Coming.{Comes, ByStages, ByUpdate, Ended, Answered, Booted, Updated, UpdatesBy}
-use Rattle.suit_cli.specs.Updating.{KeepsAccepted, KeepsFlash, StaysOrKeeps, new_of}
+use Rattle.suit_cli.specs.Coming.{Comes, ByStages, ByUpdate, Ended, Answered, Booted, KeepsAccepted, StaysOrKeeps, Updated, UpdatesBy}
+use Rattle.suit_cli.specs.Updating.{IsDone, KeepsOffer}
+use Rattle.suit_cli.proofs.AcceptedFacts.{facts}
 use Rattle.suit_cli.proofs.Chains.{stopped}
+use Rattle.suit_cli.proofs.UpdateSound.{has_offer}
 
 abbrev Nothing : Answers
 Nothing = Last (λ (reply : Reply). ⊥)
@@ -93,26 +94,36 @@ pub updates_as : (layout : List Entry) (x y : List ℕ) → x ≡ y → (a : Acc
     → UpdatesBy layout x a uris l m before after ended → UpdatesBy layout y a uris l m before after ended
 updates_as layout x y same a uris l m before after ended by = subst (λ (bytes : List ℕ). UpdatesBy layout bytes a uris l m before after ended) same by
 
--- ---- at each moment, behind the look at the configuration
+-- ---- at each moment
 
-module _ (name : List ℕ) (before : Outside) (size : ℕ) (is_size : before.flash.size ≡ size) (a b c : Flash) (law_a : IsFlash a size) (law_b : IsFlash b size) (same : IsSame a b)
+pub keeps_as : (layout : List Entry) (x y : List ℕ) → x ≡ y → (a : Accepted) (uris : List (List ℕ × List ℕ)) (l m : Launching) (before : Outside) (ended : Ended) (old now : Flash)
+    → KeepsAccepted layout x a uris l m before ended old now → KeepsAccepted layout y a uris l m before ended old now
+keeps_as layout x y same a uris l m before ended old now kept = subst (λ (bytes : List ℕ). KeepsAccepted layout bytes a uris l m before ended old now) same kept
+
+-- behind the looks at the configuration and at the file
+
+module _ (name : List ℕ) (uris : List (List ℕ × List ℕ)) (l m : Launching) (before middle : Outside) (told_is : middle.told ≡ before.told) (files_are : IsTrue before.told → middle.files ≡ before.files)
+    (size : ℕ) (is_size : before.flash.size ≡ size) (a b c : Flash) (law_a : IsFlash a size) (law_b : IsFlash b size) (same : IsSame a b)
     (layout : List Entry) (key : Key) (allowed : IsAllowed VERSION_1 size layout key) (config : ConfigOf VERSION_1 size (head_of VERSION_1 a.reads) (Configured layout key))
-    (settled : Settled VERSION_1 a) (bytes : List ℕ) (read : IsRead longest_file name before bytes) (x : Accepted) (is : IsAccepted layout key bytes x) where
-  abbrev Kept : Flash → UpdateEnd → Option Record → Digest → Type 0
-  Kept start end held digest =
-      KeptSo (KeepsUpdate layout x.places (update_tree x.manifest x.members) held (new_of x held start.reads digest) start c end) (IsSame start c) end
+    (settled : Settled VERSION_1 a) (bytes : List ℕ) (read : IsRead longest_file name before bytes) (x : Accepted) (is : IsAccepted layout key bytes x) (configs : OneAnswer) where
+  done_since : (held : Option Record) (made : List ℕ) → IsDone layout bytes x uris l m middle held b.reads made → IsDone layout bytes x uris l m before held a.reads made
+  done_since held made did host launcher =
+      subst (λ (r : List ℕ). PlaysToEnd layout x.places (update_tree x.manifest x.members) held bytes uris before.files r l.launches m.launches made) same.reads
+      (subst (λ (f : Files). PlaysToEnd layout x.places (update_tree x.manifest x.members) held bytes uris f b.reads l.launches m.launches made) (files_are host)
+      (did (subst IsTrue (sym told_is) host) launcher))
 
-  kept_since : (end : UpdateEnd) → ForOffer b.reads x.said.wrapper (Kept b end) → ForOffer a.reads x.said.wrapper (Kept a end)
+  kept_since : (end : UpdateEnd) → KeepsOffer layout bytes x uris l m middle end b c → KeepsOffer layout bytes x uris l m before end a c
   kept_since end kept held digest blocks there said =
       kept_from _ _ _ _
       (keeps_from a b c same size law_a layout allowed.layout_is x.places (update_tree x.manifest x.members) held key config settled there
-      (trimmed x.said.wrapper x.said.manifest) x.manifest.sequence digest end)
+      (trimmed x.said.wrapper x.said.manifest) x.manifest.sequence digest _ _ (done_since held) end)
       (same_flash_then a b c size law_b same) end
       (kept held digest blocks (subst (λ (l : List ℕ). RecordOf VERSION_1 (head_of VERSION_1 l) held) (sym same.reads) there) said)
 
-  pub keeps_since : KeepsAccepted layout x b c → StaysOrKeeps name before a c
-  keeps_since (inl still) = inl (same_flash_then a b c size law_b same still)
-  keeps_since (inr (end, kept)) = inr (record {
+  pub keeps_since : (ended : Ended) → KeepsAccepted layout bytes x uris l m middle ended b c → StaysOrKeeps name uris l m before ended a c
+  keeps_since (Answered ending) still = same_flash_then a b c size law_b same still
+  keeps_since (Booted end lines) still = same_flash_then a b c size law_b same still
+  keeps_since (Updated end lines) kept = record {
     layout = layout;
     key = key;
     config = subst (λ (n : ℕ). ConfigOf VERSION_1 n (head_of VERSION_1 a.reads) (Configured layout key)) (sym is_size) config;
@@ -120,6 +131,8 @@ module _ (name : List ℕ) (before : Outside) (size : ℕ) (is_size : before.fla
     read = read;
     accepted = x;
     is_accepted = is;
-    end = end;
+    offered =
+        has_offer configs layout key a.reads (subst (λ (n : ℕ). ConfigOf VERSION_1 n (head_of VERSION_1 a.reads) (Configured layout key)) (sym law_a.fits) config) bytes x
+        (facts layout key bytes x is) settled.sound;
     kept = kept_since end kept;
-  })
+  }

@@ -37,7 +37,7 @@ use Rattle.update_proc.specs.Offered.{ForOffer}
 use Rattle.update_proc.specs.Updates.{LaunchesBy, PlaysUpdate}
 use Rattle.place_laws.specs.Installing.{InstalledAnywhere}
 use Rattle.suit_cli.specs.Acceptance.{Accepted}
-use Rattle.suit_cli.specs.Updating.{new_of}
+use Rattle.suit_cli.specs.Updating.{HasOffer, new_of}
 use Rattle.suit_cli.proofs.AcceptedFacts.{Facts}
 
 -- ---- the places of its components
@@ -61,6 +61,9 @@ module _ (configs : OneAnswer) (layout : List Entry) (key : Key) (reads : List �
   some_record (SoundBlank is) = absurd (not_blank layout key (configs VERSION_1 (length reads) (head_of VERSION_1 reads) Blank (Configured layout key) is config))
   some_record (SoundEmpty other k is none) = (None, none)
   some_record (SoundInstalled other k r is held installed) = (Some r, held)
+
+  pub has_offer : (bytes : List ℕ) (a : Accepted) → Facts layout key bytes a → Sound VERSION_1 reads → HasOffer reads a.said.wrapper
+  has_offer bytes a f sound = let some = some_record sound in (some.0, record { bytes = f.authentic.digest }, f.authentic.blocks, some.1, f.authentic.says)
 
   -- ---- it may be installed
 

@@ -12,7 +12,7 @@ use Rattle.invoke_proc.specs.declared.boot_end.BootEnd.{BootEnd}
 use Rattle.invoke_proc.specs.declared.boot_end.BootEnd.TheVariants as ends
 use Rattle.invoke_proc.specs.declared.boot_end.Lacking.{Lacking}
 use Rattle.invoke_proc.specs.declared.boot_end.Lacking.TheVariants as lacks
-use Rattle.invoke_proc.specs.Booting.{GainsSafe, KeepsBoot, PlayedSo, PlaysBoot}
+use Rattle.invoke_proc.specs.Booting.{GainsSafe, KeepsBoot, NeverHost, PlayedSo, PlaysBoot}
 use Rattle.invoke_proc.specs.Booting as booting
 use Rattle.invoke_proc.specs.Counting.{BootCounts}
 use Rattle.invoke_proc.specs.Sound.{IsUnrefused}
@@ -56,8 +56,9 @@ boot_status ends.NoMemory = 11
 -- ---- the boot
 
 -- What is in the flash was started, by this layout and this key, and it ended so: what that says of the record and its
--- bank, how the procedure was played, and whose fault was counted. What is launched on a sound flash has its digest, and its
--- size where one is in force.
+-- bank, how the procedure was played, and whose fault was counted. It never ends by a fault of the host, since it asks for no
+-- file, and where nothing was started the flash reads as before. What is launched on a sound flash has its digest, and its size where
+-- one is in force.
 pub record IsBoot (layout : List Entry) (key : Key) (launched now : Launching) (before after : Outside) (end : BootEnd) : Type 0 where
   pub told : after.told ≡ before.told
   pub files : IsTrue before.told → after.files ≡ before.files
@@ -67,6 +68,8 @@ pub record IsBoot (layout : List Entry) (key : Key) (launched now : Launching) (
   pub counts : BootCounts end (counts_of before.faults before.flash.faults launched.faults) (counts_of after.faults after.flash.faults now.faults)
   pub answers : IsTrue before.flash.told → booting.Answers layout key before.flash.reads end
   pub unrefused : IsTrue before.flash.told → Sound VERSION_1 before.flash.reads → IsUnrefused end
+  pub no_host : IsTrue before.told → IsTrue before.flash.told → IsTrue launched.told → NeverHost end
+  pub left : IsTrue before.flash.told → booting.KeptSo (Unit {0}) (after.flash.reads ≡ before.flash.reads) end
   pub plays : IsTrue before.told → IsTrue before.flash.told → IsTrue launched.told
       → PlayedSo (PlaysBoot layout key before.files before.flash.reads after.flash.reads launched.launches now.launches) launched.launches now.launches end
   pub safe : IsTrue before.told → IsTrue before.flash.told → IsTrue launched.told → Sound VERSION_1 before.flash.reads

@@ -1,6 +1,6 @@
 -- What a command ends with: an answer in stages, a boot, or an update.
 use Rattle.std.specs.Prelude.{◌≡◌, ◌⊎◌, ℕ, List}
-use Rattle.suit_edge.specs.Flash.{Flash, Passes}
+use Rattle.suit_edge.specs.Flash.{Flash, IsSame, Passes}
 use Rattle.flash_layout.specs.declared.frame.TheConstants.{VERSION_1}
 use Rattle.flash_layout.specs.declared.key.Key.{Key}
 use Rattle.flash_layout.specs.declared.layout.Entry.{Entry}
@@ -17,7 +17,7 @@ use Rattle.suit_cli.specs.Statuses.{ending_status, ending_text}
 use Rattle.suit_cli.specs.Launching.{Launching}
 use Rattle.suit_cli.specs.Booting.{IsBoot, Boots, boot_line, boot_status}
 use Rattle.suit_cli.specs.Acceptance.{Accepted}
-use Rattle.suit_cli.specs.Updating.{IsUpdate, Updates, update_line, update_status}
+use Rattle.suit_cli.specs.Updating.{IsUpdate, KeepsFlash, KeepsOffer, Updates, update_line, update_status}
 
 -- the ending of an answer in stages, of a boot, or of an update
 pub data Ended : Type 0 where
@@ -51,7 +51,18 @@ pub data Comes (stages : Answers) (Is : Task → Type 0) (launched now : Launchi
 abbrev pub StaysSound : Flash → Flash → Type 0
 StaysSound old new = Passes old new (Sound VERSION_1) × Passes old new (Follows VERSION_1 old.reads)
 
+-- where an update came to an end the flash was kept as that end says, and otherwise nothing changed
+abbrev pub StaysOrKeeps : List ℕ → List (List ℕ × List ℕ) → Launching → Launching → Outside → Ended → Flash → Flash → Type 0
+StaysOrKeeps name uris launched later before (Updated end lines) old now = KeepsFlash name uris launched later before end old now
+StaysOrKeeps name uris launched later before _ old now = IsSame old now
+
 -- ---- inside
+
+-- the same, once an envelope was accepted
+abbrev pub KeepsAccepted : List Entry → List ℕ → Accepted → List (List ℕ × List ℕ) → Launching → Launching → Outside → Ended
+    → Flash → Flash → Type 0
+KeepsAccepted layout bytes a uris launched later before (Updated end lines) old now = KeepsOffer layout bytes a uris launched later before end old now
+KeepsAccepted layout bytes a uris launched later before _ old now = IsSame old now
 
 -- of a run of calls, no more than that
 abbrev pub PassesAny : Flash → Flash → Type 0

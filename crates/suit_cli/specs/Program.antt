@@ -13,14 +13,13 @@ use Rattle.suit_cli.specs.Outside.{Outside, Files, Sunk, Leaves}
 use Rattle.suit_cli.specs.Stages.{Stage, judging, Ending, Answers, ◌>>=◌}
 use Rattle.suit_cli.specs.Statuses.{sink_fault_status}
 use Rattle.suit_cli.specs.Launching.{Launching}
-use Rattle.suit_cli.specs.Coming.{Ended, Comes, ended_status, ended_text}
+use Rattle.suit_cli.specs.Coming.{Ended, Comes, StaysOrKeeps, ended_status, ended_text}
 use Rattle.suit_cli.specs.Inputs.{longest_file, longest_device, longest_key}
 use Rattle.suit_cli.specs.Authoring.{longest_description, names_held, most_named}
 use Rattle.suit_cli.specs.Judgement.{AreSafe, ShowUnsafe}
 use Rattle.suit_cli.specs.Holding.{HasProcedures}
 use Rattle.suit_cli.specs.Formatting.{MayLeave}
 use Rattle.suit_cli.specs.Booting.{BootKeeps}
-use Rattle.suit_cli.specs.Updating.{StaysOrKeeps}
 use Rattle.suit_cli.specs.Commands.{does}
 
 -- ---- the answer to the words
@@ -193,6 +192,19 @@ pub record AreCounted (words : List (List ℕ)) (launched now : Launching) (befo
   pub only_launcher : result ≢ 10 → result ≢ 9 → (MayHide words result → ⊥) → now.faults ≡ launched.faults
   pub only_output : result ≢ 9 → sunk_after.faults ≡ sunk_before.faults
 
+-- ---- want of memory
+
+-- Status 11: no file changed, the flash reads as it did, and nothing was launched.
+pub record AsFound (launched now : Launching) (before after : Outside) : Type 0 where
+  pub files : IsTrue before.told → after.files ≡ before.files
+  pub reads : IsTrue before.flash.told → after.flash.reads ≡ before.flash.reads
+  pub launches : IsTrue before.told → IsTrue before.flash.told → IsTrue launched.told → now.launches ≡ launched.launches
+
+-- an update stands beside the flash's record, which a sound flash has, or says to be none
+abbrev pub IsForUpdate : Option Task → Type 0
+IsForUpdate (Some (RunUpdate name uris)) = Unit {0}
+IsForUpdate _ = ⊥
+
 -- ---- launches
 
 -- only `run boot` and `run update` launch, or fail at the launcher
@@ -210,8 +222,15 @@ IfLaunches _ P = Unit {0}
 -- ---- at each moment
 
 -- Of a settled flash, an update keeps the old record and the contents of all slots that it may not write, or leaves the new record
--- with the contents that its procedure made. A boot keeps all but slots that its procedure may write, of any flash.
-abbrev pub KeepsFor : Option Task → Outside → Flash → Flash → Type 0
-KeepsFor (Some (RunUpdate name uris)) before old now = Settled VERSION_1 old → StaysOrKeeps name before old now
-KeepsFor (Some RunBoot) before old now = BootKeeps before old now
-KeepsFor _ before old now = Unit {0}
+-- with the contents that its procedure made, which was done: by the end that it came to. A boot keeps all but slots that its
+-- procedure may write, of any flash.
+abbrev pub KeepsFor : Option Task → Launching → Launching → Outside → Ended → Flash → Flash → Type 0
+KeepsFor (Some (RunUpdate name uris)) launched later before ended old now = Settled VERSION_1 old → StaysOrKeeps name uris launched later before ended old now
+KeepsFor (Some RunBoot) launched later before ended old now = BootKeeps before old now
+KeepsFor _ launched later before ended old now = Unit {0}
+
+-- the words had an answer that was put, and so the flash was kept with that very answer
+pub record KeepsAsTold (words : List (List ℕ)) (launched later : Launching) (before after : Outside) (sunk_before sunk_after : Sunk) (result : ℕ)
+    (old now : Flash) : Type 0 where
+  pub runs : Runs words launched later before after sunk_before sunk_after result
+  pub keeps : KeepsFor (task_of words) launched later before runs.ended old now

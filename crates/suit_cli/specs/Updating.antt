@@ -1,9 +1,10 @@
 -- What `run update` comes to.
-use Rattle.std.specs.Prelude.{◌≡◌, ◌⊎◌, ℕ, ◌∷◌, [], IsTrue, List, Option, codes}
+use Rattle.std.specs.Prelude.{◌≡◌, ℕ, ◌∷◌, [], IsTrue, List, Option, codes}
 use Rattle.std.specs.Fmt.{decimal}
 use Rattle.suit_edge.specs.Flash.{Flash, IsSame}
 use Rattle.suit_envelope.specs.Payloads.{HasPayloads}
 use Rattle.suit_envelope.specs.Trimmed.{trimmed}
+use Rattle.suit_envelope.specs.WrapperParts.{WrapperSays}
 use Rattle.suit_manifest.specs.Procedures.{update_tree}
 use Rattle.suit_params.specs.declared.digest.Digest.{Digest}
 use Rattle.flash_layout.specs.declared.frame.TheConstants.{VERSION_1}
@@ -12,6 +13,7 @@ use Rattle.flash_layout.specs.declared.layout.Entry.{Entry}
 use Rattle.flash_layout.specs.declared.slot.Record.{Record}
 use Rattle.flash_layout.specs.Configs.{ConfigOf, Configured}
 use Rattle.flash_layout.specs.Frames.{head_of}
+use Rattle.rollback_record.specs.HeadRecord.{RecordOf}
 use Rattle.step_machine.specs.PlanRuns.{counts_of}
 use Rattle.invoke_proc.specs.Booting.{GainsSafe}
 use Rattle.update_proc.specs.declared.update_end.UpdateEnd.{UpdateEnd}
@@ -19,7 +21,7 @@ use Rattle.update_proc.specs.declared.update_end.UpdateEnd.TheVariants as ends
 use Rattle.update_proc.specs.Ends.{JudgedSo, UpdateCounts}
 use Rattle.update_proc.specs.Offered.{ForOffer}
 use Rattle.update_proc.specs.Records.{new_record}
-use Rattle.update_proc.specs.Updates.{KeepsUpdate, KeptSo, LeavesUpdate, PlayedSo, PlaysUpdate}
+use Rattle.update_proc.specs.Updates.{KeepsUpdate, KeptSo, LeavesUpdate, PlayedSo, PlaysToEnd, PlaysUpdate}
 use Rattle.suit_cli.specs.Lines.{joined, number_line}
 use Rattle.suit_cli.specs.Texts.{flash_fault_line, out_of_memory_line}
 use Rattle.suit_cli.specs.Outside.{Outside}
@@ -104,9 +106,32 @@ pub record Updates (name : List ℕ) (uris : List (List ℕ × List ℕ)) (launc
 
 -- ---- at each moment
 
--- The file with that name was accepted, and at each moment the flash had the old record, and no content changed but those of
--- slots that may be written; or it had the new record, and the contents that were made. This holds of a settled flash.
-pub record KeepsFlash (name : List ℕ) (before : Outside) (old now : Flash) : Type 0 where
+-- Where the host and the launcher tell, the update procedure of what was accepted is played to its end, and makes those
+-- contents.
+abbrev pub IsDone : List Entry → List ℕ → Accepted → List (List ℕ × List ℕ) → Launching → Launching → Outside → Option Record
+    → List ℕ → List ℕ → Type 0
+IsDone layout bytes a uris launched later before held reads made =
+    IsTrue before.told → IsTrue launched.told
+    → PlaysToEnd layout a.places (update_tree a.manifest a.members) held bytes uris before.files reads launched.launches later.launches made
+
+-- At each moment of an update that ended so, the flash had the old record, and no content changed but those of slots that
+-- may be written; or it had the new record, and the contents that its procedure made, which was done. Where it was not done
+-- the old record stood at each moment, and where it was not run nothing changed.
+abbrev pub KeepsOffer : List Entry → List ℕ → Accepted → List (List ℕ × List ℕ) → Launching → Launching → Outside → UpdateEnd → Flash → Flash → Type 0
+KeepsOffer layout bytes a uris launched later before end old now =
+    ForOffer old.reads a.said.wrapper (λ held digest.
+    KeptSo (KeepsUpdate layout a.places (update_tree a.manifest a.members) (IsDone layout bytes a uris launched later before held old.reads) held
+    (new_of a held old.reads digest) old now end) (IsSame old now) end)
+
+-- the flash holds a record, or none, and the wrapper states a digest
+abbrev pub HasOffer : List ℕ → List ℕ → Type 0
+HasOffer image wrapper =
+    (held : Option Record) × (digest : Digest) × (blocks : List (List ℕ)) × RecordOf VERSION_1 (head_of VERSION_1 image) held
+    × WrapperSays wrapper digest.bytes blocks
+
+-- The file with that name was accepted, and so the flash was kept. This holds of a settled flash.
+pub record KeepsFlash (name : List ℕ) (uris : List (List ℕ × List ℕ)) (launched later : Launching) (before : Outside) (end : UpdateEnd)
+    (old now : Flash) : Type 0 where
   pub layout : List Entry
   pub key : Key
   pub config : ConfigOf VERSION_1 before.flash.size (head_of VERSION_1 old.reads) (Configured layout key)
@@ -114,18 +139,5 @@ pub record KeepsFlash (name : List ℕ) (before : Outside) (old now : Flash) : T
   pub read : IsRead longest_file name before bytes
   pub accepted : Accepted
   pub is_accepted : IsAccepted layout key bytes accepted
-  pub end : UpdateEnd
-  pub kept : ForOffer old.reads accepted.said.wrapper (λ held digest.
-      KeptSo (KeepsUpdate layout accepted.places (update_tree accepted.manifest accepted.members) held (new_of accepted held old.reads digest) old now end) (IsSame old now) end)
-
--- or nothing changed
-abbrev pub StaysOrKeeps : List ℕ → Outside → Flash → Flash → Type 0
-StaysOrKeeps name before old now = IsSame old now ⊎ KeepsFlash name before old now
-
--- ---- inside
-
--- the same, once an envelope was accepted
-abbrev pub KeepsAccepted : List Entry → Accepted → Flash → Flash → Type 0
-KeepsAccepted layout a old now =
-    IsSame old now ⊎ ((end : UpdateEnd) × ForOffer old.reads a.said.wrapper (λ held digest.
-    KeptSo (KeepsUpdate layout a.places (update_tree a.manifest a.members) held (new_of a held old.reads digest) old now end) (IsSame old now) end))
+  pub offered : HasOffer old.reads accepted.said.wrapper
+  pub kept : KeepsOffer layout bytes accepted uris launched later before end old now

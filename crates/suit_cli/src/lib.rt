@@ -33,7 +33,7 @@ pub use law::{
     check_laws, describing_laws, init_laws, make_laws, show_laws, status_laws, update_laws,
     words_laws,
 };
-pub use life::{launched_laws, life_laws, new_flash_law, soundness_laws};
+pub use life::{launched_laws, life_laws, new_flash_law, restart_law, soundness_laws};
 pub use outside::{SeenDisk, SeenHost, SeenLauncher, SeenSink};
 pub use program::{Status, run};
 pub use reply::Outcome;

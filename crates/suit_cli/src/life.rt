@@ -3,7 +3,7 @@
 
 ghost use Rattle.suit_edge.specs.Flash.{IsSettled};
 ghost use Rattle.flash_layout.specs.declared.frame.TheConstants.{VERSION_1};
-ghost use Rattle.rollback_record.specs.SoundFlash.{Settled};
+ghost use Rattle.rollback_record.specs.SoundFlash.{Settled, Sound};
 ghost use Rattle.suit_cli.specs.LaunchedLaws.{LaunchedLaws};
 ghost use Rattle.suit_cli.specs.LifeLaws.{AreZeros, LifeLaws, SoundnessLaws};
 
@@ -11,6 +11,7 @@ use flash_layout::config_laws;
 use invoke_proc::boot_laws;
 use rollback_record::{installed_laws, record_laws, sound_laws};
 use suit_edge::Disk;
+use suit_envelope::envelope_laws;
 
 /// A life begins with a flash of zero bytes, or with a sound one, and each next image is sound and goes on from the one
 /// before it, as `run` says of each image that a power loss may leave. Then every image is sound, each goes on from all
@@ -38,6 +39,12 @@ pub fn new_flash_law<D: Disk>(flash: &D)
     ensures { IsSettled (D.flash flash.now) → AreZeros (D.flash flash.now).reads → Settled VERSION_1 (D.flash flash.now) }
 {}
 
+/// A flash that reads a sound image and has nothing pending is settled, as a disk is that was started again on what a power
+/// loss left: `run` may go on from each image of a life.
+pub fn restart_law<D: Disk>(flash: &D)
+    ensures { IsSettled (D.flash flash.now) → Sound VERSION_1 (D.flash flash.now).reads → Settled VERSION_1 (D.flash flash.now) }
+{}
+
 /// What a boot of a sound flash launches, and so of each image of a life: nothing, or what the invocation procedure of the
 /// recorded manifest invokes, each with the digest that was in force, and the size where one was.
 pub fn launched_laws()
@@ -46,5 +53,6 @@ pub fn launched_laws()
     config_laws();
     record_laws();
     boot_laws();
+    envelope_laws();
     life_laws();
 }

@@ -21,10 +21,13 @@ ghost use Rattle.suit_cli.specs.Program.{
   IsUsage,
   IsCutOff,
   AreCounted,
+  AsFound,
+  IsForUpdate,
   LeavesFor,
   MayBeLeft,
   ComesTo,
   IfLaunches,
+  KeepsAsTold,
   KeepsFor,
   KeepsLauncher,
 };
@@ -48,6 +51,7 @@ use crate::status::status;
 use crate::update_lines::update_status;
 use crate::words::{Command, command_of, lent};
 use det_cbor::Names;
+use flash_layout::config_laws;
 use rollback_record::sound_laws;
 use std::alloc::Global;
 use suit_edge::{Disk, Edge, Host, Launcher, Sink};
@@ -83,7 +87,9 @@ fn perform<H: Host, D: Disk, L: Launcher>(
     ensures settled { IsTrue D.told → StaysSettled (D.flash flash.old) (D.flash flash.new)
         (D.faults flash.old) (D.faults flash.new) }
     ensures keeps { IsTrue D.told → KeepsFor (Some (task_said command.entry))
-        (⟦<H as SeenHost>⟧.seen host.old (⟦<D as SeenDisk>⟧.seen flash.old)) (D.flash flash.old) (D.flash flash.new) }
+        (⟦<L as SeenLauncher>⟧.seen launcher.old) (⟦<L as SeenLauncher>⟧.seen launcher.new)
+        (⟦<H as SeenHost>⟧.seen host.old (⟦<D as SeenDisk>⟧.seen flash.old))
+        (ended_of result) (D.flash flash.old) (D.flash flash.new) }
 {
     match command {
         Command::Make(description, key, out) => {
@@ -121,7 +127,9 @@ fn answer<H: Host, D: Disk, L: Launcher>(
     ensures settled { IsTrue D.told → StaysSettled (D.flash flash.old) (D.flash flash.new)
         (D.faults flash.old) (D.faults flash.new) }
     ensures keeps { IsTrue D.told → KeepsFor (task_of words.now)
-        (⟦<H as SeenHost>⟧.seen host.old (⟦<D as SeenDisk>⟧.seen flash.old)) (D.flash flash.old) (D.flash flash.new) }
+        (⟦<L as SeenLauncher>⟧.seen launcher.old) (⟦<L as SeenLauncher>⟧.seen launcher.new)
+        (⟦<H as SeenHost>⟧.seen host.old (⟦<D as SeenDisk>⟧.seen flash.old))
+        (ended_of result) (D.flash flash.old) (D.flash flash.new) }
 {
     sound_laws();
     let words = match lent(alloc, words) {
@@ -238,10 +246,15 @@ pub fn run<H: Host, D: Disk, L: Launcher, K: Sink>(
         (D.faults flash.old) (D.faults flash.new) }
 
     // Of a settled flash, `run update` leaves at each moment the old record and the contents of all slots that it may not
-    // write, or the new record and the contents that its procedure made. `run boot` leaves all but slots that its procedure may
-    // write.
-    ensures keeps { IsTrue D.told → KeepsFor (task_of words.now)
-        (⟦<H as SeenHost>⟧.seen host.old (⟦<D as SeenDisk>⟧.seen flash.old)) (D.flash flash.old) (D.flash flash.new) }
+    // write, or the new record and the contents that its procedure made, which was played to its end; where it was not, the
+    // old record stands at each moment. This is so by the very end that was answered. `run boot` leaves all but slots that
+    // its procedure may write.
+    ensures keeps { IsTrue D.told → KeepsAsTold words.now
+        (⟦<L as SeenLauncher>⟧.seen launcher.old) (⟦<L as SeenLauncher>⟧.seen launcher.new)
+        (⟦<H as SeenHost>⟧.seen host.old (⟦<D as SeenDisk>⟧.seen flash.old))
+        (⟦<H as SeenHost>⟧.seen host.new (⟦<D as SeenDisk>⟧.seen flash.new))
+        (⟦<K as SeenSink>⟧.seen out.old) (⟦<K as SeenSink>⟧.seen out.new) result.0
+        (D.flash flash.old) (D.flash flash.new) }
 
     // Statuses and faults.
     ensures status { IsStatus result.0 }
@@ -250,6 +263,19 @@ pub fn run<H: Host, D: Disk, L: Launcher, K: Sink>(
         (⟦<H as SeenHost>⟧.seen host.old (⟦<D as SeenDisk>⟧.seen flash.old))
         (⟦<H as SeenHost>⟧.seen host.new (⟦<D as SeenDisk>⟧.seen flash.new))
         (⟦<K as SeenSink>⟧.seen out.old) (⟦<K as SeenSink>⟧.seen out.new) result.0 }
+
+    // `run boot` asks for no file: status 7 does not come of it.
+    ensures no_host { IsTrue H.told → IsTrue D.told → IsTrue L.told
+        → task_of words.now ≡ Some RunBoot → result.0 ≡ 7 → ⊥ }
+
+    // Status 11: no file changed, the flash reads as it did, and nothing was launched; of `run update` this holds on a sound
+    // flash.
+    ensures starved { result.0 ≡ 11
+        → (IsTrue D.told → IsForUpdate (task_of words.now) → Sound VERSION_1 (D.flash flash.old).reads)
+        → AsFound (⟦<L as SeenLauncher>⟧.seen launcher.old) (⟦<L as SeenLauncher>⟧.seen launcher.new)
+        (⟦<H as SeenHost>⟧.seen host.old (⟦<D as SeenDisk>⟧.seen flash.old))
+        (⟦<H as SeenHost>⟧.seen host.new (⟦<D as SeenDisk>⟧.seen flash.new)) }
+
     ensures cut_off { result.0 ≡ 9 → IsCutOff words.now
         (⟦<L as SeenLauncher>⟧.seen launcher.old) (⟦<L as SeenLauncher>⟧.seen launcher.new)
         (⟦<H as SeenHost>⟧.seen host.old (⟦<D as SeenDisk>⟧.seen flash.old))
@@ -260,6 +286,7 @@ pub fn run<H: Host, D: Disk, L: Launcher, K: Sink>(
     manifest_laws();
     members_laws();
     sound_laws();
+    config_laws();
     let answer = answer(alloc, words, host, flash, launcher);
     put(out, answer)
 }

@@ -8,10 +8,17 @@ ghost use Rattle.flash_layout.specs.Placement.{HaveOtherPlaces};
 ghost use Rattle.rollback_record.specs.SoundFlash.{Settled};
 ghost use Rattle.suit_envelope.specs.WrapperParts.{HasWrapper};
 ghost use Rattle.suit_cli.specs.Acceptance.{IsAccepted, accepted_by};
-ghost use Rattle.suit_cli.specs.Coming.{Comes, PassesAny, StaysSound, UpdatesBy, ended_of};
+ghost use Rattle.suit_cli.specs.Coming.{
+  Comes,
+  KeepsAccepted,
+  PassesAny,
+  StaysOrKeeps,
+  StaysSound,
+  UpdatesBy,
+  ended_of,
+};
 ghost use Rattle.suit_cli.specs.Commands.{does};
 ghost use Rattle.suit_cli.specs.Settling.{StaysSettled};
-ghost use Rattle.suit_cli.specs.Updating.{KeepsAccepted, StaysOrKeeps};
 ghost use Rattle.suit_cli.specs.Words.{RunUpdate};
 
 use crate::acceptance::{Acceptable, accept};
@@ -58,7 +65,10 @@ fn update_by<H: Host, D: Disk, L: Launcher>(
     ensures sound { IsTrue D.told → Settled VERSION_1 (D.flash flash.old) → StaysSound (D.flash flash.old) (D.flash flash.new) }
     ensures settled { IsTrue D.told → StaysSettled (D.flash flash.old) (D.flash flash.new) (D.faults flash.old) (D.faults flash.new) }
     ensures keeps { IsTrue D.told → Settled VERSION_1 (D.flash flash.old)
-        → KeepsAccepted layout.now (accepted_by accepted.now) (D.flash flash.old) (D.flash flash.new) }
+        → KeepsAccepted layout.now accepted.now.envelope.whole.now (accepted_by accepted.now) uris.now
+        (⟦<L as SeenLauncher>⟧.seen launcher.old) (⟦<L as SeenLauncher>⟧.seen launcher.new)
+        (⟦<H as SeenHost>⟧.seen host.old (⟦<D as SeenDisk>⟧.seen flash.old))
+        (ended_of result) (D.flash flash.old) (D.flash flash.new) }
 {
     sound_laws();
     config_laws();
@@ -105,10 +115,13 @@ pub(crate) fn run_update<H: Host, D: Disk, L: Launcher>(
     ensures any_moment { IsTrue D.told → PassesAny (D.flash flash.old) (D.flash flash.new) }
     ensures sound { IsTrue D.told → Settled VERSION_1 (D.flash flash.old) → StaysSound (D.flash flash.old) (D.flash flash.new) }
     ensures settled { IsTrue D.told → StaysSettled (D.flash flash.old) (D.flash flash.new) (D.faults flash.old) (D.faults flash.new) }
-    ensures keeps { IsTrue D.told → Settled VERSION_1 (D.flash flash.old) → StaysOrKeeps name.now
-        (⟦<H as SeenHost>⟧.seen host.old (⟦<D as SeenDisk>⟧.seen flash.old)) (D.flash flash.old) (D.flash flash.new) }
+    ensures keeps { IsTrue D.told → Settled VERSION_1 (D.flash flash.old) → StaysOrKeeps name.now uris.now
+        (⟦<L as SeenLauncher>⟧.seen launcher.old) (⟦<L as SeenLauncher>⟧.seen launcher.new)
+        (⟦<H as SeenHost>⟧.seen host.old (⟦<D as SeenDisk>⟧.seen flash.old))
+        (ended_of result) (D.flash flash.old) (D.flash flash.new) }
 {
     sound_laws();
+    config_laws();
     let config = match config_in(alloc, flash) {
         Ok(config) => config,
         Err(stop) => return Answer::Said(Err(stop)),

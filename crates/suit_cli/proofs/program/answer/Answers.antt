@@ -53,17 +53,17 @@ returns-in-Ok-Some-clause-sound g c told =
     (c.perform.ensures.sound told)
 
 pub returns-in-Err-clause-keeps : goal.returns-in-Err-clause-keeps
-returns-in-Err-clause-keeps g c told = keeps_unmoved (task_of c.args.words.now) _ (g.D.Disk.flash c.args.flash.now)
+returns-in-Err-clause-keeps g c told = keeps_unmoved (task_of c.args.words.now) _ _ _ _ (g.D.Disk.flash c.args.flash.now)
 
 pub returns-clause-keeps : goal.returns-clause-keeps
-returns-clause-keeps g c told = keeps_unmoved (task_of c.args.words.now) _ (g.D.Disk.flash c.args.flash.now)
+returns-clause-keeps g c told = keeps_unmoved (task_of c.args.words.now) _ _ _ _ (g.D.Disk.flash c.args.flash.now)
 
 pub returns-in-Ok-None-clause-keeps : goal.returns-in-Ok-None-clause-keeps
-returns-in-Ok-None-clause-keeps g c told = keeps_unmoved (task_of c.args.words.now) _ (g.D.Disk.flash c.args.flash.now)
+returns-in-Ok-None-clause-keeps g c told = keeps_unmoved (task_of c.args.words.now) _ _ _ _ (g.D.Disk.flash c.args.flash.now)
 
 pub returns-in-Ok-Some-clause-keeps : goal.returns-in-Ok-Some-clause-keeps
 returns-in-Ok-Some-clause-keeps g c told =
-    keeps_by _ _ _ _ _
+    keeps_by _ _ _ _ _ _ _ _
     (sym (ap task_of (ap texts c.as_slice.ensures.value ∙ c.in-Ok.ensures)) ∙ sym c.in-Ok-Some.ensures
     ∙ ap (λ (o : Option Command). option_map task_said o) c.in-Ok-Some.field-0-is)
     (c.perform.ensures.keeps told)

@@ -53,10 +53,10 @@ pub returns-in-RunUpdate-clause-sound : goal.returns-in-RunUpdate-clause-sound
 returns-in-RunUpdate-clause-sound g c told = if_launches_by _ _ _ (ap (λ (x : Command). Some (task_said x)) c.in-RunUpdate.is) (c.run_update.ensures.sound told)
 
 pub returns-in-RunUpdate-clause-keeps : goal.returns-in-RunUpdate-clause-keeps
-returns-in-RunUpdate-clause-keeps g c told = keeps_by _ _ _ _ _ (ap (λ (x : Command). Some (task_said x)) c.in-RunUpdate.is) (c.run_update.ensures.keeps told)
+returns-in-RunUpdate-clause-keeps g c told = keeps_by _ _ _ _ _ _ _ _ (ap (λ (x : Command). Some (task_said x)) c.in-RunUpdate.is) (c.run_update.ensures.keeps told)
 
 pub returns-in-RunBoot-clause-keeps : goal.returns-in-RunBoot-clause-keeps
-returns-in-RunBoot-clause-keeps g c told = keeps_by _ _ _ _ _ (ap (λ (x : Command). Some (task_said x)) c.in-RunBoot.is) (c.run_boot.ensures.keeps told)
+returns-in-RunBoot-clause-keeps g c told = keeps_by _ _ _ _ _ _ _ _ (ap (λ (x : Command). Some (task_said x)) c.in-RunBoot.is) (c.run_boot.ensures.keeps told)
 
 pub returns-in-RunInit-clause-any_moment : goal.returns-in-RunInit-clause-any_moment
 returns-in-RunInit-clause-any_moment g c told = left_by c.args.command _ c.in-RunInit.is _ _ _ (c.init.ensures.any_moment told)

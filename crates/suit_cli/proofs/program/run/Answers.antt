@@ -1,8 +1,8 @@
-use Rattle.std.proofs.Common.{refl, subst}
+use Rattle.std.proofs.Common.{refl, subst, sym}
 use Rattle.suit_edge.specs.Flash.{IsFlash}
 use Rattle.suit_cli.specs.Coming.{ended_of}
 use Rattle.suit_cli.proofs.Sounding.{stays_by}
-use Rattle.suit_cli.proofs.RunEnds.{yes, only_yes, no_path, only_no, usage, only_usage, stays, only_launching, launches, is_status, counts, cut_off}
+use Rattle.suit_cli.proofs.RunEnds.{yes, only_yes, no_path, only_no, usage, only_usage, stays, only_launching, launches, is_status, counts, cut_off, no_host, starved}
 use Rattle.suit_cli.proofs.program.run.Goals as goal
 
 pub returns-clause-yes : goal.returns-clause-yes
@@ -60,4 +60,16 @@ returns-clause-sound g c told settled =
     (c.answer-answer.ensures.sound told) (c.answer-answer.ensures.any_moment told)
 
 pub returns-clause-keeps : goal.returns-clause-keeps
-returns-clause-keeps g c told = c.answer-answer.ensures.keeps told
+returns-clause-keeps g c told = record {
+  runs = record { ended = ended_of c.answer-answer.result; comes = c.answer-answer.ensures.answer; puts = c.put.ensures };
+  keeps = c.answer-answer.ensures.keeps told;
+}
+
+pub returns-clause-starved : goal.returns-clause-starved
+returns-clause-starved g c =
+    starved c.args.words.now _ _ _ _ _ _ c.put.result.0 (record { ended = ended_of c.answer-answer.result; comes = c.answer-answer.ensures.answer; puts = c.put.ensures })
+    c.config_laws.ensures.answer (λ told. sym (g.met.D.Disk.obeys c.args.flash.now told).fits)
+
+pub returns-clause-no_host : goal.returns-clause-no_host
+returns-clause-no_host g c =
+    no_host c.args.words.now _ _ _ _ _ _ c.put.result.0 (record { ended = ended_of c.answer-answer.result; comes = c.answer-answer.ensures.answer; puts = c.put.ensures })

@@ -3,7 +3,7 @@ use Rattle.suit_cli.proofs.BootAnswers.{boots_told}
 use Rattle.suit_cli.proofs.Sounding.{stays_start, any_start, any_boot}
 use Rattle.suit_cli.proofs.Settling.{boots_settled}
 use Rattle.suit_edge.specs.FlashLaws.{same_flash}
-use Rattle.suit_cli.proofs.BootKeeping.{kept_so}
+use Rattle.suit_cli.proofs.BootKeeping.{kept_so, reads_left}
 use Rattle.suit_cli.proofs.run_boot.boot_by.Goals as goal
 
 pub returns-in-Err-clause-any_moment : goal.returns-in-Err-clause-any_moment
@@ -24,6 +24,8 @@ returns-clause-answer g c =
       counts = c.boot-end.ensures.counts;
       answers = c.boot-end.ensures.answers;
       unrefused = c.boot-end.ensures.unrefused;
+      no_host = c.boot-end.ensures.host;
+      left = λ told. reads_left _ _ _ c.boot-end.result (c.boot-end.ensures.keeps told);
       plays = c.boot-end.ensures.plays;
       safe = c.boot-end.ensures.safe;
     })

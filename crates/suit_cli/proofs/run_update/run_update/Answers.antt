@@ -1,14 +1,16 @@
-use Rattle.std.proofs.Common.{ℕ, ◌≤◌, List, length, inl, refl, sym, subst, ◌∙◌}
+use Rattle.std.proofs.Common.{ℕ, ◌≤◌, List, length, refl, sym, subst, ◌∙◌}
 use Rattle.suit_edge.specs.Flash.{IsFlash}
 use Rattle.flash_layout.specs.declared.frame.TheConstants.{VERSION_1}
 use Rattle.flash_layout.specs.Configs.{ConfigOf, Configured, IsAllowed}
 use Rattle.flash_layout.specs.Frames.{head_of}
 use Rattle.suit_cli.specs.Outside.{Outside}
+use Rattle.suit_cli.specs.Launching.{Launching}
+use Rattle.suit_cli.specs.Coming.{ended_of}
 use Rattle.suit_cli.specs.Inputs.{longest_file}
 use Rattle.suit_cli.specs.Acceptance.{accepted_by}
 use Rattle.suit_cli.proofs.Chains.{anywhere}
 use Rattle.suit_cli.proofs.Sounding.{stays_now, stays_later, settled_later, any_of, any_later}
-use Rattle.suit_cli.proofs.UpdateAnswers.{accepted_as, comes_updated, keeps_since, unaccepted_as, unaccepted_update, unconfigured_update, unread_update, updates_as}
+use Rattle.suit_cli.proofs.UpdateAnswers.{accepted_as, comes_updated, keeps_as, keeps_since, unaccepted_as, unaccepted_update, unconfigured_update, unread_update, updates_as}
 use Rattle.suit_cli.proofs.Settling.{looked, looked_then}
 use Rattle.suit_cli.proofs.run_update.run_update.Goals as goal
 
@@ -32,7 +34,7 @@ pub returns-in-Err-clause-sound : goal.returns-in-Err-clause-sound
 returns-in-Err-clause-sound g c told settled = stays_now c.sound_laws.ensures _ settled _ (c.in-Err.ensures.same told).images
 
 pub returns-in-Err-clause-keeps : goal.returns-in-Err-clause-keeps
-returns-in-Err-clause-keeps g c told settled = inl (c.in-Err.ensures.same told)
+returns-in-Err-clause-keeps g c told settled = c.in-Err.ensures.same told
 
 pub returns-in-Err-read-clause-answer : goal.returns-in-Err-read-clause-answer
 returns-in-Err-read-clause-answer g c =
@@ -54,7 +56,7 @@ pub returns-in-Err-read-clause-sound : goal.returns-in-Err-read-clause-sound
 returns-in-Err-read-clause-sound g c told settled = stays_now c.sound_laws.ensures _ settled _ (c.in-Ok.ensures.same told).images
 
 pub returns-in-Err-read-clause-keeps : goal.returns-in-Err-read-clause-keeps
-returns-in-Err-read-clause-keeps g c told settled = inl (c.in-Ok.ensures.same told)
+returns-in-Err-read-clause-keeps g c told settled = c.in-Ok.ensures.same told
 
 pub returns-in-Err-accept-clause-answer : goal.returns-in-Err-accept-clause-answer
 returns-in-Err-accept-clause-answer g c =
@@ -77,7 +79,7 @@ pub returns-in-Err-accept-clause-sound : goal.returns-in-Err-accept-clause-sound
 returns-in-Err-accept-clause-sound g c told settled = stays_now c.sound_laws.ensures _ settled _ (c.in-Ok.ensures.same told).images
 
 pub returns-in-Err-accept-clause-keeps : goal.returns-in-Err-accept-clause-keeps
-returns-in-Err-accept-clause-keeps g c told settled = inl (c.in-Ok.ensures.same told)
+returns-in-Err-accept-clause-keeps g c told settled = c.in-Ok.ensures.same told
 
 pub accept-requires-clause-entries : goal.accept-requires-clause-entries
 accept-requires-clause-entries g c = c.in-Ok.ensures.allowed.layout_is.few
@@ -135,10 +137,33 @@ pub returns-clause-keeps : goal.returns-clause-keeps
 returns-clause-keeps g c told settled =
     let same = c.in-Ok.ensures.same told in
     let law = subst (IsFlash (g.D.Disk.flash c.config_in.new.flash)) c.in-Ok.ensures.extent (g.met.D.Disk.obeys c.config_in.new.flash told) in
-    keeps_since c.args.name.now _ (g.D.Disk.extent c.args.flash.now) refl (g.D.Disk.flash c.args.flash.now) (g.D.Disk.flash c.config_in.new.flash) (g.D.Disk.flash c.update_by.new.flash)
+    let h = g.H.Host in
+    let d = g.D.Disk in
+    let before : Outside = record {
+      told = h.told;
+      files = h.file c.args.host.now;
+      pulled = h.pulled c.args.host.now;
+      asked = h.asked c.args.host.now;
+      faults = h.faults c.args.host.now;
+      flash = record { told = d.told; size = d.extent c.args.flash.now; reads = (d.flash c.args.flash.now).reads; faults = d.faults c.args.flash.now };
+    } in
+    let middle : Outside = record {
+      told = h.told;
+      files = h.file c.read.new.host;
+      pulled = h.pulled c.read.new.host;
+      asked = h.asked c.read.new.host;
+      faults = h.faults c.read.new.host;
+      flash = record { told = d.told; size = d.extent c.config_in.new.flash; reads = (d.flash c.config_in.new.flash).reads; faults = d.faults c.config_in.new.flash };
+    } in
+    let l : Launching = record { told = g.L.Launcher.told; launches = g.L.Launcher.launches c.args.launcher.now; faults = g.L.Launcher.faults c.args.launcher.now } in
+    let m : Launching = record { told = g.L.Launcher.told; launches = g.L.Launcher.launches c.update_by.new.launcher; faults = g.L.Launcher.faults c.update_by.new.launcher } in
+    keeps_since c.args.name.now c.args.uris.now l m before middle refl (c.in-Ok-read.ensures anywhere.flash).0.quiet.files (g.D.Disk.extent c.args.flash.now) refl
+    (g.D.Disk.flash c.args.flash.now) (g.D.Disk.flash c.config_in.new.flash) (g.D.Disk.flash c.update_by.new.flash)
     (g.met.D.Disk.obeys c.args.flash.now told) law same c.in-Ok.config.0 c.in-Ok.config.1 c.in-Ok.ensures.allowed ((c.in-Ok.ensures.finds anywhere).1 told) settled c.in-Ok-read.bytes (c.in-Ok-read.ensures _).1
     (accepted_by c.in-Ok-accept.accepted) (accepted_as c.in-Ok.config.0 c.in-Ok.config.1 _ _ c.as_slice.ensures (accepted_by c.in-Ok-accept.accepted) c.in-Ok-accept.ensures.finds)
-    (c.update_by.ensures.keeps told (settled_later _ _ _ law same settled))
+    c.config_laws.ensures.answer (ended_of c.update_by.result) (keeps_as c.in-Ok.config.0 _ _ (c.in-Ok-accept.ensures.whole ∙ c.as_slice.ensures) (accepted_by c.in-Ok-accept.accepted) c.args.uris.now l m middle (ended_of c.update_by.result)
+    (g.D.Disk.flash c.config_in.new.flash) (g.D.Disk.flash c.update_by.new.flash)
+    (c.update_by.ensures.keeps told (settled_later _ _ _ law same settled)))
 
 pub returns-in-Err-clause-settled : goal.returns-in-Err-clause-settled
 returns-in-Err-clause-settled g c told = looked _ _ _ _ _ (g.met.D.Disk.obeys c.config_in.new.flash told) (c.in-Err.ensures.same told)

@@ -1,4 +1,4 @@
-use Rattle.std.proofs.Common.{ℕ, inl, inr, refl, sym, subst}
+use Rattle.std.proofs.Common.{ℕ, inr, refl, sym, subst}
 use Rattle.suit_edge.specs.FlashLaws.{same_flash}
 use Rattle.flash_layout.specs.declared.frame.TheConstants.{VERSION_1}
 use Rattle.flash_layout.specs.Configs.{ConfigOf, Configured}
@@ -17,7 +17,7 @@ pub returns-in-Err-clause-sound : goal.returns-in-Err-clause-sound
 returns-in-Err-clause-sound g c told settled = stays_start c.sound_laws.ensures _ settled
 
 pub returns-in-Err-clause-keeps : goal.returns-in-Err-clause-keeps
-returns-in-Err-clause-keeps g c told settled = inl (same_flash _)
+returns-in-Err-clause-keeps g c told settled = same_flash _
 
 pub update-end-requires-clause-size : goal.update-end-requires-clause-size
 update-end-requires-clause-size g c = c.requires.allowed.whole
@@ -81,7 +81,7 @@ returns-clause-sound g c told settled =
     )
 
 pub returns-clause-keeps : goal.returns-clause-keeps
-returns-clause-keeps g c told settled = inr (c.update-end.result, c.update-end.ensures.keeps told settled)
+returns-clause-keeps g c told settled = c.update-end.ensures.keeps told settled
 
 pub returns-in-Err-clause-settled : goal.returns-in-Err-clause-settled
 returns-in-Err-clause-settled g c told settled never = settled

@@ -1,0 +1,246 @@
+-- What is left where memory was wanting.
+use Rattle.std.proofs.Common.{◌≡◌, ◌⊎◌, ⊎_elim, ℕ, List, [], ◌∷◌, ◌++◌, Option, Some, None, length, sym, ap, subst, ◌∙◌, arith}
+use Rattle.std.specs.Prelude.{IsTrue}
+use Rattle.suit_params.specs.declared.digest.Digest.{Digest}
+use Rattle.suit_envelope.specs.Members.{string_digest}
+use Rattle.suit_envelope.specs.WrapperParts.{WrapperSays}
+use Rattle.path_model.specs.declared.cause.Cause.{Cause}
+use Rattle.path_model.specs.declared.cause.Cause.TheVariants as causes
+use Rattle.flash_layout.specs.declared.frame.TheConstants.{VERSION_1}
+use Rattle.flash_layout.specs.declared.key.Key.{Key}
+use Rattle.flash_layout.specs.declared.layout.Entry.{Entry}
+use Rattle.flash_layout.specs.declared.slot.Record.{Record}
+use Rattle.flash_layout.specs.ConfigLaws.{OneAnswer}
+use Rattle.flash_layout.specs.Configs.{Blank, ConfigOf, Configured}
+use Rattle.flash_layout.specs.Frames.{head_of}
+use Rattle.rollback_record.specs.HeadRecord.{RecordOf}
+use Rattle.rollback_record.specs.SoundFlash.{Sound, SoundBlank, SoundEmpty, SoundInstalled}
+use Rattle.invoke_proc.specs.declared.boot_end.BootEnd.{BootEnd}
+use Rattle.invoke_proc.specs.declared.boot_end.BootEnd.TheVariants as boot_ends
+use Rattle.invoke_proc.proofs.Booted.{payloads_in}
+use Rattle.update_proc.specs.declared.update_end.UpdateEnd.{UpdateEnd}
+use Rattle.update_proc.specs.declared.update_end.UpdateEnd.TheVariants as update_ends
+use Rattle.suit_cli.specs.declared.reply.Outcome.{Outcome}
+use Rattle.suit_cli.specs.declared.reply.Outcome.TheVariants as outcomes
+use Rattle.suit_cli.specs.declared.reply.Object.TheVariants as objects
+use Rattle.suit_cli.specs.declared.reply.Reply.{Reply}
+use Rattle.suit_cli.specs.Words.{Task, Make, Describe, Show, Check, RunInit, RunUpdate, RunBoot, RunStatus}
+use Rattle.suit_cli.specs.Outside.{Outside, Flashed}
+use Rattle.suit_cli.specs.Stages.{Ending, Says, FaultOf, NoMemory, Answers, Stage, judging, reading, looking, in_turn, Then, Goes, Lacks, Last, EndsWithout}
+use Rattle.suit_cli.specs.Statuses.{ending_status, status_of}
+use Rattle.suit_cli.specs.Authoring.{files_after, stores}
+use Rattle.suit_cli.specs.Acceptance.{accepts}
+use Rattle.suit_cli.specs.Formatting.{formats}
+use Rattle.suit_cli.specs.Commands.{begins_boot, begins_update, checks, describes, does, inits, makes, shows, tells_status}
+use Rattle.suit_cli.specs.Launching.{Launching, cause_status}
+use Rattle.suit_cli.specs.Booting.{Boots, IsBoot, boot_status}
+use Rattle.suit_cli.specs.Updating.{Updates, update_status}
+use Rattle.suit_cli.specs.Program.{AsFound, answers}
+use Rattle.suit_cli.proofs.AcceptedFacts.{facts}
+use Rattle.suit_cli.proofs.FlashLawProofs.{IsNear, near_looks, near_reads, near_same, near_then}
+use Rattle.suit_cli.proofs.UpdateEnds.{update_files}
+
+-- ---- stages that leave files and flash as they were, but for what is done behind the last want of memory
+
+record Nears {A : Type 0} (stage : Stage A) : Type 0 where
+  pub gives : (b a : Outside) (x : A) → stage.gives b a x → IsNear b a
+  pub lacks : (b a : Outside) → stage.lacks b a → IsNear b a
+
+abbrev Starves : Answers → Type 0
+Starves answers = (b a : Outside) → answers b a NoMemory → IsNear b a
+
+judging_nears : {A : Type 0} (good : A → Type 0) (bad : Reply → Type 0) → Nears (judging good bad)
+judging_nears good bad = record { gives = λ b a x g. near_same b a g.0; lacks = λ b a same. near_same b a same }
+
+reading_nears : {A : Type 0} (most : ℕ) (name : List ℕ) (good : Outside → A → Type 0) (bad : Outside → Reply → Type 0) → Nears (reading most name good bad)
+reading_nears most name good bad = record { gives = λ b a x g. near_reads most name b a g.0; lacks = λ b a l. near_reads most name b a l }
+
+looking_nears : {A : Type 0} (good : Flashed → A → Type 0) (bad : Flashed → Reply → Type 0) → Nears (looking good bad)
+looking_nears good bad = record { gives = λ b a x g. near_looks b a g.0; lacks = λ b a l. near_looks b a l }
+
+module _ {A B : Type 0} (first : Stage A) (next : A → Stage B) (one : Nears first) (two : (x : A) → Nears (next x)) where
+  turn_nears : Nears (in_turn first next)
+  turn_nears = record {
+    gives = λ b a y g. near_then b g.middle a (one.gives b g.middle g.value g.given) ((two g.value).gives g.middle a y g.later);
+    lacks = λ b a l. ⊎_elim (λ same. near_same b a same) (λ rest. ⊎_elim (λ here. one.lacks b a here)
+        (λ behind. near_then b behind.middle a (one.gives b behind.middle behind.value behind.given) ((two behind.value).lacks behind.middle a behind.later)) rest) l;
+  }
+
+module _ {A : Type 0} (stage : Stage A) (next : A → Answers) (one : Nears stage) (later : (x : A) → Starves (next x)) where
+  then_starves : Starves (Then stage next)
+  then_starves b a (Goes x c _ g rest) = near_then b c a (one.gives b c x g) (later x c a rest)
+  then_starves b a (Lacks l) = one.lacks b a l
+
+last_starves : (says : Reply → Type 0) → Starves (Last says)
+last_starves says b a (EndsWithout same) = near_same b a same
+
+-- ---- the commands
+
+files_nears : (taken : List (List ℕ × List ℕ)) (names : List (List ℕ)) → Nears (files_after taken names)
+files_nears taken [] = judging_nears _ _
+files_nears taken (name ∷ names) = turn_nears _ _ (reading_nears _ _ _ _) (λ bytes. files_nears (taken ++ (name, bytes) ∷ []) names)
+
+stores_starves : (out envelope : List ℕ) → Starves (stores out envelope)
+stores_starves out envelope b a (Lacks l) = near_same b a l
+stores_starves out envelope b a (Goes u m _ s rest) = elim rest [ ]
+
+makes_starves : (description key_name out : List ℕ) → Starves (makes description key_name out)
+makes_starves description key_name out =
+    then_starves _ _ (reading_nears _ _ _ _) (λ bytes. then_starves _ _ (judging_nears _ _) (λ value. then_starves _ _ (reading_nears _ _ _ _) (λ key.
+    then_starves _ _ (files_nears [] _) (λ files. then_starves _ _ (judging_nears _ _) (λ envelope. stores_starves out envelope)))))
+
+checks_starves : (name : List ℕ) → Starves (checks name)
+checks_starves name =
+    then_starves _ _ (reading_nears _ _ _ _) (λ bytes. then_starves _ _ (judging_nears _ _) (λ said. then_starves _ _ (judging_nears _ _) (λ u.
+    then_starves _ _ (judging_nears _ _) (λ manifest. then_starves _ _ (judging_nears _ _) (λ members. then_starves _ _ (judging_nears _ _) (λ v.
+    then_starves _ _ (judging_nears _ _) (λ w. last_starves _)))))))
+
+describes_starves : (name : List ℕ) → Starves (describes name)
+describes_starves name =
+    then_starves _ _ (reading_nears _ _ _ _) (λ bytes. then_starves _ _ (judging_nears _ _) (λ said. then_starves _ _ (judging_nears _ _) (λ u.
+    then_starves _ _ (judging_nears _ _) (λ manifest. then_starves _ _ (judging_nears _ _) (λ members. then_starves _ _ (judging_nears _ _) (λ v. last_starves _))))))
+
+shows_starves : (name key_name : List ℕ) → Starves (shows name key_name)
+shows_starves name key_name =
+    then_starves _ _ (reading_nears _ _ _ _) (λ bytes. then_starves _ _ (judging_nears _ _) (λ said. then_starves _ _ (judging_nears _ _) (λ u.
+    then_starves _ _ (judging_nears _ _) (λ manifest. then_starves _ _ (reading_nears _ _ _ _) (λ key. last_starves _)))))
+
+formats_starves : (layout : List Entry) (key : Key) → Starves (formats layout key)
+formats_starves layout key b a (Lacks l) = near_looks b a l
+formats_starves layout key b a (Goes u m _ g rest) = elim rest [ ]
+
+inits_starves : (device key_name : List ℕ) → Starves (inits device key_name)
+inits_starves device key_name =
+    then_starves _ _ (looking_nears _ _) (λ size. then_starves _ _ (reading_nears _ _ _ _) (λ bytes. then_starves _ _ (judging_nears _ _) (λ layout.
+    then_starves _ _ (reading_nears _ _ _ _) (λ key. formats_starves layout _))))
+
+accepts_nears : (layout : List Entry) (key : Key) (bytes : List ℕ) → Nears (accepts layout key bytes)
+accepts_nears layout key bytes =
+    turn_nears _ _ (judging_nears _ _) (λ said. turn_nears _ _ (judging_nears _ _) (λ u. turn_nears _ _ (judging_nears _ _) (λ v.
+    turn_nears _ _ (judging_nears _ _) (λ manifest. turn_nears _ _ (judging_nears _ _) (λ places. turn_nears _ _ (judging_nears _ _) (λ members.
+    turn_nears _ _ (turn_nears _ _ (judging_nears _ _) (λ w. turn_nears _ _ (judging_nears _ _) (λ x. judging_nears _ _))) (λ y. judging_nears _ _)))))))
+
+updates_starves : (name : List ℕ) → Starves (begins_update name)
+updates_starves name =
+    then_starves _ _ (looking_nears _ _) (λ config. then_starves _ _ (reading_nears _ _ _ _) (λ bytes.
+    then_starves _ _ (accepts_nears config.0 config.1 bytes) (λ accepted. last_starves _)))
+
+boots_starves : Starves begins_boot
+boots_starves = then_starves _ _ (looking_nears _ _) (λ config. last_starves _)
+
+tells_starves : Starves tells_status
+tells_starves = then_starves _ _ (looking_nears _ _) (λ config. then_starves _ _ (looking_nears _ _) (λ installed. then_starves _ _ (looking_nears _ _) (λ lines. last_starves _)))
+
+does_starves : (task : Task) → Starves (does task)
+does_starves (Make description key_name out) = makes_starves description key_name out
+does_starves (Describe name) = describes_starves name
+does_starves (Show name key_name) = shows_starves name key_name
+does_starves (Check name) = checks_starves name
+does_starves (RunInit device key_name) = inits_starves device key_name
+does_starves (RunUpdate name uris) = updates_starves name
+does_starves RunBoot = boots_starves
+does_starves RunStatus = tells_starves
+
+answers_starves : (words : List (List ℕ)) → Starves (answers words)
+answers_starves words b a (Goes task c _ g rest) = near_then b c a (near_same b c g.0) (does_starves task c a rest)
+answers_starves words b a (Lacks l) = near_same b a l
+
+-- ---- status 11
+
+said_not_eleven : (o : Outcome) → status_of o ≡ 11 → ⊥
+said_not_eleven outcomes.Done e = omega (arith, e)
+said_not_eleven outcomes.Unsafe e = omega (arith, e)
+said_not_eleven outcomes.Usage e = omega (arith, e)
+said_not_eleven outcomes.Refused e = omega (arith, e)
+said_not_eleven outcomes.NotAuthentic e = omega (arith, e)
+said_not_eleven outcomes.TooWide e = omega (arith, e)
+said_not_eleven outcomes.Unconfigured e = omega (arith, e)
+said_not_eleven outcomes.NotBlank e = omega (arith, e)
+said_not_eleven outcomes.NothingInstalled e = omega (arith, e)
+said_not_eleven outcomes.Severed e = omega (arith, e)
+said_not_eleven outcomes.Differs e = omega (arith, e)
+said_not_eleven outcomes.UnknownComponent e = omega (arith, e)
+said_not_eleven outcomes.Absent e = omega (arith, e)
+said_not_eleven outcomes.TooLong e = omega (arith, e)
+
+pub starved_near : (words : List (List ℕ)) (b a : Outside) (e : Ending) → ending_status e ≡ 11 → answers words b a e → IsNear b a
+starved_near words b a (Says r) eleven answer = absurd (said_not_eleven r.outcome eleven)
+starved_near words b a (FaultOf objects.Host) eleven answer = absurd (omega (arith, eleven))
+starved_near words b a (FaultOf objects.Flash) eleven answer = absurd (omega (arith, eleven))
+starved_near words b a NoMemory eleven answer = answers_starves words b a answer
+
+cause_not_eleven : (cause : Cause) → cause_status cause ≡ 11 → ⊥
+cause_not_eleven causes.Missing e = omega (arith, e)
+cause_not_eleven causes.SelfCopy e = omega (arith, e)
+cause_not_eleven causes.TooLarge e = omega (arith, e)
+cause_not_eleven causes.Absent e = omega (arith, e)
+cause_not_eleven causes.HostFault e = omega (arith, e)
+cause_not_eleven causes.FlashFault e = omega (arith, e)
+cause_not_eleven causes.LaunchFault e = omega (arith, e)
+
+-- ---- a boot
+
+module _ (layout : List Entry) (key : Key) (l m : Launching) (b mid a : Outside) (same_told : mid.told ≡ b.told) (same_files : mid.files ≡ b.files)
+    (flash_told : mid.flash.told ≡ b.flash.told) (reads : IsTrue b.flash.told → mid.flash.reads ≡ b.flash.reads) where
+  boot_found : (end : BootEnd) → boot_status end ≡ 11 → IsBoot layout key l m mid a end → AsFound l m b a
+  boot_found boot_ends.NoMemory eleven u = record {
+    files = λ t. u.files (subst IsTrue (sym same_told) t) ∙ same_files;
+    reads = λ t. u.left (subst IsTrue (sym flash_told) t) ∙ reads t;
+    launches = λ host flash launcher. u.plays (subst IsTrue (sym same_told) host) (subst IsTrue (sym flash_told) flash) launcher;
+  }
+  boot_found boot_ends.Ended eleven u = absurd (omega (arith, eleven))
+  boot_found boot_ends.NothingInstalled eleven u = absurd (omega (arith, eleven))
+  boot_found (boot_ends.BadBank refusal) eleven u = absurd (omega (arith, eleven))
+  boot_found (boot_ends.NotAuthentic lacking) eleven u = absurd (omega (arith, eleven))
+  boot_found (boot_ends.UnknownComponent component) eleven u = absurd (omega (arith, eleven))
+  boot_found (boot_ends.Condition place) eleven u = absurd (omega (arith, eleven))
+  boot_found (boot_ends.Stopped place cause) eleven u = absurd (cause_not_eleven cause eleven)
+  boot_found boot_ends.FlashFault eleven u = absurd (omega (arith, eleven))
+
+pub boot_starved : (l m : Launching) (b a : Outside) (end : BootEnd) (lines : List ℕ) → Boots l m b a end lines → boot_status end ≡ 11 → AsFound l m b a
+boot_starved l m b a end lines u eleven =
+    boot_found u.layout u.key l m b u.middle a (ap (λ (o : Outside). o.told) u.held.0.beside) (ap (λ (o : Outside). o.files) u.held.0.beside)
+    u.held.0.still.told u.held.0.still.reads end eleven u.boot
+
+-- ---- an update
+
+-- a sound flash with a configuration has a record, or none
+recorded_in : OneAnswer → (layout : List Entry) (key : Key) (reads : List ℕ) → ConfigOf VERSION_1 (length reads) (head_of VERSION_1 reads) (Configured layout key) → Sound VERSION_1 reads
+    → (held : Option Record) × RecordOf VERSION_1 (head_of VERSION_1 reads) held
+recorded_in configs layout key reads config (SoundBlank blank) =
+    let never = configs VERSION_1 (length reads) (head_of VERSION_1 reads) (Configured layout key) Blank config blank in absurd cc
+recorded_in configs layout key reads config (SoundEmpty l k c none) = (None, none)
+recorded_in configs layout key reads config (SoundInstalled l k r c some is) = (Some r, some)
+
+module _ (name : List ℕ) (uris : List (List ℕ × List ℕ)) (l m : Launching) (b a : Outside) where
+  update_found : (lines : List ℕ) (u : Updates name uris l m b a update_ends.NoMemory lines)
+      → (IsTrue b.flash.told → (held : Option Record) × RecordOf VERSION_1 (head_of VERSION_1 b.flash.reads) held) → AsFound l m b a
+  update_found lines u recorded =
+      let f = facts u.layout u.key u.bytes u.accepted u.is_accepted in
+      let digest : Digest = record { bytes = string_digest u.accepted.said.manifest } in
+      let states : WrapperSays u.accepted.said.wrapper digest.bytes f.authentic.blocks =
+      subst (λ (d : List ℕ). WrapperSays u.accepted.said.wrapper d f.authentic.blocks) f.authentic.stated f.authentic.says in
+      let payloads = payloads_in u.bytes u.accepted.said f.envelope in
+      let same_told = u.read.0.quiet.told ∙ ap (λ (o : Outside). o.told) u.held.0.beside in
+      let flash_told = ap (λ (x : Flashed). x.told) u.read.0.flash ∙ u.held.0.still.told in
+      let reads : IsTrue b.flash.told → u.middle.flash.reads ≡ b.flash.reads = λ t. ap (λ (x : Flashed). x.reads) u.read.0.flash ∙ u.held.0.still.reads t in
+      let there : (t : IsTrue b.flash.told) → RecordOf VERSION_1 (head_of VERSION_1 u.middle.flash.reads) (recorded t).0 =
+      λ t. subst (λ (x : List ℕ). RecordOf VERSION_1 (head_of VERSION_1 x) (recorded t).0) (sym (reads t)) (recorded t).1 in
+      record {
+        files = λ t. update_files name uris l m b a update_ends.NoMemory lines u t;
+        reads = λ t. u.update.left (subst IsTrue (sym flash_told) t) (recorded t).0 digest f.authentic.blocks (there t) states ∙ reads t;
+        launches = λ host flash launcher. u.update.plays (subst IsTrue (sym same_told) host) (subst IsTrue (sym flash_told) flash) launcher
+            (recorded flash).0 digest f.authentic.blocks (there flash) states payloads.0 payloads.1;
+      }
+
+  pub update_starved : OneAnswer → (end : UpdateEnd) (lines : List ℕ) → Updates name uris l m b a end lines → update_status end ≡ 11
+      → (IsTrue b.flash.told → b.flash.size ≡ length b.flash.reads) → (IsTrue b.flash.told → Sound VERSION_1 b.flash.reads) → AsFound l m b a
+  update_starved configs update_ends.NoMemory lines u eleven size sound = update_found lines u (λ t. recorded_in configs u.layout u.key b.flash.reads
+      (subst (λ (n : ℕ). ConfigOf VERSION_1 n (head_of VERSION_1 b.flash.reads) (Configured u.layout u.key)) (size t) (u.held.1 t)) (sound t))
+  update_starved configs (update_ends.Installed r) lines u eleven size sound = absurd (omega (arith, eleven))
+  update_starved configs (update_ends.Lower x o) lines u eleven size sound = absurd (omega (arith, eleven))
+  update_starved configs (update_ends.OtherDigest x o) lines u eleven size sound = absurd (omega (arith, eleven))
+  update_starved configs update_ends.Worn lines u eleven size sound = absurd (omega (arith, eleven))
+  update_starved configs (update_ends.Condition place) lines u eleven size sound = absurd (omega (arith, eleven))
+  update_starved configs (update_ends.Stopped place cause) lines u eleven size sound = absurd (cause_not_eleven cause eleven)
+  update_starved configs update_ends.FlashFault lines u eleven size sound = absurd (omega (arith, eleven))
