@@ -20,6 +20,3 @@ pub use law::word_laws;
 pub use table::command_of;
 pub use uri_word::UriWord;
 pub use uri_words::UriWords;
-
-#[cfg(test)]
-mod tests;

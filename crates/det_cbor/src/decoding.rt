@@ -9,13 +9,6 @@ ghost use Rattle.det_cbor.specs.ItemReading.{items_by, pairs_by, string_item, te
 ghost use Rattle.det_cbor.specs.ItemTree.{tree_of};
 ghost use Rattle.det_cbor.specs.OneReading.{StartsWithItem};
 
-#[cfg(test)]
-mod appendix_a;
-#[cfg(test)]
-mod notation;
-#[cfg(test)]
-mod tests;
-
 use crate::parts::{first_head, order, read_before, stop, string_in, text_in};
 use crate::read_fault::ReadFault;
 use crate::validity::MAX_LEVELS;

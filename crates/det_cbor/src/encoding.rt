@@ -9,9 +9,6 @@ ghost use Rattle.det_cbor.specs.Heads.{head_bytes};
 ghost use Rattle.det_cbor.specs.ItemOrder.{major_type, head_argument, spell_parts};
 ghost use Rattle.det_cbor.specs.ItemTree.{tree_of};
 
-#[cfg(test)]
-mod tests;
-
 use crate::item_head::head_of;
 use crate::{Bytes, Item, Items, Pairs, push_head};
 use std::alloc::{AllocError, Global};

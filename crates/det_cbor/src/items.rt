@@ -3,9 +3,6 @@
 ghost use Rattle.std.specs.Prelude.{◌≡◌, [], ◌∷◌, ◌++◌, length, OnOk, OnErr, IsTrue, ◌↔◌, option_map, slice_get};
 ghost use Rattle.det_cbor.specs.ItemTree.{tree_of, trees_of};
 
-#[cfg(test)]
-mod tests;
-
 use crate::Item;
 use std::alloc::{AllocError, Global};
 use std::marker::Model;

@@ -7,9 +7,6 @@ ghost use Rattle.flash_layout.specs.declared.layout_fault.LayoutFault.{LayoutFau
 ghost use Rattle.flash_layout.specs.Layouts.{IsLayout};
 ghost use Rattle.flash_layout.specs.LayoutFaults.{AreHeld, RefusesEntries, IsLayoutOf, RefusesLayout, IsFaultOf, IsAccepted, IsRefusedFor};
 
-#[cfg(test)]
-mod tests;
-
 use crate::device_fields::device;
 use crate::first_faults::{first_alike, first_outside, first_overlap};
 use crate::frame::{MAX_ENTRIES, VERSION_1};

@@ -8,9 +8,6 @@ ghost use Rattle.suit_edge.specs.Gate.{IsOpen};
 ghost use Rattle.flash_layout.specs.Layouts.{IsKey, IsLayout};
 ghost use Rattle.flash_layout.specs.Formats.{AreAllClearAt, AreClosed, FormatCounts, HasLength, HaveLengths, IfFormatted, IfNotBlank, IsBlankOrFormatted, IsClearAt, IsFormatted, IsPrepared, KeepsZeros, OutsideAllLengths, OutsideFormat, OutsideLengths, OutsidePrepared, OutsideRecordGates};
 
-#[cfg(test)]
-mod tests;
-
 use crate::frame::{CONFIG_GATE, LENGTH_SIZE, VERSION_1, record_page};
 use crate::page_writing::write_page;
 use crate::rules::slots_of;

@@ -3,9 +3,6 @@
 ghost use Rattle.std.specs.Prelude.{◌≡◌, [], ◌∷◌, ◌++◌, length, All, OnOk, OnErr};
 ghost use Rattle.flash_layout.specs.Layouts.{IsTypedEntry};
 
-#[cfg(test)]
-pub(crate) mod tests;
-
 use std::alloc::{AllocError, Global};
 use std::marker::Model;
 use suit_params::Identifier;

@@ -6,11 +6,7 @@ mod law;
 mod overwriting;
 mod passing;
 mod ram;
-#[cfg(test)]
-mod ram_tests;
 mod reading;
-#[cfg(test)]
-mod slot_tests;
 mod writing;
 
 pub use area::TooLarge;

@@ -7,9 +7,6 @@ ghost use Rattle.json_fields.specs.Answers.{Gives};
 ghost use Rattle.json_fields.specs.Flaws.{flawed as said_flawed};
 ghost use Rattle.json_fields.specs.Values.{number_up_to, flag_of, text_of, hex_of, sized_hex_of, uuid_of};
 
-#[cfg(test)]
-mod tests;
-
 use crate::{Flaw, FlawKind, JsonFault};
 use det_cbor::{Bytes, Text};
 use hex::{FromHex, FromHexError};

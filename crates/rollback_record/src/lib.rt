@@ -16,6 +16,3 @@ pub use load::load_record;
 pub use page::RECORD_BYTES;
 pub use sound_law::{installed_laws, sound_laws};
 pub use writing::commit;
-
-#[cfg(test)]
-mod tests;

@@ -8,6 +8,9 @@ ghost use Rattle.suit_edge.specs.Flash.{IsFirmOn, IsSettled, Keeps, Passes};
 ghost use Rattle.suit_edge.specs.Gate.{page_at};
 ghost use Rattle.suit_edge.specs.Ranges.{AreClear, InSome, Outside, written};
 
+#[cfg(test)]
+mod tests;
+
 use crate::{Disk, Edge, write_gated};
 
 /// How many bytes are written at once.

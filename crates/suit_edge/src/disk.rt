@@ -6,9 +6,6 @@ ghost use Rattle.suit_edge.specs.Faults.{EdgeCounts};
 ghost use Rattle.suit_edge.specs.Flash.{Flash, Grows, IsFlash, IsSame, IsSettled, Keeps};
 ghost use Rattle.suit_edge.specs.Ranges.{Outside, written};
 
-#[cfg(test)]
-mod tests;
-
 use crate::Edge;
 
 /// Bytes that outlive a loss of power, as far as they were made sure of.

@@ -6,9 +6,6 @@ ghost use Rattle.suit_edge.specs.Flash.{Grows, IsSame};
 ghost use Rattle.suit_edge.specs.Launch.{AddsLaunch, IsLaunch, LaunchCounts, LiesWithin};
 ghost use Rattle.suit_edge.specs.declared.launch.Launch.{Launch};
 
-#[cfg(test)]
-mod tests;
-
 use crate::Disk;
 
 /// An image that can be launched.

@@ -177,26 +177,3 @@ impl Identifiers {
         self.held.as_slice()
     }
 }
-
-#[cfg(test)]
-mod tests {
-    use super::*;
-
-    #[test]
-    fn identifiers_hold_what_was_pushed(rt: HostRuntime) -> Result<(), AllocError> {
-        let alloc = rt.alloc();
-        let mut identifiers = Identifiers::new(alloc);
-        assert!(rt; identifiers.is_empty());
-        let mut first = Identifier::new(alloc);
-        first.push(Bytes::from_slice(alloc, b"\x00")?)?;
-        first.push(Bytes::from_slice(alloc, b"abc")?)?;
-        identifiers.push(first)?;
-        identifiers.push(Identifier::new(alloc))?;
-        assert!(rt; identifiers.len() == 2);
-        let parts = identifiers.as_slice()[0].as_slice();
-        assert!(rt; parts.len() == 2);
-        assert!(rt; parts[1].as_slice() == b"abc".as_slice());
-        assert!(rt; identifiers.as_slice()[1].as_slice().is_empty());
-        Ok(())
-    }
-}

@@ -12,9 +12,6 @@ ghost use Rattle.suit_params.specs.Params.{IsParams, RefusesParams};
 ghost use Rattle.suit_params.specs.ParamJudging.{known_param};
 ghost use Rattle.suit_params.specs.ParamReading.{key_from, bytes_value_from, value_from, param_from, params_from, params_at, next_params};
 
-#[cfg(test)]
-mod tests;
-
 use crate::param_value::{
     read_flag, read_held, read_held_digest, read_id, read_index, read_number, read_text,
 };

@@ -4,9 +4,6 @@ ghost use Rattle.std.specs.Prelude.{◌≡◌, ◌<◌, length, Some};
 ghost use Rattle.std.specs.Option.{option_copied};
 ghost use Rattle.suit_params.specs.InForce.{none_in_force, in_force, with_param, overridden, rank, IsOverridden};
 
-#[cfg(test)]
-mod tests;
-
 use crate::{Param, ParamKey, ParamList};
 use std::marker::Model;
 

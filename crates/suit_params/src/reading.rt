@@ -5,9 +5,6 @@ ghost use Rattle.det_cbor.specs.HeadReading.{map_ok};
 ghost use Rattle.det_cbor.specs.Position.{Takes};
 ghost use Rattle.suit_params.specs.Reading.{head_from, bytes_from, inner_from, only_from, string_from, content_from, array_from, map_from};
 
-#[cfg(test)]
-mod tests;
-
 use crate::refusal::refused;
 use crate::{Refusal, Why};
 use det_cbor::{Bytes, Cursor, Head, HeadKind};

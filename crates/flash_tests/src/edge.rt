@@ -1,0 +1,5 @@
+//! Tests of the outside.
+
+mod disks;
+mod files;
+mod launches;

@@ -1,0 +1,4 @@
+//! Tests of contents.
+
+mod contents;
+mod memory;

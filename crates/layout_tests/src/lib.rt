@@ -1,0 +1,11 @@
+//! Tests of `flash_layout`, over its public calls alone: a crate that holds its own tests is proved twice.
+#![tactic(auto)]
+
+#[cfg(test)]
+mod describing;
+#[cfg(test)]
+mod devices;
+#[cfg(test)]
+mod formatting;
+#[cfg(test)]
+mod pages;
