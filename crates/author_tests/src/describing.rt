@@ -49,7 +49,10 @@ fn with_members(alloc: Global, members: &str) -> Result<String, AllocError> {
 /// Whether some members of a description are answered as the row says, which is they and then their answer.
 pub(crate) fn is_member_row(alloc: Global, row: &str) -> bool {
     let (members, answer) = row.split_once(" -> ").unwrap_or((row, ""));
-    with_members(alloc, members).is_ok_and(|json| is_answered(alloc, json.as_str(), answer))
+    match with_members(alloc, members) {
+        Ok(json) => is_answered(alloc, json.as_str(), answer),
+        Err(AllocError) => false,
+    }
 }
 
 const WHOLE: &str = r#"
@@ -213,8 +216,14 @@ fn are_files(description: &Description, wanted: [&str; 3]) -> bool {
         && names[2].as_str() == wanted[2]
 }
 
+fn names_files(alloc: Global, wanted: [&str; 3]) -> bool {
+    match described(alloc, NAMING) {
+        Ok(description) => are_files(&description, wanted),
+        Err(_) => false,
+    }
+}
+
 #[test]
 fn files_are_named_once_in_order(rt: HostRuntime) {
-    let naming = described(rt.alloc(), NAMING);
-    assert!(rt; naming.is_ok_and(|description| are_files(&description, ["c", "a", "b"])));
+    assert!(rt; names_files(rt.alloc(), ["c", "a", "b"]));
 }

@@ -148,11 +148,16 @@ const TOLD: &str =
 const TOLD_BYTES: &str =
     "d86ba5025858825824822f58208b5dbd1b185e8ba883d2f39de3eae58abab07c16d7b09ab580eb2f9dfc836791582fd18443a10105a104436b6579f65820f1417abf1c7193eff80a3e512361f5eb0365c3ea2ccead7f2490a881a07cf0ee0358eda901010207035864a202828141008141010458588a0cf514a20150fa6b4a53d5ad5fdfbe9de663e4d41ffe02501492af1425695e48bf429b2d51f2ab45010f020f14a2035824822f5820a5df3fde7b200c3fa2791144c7e05c5c2bced4c6ad863d3a4cf76c972c1712f90e0804781968747470733a2f2f6578616d706c652e636f6d2f6170702f370745840c00030f084b880c0114a116001602030f0945840c01170214822f5820488ae0b362224c8e07d0035f8e289b1f3d63c80a64c9d79ff3c92c9346cc93e017822f5820ba59ea8f4f88a2fcd9aaf9a83d236bb75f1f528637b999a25866124a877ffb151457840c000f82438203004d8614a11564236170701502030f1741a0642361707048616e20696d616765";
 
+fn is_trimmed_to(bytes: &[u8], length: u64) -> bool {
+    match decode_envelope(bytes) {
+        Ok(envelope) => trimmed_length(&envelope) == length,
+        Err(_) => false,
+    }
+}
+
 fn has_trimmed_length(made: &Made, length: u64) -> bool {
     match made {
-        Ok(bytes) => decode_envelope(bytes.as_slice()).is_ok_and(|envelope| trimmed_length(
-            &envelope,
-        ) == length),
+        Ok(bytes) => is_trimmed_to(bytes.as_slice(), length),
         Err(_) => false,
     }
 }

@@ -14,6 +14,3 @@ mod typing;
 pub use boot_end::{BootEnd, Lacking};
 pub use booting::boot;
 pub use law::boot_laws;
-
-#[cfg(test)]
-mod tests;

@@ -27,8 +27,9 @@ pub(crate) const ENVELOPE: [u8; 64] = [
 ];
 
 fn named(alloc: Global, name: &[u8]) -> Result<Identifier, AllocError> {
+    let name = Bytes::from_slice(alloc, name)?;
     let mut identifier = Identifier::new(alloc);
-    identifier.push(Bytes::from_slice(alloc, name)?)?;
+    identifier.push(name)?;
     Ok(identifier)
 }
 
@@ -133,14 +134,26 @@ pub(crate) fn blank(alloc: Global, fails: &[u64]) -> Result<MemoryDisk, AllocErr
     MemoryDisk::new(alloc, SIZE, fails)
 }
 
+const FILES: [(&str, &[u8]); 5] = [
+    ("empty", b""),
+    ("abc", b"abc"),
+    ("full", &[b'f'; 1024]),
+    ("over", &[b'f'; 1025]),
+    ("long", &[b'l'; 9000]),
+];
+
+/// Adds files, by their names.
+pub(crate) fn add_all(host: &mut MemoryHost, files: &[(&str, &[u8])]) -> Result<(), AllocError> {
+    for file in files {
+        host.add(file.0, file.1)?;
+    }
+    Ok(())
+}
+
 /// Files of 0, 3, 1,024, 1,025 and 9,000 bytes. The calls with these numbers fail.
 pub(crate) fn keeper(alloc: Global, fails: &[u64]) -> Result<MemoryHost, AllocError> {
     let mut host = MemoryHost::new(alloc, fails)?;
-    host.add("empty", b"")?;
-    host.add("abc", b"abc")?;
-    host.add("full", &[b'f'; 1024])?;
-    host.add("over", &[b'f'; 1025])?;
-    host.add("long", &[b'l'; 9000])?;
+    add_all(&mut host, &FILES)?;
     Ok(host)
 }
 

@@ -4,7 +4,7 @@
 ghost use Rattle.flash_slots.specs.RamContents.{held_by, ram_capacity};
 ghost use Rattle.std.specs.Prelude.{◌≡◌, ◌<◌, IfOk, length};
 
-use crate::devices::{ENVELOPE, SIZE, blank, push};
+use crate::devices::{ENVELOPE, SIZE, add_all, blank, push};
 use det_cbor::Text;
 use flash_layout::{Entry, Layout, Memory, Slot};
 use flash_slots::{Ram, same_content};
@@ -90,8 +90,7 @@ fn memory(alloc: Global) -> Result<Ram, AllocError>
 // A file that fits, and one that is a byte too large. The calls with these numbers fail.
 fn files(alloc: Global, fails: &[u64]) -> Result<MemoryHost, AllocError> {
     let mut host = MemoryHost::new(alloc, fails)?;
-    host.add("three", b"abc")?;
-    host.add("four", b"abcd")?;
+    add_all(&mut host, &[("three", b"abc"), ("four", b"abcd")])?;
     Ok(host)
 }
 

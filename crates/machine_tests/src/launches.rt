@@ -1,13 +1,9 @@
 //! What is launched: component, content, digest, size and arguments.
 
-ghost use Rattle.std.specs.Prelude.{◌≡◌};
-
-use crate::devices::{SIZE, blank, keeper};
-use crate::playing::{Wanted, are_launched, end_of, member, member_end, shared};
+use crate::playing::{Wanted, member, member_outcome, outcome, shared};
 use std::alloc::{AllocError, Global};
 use step_machine::PlanEnd;
 use suit_commands::Plan;
-use suit_edge::{Disk, Host, Launcher, MemoryLauncher};
 
 // A digest is set; then a sequence that sets another one, and a size, fails softly, and one that sets a size does not.
 const TRIED: &[u8] =
@@ -28,11 +24,8 @@ const THIRD: &[u8] = b"\x84\x0c\x02\x17\x0f";
 
 // Whether the member is done, and these are launched.
 fn launches_are(alloc: Global, bytes: &[u8], wanted: &[Wanted<'_>]) -> Result<bool, AllocError> {
-    let mut host = keeper(alloc, &[])?;
-    let mut disk = blank(alloc, &[])?;
-    let mut launcher = MemoryLauncher::new(alloc, &[])?;
-    let end = member_end(alloc, &mut host, &mut disk, &mut launcher, bytes)?;
-    Ok(end == Some(PlanEnd::Done) && are_launched(launcher.launches(), wanted))
+    let outcome = member_outcome(alloc, (&[], &[]), bytes, wanted)?;
+    Ok(outcome == (Some(PlanEnd::Done), Some(wanted.len())))
 }
 
 #[test]
@@ -83,15 +76,8 @@ fn each_selected_component_is_launched(rt: HostRuntime) -> Result<(), AllocError
     Ok(())
 }
 
-// Whether a procedure of the shared sequence and three members is done.
-fn procedure_is_done<H: Host, D: Disk, L: Launcher>(
-    alloc: Global,
-    host: &mut H,
-    disk: &mut D,
-    launcher: &mut L,
-) -> Result<bool, AllocError>
-    requires size { D.extent disk.old ≡ SIZE }
-{
+// Whether a procedure of the shared sequence and three members is done, and these are launched.
+fn procedure_launches(alloc: Global, wanted: &[Wanted<'_>]) -> Result<bool, AllocError> {
     let Some(before) = shared(alloc, SHARED) else {
         return Ok(false);
     };
@@ -111,8 +97,8 @@ fn procedure_is_done<H: Host, D: Disk, L: Launcher>(
         third: Some(&third),
         count: 3,
     };
-    let end = end_of(alloc, host, disk, launcher, &plan)?;
-    Ok(end == Some(PlanEnd::Done))
+    let outcome = outcome(alloc, (&[], &[]), &plan, wanted)?;
+    Ok(outcome == (Some(PlanEnd::Done), Some(wanted.len())))
 }
 
 fn empty<'a>(component: u32, args: Option<&'a [u8]>) -> Wanted<'a> {
@@ -123,14 +109,6 @@ fn empty<'a>(component: u32, args: Option<&'a [u8]>) -> Wanted<'a> {
         size: None,
         args,
     }
-}
-
-fn procedure_launches(alloc: Global, wanted: &[Wanted<'_>]) -> Result<bool, AllocError> {
-    let mut host = keeper(alloc, &[])?;
-    let mut disk = blank(alloc, &[])?;
-    let mut launcher = MemoryLauncher::new(alloc, &[])?;
-    let done = procedure_is_done(alloc, &mut host, &mut disk, &mut launcher)?;
-    Ok(done && are_launched(launcher.launches(), wanted))
 }
 
 #[test]

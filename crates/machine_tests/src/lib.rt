@@ -1,7 +1,9 @@
-//! Tests of `step_machine`, over its public calls and the objects in memory alone: a crate that holds its own tests is
-//! proved twice.
+//! Tests of `step_machine` and `invoke_proc`, over their public calls and the objects in memory alone: a crate that holds
+//! its own tests is proved twice.
 #![tactic(auto)]
 
+#[cfg(test)]
+mod boots;
 #[cfg(test)]
 mod conditions;
 #[cfg(test)]
@@ -16,6 +18,8 @@ mod faults;
 mod fetched;
 #[cfg(test)]
 mod fetched_in_pieces;
+#[cfg(test)]
+mod in_memory;
 #[cfg(test)]
 mod launches;
 #[cfg(test)]

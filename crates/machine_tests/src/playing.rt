@@ -5,6 +5,7 @@ ghost use Rattle.suit_commands.specs.Allowed.{IsMember, IsPlan, IsShared};
 ghost use Rattle.suit_commands.specs.Plans.{plan_tree};
 
 use crate::devices::{ENVELOPE, SIZE, blank, keeper, layout, words, world};
+use det_cbor::Bytes;
 use std::alloc::{AllocError, Global};
 use step_machine::{PlanEnd, run_plan};
 use suit_commands::{Plan, Sequence, decode_sequence, sequence_laws};
@@ -110,6 +111,27 @@ fn all_end<H: Host, D: Disk, L: Launcher>(
     Ok(true)
 }
 
+fn all_end_on_disk<H: Host, D: Disk>(
+    alloc: Global,
+    host: &mut H,
+    disk: &mut D,
+    rows: &[(&[u8], PlanEnd)],
+) -> Result<bool, AllocError>
+    requires size { D.extent disk.old ≡ SIZE }
+{
+    let mut launcher = MemoryLauncher::new(alloc, &[])?;
+    all_end(alloc, host, disk, &mut launcher, rows)
+}
+
+fn all_end_on_host<H: Host>(
+    alloc: Global,
+    host: &mut H,
+    rows: &[(&[u8], PlanEnd)],
+) -> Result<bool, AllocError> {
+    let mut disk = blank(alloc, &[])?;
+    all_end_on_disk(alloc, host, &mut disk, rows)
+}
+
 /// The same on a flash of zeros and a launcher without launches, where these calls of the host fail.
 pub(crate) fn rows_end(
     alloc: Global,
@@ -117,25 +139,24 @@ pub(crate) fn rows_end(
     rows: &[(&[u8], PlanEnd)],
 ) -> Result<bool, AllocError> {
     let mut host = keeper(alloc, host_fails)?;
-    let mut disk = blank(alloc, &[])?;
-    let mut launcher = MemoryLauncher::new(alloc, &[])?;
-    all_end(alloc, &mut host, &mut disk, &mut launcher, rows)
+    all_end_on_host(alloc, &mut host, rows)
+}
+
+// ---- launches
+
+fn is_same(found: &Option<Bytes>, wanted: Option<&[u8]>) -> bool {
+    match found {
+        Some(bytes) => wanted == Some(bytes.as_slice()),
+        None => wanted.is_none(),
+    }
 }
 
 fn is_wanted(launch: &Launch, wanted: &Wanted<'_>) -> bool {
-    let digest = match &launch.digest {
-        Some(digest) => wanted.digest == Some(digest.as_slice()),
-        None => wanted.digest.is_none(),
-    };
-    let args = match &launch.args {
-        Some(args) => wanted.args == Some(args.as_slice()),
-        None => wanted.args.is_none(),
-    };
-    digest
-        && args
-        && launch.component == wanted.component
+    launch.component == wanted.component
         && launch.bytes.as_slice() == wanted.bytes
         && launch.size == wanted.size
+        && is_same(&launch.digest, wanted.digest)
+        && is_same(&launch.args, wanted.args)
 }
 
 /// Whether these were launched, and no others.
@@ -150,4 +171,82 @@ pub(crate) fn are_launched(launches: &Launches, wanted: &[Wanted<'_>]) -> bool {
         }
     }
     true
+}
+
+// How many of these were launched, if no others were.
+fn count_of(launches: &Launches, wanted: &[Wanted<'_>]) -> Option<usize> {
+    let count = launches.len();
+    if count <= wanted.len() && are_launched(launches, &wanted[..count]) {
+        Some(count)
+    } else {
+        None
+    }
+}
+
+/// How a procedure ended, if it was run, and how many of the wanted launches were made, if no others were.
+pub(crate) type Outcome = (Option<PlanEnd>, Option<usize>);
+
+fn outcome_on_disk<H: Host, D: Disk>(
+    alloc: Global,
+    host: &mut H,
+    disk: &mut D,
+    fails: &[u64],
+    plan: &Plan<'_>,
+    wanted: &[Wanted<'_>],
+) -> Result<Outcome, AllocError>
+    requires size { D.extent disk.old ≡ SIZE }
+    requires plan { IsPlan (plan_tree plan.now) }
+    requires count { plan.now.count ≡ 3 }
+{
+    let mut launcher = MemoryLauncher::new(alloc, fails)?;
+    let end = end_of(alloc, host, disk, &mut launcher, plan)?;
+    Ok((end, count_of(launcher.launches(), wanted)))
+}
+
+fn outcome_on_host<H: Host>(
+    alloc: Global,
+    host: &mut H,
+    fails: (&[u64], &[u64]),
+    plan: &Plan<'_>,
+    wanted: &[Wanted<'_>],
+) -> Result<Outcome, AllocError>
+    requires plan { IsPlan (plan_tree plan.now) }
+    requires count { plan.now.count ≡ 3 }
+{
+    let mut disk = blank(alloc, fails.0)?;
+    outcome_on_disk(alloc, host, &mut disk, fails.1, plan, wanted)
+}
+
+/// What comes of a procedure on a flash of zeros, where these calls of the flash and of the launcher fail.
+pub(crate) fn outcome(
+    alloc: Global,
+    fails: (&[u64], &[u64]),
+    plan: &Plan<'_>,
+    wanted: &[Wanted<'_>],
+) -> Result<Outcome, AllocError>
+    requires plan { IsPlan (plan_tree plan.now) }
+    requires count { plan.now.count ≡ 3 }
+{
+    let mut host = keeper(alloc, &[])?;
+    outcome_on_host(alloc, &mut host, fails, plan, wanted)
+}
+
+/// What comes of a procedure of one member.
+pub(crate) fn member_outcome(
+    alloc: Global,
+    fails: (&[u64], &[u64]),
+    bytes: &[u8],
+    wanted: &[Wanted<'_>],
+) -> Result<Outcome, AllocError> {
+    let Some(sequence) = member(alloc, bytes) else {
+        return Ok((None, None));
+    };
+    let plan = Plan {
+        shared: None,
+        first: Some(&sequence),
+        second: None,
+        third: None,
+        count: 3,
+    };
+    outcome(alloc, fails, &plan, wanted)
 }

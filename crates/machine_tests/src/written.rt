@@ -11,7 +11,7 @@ use path_model::{Cause, Identity};
 use std::alloc::{AllocError, Global};
 use step_machine::{Spot, Standing, invoke, passes, write};
 use suit_commands::TestKind;
-use suit_edge::{Disk, Launcher, MemoryLauncher};
+use suit_edge::{Disk, Launcher, Launches, MemoryLauncher};
 use suit_params::{Digest, Param, ParamList, Params};
 
 // The SHA-256 of `abc`.
@@ -128,13 +128,51 @@ fn are_started<D: Disk, L: Launcher>(
         && is_started(disk, launcher, ram, &params, Err(Cause::LaunchFault))
 }
 
+const ONCE: [Wanted; 1] = [Wanted {
+    component: 0,
+    bytes: b"abc",
+    digest: Some(ABC),
+    size: Some(3),
+    args: None,
+}];
+
+fn is_once(started: bool, launches: &Launches) -> bool {
+    started && are_launched(launches, &ONCE)
+}
+
+fn launches_once<D: Disk>(
+    alloc: Global,
+    disk: &mut D,
+    ram: &mut Ram,
+    fitting: &ParamList,
+) -> Result<bool, AllocError>
+    requires { D.extent disk.old ≡ SIZE }
+{
+    let mut launcher = MemoryLauncher::new(alloc, &[1])?;
+    let started = are_started(disk, &mut launcher, ram, fitting);
+    Ok(is_once(started, launcher.launches()))
+}
+
+fn launches_fitting<D: Disk>(alloc: Global, disk: &mut D, ram: &mut Ram) -> Result<bool, AllocError>
+    requires { D.extent disk.old ≡ SIZE }
+{
+    let fitting = parameters(alloc, 3, b"abc")?;
+    launches_once(alloc, disk, ram, &fitting)
+}
+
+fn matches_both<D: Disk>(alloc: Global, disk: &mut D, ram: &mut Ram) -> Result<bool, AllocError>
+    requires { D.extent disk.old ≡ SIZE }
+{
+    let fitting = parameters(alloc, 3, b"abc")?;
+    let large = parameters(alloc, 4, b"abcd")?;
+    Ok(are_matched(disk, ram, &fitting, &large))
+}
+
 #[test]
 fn what_is_written_is_matched(rt: HostRuntime) -> Result<(), AllocError> {
     let mut disk = blank(rt.alloc(), &[])?;
     let mut ram = Ram::new(rt.alloc(), &Layout::new(rt.alloc()))?;
-    let fitting = parameters(rt.alloc(), 3, b"abc")?;
-    let large = parameters(rt.alloc(), 4, b"abcd")?;
-    assert!(rt; are_matched(&mut disk, &mut ram, &fitting, &large));
+    assert!(rt; matches_both(rt.alloc(), &mut disk, &mut ram)?);
     Ok(())
 }
 
@@ -142,16 +180,6 @@ fn what_is_written_is_matched(rt: HostRuntime) -> Result<(), AllocError> {
 fn what_is_written_is_launched(rt: HostRuntime) -> Result<(), AllocError> {
     let mut disk = blank(rt.alloc(), &[])?;
     let mut ram = Ram::new(rt.alloc(), &Layout::new(rt.alloc()))?;
-    let mut launcher = MemoryLauncher::new(rt.alloc(), &[1])?;
-    let fitting = parameters(rt.alloc(), 3, b"abc")?;
-    let once = [Wanted {
-        component: 0,
-        bytes: b"abc",
-        digest: Some(&ABC[..]),
-        size: Some(3),
-        args: None,
-    }];
-    assert!(rt; are_started(&mut disk, &mut launcher, &mut ram, &fitting));
-    assert!(rt; are_launched(launcher.launches(), &once));
+    assert!(rt; launches_fitting(rt.alloc(), &mut disk, &mut ram)?);
     Ok(())
 }

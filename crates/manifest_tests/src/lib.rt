@@ -10,3 +10,7 @@ mod envelope;
 mod mac;
 #[cfg(test)]
 mod manifest;
+#[cfg(test)]
+mod refusals;
+#[cfg(test)]
+mod steps;

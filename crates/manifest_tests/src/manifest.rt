@@ -4,4 +4,5 @@ mod decoding;
 mod encoding;
 mod manifest_makers;
 mod members;
+mod places;
 mod plans;

@@ -2,7 +2,6 @@
 
 use path_model::{Event, Events, Identity};
 use std::alloc::{AllocError, Global};
-use std::test::Fail;
 use suit_commands::{ActKind, Branches, Command, Plan, Selection, Sequence, Step, TestKind};
 use suit_params::{Digest, Param, ParamKey, ParamList};
 
@@ -83,7 +82,7 @@ impl<'a> Run<'a> {
 }
 
 // A failure ends a run.
-fn fail<'a>(at: At<'_>, run: Run<'a>, end: End, out: &mut Runs<'a>) -> Result<(), Fail> {
+fn fail<'a>(at: At<'_>, run: Run<'a>, end: End, out: &mut Runs<'a>) -> Result<(), AllocError> {
     let mut run = run;
     run.events.push(Event::Failed { place: at.place })?;
     run.end = end;
@@ -138,7 +137,12 @@ fn tried(component: u32, kind: TestKind, run: &Run<'_>, passed: bool) -> Event {
     }
 }
 
-fn test<'a>(at: At<'_>, kind: TestKind, run: Run<'a>, out: &mut Runs<'a>) -> Result<(), Fail> {
+fn test<'a>(
+    at: At<'_>,
+    kind: TestKind,
+    run: Run<'a>,
+    out: &mut Runs<'a>,
+) -> Result<(), AllocError> {
     let param = match key_of(kind) {
         Some(key) => run.get(at.component, key),
         None => None,
@@ -156,7 +160,7 @@ fn test<'a>(at: At<'_>, kind: TestKind, run: Run<'a>, out: &mut Runs<'a>) -> Res
 
 // ---- directives
 
-fn invoke<'a>(at: At<'_>, run: Run<'a>, out: &mut Runs<'a>) -> Result<(), Fail> {
+fn invoke<'a>(at: At<'_>, run: Run<'a>, out: &mut Runs<'a>) -> Result<(), AllocError> {
     for passed in [true, false] {
         let event = Event::Invoked {
             component: at.component,
@@ -174,7 +178,12 @@ fn invoke<'a>(at: At<'_>, run: Run<'a>, out: &mut Runs<'a>) -> Result<(), Fail> 
     Ok(())
 }
 
-fn write<'a>(at: At<'_>, kind: ActKind, run: Run<'a>, out: &mut Runs<'a>) -> Result<(), Fail> {
+fn write<'a>(
+    at: At<'_>,
+    kind: ActKind,
+    run: Run<'a>,
+    out: &mut Runs<'a>,
+) -> Result<(), AllocError> {
     let source = match run.get(at.component, ParamKey::Source) {
         Some(Param::Source(source)) => Some(*source),
         _ => None,
@@ -200,7 +209,7 @@ fn write<'a>(at: At<'_>, kind: ActKind, run: Run<'a>, out: &mut Runs<'a>) -> Res
     Ok(())
 }
 
-fn overrides<'a>(at: At<'_>, list: &'a ParamList, run: Run<'a>) -> Result<Run<'a>, Fail> {
+fn overrides<'a>(at: At<'_>, list: &'a ParamList, run: Run<'a>) -> Result<Run<'a>, AllocError> {
     let component = at.component;
     let mut run = run;
     for param in list.as_slice() {
@@ -234,7 +243,7 @@ fn selected(at: At<'_>, selection: &Selection) -> Result<Vec<u32>, AllocError> {
 }
 
 #[cycle(runs)]
-fn sequence<'a>(at: At<'_>, held: &'a Sequence, from: Runs<'a>) -> Result<Runs<'a>, Fail> {
+fn sequence<'a>(at: At<'_>, held: &'a Sequence, from: Runs<'a>) -> Result<Runs<'a>, AllocError> {
     let mut runs = from;
     for step in held.as_slice() {
         let mut at = at;
@@ -254,7 +263,12 @@ fn sequence<'a>(at: At<'_>, held: &'a Sequence, from: Runs<'a>) -> Result<Runs<'
 
 // A command, at each selected component.
 #[cycle(runs)]
-fn each<'a>(at: At<'_>, step: &'a Step, run: Run<'a>, out: &mut Runs<'a>) -> Result<(), Fail> {
+fn each<'a>(
+    at: At<'_>,
+    step: &'a Step,
+    run: Run<'a>,
+    out: &mut Runs<'a>,
+) -> Result<(), AllocError> {
     let mut run = run;
     if let Command::Index(selection) = &step.command {
         run.selection = selected(at, selection)?;
@@ -283,7 +297,12 @@ fn each<'a>(at: At<'_>, step: &'a Step, run: Run<'a>, out: &mut Runs<'a>) -> Res
 
 // A command, at one component.
 #[cycle(runs)]
-fn one<'a>(at: At<'_>, command: &'a Command, run: Run<'a>, out: &mut Runs<'a>) -> Result<(), Fail> {
+fn one<'a>(
+    at: At<'_>,
+    command: &'a Command,
+    run: Run<'a>,
+    out: &mut Runs<'a>,
+) -> Result<(), AllocError> {
     match command {
         Command::Test { kind, .. } => test(at, *kind, run, out),
         Command::Act { kind, .. } if *kind == ActKind::Invoke => invoke(at, run, out),
@@ -313,9 +332,9 @@ fn inner<'a>(
     soft_failure: bool,
     outer: &Run<'a>,
     events: Events,
-) -> Result<Runs<'a>, Fail> {
+) -> Result<Runs<'a>, AllocError> {
     if at.levels == 0 {
-        return Err(Fail::new("an inner sequence is too deep"));
+        return Err(AllocError);
     }
     let mut within = at;
     within.levels = at.levels - 1;
@@ -345,7 +364,7 @@ fn try_each<'a>(
     branches: &'a Branches,
     outer: Run<'a>,
     out: &mut Runs<'a>,
-) -> Result<(), Fail> {
+) -> Result<(), AllocError> {
     let mut waiting = Vec::new(at.alloc);
     waiting.push(outer.events.copy(at.alloc)?)?;
     let mut end = End::Condition;
@@ -376,12 +395,13 @@ fn try_each<'a>(
 
 // ---- procedures
 
-/// All runs of a procedure for these identities, where its inner sequences are at most three deep.
+/// All runs of a procedure for these identities, where its inner sequences are at most three deep. Deeper ones end as want of
+/// memory does.
 pub(crate) fn all_runs<'a>(
     alloc: Global,
     identities: &[Identity],
     plan: &Plan<'a>,
-) -> Result<Runs<'a>, Fail> {
+) -> Result<Runs<'a>, AllocError> {
     let at = At {
         alloc,
         identities,

@@ -1,14 +1,16 @@
 //! The judgement of small procedures that are drawn, beside all their runs.
 
-ghost use Rattle.std.specs.Prelude.{◌<◌};
+ghost use Rattle.std.specs.Prelude.{◌<◌, IfOk, IfSome};
+ghost use Rattle.suit_commands.specs.Allowed.{IsMember, IsPlan, IsShared};
+ghost use Rattle.suit_commands.specs.Plans.{lent_tree, plan_tree};
 
 use crate::all_runs::all_runs;
+use crate::same_events::is_same_event;
 use crate::worked_plans::{lend_member, lend_shared, member_part, shared_part};
 use path_checker::{CheckVerdict, check};
 use path_model::{BadPath, Event, Identity, first_uncovered};
 use std::alloc::{AllocError, Global};
-use std::test::Fail;
-use suit_commands::{Plan, width};
+use suit_commands::{Plan, Sequence, width};
 
 // Each with two values.
 const PARAMS: [[&[u8]; 2]; 8] = [
@@ -172,7 +174,7 @@ fn identity(number: u64) -> Identity {
 }
 
 // Whether an invoke of some run is not covered, for some identities.
-fn has_uncovered(alloc: Global, plan: &Plan<'_>) -> Result<bool, Fail> {
+fn has_uncovered(alloc: Global, plan: &Plan<'_>) -> Result<bool, AllocError> {
     for number in 0..81 {
         let identities = [identity(number), identity(number / 9)];
         for run in all_runs(alloc, &identities, plan)? {
@@ -184,25 +186,23 @@ fn has_uncovered(alloc: Global, plan: &Plan<'_>) -> Result<bool, Fail> {
     Ok(false)
 }
 
-// Whether the events begin with those of a path, as they are printed.
-fn begin_with(alloc: Global, events: &[Event], path: &[Event]) -> Result<bool, AllocError> {
+// Whether the events begin with those of a path.
+fn begin_with(events: &[Event], path: &[Event]) -> bool {
     if path.len() > events.len() {
-        return Ok(false);
+        return false;
     }
     for (one, other) in path.iter().zip(events) {
-        let one = format!(in alloc; "{one:?}")?;
-        let other = format!(in alloc; "{other:?}")?;
-        if one.as_str() != other.as_str() {
-            return Ok(false);
+        if !is_same_event(one, other) {
+            return false;
         }
     }
-    Ok(true)
+    true
 }
 
 // Whether a run for the told identities begins with the told path, which ends in its first invoke that is not covered.
-fn is_path(alloc: Global, plan: &Plan<'_>, bad: &BadPath) -> Result<bool, Fail> {
+fn is_path(alloc: Global, plan: &Plan<'_>, bad: &BadPath) -> Result<bool, AllocError> {
     for run in all_runs(alloc, bad.identities.as_slice(), plan)? {
-        if begin_with(alloc, run.events.as_slice(), bad.events.as_slice())? {
+        if begin_with(run.events.as_slice(), bad.events.as_slice()) {
             let last = bad.events.len().checked_sub(1);
             return Ok(bad.identities.len() == 2 && first_uncovered(&bad.events) == last);
         }
@@ -211,7 +211,7 @@ fn is_path(alloc: Global, plan: &Plan<'_>, bad: &BadPath) -> Result<bool, Fail> 
 }
 
 // What a verdict on a procedure is found to be.
-#[derive(Debug, PartialEq, Eq, Clone, Copy)]
+#[derive(Clone, Copy, PartialEq, Eq)]
 enum Found {
     Safe,
     Unsafe,
@@ -219,41 +219,86 @@ enum Found {
     Wrong,
 }
 
-// The verdict on a procedure that is drawn, beside all its runs.
-fn compared(draws: &mut Draws) -> Result<Found, Fail> {
-    let alloc = draws.alloc;
-    let shared = shared_part(alloc, &drawn(draws, 1, true, SETS_DIGEST, b"")?, 2)?;
-    let first = member_part(alloc, &drawn(draws, 2, false, b"", b"\x03\x0f")?, 2)?;
-    let third = member_part(alloc, &drawn(draws, 2, false, b"", b"\x17\x0f")?, 2)?;
-    let plan = Plan {
-        shared: lend_shared(&shared, 2),
-        first: lend_member(&first, 2),
-        second: None,
-        third: lend_member(&third, 2),
-        count: 2,
-    };
-    if width(&plan) > 1000 {
+// The verdict on a procedure, beside all its runs.
+fn compared(alloc: Global, plan: &Plan<'_>) -> Result<Found, AllocError>
+    requires { IsPlan (plan_tree plan.now) }
+{
+    if width(plan) > 1000 {
         return Ok(Found::Wide);
     }
-    let uncovered = has_uncovered(alloc, &plan)?;
-    match check(alloc, &plan) {
+    let uncovered = has_uncovered(alloc, plan)?;
+    match check(alloc, plan) {
         CheckVerdict::Safe if !uncovered => Ok(Found::Safe),
-        CheckVerdict::Unsafe(bad) if uncovered && is_path(alloc, &plan, &bad)? => Ok(Found::Unsafe),
+        CheckVerdict::Unsafe(bad) if uncovered && is_path(alloc, plan, &bad)? => Ok(Found::Unsafe),
         _ => Ok(Found::Wrong),
     }
 }
 
-fn times(all: &[Found], wanted: Found) -> usize {
-    all.iter().filter(|found| **found == wanted).count()
+fn drawn_shared(draws: &mut Draws) -> Result<Option<Sequence>, AllocError>
+    ensures { IfOk result (λ part. IfSome part (IsShared 2)) }
+{
+    let bytes = drawn(draws, 1, true, SETS_DIGEST, b"")?;
+    shared_part(draws.alloc, bytes.as_slice(), 2)
+}
+
+// A member, which ends with this command.
+fn drawn_member(draws: &mut Draws, last: &[u8]) -> Result<Option<Sequence>, AllocError>
+    ensures { IfOk result (λ part. IfSome part (IsMember 2)) }
+{
+    let bytes = drawn(draws, 2, false, b"", last)?;
+    member_part(draws.alloc, bytes.as_slice(), 2)
+}
+
+fn with_first(
+    draws: &mut Draws,
+    shared: Option<&Sequence>,
+    first: Option<&Sequence>,
+) -> Result<Found, AllocError>
+    requires shared { IsShared 2 (lent_tree shared) }
+    requires first { IsMember 2 (lent_tree first) }
+{
+    let third = drawn_member(draws, b"\x17\x0f")?;
+    let plan = Plan {
+        shared,
+        first,
+        second: None,
+        third: lend_member(&third, 2),
+        count: 2,
+    };
+    compared(draws.alloc, &plan)
+}
+
+fn with_shared(draws: &mut Draws, shared: Option<&Sequence>) -> Result<Found, AllocError>
+    requires { IsShared 2 (lent_tree shared) }
+{
+    let first = drawn_member(draws, b"\x03\x0f")?;
+    with_first(draws, shared, lend_member(&first, 2))
+}
+
+// The verdict on a procedure that is drawn.
+fn drawn_verdict(draws: &mut Draws) -> Result<Found, AllocError> {
+    let shared = drawn_shared(draws)?;
+    with_shared(draws, lend_shared(&shared, 2))
+}
+
+fn times(all: &[Found], wanted: Found) -> u64 {
+    let mut times: u64 = 0;
+    for found in all {
+        if *found == wanted {
+            times = times.wrapping_add(1);
+        }
+    }
+    times
 }
 
 #[test]
-fn verdicts_are_those_of_all_runs(rt: HostRuntime) -> Result<(), Fail> {
+fn verdicts_are_those_of_all_runs(rt: HostRuntime) -> Result<(), AllocError> {
     let alloc = rt.alloc();
     let mut draws = Draws { alloc, state: 1 };
     let mut all = Vec::new(alloc);
     for _ in 0..400 {
-        all.push(compared(&mut draws)?)?;
+        let found = drawn_verdict(&mut draws)?;
+        all.push(found)?;
     }
     assert!(rt; times(&all, Found::Wrong) == 0);
     assert!(rt; times(&all, Found::Safe) == 243);

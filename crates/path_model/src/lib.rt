@@ -23,6 +23,3 @@ pub use law::{
 };
 pub use play_law::{device_laws, play_laws};
 pub use procedure::Procedure;
-
-#[cfg(test)]
-mod cover_tests;

@@ -26,6 +26,3 @@ pub fn installed_anywhere()
 {
     envelope_laws();
 }
-
-#[cfg(test)]
-mod tests;

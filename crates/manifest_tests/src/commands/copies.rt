@@ -1,9 +1,11 @@
-use std::alloc::AllocError;
+//! Sequences that are put together.
+
+use crate::steps::{at, is_act, is_test, only};
+use std::alloc::{AllocError, Global};
 use suit_commands::{ActKind, Branches, Command, IndexList, Selection, Sequence, Step, TestKind};
 
-#[test]
-fn a_sequence_holds_what_was_pushed(rt: HostRuntime) -> Result<(), AllocError> {
-    let alloc = rt.alloc();
+// A set component index by a list, a try each and an invoke.
+fn three(alloc: Global) -> Result<Sequence, AllocError> {
     let mut listed = IndexList::new(alloc);
     listed.push(2)?;
     listed.push(0)?;
@@ -34,10 +36,45 @@ fn a_sequence_holds_what_was_pushed(rt: HostRuntime) -> Result<(), AllocError> {
             report: 0,
         },
     })?;
-    let shown = format!(in alloc; "{outer:?}")?;
-    assert!(rt;
-        shown.as_str()
-            == "Sequence { held: [Step { place: 1, command: Index(Listed(IndexList { held: [2, 0] })) }, Step { place: 5, command: TryEach(Branches { held: [Some(Sequence { held: [Step { place: 9, command: Test { kind: Abort, report: 15 } }] }), None] }) }, Step { place: 20, command: Act { kind: Invoke, report: 0 } }] }"
-    );
+    Ok(outer)
+}
+
+fn is_listed(command: Option<&Command>) -> bool {
+    match command {
+        Some(Command::Index(Selection::Listed(indices))) => indices.as_slice() == [2, 0].as_slice(),
+        _ => false,
+    }
+}
+
+fn is_abort(branch: Option<&Option<Sequence>>) -> bool {
+    match branch {
+        Some(Some(inner)) => is_test(only(inner, 9), TestKind::Abort, 15),
+        _ => false,
+    }
+}
+
+fn is_tried(command: Option<&Command>) -> bool {
+    match command {
+        Some(Command::TryEach(branches)) => {
+            let branches = branches.as_slice();
+            branches.len() == 2
+                && is_abort(branches.first())
+                && matches!(branches.get(1), Some(None))
+        }
+        _ => false,
+    }
+}
+
+fn are_three(steps: &[Step]) -> bool {
+    steps.len() == 3
+        && is_listed(at(steps.first(), 1))
+        && is_tried(at(steps.get(1), 5))
+        && is_act(at(steps.get(2), 20), ActKind::Invoke, 0)
+}
+
+#[test]
+fn a_sequence_holds_what_was_pushed(rt: HostRuntime) -> Result<(), AllocError> {
+    let sequence = three(rt.alloc())?;
+    assert!(rt; are_three(sequence.as_slice()));
     Ok(())
 }

@@ -4,26 +4,16 @@ use suit_commands::{ActKind, TestKind};
 
 #[test]
 fn codes_are_those_of_the_draft(rt: HostRuntime) {
-    let conditions = [
-        (TestKind::Vendor, 1),
-        (TestKind::Class, 2),
-        (TestKind::ImageMatch, 3),
-        (TestKind::Slot, 5),
-        (TestKind::CheckContent, 6),
-        (TestKind::Abort, 14),
-        (TestKind::Device, 24),
-    ];
-    for (kind, code) in conditions {
-        assert!(rt; kind.number() == code);
-    }
-    let directives = [
-        (ActKind::Write, 18),
-        (ActKind::Fetch, 21),
-        (ActKind::Copy, 22),
-        (ActKind::Invoke, 23),
-        (ActKind::Swap, 31),
-    ];
-    for (kind, code) in directives {
-        assert!(rt; kind.number() == code);
-    }
+    assert!(rt; TestKind::Vendor.number() == 1);
+    assert!(rt; TestKind::Class.number() == 2);
+    assert!(rt; TestKind::ImageMatch.number() == 3);
+    assert!(rt; TestKind::Slot.number() == 5);
+    assert!(rt; TestKind::CheckContent.number() == 6);
+    assert!(rt; TestKind::Abort.number() == 14);
+    assert!(rt; TestKind::Device.number() == 24);
+    assert!(rt; ActKind::Write.number() == 18);
+    assert!(rt; ActKind::Fetch.number() == 21);
+    assert!(rt; ActKind::Copy.number() == 22);
+    assert!(rt; ActKind::Invoke.number() == 23);
+    assert!(rt; ActKind::Swap.number() == 31);
 }

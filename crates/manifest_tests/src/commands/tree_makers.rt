@@ -39,19 +39,27 @@ pub(crate) fn listed_zeros(alloc: Global, length: u32) -> Result<Selection, Allo
     Ok(Selection::Listed(indices))
 }
 
-pub(crate) fn steps(alloc: Global, commands: Vec<Command>) -> Result<Sequence, AllocError> {
+pub(crate) fn push(sequence: &mut Sequence, command: Command) -> Result<(), AllocError> {
+    sequence.push(Step { place: 0, command })?;
+    Ok(())
+}
+
+/// A sequence of this command alone.
+pub(crate) fn one(alloc: Global, command: Command) -> Result<Sequence, AllocError> {
     let mut sequence = Sequence::new(alloc);
-    for command in commands {
-        sequence.push(Step { place: 0, command })?;
-    }
+    push(&mut sequence, command)?;
     Ok(sequence)
 }
 
-pub(crate) fn try_each(alloc: Global, inner: Vec<Option<Sequence>>) -> Result<Command, AllocError> {
+/// A try each of this sequence, and then of that one or of null.
+pub(crate) fn try_each(
+    alloc: Global,
+    first: Sequence,
+    second: Option<Sequence>,
+) -> Result<Command, AllocError> {
     let mut branches = Branches::new(alloc);
-    for branch in inner {
-        branches.push(branch)?;
-    }
+    branches.push(Some(first))?;
+    branches.push(second)?;
     Ok(Command::TryEach(branches))
 }
 

@@ -1,127 +1,74 @@
 //! Vectors from outside.
 
+use hex::FromHexError;
 use hmac_mac0::{Mac, hmac};
 use sha2::{Digest, Sha256};
+use std::alloc::{AllocError, Global};
 
-struct Vector {
-    key: &'static [u8],
-    message: &'static [u8],
-    mac: [u8; 32],
+// Keys, messages and their codes in hexadecimal (RFC 4231, section 4).
+const VECTORS: &str = "
+0b0b0b0b0b0b0b0b0b0b0b0b0b0b0b0b0b0b0b0b 4869205468657265 b0344c61d8db38535ca8afceaf0bf12b881dc200c9833da726e9376c2e32cff7
+4a656665 7768617420646f2079612077616e7420666f72206e6f7468696e673f 5bdcc146bf60754e6a042426089575c75a003f089d2739839dec58b964ec3843
+aaaaaaaaaaaaaaaaaaaaaaaaaaaaaaaaaaaaaaaa dddddddddddddddddddddddddddddddddddddddddddddddddddddddddddddddddddddddddddddddddddddddddddddddddddd 773ea91e36800e46854db8ebd09181a72959098b3ef8c122d9635514ced565fe
+0102030405060708090a0b0c0d0e0f10111213141516171819 cdcdcdcdcdcdcdcdcdcdcdcdcdcdcdcdcdcdcdcdcdcdcdcdcdcdcdcdcdcdcdcdcdcdcdcdcdcdcdcdcdcdcdcdcdcdcdcdcdcd 82558a389a443c0ea4cc819899f2083a85f0faa3e578f8077a2e3ff46729665b
+0c0c0c0c0c0c0c0c0c0c0c0c0c0c0c0c0c0c0c0c 546573742057697468205472756e636174696f6e a3b6167473100ee06e0c796c2955552bfa6f7c0a6a8aef8b93f860aab0cd20c5
+aaaaaaaaaaaaaaaaaaaaaaaaaaaaaaaaaaaaaaaaaaaaaaaaaaaaaaaaaaaaaaaaaaaaaaaaaaaaaaaaaaaaaaaaaaaaaaaaaaaaaaaaaaaaaaaaaaaaaaaaaaaaaaaaaaaaaaaaaaaaaaaaaaaaaaaaaaaaaaaaaaaaaaaaaaaaaaaaaaaaaaaaaaaaaaaaaaaaaaaaaaaaaaaaaaaaaaaaaaaaaaaaaaaaaaaaaaaaaaaaaaaaaaaaaaaaaaaaaaaaaa 54657374205573696e67204c6172676572205468616e20426c6f636b2d53697a65204b6579202d2048617368204b6579204669727374 60e431591ee0b67f0d8a26aacbf5b77f8e0bc6213728c5140546040f0ee37f54
+aaaaaaaaaaaaaaaaaaaaaaaaaaaaaaaaaaaaaaaaaaaaaaaaaaaaaaaaaaaaaaaaaaaaaaaaaaaaaaaaaaaaaaaaaaaaaaaaaaaaaaaaaaaaaaaaaaaaaaaaaaaaaaaaaaaaaaaaaaaaaaaaaaaaaaaaaaaaaaaaaaaaaaaaaaaaaaaaaaaaaaaaaaaaaaaaaaaaaaaaaaaaaaaaaaaaaaaaaaaaaaaaaaaaaaaaaaaaaaaaaaaaaaaaaaaaaaaaaaaaaa 5468697320697320612074657374207573696e672061206c6172676572207468616e20626c6f636b2d73697a65206b657920616e642061206c6172676572207468616e20626c6f636b2d73697a6520646174612e20546865206b6579206e6565647320746f20626520686173686564206265666f7265206265696e6720757365642062792074686520484d414320616c676f726974686d2e 9b09ffa71b942fcb27635fbcd5b0e944bfdc63644f0713938a7f51535c3a35e2
+";
+
+fn in_two_pieces(key: &[u8], message: &[u8]) -> [u8; 32] {
+    let (front, back) = message.split_at(message.len() / 2);
+    let mut mac = Mac::new(key);
+    mac.add(front);
+    mac.add(back);
+    mac.finish()
 }
 
-// RFC 4231, section 4.
-const VECTORS: [Vector; 7] = [
-    Vector {
-        key: &[0x0b; 20],
-        message: b"Hi There",
-        mac: [
-            0xb0, 0x34, 0x4c, 0x61, 0xd8, 0xdb, 0x38, 0x53, 0x5c, 0xa8, 0xaf, 0xce, 0xaf, 0x0b,
-            0xf1, 0x2b, 0x88, 0x1d, 0xc2, 0x00, 0xc9, 0x83, 0x3d, 0xa7, 0x26, 0xe9, 0x37, 0x6c,
-            0x2e, 0x32, 0xcf, 0xf7,
-        ],
-    },
-    Vector {
-        key: b"Jefe",
-        message: b"what do ya want for nothing?",
-        mac: [
-            0x5b, 0xdc, 0xc1, 0x46, 0xbf, 0x60, 0x75, 0x4e, 0x6a, 0x04, 0x24, 0x26, 0x08, 0x95,
-            0x75, 0xc7, 0x5a, 0x00, 0x3f, 0x08, 0x9d, 0x27, 0x39, 0x83, 0x9d, 0xec, 0x58, 0xb9,
-            0x64, 0xec, 0x38, 0x43,
-        ],
-    },
-    Vector {
-        key: &[0xaa; 20],
-        message: &[0xdd; 50],
-        mac: [
-            0x77, 0x3e, 0xa9, 0x1e, 0x36, 0x80, 0x0e, 0x46, 0x85, 0x4d, 0xb8, 0xeb, 0xd0, 0x91,
-            0x81, 0xa7, 0x29, 0x59, 0x09, 0x8b, 0x3e, 0xf8, 0xc1, 0x22, 0xd9, 0x63, 0x55, 0x14,
-            0xce, 0xd5, 0x65, 0xfe,
-        ],
-    },
-    Vector {
-        key: &[
-            0x01, 0x02, 0x03, 0x04, 0x05, 0x06, 0x07, 0x08, 0x09, 0x0a, 0x0b, 0x0c, 0x0d, 0x0e,
-            0x0f, 0x10, 0x11, 0x12, 0x13, 0x14, 0x15, 0x16, 0x17, 0x18, 0x19,
-        ],
-        message: &[0xcd; 50],
-        mac: [
-            0x82, 0x55, 0x8a, 0x38, 0x9a, 0x44, 0x3c, 0x0e, 0xa4, 0xcc, 0x81, 0x98, 0x99, 0xf2,
-            0x08, 0x3a, 0x85, 0xf0, 0xfa, 0xa3, 0xe5, 0x78, 0xf8, 0x07, 0x7a, 0x2e, 0x3f, 0xf4,
-            0x67, 0x29, 0x66, 0x5b,
-        ],
-    },
-    Vector {
-        key: &[0x0c; 20],
-        message: b"Test With Truncation",
-        mac: [
-            0xa3, 0xb6, 0x16, 0x74, 0x73, 0x10, 0x0e, 0xe0, 0x6e, 0x0c, 0x79, 0x6c, 0x29, 0x55,
-            0x55, 0x2b, 0xfa, 0x6f, 0x7c, 0x0a, 0x6a, 0x8a, 0xef, 0x8b, 0x93, 0xf8, 0x60, 0xaa,
-            0xb0, 0xcd, 0x20, 0xc5,
-        ],
-    },
-    Vector {
-        key: &[0xaa; 131],
-        message: b"Test Using Larger Than Block-Size Key - Hash Key First",
-        mac: [
-            0x60, 0xe4, 0x31, 0x59, 0x1e, 0xe0, 0xb6, 0x7f, 0x0d, 0x8a, 0x26, 0xaa, 0xcb, 0xf5,
-            0xb7, 0x7f, 0x8e, 0x0b, 0xc6, 0x21, 0x37, 0x28, 0xc5, 0x14, 0x05, 0x46, 0x04, 0x0f,
-            0x0e, 0xe3, 0x7f, 0x54,
-        ],
-    },
-    Vector {
-        key: &[0xaa; 131],
-        message: b"This is a test using a larger than block-size key and a larger than block-size data. The key needs to be hashed before being used by the HMAC algorithm.",
-        mac: [
-            0x9b, 0x09, 0xff, 0xa7, 0x1b, 0x94, 0x2f, 0xcb, 0x27, 0x63, 0x5f, 0xbc, 0xd5, 0xb0,
-            0xe9, 0x44, 0xbf, 0xdc, 0x63, 0x64, 0x4f, 0x07, 0x13, 0x93, 0x8a, 0x7f, 0x51, 0x53,
-            0x5c, 0x3a, 0x35, 0xe2,
-        ],
-    },
-];
+fn is_spelled(alloc: Global, mac: [u8; 32], digits: &str) -> Result<bool, AllocError> {
+    Ok(hex::encode(alloc, mac.as_slice())?.as_str() == digits)
+}
+
+fn is_vector(alloc: Global, row: &str) -> Result<bool, FromHexError> {
+    let (key, rest) = row.split_once(' ').unwrap_or((row, ""));
+    let (message, mac) = rest.split_once(' ').unwrap_or((rest, ""));
+    let key = hex::decode(alloc, key)?;
+    let message = hex::decode(alloc, message)?;
+    let whole = hmac(key.as_slice(), message.as_slice());
+    let in_two = in_two_pieces(key.as_slice(), message.as_slice());
+    Ok(whole == in_two && is_spelled(alloc, whole, mac)?)
+}
 
 #[test]
-fn the_vectors_of_rfc_4231_agree_in_one_piece_and_in_two(rt: HostRuntime) {
-    for vector in &VECTORS {
-        assert!(rt; hmac(vector.key, vector.message) == vector.mac);
-        let (front, back) = vector.message.split_at(vector.message.len() / 2);
-        let mut mac = Mac::new(vector.key);
-        mac.add(front);
-        mac.add(back);
-        assert!(rt; mac.finish() == vector.mac);
+fn the_vectors_of_rfc_4231_agree_in_one_piece_and_in_two(
+    rt: HostRuntime,
+) -> Result<(), FromHexError> {
+    for row in VECTORS.trim().lines() {
+        assert!(rt; is_vector(rt.alloc(), row)?, "{row}");
     }
+    Ok(())
 }
 
+const OF_NO_BYTES: &str = "b613679a0814d9ec772f95d778c35fc5ff1697c493715653c6c712144292c5ad";
+
 #[test]
-fn the_empty_key_and_the_empty_message_have_a_mac(rt: HostRuntime) {
-    let expected = [
-        0xb6, 0x13, 0x67, 0x9a, 0x08, 0x14, 0xd9, 0xec, 0x77, 0x2f, 0x95, 0xd7, 0x78, 0xc3, 0x5f,
-        0xc5, 0xff, 0x16, 0x97, 0xc4, 0x93, 0x71, 0x56, 0x53, 0xc6, 0xc7, 0x12, 0x14, 0x42, 0x92,
-        0xc5, 0xad,
-    ];
-    assert!(rt; hmac(b"", b"") == expected);
+fn the_empty_key_and_the_empty_message_have_a_mac(rt: HostRuntime) -> Result<(), AllocError> {
+    assert!(rt; is_spelled(rt.alloc(), hmac(b"", b""), OF_NO_BYTES)?);
+    Ok(())
 }
+
+const OF_63: &str = "e458f5dd7e8afee6b774e5d451ae43f4d268bf11646030143d0b0231dcb02383";
+
+const OF_64: &str = "3b7a8d453e76edb519238a515105a57508d0f169f480ebeee120a9e7803289fa";
+
+const OF_65: &str = "c2d7d4c2256ddb097409ec0c67e1d58fa1a007fc6932cac0d892a525d08af7cc";
 
 // Of 64 bytes the key is used as it stands, of 65 its digest.
 #[test]
-fn a_key_longer_than_a_block_is_hashed(rt: HostRuntime) {
+fn a_key_longer_than_a_block_is_hashed(rt: HostRuntime) -> Result<(), AllocError> {
     let digest = Sha256::digest(&[0x6b; 65]);
     assert!(rt; hmac(&[0x6b; 65], b"m") == hmac(&digest, b"m"));
-    let of_63 = [
-        0xe4, 0x58, 0xf5, 0xdd, 0x7e, 0x8a, 0xfe, 0xe6, 0xb7, 0x74, 0xe5, 0xd4, 0x51, 0xae, 0x43,
-        0xf4, 0xd2, 0x68, 0xbf, 0x11, 0x64, 0x60, 0x30, 0x14, 0x3d, 0x0b, 0x02, 0x31, 0xdc, 0xb0,
-        0x23, 0x83,
-    ];
-    assert!(rt; hmac(&[0x6b; 63], b"m") == of_63);
-    let of_64 = [
-        0x3b, 0x7a, 0x8d, 0x45, 0x3e, 0x76, 0xed, 0xb5, 0x19, 0x23, 0x8a, 0x51, 0x51, 0x05, 0xa5,
-        0x75, 0x08, 0xd0, 0xf1, 0x69, 0xf4, 0x80, 0xeb, 0xee, 0xe1, 0x20, 0xa9, 0xe7, 0x80, 0x32,
-        0x89, 0xfa,
-    ];
-    assert!(rt; hmac(&[0x6b; 64], b"m") == of_64);
-    let of_65 = [
-        0xc2, 0xd7, 0xd4, 0xc2, 0x25, 0x6d, 0xdb, 0x09, 0x74, 0x09, 0xec, 0x0c, 0x67, 0xe1, 0xd5,
-        0x8f, 0xa1, 0xa0, 0x07, 0xfc, 0x69, 0x32, 0xca, 0xc0, 0xd8, 0x92, 0xa5, 0x25, 0xd0, 0x8a,
-        0xf7, 0xcc,
-    ];
-    assert!(rt; hmac(&[0x6b; 65], b"m") == of_65);
+    assert!(rt; is_spelled(rt.alloc(), hmac(&[0x6b; 63], b"m"), OF_63)?);
+    assert!(rt; is_spelled(rt.alloc(), hmac(&[0x6b; 64], b"m"), OF_64)?);
+    assert!(rt; is_spelled(rt.alloc(), hmac(&[0x6b; 65], b"m"), OF_65)?);
+    Ok(())
 }

@@ -1,198 +1,154 @@
 //! Manifests decoded from worked bytes.
 
-use det_cbor::Reason;
-use std::alloc::{AllocError, Global};
-use suit_manifest::{Manifest, decode_manifest, manifest_laws};
-use suit_params::{Fault, Refusal, Why};
+use crate::refusals::{is_fault, row_of};
+use crate::steps::{is_act, is_test, only};
+use std::alloc::Global;
+use suit_commands::{ActKind, Sequence, TestKind};
+use suit_manifest::{Manifest, Member, TextMember, decode_manifest, manifest_laws};
+use suit_params::{Digest, Fault, Identifier, Identifiers};
 
 const WORKED: &[u8] =
     b"\xa5\x01\x01\x02\x01\x03\x58\x35\xa2\x02\x81\x81\x41\x00\x04\x58\x2c\x82\x14\xa2\x03\x58\x24\x82\x2f\x58\x20\xba\x78\x16\xbf\x8f\x01\xcf\xea\x41\x41\x40\xde\x5d\xae\x22\x23\xb0\x03\x61\xa3\x96\x17\x7a\x9c\xb4\x10\xff\x61\xf2\x00\x15\xad\x0e\x03\x07\x43\x82\x03\x0f\x09\x43\x82\x17\x0f";
 
-fn decoded(alloc: Global, bytes: &[u8]) -> Option<Manifest> {
-    match decode_manifest(alloc, bytes, 48) {
-        Ok(manifest) => Some(manifest),
-        Err(_) => None,
+// Whether it has one part, a zero.
+fn is_zero_alone(identifier: &Identifier) -> bool {
+    match identifier.get(0) {
+        Some(part) => identifier.len() == 1 && part.as_slice() == [0].as_slice(),
+        None => false,
     }
+}
+
+// Whether it is one identifier of one part, a zero.
+fn is_zero(components: &Identifiers) -> bool {
+    match components.get(0) {
+        Some(identifier) => components.len() == 1 && is_zero_alone(identifier),
+        None => false,
+    }
+}
+
+// Whether it is a sequence of this condition alone, which stands at this place.
+fn tests(sequence: &Option<Sequence>, place: u64, kind: TestKind, policy: u8) -> bool {
+    match sequence {
+        Some(sequence) => is_test(only(sequence, place), kind, policy),
+        None => false,
+    }
+}
+
+fn acts(sequence: &Option<Sequence>, place: u64, kind: ActKind, policy: u8) -> bool {
+    match sequence {
+        Some(sequence) => is_act(only(sequence, place), kind, policy),
+        None => false,
+    }
+}
+
+fn has_no_other_members(manifest: &Manifest) -> bool {
+    manifest.reference.is_none()
+        && manifest.load.is_none()
+        && matches!(&manifest.payload_fetch, Member::Empty)
+        && matches!(&manifest.install, Member::Empty)
+        && matches!(&manifest.text, TextMember::Empty)
+}
+
+#[test]
+fn a_manifest_of_one_component_is_decoded_with_its_places(rt: HostRuntime) -> Result<(), Fault> {
+    manifest_laws();
+    let manifest = decode_manifest(rt.alloc(), WORKED, 48)?;
+    assert!(rt; manifest.sequence == 1);
+    assert!(rt; is_zero(&manifest.components));
+    assert!(rt; manifest.shared.is_some());
+    assert!(rt; tests(&manifest.validate, 112, TestKind::ImageMatch, 15));
+    assert!(rt; acts(&manifest.invoke, 117, ActKind::Invoke, 15));
+    assert!(rt; has_no_other_members(&manifest));
+    Ok(())
+}
+
+const WITH_MEMBERS: &[u8] =
+    b"\xa8\x01\x01\x02\x07\x03\x46\xa1\x02\x82\x80\x81\x40\x04\x61\x75\x08\x43\x82\x0e\x00\x10\x82\x2f\x58\x20\x11\x11\x11\x11\x11\x11\x11\x11\x11\x11\x11\x11\x11\x11\x11\x11\x11\x11\x11\x11\x11\x11\x11\x11\x11\x11\x11\x11\x11\x11\x11\x11\x14\x43\x82\x12\x05\x17\x41\xf6";
+
+fn is_apart(member: &Member, wanted: Digest) -> bool {
+    match member {
+        Member::Apart(digest) => *digest == wanted,
+        _ => false,
+    }
+}
+
+fn is_write(member: &Member) -> bool {
+    match member {
+        Member::Here(sequence) => is_act(only(sequence, 109), ActKind::Write, 5),
+        _ => false,
+    }
+}
+
+fn is_text(member: &TextMember, wanted: &[u8]) -> bool {
+    match member {
+        TextMember::Here(bytes) => bytes.as_slice() == wanted,
+        _ => false,
+    }
+}
+
+#[test]
+fn members_are_here_or_apart(rt: HostRuntime) -> Result<(), Fault> {
+    let manifest = decode_manifest(rt.alloc(), WITH_MEMBERS, 48)?;
+    assert!(rt; manifest.sequence == 7);
+    assert!(rt; manifest.components.len() == 2);
+    assert!(rt; tests(&manifest.load, 67, TestKind::Abort, 0));
+    assert!(rt; is_apart(&manifest.payload_fetch, Digest { bytes: [0x11; 32] }));
+    assert!(rt; is_write(&manifest.install));
+    assert!(rt; is_text(&manifest.text, &[0xf6]));
+    Ok(())
 }
 
 // Whether bytes whose first stands at 48 are refused so.
-fn refuses(alloc: Global, bytes: &[u8], place: u64, why: Why) -> bool {
-    let fault = Fault::Refused(Refusal { place, why });
-    decode_manifest(alloc, bytes, 48).is_err_and(|found| found == fault)
+fn is_refused_so(alloc: Global, bytes: &[u8], told: &str) -> bool {
+    match decode_manifest(alloc, bytes, 48) {
+        Ok(_) => false,
+        Err(fault) => is_fault(fault, told),
+    }
 }
 
-#[test]
-fn a_manifest_of_one_component_is_decoded_with_its_places(
-    rt: HostRuntime,
-) -> Result<(), AllocError> {
-    manifest_laws();
-    let alloc = rt.alloc();
-    match decoded(alloc, WORKED) {
-        Some(manifest) => {
-            assert!(rt; manifest.sequence == 1);
-            let ids = format!(in alloc; "{:?}", manifest.components)?;
-            assert!(rt;
-                ids.as_str()
-                    == "Identifiers { held: [Identifier { held: [Bytes { held: [0] }] }] }",
-                "{ids}"
-            );
-            let validate = format!(in alloc; "{:?}", manifest.validate)?;
-            assert!(rt;
-                validate.as_str()
-                    == "Some(Sequence { held: [Step { place: 112, command: Test { kind: ImageMatch, report: 15 } }] })"
-            );
-            let invoke = format!(in alloc; "{:?}", manifest.invoke)?;
-            assert!(rt;
-                invoke.as_str()
-                    == "Some(Sequence { held: [Step { place: 117, command: Act { kind: Invoke, report: 15 } }] })"
-            );
-            let none = format!(in alloc;
-                "{:?} {:?} {:?} {:?} {:?}",
-                manifest.reference,
-                manifest.load,
-                manifest.payload_fetch,
-                manifest.install,
-                manifest.text
-            )?;
-            assert!(rt; none.as_str() == "None None Empty Empty Empty");
-            assert!(rt; manifest.shared.is_some());
-        }
-        None => assert!(rt; false),
+fn is_refused(alloc: Global, row: &str) -> bool {
+    match row_of(alloc, row) {
+        Some((bytes, told)) => is_refused_so(alloc, bytes.as_slice(), told),
+        None => false,
     }
-    Ok(())
 }
 
-#[test]
-fn members_are_here_or_apart(rt: HostRuntime) -> Result<(), AllocError> {
-    let alloc = rt.alloc();
-    let bytes =
-        b"\xa8\x01\x01\x02\x07\x03\x46\xa1\x02\x82\x80\x81\x40\x04\x61\x75\x08\x43\x82\x0e\x00\x10\x82\x2f\x58\x20\x11\x11\x11\x11\x11\x11\x11\x11\x11\x11\x11\x11\x11\x11\x11\x11\x11\x11\x11\x11\x11\x11\x11\x11\x11\x11\x11\x11\x11\x11\x11\x11\x14\x43\x82\x12\x05\x17\x41\xf6";
-    match decoded(alloc, bytes) {
-        Some(manifest) => {
-            assert!(rt; manifest.sequence == 7);
-            assert!(rt; manifest.components.len() == 2);
-            let load = format!(in alloc; "{:?}", manifest.load)?;
-            assert!(rt;
-                load.as_str()
-                    == "Some(Sequence { held: [Step { place: 67, command: Test { kind: Abort, report: 0 } }] })",
-                "{load}"
-            );
-            let fetch = format!(in alloc; "{:?}", manifest.payload_fetch)?;
-            assert!(rt;
-                fetch.as_str()
-                    == "Apart(Digest { bytes: [17, 17, 17, 17, 17, 17, 17, 17, 17, 17, 17, 17, 17, 17, 17, 17, 17, 17, 17, 17, 17, 17, 17, 17, 17, 17, 17, 17, 17, 17, 17, 17] })",
-                "{fetch}"
-            );
-            let install = format!(in alloc; "{:?}", manifest.install)?;
-            assert!(rt;
-                install.as_str()
-                    == "Here(Sequence { held: [Step { place: 109, command: Act { kind: Write, report: 5 } }] })",
-                "{install}"
-            );
-            let text = format!(in alloc; "{:?}", manifest.text)?;
-            assert!(rt; text.as_str() == "Here(Bytes { held: [246] })", "{text}");
-        }
-        None => assert!(rt; false),
-    }
-    Ok(())
-}
+const REFUSED: &str = "
+-> 48 truncated
+a501010201035835a2028181410004582c8214a2035824822f5820ba7816bf8f01cfea414140de5dae2223b00361a396177a9cb410ff61f20015ad0e03074382030f094382170f00 -> 119 trailing
+80 -> 48 shape
+a10500 -> 49 unknown-key
+a16000 -> 49 unknown-key
+a0 -> 48 missing 1
+a10102 -> 48 missing 2
+a201010200 -> 48 missing 3
+a3010202400340 -> 50 version 2
+a3014002000340 -> 50 shape
+a3010102400340 -> 52 shape
+a3010102000300 -> 54 shape
+a3010102000340 -> 55 truncated
+a301010200034180 -> 55 shape
+a3010102000341a0 -> 55 missing 2
+a3010102000343a10300 -> 56 unknown-key
+a3010102000343a10200 -> 57 shape
+a3010102000343a10280 -> 57 shape
+a3010102000344a1028100 -> 58 shape
+a3010102000345a102818100 -> 59 shape
+a3010102000345a102828080 -> 59 two-alike 0 1
+a301010200034ca10289808080808080808080 -> 57 too-many 9
+a301010200035844a1028181583e0000000000000000000000000000000000000000000000000000000000000000000000000000000000000000000000000000000000000000000000000000 -> 59 long-identifier
+a3010102000349a20281800443821200 -> 62 unsupported
+a4010102000344a10281800400 -> 60 shape
+a4010102000344a10281800743820c01 -> 63 bad-index 1 1
+a4010102000344a102818010820040 -> 60 algorithm
+a4010102000344a10281801400 -> 60 shape
+a4010102000344a10281801741ff -> 61 indefinite
+a4010102000344a102818017420000 -> 62 trailing
+";
 
 #[test]
-fn each_refusal_has_its_place(rt: HostRuntime) -> Result<(), AllocError> {
-    let table: [(&[u8], u64, Why); 30] = [
-        (b"", 48, Why::Cbor(Reason::Truncated)),
-        (
-            b"\xa5\x01\x01\x02\x01\x03\x58\x35\xa2\x02\x81\x81\x41\x00\x04\x58\x2c\x82\x14\xa2\x03\x58\x24\x82\x2f\x58\x20\xba\x78\x16\xbf\x8f\x01\xcf\xea\x41\x41\x40\xde\x5d\xae\x22\x23\xb0\x03\x61\xa3\x96\x17\x7a\x9c\xb4\x10\xff\x61\xf2\x00\x15\xad\x0e\x03\x07\x43\x82\x03\x0f\x09\x43\x82\x17\x0f\x00",
-            119,
-            Why::Trailing,
-        ),
-        (b"\x80", 48, Why::Shape),
-        (b"\xa1\x05\x00", 49, Why::UnknownKey),
-        (b"\xa1\x60\x00", 49, Why::UnknownKey),
-        (b"\xa0", 48, Why::Missing(1)),
-        (b"\xa1\x01\x02", 48, Why::Missing(2)),
-        (b"\xa2\x01\x01\x02\x00", 48, Why::Missing(3)),
-        (b"\xa3\x01\x02\x02\x40\x03\x40", 50, Why::Version(2)),
-        (b"\xa3\x01\x40\x02\x00\x03\x40", 50, Why::Shape),
-        (b"\xa3\x01\x01\x02\x40\x03\x40", 52, Why::Shape),
-        (b"\xa3\x01\x01\x02\x00\x03\x00", 54, Why::Shape),
-        (
-            b"\xa3\x01\x01\x02\x00\x03\x40",
-            55,
-            Why::Cbor(Reason::Truncated),
-        ),
-        (b"\xa3\x01\x01\x02\x00\x03\x41\x80", 55, Why::Shape),
-        (b"\xa3\x01\x01\x02\x00\x03\x41\xa0", 55, Why::Missing(2)),
-        (
-            b"\xa3\x01\x01\x02\x00\x03\x43\xa1\x03\x00",
-            56,
-            Why::UnknownKey,
-        ),
-        (b"\xa3\x01\x01\x02\x00\x03\x43\xa1\x02\x00", 57, Why::Shape),
-        (b"\xa3\x01\x01\x02\x00\x03\x43\xa1\x02\x80", 57, Why::Shape),
-        (
-            b"\xa3\x01\x01\x02\x00\x03\x44\xa1\x02\x81\x00",
-            58,
-            Why::Shape,
-        ),
-        (
-            b"\xa3\x01\x01\x02\x00\x03\x45\xa1\x02\x81\x81\x00",
-            59,
-            Why::Shape,
-        ),
-        (
-            b"\xa3\x01\x01\x02\x00\x03\x45\xa1\x02\x82\x80\x80",
-            59,
-            Why::TwoAlike(0, 1),
-        ),
-        (
-            b"\xa3\x01\x01\x02\x00\x03\x4c\xa1\x02\x89\x80\x80\x80\x80\x80\x80\x80\x80\x80",
-            57,
-            Why::TooMany(9),
-        ),
-        (
-            b"\xa3\x01\x01\x02\x00\x03\x58\x44\xa1\x02\x81\x81\x58\x3e\x00\x00\x00\x00\x00\x00\x00\x00\x00\x00\x00\x00\x00\x00\x00\x00\x00\x00\x00\x00\x00\x00\x00\x00\x00\x00\x00\x00\x00\x00\x00\x00\x00\x00\x00\x00\x00\x00\x00\x00\x00\x00\x00\x00\x00\x00\x00\x00\x00\x00\x00\x00\x00\x00\x00\x00\x00\x00\x00\x00\x00\x00",
-            59,
-            Why::LongIdentifier,
-        ),
-        (
-            b"\xa3\x01\x01\x02\x00\x03\x49\xa2\x02\x81\x80\x04\x43\x82\x12\x00",
-            62,
-            Why::Unsupported,
-        ),
-        (
-            b"\xa4\x01\x01\x02\x00\x03\x44\xa1\x02\x81\x80\x04\x00",
-            60,
-            Why::Shape,
-        ),
-        (
-            b"\xa4\x01\x01\x02\x00\x03\x44\xa1\x02\x81\x80\x07\x43\x82\x0c\x01",
-            63,
-            Why::BadIndex(1, 1),
-        ),
-        (
-            b"\xa4\x01\x01\x02\x00\x03\x44\xa1\x02\x81\x80\x10\x82\x00\x40",
-            60,
-            Why::Algorithm,
-        ),
-        (
-            b"\xa4\x01\x01\x02\x00\x03\x44\xa1\x02\x81\x80\x14\x00",
-            60,
-            Why::Shape,
-        ),
-        (
-            b"\xa4\x01\x01\x02\x00\x03\x44\xa1\x02\x81\x80\x17\x41\xff",
-            61,
-            Why::Cbor(Reason::Indefinite),
-        ),
-        (
-            b"\xa4\x01\x01\x02\x00\x03\x44\xa1\x02\x81\x80\x17\x42\x00\x00",
-            62,
-            Why::Trailing,
-        ),
-    ];
-    for (bytes, place, why) in table {
-        assert!(rt; refuses(rt.alloc(), bytes, place, why), "{bytes:?}");
+fn each_refusal_has_its_place(rt: HostRuntime) {
+    for row in REFUSED.trim().lines() {
+        assert!(rt; is_refused(rt.alloc(), row), "{row}");
     }
-    Ok(())
 }

@@ -1,12 +1,12 @@
 //! Tests of members that stand apart, in envelopes that were made by hand. Digests were made by another program.
 
 use crate::manifest::manifest_makers::manifest_with;
-use std::alloc::{AllocError, Global};
-use std::test::Fail;
-use suit_commands::{Sequence, decode_sequence};
+use crate::steps::{is_act, is_test, only};
+use std::alloc::Global;
+use suit_commands::{ActKind, Command, Sequence, TestKind, decode_sequence};
 use suit_envelope::{MemberName, decode_envelope};
 use suit_manifest::{Member, MemberFault, Members, members_laws, members_of};
-use suit_params::{Digest, Refusal, Why};
+use suit_params::{Digest, Fault, Refusal, Why};
 
 /// No member.
 const NONE: &[u8] =
@@ -66,103 +66,87 @@ fn apart(bytes: [u8; 32]) -> Member {
     Member::Apart(Digest { bytes })
 }
 
-/// The members that the envelope has for a manifest of one component with these two.
+// The members that the envelope has for a manifest of one component with these two.
 fn judged(
     alloc: Global,
     bytes: &[u8],
     payload_fetch: Member,
     install: Member,
-) -> Result<Result<Members, MemberFault>, Fail> {
+) -> Result<Members, MemberFault> {
     members_laws();
-    let manifest = manifest_with(alloc, payload_fetch, install)?;
+    let Ok(manifest) = manifest_with(alloc, payload_fetch, install) else {
+        return Err(MemberFault::NoMemory);
+    };
     match decode_envelope(bytes) {
-        Ok(envelope) => Ok(members_of(alloc, &envelope, &manifest)),
-        Err(_) => Err(Fail::from("the envelope is refused")),
+        Ok(envelope) => members_of(alloc, &envelope, &manifest),
+        Err(_) => Err(MemberFault::NoMemory),
     }
 }
 
-/// The commands of a member, as they are printed, and nothing where there is none.
-fn printed(alloc: Global, member: &Option<Sequence>) -> Result<String, AllocError> {
+// The command of a member of one command, which stands at this place.
+fn command(member: &Option<Sequence>, place: u64) -> Option<&Command> {
     match member {
-        None => Ok(String::new(alloc)),
-        Some(sequence) => Ok(format!(in alloc; "{:?}", sequence.as_slice())?),
+        Some(sequence) => only(sequence, place),
+        None => None,
     }
 }
 
-/// Whether the members that the envelope has are printed so.
-fn takes(
-    alloc: Global,
-    bytes: &[u8],
-    payload_fetch: Member,
-    install: Member,
-    wanted: (&str, &str),
-) -> Result<bool, Fail> {
-    match judged(alloc, bytes, payload_fetch, install)? {
-        Ok(members) => {
-            let first = printed(alloc, &members.payload_fetch)?;
-            let second = printed(alloc, &members.install)?;
-            Ok(first.as_str() == wanted.0 && second.as_str() == wanted.1)
-        }
-        Err(_) => Ok(false),
-    }
+// Whether payload-fetch is as told, and install an image match at this place.
+fn has_match(members: &Members, has_fetch: bool, place: u64) -> bool {
+    members.payload_fetch.is_some() == has_fetch
+        && is_test(command(&members.install, place), TestKind::ImageMatch, 15)
 }
 
-/// Whether this is the fault.
+fn has_fetch(members: &Members) -> bool {
+    is_act(command(&members.payload_fetch, 51), ActKind::Fetch, 15)
+}
+
+fn has_none(members: &Members) -> bool {
+    members.payload_fetch.is_none() && members.install.is_none()
+}
+
+// Whether this is the fault.
 fn lacks(
     alloc: Global,
     bytes: &[u8],
     payload_fetch: Member,
     install: Member,
     wanted: MemberFault,
-) -> Result<bool, Fail> {
-    let judged = judged(alloc, bytes, payload_fetch, install)?;
-    Ok(judged.is_err_and(|fault| fault == wanted))
+) -> bool {
+    match judged(alloc, bytes, payload_fetch, install) {
+        Ok(_) => false,
+        Err(fault) => fault == wanted,
+    }
 }
 
 #[test]
-fn an_install_that_matches_its_digest_is_taken_at_its_place(rt: HostRuntime) -> Result<(), Fail> {
-    let wanted = "[Step { place: 51, command: Test { kind: ImageMatch, report: 15 } }]";
-    assert!(rt;
-        takes(
-            rt.alloc(),
-            INSTALL,
-            Member::Empty,
-            apart(MATCH),
-            ("", wanted)
-        )?
-    );
+fn an_install_that_matches_its_digest_is_taken_at_its_place(
+    rt: HostRuntime,
+) -> Result<(), MemberFault> {
+    let members = judged(rt.alloc(), INSTALL, Member::Empty, apart(MATCH))?;
+    assert!(rt; has_match(&members, false, 51));
     Ok(())
 }
 
 #[test]
-fn both_members_are_taken_at_their_places(rt: HostRuntime) -> Result<(), Fail> {
-    let fetch = "[Step { place: 51, command: Act { kind: Fetch, report: 15 } }]";
-    let install = "[Step { place: 56, command: Test { kind: ImageMatch, report: 15 } }]";
-    assert!(rt;
-        takes(
-            rt.alloc(),
-            BOTH,
-            apart(FETCH),
-            apart(MATCH),
-            (fetch, install)
-        )?
-    );
+fn both_members_are_taken_at_their_places(rt: HostRuntime) -> Result<(), MemberFault> {
+    let members = judged(rt.alloc(), BOTH, apart(FETCH), apart(MATCH))?;
+    assert!(rt; has_fetch(&members));
+    assert!(rt; has_match(&members, true, 56));
     Ok(())
 }
 
 #[test]
-fn a_member_that_is_not_there_is_severed(rt: HostRuntime) -> Result<(), Fail> {
-    let alloc = rt.alloc();
+fn a_member_that_is_not_there_is_severed(rt: HostRuntime) {
     let install = MemberFault::Severed(MemberName::Install);
-    assert!(rt; lacks(alloc, NONE, Member::Empty, apart(MATCH), install)?);
+    assert!(rt; lacks(rt.alloc(), NONE, Member::Empty, apart(MATCH), install));
     let fetch = MemberFault::Severed(MemberName::PayloadFetch);
-    assert!(rt; lacks(alloc, NONE, apart(FETCH), Member::Empty, fetch)?);
-    assert!(rt; lacks(alloc, INSTALL, apart(FETCH), apart(MATCH), fetch)?);
-    Ok(())
+    assert!(rt; lacks(rt.alloc(), NONE, apart(FETCH), Member::Empty, fetch));
+    assert!(rt; lacks(rt.alloc(), INSTALL, apart(FETCH), apart(MATCH), fetch));
 }
 
 #[test]
-fn a_changed_byte_is_told_by_both_digests(rt: HostRuntime) -> Result<(), Fail> {
+fn a_changed_byte_is_told_by_both_digests(rt: HostRuntime) {
     let wanted = MemberFault::Differs {
         name: MemberName::Install,
         stated: Digest { bytes: MATCH },
@@ -170,39 +154,45 @@ fn a_changed_byte_is_told_by_both_digests(rt: HostRuntime) -> Result<(), Fail> {
             bytes: CHANGED_MATCH,
         },
     };
-    assert!(rt; lacks(rt.alloc(), CHANGED, Member::Empty, apart(MATCH), wanted)?);
-    Ok(())
+    assert!(rt; lacks(rt.alloc(), CHANGED, Member::Empty, apart(MATCH), wanted));
 }
 
 #[test]
-fn a_matching_member_is_refused_at_its_place_in_the_envelope(rt: HostRuntime) -> Result<(), Fail> {
+fn a_matching_member_is_refused_at_its_place_in_the_envelope(rt: HostRuntime) {
     let wanted = MemberFault::Refused(Refusal {
         place: 52,
         why: Why::BadIndex(1, 1),
     });
-    assert!(rt; lacks(rt.alloc(), INDEXED, Member::Empty, apart(INDEX), wanted)?);
-    Ok(())
+    assert!(rt; lacks(rt.alloc(), INDEXED, Member::Empty, apart(INDEX), wanted));
 }
 
 #[test]
-fn payload_fetch_is_judged_before_install(rt: HostRuntime) -> Result<(), Fail> {
+fn payload_fetch_is_judged_before_install(rt: HostRuntime) {
     let wanted = MemberFault::Refused(Refusal {
         place: 52,
         why: Why::BadArgument,
     });
-    assert!(rt; lacks(rt.alloc(), BAD_FETCH, apart(BAD_TRY), apart(FETCH), wanted)?);
-    Ok(())
+    assert!(rt; lacks(rt.alloc(), BAD_FETCH, apart(BAD_TRY), apart(FETCH), wanted));
 }
 
 #[test]
-fn a_member_without_a_stated_digest_is_passed_over(rt: HostRuntime) -> Result<(), Fail> {
-    let alloc = rt.alloc();
-    assert!(rt; takes(alloc, BAD_FETCH, Member::Empty, Member::Empty, ("", ""))?);
-    match decode_sequence(alloc, b"\x82\x03\x0f", 100, false, 1) {
-        Ok(own) => {
-            assert!(rt; takes(alloc, INDEXED, Member::Empty, Member::Here(own), ("", ""))?);
-        }
-        Err(_) => return Err(Fail::from("the sequence is refused")),
+fn a_member_without_a_stated_digest_is_passed_over(rt: HostRuntime) -> Result<(), MemberFault> {
+    let members = judged(rt.alloc(), BAD_FETCH, Member::Empty, Member::Empty)?;
+    assert!(rt; has_none(&members));
+    Ok(())
+}
+
+// Whether no member is taken where an install stands in the manifest.
+fn takes_none(alloc: Global, install: Sequence) -> bool {
+    match judged(alloc, INDEXED, Member::Empty, Member::Here(install)) {
+        Ok(members) => has_none(&members),
+        Err(_) => false,
     }
+}
+
+#[test]
+fn a_member_that_stands_in_the_manifest_is_passed_over(rt: HostRuntime) -> Result<(), Fault> {
+    let own = decode_sequence(rt.alloc(), b"\x82\x03\x0f", 100, false, 1)?;
+    assert!(rt; takes_none(rt.alloc(), own));
     Ok(())
 }

@@ -19,14 +19,25 @@ fn sequence(alloc: Global, place: u64) -> Result<Sequence, AllocError> {
     Ok(steps)
 }
 
-/// A manifest of one component, whose shared sequence, validate and invoke stand at 1, 2 and 3.
+// Its shared sequence, validate and invoke stand at 1, 2 and 3.
+fn fill(alloc: Global, manifest: &mut Manifest) -> Result<(), AllocError>
+    ensures { manifest.new.components ≡ manifest.old.components }
+{
+    let shared = sequence(alloc, 1)?;
+    manifest.shared = Some(shared);
+    let validate = sequence(alloc, 2)?;
+    manifest.validate = Some(validate);
+    let invoke = sequence(alloc, 3)?;
+    manifest.invoke = Some(invoke);
+    Ok(())
+}
+
+/// A manifest of one component with these sequences.
 fn manifest(alloc: Global, payload_fetch: Member, install: Member) -> Result<Manifest, AllocError>
     ensures { IfOk result (λ m. length m.components ≡ 1) }
 {
     let mut manifest = manifest_with(alloc, payload_fetch, install)?;
-    manifest.shared = Some(sequence(alloc, 1)?);
-    manifest.validate = Some(sequence(alloc, 2)?);
-    manifest.invoke = Some(sequence(alloc, 3)?);
+    fill(alloc, &mut manifest)?;
     Ok(manifest)
 }
 
@@ -50,17 +61,28 @@ fn first_places(plan: &Plan<'_>) -> (u64, u64, u64, u64) {
     )
 }
 
+fn of_update(alloc: Global) -> Result<Manifest, AllocError>
+    ensures { IfOk result (λ m. length m.components ≡ 1) }
+{
+    let own = sequence(alloc, 4)?;
+    let apart = Member::Apart(Digest { bytes: [0; 32] });
+    manifest(alloc, Member::Here(own), apart)
+}
+
+fn members(alloc: Global) -> Result<Members, AllocError> {
+    let payload_fetch = sequence(alloc, 5)?;
+    let install = sequence(alloc, 6)?;
+    Ok(Members {
+        payload_fetch: Some(payload_fetch),
+        install: Some(install),
+    })
+}
+
 #[test]
 fn an_update_takes_members_wherever_they_stand(rt: HostRuntime) -> Result<(), AllocError> {
     procedure_laws();
-    let alloc = rt.alloc();
-    let own = Member::Here(sequence(alloc, 4)?);
-    let apart = Member::Apart(Digest { bytes: [0; 32] });
-    let manifest = manifest(alloc, own, apart)?;
-    let members = Members {
-        payload_fetch: Some(sequence(alloc, 5)?),
-        install: Some(sequence(alloc, 6)?),
-    };
+    let manifest = of_update(rt.alloc())?;
+    let members = members(rt.alloc())?;
     let plan = update_plan(&manifest, &members);
     assert!(rt; plan.count == 1);
     assert!(rt; first_places(&plan) == (1, 4, 6, 2));

@@ -1,0 +1,80 @@
+//! Whether two events are the same.
+
+use path_model::Event;
+use suit_params::Param;
+
+fn is_same_param(one: &Param, other: &Param) -> bool {
+    match one {
+        Param::Vendor(id) => matches!(other, Param::Vendor(found) if found == id),
+        Param::Class(id) => matches!(other, Param::Class(found) if found == id),
+        Param::Device(id) => matches!(other, Param::Device(found) if found == id),
+        Param::Digest(digest) => matches!(other, Param::Digest(found) if found == digest),
+        Param::Slot(slot) => matches!(other, Param::Slot(found) if found == slot),
+        Param::Strict(value) => matches!(other, Param::Strict(found) if found == value),
+        Param::Soft(value) => matches!(other, Param::Soft(found) if found == value),
+        Param::Size(size) => matches!(other, Param::Size(found) if found == size),
+        Param::Content(bytes) => {
+            matches!(other, Param::Content(found) if found.as_slice() == bytes.as_slice())
+        }
+        Param::Uri(uri) => matches!(other, Param::Uri(found) if found.as_str() == uri.as_str()),
+        Param::Source(source) => matches!(other, Param::Source(found) if found == source),
+        Param::Args(bytes) => {
+            matches!(other, Param::Args(found) if found.as_slice() == bytes.as_slice())
+        }
+    }
+}
+
+// Whether the other sets the same.
+fn is_same_set(of: u32, param: &Param, other: &Event) -> bool {
+    match other {
+        Event::Set {
+            component,
+            param: found,
+        } => *component == of && is_same_param(param, found),
+        _ => false,
+    }
+}
+
+/// Whether both are the same event.
+pub(crate) fn is_same_event(one: &Event, other: &Event) -> bool {
+    match one {
+        Event::Set { component, param } => is_same_set(*component, param, other),
+        Event::Tried {
+            component,
+            kind,
+            passed,
+        } => {
+            matches!(other, Event::Tried { component: of, kind: found, passed: was_passed }
+                if of == component && found == kind && was_passed == passed)
+        }
+        Event::Matched {
+            component,
+            digest,
+            size,
+        } => {
+            matches!(other, Event::Matched { component: of, digest: found, size: found_size }
+                if of == component && found == digest && found_size == size)
+        }
+        Event::Missed { component } => {
+            matches!(other, Event::Missed { component: of } if of == component)
+        }
+        Event::Wrote { component } => {
+            matches!(other, Event::Wrote { component: of } if of == component)
+        }
+        Event::Invoked {
+            component,
+            digest,
+            size,
+            passed,
+        } => {
+            matches!(other, Event::Invoked { component: of, digest: found, size: found_size, passed: was_passed }
+                if of == component
+                    && found == digest
+                    && found_size == size
+                    && was_passed == passed)
+        }
+        Event::Failed { place } => {
+            matches!(other, Event::Failed { place: found } if found == place)
+        }
+    }
+}
