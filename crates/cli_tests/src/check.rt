@@ -2,22 +2,30 @@
 
 mod command_rows;
 mod item_rows;
+mod path_rows;
 mod refusal_rows;
 mod rows;
+mod turn_rows;
 
-use crate::runs::{STORED, answers_by_files, blank, status_of};
+use crate::runs::{STORED, answers_by_files, blank, bytes_of, status_of};
 use command_rows::REFUSED_COMMANDS;
 use item_rows::REFUSED_ITEMS;
+use itoa::Buffer;
+use path_rows::UNSAFE;
 use refusal_rows::{REFUSED_ENVELOPES, REFUSED_MANIFESTS};
 use rows::{LAST_LINES, Row, WHOLE, row_of};
 use std::alloc::{AllocError, Global};
-use std::test::Fail;
 use suit_edge::{Host, MemoryHost, MemorySink, Sink};
+use turn_rows::REFUSED_IN_TURN;
 
 /// An envelope whose invocation selects component 0, and then 2,047 times at each of 2,047 runs of a sequence: what
 /// stands before the first list of zeros, between both, and behind.
-const WIDE_START: &str =
+const TOO_WIDE_START: &str =
     "d86ba2025827815824822f5820000000000000000000000000000000000000000000000000000000000000000003591022a4010102010346a1028181410009591011860c000c9907ff";
+
+/// The same without the first selection.
+const WIDEST_START: &str =
+    "d86ba2025827815824822f5820000000000000000000000000000000000000000000000000000000000000000003591020a4010102010346a102818141000959100f840c9907ff";
 
 const WIDE_MIDDLE: &str = "1820590806840c9907ff";
 
@@ -53,22 +61,37 @@ fn check_into<H: Host, K: Sink>(
 
 // ---- manifests
 
+// The text as a line.
+fn line_of(alloc: Global, text: &str) -> Result<String, AllocError> {
+    let mut line = String::from_str(alloc, text)?;
+    line.push_str("\n")?;
+    Ok(line)
+}
+
 // Whether the file of the row is answered by just its lines.
-fn is_whole(alloc: Global, text: &str) -> Result<bool, Fail> {
-    let row = row_of(text).ok_or("no row")?;
-    let file = hex::decode(alloc, row.file)?;
-    let lines = format!(in alloc; "{}\n", row.lines)?;
-    Ok(checks(alloc, file.as_slice(), (row.status, lines.as_str()))?)
+fn is_answered(alloc: Global, row: Row<'_>) -> Result<bool, AllocError> {
+    let file = bytes_of(alloc, row.file)?;
+    let lines = line_of(alloc, row.lines)?;
+    checks(alloc, file.as_slice(), (row.status, lines.as_str()))
+}
+
+fn is_whole(alloc: Global, text: &str) -> Result<bool, AllocError> {
+    match row_of(text) {
+        Some(row) => is_answered(alloc, row),
+        None => Ok(false),
+    }
 }
 
 #[test]
-fn manifests_are_judged(rt: HostRuntime) -> Result<(), Fail> {
+fn manifests_are_judged(rt: HostRuntime) -> Result<(), AllocError> {
     for table in [
         WHOLE,
         REFUSED_ITEMS,
         REFUSED_ENVELOPES,
         REFUSED_MANIFESTS,
         REFUSED_COMMANDS,
+        UNSAFE,
+        REFUSED_IN_TURN,
     ] {
         for row in table.split("\n\n") {
             assert!(rt; is_whole(rt.alloc(), row)?, "{row}");
@@ -77,75 +100,112 @@ fn manifests_are_judged(rt: HostRuntime) -> Result<(), Fail> {
     Ok(())
 }
 
-/// Whether the lines stand somewhere in the text.
-fn contains(text: &[u8], lines: &[u8]) -> bool {
-    for start in 0..text.len() {
-        if let Some(rest) = text.get(start..)
-            && rest.starts_with(lines)
-        {
-            return true;
-        }
-    }
-    false
-}
-
-// Whether it is the status of the row, and the text a path with the lines.
+// Whether it is the status of the row, and the text a path that ends with its lines.
 fn is_path(row: Row<'_>, status: u8, text: &[u8]) -> bool {
-    status == row.status
-        && text.starts_with(b"update safe\ninvocation unsafe\nidentity 0 vendor none")
-        && contains(text, row.lines.as_bytes())
+    match text.strip_suffix(b"\n") {
+        Some(text) => {
+            status == row.status
+                && text.starts_with(b"update safe\ninvocation unsafe\nidentity 0 vendor none")
+                && text.ends_with(row.lines.as_bytes())
+        }
+        None => false,
+    }
 }
 
-// Whether the file of the row is answered by a path with its lines.
-fn is_on_path(alloc: Global, text: &str) -> Result<bool, Fail> {
-    let row = row_of(text).ok_or("no row")?;
-    let file = hex::decode(alloc, row.file)?;
-    let mut host = with_file(alloc, file.as_slice(), &[])?;
+// Whether `check` of the host's file tells a path that ends with the lines of the row.
+fn tells_path<H: Host>(alloc: Global, host: &mut H, row: Row<'_>) -> Result<bool, AllocError> {
     let mut sink = MemorySink::new(alloc, &[])?;
-    let status = check_into(alloc, &mut host, &mut sink)?;
+    let status = check_into(alloc, host, &mut sink)?;
     Ok(is_path(row, status, sink.bytes()))
 }
 
+// The same for the file of the row.
+fn is_told(alloc: Global, row: Row<'_>) -> Result<bool, AllocError> {
+    let file = bytes_of(alloc, row.file)?;
+    let mut host = with_file(alloc, file.as_slice(), &[])?;
+    tells_path(alloc, &mut host, row)
+}
+
+fn is_on_path(alloc: Global, text: &str) -> Result<bool, AllocError> {
+    match row_of(text) {
+        Some(row) => is_told(alloc, row),
+        None => Ok(false),
+    }
+}
+
 #[test]
-fn unsafe_paths_are_told(rt: HostRuntime) -> Result<(), Fail> {
+fn unsafe_paths_are_told(rt: HostRuntime) -> Result<(), AllocError> {
     for row in LAST_LINES.split("\n\n") {
         assert!(rt; is_on_path(rt.alloc(), row)?, "{row}");
     }
     Ok(())
 }
 
-// The envelope of that width.
-fn wide(alloc: Global) -> Result<Vec<u8>, Fail> {
-    let mut bytes = hex::decode(alloc, WIDE_START)?;
-    bytes.resize(bytes.len() + 2_047, 0)?;
-    bytes.extend_from_slice(hex::decode(alloc, WIDE_MIDDLE)?.as_slice())?;
-    bytes.resize(bytes.len() + 2_047, 0)?;
-    bytes.extend_from_slice(hex::decode(alloc, WIDE_END)?.as_slice())?;
+fn push_zeros(bytes: &mut Vec<u8>, count: u16) -> Result<(), AllocError> {
+    bytes.resize(bytes.len() + usize::from(count), 0)?;
+    Ok(())
+}
+
+fn push_digits(alloc: Global, bytes: &mut Vec<u8>, digits: &str) -> Result<(), AllocError> {
+    let more = bytes_of(alloc, digits)?;
+    bytes.extend_from_slice(more.as_slice())?;
+    Ok(())
+}
+
+// The envelope that begins so.
+fn wide(alloc: Global, start: &str) -> Result<Vec<u8>, AllocError> {
+    let mut bytes = bytes_of(alloc, start)?;
+    push_zeros(&mut bytes, 2_047)?;
+    push_digits(alloc, &mut bytes, WIDE_MIDDLE)?;
+    push_zeros(&mut bytes, 2_047)?;
+    push_digits(alloc, &mut bytes, WIDE_END)?;
     Ok(bytes)
 }
 
+// Whether the envelope that begins so is answered so.
+fn checks_wide(alloc: Global, start: &str, says: (u8, &str)) -> Result<bool, AllocError> {
+    let file = wide(alloc, start)?;
+    checks(alloc, file.as_slice(), says)
+}
+
 #[test]
-fn a_procedure_may_be_too_wide(rt: HostRuntime) -> Result<(), Fail> {
-    let file = wide(rt.alloc())?;
-    assert!(rt; checks(rt.alloc(), file.as_slice(), (12, "too wide: 4194305\n"))?);
+fn a_procedure_of_the_greatest_width_is_judged(rt: HostRuntime) -> Result<(), AllocError> {
+    let safe = (0, "update safe\ninvocation safe\n");
+    assert!(rt; checks_wide(rt.alloc(), WIDEST_START, safe)?);
+    Ok(())
+}
+
+#[test]
+fn a_procedure_may_be_too_wide(rt: HostRuntime) -> Result<(), AllocError> {
+    let too_wide = (12, "too wide: 4194305\n");
+    assert!(rt; checks_wide(rt.alloc(), TOO_WIDE_START, too_wide)?);
     Ok(())
 }
 
 // ---- envelopes
 
-// Whether the first bytes of an envelope are told as truncated.
-fn is_truncated(alloc: Global, bytes: &[u8], length: usize) -> Result<bool, Fail> {
-    let prefix = bytes.get(..length).ok_or("no prefix")?;
-    let line = format!(in alloc; "refused at {length}: truncated\n")?;
-    Ok(checks(alloc, prefix, (3, line.as_str()))?)
+// The line that tells what ends there as truncated.
+fn truncated_at(alloc: Global, length: usize) -> Result<String, AllocError> {
+    let mut buffer = Buffer::new();
+    let mut line = String::from_str(alloc, "refused at ")?;
+    line.push_str(buffer.format(length))?;
+    line.push_str(": truncated\n")?;
+    Ok(line)
+}
+
+// Whether these first bytes of an envelope are told as truncated.
+fn is_truncated(alloc: Global, prefix: &[u8]) -> Result<bool, AllocError> {
+    let line = truncated_at(alloc, prefix.len())?;
+    checks(alloc, prefix, (3, line.as_str()))
 }
 
 #[test]
-fn a_prefix_of_an_envelope_is_truncated(rt: HostRuntime) -> Result<(), Fail> {
-    let stored = hex::decode(rt.alloc(), STORED)?;
-    for length in 0..119usize {
+fn a_prefix_of_an_envelope_is_truncated(rt: HostRuntime) -> Result<(), AllocError> {
+    let stored = bytes_of(rt.alloc(), STORED)?;
+    assert!(rt; stored.len() == 119);
+    for length in 0..stored.len() {
         assert!(rt;
-            is_truncated(rt.alloc(), stored.as_slice(), length)?,
+            is_truncated(rt.alloc(), &stored[..length])?,
             "length {length}"
         );
     }
@@ -153,27 +213,33 @@ fn a_prefix_of_an_envelope_is_truncated(rt: HostRuntime) -> Result<(), Fail> {
 }
 
 // The start of the stored envelope, with a manifest of so many zeros.
-fn of_zeros(alloc: Global, zeros: u16) -> Result<Vec<u8>, Fail> {
-    let mut bytes = hex::decode(alloc, &STORED[..90])?;
-    bytes.push(0x03)?;
-    bytes.push(0x59)?;
+fn of_zeros(alloc: Global, zeros: u16) -> Result<Vec<u8>, AllocError> {
+    let mut bytes = bytes_of(alloc, &STORED[..90])?;
+    bytes.extend_from_slice(&[0x03, 0x59])?;
     bytes.extend_from_slice(&u16::to_be_bytes(zeros))?;
-    bytes.resize(bytes.len() + usize::from(zeros), 0)?;
+    push_zeros(&mut bytes, zeros)?;
     Ok(bytes)
 }
 
+fn checks_manifest(alloc: Global, zeros: u16, says: (u8, &str)) -> Result<bool, AllocError> {
+    let file = of_zeros(alloc, zeros)?;
+    checks(alloc, file.as_slice(), says)
+}
+
+// The same with one more byte behind it.
+fn checks_followed(alloc: Global, zeros: u16, says: (u8, &str)) -> Result<bool, AllocError> {
+    let mut file = of_zeros(alloc, zeros)?;
+    file.push(0)?;
+    checks(alloc, file.as_slice(), says)
+}
+
 #[test]
-fn an_envelope_without_its_other_members_has_16384_bytes(rt: HostRuntime) -> Result<(), Fail> {
-    let longest = of_zeros(rt.alloc(), 16_335)?;
-    assert!(rt;
-        checks(
-            rt.alloc(),
-            longest.as_slice(),
-            (3, "refused at 50: trailing\n")
-        )?
-    );
-    let longer = of_zeros(rt.alloc(), 16_336)?;
-    assert!(rt; checks(rt.alloc(), longer.as_slice(), (21, "too long envelope\n"))?);
+fn an_envelope_without_its_other_members_has_16384_bytes(
+    rt: HostRuntime,
+) -> Result<(), AllocError> {
+    assert!(rt; checks_manifest(rt.alloc(), 16_335, (3, "refused at 50: trailing\n"))?);
+    assert!(rt; checks_manifest(rt.alloc(), 16_336, (21, "too long envelope\n"))?);
+    assert!(rt; checks_followed(rt.alloc(), 16_336, (3, "refused at 16385: trailing\n"))?);
     Ok(())
 }
 
@@ -189,26 +255,26 @@ fn is_usage(alloc: Global, line: &str) -> Result<bool, AllocError> {
     answers_by_files(alloc, words.as_slice(), &mut host, (2, USAGE))
 }
 
+// No words, and then others.
+const OTHER_WORDS: &str = "
+check
+check a b
+check -v
+check -
+help
+e1.suit check
+run stat
+run init d -k
+show
+make d k
+make d k o p
+show -e k
+show e.suit -k
+show e.suit k k";
+
 #[test]
-fn other_words_are_usage(rt: HostRuntime) -> Result<(), Fail> {
-    let lines = [
-        "",
-        "check",
-        "check a b",
-        "check -v",
-        "check -",
-        "help",
-        "e1.suit check",
-        "run stat",
-        "run init d -k",
-        "show",
-        "make d k",
-        "make d k o p",
-        "show -e k",
-        "show e.suit -k",
-        "show e.suit k k",
-    ];
-    for line in &lines {
+fn other_words_are_usage(rt: HostRuntime) -> Result<(), AllocError> {
+    for line in OTHER_WORDS.split('\n') {
         assert!(rt; is_usage(rt.alloc(), line)?, "{line}");
     }
     Ok(())
@@ -227,40 +293,54 @@ fn checks_zeros(alloc: Global, count: usize, says: (u8, &str)) -> Result<bool, A
 }
 
 #[test]
-fn a_file_is_absent_or_too_long(rt: HostRuntime) -> Result<(), Fail> {
+fn a_file_is_absent_or_too_long(rt: HostRuntime) -> Result<(), AllocError> {
     assert!(rt; checks_none(rt.alloc(), (20, "absent e1.suit\n"))?);
     assert!(rt; checks_zeros(rt.alloc(), 1_048_577, (21, "too long e1.suit\n"))?);
     assert!(rt; checks_zeros(rt.alloc(), 1_048_576, (3, "refused at 1: trailing\n"))?);
     Ok(())
 }
 
-// Whether a call of the host that fails is told.
-fn tells_fault(alloc: Global, call: u64) -> Result<bool, Fail> {
-    let stored = hex::decode(alloc, STORED)?;
+// Whether `check` of the stored envelope answers so, where a call of the host fails.
+fn checks_with_fault(alloc: Global, call: u64, says: (u8, &str)) -> Result<bool, AllocError> {
+    let stored = bytes_of(alloc, STORED)?;
     let mut host = with_file(alloc, stored.as_slice(), &[call])?;
-    Ok(answers_by_files(alloc, &CHECK, &mut host, (7, "host fault\n"))?)
+    answers_by_files(alloc, &CHECK, &mut host, says)
 }
 
 #[test]
-fn each_call_of_the_host_may_fail(rt: HostRuntime) -> Result<(), Fail> {
-    for call in 0..4u64 {
-        assert_eq!(rt; tells_fault(rt.alloc(), call)?, call < 3, "call {call}");
+fn each_call_of_the_host_may_fail(rt: HostRuntime) -> Result<(), AllocError> {
+    for call in 0..3u64 {
+        assert!(rt;
+            checks_with_fault(rt.alloc(), call, (7, "host fault\n"))?,
+            "call {call}"
+        );
     }
+    assert!(rt; !checks_with_fault(rt.alloc(), 3, (7, "host fault\n"))?);
     Ok(())
 }
 
-// The status of `check` of the stored envelope and how many bytes are put, where these puts fail.
-fn put_of(alloc: Global, fails: &[u64]) -> Result<(u8, usize), Fail> {
-    let stored = hex::decode(alloc, STORED)?;
-    let mut host = with_file(alloc, stored.as_slice(), &[])?;
+// Whether `check` of the host's file has this status and puts so many bytes, where these puts fail.
+fn puts_of<H: Host>(
+    alloc: Global,
+    host: &mut H,
+    fails: &[u64],
+    wanted: (u8, usize),
+) -> Result<bool, AllocError> {
     let mut sink = MemorySink::new(alloc, fails)?;
-    let status = check_into(alloc, &mut host, &mut sink)?;
-    Ok((status, sink.bytes().len()))
+    let status = check_into(alloc, host, &mut sink)?;
+    Ok(status == wanted.0 && sink.bytes().len() == wanted.1)
+}
+
+// The same for the stored envelope.
+fn puts(alloc: Global, fails: &[u64], wanted: (u8, usize)) -> Result<bool, AllocError> {
+    let stored = bytes_of(alloc, STORED)?;
+    let mut host = with_file(alloc, stored.as_slice(), &[])?;
+    puts_of(alloc, &mut host, fails, wanted)
 }
 
 #[test]
-fn the_sink_may_fail(rt: HostRuntime) -> Result<(), Fail> {
-    assert_eq!(rt; put_of(rt.alloc(), &[0])?, (9, 0));
-    assert_eq!(rt; put_of(rt.alloc(), &[1])?, (0, 28));
+fn the_sink_may_fail(rt: HostRuntime) -> Result<(), AllocError> {
+    assert!(rt; puts(rt.alloc(), &[0], (9, 0))?);
+    assert!(rt; puts(rt.alloc(), &[1], (0, 28))?);
     Ok(())
 }

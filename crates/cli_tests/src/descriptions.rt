@@ -1,8 +1,7 @@
 //! Tests of `show FILE` on objects in memory. The digests were computed by another program.
 
-use crate::runs::{STORED, answers_by_files};
+use crate::runs::{STORED, answers_by_files, bytes_of};
 use std::alloc::{AllocError, Global};
-use std::test::Fail;
 use suit_edge::MemoryHost;
 
 /// Three members whose digests are stated: payload-fetch is there, install and the text are not.
@@ -26,23 +25,32 @@ fn describes(alloc: Global, envelope: &[u8], says: (u8, &str)) -> Result<bool, A
 }
 
 #[test]
-fn an_envelope_is_described(rt: HostRuntime) -> Result<(), Fail> {
-    let stored = hex::decode(rt.alloc(), STORED)?;
+fn an_envelope_is_described(rt: HostRuntime) -> Result<(), AllocError> {
+    let stored = bytes_of(rt.alloc(), STORED)?;
     assert!(rt; describes(rt.alloc(), stored.as_slice(), (0, STORED_SAYS))?);
     Ok(())
 }
 
 #[test]
-fn a_member_that_is_not_there_is_described_by_its_digest(rt: HostRuntime) -> Result<(), Fail> {
-    let envelope = hex::decode(rt.alloc(), HELD)?;
+fn a_member_that_is_not_there_is_described_by_its_digest(
+    rt: HostRuntime,
+) -> Result<(), AllocError> {
+    let envelope = bytes_of(rt.alloc(), HELD)?;
     assert!(rt; describes(rt.alloc(), envelope.as_slice(), (0, HELD_SAYS))?);
     Ok(())
 }
 
+/// Changes the byte at a place.
+pub(crate) fn set(bytes: &mut Vec<u8>, place: usize, value: u8) {
+    if let Some(byte) = bytes.get_mut(place) {
+        *byte = value;
+    }
+}
+
 #[test]
-fn another_text_differs(rt: HostRuntime) -> Result<(), Fail> {
-    let mut envelope = hex::decode(rt.alloc(), HELD)?;
-    *envelope.get_mut(2).ok_or("no map")? = 0xa4;
+fn another_text_differs(rt: HostRuntime) -> Result<(), AllocError> {
+    let mut envelope = bytes_of(rt.alloc(), HELD)?;
+    set(&mut envelope, 2, 0xa4);
     envelope.extend_from_slice(b"\x17\x42ab")?;
     assert!(rt;
         describes(

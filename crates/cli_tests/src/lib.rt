@@ -5,7 +5,7 @@
 mod runs;
 
 pub use runs::{
-    AUTHENTIC, DEVICE, KEY, STORED, answers, answers_by_files, blank, names, status_of,
+    AUTHENTIC, DEVICE, KEY, STORED, answers, answers_by_files, blank, bytes_of, names, status_of,
 };
 
 #[cfg(test)]

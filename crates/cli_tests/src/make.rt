@@ -2,13 +2,15 @@
 
 mod argument_rows;
 mod field_rows;
+mod json_rows;
+mod limits;
 
 use crate::descriptions::STORED_SAYS;
-use crate::runs::answers_by_files;
+use crate::runs::{answers_by_files, bytes_of};
 use argument_rows::{REFUSED_ARGUMENTS, REFUSED_PARAMETERS};
 use field_rows::{REFUSED_FIELDS, REFUSED_MEMBERS};
+use json_rows::REFUSED_JSON;
 use std::alloc::{AllocError, Global};
-use std::test::Fail;
 use suit_edge::{Host, MemoryHost, Started};
 
 const DESCRIPTION: &str =
@@ -62,8 +64,8 @@ fn makes(alloc: Global, description: &str, says: &str, wanted: &[u8]) -> Result<
 }
 
 #[test]
-fn an_envelope_is_made_and_stored(rt: HostRuntime) -> Result<(), Fail> {
-    let envelope = hex::decode(rt.alloc(), ENVELOPE)?;
+fn an_envelope_is_made_and_stored(rt: HostRuntime) -> Result<(), AllocError> {
+    let envelope = bytes_of(rt.alloc(), ENVELOPE)?;
     assert!(rt; makes(rt.alloc(), DESCRIPTION, "made 163\n", envelope.as_slice())?);
     Ok(())
 }
@@ -75,8 +77,8 @@ fn a_member_more_is_made(rt: HostRuntime) -> Result<(), AllocError> {
 }
 
 #[test]
-fn a_member_apart_is_made(rt: HostRuntime) -> Result<(), Fail> {
-    let envelope = hex::decode(rt.alloc(), SEVERED)?;
+fn a_member_apart_is_made(rt: HostRuntime) -> Result<(), AllocError> {
+    let envelope = bytes_of(rt.alloc(), SEVERED)?;
     assert!(rt; makes(rt.alloc(), WITH_SEVERED, "made 212\n", envelope.as_slice())?);
     Ok(())
 }
@@ -90,10 +92,10 @@ fn makes_again(alloc: Global, shown: &str, says: &str, wanted: &[u8]) -> Result<
 }
 
 #[test]
-fn what_is_shown_makes_the_same_envelope(rt: HostRuntime) -> Result<(), Fail> {
-    let envelope = hex::decode(rt.alloc(), ENVELOPE)?;
+fn what_is_shown_makes_the_same_envelope(rt: HostRuntime) -> Result<(), AllocError> {
+    let envelope = bytes_of(rt.alloc(), ENVELOPE)?;
     assert!(rt; makes_again(rt.alloc(), STORED_SAYS, "made 163\n", envelope.as_slice())?);
-    let severed = hex::decode(rt.alloc(), SEVERED)?;
+    let severed = bytes_of(rt.alloc(), SEVERED)?;
     assert!(rt; makes_again(rt.alloc(), SHOWN_SEVERED, "made 212\n", severed.as_slice())?);
     Ok(())
 }
@@ -129,6 +131,14 @@ fn is_refused(alloc: Global, row: &str) -> Result<bool, AllocError> {
         }
         None => Ok(false),
     }
+}
+
+#[test]
+fn a_file_may_be_no_json(rt: HostRuntime) -> Result<(), AllocError> {
+    for row in REFUSED_JSON.split("\n\n") {
+        assert!(rt; is_refused(rt.alloc(), row)?, "{row}");
+    }
+    Ok(())
 }
 
 #[test]

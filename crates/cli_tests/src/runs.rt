@@ -32,6 +32,14 @@ pub fn names(alloc: Global, words: &[&str]) -> Result<Names, AllocError> {
     Ok(names)
 }
 
+/// The bytes of a constant in hexadecimal. Digits that are none end a test as want of memory does.
+pub fn bytes_of(alloc: Global, digits: &str) -> Result<Vec<u8>, AllocError> {
+    match hex::decode(alloc, digits) {
+        Ok(bytes) => Ok(bytes),
+        Err(_) => Err(AllocError),
+    }
+}
+
 /// A flash of 65,536 zero bytes, of which these calls fail.
 pub fn blank(alloc: Global, fails: &[u64]) -> Result<MemoryDisk, AllocError>
     ensures { IfOk result (λ flash. length flash.first ≡ 65536) }

@@ -3,11 +3,12 @@
 ghost use Rattle.std.specs.Prelude.{◌≡◌, ◌≤◌};
 
 use crate::init::inits;
-use cli_tests::{AUTHENTIC, DEVICE, KEY, blank, names};
+use cli_tests::{AUTHENTIC, DEVICE, KEY, blank, bytes_of, names};
 use std::alloc::{AllocError, Global};
-use std::test::Fail;
 use suit_cli::{Status, run};
-use suit_edge::{Disk, Edge, Launcher, MemoryHost, MemoryLauncher, MemorySink};
+use suit_edge::{
+    Disk, Edge, Host, Launcher, Launches, MemoryHost, MemoryLauncher, MemorySink, Sink,
+};
 
 /// A record page: generation 1, sequence number 1, bank 0, 173 bytes, a digest, and slot 1 of component 0.
 const RECORD: [u8; 99] = [
@@ -16,6 +17,38 @@ const RECORD: [u8; 99] = [
     17, 17, 17, 17, 17, 17, 0, 0, 0, 0, 0, 0, 0, 0, 0, 0, 0, 0, 0, 0, 0, 0, 0, 0, 0, 0, 0, 0, 0, 0,
     0, 0, 0, 0, 0, 0, 0, 0, 1, 0, 0, 0, 0, 0, 0, 0,
 ];
+
+// The status of `run boot` on these objects.
+fn boot_of<H: Host, D: Disk, L: Launcher, K: Sink>(
+    alloc: Global,
+    host: &mut H,
+    flash: &mut D,
+    launcher: &mut L,
+    sink: &mut K,
+) -> Result<u8, AllocError>
+    requires { 49152 ≤ D.extent flash.old }
+    ensures { D.extent flash.new ≡ D.extent flash.old }
+{
+    let words = names(alloc, &["run", "boot"])?;
+    let Status(status) = run(alloc, &words, host, flash, launcher, sink);
+    Ok(status)
+}
+
+// Whether `run boot` with this host answers so.
+fn boots_with<H: Host, D: Disk, L: Launcher>(
+    alloc: Global,
+    host: &mut H,
+    flash: &mut D,
+    launcher: &mut L,
+    says: (u8, &str),
+) -> Result<bool, AllocError>
+    requires { 49152 ≤ D.extent flash.old }
+    ensures { D.extent flash.new ≡ D.extent flash.old }
+{
+    let mut sink = MemorySink::new(alloc, &[])?;
+    let status = boot_of(alloc, host, flash, launcher, &mut sink)?;
+    Ok(status == says.0 && sink.bytes() == says.1.as_bytes())
+}
 
 // Whether `run boot` answers so.
 fn boots<D: Disk, L: Launcher>(
@@ -27,11 +60,8 @@ fn boots<D: Disk, L: Launcher>(
     requires { 49152 ≤ D.extent flash.old }
     ensures { D.extent flash.new ≡ D.extent flash.old }
 {
-    let words = names(alloc, &["run", "boot"])?;
     let mut host = MemoryHost::new(alloc, &[])?;
-    let mut sink = MemorySink::new(alloc, &[])?;
-    let Status(status) = run(alloc, &words, &mut host, flash, launcher, &mut sink);
-    Ok(status == says.0 && sink.bytes() == says.1.as_bytes())
+    boots_with(alloc, &mut host, flash, launcher, says)
 }
 
 // Writes an envelope into bank 0, a record of it, and a content of three bytes into slot 1.
@@ -46,8 +76,8 @@ fn install<D: Disk>(flash: &mut D, envelope: &[u8; 173], content: &[u8; 3]) -> b
 }
 
 // The envelope that is installed.
-fn envelope(alloc: Global) -> Result<[u8; 173], Fail> {
-    let bytes = hex::decode(alloc, AUTHENTIC)?;
+fn envelope(alloc: Global) -> Result<[u8; 173], AllocError> {
+    let bytes = bytes_of(alloc, AUTHENTIC)?;
     let mut envelope = [0u8; 173];
     for (to, from) in envelope.iter_mut().zip(bytes.iter()) {
         *to = *from;
@@ -55,52 +85,104 @@ fn envelope(alloc: Global) -> Result<[u8; 173], Fail> {
     Ok(envelope)
 }
 
+// Whether the envelope is installed with this content.
+fn installs<D: Disk>(alloc: Global, flash: &mut D, content: &[u8; 3]) -> Result<bool, AllocError>
+    requires { 65536 ≤ D.extent flash.old }
+    ensures { D.extent flash.new ≡ D.extent flash.old }
+{
+    let envelope = envelope(alloc)?;
+    Ok(install(flash, &envelope, content))
+}
+
+fn is_ready<D: Disk>(alloc: Global, flash: &mut D) -> Result<bool, AllocError>
+    requires { 49152 ≤ D.extent flash.old }
+    ensures { D.extent flash.new ≡ D.extent flash.old }
+{
+    inits(alloc, DEVICE, &KEY, flash, (0, "ready\n"))
+}
+
+// Whether a boot of what is formatted and installed answers so.
+fn boots_installed<D: Disk, L: Launcher>(
+    alloc: Global,
+    flash: &mut D,
+    launcher: &mut L,
+    content: &[u8; 3],
+    says: (u8, &str),
+) -> Result<bool, AllocError>
+    requires { 65536 ≤ D.extent flash.old }
+{
+    Ok(
+        is_ready(alloc, flash)?
+            && installs(alloc, flash, content)?
+            && boots(alloc, flash, launcher, says)?,
+    )
+}
+
+// Whether nothing is started before something is installed.
+fn starts_nothing<D: Disk, L: Launcher>(
+    alloc: Global,
+    flash: &mut D,
+    launcher: &mut L,
+) -> Result<bool, AllocError>
+    requires { 49152 ≤ D.extent flash.old }
+    ensures { D.extent flash.new ≡ D.extent flash.old }
+{
+    Ok(
+        boots(alloc, flash, launcher, (13, "blank\n"))?
+            && is_ready(alloc, flash)?
+            && boots(alloc, flash, launcher, (15, "nothing installed\n"))?,
+    )
+}
+
+// Whether a boot of the formatted flash ends once the envelope is installed.
+fn ends<D: Disk, L: Launcher>(
+    alloc: Global,
+    flash: &mut D,
+    launcher: &mut L,
+) -> Result<bool, AllocError>
+    requires { 65536 ≤ D.extent flash.old }
+{
+    Ok(installs(alloc, flash, b"abc")? && boots(alloc, flash, launcher, (0, "ended\n"))?)
+}
+
+// Whether `abc` was launched first.
+fn is_launched(launches: &Launches) -> bool {
+    match launches.get(0) {
+        Some(launch) => {
+            launch.component == 0
+                && launch.bytes.as_slice() == b"abc".as_slice()
+                && launch.size == Some(3)
+        }
+        None => false,
+    }
+}
+
 #[test]
-fn what_is_installed_is_launched(rt: HostRuntime) -> Result<(), Fail> {
-    let alloc = rt.alloc();
-    let mut flash = blank(alloc, &[])?;
-    let mut launcher = MemoryLauncher::new(alloc, &[])?;
-    assert!(rt; boots(alloc, &mut flash, &mut launcher, (13, "blank\n"))?);
-    assert!(rt; inits(alloc, DEVICE, &KEY, &mut flash, (0, "ready\n"))?);
-    assert!(rt;
-        boots(
-            alloc,
-            &mut flash,
-            &mut launcher,
-            (15, "nothing installed\n")
-        )?
-    );
+fn what_is_installed_is_launched(rt: HostRuntime) -> Result<(), AllocError> {
+    let mut flash = blank(rt.alloc(), &[])?;
+    let mut launcher = MemoryLauncher::new(rt.alloc(), &[])?;
+    assert!(rt; starts_nothing(rt.alloc(), &mut flash, &mut launcher)?);
     assert!(rt; launcher.launches().is_empty());
-    assert!(rt; install(&mut flash, &envelope(alloc)?, b"abc"));
-    assert!(rt; boots(alloc, &mut flash, &mut launcher, (0, "ended\n"))?);
-    let launch = launcher.launches().get(0).ok_or("no launch")?;
-    assert!(rt; launch.component == 0);
-    assert!(rt; launch.bytes.as_slice() == b"abc".as_slice());
-    assert!(rt; launch.size == Some(3));
+    assert!(rt; ends(rt.alloc(), &mut flash, &mut launcher)?);
+    assert!(rt; is_launched(launcher.launches()));
     Ok(())
 }
 
 #[test]
-fn a_damaged_content_is_not_launched(rt: HostRuntime) -> Result<(), Fail> {
-    let alloc = rt.alloc();
-    let mut flash = blank(alloc, &[])?;
-    let mut launcher = MemoryLauncher::new(alloc, &[])?;
-    assert!(rt; inits(alloc, DEVICE, &KEY, &mut flash, (0, "ready\n"))?);
-    assert!(rt; install(&mut flash, &envelope(alloc)?, b"abd"));
-    let stopped = "stopped at 166: condition failed\n";
-    assert!(rt; boots(alloc, &mut flash, &mut launcher, (6, stopped))?);
+fn a_damaged_content_is_not_launched(rt: HostRuntime) -> Result<(), AllocError> {
+    let mut flash = blank(rt.alloc(), &[])?;
+    let mut launcher = MemoryLauncher::new(rt.alloc(), &[])?;
+    let stopped = (6, "stopped at 166: condition failed\n");
+    assert!(rt; boots_installed(rt.alloc(), &mut flash, &mut launcher, b"abd", stopped)?);
     assert!(rt; launcher.launches().is_empty());
     Ok(())
 }
 
 #[test]
-fn a_failed_launch_is_told(rt: HostRuntime) -> Result<(), Fail> {
-    let alloc = rt.alloc();
-    let mut flash = blank(alloc, &[])?;
-    let mut launcher = MemoryLauncher::new(alloc, &[0])?;
-    assert!(rt; inits(alloc, DEVICE, &KEY, &mut flash, (0, "ready\n"))?);
-    assert!(rt; install(&mut flash, &envelope(alloc)?, b"abc"));
-    let stopped = "stopped at 171: launch fault\n";
-    assert!(rt; boots(alloc, &mut flash, &mut launcher, (10, stopped))?);
+fn a_failed_launch_is_told(rt: HostRuntime) -> Result<(), AllocError> {
+    let mut flash = blank(rt.alloc(), &[])?;
+    let mut launcher = MemoryLauncher::new(rt.alloc(), &[0])?;
+    let stopped = (10, "stopped at 171: launch fault\n");
+    assert!(rt; boots_installed(rt.alloc(), &mut flash, &mut launcher, b"abc", stopped)?);
     Ok(())
 }

@@ -4,7 +4,6 @@ ghost use Rattle.std.specs.Prelude.{◌≡◌, ◌≤◌};
 
 use cli_tests::{DEVICE, answers, blank};
 use std::alloc::{AllocError, Global};
-use std::test::Fail;
 use suit_edge::{Disk, MemoryHost};
 
 /// Whether `run init` by this description and key answers so.
@@ -92,7 +91,7 @@ fn is_judged(alloc: Global, row: &Row) -> Result<bool, AllocError> {
 }
 
 #[test]
-fn descriptions_are_judged(rt: HostRuntime) -> Result<(), Fail> {
+fn descriptions_are_judged(rt: HostRuntime) -> Result<(), AllocError> {
     for row in &ROWS {
         assert!(rt; is_judged(rt.alloc(), row)?, "{}", row.text);
     }
@@ -100,7 +99,7 @@ fn descriptions_are_judged(rt: HostRuntime) -> Result<(), Fail> {
 }
 
 #[test]
-fn a_flash_is_formatted_once(rt: HostRuntime) -> Result<(), Fail> {
+fn a_flash_is_formatted_once(rt: HostRuntime) -> Result<(), AllocError> {
     let alloc = rt.alloc();
     let mut flash = blank(alloc, &[])?;
     assert!(rt; inits(alloc, DEVICE, b"key", &mut flash, (0, "ready\n"))?);
@@ -116,7 +115,7 @@ fn takes_key(alloc: Global, length: usize, says: (u8, &str)) -> Result<bool, All
 }
 
 #[test]
-fn a_key_has_1_to_64_bytes(rt: HostRuntime) -> Result<(), Fail> {
+fn a_key_has_1_to_64_bytes(rt: HostRuntime) -> Result<(), AllocError> {
     assert!(rt; takes_key(rt.alloc(), 0, (3, "empty key\n"))?);
     assert!(rt; takes_key(rt.alloc(), 64, (0, "ready\n"))?);
     assert!(rt; takes_key(rt.alloc(), 65, (21, "too long k\n"))?);
@@ -130,7 +129,7 @@ fn tells_fault(alloc: Global, call: u64) -> Result<bool, AllocError> {
 }
 
 #[test]
-fn each_call_of_the_flash_may_fail(rt: HostRuntime) -> Result<(), Fail> {
+fn each_call_of_the_flash_may_fail(rt: HostRuntime) -> Result<(), AllocError> {
     for call in 0..9u64 {
         assert!(rt; tells_fault(rt.alloc(), call)?, "call {call}");
     }

@@ -5,6 +5,8 @@
 #[cfg(test)]
 mod boot;
 #[cfg(test)]
+mod configs;
+#[cfg(test)]
 mod init;
 #[cfg(test)]
 mod life;

@@ -1,8 +1,10 @@
 //! Tests of sound flashes on objects in memory.
 
+ghost use Rattle.std.specs.Prelude.{◌≡◌, ◌≤◌};
+
 use crate::init::inits;
 use cli_tests::{DEVICE, KEY, answers, blank};
-use std::test::Fail;
+use std::alloc::{AllocError, Global};
 use suit_edge::{Disk, Edge, MemoryHost};
 
 /// A record page: generation 1, sequence number 1, bank 0, an envelope of no bytes, a digest, and slot 0 of component 0.
@@ -13,32 +15,30 @@ const NO_ENVELOPE: [u8; 99] = [
     0, 0, 0, 0, 0, 0, 0, 0, 0, 0, 0, 0, 0, 0, 0,
 ];
 
+// Whether `run boot` answers so.
+fn boots<D: Disk>(alloc: Global, flash: &mut D, says: (u8, &str)) -> Result<bool, AllocError>
+    requires { 49152 ≤ D.extent flash.old }
+    ensures { D.extent flash.new ≡ D.extent flash.old }
+{
+    let mut host = MemoryHost::new(alloc, &[])?;
+    answers(alloc, &["run", "boot"], &mut host, flash, says)
+}
+
+fn is_refused<D: Disk>(alloc: Global, flash: &mut D) -> Result<bool, AllocError>
+    requires { 49152 ≤ D.extent flash.old }
+{
+    Ok(
+        inits(alloc, DEVICE, &KEY, flash, (0, "ready\n"))?
+            && boots(alloc, flash, (15, "nothing installed\n"))?
+            && flash.write_at(4_096, &NO_ENVELOPE) == Edge::Done
+            && boots(alloc, flash, (3, "refused at 0: truncated\n"))?,
+    )
+}
+
 // No flash that this program alone wrote is refused so.
 #[test]
-fn a_record_of_no_envelope_is_refused(rt: HostRuntime) -> Result<(), Fail> {
-    let alloc = rt.alloc();
-    let boot = ["run", "boot"];
-    let mut flash = blank(alloc, &[])?;
-    let mut host = MemoryHost::new(alloc, &[])?;
-    assert!(rt; inits(alloc, DEVICE, &KEY, &mut flash, (0, "ready\n"))?);
-    assert!(rt;
-        answers(
-            alloc,
-            &boot,
-            &mut host,
-            &mut flash,
-            (15, "nothing installed\n")
-        )?
-    );
-    assert!(rt; flash.write_at(4_096, &NO_ENVELOPE) == Edge::Done);
-    assert!(rt;
-        answers(
-            alloc,
-            &boot,
-            &mut host,
-            &mut flash,
-            (3, "refused at 0: truncated\n")
-        )?
-    );
+fn a_record_of_no_envelope_is_refused(rt: HostRuntime) -> Result<(), AllocError> {
+    let mut flash = blank(rt.alloc(), &[])?;
+    assert!(rt; is_refused(rt.alloc(), &mut flash)?);
     Ok(())
 }

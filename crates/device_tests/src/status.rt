@@ -1,12 +1,11 @@
 //! Tests of `run status` on objects in memory.
 
-ghost use Rattle.std.specs.Prelude.{◌≡◌, ◌≤◌, IfOk, IfSome, length};
+ghost use Rattle.std.specs.Prelude.{◌≡◌, ◌≤◌};
 
 use crate::init::inits;
 use cli_tests::{answers, blank};
 use std::alloc::{AllocError, Global};
-use std::test::Fail;
-use suit_edge::{Disk, Edge, MemoryDisk, MemoryHost};
+use suit_edge::{Disk, Edge, MemoryHost};
 
 /// A device of a component with two slots and one in working memory.
 const DEVICE: &str =
@@ -42,30 +41,28 @@ fn install<D: Disk>(flash: &mut D) -> bool
         && flash.write_at(50_184, &[0, 0, 0, 0, 0, 0, 0, 3]) == Edge::Done
 }
 
-// A flash that was formatted.
-fn ready(alloc: Global) -> Result<Option<MemoryDisk>, AllocError>
-    ensures { IfOk result (λ flash. IfSome flash (λ flash. length flash.first ≡ 65536)) }
+// Whether a blank flash is told once it is formatted, and once something is installed.
+fn is_told<D: Disk>(alloc: Global, flash: &mut D) -> Result<bool, AllocError>
+    requires { 65536 ≤ D.extent flash.old }
 {
-    let mut flash = blank(alloc, &[])?;
-    if inits(alloc, DEVICE, b"key", &mut flash, (0, "ready\n"))? {
-        Ok(Some(flash))
-    } else {
-        Ok(None)
-    }
+    Ok(
+        inits(alloc, DEVICE, b"key", flash, (0, "ready\n"))?
+            && tells(alloc, flash, (15, "nothing installed\n"))?
+            && install(flash)
+            && tells(alloc, flash, (0, LINES))?,
+    )
 }
 
 #[test]
-fn a_blank_flash_is_told(rt: HostRuntime) -> Result<(), Fail> {
+fn a_blank_flash_is_told(rt: HostRuntime) -> Result<(), AllocError> {
     let mut flash = blank(rt.alloc(), &[])?;
     assert!(rt; tells(rt.alloc(), &mut flash, (13, "blank\n"))?);
     Ok(())
 }
 
 #[test]
-fn what_is_installed_is_told(rt: HostRuntime) -> Result<(), Fail> {
-    let mut flash = ready(rt.alloc())?.ok_or("not ready")?;
-    assert!(rt; tells(rt.alloc(), &mut flash, (15, "nothing installed\n"))?);
-    assert!(rt; install(&mut flash));
-    assert!(rt; tells(rt.alloc(), &mut flash, (0, LINES))?);
+fn what_is_installed_is_told(rt: HostRuntime) -> Result<(), AllocError> {
+    let mut flash = blank(rt.alloc(), &[])?;
+    assert!(rt; is_told(rt.alloc(), &mut flash)?);
     Ok(())
 }

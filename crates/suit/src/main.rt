@@ -33,6 +33,3 @@ fn main(rt: HostRuntime) -> ExitCode {
     );
     ExitCode::from(code)
 }
-
-#[cfg(test)]
-mod tests;
