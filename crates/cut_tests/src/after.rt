@@ -1,0 +1,156 @@
+//! What is found after a second update that was cut off.
+
+ghost use Rattle.std.specs.Prelude.{◌≡◌, ◌≤◌};
+
+use crate::recorded::UPDATE;
+use std::alloc::{AllocError, Global};
+use suit_edge::{Disk, Host, MemoryLauncher, MemorySink};
+use update_tests::{are_launched, status_of};
+
+/// What a run tells of the flash: the first update or the second is recorded, or neither.
+#[derive(Clone, Copy, Debug, PartialEq, Eq)]
+enum Recorded {
+    First,
+    Second,
+    Neither,
+}
+
+// Which one these lines are of.
+fn recorded_of(status: u8, lines: &[u8]) -> Recorded {
+    if status != 0 {
+        return Recorded::Neither;
+    }
+    if lines.starts_with(b"sequence 1\n") {
+        Recorded::First
+    } else if lines.starts_with(b"sequence 2\n") {
+        Recorded::Second
+    } else {
+        Recorded::Neither
+    }
+}
+
+fn told<H: Host, D: Disk>(
+    alloc: Global,
+    host: &mut H,
+    flash: &mut D,
+    launcher: &mut MemoryLauncher,
+) -> Result<Recorded, AllocError>
+    requires { 49152 ≤ D.extent flash.old }
+    ensures { D.extent flash.new ≡ D.extent flash.old }
+{
+    let mut sink = MemorySink::new(alloc, &[])?;
+    let status = status_of(alloc, "run status", host, flash, launcher, &mut sink)?;
+    Ok(recorded_of(status, sink.bytes()))
+}
+
+// Which one is recorded.
+fn read_record<H: Host, D: Disk>(
+    alloc: Global,
+    host: &mut H,
+    flash: &mut D,
+) -> Result<Recorded, AllocError>
+    requires { 49152 ≤ D.extent flash.old }
+    ensures { D.extent flash.new ≡ D.extent flash.old }
+{
+    let mut launcher = MemoryLauncher::new(alloc, &[])?;
+    told(alloc, host, flash, &mut launcher)
+}
+
+// The status of a command, whose lines are not looked at.
+fn ended<H: Host, D: Disk>(
+    alloc: Global,
+    command: &str,
+    host: &mut H,
+    flash: &mut D,
+    launcher: &mut MemoryLauncher,
+) -> Result<u8, AllocError>
+    requires { 49152 ≤ D.extent flash.old }
+    ensures { D.extent flash.new ≡ D.extent flash.old }
+{
+    let mut sink = MemorySink::new(alloc, &[])?;
+    status_of(alloc, command, host, flash, launcher, &mut sink)
+}
+
+// Whether a boot starts this image alone.
+fn is_started(status: u8, launcher: &MemoryLauncher, image: &[u8]) -> bool {
+    status == 0 && are_launched(launcher.launches(), &[image])
+}
+
+// Whether a boot is stopped and starts nothing.
+fn is_stopped(status: u8, launcher: &MemoryLauncher) -> bool {
+    status == 6 && launcher.launches().is_empty()
+}
+
+/// How many slots the device has.
+#[derive(Clone, Copy, PartialEq, Eq)]
+pub(crate) enum Slots {
+    One,
+    Two,
+}
+
+// Whether a boot starts the image that is recorded; or, where the only slot was written over, is stopped.
+fn boots<H: Host, D: Disk>(
+    alloc: Global,
+    host: &mut H,
+    flash: &mut D,
+    image: &[u8],
+    slots: Slots,
+) -> Result<bool, AllocError>
+    requires { 49152 ≤ D.extent flash.old }
+    ensures { D.extent flash.new ≡ D.extent flash.old }
+{
+    let mut launcher = MemoryLauncher::new(alloc, &[])?;
+    let status = ended(alloc, "run boot", host, flash, &mut launcher)?;
+    let stops = slots == Slots::One && is_stopped(status, &launcher);
+    Ok(stops || is_started(status, &launcher, image))
+}
+
+fn boots_recorded<H: Host, D: Disk>(
+    alloc: Global,
+    host: &mut H,
+    flash: &mut D,
+    slots: Slots,
+) -> Result<bool, AllocError>
+    requires { 49152 ≤ D.extent flash.old }
+    ensures { D.extent flash.new ≡ D.extent flash.old }
+{
+    match read_record(alloc, host, flash)? {
+        Recorded::First => boots(alloc, host, flash, b"abc", slots),
+        Recorded::Second => boots(alloc, host, flash, b"abd", slots),
+        Recorded::Neither => Ok(false),
+    }
+}
+
+// Whether the update is installed now, and launches these images itself.
+fn installs<H: Host, D: Disk>(
+    alloc: Global,
+    host: &mut H,
+    flash: &mut D,
+    at_once: &[&[u8]],
+) -> Result<bool, AllocError>
+    requires { 49152 ≤ D.extent flash.old }
+    ensures { D.extent flash.new ≡ D.extent flash.old }
+{
+    let mut launcher = MemoryLauncher::new(alloc, &[])?;
+    let status = ended(alloc, UPDATE, host, flash, &mut launcher)?;
+    Ok(status == 0 && are_launched(launcher.launches(), at_once))
+}
+
+/// Whether a boot does as is recorded; the update given again is installed, and launches these images itself; and a boot
+/// then starts its image.
+pub(crate) fn goes_on<H: Host, D: Disk>(
+    alloc: Global,
+    host: &mut H,
+    flash: &mut D,
+    slots: Slots,
+    at_once: &[&[u8]],
+) -> Result<bool, AllocError>
+    requires { 49152 ≤ D.extent flash.old }
+    ensures { D.extent flash.new ≡ D.extent flash.old }
+{
+    Ok(
+        boots_recorded(alloc, host, flash, slots)?
+            && installs(alloc, host, flash, at_once)?
+            && boots(alloc, host, flash, b"abd", Slots::Two)?,
+    )
+}
