@@ -1,5 +1,6 @@
 //! What a session does with files beside the program.
 
+use crate::memory::told;
 use det_cbor::Bytes;
 use std::alloc::Global;
 use suit_edge::{Host, Sink, Taken, take_all};
@@ -20,6 +21,14 @@ pub(crate) fn print<H: Host, K: Sink>(alloc: Global, host: &mut H, out: &mut K, 
     match content(alloc, host, name) {
         Some(bytes) => out.put(bytes.as_slice()),
         None => out.put(b"no such file\n"),
+    };
+}
+
+/// Puts whether the session has held more memory than a judgement may, by the file in which the system tells it.
+pub(crate) fn tell_memory<H: Host, K: Sink>(alloc: Global, system: &mut H, out: &mut K) {
+    match content(alloc, system, "/proc/self/status") {
+        Some(status) => out.put(told(status.as_slice()).as_bytes()),
+        None => out.put(b"not told\n"),
     };
 }
 

@@ -4,16 +4,17 @@
 
 mod files;
 mod folder;
+mod memory;
 mod step;
 
 use det_cbor::Text;
-use files::{compare, print};
+use files::{compare, print, tell_memory};
 use folder::FolderHost;
 use std::alloc::{AllocError, Global};
 use std::io;
 use step::{Step, step_of};
 use suit_cli::{Status, run};
-use suit_edge::{FileDisk, FileLauncher, StdSink};
+use suit_edge::{FileDisk, FileHost, FileLauncher, StdSink};
 
 // Does a step in a folder.
 fn perform(rt: &HostRuntime, alloc: Global, step: Step, folder: &str) -> io::Result<()> {
@@ -26,6 +27,7 @@ fn perform(rt: &HostRuntime, alloc: Global, step: Step, folder: &str) -> io::Res
         Step::Compare(one, other) => {
             compare(alloc, &mut host, &mut out, one.as_str(), other.as_str());
         }
+        Step::Memory => tell_memory(alloc, &mut FileHost::new(rt), &mut out),
         Step::Suit(words) => {
             let mut flash = FileDisk::new(rt);
             let mut launcher = FileLauncher::new(alloc, rt);

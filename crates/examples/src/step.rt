@@ -15,6 +15,8 @@ pub(crate) enum Step {
     Print(Text),
     /// `cmp FILE FILE`: whether two files are the same.
     Compare(Text, Text),
+    /// `memory`: how much memory the session has held.
+    Memory,
     /// Any other line.
     Unknown,
 }
@@ -31,6 +33,7 @@ pub(crate) fn step_of(alloc: Global, line: &str) -> Result<Step, AllocError> {
             Text::from_str(alloc, one)?,
             Text::from_str(alloc, other)?,
         )),
+        (Some("memory"), None, None, None) => Ok(Step::Memory),
         _ => Ok(Step::Unknown),
     }
 }
