@@ -56,29 +56,59 @@ fn read_record<H: Host, D: Disk>(
     told(alloc, host, flash, &mut launcher)
 }
 
-// The status of a command, whose lines are not looked at.
+/// How a boot or the second update ends.
+#[derive(Clone, Copy, PartialEq, Eq)]
+enum Ending {
+    Booted,
+    Installed,
+    ConditionFailed,
+    Other,
+}
+
+// How it ends with this status and these lines.
+fn ending_of(status: u8, lines: &[u8]) -> Ending {
+    if status == 6
+        && lines.starts_with(b"stopped at ")
+        && lines.ends_with(b": condition failed\n")
+    {
+        return Ending::ConditionFailed;
+    }
+    if status != 0 {
+        return Ending::Other;
+    }
+    if lines == b"ended\n".as_slice() {
+        Ending::Booted
+    } else if lines == b"installed 2\n".as_slice() {
+        Ending::Installed
+    } else {
+        Ending::Other
+    }
+}
+
+// How a command ends.
 fn ended<H: Host, D: Disk>(
     alloc: Global,
     command: &str,
     host: &mut H,
     flash: &mut D,
     launcher: &mut MemoryLauncher,
-) -> Result<u8, AllocError>
+) -> Result<Ending, AllocError>
     requires { 49152 ≤ D.extent flash.old }
     ensures { D.extent flash.new ≡ D.extent flash.old }
 {
     let mut sink = MemorySink::new(alloc, &[])?;
-    status_of(alloc, command, host, flash, launcher, &mut sink)
+    let status = status_of(alloc, command, host, flash, launcher, &mut sink)?;
+    Ok(ending_of(status, sink.bytes()))
 }
 
 // Whether a boot starts this image alone.
-fn is_started(status: u8, launcher: &MemoryLauncher, image: &[u8]) -> bool {
-    status == 0 && are_launched(launcher.launches(), &[image])
+fn is_started(ending: Ending, launcher: &MemoryLauncher, image: &[u8]) -> bool {
+    ending == Ending::Booted && are_launched(launcher.launches(), &[image])
 }
 
-// Whether a boot is stopped and starts nothing.
-fn is_stopped(status: u8, launcher: &MemoryLauncher) -> bool {
-    status == 6 && launcher.launches().is_empty()
+// Whether a boot is stopped at a condition and starts nothing.
+fn is_stopped(ending: Ending, launcher: &MemoryLauncher) -> bool {
+    ending == Ending::ConditionFailed && launcher.launches().is_empty()
 }
 
 /// How many slots the device has.
@@ -100,9 +130,9 @@ fn boots<H: Host, D: Disk>(
     ensures { D.extent flash.new ≡ D.extent flash.old }
 {
     let mut launcher = MemoryLauncher::new(alloc, &[])?;
-    let status = ended(alloc, "run boot", host, flash, &mut launcher)?;
-    let stops = slots == Slots::One && is_stopped(status, &launcher);
-    Ok(stops || is_started(status, &launcher, image))
+    let ending = ended(alloc, "run boot", host, flash, &mut launcher)?;
+    let stops = slots == Slots::One && is_stopped(ending, &launcher);
+    Ok(stops || is_started(ending, &launcher, image))
 }
 
 fn boots_recorded<H: Host, D: Disk>(
@@ -132,8 +162,8 @@ fn installs<H: Host, D: Disk>(
     ensures { D.extent flash.new ≡ D.extent flash.old }
 {
     let mut launcher = MemoryLauncher::new(alloc, &[])?;
-    let status = ended(alloc, UPDATE, host, flash, &mut launcher)?;
-    Ok(status == 0 && are_launched(launcher.launches(), at_once))
+    let ending = ended(alloc, UPDATE, host, flash, &mut launcher)?;
+    Ok(ending == Ending::Installed && are_launched(launcher.launches(), at_once))
 }
 
 /// Whether a boot does as is recorded; the update given again is installed, and launches these images itself; and a boot
