@@ -95,7 +95,7 @@ bad_head bytes at reason (NotTheShortest major low n rest lt ge le fits short) =
     let c = code.1 in
     record { read = at_first major low (to_be_bytes (width_of low) n ++ rest) NotShortest (omega arith) lt (code.2 ∙ number_long (width_of low) (256 ^ byte_len (width_of low)) code.0 c.wide n rest fits (c.longer major n fits short)); place = refl }
 
--- ---- what a call of the reading function returned
+-- ---- the answers of the reading function
 
 pub refused_bad : (bytes : List ℕ) (r : Result (Head × Bor (List ℕ)) Reason) → IsBytes bytes → map_ok (λ f. (f.0, f.1.now)) r ≡ head_at bytes → IfErr r (λ reason. BadHead bytes (place_in bytes reason) reason)
 refused_bad bytes (Ok f) fits e = tt

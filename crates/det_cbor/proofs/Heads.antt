@@ -27,7 +27,7 @@ below_7 P p0 p1 p2 p3 p4 p5 p6 (suc (suc (suc (suc (suc zero))))) lt = p5
 below_7 P p0 p1 p2 p3 p4 p5 p6 (suc (suc (suc (suc (suc (suc zero)))))) lt = p6
 below_7 P p0 p1 p2 p3 p4 p5 p6 (suc (suc (suc (suc (suc (suc (suc n))))))) lt = absurd (omega arith)
 
--- what the kind of a major type below 7 has: that major type, and its values as arguments
+-- the kind of a major type below 7 has that major type, and its values as arguments
 pub record IsKindOf (major : ℕ) (kind : HeadKind) : Type 0 where
   pub is_major : major_of kind ≡ major
   pub argument : (value : ℕ) → argument_of kind value ≡ value
@@ -125,7 +125,7 @@ head_again h rest fits = by_kind h.kind h.value fits
     by_kind kinds.Bool value fits = truth value fits
     by_kind kinds.Null value fits = subst (λ (v : ℕ). head_at (head_bytes 7 (22 + v) ++ rest) ≡ Ok (record { kind = kinds.Null; value = v }, rest)) (sym fits) (simple kinds.Null 0 22 rest (omega arith) refl)
 
--- ---- what a call of the reading function returned
+-- ---- the answers of the reading function
 
 pub found_begins : (bytes : List ℕ) (r : Result (Head × Bor (List ℕ)) Reason) → IsBytes bytes → map_ok (λ f. (f.0, f.1.now)) r ≡ head_at bytes → IfOk r (λ f. BeginsWith bytes f.0 f.1.now)
 found_begins bytes (Ok f) fits e = head_takes bytes f.0 f.1.now fits (sym e)

@@ -43,7 +43,7 @@ pub items_of-list_of : (xs : DataItems) → items_of (list_of xs) ≡ xs
 items_of-list_of NoItems = refl
 items_of-list_of (ItemThen x xs) = ap (ItemThen x) (items_of-list_of xs)
 
--- what was read before, in front
+-- the part read before, in front
 abbrev pub with_front : {A : Type 0} → List A → Read (List A) → Read (List A)
 with_front front r = r >>= λ o. Ok (front ++ o.0, o.1)
 

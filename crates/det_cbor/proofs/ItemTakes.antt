@@ -31,7 +31,7 @@ pub record StartsWith (levels : ℕ) (x : DataItem) (bytes rest : List ℕ) : Ty
 abbrev pub ReadsSpelled : ℕ → Reader → Type 0
 ReadsSpelled levels read = (bytes : List ℕ) (x : DataItem) (rest : List ℕ) → IsBytes bytes → read bytes ≡ Ok (x, rest) → StartsWith levels x bytes rest
 
--- what was read is what was answered
+-- the item read is the one answered
 answered : (levels : ℕ) (x y : DataItem) (bytes rest after : List ℕ) → StartsWith levels x bytes rest → ◌≡◌ {A = Result (DataItem × List ℕ) Stop} (Ok (x, rest)) (Ok (y, after)) → StartsWith levels y bytes after
 answered levels x y bytes rest after starts e =
     let parts = ok_pair x y rest after e in

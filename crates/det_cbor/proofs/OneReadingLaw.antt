@@ -14,7 +14,7 @@ use Rattle.det_cbor.proofs.ItemAgain.{item_again}
 use Rattle.det_cbor.proofs.ItemFaults.{item_fault}
 use Rattle.det_cbor.proofs.ItemRefused.{item_refused}
 
--- ---- what an answer of the reader says
+-- ---- the meaning of the reader's answers
 
 pub starts_from : (bytes : List ℕ) (x : DataItem) (rest : List ℕ) → StartsWith 0 x bytes rest → StartsWithItem bytes x (length bytes - length rest)
 starts_from bytes x rest starts =
@@ -28,7 +28,7 @@ read_again bytes x used starts =
     let whole : spell x ++ drop used bytes ≡ bytes = ap (λ (l : List ℕ). l ++ drop used bytes) (sym starts.spells.is) ∙ take-append-drop used bytes in
     subst (λ (l : List ℕ). item_at 16 l ≡ Ok (x, drop used bytes)) whole (item_again 16 0 refl x (drop used bytes) starts.spells.valid)
 
--- ---- what an item that was read says of its bytes
+-- ---- the bytes of an item that was read
 
 pub item_starts : (bytes : List ℕ) (x : DataItem) (rest : List ℕ) → IsBytes bytes → item_at 16 bytes ≡ Ok (x, rest) → StartsWithItem bytes x (length bytes - length rest)
 item_starts bytes x rest fits e = starts_from bytes x rest (item_takes 16 0 refl bytes x rest fits e)

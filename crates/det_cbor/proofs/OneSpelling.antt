@@ -84,7 +84,7 @@ mutual
 
 -- ---- the laws
 
--- what begins with two spellings begins with one, and goes on in one way
+-- bytes that begin with two spellings begin with one, and go on in one way
 pub one_spelling : (j k : ℕ) (x y : DataItem) (r s : List ℕ) → IsValidWithin j x → IsValidWithin k y → spell x ++ r ≡ spell y ++ s → (x ≡ y) × (r ≡ s)
 one_spelling j k x y r s v w e =
     let cut : bytewise (spell x ++ r) (spell y ++ s) ≡ ordering_then (item_order x y) (bytewise r s) = (items_cut_apart j k x y v w).cut r s in

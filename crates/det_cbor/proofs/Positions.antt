@@ -16,7 +16,7 @@ use Rattle.det_cbor.proofs.Heads.{IsBytes, head_takes, head_again}
 pub use Rattle.det_cbor.specs.ArgumentLaws.{IsBytes-rest, IsBytes-drop}
 use Rattle.det_cbor.specs.ResultLaws.{chosen}
 
--- what a step took, and that bytes are left
+-- the bytes that a step took, and that bytes are left
 pub record Steps (p q : Position) (taken : List ℕ) : Type 0 where
   pub parts : p.left ≡ taken ++ q.left
   pub place : q.place ≡ p.place + length taken

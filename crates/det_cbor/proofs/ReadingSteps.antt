@@ -2,7 +2,7 @@
 use Rattle.std.proofs.Common.{◌≡◌, ℕ, zero, suc, ◌+◌, ◌-◌, ◌<◌, List, [], ◌∷◌, ◌++◌, Option, Some, None, Ok, Err, refl, sym, ap, ◌∙◌, append_assoc, arith}
 use Rattle.det_cbor.specs.DataItem.{DataItem}
 use Rattle.det_cbor.specs.HeadReading.{◌>>=◌}
-use Rattle.det_cbor.specs.ItemReading.{Read, Reader, stopped, items_by, read_of, in_order, pairs_by, item_with, item_at, reader_at}
+use Rattle.det_cbor.specs.ItemReading.{Read, Reader, stopped, items_by, read_of, in_order, pairs_by, item_with, item_at, level_below, reader_at}
 use Rattle.det_cbor.proofs.ItemAgain.{with_front}
 
 pub item_at_is : (levels : ℕ) (bytes : List ℕ) → item_at levels bytes ≡ item_with (reader_at levels) bytes
@@ -10,13 +10,13 @@ unfolding item_at
 item_at_is zero bytes = refl
 item_at_is (suc levels) bytes = refl
 
-pub reader_above : (levels : ℕ) → 0 < levels → reader_at levels ≡ Some (item_at (levels - 1))
-reader_above zero lt = absurd (omega arith)
-reader_above (suc levels) lt = let e : suc levels - 1 ≡ levels = omega arith in rw e refl
+pub level_left : {A : Type 0} (made : ℕ → A) (levels : ℕ) → 0 < levels → level_below made levels ≡ Some (made (levels - 1))
+level_left made zero lt = absurd (omega arith)
+level_left made (suc levels) lt = let e : suc levels - 1 ≡ levels = omega arith in rw e refl
 
-pub reader_none : (levels : ℕ) → levels ≡ 0 → reader_at levels ≡ None
-reader_none zero e = refl
-reader_none (suc levels) e = absurd (omega arith)
+pub no_level_left : {A : Type 0} (made : ℕ → A) (levels : ℕ) → levels ≡ 0 → level_below made levels ≡ None
+no_level_left made zero e = refl
+no_level_left made (suc levels) e = absurd (omega arith)
 
 -- one more is read
 one_more : {A : Type 0} (front : List A) (x : A) (r : Read (List A)) → with_front front (r >>= λ o. Ok (x ∷ o.0, o.1)) ≡ with_front (front ++ x ∷ []) r

@@ -81,7 +81,7 @@ unfolding skip_at item_at
 skip_as zero bytes = whole_as None None tt bytes
 skip_as (suc k) bytes = whole_as (Some (skip_at k)) (Some (item_at k)) (skip_as k) bytes
 
--- ---- what a call of the skipper says
+-- ---- the meaning of the skipper's answers
 
 pub answer_read : (bytes : List ℕ) (rest : List ℕ) → Ok rest ≡ skip_at 16 bytes → (x : DataItem) × (item_at 16 bytes ≡ Ok (x, rest))
 answer_read bytes rest e = by_answer (item_at 16 bytes) refl (e ∙ skip_as 16 bytes)

@@ -9,14 +9,6 @@ unfolding skip_at
 skip_at_is zero bytes = refl
 skip_at_is (suc levels) bytes = refl
 
-pub parts_above : (levels : ℕ) → 0 < levels → parts_at levels ≡ Some (skip_at (levels - 1))
-parts_above zero lt = absurd (omega arith)
-parts_above (suc levels) lt = let e : suc levels - 1 ≡ levels = omega arith in rw e refl
-
-pub parts_none : (levels : ℕ) → levels ≡ 0 → parts_at levels ≡ None
-parts_none zero e = refl
-parts_none (suc levels) e = absurd (omega arith)
-
 -- one more item was passed over
 pub skips_step : (skip : Skipper) (count i : ℕ) (bytes rest : List ℕ) (total : Result (List ℕ) Stop) → i < count → Ok rest ≡ skip bytes → skips_by skip (count - i) bytes ≡ total → skips_by skip (count - (i + 1)) rest ≡ total
 skips_step skip count i bytes rest total lt e so_far =

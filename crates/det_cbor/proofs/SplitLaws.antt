@@ -69,7 +69,7 @@ split_refused bytes at reason faulty =
     let place : length bytes - stops.left ≡ at = omega arith in
     ap (split_by bytes) skipped ∙ ap (λ (n : ℕ). Err (record { place = n; reason = reason })) place
 
--- ---- what a call answered
+-- ---- the answer of a call
 
 abbrev pub Split : Type 0
 Split = Result (Bor (List ℕ) × Bor (List ℕ)) CborRefusal

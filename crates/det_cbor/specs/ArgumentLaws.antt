@@ -40,7 +40,8 @@ bytes_of_all (b ∷ bytes) all (suc i) = bytes_of_all bytes all.1 i
 
 pub record IsWide (w : Width) (limit : ℕ) : Type 0 where
   pub len : (n : ℕ) → length (to_be_bytes w n) ≡ byte_len w
-  pub back : (bytes : List ℕ) → length bytes ≡ byte_len w → IsBytes bytes → to_be_bytes w (from_be_bytes w bytes) ≡ bytes
+  pub back : (bytes : List ℕ) → length bytes ≡ byte_len w → IsBytes bytes
+      → to_be_bytes w (from_be_bytes w bytes) ≡ bytes
   pub again : (n : ℕ) → n < limit → from_be_bytes w (to_be_bytes w n) ≡ n
   pub below : (bytes : List ℕ) → IsBytes bytes → from_be_bytes w bytes < limit
 
@@ -68,7 +69,8 @@ wide64 = record {
   below = λ bytes fits. omega (arith, fits 0, fits 1, fits 2, fits 3, fits 4, fits 5, fits 6, fits 7);
 }
 
-back8 : (bytes : List ℕ) → length bytes ≡ 1 → IsBytes bytes → to_be_bytes w8 (from_be_bytes w8 bytes) ≡ bytes
+back8 : (bytes : List ℕ) → length bytes ≡ 1 → IsBytes bytes
+    → to_be_bytes w8 (from_be_bytes w8 bytes) ≡ bytes
 back8 [] len fits = absurd (omega arith)
 back8 (b ∷ []) len fits = let lt : b < 256 = fits 0 in ap (λ (x : ℕ). x ∷ []) (omega arith)
 back8 (b ∷ c ∷ bytes) len fits = absurd (omega arith)
@@ -81,7 +83,10 @@ wide8 = record {
   below = λ bytes fits. omega (arith, fits 0);
 }
 
-pub number_takes : (w : Width) (limit least : ℕ) (wide : IsWide w limit) (bytes : List ℕ) (n : ℕ) (rest : List ℕ) → IsBytes bytes → number_at w least bytes ≡ Ok (n, rest) → (bytes ≡ to_be_bytes w n ++ rest) × (n < limit) × (least ≤ n)
+pub number_takes : (w : Width) (limit least : ℕ) (wide : IsWide w limit) (bytes : List ℕ) (n : ℕ)
+    (rest : List ℕ)
+    → IsBytes bytes → number_at w least bytes ≡ Ok (n, rest)
+    → (bytes ≡ to_be_bytes w n ++ rest) × (n < limit) × (least ≤ n)
 number_takes w limit least wide bytes n rest fits e =
     elim (chosen (ltb (length bytes) (byte_len w)) _ _ _ e) [
       | inl (short, none) ↦ absurd cc
@@ -99,7 +104,8 @@ number_takes w limit least wide bytes n rest fits e =
       ]
     ]
 
-pub number_again : (w : Width) (limit least : ℕ) (wide : IsWide w limit) (n : ℕ) (rest : List ℕ) → n < limit → least ≤ n → number_at w least (to_be_bytes w n ++ rest) ≡ Ok (n, rest)
+pub number_again : (w : Width) (limit least : ℕ) (wide : IsWide w limit) (n : ℕ) (rest : List ℕ)
+    → n < limit → least ≤ n → number_at w least (to_be_bytes w n ++ rest) ≡ Ok (n, rest)
 number_again w limit least wide n rest lt le =
     let len = wide.len n in
     let long : ltb (length (to_be_bytes w n ++ rest)) (byte_len w) ≡ false = le-ltb _ _ (omega (arith, length-append (to_be_bytes w n) rest)) in
@@ -112,14 +118,16 @@ pub head_small : (major n : ℕ) → n < 24 → head_bytes major n ≡ (32 * maj
 unfolding head_bytes
 head_small major n lt = let a : ltb n 24 ≡ true = lt-ltb _ _ lt in rw a refl
 
-pub head_8 : (major n : ℕ) → 24 ≤ n → n < 2 ^ 8 → head_bytes major n ≡ (32 * major + 24) ∷ to_be_bytes w8 n
+pub head_8 : (major n : ℕ) → 24 ≤ n → n < 2 ^ 8
+    → head_bytes major n ≡ (32 * major + 24) ∷ to_be_bytes w8 n
 unfolding head_bytes
 head_8 major n ge lt =
     let a : ltb n 24 ≡ false = le-ltb _ _ ge in
     let b : ltb n (2 ^ 8) ≡ true = lt-ltb _ _ lt in
     rw (a, b) refl
 
-pub head_16 : (major n : ℕ) → 2 ^ 8 ≤ n → n < 2 ^ 16 → head_bytes major n ≡ (32 * major + 25) ∷ to_be_bytes w16 n
+pub head_16 : (major n : ℕ) → 2 ^ 8 ≤ n → n < 2 ^ 16
+    → head_bytes major n ≡ (32 * major + 25) ∷ to_be_bytes w16 n
 unfolding head_bytes
 head_16 major n ge lt =
     let a : ltb n 24 ≡ false = le-ltb _ _ (omega arith) in
@@ -127,7 +135,8 @@ head_16 major n ge lt =
     let c : ltb n (2 ^ 16) ≡ true = lt-ltb _ _ lt in
     rw (a, b, c) refl
 
-pub head_32 : (major n : ℕ) → 2 ^ 16 ≤ n → n < 2 ^ 32 → head_bytes major n ≡ (32 * major + 26) ∷ to_be_bytes w32 n
+pub head_32 : (major n : ℕ) → 2 ^ 16 ≤ n → n < 2 ^ 32
+    → head_bytes major n ≡ (32 * major + 26) ∷ to_be_bytes w32 n
 unfolding head_bytes
 head_32 major n ge lt =
     let a : ltb n 24 ≡ false = le-ltb _ _ (omega arith) in
@@ -136,7 +145,8 @@ head_32 major n ge lt =
     let d : ltb n (2 ^ 32) ≡ true = lt-ltb _ _ lt in
     rw (a, b, c, d) refl
 
-pub head_64 : (major n : ℕ) → 2 ^ 32 ≤ n → n < 2 ^ 64 → head_bytes major n ≡ (32 * major + 27) ∷ to_be_bytes w64 n
+pub head_64 : (major n : ℕ) → 2 ^ 32 ≤ n → n < 2 ^ 64
+    → head_bytes major n ≡ (32 * major + 27) ∷ to_be_bytes w64 n
 unfolding head_bytes
 head_64 major n ge lt =
     let a : ltb n 24 ≡ false = le-ltb _ _ (omega arith) in
@@ -145,8 +155,9 @@ head_64 major n ge lt =
     let d : ltb n (2 ^ 32) ≡ false = le-ltb _ _ ge in
     rw (a, b, c, d) refl
 
--- what is read as an argument of a width
-wide_takes : (w : Width) (limit least code major low : ℕ) (wide : IsWide w limit) → limit ≤ 2 ^ 64 → ((v : ℕ) → least ≤ v → v < limit → head_bytes major v ≡ (32 * major + code) ∷ to_be_bytes w v)
+-- the argument of a width, as it is read
+wide_takes : (w : Width) (limit least code major low : ℕ) (wide : IsWide w limit) → limit ≤ 2 ^ 64
+    → ((v : ℕ) → least ≤ v → v < limit → head_bytes major v ≡ (32 * major + code) ∷ to_be_bytes w v)
     → (bytes : List ℕ) (n : ℕ) (rest : List ℕ) → IsBytes bytes → low ≡ code → number_at w least bytes ≡ Ok (n, rest) → ((32 * major + low) ∷ bytes ≡ head_bytes major n ++ rest) × (n < 2 ^ 64)
 wide_takes w limit least code major low wide small shape bytes n rest fits is e =
     let t = number_takes w limit least wide bytes n rest fits e in
@@ -156,7 +167,9 @@ wide_takes w limit least code major low wide small shape bytes n rest fits is e 
     (rw (head, is, ← parts) refl, omega arith)
 
 -- the argument that is read is spelled so, behind a first byte of any major type
-pub argument_takes : (major low : ℕ) (bytes : List ℕ) (n : ℕ) (rest : List ℕ) → IsBytes bytes → argument_at low bytes ≡ Ok (n, rest) → ((32 * major + low) ∷ bytes ≡ head_bytes major n ++ rest) × (n < 2 ^ 64)
+pub argument_takes : (major low : ℕ) (bytes : List ℕ) (n : ℕ) (rest : List ℕ) → IsBytes bytes
+    → argument_at low bytes ≡ Ok (n, rest)
+    → ((32 * major + low) ∷ bytes ≡ head_bytes major n ++ rest) × (n < 2 ^ 64)
 unfolding argument_at
 argument_takes major low bytes n rest fits e =
     elim (chosen (ltb low 24) _ _ _ e) [
@@ -209,7 +222,8 @@ argument_again major n rest lt =
     ]
 
 -- a head is of one to nine bytes
-pub head_length : (major n : ℕ) → n < 2 ^ 64 → (1 ≤ length (head_bytes major n)) × (length (head_bytes major n) ≤ 9)
+pub head_length : (major n : ℕ) → n < 2 ^ 64
+    → (1 ≤ length (head_bytes major n)) × (length (head_bytes major n) ≤ 9)
 head_length major n lt =
     elim (cases_lt n 24) [
       | inl a ↦ rw (head_small major n a) (omega arith, omega arith)

@@ -8,15 +8,16 @@ use Rattle.det_cbor.specs.DataItem.{DataItem, UnsignedInteger, NegativeInteger, 
 abbrev string_code : Coded (List ℕ)
 string_code = coded_list coded_ℕ
 
-abbrev number : Gv → ℕ
+-- a code as a number, and the parts of a pair
+abbrev pub number : Gv → ℕ
 number (gnum n) = n
 number _ = 0
 
-abbrev first : Gv → Gv
+abbrev pub first : Gv → Gv
 first (gcons a b) = a
 first _ = gnil
 
-abbrev rest : Gv → Gv
+abbrev pub rest : Gv → Gv
 rest (gcons a b) = b
 rest _ = gnil
 

@@ -47,7 +47,7 @@ argument_at low bytes =
     else if low == 31 then Err Indefinite
     else Err Kind
 
--- what major type 7 has: false, true and null
+-- major type 7: false, true and null
 abbrev pub simple_value : ℕ → Result Head Reason
 simple_value low =
     if low == 20 then Ok (record { kind = kinds.Bool; value = 0 })

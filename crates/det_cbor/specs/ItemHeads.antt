@@ -70,5 +70,7 @@ pub item_begins : (levels : ℕ) (x : DataItem) (bytes rest : List ℕ)
 item_begins levels x bytes rest v e =
     record {
       value = value_fits levels x v;
-      parts = e ∙ ap (λ s. s ++ rest) (item_spelled x) ∙ append_assoc (spelled (item_head x)) (spell_parts x) rest;
+      parts =
+          e ∙ ap (λ s. s ++ rest) (item_spelled x) ∙ append_assoc (spelled (item_head x))
+          (spell_parts x) rest;
     }

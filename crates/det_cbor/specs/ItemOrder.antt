@@ -30,7 +30,7 @@ head_argument (Boolean false) = 20
 head_argument (Boolean true) = 21
 head_argument NullItem = 22
 
--- what is spelled after the head
+-- the spelling after the head
 abbrev pub spell_parts : DataItem → List ℕ
 spell_parts (UnsignedInteger n) = []
 spell_parts (NegativeInteger n) = []

@@ -124,7 +124,11 @@ unfoldable pub item_at : ℕ → Reader
 item_at zero bytes = item_with None bytes
 item_at (suc levels) bytes = item_with (Some (item_at levels)) bytes
 
--- the reader of parts, where a level is left
+-- what is made with one level less, where a level is left
+abbrev pub level_below : {A : Type 0} → (ℕ → A) → ℕ → Option A
+level_below made zero = None
+level_below made (suc levels) = Some (made levels)
+
+-- the reader of parts
 abbrev pub reader_at : ℕ → Option Reader
-reader_at zero = None
-reader_at (suc levels) = Some (item_at levels)
+reader_at levels = level_below item_at levels

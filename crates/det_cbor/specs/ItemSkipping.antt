@@ -5,7 +5,7 @@ use Rattle.det_cbor.specs.declared.head.HeadKind.TheVariants as kinds
 use Rattle.det_cbor.specs.declared.reason.CborRefusal.{CborRefusal}
 use Rattle.det_cbor.specs.declared.reason.Stop.{Stop}
 use Rattle.det_cbor.specs.HeadReading.{◌>>=◌, map_ok, head_at}
-use Rattle.det_cbor.specs.ItemReading.{Read, stopped, string_at, text_at, read_of, in_order, nested}
+use Rattle.det_cbor.specs.ItemReading.{Read, stopped, string_at, text_at, read_of, in_order, nested, level_below}
 
 abbrev pub Skipper : Type 0
 Skipper = List ℕ → Result (List ℕ) Stop
@@ -37,7 +37,7 @@ map_skip parts bytes count rest = nested bytes parts >>= λ skip. pair_skips_by 
 abbrev pub tagged_skip : Option Skipper → List ℕ → List ℕ → Result (List ℕ) Stop
 tagged_skip parts bytes rest = nested bytes parts >>= λ skip. skip rest
 
--- what follows a head
+-- the rest of an item after its head
 abbrev pub skip_body : Option Skipper → List ℕ → ℕ → List ℕ → HeadKind → Result (List ℕ) Stop
 skip_body parts bytes value rest kinds.Unsigned = Ok rest
 skip_body parts bytes value rest kinds.Negative = Ok rest
@@ -58,10 +58,9 @@ unfoldable pub skip_at : ℕ → Skipper
 skip_at zero bytes = skip_with None bytes
 skip_at (suc levels) bytes = skip_with (Some (skip_at levels)) bytes
 
--- the skipper of parts, where a level is left
+-- the skipper of parts
 abbrev pub parts_at : ℕ → Option Skipper
-parts_at zero = None
-parts_at (suc levels) = Some (skip_at levels)
+parts_at levels = level_below skip_at levels
 
 -- ---- the first item of bytes, at most 16 levels deep
 

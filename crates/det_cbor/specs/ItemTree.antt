@@ -5,7 +5,7 @@ use Rattle.det_cbor.specs.DataLists.{items_of, pairs_of}
 use Rattle.det_cbor.specs.declared.item.Item.{Item}
 use Rattle.det_cbor.specs.declared.item.Item.TheVariants as item
 
--- what a list or a tag holds is seen as data items already
+-- the contents of a list or a tag are seen as data items already
 abbrev pub tree_of : Item → DataItem
 tree_of (item.Unsigned n) = UnsignedInteger n
 tree_of (item.Negative n) = NegativeInteger n

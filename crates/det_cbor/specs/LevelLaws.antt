@@ -14,11 +14,13 @@ mutual
   further_out j k (Boolean b) le v = v
   further_out j k NullItem le v = v
 
-  pub items_further_out : (j k : ℕ) (xs : DataItems) → j ≤ k → AreValidWithin k xs → AreValidWithin j xs
+  pub items_further_out : (j k : ℕ) (xs : DataItems) → j ≤ k → AreValidWithin k xs
+      → AreValidWithin j xs
   items_further_out j k NoItems le v = v
   items_further_out j k (ItemThen x xs) le v = (further_out j k x le v.0, items_further_out j k xs le v.1)
 
-  pub pairs_further_out : (j k : ℕ) (before : Option (List ℕ)) (ps : DataPairs) → j ≤ k → ArePairsWithin k before ps → ArePairsWithin j before ps
+  pub pairs_further_out : (j k : ℕ) (before : Option (List ℕ)) (ps : DataPairs) → j ≤ k
+      → ArePairsWithin k before ps → ArePairsWithin j before ps
   pairs_further_out j k before NoPairs le v = v
   pairs_further_out j k before (PairThen key value ps) le v =
       (further_out j k key le v.0, v.1, further_out j k value le v.2, pairs_further_out j k (Some (spell key)) ps le v.3)

@@ -27,7 +27,7 @@ pub record Reads (old new : Position) (h : Head) : Type 0 where
 abbrev pub refusal_at : Position → ℕ → Reason → CborRefusal
 refusal_at p at reason = record { place = p.place + at; reason = reason }
 
--- what is refused at a position is a fault of the bytes that are left
+-- a refusal at a position is a fault of the bytes left
 pub record IsRefusal (p : Position) (Fault : List ℕ → ℕ → Reason → Type 0) (e : CborRefusal)
     : Type 0 where
   pub at : ℕ

@@ -3,17 +3,20 @@ use Rattle.std.proofs.Common.{◌≡◌, ◌∙◌, sym, ap, Bool, true, false, 
 use Rattle.det_cbor.specs.HeadReading.{◌>>=◌}
 
 -- which way a test went
-pub chosen : {A : Type 0} (b : Bool) (x y z : A) → cond b x y ≡ z → ((b ≡ true) × (x ≡ z)) ⊎ ((b ≡ false) × (y ≡ z))
+pub chosen : {A : Type 0} (b : Bool) (x y z : A) → cond b x y ≡ z
+    → ((b ≡ true) × (x ≡ z)) ⊎ ((b ≡ false) × (y ≡ z))
 chosen true x y z e = inl (refl, e)
 chosen false x y z e = inr (refl, e)
 
 -- a chain that went well went well at its first step
-pub bind_ok : {A B E P : Type 0} (r : Result A E) (f : A → Result B E) (y : B) → (r >>= f) ≡ Ok y → ((x : A) → r ≡ Ok x → f x ≡ Ok y → P) → P
+pub bind_ok : {A B E P : Type 0} (r : Result A E) (f : A → Result B E) (y : B) → (r >>= f) ≡ Ok y
+    → ((x : A) → r ≡ Ok x → f x ≡ Ok y → P) → P
 bind_ok (Ok x) f y e then = then x refl e
 bind_ok (Err s) f y e then = absurd cc
 
 -- a chain that stopped did so at its first step or later
-pub bind_err : {A B E P : Type 0} (r : Result A E) (f : A → Result B E) (s : E) → (r >>= f) ≡ Err s → (r ≡ Err s → P) → ((x : A) → r ≡ Ok x → f x ≡ Err s → P) → P
+pub bind_err : {A B E P : Type 0} (r : Result A E) (f : A → Result B E) (s : E) → (r >>= f) ≡ Err s
+    → (r ≡ Err s → P) → ((x : A) → r ≡ Ok x → f x ≡ Err s → P) → P
 bind_err (Ok x) f s e first later = later x refl e
 bind_err (Err t) f s e first later = first cc
 

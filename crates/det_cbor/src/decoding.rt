@@ -5,11 +5,11 @@ ghost use Rattle.det_cbor.specs.declared.reason.Reason.{Reason};
 ghost use Rattle.det_cbor.specs.DataItem.{DataItem, TaggedItem};
 ghost use Rattle.det_cbor.specs.Decoding.{Gives, IsFaultOf, IsDecoded, IsRefusedAt};
 ghost use Rattle.det_cbor.specs.Faults.{Faulty};
-ghost use Rattle.det_cbor.specs.ItemReading.{items_by, pairs_by, string_item, text_item, array_item, map_item, tagged_item, item_at, reader_at};
+ghost use Rattle.det_cbor.specs.ItemReading.{items_by, pairs_by, string_item, text_item, item_at};
 ghost use Rattle.det_cbor.specs.ItemTree.{tree_of};
 ghost use Rattle.det_cbor.specs.OneReading.{StartsWithItem};
 
-use crate::parts::{first_head, order, read_before, stop, string_in, text_in};
+use crate::parts::{first_head, order, part_levels, read_before, string_in, text_in};
 use crate::read_fault::ReadFault;
 use crate::validity::MAX_LEVELS;
 use crate::{Bytes, CborFault, HeadKind, Inner, Item, Items, Pairs, Reason, Text};
@@ -53,31 +53,21 @@ fn read_item(alloc: Global, bytes: &[u8], levels: u8) -> Result<(Item, &[u8]), R
         HeadKind::Negative => Ok((Item::Negative(head.value), rest)),
         HeadKind::Bytes => read_string(alloc, bytes, head.value, rest),
         HeadKind::Text => read_text(alloc, bytes, head.value, rest),
-        HeadKind::Array => read_array(alloc, bytes, head.value, rest, levels),
-        HeadKind::Map => read_map(alloc, bytes, head.value, rest, levels),
-        HeadKind::Tag => read_tagged(alloc, bytes, head.value, rest, levels),
+        HeadKind::Array => {
+            let (items, rest) = read_items(alloc, head.value, rest, part_levels(bytes, levels)?)?;
+            Ok((Item::Array(items), rest))
+        }
+        HeadKind::Map => {
+            let (pairs, rest) = read_pairs(alloc, head.value, rest, part_levels(bytes, levels)?)?;
+            Ok((Item::Map(pairs), rest))
+        }
+        HeadKind::Tag => {
+            let (item, rest) = read_item(alloc, rest, part_levels(bytes, levels)?)?;
+            Ok((Item::Tagged(head.value, Inner::new(alloc, item)?), rest))
+        }
         HeadKind::Bool => Ok((Item::Bool(head.value == 1), rest)),
         HeadKind::Null => Ok((Item::Null, rest)),
     }
-}
-
-#[cycle(read)]
-#[tactic(auto, using(crate::proofs::ReadingSteps::reader_above, crate::proofs::ReadingSteps::reader_none))]
-fn read_array<'a>(
-    alloc: Global,
-    bytes: &[u8],
-    count: u64,
-    rest: &'a [u8],
-    levels: u8,
-) -> Result<(Item, &'a [u8]), ReadFault>
-    ensures { Gives (λ x. (tree_of x.0, x.1.now)) result
-        (array_item (reader_at levels) bytes.now count rest.now) }
-{
-    if levels == 0 {
-        return Err(ReadFault::Stopped(stop(bytes, Reason::TooDeep)));
-    }
-    let (items, rest) = read_items(alloc, count, rest, levels - 1)?;
-    Ok((Item::Array(items), rest))
 }
 
 #[cycle(read)]
@@ -97,25 +87,6 @@ fn read_items(
         rest = after;
     }
     Ok((items, rest))
-}
-
-#[cycle(read)]
-#[tactic(auto, using(crate::proofs::ReadingSteps::reader_above, crate::proofs::ReadingSteps::reader_none))]
-fn read_map<'a>(
-    alloc: Global,
-    bytes: &[u8],
-    count: u64,
-    rest: &'a [u8],
-    levels: u8,
-) -> Result<(Item, &'a [u8]), ReadFault>
-    ensures { Gives (λ x. (tree_of x.0, x.1.now)) result
-        (map_item (reader_at levels) bytes.now count rest.now) }
-{
-    if levels == 0 {
-        return Err(ReadFault::Stopped(stop(bytes, Reason::TooDeep)));
-    }
-    let (pairs, rest) = read_pairs(alloc, count, rest, levels - 1)?;
-    Ok((Item::Map(pairs), rest))
 }
 
 #[cycle(read)]
@@ -142,28 +113,8 @@ fn read_pairs(
     Ok((pairs, rest))
 }
 
-#[cycle(read)]
-#[tactic(auto, using(crate::proofs::ReadingSteps::reader_above, crate::proofs::ReadingSteps::reader_none))]
-fn read_tagged<'a>(
-    alloc: Global,
-    bytes: &[u8],
-    tag: u64,
-    rest: &'a [u8],
-    levels: u8,
-) -> Result<(Item, &'a [u8]), ReadFault>
-    ensures { Gives (λ x. (tree_of x.0, x.1.now)) result
-        (tagged_item (reader_at levels) bytes.now tag rest.now) }
-{
-    if levels == 0 {
-        return Err(ReadFault::Stopped(stop(bytes, Reason::TooDeep)));
-    }
-    let (item, rest) = read_item(alloc, rest, levels - 1)?;
-    Ok((Item::Tagged(tag, Inner::new(alloc, item)?), rest))
-}
-
 /// The item that a prefix of the bytes spells, and the length of that prefix (RFC 8949, section
-/// 4.2.1). Bytes after it are not looked at. Takes memory for the item alone, and none is kept
-/// after a fault.
+/// 4.2.1). Bytes after it are ignored. Allocates only for the item, and frees it all after a fault.
 pub fn decode(alloc: Global, bytes: &[u8]) -> Result<(Item, usize), CborFault>
     ensures item { IfOk result (λ r. StartsWithItem bytes.now (tree_of r.0) r.1) }
     ensures fault { IfErr result (IsFaultOf bytes.now) }

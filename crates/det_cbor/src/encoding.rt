@@ -39,7 +39,7 @@ fn push_item_head(out: &mut Bytes, item: &Item) -> Result<(), AllocError>
 
 /// Adds an item's spelling at the end. Where memory runs out, a part of the spelling may have been added.
 ///
-/// The call goes as deep as the item does, which a valid item bounds.
+/// The call recurses as deep as the item nests, which is bounded for a valid item.
 #[cycle(push)]
 pub fn push_item(out: &mut Bytes, item: &Item) -> Result<(), AllocError>
     ensures ok { OnOk result (out.new ≡ out.old ++ spell (tree_of item.now)) }

@@ -22,7 +22,7 @@ pub enum Item {
     Null,
 }
 
-/// The item that a tag stands before, in memory of its own.
+/// The item after a tag, in memory of its own.
 #[cycle(item)]
 #[derive(Debug, Drop)]
 pub struct Inner {

@@ -1,8 +1,9 @@
 //! Parts of items that hold no items: heads, strings, and the order of keys.
 
-ghost use Rattle.std.specs.Prelude.{◌≡◌, ◌≤◌, length, option_map};
+ghost use Rattle.std.specs.Prelude.{◌≡◌, ◌<◌, ◌≤◌, length, IfOk, option_map};
 ghost use Rattle.det_cbor.specs.HeadReading.{map_ok, head_at};
-ghost use Rattle.det_cbor.specs.ItemReading.{stop_at, stopped, string_at, utf8_text, text_at, read_of, in_order};
+ghost use Rattle.det_cbor.specs.ItemReading.{stop_at, stopped, string_at, utf8_text, text_at, read_of, in_order, nested, item_at, reader_at};
+ghost use Rattle.det_cbor.specs.ItemSkipping.{skip_at, parts_at};
 
 use crate::head::split_head;
 use crate::reason::Stop;
@@ -18,6 +19,20 @@ pub(crate) fn stop(bytes: &[u8], reason: Reason) -> Stop
         _ => bytes.len(),
     };
     Stop { left, reason }
+}
+
+/// The levels for the parts of an item that has at most so many, and whose head stands first among
+/// the bytes.
+#[tactic(auto, using(crate::proofs::ReadingSteps::level_left, crate::proofs::ReadingSteps::no_level_left))]
+pub(crate) fn part_levels(bytes: &[u8], levels: u8) -> Result<u8, Stop>
+    ensures reader { map_ok item_at result ≡ nested bytes.now (reader_at levels) }
+    ensures skipper { map_ok skip_at result ≡ nested bytes.now (parts_at levels) }
+    ensures fewer { IfOk result (λ left. left < levels) }
+{
+    if levels == 0 {
+        return Err(stop(bytes, Reason::TooDeep));
+    }
+    Ok(levels - 1)
 }
 
 /// The head at the front, and the bytes after it.
@@ -73,7 +88,7 @@ pub(crate) fn string_in<'a>(
     }
 }
 
-/// The same of a text.
+/// The same for a text.
 pub(crate) fn text_in<'a>(
     bytes: &[u8],
     count: u64,

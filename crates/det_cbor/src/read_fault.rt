@@ -10,17 +10,6 @@ pub(crate) enum ReadFault {
     NoMemory,
 }
 
-impl From<AllocError> for ReadFault {
-    ghost use Rattle.std.specs.Prelude.{◌≡◌};
-    ghost use Rattle.det_cbor.specs.declared.read_fault.ReadFault.TheVariants.{NoMemory};
-
-    ghost from_gives = { λ _ e. e ≡ NoMemory };
-
-    fn from(_: AllocError) -> ReadFault {
-        ReadFault::NoMemory
-    }
-}
-
 impl From<Stop> for ReadFault {
     ghost use Rattle.std.specs.Prelude.{◌≡◌};
     ghost use Rattle.det_cbor.specs.declared.read_fault.ReadFault.TheVariants.{Stopped};
@@ -29,5 +18,16 @@ impl From<Stop> for ReadFault {
 
     fn from(stop: Stop) -> ReadFault {
         ReadFault::Stopped(stop)
+    }
+}
+
+impl From<AllocError> for ReadFault {
+    ghost use Rattle.std.specs.Prelude.{◌≡◌};
+    ghost use Rattle.det_cbor.specs.declared.read_fault.ReadFault.TheVariants.{NoMemory};
+
+    ghost from_gives = { λ _ e. e ≡ NoMemory };
+
+    fn from(_: AllocError) -> ReadFault {
+        ReadFault::NoMemory
     }
 }

@@ -5,13 +5,13 @@ ghost use Rattle.det_cbor.specs.declared.reason.Reason.{Reason};
 ghost use Rattle.det_cbor.specs.DataItem.{DataItem};
 ghost use Rattle.det_cbor.specs.Faults.{Faulty};
 ghost use Rattle.det_cbor.specs.HeadReading.{map_ok};
-ghost use Rattle.det_cbor.specs.ItemSkipping.{skips_by, pair_skips_by, array_skip, map_skip, tagged_skip, skip_at, parts_at, item_split};
+ghost use Rattle.det_cbor.specs.ItemSkipping.{skips_by, pair_skips_by, skip_at, item_split};
 ghost use Rattle.det_cbor.specs.OneReading.{IsItem, StartsWithItem};
 
-use crate::parts::{first_head, order, read_before, stop, string_in, text_in};
+use crate::parts::{first_head, order, part_levels, read_before, string_in, text_in};
 use crate::reason::Stop;
 use crate::validity::MAX_LEVELS;
-use crate::{CborRefusal, HeadKind, Reason};
+use crate::{CborRefusal, HeadKind};
 
 /// The bytes after the first item, which has at most so many levels.
 #[cycle(skip)]
@@ -30,22 +30,10 @@ pub(crate) fn skip_item(bytes: &[u8], levels: u8) -> Result<&[u8], Stop>
             let (_, rest) = text_in(bytes, head.value, rest)?;
             Ok(rest)
         }
-        HeadKind::Array => skip_array(bytes, head.value, rest, levels),
-        HeadKind::Map => skip_map(bytes, head.value, rest, levels),
-        HeadKind::Tag => skip_tagged(bytes, rest, levels),
+        HeadKind::Array => skip_items(head.value, rest, part_levels(bytes, levels)?),
+        HeadKind::Map => skip_pairs(head.value, rest, part_levels(bytes, levels)?),
+        HeadKind::Tag => skip_item(rest, part_levels(bytes, levels)?),
     }
-}
-
-#[cycle(skip)]
-#[tactic(auto, using(crate::proofs::Skipping::parts_above, crate::proofs::Skipping::parts_none))]
-fn skip_array<'a>(bytes: &[u8], count: u64, rest: &'a [u8], levels: u8) -> Result<&'a [u8], Stop>
-    ensures { map_ok (λ rest. rest.now) result
-        ≡ array_skip (parts_at levels) bytes.now count rest.now }
-{
-    if levels == 0 {
-        return Err(stop(bytes, Reason::TooDeep));
-    }
-    skip_items(count, rest, levels - 1)
 }
 
 #[cycle(skip)]
@@ -57,18 +45,6 @@ fn skip_items(count: u64, bytes: &[u8], levels: u8) -> Result<&[u8], Stop>
         rest = skip_item(rest, levels)?;
     }
     Ok(rest)
-}
-
-#[cycle(skip)]
-#[tactic(auto, using(crate::proofs::Skipping::parts_above, crate::proofs::Skipping::parts_none))]
-fn skip_map<'a>(bytes: &[u8], count: u64, rest: &'a [u8], levels: u8) -> Result<&'a [u8], Stop>
-    ensures { map_ok (λ rest. rest.now) result
-        ≡ map_skip (parts_at levels) bytes.now count rest.now }
-{
-    if levels == 0 {
-        return Err(stop(bytes, Reason::TooDeep));
-    }
-    skip_pairs(count, rest, levels - 1)
 }
 
 #[cycle(skip)]
@@ -86,17 +62,6 @@ fn skip_pairs(count: u64, bytes: &[u8], levels: u8) -> Result<&[u8], Stop>
         rest = skip_item(after, levels)?;
     }
     Ok(rest)
-}
-
-#[cycle(skip)]
-#[tactic(auto, using(crate::proofs::Skipping::parts_above, crate::proofs::Skipping::parts_none))]
-fn skip_tagged<'a>(bytes: &[u8], rest: &'a [u8], levels: u8) -> Result<&'a [u8], Stop>
-    ensures { map_ok (λ rest. rest.now) result ≡ tagged_skip (parts_at levels) bytes.now rest.now }
-{
-    if levels == 0 {
-        return Err(stop(bytes, Reason::TooDeep));
-    }
-    skip_item(rest, levels - 1)
 }
 
 // The bytes of the first item and those after it, or the fault, with its place among the bytes.

@@ -13,8 +13,8 @@ use std::cmp::Ordering;
 // How many arrays, maps and tags may stand round one another.
 pub(crate) const MAX_LEVELS: u8 = 16;
 
-/// Whether the keys of each map ascend in the bytewise order of their spellings, texts are UTF-8, and at most 16
-/// arrays, maps and tags stand in one another.
+/// Whether the keys of each map ascend in the bytewise order of their spellings, texts are UTF-8, and arrays, maps and
+/// tags nest at most 16 deep.
 ///
 /// Takes no memory, and looks no deeper than the 17th level.
 pub fn valid(item: &Item) -> bool

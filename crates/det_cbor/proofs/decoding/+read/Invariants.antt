@@ -5,22 +5,13 @@ use Rattle.det_cbor.proofs.ItemAgain.{with_front}
 use Rattle.det_cbor.proofs.decoding.+read.Given as goal
 
 abbrev pub decreases-read_item : goal.decreases-read_item
-decreases-read_item l = 3 * l.levels + 1
-
-abbrev pub decreases-read_array : goal.decreases-read_array
-decreases-read_array l = 3 * l.levels
-
-abbrev pub decreases-read_map : goal.decreases-read_map
-decreases-read_map l = 3 * l.levels
-
-abbrev pub decreases-read_tagged : goal.decreases-read_tagged
-decreases-read_tagged l = 3 * l.levels
+decreases-read_item l = 2 * l.levels
 
 abbrev pub decreases-read_items : goal.decreases-read_items
-decreases-read_items l = 3 * l.levels + 2
+decreases-read_items l = 2 * l.levels + 1
 
 abbrev pub decreases-read_pairs : goal.decreases-read_pairs
-decreases-read_pairs l = 3 * l.levels + 2
+decreases-read_pairs l = 2 * l.levels + 1
 
 abbrev pub invariant-read_items-loop : goal.invariant-read_items-loop
 invariant-read_items-loop l = with_front l.items (items_by (item_at l.levels) (l.count - l.counter) l.rest) ≡ items_by (item_at l.levels) l.count l.bytes

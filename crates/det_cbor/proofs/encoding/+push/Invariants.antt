@@ -5,7 +5,7 @@ use Rattle.det_cbor.specs.Prefix.{IsPrefix}
 use Rattle.det_cbor.specs.ItemTree.{trees_of, pair_trees_of}
 use Rattle.det_cbor.proofs.encoding.+push.Given as goal
 
--- what is written so far and the spelling of what is left are the whole spelling
+-- the bytes written so far and the spelling of the rest are the whole spelling
 abbrev pub invariant-push_items-loop-item : goal.invariant-push_items-loop-item
 invariant-push_items-loop-item l =
     (l.out ++ spell_items (items_of (trees_of (drop l.item-index l.item-items))) ≡ l.fn.out ++ spell_items (items_of (trees_of l.item-items)))

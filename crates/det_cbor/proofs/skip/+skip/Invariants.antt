@@ -4,22 +4,13 @@ use Rattle.det_cbor.specs.ItemSkipping.{skips_by, pair_skips_by, skip_at}
 use Rattle.det_cbor.proofs.skip.+skip.Given as goal
 
 abbrev pub decreases-skip_item : goal.decreases-skip_item
-decreases-skip_item l = 3 * l.levels + 1
-
-abbrev pub decreases-skip_array : goal.decreases-skip_array
-decreases-skip_array l = 3 * l.levels
-
-abbrev pub decreases-skip_map : goal.decreases-skip_map
-decreases-skip_map l = 3 * l.levels
-
-abbrev pub decreases-skip_tagged : goal.decreases-skip_tagged
-decreases-skip_tagged l = 3 * l.levels
+decreases-skip_item l = 2 * l.levels
 
 abbrev pub decreases-skip_items : goal.decreases-skip_items
-decreases-skip_items l = 3 * l.levels + 2
+decreases-skip_items l = 2 * l.levels + 1
 
 abbrev pub decreases-skip_pairs : goal.decreases-skip_pairs
-decreases-skip_pairs l = 3 * l.levels + 2
+decreases-skip_pairs l = 2 * l.levels + 1
 
 abbrev pub invariant-skip_items-loop : goal.invariant-skip_items-loop
 invariant-skip_items-loop l = skips_by (skip_at l.levels) (l.count - l.counter) l.rest ≡ skips_by (skip_at l.levels) l.count l.bytes

@@ -5,7 +5,7 @@ use Rattle.det_cbor.specs.DataLists.{items_of, pairs_of}
 use Rattle.det_cbor.specs.ItemTree.{tree_of, trees_of, pair_trees_of}
 use Rattle.det_cbor.proofs.validity.+valid.Given as goal
 
--- what is left decides
+-- the rest decides
 abbrev pub invariant-are_items_valid-loop-item : goal.invariant-are_items_valid-loop-item
 invariant-are_items_valid-loop-item l =
     AreValidWithin l.levels (items_of (trees_of (drop l.item-index l.item-items))) ↔ AreValidWithin l.levels (items_of (trees_of l.item-items))

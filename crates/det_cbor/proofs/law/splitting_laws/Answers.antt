@@ -1,6 +1,6 @@
 use Rattle.det_cbor.specs.ArgumentLaws.{bytes_of_all}
 use Rattle.det_cbor.proofs.SplitLaws.{split_ok, split_again}
-use Rattle.det_cbor.proofs.law.item_splitting.Goals as goal
+use Rattle.det_cbor.proofs.law.splitting_laws.Goals as goal
 
 pub returns : goal.returns
 returns c = record {

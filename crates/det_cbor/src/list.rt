@@ -1,0 +1,128 @@
+//! Lists.
+
+ghost use Rattle.std.specs.Prelude.{◌≡◌, [], ◌∷◌, ◌++◌, length, OnOk, OnErr, IsTrue, ◌↔◌, IfOk, slice_get};
+ghost use Rattle.std.specs.Option.{option_copied};
+
+use crate::{Bytes, Duplicate, Text};
+use std::alloc::{AllocError, Global};
+use std::marker::Model;
+
+/// A list in memory of its own.
+#[derive(Debug, Drop)]
+pub struct List<T> {
+    held: Vec<T>,
+}
+
+/// A list of texts, such as the words of a command line.
+pub type Names = List<Text>;
+
+fn are_same(a: &[Bytes], b: &[Bytes]) -> bool
+    ensures { IsTrue result ↔ (a.now ≡ b.now) }
+{
+    if a.len() != b.len() {
+        return false;
+    }
+    for i in 0..a.len() {
+        if a[i].as_slice() != b[i].as_slice() {
+            return false;
+        }
+    }
+    true
+}
+
+impl<T> Model for List<T> {
+    ghost use Rattle.std.specs.Prelude.{List as ListOf};
+
+    ghost Value = { ListOf T };
+
+    ghost view = { λ list. list.held.items };
+}
+
+impl<T: Drop> List<T> {
+    /// A list of no elements, which grows by this allocator. Takes no memory.
+    pub fn new(alloc: Global) -> List<T>
+        ensures { result ≡ [] }
+    {
+        List {
+            held: Vec::new(alloc),
+        }
+    }
+
+    /// The list that a vector holds. Takes no memory and copies nothing.
+    pub fn from_vec(elements: Vec<T>) -> List<T>
+        ensures { result ≡ elements.items }
+    {
+        List { held: elements }
+    }
+
+    /// The vector that the list was made of. Takes no memory and copies nothing.
+    pub fn into_vec(self) -> Vec<T>
+        ensures { result.items ≡ self }
+    {
+        self.held
+    }
+
+    /// Adds an element at the end. One for which there is no memory is dropped.
+    pub fn push(&mut self, element: T) -> Result<(), AllocError>
+        ensures ok { OnOk result (self.new ≡ self.old ++ element ∷ []) }
+        ensures err { OnErr result (self.new ≡ self.old) }
+    {
+        Ok(self.held.push(element)?)
+    }
+
+    /// The number of elements.
+    pub fn len(&self) -> usize
+        ensures { result ≡ length self.now }
+    {
+        self.held.len()
+    }
+
+    /// Whether there are no elements.
+    pub fn is_empty(&self) -> bool
+        ensures { IsTrue result ↔ (self.now ≡ []) }
+    {
+        self.held.is_empty()
+    }
+
+    /// The element at an index, or `None` past the end.
+    pub fn get(&self, index: usize) -> Option<&T>
+        ensures { option_copied result ≡ slice_get self.now index }
+    {
+        self.held.get(index)
+    }
+
+    /// The elements, lent.
+    pub fn as_slice(&self) -> &[T]
+        ensures { result.now ≡ self.now }
+    {
+        self.held.as_slice()
+    }
+}
+
+impl<T: Duplicate> List<T> {
+    /// An equal list in memory of its own.
+    pub fn copy(&self, alloc: Global) -> Result<List<T>, AllocError>
+        ensures { IfOk result (λ other. other ≡ self.now) }
+    {
+        let mut list = List::new(alloc);
+        for element in &self.held {
+            list.push(element.copy(alloc)?)?;
+        }
+        Ok(list)
+    }
+}
+
+impl<T: Duplicate> Duplicate for List<T> {
+    fn copy(&self, alloc: Global) -> Result<List<T>, AllocError> {
+        List::copy(self, alloc)
+    }
+}
+
+impl List<Bytes> {
+    /// Whether another list has the same byte strings.
+    pub fn is_same(&self, other: &List<Bytes>) -> bool
+        ensures { IsTrue result ↔ (self.now ≡ other.now) }
+    {
+        are_same(self.as_slice(), other.as_slice())
+    }
+}
