@@ -63,7 +63,7 @@ lacks_none (byte ∷ rest) is = of (λ there. lacks_none rest there) (cut rest) 
     at true e h = let never : None ≡ Some (record no_answer { name = rest }) = sym h in cc
     at false e h = (is_other byte e, ih there)
 
--- what a cut says is spelled so
+-- the word is spelled as its cut says
 pub record IsCut (word : Word) (answer : Answer) : Type 0 where
   pub spells : word ≡ spelled_answer answer
   pub lacks : IsAfterLast answer

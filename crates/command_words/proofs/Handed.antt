@@ -1,4 +1,4 @@
--- What a command hands out, by the rows that it found.
+-- The values of a command, by the rows that it found.
 use Rattle.std.proofs.Common.{◌≡◌, ◌∙◌, List, [], Bool, true, false, ◌&&◌, Option, Some, refl, sym, ap}
 use Rattle.std.specs.Prelude.{is_some, unwrap_or}
 use Rattle.clap.specs.Walk.{Row, first_of}

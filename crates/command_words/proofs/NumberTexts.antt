@@ -18,7 +18,7 @@ below a b h = grind arith
 pub is_below : (a b : ℕ) → nat_lt a b ≡ true → a < b
 is_below a b h = grind arith
 
--- what a number is, part by part
+-- a number, part by part
 pub record IsNumber (word : Word) : Type 0 where
   pub digits : all_ascii_digits word ≡ true
   pub some : 0 < length word

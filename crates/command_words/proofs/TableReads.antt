@@ -16,7 +16,7 @@ use Rattle.command_words.proofs.Handed.{both}
 use Rattle.command_words.proofs.Cuts.{denied, answers_read, answers_spelled}
 use Rattle.command_words.proofs.NumberTexts.{number_spelled, is_that_number, number_of_decimal}
 
--- ---- what is spelled
+-- ---- spelled words
 
 -- the words spell a command within its bounds
 pub record Spells (words : Words) (task : Task) : Type 0 where
@@ -182,7 +182,7 @@ laws = record {
     of None is = is
     of (Some task) is = absurd (never task (table_reads words task is))
 
--- what the table finds is what the words ask for
+-- the table finds the task that the words ask for
 pub asked : (words : Words) (found : Option Task) → found ≡ task_of words → AskFor words found
 asked words None is = (laws.usage words).0 (sym is)
 asked words (Some task) is = (laws.reads words task).0 (sym is)

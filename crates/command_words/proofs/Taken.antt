@@ -1,4 +1,4 @@
--- What the commands take, and the values that they hand out.
+-- The words that the commands take, and their values.
 use Rattle.std.proofs.Common.{◌≡◌, ℕ, [], ◌∷◌, length, eqb, true, false, ◌&&◌, ◌≤◌, Option, Some, None, option_map, refl, codes, arith}
 use Rattle.std.specs.List.{list_all}
 use Rattle.clap.specs.Lexer.{short_of}
@@ -17,27 +17,29 @@ no_minus x xs h = grind arith
 pub no_short : (x : ℕ) (xs : Word) → eqb x 45 ≡ false → short_of (x ∷ xs) ≡ None
 no_short x xs e = rw e refl
 
+-- ---- the words of a list that are plain
+
+pub first_plain : (word : Word) (more : Words) → list_all is_plain (word ∷ more) ≡ true → is_plain word ≡ true
+first_plain word more plain = (both (is_plain word) (list_all is_plain more) plain).0
+
+pub rest_plain : (word : Word) (more : Words) → list_all is_plain (word ∷ more) ≡ true → list_all is_plain more ≡ true
+rest_plain word more plain = (both (is_plain word) (list_all is_plain more) plain).1
+
 -- ---- `check` and `drill`
 
-takes_check : (n w : Word) → is_plain w ≡ true → takes check_app (n ∷ w ∷ []) ≡ true
+takes_check : (n w : Word) → is_plain w ≡ true
+    → (takes check_app (n ∷ w ∷ []) ≡ true)
+    × (value_in check_app (codes "FILE") (n ∷ w ∷ []) ≡ Some w)
 unfolding clap_on_literals
-takes_check n [] hw = refl
-takes_check n (w ∷ ws) hw = let ew = no_minus w ws hw in rw ew (rw (no_short w ws ew) refl)
+takes_check n [] hw = (refl, refl)
+takes_check n (w ∷ ws) hw = let ew = no_minus w ws hw in rw (ew, no_short w ws ew) (refl, refl)
 
-file_of_check : (n w : Word) → is_plain w ≡ true → value_in check_app (codes "FILE") (n ∷ w ∷ []) ≡ Some w
+takes_drill : (n w : Word) → is_plain w ≡ true
+    → (takes drill_app (n ∷ w ∷ []) ≡ true)
+    × (value_in drill_app (codes "NUMBER") (n ∷ w ∷ []) ≡ Some w)
 unfolding clap_on_literals
-file_of_check n [] hw = refl
-file_of_check n (w ∷ ws) hw = let ew = no_minus w ws hw in rw ew (rw (no_short w ws ew) refl)
-
-takes_drill : (n w : Word) → is_plain w ≡ true → takes drill_app (n ∷ w ∷ []) ≡ true
-unfolding clap_on_literals
-takes_drill n [] hw = refl
-takes_drill n (w ∷ ws) hw = let ew = no_minus w ws hw in rw ew (rw (no_short w ws ew) refl)
-
-number_of_drill : (n w : Word) → is_plain w ≡ true → value_in drill_app (codes "NUMBER") (n ∷ w ∷ []) ≡ Some w
-unfolding clap_on_literals
-number_of_drill n [] hw = refl
-number_of_drill n (w ∷ ws) hw = let ew = no_minus w ws hw in rw ew (rw (no_short w ws ew) refl)
+takes_drill n [] hw = (refl, refl)
+takes_drill n (w ∷ ws) hw = let ew = no_minus w ws hw in rw (ew, no_short w ws ew) (refl, refl)
 
 pub record Checks (words : Words) : Type 0 where
   pub takes_them : takes check_app words ≡ true
@@ -49,8 +51,8 @@ pub checks : (words : Words) → length words ≡ 2 → list_all is_plain words 
 checks [] many plain = absurd (omega arith)
 checks (n ∷ []) many plain = absurd (omega arith)
 checks (n ∷ w ∷ []) many plain =
-    let h = (both (is_plain w) true (both (is_plain n) (is_plain w && true) plain).1).0 in
-    record { takes_them = takes_check n w h; file = w; has_file = file_of_check n w h; table = refl }
+    let t = takes_check n w (first_plain w [] (rest_plain n (w ∷ []) plain)) in
+    record { takes_them = t.0; file = w; has_file = t.1; table = refl }
 checks (n ∷ w ∷ x ∷ more) many plain = absurd (omega arith)
 
 pub record Drills (words : Words) : Type 0 where
@@ -63,35 +65,23 @@ pub drills : (words : Words) → length words ≡ 2 → list_all is_plain words 
 drills [] many plain = absurd (omega arith)
 drills (n ∷ []) many plain = absurd (omega arith)
 drills (n ∷ w ∷ []) many plain =
-    let h = (both (is_plain w) true (both (is_plain n) (is_plain w && true) plain).1).0 in
-    record { takes_them = takes_drill n w h; number = w; has_number = number_of_drill n w h; table = refl }
+    let t = takes_drill n w (first_plain w [] (rest_plain n (w ∷ []) plain)) in
+    record { takes_them = t.0; number = w; has_number = t.1; table = refl }
 drills (n ∷ w ∷ x ∷ more) many plain = absurd (omega arith)
 
 -- ---- `run init`
 
-takes_init : (n v w : Word) → is_plain v ≡ true → is_plain w ≡ true → takes init_app (n ∷ v ∷ w ∷ []) ≡ true
+takes_init : (n v w : Word) → is_plain v ≡ true → is_plain w ≡ true
+    → (takes init_app (n ∷ v ∷ w ∷ []) ≡ true)
+    × (value_in init_app (codes "DEVICE") (n ∷ v ∷ w ∷ []) ≡ Some v)
+    × (value_in init_app (codes "KEY") (n ∷ v ∷ w ∷ []) ≡ Some w)
 unfolding clap_on_literals
-takes_init n [] [] hv hw = refl
-takes_init n [] (w ∷ ws) hv hw = let ew = no_minus w ws hw in rw ew (rw (no_short w ws ew) refl)
-takes_init n (v ∷ vs) [] hv hw = let ev = no_minus v vs hv in rw ev (rw (no_short v vs ev) refl)
+takes_init n [] [] hv hw = (refl, refl, refl)
+takes_init n [] (w ∷ ws) hv hw = let ew = no_minus w ws hw in rw (ew, no_short w ws ew) (refl, refl, refl)
+takes_init n (v ∷ vs) [] hv hw = let ev = no_minus v vs hv in rw (ev, no_short v vs ev) (refl, refl, refl)
 takes_init n (v ∷ vs) (w ∷ ws) hv hw =
-    let ev = no_minus v vs hv in let ew = no_minus w ws hw in rw ev (rw (no_short v vs ev) (rw ew (rw (no_short w ws ew) refl)))
-
-device_of_init : (n v w : Word) → is_plain v ≡ true → is_plain w ≡ true → value_in init_app (codes "DEVICE") (n ∷ v ∷ w ∷ []) ≡ Some v
-unfolding clap_on_literals
-device_of_init n [] [] hv hw = refl
-device_of_init n [] (w ∷ ws) hv hw = let ew = no_minus w ws hw in rw ew (rw (no_short w ws ew) refl)
-device_of_init n (v ∷ vs) [] hv hw = let ev = no_minus v vs hv in rw ev (rw (no_short v vs ev) refl)
-device_of_init n (v ∷ vs) (w ∷ ws) hv hw =
-    let ev = no_minus v vs hv in let ew = no_minus w ws hw in rw ev (rw (no_short v vs ev) (rw ew (rw (no_short w ws ew) refl)))
-
-key_of_init : (n v w : Word) → is_plain v ≡ true → is_plain w ≡ true → value_in init_app (codes "KEY") (n ∷ v ∷ w ∷ []) ≡ Some w
-unfolding clap_on_literals
-key_of_init n [] [] hv hw = refl
-key_of_init n [] (w ∷ ws) hv hw = let ew = no_minus w ws hw in rw ew (rw (no_short w ws ew) refl)
-key_of_init n (v ∷ vs) [] hv hw = let ev = no_minus v vs hv in rw ev (rw (no_short v vs ev) refl)
-key_of_init n (v ∷ vs) (w ∷ ws) hv hw =
-    let ev = no_minus v vs hv in let ew = no_minus w ws hw in rw ev (rw (no_short v vs ev) (rw ew (rw (no_short w ws ew) refl)))
+    let ev = no_minus v vs hv in let ew = no_minus w ws hw in
+    rw (ev, no_short v vs ev, ew, no_short w ws ew) (refl, refl, refl)
 
 pub record Inits (words : Words) : Type 0 where
   pub takes_them : takes init_app words ≡ true
@@ -106,58 +96,32 @@ inits [] many plain = absurd (omega arith)
 inits (n ∷ []) many plain = absurd (omega arith)
 inits (n ∷ v ∷ []) many plain = absurd (omega arith)
 inits (n ∷ v ∷ w ∷ []) many plain =
-    let first = both (is_plain v) (is_plain w && true) (both (is_plain n) (is_plain v && (is_plain w && true)) plain).1 in
-    let second = (both (is_plain w) true first.1).0 in
-    record {
-      takes_them = takes_init n v w first.0 second;
-      device = v;
-      key = w;
-      has_device = device_of_init n v w first.0 second;
-      has_key = key_of_init n v w first.0 second;
-      table = refl;
-    }
+    let behind = rest_plain n (v ∷ w ∷ []) plain in
+    let t = takes_init n v w (first_plain v (w ∷ []) behind) (first_plain w [] (rest_plain v (w ∷ []) behind)) in
+    record { takes_them = t.0; device = v; key = w; has_device = t.1; has_key = t.2; table = refl }
 inits (n ∷ v ∷ w ∷ x ∷ more) many plain = absurd (omega arith)
 
 -- ---- `show`
 
-takes_describe : (n w : Word) → is_plain w ≡ true → takes show_app (n ∷ w ∷ []) ≡ true
+takes_describe : (n w : Word) → is_plain w ≡ true
+    → (takes show_app (n ∷ w ∷ []) ≡ true)
+    × (value_in show_app (codes "FILE") (n ∷ w ∷ []) ≡ Some w)
+    × (value_in show_app (codes "KEY") (n ∷ w ∷ []) ≡ None)
 unfolding clap_on_literals
-takes_describe n [] hw = refl
-takes_describe n (w ∷ ws) hw = let ew = no_minus w ws hw in rw ew (rw (no_short w ws ew) refl)
+takes_describe n [] hw = (refl, refl, refl)
+takes_describe n (w ∷ ws) hw = let ew = no_minus w ws hw in rw (ew, no_short w ws ew) (refl, refl, refl)
 
-file_of_describe : (n w : Word) → is_plain w ≡ true → value_in show_app (codes "FILE") (n ∷ w ∷ []) ≡ Some w
+takes_show : (n v w : Word) → is_plain v ≡ true → is_plain w ≡ true
+    → (takes show_app (n ∷ v ∷ w ∷ []) ≡ true)
+    × (value_in show_app (codes "FILE") (n ∷ v ∷ w ∷ []) ≡ Some v)
+    × (value_in show_app (codes "KEY") (n ∷ v ∷ w ∷ []) ≡ Some w)
 unfolding clap_on_literals
-file_of_describe n [] hw = refl
-file_of_describe n (w ∷ ws) hw = let ew = no_minus w ws hw in rw ew (rw (no_short w ws ew) refl)
-
-key_of_describe : (n w : Word) → is_plain w ≡ true → value_in show_app (codes "KEY") (n ∷ w ∷ []) ≡ None
-unfolding clap_on_literals
-key_of_describe n [] hw = refl
-key_of_describe n (w ∷ ws) hw = let ew = no_minus w ws hw in rw ew (rw (no_short w ws ew) refl)
-
-takes_show : (n v w : Word) → is_plain v ≡ true → is_plain w ≡ true → takes show_app (n ∷ v ∷ w ∷ []) ≡ true
-unfolding clap_on_literals
-takes_show n [] [] hv hw = refl
-takes_show n [] (w ∷ ws) hv hw = let ew = no_minus w ws hw in rw ew (rw (no_short w ws ew) refl)
-takes_show n (v ∷ vs) [] hv hw = let ev = no_minus v vs hv in rw ev (rw (no_short v vs ev) refl)
+takes_show n [] [] hv hw = (refl, refl, refl)
+takes_show n [] (w ∷ ws) hv hw = let ew = no_minus w ws hw in rw (ew, no_short w ws ew) (refl, refl, refl)
+takes_show n (v ∷ vs) [] hv hw = let ev = no_minus v vs hv in rw (ev, no_short v vs ev) (refl, refl, refl)
 takes_show n (v ∷ vs) (w ∷ ws) hv hw =
-    let ev = no_minus v vs hv in let ew = no_minus w ws hw in rw ev (rw (no_short v vs ev) (rw ew (rw (no_short w ws ew) refl)))
-
-file_of_show : (n v w : Word) → is_plain v ≡ true → is_plain w ≡ true → value_in show_app (codes "FILE") (n ∷ v ∷ w ∷ []) ≡ Some v
-unfolding clap_on_literals
-file_of_show n [] [] hv hw = refl
-file_of_show n [] (w ∷ ws) hv hw = let ew = no_minus w ws hw in rw ew (rw (no_short w ws ew) refl)
-file_of_show n (v ∷ vs) [] hv hw = let ev = no_minus v vs hv in rw ev (rw (no_short v vs ev) refl)
-file_of_show n (v ∷ vs) (w ∷ ws) hv hw =
-    let ev = no_minus v vs hv in let ew = no_minus w ws hw in rw ev (rw (no_short v vs ev) (rw ew (rw (no_short w ws ew) refl)))
-
-key_of_show : (n v w : Word) → is_plain v ≡ true → is_plain w ≡ true → value_in show_app (codes "KEY") (n ∷ v ∷ w ∷ []) ≡ Some w
-unfolding clap_on_literals
-key_of_show n [] [] hv hw = refl
-key_of_show n [] (w ∷ ws) hv hw = let ew = no_minus w ws hw in rw ew (rw (no_short w ws ew) refl)
-key_of_show n (v ∷ vs) [] hv hw = let ev = no_minus v vs hv in rw ev (rw (no_short v vs ev) refl)
-key_of_show n (v ∷ vs) (w ∷ ws) hv hw =
-    let ev = no_minus v vs hv in let ew = no_minus w ws hw in rw ev (rw (no_short v vs ev) (rw ew (rw (no_short w ws ew) refl)))
+    let ev = no_minus v vs hv in let ew = no_minus w ws hw in
+    rw (ev, no_short v vs ev, ew, no_short w ws ew) (refl, refl, refl)
 
 -- to show a file, under a key if there is one
 abbrev pub shown : Word → Option Word → Task
@@ -176,89 +140,38 @@ pub shows : (words : Words) → 2 ≤ length words → length words ≤ 3 → li
 shows [] some few plain = absurd (omega arith)
 shows (n ∷ []) some few plain = absurd (omega arith)
 shows (n ∷ w ∷ []) some few plain =
-    let h = (both (is_plain w) true (both (is_plain n) (is_plain w && true) plain).1).0 in
-    record {
-      takes_them = takes_describe n w h;
-      file = w;
-      key = None;
-      has_file = file_of_describe n w h;
-      has_key = key_of_describe n w h;
-      table = refl;
-    }
+    let t = takes_describe n w (first_plain w [] (rest_plain n (w ∷ []) plain)) in
+    record { takes_them = t.0; file = w; key = None; has_file = t.1; has_key = t.2; table = refl }
 shows (n ∷ v ∷ w ∷ []) some few plain =
-    let first = both (is_plain v) (is_plain w && true) (both (is_plain n) (is_plain v && (is_plain w && true)) plain).1 in
-    let second = (both (is_plain w) true first.1).0 in
-    record {
-      takes_them = takes_show n v w first.0 second;
-      file = v;
-      key = Some w;
-      has_file = file_of_show n v w first.0 second;
-      has_key = key_of_show n v w first.0 second;
-      table = refl;
-    }
+    let behind = rest_plain n (v ∷ w ∷ []) plain in
+    let t = takes_show n v w (first_plain v (w ∷ []) behind) (first_plain w [] (rest_plain v (w ∷ []) behind)) in
+    record { takes_them = t.0; file = v; key = Some w; has_file = t.1; has_key = t.2; table = refl }
 shows (n ∷ v ∷ w ∷ x ∷ more) some few plain = absurd (omega arith)
 
 -- ---- `make`
 
-takes_make : (n u v w : Word) → is_plain u ≡ true → is_plain v ≡ true → is_plain w ≡ true → takes make_app (n ∷ u ∷ v ∷ w ∷ []) ≡ true
+takes_make : (n u v w : Word) → is_plain u ≡ true → is_plain v ≡ true → is_plain w ≡ true
+    → (takes make_app (n ∷ u ∷ v ∷ w ∷ []) ≡ true)
+    × (value_in make_app (codes "DESCRIPTION") (n ∷ u ∷ v ∷ w ∷ []) ≡ Some u)
+    × (value_in make_app (codes "KEY") (n ∷ u ∷ v ∷ w ∷ []) ≡ Some v)
+    × (value_in make_app (codes "OUT") (n ∷ u ∷ v ∷ w ∷ []) ≡ Some w)
 unfolding clap_on_literals
-takes_make n [] [] [] hu hv hw = refl
-takes_make n [] [] (w ∷ ws) hu hv hw = let ew = no_minus w ws hw in rw ew (rw (no_short w ws ew) refl)
-takes_make n [] (v ∷ vs) [] hu hv hw = let ev = no_minus v vs hv in rw ev (rw (no_short v vs ev) refl)
+takes_make n [] [] [] hu hv hw = (refl, refl, refl, refl)
+takes_make n [] [] (w ∷ ws) hu hv hw = let ew = no_minus w ws hw in rw (ew, no_short w ws ew) (refl, refl, refl, refl)
+takes_make n [] (v ∷ vs) [] hu hv hw = let ev = no_minus v vs hv in rw (ev, no_short v vs ev) (refl, refl, refl, refl)
 takes_make n [] (v ∷ vs) (w ∷ ws) hu hv hw =
-    let ev = no_minus v vs hv in let ew = no_minus w ws hw in rw ev (rw (no_short v vs ev) (rw ew (rw (no_short w ws ew) refl)))
-takes_make n (u ∷ us) [] [] hu hv hw = let eu = no_minus u us hu in rw eu (rw (no_short u us eu) refl)
+    let ev = no_minus v vs hv in let ew = no_minus w ws hw in
+    rw (ev, no_short v vs ev, ew, no_short w ws ew) (refl, refl, refl, refl)
+takes_make n (u ∷ us) [] [] hu hv hw = let eu = no_minus u us hu in rw (eu, no_short u us eu) (refl, refl, refl, refl)
 takes_make n (u ∷ us) [] (w ∷ ws) hu hv hw =
-    let eu = no_minus u us hu in let ew = no_minus w ws hw in rw eu (rw (no_short u us eu) (rw ew (rw (no_short w ws ew) refl)))
+    let eu = no_minus u us hu in let ew = no_minus w ws hw in
+    rw (eu, no_short u us eu, ew, no_short w ws ew) (refl, refl, refl, refl)
 takes_make n (u ∷ us) (v ∷ vs) [] hu hv hw =
-    let eu = no_minus u us hu in let ev = no_minus v vs hv in rw eu (rw (no_short u us eu) (rw ev (rw (no_short v vs ev) refl)))
+    let eu = no_minus u us hu in let ev = no_minus v vs hv in
+    rw (eu, no_short u us eu, ev, no_short v vs ev) (refl, refl, refl, refl)
 takes_make n (u ∷ us) (v ∷ vs) (w ∷ ws) hu hv hw =
-    let eu = no_minus u us hu in let ev = no_minus v vs hv in let ew = no_minus w ws hw in rw eu (rw (no_short u us eu) (rw ev (rw (no_short v vs ev) (rw ew (rw (no_short w ws ew) refl)))))
-
-description_of_make : (n u v w : Word) → is_plain u ≡ true → is_plain v ≡ true → is_plain w ≡ true → value_in make_app (codes "DESCRIPTION") (n ∷ u ∷ v ∷ w ∷ []) ≡ Some u
-unfolding clap_on_literals
-description_of_make n [] [] [] hu hv hw = refl
-description_of_make n [] [] (w ∷ ws) hu hv hw = let ew = no_minus w ws hw in rw ew (rw (no_short w ws ew) refl)
-description_of_make n [] (v ∷ vs) [] hu hv hw = let ev = no_minus v vs hv in rw ev (rw (no_short v vs ev) refl)
-description_of_make n [] (v ∷ vs) (w ∷ ws) hu hv hw =
-    let ev = no_minus v vs hv in let ew = no_minus w ws hw in rw ev (rw (no_short v vs ev) (rw ew (rw (no_short w ws ew) refl)))
-description_of_make n (u ∷ us) [] [] hu hv hw = let eu = no_minus u us hu in rw eu (rw (no_short u us eu) refl)
-description_of_make n (u ∷ us) [] (w ∷ ws) hu hv hw =
-    let eu = no_minus u us hu in let ew = no_minus w ws hw in rw eu (rw (no_short u us eu) (rw ew (rw (no_short w ws ew) refl)))
-description_of_make n (u ∷ us) (v ∷ vs) [] hu hv hw =
-    let eu = no_minus u us hu in let ev = no_minus v vs hv in rw eu (rw (no_short u us eu) (rw ev (rw (no_short v vs ev) refl)))
-description_of_make n (u ∷ us) (v ∷ vs) (w ∷ ws) hu hv hw =
-    let eu = no_minus u us hu in let ev = no_minus v vs hv in let ew = no_minus w ws hw in rw eu (rw (no_short u us eu) (rw ev (rw (no_short v vs ev) (rw ew (rw (no_short w ws ew) refl)))))
-
-key_of_make : (n u v w : Word) → is_plain u ≡ true → is_plain v ≡ true → is_plain w ≡ true → value_in make_app (codes "KEY") (n ∷ u ∷ v ∷ w ∷ []) ≡ Some v
-unfolding clap_on_literals
-key_of_make n [] [] [] hu hv hw = refl
-key_of_make n [] [] (w ∷ ws) hu hv hw = let ew = no_minus w ws hw in rw ew (rw (no_short w ws ew) refl)
-key_of_make n [] (v ∷ vs) [] hu hv hw = let ev = no_minus v vs hv in rw ev (rw (no_short v vs ev) refl)
-key_of_make n [] (v ∷ vs) (w ∷ ws) hu hv hw =
-    let ev = no_minus v vs hv in let ew = no_minus w ws hw in rw ev (rw (no_short v vs ev) (rw ew (rw (no_short w ws ew) refl)))
-key_of_make n (u ∷ us) [] [] hu hv hw = let eu = no_minus u us hu in rw eu (rw (no_short u us eu) refl)
-key_of_make n (u ∷ us) [] (w ∷ ws) hu hv hw =
-    let eu = no_minus u us hu in let ew = no_minus w ws hw in rw eu (rw (no_short u us eu) (rw ew (rw (no_short w ws ew) refl)))
-key_of_make n (u ∷ us) (v ∷ vs) [] hu hv hw =
-    let eu = no_minus u us hu in let ev = no_minus v vs hv in rw eu (rw (no_short u us eu) (rw ev (rw (no_short v vs ev) refl)))
-key_of_make n (u ∷ us) (v ∷ vs) (w ∷ ws) hu hv hw =
-    let eu = no_minus u us hu in let ev = no_minus v vs hv in let ew = no_minus w ws hw in rw eu (rw (no_short u us eu) (rw ev (rw (no_short v vs ev) (rw ew (rw (no_short w ws ew) refl)))))
-
-out_of_make : (n u v w : Word) → is_plain u ≡ true → is_plain v ≡ true → is_plain w ≡ true → value_in make_app (codes "OUT") (n ∷ u ∷ v ∷ w ∷ []) ≡ Some w
-unfolding clap_on_literals
-out_of_make n [] [] [] hu hv hw = refl
-out_of_make n [] [] (w ∷ ws) hu hv hw = let ew = no_minus w ws hw in rw ew (rw (no_short w ws ew) refl)
-out_of_make n [] (v ∷ vs) [] hu hv hw = let ev = no_minus v vs hv in rw ev (rw (no_short v vs ev) refl)
-out_of_make n [] (v ∷ vs) (w ∷ ws) hu hv hw =
-    let ev = no_minus v vs hv in let ew = no_minus w ws hw in rw ev (rw (no_short v vs ev) (rw ew (rw (no_short w ws ew) refl)))
-out_of_make n (u ∷ us) [] [] hu hv hw = let eu = no_minus u us hu in rw eu (rw (no_short u us eu) refl)
-out_of_make n (u ∷ us) [] (w ∷ ws) hu hv hw =
-    let eu = no_minus u us hu in let ew = no_minus w ws hw in rw eu (rw (no_short u us eu) (rw ew (rw (no_short w ws ew) refl)))
-out_of_make n (u ∷ us) (v ∷ vs) [] hu hv hw =
-    let eu = no_minus u us hu in let ev = no_minus v vs hv in rw eu (rw (no_short u us eu) (rw ev (rw (no_short v vs ev) refl)))
-out_of_make n (u ∷ us) (v ∷ vs) (w ∷ ws) hu hv hw =
-    let eu = no_minus u us hu in let ev = no_minus v vs hv in let ew = no_minus w ws hw in rw eu (rw (no_short u us eu) (rw ev (rw (no_short v vs ev) (rw ew (rw (no_short w ws ew) refl)))))
+    let eu = no_minus u us hu in let ev = no_minus v vs hv in let ew = no_minus w ws hw in
+    rw (eu, no_short u us eu, ev, no_short v vs ev, ew, no_short w ws ew) (refl, refl, refl, refl)
 
 pub record Makes (words : Words) : Type 0 where
   pub takes_them : takes make_app words ≡ true
@@ -276,17 +189,17 @@ makes (n ∷ []) many plain = absurd (omega arith)
 makes (n ∷ u ∷ []) many plain = absurd (omega arith)
 makes (n ∷ u ∷ v ∷ []) many plain = absurd (omega arith)
 makes (n ∷ u ∷ v ∷ w ∷ []) many plain =
-    let first = both (is_plain u) (is_plain v && (is_plain w && true)) (both (is_plain n) (is_plain u && (is_plain v && (is_plain w && true))) plain).1 in
-    let second = both (is_plain v) (is_plain w && true) first.1 in
-    let third = (both (is_plain w) true second.1).0 in
+    let behind = rest_plain n (u ∷ v ∷ w ∷ []) plain in
+    let last = rest_plain u (v ∷ w ∷ []) behind in
+    let t = takes_make n u v w (first_plain u (v ∷ w ∷ []) behind) (first_plain v (w ∷ []) last) (first_plain w [] (rest_plain v (w ∷ []) last)) in
     record {
-      takes_them = takes_make n u v w first.0 second.0 third;
+      takes_them = t.0;
       description = u;
       key = v;
       out = w;
-      has_description = description_of_make n u v w first.0 second.0 third;
-      has_key = key_of_make n u v w first.0 second.0 third;
-      has_out = out_of_make n u v w first.0 second.0 third;
+      has_description = t.1;
+      has_key = t.2;
+      has_out = t.3;
       table = refl;
     }
 makes (n ∷ u ∷ v ∷ w ∷ x ∷ more) many plain = absurd (omega arith)

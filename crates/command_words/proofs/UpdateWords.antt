@@ -1,4 +1,4 @@
--- What the command of an update takes, and what it hands out: a file, and any number of words after it.
+-- The words of an update, and its values: a file, and any number of words after it.
 use Rattle.std.proofs.Common.{◌≡◌, ◌∙◌, ◌≤◌, refl, ap, ap₂, sym, codes, true, false, Bool, ◌&&◌, Option, Some, None, ℕ, List, [], ◌∷◌, ◌++◌, length, append_assoc, nat_le, arith, Bor}
 use Rattle.std.proofs.lemmas.List.{append-nil}
 use Rattle.std.proofs.Math.Seq.{take-length}
@@ -18,7 +18,7 @@ use Rattle.command_words.proofs.TextLists.{as_many, dropped}
 use Rattle.command_words.specs.Words.{is_plain}
 use Rattle.command_words.specs.Arguments.{update_app, values_rule}
 use Rattle.command_words.proofs.Handed.{both, value_in}
-use Rattle.command_words.proofs.Taken.{no_minus, no_short}
+use Rattle.command_words.proofs.Taken.{first_plain, no_minus, no_short, rest_plain}
 
 abbrev file : Word
 file = codes "FILE"
@@ -96,20 +96,13 @@ more_pass v acc (u ∷ us) h =
 
 -- ---- a file alone
 
-takes_alone : (n v : Text) → is_plain v ≡ true → takes update_app (n ∷ v ∷ []) ≡ true
+takes_alone : (n v : Text) → is_plain v ≡ true
+    → (takes update_app (n ∷ v ∷ []) ≡ true)
+    × (value_in update_app file (n ∷ v ∷ []) ≡ Some v)
+    × (all_of uris (matches_of update_app (n ∷ v ∷ [])) ≡ None)
 unfolding clap_on_literals
-takes_alone n [] h = refl
-takes_alone n (x ∷ xs) h = let e = no_minus x xs h in rw e (rw (no_short x xs e) refl)
-
-file_alone : (n v : Text) → is_plain v ≡ true → value_in update_app file (n ∷ v ∷ []) ≡ Some v
-unfolding clap_on_literals
-file_alone n [] h = refl
-file_alone n (x ∷ xs) h = let e = no_minus x xs h in rw e (rw (no_short x xs e) refl)
-
-uris_alone : (n v : Text) → is_plain v ≡ true → all_of uris (matches_of update_app (n ∷ v ∷ [])) ≡ None
-unfolding clap_on_literals
-uris_alone n [] h = refl
-uris_alone n (x ∷ xs) h = let e = no_minus x xs h in rw e (rw (no_short x xs e) refl)
+takes_alone n [] h = (refl, refl, refl)
+takes_alone n (x ∷ xs) h = let e = no_minus x xs h in rw (e, no_short x xs e) (refl, refl, refl)
 
 -- ---- a file, and words after it
 
@@ -127,7 +120,7 @@ values_fine : (us : List Text) → list_all (value_passes (with_index 2 (filled 
 values_fine [] = refl
 values_fine (u ∷ us) = values_fine us
 
--- what is asked of the end of the walk
+-- the condition on the end of the walk
 abbrev asked : Walk → Bool → Bool
 asked w p = entered_passes (built update_app) w.stopped
     && (p && (settle_passes rules top.args_override_self w.held && (list_all default_passes rules && is_valid top (finished rules w.held) (is_some (entered (built update_app) w.stopped)))))
@@ -177,25 +170,20 @@ pub updates : (words : Words) → 2 ≤ length words → nat_le (length (drop 2 
 updates [] some few plain = absurd (omega arith)
 updates (n ∷ []) some few plain = absurd (omega arith)
 updates (n ∷ v ∷ []) some few plain =
-    let h = (both (is_plain v) true (both (is_plain n) (is_plain v && true) plain).1).0 in
-    record {
-      takes_them = takes_alone n v h;
-      first = v;
-      answers = [];
-      has_file = file_alone n v h;
-      has_answers = uris_alone n v h;
-      are = refl;
-      table = refl;
-    }
+    let t = takes_alone n v (first_plain v [] (rest_plain n (v ∷ []) plain)) in
+    record { takes_them = t.0; first = v; answers = []; has_file = t.1; has_answers = t.2; are = refl; table = refl }
 updates (n ∷ v ∷ u ∷ us) some few plain =
-    let first = both (is_plain v) (is_plain u && list_all is_plain us) (both (is_plain n) (is_plain v && (is_plain u && list_all is_plain us)) plain).1 in
-    let second = both (is_plain u) (list_all is_plain us) first.1 in
+    let behind_name = rest_plain n (v ∷ u ∷ us) plain in
+    let v_plain = first_plain v (u ∷ us) behind_name in
+    let more = rest_plain v (u ∷ us) behind_name in
+    let u_plain = first_plain u us more in
+    let us_plain = rest_plain u us more in
     record {
-      takes_them = takes_more n v u us first.0 second.0 second.1 few;
+      takes_them = takes_more n v u us v_plain u_plain us_plain few;
       first = v;
       answers = u ∷ us;
-      has_file = file_of_more n v u us first.0 second.0 second.1;
-      has_answers = uris_of_more n v u us first.0 second.0 second.1;
+      has_file = file_of_more n v u us v_plain u_plain us_plain;
+      has_answers = uris_of_more n v u us v_plain u_plain us_plain;
       are = refl;
       table = refl;
     }

@@ -16,7 +16,9 @@ option_rule id = record (new_rule id) { action = Some Set }
 
 -- any number of values
 abbrev pub values_rule : Word → Rule
-values_rule id = record (new_rule id) { range = Some (record { start_inclusive = 0; end_inclusive = usize_max }) }
+values_rule id =
+    record (new_rule id)
+    { range = Some (record { start_inclusive = 0; end_inclusive = usize_max }) }
 
 abbrev pub check_app : App
 check_app = with_rule (new_app (codes "check")) (value_rule (codes "FILE"))
@@ -25,13 +27,23 @@ abbrev pub drill_app : App
 drill_app = with_rule (new_app (codes "drill")) (value_rule (codes "NUMBER"))
 
 abbrev pub show_app : App
-show_app = with_rule (with_rule (new_app (codes "show")) (value_rule (codes "FILE"))) (option_rule (codes "KEY"))
+show_app =
+    with_rule (with_rule (new_app (codes "show")) (value_rule (codes "FILE")))
+    (option_rule (codes "KEY"))
 
 abbrev pub init_app : App
-init_app = with_rule (with_rule (new_app (codes "init")) (value_rule (codes "DEVICE"))) (value_rule (codes "KEY"))
+init_app =
+    with_rule (with_rule (new_app (codes "init")) (value_rule (codes "DEVICE")))
+    (value_rule (codes "KEY"))
 
 abbrev pub make_app : App
-make_app = with_rule (with_rule (with_rule (new_app (codes "make")) (value_rule (codes "DESCRIPTION"))) (value_rule (codes "KEY"))) (value_rule (codes "OUT"))
+make_app =
+    with_rule
+    (with_rule (with_rule (new_app (codes "make")) (value_rule (codes "DESCRIPTION")))
+    (value_rule (codes "KEY")))
+    (value_rule (codes "OUT"))
 
 abbrev pub update_app : App
-update_app = with_rule (with_rule (new_app (codes "update")) (value_rule (codes "FILE"))) (values_rule (codes "URI=NAME"))
+update_app =
+    with_rule (with_rule (new_app (codes "update")) (value_rule (codes "FILE")))
+    (values_rule (codes "URI=NAME"))

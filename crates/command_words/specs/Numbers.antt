@@ -10,7 +10,9 @@ is_short word = length word == 1 || not (slice_index word 0 == 48)
 
 -- decimal digits, of a number below 2^64
 abbrev pub is_number : Word → Bool
-is_number word = all_ascii_digits word && (nat_lt 0 (length word) && (is_short word && nat_lt (digits_value 10 word) (2 ^ 64)))
+is_number word =
+    all_ascii_digits word
+    && (nat_lt 0 (length word) && (is_short word && nat_lt (digits_value 10 word) (2 ^ 64)))
 
 abbrev pub number_of : Word → Option ℕ
 number_of word = if is_number word then Some (digits_value 10 word) else None

@@ -33,11 +33,13 @@ IsAfterLast answer = AllByRecursion (λ byte. byte ≢ equals_sign) answer.name
 -- no two of them answer one URI
 abbrev pub AreDistinct : List Answer → Type 0
 AreDistinct [] = Unit {0}
-AreDistinct (answer ∷ later) = AllByRecursion (λ (other : Answer). other.uri ≢ answer.uri) later × AreDistinct later
+AreDistinct (answer ∷ later) =
+    AllByRecursion (λ (other : Answer). other.uri ≢ answer.uri) later × AreDistinct later
 
 -- the bounds of a command
 abbrev pub IsWithin : Task → Type 0
-IsWithin (Update file answers) = (length answers ≤ most_uris) × AllByRecursion IsAfterLast answers × AreDistinct answers
+IsWithin (Update file answers) =
+    (length answers ≤ most_uris) × AllByRecursion IsAfterLast answers × AreDistinct answers
 IsWithin (Drill number) = number < 2 ^ 64
 IsWithin _ = Unit {0}
 
@@ -47,7 +49,7 @@ pub record Asks (words : Words) (task : Task) : Type 0 where
   pub plain : AllByRecursion IsPlain words
   pub within : IsWithin task
 
--- what the words ask for, if there is a command that they spell
+-- the task that the words ask for, if they spell a command
 abbrev pub AskFor : Words → Option Task → Type 0
 AskFor words (Some task) = Asks words task
 AskFor words None = (task : Task) → Asks words task → ⊥
@@ -57,4 +59,5 @@ pub record WordLaws : Type 0 where
   pub reads : (words : Words) (task : Task) → (task_of words ≡ Some task) ↔ Asks words task
   pub usage : (words : Words) → (task_of words ≡ None) ↔ ((task : Task) → Asks words task → ⊥)
   -- so words ask for one thing at most
-  pub one : (words : Words) (first second : Task) → Asks words first → Asks words second → first ≡ second
+  pub one : (words : Words) (first second : Task) → Asks words first → Asks words second
+      → first ≡ second

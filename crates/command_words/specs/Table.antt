@@ -1,4 +1,4 @@
--- What the words ask for: a table of the commands.
+-- The table of the commands, by their words.
 use Rattle.std.specs.Prelude.{[], ◌∷◌, Option, Some, None, option_map, codes, if◌then◌else◌}
 use Rattle.std.specs.List.{list_all}
 use Rattle.std.specs.Str.{bytes_eq}

@@ -1,4 +1,4 @@
--- What a command line asks for, by its words.
+-- The task of a command line, by its words.
 use Rattle.std.specs.Prelude.{ℕ, List, map}
 use Rattle.std.specs.Borrow.{Bor}
 

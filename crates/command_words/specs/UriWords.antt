@@ -26,14 +26,17 @@ names uri word = option_map_or (λ (answer : Answer). bytes_eq answer.uri uri) (
 
 -- the word says which file answers a URI, and no later one says it of that URI
 abbrev pub is_last : Word → Words → Bool
-is_last word later = option_map_or (λ (answer : Answer). not (list_any (names answer.uri) later)) (cut word) false
+is_last word later =
+    option_map_or (λ (answer : Answer). not (list_any (names answer.uri) later)) (cut word) false
 
 unfoldable pub are_answers : Words → Bool
 are_answers [] = true
 are_answers (word ∷ words) = is_last word words && are_answers words
 
 abbrev pub uris_of : Words → Option (List Answer)
-uris_of words = if nat_le (length words) most_uris && are_answers words then Some (filter_map cut words) else None
+uris_of words =
+    if nat_le (length words) most_uris && are_answers words then Some (filter_map cut words)
+    else None
 
 abbrev pub answer_said : UriWord → Answer
 answer_said word = record { uri = word.uri.now; name = word.name.now }

@@ -99,8 +99,7 @@ pub(crate) fn update_command<'a>(alloc: Global) -> Result<Command<'a>, AllocErro
     with_values(alloc, command, "URI=NAME")
 }
 
-/// What a command hands out of words that it takes. Then it can lack nothing but memory. The first word is the
-/// command's name.
+/// Matches words that a command takes, which fails only where memory runs out. The first word is the command's name.
 pub(crate) fn found<'a>(
     command: Command<'a>,
     words: &'a [&'a str],

@@ -1,8 +1,8 @@
-//! What a command line asks for.
+//! The commands that words ask for.
 
 use crate::uri_words::UriWords;
 
-/// What a command line asks for. Keys are the names of files.
+/// A command and its arguments. Keys are the names of files.
 #[derive(Debug, Drop)]
 pub enum Command<'a> {
     /// To make an envelope of a description in JSON, and to store it.

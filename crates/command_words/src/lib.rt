@@ -1,4 +1,4 @@
-//! What the words of a command line ask for: the program's own judgement of them, and `clap` for their arguments.
+//! The command that words ask for: the program judges them itself, and leaves their arguments to `clap`.
 #![tactic(auto)]
 
 mod arguments;

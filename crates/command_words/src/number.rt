@@ -10,7 +10,7 @@ fn is_short(word: &str) -> bool
     word.len() == 1 || !word.starts_with('0')
 }
 
-/// The number below 2^64 that a word spells: decimal digits without a sign, and without a zero that leads.
+/// The number below 2^64 that a word spells: decimal digits without a sign or a leading zero.
 pub(crate) fn number_of(word: &str) -> Option<u64>
     ensures { result ≡ number_of word.now }
 {

@@ -12,7 +12,7 @@ use crate::command::Command;
 use crate::uri_words::{UriWords, are_answers};
 use std::alloc::{AllocError, Global};
 
-/// As many words `URI=NAME` may stand in one command.
+/// How many words `URI=NAME` one command may have.
 const MOST_URIS: usize = 64;
 
 fn init<'a>(alloc: Global, words: &'a [&'a str]) -> Result<Option<Command<'a>>, AllocError>

@@ -33,8 +33,8 @@ fn in_table<'a>(alloc: Global, words: &'a [&'a str]) -> Result<Option<Command<'a
 
 /// The command that the words spell; none where they are usage. The words do not hold the program's name.
 ///
-/// Words that are usage are told without memory. What the words of a command hand out is left to `clap`, which takes
-/// them all, unless memory is wanting.
+/// Words that are usage are told without memory. The arguments of a command are left to `clap`, which takes them all,
+/// unless memory runs out.
 pub fn command_of<'a>(
     alloc: Global,
     words: &'a [&'a str],

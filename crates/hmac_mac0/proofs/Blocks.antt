@@ -97,7 +97,7 @@ second_valid (ItemThen a (ItemThen b xs)) first second rest v n f s e =
     let same = (one_spelling 2 0 b second (spell_items xs) rest v.1.0 s after).0 in
     subst (IsValidWithin 2) same v.1.0
 
--- what is laid out as a block, and is an item, is the block's item
+-- an item that is laid out as a block is the block's item
 pub parts_spell : (block protected tag : List ℕ) → IsBytes block → IsItem block → (h : HasParts block protected tag) → Spells (mac0_item protected h.unprotected tag) block
 parts_spell block protected tag fits x h =
     let rest = spell (ByteString protected) ++ tail_of h.unprotected tag in

@@ -32,7 +32,7 @@ null : head_bytes 7 22 ≡ 0xf6 ∷ []
 unfolding head_bytes
 null = refl
 
--- what was written, after the unprotected header
+-- the bytes written, after the unprotected header
 abbrev pub written : List ℕ → List ℕ → List ℕ
 written unprotected tag = [] ++ head_bytes 6 17 ++ head_bytes 4 4 ++ spell (ByteString made_header) ++ unprotected ++ head_bytes 7 22 ++ spell (ByteString tag)
 

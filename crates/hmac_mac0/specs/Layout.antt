@@ -25,7 +25,7 @@ pub record StartsWithMap (bytes rest : List ℕ) : Type 0 where
 abbrev pub StartsWithNull : List ℕ → List ℕ → Type 0
 StartsWithNull bytes rest = bytes ≡ spell NullItem ++ rest
 
--- what follows the protected header: a map, null and the tag
+-- after the protected header: a map, null and the tag
 pub record EndsWithTag (bytes tag : List ℕ) : Type 0 where
   pub unprotected : DataPairs
   pub map : IsValid (MapOf unprotected)

@@ -15,7 +15,7 @@ mac_structure protected payload =
 unfoldable pub tag_of : List ℕ → List ℕ → List ℕ → List ℕ
 tag_of key protected payload = hmac_of key (spell (mac_structure protected payload))
 
--- ---- what a block is
+-- ---- the form of a block
 
 -- a map of 4 (kid) to a byte string, or nothing (RFC 9052, section 3.1)
 abbrev pub kid_pairs : Option (List ℕ) → DataPairs

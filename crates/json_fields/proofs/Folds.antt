@@ -12,7 +12,7 @@ use Rattle.json_fields.specs.Flaws.{under, flawed}
 use Rattle.json_fields.specs.Pointers.{key_token}
 use Rattle.json_fields.specs.Objects.{Takes, members_of, object_of}
 
--- what is read after some elements, which were read before
+-- the elements read after some that were read before
 abbrev pub after : {A : Type 0} → List A → Result (List A) Flaw → Result (List A) Flaw
 after xs read = read >>= λ ys. Ok (xs ++ ys)
 

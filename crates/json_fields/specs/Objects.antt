@@ -8,7 +8,7 @@ use Rattle.json_fields.specs.declared.flaw.FlawKind.TheVariants.{Field}
 use Rattle.json_fields.specs.Flaws.{found_or, under}
 use Rattle.json_fields.specs.Pointers.{key_token}
 
--- what a draft of a kind of object becomes with a member
+-- how a draft of a kind of object takes a member
 abbrev pub Takes : Type 0 → Type 0
 Takes D = D → List ℕ → Data → Result D Flaw
 

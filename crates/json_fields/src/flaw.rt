@@ -6,9 +6,9 @@ use std::alloc::AllocError;
 /// The flaw of a value.
 #[derive(Clone, Copy, Debug, PartialEq, Eq)]
 pub enum FlawKind {
-    /// It is not of the kind that is read there, or breaks a rule of it; or a field is unknown, or missing.
+    /// It is of the wrong kind, or breaks a rule of its kind; or a field is unknown, or missing.
     Field,
-    /// A text that is not of hexadecimal digits, two for each byte, or not of so many bytes.
+    /// A text that is not hexadecimal, two digits for each byte, or not of so many bytes.
     Hex,
     /// A text that is no UUID.
     Uuid,

@@ -10,7 +10,7 @@ use crate::{FlawKind, JsonFault, at_key};
 use serde_json::Value;
 use std::alloc::Global;
 
-/// A kind of object, as far as its members are read.
+/// A kind of object, while its members are read.
 pub trait Draft {
     ghost use Rattle.json_fields.specs.Objects.{Takes};
 
@@ -38,7 +38,7 @@ pub fn object<D: Draft>(alloc: Global, value: &Value, draft: &mut D) -> Result<(
     Ok(())
 }
 
-/// A field that an object has to have, under this key.
+/// A required field of an object, under this key.
 pub fn required<T: Drop>(alloc: Global, key: &str, field: Option<T>) -> Result<T, JsonFault>
     ensures { Gives (λ x. x) result (said_required key.now field) }
 {

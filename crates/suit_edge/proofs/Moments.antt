@@ -34,7 +34,7 @@ pub moment_of-push : (first : List ℕ) (steps : List Step) (s : Step) → momen
 unfolding moment_of
 moment_of-push first steps s = after_steps-push (record { settled = first; reads = first; pending = [] }) steps s
 
--- what a write that fits makes of a moment
+-- the moment after a write that fits
 pub moment_of-write : (first : List ℕ) (steps : List Step) (place : ℕ) (bytes : List ℕ) → place + length bytes ≤ length first
     → moment_of first (steps ++ write_of place bytes ∷ []) ≡ record {
       settled = (moment_of first steps).settled;
@@ -48,13 +48,13 @@ moment_of-write first steps place bytes fits =
     moment_of-push first steps (Wrote w)
     ∙ ap (λ (l : List ℕ). record { settled = m.settled; reads = l; pending = m.pending ++ w ∷ [] }) (after_write-fits m.reads w (omega (arith, fits, length-moment_of first steps)))
 
--- what a sync makes of it
+-- the moment after a sync
 pub moment_of-sync : (first : List ℕ) (steps : List Step)
     → moment_of first (steps ++ Synced ∷ []) ≡ record { settled = (moment_of first steps).reads; reads = (moment_of first steps).reads; pending = [] }
 unfolding after_step
 moment_of-sync first steps = moment_of-push first steps Synced
 
--- ---- what the disk keeps
+-- ---- the state that the disk keeps
 
 writes_of-push : (steps : List Step) (w : Write) → writes_of (steps ++ Wrote w ∷ []) ≡ writes_of steps ++ w ∷ []
 writes_of-push [] w = refl
@@ -146,7 +146,7 @@ outside_front : (writes : List Write) (w : Write) (i : ℕ) → OutsideAll (writ
 outside_front [] w i all = (tt, all.0)
 outside_front (v ∷ writes) w i all = let rest = outside_front writes w i all.1 in ((all.0, rest.0), rest.1)
 
--- what stood there at the last sync, where no write is pending
+-- the bytes at the last sync, where no write is pending
 step_settled : (m : Moment) (s : Step) → SameOn (OutsideAll m.pending) m.reads m.settled → SameOn (OutsideAll (after_step m s).pending) (after_step m s).reads (after_step m s).settled
 unfolding after_step
 step_settled m (Wrote w) is =
@@ -160,7 +160,7 @@ unfolding after_steps
 steps_settled m [] is = is
 steps_settled m (s ∷ steps) is = steps_settled (after_step m s) steps (step_settled m s is)
 
--- what the choice leaves is an image of the moment, where it is bytes
+-- the choice leaves an image of the moment, where it is bytes
 pub lost_image : (choice : ℕ) (first : List ℕ) (steps : List Step) → AreBytes (lost choice (moment_of first steps)) → IsImage (moment_of first steps) (lost choice (moment_of first steps))
 unfolding moment_of lost
 lost_image choice first steps bytes =

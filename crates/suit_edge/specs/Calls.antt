@@ -2,7 +2,7 @@
 use Rattle.std.specs.Prelude.{◌≡◌, ◌⊎◌, ℕ, List, Contains}
 use Rattle.suit_edge.specs.Faults.{Faulted, counted}
 
--- the numbers of the calls that fail, the number of the next call, and the counts of faults and of wants of memory
+-- the numbers of the calls that fail, the number of the next call, and the counts of faults and of memory running out
 pub record CallCounts : Type 0 where
   pub fails : List ℕ
   pub number : ℕ
@@ -29,7 +29,7 @@ pub record FailsByList (before now : CallCounts) : Type 0 where
       now ≡ record before { number = counted before.number; faults = counted before.faults }
   pub faulted : Faulted before.faults now.faults
 
--- a call whose memory was wanting counts a fault and its want
+-- a call whose memory ran out counts a fault, and counts that too
 pub record Starves (before now : CallCounts) : Type 0 where
   pub unlisted : ¬ IsListed before
   pub counts :
@@ -43,6 +43,6 @@ pub record Starves (before now : CallCounts) : Type 0 where
   pub faulted : Faulted before.faults now.faults
   pub rose : Faulted before.starved now.starved
 
--- a call fails by its number or for want of memory, and for nothing else
-abbrev pub Fails : CallCounts → CallCounts → Type 0
-Fails before now = FailsByList before now ⊎ Starves before now
+-- a call fails by its number or because memory ran out, and for nothing else
+abbrev pub CallFails : CallCounts → CallCounts → Type 0
+CallFails before now = FailsByList before now ⊎ Starves before now

@@ -3,7 +3,7 @@ use Rattle.std.specs.Prelude.{◌≡◌, ◌⊎◌, ◌≤◌, ℕ, List, length
 use Rattle.suit_edge.specs.Ranges.{AreBytes, SameOn}
 
 pub record Flash : Type 1 where
-  -- what a read gives
+  -- the bytes that a read gives
   pub reads : List ℕ
   -- the moment now, a number that does not fall
   pub clock : ℕ
@@ -14,11 +14,11 @@ pub record Flash : Type 1 where
 abbrev pub Now : Flash → List ℕ → Type 0
 Now f image = f.may f.clock image
 
--- what every disk obeys
+-- the laws of every disk
 pub record IsFlash (f : Flash) (size : ℕ) : Type 0 where
   pub fits : length f.reads ≡ size
   pub sized : (t : ℕ) (image : List ℕ) → t ≤ f.clock → f.may t image → length image ≡ size
-  -- what reads give is one of the images
+  -- reads give one of the images
   pub reads_may : Now f f.reads
   -- where reads give bytes, so does a power loss
   pub bytes : AreBytes f.reads → (image : List ℕ) → Now f image → AreBytes image

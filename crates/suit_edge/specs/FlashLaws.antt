@@ -12,7 +12,7 @@ pub starts : (f : Flash) (P : List ℕ → Type 0) → ((image : List ℕ) → N
     → Passes f f P
 starts f P here = record { later = omega arith; each = here; before = λ t image le may. inl may }
 
--- what has P has Q
+-- each image with P has Q
 pub weakens : (a b : Flash) (P Q : List ℕ → Type 0) → ((image : List ℕ) → P image → Q image)
     → Passes a b P → Passes a b Q
 weakens a b P Q to run = record {
@@ -29,7 +29,7 @@ joined a b c P first second = record {
   before = λ t image le may. ⊎_elim (first.before t image le) (λ p. inr p) (second.before t image (omega (arith, le, first.later)) may);
 }
 
--- what a power loss at the end leaves is among the images
+-- the image that a power loss at the end leaves is among them
 pub each_now : (a b : Flash) (size : ℕ) (P : List ℕ → Type 0) → IsFlash b size → Passes a b P
     → (image : List ℕ) → Now b image → P image
 each_now a b size P law run image now = run.each image (law.sooner a.clock b.clock image run.later (omega arith) now)

@@ -176,7 +176,7 @@ module _ (start : Flash) (size gate place : ℕ) (body : List ℕ) (law : IsFlas
       rest = same_then page start.reads b c (same_fewer page (Outside gate 1) (λ i o. o.0) start.reads b closed.apart) new.rest;
     }
 
--- ---- what is left alone
+-- ---- bytes that are left alone
 
 -- a gate, and then a page
 pub gate_fewer : (gate place : ℕ) (body : List ℕ) (a b : Flash) → Keeps (Outside gate 1) a b

@@ -5,7 +5,7 @@ use Rattle.suit_edge.specs.declared.edge.Edge.TheVariants as edge
 use Rattle.suit_edge.specs.declared.step.Write.{Write}
 use Rattle.suit_edge.specs.declared.step.Step.{Step}
 use Rattle.suit_edge.specs.declared.step.Step.TheVariants as step
-use Rattle.suit_edge.specs.Calls.{CallCounts, Succeeds, FailsByList, Fails}
+use Rattle.suit_edge.specs.Calls.{CallCounts, Succeeds, FailsByList, CallFails}
 use Rattle.suit_edge.specs.Flash.{Flash}
 use Rattle.suit_edge.specs.Moment.{Moment, moment_of, IsImage}
 
@@ -36,7 +36,7 @@ flash_of first steps =
 abbrev pub memory_flash : DiskState → Flash
 memory_flash s = flash_of s.first s.steps
 
--- ---- what a call does
+-- ---- the effect of a call
 
 -- the content stays
 pub record HoldsOn (before now : DiskState) : Type 0 where
@@ -59,7 +59,7 @@ ReadsExactly edge.Failed before now place room filled =
 -- a write or a sync takes its step or fails, and then changes nothing
 abbrev pub StepsExactly : Edge → DiskState → DiskState → Step → Type 0
 StepsExactly edge.Done before now s = Succeeds before.calls now.calls × TakesStep before now s
-StepsExactly edge.Failed before now s = Fails before.calls now.calls × HoldsOn before now
+StepsExactly edge.Failed before now s = CallFails before.calls now.calls × HoldsOn before now
 
 abbrev pub write_of : ℕ → List ℕ → Step
 write_of place bytes = step.Wrote (record { place = place; bytes = bytes })
@@ -72,7 +72,7 @@ writes_of [] = []
 writes_of (step.Wrote w ∷ steps) = w ∷ writes_of steps
 writes_of (step.Synced ∷ steps) = writes_of steps
 
--- what the disk keeps beside its steps is what they make, and the steps from `since` on are the pending ones
+-- beside its steps the disk keeps their result, and the steps from `since` on are the pending ones
 pub record IsMoment (first : List ℕ) (steps : List Step) (sure bytes : List ℕ) (since : ℕ)
     : Type 0 where
   pub settled : sure ≡ (moment_of first steps).settled

@@ -1,4 +1,4 @@
--- What a host in memory holds, and what a call makes of it.
+-- A host in memory, and the effect of a call on it.
 use Rattle.std.specs.Prelude.{◌≡◌, ◌+◌, ℕ, min, List, [], ◌∷◌, ◌++◌, length, take, drop, Option, Some, None, if◌then◌else◌}
 use Rattle.std.specs.Str.{bytes_eq}
 use Rattle.suit_edge.specs.declared.edge.Edge.{Edge}
@@ -7,7 +7,7 @@ use Rattle.suit_edge.specs.declared.host.Started.{Started}
 use Rattle.suit_edge.specs.declared.host.Started.TheVariants as started
 use Rattle.suit_edge.specs.declared.host.Pulled.{Pulled}
 use Rattle.suit_edge.specs.declared.host.Pulled.TheVariants as pulled
-use Rattle.suit_edge.specs.Calls.{CallCounts, uncalled, Succeeds, Fails}
+use Rattle.suit_edge.specs.Calls.{CallCounts, uncalled, Succeeds, CallFails}
 
 -- ---- files by name
 
@@ -39,11 +39,12 @@ empty_host fails = record { files = []; rest = []; pulled = 0; asked = []; calls
 
 -- a call that does not fail makes this of the host
 abbrev pub PassesTo : HostState → HostState → HostState → Type 0
-PassesTo before now made = Succeeds before.calls now.calls × (now ≡ record made { calls = now.calls })
+PassesTo before now made =
+    Succeeds before.calls now.calls × (now ≡ record made { calls = now.calls })
 
 -- a call that fails changes nothing that the host holds
 abbrev pub FailsAlone : HostState → HostState → Type 0
-FailsAlone before now = Fails before.calls now.calls × (now ≡ record before { calls = now.calls })
+FailsAlone before now = CallFails before.calls now.calls × (now ≡ record before { calls = now.calls })
 
 -- the name was asked for, and this is left of its file
 abbrev pub asked_for : HostState → List ℕ → List ℕ → HostState
@@ -51,13 +52,16 @@ asked_for before name rest = record before { rest = rest; asked = before.asked +
 
 -- the start of a file, whatever became of the counts of calls
 abbrev pub Begins : Started → HostState → HostState → List ℕ → Type 0
-Begins started.Done before now name = (now ≡ asked_for before name now.rest) × (file_in before.files name ≡ Some now.rest)
-Begins started.Absent before now name = (now ≡ asked_for before name []) × (file_in before.files name ≡ None)
+Begins started.Done before now name =
+    (now ≡ asked_for before name now.rest) × (file_in before.files name ≡ Some now.rest)
+Begins started.Absent before now name =
+    (now ≡ asked_for before name []) × (file_in before.files name ≡ None)
 Begins started.Failed before now name = ⊥
 
 abbrev pub StartsExactly : Started → HostState → HostState → List ℕ → Type 0
 StartsExactly started.Done before now name =
-    PassesTo before now (asked_for before name now.rest) × (file_in before.files name ≡ Some now.rest)
+    PassesTo before now (asked_for before name now.rest)
+    × (file_in before.files name ≡ Some now.rest)
 StartsExactly started.Absent before now name =
     PassesTo before now (asked_for before name []) × (file_in before.files name ≡ None)
 StartsExactly started.Failed before now name = FailsAlone before now

@@ -3,18 +3,18 @@ use Rattle.std.specs.Prelude.{◌≡◌, ℕ, List}
 use Rattle.suit_edge.specs.declared.launch.Launch.{Launch}
 use Rattle.suit_edge.specs.declared.launcher.Launched.{Launched}
 use Rattle.suit_edge.specs.declared.launcher.Launched.TheVariants as launched
-use Rattle.suit_edge.specs.Calls.{CallCounts, Succeeds, Fails}
+use Rattle.suit_edge.specs.Calls.{CallCounts, Succeeds, CallFails}
 
 -- the launches so far
 pub record LauncherState : Type 0 where
   pub launches : List Launch
   pub calls : CallCounts
 
--- It fails by its number or for want of memory, and then leaves the disk's count as it was.
--- Where the disk failed it is itself as after a call that is done.
+-- It fails by its number or because memory ran out, and then leaves the disk's count as it was. Where the disk failed
+-- it is itself as after a call that is done.
 abbrev pub LaunchesExactly : Launched → LauncherState → LauncherState → ℕ → ℕ → Type 0
 LaunchesExactly launched.Done before now disk_before disk_now = Succeeds before.calls now.calls
 LaunchesExactly launched.DiskFailed before now disk_before disk_now =
     Succeeds before.calls now.calls
 LaunchesExactly launched.Failed before now disk_before disk_now =
-    Fails before.calls now.calls × (disk_now ≡ disk_before)
+    CallFails before.calls now.calls × (disk_now ≡ disk_before)

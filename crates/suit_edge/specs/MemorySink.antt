@@ -2,7 +2,7 @@
 use Rattle.std.specs.Prelude.{◌≡◌, ℕ, List, ◌++◌}
 use Rattle.suit_edge.specs.declared.edge.Edge.{Edge}
 use Rattle.suit_edge.specs.declared.edge.Edge.TheVariants as edge
-use Rattle.suit_edge.specs.Calls.{CallCounts, Succeeds, Fails}
+use Rattle.suit_edge.specs.Calls.{CallCounts, Succeeds, CallFails}
 
 -- the bytes that were put
 pub record SinkState : Type 0 where
@@ -13,4 +13,4 @@ pub record SinkState : Type 0 where
 abbrev pub PutsExactly : Edge → SinkState → SinkState → List ℕ → Type 0
 PutsExactly edge.Done before now piece =
     Succeeds before.calls now.calls × (now.put ≡ before.put ++ piece)
-PutsExactly edge.Failed before now piece = Fails before.calls now.calls × (now.put ≡ before.put)
+PutsExactly edge.Failed before now piece = CallFails before.calls now.calls × (now.put ≡ before.put)

@@ -6,9 +6,9 @@ use Rattle.suit_edge.specs.declared.step.Step.TheVariants as step
 use Rattle.suit_edge.specs.Ranges.{Outside, SameOn, written}
 
 pub record Moment : Type 0 where
-  -- what stood there at the last sync
+  -- the bytes at the last sync
   pub settled : List ℕ
-  -- what reads give
+  -- the bytes that reads give
   pub reads : List ℕ
   -- the writes since that sync, the first one first
   pub pending : List Write
@@ -54,6 +54,6 @@ kept choice n bytes [] = bytes
 kept choice n bytes (w ∷ writes) =
     kept choice (n + 1) (cond (has_bit choice n) (after_write bytes w) bytes) writes
 
--- what a power loss leaves that keeps the pending writes of the choice, counted from 0
+-- the image that a power loss leaves which keeps the pending writes of the choice, counted from 0
 unfoldable pub lost : ℕ → Moment → List ℕ
 lost choice m = kept choice 0 m.settled m.pending

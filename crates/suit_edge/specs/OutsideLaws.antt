@@ -11,7 +11,8 @@ in_or_outside (r ∷ ranges) i = ⊎_elim
     (λ high. ⊎_elim (λ within. inl (inl (high, within))) (λ past. in_or_out ranges (inr past) (in_or_outside ranges i)) (cases_lt i (r.place + r.size)))
     (cases_lt i r.place)
   where
-    in_or_out : (rest : List Range) → Outside r.place r.size i → InSome rest i ⊎ OutsideEach rest i → InSome (r ∷ rest) i ⊎ OutsideEach (r ∷ rest) i
+    in_or_out : (rest : List Range) → Outside r.place r.size i → InSome rest i ⊎ OutsideEach rest i
+        → InSome (r ∷ rest) i ⊎ OutsideEach (r ∷ rest) i
     in_or_out rest out at = ⊎_elim (λ s. inl (inr s)) (λ o. inr (out, o)) at
 
 -- and not both
@@ -23,14 +24,17 @@ not_both (r ∷ ranges) i at out = ⊎_elim (λ w. apart w out.0) (λ rest. not_
     apart w o = ⊎_elim (λ low. omega (arith, w.0, low)) (λ high. omega (arith, w.1, high)) o
 
 -- two lists of ranges in one
-pub outside_both : (some more : List Range) (i : ℕ) → OutsideEach some i → OutsideEach more i → OutsideEach (some ++ more) i
+pub outside_both : (some more : List Range) (i : ℕ) → OutsideEach some i → OutsideEach more i
+    → OutsideEach (some ++ more) i
 outside_both [] more i first second = second
 outside_both (r ∷ some) more i first second = (first.0, outside_both some more i first.1 second)
 
-pub outside_first : (some more : List Range) (i : ℕ) → OutsideEach (some ++ more) i → OutsideEach some i
+pub outside_first : (some more : List Range) (i : ℕ) → OutsideEach (some ++ more) i
+    → OutsideEach some i
 outside_first [] more i out = tt
 outside_first (r ∷ some) more i out = (out.0, outside_first some more i out.1)
 
-pub outside_second : (some more : List Range) (i : ℕ) → OutsideEach (some ++ more) i → OutsideEach more i
+pub outside_second : (some more : List Range) (i : ℕ) → OutsideEach (some ++ more) i
+    → OutsideEach more i
 outside_second [] more i out = out
 outside_second (r ∷ some) more i out = outside_second some more i out.1

@@ -81,7 +81,7 @@ pub same_fewer : (K L : ℕ → Type 0) → ((i : ℕ) → K i → L i) → (a b
     → SameOn K a b
 same_fewer K L to a b same = record { size = same.size; same = λ i k. same.same i (to i k) }
 
--- what is outside a range is outside each range within it
+-- a place outside a range is outside each range within it
 pub outside_within : (p k q n : ℕ) → q ≤ p → p + k ≤ q + n → (i : ℕ) → Outside q n i → Outside p k i
 outside_within p k q n low high i out = ⊎_elim (λ h. inl (omega arith)) (λ h. inr (omega arith)) out
 

@@ -5,11 +5,12 @@ use Rattle.suit_edge.specs.declared.take.Taken.TheVariants as taken
 use Rattle.suit_edge.specs.Faults.{Faulted}
 use Rattle.suit_edge.specs.Host.{AsksFor}
 
--- what an answer says of the file of the name
+-- the meaning of an answer for the file of the name
 abbrev pub TakesAll : Taken → Option (List ℕ) → ℕ → Type 0
 TakesAll (taken.Got bytes) file limit = file ≡ Some bytes
 TakesAll taken.Absent file limit = file ≡ None
-TakesAll (taken.TooLong n) file limit = (bytes : List ℕ) × (file ≡ Some bytes) × (limit < length bytes)
+TakesAll (taken.TooLong n) file limit =
+    (bytes : List ℕ) × (file ≡ Some bytes) × (limit < length bytes)
 TakesAll taken.HostFault file limit = Unit {0}
 TakesAll taken.NoMemory file limit = Unit {0}
 

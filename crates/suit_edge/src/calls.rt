@@ -20,7 +20,8 @@ impl Model for Calls {
 
     ghost Value = { CallCounts };
 
-    ghost view = { λ c. record { fails = c.fails.items; number = c.number; faults = c.faults; starved = c.starved } };
+    ghost view = { λ c.
+        record { fails = c.fails.items; number = c.number; faults = c.faults; starved = c.starved } };
 }
 
 impl Calls {
@@ -53,7 +54,7 @@ impl Calls {
         fails
     }
 
-    /// Counts a want of memory in the call that was counted last.
+    /// Records that memory ran out in the call that was counted last.
     pub(crate) fn starve(&mut self)
         ensures counts { self.new
             ≡ record self.old
@@ -65,7 +66,7 @@ impl Calls {
         self.starved = self.starved.saturating_add(1);
     }
 
-    /// How often memory was wanting.
+    /// How often memory ran out.
     pub(crate) fn starved(&self) -> u64
         ensures { result ≡ self.now.starved }
     {

@@ -8,9 +8,6 @@ ghost use Rattle.suit_edge.specs.Flash.{IsFirmOn, IsSettled, Keeps, Passes};
 ghost use Rattle.suit_edge.specs.Gate.{page_at};
 ghost use Rattle.suit_edge.specs.Ranges.{AreClear, InSome, Outside, written};
 
-#[cfg(test)]
-mod tests;
-
 use crate::{Disk, Edge, write_gated};
 
 /// How many bytes are written at once.
@@ -65,7 +62,7 @@ fn keep_pieces<D: Disk>(disk: &mut D, place: u64, bytes: &[u8]) -> Edge
 
 /// Writes the bytes in pieces, and then the page beside them. At any moment an open page is the old one, or the new
 /// one over the new bytes.
-pub(crate) fn vouch<D: Disk>(
+pub fn vouch<D: Disk>(
     disk: &mut D,
     place: u64,
     bytes: &[u8],

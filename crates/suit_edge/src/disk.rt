@@ -8,7 +8,7 @@ ghost use Rattle.suit_edge.specs.Ranges.{Outside, written};
 
 use crate::Edge;
 
-/// Bytes that outlive a loss of power, as far as they were made sure of.
+/// Bytes that outlive a power loss once they are synced.
 pub trait Disk {
     /// Whether disks of this type tell what they hold.
     ghost told: { Bool };
@@ -37,7 +37,7 @@ pub trait Disk {
         ensures same { IsTrue told → IsSame (flash self.old) (flash self.new) }
         ensures grows { IsTrue told → Grows (flash self.old) (flash self.new) };
 
-    /// Writes the bytes from the place on. They are sure only after a `sync`. Where it fails, its range holds any bytes.
+    /// Writes the bytes from the place on. Durable only after a `sync`. If it fails, its range holds any bytes.
     fn write_at(&mut self, place: u64, bytes: &[u8]) -> Edge
         requires { place + length bytes.now ≤ extent self.old }
         ensures size { extent self.new ≡ extent self.old }
@@ -49,7 +49,7 @@ pub trait Disk {
             → Keeps (Outside place (length bytes.now)) (flash self.old) (flash self.new) }
         ensures grows { IsTrue told → Grows (flash self.old) (flash self.new) };
 
-    /// Makes sure of all that was written. Where it fails, nothing has changed.
+    /// Syncs all that was written. If it fails, nothing has changed.
     fn sync(&mut self) -> Edge
         ensures size { extent self.new ≡ extent self.old }
         ensures counts { EdgeCounts result (faults self.old) (faults self.new) }

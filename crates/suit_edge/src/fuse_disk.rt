@@ -1,4 +1,4 @@
-//! A disk whose power goes.
+//! A disk whose power fails.
 
 ghost use Rattle.std.specs.Bool.{OnFalse, OnTrue};
 ghost use Rattle.std.specs.Prelude.{◌≡◌, ◌+◌, ◌≤◌, true, IsTrue, length, slice_range};
@@ -49,7 +49,7 @@ impl FuseDisk {
         self.disk
     }
 
-    /// How often a call of the disk failed for want of memory.
+    /// How often a call of the disk failed because memory ran out.
     pub fn starved(&self) -> u64
         ensures { result ≡ self.now.disk.calls.starved }
     {

@@ -6,7 +6,7 @@ ghost use Rattle.suit_edge.specs.Host.{StartAsks, StartCounts, Starts, PullCount
 
 use crate::Edge;
 
-/// What the start of a file came to.
+/// The result of starting a file.
 #[derive(Clone, Copy, Debug, PartialEq, Eq)]
 pub enum Started {
     /// The file stands at its first byte.
@@ -17,7 +17,7 @@ pub enum Started {
     Failed,
 }
 
-/// What a pull came to.
+/// The result of a pull.
 #[derive(Clone, Copy, Debug, PartialEq, Eq)]
 pub enum Pulled {
     /// So many bytes came. None, where there was room, is the end of the file.
@@ -26,7 +26,7 @@ pub enum Pulled {
     Failed,
 }
 
-/// A keeper of files, each under a name. One file at a time is read.
+/// A keeper of files, each under a name. One file is read at a time.
 pub trait Host {
     /// Whether the members below tell what the host holds.
     ghost told: { Bool };
@@ -34,7 +34,7 @@ pub trait Host {
     /// The bytes of the file with a name, where one has it.
     ghost file: { Self → List ℕ → Option (List ℕ) };
 
-    /// What is left of the file that was started last: no bytes where none is started.
+    /// The bytes left of the file that was started last; none where none is started.
     ghost rest: { Self → List ℕ };
 
     /// The number of bytes handed out so far.
@@ -62,14 +62,16 @@ pub trait Host {
         ensures fits { count_of result ≤ length room.old }
         ensures files { IsTrue told → file self.new ≡ file self.old }
         ensures pulled { IsTrue told → pulled self.new ≡ pulled self.old + count_of result }
-        ensures pulls { IsTrue told → Pulls result (rest self.old) (rest self.new) room.old room.new }
+        ensures pulls { IsTrue told
+            → Pulls result (rest self.old) (rest self.new) room.old room.new }
         ensures asked { IsTrue told → asked self.new ≡ asked self.old }
         ensures counts { PullCounts result (faults self.old) (faults self.new) };
 
     /// Sets the bytes of a name. After `Failed` nothing is known of the bytes of that name.
     fn store(&mut self, name: &str, bytes: &[u8]) -> Edge
         ensures stores { IsTrue told → Stores result (file self.new name.now) bytes.now }
-        ensures others { IsTrue told → (other : List ℕ) → other ≢ name.now → file self.new other ≡ file self.old other }
+        ensures others { IsTrue told → (other : List ℕ) → other ≢ name.now
+            → file self.new other ≡ file self.old other }
         ensures rest { IsTrue told → rest self.new ≡ rest self.old }
         ensures pulled { IsTrue told → pulled self.new ≡ pulled self.old }
         ensures asked { IsTrue told → asked self.new ≡ asked self.old }

@@ -1,4 +1,4 @@
-//! The starting of images.
+//! Starting images.
 
 ghost use Rattle.std.specs.Prelude.{◌≡◌, ℕ, Bool, List, IsTrue};
 ghost use Rattle.std.specs.Option.{option_copied};
@@ -28,7 +28,7 @@ pub enum Launched {
     Failed,
 }
 
-/// A thing that starts images.
+/// An object that starts images.
 pub trait Launcher {
     /// Whether launchers of this type tell what they launched.
     ghost told: { Bool };

@@ -11,11 +11,12 @@ ghost use Rattle.suit_edge.specs.SinkLaws.{SinkLaws};
 
 use crate::Disk;
 
-/// Bounds on every disk between two moments of its life. A sync that leaves a write pending, a clock
-/// that goes back, an image of another length, and reads that give no image are all refused by it. A disk whose clock
-/// stands still while its bytes change never again makes sure of them: none of its syncs is done.
+/// Bounds on every disk between two moments of its life. They refuse a sync that leaves a write pending, a clock that
+/// goes back, an image of another length, and reads that give no image. A disk whose clock stands still while its bytes
+/// change never again makes them durable: none of its syncs is done.
 pub fn disk_laws<D: Disk>(before: &D, after: &D)
-    ensures { IsTrue D.told → DiskLaw (D.extent before.now) (D.flash before.now) (D.flash after.now) }
+    ensures { IsTrue D.told
+        → DiskLaw (D.extent before.now) (D.flash before.now) (D.flash after.now) }
 {}
 
 /// The images that a power loss leaves of a disk in memory: any bytes in each range written since the last sync, and all else as

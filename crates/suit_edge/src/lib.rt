@@ -25,6 +25,7 @@ mod std_sink;
 mod step;
 mod take;
 
+pub use client::vouch;
 pub use disk::Disk;
 pub use edge::Edge;
 pub use file_disk::FileDisk;

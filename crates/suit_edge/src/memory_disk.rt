@@ -38,7 +38,8 @@ impl Model for MemoryDisk {
 
     ghost view = { λ d. record { first = d.first.items; steps = d.steps.items; calls = d.calls } };
 
-    ghost invariant = { λ d. IsMoment d.first.items d.steps.items d.settled.items d.bytes.items d.since };
+    ghost invariant = { λ d.
+        IsMoment d.first.items d.steps.items d.settled.items d.bytes.items d.since };
 }
 
 impl MemoryDisk {
@@ -96,7 +97,7 @@ impl MemoryDisk {
         MemoryDisk::of(alloc, bytes, calls)
     }
 
-    /// How often a call failed for want of memory.
+    /// How often a call failed because memory ran out.
     pub fn starved(&self) -> u64
         ensures { result ≡ self.now.calls.starved }
     {

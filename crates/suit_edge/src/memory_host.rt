@@ -3,7 +3,7 @@
 ghost use Rattle.std.specs.Prelude.{◌≡◌, ◌≢◌, ◌≤◌, ◌+◌, [], ◌∷◌, ◌++◌, ℕ, List, length, true, IfOk, IsTrue, OnOk, OnErr};
 ghost use Rattle.suit_edge.specs.Faults.{EdgeCounts};
 ghost use Rattle.suit_edge.specs.Host.{StartAsks, StartCounts, Starts, PullCounts, Pulls, count_of, Stores};
-ghost use Rattle.suit_edge.specs.Calls.{Succeeds, Fails};
+ghost use Rattle.suit_edge.specs.Calls.{Succeeds, CallFails};
 ghost use Rattle.suit_edge.specs.MemoryHost.{
   file_in,
   with_file,
@@ -38,7 +38,8 @@ impl Model for MemoryHost {
 
     ghost Value = { HostState };
 
-    ghost view = { λ h. record { files = h.files; rest = h.rest; pulled = h.pulled; asked = h.asked; calls = h.calls } };
+    ghost view = { λ h.
+        record { files = h.files; rest = h.rest; pulled = h.pulled; asked = h.asked; calls = h.calls } };
 }
 
 impl MemoryHost {
@@ -58,7 +59,8 @@ impl MemoryHost {
 
     /// Adds a file, or gives the file of this name these bytes. This is no call of `Host`, and is not counted.
     pub fn add(&mut self, name: &str, bytes: &[u8]) -> Result<(), AllocError>
-        ensures ok { OnOk result (self.new ≡ record self.old { files = with_file self.old.files name.now bytes.now }) }
+        ensures ok { OnOk result
+            (self.new ≡ record self.old { files = with_file self.old.files name.now bytes.now }) }
         ensures err { OnErr result (self.new ≡ self.old) }
     {
         self.files.set(name, bytes)
@@ -78,7 +80,7 @@ impl MemoryHost {
         Ok(started)
     }
 
-    /// How often a call failed for want of memory.
+    /// How often a call failed because memory ran out.
     pub fn starved(&self) -> u64
         ensures { result ≡ self.now.calls.starved }
     {
@@ -105,7 +107,8 @@ impl Host for MemoryHost {
     fn start(&mut self, name: &str) -> Started
         ensures files { IsTrue true → self.new.files ≡ self.old.files }
         ensures pulled { IsTrue true → self.new.pulled ≡ self.old.pulled }
-        ensures starts { IsTrue true → Starts result (file_in self.old.files name.now) self.new.rest }
+        ensures starts { IsTrue true
+            → Starts result (file_in self.old.files name.now) self.new.rest }
         ensures asked { IsTrue true → StartAsks result name.now self.old.asked self.new.asked }
         ensures counts { StartCounts result self.old.calls.faults self.new.calls.faults }
         ensures exact { StartsExactly result self.old self.new name.now }

@@ -51,7 +51,7 @@ impl MemoryLauncher {
         &self.launches
     }
 
-    /// How often a launch failed for want of memory.
+    /// How often a launch failed because memory ran out.
     pub fn starved(&self) -> u64
         ensures { result ≡ self.now.calls.starved }
     {

@@ -45,7 +45,7 @@ impl MemorySink {
         self.put.as_slice()
     }
 
-    /// How often a call failed for want of memory.
+    /// How often a call failed because memory ran out.
     pub fn starved(&self) -> u64
         ensures { result ≡ self.now.calls.starved }
     {

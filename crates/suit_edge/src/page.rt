@@ -15,7 +15,7 @@ pub const OPEN: u8 = 0xA5;
 /// The byte that closes a gate.
 pub const CLOSED: u8 = 0;
 
-/// Writes, and makes sure of all that is pending.
+/// Writes, and syncs all that is pending.
 pub fn write_and_sync<D: Disk>(disk: &mut D, place: u64, bytes: &[u8]) -> Edge
     requires { place + length bytes.now ≤ D.extent disk.old }
     ensures size { D.extent disk.new ≡ D.extent disk.old }
@@ -60,8 +60,8 @@ fn close_if_open<D: Disk>(disk: &mut D, gate: u64) -> Edge
     }
 }
 
-/// Closes a gate, where it reads open, and makes sure of all that is pending. A power loss at any moment leaves an
-/// image of the start, or one that differs from it at the gate alone. Where it fails, the gate may be open or closed.
+/// Closes a gate, if it reads open, and syncs all that is pending. A power loss at any moment leaves an image of the
+/// start, or one that differs from it at the gate alone. If it fails, the gate may be open or closed.
 pub fn close_gate<D: Disk>(disk: &mut D, gate: u64) -> Edge
     requires { gate + 1 ≤ D.extent disk.old }
     ensures size { D.extent disk.new ≡ D.extent disk.old }
@@ -84,8 +84,8 @@ pub fn close_gate<D: Disk>(disk: &mut D, gate: u64) -> Edge
     }
 }
 
-/// Writes the bytes of a page and makes sure of them, and then opens its gate. Where no power loss at the start could
-/// leave the gate open, an open page is the new one at any moment. Where it fails, the page is then the new one, or closed.
+/// Writes the bytes of a page and syncs them, and then opens its gate. Where no power loss at the start could leave the
+/// gate open, an open page is the new one at any moment. If it fails, the page is then the new one, or closed.
 pub fn open_written<D: Disk>(disk: &mut D, gate: u64, place: u64, body: &[u8]) -> Edge
     requires gate { gate + 1 ≤ D.extent disk.old }
     requires body { place + length body.now ≤ D.extent disk.old }
@@ -116,7 +116,7 @@ pub fn open_written<D: Disk>(disk: &mut D, gate: u64, place: u64, body: &[u8]) -
 }
 
 /// Writes the bytes of a page while its gate is closed, so that a power loss at any moment leaves the old page, the new
-/// one, or none. The page must be sure before. Where it fails, the page is the old one, the new one, or closed.
+/// one, or none. The page must be durable before. If it fails, the page is the old one, the new one, or closed.
 pub fn write_gated<D: Disk>(disk: &mut D, gate: u64, place: u64, body: &[u8]) -> Edge
     requires gate { gate + 1 ≤ D.extent disk.old }
     requires body { place + length body.now ≤ D.extent disk.old }

@@ -18,7 +18,7 @@ pub enum Taken {
     TooLong(u64),
     /// A call of the host failed, and its count of faults rose.
     HostFault,
-    /// Memory was wanting.
+    /// Memory ran out.
     NoMemory,
 }
 
