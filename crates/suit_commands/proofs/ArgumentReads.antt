@@ -40,7 +40,7 @@ pub tested : {A : Type 0} (t : Bool) (a : A) (e : Refusal) (q : Position) → co
 tested true a e q = refl
 tested false a e q = refl
 
--- what was found, made into another thing
+-- a result, made into another
 pub made : {A B : Type 0} (r : Result A Refusal) (q : Position) (make : A → B) → ((r >>= with_rest q) >>= λ v. Ok (make v.0, v.1)) ≡ ((r >>= λ a. Ok (make a)) >>= with_rest q)
 made (Ok a) q make = refl
 made (Err e) q make = refl

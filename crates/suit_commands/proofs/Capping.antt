@@ -59,7 +59,7 @@ capped_times_right a b = rw (mul_comm a (capped b), mul_comm a b) (capped_times_
 pub capped_times : (a b : ℕ) → capped (capped a * capped b) ≡ capped (a * b)
 capped_times a b = capped_times_left a (capped b) ∙ capped_times_right a b
 
--- ---- what a sum and a product of answers say
+-- ---- sums and products of answers
 
 pub plus_is : (x y n a b : ℕ) → x ≡ capped a → y ≡ capped b → n ≡ capped (x + y) → n ≡ capped (a + b)
 plus_is x y n a b x_is y_is n_is = rw (n_is, x_is, y_is) (capped_plus a b)

@@ -1,11 +1,11 @@
 -- Codes of commands and their numbers.
-use Rattle.std.proofs.Common.{◌≡◌, ℕ, Bool, true, false, cond, eqb, Option, Some, None, Ok, Err, refl, sym, ap, subst, ◌∙◌, inl, inr}
-use Rattle.std.proofs.lemmas.Bool.{eqb-true}
+use Rattle.std.proofs.Common.{◌≡◌, ℕ, Bool, true, false, Option, Some, None, Ok, Err, refl, ap, subst, ◌∙◌, inl, inr}
 use Rattle.det_cbor.specs.DataItem.{DataItem, UnsignedInteger, NegativeInteger}
 use Rattle.det_cbor.specs.ResultLaws.{same_ok, same_err}
 use Rattle.suit_params.specs.declared.refusal.Refusal.{Refusal}
 use Rattle.suit_params.specs.declared.refusal.Why.TheVariants.{Unsupported}
 use Rattle.suit_params.specs.Refusing.{refused}
+use Rattle.suit_params.proofs.Numbered.{one_of}
 use Rattle.suit_commands.specs.declared.kinds.TestKind.TheVariants as tests
 use Rattle.suit_commands.specs.declared.kinds.ActKind.TheVariants as acts
 use Rattle.suit_commands.specs.declared.command_code.CommandCode.{CommandCode}
@@ -35,33 +35,25 @@ numbered_again codes.TryEach = refl
 numbered_again codes.Override = refl
 numbered_again codes.Run = refl
 
--- a number by a test, or what stands behind it
-one_of : (n m : ℕ) (c : CommandCode) (rest : Option CommandCode) (code : CommandCode) → code_number c ≡ m → cond (eqb n m) (Some c) rest ≡ Some code → (rest ≡ Some code → n ≡ code_number code) → n ≡ code_number code
-one_of n m c rest code number e others = by_test (eqb n m) refl e
-  where
-    by_test : (t : Bool) → eqb n m ≡ t → cond t (Some c) rest ≡ Some code → n ≡ code_number code
-    by_test true is f = let same : c ≡ code = cc in eqb-true n m is ∙ sym number ∙ ap code_number same
-    by_test false is f = others f
-
--- what is found has the number
+-- the one found has the number
 pub numbered_ok : (n : ℕ) (code : CommandCode) → numbered n ≡ Some code → n ≡ code_number code
 numbered_ok n code e =
-    one_of n 1 (codes.Test tests.Vendor) _ code refl e (λ e.
-    one_of n 2 (codes.Test tests.Class) _ code refl e (λ e.
-    one_of n 3 (codes.Test tests.ImageMatch) _ code refl e (λ e.
-    one_of n 5 (codes.Test tests.Slot) _ code refl e (λ e.
-    one_of n 6 (codes.Test tests.CheckContent) _ code refl e (λ e.
-    one_of n 12 codes.Index _ code refl e (λ e.
-    one_of n 14 (codes.Test tests.Abort) _ code refl e (λ e.
-    one_of n 15 codes.TryEach _ code refl e (λ e.
-    one_of n 18 (codes.Act acts.Write) _ code refl e (λ e.
-    one_of n 20 codes.Override _ code refl e (λ e.
-    one_of n 21 (codes.Act acts.Fetch) _ code refl e (λ e.
-    one_of n 22 (codes.Act acts.Copy) _ code refl e (λ e.
-    one_of n 23 (codes.Act acts.Invoke) _ code refl e (λ e.
-    one_of n 24 (codes.Test tests.Device) _ code refl e (λ e.
-    one_of n 31 (codes.Act acts.Swap) _ code refl e (λ e.
-    one_of n 32 codes.Run _ code refl e (λ e. absurd cc))))))))))))))))
+    one_of code_number n 1 (codes.Test tests.Vendor) _ code refl e (λ e.
+    one_of code_number n 2 (codes.Test tests.Class) _ code refl e (λ e.
+    one_of code_number n 3 (codes.Test tests.ImageMatch) _ code refl e (λ e.
+    one_of code_number n 5 (codes.Test tests.Slot) _ code refl e (λ e.
+    one_of code_number n 6 (codes.Test tests.CheckContent) _ code refl e (λ e.
+    one_of code_number n 12 codes.Index _ code refl e (λ e.
+    one_of code_number n 14 (codes.Test tests.Abort) _ code refl e (λ e.
+    one_of code_number n 15 codes.TryEach _ code refl e (λ e.
+    one_of code_number n 18 (codes.Act acts.Write) _ code refl e (λ e.
+    one_of code_number n 20 codes.Override _ code refl e (λ e.
+    one_of code_number n 21 (codes.Act acts.Fetch) _ code refl e (λ e.
+    one_of code_number n 22 (codes.Act acts.Copy) _ code refl e (λ e.
+    one_of code_number n 23 (codes.Act acts.Invoke) _ code refl e (λ e.
+    one_of code_number n 24 (codes.Test tests.Device) _ code refl e (λ e.
+    one_of code_number n 31 (codes.Act acts.Swap) _ code refl e (λ e.
+    one_of code_number n 32 codes.Run _ code refl e (λ e. absurd cc))))))))))))))))
 
 -- ---- which are allowed
 
@@ -89,7 +81,7 @@ is_code shared n (inr (inr (inl is))) = (codes.TryEach, is, tt)
 is_code shared n (inr (inr (inr (inl is)))) = (codes.Override, is, tt)
 is_code shared n (inr (inr (inr (inr is)))) = (codes.Run, is, tt)
 
--- ---- what is known of a number
+-- ---- facts about a number
 
 abbrev Known : Bool → Option CommandCode → CommandCode → Type 0
 Known shared o code = (o ≡ Some code) × Allows shared code

@@ -46,7 +46,7 @@ err_refuses shared count place bytes (Err (Refused f)) fits e =
     whole_err (judge_sequence shared count levels_inside) (Says shared count) (Form shared count) (sequence_judges shared count levels_inside) place bytes f fits (sym (read_is shared count place bytes fits) ∙ e)
 err_refuses shared count place bytes (Err NoMemory) fits e = tt
 
--- what the call would answer without taking memory
+-- the answer of the call if no memory were taken
 sequence_is : (shared : Bool) (count place : ℕ) (bytes : List ℕ) (s : SequenceTree) → IsBytes bytes → SaysWhole (SaysSequence shared count levels_allowed) place bytes s → whole_sequence shared count levels_inside (record { left = bytes; place = place }) ≡ Ok s
 sequence_is shared count place bytes s fits so = read_is shared count place bytes fits ∙ whole_read (judge_sequence shared count levels_inside) (Says shared count) (Form shared count) (sequence_judges shared count levels_inside) place bytes s so
 

@@ -14,8 +14,8 @@ use Rattle.suit_commands.proofs.SaidParams.{said_params}
 use Rattle.suit_commands.proofs.SequenceJudging.{sequence_judges}
 use Rattle.suit_commands.proofs.SequenceMade.{sequence_made, sequence_placed, sequence_again, one_item}
 
-one_reading : (shared : Bool) (count levels place : ℕ) (x : DataItem) → IsValid x → HasOneSequence shared count (suc levels) place x ⊎ HasOneRefusal shared count (suc levels) place x
-one_reading shared count levels place x valid = by_answer (judge_sequence shared count levels place x) refl
+reading_laws : (shared : Bool) (count levels place : ℕ) (x : DataItem) → IsValid x → HasOneSequence shared count (suc levels) place x ⊎ HasOneRefusal shared count (suc levels) place x
+reading_laws shared count levels place x valid = by_answer (judge_sequence shared count levels place x) refl
   where
     by_answer : (a : Result SequenceTree Refusal) → judge_sequence shared count levels place x ≡ a → HasOneSequence shared count (suc levels) place x ⊎ HasOneRefusal shared count (suc levels) place x
     by_answer (Ok s) is = inl (record {
@@ -31,7 +31,7 @@ one_reading shared count levels place x valid = by_answer (judge_sequence shared
       empty = λ s said. not_both (judge_sequence shared count levels place x) s r ((sequence_judges shared count levels).again place x s said) is;
     })
 
--- ---- what is said is a sequence of the grammar, where what byte strings hold is
+-- ---- a sequence that is said is one of the grammar, where those in byte strings are
 
 abbrev Allowed : Bool → ℕ → ℕ → Type 0
 Allowed shared count levels = (place : ℕ) (content : List ℕ) (s : SequenceTree) → SaysInner shared count levels place content s → IsSequence shared count levels s
@@ -87,7 +87,7 @@ allowed shared count (suc levels) place x s valid said = sequence_allowed shared
 
 pub sequence_laws : SequenceLaws
 sequence_laws = record {
-  one_reading = one_reading;
+  reading_laws = reading_laws;
   whole = λ shared count levels. one_answer (judge_sequence shared count levels) (SaysSequence shared count (suc levels)) (RefusesSequence shared count (suc levels)) (sequence_judges shared count levels);
   allowed = allowed;
   made = sequence_made;

@@ -97,7 +97,7 @@ mutual
   branches_sources_below (BranchThen inner rest) count c indexed (inr h) = branches_sources_below rest count c indexed.1 h
   branches_sources_below (NullThen rest) count c indexed h = branches_sources_below rest count c indexed h
 
--- what holds wherever some sequence of the plan has it
+-- a property that holds wherever some sequence of the plan has it
 in_some : (plan : PlanTree) (has : SequenceTree → Type 0) (A : Type 0) → IsPlan plan → ((s : SequenceTree) → AreIndexed plan.count s → has s → A) → InSome plan has → A
 in_some plan has A allowed each (inl h) = each plan.shared (shared_indexed plan.count plan.shared allowed.shared) h
 in_some plan has A allowed each (inr (inl h)) = each plan.first (member_indexed plan.count plan.first allowed.first) h

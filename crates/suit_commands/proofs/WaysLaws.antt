@@ -62,7 +62,7 @@ else_capped_left a b = sym (else_capped (capped_ways a) b) ∙ ap (λ (x : Ways)
 pub else_capped_right : (a b : Ways) → capped_ways (ways_else a (capped_ways b)) ≡ capped_ways (ways_else a b)
 else_capped_right a b = sym (else_capped a (capped_ways b)) ∙ ap (λ (x : Ways). capped_ways (ways_else (capped_ways a) x)) (capped_ways_twice b) ∙ else_capped a b
 
--- ---- what the arithmetic of 64 bits gives
+-- ---- arithmetic on 64 bits
 
 pub then_made : (a b : Ways) (on part off : ℕ) → on ≡ capped (a.on * b.on) → part ≡ capped (a.on * b.off) → off ≡ capped (a.off + part)
     → ◌≡◌ {A = Ways} (record { on = on; off = off }) (capped_ways (ways_then a b))

@@ -3,6 +3,7 @@ use Rattle.std.specs.Prelude.{◌≡◌, ℕ, List, refl}
 use Rattle.std.proofs.Common.{ap, arith}
 use Rattle.std.specs.Coded.{Coded, coded_list}
 use base.Stored.{Gv, gnil, gnum, gcons}
+use Rattle.det_cbor.specs.DataCode.{number, first, rest}
 use Rattle.suit_params.specs.declared.param.Param.{Param}
 use Rattle.suit_params.specs.contracts.param.Param as param
 use Rattle.suit_commands.specs.Tree.{CommandTree, Test, Act, Index, Override, TryEach, RunSequence, SequenceTree, NoSteps, StepThen, BranchesTree, NoBranches, BranchThen, NullThen}
@@ -44,33 +45,21 @@ abbrev mutual
 
 -- ---- a code is that of one tree
 
-abbrev num : Gv → ℕ
-num (gnum n) = n
-num _ = 0
-
-abbrev head : Gv → Gv
-head (gcons a b) = a
-head _ = gnil
-
-abbrev tail : Gv → Gv
-tail (gcons a b) = b
-tail _ = gnil
-
 mutual
   pub sequence_inj : (x y : SequenceTree) → sequence_code x ≡ sequence_code y → x ≡ y
   sequence_inj NoSteps NoSteps p = refl
   sequence_inj (StepThen a c r) (StepThen b d s) p =
-      λ i. StepThen (num (head (p i)))
-      (command_inj c d (ap (λ g. num (head (head (tail g)))) p)
-      (ap (λ g. tail (head (tail g))) p) i)
-      (sequence_inj r s (ap (λ g. tail (tail g)) p) i)
+      λ i. StepThen (number (first (p i)))
+      (command_inj c d (ap (λ g. number (first (first (rest g)))) p)
+      (ap (λ g. rest (first (rest g))) p) i)
+      (sequence_inj r s (ap (λ g. rest (rest g)) p) i)
   sequence_inj _ _ p = absurd cc
 
   pub command_inj : (x y : CommandTree) → tag x ≡ tag y → body_code x ≡ body_code y → x ≡ y
   command_inj (Test k r) (Test l s) t p =
-      λ i. Test (test_kind.the_row.coded.inj k l (ap head p) i) (num (tail (p i)))
+      λ i. Test (test_kind.the_row.coded.inj k l (ap first p) i) (number (rest (p i)))
   command_inj (Act k r) (Act l s) t p =
-      λ i. Act (act_kind.the_row.coded.inj k l (ap head p) i) (num (tail (p i)))
+      λ i. Act (act_kind.the_row.coded.inj k l (ap first p) i) (number (rest (p i)))
   command_inj (Index a) (Index b) t p = ap Index (selection_row.the_row.coded.inj a b p)
   command_inj (Override a) (Override b) t p = ap Override (list_code.inj a b p)
   command_inj (TryEach a) (TryEach b) t p = ap TryEach (branches_inj a b p)
@@ -79,10 +68,10 @@ mutual
 
   pub branches_inj : (x y : BranchesTree) → branches_code x ≡ branches_code y → x ≡ y
   branches_inj NoBranches NoBranches p = refl
-  branches_inj (NullThen r) (NullThen s) p = ap NullThen (branches_inj r s (ap tail p))
+  branches_inj (NullThen r) (NullThen s) p = ap NullThen (branches_inj r s (ap rest p))
   branches_inj (BranchThen a r) (BranchThen b s) p =
-      λ i. BranchThen (sequence_inj a b (ap (λ g. tail (head g)) p) i)
-      (branches_inj r s (ap tail p) i)
+      λ i. BranchThen (sequence_inj a b (ap (λ g. rest (first g)) p) i)
+      (branches_inj r s (ap rest p) i)
   branches_inj _ _ p = absurd cc
 
 abbrev pub coded_sequence : Coded SequenceTree

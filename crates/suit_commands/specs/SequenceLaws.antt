@@ -29,7 +29,7 @@ pub record HasOneRefusal (shared : Bool) (count levels place : ℕ) (x : DataIte
 -- places are those of that item's spelling, and bytes that say it are that spelling; and what is equal places apart is
 -- made into one item
 pub record SequenceLaws : Type 0 where
-  pub one_reading : (shared : Bool) (count levels place : ℕ) (x : DataItem) → IsValid x
+  pub reading_laws : (shared : Bool) (count levels place : ℕ) (x : DataItem) → IsValid x
       → HasOneSequence shared count (suc levels) place x
       ⊎ HasOneRefusal shared count (suc levels) place x
   pub whole : (shared : Bool) (count levels : ℕ)

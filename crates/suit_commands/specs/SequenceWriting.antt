@@ -11,7 +11,7 @@ use Rattle.suit_commands.specs.Sequences.{SaysSequence, elements_place}
 use Rattle.suit_commands.specs.SequenceMaking.{step_items, branch_items, sequence_item, placed, unplaced}
 use Rattle.suit_commands.specs.Tree.{CommandTree, Test, Act, Index, Override, TryEach, RunSequence, SequenceTree, NoSteps, StepThen, BranchesTree, NoBranches, BranchThen, NullThen}
 
--- ---- what holds of a tree by the types of the code: counts and lengths are below 2 ^ 64, and parameters have the
+-- ---- the bounds of a tree by the types of the code: counts and lengths are below 2 ^ 64, and parameters have the
 -- lengths of their types
 
 abbrev pub IsU64 : ℕ → Type 0

@@ -1,7 +1,7 @@
 -- All parts of a sequence or a try each are smaller than it.
-use Rattle.std.proofs.Common.{◌≡◌, ℕ, zero, suc, ◌+◌, ◌≤◌, ◌<◌, max, List, [], ◌∷◌, length, get_or, Option, Some, None, arith, ap}
+use Rattle.std.proofs.Common.{◌≡◌, ℕ, zero, suc, ◌+◌, ◌≤◌, ◌<◌, max, List, [], ◌∷◌, length, get_or, Option, Some, None, arith, ap, sym, ◌∙◌}
 use denote.Param.Weighed.{most, at_most}
-use Rattle.suit_commands.specs.Tree.{SequenceTree}
+use Rattle.suit_commands.specs.Tree.{SequenceTree, BranchesTree}
 use Rattle.suit_commands.specs.View.{sequence_tree, branches_tree}
 use Rattle.suit_commands.specs.Size.{sequence_size, branches_size}
 use Rattle.suit_commands.specs.Falls.{sequence_falls}
@@ -29,3 +29,12 @@ branch_smaller (Some x ∷ bs) zero d s lt e =
 branch_smaller (None ∷ bs) (suc i) d s lt e = omega (arith, branch_smaller bs i d s (omega arith) e)
 branch_smaller (Some x ∷ bs) (suc i) d s lt e =
     omega (arith, branch_smaller bs i d s (omega arith) e)
+
+pub branch_inside : (bs : List (Option SequenceTree)) (i : ℕ) (d b : Option SequenceTree)
+    (s : SequenceTree) (whole : BranchesTree)
+    → i < length bs → b ≡ get_or bs i d → b ≡ Some s → branches_tree bs ≡ whole
+    → sequence_size s + 1 ≤ branches_size whole
+branch_inside bs i d b s whole lt is some of =
+    let a = branch_smaller bs i d s lt (sym is ∙ some) in
+    let f : branches_size (branches_tree bs) ≡ branches_size whole = ap branches_size of in
+    omega (arith, a, f)

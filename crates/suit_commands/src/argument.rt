@@ -1,4 +1,4 @@
-//! Arguments of commands that hold no sequence. Items were judged as such before.
+//! Arguments of commands that hold no sequence, read from items judged before.
 
 ghost use Rattle.std.specs.Prelude.{◌≡◌};
 ghost use Rattle.det_cbor.specs.HeadReading.{map_ok};
@@ -15,7 +15,7 @@ use suit_params::{
     same_place,
 };
 
-/// A reporting policy.
+/// Reads a reporting policy.
 #[tactic(auto, unfolding(crate::specs::SequenceReading::report_from))]
 pub(crate) fn read_report(cursor: &mut Cursor<'_>) -> Result<u8, Refusal>
     ensures { map_ok (λ n. (n, cursor.new)) result ≡ report_from cursor.old }
@@ -34,7 +34,7 @@ pub(crate) fn read_report(cursor: &mut Cursor<'_>) -> Result<u8, Refusal>
     }
 }
 
-// An element of the list of indices that stands at another place.
+// Reads an element of the list of indices at another place.
 #[tactic(auto, unfolding(crate::specs::SequenceReading::element_from))]
 fn read_element(cursor: &mut Cursor<'_>, list: u64, count: u32) -> Result<u32, Refusal>
     ensures { map_ok (λ i. (i, cursor.new)) result ≡ element_from count list cursor.old }
@@ -47,7 +47,7 @@ fn read_element(cursor: &mut Cursor<'_>, list: u64, count: u32) -> Result<u32, R
     }
 }
 
-// So many elements of the list that stands at a place.
+// Reads so many elements of the list at a place.
 fn read_indices(
     alloc: Global,
     cursor: &mut Cursor<'_>,
@@ -78,7 +78,7 @@ fn read_listed(
     Ok(Selection::Listed(indices))
 }
 
-/// The selection of a set component index, where there are so many components.
+/// Reads the selection of a set component index, for so many components.
 #[tactic(auto, unfolding(crate::specs::SequenceReading::selection_from))]
 pub(crate) fn read_selection(
     alloc: Global,
@@ -109,7 +109,7 @@ pub(crate) fn read_selection(
     }
 }
 
-// The next item, which is a map.
+// Reads the next item, which is a map.
 fn read_map(alloc: Global, cursor: &mut Cursor<'_>, count: u32) -> Result<ParamList, Fault>
     ensures { Gives (λ list. (list, cursor.new)) result (next_params count cursor.old) }
 {
@@ -117,7 +117,7 @@ fn read_map(alloc: Global, cursor: &mut Cursor<'_>, count: u32) -> Result<ParamL
     params_of(alloc, item, count)
 }
 
-/// The parameters of an override, where there are so many components.
+/// Reads the parameters of an override, for so many components.
 #[tactic(auto, unfolding(crate::specs::SequenceReading::override_from))]
 pub(crate) fn read_override(
     alloc: Global,

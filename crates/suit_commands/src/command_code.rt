@@ -46,8 +46,8 @@ fn numbered(number: u64) -> Option<CommandCode>
     }
 }
 
-// The command that has a number, which stands at a place. A directive that acts on contents does
-// not stand in the shared sequence.
+// The command with this number, which stands at a place. A directive that acts on contents may not
+// be in the shared sequence.
 fn known_code(place: u64, shared: bool, number: u64) -> Result<CommandCode, Refusal>
     ensures { result ≡ known_code place shared (numbered number) }
 {
@@ -64,7 +64,7 @@ fn known_code(place: u64, shared: bool, number: u64) -> Result<CommandCode, Refu
     }
 }
 
-/// The code of a command.
+/// Reads the code of a command.
 #[tactic(auto, unfolding(crate::specs::SequenceReading::code_from))]
 pub(crate) fn read_code(cursor: &mut Cursor<'_>, shared: bool) -> Result<CommandCode, Refusal>
     ensures { map_ok (λ code. (code, cursor.new)) result ≡ code_from shared cursor.old }

@@ -16,10 +16,10 @@ use det_cbor::Cursor;
 use std::alloc::Global;
 use suit_params::{Fault, only_item};
 
-/// How many levels of sequences a member or the shared sequence may have, itself among them.
+/// How many levels of sequences a member or the shared sequence may have, itself included.
 pub const MAX_LEVELS: u8 = 8;
 
-// As `decode_sequence`, which says what this means.
+// See `decode_sequence`.
 fn whole_sequence(
     alloc: Global,
     bytes: &[u8],
@@ -35,14 +35,13 @@ fn whole_sequence(
     read_array(alloc, item, MAX_LEVELS - 1, shared, count)
 }
 
-/// The sequence of commands that the bytes spell (draft-ietf-suit-manifest-25, section 8.4.6), for
-/// so many components. The first of the bytes stands at this place in the envelope, and so count
-/// the places of commands and refusals.
+/// Decodes the sequence of commands that the bytes spell (draft-ietf-suit-manifest-25, section
+/// 8.4.6), for so many components. The bytes start at this place in the envelope, from which the
+/// places of commands and refusals count.
 ///
-/// The bytes are judged as one item first, and so is each byte string that holds a sequence when
-/// it is entered. Directives that act on contents are refused in the shared sequence, and in the
-/// sequences inside it. At most eight levels of sequences stand in one another. Takes memory for
-/// the tree alone.
+/// The bytes are judged as one item first, and so is each byte string that holds a sequence when it
+/// is entered. Directives that act on contents are refused in the shared sequence, and in the
+/// sequences inside it. Sequences nest at most eight levels deep. Allocates only for the tree.
 pub fn decode_sequence(
     alloc: Global,
     bytes: &[u8],

@@ -13,11 +13,11 @@ use det_cbor::{Bytes, push_count, push_null, push_number, push_string};
 use std::alloc::{AllocError, Global};
 use suit_params::write_params;
 
-/// A sequence's array in its one spelling (draft-ietf-suit-manifest-25, section 8.4.6). Each sequence
-/// inside is written to bytes of its own, and stands in a byte string.
+/// Encodes a sequence's array in its one spelling (draft-ietf-suit-manifest-25, section 8.4.6). Each sequence inside is
+/// written to bytes of its own, which stand in a byte string.
 ///
-/// Any tree is written, also one that the grammar refuses: an empty one, or a null before a branch.
-/// The places of the steps are not looked at. The call goes as deep as sequences stand in one another.
+/// Any tree is written, even one that the grammar refuses: an empty one, or a null before a branch. The places of the
+/// steps are ignored. The call recurses as deep as the sequences nest.
 pub fn encode_sequence(alloc: Global, sequence: &Sequence) -> Result<Bytes, AllocError>
     ensures spelling { IfOk result (λ bytes. bytes ≡ spell (sequence_item sequence.now)) }
     ensures written { IfOk result (IsWrittenSequence sequence.now) }

@@ -18,7 +18,7 @@ pub enum TestKind {
     ImageMatch,
     /// The content equals a parameter.
     CheckContent,
-    /// Nothing: it never succeeds.
+    /// It never succeeds.
     Abort,
 }
 

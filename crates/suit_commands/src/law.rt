@@ -1,4 +1,4 @@
-//! Laws of all sequences of commands and all procedures, whatever reads them or computes of them.
+//! Laws of all sequences of commands and all procedures, whatever reads them or computes with them.
 
 ghost use Rattle.suit_commands.specs.NumberLaws.{NumberLaws, TargetLaws};
 ghost use Rattle.suit_commands.specs.SequenceLaws.{SequenceLaws};
@@ -12,7 +12,7 @@ pub fn sequence_laws()
     ensures { SequenceLaws }
 {}
 
-/// Does nothing. Its contract has the laws. Each sequence of a procedure completes in one way at least, so the spread
+/// Does nothing. Its contract has the laws. Each sequence of a procedure completes in at least one way, so the spread
 /// is never below 1 and the width never below the work; and the width is the work times the spread.
 pub fn number_laws()
     ensures { NumberLaws }

@@ -1,4 +1,4 @@
-//! How much there is to judge in a procedure: numbers of this project's own, by which it bounds its work.
+//! How much there is to judge in a procedure: this project's own measures, by which it bounds its work.
 
 ghost use Rattle.std.specs.Prelude.{◌≡◌};
 ghost use Rattle.suit_commands.specs.Capped.{capped};
@@ -10,10 +10,9 @@ use crate::ways_walk::sequence_ways;
 use crate::work_walk::sequence_work;
 use crate::{Plan, Sequence};
 
-/// The work of a procedure: how many commands it does at most, where each is done once for each selected component
-/// and a set component index once. Of a run sequence and a try each it counts the command and what stands inside,
-/// of a try each all sequences. The shared sequence counts before each member. The largest number of 64 bits stands
-/// for each larger one.
+/// The work of a procedure: the most commands that it does, where each is done once for each selected component and a
+/// set component index once. A run sequence or a try each counts itself and what is inside, a try each all its
+/// sequences. The shared sequence counts before each member. Saturates at 64 bits.
 pub fn work(plan: &Plan<'_>) -> u64
     ensures { result ≡ capped (work_number (plan_tree plan.now)) }
 {
@@ -24,9 +23,9 @@ pub fn work(plan: &Plan<'_>) -> u64
     plus(plus(first, second), third)
 }
 
-/// The spread of a procedure: in how many ways it completes at most, since a condition may succeed or fail and a
-/// sequence inside may end early. It is the product over the shared sequence before each member and the member. The
-/// largest number of 64 bits stands for each larger one.
+/// The spread of a procedure: the most ways in which it completes, since a condition may succeed or fail and a sequence
+/// inside may end early. It is the product over the shared sequence before each member and the member. Saturates at 64
+/// bits.
 pub fn spread(plan: &Plan<'_>) -> u64
     ensures { result ≡ capped (spread_number (plan_tree plan.now)) }
 {
@@ -37,7 +36,7 @@ pub fn spread(plan: &Plan<'_>) -> u64
     product(product(first, second), third)
 }
 
-/// The width of a procedure: its work times its spread, or the largest number of 64 bits where that is larger.
+/// The width of a procedure: its work times its spread. Saturates at 64 bits.
 pub fn width(plan: &Plan<'_>) -> u64
     ensures { result ≡ capped (width_number (plan_tree plan.now)) }
 {

@@ -64,7 +64,7 @@ fn sources_in(plan: &Plan<'_>) -> u32
     shared | (first | (second | third))
 }
 
-/// The components that a sequence writes which begins with component 0 selected.
+/// The components written by a sequence that begins with component 0 selected.
 fn lent_written(sequence: Option<&Sequence>, count: u32) -> u32
     requires indexed { AreIndexed count (lent_tree sequence) }
     requires some { 1 ≤ count }

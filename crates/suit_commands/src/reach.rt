@@ -26,7 +26,7 @@ impl Reach {
         }
     }
 
-    /// Those that are selected before.
+    /// Those selected before the part.
     pub(crate) fn at_start() -> Reach
         ensures { result ≡ start_reach }
     {
@@ -46,7 +46,7 @@ impl Reach {
         }
     }
 
-    /// These, of a part before which `selected` are selected.
+    /// These, if `selected` are selected before the part.
     pub(crate) fn through(self, selected: Reach) -> Reach
         ensures { result ≡ reach_through self selected }
     {

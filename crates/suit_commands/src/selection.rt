@@ -1,4 +1,4 @@
-//! Which components the commands after it are done for.
+//! Which components later commands are done for.
 
 use crate::IndexList;
 

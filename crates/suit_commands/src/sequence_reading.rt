@@ -1,4 +1,4 @@
-//! Sequences of commands, and the sequences that they hold. Items were judged as such before.
+//! Sequences of commands, and the sequences in them, read from items judged before.
 
 ghost use Rattle.std.specs.Prelude.{◌≡◌};
 ghost use Rattle.det_cbor.specs.HeadReading.{map_ok};
@@ -14,8 +14,7 @@ use det_cbor::{Cursor, HeadKind};
 use std::alloc::Global;
 use suit_params::{Fault, Why, next_content, only_item, read_head, refused};
 
-// The content of a byte string that stands at a place, as a sequence. So many levels of sequences
-// may stand here.
+// Reads the content of a byte string at a place as a sequence, nested at most so many levels deep.
 #[cycle(read)]
 #[tactic(auto, using(crate::proofs::Nesting::nested_above, crate::proofs::Nesting::nested_none))]
 fn read_nested(
@@ -35,7 +34,7 @@ fn read_nested(
     read_array(alloc, item, levels - 1, shared, count)
 }
 
-/// A whole item, as a sequence. So many levels of sequences may stand in it.
+/// Reads a whole item as a sequence, nested at most so many levels deep.
 #[cycle(read)]
 #[tactic(auto, unfolding(crate::specs::SequenceReading::sequence_at))]
 pub(crate) fn read_array(
@@ -64,7 +63,7 @@ pub(crate) fn read_array(
     }
 }
 
-// So many commands.
+// Reads so many commands.
 #[cycle(read)]
 fn read_steps(
     alloc: Global,
@@ -86,7 +85,7 @@ fn read_steps(
     Ok(sequence)
 }
 
-// A code and its argument.
+// Reads a code and its argument.
 #[cycle(read)]
 fn read_step(
     alloc: Global,
@@ -136,7 +135,7 @@ fn read_argument(
     }
 }
 
-// The sequence that a byte string holds.
+// Reads the sequence that a byte string holds.
 #[cycle(read)]
 #[tactic(auto, unfolding(crate::specs::SequenceReading::run_from))]
 fn read_run(
@@ -186,7 +185,7 @@ fn read_try(
     }
 }
 
-// So many branches.
+// Reads so many branches.
 #[cycle(read)]
 fn read_branches(
     alloc: Global,
@@ -208,7 +207,7 @@ fn read_branches(
     Ok(branches)
 }
 
-// A branch: a sequence, or null where no other follows.
+// Reads a branch: a sequence, or null where no other follows.
 #[cycle(read)]
 #[tactic(auto, unfolding(crate::specs::SequenceReading::branch_from))]
 fn read_branch(

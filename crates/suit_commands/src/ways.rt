@@ -1,4 +1,4 @@
-//! In how many ways a part of a sequence may complete, and in how many it may end by a condition.
+//! The ways in which a part of a sequence may complete, and those in which a condition may end it.
 
 ghost use Rattle.std.specs.Prelude.{◌≡◌};
 ghost use Rattle.suit_commands.specs.Numbers.{start_ways};
@@ -6,7 +6,7 @@ ghost use Rattle.suit_commands.specs.WaysOnce.{counted, capped_ways, ways_then, 
 
 use crate::capped::{plus, product};
 
-/// How often a part may complete, and how often it may end by a condition.
+/// In how many ways a part may complete, and in how many a condition may end it.
 #[derive(Clone, Copy)]
 pub(crate) struct Ways {
     pub on: u64,
@@ -14,21 +14,21 @@ pub(crate) struct Ways {
 }
 
 impl Ways {
-    /// Those of nothing to do: it completes.
+    /// The ways of doing nothing: it completes.
     pub(crate) fn start() -> Ways
         ensures { counted result ≡ start_ways }
     {
         Ways { on: 1, off: 0 }
     }
 
-    /// Those of a try each before its first sequence: none is done.
+    /// The ways of a try each before its first sequence: none is done.
     pub(crate) fn none_done() -> Ways
         ensures { counted result ≡ no_branch }
     {
         Ways { on: 0, off: 1 }
     }
 
-    /// Those of this part and then the next.
+    /// The ways of this part and then the next.
     pub(crate) fn then(self, next: Ways) -> Ways
         ensures { counted result ≡ capped_ways (ways_then (counted self) (counted next)) }
     {
@@ -38,7 +38,7 @@ impl Ways {
         }
     }
 
-    /// Those of this part, and of the next one where this one ends by a condition.
+    /// The ways of this part, and of the next one where a condition ends this one.
     pub(crate) fn or_else(self, next: Ways) -> Ways
         ensures { counted result ≡ capped_ways (ways_else (counted self) (counted next)) }
     {
@@ -48,7 +48,7 @@ impl Ways {
         }
     }
 
-    /// Those of this part so many times. A part that is done twice as often is the half twice.
+    /// The ways of this part so many times, by repeated squaring.
     pub(crate) fn repeated(self, times: u64) -> Ways
         ensures { counted result ≡ capped_ways (ways_repeated times (counted self)) }
     {

@@ -18,7 +18,7 @@ fn push_indices(out: &mut Bytes, indices: &IndexList) -> Result<(), AllocError>
     ensures ok { OnOk result (out.new ≡ out.old ++ spell_items (index_items indices.now)) }
     ensures fit { OnOk result (AllByRecursion IsU64 indices.now) }
 {
-    for index in &indices.held {
+    for index in indices.as_slice() {
         push_number(out, *index as u64)?;
     }
     Ok(())

@@ -18,7 +18,7 @@ use Rattle.suit_params.specs.DigestReading.{value_at, algorithm_at, digest_at}
 use Rattle.suit_params.specs.HeadLaws.{item_head_read, bytes_again, after}
 use Rattle.suit_params.proofs.DigestCases.{by_pair, by_number, by_bytes}
 
--- ---- what is read
+-- ---- reading
 
 abbrev at_place : List ℕ → ℕ → Position
 at_place left place = record { left = left; place = place }
@@ -66,7 +66,7 @@ digest_read levels x place valid =
     (λ y other v. rw (item_head_read levels (at_place (spell y) place) y [] v (sym (append-nil (spell y))), other.read place (after _ _ _), other.judged place) refl)
     x valid
 
--- ---- what is judged
+-- ---- judging
 
 value_ok : (array place : ℕ) (b : DataItem) (d : List ℕ) → judge_value array place b ≡ Ok d → (b ≡ ByteString d) × (length d ≡ 32)
 value_ok array place b d e =

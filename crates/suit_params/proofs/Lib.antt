@@ -2,6 +2,7 @@ pub mod Readings
 pub mod DigestCases
 pub mod DigestJudging
 pub mod DigestAnswers
+pub mod Numbered
 pub mod ParamKeyLaws
 pub mod ParamValues
 pub mod ParamJudging

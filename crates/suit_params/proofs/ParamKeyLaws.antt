@@ -1,6 +1,5 @@
 -- Keys of parameters and their numbers.
-use Rattle.std.proofs.Common.{◌≡◌, ℕ, Bool, true, false, cond, eqb, Option, Some, None, Ok, Err, refl, sym, ap, ◌∙◌}
-use Rattle.std.proofs.lemmas.Bool.{eqb-true}
+use Rattle.std.proofs.Common.{◌≡◌, ℕ, Option, Some, None, Ok, Err, refl, ap, ◌∙◌}
 use Rattle.det_cbor.specs.DataItem.{DataItem, UnsignedInteger}
 use Rattle.det_cbor.specs.ResultLaws.{same_ok, same_err}
 use Rattle.suit_params.specs.declared.param.ParamKey.{ParamKey}
@@ -10,6 +9,7 @@ use Rattle.suit_params.specs.declared.refusal.Why.TheVariants.{UnknownParam}
 use Rattle.suit_params.specs.Refusing.{refused}
 use Rattle.suit_params.specs.ParamKeys.{key_number, key_item, numbered}
 use Rattle.suit_params.specs.ParamJudging.{known_param, judge_key}
+use Rattle.suit_params.proofs.Numbered.{one_of}
 
 -- each key is found by its number
 pub numbered_again : (key : ParamKey) → numbered (key_number key) ≡ Some key
@@ -26,29 +26,21 @@ numbered_again keys.Uri = refl
 numbered_again keys.Source = refl
 numbered_again keys.Args = refl
 
--- a number by a test, or what stands behind it
-one_of : (n m : ℕ) (k : ParamKey) (rest : Option ParamKey) (key : ParamKey) → key_number k ≡ m → cond (eqb n m) (Some k) rest ≡ Some key → (rest ≡ Some key → n ≡ key_number key) → n ≡ key_number key
-one_of n m k rest key number e others = by_test (eqb n m) refl e
-  where
-    by_test : (t : Bool) → eqb n m ≡ t → cond t (Some k) rest ≡ Some key → n ≡ key_number key
-    by_test true is f = let same : k ≡ key = cc in eqb-true n m is ∙ sym number ∙ ap key_number same
-    by_test false is f = others f
-
--- what is found has the number
+-- the one found has the number
 pub numbered_ok : (n : ℕ) (key : ParamKey) → numbered n ≡ Some key → n ≡ key_number key
 numbered_ok n key e =
-    one_of n 1 keys.Vendor _ key refl e (λ e.
-    one_of n 2 keys.Class _ key refl e (λ e.
-    one_of n 3 keys.Digest _ key refl e (λ e.
-    one_of n 5 keys.Slot _ key refl e (λ e.
-    one_of n 12 keys.Strict _ key refl e (λ e.
-    one_of n 13 keys.Soft _ key refl e (λ e.
-    one_of n 14 keys.Size _ key refl e (λ e.
-    one_of n 18 keys.Content _ key refl e (λ e.
-    one_of n 21 keys.Uri _ key refl e (λ e.
-    one_of n 22 keys.Source _ key refl e (λ e.
-    one_of n 23 keys.Args _ key refl e (λ e.
-    one_of n 24 keys.Device _ key refl e (λ e. absurd cc))))))))))))
+    one_of key_number n 1 keys.Vendor _ key refl e (λ e.
+    one_of key_number n 2 keys.Class _ key refl e (λ e.
+    one_of key_number n 3 keys.Digest _ key refl e (λ e.
+    one_of key_number n 5 keys.Slot _ key refl e (λ e.
+    one_of key_number n 12 keys.Strict _ key refl e (λ e.
+    one_of key_number n 13 keys.Soft _ key refl e (λ e.
+    one_of key_number n 14 keys.Size _ key refl e (λ e.
+    one_of key_number n 18 keys.Content _ key refl e (λ e.
+    one_of key_number n 21 keys.Uri _ key refl e (λ e.
+    one_of key_number n 22 keys.Source _ key refl e (λ e.
+    one_of key_number n 23 keys.Args _ key refl e (λ e.
+    one_of key_number n 24 keys.Device _ key refl e (λ e. absurd cc))))))))))))
 
 pub key_ok : (place : ℕ) (x : DataItem) (key : ParamKey) → judge_key place x ≡ Ok key → x ≡ key_item key
 key_ok place (UnsignedInteger n) key e = by_answer (numbered n) refl e

@@ -55,45 +55,36 @@ index_ok count place i j e =
       | inr (other, f) ↦ absurd cc
     ]
 
--- ---- what is said
+-- ---- meanings
 
-abbrev Said : ℕ → ℕ → ParamKey → DataItem → Param → Type 0
-Said count place key x p = SaysValue count place key x p
+-- an item says what is found in it, where the item is the one that is made of that
+found : (count place : ℕ) (key : ParamKey) (x y : DataItem) (p q : Param) → x ≡ y → SaysValue count place key y q → ◌≡◌ {A = Result Param Refusal} (Ok q) (Ok p) → SaysValue count place key x p
+found count place key x y p q is says e = subst (SaysValue count place key x) (same_ok q p e) (subst (λ (z : DataItem). SaysValue count place key z q) (sym is) says)
 
 content_bytes : (levels : ℕ) (x : DataItem) (content : List ℕ) → IsValidWithin levels x → x ≡ ByteString content → IsBytes content
 content_bytes levels x content valid is = let all = subst (IsValidWithin levels) is valid in bytes_of_all content all.1
 
 pub value_ok : (count : ℕ) (key : ParamKey) (levels place : ℕ) (x : DataItem) (p : Param) → IsValidWithin levels x → judge_value count key place x ≡ Ok p → SaysValue count place key x p
-value_ok count keys.Vendor levels place x p valid e =
-    bind_ok (judge_id place x) _ p e (λ id is f. let s = id_ok place x id is in subst (Said count place keys.Vendor x) (same_ok _ p f) (subst (λ (y : DataItem). Said count place keys.Vendor y (params.Vendor id)) (sym s.0) (SaysVendor id s.1)))
-value_ok count keys.Class levels place x p valid e =
-    bind_ok (judge_id place x) _ p e (λ id is f. let s = id_ok place x id is in subst (Said count place keys.Class x) (same_ok _ p f) (subst (λ (y : DataItem). Said count place keys.Class y (params.Class id)) (sym s.0) (SaysClass id s.1)))
-value_ok count keys.Device levels place x p valid e =
-    bind_ok (judge_id place x) _ p e (λ id is f. let s = id_ok place x id is in subst (Said count place keys.Device x) (same_ok _ p f) (subst (λ (y : DataItem). Said count place keys.Device y (params.Device id)) (sym s.0) (SaysDevice id s.1)))
+value_ok count keys.Vendor levels place x p valid e = bind_ok (judge_id place x) _ p e (λ id is f. let s = id_ok place x id is in found count place keys.Vendor x _ p _ s.0 (SaysVendor id s.1) f)
+value_ok count keys.Class levels place x p valid e = bind_ok (judge_id place x) _ p e (λ id is f. let s = id_ok place x id is in found count place keys.Class x _ p _ s.0 (SaysClass id s.1) f)
+value_ok count keys.Device levels place x p valid e = bind_ok (judge_id place x) _ p e (λ id is f. let s = id_ok place x id is in found count place keys.Device x _ p _ s.0 (SaysDevice id s.1) f)
 value_ok count keys.Digest levels place x p valid e =
     bind_ok (judge_bytes place x) _ p e (λ content is f. bind_ok (judge_content place content) _ p f (λ d d-is g.
     let s = bytes_ok place x content is in
     let whole = whole_ok judge_digest IsDigest RefusesDigest digest_judges (content_place place content) content d (content_bytes levels x content valid s) d-is in
-    subst (Said count place keys.Digest x) (same_ok _ p g) (subst (λ (y : DataItem). Said count place keys.Digest y (params.Digest (record { bytes = d }))) (sym s) (SaysDigest content d whole))))
-value_ok count keys.Slot levels place x p valid e =
-    bind_ok (judge_number place x) _ p e (λ n is f. subst (Said count place keys.Slot x) (same_ok _ p f) (subst (λ (y : DataItem). Said count place keys.Slot y (params.Slot n)) (sym (number_ok place x n is)) (SaysSlot n)))
-value_ok count keys.Strict levels place x p valid e =
-    bind_ok (judge_flag place x) _ p e (λ b is f. subst (Said count place keys.Strict x) (same_ok _ p f) (subst (λ (y : DataItem). Said count place keys.Strict y (params.Strict b)) (sym (flag_ok place x b is)) (SaysStrict b)))
-value_ok count keys.Soft levels place x p valid e =
-    bind_ok (judge_flag place x) _ p e (λ b is f. subst (Said count place keys.Soft x) (same_ok _ p f) (subst (λ (y : DataItem). Said count place keys.Soft y (params.Soft b)) (sym (flag_ok place x b is)) (SaysSoft b)))
-value_ok count keys.Size levels place x p valid e =
-    bind_ok (judge_number place x) _ p e (λ n is f. subst (Said count place keys.Size x) (same_ok _ p f) (subst (λ (y : DataItem). Said count place keys.Size y (params.Size n)) (sym (number_ok place x n is)) (SaysSize n)))
-value_ok count keys.Content levels place x p valid e =
-    bind_ok (judge_bytes place x) _ p e (λ bytes is f. subst (Said count place keys.Content x) (same_ok _ p f) (subst (λ (y : DataItem). Said count place keys.Content y (params.Content bytes)) (sym (bytes_ok place x bytes is)) (SaysContent bytes)))
-value_ok count keys.Uri levels place x p valid e =
-    bind_ok (judge_text place x) _ p e (λ text is f. subst (Said count place keys.Uri x) (same_ok _ p f) (subst (λ (y : DataItem). Said count place keys.Uri y (params.Uri text)) (sym (text_ok place x text is)) (SaysUri text)))
+    found count place keys.Digest x _ p _ s (SaysDigest content d whole) g))
+value_ok count keys.Slot levels place x p valid e = bind_ok (judge_number place x) _ p e (λ n is f. found count place keys.Slot x _ p _ (number_ok place x n is) (SaysSlot n) f)
+value_ok count keys.Strict levels place x p valid e = bind_ok (judge_flag place x) _ p e (λ b is f. found count place keys.Strict x _ p _ (flag_ok place x b is) (SaysStrict b) f)
+value_ok count keys.Soft levels place x p valid e = bind_ok (judge_flag place x) _ p e (λ b is f. found count place keys.Soft x _ p _ (flag_ok place x b is) (SaysSoft b) f)
+value_ok count keys.Size levels place x p valid e = bind_ok (judge_number place x) _ p e (λ n is f. found count place keys.Size x _ p _ (number_ok place x n is) (SaysSize n) f)
+value_ok count keys.Content levels place x p valid e = bind_ok (judge_bytes place x) _ p e (λ bytes is f. found count place keys.Content x _ p _ (bytes_ok place x bytes is) (SaysContent bytes) f)
+value_ok count keys.Uri levels place x p valid e = bind_ok (judge_text place x) _ p e (λ text is f. found count place keys.Uri x _ p _ (text_ok place x text is) (SaysUri text) f)
 value_ok count keys.Source levels place x p valid e =
     bind_ok (judge_number place x) _ p e (λ n is f. bind_ok (judge_index count place n) _ p f (λ i i-is g.
     let s = index_ok count place n i i-is in
     let lt : i < count = subst (λ (m : ℕ). m < count) s.0 s.1 in
-    subst (Said count place keys.Source x) (same_ok _ p g) (subst (λ (y : DataItem). Said count place keys.Source y (params.Source i)) (sym (number_ok place x n is ∙ ap UnsignedInteger s.0)) (SaysSource i lt))))
-value_ok count keys.Args levels place x p valid e =
-    bind_ok (judge_bytes place x) _ p e (λ bytes is f. subst (Said count place keys.Args x) (same_ok _ p f) (subst (λ (y : DataItem). Said count place keys.Args y (params.Args bytes)) (sym (bytes_ok place x bytes is)) (SaysArgs bytes)))
+    found count place keys.Source x _ p _ (number_ok place x n is ∙ ap UnsignedInteger s.0) (SaysSource i lt) g))
+value_ok count keys.Args levels place x p valid e = bind_ok (judge_bytes place x) _ p e (λ bytes is f. found count place keys.Args x _ p _ (bytes_ok place x bytes is) (SaysArgs bytes) f)
 
 pub value_again : (count : ℕ) (key : ParamKey) (place : ℕ) (x : DataItem) (p : Param) → SaysValue count place key x p → judge_value count key place x ≡ Ok p
 value_again count key place x p (SaysVendor id long) = rw (id_again place id long) refl
@@ -109,7 +100,7 @@ value_again count key place x p (SaysUri text) = refl
 value_again count key place x p (SaysSource i lt) = rw (lt-ltb i count lt) refl
 value_again count key place x p (SaysArgs bytes) = refl
 
--- ---- what is refused
+-- ---- refusals
 
 id_err : (place : ℕ) (x : DataItem) (r : Refusal) → judge_id place x ≡ Err r → (IsIdentifier x → ⊥) × (refused place BadParam ≡ r)
 id_err place (ByteString bytes) r e =

@@ -32,7 +32,7 @@ digest_string d long all = (omega (arith, digest_length d long), subst (AllByRec
 digest_valid : (d : List ℕ) → length d ≡ 32 → AllByRecursion IsByte d → IsValid (digest_item d)
 digest_valid d long all = (omega arith, omega arith, (omega arith, ((omega arith, all), tt)))
 
--- ---- what is said
+-- ---- meanings
 
 value_says : (count place : ℕ) (p : Param) → IsParam p → IsBelow count p → SaysValue count place (key_of p) (value_item p) p
 value_says count place (params.Vendor id) fits below = SaysVendor id fits.0

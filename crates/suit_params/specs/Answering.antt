@@ -9,17 +9,17 @@ Gives view (Ok x) read = read ≡ Ok (view x)
 Gives view (Err (Refused r)) read = read ≡ Err r
 Gives view (Err NoMemory) read = Unit {0}
 
--- a fault by such a refusal, or for want of memory
+-- a fault by such a refusal, or because memory ran out
 abbrev pub IsFaultBy : (Refusal → Type 0) → Fault → Type 0
 IsFaultBy bad (Refused r) = bad r
 IsFaultBy bad NoMemory = Unit {0}
 
--- this was read, unless there was no memory
+-- this was read, unless memory ran out
 abbrev pub IsReadAs : {A : Type 0} → A → Result A Fault → Type 0
 IsReadAs a (Ok found) = found ≡ a
 IsReadAs a (Err fault) = fault ≡ NoMemory
 
--- this was refused, unless there was no memory
+-- this was refused, unless memory ran out
 abbrev pub IsRefusedAs : {A : Type 0} → Refusal → Result A Fault → Type 0
 IsRefusedAs r (Ok found) = ⊥
 IsRefusedAs r (Err fault) = (fault ≡ Refused r) ⊎ (fault ≡ NoMemory)

@@ -20,7 +20,7 @@ pub record IsDigest (place : ℕ) (x : DataItem) (digest : List ℕ) : Type 0 wh
   pub is : x ≡ digest_item digest
   pub long : length digest ≡ 32
 
--- ---- what is refused
+-- ---- refusals
 
 abbrev pub IsPair : DataItem → Type 0
 IsPair (ArrayOf (ItemThen a (ItemThen b NoItems))) = Unit {0}

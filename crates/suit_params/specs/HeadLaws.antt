@@ -15,7 +15,8 @@ use Rattle.suit_params.specs.Reading.{found_head, head_from, bytes_from}
 abbrev pub after : Position → List ℕ → List ℕ → Position
 after p taken rest = record { left = rest; place = p.place + length taken }
 
-pub item_head_read : (levels : ℕ) (p : Position) (x : DataItem) (rest : List ℕ) → IsValidWithin levels x → p.left ≡ spell x ++ rest
+pub item_head_read : (levels : ℕ) (p : Position) (x : DataItem) (rest : List ℕ)
+    → IsValidWithin levels x → p.left ≡ spell x ++ rest
     → head_from p ≡ Ok (item_head x, after p (spelled (item_head x)) (spell_parts x ++ rest))
 unfolding head_from
 item_head_read levels p x rest valid is =
@@ -25,7 +26,8 @@ item_head_read levels p x rest valid is =
     let place : p.place + (length p.left - length (spell_parts x ++ rest)) ≡ p.place + length front = omega (arith, ap length parts, length-append front (spell_parts x ++ rest)) in
     ap (found_head p) read ∙ ap (λ (n : ℕ). Ok (item_head x, record { left = spell_parts x ++ rest; place = n })) place
 
-pub bytes_again : (p : Position) (taken rest : List ℕ) → p.left ≡ taken ++ rest → bytes_from (length taken) p ≡ Ok (taken, after p taken rest)
+pub bytes_again : (p : Position) (taken rest : List ℕ) → p.left ≡ taken ++ rest
+    → bytes_from (length taken) p ≡ Ok (taken, after p taken rest)
 unfolding bytes_from
 bytes_again p taken rest is =
     let long : ltb (length p.left) (length taken) ≡ false = le-ltb _ _ (omega (arith, ap length is, length-append taken rest)) in

@@ -22,14 +22,17 @@ use Rattle.suit_params.specs.JudgingLaws.{Judges, item_ok, whole_ok, whole_err, 
 pub record OtherThanString (x : DataItem) : Type 0 where
   pub other : IsByteString x → ⊥
   pub judged : (place : ℕ) → judge_string place x ≡ Err (refused place Shape)
-  pub read : (place : ℕ) (p : Position) → content_after place (item_value x) p (item_kind x) ≡ Err (refused place Shape)
+  pub read : (place : ℕ) (p : Position)
+      → content_after place (item_value x) p (item_kind x) ≡ Err (refused place Shape)
 
-pub by_string : (P : DataItem → Type 0) → ((bytes : List ℕ) → P (ByteString bytes)) → ((x : DataItem) → OtherThanString x → P x) → (x : DataItem) → P x
+pub by_string : (P : DataItem → Type 0) → ((bytes : List ℕ) → P (ByteString bytes))
+    → ((x : DataItem) → OtherThanString x → P x) → (x : DataItem) → P x
 by_string P bytes other (ByteString content) = bytes content
 by_string P bytes other x = other x (record { other = λ h. h; judged = λ place. refl; read = λ place p. refl })
 
 -- a byte string that is spelled is read as its content
-pub content_read : (levels : ℕ) (p : Position) (x : DataItem) (rest : List ℕ) → IsValidWithin levels x → p.left ≡ spell x ++ rest
+pub content_read : (levels : ℕ) (p : Position) (x : DataItem) (rest : List ℕ)
+    → IsValidWithin levels x → p.left ≡ spell x ++ rest
     → content_from p ≡ (judge_string p.place x >>= λ content. Ok (content, after p (spell x) rest))
 unfolding content_from
 content_read levels p x rest valid is =
@@ -47,10 +50,14 @@ content_read levels p x rest valid is =
 -- ---- the item that bytes hold
 
 -- the reader finds what the judgement has, in each item that is spelled
-abbrev pub ReadsAs : {A : Type 0} → (Position → Result A Refusal) → (ℕ → DataItem → Result A Refusal) → Type 0
+abbrev pub ReadsAs : {A : Type 0} → (Position → Result A Refusal)
+    → (ℕ → DataItem → Result A Refusal) → Type 0
 ReadsAs read judge = (levels place : ℕ) (x : DataItem) → IsValidWithin levels x → read (record { left = spell x; place = place }) ≡ judge place x
 
-pub whole_is : {A : Type 0} (read : Position → Result A Refusal) (judge : ℕ → DataItem → Result A Refusal) → ReadsAs read judge → (p : Position) → IsBytes p.left → (only_from p >>= read) ≡ whole_judged judge p.place p.left
+pub whole_is : {A : Type 0} (read : Position → Result A Refusal)
+    (judge : ℕ → DataItem → Result A Refusal)
+    → ReadsAs read judge → (p : Position) → IsBytes p.left
+    → (only_from p >>= read) ≡ whole_judged judge p.place p.left
 whole_is {A} read judge law p fits = by_answer (item_from p) refl
   where
     ending : Position × Position → Result Position Refusal
@@ -62,28 +69,39 @@ whole_is {A} read judge law p fits = by_answer (item_from p) refl
     judging : DataItem × Position → Result A Refusal
     judging x = cond (eqb (length x.1.left) 0) (judge p.place x.0) (Err (refused x.1.place Trailing))
 
-    by_end : (t : Bool) (x : DataItem) (place : ℕ) → read (inside p x) ≡ judge p.place x → (cond t (Ok (inside p x)) (Err (refused place Trailing)) >>= read) ≡ cond t (judge p.place x) (Err (refused place Trailing))
+    by_end : (t : Bool) (x : DataItem) (place : ℕ) → read (inside p x) ≡ judge p.place x
+        → (cond t (Ok (inside p x)) (Err (refused place Trailing)) >>= read)
+        ≡ cond t (judge p.place x) (Err (refused place Trailing))
     by_end true x place e = e
     by_end false x place e = refl
 
-    by_answer : (a : Result (DataItem × Position) Refusal) → item_from p ≡ a → (((a >>= alone) >>= ending) >>= read) ≡ (a >>= judging)
+    by_answer : (a : Result (DataItem × Position) Refusal) → item_from p ≡ a
+        → (((a >>= alone) >>= ending) >>= read) ≡ (a >>= judging)
     by_answer (Ok x) is = by_end (eqb (length x.1.left) 0) x.0 x.1.place (law 0 p.place x.0 (item_ok p x.0 x.1 fits is).valid)
     by_answer (Err r) is = refl
 
-then_then : {A B C : Type 0} (r : Result A Refusal) (f : A → Result B Refusal) (g : B → Result C Refusal) → (r >>= λ a. f a >>= g) ≡ ((r >>= f) >>= g)
+then_then : {A B C : Type 0} (r : Result A Refusal) (f : A → Result B Refusal)
+    (g : B → Result C Refusal)
+    → (r >>= λ a. f a >>= g) ≡ ((r >>= f) >>= g)
 then_then (Ok a) f g = refl
 then_then (Err e) f g = refl
 
--- what a byte string holds is read as it is judged
-pub content_is : {A : Type 0} (read : Position → Result A Refusal) (judge : ℕ → DataItem → Result A Refusal) → ReadsAs read judge → (levels place : ℕ) (bytes : List ℕ) → IsValidWithin levels (ByteString bytes)
+-- the content of a byte string is read as it is judged
+pub content_is : {A : Type 0} (read : Position → Result A Refusal)
+    (judge : ℕ → DataItem → Result A Refusal)
+    → ReadsAs read judge → (levels place : ℕ) (bytes : List ℕ)
+    → IsValidWithin levels (ByteString bytes)
     → (only_from (record { left = bytes; place = content_place place bytes }) >>= read) ≡ judge_held judge place (ByteString bytes)
 content_is read judge law levels place bytes valid = whole_is read judge law (record { left = bytes; place = content_place place bytes }) (bytes_of_all bytes valid.1)
 
--- what was found, and the position after it
+-- the result found, and the position after it
 abbrev pub with_rest : {A : Type 0} → Position → A → Result (A × Position) Refusal
 with_rest q a = Ok (a, q)
 
-pub held_read : {A : Type 0} (read : Position → Result A Refusal) (judge : ℕ → DataItem → Result A Refusal) → ReadsAs read judge → (levels : ℕ) (p : Position) (x : DataItem) (rest : List ℕ) → IsValidWithin levels x → p.left ≡ spell x ++ rest
+pub held_read : {A : Type 0} (read : Position → Result A Refusal)
+    (judge : ℕ → DataItem → Result A Refusal)
+    → ReadsAs read judge → (levels : ℕ) (p : Position) (x : DataItem) (rest : List ℕ)
+    → IsValidWithin levels x → p.left ≡ spell x ++ rest
     → (content_from p >>= λ c. only_from c.0 >>= λ item. read item >>= with_rest c.1) ≡ (judge_held judge p.place x >>= with_rest (after p (spell x) rest))
 held_read {A} read judge law levels p x rest valid is =
     let q = after p (spell x) rest in
@@ -98,17 +116,21 @@ held_read {A} read judge law levels p x rest valid is =
 
 -- ---- judgements of byte strings that hold an item
 
-string_ok : (place : ℕ) (x : DataItem) (content : Position) → judge_string place x ≡ Ok content → (x ≡ ByteString content.left) × (content.place ≡ content_place place content.left)
+string_ok : (place : ℕ) (x : DataItem) (content : Position) → judge_string place x ≡ Ok content
+    → (x ≡ ByteString content.left) × (content.place ≡ content_place place content.left)
 string_ok place x content e =
     by_string (λ (y : DataItem). judge_string place y ≡ Ok content → (y ≡ ByteString content.left) × (content.place ≡ content_place place content.left))
     (λ bytes f. let same : record { left = bytes; place = content_place place bytes } ≡ content = same_ok _ content f in (ap (λ (p : Position). ByteString p.left) same, subst (λ (p : Position). p.place ≡ content_place place p.left) same refl))
     (λ y other f. let never = sym (other.judged place) ∙ f in absurd cc)
     x e
 
-content_bytes : (levels : ℕ) (x : DataItem) (content : List ℕ) → IsValidWithin levels x → x ≡ ByteString content → IsBytes content
+content_bytes : (levels : ℕ) (x : DataItem) (content : List ℕ) → IsValidWithin levels x
+    → x ≡ ByteString content → IsBytes content
 content_bytes levels x content valid is = let all = subst (IsValidWithin levels) is valid in bytes_of_all content all.1
 
-pub held_judges : {A : Type 0} (judge : ℕ → DataItem → Result A Refusal) (says : Says A) (form : Refuses) → Judges judge says form → Judges (judge_held judge) (SaysHeld says) (RefusesHeld form)
+pub held_judges : {A : Type 0} (judge : ℕ → DataItem → Result A Refusal) (says : Says A)
+    (form : Refuses)
+    → Judges judge says form → Judges (judge_held judge) (SaysHeld says) (RefusesHeld form)
 held_judges {A} judge says form law = record {
   ok = λ levels place x a valid e. bind_ok (judge_string place x) _ a e (λ c c-is f.
       let s = string_ok place x c c-is in
@@ -122,21 +144,24 @@ held_judges {A} judge says form law = record {
   refuses = λ place x r bad. held_refused place x r bad;
 }
   where
-    no_string : (levels place : ℕ) (x : DataItem) (r : Refusal) → judge_string place x ≡ Err r → RefusesHeld form place x r
+    no_string : (levels place : ℕ) (x : DataItem) (r : Refusal) → judge_string place x ≡ Err r
+        → RefusesHeld form place x r
     no_string levels place x r e =
         by_string (λ (y : DataItem). judge_string place y ≡ Err r → RefusesHeld form place y r)
         (λ bytes f. absurd cc)
         (λ y other f. subst (RefusesHeld form place y) (same_err _ r (sym (other.judged place) ∙ f)) (NoString y other.other))
         x e
 
-    held_refused : (place : ℕ) (x : DataItem) (r : Refusal) → RefusesHeld form place x r → judge_held judge place x ≡ Err r
+    held_refused : (place : ℕ) (x : DataItem) (r : Refusal) → RefusesHeld form place x r
+        → judge_held judge place x ≡ Err r
     held_refused place x r (NoString y other) = by_string (λ (z : DataItem). (IsByteString z → ⊥) → judge_held judge place z ≡ Err (refused place Shape)) (λ bytes f. absurd (f tt)) (λ z o f. rw (o.judged place) refl) y other
     held_refused place x r (BadContent content s bad) = whole_refused judge says form law _ content s bad
 
 -- ---- lists
 
 -- the judgement of each that fits is that of what is good and what is bad, both ways
-pub record JudgesEach {A : Type 0} (fits : A → Type 0) (judge : A → Result Unit Refusal) (good : A → Type 0) (bad : A → Refusal → Type 0) : Type 0 where
+pub record JudgesEach {A : Type 0} (fits : A → Type 0) (judge : A → Result Unit Refusal)
+    (good : A → Type 0) (bad : A → Refusal → Type 0) : Type 0 where
   pub ok : (a : A) → fits a → judge a ≡ Ok tt → good a
   pub again : (a : A) → good a → judge a ≡ Ok tt
   pub err : (a : A) (r : Refusal) → fits a → judge a ≡ Err r → bad a r
@@ -149,18 +174,30 @@ pub all_anything : {A : Type 0} (xs : List A) → AllByRecursion Anything xs
 all_anything [] = tt
 all_anything (x ∷ xs) = (tt, all_anything xs)
 
-pub each_ok : {A : Type 0} (fits : A → Type 0) (judge : A → Result Unit Refusal) (good : A → Type 0) (bad : A → Refusal → Type 0) → JudgesEach fits judge good bad → (xs : List A) → AllByRecursion fits xs → judge_each judge xs ≡ Ok tt → AllByRecursion good xs
+pub each_ok : {A : Type 0} (fits : A → Type 0) (judge : A → Result Unit Refusal) (good : A → Type 0)
+    (bad : A → Refusal → Type 0)
+    → JudgesEach fits judge good bad → (xs : List A) → AllByRecursion fits xs
+    → judge_each judge xs ≡ Ok tt → AllByRecursion good xs
 each_ok fits judge good bad law [] all e = tt
 each_ok fits judge good bad law (x ∷ xs) all e = bind_ok (judge x) _ tt e (λ done is f. (law.ok x all.0 is, each_ok fits judge good bad law xs all.1 f))
 
-pub each_again : {A : Type 0} (fits : A → Type 0) (judge : A → Result Unit Refusal) (good : A → Type 0) (bad : A → Refusal → Type 0) → JudgesEach fits judge good bad → (xs : List A) → AllByRecursion good xs → judge_each judge xs ≡ Ok tt
+pub each_again : {A : Type 0} (fits : A → Type 0) (judge : A → Result Unit Refusal)
+    (good : A → Type 0) (bad : A → Refusal → Type 0)
+    → JudgesEach fits judge good bad → (xs : List A) → AllByRecursion good xs
+    → judge_each judge xs ≡ Ok tt
 each_again fits judge good bad law [] all = refl
 each_again fits judge good bad law (x ∷ xs) all = rw (law.again x all.0) (each_again fits judge good bad law xs all.1)
 
-pub each_err : {A : Type 0} (fits : A → Type 0) (judge : A → Result Unit Refusal) (good : A → Type 0) (bad : A → Refusal → Type 0) → JudgesEach fits judge good bad → (xs : List A) (r : Refusal) → AllByRecursion fits xs → judge_each judge xs ≡ Err r → RefusesFirst bad good xs r
+pub each_err : {A : Type 0} (fits : A → Type 0) (judge : A → Result Unit Refusal)
+    (good : A → Type 0) (bad : A → Refusal → Type 0)
+    → JudgesEach fits judge good bad → (xs : List A) (r : Refusal) → AllByRecursion fits xs
+    → judge_each judge xs ≡ Err r → RefusesFirst bad good xs r
 each_err fits judge good bad law [] r all e = absurd cc
 each_err fits judge good bad law (x ∷ xs) r all e = bind_err (judge x) _ r e (λ f. Here x xs r (law.err x r all.0 f)) (λ done is f. Later x xs r (law.ok x all.0 is) (each_err fits judge good bad law xs r all.1 f))
 
-pub each_refused : {A : Type 0} (fits : A → Type 0) (judge : A → Result Unit Refusal) (good : A → Type 0) (bad : A → Refusal → Type 0) → JudgesEach fits judge good bad → (xs : List A) (r : Refusal) → RefusesFirst bad good xs r → judge_each judge xs ≡ Err r
+pub each_refused : {A : Type 0} (fits : A → Type 0) (judge : A → Result Unit Refusal)
+    (good : A → Type 0) (bad : A → Refusal → Type 0)
+    → JudgesEach fits judge good bad → (xs : List A) (r : Refusal) → RefusesFirst bad good xs r
+    → judge_each judge xs ≡ Err r
 each_refused fits judge good bad law xs r (Here x rest s b) = rw (law.refuses x s b) refl
 each_refused fits judge good bad law xs r (Later x rest s g later) = rw (law.again x g) (each_refused fits judge good bad law rest s later)

@@ -28,7 +28,7 @@ pub record IsValue {V : Type 0} (value : Option Param → Option V) (has : Param
   pub none : value None ≡ None
   pub is : (p : Param) (v : V) → (value (Some p) ≡ Some v) ↔ has p v
 
--- what a component has is what the parameter in force under the key has
+-- a component's value is that of the parameter in force under the key
 pub record IsValueUnder {V : Type 0} (key : ParamKey) (param : V → Param)
     (value : Parameters → ℕ → Option V) : Type 0 where
   pub none : (ps : Parameters) (component : ℕ) → in_force ps component key ≡ None

@@ -32,11 +32,13 @@ pub record ItemTaken (p : Position) (x : DataItem) (q : Position) : Type 0 where
   pub taken : Takes p q (spell x)
   pub left : IsBytes q.left
 
-pub item_ok : (p : Position) (x : DataItem) (q : Position) → IsBytes p.left → item_from p ≡ Ok (x, q) → ItemTaken p x q
+pub item_ok : (p : Position) (x : DataItem) (q : Position) → IsBytes p.left
+    → item_from p ≡ Ok (x, q) → ItemTaken p x q
 unfolding item_from
 item_ok p x q fits e = by_answer (item_at 16 p.left) refl e
   where
-    by_answer : (r : Read DataItem) → item_at 16 p.left ≡ r → found_item p r ≡ Ok (x, q) → ItemTaken p x q
+    by_answer : (r : Read DataItem) → item_at 16 p.left ≡ r → found_item p r ≡ Ok (x, q)
+        → ItemTaken p x q
     by_answer (Ok y) is f =
         let starts = item_takes 16 0 refl p.left y.0 y.1 fits is in
         let parts = ok_pair y.0 x (resting p y.1) q f in
@@ -45,7 +47,8 @@ item_ok p x q fits e = by_answer (item_at 16 p.left) refl e
         subst (λ (z : DataItem). ItemTaken p z q) parts.0 (subst (ItemTaken p y.0) parts.1 all)
     by_answer (Err s) is f = absurd cc
 
-pub item_read : (p : Position) (x : DataItem) (rest : List ℕ) → IsValid x → p.left ≡ spell x ++ rest → item_from p ≡ Ok (x, after p (spell x) rest)
+pub item_read : (p : Position) (x : DataItem) (rest : List ℕ) → IsValid x → p.left ≡ spell x ++ rest
+    → item_from p ≡ Ok (x, after p (spell x) rest)
 unfolding item_from
 item_read p x rest valid is =
     let read : item_at 16 p.left ≡ Ok (x, rest) = ap (item_at 16) is ∙ item_again 16 0 refl x rest valid in
@@ -70,7 +73,8 @@ item_err p r fits e = by_answer (item_at 16 p.left) refl e
         let place : p.place + (length p.left - s.left) ≡ p.place + fault.place = omega arith in
         record { at = fault.place; reason = s.reason; faulty = fault.faulty; is = sym (same_err _ r f) ∙ ap (λ (n : ℕ). refused n (Cbor s.reason)) place }
 
-pub item_faulty : (p : Position) (at : ℕ) (reason : Reason) → Faulty 0 p.left at reason → item_from p ≡ Err (refused (p.place + at) (Cbor reason))
+pub item_faulty : (p : Position) (at : ℕ) (reason : Reason) → Faulty 0 p.left at reason
+    → item_from p ≡ Err (refused (p.place + at) (Cbor reason))
 unfolding item_from
 item_faulty p at reason faulty =
     let stops = item_refused 16 0 refl p.left at reason faulty in
@@ -78,12 +82,13 @@ item_faulty p at reason faulty =
     let place : p.place + (length p.left - stops.left) ≡ p.place + at = omega arith in
     ap (found_item p) stops.is ∙ ap (λ (n : ℕ). Err (refused n (Cbor reason))) place
 
--- ---- what passing over an item answers
+-- ---- the answers of passing over an item
 
 abbrev on_item : Position → DataItem × Position → Result (Position × Position) Refusal
 on_item p x = Ok (inside p x.0, x.1)
 
-pub skip_ok : (p q : Position) (piece : List ℕ) → IsItem piece → Takes p q piece → inner_from p ≡ Ok (at_place piece p.place, q)
+pub skip_ok : (p q : Position) (piece : List ℕ) → IsItem piece → Takes p q piece
+    → inner_from p ≡ Ok (at_place piece p.place, q)
 skip_ok p q piece item taken =
     let x = item.0 in
     let is : piece ≡ spell x = item.1.is in
@@ -91,21 +96,28 @@ skip_ok p q piece item taken =
     let place : p.place + length (spell x) ≡ q.place = ap (λ (l : List ℕ). p.place + length l) (sym is) ∙ sym taken.place in
     ap (λ (r : Result (DataItem × Position) Refusal). r >>= on_item p) (item_read p x q.left item.1.valid whole) ∙ ap (λ (n : ℕ). Ok (inside p x, at_place q.left n)) place ∙ ap (λ (l : List ℕ). Ok (at_place l p.place, q)) (sym is)
 
-pub skip_err : (p : Position) (e : CborRefusal) → IsRefusal p (Faulty 0) e → inner_from p ≡ Err (of_cbor e)
+pub skip_err : (p : Position) (e : CborRefusal) → IsRefusal p (Faulty 0) e
+    → inner_from p ≡ Err (of_cbor e)
 skip_err p e refusal = ap (λ (r : Result (DataItem × Position) Refusal). r >>= on_item p) (item_faulty p refusal.at e.reason refusal.fault) ∙ ap (λ (n : ℕ). Err (refused n (Cbor e.reason))) (sym refusal.place)
 
 -- ---- judgements
 
 -- the judgement is that of the grammar and of the refusals, both ways
-pub record Judges {A : Type 0} (judge : ℕ → DataItem → Result A Refusal) (says : Says A) (form : Refuses) : Type 0 where
-  pub ok : (levels place : ℕ) (x : DataItem) (a : A) → IsValidWithin levels x → judge place x ≡ Ok a → says place x a
+pub record Judges {A : Type 0} (judge : ℕ → DataItem → Result A Refusal) (says : Says A)
+    (form : Refuses) : Type 0 where
+  pub ok : (levels place : ℕ) (x : DataItem) (a : A) → IsValidWithin levels x → judge place x ≡ Ok a
+      → says place x a
   pub again : (place : ℕ) (x : DataItem) (a : A) → says place x a → judge place x ≡ Ok a
-  pub err : (levels place : ℕ) (x : DataItem) (r : Refusal) → IsValidWithin levels x → judge place x ≡ Err r → form place x r
+  pub err : (levels place : ℕ) (x : DataItem) (r : Refusal) → IsValidWithin levels x
+      → judge place x ≡ Err r → form place x r
   pub refuses : (place : ℕ) (x : DataItem) (r : Refusal) → form place x r → judge place x ≡ Err r
 
 -- ---- the next item
 
-pub next_ok : {A : Type 0} (judge : ℕ → DataItem → Result A Refusal) (says : Says A) (form : Refuses) → Judges judge says form → (p : Position) (a : A) (q : Position) → IsBytes p.left → next_judged judge p ≡ Ok (a, q) → TakesNext says p q a
+pub next_ok : {A : Type 0} (judge : ℕ → DataItem → Result A Refusal) (says : Says A)
+    (form : Refuses)
+    → Judges judge says form → (p : Position) (a : A) (q : Position) → IsBytes p.left
+    → next_judged judge p ≡ Ok (a, q) → TakesNext says p q a
 next_ok {A} judge says form law p a q fits e =
     bind_ok _ _ _ e (λ x x-is e. bind_ok _ _ _ e (λ b b-is e.
     let item = item_ok p x.0 x.1 fits x-is in
@@ -113,7 +125,10 @@ next_ok {A} judge says form law p a q fits e =
     let all : TakesNext says p x.1 b = record { item = x.0; valid = item.valid; says_so = law.ok 0 p.place x.0 b item.valid b-is; taken = item.taken } in
     subst (λ (c : A). TakesNext says p q c) parts.0 (subst (λ (r : Position). TakesNext says p r b) parts.1 all)))
 
-pub next_err : {A : Type 0} (judge : ℕ → DataItem → Result A Refusal) (says : Says A) (form : Refuses) → Judges judge says form → (p : Position) (r : Refusal) → IsBytes p.left → next_judged judge p ≡ Err r → RefusesNext form p r
+pub next_err : {A : Type 0} (judge : ℕ → DataItem → Result A Refusal) (says : Says A)
+    (form : Refuses)
+    → Judges judge says form → (p : Position) (r : Refusal) → IsBytes p.left
+    → next_judged judge p ≡ Err r → RefusesNext form p r
 next_err judge says form law p r fits e =
     bind_err _ _ _ e
     (λ f. let fault = item_err p r fits f in subst (RefusesNext form p) (sym fault.is) (FaultyNext fault.at fault.reason fault.faulty))
@@ -121,17 +136,26 @@ next_err judge says form law p r fits e =
     (λ f. let item = item_ok p x.0 x.1 fits x-is in RefusedNext x.0 x.1.left r item.valid item.taken.parts (law.err 0 p.place x.0 r item.valid f))
     (λ b b-is never. absurd cc))
 
-pub next_read : {A : Type 0} (judge : ℕ → DataItem → Result A Refusal) (says : Says A) (form : Refuses) → Judges judge says form → (p : Position) (x : DataItem) (rest : List ℕ) (a : A) → IsValid x → p.left ≡ spell x ++ rest → says p.place x a
+pub next_read : {A : Type 0} (judge : ℕ → DataItem → Result A Refusal) (says : Says A)
+    (form : Refuses)
+    → Judges judge says form → (p : Position) (x : DataItem) (rest : List ℕ) (a : A) → IsValid x
+    → p.left ≡ spell x ++ rest → says p.place x a
     → next_judged judge p ≡ Ok (a, after p (spell x) rest)
 next_read judge says form law p x rest a valid is so = rw (item_read p x rest valid is, law.again p.place x a so) refl
 
-pub next_refused : {A : Type 0} (judge : ℕ → DataItem → Result A Refusal) (says : Says A) (form : Refuses) → Judges judge says form → (p : Position) (r : Refusal) → RefusesNext form p r → next_judged judge p ≡ Err r
+pub next_refused : {A : Type 0} (judge : ℕ → DataItem → Result A Refusal) (says : Says A)
+    (form : Refuses)
+    → Judges judge says form → (p : Position) (r : Refusal) → RefusesNext form p r
+    → next_judged judge p ≡ Err r
 next_refused judge says form law p r (FaultyNext at reason faulty) = rw (item_faulty p at reason faulty) refl
 next_refused judge says form law p r (RefusedNext x rest s valid is f) = rw (item_read p x rest valid is, law.refuses p.place x s f) refl
 
 -- ---- the whole of some bytes
 
-pub whole_ok : {A : Type 0} (judge : ℕ → DataItem → Result A Refusal) (says : Says A) (form : Refuses) → Judges judge says form → (place : ℕ) (bytes : List ℕ) (a : A) → IsBytes bytes → whole_judged judge place bytes ≡ Ok a → SaysWhole says place bytes a
+pub whole_ok : {A : Type 0} (judge : ℕ → DataItem → Result A Refusal) (says : Says A)
+    (form : Refuses)
+    → Judges judge says form → (place : ℕ) (bytes : List ℕ) (a : A) → IsBytes bytes
+    → whole_judged judge place bytes ≡ Ok a → SaysWhole says place bytes a
 whole_ok {A} judge says form law place bytes a fits e =
     bind_ok (item_from (at_place bytes place)) _ _ e (λ x x-is e. elim (chosen {A = Result A Refusal} (eqb (length x.1.left) 0) (judge place x.0) (Err (refused x.1.place Trailing)) (Ok a) e) [
       | inl (end, f) ↦
@@ -142,7 +166,10 @@ whole_ok {A} judge says form law place bytes a fits e =
       | inr (more, f) ↦ absurd cc
     ])
 
-pub whole_err : {A : Type 0} (judge : ℕ → DataItem → Result A Refusal) (says : Says A) (form : Refuses) → Judges judge says form → (place : ℕ) (bytes : List ℕ) (r : Refusal) → IsBytes bytes → whole_judged judge place bytes ≡ Err r → RefusesWhole form place bytes r
+pub whole_err : {A : Type 0} (judge : ℕ → DataItem → Result A Refusal) (says : Says A)
+    (form : Refuses)
+    → Judges judge says form → (place : ℕ) (bytes : List ℕ) (r : Refusal) → IsBytes bytes
+    → whole_judged judge place bytes ≡ Err r → RefusesWhole form place bytes r
 whole_err {A} judge says form law place bytes r fits e =
     let p = at_place bytes place in
     bind_err _ _ _ e
@@ -160,12 +187,18 @@ whole_err {A} judge says form law place bytes r fits e =
           subst (RefusesWhole form place bytes) at (BytesAfter x.0 x.1.left item.valid item.taken.parts some)
     ])
 
-pub whole_read : {A : Type 0} (judge : ℕ → DataItem → Result A Refusal) (says : Says A) (form : Refuses) → Judges judge says form → (place : ℕ) (bytes : List ℕ) (a : A) → SaysWhole says place bytes a → whole_judged judge place bytes ≡ Ok a
+pub whole_read : {A : Type 0} (judge : ℕ → DataItem → Result A Refusal) (says : Says A)
+    (form : Refuses)
+    → Judges judge says form → (place : ℕ) (bytes : List ℕ) (a : A) → SaysWhole says place bytes a
+    → whole_judged judge place bytes ≡ Ok a
 whole_read judge says form law place bytes a so =
     let is : bytes ≡ spell so.item ++ [] = so.spells.is ∙ sym (append-nil (spell so.item)) in
     rw (item_read (at_place bytes place) so.item [] so.spells.valid is) (law.again place so.item a so.says_so)
 
-pub whole_refused : {A : Type 0} (judge : ℕ → DataItem → Result A Refusal) (says : Says A) (form : Refuses) → Judges judge says form → (place : ℕ) (bytes : List ℕ) (r : Refusal) → RefusesWhole form place bytes r → whole_judged judge place bytes ≡ Err r
+pub whole_refused : {A : Type 0} (judge : ℕ → DataItem → Result A Refusal) (says : Says A)
+    (form : Refuses)
+    → Judges judge says form → (place : ℕ) (bytes : List ℕ) (r : Refusal)
+    → RefusesWhole form place bytes r → whole_judged judge place bytes ≡ Err r
 whole_refused judge says form law place bytes r (FaultyItem at reason faulty) = rw (item_faulty (at_place bytes place) at reason faulty) refl
 whole_refused judge says form law place bytes r (BytesAfter x rest valid is some) =
     let more : eqb (length rest) 0 ≡ false = ne_eqb (length rest) 0 (λ e. some (nil_from_length rest e)) in

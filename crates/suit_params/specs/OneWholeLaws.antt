@@ -9,10 +9,13 @@ use Rattle.suit_params.specs.Reading.{whole_judged}
 use Rattle.suit_params.specs.OneWhole.{SaysJustOne, RefusesJustOnce, HasOneAnswer}
 use Rattle.suit_params.specs.JudgingLaws.{Judges, whole_ok, whole_err, whole_read, whole_refused}
 
-pub one_answer : {A : Type 0} (judge : ℕ → DataItem → Result A Refusal) (says : Says A) (form : Refuses) → Judges judge says form → HasOneAnswer says form
+pub one_answer : {A : Type 0} (judge : ℕ → DataItem → Result A Refusal) (says : Says A)
+    (form : Refuses)
+    → Judges judge says form → HasOneAnswer says form
 one_answer {A} judge says form law place bytes all = by_answer (whole_judged judge place bytes) refl
   where
-    by_answer : (a : Result A Refusal) → whole_judged judge place bytes ≡ a → SaysJustOne says form place bytes ⊎ RefusesJustOnce says form place bytes
+    by_answer : (a : Result A Refusal) → whole_judged judge place bytes ≡ a
+        → SaysJustOne says form place bytes ⊎ RefusesJustOnce says form place bytes
     by_answer (Ok a) is = inl (record {
       said = a;
       whole = whole_ok judge says form law place bytes a (bytes_of_all bytes all) is;

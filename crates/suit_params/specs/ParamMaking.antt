@@ -29,7 +29,7 @@ param_pairs (p ∷ ps) = PairThen (key_item (key_of p)) (value_item p) (param_pa
 abbrev pub params_item : List Param → DataItem
 params_item ps = MapOf (param_pairs ps)
 
--- ---- what holds of a parameter by its types
+-- ---- the bounds of a parameter by its types
 
 abbrev pub IsId : List ℕ → Type 0
 IsId id = (length id ≡ 16) × AllByRecursion IsByte id

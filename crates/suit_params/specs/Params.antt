@@ -64,7 +64,7 @@ pub data IsParams (count place : ℕ) : DataItem → List Param → Type 0 where
   ParamMap : (pairs : DataPairs) (ps : List Param)
       → SayParams count (pairs_place place pairs) pairs ps → IsParams count place (MapOf pairs) ps
 
--- ---- what is refused
+-- ---- refusals
 
 -- kinds of items
 abbrev pub IsIdentifier : DataItem → Type 0

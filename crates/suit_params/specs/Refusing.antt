@@ -12,7 +12,7 @@ use Rattle.suit_params.specs.declared.refusal.Why.TheVariants.{Cbor, Trailing, S
 abbrev pub refused : ℕ → Why → Refusal
 refused place why = record { place = place; why = why }
 
--- what a form of items refuses, and what it takes an item to say; the item is spelled from a place on
+-- the refusals of a form of items, and what it takes an item to say; the item is spelled from a place on
 abbrev pub Refuses : Type 1
 Refuses = ℕ → DataItem → Refusal → Type 0
 

@@ -68,7 +68,7 @@ fn algorithm(item: &mut Cursor<'_>, array: u64) -> Result<(), Refusal>
     }
 }
 
-/// A whole item, which was judged as one before, as a digest.
+/// Reads a whole item, judged as one before, as a digest.
 #[tactic(auto, unfolding(crate::specs::DigestReading::digest_at))]
 pub fn digest_of(mut item: Cursor<'_>) -> Result<Digest, Refusal>
     ensures { map_ok (λ d. d.bytes) result ≡ digest_at item.entry }

@@ -1,18 +1,7 @@
-//! How refusals and want of memory become faults.
+//! How want of memory and refusals become faults.
 
 use crate::{Fault, Refusal};
 use std::alloc::AllocError;
-
-impl From<Refusal> for Fault {
-    ghost use Rattle.std.specs.Prelude.{◌≡◌};
-    ghost use Rattle.suit_params.specs.declared.refusal.Fault.TheVariants.{Refused};
-
-    ghost from_gives = { λ r f. f ≡ Refused r };
-
-    fn from(refusal: Refusal) -> Fault {
-        Fault::Refused(refusal)
-    }
-}
 
 impl From<AllocError> for Fault {
     ghost use Rattle.std.specs.Prelude.{◌≡◌};
@@ -22,5 +11,16 @@ impl From<AllocError> for Fault {
 
     fn from(_: AllocError) -> Fault {
         Fault::NoMemory
+    }
+}
+
+impl From<Refusal> for Fault {
+    ghost use Rattle.std.specs.Prelude.{◌≡◌};
+    ghost use Rattle.suit_params.specs.declared.refusal.Fault.TheVariants.{Refused};
+
+    ghost from_gives = { λ r f. f ≡ Refused r };
+
+    fn from(refusal: Refusal) -> Fault {
+        Fault::Refused(refusal)
     }
 }

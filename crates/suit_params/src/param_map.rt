@@ -110,8 +110,7 @@ fn read_pairs(
     Ok(list)
 }
 
-/// A whole item, which was judged as one before, as a map of parameters, where there are so many
-/// components.
+/// Reads a whole item, judged as one before, as a map of parameters, for so many components.
 #[tactic(auto, unfolding(crate::specs::ParamReading::params_at))]
 pub fn params_of(alloc: Global, mut item: Cursor<'_>, count: u32) -> Result<ParamList, Fault>
     ensures { Gives (λ list. list) result (params_at count item.entry) }
@@ -143,9 +142,9 @@ fn params_ahead(alloc: Global, cursor: &mut Cursor<'_>, count: u32) -> Result<Pa
     Ok(list)
 }
 
-/// Reads a map of parameters (draft-ietf-suit-manifest-25, section 8.4.8), where there are so many
-/// components. It is judged as one item first, and then pair by pair. Takes memory for the list
-/// alone. After a fault the cursor stands where it stood.
+/// Reads a map of parameters (draft-ietf-suit-manifest-25, section 8.4.8), for so many components.
+/// It is judged as one item first, and then pair by pair. Allocates only for the list. After a
+/// fault the cursor is where it was.
 pub fn read_params(alloc: Global, cursor: &mut Cursor<'_>, count: u32) -> Result<ParamList, Fault>
     ensures ok { IfOk result (λ list. TakesNext (IsParams count) cursor.old cursor.new list) }
     ensures refused { IfErr result (IsFaultBy (RefusesNext (RefusesParams count) cursor.old)) }

@@ -1,4 +1,4 @@
-//! Values of parameters, by their kinds. Items were judged as such before.
+//! Values of parameters, by their kinds, read from items judged before.
 
 ghost use Rattle.std.specs.Prelude.{◌≡◌};
 ghost use Rattle.det_cbor.specs.HeadReading.{map_ok};

@@ -60,7 +60,7 @@ fn push_params(out: &mut Bytes, list: &ParamList) -> Result<(), AllocError>
     ensures err { OnErr result (IsPrefix out.old out.new) }
     ensures params { OnOk result (AllByRecursion IsParam list.now) }
 {
-    for param in &list.held {
+    for param in list.as_slice() {
         push_param(out, param)?;
     }
     Ok(())

@@ -93,7 +93,7 @@ impl<'a> Params<'a> {
         requires { component < 8 }
         ensures { self.new ≡ overridden self.old component list.now }
     {
-        for param in &list.held {
+        for param in list.as_slice() {
             self.set(component, param);
         }
     }

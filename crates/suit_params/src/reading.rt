@@ -66,7 +66,7 @@ pub fn read_item<'a>(cursor: &mut Cursor<'a>) -> Result<Cursor<'a>, Refusal>
     Ok(Cursor::new(item, place))
 }
 
-/// The one item that the cursor's bytes are to hold, as a cursor on its bytes. It is judged as one
+/// The one item that the cursor's bytes must hold, as a cursor on its bytes. It is judged as one
 /// item, and then bytes after it are refused.
 pub fn only_item(mut content: Cursor<'_>) -> Result<Cursor<'_>, Refusal>
     ensures { result ≡ only_from content.entry }
@@ -101,7 +101,7 @@ pub fn next_content<'a>(cursor: &mut Cursor<'a>, count: u64) -> Result<Cursor<'a
     Ok(Cursor::new(content, place))
 }
 
-/// The number of elements of an array, which the cursor passes the head of.
+/// The number of elements of an array. The cursor passes its head.
 #[tactic(auto, unfolding(crate::specs::Reading::array_from))]
 pub fn read_array(item: &mut Cursor<'_>) -> Result<u64, Refusal>
     ensures { map_ok (λ n. (n, item.new)) result ≡ array_from item.old }
@@ -114,7 +114,7 @@ pub fn read_array(item: &mut Cursor<'_>) -> Result<u64, Refusal>
     }
 }
 
-/// The number of pairs of a map, which the cursor passes the head of.
+/// The number of pairs of a map. The cursor passes its head.
 #[tactic(auto, unfolding(crate::specs::Reading::map_from))]
 pub fn read_map(item: &mut Cursor<'_>) -> Result<u64, Refusal>
     ensures { map_ok (λ n. (n, item.new)) result ≡ map_from item.old }

@@ -35,7 +35,7 @@ pub enum Why {
     Unsupported,
     /// A command's argument of another kind.
     BadArgument,
-    /// A component index, and the number of components, which it is not below.
+    /// A component index that is not below the number of components, and that number.
     BadIndex(u64, u64),
     /// A sequence that would be at the ninth level.
     Nested,
@@ -48,7 +48,7 @@ pub struct Refusal {
     pub why: Why,
 }
 
-/// Why there is no answer: the input is refused, or there is no memory.
+/// Why there is no answer: the input is refused, or memory ran out.
 #[derive(Clone, Copy, Debug, PartialEq, Eq)]
 pub enum Fault {
     Refused(Refusal),

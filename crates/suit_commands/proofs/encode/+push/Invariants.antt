@@ -5,7 +5,7 @@ use Rattle.suit_commands.specs.SequenceWriting.{StepsFit, BranchesFit}
 use Rattle.suit_commands.specs.View.{sequence_tree, branches_tree}
 use Rattle.suit_commands.proofs.encode.+push.Given as goal
 
--- what is written so far and the spelling of what is left are the whole spelling, and what is left decides
+-- the bytes written so far and the spelling of the rest are the whole spelling, and the rest decides
 abbrev pub invariant-push_steps-loop-step : goal.invariant-push_steps-loop-step
 invariant-push_steps-loop-step l =
     (l.out ++ spell_items (step_items (sequence_tree (drop l.step-index l.step-items))) ≡ l.fn.out ++ spell_items (step_items (sequence_tree l.step-items)))

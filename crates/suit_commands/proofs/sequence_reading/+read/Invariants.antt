@@ -30,7 +30,7 @@ decreases-read_steps l = 9 * l.levels + 6
 abbrev pub decreases-read_array : goal.decreases-read_array
 decreases-read_array l = 9 * l.levels + 7
 
--- what is left to be read decides the answer
+-- the rest to read decides the answer
 abbrev pub invariant-read_branches-loop-done : goal.invariant-read_branches-loop-done
 invariant-read_branches-loop-done l =
     with_branches l.branches (branches_from (nested_from l.shared l.count l.levels) (l.number - l.done) l.cursor) ≡ branches_from (nested_from l.shared l.count l.levels) l.number l.fn.cursor

@@ -1,16 +1,14 @@
-use Rattle.std.proofs.Common.{◌≡◌, ◌+◌, ◌≤◌, sym, ◌∙◌, ap, arith}
+use Rattle.std.proofs.Common.{◌+◌, ◌≤◌, arith}
 use Rattle.suit_commands.specs.Size.{sequence_size, branches_size}
-use Rattle.suit_commands.specs.View.{branches_tree}
 use Rattle.suit_commands.specs.declared.command.Branches.TheDeep.{deep-Step}
-use Rattle.suit_commands.specs.Smaller.{step_smaller, branch_smaller}
+use Rattle.suit_commands.specs.Smaller.{step_smaller, branch_inside}
 use Rattle.suit_commands.proofs.IndexedSteps.{step_indexed, branch_indexed}
 use Rattle.suit_commands.proofs.source_walk.+source.Goals as goal
 
 pub branches_sources-sequence_sources-bits-requires : goal.branches_sources-sequence_sources-bits-requires
 branches_sources-sequence_sources-bits-requires t c =
-    let e : sequence_size c.in-Some.inner + 1 ≤ branches_size (branches_tree c.as_slice-branch-items.result.now) = branch_smaller c.as_slice-branch-items.result.now c.loop-branch.branch-index c.branch-item.result c.in-Some.inner c.loop-branch-test.true (sym c.branch-item.is ∙ c.in-Some.is) in
-    let f : branches_size (branches_tree c.as_slice-branch-items.result.now) ≡ branches_size c.args.branches.now = ap branches_size c.loop-branch.invariant.whole in
-    (omega (arith, e, f, c.decreases), (branch_indexed c.as_slice-branch-items.result.now c.loop-branch.branch-index _ c.branch-item.result c.in-Some.inner c.args.count c.loop-branch-test.true c.branch-item.is c.in-Some.is c.loop-branch.invariant.indexed, c.requires.few))
+    let e : sequence_size c.in-Some.inner + 1 ≤ branches_size c.args.branches.now = branch_inside c.as_slice-branch-items.result.now c.loop-branch.branch-index c.branch-item.result c.branch-item.result c.in-Some.inner c.args.branches.now c.loop-branch-test.true c.branch-item.is c.in-Some.is c.loop-branch.invariant.whole in
+    (omega (arith, e, c.decreases), (branch_indexed c.as_slice-branch-items.result.now c.loop-branch.branch-index _ c.branch-item.result c.in-Some.inner c.args.count c.loop-branch-test.true c.branch-item.is c.in-Some.is c.loop-branch.invariant.indexed, c.requires.few))
 
 pub sequence_sources-command_sources-bits-requires : goal.sequence_sources-command_sources-bits-requires
 sequence_sources-command_sources-bits-requires t c =

@@ -1,9 +1,8 @@
-use Rattle.std.proofs.Common.{◌≡◌, ◌+◌, ◌≤◌, sym, ◌∙◌, ap, arith}
+use Rattle.std.proofs.Common.{◌≡◌, ◌+◌, ◌≤◌, ◌∙◌, ap, arith}
 use Rattle.suit_commands.specs.Size.{sequence_size, branches_size}
-use Rattle.suit_commands.specs.View.{branches_tree}
 use Rattle.suit_commands.specs.WaysOnce.{counted, capped_ways}
 use Rattle.suit_commands.specs.declared.command.Branches.TheDeep.{deep-Step}
-use Rattle.suit_commands.specs.Smaller.{step_smaller, branch_smaller}
+use Rattle.suit_commands.specs.Smaller.{step_smaller, branch_inside}
 use Rattle.suit_commands.proofs.WaysSteps.{made_fits, step_ways, steps_ways, branch_ways, branches_ways, there_ways, test_capped, inner_made, other_ways, start_fits, none_fits, steps_begin, branches_begin, some_ways, null_ways}
 use Rattle.suit_commands.proofs.ways_walk.+ways.Goals as goal
 use Rattle.suit_commands.proofs.ways_walk.+ways.Goals.{branches_ways-in-Some, branches_ways-in-None}
@@ -26,9 +25,8 @@ branches_ways-loop-branch-init t c = record {
 
 pub branches_ways-sequence_ways-ways-requires : goal.branches_ways-sequence_ways-ways-requires
 branches_ways-sequence_ways-ways-requires t c =
-    let e : sequence_size c.in-Some.inner + 1 ≤ branches_size (branches_tree c.as_slice-branch-items.result.now) = branch_smaller c.as_slice-branch-items.result.now c.loop-branch.branch-index c.branch-item.result c.in-Some.inner c.loop-branch-test.true (sym c.branch-item.is ∙ c.in-Some.is) in
-    let f : branches_size (branches_tree c.as_slice-branch-items.result.now) ≡ branches_size c.args.branches.now = ap branches_size c.loop-branch.invariant.whole in
-    (omega (arith, e, f, c.decreases), tt)
+    let e : sequence_size c.in-Some.inner + 1 ≤ branches_size c.args.branches.now = branch_inside c.as_slice-branch-items.result.now c.loop-branch.branch-index c.branch-item.result c.branch-item.result c.in-Some.inner c.args.branches.now c.loop-branch-test.true c.branch-item.is c.in-Some.is c.loop-branch.invariant.whole in
+    (omega (arith, e, c.decreases), tt)
 
 pub branches_ways-loop-branch-preserved : goal.branches_ways-loop-branch-preserved
 branches_ways-loop-branch-preserved t c =

@@ -4,7 +4,7 @@ use Rattle.suit_commands.specs.WaysOnce.{counted, capped_ways, ways_then, ways_e
 use Rattle.suit_commands.specs.View.{sequence_tree, branches_tree}
 use Rattle.suit_commands.proofs.ways_walk.+ways.Given as goal
 
--- what is counted and what is left are the whole
+-- the part counted and the rest are the whole
 
 abbrev pub invariant-branches_ways-loop-branch : goal.invariant-branches_ways-loop-branch
 invariant-branches_ways-loop-branch l = record {

@@ -1,12 +1,12 @@
-use Rattle.std.proofs.Common.{◌≡◌, ◌+◌, ◌≤◌, ◌<◌, ◌^◌, ℕ, sym, ◌∙◌, ap, subst, arith}
+use Rattle.std.proofs.Common.{◌≡◌, ◌+◌, ◌≤◌, ◌<◌, ◌^◌, ℕ, sym, ◌∙◌, subst, arith}
 use Rattle.suit_commands.specs.Size.{sequence_size, branches_size}
-use Rattle.suit_commands.specs.View.{command_tree, branches_tree}
+use Rattle.suit_commands.specs.View.{command_tree}
 use Rattle.suit_commands.specs.Capped.{capped}
 use Rattle.suit_commands.specs.Numbers.{command_work}
 use Rattle.suit_commands.specs.declared.command.Command.{Command}
 use Rattle.suit_commands.specs.declared.command.Branches.TheDeep.{deep-Step}
 use Rattle.suit_commands.proofs.Capping.{capped_small}
-use Rattle.suit_commands.specs.Smaller.{step_smaller, branch_smaller}
+use Rattle.suit_commands.specs.Smaller.{step_smaller, branch_inside}
 use Rattle.suit_commands.proofs.WorkSteps.{inner_work, step_counted, branch_counted, null_counted, plain_work, steps_counted, branches_counted}
 use Rattle.suit_commands.proofs.work_walk.+work.Goals as goal
 use Rattle.suit_commands.proofs.work_walk.+work.Goals.{branches_work-in-Some, branches_work-in-None}
@@ -27,9 +27,8 @@ command_work-returns-in_default t c = plain_work c.args.command.now c.args.count
 
 pub branches_work-sequence_work-requires : goal.branches_work-sequence_work-requires
 branches_work-sequence_work-requires t c =
-    let e : sequence_size c.in-Some.inner + 1 ≤ branches_size (branches_tree c.as_slice-branch-items.result.now) = branch_smaller c.as_slice-branch-items.result.now c.loop-branch.branch-index c.branch-item.result c.in-Some.inner c.loop-branch-test.true (sym c.branch-item.is ∙ c.in-Some.is) in
-    let f : branches_size (branches_tree c.as_slice-branch-items.result.now) ≡ branches_size c.args.branches.now = ap branches_size c.loop-branch.invariant.whole in
-    (omega (arith, e, f, c.decreases), tt)
+    let e : sequence_size c.in-Some.inner + 1 ≤ branches_size c.args.branches.now = branch_inside c.as_slice-branch-items.result.now c.loop-branch.branch-index c.branch-item.result c.branch-item.result c.in-Some.inner c.args.branches.now c.loop-branch-test.true c.branch-item.is c.in-Some.is c.loop-branch.invariant.whole in
+    (omega (arith, e, c.decreases), tt)
 
 pub branches_work-loop-branch-preserved : goal.branches_work-loop-branch-preserved
 branches_work-loop-branch-preserved t c = record {

@@ -4,7 +4,7 @@ use Rattle.suit_commands.specs.Numbers.{work_of, branches_work}
 use Rattle.suit_commands.specs.View.{sequence_tree, branches_tree}
 use Rattle.suit_commands.proofs.work_walk.+work.Given as goal
 
--- what is counted and what is left are the whole
+-- the part counted and the rest are the whole
 
 abbrev pub invariant-branches_work-loop-branch : goal.invariant-branches_work-loop-branch
 invariant-branches_work-loop-branch l = record {
