@@ -35,7 +35,7 @@ use Rattle.author.specs.Elements.{items_in}
 use Rattle.author.specs.FieldNames.{field_named}
 use Rattle.author.specs.Identifiers.{identifier_of, identifiers_of}
 use Rattle.author.specs.Making.{apart_member, apart_text, made_manifest}
-use Rattle.author.specs.Members.{is_one_item, text_member_of, member_of}
+use Rattle.author.specs.Members.{is_one_item, text_member_of, described_member}
 use Rattle.author.specs.Descriptions.{capped_count, listed, no_fields, scope_of, takes_known, takes_field, whole, described}
 use Rattle.author.specs.Faults.{AreFewAndApart}
 use Rattle.author.proofs.Counts.{capped_small}
@@ -94,7 +94,7 @@ IsReadText texts.Empty = Unit {0}
 IsReadText (texts.Here content) = is_one_item content ≡ true
 IsReadText (texts.Apart digest) = Unit {0}
 
-member_holds : (scope : Scope) (d : Data) → scope.shared ≡ false → Holds (IsRead scope.count) (member_of scope d)
+member_holds : (scope : Scope) (d : Data) → scope.shared ≡ false → Holds (IsRead scope.count) (described_member scope d)
 member_holds scope d e =
     holds_choice (IsRead scope.count) (is_some (as_object d)) _ _ (λ k. holds_then (IsRead scope.count) _ _ (λ digest. WasRead _ tt))
     (λ k. holds_bind (Sequence scope.shared scope.count) (IsRead scope.count) _ _ (sequences scope levels_allowed d) (λ s h. WasRead (members.Here s) (subst (λ (b : Bool). Sequence b scope.count s) e h)))

@@ -18,7 +18,7 @@ use Rattle.author.proofs.SameFields.{SameComponents, like_described, never_flawe
 abbrev Files : Type 0
 Files = List (List ℕ × List ℕ)
 
--- ---- what does not depend on the files
+-- ---- independence from the files
 
 abbrev BothSame : Result Described Flaw → Result Described Flaw → Type 0
 BothSame (Ok p) (Ok q) = SameComponents p q
@@ -52,7 +52,7 @@ few_apart d files p h e = record {
       same.apart i j before inside is);
 }
 
--- what was accepted is a description
+-- an accepted value is a description
 by_reading : (d : Data) → ∥ IsDescription d ∥₁ → (r : Result Described Flaw) → described [] d ≡ r → IsDescription d
 by_reading d h (Ok p) e = record { said = p; reads = e; components = few_apart d [] p h e }
 by_reading d h (Err flaw) e = absurd (never_flawed d [] flaw h e)

@@ -80,7 +80,7 @@ pub is_end-view : (vs : List Value) → is_end (items_view vs) ≡ eqb (length v
 is_end-view [] = refl
 is_end-view (v ∷ vs) = grind arith
 
--- ---- what is read, by the elements of a value
+-- ---- reading, by the elements of a value
 
 abbrev pub sequence_in : Scope → ℕ → Items → Result SequenceTree Flaw
 sequence_in scope levels no_items = flawed Field

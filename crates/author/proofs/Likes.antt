@@ -1,4 +1,4 @@
--- What is read of a description with two lists of files: it is flawed alike, or not at all.
+-- Reading a description with two lists of files: it is flawed alike, or not at all.
 use Rattle.std.proofs.Common.{ℕ, List, ◌++◌, Bool, true, false, cond, Result, Ok, Err}
 use Rattle.det_cbor.specs.HeadReading.{◌>>=◌}
 use Rattle.serde_json.specs.Data.{Data, null, boolean, number, string, array, object, Members, no_members, member}

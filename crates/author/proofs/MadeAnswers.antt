@@ -1,4 +1,4 @@
--- What is answered to a description that is made into an envelope.
+-- The answer to a description that is made into an envelope.
 use Rattle.std.proofs.Common.{◌≡◌, ℕ, ◌<◌, ◌≤◌, ◌^◌, ◌-◌, length, min, List, [], ◌∷◌, Result, Ok, Err, refl, sym, ap, subst, ◌∙◌, arith, inl, inr}
 use Rattle.std.specs.Prelude.{IfOk, IfErr}
 use Rattle.serde_json.specs.Data.{Data}
@@ -26,16 +26,16 @@ use Rattle.author.specs.DescriptionLaws.{DescriptionLaws}
 use Rattle.author.specs.Faults.{IsDescription}
 use Rattle.author.specs.Making.{made_manifest}
 use Rattle.author.specs.Severances.{parted}
-use Rattle.author.specs.MadeEnvelopes.{made_parts, made_bytes, trimmed_bytes, IsShort, Passes, Trimmed, Whole, AnswersShort, IsMadeOf, IsTooLong, IsMakeFaultOf, IsMadeAs, IsTooLongBy, HasOneBlock, IsAuthenticUnder, HoldsPartsOf, HoldsManifestOf}
+use Rattle.author.specs.MadeEnvelopes.{made_parts, made_bytes, trimmed_bytes, IsShort, ExceedsLimit, Trimmed, Whole, AnswersShort, IsMadeOf, IsTooLong, IsMakeFaultOf, IsMadeAs, IsTooLongBy, HasOneBlock, IsAuthenticUnder, HoldsPartsOf, HoldsManifestOf}
 use Rattle.author.proofs.DescriptionLawProofs.{is_description}
 
 -- ---- lengths
 
-not_passed : (parts : EnvelopeParts) (limit : ℕ) → IsShort parts → Passes parts limit → ⊥
+not_passed : (parts : EnvelopeParts) (limit : ℕ) → IsShort parts → ExceedsLimit parts limit → ⊥
 not_passed parts _ short (Trimmed long) = absurd (omega (short.0, arith))
 not_passed parts _ short (Whole trimmed long) = absurd (omega (short.1, arith))
 
-one_limit : (parts : EnvelopeParts) (m n : ℕ) → Passes parts m → Passes parts n → m ≡ n
+one_limit : (parts : EnvelopeParts) (m n : ℕ) → ExceedsLimit parts m → ExceedsLimit parts n → m ≡ n
 one_limit parts _ _ (Trimmed a) (Trimmed b) = refl
 one_limit parts _ _ (Trimmed a) (Whole b c) = absurd (omega arith)
 one_limit parts _ _ (Whole a b) (Trimmed c) = absurd (omega arith)
@@ -55,7 +55,7 @@ trimmed_same parts said e is says =
     ap (λ s. trimmed s.wrapper s.manifest) same ∙ rw (says.wrapper, says.manifest) refl
 
 pub trimmed_long : (parts : EnvelopeParts) (said : EnvelopeSays) (e : Envelope) (n : ℕ) → told (said_by e) ≡ told said → SaysParts parts said
-    → n ≡ min (length (trimmed e.wrapper.now e.manifest.now)) (2 ^ 64 - 1) → 16384 < n → Passes parts 16384
+    → n ≡ min (length (trimmed e.wrapper.now e.manifest.now)) (2 ^ 64 - 1) → 16384 < n → ExceedsLimit parts 16384
 trimmed_long parts said e n is says counted long = let same = trimmed_same parts said e is says in Trimmed (rw (← same) (omega (arith, counted, long)))
 
 trimmed_short : (parts : EnvelopeParts) (said : EnvelopeSays) (e : Envelope) (n : ℕ) → told (said_by e) ≡ told said → SaysParts parts said
@@ -63,7 +63,7 @@ trimmed_short : (parts : EnvelopeParts) (said : EnvelopeSays) (e : Envelope) (n 
 trimmed_short parts said e n is says counted short = let same = trimmed_same parts said e is says in rw (← same) (omega (arith, counted, short))
 
 pub whole_long : (parts : EnvelopeParts) (said : EnvelopeSays) (e : Envelope) (n : ℕ) (bytes : List ℕ) → told (said_by e) ≡ told said → SaysParts parts said
-    → n ≡ min (length (trimmed e.wrapper.now e.manifest.now)) (2 ^ 64 - 1) → n ≤ 16384 → bytes ≡ made_bytes parts → 1048576 < length bytes → Passes parts 1048576
+    → n ≡ min (length (trimmed e.wrapper.now e.manifest.now)) (2 ^ 64 - 1) → n ≤ 16384 → bytes ≡ made_bytes parts → 1048576 < length bytes → ExceedsLimit parts 1048576
 whole_long parts said e n bytes is says counted short made long = Whole (trimmed_short parts said e n is says counted short) (subst (λ (b : List ℕ). 1048576 < length b) made long)
 
 pub both_short : (parts : EnvelopeParts) (said : EnvelopeSays) (e : Envelope) (n : ℕ) (bytes : List ℕ) → told (said_by e) ≡ told said → SaysParts parts said
@@ -94,7 +94,7 @@ module _ (d : Data) (files : List (List ℕ × List ℕ)) (key : List ℕ) (said
   answers_ok (Ok bytes) h = record { said = said; reads = reads; short = h.1; is = h.0 }
   answers_ok (Err fault) h = tt
 
-  pub answers_err : (result : Result (List ℕ) MakeFault) → AnswersShort parts result → IfErr result (IsMakeFaultOf d files key)
+  answers_err : (result : Result (List ℕ) MakeFault) → AnswersShort parts result → IfErr result (IsMakeFaultOf d files key)
   answers_err (Ok bytes) h = tt
   answers_err (Err (TooLong limit)) h = record { said = said; reads = reads; passes = h }
   answers_err (Err NoMemory) h = tt
@@ -105,14 +105,17 @@ module _ (d : Data) (files : List (List ℕ × List ℕ)) (key : List ℕ) (said
   answers_envelope (Err NoMemory) h bytes m = refl
 
   answers_limit : (result : Result (List ℕ) MakeFault) → AnswersShort parts result → (limit : ℕ) → IsTooLong d files key limit → IsTooLongBy limit result
-  answers_limit (Ok made) h limit m = not_passed parts limit h.1 (subst (λ (p : EnvelopeParts). Passes p limit) (same_parts m.said m.reads) m.passes)
-  answers_limit (Err (TooLong other)) h limit m = inl (ap TooLong (one_limit parts other limit h (subst (λ (p : EnvelopeParts). Passes p limit) (same_parts m.said m.reads) m.passes)))
+  answers_limit (Ok made) h limit m = not_passed parts limit h.1 (subst (λ (p : EnvelopeParts). ExceedsLimit p limit) (same_parts m.said m.reads) m.passes)
+  answers_limit (Err (TooLong other)) h limit m = inl (ap TooLong (one_limit parts other limit h (subst (λ (p : EnvelopeParts). ExceedsLimit p limit) (same_parts m.said m.reads) m.passes)))
   answers_limit (Err NoMemory) h limit m = inr refl
 
 -- where these parts were made
 module _ (d : Data) (files : List (List ℕ × List ℕ)) (key : List ℕ) (said : Described) (reads : described files d ≡ Ok said) (p : EnvelopeParts) (q : Parted) (result : Result (List ℕ) MakeFault) (e : q ≡ parted said) (k : p ≡ made_parts key q) (h : AnswersShort p result) where
   pub made_ok : IfOk result (IsMadeOf d files key)
   made_ok = answers_ok d files key said reads result (of_parts d files key said reads p q result e k h)
+
+  pub made_refused : IfErr result (IsMakeFaultOf d files key)
+  made_refused = answers_err d files key said reads result (of_parts d files key said reads p q result e k h)
 
   pub made_envelope : (bytes : List ℕ) → IsMadeOf d files key bytes → IsMadeAs bytes result
   made_envelope = answers_envelope d files key said reads result (of_parts d files key said reads p q result e k h)

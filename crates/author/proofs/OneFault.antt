@@ -1,5 +1,6 @@
 -- A value is a description or has one first fault, and never both.
 use Rattle.std.proofs.Common.{◌≡◌, ◌<◌, ◌⊎◌, inl, inr, ⊎_elim, Bool, true, false, true≢false, ℕ, List, [], Result, Ok, Err, IfErr, IfOk, refl, sym, ap, ◌∙◌, subst, arith}
+use Rattle.std.specs.Prelude.{MatchResult}
 use Rattle.serde_json.specs.Data.{Data}
 use Rattle.json_fields.specs.declared.flaw.Flaw.{Flaw}
 use Rattle.json_fields.specs.declared.flaw.FlawKind.{FlawKind}
@@ -22,6 +23,12 @@ fault_of_components d p (BadUuid t) e r = BadComponents p (BadUuid t) e r
 fault_of_components d p (TwoAlike i j) e r = BadComponents p (TwoAlike i j) e r
 fault_of_components d p (TooMany n) e r = BadComponents p (TooMany n) e r
 fault_of_components d p NoMemory e r = tt
+
+-- the fields are read, and then the components decide
+pub by_components : {A : Type 0} (d : Data) (p : Described) (r : Result A DescriptionFault) → described [] d ≡ Ok p → MatchResult r (λ _. AreFewAndApart p.manifest.components) (RefusesComponents p.manifest.components)
+    → MatchResult r (λ _. IsDescription d) (IsFaultOf d)
+by_components d p (Ok x) e h = record { said = p; reads = e; components = h }
+by_components d p (Err fault) e h = fault_of_components d p fault e h
 
 is_fault : (d : Data) (kind : FlawKind) (pointer : List ℕ) → RefusesDescription d (fault_at kind pointer) → IsFaultOf d (fault_at kind pointer)
 is_fault d kinds.Field pointer r = r

@@ -10,7 +10,7 @@ use Rattle.det_cbor.specs.OneReading.{IsItem}
 use Rattle.det_cbor.specs.declared.reason.CborRefusal.{CborRefusal}
 use Rattle.author.specs.Members.{ends_here, is_one_item}
 
--- what is told of the first item and what follows it
+-- the answer on the first item and the bytes after it
 abbrev ends : Result (List ℕ × List ℕ) CborRefusal → Bool
 ends r = ends_here (option_and_then (λ f. Some (f.0, record { left = f.1; place = 0 })) (result_ok r))
 

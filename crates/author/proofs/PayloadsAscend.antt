@@ -3,8 +3,7 @@ use Rattle.std.proofs.Common.{◌≡◌, ℕ, List, [], Option, Some, None, Ok}
 use Rattle.std.specs.Prelude.{codes}
 use Rattle.serde_json.specs.Data.{Data}
 use Rattle.json_fields.specs.Objects.{required}
-use Rattle.suit_envelope.specs.Making.{AreAscending}
-use Rattle.suit_envelope.specs.PayloadOrder.{PayloadOrderLaw}
+use Rattle.suit_envelope.specs.PayloadOrder.{AreAscending, PayloadOrderLaw}
 use Rattle.author.specs.declared.fields.Described.{Described}
 use Rattle.author.specs.declared.fields.Fields.{Fields}
 use Rattle.author.specs.declared.field_name.FieldName.{FieldName}

@@ -1,4 +1,4 @@
--- What is wrong with a description, and which components it has, does not depend on its files.
+-- The flaws of a description, and its components, do not depend on its files.
 use Rattle.std.proofs.Common.{◌≡◌, ℕ, List, [], Bool, false, true, Option, Some, None, Result, Ok, Err, refl, ap, arith}
 use Rattle.std.specs.Prelude.{is_some, unwrap_or, codes}
 use mathlib.Core.Logic.{∥∥₁_elim}
@@ -14,7 +14,7 @@ use Rattle.author.specs.declared.field_name.FieldName.TheVariants as names
 use Rattle.author.specs.declared.payload_fields.PayloadField.{PayloadField}
 use Rattle.author.specs.declared.severing.Severed.{Severed}
 use Rattle.author.specs.Scope.{Source}
-use Rattle.author.specs.Members.{member_of}
+use Rattle.author.specs.Members.{described_member}
 use Rattle.author.specs.Payloads.{PayloadsSoFar, source_bytes, payload_of, takes_payload, payloads_of}
 use Rattle.author.specs.Severing.{given_in, severed_of}
 use Rattle.author.specs.FieldNames.{field_named}
@@ -25,7 +25,7 @@ use Rattle.author.proofs.SameFlaws.{Files, scope_with}
 use Rattle.author.proofs.SameSequences.{like_sequence}
 
 module _ (f g : Files) where
-  like_member : (count : ℕ) (d : Data) → Like Any (member_of (scope_with f false count) d) (member_of (scope_with g false count) d)
+  like_member : (count : ℕ) (d : Data) → Like Any (described_member (scope_with f false count) d) (described_member (scope_with g false count) d)
   like_member count d = like_if Any (is_some (as_object d)) _ _ _ _ (like_any _) (like_bind Any Any _ _ _ _ (like_sequence f g false count levels_allowed d) (λ x y h. BothRead _ _ tt))
 
   -- ---- payloads
@@ -71,9 +71,9 @@ module _ (f g : Files) where
     like_known t u (Some names.Load) d h = like_bind Any FieldsLike _ _ _ _ (like_commands t u false d h) (λ x y e. BothRead _ _ h)
     like_known t u (Some names.Invoke) d h = like_bind Any FieldsLike _ _ _ _ (like_commands t u false d h) (λ x y e. BothRead _ _ h)
     like_known t u (Some names.PayloadFetch) d h =
-        like_bind Any FieldsLike (member_of (scope_of t false) d) (member_of (scope_of u false) d) _ _ (rw (h.0, h.1) (like_member count d)) (λ x y e. BothRead _ _ h)
+        like_bind Any FieldsLike (described_member (scope_of t false) d) (described_member (scope_of u false) d) _ _ (rw (h.0, h.1) (like_member count d)) (λ x y e. BothRead _ _ h)
     like_known t u (Some names.Install) d h =
-        like_bind Any FieldsLike (member_of (scope_of t false) d) (member_of (scope_of u false) d) _ _ (rw (h.0, h.1) (like_member count d)) (λ x y e. BothRead _ _ h)
+        like_bind Any FieldsLike (described_member (scope_of t false) d) (described_member (scope_of u false) d) _ _ (rw (h.0, h.1) (like_member count d)) (λ x y e. BothRead _ _ h)
     like_known t u (Some names.TextMember) d h = like_then FieldsLike _ _ _ (λ m. BothRead _ _ h)
     like_known t u (Some names.Sever) d h = like_bind Any FieldsLike (severed_of t.source.given d) (severed_of u.source.given d) _ _ (rw (h.0, h.1) (like_any _)) (λ x y e. BothRead _ _ h)
     like_known t u (Some names.Payloads) d h = like_bind Any FieldsLike (payloads_of t.source.files d) (payloads_of u.source.files d) _ _ (rw (h.0, h.1) (like_payloads d)) (λ x y e. BothRead _ _ h)

@@ -1,4 +1,4 @@
--- What is wrong with a description does not depend on its files.
+-- The flaws of a description do not depend on its files.
 use Rattle.std.proofs.Common.{◌≡◌, ℕ, List, Bool, Option, Some, None, Result, refl}
 use Rattle.std.specs.Prelude.{is_some}
 use Rattle.serde_json.specs.Data.{Data}

@@ -1,4 +1,4 @@
--- What is wrong with the commands of a description does not depend on its files.
+-- The flaws of a description's commands do not depend on its files.
 use Rattle.std.proofs.Common.{ℕ, zero, suc, Bool, None}
 use Rattle.std.specs.Prelude.{◌&&◌, is_some}
 use Rattle.serde_json.specs.Find.{as_null}

@@ -1,7 +1,7 @@
--- What holds of all descriptions, whatever bytes their files have.
+-- The laws of all descriptions, whatever bytes their files have.
 use Rattle.std.specs.Prelude.{◌≡◌, ℕ, List, None, Ok}
 use Rattle.serde_json.specs.Data.{Data}
-use Rattle.suit_envelope.specs.Making.{AreAscending}
+use Rattle.suit_envelope.specs.PayloadOrder.{AreAscending}
 use Rattle.suit_manifest.specs.ManifestWriting.{ManifestFits, IsGrammatical}
 use Rattle.author.specs.declared.fields.Described.{Described}
 use Rattle.author.specs.Descriptions.{described}

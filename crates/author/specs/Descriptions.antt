@@ -1,4 +1,4 @@
--- What a description stands for, where its files have these bytes; or the first flaw of its fields.
+-- A description's parts, where its files have these bytes; or the first flaw of its fields.
 use Rattle.std.specs.Prelude.{ℕ, ◌^◌, ◌-◌, nat_lt, Bool, true, false, if◌then◌else◌, List, [], codes, Option, Some, None, unwrap_or, Result, Ok}
 use Rattle.det_cbor.specs.HeadReading.{◌>>=◌}
 use Rattle.serde_json.specs.Data.{Data}
@@ -20,7 +20,7 @@ use Rattle.author.specs.Scope.{Scope}
 use Rattle.author.specs.Elements.{items_in}
 use Rattle.author.specs.ParamValues.{number_of}
 use Rattle.author.specs.Identifiers.{identifiers_of}
-use Rattle.author.specs.Members.{member_sequence, member_of, text_member_of}
+use Rattle.author.specs.Members.{member_sequence, described_member, text_member_of}
 use Rattle.author.specs.Severing.{none_severed, given_in, severed_of}
 use Rattle.author.specs.Payloads.{payloads_of}
 use Rattle.author.specs.FieldNames.{field_named}
@@ -80,9 +80,9 @@ takes_known t (Some names.Load) d =
 takes_known t (Some names.Invoke) d =
     field_sequence t false d >>= λ s. Ok (record t { invoke = Some s })
 takes_known t (Some names.PayloadFetch) d =
-    member_of (scope_of t false) d >>= λ m. Ok (record t { payload_fetch = m })
+    described_member (scope_of t false) d >>= λ m. Ok (record t { payload_fetch = m })
 takes_known t (Some names.Install) d =
-    member_of (scope_of t false) d >>= λ m. Ok (record t { install = m })
+    described_member (scope_of t false) d >>= λ m. Ok (record t { install = m })
 takes_known t (Some names.TextMember) d = text_member_of d >>= λ m. Ok (record t { text = m })
 takes_known t (Some names.Sever) d =
     severed_of t.source.given d >>= λ s. Ok (record t { severed = s })

@@ -1,5 +1,5 @@
--- What a description is refused for: the first flaw of its fields; and after all fields, too many components, and then
--- two that are alike.
+-- Why a description is refused: the first flaw of its fields; after all fields, too many components; and then two that
+-- are alike.
 use Rattle.std.specs.Prelude.{◌≡◌, ◌⊎◌, ◌<◌, ◌≤◌, ℕ, List, [], length, Result, Ok, Err}
 use Rattle.serde_json.specs.Data.{Data}
 use Rattle.json_fields.specs.declared.flaw.Flaw.{Flaw}
@@ -42,23 +42,23 @@ pub record IsDescription (d : Data) : Type 0 where
   pub reads : described [] d ≡ Ok said
   pub components : AreFewAndApart said.manifest.components
 
--- what is wrong first
+-- the first fault
 pub data RefusesDescription (d : Data) : DescriptionFault → Type 0 where
   BadValue : (f : Flaw) → described [] d ≡ Err f → RefusesDescription d (fault_of f)
   BadComponents : (p : Described) (fault : DescriptionFault) → described [] d ≡ Ok p
       → RefusesComponents p.manifest.components fault → RefusesDescription d fault
 
--- a fault by what is wrong, or for want of memory
+-- a fault by what is wrong, or because memory ran out
 abbrev pub IsFaultOf : Data → DescriptionFault → Type 0
 IsFaultOf d NoMemory = Unit {0}
 IsFaultOf d fault = RefusesDescription d fault
 
--- accepted, unless there was no memory
+-- accepted, unless memory ran out
 abbrev pub IsAccepted : {A : Type 0} → Result A DescriptionFault → Type 0
 IsAccepted (Ok p) = Unit {0}
 IsAccepted (Err fault) = fault ≡ NoMemory
 
--- refused for this, unless there was no memory
+-- refused for this, unless memory ran out
 abbrev pub IsRefusedFor : {A : Type 0} → DescriptionFault → Result A DescriptionFault → Type 0
 IsRefusedFor fault (Ok p) = ⊥
 IsRefusedFor fault (Err other) = (other ≡ fault) ⊎ (other ≡ NoMemory)

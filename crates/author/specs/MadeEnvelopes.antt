@@ -58,14 +58,14 @@ abbrev pub IsShort : EnvelopeParts → Type 0
 IsShort parts = (length (trimmed_bytes parts) ≤ 16384) × (length (made_bytes parts) ≤ 1048576)
 
 -- the first of the two limits that is passed
-pub data Passes (parts : EnvelopeParts) : ℕ → Type 0 where
-  Trimmed : 16384 < length (trimmed_bytes parts) → Passes parts 16384
+pub data ExceedsLimit (parts : EnvelopeParts) : ℕ → Type 0 where
+  Trimmed : 16384 < length (trimmed_bytes parts) → ExceedsLimit parts 16384
   Whole : length (trimmed_bytes parts) ≤ 16384 → 1048576 < length (made_bytes parts)
-      → Passes parts 1048576
+      → ExceedsLimit parts 1048576
 
--- a fault by the limit that is passed, or for want of memory
+-- a fault by the limit that is passed, or because memory ran out
 abbrev pub IsLengthFault : EnvelopeParts → MakeFault → Type 0
-IsLengthFault parts (TooLong limit) = Passes parts limit
+IsLengthFault parts (TooLong limit) = ExceedsLimit parts limit
 IsLengthFault parts NoMemory = Unit {0}
 
 abbrev pub AnswersShort : EnvelopeParts → Result (List ℕ) MakeFault → Type 0
@@ -84,23 +84,23 @@ pub record IsTooLong (d : Data) (files : List (List ℕ × List ℕ)) (key : Lis
     : Type 0 where
   pub said : Described
   pub reads : described files d ≡ Ok said
-  pub passes : Passes (made_parts key (parted said)) limit
+  pub passes : ExceedsLimit (made_parts key (parted said)) limit
 
 abbrev pub IsMakeFaultOf : Data → List (List ℕ × List ℕ) → List ℕ → MakeFault → Type 0
 IsMakeFaultOf d files key (TooLong limit) = IsTooLong d files key limit
 IsMakeFaultOf d files key NoMemory = Unit {0}
 
--- these bytes were made, unless there was no memory
+-- these bytes were made, unless memory ran out
 abbrev pub IsMadeAs : List ℕ → Result (List ℕ) MakeFault → Type 0
 IsMadeAs bytes (Ok made) = made ≡ bytes
 IsMadeAs bytes (Err fault) = fault ≡ NoMemory
 
--- this limit was told, unless there was no memory
+-- this limit was told, unless memory ran out
 abbrev pub IsTooLongBy : ℕ → Result (List ℕ) MakeFault → Type 0
 IsTooLongBy limit (Ok made) = ⊥
 IsTooLongBy limit (Err fault) = (fault ≡ TooLong limit) ⊎ (fault ≡ NoMemory)
 
--- ---- what the bytes say
+-- ---- the meaning of the bytes
 
 -- the wrapper states the manifest's digest and has one block, which verifies under the key
 pub record HasOneBlock (key wrapper manifest : List ℕ) : Type 0 where

@@ -38,8 +38,8 @@ left_out d =
     object_of takes_digest (record { digest = None }) d >>= λ t. required (codes "digest") t.digest
     >>= λ digest. Ok digest.bytes
 
-abbrev pub member_of : Scope → Data → Result Member Flaw
-member_of scope d =
+abbrev pub described_member : Scope → Data → Result Member Flaw
+described_member scope d =
     if is_some (as_object d)
     then (left_out d >>= λ digest. Ok (members.Apart (record { bytes = digest })))
     else (member_sequence scope d >>= λ s. Ok (members.Here s))

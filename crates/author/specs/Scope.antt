@@ -1,4 +1,4 @@
--- What a description is read with.
+-- The scope for reading a description.
 use Rattle.std.specs.Prelude.{ℕ, Bool, List}
 use Rattle.author.specs.declared.severing.Severed.{Severed}
 
@@ -9,7 +9,7 @@ pub record Scope : Type 0 where
   -- the number of components
   pub count : ℕ
 
--- what is known of a description before its fields are read
+-- a description before its fields are read
 pub record Source : Type 0 where
   pub files : List (List ℕ × List ℕ)
   -- how many component identifiers it lists

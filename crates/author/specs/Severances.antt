@@ -1,4 +1,4 @@
--- What of a description stands beside its manifest (draft-ietf-suit-manifest-25, section 8.2).
+-- A description's members beside its manifest (draft-ietf-suit-manifest-25, section 8.2).
 use Rattle.std.specs.Prelude.{ℕ, Bool, true, false, List, Option, Some, None}
 use Rattle.det_cbor.specs.DataItem.{spell}
 use Rattle.suit_commands.specs.SequenceMaking.{sequence_item}

@@ -17,7 +17,7 @@ use serde_json::Value;
 use std::alloc::Global;
 use suit_commands::{Branches, Command, Sequence, Step};
 
-/// A sequence of commands, where so many levels of sequences may stand in one another.
+/// A sequence of commands, nested at most so many levels deep.
 #[cycle(commands)]
 pub(crate) fn sequence(
     alloc: Global,
@@ -72,7 +72,7 @@ fn command(
     }
 }
 
-// The command of a name and this argument.
+// The command with this name and argument.
 #[cycle(commands)]
 fn named(
     alloc: Global,
@@ -150,7 +150,7 @@ fn branches(
     Ok(branches)
 }
 
-// Null may be the last one.
+// A branch. The last one may be null.
 #[cycle(commands)]
 fn branch(
     alloc: Global,

@@ -8,7 +8,7 @@ ghost use Rattle.author.specs.Held.{IsDescriptionOf};
 
 use crate::alike::first_alike;
 use crate::fault::told;
-use crate::fields::{Described, read_fields};
+use crate::fields::read_fields;
 use crate::file_names::file_names;
 use crate::{Description, DescriptionFault, FileList};
 use serde_json::Value;
@@ -29,34 +29,31 @@ fn judge_components(components: &Identifiers) -> Result<(), DescriptionFault>
     }
 }
 
-// What a value stands for where its files have no bytes, which is judged alike for all files.
-fn judged(alloc: Global, value: &Value) -> Result<Described, DescriptionFault>
+// Reads and judges a value whose files have no bytes. The judgement is the same for all files.
+fn judged(alloc: Global, value: &Value) -> Result<(), DescriptionFault>
     ensures { MatchResult result (λ _. IsDescription (view value.now))
         (IsFaultOf (view value.now)) }
 {
     match read_fields(alloc, value, &FileList::new(alloc)) {
-        Ok(parts) => {
-            judge_components(&parts.manifest.components)?;
-            Ok(parts)
-        }
+        Ok(parts) => judge_components(&parts.manifest.components),
         Err(fault) => Err(told(fault)),
     }
 }
 
-// As `description`, which says what this means.
+// See `description`.
 fn read_description(alloc: Global, value: &Value) -> Result<Description, DescriptionFault>
     ensures ok { IfOk result (IsDescriptionOf (view value.now)) }
     ensures refused { IfErr result (IsFaultOf (view value.now)) }
 {
-    let _parts = judged(alloc, value)?;
+    judged(alloc, value)?;
     let names = file_names(alloc, value)?;
     let value = value.clone()?;
     Ok(Description { value, names })
 }
 
-/// A value of JSON as a description. Its members are judged in the order of their keys' bytes, arrays by their
-/// indices, each value whole before the next, and then the fields that are missing; after all fields how many
-/// components there are, and whether two are alike. The value is copied.
+/// Reads a JSON value as a description. Its members are judged in the order of their keys' bytes, arrays by their
+/// indices, each value whole before the next, and then missing fields; after all fields, how many components there are,
+/// and whether two are alike. The value is copied.
 pub fn description(alloc: Global, value: &Value) -> Result<Description, DescriptionFault>
     ensures ok { IfOk result (IsDescriptionOf (view value.now)) }
     ensures refused { IfErr result (IsFaultOf (view value.now)) }

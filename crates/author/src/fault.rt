@@ -11,10 +11,10 @@ use thiserror::Error;
 /// Why a value is no description. The texts are JSON Pointers (RFC 6901): where the first wrong value stands.
 #[derive(Debug, Drop, Error)]
 pub enum DescriptionFault {
-    /// A value that is not as it is to be, an unknown field, or a missing one.
+    /// A malformed value, an unknown field, or a missing one.
     #[error("bad field")]
     BadField(Text),
-    /// A text that is not of hexadecimal digits, two for each byte, or a digest of another length.
+    /// A text that is not hexadecimal, two digits for each byte, or a digest of the wrong length.
     #[error("bad hex")]
     BadHex(Text),
     /// A text that is no UUID.
@@ -30,7 +30,7 @@ pub enum DescriptionFault {
     NoMemory,
 }
 
-/// The fault that a flaw of the fields is.
+/// The fault for a flaw of the fields.
 pub(crate) fn told(fault: JsonFault) -> DescriptionFault
     ensures { result ≡ fault_told fault }
 {

@@ -18,6 +18,7 @@ use det_cbor::{Bytes, Text};
 use json_fields::{Draft, FlawKind, JsonFault, flawed, hex, object, required, text};
 use serde_json::Value;
 use std::alloc::Global;
+use std::mem;
 use suit_commands::Sequence;
 use suit_envelope::PayloadList;
 use suit_manifest::{Manifest, Member, TextMember};
@@ -38,12 +39,12 @@ struct Fields<'a> {
     install: Member,
     text: TextMember,
     severed: Severed,
-    payloads: PayloadList,
+    payloads: PayloadList<'a>,
     kid: Option<Bytes>,
 }
 
 impl<'a> Fields<'a> {
-    // What a sequence is read with, the shared one or another.
+    // The scope of a sequence, the shared one or another.
     fn scope(&self, shared: bool) -> Scope<'a>
         ensures { result ≡ scope_of self.now shared }
     {
@@ -88,7 +89,10 @@ impl Draft for Fields<'_> {
             FieldName::Install => self.install = member(alloc, value, &self.scope(false))?,
             FieldName::TextMember => self.text = text_member(alloc, value)?,
             FieldName::Sever => self.severed = severed_members(alloc, value, self.source.given)?,
-            FieldName::Payloads => self.payloads = payloads(alloc, value, self.source.files)?,
+            FieldName::Payloads => {
+                let list = payloads(alloc, value, self.source.files)?;
+                let _none_yet = mem::replace(&mut self.payloads, list);
+            }
             FieldName::Kid => self.kid = Some(hex(alloc, value)?),
         }
         Ok(())
@@ -112,15 +116,15 @@ fn count(description: &Value) -> u32
     }
 }
 
-/// What a description stands for.
+/// The parts of a description.
 #[derive(Drop)]
-pub(crate) struct Described {
+pub(crate) struct Described<'a> {
     /// The manifest, with its members in it.
     pub(crate) manifest: Manifest,
     /// Which of the members are severed.
     pub(crate) severed: Severed,
     /// In the order of an envelope's map.
-    pub(crate) payloads: PayloadList,
+    pub(crate) payloads: PayloadList<'a>,
     /// The name of the key.
     pub(crate) kid: Option<Bytes>,
 }
@@ -151,12 +155,12 @@ fn no_fields<'a>(alloc: Global, description: &Value, files: &'a FileList) -> Fie
     }
 }
 
-/// What a description stands for, where its files have these bytes.
-pub(crate) fn read_fields(
+/// Reads a description's parts, where its files have these bytes.
+pub(crate) fn read_fields<'a>(
     alloc: Global,
     description: &Value,
-    files: &FileList,
-) -> Result<Described, JsonFault>
+    files: &'a FileList,
+) -> Result<Described<'a>, JsonFault>
     ensures { Gives (λ p. p) result (described files.now (view description.now)) }
 {
     let mut fields = no_fields(alloc, description, files);

@@ -1,4 +1,4 @@
-//! Values that may be taken of a file.
+//! Values that may come from a file.
 
 ghost use Rattle.std.specs.Prelude.{◌≡◌};
 ghost use Rattle.serde_json.specs.View.{view};
@@ -15,7 +15,7 @@ use sha2::{Digest as _, Sha256};
 use std::alloc::Global;
 use suit_params::Digest;
 
-/// `{"file": NAME}`, as far as it is read.
+/// A partly read `{"file": NAME}`.
 #[derive(Drop)]
 pub(crate) struct FileField {
     name: Option<Text>,

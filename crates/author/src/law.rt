@@ -1,15 +1,15 @@
-//! What holds of all descriptions.
+//! The laws of all descriptions.
 
 ghost use Rattle.author.specs.DescriptionLaws.{DescriptionLaws};
 
-use det_cbor::item_splitting;
-use suit_envelope::payload_order_law;
+use det_cbor::splitting_laws;
+use suit_envelope::payload_order_laws;
 
-/// Does nothing. Its contract has the laws. A description stands for something, whatever bytes its files have; its
-/// manifest is one that the grammar allows; and the keys of its payloads ascend in the order of their spellings.
+/// Does nothing. Its contract has the laws. A description has its parts, whatever bytes its files have; its manifest is
+/// one that the grammar allows; and the keys of its payloads ascend in the order of their spellings.
 pub fn description_laws()
     ensures { DescriptionLaws }
 {
-    item_splitting();
-    payload_order_law();
+    splitting_laws();
+    payload_order_laws();
 }

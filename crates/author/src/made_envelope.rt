@@ -2,7 +2,8 @@
 
 ghost use Rattle.std.specs.Prelude.{◌≡◌, ℕ, List, None, IfOk, IfErr, IsTrue};
 ghost use Rattle.suit_envelope.specs.Envelopes.{EnvelopeSays};
-ghost use Rattle.suit_envelope.specs.Making.{AreAscending, SaysParts};
+ghost use Rattle.suit_envelope.specs.Making.{SaysParts};
+ghost use Rattle.suit_envelope.specs.PayloadOrder.{AreAscending};
 ghost use Rattle.suit_envelope.specs.Said.{EnvelopeOf};
 ghost use Rattle.suit_envelope.specs.WrapperParts.{HasWrapper};
 ghost use Rattle.suit_manifest.specs.ManifestWriting.{IsWrittenManifest, ManifestFits};
@@ -25,12 +26,16 @@ const MAX_TRIMMED: u64 = 16_384;
 
 const MAX_WHOLE: u64 = 1_048_576;
 
-// What the envelope is made of.
-fn made_parts(alloc: Global, parted: Parted, key: &[u8]) -> Result<EnvelopeParts, AllocError>
-    ensures is { IfOk result (λ parts. parts ≡ made_parts key.now parted) }
+// The parts of the envelope.
+fn made_parts<'a>(
+    alloc: Global,
+    parted: Parted<'a>,
+    key: &[u8],
+) -> Result<EnvelopeParts<'a>, AllocError>
+    ensures is { IfOk result (λ parts. parts ≡ made_parts key.now parted.entry) }
     ensures one_block { IfOk result (λ parts. HasOneBlock key.now parts.wrapper parts.manifest) }
-    ensures written { IfOk result (λ parts. IsWrittenManifest parted.manifest parts.manifest) }
-    ensures fits { IfOk result (λ _. ManifestFits parted.manifest) }
+    ensures written { IfOk result (λ parts. IsWrittenManifest parted.entry.manifest parts.manifest) }
+    ensures fits { IfOk result (λ _. ManifestFits parted.entry.manifest) }
 {
     let manifest = encode_manifest(alloc, &parted.manifest)?;
     let digest = string_digest(alloc, manifest.as_slice())?;
@@ -49,9 +54,9 @@ fn made_parts(alloc: Global, parted: Parted, key: &[u8]) -> Result<EnvelopeParts
     })
 }
 
-// The envelope of its parts, as far as it is not too long. Its trimmed length is judged first.
+// The envelope of its parts, if it is not too long. Its trimmed length is judged first.
 #[tactic(auto, using(crate::proofs::MadeAnswers::trimmed_same))]
-fn encode_short(alloc: Global, parts: &EnvelopeParts) -> Result<Bytes, MakeFault>
+fn encode_short(alloc: Global, parts: &EnvelopeParts<'_>) -> Result<Bytes, MakeFault>
     requires wrapper { HasWrapper parts.now.wrapper }
     requires payloads { AreAscending None parts.now.payloads }
     ensures answers { AnswersShort parts.now result }
@@ -77,8 +82,8 @@ fn encode_short(alloc: Global, parts: &EnvelopeParts) -> Result<Bytes, MakeFault
 /// The members to be severed and the payloads stand beside its manifest. It is authentic under the key: its wrapper has
 /// just one block, which verifies.
 ///
-/// An envelope is refused of which the wrapper and the manifest alone take more than 16,384 bytes, and then one of more
-/// than 1,048,576.
+/// Refuses an envelope whose wrapper and manifest alone take more than 16,384 bytes, and then one of more than
+/// 1,048,576.
 pub fn make(
     alloc: Global,
     description: &Description,

@@ -50,7 +50,8 @@ pub(crate) fn made_wrapper(
     ensures says { IfOk result (λ w. WrapperSays w digest.now.bytes
         (made_block key.now (option_map (λ k. k.now) kid.entry) digest.now.bytes ∷ [])) }
     ensures verifies { IfOk result (λ _. Verifies
-        (made_block key.now (option_map (λ k. k.now) kid.entry) digest.now.bytes) key.now (payload_of digest.now.bytes)) }
+        (made_block key.now (option_map (λ k. k.now) kid.entry) digest.now.bytes)
+        key.now (payload_of digest.now.bytes)) }
 {
     let stated = digest_bytes(alloc, digest)?;
     let block = make_block(alloc, key, kid, stated.as_slice())?;

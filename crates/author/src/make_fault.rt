@@ -6,7 +6,7 @@ use thiserror::Error;
 /// Why no envelope is made.
 #[derive(Clone, Copy, Debug, PartialEq, Eq, Error)]
 pub enum MakeFault {
-    /// The limit in bytes that the envelope passes, trimmed or whole.
+    /// The limit in bytes that the envelope exceeds, trimmed or whole.
     #[error("longer than {0} bytes")]
     TooLong(u64),
     #[error("out of memory")]

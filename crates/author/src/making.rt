@@ -19,9 +19,9 @@ use suit_envelope::PayloadList;
 use suit_manifest::{Manifest, Member, TextMember};
 use suit_params::Digest;
 
-/// What a description stands for, where its severed members stand beside the manifest.
+/// A description's parts, with its severed members beside the manifest.
 #[derive(Drop)]
-pub(crate) struct Parted {
+pub(crate) struct Parted<'a> {
     /// The manifest with digests in place of them.
     pub(crate) manifest: Manifest,
     /// The contents of those that are given.
@@ -29,7 +29,7 @@ pub(crate) struct Parted {
     pub(crate) install: Option<Bytes>,
     pub(crate) text: Option<Bytes>,
     /// In the order of an envelope's map.
-    pub(crate) payloads: PayloadList,
+    pub(crate) payloads: PayloadList<'a>,
     /// The name of the key.
     pub(crate) kid: Option<Bytes>,
 }
@@ -98,9 +98,9 @@ fn part_text(
     }
 }
 
-/// What a description stands for, with its severed members beside the manifest.
-pub(crate) fn part(alloc: Global, parts: Described) -> Result<Parted, AllocError>
-    ensures { IfOk result (λ p. p ≡ parted parts) }
+/// Puts the severed members of a description beside its manifest.
+pub(crate) fn part<'a>(alloc: Global, parts: Described<'a>) -> Result<Parted<'a>, AllocError>
+    ensures { IfOk result (λ p. p ≡ parted parts.entry) }
 {
     let severed = parts.severed;
     let mut manifest = parts.manifest;

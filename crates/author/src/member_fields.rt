@@ -3,7 +3,7 @@
 ghost use Rattle.std.specs.Prelude.{◌≡◌};
 ghost use Rattle.serde_json.specs.View.{view};
 ghost use Rattle.json_fields.specs.Answers.{Gives};
-ghost use Rattle.author.specs.Members.{member_sequence, left_out, member_of, is_one_item, text_member_of};
+ghost use Rattle.author.specs.Members.{member_sequence, left_out, described_member, is_one_item, text_member_of};
 
 use crate::commands::sequence;
 use crate::scope::Scope;
@@ -15,7 +15,7 @@ use suit_commands::{MAX_LEVELS, Sequence};
 use suit_manifest::{Member, TextMember};
 use suit_params::Digest;
 
-/// `{"digest": HEX}`, as far as it is read.
+/// A partly read `{"digest": HEX}`.
 #[derive(Drop)]
 pub(crate) struct DigestField {
     digest: Option<Digest>,
@@ -60,7 +60,7 @@ pub(crate) fn member_sequence(
 
 /// The commands of a member, or the digest of one that is left out.
 pub(crate) fn member(alloc: Global, value: &Value, scope: &Scope<'_>) -> Result<Member, JsonFault>
-    ensures { Gives (λ m. m) result (member_of scope.now (view value.now)) }
+    ensures { Gives (λ m. m) result (described_member scope.now (view value.now)) }
 {
     if value.is_object() {
         Ok(Member::Apart(left_out(alloc, value)?))
@@ -69,7 +69,7 @@ pub(crate) fn member(alloc: Global, value: &Value, scope: &Scope<'_>) -> Result<
     }
 }
 
-// Whether bytes hold one item of deterministic CBOR and nothing more. Takes no memory.
+// Whether bytes are exactly one item of deterministic CBOR. Takes no memory.
 fn is_one_item(bytes: &[u8]) -> bool
     ensures { result ≡ is_one_item bytes.now }
 {

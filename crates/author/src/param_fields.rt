@@ -34,7 +34,7 @@ pub(crate) fn index(alloc: Global, value: &Value, count: u32) -> Result<u32, Jso
     }
 }
 
-// The parameter of this key that a value stands for.
+// The parameter of this key that a value gives.
 fn param(alloc: Global, value: &Value, key: ParamKey, scope: &Scope<'_>) -> Result<Param, JsonFault>
     ensures { Gives (λ p. p) result (param_value scope.now key (view value.now)) }
 {
@@ -69,7 +69,7 @@ impl<'a> Model for ParamFields<'a> {
     ghost view = { λ a. record { scope = a.scope.now; list = a.list.items } };
 }
 
-// Where a parameter of the same key is among those that ascend by number, or else where it is put.
+// Where a parameter of the same key is among those that ascend by number, or else where it belongs.
 fn place_of(list: &[Param], param: &Param) -> Result<usize, usize>
     ensures { IsPlaceOf list.now param.now result }
 {

@@ -1,4 +1,4 @@
-//! What a description stands for, with its files.
+//! The parts of a description, with its files.
 
 ghost use Rattle.std.specs.Prelude.{◌≡◌, Ok, IfOk};
 ghost use Rattle.author.specs.Descriptions.{described};
@@ -9,12 +9,12 @@ use crate::{Description, FileList};
 use json_fields::JsonFault;
 use std::alloc::{AllocError, Global};
 
-/// What a description stands for, where its files have these bytes. A file that is not listed has no bytes.
-pub(crate) fn parts_of(
+/// A description's parts, where its files have these bytes. A file that is not listed has no bytes.
+pub(crate) fn parts_of<'a>(
     alloc: Global,
     description: &Description,
-    files: &FileList,
-) -> Result<Described, AllocError>
+    files: &'a FileList,
+) -> Result<Described<'a>, AllocError>
     ensures { IfOk result (λ p. described files.now (value_of description.now) ≡ Ok p) }
 {
     match read_fields(alloc, &description.value, files) {

@@ -10,9 +10,9 @@ use json_fields::{Draft, FlawKind, JsonFault, flawed, hex, object, text};
 use serde_json::Value;
 use std::alloc::Global;
 use std::marker::Model;
-use suit_envelope::PayloadList;
+use suit_envelope::{PayloadBytes, PayloadList};
 
-/// `{"file": NAME}` or `{"hex": HEX}`, as far as it is read.
+/// A partly read `{"file": NAME}` or `{"hex": HEX}`.
 #[derive(Drop)]
 pub(crate) struct PayloadField {
     file: Option<Text>,
@@ -39,19 +39,27 @@ impl Draft for PayloadField {
     }
 }
 
-// The bytes of the one that is there.
-fn source(alloc: Global, field: PayloadField, files: &FileList) -> Result<Bytes, JsonFault>
+// The bytes of the one that is there. Those of a file are lent.
+fn source<'a>(
+    alloc: Global,
+    field: PayloadField,
+    files: &'a FileList,
+) -> Result<PayloadBytes<'a>, JsonFault>
     ensures { Gives (λ b. b) result (source_bytes files.now field.file field.bytes) }
 {
     let PayloadField { file, bytes } = field;
     match (file, bytes) {
-        (Some(name), None) => Ok(Bytes::from_slice(alloc, files.bytes_of(name.as_str()))?),
-        (None, Some(bytes)) => Ok(bytes),
+        (Some(name), None) => Ok(PayloadBytes::lent(files.bytes_of(name.as_str()))),
+        (None, Some(bytes)) => Ok(PayloadBytes::owned(bytes)),
         _ => flawed(alloc, FlawKind::Field),
     }
 }
 
-fn payload(alloc: Global, value: &Value, files: &FileList) -> Result<Bytes, JsonFault>
+fn payload<'a>(
+    alloc: Global,
+    value: &Value,
+    files: &'a FileList,
+) -> Result<PayloadBytes<'a>, JsonFault>
     ensures { Gives (λ b. b) result (payload_of files.now (view value.now)) }
 {
     let mut field = PayloadField {
@@ -66,7 +74,7 @@ fn payload(alloc: Global, value: &Value, files: &FileList) -> Result<Bytes, Json
 #[derive(Drop)]
 struct PayloadFields<'a> {
     files: &'a FileList,
-    list: PayloadList,
+    list: PayloadList<'a>,
 }
 
 impl<'a> Model for PayloadFields<'a> {
@@ -91,11 +99,11 @@ impl Draft for PayloadFields<'_> {
 }
 
 /// An object from keys to payloads, which ascend by the spellings of their keys.
-pub(crate) fn payloads(
+pub(crate) fn payloads<'a>(
     alloc: Global,
     value: &Value,
-    files: &FileList,
-) -> Result<PayloadList, JsonFault>
+    files: &'a FileList,
+) -> Result<PayloadList<'a>, JsonFault>
     ensures { Gives (λ list. list) result (payloads_of files.now (view value.now)) }
 {
     let mut fields = PayloadFields {

@@ -1,4 +1,4 @@
-//! What a description is read with.
+//! The scope for reading a description.
 
 use crate::FileList;
 use crate::severing::Severed;
@@ -20,8 +20,8 @@ impl<'a> Model for Scope<'a> {
     ghost view = { λ s. record { files = s.files.now; shared = s.shared; count = s.count } };
 }
 
-/// What is known of a description before its fields are read: its files, how many component
-/// identifiers it lists, and the members that it gives with their content.
+/// A description before its fields are read: its files, how many component identifiers it lists,
+/// and the members that it gives with their content.
 #[derive(Drop)]
 pub(crate) struct Source<'a> {
     pub(crate) files: &'a FileList,

@@ -85,7 +85,7 @@ pub(crate) fn given(description: &Value) -> Severed
     }
 }
 
-// One more name, of the members that are given.
+// Adds a name, one of the members that are given.
 fn one_severed(
     alloc: Global,
     value: &Value,

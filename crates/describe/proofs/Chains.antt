@@ -78,7 +78,7 @@ fields_placed (f ∷ fs) rows h =
     let both = both_true (fits f.0 rows) (all_fit fs (placed f.0 f.1 rows)) h in
     ap (with_fields fs) (field_placed f.0 f.1 rows both.0) ∙ fields_placed fs (placed f.0 f.1 rows) both.1
 
--- ---- what stands under a key
+-- ---- values under a key
 
 abbrev pub or_later : Option Data → Option Data → Option Data
 or_later (Some d) later = Some d

@@ -1,4 +1,4 @@
--- What is described is made again.
+-- A described manifest is made again.
 use Rattle.std.proofs.Common.{◌≡◌, ℕ, Bool, true, false, ◌&&◌, cond, List, [], Option, Some, None, Result, Ok, unwrap_or, refl, sym, ap, ◌∙◌}
 use Rattle.std.specs.Prelude.{is_some, IfSome}
 use Rattle.std.specs.Result.{result_ok}

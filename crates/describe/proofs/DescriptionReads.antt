@@ -26,7 +26,7 @@ use Rattle.describe.proofs.PayloadFacts.{HoldBytes}
 use Rattle.describe.proofs.ReadTypes.{Fields, Described}
 use Rattle.describe.proofs.SeverRead.{read_severed, AreGiven}
 
--- ---- what is severed is given with its content
+-- ---- severed members are given with their content
 
 given_member : (x : Member) (apart : Option SequenceTree) → is_severed x apart ≡ true → is_content (member_data x apart) ≡ true
 given_member members.Empty apart h = absurd cc
@@ -44,7 +44,7 @@ given_text (texts.Here content) apart none h = refl
 given_text (texts.Apart digest) (Some content) none h = refl
 given_text (texts.Apart digest) None none h = absurd cc
 
--- ---- what is known of an envelope and its manifest
+-- ---- facts about an envelope and its manifest
 
 pub record AreReadable (said : EnvelopeSays) (payloads : List (List ℕ × List ℕ)) (m : Manifest) (apart : ApartMembers) : Type 0 where
   pub sequence : m.sequence < 2 ^ 64
@@ -179,7 +179,7 @@ module _ (said : EnvelopeSays) (payloads : List (List ℕ × List ℕ)) (m : Man
         ),
       )
 
-  -- what was read
+  -- the parts that were read
   abbrev pub made : List (List ℕ × List ℕ) → Described
   made list = whole (t12 list) m.components m.sequence
 

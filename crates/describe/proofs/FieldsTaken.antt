@@ -98,7 +98,7 @@ invoke_taken t (Some s) empty small h = rw (sequence_taken t false s small h) re
 
 -- ---- members that may stand apart
 
--- what is read of one: the content where it is known
+-- a member as it is read: the content where it is known
 abbrev pub read_member : Member → Option SequenceTree → Member
 read_member members.Empty apart = members.Empty
 read_member (members.Here s) apart = members.Here (unplaced s)

@@ -1,4 +1,4 @@
--- What a spelled manifest holds: numbers of 64 bits, bytes, digests of 32 bytes, and texts of one item.
+-- The values in a spelled manifest: numbers of 64 bits, bytes, digests of 32 bytes, and texts of one item.
 use Rattle.std.proofs.Common.{◌≡◌, ℕ, ◌+◌, ◌<◌, ◌^◌, Bool, true, false, cond, List, [], ◌∷◌, length, take, drop, Option, Some, None, Ok, refl, subst, ◌∙◌, arith}
 use Rattle.std.proofs.lemmas.List.{take_all, drop_all}
 use Rattle.std.specs.List.{AllByRecursion}
@@ -21,7 +21,7 @@ use Rattle.author.specs.Members.{is_one_item}
 use Rattle.describe.proofs.IdentifiersRead.{IsReadable}
 use Rattle.describe.proofs.FieldsTaken.{IsTextItem}
 
--- ---- what stands under a number is valid
+-- ---- values under numbers are valid
 
 first_or_later : (levels : ℕ) (first : Entry) (later : Option Entry) (e : Entry) (t : Bool) → IsValidWithin levels first.value → (later ≡ Some e → IsValidWithin levels e.value)
     → cond t (Some first) later ≡ Some e → IsValidWithin levels e.value

@@ -7,7 +7,7 @@ use Rattle.suit_commands.specs.SequenceMaking.{unplaced}
 use Rattle.suit_commands.specs.Tree.{SequenceTree}
 use Rattle.suit_manifest.specs.declared.manifest.Member.TheVariants as members
 use Rattle.suit_manifest.specs.declared.manifest.TextMember.TheVariants as texts
-use Rattle.author.specs.Members.{left_out, member_of, is_one_item, text_member_of}
+use Rattle.author.specs.Members.{left_out, described_member, is_one_item, text_member_of}
 use Rattle.author.specs.Scope.{Scope}
 use Rattle.describe.specs.ValueData.{hex_data}
 use Rattle.describe.specs.CommandData.{sequence_data}
@@ -18,10 +18,10 @@ use Rattle.describe.proofs.CommandsRead.{sequence_read}
 left_read : (digest : List ℕ) → length digest ≡ 32 → AllByRecursion IsByte digest → left_out (digest_data digest) ≡ Ok digest
 left_read digest long h = rw (sized_read 32 digest long h) refl
 
-pub here_read : (scope : Scope) (s : SequenceTree) → scope.count ≤ 2 ^ 64 → IsSequence scope.shared scope.count levels_allowed s → member_of scope (sequence_data s) ≡ Ok (members.Here (unplaced s))
+pub here_read : (scope : Scope) (s : SequenceTree) → scope.count ≤ 2 ^ 64 → IsSequence scope.shared scope.count levels_allowed s → described_member scope (sequence_data s) ≡ Ok (members.Here (unplaced s))
 here_read scope s small h = rw (sequence_read scope small levels_allowed s h) refl
 
-pub apart_read : (scope : Scope) (digest : List ℕ) → length digest ≡ 32 → AllByRecursion IsByte digest → member_of scope (digest_data digest) ≡ Ok (members.Apart (record { bytes = digest }))
+pub apart_read : (scope : Scope) (digest : List ℕ) → length digest ≡ 32 → AllByRecursion IsByte digest → described_member scope (digest_data digest) ≡ Ok (members.Apart (record { bytes = digest }))
 apart_read scope digest long h = rw (left_read digest long h) refl
 
 pub text_read : (content : List ℕ) → AllByRecursion IsByte content → is_one_item content ≡ true → text_member_of (hex_data content) ≡ Ok (texts.Here content)

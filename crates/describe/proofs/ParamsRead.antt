@@ -83,7 +83,7 @@ put_by_name : (p : Param) (qs : List Param) → HaveOther (number_of p) qs → p
 put_by_name p [] other = refl
 put_by_name p (q ∷ qs) other = put_here _ p q qs refl other.0 (put_by_name p qs other.1)
 
--- what holds of each still does
+-- a property of each is kept
 kept_by : (P : Param → Type 0) (o : Ordering) (p q : Param) (qs rest : List Param) → P p → P q → AllByRecursion P qs → AllByRecursion P rest
     → AllByRecursion P (match_ordering o (p ∷ q ∷ qs) (p ∷ q ∷ qs) (q ∷ rest))
 kept_by P Less p q qs rest h k hs ks = (h, (k, hs))

@@ -1,4 +1,4 @@
--- What is known of a text, by what becomes of it as a member of its envelope.
+-- Facts about a text, by what becomes of it as a member of its envelope.
 use Rattle.std.proofs.Common.{◌≡◌, ◌≢◌, ℕ, Bool, true, false, List, Option, Some, None, refl, sym, ap, ◌∙◌}
 use Rattle.std.specs.Borrow.{Bor}
 use Rattle.std.specs.Str.{bytes_eq}

@@ -1,4 +1,4 @@
--- What is described is made again: a description stands for the manifest that it was written of.
+-- A described manifest is made again: a description stands for the manifest that it was written of.
 use Rattle.std.specs.Prelude.{◌≡◌, ℕ, false, List, [], Option, Some, None}
 use Rattle.det_cbor.specs.DataItem.{spell}
 use Rattle.serde_json.specs.Data.{Data}

@@ -17,7 +17,7 @@ use Rattle.describe.specs.CommandData.{sequence_data}
 abbrev pub digest_data : List ℕ → Data
 digest_data digest = one_member (codes "digest") (hex_data digest)
 
--- what stands apart is the second one, if it is there
+-- a member that stands apart is the second one, if it is there
 abbrev pub member_data : Member → Option SequenceTree → Option Data
 member_data members.Empty apart = None
 member_data (members.Here s) apart = Some (sequence_data s)
@@ -32,7 +32,7 @@ is_severed (members.Apart digest) apart = is_some apart
 
 -- ---- the text
 
--- what the envelope holds, where it has the digest and is one item
+-- the text in the envelope, where it has the digest and is one item
 abbrev pub held_text : List ℕ → Option (List ℕ) → Option (List ℕ)
 held_text digest None = None
 held_text digest (Some content) =

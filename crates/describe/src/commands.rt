@@ -48,7 +48,7 @@ fn named(alloc: Global, name: &str, argument: Value) -> Result<Value, AllocError
     Ok(Value::from(values))
 }
 
-/// An array of commands in their order, as deep as sequences stand in one another. Their places are not written.
+/// An array of commands in their order, as deep as the sequences nest. Their places are not written.
 #[cycle(describing)]
 pub(crate) fn sequence(alloc: Global, sequence: &Sequence) -> Result<Value, AllocError>
     ensures { IfOk result (λ v. view v ≡ sequence_data sequence.now) }

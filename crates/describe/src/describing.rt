@@ -90,7 +90,8 @@ fn put_severable(
     members: &Members,
 ) -> Result<(), AllocError>
     ensures { OnOk result (members_view object.new.entries
-        ≡ with_fields (severable_fields (said_by envelope.now) manifest.now members.now) (members_view object.old.entries)) }
+        ≡ with_fields (severable_fields (said_by envelope.now) manifest.now members.now)
+        (members_view object.old.entries)) }
 {
     let payload_fetch = member_value(alloc, &manifest.payload_fetch, &members.payload_fetch)?;
     put_field(object, alloc, "payload-fetch", payload_fetch)?;
@@ -114,7 +115,8 @@ fn put_payloads(
     envelope: &Envelope<'_>,
 ) -> Result<(), AllocError>
     ensures { (payloads : List (List ℕ × List ℕ)) → HasPayloads envelope.now.whole.now payloads
-        → OnOk result (members_view object.new.entries ≡ with_fields (payload_fields payloads) (members_view object.old.entries)) }
+        → OnOk result (members_view object.new.entries
+        ≡ with_fields (payload_fields payloads) (members_view object.old.entries)) }
 {
     let payloads = all_payloads(alloc, envelope)?;
     let value = payloads_value(alloc, payloads.as_slice())?;

@@ -1,4 +1,4 @@
-//! The members that stand apart from their manifest, as far as its envelope holds them.
+//! The members that stand apart from their manifest and are in its envelope.
 
 ghost use Rattle.std.specs.Prelude.{◌≡◌, ◌<◌, ◌^◌, length, IfOk, IfErr, option_map};
 ghost use Rattle.suit_envelope.specs.Places.{MembersEndBelow};
@@ -12,27 +12,6 @@ ghost use Rattle.describe.specs.MembersThere.{if_held, only_there};
 use std::alloc::{AllocError, Global};
 use suit_envelope::Envelope;
 use suit_manifest::{Manifest, Member, MemberFault, Members, TextMember, members_of};
-use suit_params::{Identifier, Identifiers};
-
-fn copied(alloc: Global, identifier: &Identifier) -> Result<Identifier, AllocError>
-    ensures { IfOk result (λ copy. copy ≡ identifier.now) }
-{
-    let mut copy = Identifier::new(alloc);
-    for part in identifier.as_slice() {
-        copy.push(part.copy(alloc)?)?;
-    }
-    Ok(copy)
-}
-
-fn all_copied(alloc: Global, identifiers: &Identifiers) -> Result<Identifiers, AllocError>
-    ensures { IfOk result (λ copies. copies ≡ identifiers.now) }
-{
-    let mut copies = Identifiers::new(alloc);
-    for identifier in identifiers.as_slice() {
-        copies.push(copied(alloc, identifier)?)?;
-    }
-    Ok(copies)
-}
 
 // A member that stands apart, where the envelope holds it.
 fn if_held(held: Option<&[u8]>, member: &Member) -> Member
@@ -58,7 +37,7 @@ fn only_there(
 {
     Ok(Manifest {
         sequence: manifest.sequence,
-        components: all_copied(alloc, &manifest.components)?,
+        components: manifest.components.copy(alloc)?,
         shared: None,
         reference: None,
         validate: None,
@@ -70,11 +49,11 @@ fn only_there(
     })
 }
 
-/// The members whose digests the manifest states and which the envelope holds: as `members_of`, but what the envelope
-/// does not hold is left out and not told. So `Severed` never comes.
+/// The members whose digests the manifest states and which the envelope holds: as `members_of`, but those that the
+/// envelope lacks are left out. So `Severed` never comes.
 ///
-/// Needs fewer than 2^32 components, and an envelope whose members end at places below 2^64, as each that
-/// `decode_envelope` gives does.
+/// Needs fewer than 2^32 components, and an envelope whose members end at places below 2^64, as those of
+/// `decode_envelope` do.
 pub fn members_there(
     alloc: Global,
     envelope: &Envelope<'_>,

@@ -1,19 +1,19 @@
-//! What holds of all descriptions that are written.
+//! The laws of all descriptions that are written.
 
 ghost use Rattle.describe.specs.Again.{DescribeLaws};
 
-use det_cbor::item_splitting;
+use det_cbor::splitting_laws;
 use suit_commands::sequence_laws;
 use suit_envelope::envelope_laws;
 use suit_manifest::manifest_laws;
 
-/// Does nothing. Its contract has the laws. What `describe` writes of an envelope, its manifest and those of its members
-/// that are there is a description. With whatever files, the manifest that it stands for is that one but for places, and
-/// no other; that is spelled by the bytes that the envelope holds. It names no file, and no number in it has a point.
+/// Does nothing. Its contract has the laws. From an envelope, its manifest and those of its members that are there,
+/// `describe` writes a description. Whatever its files, it stands for that manifest but for places, and for no other;
+/// the bytes that the envelope holds spell that one. It names no file, and no number in it has a point.
 pub fn describe_laws()
     ensures { DescribeLaws }
 {
-    item_splitting();
+    splitting_laws();
     envelope_laws();
     sequence_laws();
     manifest_laws();

@@ -1,4 +1,4 @@
-//! Envelopes and their manifests as descriptions in JSON (RFC 8259), of which the same manifests are made again.
+//! Envelopes and their manifests as descriptions in JSON (RFC 8259), from which the same manifests are made again.
 #![tactic(auto)]
 
 mod commands;

@@ -45,7 +45,7 @@ first_read wrapper digest blocks so =
       others = contents_read 1 r blocks so.spells.valid.2.1 refl;
     }
 
--- what a scan of the blocks that were read answered
+-- the answer of a scan of the blocks that were read
 pub scan_says : (wrapper key payload : List ℕ) (content rest : Position) (count : ℕ) (answer : MacVerdict) → Ok (content, rest) ≡ first_from wrapper → count ≡ count_from wrapper → payload ≡ content.left
     → ((blocks : List (List ℕ)) → contents_from count rest ≡ Ok blocks → BlocksSay key payload blocks answer)
     → (digest : List ℕ) (blocks : List (List ℕ)) → WrapperSays wrapper digest blocks → BlocksSay key (payload_of digest) blocks answer

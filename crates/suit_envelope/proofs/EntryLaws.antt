@@ -164,7 +164,7 @@ content_is : (o : Option (List ℕ × ℕ)) → option_map_or (λ (c : List ℕ 
 content_is None = refl
 content_is (Some c) = refl
 
--- what is required is there
+-- a required key is there
 there : (n : ℕ) (es : List Entry) → AllByRecursion IsValue es → has_key n es ≡ true → (c : List ℕ × ℕ) × (under n es ≡ Some c)
 there n [] values has = absurd cc
 there n (e ∷ es) values has =

@@ -14,7 +14,7 @@ less Less e = refl
 less Equal e = absurd cc
 less Greater e = absurd cc
 
-above_trans : (a b c : List ℕ) → IsAbove (Some a) b → IsAbove (Some b) c → IsAbove (Some a) c
+pub above_trans : (a b c : List ℕ) → IsAbove (Some a) b → IsAbove (Some b) c → IsAbove (Some a) c
 above_trans a b c p q = ap is_lt (nat_list_cmp_total.trans a b c (less (slice_cmp nat_cmp a b) p) (less (slice_cmp nat_cmp b c) q))
 
 pub not_above_itself : (a : List ℕ) → IsAbove (Some a) a → ⊥

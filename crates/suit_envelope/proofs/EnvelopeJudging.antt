@@ -58,7 +58,7 @@ keys_judge = record {
   refuses = key_refused;
 }
 
--- ---- what lacks
+-- ---- missing keys
 
 lack_ok : (b : Bool) (e : Refusal) → cond {A = Result Unit Refusal} b (Ok tt) (Err e) ≡ Ok tt → b ≡ true
 lack_ok true e f = refl

@@ -88,7 +88,7 @@ value_put s key place _ = refl
 
 -- ---- pairs
 
--- what entries say after pairs that said this
+-- the result of entries after pairs that said this
 abbrev more : PairsSay → List Entry → PairsSay
 more s es = record { seen = see_all s.seen es; said = put_all s.said es; judged = s.judged >>= λ _. judge_each judge_value es }
 

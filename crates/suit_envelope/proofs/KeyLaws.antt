@@ -116,7 +116,7 @@ all_manifest : (s : Seen) (es : List Entry) → (see_all s es).manifest ≡ (s.m
 all_manifest s [] = sym (or_false s.manifest)
 all_manifest s (e ∷ es) = all_manifest (see s (key_of e.key)) es ∙ ap (λ (b : Bool). b || has_key 3 es) (key_manifest s e.key) ∙ or_assoc s.manifest (is_number 3 e.key) (has_key 3 es)
 
--- what was seen decides what lacks
+-- the keys seen decide which are missing
 pub lacks_is : (place : ℕ) (es : List Entry) → all_seen place (see_all (record { wrapper = false; manifest = false }) es) ≡ judge_each (judge_lack place es) (2 ∷ 3 ∷ [])
 lacks_is place es =
     let none : Seen = record { wrapper = false; manifest = false } in

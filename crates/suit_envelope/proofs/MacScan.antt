@@ -13,7 +13,7 @@ use Rattle.suit_params.specs.Reading.{content_from}
 use Rattle.suit_envelope.specs.declared.macs.Difference.{Difference}
 use Rattle.suit_envelope.specs.Macs.{IsOther, FailsToVerify, SomeVerifies, ThisVerifies, ALaterVerifies, ThisDiffers, ALaterDiffers, BlocksSay, contents_from, kept, last_answer}
 
--- what is to be answered of the blocks that are left, after the first difference so far
+-- the answer on the blocks that are left, after the first difference so far
 abbrev pub Ends : List ℕ → List ℕ → Option Difference → List (List ℕ) → MacVerdict → Type 0
 Ends key payload None rest answer = BlocksSay key payload rest answer
 Ends key payload (Some d) rest verdict.Verified = SomeVerifies key payload rest

@@ -12,7 +12,7 @@ use Rattle.suit_envelope.specs.Payloads.{integrated_payloads}
 use Rattle.suit_envelope.specs.WrapperParts.{HasWrapper, wrapper_item}
 use Rattle.suit_envelope.proofs.WrapperLaws.{says_wrapper}
 
--- ---- what holds of each pair
+-- ---- facts about each pair
 
 payloads_known : (place : ℕ) (ps : List (List ℕ × List ℕ)) → AllByRecursion IsKnown (entries place (payload_pairs ps))
 payloads_known place [] = tt

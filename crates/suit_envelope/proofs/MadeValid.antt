@@ -10,9 +10,10 @@ use Rattle.det_cbor.specs.ItemOrder.{item_order}
 use Rattle.det_cbor.proofs.Cuts.{Cuts-order, cmp_less}
 use Rattle.det_cbor.proofs.ItemCuts.{items_cut_apart}
 use Rattle.suit_envelope.specs.declared.parts.EnvelopeParts.{EnvelopeParts}
-use Rattle.suit_envelope.specs.Making.{member_then, payload_pairs, pairs_made, envelope_made, AreAscending, IsText, IsPayload}
+use Rattle.suit_envelope.specs.Making.{member_then, payload_pairs, pairs_made, envelope_made, IsText, IsPayload}
+use Rattle.suit_envelope.specs.PayloadOrder.{AreAscending}
 
--- what the types of the code know of parts
+-- the bounds of parts by the types of the code
 pub record Fits (parts : EnvelopeParts) : Type 0 where
   pub wrapper : IsString parts.wrapper
   pub manifest : IsString parts.manifest

@@ -143,7 +143,7 @@ apart bytes payloads has =
     let r = map_read has.envelope.item m has.envelope.spells.valid is.shape in
     subst AreApart (sym has.are) (payloads_apart (map_entries m) (entries_ascend r.levels _ None m.pairs r.valid))
 
--- ---- what a call answered
+-- ---- the answer of a call
 
 pub looked_up : (bytes : List ℕ) (found : Option (List ℕ)) (payloads : List (List ℕ × List ℕ)) (key : List ℕ) → Ok found ≡ payload_from key bytes → HasPayloads bytes payloads → found ≡ payload_under payloads key
 looked_up bytes found payloads key e has = same_ok found (payload_under payloads key) (e ∙ payload_read bytes payloads key has)

@@ -87,7 +87,7 @@ pub ok_wrapper : (bytes : List ℕ) (r : Result Envelope Refusal) → IfOk r (λ
 ok_wrapper bytes (Ok e) so = envelope_wrapper 0 so.item (said_by e) so.says_so
 ok_wrapper bytes (Err r) so = tt
 
--- ---- what a call answered, of a wrapper that is one
+-- ---- the answer of a call, for a wrapper
 
 pub digest_is : (r : Result (List ℕ) Refusal) (digest : List ℕ) → r ≡ Ok digest → (found : List ℕ) → r ≡ Ok found → found ≡ digest
 digest_is r digest e found f = cc

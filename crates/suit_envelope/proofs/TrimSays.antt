@@ -55,7 +55,7 @@ trims wrapper manifest holds wrapper_fits manifest_fits =
       says_so = subst (IsEnvelope 0 (trimmed_item wrapper manifest)) (made.all ∙ placed wrapper manifest) made.is;
     }
 
--- what a call answered that wrote the trimmed envelope
+-- the answer of a call that wrote the trimmed envelope
 pub says_trimmed : {E : Type 0} (wrapper manifest : List ℕ) (r : Result (List ℕ) E) → IfOk r (λ bytes. bytes ≡ trimmed wrapper manifest) → IfOk r (λ _. IsString wrapper) → IfOk r (λ _. IsString manifest) → HasWrapper wrapper → IfOk r (IsTrimmed wrapper manifest)
 says_trimmed wrapper manifest (Ok bytes) is wrapper_fits manifest_fits holds = subst (IsTrimmed wrapper manifest) (sym is) (trims wrapper manifest holds wrapper_fits manifest_fits)
 says_trimmed wrapper manifest (Err e) is wrapper_fits manifest_fits holds = tt

@@ -23,7 +23,7 @@ use Rattle.suit_envelope.specs.Wrapper.{placed, elements_place, blocks_of, IsBlo
 use Rattle.suit_envelope.specs.Judging.{judge_block, judge_wrapper}
 use Rattle.suit_envelope.specs.WrapperReading.{blocks_from, digest_held_from, elements_after, wrapper_at}
 
--- ---- what is read
+-- ---- reading
 
 -- a step that hangs on a string that stands before a position
 abbrev go_on : {A : Type 0} → (Position → Result A Refusal) → Position × Position → Result A Refusal
@@ -84,7 +84,7 @@ wrapper_read levels place x valid =
     at_place : List ℕ → ℕ → Position
     at_place left place = record { left = left; place = place }
 
--- ---- what is judged
+-- ---- judging
 
 block_judges : JudgesEach Anything judge_block IsBlock RefusesBlock
 block_judges = record {

@@ -108,7 +108,7 @@ has_wrapper place wrapper digest so =
       },
     )
 
--- ---- what calls answered
+-- ---- the answers of calls
 
 pub stated_is : (wrapper digest found : List ℕ) (blocks : List (List ℕ)) → WrapperSays wrapper digest blocks → Ok found ≡ digest_from wrapper → found ≡ digest
 stated_is wrapper digest found blocks so e = same_ok found digest (e ∙ digest_read wrapper digest blocks so)

@@ -10,7 +10,7 @@ abbrev pub content_at : ℕ → DataItem → Option (List ℕ × ℕ)
 content_at place (ByteString content) = Some (content, content_place place content)
 content_at place _ = None
 
--- what stands under a number among entries
+-- the value under a number among entries
 abbrev pub under : ℕ → List Entry → Option (List ℕ × ℕ)
 under n [] = None
 under n (e ∷ es) = if is_number n e.key then content_at e.value_place e.value else under n es

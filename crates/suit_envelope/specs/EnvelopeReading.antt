@@ -69,7 +69,7 @@ put_content s key (Some content) = put s key content.left content.place
 
 -- ---- pairs
 
--- what pairs say together: which required keys there are, what the values put, and the first refusal of a value
+-- the result of pairs: which required keys there are, what the values put, and the first refusal of a value
 pub record PairsSay : Type 0 where
   pub seen : Seen
   pub said : EnvelopeSays

@@ -64,7 +64,7 @@ as_map tagged place _ = None
 abbrev pub envelope_map : ℕ → DataItem → Option EnvelopeMap
 envelope_map place x = let u = untagged place x in as_map u.0 u.1 u.2
 
--- ---- what an envelope says
+-- ---- the meaning of an envelope
 
 pub record EnvelopeSays : Type 0 where
   pub tagged : Bool
@@ -143,7 +143,7 @@ pub record IsEnvelope (place : ℕ) (x : DataItem) (said : EnvelopeSays) : Type 
   pub values : AllByRecursion IsValue (map_entries map)
   pub says : said ≡ put_all (says_nothing map.tagged) (map_entries map)
 
--- ---- what is refused: unknown keys first, then missing ones, then values
+-- ---- refusals: unknown keys first, then missing ones, then values
 
 pub data RefusesKey (e : Entry) : Refusal → Type 0 where
   OtherKey : key_of e.key ≡ Unknown → RefusesKey e (refused e.key_place UnknownKey)

@@ -54,7 +54,7 @@ abbrev pub kept : Option Difference → Difference → Difference
 kept (Some d) next = d
 kept None next = next
 
--- what is answered after the last block
+-- the answer after the last block
 abbrev pub last_answer : Option Difference → MacVerdict
 last_answer None = verdict.OtherKind
 last_answer (Some d) = verdict.Differs d.expected d.found

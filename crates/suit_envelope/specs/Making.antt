@@ -1,7 +1,7 @@
 -- The envelope that is made of its parts (draft-ietf-suit-manifest-25, section 8.2).
 use Rattle.std.specs.Prelude.{◌≡◌, ℕ, true, List, [], ◌∷◌, Option, Some, None}
 use Rattle.std.specs.Str.{IsUtf8}
-use Rattle.det_cbor.specs.DataItem.{DataItem, UnsignedInteger, ByteString, TextString, MapOf, TaggedItem, DataPairs, NoPairs, PairThen, spell, IsAbove, IsString}
+use Rattle.det_cbor.specs.DataItem.{DataItem, UnsignedInteger, ByteString, TextString, MapOf, TaggedItem, DataPairs, NoPairs, PairThen, IsString}
 use Rattle.suit_envelope.specs.Envelopes.{EnvelopeSays}
 use Rattle.suit_envelope.specs.declared.parts.EnvelopeParts.{EnvelopeParts}
 
@@ -26,7 +26,7 @@ pairs_made parts =
 abbrev pub envelope_made : EnvelopeParts → DataItem
 envelope_made parts = TaggedItem 107 (MapOf (pairs_made parts))
 
--- ---- what parts an envelope is made of
+-- ---- the parts of a made envelope
 
 -- a text, and a payload with its key, as the types of the code hold them
 abbrev pub IsText : List ℕ → Type 0
@@ -34,12 +34,6 @@ IsText text = IsString text × IsUtf8 text
 
 abbrev pub IsPayload : List ℕ × List ℕ → Type 0
 IsPayload p = IsText p.0 × IsString p.1
-
--- each key stands above the one before it, in the order of their spellings
-abbrev pub AreAscending : Option (List ℕ) → List (List ℕ × List ℕ) → Type 0
-AreAscending before [] = Unit {0}
-AreAscending before (p ∷ ps) =
-    IsAbove before (spell (TextString p.0)) × AreAscending (Some (spell (TextString p.0))) ps
 
 -- an envelope that says what the parts are
 pub record SaysParts (parts : EnvelopeParts) (said : EnvelopeSays) : Type 0 where

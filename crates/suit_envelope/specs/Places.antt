@@ -3,7 +3,7 @@ use Rattle.std.specs.Prelude.{◌<◌, ◌+◌, ℕ, List, length, Option, Some,
 use Rattle.det_cbor.specs.DataItem.{IsString}
 use Rattle.suit_envelope.specs.Envelopes.{EnvelopeSays}
 
--- what is there ends below a limit
+-- a part that is there ends below a limit
 abbrev pub EndsBelow : ℕ → Option (List ℕ) → ℕ → Type 0
 EndsBelow limit None place = Unit {0}
 EndsBelow limit (Some content) place = place + length content < limit

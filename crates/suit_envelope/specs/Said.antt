@@ -21,7 +21,7 @@ said_by e = record {
   text = option_map (λ s. s.now) e.text;
 }
 
--- what the pairs that the code passed say
+-- the result of the pairs that the code passed
 abbrev pub pairs_say : Found → PairsSay
 pairs_say f = record { seen = f.seen; said = said_by f.envelope; judged = f.judged }
 

@@ -16,7 +16,7 @@ trimmed_item wrapper manifest =
 unfoldable pub trimmed : List ℕ → List ℕ → List ℕ
 trimmed wrapper manifest = spell (trimmed_item wrapper manifest)
 
--- what it says: a tag of two bytes, the map's head and a key stand before the wrapper, and a key before the manifest
+-- its parts: a tag of two bytes, the map's head and a key stand before the wrapper, and a key before the manifest
 abbrev pub trimmed_says : List ℕ → List ℕ → EnvelopeSays
 trimmed_says wrapper manifest = record {
   tagged = true;

@@ -32,7 +32,7 @@ pub record IsWrapper (place : ℕ) (x : DataItem) (digest : List ℕ) : Type 0 w
   pub holds : SaysHeld IsDigest (elements_place place blocks) first digest
   pub rest : AllByRecursion IsBlock (blocks_of place first blocks)
 
--- ---- what is refused
+-- ---- refusals
 
 abbrev pub HasElements : DataItem → Type 0
 HasElements (ArrayOf (ItemThen x xs)) = Unit {0}

@@ -6,8 +6,9 @@ ghost use Rattle.det_cbor.specs.DataItem.{DataPairs, TextString, ByteString, spe
 ghost use Rattle.suit_envelope.specs.Envelopes.{EnvelopeSays};
 ghost use Rattle.suit_envelope.specs.Said.{EnvelopeOf};
 ghost use Rattle.suit_envelope.specs.Payloads.{HasPayloads};
+ghost use Rattle.suit_envelope.specs.PayloadOrder.{AreAscending};
 ghost use Rattle.suit_envelope.specs.WrapperParts.{HasWrapper};
-ghost use Rattle.suit_envelope.specs.Making.{member_then, payload_pairs, pairs_made, envelope_made, AreAscending, IsPayload, SaysParts};
+ghost use Rattle.suit_envelope.specs.Making.{member_then, payload_pairs, pairs_made, envelope_made, IsPayload, SaysParts};
 
 use crate::writing::{push_pair, push_start};
 use crate::{EnvelopeParts, PayloadList};
@@ -26,7 +27,7 @@ fn count(member: &Option<Bytes>) -> u64
     }
 }
 
-fn pairs(parts: &EnvelopeParts) -> u64
+fn pairs(parts: &EnvelopeParts<'_>) -> u64
     ensures { result ≡ pair_count (pairs_made parts.now) }
 {
     let members = count(&parts.payload_fetch) + count(&parts.install) + count(&parts.text);
@@ -47,11 +48,11 @@ fn push_member(out: &mut Bytes, key: u64, member: &Option<Bytes>) -> Result<(), 
     }
 }
 
-fn push_payloads(out: &mut Bytes, payloads: &PayloadList) -> Result<(), AllocError>
+fn push_payloads(out: &mut Bytes, payloads: &PayloadList<'_>) -> Result<(), AllocError>
     ensures ok { OnOk result (out.new ≡ out.old ++ spell_pairs (payload_pairs payloads.now)) }
     ensures payloads { OnOk result (AllByRecursion IsPayload payloads.now) }
 {
-    for (key, payload) in &payloads.held {
+    for (key, payload) in payloads.as_slice() {
         push_text(out, key.as_str())?;
         push_string(out, payload.as_slice())?;
     }
@@ -61,9 +62,9 @@ fn push_payloads(out: &mut Bytes, payloads: &PayloadList) -> Result<(), AllocErr
 /// The envelope of these parts behind tag 107, in its one spelling
 /// (draft-ietf-suit-manifest-25, section 8.2).
 ///
-/// The wrapper is to be one, and the payloads' keys are to ascend in the order of their spellings,
+/// The wrapper must be one, and the payloads' keys must ascend in the order of their spellings,
 /// none twice. Manifest and members are taken as they are.
-pub fn encode_envelope(alloc: Global, parts: &EnvelopeParts) -> Result<Bytes, AllocError>
+pub fn encode_envelope(alloc: Global, parts: &EnvelopeParts<'_>) -> Result<Bytes, AllocError>
     requires wrapper { HasWrapper parts.now.wrapper }
     requires payloads { AreAscending None parts.now.payloads }
     ensures spelling { IfOk result (λ bytes. bytes ≡ spell (envelope_made parts.now)) }

@@ -15,7 +15,7 @@ pub struct Envelope<'a> {
     /// The manifest.
     pub manifest: &'a [u8],
     pub manifest_place: u64,
-    /// The severed members, as far as they are there.
+    /// The severed members that are there.
     pub payload_fetch: Option<&'a [u8]>,
     pub install: Option<&'a [u8]>,
     pub text: Option<&'a [u8]>,

@@ -41,8 +41,8 @@ fn numbered(number: u64) -> Key
     }
 }
 
-/// The next key, of an item that was judged before, by its head. The bytes of a text are passed
-/// over; a key that is not known is passed no further than its head.
+/// Reads the next key, of an item judged before, by its head. The bytes of a text are passed over;
+/// an unknown key is passed no further than its head.
 #[tactic(auto, unfolding(crate::specs::EnvelopeReading::key_from))]
 pub(crate) fn read_key(map: &mut Cursor<'_>) -> Result<Key, Refusal>
     ensures { map_ok (λ key. (key, map.new)) result ≡ key_from map.old }
@@ -58,7 +58,7 @@ pub(crate) fn read_key(map: &mut Cursor<'_>) -> Result<Key, Refusal>
     }
 }
 
-/// Refuses a key, which stands at a place, that is not known.
+/// Refuses an unknown key, which stands at a place.
 pub(crate) fn known(place: u64, key: Key) -> Result<(), Refusal>
     ensures { result ≡ known_key place key }
 {

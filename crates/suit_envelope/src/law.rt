@@ -11,13 +11,13 @@ pub fn envelope_laws()
     ensures { EnvelopeLaws }
 {}
 
-/// Does nothing. Its contract has the law: of a wrapper, a manifest and a key one answer is told.
+/// Does nothing. Its contract has the law: a wrapper, a manifest and a key have one answer.
 pub fn authenticity_laws()
     ensures { AuthenticityLaw }
 {}
 
 /// Does nothing. Its contract has the law: payloads whose keys ascend still do with one more put among
 /// them.
-pub fn payload_order_law()
+pub fn payload_order_laws()
     ensures { PayloadOrderLaw }
 {}

@@ -21,7 +21,8 @@ pub struct KeyedPayload<'a> {
 
 // A payload, where its key is a text.
 fn keyed<'a>(key: Option<&'a [u8]>, content: &'a [u8]) -> Option<KeyedPayload<'a>>
-    ensures { option_map said_payload result ≡ keyed (option_map (λ k. k.now) key.entry) content.now }
+    ensures { option_map said_payload result
+        ≡ keyed (option_map (λ k. k.now) key.entry) content.now }
 {
     match key {
         Some(bytes) => match as_text(bytes) {
@@ -34,7 +35,8 @@ fn keyed<'a>(key: Option<&'a [u8]>, content: &'a [u8]) -> Option<KeyedPayload<'a
 
 // Passes a pair, which is a payload where its key is a text.
 fn pair<'a>(map: &mut Cursor<'a>) -> Result<Option<KeyedPayload<'a>>, Refusal>
-    ensures { map_ok (λ found. (option_map said_payload found, map.new)) result ≡ listed_pair map.old }
+    ensures { map_ok (λ found. (option_map said_payload found, map.new)) result
+        ≡ listed_pair map.old }
 {
     let text = text_key(map)?;
     let content = read_content(map)?;
@@ -45,8 +47,10 @@ fn add<'a>(
     list: &mut Vec<KeyedPayload<'a>>,
     payload: Option<KeyedPayload<'a>>,
 ) -> Result<(), AllocError>
-    ensures { (more : List (List ℕ × List ℕ)) → OnOk result (map said_payload list.new.items ++ more
-        ≡ map said_payload list.old.items ++ listed_then (option_map said_payload payload.entry) more) }
+    ensures { (more : List (List ℕ × List ℕ)) → OnOk result
+        (map said_payload list.new.items ++ more
+        ≡ map said_payload list.old.items
+        ++ listed_then (option_map said_payload payload.entry) more) }
 {
     match payload {
         Some(payload) => Ok(list.push(payload)?),
@@ -89,7 +93,9 @@ pub fn all_payloads<'a>(
     alloc: Global,
     envelope: &Envelope<'a>,
 ) -> Result<Vec<KeyedPayload<'a>>, AllocError>
-    ensures { IfOk result (λ list. (payloads : List (List ℕ × List ℕ)) → HasPayloads envelope.now.whole.now payloads
+    ensures { IfOk result
+        (λ list. (payloads : List (List ℕ × List ℕ))
+        → HasPayloads envelope.now.whole.now payloads
         → map said_payload list.items ≡ payloads) }
 {
     listed_in(alloc, envelope.whole)

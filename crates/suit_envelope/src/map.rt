@@ -63,7 +63,7 @@ fn behind_tag<'a>(mut item: Cursor<'a>, whole: &'a [u8]) -> Result<Envelope<'a>,
     }
 }
 
-/// A whole item, which was judged as one before, as an envelope of these bytes.
+/// Reads a whole item, judged as one before, as an envelope of these bytes.
 #[tactic(auto, unfolding(crate::specs::EnvelopeReading::envelope_at))]
 pub(crate) fn envelope_of<'a>(
     mut item: Cursor<'a>,

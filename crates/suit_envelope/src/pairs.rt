@@ -73,7 +73,7 @@ fn put<'a>(envelope: &mut Envelope<'a>, key: Key, content: Cursor<'a>)
     }
 }
 
-/// The pairs of a map, as far as they were passed.
+/// The pairs of a map that were passed.
 #[derive(Clone, Copy, Debug)]
 pub(crate) struct Found<'a> {
     pub(crate) seen: Seen,

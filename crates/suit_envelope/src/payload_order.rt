@@ -1,9 +1,10 @@
 //! The order of integrated payloads in an envelope's map.
 
-ghost use Rattle.std.specs.Prelude.{◌≡◌};
-ghost use Rattle.suit_envelope.specs.PayloadOrder.{key_order, IsPlaceOf};
+ghost use Rattle.std.specs.Prelude.{◌≡◌, None};
+ghost use Rattle.suit_envelope.specs.PayloadOrder.{key_order, AreAscending, IsPlaceOf};
 
-use det_cbor::{Bytes, Text};
+use crate::PayloadBytes;
+use det_cbor::Text;
 use std::cmp::Ordering;
 
 // The bytewise order of the spellings of two texts: the shorter one comes first.
@@ -18,15 +19,19 @@ fn key_order(left: &str, right: &str) -> Ordering
 }
 
 /// Where a key is among payloads whose keys ascend, or else where it is put.
-pub(crate) fn place_of(list: &[(Text, Bytes)], key: &str) -> Result<usize, usize>
+pub(crate) fn place_of(list: &[(Text, PayloadBytes<'_>)], key: &str) -> Result<usize, usize>
+    requires { AreAscending None list.now }
     ensures { IsPlaceOf list.now key.now result }
 {
-    for (i, (other, _)) in list.iter().enumerate() {
-        match key_order(key, other.as_str()) {
-            Ordering::Less => return Err(i),
-            Ordering::Equal => return Ok(i),
-            Ordering::Greater => {}
+    let mut low = 0;
+    let mut high = list.len();
+    while low < high {
+        let middle = low + (high - low) / 2;
+        match key_order(key, list[middle].0.as_str()) {
+            Ordering::Less => high = middle,
+            Ordering::Equal => return Ok(middle),
+            Ordering::Greater => low = middle + 1,
         }
     }
-    Err(list.len())
+    Err(low)
 }

@@ -10,7 +10,7 @@ use crate::Envelope;
 use det_cbor::{Cursor, HeadKind};
 use suit_params::{Refusal, bytes_left, read_bytes, read_content, read_head};
 
-/// The next key as far as it is a text. Any other key of an envelope is a number.
+/// The next key, if it is a text. Any other key of an envelope is a number.
 #[tactic(auto, unfolding(crate::specs::PayloadReading::text_from))]
 pub(crate) fn text_key<'a>(map: &mut Cursor<'a>) -> Result<Option<&'a [u8]>, Refusal>
     ensures { map_ok (λ text. (option_map (λ t. t.now) text, map.new)) result ≡ text_from map.old }

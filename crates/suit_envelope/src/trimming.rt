@@ -26,7 +26,7 @@ fn spelling(alloc: Global, envelope: &Envelope<'_>) -> Result<Bytes, AllocError>
     Ok(out)
 }
 
-/// The trimmed envelope: tag 107 round the map of the wrapper and the manifest alone.
+/// The trimmed envelope: tag 107 around the map of the wrapper and the manifest alone.
 #[tactic(auto, using(crate::proofs::TrimSays::says_trimmed))]
 pub fn trim(alloc: Global, envelope: &Envelope<'_>) -> Result<Bytes, AllocError>
     ensures spelling { IfOk result
@@ -60,7 +60,7 @@ fn string_length(content: &[u8]) -> u64
     head_length(length).saturating_add(length)
 }
 
-/// The length of the trimmed envelope in bytes, or the largest number where that is larger.
+/// The length of the trimmed envelope in bytes. Saturates at 64 bits.
 #[tactic(auto, using(crate::proofs::TrimLaws::trimmed_long))]
 pub fn trimmed_length(envelope: &Envelope<'_>) -> u64
     ensures { result

@@ -26,7 +26,7 @@ fn blocks(mut elements: Cursor<'_>, count: u64) -> Result<(), Refusal>
     Ok(())
 }
 
-/// A whole item, which was judged as one before, as a wrapper: its digest.
+/// Reads a whole item, judged as one before, as a wrapper: its digest.
 #[tactic(auto, unfolding(crate::specs::WrapperReading::wrapper_at))]
 pub(crate) fn wrapper_of(mut item: Cursor<'_>) -> Result<Digest, Refusal>
     ensures { map_ok (λ d. d.bytes) result ≡ wrapper_at item.entry }

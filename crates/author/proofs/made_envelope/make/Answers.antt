@@ -1,11 +1,14 @@
 use Rattle.std.proofs.lemmas.Result.{IfOk-weaker}
 use Rattle.author.specs.Held.{value_of}
 use Rattle.author.specs.MadeEnvelopes.{IsAuthenticUnder, HoldsPartsOf, HoldsManifestOf}
-use Rattle.author.proofs.MadeAnswers.{made_ok, made_envelope, made_limit, authentic_made, holds_parts, holds_manifest}
+use Rattle.author.proofs.MadeAnswers.{made_ok, made_refused, made_envelope, made_limit, authentic_made, holds_parts, holds_manifest}
 use Rattle.author.proofs.made_envelope.make.Goals as goal
 
 pub returns-clause-ok : goal.returns-clause-ok
 returns-clause-ok c = made_ok (value_of c.args.description.now) c.args.files.now c.args.key.now c.in_ok-said.said c.in_ok-said.ensures c.in_ok-parts.parts c.in_ok-parted.parted c.encode_short.result c.in_ok-parted.ensures c.in_ok-parts.ensures.is c.encode_short.ensures.answers
+
+pub returns-clause-refused : goal.returns-clause-refused
+returns-clause-refused c = made_refused (value_of c.args.description.now) c.args.files.now c.args.key.now c.in_ok-said.said c.in_ok-said.ensures c.in_ok-parts.parts c.in_ok-parted.parted c.encode_short.result c.in_ok-parted.ensures c.in_ok-parts.ensures.is c.encode_short.ensures.answers
 
 pub returns-clause-every_envelope : goal.returns-clause-every_envelope
 returns-clause-every_envelope c = made_envelope (value_of c.args.description.now) c.args.files.now c.args.key.now c.in_ok-said.said c.in_ok-said.ensures c.in_ok-parts.parts c.in_ok-parted.parted c.encode_short.result c.in_ok-parted.ensures c.in_ok-parts.ensures.is c.encode_short.ensures.answers

@@ -5,7 +5,7 @@ use Rattle.describe.specs.CommandData.{step_data, branch_data}
 use Rattle.describe.specs.Growing.{joined}
 use Rattle.describe.proofs.commands.+describing.Given as goal
 
--- what is written so far, and then what is left, is the whole
+-- the part written so far and the rest make the whole
 abbrev pub invariant-sequence-loop-step : goal.invariant-sequence-loop-step
 invariant-sequence-loop-step l = record {
   whole : sequence_tree l.step-items ≡ l.sequence;

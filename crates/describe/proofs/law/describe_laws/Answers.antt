@@ -4,7 +4,7 @@ use Rattle.describe.proofs.law.describe_laws.Goals as goal
 
 pub returns : goal.returns
 returns c = record {
-  made_again = made_again c.item_splitting.ensures.every_item c.envelope_laws.ensures c.sequence_laws.ensures c.manifest_laws.ensures;
+  made_again = made_again c.splitting_laws.ensures.every_item c.envelope_laws.ensures c.sequence_laws.ensures c.manifest_laws.ensures;
   taken = are_there;
   no_float = no_float;
   no_file = no_files;
