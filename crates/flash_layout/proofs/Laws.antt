@@ -262,7 +262,7 @@ pub one_config : OneConfig
 one_config frame size bytes layout key others other typed also is so =
     same_ok (page_at frame bytes) (layout, key) (others, other) (page_read frame size bytes layout key typed is) (page_read frame size bytes others other also so)
 
--- ---- what was read of a page that has a layout and a key
+-- ---- reading a page that has a layout and a key
 
 same_config : (frame : Frame) (size : ℕ) (bytes : List ℕ) (layout : List Entry) (key : Key) (read : List Entry × Key) → AreTyped layout key → IsConfigPage frame size bytes layout key → page_at frame bytes ≡ Ok read → ◌≡◌ {A = List Entry × Key} read (layout, key)
 same_config frame size bytes layout key read typed is e =

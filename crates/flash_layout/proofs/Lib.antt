@@ -7,7 +7,7 @@ mod Kept
 mod Laws
 mod Loading
 mod OneAnswers
-mod OneLayout
+pub mod OneLayout
 mod Overlapping
 mod Sharing
 mod Spellings

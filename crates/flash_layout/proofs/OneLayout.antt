@@ -99,7 +99,7 @@ entries_once size layout f g (Beyond i few apart clear a) (Alike k l few' b) = a
 entries_once size layout f g (Beyond i few apart clear a) (Shared k l few' apart' b) = absurd (overlap_not layout k l clear b)
 entries_once size layout f g (Beyond i few apart clear a) (Beyond k few' apart' clear' b) = ap Outside (outside_once size layout i k a b)
 
-once : (size : ℕ) (d : Data) (f g : LayoutFault) → RefusesLayout size d f → RefusesLayout size d g → f ≡ g
+pub once : (size : ℕ) (d : Data) (f g : LayoutFault) → RefusesLayout size d f → RefusesLayout size d g → f ≡ g
 once size d _ _ (BadValue a e) (BadValue b e') = ap fault_of (ap (flaw_or a) (sym e ∙ e'))
 once size d _ _ (BadValue a e) (BadEntries q g e' r') = absurd (err_not_ok a q (sym e ∙ e'))
 once size d _ _ (BadEntries p f e r) (BadValue b e') = absurd (err_not_ok b p (sym e' ∙ e))

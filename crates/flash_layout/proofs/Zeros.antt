@@ -13,7 +13,7 @@ use Rattle.flash_layout.specs.Layouts.{slot_starts}
 use Rattle.flash_layout.specs.Formats.{IsClearAt, KeepsZeros, OutsideLengths, OutsideAllLengths}
 use Rattle.flash_layout.proofs.Found.{other_default}
 
--- what is 0 stays 0
+-- zeros stay zeros
 pub clear_keeps : (old new : List ℕ) (p : ℕ) → KeepsZeros old new → IsClearAt old p → IsClearAt new p
 clear_keeps old new p keeps clear i low high = keeps i (clear i low high)
 

@@ -48,7 +48,7 @@ short_id id = if nat_le (length (spelled_id id)) 64 then Ok id else flawed Field
 abbrev pub id_of : Data → Result (List (List ℕ)) Flaw
 id_of d = array_of hex_of d >>= λ id. short_id id
 
--- what the kind says, if it is one: it bounds the capacity, which stands before it
+-- the memory of the kind, if it is one: it bounds the capacity, which stands before it
 abbrev pub memory_said : Data → Option Memory
 memory_said d = option_and_then memory_named (option_and_then as_str (get (codes "kind") d))
 

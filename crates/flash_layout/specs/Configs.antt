@@ -39,7 +39,7 @@ ConfigOf frame size head Blank = IsBlank frame head
 ConfigOf frame size head Bad = IsBad frame size head
 ConfigOf frame size head (Configured layout key) = IsConfigured frame size head layout key
 
--- ---- what a load answers
+-- ---- the answers of a load
 
 -- the count of faults rose for a fault, and stayed otherwise
 abbrev pub LoadCounts : Loaded → ℕ → ℕ → Type 0
@@ -57,7 +57,7 @@ abbrev pub LoadsAllowed : Frame → ℕ → Loaded → Type 0
 LoadsAllowed frame size (loaded.Config layout key) = IsAllowed frame size layout key
 LoadsAllowed frame size _ = Unit {0}
 
--- as the head says, unless there was a fault or no memory
+-- as the head says, unless there was a fault or memory ran out
 abbrev pub LoadsExactly : Frame → ℕ → List ℕ → Loaded → Type 0
 LoadsExactly frame size head (loaded.Config layout key) =
     ConfigOf frame size head (Configured layout key)

@@ -79,7 +79,7 @@ IsClearAt image p = (i : ℕ) → p ≤ i → i < p + LENGTH_SIZE → slice_inde
 abbrev pub AreAllClearAt : List Entry → List ℕ → Type 0
 AreAllClearAt layout image = All (λ e. All (IsClearAt image) (slot_starts e)) layout
 
--- what is 0 stays 0
+-- zeros stay zeros
 abbrev pub KeepsZeros : List ℕ → List ℕ → Type 0
 KeepsZeros old new = (i : ℕ) → slice_index old i ≡ 0 → slice_index new i ≡ 0
 

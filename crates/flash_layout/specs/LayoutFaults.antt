@@ -33,7 +33,7 @@ pub record AreHeld (size : ℕ) (layout : List Entry) : Type 0 where
   pub clear : HaveNoOverlap layout
   pub inside : AreInside size layout
 
--- what is wrong with the components, in this order
+-- the faults of the components, in this order
 pub data RefusesEntries (size : ℕ) (layout : List Entry) : LayoutFault → Type 0 where
   Many : 8 < length layout → RefusesEntries size layout (TooMany (length layout))
   Alike : (i j : ℕ) → length layout ≤ 8 → IsFirstAlike layout i j
@@ -48,23 +48,23 @@ pub record IsLayoutOf (size : ℕ) (d : Data) (layout : List Entry) : Type 0 whe
   pub reads : described_layout d ≡ Ok layout
   pub held : AreHeld size layout
 
--- what is wrong first
+-- the first fault
 pub data RefusesLayout (size : ℕ) (d : Data) : LayoutFault → Type 0 where
   BadValue : (f : Flaw) → described_layout d ≡ Err f → RefusesLayout size d (fault_of f)
   BadEntries : (layout : List Entry) (fault : LayoutFault) → described_layout d ≡ Ok layout
       → RefusesEntries size layout fault → RefusesLayout size d fault
 
--- a fault by what is wrong, or for want of memory
+-- a fault by what is wrong, or because memory ran out
 abbrev pub IsFaultOf : ℕ → Data → LayoutFault → Type 0
 IsFaultOf size d NoMemory = Unit {0}
 IsFaultOf size d fault = RefusesLayout size d fault
 
--- accepted, unless there was no memory
+-- accepted, unless memory ran out
 abbrev pub IsAccepted : {A : Type 0} → Result A LayoutFault → Type 0
 IsAccepted (Ok layout) = Unit {0}
 IsAccepted (Err fault) = fault ≡ NoMemory
 
--- refused for this, unless there was no memory
+-- refused for this, unless memory ran out
 abbrev pub IsRefusedFor : {A : Type 0} → LayoutFault → Result A LayoutFault → Type 0
 IsRefusedFor fault (Ok layout) = ⊥
 IsRefusedFor fault (Err other) = (other ≡ fault) ⊎ (other ≡ NoMemory)

@@ -83,7 +83,7 @@ pub record IsKey (key : Key) : Type 0 where
   pub few : key.length ≤ 64
   pub rest : (i : ℕ) → key.length ≤ i → i < 64 → slice_index key.bytes i ≡ 0
 
--- ---- what the types of the fields say
+-- ---- the bounds of the fields, by their types
 
 abbrev pub IsUuid : List ℕ → Type 0
 IsUuid id = length id ≡ 16

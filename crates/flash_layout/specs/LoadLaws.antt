@@ -8,7 +8,7 @@ use Rattle.flash_layout.specs.Layouts.{AreTyped, IsLayout, IsKey}
 use Rattle.flash_layout.specs.Configs.{ConfigOf, Configured, LoadCounts, LoadsAllowed, LoadsExactly}
 
 pub record LoadLaws : Type 0 where
-  -- what is loaded is a layout and a key that the rules allow on a flash of the size, which has room for the head
+  -- a loaded layout and key are allowed by the rules on a flash of the size, which has room for the head
   pub allowed : (frame : Frame) (size : ℕ) (layout : List Entry) (key : Key)
       → LoadsAllowed frame size (loaded.Config layout key)
       → IsLayout frame size layout × IsKey key × AreTyped layout key × (frame.size ≤ size)

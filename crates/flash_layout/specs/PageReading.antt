@@ -1,5 +1,5 @@
--- How a configuration page is read. What is read is spelled again and compared, so nothing is judged here
--- but what reading needs.
+-- How a configuration page is read. The result is spelled again and compared, so nothing is judged here but what
+-- reading needs.
 use Rattle.std.specs.Prelude.{ℕ, zero, suc, ◌+◌, ◌==◌, nat_lt, if◌then◌else◌, List, [], ◌∷◌, take, drop, slice_index, slice_range, Option, Some, None, Result, Ok, Err}
 use Rattle.std.specs.Int.{w64, from_be_bytes}
 use Rattle.det_cbor.specs.HeadReading.{◌>>=◌}

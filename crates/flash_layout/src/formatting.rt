@@ -112,8 +112,8 @@ fn prepare<D: Disk>(disk: &mut D, layout: &Layout) -> Edge
     }
 }
 
-/// Gives a blank flash a layout and a key: no record, and each slot empty. A power loss on the way leaves it
-/// blank or formatted. Where the gate of the configuration page is open, nothing is changed.
+/// Gives a blank flash a layout and a key: no record, and each slot empty. A power loss meanwhile leaves it blank or
+/// formatted. If the gate of the configuration page is open, nothing changes.
 pub fn format<D: Disk>(disk: &mut D, layout: &Layout, key: &Key) -> Formatted
     requires large { VERSION_1.size ≤ D.extent disk.old }
     requires layout { IsLayout VERSION_1 (D.extent disk.old) layout.now }

@@ -10,9 +10,9 @@ use json_fields::{FlawKind, JsonFault};
 /// stands. Components go by their numbers.
 #[derive(Debug, Drop)]
 pub enum LayoutFault {
-    /// A value that is not as it is to be, an unknown field, or a missing one.
+    /// A malformed value, an unknown field, or a missing one.
     BadField(Text),
-    /// A text that is not of hexadecimal digits, two for each byte.
+    /// A text that is not hexadecimal, two digits for each byte.
     BadHex(Text),
     /// A text that is no UUID.
     BadUuid(Text),
@@ -27,7 +27,7 @@ pub enum LayoutFault {
     NoMemory,
 }
 
-/// The fault that a flaw of the fields is.
+/// The fault for a flaw of the fields.
 pub(crate) fn told(fault: JsonFault) -> LayoutFault
     ensures { result ≡ fault_told fault }
 {

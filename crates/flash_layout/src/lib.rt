@@ -29,7 +29,8 @@ mod typing;
 pub use describing::layout_of;
 pub use formatting::{Formatted, format};
 pub use frame::{
-    CONFIG_GATE, Frame, LENGTH_SIZE, MAX_ENTRIES, SLOTS_START, VERSION_1, bank, record_page,
+    CONFIG_GATE, ENTRY_SIZE, FRONT_SIZE, Frame, LENGTH_SIZE, MAX_ENTRIES, PAGE_BYTES, SLOTS_START,
+    VERSION_1, bank, record_page,
 };
 pub use key::{Key, is_key};
 pub use law::{config_laws, frame_laws, load_laws, slot_laws};

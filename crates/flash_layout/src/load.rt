@@ -22,7 +22,7 @@ pub enum Loaded {
     BadConfig,
     /// The flash did not read.
     FlashFault,
-    /// There was no memory for the layout.
+    /// Memory ran out for the layout.
     NoMemory,
 }
 

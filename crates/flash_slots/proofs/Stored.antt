@@ -24,7 +24,7 @@ front slot image =
     let e : 8 ≡ slot.start + 8 - slot.start = omega arith in
     ap (take 8) (whole_slot slot image) ∙ take-take 8 (8 + slot.capacity) (drop slot.start image) few ∙ ap (λ (k : ℕ). take k (drop slot.start image)) e
 
--- what is stored as its length
+-- the length that is stored
 pub stored_at : (slot : Slot) (image : List ℕ) → stored_length (slot_bytes slot image) ≡ from_be_bytes w64 (slice_range image slot.start (slot.start + 8))
 unfolding stored_length
 stored_at slot image = ap (from_be_bytes w64) (front slot image)

@@ -35,11 +35,11 @@ module _ (slot : Slot) (image : List ℕ) (n : ℕ) (is : n ≡ length (slot_con
         let long : length (part_of slot from count image) ≡ count = omega (arith, length-between image (slot.start + 8 + from) (slot.start + 8 + from + count) (omega (arith, inside, few, within))) in
         ap (take count) (read ∙ ap (λ (l : List ℕ). part_of slot from count l ++ drop count room) same) ∙ take_at (part_of slot from count image) (drop count room) count long
 
-    -- what was passed over, and the part behind it
+    -- the bytes passed over, and the part behind them
     pub more_passed : pieces_of slot from image ++ take count new ≡ pieces_of slot (from + count) image
     more_passed = ap (λ (l : List ℕ). pieces_of slot from image ++ l) part_is ∙ sym (split_range image (slot.start + 8) from count (omega (arith, inside, few, within)))
 
-    -- what was passed over is the front of the bytes, and so is the part
+    -- the bytes passed over are the front of the bytes, and so is the part
     pub more_same : (bytes : List ℕ) → pieces_of slot from image ≡ take from bytes → take count new ≡ slice_range bytes from (from + count) → pieces_of slot (from + count) image ≡ take (from + count) bytes
     more_same bytes before part =
         let e : from + count - from ≡ count = omega arith in

@@ -1,4 +1,4 @@
--- What is read of a slot's content, and what a writing has put in its place.
+-- Reading a slot's content, and the content after a write.
 use Rattle.std.specs.Prelude.{◌≡◌, ◌⊎◌, ◌<◌, ◌≤◌, ◌+◌, ◌-◌, ℕ, min, List, [], ◌++◌, length, take, drop, slice_range, Result, Ok, Err, MatchResult}
 use Rattle.suit_edge.specs.Faults.{Faulted}
 use Rattle.suit_edge.specs.Flash.{Flash, Now}
@@ -19,7 +19,8 @@ pub record IsRead (content : List ℕ) (from : ℕ) (old new : List ℕ) (count 
 
 -- so many bytes of the room for the content, from that one of them on
 abbrev pub part_of : Slot → ℕ → ℕ → List ℕ → List ℕ
-part_of slot from n image = slice_range image (slot.start + LENGTH_SIZE + from) (slot.start + LENGTH_SIZE + from + n)
+part_of slot from n image =
+    slice_range image (slot.start + LENGTH_SIZE + from) (slot.start + LENGTH_SIZE + from + n)
 
 -- ---- writing
 
@@ -40,9 +41,10 @@ IsEmptyInEach slot f = (image : List ℕ) → Now f image → IsEmptySlot slot i
 
 -- the slot is empty, or the pieces stand in it whole, as they were read
 abbrev pub IsEmptyOrWhole : Slot → ℕ → List ℕ → List ℕ → Type 0
-IsEmptyOrWhole slot n old image = IsEmptySlot slot image ⊎ (pieces_of slot n image ≡ pieces_of slot n old)
+IsEmptyOrWhole slot n old image =
+    IsEmptySlot slot image ⊎ (pieces_of slot n image ≡ pieces_of slot n old)
 
--- what is too large for the slot is refused by its capacity, and nothing else is
+-- a piece too large for the slot is refused by its capacity, and nothing else is
 abbrev pub AppendsWithin : {A : Type 0} → Result A AppendFault → ℕ → ℕ → Type 0
 AppendsWithin (Ok _) capacity sum = sum ≤ capacity
 AppendsWithin (Err (fault.TooLarge n)) capacity sum = (capacity < sum) × (n ≡ capacity)
@@ -54,7 +56,7 @@ AppendCounts (Ok _) before now = now ≡ before
 AppendCounts (Err (fault.TooLarge n)) before now = now ≡ before
 AppendCounts (Err fault.FlashFault) before now = Faulted before now
 
--- what holds where a piece was refused
+-- a property where a piece was refused
 abbrev pub IfTooLarge : {A : Type 0} → Result A AppendFault → Type 0 → Type 0
 IfTooLarge (Ok _) P = Unit {0}
 IfTooLarge (Err (fault.TooLarge n)) P = P

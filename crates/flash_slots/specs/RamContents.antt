@@ -28,25 +28,32 @@ empty_ram layout = map (λ e. empty (ram_capacity e)) layout
 abbrev pub IsRamOf : List Entry → List Held → Type 0
 IsRamOf layout ram = map (λ held. held.capacity) ram ≡ map ram_capacity layout
 
--- what a component holds
+-- a component's room and content
 abbrev pub held_by : List Held → ℕ → Held
 held_by ram component = slice_index_or ram component (empty 0)
 
 -- the component holds that, and all others what they held
 abbrev pub holding : List Held → ℕ → List ℕ → List Held
-holding ram component content = slice_set ram component (record { capacity = (held_by ram component).capacity; content = content })
+holding ram component content =
+    slice_set ram component
+    (record { capacity = (held_by ram component).capacity; content = content })
 
 -- The bytes are put behind the content where there is room for them. Otherwise nothing has changed.
 abbrev pub Appends : Held → List ℕ → Held → Result (Unit {0}) TooLarge → Type 0
-Appends old piece new (Ok _) = (length old.content + length piece ≤ old.capacity) × (new ≡ record { capacity = old.capacity; content = old.content ++ piece })
-Appends old piece new (Err e) = (old.capacity < length old.content + length piece) × (e.capacity ≡ old.capacity) × (new ≡ old)
+Appends old piece new (Ok _) =
+    (length old.content + length piece ≤ old.capacity)
+    × (new ≡ record { capacity = old.capacity; content = old.content ++ piece })
+Appends old piece new (Err e) =
+    (old.capacity < length old.content + length piece) × (e.capacity ≡ old.capacity) × (new ≡ old)
 
 -- the same, where a component of the memory is meant
 abbrev pub AppendsTo : List Held → ℕ → List ℕ → List Held → Result (Unit {0}) TooLarge → Type 0
 AppendsTo old component piece new (Ok _) =
-    (length (held_by old component).content + length piece ≤ (held_by old component).capacity) × (new ≡ holding old component ((held_by old component).content ++ piece))
+    (length (held_by old component).content + length piece ≤ (held_by old component).capacity)
+    × (new ≡ holding old component ((held_by old component).content ++ piece))
 AppendsTo old component piece new (Err e) =
-    ((held_by old component).capacity < length (held_by old component).content + length piece) × (e.capacity ≡ (held_by old component).capacity) × (new ≡ old)
+    ((held_by old component).capacity < length (held_by old component).content + length piece)
+    × (e.capacity ≡ (held_by old component).capacity) × (new ≡ old)
 
 -- The content has so many bytes, and begins with those that it had. There is as much room as before.
 pub record Stretches (old : Held) (size : ℕ) (new : Held) : Type 0 where

@@ -8,9 +8,11 @@ use Rattle.flash_layout.specs.Slots.{slot_content}
 use Rattle.flash_slots.specs.Contents.{IsEmptyInEach, IsEmptySlot}
 
 -- after it was emptied
-pub emptied : (slot : Slot) (f : Flash) → IsSettled f → IsEmptySlot slot f.reads → IsEmptyInEach slot f
+pub emptied : (slot : Slot) (f : Flash) → IsSettled f → IsEmptySlot slot f.reads
+    → IsEmptyInEach slot f
 emptied slot f settled empty image now = ap (slot_content slot) (settled image now) ∙ empty
 
 -- after a piece was put
-pub appended : (slot : Slot) (a b : Flash) (size : ℕ) → IsFlash b size → Passes a b (IsEmptySlot slot) → IsEmptyInEach slot b
+pub appended : (slot : Slot) (a b : Flash) (size : ℕ) → IsFlash b size
+    → Passes a b (IsEmptySlot slot) → IsEmptyInEach slot b
 appended slot a b size law run = each_now a b size (IsEmptySlot slot) law run

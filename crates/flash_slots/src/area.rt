@@ -7,7 +7,7 @@ ghost use Rattle.suit_edge.specs.Ranges.{written};
 use std::alloc::{AllocError, Global};
 use std::marker::Model;
 
-/// A content would have more bytes than its component has room for, which are so many.
+/// A content would have more bytes than its component has room for, which is this many.
 #[derive(Clone, Copy, Debug, PartialEq, Eq)]
 pub struct TooLarge {
     pub capacity: u64,
@@ -26,7 +26,10 @@ impl Model for Area {
 
     ghost Value = { Held };
 
-    ghost view = { λ a. record { capacity = length a.room.items; content = take a.used a.room.items } };
+    ghost view = { λ a. record {
+      capacity = length a.room.items;
+      content = take a.used a.room.items;
+    } };
 
     ghost invariant = { λ a. a.used ≤ length a.room.items };
 }
@@ -73,7 +76,7 @@ impl Area {
         self.used = 0;
     }
 
-    /// Puts a piece behind the content. One for which there is no room changes nothing.
+    /// Appends a piece to the content. One for which there is no room changes nothing.
     pub(crate) fn append(&mut self, piece: &[u8]) -> Result<(), TooLarge>
         ensures { Appends self.old piece.now self.new result }
     {
@@ -88,7 +91,7 @@ impl Area {
         Ok(())
     }
 
-    /// Puts a piece over the bytes of the content from that one on.
+    /// Overwrites the content with a piece, from that byte on.
     pub(crate) fn put(&mut self, from: usize, piece: &[u8])
         requires { from + length piece.now ≤ length self.old.content }
         ensures capacity { self.new.capacity ≡ self.old.capacity }
@@ -106,7 +109,7 @@ impl Area {
         self.used = size;
     }
 
-    /// Lets the content have so many bytes: those behind the ones before are any.
+    /// Extends the content to so many bytes: the new ones are any.
     pub(crate) fn stretch(&mut self, size: usize)
         requires behind { length self.old.content ≤ size }
         requires fits { size ≤ self.old.capacity }

@@ -2,7 +2,7 @@
 
 ghost use Rattle.flash_slots.specs.RamLaws.{RamLaws};
 
-/// What is made for a layout stays so, and a component's content is its own.
+/// Room made for a layout stays room for it, and a component's content is its own.
 pub fn ram_laws()
     ensures { RamLaws }
 {}

@@ -10,8 +10,8 @@ use crate::Writing;
 use flash_layout::{FlashFault, LENGTH_SIZE, Slot};
 use suit_edge::{Disk, Edge};
 
-/// Puts a piece over the room for the content, from one of its bytes on, whatever the content's length. It is sure only
-/// after `set_length`. Where it fails, the piece's bytes are any.
+/// Writes a piece over the room for the content, from one of its bytes on, whatever the content's length. It is durable
+/// only after `set_length`. If it fails, the piece's bytes are any.
 pub fn overwrite<D: Disk>(
     disk: &mut D,
     slot: Slot,
@@ -22,8 +22,13 @@ pub fn overwrite<D: Disk>(
     requires within { from + length piece.now ≤ slot.capacity }
     ensures size { D.extent disk.new ≡ D.extent disk.old }
     ensures counts { ResultCounts result (D.faults disk.old) (D.faults disk.new) }
-    ensures area { IsTrue D.told → OnOk result (area_of slot (D.flash disk.new).reads ≡ written (area_of slot (D.flash disk.old).reads) from piece.now) }
-    ensures keeps { IsTrue D.told → Keeps (Outside (slot.start + LENGTH_SIZE + from) (length piece.now)) (D.flash disk.old) (D.flash disk.new) }
+    ensures area { IsTrue D.told
+        → OnOk result
+        (area_of slot (D.flash disk.new).reads
+        ≡ written (area_of slot (D.flash disk.old).reads) from piece.now) }
+    ensures keeps { IsTrue D.told
+        → Keeps (Outside (slot.start + LENGTH_SIZE + from) (length piece.now)) (D.flash disk.old)
+        (D.flash disk.new) }
     ensures grows { IsTrue D.told → Grows (D.flash disk.old) (D.flash disk.new) }
 {
     // Each place of the slot fits a u64, since the flash's size does.
@@ -34,16 +39,20 @@ pub fn overwrite<D: Disk>(
     }
 }
 
-/// Makes sure of all pieces, and then makes the first bytes of the room the content, and makes sure of it. Where it fails,
-/// the slot holds any content.
+/// Syncs all pieces, and then makes the first bytes of the room the content, and syncs it. If it fails, the slot holds
+/// any content.
 pub fn set_length<D: Disk>(disk: &mut D, slot: Slot, size: u64) -> Result<(), FlashFault>
     requires slot { LiesWithin (D.extent disk.old) slot }
     requires within { size ≤ slot.capacity }
     ensures size { D.extent disk.new ≡ D.extent disk.old }
     ensures counts { ResultCounts result (D.faults disk.old) (D.faults disk.new) }
-    ensures content { IsTrue D.told → OnOk result (slot_content slot (D.flash disk.new).reads ≡ pieces_of slot size (D.flash disk.old).reads) }
+    ensures content { IsTrue D.told
+        → OnOk result
+        (slot_content slot (D.flash disk.new).reads
+        ≡ pieces_of slot size (D.flash disk.old).reads) }
     ensures settled { IsTrue D.told → OnOk result (IsSettled (D.flash disk.new)) }
-    ensures keeps { IsTrue D.told → Keeps (Outside slot.start LENGTH_SIZE) (D.flash disk.old) (D.flash disk.new) }
+    ensures keeps { IsTrue D.told
+        → Keeps (Outside slot.start LENGTH_SIZE) (D.flash disk.old) (D.flash disk.new) }
     ensures grows { IsTrue D.told → Grows (D.flash disk.old) (D.flash disk.new) }
 {
     let writing = Writing::of(slot, size);

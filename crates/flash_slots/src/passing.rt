@@ -17,7 +17,8 @@ pub fn digest<D: Disk>(disk: &mut D, slot: Slot, room: &mut [u8]) -> Result<[u8;
     requires room { 0 < length room.old }
     ensures size { D.extent disk.new ≡ D.extent disk.old }
     ensures counts { ResultCounts result (D.faults disk.old) (D.faults disk.new) }
-    ensures exact { IsTrue D.told → IfOk result (λ d. d ≡ sha256 (slot_content slot (D.flash disk.old).reads)) }
+    ensures exact { IsTrue D.told
+        → IfOk result (λ d. d ≡ sha256 (slot_content slot (D.flash disk.old).reads)) }
     ensures same { IsTrue D.told → IsSame (D.flash disk.old) (D.flash disk.new) }
     ensures grows { IsTrue D.told → Grows (D.flash disk.old) (D.flash disk.new) }
 {
@@ -45,7 +46,7 @@ fn is_equal(a: &[u8], b: &[u8]) -> bool
     a == b
 }
 
-/// Whether the content is these bytes. It is read through the room.
+/// Whether the content equals these bytes. It is read through the room.
 pub fn same_content<D: Disk>(
     disk: &mut D,
     slot: Slot,
@@ -56,7 +57,9 @@ pub fn same_content<D: Disk>(
     requires room { 0 < length room.old }
     ensures size { D.extent disk.new ≡ D.extent disk.old }
     ensures counts { ResultCounts result (D.faults disk.old) (D.faults disk.new) }
-    ensures exact { IsTrue D.told → IfOk result (λ same. IsTrue same ↔ (slot_content slot (D.flash disk.old).reads ≡ bytes.now)) }
+    ensures exact { IsTrue D.told
+        → IfOk result
+        (λ same. IsTrue same ↔ (slot_content slot (D.flash disk.old).reads ≡ bytes.now)) }
     ensures same { IsTrue D.told → IsSame (D.flash disk.old) (D.flash disk.new) }
     ensures grows { IsTrue D.told → Grows (D.flash disk.old) (D.flash disk.new) }
 {

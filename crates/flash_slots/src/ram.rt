@@ -67,7 +67,7 @@ impl Ram {
         area.clear();
     }
 
-    /// Puts a piece behind a component's content. One for which there is no room changes nothing.
+    /// Appends a piece to a component's content. One for which there is no room changes nothing.
     pub fn append(&mut self, component: u32, piece: &[u8]) -> Result<(), TooLarge>
         requires { component < length self.old }
         ensures { AppendsTo self.old component piece.now self.new result }
@@ -76,11 +76,13 @@ impl Ram {
         area.append(piece)
     }
 
-    /// Puts a piece over the bytes of a component's content from that one on.
+    /// Overwrites a component's content with a piece, from that byte on.
     pub fn put(&mut self, component: u32, from: usize, piece: &[u8])
         requires component { component < length self.old }
         requires within { from + length piece.now ≤ length (held_by self.old component).content }
-        ensures { self.new ≡ holding self.old component (written (held_by self.old component).content from piece.now) }
+        ensures { self.new
+            ≡ holding self.old component
+            (written (held_by self.old component).content from piece.now) }
     {
         let area = &mut self.areas[component as usize];
         area.put(from, piece);
@@ -90,19 +92,21 @@ impl Ram {
     pub fn cut(&mut self, component: u32, size: usize)
         requires component { component < length self.old }
         requires within { size ≤ length (held_by self.old component).content }
-        ensures { self.new ≡ holding self.old component (take size (held_by self.old component).content) }
+        ensures { self.new
+            ≡ holding self.old component (take size (held_by self.old component).content) }
     {
         let area = &mut self.areas[component as usize];
         area.cut(size);
     }
 
-    /// Lets a component's content have so many bytes: those behind the ones before are any.
+    /// Extends a component's content to so many bytes: the new ones are any.
     pub fn stretch(&mut self, component: u32, size: usize)
         requires component { component < length self.old }
         requires behind { length (held_by self.old component).content ≤ size }
         requires fits { size ≤ (held_by self.old component).capacity }
         ensures held { Stretches (held_by self.old component) size (held_by self.new component) }
-        ensures others { self.new ≡ holding self.old component (held_by self.new component).content }
+        ensures others { self.new
+            ≡ holding self.old component (held_by self.new component).content }
     {
         let area = &mut self.areas[component as usize];
         area.stretch(size);

@@ -14,7 +14,8 @@ pub fn length<D: Disk>(disk: &mut D, slot: Slot) -> Result<u64, FlashFault>
     ensures size { D.extent disk.new ≡ D.extent disk.old }
     ensures counts { ResultCounts result (D.faults disk.old) (D.faults disk.new) }
     ensures few { IfOk result (λ n. n ≤ slot.capacity) }
-    ensures exact { IsTrue D.told → IfOk result (λ n. n ≡ length (slot_content slot (D.flash disk.old).reads)) }
+    ensures exact { IsTrue D.told
+        → IfOk result (λ n. n ≡ length (slot_content slot (D.flash disk.old).reads)) }
     ensures same { IsTrue D.told → IsSame (D.flash disk.old) (D.flash disk.new) }
     ensures grows { IsTrue D.told → Grows (D.flash disk.old) (D.flash disk.new) }
 {
@@ -31,8 +32,8 @@ pub fn length<D: Disk>(disk: &mut D, slot: Slot) -> Result<u64, FlashFault>
     }
 }
 
-/// Reads so many of the first bytes of the room for the content, from one of them on, as much as fits, and says how many
-/// bytes that are. Where it fails, the room holds any bytes.
+/// Reads so many of the first bytes of the room for the content, from one of them on, as much as fits, and says how
+/// many. If it fails, the room holds any bytes.
 pub fn read_some<D: Disk>(
     disk: &mut D,
     slot: Slot,
@@ -46,7 +47,9 @@ pub fn read_some<D: Disk>(
     ensures size { D.extent disk.new ≡ D.extent disk.old }
     ensures counts { ResultCounts result (D.faults disk.old) (D.faults disk.new) }
     ensures count { IfOk result (λ n. n ≡ min (length room.old) (size - from)) }
-    ensures bytes { IsTrue D.told → IfOk result (λ n. room.new ≡ part_of slot from n (D.flash disk.old).reads ++ drop n room.old) }
+    ensures bytes { IsTrue D.told
+        → IfOk result
+        (λ n. room.new ≡ part_of slot from n (D.flash disk.old).reads ++ drop n room.old) }
     ensures same { IsTrue D.told → IsSame (D.flash disk.old) (D.flash disk.new) }
     ensures grows { IsTrue D.told → Grows (D.flash disk.old) (D.flash disk.new) }
 {
@@ -64,8 +67,8 @@ pub fn read_some<D: Disk>(
     }
 }
 
-/// Reads the content from one of its bytes on, as much as fits in the room, and says how many bytes that are: none
-/// from its end on. Where it fails, the room holds any bytes.
+/// Reads the content from one of its bytes on, as much as fits in the room, and says how many bytes: none from its end
+/// on. If it fails, the room holds any bytes.
 pub fn read<D: Disk>(
     disk: &mut D,
     slot: Slot,
@@ -76,7 +79,8 @@ pub fn read<D: Disk>(
     ensures size { D.extent disk.new ≡ D.extent disk.old }
     ensures counts { ResultCounts result (D.faults disk.old) (D.faults disk.new) }
     ensures within { IfOk result (λ n. n ≤ length room.old) }
-    ensures exact { IsTrue D.told → IfOk result (IsRead (slot_content slot (D.flash disk.old).reads) from room.old room.new) }
+    ensures exact { IsTrue D.told
+        → IfOk result (IsRead (slot_content slot (D.flash disk.old).reads) from room.old room.new) }
     ensures same { IsTrue D.told → IsSame (D.flash disk.old) (D.flash disk.new) }
     ensures grows { IsTrue D.told → Grows (D.flash disk.old) (D.flash disk.new) }
 {

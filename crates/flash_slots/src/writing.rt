@@ -9,7 +9,7 @@ ghost use Rattle.suit_edge.specs.Ranges.{Outside};
 use flash_layout::{FlashFault, LENGTH_SIZE, Slot};
 use suit_edge::{Disk, Edge, write_and_sync};
 
-/// A slot that was emptied, and how many bytes of its new content were put. Given up, it leaves the slot empty.
+/// An emptied slot, and how many bytes of its new content were put. Dropped, it leaves the slot empty.
 #[derive(Debug, Drop)]
 pub struct Writing {
     slot: Slot,
@@ -19,13 +19,13 @@ pub struct Writing {
 /// Why a piece was not put.
 #[derive(Clone, Copy, Debug, PartialEq, Eq)]
 pub enum AppendFault {
-    /// The content would have more bytes than the slot has room for, which are so many. Nothing was changed.
+    /// The content would have more bytes than the slot has room for, which is this many. Nothing was changed.
     TooLarge(u64),
     /// A call of the flash failed. The slot then holds any content.
     FlashFault,
 }
 
-/// Empties a slot, and makes sure of it. Where it fails, the slot holds any content.
+/// Empties a slot, and syncs it. If it fails, the slot holds any content.
 pub fn begin<D: Disk>(disk: &mut D, slot: Slot) -> Result<Writing, FlashFault>
     requires { LiesWithin (D.extent disk.old) slot }
     ensures size { D.extent disk.new ≡ D.extent disk.old }
@@ -34,7 +34,8 @@ pub fn begin<D: Disk>(disk: &mut D, slot: Slot) -> Result<Writing, FlashFault>
     ensures none { IfOk result (λ w. w.written ≡ 0) }
     ensures empty { IsTrue D.told → OnOk result (slot_content slot (D.flash disk.new).reads ≡ []) }
     ensures settled { IsTrue D.told → OnOk result (IsSettled (D.flash disk.new)) }
-    ensures keeps { IsTrue D.told → Keeps (Outside slot.start LENGTH_SIZE) (D.flash disk.old) (D.flash disk.new) }
+    ensures keeps { IsTrue D.told
+        → Keeps (Outside slot.start LENGTH_SIZE) (D.flash disk.old) (D.flash disk.new) }
     ensures grows { IsTrue D.told → Grows (D.flash disk.old) (D.flash disk.new) }
 {
     match write_and_sync(disk, slot.start, &0u64.to_be_bytes()) {
@@ -52,7 +53,7 @@ impl Writing {
         Writing { slot, written }
     }
 
-    /// Puts a piece behind those before it. It is sure only after `finish`.
+    /// Appends a piece. It is durable only after `finish`.
     pub fn append<D: Disk>(&mut self, disk: &mut D, piece: &[u8]) -> Result<(), AppendFault>
         requires slot { LiesWithin (D.extent disk.old) self.old.slot }
         requires within { self.old.written ≤ self.old.slot.capacity }
@@ -60,14 +61,23 @@ impl Writing {
         ensures counts { AppendCounts result (D.faults disk.old) (D.faults disk.new) }
         ensures slot { self.new.slot ≡ self.old.slot }
         ensures within { self.new.written ≤ self.new.slot.capacity }
-        ensures exact { AppendsWithin result self.old.slot.capacity (self.old.written + length piece.now) }
+        ensures exact { AppendsWithin result self.old.slot.capacity
+            (self.old.written + length piece.now) }
         ensures refused { IfTooLarge result ((self.new ≡ self.old) × (disk.new ≡ disk.old)) }
         ensures written { OnOk result (self.new.written ≡ self.old.written + length piece.now) }
-        ensures pieces { IsTrue D.told → OnOk result (pieces_of self.new.slot self.new.written (D.flash disk.new).reads
-            ≡ pieces_of self.old.slot self.old.written (D.flash disk.old).reads ++ piece.now) }
-        ensures empty { IsTrue D.told → slot_content self.old.slot (D.flash disk.old).reads ≡ [] → slot_content self.old.slot (D.flash disk.new).reads ≡ [] }
-        ensures still_empty { IsTrue D.told → IsEmptyInEach self.old.slot (D.flash disk.old) → Passes (D.flash disk.old) (D.flash disk.new) (IsEmptySlot self.old.slot) }
-        ensures keeps { IsTrue D.told → Keeps (Outside (self.old.slot.start + LENGTH_SIZE + self.old.written) (length piece.now)) (D.flash disk.old) (D.flash disk.new) }
+        ensures pieces { IsTrue D.told
+            → OnOk result
+            (pieces_of self.new.slot self.new.written (D.flash disk.new).reads
+            ≡ pieces_of self.old.slot self.old.written (D.flash disk.old).reads
+            ++ piece.now) }
+        ensures empty { IsTrue D.told → slot_content self.old.slot (D.flash disk.old).reads ≡ []
+            → slot_content self.old.slot (D.flash disk.new).reads ≡ [] }
+        ensures still_empty { IsTrue D.told → IsEmptyInEach self.old.slot (D.flash disk.old)
+            → Passes (D.flash disk.old) (D.flash disk.new) (IsEmptySlot self.old.slot) }
+        ensures keeps { IsTrue D.told
+            → Keeps
+            (Outside (self.old.slot.start + LENGTH_SIZE + self.old.written) (length piece.now))
+            (D.flash disk.old) (D.flash disk.new) }
         ensures grows { IsTrue D.told → Grows (D.flash disk.old) (D.flash disk.new) }
     {
         // Each place of the slot fits a u64, since the flash's size does.
@@ -85,19 +95,23 @@ impl Writing {
         }
     }
 
-    /// Makes sure of the pieces, and then makes them the content and makes sure of it. Until a length is stored the slot is
-    /// empty, also after a power loss, and from then on the pieces stand in it whole. Where it fails, the slot holds any
-    /// content.
+    /// Syncs the pieces, and then makes them the content and syncs it. Until a length is stored the slot is empty, even
+    /// after a power loss, and from then on the pieces stand in it whole. If it fails, the slot holds any content.
     pub fn finish<D: Disk>(self, disk: &mut D) -> Result<(), FlashFault>
         requires slot { LiesWithin (D.extent disk.old) self.slot }
         requires within { self.written ≤ self.slot.capacity }
         ensures size { D.extent disk.new ≡ D.extent disk.old }
         ensures counts { ResultCounts result (D.faults disk.old) (D.faults disk.new) }
-        ensures content { IsTrue D.told → OnOk result (slot_content self.slot (D.flash disk.new).reads ≡ pieces_of self.slot self.written (D.flash disk.old).reads) }
+        ensures content { IsTrue D.told
+            → OnOk result
+            (slot_content self.slot (D.flash disk.new).reads
+            ≡ pieces_of self.slot self.written (D.flash disk.old).reads) }
         ensures settled { IsTrue D.told → OnOk result (IsSettled (D.flash disk.new)) }
         ensures any_moment { IsTrue D.told → IsEmptyInEach self.slot (D.flash disk.old)
-            → Passes (D.flash disk.old) (D.flash disk.new) (IsEmptyOrWhole self.slot self.written (D.flash disk.old).reads) }
-        ensures keeps { IsTrue D.told → Keeps (Outside self.slot.start LENGTH_SIZE) (D.flash disk.old) (D.flash disk.new) }
+            → Passes (D.flash disk.old) (D.flash disk.new)
+            (IsEmptyOrWhole self.slot self.written (D.flash disk.old).reads) }
+        ensures keeps { IsTrue D.told
+            → Keeps (Outside self.slot.start LENGTH_SIZE) (D.flash disk.old) (D.flash disk.new) }
         ensures grows { IsTrue D.told → Grows (D.flash disk.old) (D.flash disk.new) }
     {
         // The length fits a u64, since the flash's size does.

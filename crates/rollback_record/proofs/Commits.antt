@@ -1,11 +1,11 @@
--- What a record page that is written behind its gate makes of a flash's record.
-use Rattle.std.proofs.Common.{◌≡◌, ◌≢◌, inl, inr, ⊎_elim, ◌<◌, ◌≤◌, ℕ, zero, suc, ◌+◌, ◌-◌, ◌*◌, List, ◌∷◌, length, get_or, Option, Some, None, refl, sym, ◌∙◌, ap, subst, arith}
+-- The record of a flash after a record page is written behind its gate.
+use Rattle.std.proofs.Common.{◌≡◌, ◌≢◌, inl, inr, ⊎_elim, ◌<◌, ◌≤◌, ℕ, zero, suc, ◌+◌, ◌-◌, ◌*◌, List, ◌∷◌, length, length-drop, drop, get_or, Option, Some, None, refl, sym, ◌∙◌, ap, subst, arith}
 use Rattle.std.specs.List.{slice_range}
 use Rattle.std.proofs.lemmas.Bool.{cases_eq}
 use Rattle.std.proofs.lemmas.List.{ext_get_or}
 use Rattle.std.proofs.lemmas.List.Edits.{length-between, get_or-between}
 use Rattle.suit_edge.specs.Flash.{Flash, Now, Passes, ImageOn, Keeps, IsSame, IsFirmOn, IsFlash}
-use Rattle.suit_edge.specs.FlashLaws.{each_read, firm_fewer, firm_then, joined, keeps_fewer, keeps_same, keeps_then, weakens}
+use Rattle.suit_edge.specs.FlashLaws.{firm_fewer, firm_then, joined, keeps_fewer, keeps_same, keeps_then, weakens}
 use Rattle.suit_edge.specs.Gate.{IsGated, IsNewPage, IsOpen, body_at, page_at}
 use Rattle.suit_edge.specs.Ranges.{InSome, Outside, OutsideEach}
 use Rattle.suit_edge.specs.RangeLaws.{same_range}
@@ -135,57 +135,75 @@ read_keeps a b held is same =
 
 -- ---- a read, and then the page
 
-pub from_start : (p w : ℕ) → p ≡ 0 + (4096 + w * 4096) → p ≡ 4096 + w * 4096
-from_start p w is = omega (arith, is)
+-- a flash, the same one after the read, and the page that is to be written
+pub record Begins (a b : Flash) (size w : ℕ) (held : Option Record) (new : Record) (gate place : ℕ) (body : List ℕ) : Type 0 where
+  pub law_a : IsFlash a size
+  pub law_b : IsFlash b size
+  pub large : 49152 ≤ size
+  pub same : IsSame a b
+  pub is : RecordOf VERSION_1 (head_of VERSION_1 a.reads) held
+  pub firm : IsFirmOn (InHead VERSION_1) a
+  pub spare : IsSpare VERSION_1 (head_of VERSION_1 a.reads) held w
+  pub two : w < 2
+  pub next : IsNext held new
+  pub typed : IsTypedRecord new
+  pub fields : IsInRange VERSION_1 (config_page_of VERSION_1 (head_of VERSION_1 a.reads)) new
+  pub gate_is : gate ≡ 4096 + w * 4096
+  pub place_is : place ≡ gate + 1
+  pub body_is : body ≡ record_body new
+  pub long : length body ≡ 98
 
-module _ (a b : Flash) (size w : ℕ) (held : Option Record) (new : Record) (gate place : ℕ) (body : List ℕ) (law_a : IsFlash a size) (law_b : IsFlash b size) (large : 49152 ≤ size) (same : IsSame a b)
-    (is : RecordOf VERSION_1 (head_of VERSION_1 a.reads) held) (firm : IsFirmOn (InHead VERSION_1) a) (spare : IsSpare VERSION_1 (head_of VERSION_1 a.reads) held w) (two : w < 2)
-    (next : IsNext held new) (typed : IsTypedRecord new) (fields : IsInRange VERSION_1 (config_page_of VERSION_1 (head_of VERSION_1 a.reads)) new)
-    (gate_is : gate ≡ 4096 + w * 4096) (place_is : place ≡ gate + 1) (body_is : body ≡ record_body new) (long : length body ≡ 98) where
+pub gate_of : (p w : ℕ) → p ≡ 0 + (4096 + w * 4096) → p ≡ 4096 + w * 4096
+gate_of p w is = omega (arith, is)
+
+-- the bytes behind the gate of a page that was spelled
+pub behind_gate : (page body : List ℕ) (new : Record) → page ≡ 0xA5 ∷ record_body new → body ≡ drop 1 page → body ≡ record_body new
+behind_gate page body new spelled behind = behind ∙ ap (drop 1) spelled
+
+pub long_behind : (page body : List ℕ) → length page ≡ 99 → body ≡ drop 1 page → length body ≡ 98
+long_behind page body long behind = omega (arith, long, ap length behind, length-drop 1 page)
+
+module _ (a b : Flash) (size w : ℕ) (held : Option Record) (new : Record) (gate place : ℕ) (body : List ℕ) (x : Begins a b size w held new gate place body) where
   large_a : 49152 ≤ length a.reads
-  large_a = omega (arith, law_a.fits, large)
+  large_a = omega (arith, x.law_a.fits, x.large)
 
   large_b : 49152 ≤ length b.reads
-  large_b = omega (arith, law_b.fits, large)
+  large_b = omega (arith, x.law_b.fits, x.large)
 
   firm_b : IsFirmOn (InHead VERSION_1) b
-  firm_b = firm_then (InHead VERSION_1) a b size law_b firm (keeps_same (InHead VERSION_1) a b same)
+  firm_b = firm_then (InHead VERSION_1) a b size x.law_b x.firm (keeps_same (InHead VERSION_1) a b x.same)
 
   is_b : RecordOf VERSION_1 (head_of VERSION_1 b.reads) held
-  is_b = subst (λ (l : List ℕ). RecordOf VERSION_1 (head_of VERSION_1 l) held) (sym same.reads) is
+  is_b = subst (λ (l : List ℕ). RecordOf VERSION_1 (head_of VERSION_1 l) held) (sym x.same.reads) x.is
 
   spare_b : IsSpare VERSION_1 (head_of VERSION_1 b.reads) held w
-  spare_b = subst (λ (l : List ℕ). IsSpare VERSION_1 (head_of VERSION_1 l) held w) (sym same.reads) spare
+  spare_b = subst (λ (l : List ℕ). IsSpare VERSION_1 (head_of VERSION_1 l) held w) (sym x.same.reads) x.spare
 
   fields_b : IsInRange VERSION_1 (config_page_of VERSION_1 (head_of VERSION_1 b.reads)) new
-  fields_b = subst (λ (l : List ℕ). IsInRange VERSION_1 (config_page_of VERSION_1 (head_of VERSION_1 l)) new) (sym same.reads) fields
+  fields_b = subst (λ (l : List ℕ). IsInRange VERSION_1 (config_page_of VERSION_1 (head_of VERSION_1 l)) new) (sym x.same.reads) x.fields
 
   -- the page is sure
   pub page_firm : IsFirmOn (InSome (page_at gate place (length body))) b
   page_firm = firm_fewer (InSome (page_at gate place (length body))) (InHead VERSION_1) (λ i h. ⊎_elim (λ g. (omega arith, gate_high i g.1)) (λ o. ⊎_elim (λ p. (omega arith, body_high i p.1)) (λ none. absurd none) o) h) b firm_b
     where
       gate_high : (i : ℕ) → i < gate + 1 → i < 0 + 49152
-      gate_high i h = omega (arith, h, gate_is, two)
+      gate_high i h = omega (arith, h, x.gate_is, x.two)
 
       body_high : (i : ℕ) → i < place + length body → i < 0 + 49152
-      body_high i h = omega (arith, h, gate_is, place_is, long, two)
+      body_high i h = omega (arith, h, x.gate_is, x.place_is, x.long, x.two)
 
-  module _ (c : Flash) (law_c : IsFlash c size) (run : Passes b c (IsGated gate place body b)) where
-    pub all_moments : Passes a c (HasHeldOrNew VERSION_1 held new)
-    all_moments =
-        joined a b c (HasHeldOrNew VERSION_1 held new) (only_read a b held new large_a is firm same)
-        (held_or_new b w held new gate place body large_b two gate_is place_is body_is long is_b spare_b next typed fields_b c firm_b run)
-
-    pub at_the_end : HasHeldOrNew VERSION_1 held new c.reads
-    at_the_end = each_read a c size (HasHeldOrNew VERSION_1 held new) law_c all_moments
+  pub all_moments : (c : Flash) → Passes b c (IsGated gate place body b) → Passes a c (HasHeldOrNew VERSION_1 held new)
+  all_moments c run =
+      joined a b c (HasHeldOrNew VERSION_1 held new) (only_read a b held new large_a x.is x.firm x.same)
+      (held_or_new b w held new gate place body large_b x.two x.gate_is x.place_is x.body_is x.long is_b spare_b x.next x.typed fields_b c firm_b run)
 
   pub keeps_beside : (c : Flash) → Keeps (OutsideEach (page_at gate place (length body))) b c → KeepsBesideSpare VERSION_1 held a c
   keeps_beside c apart = let at : 4096 + w * 4096 ≡ 0 + (4096 + w * 4096) = omega arith in record {
     which = w;
-    spare = spare;
-    keeps = subst (λ (k : ℕ). Keeps (Outside k 99) a c) at (keeps_then (Outside (4096 + w * 4096) 99) a b c size law_b (keeps_same (Outside (4096 + w * 4096) 99) a b same)
-        (keeps_fewer (Outside (4096 + w * 4096) 99) (OutsideEach (page_at gate place (length body))) (beside b w held new gate place body large_b two gate_is place_is body_is long) b c apart));
+    spare = x.spare;
+    keeps = subst (λ (k : ℕ). Keeps (Outside k 99) a c) at (keeps_then (Outside (4096 + w * 4096) 99) a b c size x.law_b (keeps_same (Outside (4096 + w * 4096) 99) a b x.same)
+        (keeps_fewer (Outside (4096 + w * 4096) 99) (OutsideEach (page_at gate place (length body))) (beside b w held new gate place body large_b x.two x.gate_is x.place_is x.body_is x.long) b c apart));
   }
 
   pub recorded : (c : Flash) → IsNewPage gate place body b.reads c.reads → IsOpen c.reads gate → RecordOf VERSION_1 (head_of VERSION_1 c.reads) (Some new)
-  recorded c put opens = new_record b w held new gate place body large_b two gate_is place_is body_is long is_b spare_b next typed fields_b c.reads put opens
+  recorded c put opens = new_record b w held new gate place body large_b x.two x.gate_is x.place_is x.body_is x.long is_b spare_b x.next x.typed fields_b c.reads put opens

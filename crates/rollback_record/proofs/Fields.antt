@@ -1,4 +1,4 @@
--- What is spelled on a record page is read back.
+-- The fields spelled on a record page are read back.
 use Rattle.std.proofs.Common.{◌≡◌, ℕ, ◌-◌, ◌^◌, ◌<◌, List, [], ◌∷◌, ◌++◌, length, get_or, replicate, refl, sym, ap, ◌∙◌, append_assoc, arith}
 use Rattle.std.specs.List.{slice_range}
 use Rattle.std.proofs.lemmas.Nat.{from_be_bytes-to_be_bytes_8}
@@ -83,7 +83,7 @@ body_read r typed =
     (ap number_at f.length_is ∙ number_read r.length typed.size)
     f.digest_is f.active_is
 
--- what is read of the page of a record is the record
+-- the page of a record is read as that record
 pub page_read : (frame : Frame) (config page : List ℕ) (r : Record) → IsRecordPage frame config page r → fields_at page ≡ r
 page_read frame config page r is = ap fields_at is.bytes ∙ body_read r is.typed
 

@@ -1,4 +1,4 @@
--- What is read of a bank that holds what is installed.
+-- Reading a bank that holds an installed envelope.
 use Rattle.std.proofs.Common.{⊎_elim, ℕ, List, [], sym, ◌∙◌}
 use Rattle.std.specs.List.{AllByRecursion}
 use Rattle.det_cbor.specs.DataItem.{IsByte}

@@ -7,3 +7,4 @@ mod Sounds
 mod SoundSince
 mod Installed
 mod StillSound
+pub mod HeadSince

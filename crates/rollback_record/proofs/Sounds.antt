@@ -45,7 +45,7 @@ pub same_sound : (frame : Frame) (image other : List ℕ) → length other ≡ l
 same_sound frame image other long head is =
     subst (λ (n : ℕ). IsSoundHead frame n (head_of frame other)) (sym long) (subst (λ (h : List ℕ). IsSoundHead frame (length image) h) (sym head) is)
 
--- ---- what goes on
+-- ---- going on
 
 pub itself : (frame : Frame) (a : List ℕ) → Sound frame a → Follows frame a a
 itself frame a (SoundBlank blank) = FollowsBlank blank

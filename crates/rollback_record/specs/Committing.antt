@@ -1,4 +1,4 @@
--- What a commit makes of the flash.
+-- The effect of a commit on the flash.
 use Rattle.std.specs.Prelude.{◌≡◌, ◌⊎◌, ◌<◌, ◌+◌, ◌-◌, ℕ, List, Option, Some, None}
 use Rattle.suit_edge.specs.Flash.{Flash, Keeps}
 use Rattle.suit_edge.specs.Ranges.{Within, Outside}
@@ -19,7 +19,8 @@ IsNext (Some r) new = new.generation ≡ r.generation + 1
 
 -- the image has the held record or the new one
 abbrev pub HasHeldOrNew : Frame → Option Record → Record → List ℕ → Type 0
-HasHeldOrNew frame held new image = RecordOf frame (head_of frame image) held ⊎ RecordOf frame (head_of frame image) (Some new)
+HasHeldOrNew frame held new image =
+    RecordOf frame (head_of frame image) held ⊎ RecordOf frame (head_of frame image) (Some new)
 
 -- the record page that is free to be written: the first where there is no record, else the one that does not hold it
 abbrev pub IsSpare : Frame → List ℕ → Option Record → ℕ → Type 0

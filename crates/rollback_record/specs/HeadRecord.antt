@@ -1,4 +1,4 @@
--- What an image of the flash says of its record. Each word speaks of the image's head alone.
+-- The record of an image of the flash. Each word speaks of the image's head alone.
 use Rattle.std.specs.Prelude.{◌≡◌, ◌⊎◌, ◌<◌, ◌≤◌, ◌+◌, ◌-◌, ℕ, List, length, slice_range, nat_lt, if◌then◌else◌, Option, Some, None, Result, MatchResult}
 use Rattle.flash_layout.specs.declared.frame.Frame.{Frame}
 use Rattle.flash_layout.specs.declared.slot.Record.{Record}
@@ -10,7 +10,8 @@ use Rattle.rollback_record.specs.RecordPage.{IsTypedRecord, IsRecordPage}
 
 -- the bytes of a record page that are read
 abbrev pub record_bytes : Frame → List ℕ → ℕ → List ℕ
-record_bytes frame head which = slice_range head (record_from frame which) (record_from frame which + RECORD_BYTES)
+record_bytes frame head which =
+    slice_range head (record_from frame which) (record_from frame which + RECORD_BYTES)
 
 -- that page of the head counts, and holds the record
 pub record Counts (frame : Frame) (head : List ℕ) (which : ℕ) (r : Record) : Type 0 where
@@ -19,7 +20,8 @@ pub record Counts (frame : Frame) (head : List ℕ) (which : ℕ) (r : Record) :
 
 -- Of two pages that count, the one of the higher generation is the record; of equal ones page 0.
 abbrev pub IsBelow : ℕ → Record → Record → Type 0
-IsBelow which other r = (other.generation < r.generation) ⊎ ((which ≡ 0) × (other.generation ≡ r.generation))
+IsBelow which other r =
+    (other.generation < r.generation) ⊎ ((which ≡ 0) × (other.generation ≡ r.generation))
 
 pub record HoldsRecord (frame : Frame) (head : List ℕ) (r : Record) : Type 0 where
   pub which : ℕ
@@ -35,7 +37,7 @@ abbrev pub RecordOf : Frame → List ℕ → Option Record → Type 0
 RecordOf frame head None = HoldsNone frame head
 RecordOf frame head (Some r) = HoldsRecord frame head r
 
--- ---- what a load answers
+-- ---- the answers of a load
 
 -- the pages that were read of a head
 pub record HaveRead (frame : Frame) (head config first second : List ℕ) : Type 0 where
@@ -43,7 +45,7 @@ pub record HaveRead (frame : Frame) (head config first second : List ℕ) : Type
   pub first_is : first ≡ record_bytes frame head 0
   pub second_is : second ≡ record_bytes frame head 1
 
--- what holds of each record that is loaded, also where a disk does not tell its bytes
+-- the bounds on each loaded record, also where a disk does not tell its bytes
 pub record IsLoadable (frame : Frame) (r : Record) : Type 0 where
   pub typed : IsTypedRecord r
   pub bank : r.bank < 2

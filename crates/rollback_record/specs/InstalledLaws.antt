@@ -1,5 +1,5 @@
--- What is read of a bank that holds what is installed: the envelope and the manifest that it was judged to hold, and no
--- refusal.
+-- Reading a bank that holds an installed envelope: it gives the envelope and the manifest that it was judged to hold,
+-- and no refusal.
 use Rattle.std.specs.Prelude.{◌≡◌, ℕ, List}
 use Rattle.suit_params.specs.declared.refusal.Refusal.{Refusal}
 use Rattle.suit_params.specs.Refusing.{RefusesWhole, SaysWhole}
@@ -15,13 +15,20 @@ use Rattle.flash_layout.specs.Placement.{IsFirstUnknown}
 use Rattle.rollback_record.specs.SoundFlash.{IsInstalled}
 
 -- of bytes that are installed
-pub record AreReadAsInstalled (layout : List Entry) (key : Key) (bytes : List ℕ) (r : Record) (is : IsInstalled layout key bytes r) : Type 0 where
+pub record AreReadAsInstalled (layout : List Entry) (key : Key) (bytes : List ℕ) (r : Record)
+    (is : IsInstalled layout key bytes r) : Type 0 where
   -- their envelope says the two parts
-  pub envelope : (said : EnvelopeSays) → EnvelopeOf bytes said → said ≡ trimmed_says is.wrapper is.manifest
+  pub envelope : (said : EnvelopeSays) → EnvelopeOf bytes said
+      → said ≡ trimmed_says is.wrapper is.manifest
   pub refused : (e : Refusal) → RefusesBytes bytes e → ⊥
   -- and its manifest that manifest
-  pub manifest : (m : Manifest) → SaysWhole IsManifest (trimmed_says is.wrapper is.manifest).manifest_place is.manifest m → m ≡ is.said
-  pub manifest_refused : (e : Refusal) → RefusesWhole RefusesManifest (trimmed_says is.wrapper is.manifest).manifest_place is.manifest e → ⊥
+  pub manifest : (m : Manifest)
+      → SaysWhole IsManifest (trimmed_says is.wrapper is.manifest).manifest_place is.manifest m
+      → m ≡ is.said
+  pub manifest_refused : (e : Refusal)
+      → RefusesWhole RefusesManifest (trimmed_says is.wrapper is.manifest).manifest_place
+      is.manifest e
+      → ⊥
   -- whose components the layout has
   pub known : (component : ℕ) → IsFirstUnknown layout is.said.components component → ⊥
 

@@ -1,4 +1,4 @@
--- What is judged of a manifest beside the held record.
+-- The judgement of a manifest beside the held record.
 use Rattle.std.specs.Prelude.{◌≡◌, ◌≢◌, ◌<◌, ◌^◌, ◌-◌, ℕ, Option, Some, None, IsSomeAnd}
 use Rattle.suit_params.specs.declared.digest.Digest.{Digest}
 use Rattle.flash_layout.specs.declared.slot.Record.{Record}
@@ -18,7 +18,11 @@ IsAcceptable sequence digest (Some r) = IsNotBack sequence digest r × (r.genera
 -- the first thing that is wrong, or nothing
 abbrev pub IsJudged : ℕ → Digest → Option Record → Judged → Type 0
 IsJudged sequence digest held judged.Accepted = IsAcceptable sequence digest held
-IsJudged sequence digest held (judged.Lower recorded offered) = IsSomeAnd held (λ r. (sequence < r.sequence) × (recorded ≡ r.sequence) × (offered ≡ sequence))
+IsJudged sequence digest held (judged.Lower recorded offered) =
+    IsSomeAnd held (λ r. (sequence < r.sequence) × (recorded ≡ r.sequence) × (offered ≡ sequence))
 IsJudged sequence digest held (judged.OtherDigest recorded offered) =
-    IsSomeAnd held (λ r. (sequence ≡ r.sequence) × (digest ≢ r.digest) × (recorded ≡ r.digest) × (offered ≡ digest))
-IsJudged sequence digest held judged.Worn = IsSomeAnd held (λ r. IsNotBack sequence digest r × (r.generation ≡ 2 ^ 64 - 1))
+    IsSomeAnd held
+    (λ r. (sequence ≡ r.sequence) × (digest ≢ r.digest) × (recorded ≡ r.digest)
+    × (offered ≡ digest))
+IsJudged sequence digest held judged.Worn =
+    IsSomeAnd held (λ r. IsNotBack sequence digest r × (r.generation ≡ 2 ^ 64 - 1))

@@ -1,4 +1,4 @@
--- What holds of each record page and of each head.
+-- The laws of each record page and of each head.
 use Rattle.std.specs.Prelude.{◌≡◌, ℕ, List, Option}
 use Rattle.flash_layout.specs.declared.frame.Frame.{Frame}
 use Rattle.flash_layout.specs.declared.slot.Record.{Record}

@@ -2,16 +2,18 @@
 use Rattle.std.specs.Prelude.{◌≡◌, ◌⊎◌, ◌<◌, ◌≤◌, ◌+◌, ◌*◌, ◌^◌, ℕ, List, ◌∷◌, ◌++◌, length, slice_index, slice_range}
 use Rattle.suit_edge.specs.declared.page.TheConstants.{OPEN}
 use Rattle.flash_layout.specs.declared.frame.Frame.{Frame}
+use Rattle.flash_layout.specs.declared.frame.TheConstants.{ENTRY_SIZE, FRONT_SIZE}
 use Rattle.flash_layout.specs.declared.slot.Record.{Record}
 use Rattle.flash_layout.specs.ConfigPage.{number_bytes, padded}
 use Rattle.flash_layout.specs.PageReading.{number_at}
 
 -- ---- fields
 
--- The component of that index has a second slot, by the bytes of the configuration page: a component takes 142 bytes
--- behind the first 68, and the second of them counts its slots.
+-- The component of that index has a second slot, by the bytes of the configuration page: its fourth byte counts the
+-- components, and the second byte of each of them its slots.
 abbrev pub HasSecondSlot : List ℕ → ℕ → Type 0
-HasSecondSlot config i = (i < slice_index config 3) × (slice_index config (142 * i + 69) ≡ 2)
+HasSecondSlot config i =
+    (i < slice_index config 3) × (slice_index config (ENTRY_SIZE * i + (FRONT_SIZE + 1)) ≡ 2)
 
 -- slot 0, or slot 1 of a component that has one
 abbrev pub IsActiveSlot : List ℕ → ℕ → ℕ → Type 0

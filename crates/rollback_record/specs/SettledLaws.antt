@@ -10,7 +10,8 @@ use Rattle.rollback_record.specs.Committing.{InHead}
 use Rattle.rollback_record.specs.SoundFlash.{HoldsSame, IsSoundHead, Settled, Sound}
 
 -- each image has both
-pub both : (a b : Flash) (P Q : List ℕ → Type 0) → Passes a b P → Passes a b Q → Passes a b (λ image. P image × Q image)
+pub both : (a b : Flash) (P Q : List ℕ → Type 0) → Passes a b P → Passes a b Q
+    → Passes a b (λ image. P image × Q image)
 both a b P Q first second = record {
   later = first.later;
   each = λ image may. (first.each image may, second.each image may);
@@ -28,14 +29,16 @@ settles frame f none sound = record {
 }
 
 -- after reads it is still settled
-pub settled_still : (frame : Frame) (a b : Flash) (size : ℕ) → IsFlash b size → IsSame a b → Settled frame a → Settled frame b
+pub settled_still : (frame : Frame) (a b : Flash) (size : ℕ) → IsFlash b size → IsSame a b
+    → Settled frame a → Settled frame b
 settled_still frame a b size law same settled = record {
   sound = subst (Sound frame) (sym same.reads) settled.sound;
   sure = λ image now. subst (λ (l : List ℕ). HoldsSame frame l image) (sym same.reads) (settled.sure image (each_now a b size (Now a) law same.images image now));
 }
 
 -- each image that a power loss may leave of it is sound
-pub each_sound : (frame : Frame) (f : Flash) → Settled frame f → (image : List ℕ) → Now f image → Sound frame image
+pub each_sound : (frame : Frame) (f : Flash) → Settled frame f → (image : List ℕ) → Now f image
+    → Sound frame image
 each_sound frame f settled image now =
     let same = settled.sure image now in
     subst (λ (n : ℕ). IsSoundHead frame n (head_of frame image)) (sym same.size) (subst (λ (h : List ℕ). IsSoundHead frame (length f.reads) h) (sym same.head) settled.sound)

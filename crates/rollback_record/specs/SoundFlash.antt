@@ -23,7 +23,7 @@ use Rattle.flash_layout.specs.Placement.{HasPlace}
 use Rattle.flash_layout.specs.Slots.{layout_slots, slot_content}
 use Rattle.rollback_record.specs.HeadRecord.{RecordOf}
 
--- ---- what is installed
+-- ---- the installed envelope
 
 abbrev pub key_bytes : Key → List ℕ
 key_bytes key = take key.length key.bytes
@@ -38,7 +38,8 @@ HasEach layout ids = All (λ id. (i : ℕ) × HasPlace layout id i) ids
 
 -- The bytes are a trimmed envelope, authentic under the key. The record is that of its manifest, whose components the
 -- layout has, and whose invocation is judged safe.
-pub record IsInstalled (layout : List Entry) (key : Key) (bytes : List ℕ) (r : Record) : Type 0 where
+pub record IsInstalled (layout : List Entry) (key : Key) (bytes : List ℕ) (r : Record)
+    : Type 0 where
   pub wrapper : List ℕ
   pub manifest : List ℕ
   pub said : Manifest
@@ -63,8 +64,10 @@ recorded_bank frame head r = bank_of frame head r.bank r.length
 -- holds
 pub data IsSoundHead (frame : Frame) (size : ℕ) (head : List ℕ) : Type 0 where
   SoundBlank : ConfigOf frame size head Blank → IsSoundHead frame size head
-  SoundEmpty : (layout : List Entry) (key : Key) → ConfigOf frame size head (Configured layout key) → RecordOf frame head None → IsSoundHead frame size head
-  SoundInstalled : (layout : List Entry) (key : Key) (r : Record) → ConfigOf frame size head (Configured layout key) → RecordOf frame head (Some r)
+  SoundEmpty : (layout : List Entry) (key : Key) → ConfigOf frame size head (Configured layout key)
+      → RecordOf frame head None → IsSoundHead frame size head
+  SoundInstalled : (layout : List Entry) (key : Key) (r : Record)
+      → ConfigOf frame size head (Configured layout key) → RecordOf frame head (Some r)
       → IsInstalled layout key (recorded_bank frame head r) r → IsSoundHead frame size head
 
 abbrev pub Sound : Frame → List ℕ → Type 0
@@ -76,10 +79,11 @@ Sound frame image = IsSoundHead frame (length image) (head_of frame image)
 pub record HoldsSame (frame : Frame) (image other : List ℕ) : Type 0 where
   pub size : length other ≡ length image
   pub head : head_of frame other ≡ head_of frame image
-  pub slots : (layout : List Entry) (key : Key) → ConfigOf frame (length image) (head_of frame image) (Configured layout key)
+  pub slots : (layout : List Entry) (key : Key)
+      → ConfigOf frame (length image) (head_of frame image) (Configured layout key)
       → All (λ slot. slot_content slot other ≡ slot_content slot image) (layout_slots layout)
 
--- what reads give is sound, and a power loss now leaves the head and each content as they read
+-- reads give a sound image, and a power loss now leaves the head and each content as they read
 pub record Settled (frame : Frame) (f : Flash) : Type 0 where
   pub sound : Sound frame f.reads
   pub sure : (image : List ℕ) → Now f image → HoldsSame frame f.reads image
@@ -97,7 +101,8 @@ pub record GoesOn (frame : Frame) (a b : List ℕ) : Type 0 where
   pub key : Key
   pub was : ConfigOf frame (length a) (head_of frame a) (Configured layout key)
   pub is : ConfigOf frame (length b) (head_of frame b) (Configured layout key)
-  pub later : (r : Record) → RecordOf frame (head_of frame a) (Some r) → (s : Record) × RecordOf frame (head_of frame b) (Some s) × IsNoEarlier r s
+  pub later : (r : Record) → RecordOf frame (head_of frame a) (Some r)
+      → (s : Record) × RecordOf frame (head_of frame b) (Some s) × IsNoEarlier r s
 
 pub data Follows (frame : Frame) (a b : List ℕ) : Type 0 where
   FollowsBlank : ConfigOf frame (length a) (head_of frame a) Blank → Follows frame a b

@@ -31,7 +31,9 @@ pub record IsCommitted (held : Option Record) (new : Record) (before image : Lis
   pub was : RecordOf VERSION_1 (head_of VERSION_1 before) held
   pub which : ℕ
   pub two : which < 2
-  pub beside : SameOn (λ i. InHead VERSION_1 i × Outside (record_place VERSION_1 which) RECORD_BYTES i) before image
+  pub beside :
+      SameOn (λ i. InHead VERSION_1 i × Outside (record_place VERSION_1 which) RECORD_BYTES i)
+      before image
   pub record_is : HasHeldOrNew VERSION_1 held new image
 
 -- the places that say what is recorded: the configuration page, the record pages, and of the bank what the record tells
@@ -47,19 +49,26 @@ pub record IsStillSound (held : Option Record) (before image : List ℕ) : Type 
 
 pub record SoundLaws : Type 0 where
   -- where both gates are closed, no record stands
-  pub no_record : (frame : Frame) (head : List ℕ) → HasNoRecord frame head → RecordOf frame head None
-  -- what formatting leaves is sound
-  pub formatted : (frame : Frame) (layout : List Entry) (key : Key) (image : List ℕ) → IsFormatted frame (length image) layout key image → Sound frame image
-  -- what a commit leaves is sound, and goes on from what stood before it
-  pub committed : (held : Option Record) (new : Record) (before image : List ℕ) → IsCommitted held new before image → HasNewInRange before new
+  pub no_record : (frame : Frame) (head : List ℕ) → HasNoRecord frame head
+      → RecordOf frame head None
+  -- formatting leaves a sound image
+  pub formatted : (frame : Frame) (layout : List Entry) (key : Key) (image : List ℕ)
+      → IsFormatted frame (length image) layout key image → Sound frame image
+  -- a commit leaves a sound image, which goes on from the one before
+  pub committed : (held : Option Record) (new : Record) (before image : List ℕ)
+      → IsCommitted held new before image → HasNewInRange before new
       → IsInstalledFor before new → Sound VERSION_1 before → Sound VERSION_1 image
-  pub follows : (held : Option Record) (new : Record) (before image : List ℕ) → IsCommitted held new before image → IfSome held (λ r. IsNoEarlier r new)
+  pub follows : (held : Option Record) (new : Record) (before image : List ℕ)
+      → IsCommitted held new before image → IfSome held (λ r. IsNoEarlier r new)
       → Sound VERSION_1 before → Follows VERSION_1 before image
   -- while nothing changes that says what is recorded, so does what is written in the other bank and in slots
-  pub kept : (held : Option Record) (before image : List ℕ) → VERSION_1.size ≤ length before → RecordOf VERSION_1 (head_of VERSION_1 before) held
+  pub kept : (held : Option Record) (before image : List ℕ) → VERSION_1.size ≤ length before
+      → RecordOf VERSION_1 (head_of VERSION_1 before) held
       → SameOn (SaysRecorded held) before image → Sound VERSION_1 before → IsStillSound held before image
   -- nothing but the head decides
-  pub same : (frame : Frame) (image other : List ℕ) → length other ≡ length image → head_of frame other ≡ head_of frame image → Sound frame image → Sound frame other
-  -- what goes on from what goes on does so too
+  pub same : (frame : Frame) (image other : List ℕ) → length other ≡ length image
+      → head_of frame other ≡ head_of frame image → Sound frame image → Sound frame other
+  -- a sound image goes on from itself, and going on is transitive
   pub itself : (frame : Frame) (a : List ℕ) → Sound frame a → Follows frame a a
-  pub onward : (frame : Frame) (a b c : List ℕ) → Follows frame a b → Follows frame b c → Follows frame a c
+  pub onward : (frame : Frame) (a b c : List ℕ) → Follows frame a b → Follows frame b c
+      → Follows frame a c

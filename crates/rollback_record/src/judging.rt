@@ -6,7 +6,7 @@ ghost use Rattle.std.specs.Prelude.{Some, option_map};
 use flash_layout::Record;
 use suit_params::Digest;
 
-/// What is judged of a manifest beside the held record.
+/// The judgement of a manifest beside the held record.
 #[derive(Clone, Copy, Debug, PartialEq, Eq)]
 pub enum Judged {
     /// It may be recorded.
@@ -41,8 +41,8 @@ fn judge_beside(held: &Record, sequence: u64, digest: &Digest) -> Judged
     Judged::Accepted
 }
 
-/// Judges a manifest's number and digest beside the held record. The first thing that is wrong, in the order of the
-/// answers.
+/// Judges a manifest's number and digest beside the held record. Answers the first thing that is wrong, in the order of
+/// the answers.
 pub fn judge(held: Option<&Record>, sequence: u64, digest: &Digest) -> Judged
     ensures { IsJudged sequence digest.now (option_map (λ r. r.now) held.entry) result }
 {

@@ -1,4 +1,4 @@
-//! What is installed: two record pages of the flash, of which one is written while the other holds the record.
+//! The installed record: two record pages of the flash, of which one is written while the other holds the record.
 #![tactic(auto)]
 
 mod judging;

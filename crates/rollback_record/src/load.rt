@@ -21,7 +21,10 @@ fn read_pages<D: Disk>(
     requires { VERSION_1.size ≤ D.extent disk.old }
     ensures size { D.extent disk.new ≡ D.extent disk.old }
     ensures counts { EdgeCounts result (D.faults disk.old) (D.faults disk.new) }
-    ensures bytes { IsTrue D.told → IfDone result (HaveRead VERSION_1 (head_of VERSION_1 (D.flash disk.old).reads) config.new first.new second.new) }
+    ensures bytes { IsTrue D.told
+        → IfDone result
+        (HaveRead VERSION_1 (head_of VERSION_1 (D.flash disk.old).reads) config.new first.new
+        second.new) }
     ensures same { IsTrue D.told → IsSame (D.flash disk.old) (D.flash disk.new) }
     ensures grows { IsTrue D.told → Grows (D.flash disk.old) (D.flash disk.new) }
 {
@@ -62,7 +65,8 @@ pub fn load_record<D: Disk>(disk: &mut D) -> Result<Option<Record>, FlashFault>
     ensures size { D.extent disk.new ≡ D.extent disk.old }
     ensures counts { ResultCounts result (D.faults disk.old) (D.faults disk.new) }
     ensures loadable { IfOk result (λ o. IfSome o (IsLoadable VERSION_1)) }
-    ensures exact { IsTrue D.told → IfOk result (RecordOf VERSION_1 (head_of VERSION_1 (D.flash disk.old).reads)) }
+    ensures exact { IsTrue D.told
+        → IfOk result (RecordOf VERSION_1 (head_of VERSION_1 (D.flash disk.old).reads)) }
     ensures same { IsTrue D.told → IsSame (D.flash disk.old) (D.flash disk.new) }
     ensures grows { IsTrue D.told → Grows (D.flash disk.old) (D.flash disk.new) }
 {

@@ -6,7 +6,7 @@ ghost use Rattle.rollback_record.specs.RecordPage.{HasSecondSlot, IsActiveSlot, 
 ghost use Rattle.std.specs.Prelude.{◌≡◌, ◌↔◌, ◌≤◌, ◌<◌, ◌+◌, ℕ, [], ◌∷◌, ◌++◌, drop, Some, IfSome, IsTrue, length, slice_index};
 
 use crate::typing::typed;
-use flash_layout::{Record, VERSION_1};
+use flash_layout::{ENTRY_SIZE, FRONT_SIZE, PAGE_BYTES, Record, VERSION_1};
 use std::marker::Model;
 use suit_edge::OPEN;
 use suit_params::Digest;
@@ -15,7 +15,7 @@ use suit_params::Digest;
 pub const RECORD_BYTES: usize = 99;
 
 /// The bytes of the configuration page.
-pub(crate) const CONFIG_BYTES: usize = 1204;
+pub(crate) const CONFIG_BYTES: usize = PAGE_BYTES;
 
 /// Up to so many bytes.
 #[derive(Drop)]
@@ -164,7 +164,7 @@ fn has_second_slot(config: &[u8], i: usize) -> bool
     requires inside { i < 8 }
     ensures { IsTrue result ↔ HasSecondSlot config.now i }
 {
-    i < config[3] as usize && config[142 * i + 69] == 2
+    i < config[3] as usize && config[ENTRY_SIZE * i + (FRONT_SIZE + 1)] == 2
 }
 
 // Whether the component has the slot.
@@ -179,7 +179,8 @@ fn is_active(config: &[u8], i: usize, slot: u8) -> bool
 // Whether each component has its slot.
 fn are_active(config: &[u8], active: &[u8; 8]) -> bool
     requires { length config.now ≡ CONFIG_BYTES }
-    ensures { IsTrue result ↔ ((i : ℕ) → i < 8 → IsActiveSlot config.now i (slice_index active.now i)) }
+    ensures { IsTrue result
+        ↔ ((i : ℕ) → i < 8 → IsActiveSlot config.now i (slice_index active.now i)) }
 {
     for i in 0..8 {
         if !is_active(config, i, active[i]) {

@@ -7,7 +7,7 @@ use flash_layout::config_laws;
 use suit_envelope::envelope_laws;
 use suit_manifest::manifest_laws;
 
-/// What formatting and committing leave is sound, and goes on from what stood before.
+/// Formatting and committing leave a sound flash, which goes on from what stood before.
 pub fn sound_laws()
     ensures { SoundLaws }
 {

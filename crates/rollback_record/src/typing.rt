@@ -1,4 +1,4 @@
-//! What the types of a record's fields say of them.
+//! The bounds of a record's fields, by their types.
 
 ghost use Rattle.rollback_record.specs.RecordPage.{IsTypedRecord};
 ghost use Rattle.std.specs.Prelude.{◌≡◌, ◌<◌, ◌^◌, length};

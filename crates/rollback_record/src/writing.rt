@@ -17,11 +17,14 @@ use suit_edge::{Disk, Edge, write_gated};
 // The record page that does not hold the record.
 fn page_beside<D: Disk>(disk: &mut D, held: &Record) -> Result<u64, FlashFault>
     requires size { VERSION_1.size ≤ D.extent disk.old }
-    requires held { IsTrue D.told → RecordOf VERSION_1 (head_of VERSION_1 (D.flash disk.old).reads) (Some held.now) }
+    requires held { IsTrue D.told
+        → RecordOf VERSION_1 (head_of VERSION_1 (D.flash disk.old).reads) (Some held.now) }
     ensures size { D.extent disk.new ≡ D.extent disk.old }
     ensures counts { ResultCounts result (D.faults disk.old) (D.faults disk.new) }
     ensures which { IfOk result (λ which. which < 2) }
-    ensures spare { IsTrue D.told → IfOk result (IsSpare VERSION_1 (head_of VERSION_1 (D.flash disk.old).reads) (Some held.now)) }
+    ensures spare { IsTrue D.told
+        → IfOk result
+        (IsSpare VERSION_1 (head_of VERSION_1 (D.flash disk.old).reads) (Some held.now)) }
     ensures same { IsTrue D.told → IsSame (D.flash disk.old) (D.flash disk.new) }
     ensures grows { IsTrue D.told → Grows (D.flash disk.old) (D.flash disk.new) }
 {
@@ -40,11 +43,16 @@ fn page_beside<D: Disk>(disk: &mut D, held: &Record) -> Result<u64, FlashFault>
 // The record page that is free to be written: the first one where there is no record, else the one that does not hold it.
 fn find_spare<D: Disk>(disk: &mut D, held: Option<&Record>) -> Result<u64, FlashFault>
     requires size { VERSION_1.size ≤ D.extent disk.old }
-    requires held { IsTrue D.told → RecordOf VERSION_1 (head_of VERSION_1 (D.flash disk.old).reads) (option_map (λ r. r.now) held) }
+    requires held { IsTrue D.told
+        → RecordOf VERSION_1 (head_of VERSION_1 (D.flash disk.old).reads)
+        (option_map (λ r. r.now) held) }
     ensures size { D.extent disk.new ≡ D.extent disk.old }
     ensures counts { ResultCounts result (D.faults disk.old) (D.faults disk.new) }
     ensures which { IfOk result (λ which. which < 2) }
-    ensures spare { IsTrue D.told → IfOk result (IsSpare VERSION_1 (head_of VERSION_1 (D.flash disk.old).reads) (option_map (λ r. r.now) held.entry)) }
+    ensures spare { IsTrue D.told
+        → IfOk result
+        (IsSpare VERSION_1 (head_of VERSION_1 (D.flash disk.old).reads)
+        (option_map (λ r. r.now) held.entry)) }
     ensures same { IsTrue D.told → IsSame (D.flash disk.old) (D.flash disk.new) }
     ensures grows { IsTrue D.told → Grows (D.flash disk.old) (D.flash disk.new) }
 {
@@ -59,22 +67,36 @@ fn find_spare<D: Disk>(disk: &mut D, held: Option<&Record>) -> Result<u64, Flash
 /// else as it was.
 pub fn commit<D: Disk>(disk: &mut D, held: Option<&Record>, new: &Record) -> Result<(), FlashFault>
     requires size { VERSION_1.size ≤ D.extent disk.old }
-    requires held { IsTrue D.told → RecordOf VERSION_1 (head_of VERSION_1 (D.flash disk.old).reads) (option_map (λ r. r.now) held) }
+    requires held { IsTrue D.told
+        → RecordOf VERSION_1 (head_of VERSION_1 (D.flash disk.old).reads)
+        (option_map (λ r. r.now) held) }
     requires next { IsNext (option_map (λ r. r.now) held) new.now }
-    requires fields { IsTrue D.told → IsInRange VERSION_1 (config_page_of VERSION_1 (head_of VERSION_1 (D.flash disk.old).reads)) new.now }
+    requires fields { IsTrue D.told
+        → IsInRange VERSION_1
+        (config_page_of VERSION_1 (head_of VERSION_1 (D.flash disk.old).reads)) new.now }
     requires firm { IsTrue D.told → IsFirmOn (InHead VERSION_1) (D.flash disk.old) }
     ensures size { D.extent disk.new ≡ D.extent disk.old }
     ensures counts { ResultCounts result (D.faults disk.old) (D.faults disk.new) }
-    ensures ok { IsTrue D.told → OnOk result (RecordOf VERSION_1 (head_of VERSION_1 (D.flash disk.new).reads) (Some new.now)) }
+    ensures ok { IsTrue D.told
+        → OnOk result
+        (RecordOf VERSION_1 (head_of VERSION_1 (D.flash disk.new).reads) (Some new.now)) }
     ensures settled { IsTrue D.told → OnOk result (IsSettled (D.flash disk.new)) }
-    ensures reads { IsTrue D.told → HasHeldOrNew VERSION_1 (option_map (λ r. r.now) held.entry) new.now (D.flash disk.new).reads }
+    ensures reads { IsTrue D.told
+        → HasHeldOrNew VERSION_1 (option_map (λ r. r.now) held.entry) new.now
+        (D.flash disk.new).reads }
     ensures any_moment { IsTrue D.told → Passes (D.flash disk.old) (D.flash disk.new)
         (HasHeldOrNew VERSION_1 (option_map (λ r. r.now) held.entry) new.now) }
-    ensures sound { IsTrue D.told → IsInstalledFor (D.flash disk.old).reads new.now → Sound VERSION_1 (D.flash disk.old).reads
+    ensures sound { IsTrue D.told → IsInstalledFor (D.flash disk.old).reads new.now
+        → Sound VERSION_1 (D.flash disk.old).reads
         → Passes (D.flash disk.old) (D.flash disk.new) (Sound VERSION_1) }
-    ensures follows { IsTrue D.told → IfSome (option_map (λ r. r.now) held.entry) (λ r. IsNoEarlier r new.now) → Sound VERSION_1 (D.flash disk.old).reads
-        → Passes (D.flash disk.old) (D.flash disk.new) (Follows VERSION_1 (D.flash disk.old).reads) }
-    ensures keeps { IsTrue D.told → KeepsBesideSpare VERSION_1 (option_map (λ r. r.now) held.entry) (D.flash disk.old) (D.flash disk.new) }
+    ensures follows { IsTrue D.told
+        → IfSome (option_map (λ r. r.now) held.entry) (λ r. IsNoEarlier r new.now)
+        → Sound VERSION_1 (D.flash disk.old).reads
+        → Passes (D.flash disk.old) (D.flash disk.new)
+        (Follows VERSION_1 (D.flash disk.old).reads) }
+    ensures keeps { IsTrue D.told
+        → KeepsBesideSpare VERSION_1 (option_map (λ r. r.now) held.entry) (D.flash disk.old)
+        (D.flash disk.new) }
     ensures grows { IsTrue D.told → Grows (D.flash disk.old) (D.flash disk.new) }
 {
     typed(new);

@@ -1,8 +1,12 @@
-use Rattle.std.proofs.Common.{◌≡◌, ◌∙◌, ap, drop, length, refl, subst, arith}
+use Rattle.std.proofs.Common.{ℕ, IsTrue, Option, Bor, option_map, refl, subst, ◌∙◌, ◌+◌, arith}
 use Rattle.suit_edge.specs.Flash.{IsFlash}
-use Rattle.rollback_record.proofs.Commits.{all_moments, at_the_end, from_start, keeps_beside, only_read, page_firm, read_keeps, recorded}
+use Rattle.suit_edge.specs.FlashLaws.{each_read}
+use Rattle.flash_layout.specs.declared.slot.Record.{Record}
+use Rattle.rollback_record.proofs.Commits.{Begins, all_moments, behind_gate, gate_of, keeps_beside, long_behind, only_read, page_firm, read_keeps, recorded}
 use Rattle.rollback_record.proofs.SoundSince.{follows_since, sound_since}
+use Rattle.rollback_record.proofs.writing.commit.Given as given
 use Rattle.rollback_record.proofs.writing.commit.Goals as goal
+use Rattle.rollback_record.proofs.writing.commit.Goals.{After-body}
 
 pub returns-in-Err-clause-any_moment : goal.returns-in-Err-clause-any_moment
 returns-in-Err-clause-any_moment g c t =
@@ -12,99 +16,61 @@ returns-in-Err-clause-any_moment g c t =
 pub returns-in-Err-clause-keeps : goal.returns-in-Err-clause-keeps
 returns-in-Err-clause-keeps g c t = read_keeps _ _ _ (c.requires.held t) (c.find_spare.ensures.same t)
 
-pub write_gated-requires-clause-firm : goal.write_gated-requires-clause-firm
-write_gated-requires-clause-firm g c t =
-    let a = g.D.Disk.flash c.args.disk.now in
-    let b = g.D.Disk.flash c.find_spare.new.disk in
-    let law_b = subst (IsFlash b) c.find_spare.ensures.size (g.met.D.Disk.obeys c.find_spare.new.disk t) in
-    let put = c.body.ensures ∙ ap (drop 1) c.spell-page.ensures.bytes in
-    let long : length c.body.result.now ≡ 98 = omega (arith, c.spell-page.ensures.long, ap length c.spell-page.ensures.bytes, ap length put) in
-    page_firm a b _ c.in-Ok.which _ c.args.new.now _ _ _ (g.met.D.Disk.obeys c.args.disk.now t) law_b c.requires.size (c.find_spare.ensures.same t) (c.requires.held t) (c.requires.firm t)
-    (c.in-Ok.ensures.spare t) c.in-Ok.ensures.which c.requires.next c.typed.ensures (c.requires.fields t) (from_start _ _ c.record_page-gate.ensures) refl put long
+-- ---- the page is spelled, and then written
 
-pub returns-in-Failed-clause-reads : goal.returns-in-Failed-clause-reads
-returns-in-Failed-clause-reads g c t =
-    let a = g.D.Disk.flash c.args.disk.now in
-    let b = g.D.Disk.flash c.find_spare.new.disk in
-    let law_b = subst (IsFlash b) c.find_spare.ensures.size (g.met.D.Disk.obeys c.find_spare.new.disk t) in
-    let put = c.body.ensures ∙ ap (drop 1) c.spell-page.ensures.bytes in
-    let long : length c.body.result.now ≡ 98 = omega (arith, c.spell-page.ensures.long, ap length c.spell-page.ensures.bytes, ap length put) in
-    let d = g.D.Disk.flash c.write_gated.new.disk in
-    let law_d = subst (IsFlash d) (c.write_gated.ensures.size ∙ c.find_spare.ensures.size) (g.met.D.Disk.obeys c.write_gated.new.disk t) in
-    at_the_end a b _ c.in-Ok.which _ c.args.new.now _ _ _ (g.met.D.Disk.obeys c.args.disk.now t) law_b c.requires.size (c.find_spare.ensures.same t) (c.requires.held t) (c.requires.firm t)
-    (c.in-Ok.ensures.spare t) c.in-Ok.ensures.which c.requires.next c.typed.ensures (c.requires.fields t) (from_start _ _ c.record_page-gate.ensures) refl put long d law_d (c.write_gated.ensures.any_moment t)
+abbrev held_in : Option (Bor Record) → Option Record
+held_in held = option_map (λ (r : Bor Record). r.now) held
+
+begins : (g : given.Over) (c : After-body g) → IsTrue g.D.Disk.told
+    → Begins (g.D.Disk.flash c.args.disk.now) (g.D.Disk.flash c.find_spare.new.disk) (g.D.Disk.extent c.args.disk.now) c.in-Ok.which
+    (held_in c.args.held) c.args.new.now c.record_page-gate.result (c.record_page-gate.result + 1) c.body.result.now
+begins g c t = record {
+  law_a = g.met.D.Disk.obeys c.args.disk.now t;
+  law_b = subst (IsFlash (g.D.Disk.flash c.find_spare.new.disk)) c.find_spare.ensures.size (g.met.D.Disk.obeys c.find_spare.new.disk t);
+  large = c.requires.size;
+  same = c.find_spare.ensures.same t;
+  is = c.requires.held t;
+  firm = c.requires.firm t;
+  spare = c.in-Ok.ensures.spare t;
+  two = c.in-Ok.ensures.which;
+  next = c.requires.next;
+  typed = c.typed.ensures;
+  fields = c.requires.fields t;
+  gate_is = gate_of _ _ c.record_page-gate.ensures;
+  place_is = refl;
+  body_is = behind_gate c.spell-page.result _ c.args.new.now c.spell-page.ensures.bytes c.body.ensures;
+  long = long_behind c.spell-page.result _ c.spell-page.ensures.long c.body.ensures;
+}
+
+pub write_gated-requires-clause-firm : goal.write_gated-requires-clause-firm
+write_gated-requires-clause-firm g c t = page_firm _ _ _ _ _ _ _ _ _ (begins g (goal.at.write_gated-requires-clause-firm g c).After-body t)
 
 pub returns-in-Failed-clause-any_moment : goal.returns-in-Failed-clause-any_moment
 returns-in-Failed-clause-any_moment g c t =
-    let a = g.D.Disk.flash c.args.disk.now in
-    let b = g.D.Disk.flash c.find_spare.new.disk in
-    let law_b = subst (IsFlash b) c.find_spare.ensures.size (g.met.D.Disk.obeys c.find_spare.new.disk t) in
-    let put = c.body.ensures ∙ ap (drop 1) c.spell-page.ensures.bytes in
-    let long : length c.body.result.now ≡ 98 = omega (arith, c.spell-page.ensures.long, ap length c.spell-page.ensures.bytes, ap length put) in
-    let d = g.D.Disk.flash c.write_gated.new.disk in
-    let law_d = subst (IsFlash d) (c.write_gated.ensures.size ∙ c.find_spare.ensures.size) (g.met.D.Disk.obeys c.write_gated.new.disk t) in
-    all_moments a b _ c.in-Ok.which _ c.args.new.now _ _ _ (g.met.D.Disk.obeys c.args.disk.now t) law_b c.requires.size (c.find_spare.ensures.same t) (c.requires.held t) (c.requires.firm t)
-    (c.in-Ok.ensures.spare t) c.in-Ok.ensures.which c.requires.next c.typed.ensures (c.requires.fields t) (from_start _ _ c.record_page-gate.ensures) refl put long d law_d (c.write_gated.ensures.any_moment t)
+    all_moments _ _ _ _ _ _ _ _ _ (begins g (goal.at.returns-in-Failed-clause-any_moment g c).After-body t) _ (c.write_gated.ensures.any_moment t)
+
+pub returns-in-Failed-clause-reads : goal.returns-in-Failed-clause-reads
+returns-in-Failed-clause-reads g c t = each_read _ _ _ _ (g.met.D.Disk.obeys c.write_gated.new.disk t) (returns-in-Failed-clause-any_moment g c t)
 
 pub returns-in-Failed-clause-keeps : goal.returns-in-Failed-clause-keeps
 returns-in-Failed-clause-keeps g c t =
-    let a = g.D.Disk.flash c.args.disk.now in
-    let b = g.D.Disk.flash c.find_spare.new.disk in
-    let law_b = subst (IsFlash b) c.find_spare.ensures.size (g.met.D.Disk.obeys c.find_spare.new.disk t) in
-    let put = c.body.ensures ∙ ap (drop 1) c.spell-page.ensures.bytes in
-    let long : length c.body.result.now ≡ 98 = omega (arith, c.spell-page.ensures.long, ap length c.spell-page.ensures.bytes, ap length put) in
-    let d = g.D.Disk.flash c.write_gated.new.disk in
-    let law_d = subst (IsFlash d) (c.write_gated.ensures.size ∙ c.find_spare.ensures.size) (g.met.D.Disk.obeys c.write_gated.new.disk t) in
-    keeps_beside a b _ c.in-Ok.which _ c.args.new.now _ _ _ (g.met.D.Disk.obeys c.args.disk.now t) law_b c.requires.size (c.find_spare.ensures.same t) (c.requires.held t) (c.requires.firm t)
-    (c.in-Ok.ensures.spare t) c.in-Ok.ensures.which c.requires.next c.typed.ensures (c.requires.fields t) (from_start _ _ c.record_page-gate.ensures) refl put long d (c.write_gated.ensures.keeps t)
-
-pub returns-in-Done-clause-reads : goal.returns-in-Done-clause-reads
-returns-in-Done-clause-reads g c t =
-    let a = g.D.Disk.flash c.args.disk.now in
-    let b = g.D.Disk.flash c.find_spare.new.disk in
-    let law_b = subst (IsFlash b) c.find_spare.ensures.size (g.met.D.Disk.obeys c.find_spare.new.disk t) in
-    let put = c.body.ensures ∙ ap (drop 1) c.spell-page.ensures.bytes in
-    let long : length c.body.result.now ≡ 98 = omega (arith, c.spell-page.ensures.long, ap length c.spell-page.ensures.bytes, ap length put) in
-    let d = g.D.Disk.flash c.write_gated.new.disk in
-    let law_d = subst (IsFlash d) (c.write_gated.ensures.size ∙ c.find_spare.ensures.size) (g.met.D.Disk.obeys c.write_gated.new.disk t) in
-    at_the_end a b _ c.in-Ok.which _ c.args.new.now _ _ _ (g.met.D.Disk.obeys c.args.disk.now t) law_b c.requires.size (c.find_spare.ensures.same t) (c.requires.held t) (c.requires.firm t)
-    (c.in-Ok.ensures.spare t) c.in-Ok.ensures.which c.requires.next c.typed.ensures (c.requires.fields t) (from_start _ _ c.record_page-gate.ensures) refl put long d law_d (c.write_gated.ensures.any_moment t)
+    keeps_beside _ _ _ _ _ _ _ _ _ (begins g (goal.at.returns-in-Failed-clause-keeps g c).After-body t) _ (c.write_gated.ensures.keeps t)
 
 pub returns-in-Done-clause-any_moment : goal.returns-in-Done-clause-any_moment
 returns-in-Done-clause-any_moment g c t =
-    let a = g.D.Disk.flash c.args.disk.now in
-    let b = g.D.Disk.flash c.find_spare.new.disk in
-    let law_b = subst (IsFlash b) c.find_spare.ensures.size (g.met.D.Disk.obeys c.find_spare.new.disk t) in
-    let put = c.body.ensures ∙ ap (drop 1) c.spell-page.ensures.bytes in
-    let long : length c.body.result.now ≡ 98 = omega (arith, c.spell-page.ensures.long, ap length c.spell-page.ensures.bytes, ap length put) in
-    let d = g.D.Disk.flash c.write_gated.new.disk in
-    let law_d = subst (IsFlash d) (c.write_gated.ensures.size ∙ c.find_spare.ensures.size) (g.met.D.Disk.obeys c.write_gated.new.disk t) in
-    all_moments a b _ c.in-Ok.which _ c.args.new.now _ _ _ (g.met.D.Disk.obeys c.args.disk.now t) law_b c.requires.size (c.find_spare.ensures.same t) (c.requires.held t) (c.requires.firm t)
-    (c.in-Ok.ensures.spare t) c.in-Ok.ensures.which c.requires.next c.typed.ensures (c.requires.fields t) (from_start _ _ c.record_page-gate.ensures) refl put long d law_d (c.write_gated.ensures.any_moment t)
+    all_moments _ _ _ _ _ _ _ _ _ (begins g (goal.at.returns-in-Done-clause-any_moment g c).After-body t) _ (c.write_gated.ensures.any_moment t)
+
+pub returns-in-Done-clause-reads : goal.returns-in-Done-clause-reads
+returns-in-Done-clause-reads g c t = each_read _ _ _ _ (g.met.D.Disk.obeys c.write_gated.new.disk t) (returns-in-Done-clause-any_moment g c t)
 
 pub returns-in-Done-clause-keeps : goal.returns-in-Done-clause-keeps
 returns-in-Done-clause-keeps g c t =
-    let a = g.D.Disk.flash c.args.disk.now in
-    let b = g.D.Disk.flash c.find_spare.new.disk in
-    let law_b = subst (IsFlash b) c.find_spare.ensures.size (g.met.D.Disk.obeys c.find_spare.new.disk t) in
-    let put = c.body.ensures ∙ ap (drop 1) c.spell-page.ensures.bytes in
-    let long : length c.body.result.now ≡ 98 = omega (arith, c.spell-page.ensures.long, ap length c.spell-page.ensures.bytes, ap length put) in
-    let d = g.D.Disk.flash c.write_gated.new.disk in
-    let law_d = subst (IsFlash d) (c.write_gated.ensures.size ∙ c.find_spare.ensures.size) (g.met.D.Disk.obeys c.write_gated.new.disk t) in
-    keeps_beside a b _ c.in-Ok.which _ c.args.new.now _ _ _ (g.met.D.Disk.obeys c.args.disk.now t) law_b c.requires.size (c.find_spare.ensures.same t) (c.requires.held t) (c.requires.firm t)
-    (c.in-Ok.ensures.spare t) c.in-Ok.ensures.which c.requires.next c.typed.ensures (c.requires.fields t) (from_start _ _ c.record_page-gate.ensures) refl put long d (c.write_gated.ensures.keeps t)
+    keeps_beside _ _ _ _ _ _ _ _ _ (begins g (goal.at.returns-in-Done-clause-keeps g c).After-body t) _ (c.write_gated.ensures.keeps t)
 
 pub returns-in-Done-clause-ok : goal.returns-in-Done-clause-ok
 returns-in-Done-clause-ok g c t =
-    let a = g.D.Disk.flash c.args.disk.now in
-    let b = g.D.Disk.flash c.find_spare.new.disk in
-    let law_b = subst (IsFlash b) c.find_spare.ensures.size (g.met.D.Disk.obeys c.find_spare.new.disk t) in
-    let put = c.body.ensures ∙ ap (drop 1) c.spell-page.ensures.bytes in
-    let long : length c.body.result.now ≡ 98 = omega (arith, c.spell-page.ensures.long, ap length c.spell-page.ensures.bytes, ap length put) in
-    let d = g.D.Disk.flash c.write_gated.new.disk in
-    let law_d = subst (IsFlash d) (c.write_gated.ensures.size ∙ c.find_spare.ensures.size) (g.met.D.Disk.obeys c.write_gated.new.disk t) in
-    recorded a b _ c.in-Ok.which _ c.args.new.now _ _ _ (g.met.D.Disk.obeys c.args.disk.now t) law_b c.requires.size (c.find_spare.ensures.same t) (c.requires.held t) (c.requires.firm t)
-    (c.in-Ok.ensures.spare t) c.in-Ok.ensures.which c.requires.next c.typed.ensures (c.requires.fields t) (from_start _ _ c.record_page-gate.ensures) refl put long d (c.in-Done.ensures.page t) (c.in-Done.ensures.opened t)
+    recorded _ _ _ _ _ _ _ _ _ (begins g (goal.at.returns-in-Done-clause-ok g c).After-body t) (g.D.Disk.flash c.write_gated.new.disk) (c.in-Done.ensures.page t)
+    (c.in-Done.ensures.opened t)
 
 pub returns-in-Err-clause-sound : goal.returns-in-Err-clause-sound
 returns-in-Err-clause-sound g c t =
