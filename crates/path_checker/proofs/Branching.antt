@@ -8,6 +8,7 @@ use Rattle.path_model.specs.declared.event.Event.{Event}
 use Rattle.path_model.specs.Behaviour.{State, Ending, Condition}
 use Rattle.path_model.specs.Runs.{Tries}
 use Rattle.path_model.specs.Following.{CoveredFrom, SameMatches}
+use Rattle.path_model.proofs.Following.{same_matches}
 use Rattle.path_checker.specs.declared.judge_plan.halt.Halt.{Halt}
 use Rattle.path_checker.specs.Exploring.{Course, In, Kept, Stopped, Found, Leads, Explores, Uncovers, Adds}
 use Rattle.path_checker.specs.Inner.{AllAt, BranchAdds, entered, all_entered, all_left, softly, hardly, exhausted_at, exhausted}
@@ -18,7 +19,6 @@ use Rattle.path_checker.proofs.OneBranch.{branch_course}
 use Rattle.path_checker.proofs.Uncovering.{Uncovers-inner, Uncovers-branch}
 use Rattle.path_checker.proofs.Walking.{Halts-lift, runs_course}
 use Rattle.path_checker.proofs.Carrying.{Carries, Carries-start, Carries-branch, Carries-end, nothing_course}
-use Rattle.path_checker.proofs.Histories.{same_matches}
 
 pub at-one : (k : Kept) (s : State) → s ≡ k.state → AllAt s (k ∷ [])
 at-one k s e k' (inl p) = sym (ap (λ (x : Kept). x.state) p) ∙ sym e
@@ -64,7 +64,7 @@ Adds-branch body s c from inside d n n1 r0 r st0 st f f' is nil a next none soft
 softly-at : (s : State) (st : List Stopped) → AllAt s (softly s st)
 softly-at s st k i = let y = softly-from s st k i in sym (ap (λ (x : Kept). x.state) y.3)
 
--- what the loop over the branches knows
+-- the invariant of the loop over the branches
 pub record Trying (whole : Course) (k : Kept) (s : State) (next0 next : List Kept) (failed0 failed : List Stopped) (rest : Course) (now : List Kept) : Type 0 where
   pub done : List Kept
   pub added : List Stopped

@@ -5,6 +5,7 @@ use Rattle.path_model.specs.declared.identity.Identity.{Identity}
 use Rattle.path_model.specs.declared.event.Event.{Event}
 use Rattle.path_model.specs.Behaviour.{State, Ending, Done, Condition, Becomes}
 use Rattle.path_model.specs.Following.{CoveredFrom, SameMatches}
+use Rattle.path_model.proofs.Following.{same_matches}
 use Rattle.path_checker.specs.declared.judge_plan.facts.Knowledge.{Knowledge}
 use Rattle.path_checker.specs.Knowing.{Allows}
 use Rattle.path_checker.specs.Exploring.{Course, In, Kept, Stopped, Leads, Found, Explores, Uncovers}
@@ -13,7 +14,6 @@ use Rattle.path_checker.proofs.Exploring.{then_course, Explores-then, Found-left
 use Rattle.path_checker.proofs.Membership.{In-cases}
 use Rattle.path_checker.proofs.OneBranch.{branch_course, Explores-branch}
 use Rattle.path_checker.proofs.Uncovering.{Uncovers-second, Uncovers-others}
-use Rattle.path_checker.proofs.Histories.{same_matches}
 
 -- the rest of a course, from where it stands now, with what was added on the way
 pub record Carries (whole : Course) (from : List Kept) (rest : Course) (now done : List Kept) (failed : List Stopped) : Type 0 where

@@ -7,7 +7,7 @@ use Rattle.path_checker.specs.Happening.{event_of}
 use Rattle.path_checker.specs.Exploring.{In}
 use Rattle.path_checker.specs.Standing.{in_order, IsMatchOf, Unless, LeavesOut}
 
--- what has been looked at is left, or left out, and the rest follows
+-- each event looked at is left, or left out, and the rest follows
 pub record Sifts (component : ℕ) (events left rest : List Event) : Type 0 where
   pub kept : (event : Event) → In event left → In event events × (IsMatchOf component event → ⊥)
   pub later : (event : Event) → In event rest → In event events

@@ -1,4 +1,4 @@
--- What each condition adds.
+-- The states each condition adds.
 use Rattle.std.proofs.Common.{◌≡◌, ℕ, Bool, true, false, List, [], ◌∷◌, ◌++◌, Option, Some, None, refl, sym, ap, ◌∙◌, subst, inl, inr}
 use Rattle.std.specs.Prelude.{is_some, slice_get, option_map}
 use Rattle.std.proofs.lemmas.List.{append-nil}
@@ -172,7 +172,7 @@ Adds-either kind p c own k has has_not n n' f f' learns learns_not pushed pushed
           (Explores-where k has_not (HasNo c own) (missing kind c p k) [] (missed ∷ []) learns_not (Explores-fails (knowing k has_not) (told kind c false ∷ Failed p ∷ []) p (tt, (tt, tt)))));
     }
 
--- what a condition on the identity asks for decides how it ends
+-- the identity that a condition asks for decides how it ends
 compares : {A : Type 0} (kind : TestKind) (p c : ℕ) (k : Kept) (o : Option A) (make : A → Own) (own_of : List Identity → Option A) → ((a : A) (ids : List Identity) → (Has c (make a) ids → own_of ids ≡ Some a) × (own_of ids ≡ Some a → Has c (make a) ids))
     → Same k (TestsOwn kind p c (option_map make o)) (λ ids s. Compares p kind c o (own_of ids) s)
 compares kind p c k None make own_of ties = record {

@@ -4,11 +4,12 @@ use Rattle.path_model.specs.declared.identity.Identity.{Identity}
 use Rattle.path_model.specs.declared.event.Event.{Event}
 use Rattle.path_model.specs.Behaviour.{State, Ending, Done, Condition, Directive, IsFailure, Then}
 use Rattle.path_model.specs.Following.{CoveredFrom, SameMatches}
+use Rattle.path_model.proofs.Covering.{CoveredFrom-append}
+use Rattle.path_model.proofs.Following.{CoveredFrom-same, joined, CoveredFrom-joined, same_joined}
 use Rattle.path_checker.specs.declared.judge_plan.facts.Knowledge.{Knowledge}
 use Rattle.path_checker.specs.Knowing.{Allows}
 use Rattle.path_checker.specs.Exploring.{Course, In, Kept, Stopped, Found, Reaches, Leads, Explores}
 use Rattle.path_checker.proofs.Membership.{In-left, In-right, In-cases}
-use Rattle.path_checker.proofs.Histories.{CoveredFrom-append, CoveredFrom-same, joined, CoveredFrom-joined, same_joined}
 
 abbrev pub then_course : Course → Course → Course
 then_course first second identities = Then (first identities) (second identities)

@@ -1,50 +1,17 @@
 -- Each parameter in force stands under its own key, after overrides too.
-use Rattle.std.proofs.Common.{◌≡◌, ◌<◌, ℕ, zero, suc, Bool, List, [], ◌∷◌, length, Option, Some, None, refl, sym, ap, ◌∙◌, subst, ⊎_elim}
+use Rattle.std.proofs.Common.{◌≡◌, ◌<◌, ℕ, Bool, List, [], ◌∷◌, length, Option, Some, None, Result, Ok, Err, OnOk, OnErr, refl, sym, ap, ◌∙◌, subst, ⊎_elim}
 use Rattle.std.specs.Prelude.{◌==◌, if◌then◌else◌}
 use Rattle.std.proofs.lemmas.Bool.Decides.{eqb_tells}
+use Rattle.std.proofs.lemmas.Option.{same_Some}
 use Rattle.suit_params.specs.declared.param.Param.{Param}
 use Rattle.suit_params.specs.declared.param.Param.TheVariants as params
 use Rattle.suit_params.specs.declared.param.ParamKey.{ParamKey}
 use Rattle.suit_params.specs.declared.param.ParamKey.TheVariants as keys
 use Rattle.suit_params.specs.ParamKeys.{key_of}
 use Rattle.suit_params.specs.InForce.{Parameters, rank, in_force, number_of, last_of, with_param, overridden, IsOverridden}
+use Rattle.suit_params.proofs.InForceLawProofs.{in_force_laws}
 use Rattle.path_model.specs.ParameterLaws.{StaysWhole}
 use Rattle.path_checker.specs.Keyed.{IsKeyed}
-
-key_at : ℕ → ParamKey
-key_at zero = keys.Vendor
-key_at (suc zero) = keys.Class
-key_at (suc (suc zero)) = keys.Digest
-key_at (suc (suc (suc zero))) = keys.Slot
-key_at (suc (suc (suc (suc zero)))) = keys.Strict
-key_at (suc (suc (suc (suc (suc zero))))) = keys.Soft
-key_at (suc (suc (suc (suc (suc (suc zero)))))) = keys.Size
-key_at (suc (suc (suc (suc (suc (suc (suc zero))))))) = keys.Content
-key_at (suc (suc (suc (suc (suc (suc (suc (suc zero)))))))) = keys.Uri
-key_at (suc (suc (suc (suc (suc (suc (suc (suc (suc zero))))))))) = keys.Source
-key_at (suc (suc (suc (suc (suc (suc (suc (suc (suc (suc zero)))))))))) = keys.Args
-key_at (suc (suc (suc (suc (suc (suc (suc (suc (suc (suc (suc n))))))))))) = keys.Device
-
-key_at_rank : (key : ParamKey) → key_at (rank key) ≡ key
-unfolding key_at
-key_at_rank keys.Vendor = refl
-key_at_rank keys.Class = refl
-key_at_rank keys.Digest = refl
-key_at_rank keys.Slot = refl
-key_at_rank keys.Strict = refl
-key_at_rank keys.Soft = refl
-key_at_rank keys.Size = refl
-key_at_rank keys.Content = refl
-key_at_rank keys.Uri = refl
-key_at_rank keys.Source = refl
-key_at_rank keys.Args = refl
-key_at_rank keys.Device = refl
-
-same_rank : (a b : ParamKey) → rank a ≡ rank b → a ≡ b
-same_rank a b e = sym (key_at_rank a) ∙ ap key_at e ∙ key_at_rank b
-
-same_param : (a b : Param) → ◌≡◌ {A = Option Param} (Some a) (Some b) → a ≡ b
-same_param a b e = cc
 
 last_keyed : (list : List Param) (key : ParamKey) (before : Option Param) → ((p : Param) → before ≡ Some p → key_of p ≡ key) → (p : Param) → last_of list key before ≡ Some p → key_of p ≡ key
 last_keyed [] key before old p e = old p e
@@ -54,7 +21,7 @@ last_keyed (x ∷ xs) key before old p e =
     ⊎_elim
     (λ h.
     let is : Some x ≡ Some q = subst (λ (b : Bool). (if b then Some x else before) ≡ Some q) h.0 eq in
-    ap key_of (sym (same_param x q is)) ∙ same_rank (key_of x) key h.1)
+    ap key_of (sym (same_Some x q is)) ∙ in_force_laws.own_cell (key_of x) key h.1)
     (λ h. old q (subst (λ (b : Bool). (if b then Some x else before) ≡ Some q) h.0 eq))
     (eqb_tells (rank (key_of x)) (rank key)))
     p e
@@ -75,6 +42,11 @@ keyed_overridden stays before after c list old exact is = record {
       (λ h. old.keyed other key p low (subst (λ (b : Bool). (if b then last_of list key (in_force before c key) else in_force before other key) ≡ Some p) h.0 at))
       (eqb_tells other c);
 }
+
+-- overridden, or left as they were
+pub keyed_where_overridden : {A E : Type 0} → StaysWhole → (before after : Parameters) (c : ℕ) (list : List Param) (result : Result A E) → IsKeyed before → OnOk result (after ≡ overridden before c list) → OnOk result (IsOverridden before after c list) → OnErr result (after ≡ before) → IsKeyed after
+keyed_where_overridden stays before after c list (Ok x) old exact is same = keyed_overridden stays before after c list old exact is
+keyed_where_overridden stays before after c list (Err e) old exact is same = subst IsKeyed (sym same) old
 
 pub source_only : (param : Param) → key_of param ≡ keys.Source → ((component : ℕ) → param ≡ params.Source component → ⊥) → None ≡ number_of (Some param)
 source_only (params.Vendor id) is other = absurd cc

@@ -5,13 +5,13 @@ use Rattle.path_model.specs.declared.identity.Identity.{Identity}
 use Rattle.path_model.specs.declared.event.Event.{Event}
 use Rattle.path_model.specs.Behaviour.{State, Ending, Done, Condition, Directive}
 use Rattle.path_model.specs.Following.{CoveredFrom}
+use Rattle.path_model.proofs.Following.{same_matches}
 use Rattle.path_checker.specs.declared.judge_plan.facts.Knowledge.{Knowledge}
 use Rattle.path_checker.specs.Knowing.{Allows, Learns}
 use Rattle.path_checker.specs.Exploring.{Course, Kept, Stopped, Reaches, Found, Explores}
 use Rattle.path_checker.specs.Steps.{knowing, stopped_by}
 use Rattle.path_checker.proofs.Membership.{In-cases}
 use Rattle.path_checker.proofs.Exploring.{FromOne-of, Explores-one, Found-left, Found-right}
-use Rattle.path_checker.proofs.Histories.{same_matches}
 
 -- the only thing that may happen
 abbrev pub Only : List Event → Ending → Course
@@ -104,7 +104,7 @@ Explores-same k a b d f same x =
 
 -- ---- facts
 
--- what happens only where one more fact is so
+-- a course that happens only where one more fact is so
 abbrev pub Where : (List Identity → Type 0) → Course → Course
 Where fact a ids s es e = fact ids × a ids s es e
 

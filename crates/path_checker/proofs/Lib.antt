@@ -26,5 +26,4 @@ pub mod Deciding
 pub mod Among
 pub mod Choices
 pub mod Counting
-pub mod Histories
 pub mod StandingLaws

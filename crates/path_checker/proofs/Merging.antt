@@ -1,16 +1,16 @@
--- What is explored stays explored where some states stand for all.
+-- Explored states stay explored where some states stand for all.
 use Rattle.std.proofs.Common.{◌≡◌, ◌+◌, ◌<◌, ℕ, zero, suc, List, [], ◌∷◌, ◌++◌, length, get_or, take, refl, sym, ap, ◌∙◌, subst, arith, inl, inr}
 use Rattle.std.proofs.lemmas.List.{take_more}
 use Rattle.path_model.specs.declared.identity.Identity.{Identity}
 use Rattle.path_model.specs.declared.event.Event.{Event}
 use Rattle.path_model.specs.Behaviour.{Ending, Done, Condition, Directive}
+use Rattle.path_model.proofs.Following.{same_matches, same_trans}
 use Rattle.path_checker.specs.declared.judge_plan.facts.Knowledge.{Knowledge}
 use Rattle.path_checker.specs.Knowing.{Allows}
 use Rattle.path_checker.specs.Exploring.{Course, In, Kept, Stopped, Found, Explores, Adds}
 use Rattle.path_checker.specs.Merging.{Merges, SameState, SameStop}
 use Rattle.path_checker.proofs.Membership.{In-left, In-right, In-cases}
 use Rattle.path_checker.proofs.Walking.{Walks}
-use Rattle.path_checker.proofs.Histories.{same_matches, same_trans}
 
 -- ---- one after another
 

@@ -1,4 +1,4 @@
--- What is learnt of one component is learnt of all.
+-- A fact learnt of one component is learnt of all.
 use Rattle.std.proofs.Common.{◌≡◌, ◌<◌, ◌≤◌, ℕ, zero, suc, List, [], ◌∷◌, length, get_or, Option, sym, ap, ◌∙◌, subst, arith, length-set}
 use Rattle.std.specs.Prelude.{◌↔◌, slice_get, slice_set}
 use Rattle.path_model.specs.declared.identity.Identity.{Identity}

@@ -5,6 +5,8 @@ use Rattle.path_model.specs.declared.event.Event.{Event}
 use Rattle.path_model.specs.Behaviour.{State, Ending, Done, Condition, Directive}
 use Rattle.path_model.specs.Runs.{completed_state, after_branch, FailsSoftly, TriesBranch}
 use Rattle.path_model.specs.Following.{CoveredFrom}
+use Rattle.path_model.proofs.Covering.{CoveredFrom-append}
+use Rattle.path_model.proofs.Following.{CoveredFrom-same, joined, CoveredFrom-joined}
 use Rattle.path_checker.specs.declared.judge_plan.facts.Knowledge.{Knowledge}
 use Rattle.path_checker.specs.Knowing.{Allows}
 use Rattle.path_checker.specs.Exploring.{Course, In, Kept, Stopped, Found, Reaches, Leads, Explores}
@@ -13,7 +15,6 @@ use Rattle.path_checker.proofs.Membership.{In-left, In-right, In-cases}
 use Rattle.path_checker.proofs.Exploring.{Found-later}
 use Rattle.path_checker.proofs.InnerStates.{In-entered, entered-from, In-all_left, left-from, In-softly, softly-from, In-hardly, hardly-from}
 use Rattle.path_checker.proofs.InnerSequences.{Leads-outer}
-use Rattle.path_checker.proofs.Histories.{CoveredFrom-append, CoveredFrom-same, joined, CoveredFrom-joined}
 
 -- the others are tried at the same component
 abbrev pub branch_course : Course → (ℕ → Course) → ℕ → Course

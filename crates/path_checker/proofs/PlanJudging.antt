@@ -1,4 +1,4 @@
--- What exploring a whole procedure tells of it.
+-- The verdict on a whole procedure, from exploring it.
 use Rattle.std.proofs.Common.{◌≡◌, ◌≤◌, ◌<◌, ℕ, zero, suc, List, [], ◌∷◌, ◌++◌, length, refl, sym, ap, ◌∙◌, subst, append_assoc, arith, inl, inr}
 use Rattle.suit_commands.specs.Tree.{PlanTree}
 use Rattle.suit_commands.specs.Capped.{capped}
@@ -11,6 +11,7 @@ use Rattle.path_model.specs.Behaviour.{Directive}
 use Rattle.path_model.specs.Path.{RunsPlan, first_state}
 use Rattle.path_model.specs.Safe.{Safe}
 use Rattle.path_model.specs.BadPaths.{IsBadPath}
+use Rattle.path_model.proofs.Covering.{CoveredFrom-AllCovered, CoveredFrom-front}
 use Rattle.path_checker.specs.declared.judge_plan.facts.Knowledge.{Knowledge}
 use Rattle.path_checker.specs.Knowing.{nothing_known, Allows}
 use Rattle.path_checker.specs.Choosing.{IsChosen}
@@ -19,7 +20,6 @@ use Rattle.path_checker.specs.Procedures.{first_kept}
 use Rattle.path_checker.specs.declared.judge_plan.CheckVerdict.{CheckVerdict}
 use Rattle.path_checker.specs.declared.judge_plan.CheckVerdict.TheVariants as verdicts
 use Rattle.path_checker.specs.PlanVerdicts.{widest, Judges, Tells, JudgesPlan}
-use Rattle.path_checker.proofs.Histories.{CoveredFrom-AllCovered, CoveredFrom-front}
 
 nothing-length : (count : ℕ) → length (nothing_known count) ≡ count
 nothing-length zero = refl
@@ -68,7 +68,7 @@ is_bad_path plan from facts events bad is u chosen same =
     at (k, inl e, v) = of_first (subst (λ (x : Kept). Uncovered (RunsPlan plan) x facts events) (sym e) v)
     at (k, inr n, v) = absurd n
 
--- what is told of an uncovered invoke
+-- the verdict on an uncovered invoke
 pub told_judges : (plan : PlanTree) (from : List Kept) (k : Kept) (verdict : CheckVerdict) → from ≡ first_kept plan.count ∷ [] → Uncovers (RunsPlan plan) from k.facts k.events → Tells k verdict → Judges plan verdict
 told_judges plan from k verdicts.Safe is u tells = absurd tells
 told_judges plan from k (verdicts.Unsafe bad) is u tells = is_bad_path plan from k.facts k.events bad is u tells.0 tells.1

@@ -12,6 +12,8 @@ use Rattle.path_model.specs.declared.identity.Identity.{Identity}
 use Rattle.path_model.specs.declared.event.Event.{Event}
 use Rattle.path_model.specs.Behaviour.{State, Ending, Done, Directive, Each}
 use Rattle.path_model.specs.Following.{CoveredFrom, SameMatches}
+use Rattle.path_model.proofs.Following.{same_matches}
+use Rattle.path_model.proofs.RunLaws.{at_sole, of_sole}
 use Rattle.path_checker.specs.declared.judge_plan.facts.Knowledge.{Knowledge}
 use Rattle.path_checker.specs.declared.judge_plan.halt.Halt.{Halt}
 use Rattle.path_checker.specs.Exploring.{Course, In, Kept, Stopped, Found, Reaches, Explores, Uncovers, Uncovered, Adds}
@@ -23,7 +25,6 @@ use Rattle.path_checker.proofs.Uncovering.{Uncovered-lift}
 use Rattle.path_checker.proofs.Carrying.{Explores-more}
 use Rattle.path_checker.proofs.Leaves.{Same, Explores-same}
 use Rattle.path_checker.proofs.Walking.{Halts-lift, does_course, Walks, Walks-then, Walks-halt}
-use Rattle.path_checker.proofs.Histories.{same_matches}
 
 pub record Pops (course : Course) (from : List Kept) (failed0 : List Stopped) (now next : List Kept) (failed : List Stopped) : Type 0 where
   pub gone : List Kept
@@ -72,6 +73,13 @@ none_left (x ∷ xs) h = absurd (h (omega arith))
 
 abbrev pub each_course : CommandTree → ℕ → ℕ → List ℕ → Course
 each_course cmd count p cs ids = Each (λ c. At cmd count p c ids) cs
+
+-- with one selected it is done there
+pub each_sole : (cmd : CommandTree) (count p c : ℕ) (k : Kept) → k.state.selection ≡ c ∷ [] → Same k (At cmd count p c) (each_course cmd count p k.state.selection)
+each_sole cmd count p c k sole = record {
+  there = λ ids al es e r. at_sole (λ d. At cmd count p d ids) c k.state es e sole r;
+  back = λ ids al es e r. of_sole (λ d. At cmd count p d ids) c k.state es e sole r;
+}
 
 pub does_each : (cmd : Command) → ((s : Selection) → cmd ≡ commands.Index s → ⊥) → (count p : ℕ) (k : Kept) → Same k (each_course (command_tree cmd) count p k.state.selection) (does_course (command_tree cmd) count p)
 does_each (commands.Test kind report) other count p k = record { there = λ ids al es e r. r; back = λ ids al es e r. r }

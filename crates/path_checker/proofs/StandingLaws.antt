@@ -1,36 +1,22 @@
 -- The matches that stand after one more event.
 use Rattle.std.proofs.Common.{◌≡◌, ℕ, List, [], ◌∷◌, ◌++◌, Option, refl, sym, subst, inl, inr}
-use Rattle.std.specs.Prelude.{◌⊎◌}
 use Rattle.suit_params.specs.declared.digest.Digest.{Digest}
 use Rattle.path_model.specs.declared.event.Event.{Event}
 use Rattle.path_model.specs.declared.event.Event.TheVariants.{Matched, Wrote}
 use Rattle.path_model.specs.Safe.{WritesTo, HasMatched}
 use Rattle.path_model.specs.Following.{SameMatches}
+use Rattle.path_model.proofs.Covering.{HasMatched-append}
+use Rattle.path_model.proofs.CoverLaws.{match_stands, matched_after}
 use Rattle.path_checker.specs.declared.judge_plan.happened.Happened.{Happened}
 use Rattle.path_checker.specs.declared.judge_plan.happened.Happened.TheVariants as lent
 use Rattle.path_checker.specs.Happening.{event_of}
 use Rattle.path_checker.specs.Exploring.{In}
 use Rattle.path_checker.specs.Standing.{Stands, StandsAfter, LeavesOut}
-use Rattle.path_checker.proofs.Histories.{stands, stands_joined}
 
--- ---- a match that stands after one more event is that event, or stood before and was not ended
-
-only_one : (e : Event) (before since : List Event) (c : ℕ) (d : Digest) (s : Option ℕ) → e ∷ [] ≡ before ++ Matched c d s ∷ since → e ≡ Matched c d s
-only_one e [] since c d s is = cc
-only_one e (x ∷ []) since c d s is = absurd cc
-only_one e (x ∷ (y ∷ before)) since c d s is = absurd cc
-
-stood : (events : List Event) (e : Event) (c : ℕ) (d : Digest) (s : Option ℕ) → HasMatched (events ++ e ∷ []) c d s → (e ≡ Matched c d s) ⊎ (HasMatched events c d s × (WritesTo c e → ⊥))
-stood events e c d s h = elim (stands events (e ∷ []) h.before h.since c d s h.is h.unwritten) [
-  | inl one ↦ inl (only_one e one.before one.since c d s one.is)
-  | inr both ↦ inr (both.0, both.1.0)
-]
-
-comes : (events : List Event) (c : ℕ) (d : Digest) (s : Option ℕ) → HasMatched (events ++ Matched c d s ∷ []) c d s
-comes events c d s = record { before = events; since = []; is = refl; unwritten = tt }
+-- ---- a match stands after one more event that does not end it
 
 stays : (events : List Event) (e : Event) (c : ℕ) (d : Digest) (s : Option ℕ) → (WritesTo c e → ⊥) → HasMatched events c d s → HasMatched (events ++ e ∷ []) c d s
-stays events e c d s quiet h = stands_joined events (e ∷ []) c d s (inr (h, (quiet, tt)))
+stays events e c d s quiet h = HasMatched-append events (e ∷ []) c d s (quiet, tt) h
 
 -- ---- what a list of them becomes
 
@@ -44,7 +30,7 @@ stands_none c d s = (λ h. absurd h, λ h. never h.before h.since h.is)
 pub after_again : (matches : List Event) (c : ℕ) (d : Digest) (s : Option ℕ) → In (Matched c d s) matches → StandsAfter matches (Matched c d s) matches
 after_again matches c d s there events stand c' d' s' = (
   λ h. stays events (Matched c d s) c' d' s' (λ n. n) ((stand c' d' s').0 h),
-  λ h. elim (stood events (Matched c d s) c' d' s' h) [
+  λ h. elim (matched_after events (Matched c d s) c' d' s' h) [
     | inl is ↦ subst (λ (x : Event). In x matches) is there
     | inr h ↦ (stand c' d' s').1 h.0
   ],
@@ -53,10 +39,10 @@ after_again matches c d s there events stand c' d' s' = (
 pub after_match : (matches : List Event) (c : ℕ) (d : Digest) (s : Option ℕ) → StandsAfter matches (Matched c d s) (Matched c d s ∷ matches)
 after_match matches c d s events stand c' d' s' = (
   λ h. elim h [
-    | inl is ↦ subst (λ (x : Event). HasMatched (events ++ x ∷ []) c' d' s') (sym is) (comes events c' d' s')
+    | inl is ↦ subst (λ (x : Event). HasMatched (events ++ x ∷ []) c' d' s') (sym is) (match_stands events c' d' s')
     | inr h ↦ stays events (Matched c d s) c' d' s' (λ n. n) ((stand c' d' s').0 h)
   ],
-  λ h. elim (stood events (Matched c d s) c' d' s' h) [
+  λ h. elim (matched_after events (Matched c d s) c' d' s' h) [
     | inl is ↦ inl is
     | inr h ↦ inr ((stand c' d' s').1 h.0)
   ],
@@ -65,7 +51,7 @@ after_match matches c d s events stand c' d' s' = (
 pub after_write : (matches after : List Event) (c : ℕ) → LeavesOut c matches after → StandsAfter matches (Wrote c) after
 after_write matches after c leaves events stand c' d' s' = (
   λ h. let x = (leaves (Matched c' d' s')).0 h in stays events (Wrote c) c' d' s' (λ w. x.1 (sym w)) ((stand c' d' s').0 x.0),
-  λ h. elim (stood events (Wrote c) c' d' s' h) [
+  λ h. elim (matched_after events (Wrote c) c' d' s' h) [
     | inl is ↦ absurd cc
     | inr h ↦ (leaves (Matched c' d' s')).1 ((stand c' d' s').1 h.0, λ m. h.1 (sym m))
   ],
@@ -78,7 +64,7 @@ IsPlain e = (c : ℕ) (d : Digest) (s : Option ℕ) → (e ≡ Matched c d s →
 after_plain : (matches : List Event) (e : Event) → IsPlain e → StandsAfter matches e matches
 after_plain matches e plain events stand c d s = (
   λ h. stays events e c d s (plain c d s).1 ((stand c d s).0 h),
-  λ h. elim (stood events e c d s h) [
+  λ h. elim (matched_after events e c d s h) [
     | inl is ↦ absurd ((plain c d s).0 is)
     | inr h ↦ (stand c d s).1 h.0
   ],

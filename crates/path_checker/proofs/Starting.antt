@@ -58,7 +58,7 @@ Halts-started s count from started is h u =
 pub Adds-absent : (count : ℕ) (from started : List Kept) (f : List Stopped) → started ≡ all_restarted from → Adds (FromStart NoSteps count) from [] started f f
 Adds-absent count from started f is = Adds-started NoSteps count from started started f f is (Walks-end nothing_course started started f f (Walks-start nothing_course started f))
 
--- ---- what is left of a procedure after its first parts
+-- ---- the rest of a procedure after its first parts
 
 abbrev pub part_course : SequenceTree → PlanTree → Course
 part_course sequence plan = FromStart sequence plan.count

@@ -7,6 +7,7 @@ use Rattle.path_model.specs.Behaviour.{State, Ending, Done, Condition, Directive
 use Rattle.path_model.specs.Runs.{entry_state}
 use Rattle.path_model.specs.Safe.{IsCovered}
 use Rattle.path_model.specs.Following.{CoveredFrom}
+use Rattle.path_model.proofs.Following.{joined, CoveredFrom-joined}
 use Rattle.path_checker.specs.declared.judge_plan.facts.Knowledge.{Knowledge}
 use Rattle.path_checker.specs.Knowing.{Allows}
 use Rattle.path_checker.specs.Exploring.{Course, Kept, Stopped, Reaches, Explores, Uncovered, Uncovers}
@@ -15,7 +16,6 @@ use Rattle.path_checker.proofs.Exploring.{then_course}
 use Rattle.path_checker.proofs.InnerStates.{entered-from, softly-from}
 use Rattle.path_checker.proofs.InnerSequences.{inner_course}
 use Rattle.path_checker.proofs.OneBranch.{branch_course}
-use Rattle.path_checker.proofs.Histories.{joined, CoveredFrom-joined}
 
 -- the same, for another course and from another state of the same history
 pub Uncovered-lift : (a b : Course) (k to : Kept) (facts : List Knowledge) (events : List Event) → k.facts ≡ to.facts → k.events ≡ to.events

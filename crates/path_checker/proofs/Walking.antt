@@ -32,7 +32,7 @@ rest-is steps i count d lt =
     ap (λ (xs : List Step). runs_course (sequence_tree xs) count) (drop-cons steps i d lt)
     ∙ ap (λ (n : ℕ). then_course (does_course (command_tree (get_or steps i d).command) count (get_or steps i d).place) (runs_course (sequence_tree (drop n steps)) count)) (sym (add-one i))
 
--- what a loop knows while it walks
+-- the invariant of a loop while it walks
 pub record Walks (whole : Course) (from : List Kept) (failed0 : List Stopped) (rest : Course) (now : List Kept) (failed : List Stopped) : Type 0 where
   pub added : List Stopped
   pub failed_is : failed ≡ failed0 ++ added

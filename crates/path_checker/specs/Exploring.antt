@@ -1,4 +1,4 @@
--- What it means that states that are kept stand for all runs from other ones.
+-- When the states that are kept stand for all runs from other ones.
 use Rattle.std.specs.Prelude.{◌≡◌, ◌⊎◌, ℕ, Bool, List, [], ◌∷◌, ◌++◌, length}
 use Rattle.path_model.specs.declared.identity.Identity.{Identity}
 use Rattle.path_model.specs.declared.event.Event.{Event}
@@ -9,7 +9,7 @@ use Rattle.path_model.specs.Following.{CoveredFrom, SameMatches}
 use Rattle.path_checker.specs.declared.judge_plan.facts.Knowledge.{Knowledge}
 use Rattle.path_checker.specs.Knowing.{Allows}
 
--- what may happen, for each list of identities
+-- the behaviour for each list of identities
 abbrev pub Course : Type 1
 Course = List Identity → Behaviour
 

@@ -13,7 +13,7 @@ use Rattle.path_checker.specs.declared.judge_plan.known.SlotFork.{SlotFork}
 use Rattle.path_checker.specs.declared.judge_plan.known.SlotFork.TheVariants as slots
 use Rattle.path_checker.specs.Knowing.{Known, Agrees, AllowsOne, Allows, HasOwn, Learns}
 
--- what is known is narrowed to this
+-- knowledge is narrowed to this
 abbrev pub Narrows : {A : Type 0} → Known A → Known A → (Option A → Type 0) → Type 0
 Narrows {A} known narrowed fact = (own : Option A) → Agrees narrowed own ↔ (Agrees known own × fact own)
 

@@ -1,4 +1,4 @@
--- What is known of the identities of a procedure's components.
+-- Knowledge of the identities of a procedure's components.
 use Rattle.std.specs.Prelude.{◌≡◌, ◌≢◌, ◌↔◌, ℕ, zero, suc, List, [], ◌∷◌, Option, Some, None, length}
 use Rattle.std.specs.List.{AllByRecursion}
 use Rattle.path_model.specs.declared.identity.Identity.{Identity}

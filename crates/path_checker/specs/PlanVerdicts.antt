@@ -1,4 +1,4 @@
--- What the verdict on a whole procedure says.
+-- The meaning of the verdict on a whole procedure.
 use Rattle.std.specs.Prelude.{◌≡◌, ◌<◌, ◌≤◌, ℕ}
 use Rattle.suit_commands.specs.Capped.{capped}
 use Rattle.suit_commands.specs.Numbers.{width_number}

@@ -1,4 +1,4 @@
--- What single steps make of a state, and what a command does at one component.
+-- The effect of single steps on a state, and of a command at one component.
 use Rattle.std.specs.Prelude.{ℕ, Bool, List, [], ◌∷◌, ◌++◌}
 use Rattle.suit_params.specs.declared.param.Param.{Param}
 use Rattle.suit_commands.specs.Tree.{CommandTree, Test, Act, Index, Override, TryEach, RunSequence}

@@ -1,11 +1,11 @@
--- What the identity conditions ask for, and how they end by it.
+-- The identities that conditions ask for, and how they end by them.
 use Rattle.std.specs.Prelude.{◌⊎◌, ℕ, true, false, Option, Some, None, option_map}
 use Rattle.suit_commands.specs.declared.kinds.TestKind.{TestKind}
 use Rattle.suit_commands.specs.declared.kinds.TestKind.TheVariants as tests
 use Rattle.suit_params.specs.declared.param.ParamKey.TheVariants as keys
 use Rattle.suit_params.specs.InForce.{Parameters, in_force, identifier_of, number_of}
 use Rattle.path_model.specs.declared.event.Event.TheVariants.{Tried}
-use Rattle.path_model.specs.Conditions.{Passes, Fails}
+use Rattle.path_model.specs.Conditions.{IsMet, IsUnmet}
 use Rattle.path_checker.specs.declared.judge_plan.facts.Own.{Own}
 use Rattle.path_checker.specs.declared.judge_plan.facts.Own.TheVariants as owns
 use Rattle.path_checker.specs.Forking.{Has, HasNo}
@@ -19,7 +19,7 @@ wanted_by tests.Slot parameters component = option_map owns.Slot (number_of (in_
 wanted_by _ parameters component = None
 
 abbrev pub TestsOwn : TestKind → ℕ → ℕ → Option Own → Course
-TestsOwn kind place component None identities state events ending = Fails place (Tried component kind false) state events ending
+TestsOwn kind place component None identities state events ending = IsUnmet place (Tried component kind false) state events ending
 TestsOwn kind place component (Some own) identities state events ending =
-    (Has component own identities × Passes (Tried component kind true) state events ending)
-    ⊎ (HasNo component own identities × Fails place (Tried component kind false) state events ending)
+    (Has component own identities × IsMet (Tried component kind true) state events ending)
+    ⊎ (HasNo component own identities × IsUnmet place (Tried component kind false) state events ending)

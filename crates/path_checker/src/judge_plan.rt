@@ -39,16 +39,16 @@ use suit_commands::{Plan, width};
 // The largest width of a procedure that is judged.
 const WIDEST: u64 = 4_194_304;
 
-/// What a whole procedure is judged to be.
+/// The verdict on a whole procedure.
 #[derive(Debug, Drop)]
 pub enum CheckVerdict {
     /// Each invoke is covered on each path, for all identities.
     Safe,
     /// The last invoke of this path is not covered.
     Unsafe(BadPath),
-    /// The procedure is wider than is judged; its width, or the largest number of 64 bits where that is larger.
+    /// The procedure is too wide to judge; its width, which saturates at 64 bits.
     TooWide(u64),
-    /// There was no memory.
+    /// Memory ran out.
     NoMemory,
 }
 
@@ -94,7 +94,7 @@ fn judge(alloc: Global, plan: &Plan<'_>) -> CheckVerdict
 /// Judges a procedure of the grammar for all identities of its components (draft-ietf-suit-manifest-25, section 6.4).
 /// It is too wide exactly where its work times its spread is above 4,194,304. Otherwise it is safe exactly where each
 /// invoke of each path is covered, and an unsafe one is told by a path whose last event is its first invoke that is not
-/// covered, with identities that it is a path for. Where there is no memory, it is not too wide.
+/// covered, with identities that it is a path for. Where memory runs out, it is not too wide.
 pub fn check(alloc: Global, plan: &Plan<'_>) -> CheckVerdict
     requires { IsPlan (plan_tree plan.now) }
     ensures judged { JudgesPlan (plan_tree plan.now) result }

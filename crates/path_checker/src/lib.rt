@@ -1,4 +1,4 @@
-//! Whether each invoke of a procedure is covered on every path.
+//! Checks whether each invoke of a procedure is covered on every path.
 #![tactic(auto)]
 
 mod judge_plan;

@@ -15,7 +15,7 @@ use Rattle.path_model.specs.declared.event.Event.TheVariants.{Tried, Matched, Mi
 use Rattle.suit_params.specs.ParamKeys.{key_of, key_number}
 use Rattle.suit_params.specs.InForce.{in_force, identifier_of, number_of, digest_of, bytes_of, digest_in, size_in}
 use Rattle.path_model.specs.Behaviour.{State, Ending, Done, Condition, Directive}
-use Rattle.path_model.specs.Conditions.{Tests, Compares, Matches, ChecksContent, Fails, vendor_of, class_of, device_of, slot_of}
+use Rattle.path_model.specs.Conditions.{Tests, Compares, Matches, ChecksContent, IsUnmet, vendor_of, class_of, device_of, slot_of}
 use Rattle.path_model.specs.Directives.{Writes, Acts}
 use Rattle.path_model.specs.CommandLaws.{PassedBy, FailedAt, MatchTold, PassTold, EndsPassed, ConditionsEnd, AbortFails, ConditionsNeed, HasValue, Follows, IdentityFollowed, IdentityNeeded, IdentityDecides, MatchIsFree, ContentIsFree, EndsEitherWay, written, DirectivesWrite, DirectivesNeed, InvokesTell}
 
@@ -54,7 +54,7 @@ key_named-key_number keys.Args = refl
 same_key : (key other : ParamKey) → key_number key ≡ key_number other → key ≡ other
 same_key key other same = sym (key_named-key_number key) ∙ ap key_named same ∙ key_named-key_number other
 
--- what is in force under the key of a number
+-- the parameter in force under the key of a number
 at_key : (s : State) (c : ℕ) (key other : ParamKey) (held : Option Param) → key_number key ≡ key_number other → in_force s.parameters c key ≡ held → in_force s.parameters c other ≡ held
 at_key s c key other held same is = subst (λ (k : ParamKey). in_force s.parameters c k ≡ held) (same_key key other same) is
 
@@ -103,16 +103,16 @@ conditions_end tests.Abort ids p c s es e run = inr run
 pub abort_fails : AbortFails
 abort_fails ids p c s es e = (λ run. run, λ failed. failed)
 
--- ---- what conditions need
+-- ---- the needs of conditions
 
-none_wanted : {A : Type 0} (kind : TestKind) (p c : ℕ) (wanted own : Option A) (s : State) (es : List Event) (e : Ending) → wanted ≡ None → Compares p kind c wanted own s es e ↔ Fails p (Tried c kind false) s es e
+none_wanted : {A : Type 0} (kind : TestKind) (p c : ℕ) (wanted own : Option A) (s : State) (es : List Event) (e : Ending) → wanted ≡ None → Compares p kind c wanted own s es e ↔ IsUnmet p (Tried c kind false) s es e
 none_wanted kind p c None own s es e none = (
   λ run. elim run [ inl (same, passed) ↦ absurd same | inr (differs, failed) ↦ failed ],
   λ failed. inr (λ same. same, failed),
 )
 none_wanted kind p c (Some wanted) own s es e none = absurd cc
 
-none_own : {A : Type 0} (kind : TestKind) (p c : ℕ) (wanted own : Option A) (s : State) (es : List Event) (e : Ending) → own ≡ None → Compares p kind c wanted own s es e ↔ Fails p (Tried c kind false) s es e
+none_own : {A : Type 0} (kind : TestKind) (p c : ℕ) (wanted own : Option A) (s : State) (es : List Event) (e : Ending) → own ≡ None → Compares p kind c wanted own s es e ↔ IsUnmet p (Tried c kind false) s es e
 none_own kind p c None own s es e none = none_wanted kind p c None own s es e refl
 none_own kind p c (Some wanted) None s es e none =
     let differs : None ≡ Some wanted → ⊥ = λ same. absurd cc in (
@@ -121,11 +121,11 @@ none_own kind p c (Some wanted) None s es e none =
     )
 none_own kind p c (Some wanted) (Some own) s es e none = absurd cc
 
-match_needs : (p c : ℕ) (digest : Option Digest) (size : Option ℕ) (s : State) (es : List Event) (e : Ending) → digest ≡ None → Matches p c digest size s es e ↔ Fails p (Missed c) s es e
+match_needs : (p c : ℕ) (digest : Option Digest) (size : Option ℕ) (s : State) (es : List Event) (e : Ending) → digest ≡ None → Matches p c digest size s es e ↔ IsUnmet p (Missed c) s es e
 match_needs p c None size s es e none = (λ run. run, λ failed. failed)
 match_needs p c (Some d) size s es e none = absurd cc
 
-content_needs : (p c : ℕ) (content : Option (List ℕ)) (s : State) (es : List Event) (e : Ending) → content ≡ None → ChecksContent p c content s es e ↔ Fails p (Tried c tests.CheckContent false) s es e
+content_needs : (p c : ℕ) (content : Option (List ℕ)) (s : State) (es : List Event) (e : Ending) → content ≡ None → ChecksContent p c content s es e ↔ IsUnmet p (Tried c tests.CheckContent false) s es e
 content_needs p c None s es e none = (λ run. run, λ failed. failed)
 content_needs p c (Some content) s es e none = absurd cc
 
@@ -180,7 +180,7 @@ identity_decides tests.Abort ids p c s es fs e f on run other = absurd on
 -- a comparison, where what is compared is known
 compares_known : {A : Type 0} (kind : TestKind) (p c : ℕ) (wanted own : Option A) (value : A) (held : Option A) (s : State) (es : List Event) (e : Ending) → wanted ≡ Some value → own ≡ held
     → Compares p kind c wanted own s es e
-    ↔ (((held ≡ Some value) × PassedBy (Tried c kind true) s es e) ⊎ ((held ≡ Some value → ⊥) × Fails p (Tried c kind false) s es e))
+    ↔ (((held ≡ Some value) × PassedBy (Tried c kind true) s es e) ⊎ ((held ≡ Some value → ⊥) × IsUnmet p (Tried c kind false) s es e))
 compares_known {A} kind p c wanted own value held s es e w-is o-is = (
   λ run. subst (λ (o : Option A). Compares p kind c (Some value) o s es e) o-is (subst (λ (w : Option A). Compares p kind c w own s es e) w-is run),
   λ ends. subst (λ (w : Option A). Compares p kind c w own s es e) (sym w-is) (subst (λ (o : Option A). Compares p kind c (Some value) o s es e) (sym o-is) ends),
@@ -216,7 +216,7 @@ source_param : (param : Param) → key_number (key_of param) ≡ 22 → (source 
 source_param (params.Source source) number = (source, refl)
 source_param _ number = absurd (omega arith)
 
--- what is in force under the key of a parameter that is known
+-- the parameter in force under the key of a known one
 held_as : (s : State) (c : ℕ) (param known : Param) → param ≡ known → in_force s.parameters c (key_of param) ≡ Some param → in_force s.parameters c (key_of known) ≡ Some known
 held_as s c param known is held = subst (λ (p : Param). in_force s.parameters c (key_of p) ≡ Some p) is held
 

@@ -37,7 +37,7 @@ all_append : {A : Type 0} (P : A → Type 0) (xs ys : List A) → AllByRecursion
 all_append P [] ys h k = k
 all_append P (x ∷ xs) ys h k = (h.0, all_append P xs ys h.1 k)
 
--- what matched still does after events that write nothing to the component
+-- a match still stands after events that write nothing to the component
 pub HasMatched-append : (events more : List Event) (c : ℕ) (d : Digest) (s : Option ℕ) → IsQuiet c more → HasMatched events c d s → HasMatched (events ++ more) c d s
 HasMatched-append events more c d s quiet h = record {
   before = h.before;

@@ -20,6 +20,7 @@ use Rattle.path_model.specs.Plays.{Outcome}
 use Rattle.path_model.specs.DevicePlays.{Device, content_at, with_content, tested, unread, comparing, is_image, matched, is_content, condition_play, Change, Made, Refused, concluded, filled, fetched, copied, swapped, fits_into, acted, ActIsCut, acting, WriteLeaves, FetchLeaves, SwapLeaves, directive_play, first_device, plan_play}
 use Rattle.path_model.specs.PlayLaws.{IsFault, IsFaultIn, EndsSo, EndsByFault, PlayEnds, FaultedEnds}
 use Rattle.path_model.proofs.PlaysEnd.{Ends, procedure_ends}
+use Rattle.path_model.proofs.Leaving.{write_cut, fetch_cut, swap_cut}
 
 tested_ends : (p : ℕ) (passed failed : Event) (s : State) (w : Device) (b : Bool) → EndsSo (tested p passed failed s w b).ending (tested p passed failed s w b).cause
 tested_ends p passed failed s w true = refl
@@ -105,31 +106,13 @@ module _ {A : Type 0} (setting : Setting) (p : ℕ) (told : A → List Event) (m
   acting_ends wanted = record { whole = λ s w. acted_ends s w (wanted s); cut = λ s w o cut. cut_ends s w o (wanted s) cut }
 
 write_fault : (setting : Setting) (c : ℕ) (cause : Cause) (w v : Device) → WriteLeaves setting c cause w v → IsFaultIn setting cause
-write_fault setting c causes.FlashFault w v h = tt
-write_fault setting c causes.Missing w v h = h
-write_fault setting c causes.SelfCopy w v h = h
-write_fault setting c causes.TooLarge w v h = h
-write_fault setting c causes.Absent w v h = h
-write_fault setting c causes.HostFault w v h = absurd h
-write_fault setting c causes.LaunchFault w v h = tt
+write_fault setting c cause w v h = write_cut setting c w v (IsFaultIn setting) cause h (λ any. tt)
 
 fetch_fault : (setting : Setting) (uri : List ℕ) (c : ℕ) (cause : Cause) (w v : Device) → FetchLeaves setting uri c cause w v → IsFaultIn setting cause
-fetch_fault setting uri c causes.FlashFault w v h = tt
-fetch_fault setting uri c causes.Missing w v h = h
-fetch_fault setting uri c causes.SelfCopy w v h = h
-fetch_fault setting uri c causes.TooLarge w v h = h
-fetch_fault setting uri c causes.Absent w v h = h
-fetch_fault setting uri c causes.HostFault w v h = (uri, h.0)
-fetch_fault setting uri c causes.LaunchFault w v h = tt
+fetch_fault setting uri c cause w v h = fetch_cut setting c w v (IsFaultIn setting) uri cause h (λ any. tt) (λ named left. (uri, named))
 
 swap_fault : (setting : Setting) (c source : ℕ) (cause : Cause) (w v : Device) → SwapLeaves setting c source cause w v → IsFaultIn setting cause
-swap_fault setting c source causes.FlashFault w v h = tt
-swap_fault setting c source causes.Missing w v h = h
-swap_fault setting c source causes.SelfCopy w v h = h
-swap_fault setting c source causes.TooLarge w v h = h
-swap_fault setting c source causes.Absent w v h = h
-swap_fault setting c source causes.HostFault w v h = absurd h
-swap_fault setting c source causes.LaunchFault w v h = tt
+swap_fault setting c source cause w v h = swap_cut setting c w v (IsFaultIn setting) source cause h (λ m one two. tt)
 
 invoke_ends : (p c : ℕ) (s : State) (w : Device) (o : Outcome Device) (setting : Setting) → (directive_play setting acts.Invoke p c).IsCut s w o → EndsByFault setting o.ending o.cause
 invoke_ends p c s w o setting (causes.LaunchFault, stops, is) =

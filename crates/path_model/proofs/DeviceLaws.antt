@@ -1,6 +1,6 @@
 -- The laws of conditions and directives on contents.
 use Rattle.std.proofs.Common.{◌≡◌, ◌≢◌, ◌<◌, ◌≤◌, ℕ, Bool, true, false, List, [], ◌∷◌, Option, Some, None, refl, sym, ap, subst, ◌∙◌, inl, inr, length, length-set, arith, get_or-set_same, get_or-set_other}
-use Rattle.std.proofs.lemmas.Bool.{eqb-true, eq-eqb, ne_eqb, le-leb, lt-leb, and_from, and_left, and_right, true≢false}
+use Rattle.std.proofs.lemmas.Bool.{eq-eqb, ne_eqb, le-leb, lt-leb, and_from, and_left, and_right, true≢false}
 use lib.Pointwise.{bytes_decides}
 use Rattle.std.specs.Prelude.{◌==◌, nat_le, ◌&&◌, if◌then◌else◌}
 use Rattle.std.specs.Option.{option_and_then}
@@ -21,7 +21,10 @@ use Rattle.path_model.specs.Behaviour.{State, Done, Condition}
 use Rattle.path_model.specs.Settings.{Setting, capacity_of, found_under, payload_of}
 use Rattle.path_model.specs.Plays.{Outcome}
 use Rattle.path_model.specs.DevicePlays.{Device, content_at, with_content, tested, unread, comparing, fits_size, is_image, matched, is_content, condition_play, Change, Made, Refused, concluded, filled, fetched, copied, swapped, fits_into, acted, ActIsCut, HoldsAny, WriteLeaves, FetchLeaves, SwapLeaves, launch_of}
-use Rattle.path_model.specs.DeviceLaws.{IsUnread, ConditionRules, Fails, Holds, WriteRules, FetchRules, CopyRules, Exchanged, NoRoom, SwapRules, InvokeRule, PayloadRules, HoldsSome, Leaves, IsFault, FaultRule, acts_at}
+use Rattle.path_model.specs.DeviceLaws.{IsUnread, ConditionRules, FailsFor, Holds, WriteRules, FetchRules, CopyRules, Exchanged, NoRoom, SwapRules, InvokeRule, PayloadRules, HoldsSome, Leaves, IsFault, FaultRule, acts_at}
+use Rattle.path_model.proofs.Fits.{first_true, second_true, fits}
+use Rattle.path_model.proofs.DeviceLeads.{tested_world, matched_world}
+use Rattle.path_model.proofs.Leaving.{write_cut, fetch_cut, swap_cut}
 
 -- ---- conditions
 
@@ -36,18 +39,6 @@ so_passed : (p : ℕ) (passed failed : Event) (s : State) (w : Device) (b : Bool
 so_passed p passed failed s w true e = refl
 so_passed p passed failed s w false e = absurd (true≢false (sym e))
 
-first_true : (x y : Bool) → (x && y) ≡ true → x ≡ true
-first_true true y e = refl
-first_true false y e = e
-
-second_true : (x y : Bool) → (x && y) ≡ true → y ≡ true
-second_true true y e = e
-second_true false y e = absurd (true≢false (sym e))
-
-the_number : ℕ → Option ℕ → ℕ
-the_number d None = d
-the_number d (Some n) = n
-
 the_digest : Digest → Option Digest → Digest
 the_digest d None = d
 the_digest d (Some n) = n
@@ -55,11 +46,6 @@ the_digest d (Some n) = n
 the_bytes : List ℕ → Option (List ℕ) → List ℕ
 the_bytes d None = d
 the_bytes d (Some n) = n
-
-fits : (s : Option ℕ) (content : List ℕ) → fits_size s content ≡ true → (n : ℕ) → s ≡ Some n → length content ≡ n
-unfolding the_number
-fits None content e n is = absurd cc
-fits (Some m) content e n is = eqb-true (length content) m e ∙ ap (the_number m) is
 
 fits_so : (s : Option ℕ) (content : List ℕ) → ((n : ℕ) → s ≡ Some n → length content ≡ n) → fits_size s content ≡ true
 fits_so None content has = refl
@@ -103,14 +89,6 @@ passed_content : (wanted : Option (List ℕ)) (content : List ℕ) → wanted �
 unfolding the_bytes
 passed_content None content e = absurd cc
 passed_content (Some x) content e = (bytes_decides content x).1 (sym (ap (the_bytes x) e))
-
-tested_world : (p : ℕ) (passed failed : Event) (s : State) (w : Device) (b : Bool) → (tested p passed failed s w b).world ≡ w
-tested_world p passed failed s w true = refl
-tested_world p passed failed s w false = refl
-
-matched_world : (p c : ℕ) (size : Option ℕ) (s : State) (w : Device) (d : Option Digest) → (matched p c size s w d).world ≡ w
-matched_world p c size s w None = refl
-matched_world p c size s w (Some d) = tested_world p (Matched c d size) (Missed c) s w (is_image d size (content_at w c))
 
 comparing_world : (p : ℕ) (kind : TestKind) (c : ℕ) (holds : State → Bool) (s : State) (w : Device) → ((comparing p kind c holds).comes s w).world ≡ w
 comparing_world p kind c holds s w = tested_world p (Tried c kind true) (Tried c kind false) s w (holds s)
@@ -159,7 +137,7 @@ condition_rules = record {
   cut = conditions_cut;
 }
 
--- ---- what a directive makes
+-- ---- the effect of a directive
 
 when_true : {A : Type 0} (b : Bool) (x y : A) → b ≡ true → (if b then x else y) ≡ x
 when_true true x y e = refl
@@ -178,7 +156,7 @@ holds_with c bytes w = record {
 
 -- a directive whose parameter is there comes to its change
 module _ {A : Type 0} (p : ℕ) (told : A → List Event) (makes : A → Device → Change) (s : State) (w : Device) where
-  lacking : (wanted : Option A) → wanted ≡ None → Fails (acted p told makes s w wanted) causes.Missing w
+  lacking : (wanted : Option A) → wanted ≡ None → FailsFor (acted p told makes s w wanted) causes.Missing w
   lacking wanted none =
       let is = ap (acted p told makes s w) none in
       (ap (λ (o : Outcome Device). o.cause) is, ap (λ (o : Outcome Device). o.world) is)
@@ -190,7 +168,7 @@ made_holds : (p c : ℕ) (es : List Event) (s : State) (w : Device) (bytes : Lis
 made_holds p c es s w bytes o is =
     (ap (λ (x : Outcome Device). x.ending) is, subst (λ (v : Device). Holds c bytes w v) (sym (ap (λ (x : Outcome Device). x.world) is)) (holds_with c bytes w))
 
-refused_fails : (p : ℕ) (es : List Event) (s : State) (cause : Cause) (w : Device) (o : Outcome Device) → o ≡ concluded p es s (Refused cause w) → Fails o cause w
+refused_fails : (p : ℕ) (es : List Event) (s : State) (cause : Cause) (w : Device) (o : Outcome Device) → o ≡ concluded p es s (Refused cause w) → FailsFor o cause w
 refused_fails p es s cause w o is = (ap (λ (x : Outcome Device). x.cause) is, ap (λ (x : Outcome Device). x.world) is)
 
 filled_made : (setting : Setting) (c : ℕ) (bytes : List ℕ) (w : Device) → length bytes ≤ capacity_of setting c → filled setting c bytes w ≡ Made (with_content w c bytes)
@@ -368,41 +346,20 @@ module _ {A : Type 0} (setting : Setting) (kind : ActKind) (p c : ℕ) (told : A
   }
 
 write_left : (setting : Setting) (c : ℕ) (cause : Cause) (w v : Device) → WriteLeaves setting c cause w v → Leaves setting acts.Write cause c w v
-write_left setting c causes.FlashFault w v h = held_some setting c w v h
-write_left setting c causes.Missing w v h = absurd h
-write_left setting c causes.SelfCopy w v h = absurd h
-write_left setting c causes.TooLarge w v h = absurd h
-write_left setting c causes.Absent w v h = absurd h
-write_left setting c causes.HostFault w v h = absurd h
-write_left setting c causes.LaunchFault w v h = absurd h
+write_left setting c cause w v h = write_cut setting c w v (λ k. Leaves setting acts.Write k c w v) cause h (held_some setting c w v)
 
 copy_left : (setting : Setting) (c : ℕ) (cause : Cause) (w v : Device) → WriteLeaves setting c cause w v → Leaves setting acts.Copy cause c w v
-copy_left setting c causes.FlashFault w v h = held_some setting c w v h
-copy_left setting c causes.Missing w v h = absurd h
-copy_left setting c causes.SelfCopy w v h = absurd h
-copy_left setting c causes.TooLarge w v h = absurd h
-copy_left setting c causes.Absent w v h = absurd h
-copy_left setting c causes.HostFault w v h = absurd h
-copy_left setting c causes.LaunchFault w v h = absurd h
+copy_left setting c cause w v h = write_cut setting c w v (λ k. Leaves setting acts.Copy k c w v) cause h (held_some setting c w v)
 
 fetch_left : (setting : Setting) (uri : List ℕ) (c : ℕ) (cause : Cause) (w v : Device) → FetchLeaves setting uri c cause w v → Leaves setting acts.Fetch cause c w v
-fetch_left setting uri c causes.FlashFault w v h = held_some setting c w v h
-fetch_left setting uri c causes.HostFault w v h =
-    elim h.1 [ inl is ↦ inl is | inr is ↦ inr (subst (λ (u : Device). Holds c [] w u) (sym is) (holds_with c [] w)) ]
-fetch_left setting uri c causes.Missing w v h = absurd h
-fetch_left setting uri c causes.SelfCopy w v h = absurd h
-fetch_left setting uri c causes.TooLarge w v h = absurd h
-fetch_left setting uri c causes.Absent w v h = absurd h
-fetch_left setting uri c causes.LaunchFault w v h = absurd h
+fetch_left setting uri c cause w v h =
+    fetch_cut setting c w v (λ k. Leaves setting acts.Fetch k c w v) uri cause h (held_some setting c w v)
+    (λ named left. elim left [ inl is ↦ inl is | inr is ↦ inr (subst (λ (u : Device). Holds c [] w u) (sym is) (holds_with c [] w)) ])
 
 swap_left : (setting : Setting) (c source : ℕ) (cause : Cause) (w v : Device) → SwapLeaves setting c source cause w v → Leaves setting acts.Swap cause c w v
-swap_left setting c source causes.FlashFault w v (m, one, two) = record { source = source; middle = m; one = held_some setting c w m one; other = held_some setting source m v two }
-swap_left setting c source causes.HostFault w v h = absurd h
-swap_left setting c source causes.Missing w v h = absurd h
-swap_left setting c source causes.SelfCopy w v h = absurd h
-swap_left setting c source causes.TooLarge w v h = absurd h
-swap_left setting c source causes.Absent w v h = absurd h
-swap_left setting c source causes.LaunchFault w v h = absurd h
+swap_left setting c source cause w v h =
+    swap_cut setting c w v (λ k. Leaves setting acts.Swap k c w v) source cause h
+    (λ m one two. record { source = source; middle = m; one = held_some setting c w m one; other = held_some setting source m v two })
 
 pub fault_rule : FaultRule
 fault_rule setting acts.Write p c s w o cut =

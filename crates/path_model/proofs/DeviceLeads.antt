@@ -1,4 +1,4 @@
--- What was launched stays launched.
+-- Launches that were made stay made.
 use Rattle.std.proofs.Common.{◌≡◌, ℕ, Bool, true, false, List, [], ◌∷◌, ◌++◌, Option, Some, None, refl, sym, ap, ◌∙◌, append_assoc, inl, inr}
 use Rattle.std.proofs.lemmas.List.{append-nil}
 use Rattle.std.specs.Prelude.{◌==◌, nat_le, ◌&&◌, if◌then◌else◌, length}
@@ -21,6 +21,7 @@ use Rattle.path_model.specs.Plays.{Outcome, Play}
 use Rattle.path_model.specs.DevicePlays.{Launched, Device, content_at, with_content, tested, matched, is_image, is_content, comparing, matching, checking, condition_play, Change, Made, Refused, concluded, filled, fetched, copied, swapped, fits_into, acted, ActIsCut, acting, HoldsAny, WriteLeaves, FetchLeaves, SwapLeaves, launch_of, directive_play, first_device, plan_play}
 use Rattle.path_model.specs.PlayLaws.{FaultedLaunchesFirst}
 use Rattle.path_model.proofs.PlaysLead.{Leads, procedure_leads}
+use Rattle.path_model.proofs.Leaving.{write_cut, fetch_cut, swap_cut}
 
 -- ---- lists of launches that grow
 
@@ -42,11 +43,11 @@ LeadsOn play = Leads Device Grown grown grown_then play
 
 -- ---- conditions change nothing
 
-tested_world : (p : ℕ) (passed failed : Event) (s : State) (w : Device) (b : Bool) → (tested p passed failed s w b).world ≡ w
+pub tested_world : (p : ℕ) (passed failed : Event) (s : State) (w : Device) (b : Bool) → (tested p passed failed s w b).world ≡ w
 tested_world p passed failed s w true = refl
 tested_world p passed failed s w false = refl
 
-matched_world : (p c : ℕ) (size : Option ℕ) (s : State) (w : Device) (d : Option Digest) → (matched p c size s w d).world ≡ w
+pub matched_world : (p c : ℕ) (size : Option ℕ) (s : State) (w : Device) (d : Option Digest) → (matched p c size s w d).world ≡ w
 matched_world p c size s w None = refl
 matched_world p c size s w (Some d) = tested_world p (Matched c d size) (Missed c) s w (is_image d size (content_at w c))
 
@@ -118,32 +119,16 @@ holds_any_keeps : (setting : Setting) (c : ℕ) (w v : Device) → HoldsAny sett
 holds_any_keeps setting c w v (bytes, short, is) = ap (λ (x : Device). x.launches) is
 
 write_leaves : (setting : Setting) (c : ℕ) (cause : Cause) (w v : Device) → WriteLeaves setting c cause w v → v.launches ≡ w.launches
-write_leaves setting c causes.FlashFault w v h = holds_any_keeps setting c w v h
-write_leaves setting c causes.Missing w v h = absurd h
-write_leaves setting c causes.SelfCopy w v h = absurd h
-write_leaves setting c causes.TooLarge w v h = absurd h
-write_leaves setting c causes.Absent w v h = absurd h
-write_leaves setting c causes.HostFault w v h = absurd h
-write_leaves setting c causes.LaunchFault w v h = absurd h
+write_leaves setting c cause w v h = write_cut setting c w v (λ k. v.launches ≡ w.launches) cause h (holds_any_keeps setting c w v)
 
 fetch_leaves : (setting : Setting) (uri : List ℕ) (c : ℕ) (cause : Cause) (w v : Device) → FetchLeaves setting uri c cause w v → v.launches ≡ w.launches
-fetch_leaves setting uri c causes.FlashFault w v h = holds_any_keeps setting c w v h
-fetch_leaves setting uri c causes.HostFault w v h =
-    elim h.1 [ inl is ↦ ap (λ (x : Device). x.launches) is | inr is ↦ ap (λ (x : Device). x.launches) is ]
-fetch_leaves setting uri c causes.Missing w v h = absurd h
-fetch_leaves setting uri c causes.SelfCopy w v h = absurd h
-fetch_leaves setting uri c causes.TooLarge w v h = absurd h
-fetch_leaves setting uri c causes.Absent w v h = absurd h
-fetch_leaves setting uri c causes.LaunchFault w v h = absurd h
+fetch_leaves setting uri c cause w v h =
+    fetch_cut setting c w v (λ k. v.launches ≡ w.launches) uri cause h (holds_any_keeps setting c w v)
+    (λ named left. elim left [ inl is ↦ ap (λ (x : Device). x.launches) is | inr is ↦ ap (λ (x : Device). x.launches) is ])
 
 swap_leaves : (setting : Setting) (c source : ℕ) (cause : Cause) (w v : Device) → SwapLeaves setting c source cause w v → v.launches ≡ w.launches
-swap_leaves setting c source causes.FlashFault w v (m, one, two) = holds_any_keeps setting source m v two ∙ holds_any_keeps setting c w m one
-swap_leaves setting c source causes.HostFault w v h = absurd h
-swap_leaves setting c source causes.Missing w v h = absurd h
-swap_leaves setting c source causes.SelfCopy w v h = absurd h
-swap_leaves setting c source causes.TooLarge w v h = absurd h
-swap_leaves setting c source causes.Absent w v h = absurd h
-swap_leaves setting c source causes.LaunchFault w v h = absurd h
+swap_leaves setting c source cause w v h =
+    swap_cut setting c w v (λ k. v.launches ≡ w.launches) source cause h (λ m one two. holds_any_keeps setting source m v two ∙ holds_any_keeps setting c w m one)
 
 module _ {A : Type 0} (p : ℕ) (told : A → List Event) (makes : A → Device → Change) (Leaves : A → Cause → Device → Device → Type 0)
     (kept : (x : A) (w : Device) → Keeps w (makes x w)) (left : (x : A) (cause : Cause) (w v : Device) → Leaves x cause w v → v.launches ≡ w.launches) where

@@ -17,7 +17,7 @@ use Rattle.path_model.specs.declared.event.Event.{Event}
 use Rattle.path_model.specs.declared.event.Event.TheVariants.{Tried, Matched, Missed, Wrote, Failed}
 use Rattle.path_model.specs.declared.cause.Cause.{Cause}
 use Rattle.path_model.specs.Behaviour.{State, Ending, Done, Directive, Behaviour}
-use Rattle.path_model.specs.Conditions.{Passes, Fails, IsSame, Compares, vendor_of, class_of, device_of, slot_of, Matches, ChecksContent, Tests}
+use Rattle.path_model.specs.Conditions.{IsMet, IsUnmet, IsAsWanted, Compares, vendor_of, class_of, device_of, slot_of, Matches, ChecksContent, Tests}
 use Rattle.path_model.specs.Directives.{Writes, Invokes, Acts}
 use Rattle.path_model.specs.Path.{first_state, RunsPlan}
 use Rattle.path_model.specs.Settings.{Setting, payload_of}
@@ -32,38 +32,38 @@ the_value : {A : Type 0} → A → Option A → A
 the_value d None = d
 the_value d (Some x) = x
 
-identifier_is : (wanted own : Option (List ℕ)) → same_identifier wanted own ≡ true → IsSame wanted own
+identifier_is : (wanted own : Option (List ℕ)) → same_identifier wanted own ≡ true → IsAsWanted wanted own
 identifier_is None None e = absurd (true≢false (sym e))
 identifier_is None (Some b) e = absurd (true≢false (sym e))
 identifier_is (Some a) None e = absurd (true≢false (sym e))
 identifier_is (Some a) (Some b) e = ap Some ((bytes_decides b a).0 e)
 
-is_identifier : (wanted own : Option (List ℕ)) → IsSame wanted own → same_identifier wanted own ≡ true
+is_identifier : (wanted own : Option (List ℕ)) → IsAsWanted wanted own → same_identifier wanted own ≡ true
 unfolding the_value
 is_identifier None own same = absurd same
 is_identifier (Some a) None same = absurd cc
 is_identifier (Some a) (Some b) same = (bytes_decides b a).1 (ap (the_value b) same)
 
-number_is : (wanted own : Option ℕ) → same_number wanted own ≡ true → IsSame wanted own
+number_is : (wanted own : Option ℕ) → same_number wanted own ≡ true → IsAsWanted wanted own
 number_is None None e = absurd (true≢false (sym e))
 number_is None (Some b) e = absurd (true≢false (sym e))
 number_is (Some a) None e = absurd (true≢false (sym e))
 number_is (Some a) (Some b) e = ap Some (eqb-true b a e)
 
-is_number : (wanted own : Option ℕ) → IsSame wanted own → same_number wanted own ≡ true
+is_number : (wanted own : Option ℕ) → IsAsWanted wanted own → same_number wanted own ≡ true
 unfolding the_value
 is_number None own same = absurd same
 is_number (Some a) None same = absurd cc
 is_number (Some a) (Some b) same = eq-eqb b a (ap (the_value b) same)
 
 compared : {A : Type 0} (p : ℕ) (kind : TestKind) (c : ℕ) (wanted own : Option A) (s : State) (w : Device) (b : Bool)
-    → (b ≡ true → IsSame wanted own) → (IsSame wanted own → b ≡ true)
+    → (b ≡ true → IsAsWanted wanted own) → (IsAsWanted wanted own → b ≡ true)
     → Compares p kind c wanted own s (tested p (Tried c kind true) (Tried c kind false) s w b).events (tested p (Tried c kind true) (Tried c kind false) s w b).ending
 compared p kind c wanted own s w true holds so = inl (holds refl, (refl, refl))
 compared p kind c wanted own s w false holds so = inr ((λ same. true≢false (sym (so same))), (refl, refl))
 
 comparing_follows : {A : Type 0} (p : ℕ) (kind : TestKind) (c : ℕ) (wanted : State → Option A) (own : Option A) (holds : State → Bool)
-    → ((s : State) → holds s ≡ true → IsSame (wanted s) own) → ((s : State) → IsSame (wanted s) own → holds s ≡ true)
+    → ((s : State) → holds s ≡ true → IsAsWanted (wanted s) own) → ((s : State) → IsAsWanted (wanted s) own → holds s ≡ true)
     → Follows Device (λ s. Compares p kind c (wanted s) own s) (comparing p kind c holds)
 comparing_follows p kind c wanted own holds is back = record {
   whole = λ s w. compared p kind c (wanted s) own s w (holds s) (is s) (back s);
@@ -73,8 +73,8 @@ comparing_follows p kind c wanted own holds is back = record {
 -- ---- conditions on a content
 
 either_tested : (p : ℕ) (passed failed : Event) (s : State) (w : Device) (b : Bool)
-    → Passes passed s (tested p passed failed s w b).events (tested p passed failed s w b).ending
-    ⊎ Fails p failed s (tested p passed failed s w b).events (tested p passed failed s w b).ending
+    → IsMet passed s (tested p passed failed s w b).events (tested p passed failed s w b).ending
+    ⊎ IsUnmet p failed s (tested p passed failed s w b).events (tested p passed failed s w b).ending
 either_tested p passed failed s w true = inl (refl, refl)
 either_tested p passed failed s w false = inr (refl, refl)
 
@@ -112,7 +112,7 @@ checking_follows p c =
           begins_all run s o.events all.events all.ending (checked_runs p c (content_at w c) s w (bytes_of (in_force s.parameters c keys.Content))) (ap (λ (x : Outcome Device). x.events) cut.1);
     }
 
-abort_follows : (p c : ℕ) → Follows Device (Fails p (Tried c tests.Abort false)) (comparing p tests.Abort c (λ s. false))
+abort_follows : (p c : ℕ) → Follows Device (IsUnmet p (Tried c tests.Abort false)) (comparing p tests.Abort c (λ s. false))
 abort_follows p c = record { whole = λ s w. (refl, refl); cut = λ s w o cut. absurd cut }
 
 -- ---- directives
@@ -181,7 +181,7 @@ module _ (setting : Setting) where
   tests_follow tests.CheckContent p c =
       other_run Device (λ s. ChecksContent p c (bytes_of (in_force s.parameters c keys.Content)) s) (Tests tests.CheckContent setting.identities p c) (checking p c) (λ s es e r. r) (checking_follows p c)
   tests_follow tests.Abort p c =
-      other_run Device (Fails p (Tried c tests.Abort false)) (Tests tests.Abort setting.identities p c) (comparing p tests.Abort c (λ s. false)) (λ s es e r. r) (abort_follows p c)
+      other_run Device (IsUnmet p (Tried c tests.Abort false)) (Tests tests.Abort setting.identities p c) (comparing p tests.Abort c (λ s. false)) (λ s es e r. r) (abort_follows p c)
 
   acts_follow : (kind : ActKind) (p c : ℕ) → Follows Device (Acts kind p c) (directive_play setting kind p c)
   acts_follow acts.Write p c =

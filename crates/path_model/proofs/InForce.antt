@@ -1,4 +1,4 @@
--- What is in force after an override.
+-- The parameters in force after an override.
 use Rattle.std.proofs.Common.{◌≡◌, ℕ, ◌<◌, List, length, Option, Some, None, arith, length-set, get_or-set_same, get_or-set_other, ◌≢◌, ◌∙◌, ap}
 use Rattle.std.specs.Prelude.{slice_get, slice_set}
 use Rattle.suit_params.specs.declared.digest.Digest.{Digest}

@@ -16,6 +16,9 @@ pub mod Following
 pub mod TwoComponents
 pub mod OneRun
 pub mod Unsafe
+pub mod Members
+pub mod Leaving
+pub mod Fits
 pub mod PlaysRun
 pub mod DeviceLeaves
 pub mod PlaysLead

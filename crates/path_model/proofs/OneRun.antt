@@ -20,6 +20,7 @@ use Rattle.path_model.specs.Runs.{entry_state, after_run, RunsInner, FailsSoftly
 use Rattle.path_model.specs.Path.{start_state, Starts, RunsPlan}
 use Rattle.path_model.specs.OneRun.{FreeStep, MatchStep, ContentStep, WriteStep, SwapStep, InvokeStep, passed_told, failed_told, PartsAt, SameOrParts, OneRun}
 use Rattle.path_model.proofs.CommandLaws.{identity_decides}
+use Rattle.path_model.proofs.TwoComponents.{same_state}
 
 -- ---- parting, seen from both sides, before and after more events
 
@@ -74,15 +75,6 @@ IsOne run = (s : State) (es fs : List Event) (e f : Ending) → run s es e → r
 
 abbrev IsOneAt : (ℕ → Behaviour) → Type 0
 IsOneAt at = (c : ℕ) → IsOne (at c)
-
-state_or : State → Ending → State
-state_or s (Done t) = t
-state_or s (Condition p soft) = s
-state_or s (Directive p) = s
-
-same_state : (s t : State) → Done s ≡ Done t → s ≡ t
-unfolding state_or
-same_state s t same = ap (state_or s) same
 
 both_sides : (es fs : List Event) (e f : Ending) → SameOrParts es e fs f → SameOrParts fs f es e
 both_sides es fs e f same =

@@ -63,6 +63,9 @@ rank-key_at (suc (suc (suc (suc (suc (suc (suc (suc (suc zero))))))))) lt = refl
 rank-key_at (suc (suc (suc (suc (suc (suc (suc (suc (suc (suc zero)))))))))) lt = refl
 rank-key_at (suc (suc (suc (suc (suc (suc (suc (suc (suc (suc (suc n))))))))))) lt = omega arith
 
+pub same_rank : (a b : ParamKey) → rank a ≡ rank b → a ≡ b
+same_rank a b same = sym (placed a).back ∙ ap key_at same ∙ (placed b).back
+
 within : (component : ℕ) (key : ParamKey) → component < 8 → cell component key < 96
 within component key lt = let small = (placed key).small in omega arith
 
@@ -72,7 +75,7 @@ apart c d key other not_both same =
     let low = (placed other).small in
     let ranks : rank other ≡ rank key = omega arith in
     let components : d ≡ c = omega arith in
-    not_both (components, sym (placed other).back ∙ ap key_at ranks ∙ (placed key).back)
+    not_both (components, same_rank other key ranks)
 
 -- ---- the laws
 
@@ -105,7 +108,7 @@ override_keeps parameters component other param key whole lt lt' not_both =
     ap held_at (slice_get-set_other parameters (cell component (key_of param)) at (Some param) (get_or parameters at none)
     (apart component other (key_of param) key not_both) inside there ∙ sym there)
 
--- what is in force at a place
+-- the parameter in force at a place
 at_place : (parameters : Parameters) (n : ℕ) (d : Option Param) → IsWhole parameters → n < 96 → in_force parameters (n / 12) (key_at (n % 12)) ≡ get_or parameters n d
 at_place parameters n d whole lt =
     let low : n % 12 < 12 = omega arith in

@@ -11,6 +11,7 @@ use Rattle.path_model.specs.Path.{start_state}
 use Rattle.path_model.specs.Settings.{Setting}
 use Rattle.path_model.specs.Plays.{Outcome, Play, going_on, NextIsCut, in_turn, each, each_selected, overriding, running_inner, after_trying, OtherIsCut, sequence_play, command_play, branches_play, starting, procedure}
 use Rattle.path_model.specs.PlayLaws.{EndsSo, EndsByFault}
+use Rattle.path_model.proofs.Members.{by_members}
 
 after_run_ends : (s : State) (e : Ending) (c : Option Cause) → EndsSo e c → EndsSo (after_run s e) c
 after_run_ends s (Done t) c h = h
@@ -115,15 +116,4 @@ module _ (World : Type 0) (setting : Setting) where
     }
 
     pub procedure_ends : (plan : PlanTree) → Ends (procedure World tests acts count plan)
-    procedure_ends plan =
-        let play : SequenceTree → Play World = λ q. starting World tests acts count q in
-        let f : (q : SequenceTree) → Ends (play q) = starting_ends in
-        let p5 : Play World = in_turn World (play plan.shared) (play plan.third) in
-        let p4 : Play World = in_turn World (play plan.second) p5 in
-        let p3 : Play World = in_turn World (play plan.shared) p4 in
-        let p2 : Play World = in_turn World (play plan.first) p3 in
-        turn_ends (play plan.shared) p2 (f plan.shared)
-        (turn_ends (play plan.first) p3 (f plan.first)
-        (turn_ends (play plan.shared) p4 (f plan.shared)
-        (turn_ends (play plan.second) p5 (f plan.second)
-        (turn_ends (play plan.shared) (play plan.third) (f plan.shared) (f plan.third)))))
+    procedure_ends plan = by_members World tests acts count Ends starting_ends turn_ends plan

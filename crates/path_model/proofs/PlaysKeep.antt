@@ -1,5 +1,5 @@
--- What holds of the events so far and the world, and is kept by each step whose invokes are covered, is kept by whole
--- plays, also by those that a fault cut short.
+-- An invariant of the events so far and the world, kept by each step whose invokes are covered, is kept by whole plays,
+-- also by those that a fault cut short.
 use Rattle.std.proofs.Common.{◌≡◌, ℕ, true, false, List, [], ◌∷◌, ◌++◌, Option, sym, subst, append_assoc, inl, inr}
 use Rattle.std.proofs.lemmas.List.{append-nil}
 use Rattle.suit_params.specs.declared.param.Param.{Param}
@@ -16,6 +16,7 @@ use Rattle.path_model.specs.Path.{start_state}
 use Rattle.path_model.specs.Following.{CoveredFrom}
 use Rattle.path_model.specs.Plays.{Outcome, Play, behind, going_on, NextIsCut, in_turn, each, each_selected, overriding, running_inner, after_trying, OtherIsCut, sequence_play, command_play, branches_play, starting, procedure}
 use Rattle.path_model.proofs.Coverage.{parts_covered}
+use Rattle.path_model.proofs.Members.{by_members}
 
 module _ (World : Type 0) (Holds : List Event → World → Type 0) (sets : (past : List Event) (w : World) (c : ℕ) (p : Param) → Holds past w → Holds (past ++ Set c p ∷ []) w) where
   -- it still holds behind an outcome
@@ -134,15 +135,4 @@ module _ (World : Type 0) (Holds : List Event → World → Type 0) (sets : (pas
     }
 
     pub procedure_keeps : (plan : PlanTree) → Keeps (procedure World tests acts count plan)
-    procedure_keeps plan =
-        let play : SequenceTree → Play World = λ q. starting World tests acts count q in
-        let f : (q : SequenceTree) → Keeps (play q) = starting_keeps in
-        let p5 : Play World = in_turn World (play plan.shared) (play plan.third) in
-        let p4 : Play World = in_turn World (play plan.second) p5 in
-        let p3 : Play World = in_turn World (play plan.shared) p4 in
-        let p2 : Play World = in_turn World (play plan.first) p3 in
-        turn_keeps (play plan.shared) p2 (f plan.shared)
-        (turn_keeps (play plan.first) p3 (f plan.first)
-        (turn_keeps (play plan.shared) p4 (f plan.shared)
-        (turn_keeps (play plan.second) p5 (f plan.second)
-        (turn_keeps (play plan.shared) (play plan.third) (f plan.shared) (f plan.third)))))
+    procedure_keeps plan = by_members World tests acts count Keeps starting_keeps turn_keeps plan

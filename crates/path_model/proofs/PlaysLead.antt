@@ -10,6 +10,7 @@ use Rattle.path_model.specs.Behaviour.{State, Ending, Done, Condition, Directive
 use Rattle.path_model.specs.Runs.{entry_state}
 use Rattle.path_model.specs.Path.{start_state}
 use Rattle.path_model.specs.Plays.{Outcome, Play, going_on, NextIsCut, in_turn, each, each_selected, overriding, running_inner, after_trying, OtherIsCut, sequence_play, command_play, branches_play, starting, procedure}
+use Rattle.path_model.proofs.Members.{by_members}
 
 module _ (World : Type 0) (R : World → World → Type 0) (same : (w : World) → R w w) (next : (a b c : World) → R a b → R b c → R a c) where
   pub record Leads (play : Play World) : Type 0 where
@@ -107,15 +108,4 @@ module _ (World : Type 0) (R : World → World → Type 0) (same : (w : World) �
     }
 
     pub procedure_leads : (plan : PlanTree) → Leads (procedure World tests acts count plan)
-    procedure_leads plan =
-        let play : SequenceTree → Play World = λ q. starting World tests acts count q in
-        let f : (q : SequenceTree) → Leads (play q) = starting_leads in
-        let p5 : Play World = in_turn World (play plan.shared) (play plan.third) in
-        let p4 : Play World = in_turn World (play plan.second) p5 in
-        let p3 : Play World = in_turn World (play plan.shared) p4 in
-        let p2 : Play World = in_turn World (play plan.first) p3 in
-        turn_leads (play plan.shared) p2 (f plan.shared)
-        (turn_leads (play plan.first) p3 (f plan.first)
-        (turn_leads (play plan.shared) p4 (f plan.shared)
-        (turn_leads (play plan.second) p5 (f plan.second)
-        (turn_leads (play plan.shared) (play plan.third) (f plan.shared) (f plan.third)))))
+    procedure_leads plan = by_members World tests acts count Leads starting_leads turn_leads plan

@@ -17,7 +17,7 @@ use Rattle.suit_commands.specs.declared.kinds.ActKind.{ActKind}
 use Rattle.suit_commands.specs.declared.kinds.ActKind.TheVariants as acts
 use Rattle.suit_commands.specs.Tree.{Test, Act, Index, Override, TryEach, RunSequence, BranchesTree, NoBranches, BranchThen, NullThen}
 use Rattle.path_model.specs.Behaviour.{State, Ending, Done, Condition, Directive, IsFailure, Behaviour, EachSelected, Each}
-use Rattle.path_model.specs.Conditions.{Passes, Fails, Compares, Matches, ChecksContent, Tests, vendor_of, class_of, device_of, slot_of}
+use Rattle.path_model.specs.Conditions.{IsMet, IsUnmet, Compares, Matches, ChecksContent, Tests, vendor_of, class_of, device_of, slot_of}
 use Rattle.path_model.specs.Directives.{soft_after, after_override, Overrides, Writes, Acts}
 use Rattle.path_model.specs.Runs.{after_run, after_branch, RunsInner, Runs, Tries}
 use Rattle.path_model.specs.Turns.{Course, InTurn, with_selected, putting_back}
@@ -41,7 +41,7 @@ selections = record {
 pub index_selects : IndexSelects
 index_selects selection ids count place s es e = (λ run. run, λ is. is)
 
--- ---- what is done at one component neither reads the selection nor changes it
+-- ---- commands at one component neither read the selection nor change it
 
 record IsApart (at : ℕ → Behaviour) : Type 0 where
   keeps : (c : ℕ) (s : State) (es : List Event) (e : Ending) → at c s es e → putting_back s.selection e ≡ e
@@ -58,10 +58,10 @@ back_ended cs p e is = ap (putting_back cs) is ∙ sym is
 
 -- ---- conditions
 
-passes_blind : (event : Event) (s : State) (cs : List ℕ) (es : List Event) (e : Ending) → Passes event s es e → Passes event (with_selected s cs) es (putting_back cs e)
+passes_blind : (event : Event) (s : State) (cs : List ℕ) (es : List Event) (e : Ending) → IsMet event s es e → IsMet event (with_selected s cs) es (putting_back cs e)
 passes_blind event s cs es e (is, done) = (is, ap (putting_back cs) done)
 
-fails_blind : (p : ℕ) (event : Event) (s : State) (cs : List ℕ) (es : List Event) (e : Ending) → Fails p event s es e → Fails p event (with_selected s cs) es (putting_back cs e)
+fails_blind : (p : ℕ) (event : Event) (s : State) (cs : List ℕ) (es : List Event) (e : Ending) → IsUnmet p event s es e → IsUnmet p event (with_selected s cs) es (putting_back cs e)
 fails_blind p event s cs es e (is, failed) = (is, ap (putting_back cs) failed)
 
 compares_blind : {A : Type 0} (p : ℕ) (kind : TestKind) (c : ℕ) (wanted own : Option A) (s : State) (cs : List ℕ) (es : List Event) (e : Ending) → Compares p kind c wanted own s es e → Compares p kind c wanted own (with_selected s cs) es (putting_back cs e)

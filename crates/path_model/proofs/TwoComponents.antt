@@ -29,7 +29,7 @@ state_or s (Done t) = t
 state_or s (Condition p soft) = s
 state_or s (Directive p) = s
 
-same_state : (s t : State) → Done s ≡ Done t → s ≡ t
+pub same_state : (s t : State) → Done s ≡ Done t → s ≡ t
 unfolding state_or
 same_state s t same = ap (state_or s) same
 

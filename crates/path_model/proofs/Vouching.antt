@@ -1,7 +1,6 @@
 -- While each invoke is covered, a content whose match stands is the image that was matched, and so is what is launched.
 use Rattle.std.proofs.Common.{◌≡◌, ◌≢◌, ℕ, Bool, true, false, List, [], ◌∷◌, ◌++◌, Option, Some, None, refl, sym, ap, subst, ◌∙◌, append_assoc, inl, inr, get_or-set_other}
 use Rattle.std.proofs.lemmas.List.{append-nil}
-use Rattle.std.proofs.lemmas.Bool.{eqb-true, true≢false}
 use lib.Pointwise.{bytes_decides}
 use Rattle.std.specs.Prelude.{◌==◌, nat_le, ◌&&◌, if◌then◌else◌, length}
 use Rattle.std.specs.List.{AllByRecursion}
@@ -33,6 +32,8 @@ use Rattle.path_model.proofs.CoverLaws.{nothing_matched, matched_after}
 use Rattle.path_model.proofs.Coverage.{covered_by_standing}
 use Rattle.path_model.proofs.DeviceLeaves.{play_runs, faulted_is_path}
 use Rattle.path_model.proofs.PlaysKeep.{Keeps, procedure_keeps}
+use Rattle.path_model.proofs.Fits.{first_true, second_true, fits}
+use Rattle.path_model.proofs.Leaving.{write_cut, fetch_cut, swap_cut}
 
 record Vouches (past : List Event) (w : Device) : Type 0 where
   matches : (c : ℕ) (d : Digest) (s : Option ℕ) → HasMatched past c d s → is_image d s (content_at w c) ≡ true
@@ -117,23 +118,6 @@ then_failed : (past es : List Event) (p : ℕ) (w : Device) → Vouches (past ++
 then_failed past es p w v = subst (λ (xs : List Event). Vouches xs w) (append_assoc past es (Failed p ∷ [])) (quiet (past ++ es) w (Failed p) (no_failed p) v)
 
 -- ---- launches
-
-first_true : (x y : Bool) → (x && y) ≡ true → x ≡ true
-first_true true y e = refl
-first_true false y e = e
-
-second_true : (x y : Bool) → (x && y) ≡ true → y ≡ true
-second_true true y e = e
-second_true false y e = absurd (true≢false (sym e))
-
-number_in : ℕ → Option ℕ → ℕ
-number_in d None = d
-number_in d (Some n) = n
-
-fits : (s : Option ℕ) (content : List ℕ) → fits_size s content ≡ true → (n : ℕ) → s ≡ Some n → length content ≡ n
-unfolding number_in
-fits None content e n is = absurd cc
-fits (Some m) content e n is = eqb-true (length content) m e ∙ ap (number_in m) is
 
 its_digest : (past : List Event) (w : Device) (c : ℕ) (digest : Option Digest) (size : Option ℕ) (args : Option (List ℕ)) → IsCovered past (Invoked c digest size true) → Vouches past w
     → HasItsDigest (record { component = c; bytes = content_at w c; digest = digest; size = size; args = args })
@@ -252,25 +236,16 @@ copied_writes setting c source w =
     chosen c w (source == c) (Refused causes.SelfCopy w) (filled setting c (content_at w source) w) (written_same c w) (filled_writes setting c (content_at w source) w)
 
 write_leaves : (setting : Setting) (c : ℕ) (cause : Cause) (w v : Device) → WriteLeaves setting c cause w v → WrittenAt c w v
-write_leaves setting c causes.FlashFault w v (bytes, short, is) = subst (WrittenAt c w) (sym is) (written_with c w bytes)
-write_leaves setting c causes.Missing w v h = absurd h
-write_leaves setting c causes.SelfCopy w v h = absurd h
-write_leaves setting c causes.TooLarge w v h = absurd h
-write_leaves setting c causes.Absent w v h = absurd h
-write_leaves setting c causes.HostFault w v h = absurd h
-write_leaves setting c causes.LaunchFault w v h = absurd h
+write_leaves setting c cause w v h =
+    write_cut setting c w v (λ k. WrittenAt c w v) cause h (λ (bytes, short, is). subst (WrittenAt c w) (sym is) (written_with c w bytes))
 
 fetch_leaves : (setting : Setting) (uri : List ℕ) (c : ℕ) (cause : Cause) (w v : Device) → FetchLeaves setting uri c cause w v → WrittenAt c w v
-fetch_leaves setting uri c causes.FlashFault w v (bytes, short, is) = subst (WrittenAt c w) (sym is) (written_with c w bytes)
-fetch_leaves setting uri c causes.HostFault w v h = elim h.1 [
-  | inl is ↦ subst (WrittenAt c w) (sym is) (written_same c w)
-  | inr is ↦ subst (WrittenAt c w) (sym is) (written_with c w [])
-]
-fetch_leaves setting uri c causes.Missing w v h = absurd h
-fetch_leaves setting uri c causes.SelfCopy w v h = absurd h
-fetch_leaves setting uri c causes.TooLarge w v h = absurd h
-fetch_leaves setting uri c causes.Absent w v h = absurd h
-fetch_leaves setting uri c causes.LaunchFault w v h = absurd h
+fetch_leaves setting uri c cause w v h =
+    fetch_cut setting c w v (λ k. WrittenAt c w v) uri cause h (λ (bytes, short, is). subst (WrittenAt c w) (sym is) (written_with c w bytes))
+    (λ named left. elim left [
+      | inl is ↦ subst (WrittenAt c w) (sym is) (written_same c w)
+      | inr is ↦ subst (WrittenAt c w) (sym is) (written_with c w [])
+    ])
 
 -- both sides of a swap
 record BothWritten (c source : ℕ) (w v : Device) : Type 0 where
@@ -304,17 +279,12 @@ swapped_writes setting c source w =
     (both_chosen c source w fit made refused (record { middle = middle; one = written_with c w (content_at w source); other = written_with source middle (content_at w c) }) (both_same c source w))
 
 swap_leaves : (setting : Setting) (c source : ℕ) (cause : Cause) (w v : Device) → SwapLeaves setting c source cause w v → BothWritten c source w v
-swap_leaves setting c source causes.FlashFault w v (m, (bytes, short, is), (more, fits_too, js)) = record {
-  middle = m;
-  one = subst (WrittenAt c w) (sym is) (written_with c w bytes);
-  other = subst (WrittenAt source m) (sym js) (written_with source m more);
-}
-swap_leaves setting c source causes.HostFault w v h = absurd h
-swap_leaves setting c source causes.Missing w v h = absurd h
-swap_leaves setting c source causes.SelfCopy w v h = absurd h
-swap_leaves setting c source causes.TooLarge w v h = absurd h
-swap_leaves setting c source causes.Absent w v h = absurd h
-swap_leaves setting c source causes.LaunchFault w v h = absurd h
+swap_leaves setting c source cause w v h =
+    swap_cut setting c w v (λ k. BothWritten c source w v) source cause h (λ m (bytes, short, is) (more, fits_too, js). record {
+      middle = m;
+      one = subst (WrittenAt c w) (sym is) (written_with c w bytes);
+      other = subst (WrittenAt source m) (sym js) (written_with source m more);
+    })
 
 launched : (past : List Event) (w : Device) (c : ℕ) (parameters : Parameters) → IsCovered past (invoke_event c parameters true) → Vouches past w
     → Vouches (past ++ invoke_event c parameters true ∷ []) (launching w c parameters)

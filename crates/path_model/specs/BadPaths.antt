@@ -1,4 +1,4 @@
--- What shows that a procedure is not safe.
+-- A path that shows that a procedure is not safe.
 use Rattle.path_model.specs.declared.bad_path.BadPath.{BadPath}
 use Rattle.suit_commands.specs.Tree.{PlanTree}
 use Rattle.path_model.specs.Path.{AreIdentities, Path}

@@ -1,4 +1,4 @@
--- What a state may be followed by: events, and an ending.
+-- The events and the ending that may follow a state.
 use Rattle.std.specs.Prelude.{◌≡◌, ℕ, ◌⊎◌, Bool, List, [], ◌∷◌, ◌++◌}
 use Rattle.path_model.specs.declared.event.Event.{Event}
 use Rattle.suit_params.specs.InForce.{Parameters}

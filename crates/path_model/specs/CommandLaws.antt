@@ -26,7 +26,7 @@ use Rattle.path_model.specs.Directives.{Acts}
 abbrev pub PassedBy : Event → State → List Event → Ending → Type 0
 PassedBy event state events ending = (events ≡ event ∷ []) × (ending ≡ Done state)
 
--- what tells that a condition failed at a component
+-- the event that tells that a condition failed at a component
 abbrev pub failure_event : TestKind → ℕ → Event
 failure_event tests.ImageMatch component = Missed component
 failure_event kind component = Tried component kind false
@@ -38,10 +38,13 @@ FailedAt place kind component state events ending =
 
 -- the events that tell of a passed condition at a component
 pub data TellsPassed : TestKind → ℕ → Event → Type 0 where
-  MatchTold : (component : ℕ) (digest : Digest) (size : Option ℕ) → TellsPassed tests.ImageMatch component (Matched component digest size)
-  PassTold : (kind : TestKind) (component : ℕ) → kind ≢ tests.ImageMatch → TellsPassed kind component (Tried component kind true)
+  MatchTold : (component : ℕ) (digest : Digest) (size : Option ℕ)
+      → TellsPassed tests.ImageMatch component (Matched component digest size)
+  PassTold : (kind : TestKind) (component : ℕ) → kind ≢ tests.ImageMatch
+      → TellsPassed kind component (Tried component kind true)
 
-pub record EndsPassed (kind : TestKind) (component : ℕ) (state : State) (events : List Event) (ending : Ending) : Type 0 where
+pub record EndsPassed (kind : TestKind) (component : ℕ) (state : State) (events : List Event)
+    (ending : Ending) : Type 0 where
   pub event : Event
   pub tells : TellsPassed kind component event
   pub passed : PassedBy event state events ending

@@ -11,25 +11,25 @@ use Rattle.suit_params.specs.InForce.{in_force, identifier_of, number_of, bytes_
 use Rattle.path_model.specs.Behaviour.{Behaviour, Done, Condition}
 
 -- it is passed: this event, and the state stays
-abbrev pub Passes : Event → Behaviour
-Passes event state events ending = (events ≡ event ∷ []) × (ending ≡ Done state)
+abbrev pub IsMet : Event → Behaviour
+IsMet event state events ending = (events ≡ event ∷ []) × (ending ≡ Done state)
 
 -- it failed: this event, the place of the failure, and the sequence ends
-abbrev pub Fails : ℕ → Event → Behaviour
-Fails place event state events ending =
+abbrev pub IsUnmet : ℕ → Event → Behaviour
+IsUnmet place event state events ending =
     (events ≡ event ∷ Failed place ∷ []) × (ending ≡ Condition place state.soft_failure)
 
 -- ---- conditions on the identity: passed exactly where the parameter is there and the identity
 -- has the same
 
-abbrev pub IsSame : {A : Type 0} → Option A → Option A → Type 0
-IsSame None own = ⊥
-IsSame (Some wanted) own = own ≡ Some wanted
+abbrev pub IsAsWanted : {A : Type 0} → Option A → Option A → Type 0
+IsAsWanted None own = ⊥
+IsAsWanted (Some wanted) own = own ≡ Some wanted
 
 abbrev pub Compares : {A : Type 0} → ℕ → TestKind → ℕ → Option A → Option A → Behaviour
 Compares place kind component wanted own state events ending =
-    (IsSame wanted own × Passes (Tried component kind true) state events ending)
-    ⊎ ((IsSame wanted own → ⊥) × Fails place (Tried component kind false) state events ending)
+    (IsAsWanted wanted own × IsMet (Tried component kind true) state events ending)
+    ⊎ ((IsAsWanted wanted own → ⊥) × IsUnmet place (Tried component kind false) state events ending)
 
 abbrev pub vendor_of : Option Identity → Option (List ℕ)
 vendor_of None = None
@@ -51,34 +51,43 @@ slot_of (Some identity) = Some identity.slot
 
 -- under the digest and size in force
 abbrev pub Matches : ℕ → ℕ → Option Digest → Option ℕ → Behaviour
-Matches place component None size state events ending = Fails place (Missed component) state events ending
+Matches place component None size state events ending =
+    IsUnmet place (Missed component) state events ending
 Matches place component (Some digest) size state events ending =
-    Passes (Matched component digest size) state events ending ⊎ Fails place (Missed component) state events ending
+    IsMet (Matched component digest size) state events ending
+    ⊎ IsUnmet place (Missed component) state events ending
 
 abbrev pub ChecksContent : ℕ → ℕ → Option (List ℕ) → Behaviour
 ChecksContent place component None state events ending =
-    Fails place (Tried component tests.CheckContent false) state events ending
+    IsUnmet place (Tried component tests.CheckContent false) state events ending
 ChecksContent place component (Some content) state events ending =
-    Passes (Tried component tests.CheckContent true) state events ending
-    ⊎ Fails place (Tried component tests.CheckContent false) state events ending
+    IsMet (Tried component tests.CheckContent true) state events ending
+    ⊎ IsUnmet place (Tried component tests.CheckContent false) state events ending
 
 -- ---- each condition
 
 abbrev pub Tests : TestKind → List Identity → ℕ → ℕ → Behaviour
 Tests tests.Vendor identities place component state =
     Compares place tests.Vendor component
-    (identifier_of (in_force state.parameters component keys.Vendor)) (vendor_of (slice_get identities component)) state
+    (identifier_of (in_force state.parameters component keys.Vendor))
+    (vendor_of (slice_get identities component)) state
 Tests tests.Class identities place component state =
     Compares place tests.Class component
-    (identifier_of (in_force state.parameters component keys.Class)) (class_of (slice_get identities component)) state
+    (identifier_of (in_force state.parameters component keys.Class))
+    (class_of (slice_get identities component)) state
 Tests tests.Device identities place component state =
     Compares place tests.Device component
-    (identifier_of (in_force state.parameters component keys.Device)) (device_of (slice_get identities component)) state
+    (identifier_of (in_force state.parameters component keys.Device))
+    (device_of (slice_get identities component)) state
 Tests tests.Slot identities place component state =
     Compares place tests.Slot component
-    (number_of (in_force state.parameters component keys.Slot)) (slot_of (slice_get identities component)) state
+    (number_of (in_force state.parameters component keys.Slot))
+    (slot_of (slice_get identities component)) state
 Tests tests.ImageMatch identities place component state =
-    Matches place component (digest_in state.parameters component) (size_in state.parameters component) state
+    Matches place component (digest_in state.parameters component)
+    (size_in state.parameters component) state
 Tests tests.CheckContent identities place component state =
-    ChecksContent place component (bytes_of (in_force state.parameters component keys.Content)) state
-Tests tests.Abort identities place component state = Fails place (Tried component tests.Abort false) state
+    ChecksContent place component (bytes_of (in_force state.parameters component keys.Content))
+    state
+Tests tests.Abort identities place component state =
+    IsUnmet place (Tried component tests.Abort false) state

@@ -49,7 +49,8 @@ AbsentUncovered =
 -- ---- by indices
 
 -- at an index there is this match, and at no later one a write of the component
-pub record MatchedAt (events : List Event) (component : ℕ) (digest : Digest) (size : Option ℕ) : Type 0 where
+pub record MatchedAt (events : List Event) (component : ℕ) (digest : Digest) (size : Option ℕ)
+    : Type 0 where
   pub index : ℕ
   pub is : slice_get events index ≡ Some (Matched component digest size)
   pub unwritten : (later : ℕ) → index < later → slice_get events later ≢ Some (Wrote component)
@@ -61,7 +62,8 @@ MatchByIndices =
 
 -- the invoke at an index has a digest in force, and the events before it match it
 pub record InvokeMatched (events : List Event) (i : ℕ) : Type 0 where
-  pub digest : (component : ℕ) (size : Option ℕ) (passed : Bool) → slice_get events i ≢ Some (Invoked component None size passed)
+  pub digest : (component : ℕ) (size : Option ℕ) (passed : Bool)
+      → slice_get events i ≢ Some (Invoked component None size passed)
   pub matched : (component : ℕ) (digest : Digest) (size : Option ℕ) (passed : Bool)
       → slice_get events i ≡ Some (Invoked component (Some digest) size passed) → MatchedAt (take i events) component digest size
 
@@ -100,7 +102,7 @@ pub record FollowsAlike (events others more : List Event) : Type 0 where
 abbrev pub SameFollows : Type 0
 SameFollows = (events others more : List Event) → SameMatches events others → FollowsAlike events others more
 
--- what follows in two parts is covered exactly where each part is
+-- events in two parts are covered exactly where each part is
 abbrev pub PartsCovered : Type 0
 PartsCovered =
     (past front back : List Event) → CoveredFrom past (front ++ back) ↔ (CoveredFrom past front × CoveredFrom (past ++ front) back)

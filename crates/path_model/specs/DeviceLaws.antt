@@ -24,10 +24,11 @@ pub record HasImage (state : State) (device : Device) (component : ℕ) : Type 0
   pub digest : Digest
   pub named : digest_in state.parameters component ≡ Some digest
   pub has : sha256 (content_at device component) ≡ digest.bytes
-  pub size : (size : ℕ) → size_in state.parameters component ≡ Some size → length (content_at device component) ≡ size
+  pub size : (size : ℕ) → size_in state.parameters component ≡ Some size
+      → length (content_at device component) ≡ size
 
-abbrev pub Passes : Setting → TestKind → ℕ → ℕ → State → Device → Type 0
-Passes setting kind place component state device =
+abbrev pub TestPasses : Setting → TestKind → ℕ → ℕ → State → Device → Type 0
+TestPasses setting kind place component state device =
     ((condition_play setting kind place component).comes state device).ending ≡ Done state
 
 pub record IsUnread (place : ℕ) (device : Device) (outcome : Outcome Device) : Type 0 where
@@ -38,15 +39,18 @@ pub record IsUnread (place : ℕ) (device : Device) (outcome : Outcome Device) :
 
 pub record ConditionRules : Type 0 where
   pub image : (setting : Setting) (place component : ℕ) (state : State) (device : Device)
-      → Passes setting tests.ImageMatch place component state device ↔ HasImage state device component
+      → TestPasses setting tests.ImageMatch place component state device ↔ HasImage state device component
   pub content : (setting : Setting) (place component : ℕ) (state : State) (device : Device)
-      → Passes setting tests.CheckContent place component state device
+      → TestPasses setting tests.CheckContent place component state device
       ↔ (bytes_of (in_force state.parameters component keys.Content) ≡ Some (content_at device component))
   -- none changes anything
-  pub leaves : (setting : Setting) (kind : TestKind) (place component : ℕ) (state : State) (device : Device)
+  pub leaves :
+      (setting : Setting) (kind : TestKind) (place component : ℕ) (state : State) (device : Device)
       → ((condition_play setting kind place component).comes state device).world ≡ device
   -- where the flash fails, nothing is told and nothing changes
-  pub cut : (setting : Setting) (kind : TestKind) (place component : ℕ) (state : State) (device : Device) (outcome : Outcome Device)
+  pub cut :
+      (setting : Setting) (kind : TestKind) (place component : ℕ) (state : State) (device : Device)
+      (outcome : Outcome Device)
       → (condition_play setting kind place component).IsCut state device outcome → IsUnread place device outcome
 
 -- ---- directives
@@ -61,8 +65,8 @@ abbrev pub source_named : State → ℕ → Option ℕ
 source_named state component = number_of (in_force state.parameters component keys.Source)
 
 -- it fails for this cause and changes nothing
-abbrev pub Fails : Outcome Device → Cause → Device → Type 0
-Fails outcome cause device = (outcome.cause ≡ Some cause) × (outcome.world ≡ device)
+abbrev pub FailsFor : Outcome Device → Cause → Device → Type 0
+FailsFor outcome cause device = (outcome.cause ≡ Some cause) × (outcome.world ≡ device)
 
 -- the component holds these bytes, and all else is as it was
 pub record Holds (component : ℕ) (bytes : List ℕ) (before after : Device) : Type 0 where
@@ -73,29 +77,38 @@ pub record Holds (component : ℕ) (bytes : List ℕ) (before after : Device) : 
 abbrev pub MissingRule : ActKind → (State → ℕ → Type 0) → Type 0
 MissingRule kind Lacks =
     (setting : Setting) (place component : ℕ) (state : State) (device : Device)
-    → Lacks state component → Fails (acts_at setting kind place component state device) causes.Missing device
+    → Lacks state component → FailsFor (acts_at setting kind place component state device) causes.Missing device
 
 pub record WriteRules : Type 0 where
-  pub missing : MissingRule acts.Write (λ state component. content_named state component keys.Content ≡ None)
-  pub fits : (setting : Setting) (place component : ℕ) (state : State) (device : Device) (bytes : List ℕ)
+  pub missing :
+      MissingRule acts.Write (λ state component. content_named state component keys.Content ≡ None)
+  pub fits :
+      (setting : Setting) (place component : ℕ) (state : State) (device : Device) (bytes : List ℕ)
       → content_named state component keys.Content ≡ Some bytes → length bytes ≤ capacity_of setting component
       → let outcome = acts_at setting acts.Write place component state device in
       (outcome.ending ≡ Done state) × Holds component bytes device outcome.world
-  pub too_large : (setting : Setting) (place component : ℕ) (state : State) (device : Device) (bytes : List ℕ)
+  pub too_large :
+      (setting : Setting) (place component : ℕ) (state : State) (device : Device) (bytes : List ℕ)
       → content_named state component keys.Content ≡ Some bytes → capacity_of setting component < length bytes
-      → Fails (acts_at setting acts.Write place component state device) causes.TooLarge device
+      → FailsFor (acts_at setting acts.Write place component state device) causes.TooLarge device
 
 -- a payload that is too large leaves nothing
 pub record FetchRules : Type 0 where
-  pub missing : MissingRule acts.Fetch (λ state component. content_named state component keys.Uri ≡ None)
-  pub absent : (setting : Setting) (place component : ℕ) (state : State) (device : Device) (uri : List ℕ)
+  pub missing :
+      MissingRule acts.Fetch (λ state component. content_named state component keys.Uri ≡ None)
+  pub absent :
+      (setting : Setting) (place component : ℕ) (state : State) (device : Device) (uri : List ℕ)
       → content_named state component keys.Uri ≡ Some uri → payload_of setting uri ≡ None
-      → Fails (acts_at setting acts.Fetch place component state device) causes.Absent device
-  pub fits : (setting : Setting) (place component : ℕ) (state : State) (device : Device) (uri bytes : List ℕ)
+      → FailsFor (acts_at setting acts.Fetch place component state device) causes.Absent device
+  pub fits :
+      (setting : Setting) (place component : ℕ) (state : State) (device : Device)
+      (uri bytes : List ℕ)
       → content_named state component keys.Uri ≡ Some uri → payload_of setting uri ≡ Some bytes → length bytes ≤ capacity_of setting component
       → let outcome = acts_at setting acts.Fetch place component state device in
       (outcome.ending ≡ Done state) × Holds component bytes device outcome.world
-  pub too_large : (setting : Setting) (place component : ℕ) (state : State) (device : Device) (uri bytes : List ℕ)
+  pub too_large :
+      (setting : Setting) (place component : ℕ) (state : State) (device : Device)
+      (uri bytes : List ℕ)
       → content_named state component keys.Uri ≡ Some uri → payload_of setting uri ≡ Some bytes → capacity_of setting component < length bytes
       → let outcome = acts_at setting acts.Fetch place component state device in
       (outcome.cause ≡ Some causes.TooLarge) × Holds component [] device outcome.world
@@ -104,20 +117,23 @@ pub record CopyRules : Type 0 where
   pub missing : MissingRule acts.Copy (λ state component. source_named state component ≡ None)
   pub itself : (setting : Setting) (place component : ℕ) (state : State) (device : Device)
       → source_named state component ≡ Some component
-      → Fails (acts_at setting acts.Copy place component state device) causes.SelfCopy device
+      → FailsFor (acts_at setting acts.Copy place component state device) causes.SelfCopy device
   pub fits : (setting : Setting) (place component source : ℕ) (state : State) (device : Device)
       → source_named state component ≡ Some source → source ≢ component → length (content_at device source) ≤ capacity_of setting component
       → let outcome = acts_at setting acts.Copy place component state device in
       (outcome.ending ≡ Done state) × Holds component (content_at device source) device outcome.world
   pub too_large : (setting : Setting) (place component source : ℕ) (state : State) (device : Device)
       → source_named state component ≡ Some source → source ≢ component → capacity_of setting component < length (content_at device source)
-      → Fails (acts_at setting acts.Copy place component state device) causes.TooLarge device
+      → FailsFor (acts_at setting acts.Copy place component state device) causes.TooLarge device
 
 -- each holds what the other held, and all else is as it was
 pub record Exchanged (component source : ℕ) (before after : Device) : Type 0 where
-  pub content : component < length before.contents → content_at after component ≡ content_at before source
-  pub source_content : source < length before.contents → content_at after source ≡ content_at before component
-  pub others : (other : ℕ) → other ≢ component → other ≢ source → content_at after other ≡ content_at before other
+  pub content : component < length before.contents
+      → content_at after component ≡ content_at before source
+  pub source_content : source < length before.contents
+      → content_at after source ≡ content_at before component
+  pub others : (other : ℕ) → other ≢ component → other ≢ source
+      → content_at after other ≡ content_at before other
   pub launches : after.launches ≡ before.launches
 
 -- one of the two contents has no room in the place of the other
@@ -129,7 +145,7 @@ pub record SwapRules : Type 0 where
   pub missing : MissingRule acts.Swap (λ state component. source_named state component ≡ None)
   pub itself : (setting : Setting) (place component : ℕ) (state : State) (device : Device)
       → source_named state component ≡ Some component
-      → Fails (acts_at setting acts.Swap place component state device) causes.SelfCopy device
+      → FailsFor (acts_at setting acts.Swap place component state device) causes.SelfCopy device
   pub fits : (setting : Setting) (place component source : ℕ) (state : State) (device : Device)
       → source_named state component ≡ Some source → source ≢ component
       → length (content_at device source) ≤ capacity_of setting component → length (content_at device component) ≤ capacity_of setting source
@@ -137,7 +153,7 @@ pub record SwapRules : Type 0 where
       (outcome.ending ≡ Done state) × Exchanged component source device outcome.world
   pub too_large : (setting : Setting) (place component source : ℕ) (state : State) (device : Device)
       → source_named state component ≡ Some source → source ≢ component → NoRoom setting device component source
-      → Fails (acts_at setting acts.Swap place component state device) causes.TooLarge device
+      → FailsFor (acts_at setting acts.Swap place component state device) causes.TooLarge device
 
 -- the launch that an invoke adds
 pub record IsLaunchOf (state : State) (device : Device) (at : ℕ) (launch : Launched) : Type 0 where
@@ -163,7 +179,8 @@ InvokeRule =
 
 pub record PayloadRules : Type 0 where
   -- under a key that begins with '#' those of the envelope
-  pub integrated : (setting : Setting) (key : List ℕ) → payload_of setting (35 ∷ key) ≡ found_under setting.payloads (35 ∷ key)
+  pub integrated : (setting : Setting) (key : List ℕ)
+      → payload_of setting (35 ∷ key) ≡ found_under setting.payloads (35 ∷ key)
   -- any other URI names a file, if it is known and there is such a file
   pub named : (setting : Setting) (first : ℕ) (uri name : List ℕ) → first ≢ 35
       → found_under setting.words (first ∷ uri) ≡ Some name → payload_of setting (first ∷ uri) ≡ setting.files name
@@ -171,7 +188,8 @@ pub record PayloadRules : Type 0 where
       → found_under setting.words (first ∷ uri) ≡ None → payload_of setting (first ∷ uri) ≡ None
   -- the first of a name is found
   pub none : (key : List ℕ) → found_under [] key ≡ None
-  pub here : (key value : List ℕ) (pairs : List (List ℕ × List ℕ)) → found_under ((key, value) ∷ pairs) key ≡ Some value
+  pub here : (key value : List ℕ) (pairs : List (List ℕ × List ℕ))
+      → found_under ((key, value) ∷ pairs) key ≡ Some value
   pub later : (key other value : List ℕ) (pairs : List (List ℕ × List ℕ)) → other ≢ key
       → found_under ((other, value) ∷ pairs) key ≡ found_under pairs key
 
@@ -190,8 +208,8 @@ pub record HoldBoth (setting : Setting) (component : ℕ) (before after : Device
   pub one : HoldsSome setting component before middle
   pub other : HoldsSome setting source middle after
 
--- what a fault may leave of a directive: of the flash any content of what it writes, of the host the old content or none,
--- and of the launcher all as it was
+-- the device that a fault may leave: one of the flash any content of what the directive writes, one of the host the old
+-- content or none, and one of the launcher all as it was
 abbrev pub Leaves : Setting → ActKind → Cause → ℕ → Device → Device → Type 0
 Leaves setting acts.Write causes.FlashFault component before after = HoldsSome setting component before after
 Leaves setting acts.Fetch causes.FlashFault component before after = HoldsSome setting component before after
@@ -202,7 +220,8 @@ Leaves setting acts.Invoke causes.FlashFault component before after = after ≡ 
 Leaves setting acts.Invoke causes.LaunchFault component before after = after ≡ before
 Leaves setting kind cause component before after = ⊥
 
-pub record IsFault (setting : Setting) (kind : ActKind) (place component : ℕ) (before : Device) (outcome : Outcome Device) : Type 0 where
+pub record IsFault (setting : Setting) (kind : ActKind) (place component : ℕ) (before : Device)
+    (outcome : Outcome Device) : Type 0 where
   pub ending : outcome.ending ≡ Directive place
   pub cause : Cause
   pub named : outcome.cause ≡ Some cause

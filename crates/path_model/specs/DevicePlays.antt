@@ -44,7 +44,7 @@ with_content device component bytes =
 
 -- ---- conditions
 
--- what is told where it is passed, and where it failed
+-- a test: the event where it passes, and the one where it fails
 abbrev pub tested : ℕ → Event → Event → State → Device → Bool → Outcome Device
 tested place passed failed state device true =
     record { events = passed ∷ []; ending = Done state; cause = None; world = device }
@@ -64,7 +64,8 @@ unread place device =
 abbrev pub comparing : ℕ → TestKind → ℕ → (State → Bool) → Play Device
 comparing place kind component holds = record {
   comes = λ state device.
-      tested place (Tried component kind true) (Tried component kind false) state device (holds state);
+      tested place (Tried component kind true) (Tried component kind false) state device
+      (holds state);
   IsCut = λ state device outcome. ⊥;
 }
 
@@ -94,8 +95,11 @@ matched place component size state device (Some digest) =
 abbrev pub matching : ℕ → ℕ → Play Device
 matching place component = record {
   comes = λ state device.
-      matched place component (size_in state.parameters component) state device (digest_in state.parameters component);
-  IsCut = λ state device outcome. IsSome (digest_in state.parameters component) × (outcome ≡ unread place device);
+      matched place component (size_in state.parameters component) state device
+      (digest_in state.parameters component);
+  IsCut =
+      λ state device outcome. IsSome (digest_in state.parameters component)
+      × (outcome ≡ unread place device);
 }
 
 abbrev pub is_content : Option (List ℕ) → List ℕ → Bool
@@ -105,32 +109,39 @@ is_content (Some wanted) content = bytes_eq content wanted
 abbrev pub checking : ℕ → ℕ → Play Device
 checking place component = record {
   comes = λ state device.
-      tested place (Tried component tests.CheckContent true) (Tried component tests.CheckContent false) state device
+      tested place (Tried component tests.CheckContent true)
+      (Tried component tests.CheckContent false) state device
       (is_content (bytes_of (in_force state.parameters component keys.Content)) (content_at device component));
   IsCut = λ state device outcome.
-      IsSome (bytes_of (in_force state.parameters component keys.Content)) × (outcome ≡ unread place device);
+      IsSome (bytes_of (in_force state.parameters component keys.Content))
+      × (outcome ≡ unread place device);
 }
 
 abbrev pub condition_play : Setting → TestKind → ℕ → ℕ → Play Device
 condition_play setting tests.Vendor place component =
     comparing place tests.Vendor component (λ state. same_identifier
-    (identifier_of (in_force state.parameters component keys.Vendor)) (vendor_of (slice_get setting.identities component)))
+    (identifier_of (in_force state.parameters component keys.Vendor))
+    (vendor_of (slice_get setting.identities component)))
 condition_play setting tests.Class place component =
     comparing place tests.Class component (λ state. same_identifier
-    (identifier_of (in_force state.parameters component keys.Class)) (class_of (slice_get setting.identities component)))
+    (identifier_of (in_force state.parameters component keys.Class))
+    (class_of (slice_get setting.identities component)))
 condition_play setting tests.Device place component =
     comparing place tests.Device component (λ state. same_identifier
-    (identifier_of (in_force state.parameters component keys.Device)) (device_of (slice_get setting.identities component)))
+    (identifier_of (in_force state.parameters component keys.Device))
+    (device_of (slice_get setting.identities component)))
 condition_play setting tests.Slot place component =
     comparing place tests.Slot component (λ state. same_number
-    (number_of (in_force state.parameters component keys.Slot)) (slot_of (slice_get setting.identities component)))
+    (number_of (in_force state.parameters component keys.Slot))
+    (slot_of (slice_get setting.identities component)))
 condition_play setting tests.ImageMatch place component = matching place component
 condition_play setting tests.CheckContent place component = checking place component
-condition_play setting tests.Abort place component = comparing place tests.Abort component (λ state. false)
+condition_play setting tests.Abort place component =
+    comparing place tests.Abort component (λ state. false)
 
 -- ---- directives
 
--- what a directive makes of a device, or why it does not, and what it leaves then
+-- the device after a directive, or why it failed and the device that it leaves
 pub data Change : Type 0 where
   Made : (device : Device) → Change
   Refused : (cause : Cause) (device : Device) → Change
@@ -148,14 +159,16 @@ concluded place events state (Refused cause device) = record {
 -- the content becomes these bytes, where there is room for them
 abbrev pub filled : Setting → ℕ → List ℕ → Device → Change
 filled setting component bytes device =
-    if nat_le (length bytes) (capacity_of setting component) then Made (with_content device component bytes)
+    if nat_le (length bytes) (capacity_of setting component)
+    then Made (with_content device component bytes)
     else Refused causes.TooLarge device
 
 -- a payload that is too large leaves nothing
 abbrev pub fetched : Setting → ℕ → Option (List ℕ) → Device → Change
 fetched setting component None device = Refused causes.Absent device
 fetched setting component (Some bytes) device =
-    if nat_le (length bytes) (capacity_of setting component) then Made (with_content device component bytes)
+    if nat_le (length bytes) (capacity_of setting component)
+    then Made (with_content device component bytes)
     else Refused causes.TooLarge (with_content device component [])
 
 abbrev pub copied : Setting → ℕ → ℕ → Device → Change
@@ -165,39 +178,47 @@ copied setting component source device =
 
 -- the content fits the other component
 abbrev pub fits_into : Setting → Device → ℕ → ℕ → Bool
-fits_into setting device component other = nat_le (length (content_at device component)) (capacity_of setting other)
+fits_into setting device component other =
+    nat_le (length (content_at device component)) (capacity_of setting other)
 
 abbrev pub swapped : Setting → ℕ → ℕ → Device → Change
 swapped setting component source device =
     if source == component then Refused causes.SelfCopy device
     else if fits_into setting device source component && fits_into setting device component source
-    then Made (with_content (with_content device component (content_at device source)) source (content_at device component))
+    then Made
+    (with_content (with_content device component (content_at device source)) source
+    (content_at device component))
     else Refused causes.TooLarge device
 
 -- a directive with a parameter: without it, it fails
-abbrev pub acted : {A : Type 0} → ℕ → (A → List Event) → (A → Device → Change) → State → Device → Option A → Outcome Device
+abbrev pub acted : {A : Type 0} → ℕ → (A → List Event) → (A → Device → Change) → State → Device
+    → Option A → Outcome Device
 acted place told makes state device None = concluded place [] state (Refused causes.Missing device)
-acted place told makes state device (Some parameter) = concluded place (told parameter) state (makes parameter device)
+acted place told makes state device (Some parameter) =
+    concluded place (told parameter) state (makes parameter device)
 
 -- where a fault cut it, it tells what a failure does
-abbrev pub ActIsCut : {A : Type 0} → ℕ → (A → List Event) → (A → Cause → Device → Device → Type 0) → State → Device → Outcome Device → Option A → Type 0
+abbrev pub ActIsCut : {A : Type 0} → ℕ → (A → List Event) → (A → Cause → Device → Device → Type 0)
+    → State → Device → Outcome Device → Option A → Type 0
 ActIsCut place told Leaves state device outcome None = ⊥
 ActIsCut place told Leaves state device outcome (Some parameter) =
     (cause : Cause) × (left : Device) × Leaves parameter cause device left
     × (outcome ≡ concluded place (told parameter) state (Refused cause left))
 
-abbrev pub acting : {A : Type 0} → ℕ → (State → Option A) → (A → List Event) → (A → Device → Change) → (A → Cause → Device → Device → Type 0) → Play Device
+abbrev pub acting : {A : Type 0} → ℕ → (State → Option A) → (A → List Event) → (A → Device → Change)
+    → (A → Cause → Device → Device → Type 0) → Play Device
 acting place wanted told makes Leaves = record {
   comes = λ state device. acted place told makes state device (wanted state);
   IsCut = λ state device outcome. ActIsCut place told Leaves state device outcome (wanted state);
 }
 
--- ---- what a fault leaves
+-- ---- the effect of a fault
 
 -- any content of the component, up to its capacity
 abbrev pub HoldsAny : Setting → ℕ → Device → Device → Type 0
 HoldsAny setting component before left =
-    (bytes : List ℕ) × (length bytes ≤ capacity_of setting component) × (left ≡ with_content before component bytes)
+    (bytes : List ℕ) × (length bytes ≤ capacity_of setting component)
+    × (left ≡ with_content before component bytes)
 
 abbrev pub WriteLeaves : Setting → ℕ → Cause → Device → Device → Type 0
 WriteLeaves setting component causes.FlashFault before left = HoldsAny setting component before left
@@ -207,12 +228,14 @@ WriteLeaves setting component _ before left = ⊥
 abbrev pub FetchLeaves : Setting → List ℕ → ℕ → Cause → Device → Device → Type 0
 FetchLeaves setting uri component causes.HostFault before left =
     NamesFile setting.words uri × ((left ≡ before) ⊎ (left ≡ with_content before component []))
-FetchLeaves setting uri component causes.FlashFault before left = HoldsAny setting component before left
+FetchLeaves setting uri component causes.FlashFault before left =
+    HoldsAny setting component before left
 FetchLeaves setting uri component _ before left = ⊥
 
 abbrev pub SwapLeaves : Setting → ℕ → ℕ → Cause → Device → Device → Type 0
 SwapLeaves setting component source causes.FlashFault before left =
-    (middle : Device) × HoldsAny setting component before middle × HoldsAny setting source middle left
+    (middle : Device) × HoldsAny setting component before middle
+    × HoldsAny setting source middle left
 SwapLeaves setting component source _ before left = ⊥
 
 -- ---- each directive
@@ -243,22 +266,27 @@ invoking place component = record {
       concluded place (invoke_event component state.parameters true ∷ []) state
       (Made (launching device component state.parameters));
   IsCut = λ state device outcome. (cause : Cause) × StopsLaunch cause
-      × (outcome ≡ concluded place (invoke_event component state.parameters false ∷ []) state (Refused cause device));
+      ×
+      (outcome ≡ concluded place (invoke_event component state.parameters false ∷ []) state (Refused cause device));
 }
 
 abbrev pub directive_play : Setting → ActKind → ℕ → ℕ → Play Device
 directive_play setting acts.Write place component =
     acting place (λ state. bytes_of (in_force state.parameters component keys.Content))
-    (λ content. Wrote component ∷ []) (λ content. filled setting component content) (λ content. WriteLeaves setting component)
+    (λ content. Wrote component ∷ []) (λ content. filled setting component content)
+    (λ content. WriteLeaves setting component)
 directive_play setting acts.Fetch place component =
     acting place (λ state. bytes_of (in_force state.parameters component keys.Uri))
-    (λ uri. Wrote component ∷ []) (λ uri. fetched setting component (payload_of setting uri)) (λ uri. FetchLeaves setting uri component)
+    (λ uri. Wrote component ∷ []) (λ uri. fetched setting component (payload_of setting uri))
+    (λ uri. FetchLeaves setting uri component)
 directive_play setting acts.Copy place component =
     acting place (λ state. number_of (in_force state.parameters component keys.Source))
-    (λ source. Wrote component ∷ []) (λ source. copied setting component source) (λ source. WriteLeaves setting component)
+    (λ source. Wrote component ∷ []) (λ source. copied setting component source)
+    (λ source. WriteLeaves setting component)
 directive_play setting acts.Swap place component =
     acting place (λ state. number_of (in_force state.parameters component keys.Source))
-    (λ source. Wrote component ∷ Wrote source ∷ []) (λ source. swapped setting component source) (λ source. SwapLeaves setting component source)
+    (λ source. Wrote component ∷ Wrote source ∷ []) (λ source. swapped setting component source)
+    (λ source. SwapLeaves setting component source)
 directive_play setting acts.Invoke place component = invoking place component
 
 -- ---- procedures
@@ -268,7 +296,8 @@ abbrev pub first_device : List (List ℕ) → Device
 first_device contents = record { contents = contents; launches = [] }
 
 abbrev pub plan_play : PlanTree → Setting → Play Device
-plan_play plan setting = procedure Device (condition_play setting) (directive_play setting) plan.count plan
+plan_play plan setting =
+    procedure Device (condition_play setting) (directive_play setting) plan.count plan
 
 -- the play of a procedure on these contents
 abbrev pub played : PlanTree → Setting → List (List ℕ) → Outcome Device
@@ -276,4 +305,5 @@ played plan setting contents = (plan_play plan setting).comes first_state (first
 
 -- a play of it that a fault cut short
 abbrev pub IsFaulted : PlanTree → Setting → List (List ℕ) → Outcome Device → Type 0
-IsFaulted plan setting contents outcome = (plan_play plan setting).IsCut first_state (first_device contents) outcome
+IsFaulted plan setting contents outcome =
+    (plan_play plan setting).IsCut first_state (first_device contents) outcome

@@ -37,7 +37,8 @@ Overrides list component state events ending =
 -- A component counts as written also where the directive failed.
 
 abbrev pub Writes : {A : Type 0} → ℕ → Option A → (A → List Event) → Behaviour
-Writes place None written state events ending = (events ≡ Failed place ∷ []) × (ending ≡ Directive place)
+Writes place None written state events ending =
+    (events ≡ Failed place ∷ []) × (ending ≡ Directive place)
 Writes place (Some parameter) written state events ending =
     ((events ≡ written parameter) × (ending ≡ Done state))
     ⊎ ((events ≡ written parameter ++ Failed place ∷ []) × (ending ≡ Directive place))
@@ -51,17 +52,22 @@ invoke_event component parameters passed =
 abbrev pub Invokes : ℕ → ℕ → Behaviour
 Invokes place component state events ending =
     ((events ≡ invoke_event component state.parameters true ∷ []) × (ending ≡ Done state))
-    ⊎ ((events ≡ invoke_event component state.parameters false ∷ Failed place ∷ []) × (ending ≡ Directive place))
+    ⊎
+    ((events ≡ invoke_event component state.parameters false ∷ Failed place ∷ [])
+    × (ending ≡ Directive place))
 
 -- ---- each directive that acts on a content
 
 abbrev pub Acts : ActKind → ℕ → ℕ → Behaviour
 Acts acts.Write place component state =
-    Writes place (bytes_of (in_force state.parameters component keys.Content)) (λ content. Wrote component ∷ []) state
+    Writes place (bytes_of (in_force state.parameters component keys.Content))
+    (λ content. Wrote component ∷ []) state
 Acts acts.Fetch place component state =
-    Writes place (bytes_of (in_force state.parameters component keys.Uri)) (λ uri. Wrote component ∷ []) state
+    Writes place (bytes_of (in_force state.parameters component keys.Uri))
+    (λ uri. Wrote component ∷ []) state
 Acts acts.Copy place component state =
-    Writes place (number_of (in_force state.parameters component keys.Source)) (λ source. Wrote component ∷ []) state
+    Writes place (number_of (in_force state.parameters component keys.Source))
+    (λ source. Wrote component ∷ []) state
 Acts acts.Swap place component state =
     Writes place (number_of (in_force state.parameters component keys.Source))
     (λ source. Wrote component ∷ Wrote source ∷ []) state

@@ -16,5 +16,6 @@ told_number (_ ∷ events) = suc (told_number events)
 -- on a path they are at most three times the work of the procedure
 abbrev pub PathsBounded : Type 0
 PathsBounded =
-    (plan : PlanTree) (identities : List Identity) (events : List Event) → Path plan identities events
+    (plan : PlanTree) (identities : List Identity) (events : List Event)
+    → Path plan identities events
     → told_number events ≤ 3 * work_number plan

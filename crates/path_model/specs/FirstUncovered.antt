@@ -17,8 +17,9 @@ abbrev pub IsFirstUncovered : List Event → Option ℕ → Type 0
 IsFirstUncovered events None = AllCovered events
 IsFirstUncovered events (Some index) = IsUncoveredFirst events index
 
--- what an event says of whether a component stands as matched under a digest and a size
+-- how an event bears on whether a component stands as matched under a digest and a size
 abbrev pub Bears : Event → ℕ → Digest → Option ℕ → Bearing → Type 0
 Bears event component digest size bearings.Matches = event ≡ Matched component digest size
 Bears event component digest size bearings.Ends = event ≡ Wrote component
-Bears event component digest size bearings.Leaves = (event ≢ Matched component digest size) × (event ≢ Wrote component)
+Bears event component digest size bearings.Leaves =
+    (event ≢ Matched component digest size) × (event ≢ Wrote component)

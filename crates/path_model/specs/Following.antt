@@ -12,4 +12,5 @@ CoveredFrom past (event ∷ events) = IsCovered past event × CoveredFrom (past 
 -- after both the same matches stand
 abbrev pub SameMatches : List Event → List Event → Type 0
 SameMatches events others =
-    (component : ℕ) (digest : Digest) (size : Option ℕ) → HasMatched events component digest size ↔ HasMatched others component digest size
+    (component : ℕ) (digest : Digest) (size : Option ℕ)
+    → HasMatched events component digest size ↔ HasMatched others component digest size

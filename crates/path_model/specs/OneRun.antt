@@ -27,10 +27,12 @@ passed_told (InvokeStep component place digest size) = Invoked component digest 
 
 abbrev pub failed_told : FreeStep → List Event
 failed_told (MatchStep component place digest size) = Missed component ∷ Failed place ∷ []
-failed_told (ContentStep component place) = Tried component tests.CheckContent false ∷ Failed place ∷ []
+failed_told (ContentStep component place) =
+    Tried component tests.CheckContent false ∷ Failed place ∷ []
 failed_told (WriteStep component place) = Wrote component ∷ Failed place ∷ []
 failed_told (SwapStep component source place) = Wrote component ∷ Wrote source ∷ Failed place ∷ []
-failed_told (InvokeStep component place digest size) = Invoked component digest size false ∷ Failed place ∷ []
+failed_told (InvokeStep component place digest size) =
+    Invoked component digest size false ∷ Failed place ∷ []
 
 -- one run passes a free step where the other fails it, and up to there both told the same
 pub record PartsAt (passing failing : List Event) : Type 0 where
@@ -46,12 +48,14 @@ IsSameRun events ending others other = (events ≡ others) × (ending ≡ other)
 
 -- so two runs are the same, or part at a free step
 abbrev pub SameOrParts : List Event → Ending → List Event → Ending → Type 0
-SameOrParts events ending others other = IsSameRun events ending others other ⊎ (PartsAt events others ⊎ PartsAt others events)
+SameOrParts events ending others other =
+    IsSameRun events ending others other ⊎ (PartsAt events others ⊎ PartsAt others events)
 
 pub record OneRun : Type 0 where
   pub sequence : (sequence : SequenceTree) (identities : List Identity) (count : ℕ) (state : State)
       (events others : List Event) (ending other : Ending)
-      → Runs sequence identities count state events ending → Runs sequence identities count state others other
+      → Runs sequence identities count state events ending
+      → Runs sequence identities count state others other
       → SameOrParts events ending others other
   pub procedure : (plan : PlanTree) (identities : List Identity) (state : State)
       (events others : List Event) (ending other : Ending)

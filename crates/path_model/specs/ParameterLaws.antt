@@ -12,7 +12,8 @@ IsWhole parameters = length parameters ≡ 96
 -- they stay such, whatever is overridden
 pub record StaysWhole : Type 0 where
   pub first : IsWhole none_in_force
-  pub next : (parameters : Parameters) (component : ℕ) (param : Param) → IsWhole parameters → IsWhole (with_param parameters component param)
+  pub next : (parameters : Parameters) (component : ℕ) (param : Param) → IsWhole parameters
+      → IsWhole (with_param parameters component param)
 
 -- nothing is in force at first
 abbrev pub StartsEmpty : Type 0

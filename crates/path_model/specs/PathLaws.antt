@@ -45,7 +45,8 @@ pub record IsBounded (identity : Identity) : Type 0 where
 
 pub record IdentitiesAre (plan : PlanTree) (identities : List Identity) : Type 0 where
   pub count : length identities ≡ plan.count
-  pub each : (component : ℕ) (identity : Identity) → slice_get identities component ≡ Some identity → IsBounded identity
+  pub each : (component : ℕ) (identity : Identity) → slice_get identities component ≡ Some identity
+      → IsBounded identity
 
 -- they are all lists with one for each component, of that many bytes and bits, and no others
 abbrev pub IdentitiesBounded : Type 0

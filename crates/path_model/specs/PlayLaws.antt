@@ -25,14 +25,14 @@ FaultedIsPath =
     (plan : PlanTree) (setting : Setting) (contents : List (List ℕ)) (outcome : Outcome Device)
     → IsFaulted plan setting contents outcome → Path plan setting.identities outcome.events
 
--- what was launched before the fault is what the play launches first
+-- the launches before the fault are the play's first ones
 abbrev pub FaultedLaunchesFirst : Type 0
 FaultedLaunchesFirst =
     (plan : PlanTree) (setting : Setting) (contents : List (List ℕ)) (outcome : Outcome Device)
     → IsFaulted plan setting contents outcome
     → (rest : List Launched) × ((played plan setting contents).world.launches ≡ outcome.world.launches ++ rest)
 
--- what was launched has the digest that was in force, and its size where there was one
+-- a launch has the digest that was in force, and its size where there was one
 pub record HasItsDigest (launch : Launched) : Type 0 where
   pub digest : Digest
   pub named : launch.digest ≡ Some digest
@@ -79,7 +79,7 @@ IsFaultIn setting causes.FlashFault = Unit {0}
 IsFaultIn setting causes.LaunchFault = Unit {0}
 IsFaultIn setting _ = ⊥
 
--- what a fault cut short ends at a place, by the fault
+-- a play that a fault cut short ends at a place, by the fault
 pub record EndsByFault (setting : Setting) (ending : Ending) (cause : Option Cause) : Type 0 where
   pub place : ℕ
   pub why : Cause

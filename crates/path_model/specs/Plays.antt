@@ -1,6 +1,6 @@
--- What a sequence comes to in a world that decides each free step, and where a fault of the outside may cut it short
--- (draft-ietf-suit-manifest-25, section 6.4, and this project's own choices). What the world is, and what conditions and
--- directives do in it, is left open here.
+-- The outcome of a sequence in a world that decides each free step, and where a fault of the outside may cut it short
+-- (draft-ietf-suit-manifest-25, section 6.4, and this project's own choices). The world, and how conditions and
+-- directives act in it, are left open here.
 use Rattle.std.specs.Prelude.{◌≡◌, ℕ, ◌⊎◌, true, false, List, [], ◌∷◌, ◌++◌, Option, None}
 use Rattle.suit_params.specs.declared.param.Param.{Param}
 use Rattle.suit_commands.specs.declared.kinds.TestKind.{TestKind}
@@ -15,7 +15,7 @@ use Rattle.path_model.specs.Runs.{entry_state, after_run, after_branch}
 use Rattle.path_model.specs.Path.{start_state}
 
 module _ (World : Type 0) where
-  -- what was told, how it ended, why the directive failed where one did, and the world that it left
+  -- the events, how it ended, why the directive failed where one did, and the world that it left
   pub record Outcome : Type 0 where
     pub events : List Event
     pub ending : Ending
@@ -32,18 +32,30 @@ module _ (World : Type 0) where
   -- behind events that were told before
   abbrev pub behind : List Event → Outcome → Outcome
   behind events later =
-      record { events = events ++ later.events; ending = later.ending; cause = later.cause; world = later.world }
+      record {
+        events = events ++ later.events;
+        ending = later.ending;
+        cause = later.cause;
+        world = later.world;
+      }
 
   -- a play came to this; where it is done, the next one goes on there
-  abbrev pub going_on : (State → World → Outcome) → List Event → Option Cause → World → Ending → Outcome
+  abbrev pub going_on : (State → World → Outcome) → List Event → Option Cause → World → Ending
+      → Outcome
   going_on next events cause world (Done state) = behind events (next state world)
   going_on next events cause world (Condition place soft_failure) =
-      record { events = events; ending = Condition place soft_failure; cause = cause; world = world }
+      record {
+        events = events;
+        ending = Condition place soft_failure;
+        cause = cause;
+        world = world;
+      }
   going_on next events cause world (Directive place) =
       record { events = events; ending = Directive place; cause = cause; world = world }
 
   -- a play came to this, and the next one was cut
-  abbrev pub NextIsCut : (State → World → Outcome → Type 0) → List Event → World → Ending → Outcome → Type 0
+  abbrev pub NextIsCut : (State → World → Outcome → Type 0) → List Event → World → Ending → Outcome
+      → Type 0
   NextIsCut IsCut events world (Done state) outcome =
       (later : Outcome) × IsCut state world later × (outcome ≡ behind events later)
   NextIsCut IsCut events world (Condition place soft_failure) outcome = ⊥
@@ -54,13 +66,16 @@ module _ (World : Type 0) where
     comes = λ state world. let one = first.comes state world in
         going_on second.comes one.events one.cause one.world one.ending;
     IsCut = λ state world outcome. let one = first.comes state world in
-        first.IsCut state world outcome ⊎ NextIsCut second.IsCut one.events one.world one.ending outcome;
+        first.IsCut state world outcome
+        ⊎ NextIsCut second.IsCut one.events one.world one.ending outcome;
   }
 
   -- these events, and another state
   abbrev pub becoming : (State → List Event) → (State → State) → Play
   becoming told next = record {
-    comes = λ state world. record { events = told state; ending = Done (next state); cause = None; world = world };
+    comes =
+        λ state world.
+        record { events = told state; ending = Done (next state); cause = None; world = world };
     IsCut = λ state world outcome. ⊥;
   }
 
@@ -96,17 +111,35 @@ module _ (World : Type 0) where
   }
 
   -- a branch came to this; where it failed softly, the others are tried with the state at the entry
-  abbrev pub after_trying : State → (State → World → Outcome) → List Event → Option Cause → World → Ending → Outcome
-  after_trying state others events cause world (Condition place true) = behind events (others state world)
+  abbrev pub after_trying : State → (State → World → Outcome) → List Event → Option Cause → World
+      → Ending → Outcome
+  after_trying state others events cause world (Condition place true) =
+      behind events (others state world)
   after_trying state others events cause world (Condition place false) =
-      record { events = events; ending = after_branch state (Condition place false); cause = cause; world = world }
+      record {
+        events = events;
+        ending = after_branch state (Condition place false);
+        cause = cause;
+        world = world;
+      }
   after_trying state others events cause world (Done inner) =
-      record { events = events; ending = after_branch state (Done inner); cause = cause; world = world }
+      record {
+        events = events;
+        ending = after_branch state (Done inner);
+        cause = cause;
+        world = world;
+      }
   after_trying state others events cause world (Directive place) =
-      record { events = events; ending = after_branch state (Directive place); cause = cause; world = world }
+      record {
+        events = events;
+        ending = after_branch state (Directive place);
+        cause = cause;
+        world = world;
+      }
 
   -- a branch came to this, and another one was cut
-  abbrev pub OtherIsCut : State → (State → World → Outcome → Type 0) → List Event → World → Ending → Outcome → Type 0
+  abbrev pub OtherIsCut : State → (State → World → Outcome → Type 0) → List Event → World → Ending
+      → Outcome → Type 0
   OtherIsCut state IsCut events world (Condition place true) outcome =
       (later : Outcome) × IsCut state world later × (outcome ≡ behind events later)
   OtherIsCut state IsCut events world (Condition place false) outcome = ⊥
@@ -140,7 +173,8 @@ module _ (World : Type 0) where
     abbrev mutual
       pub sequence_play : SequenceTree → Play
       sequence_play NoSteps = nothing
-      sequence_play (StepThen place command rest) = in_turn (command_play command place) (sequence_play rest)
+      sequence_play (StepThen place command rest) =
+          in_turn (command_play command place) (sequence_play rest)
 
       pub command_play : CommandTree → ℕ → Play
       command_play (Test kind report) place = each_selected (tests kind place)

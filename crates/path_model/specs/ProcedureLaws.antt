@@ -36,10 +36,13 @@ abbrev pub IsNothing : Parameters → Type 0
 IsNothing parameters = (component : ℕ) (key : ParamKey) → in_force parameters component key ≡ None
 
 -- and a path is what a run of it begins with
-pub record BeginsRun (plan : PlanTree) (identities : List Identity) (events : List Event) : Type 0 where
+pub record BeginsRun (plan : PlanTree) (identities : List Identity) (events : List Event)
+    : Type 0 where
   pub rest : List Event
   pub ending : Ending
-  pub run : AllInTurn (sequences_of plan) identities plan.count (starting none_in_force) (events ++ rest) ending
+  pub run :
+      AllInTurn (sequences_of plan) identities plan.count (starting none_in_force) (events ++ rest)
+      ending
 
 pub record PathRules : Type 0 where
   pub nothing : IsNothing none_in_force

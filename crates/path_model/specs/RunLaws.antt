@@ -17,13 +17,19 @@ use Rattle.path_model.specs.Turns.{Course, InTurn}
 
 -- ---- overrides, one parameter after another
 
-pub record OverrideSteps (state : State) (component : ℕ) (list : List Param) (param : Param) : Type 0 where
-  pub told : set_events component (list ++ param ∷ []) ≡ set_events component list ++ Set component param ∷ []
+pub record OverrideSteps (state : State) (component : ℕ) (list : List Param) (param : Param)
+    : Type 0 where
+  pub told :
+      set_events component (list ++ param ∷ [])
+      ≡ set_events component list ++ Set component param ∷ []
   pub parameters : (after_override state component (list ++ param ∷ [])).parameters
       ≡ with_param (after_override state component list).parameters component param
-  pub selection : (after_override state component (list ++ param ∷ [])).selection ≡ (after_override state component list).selection
+  pub selection :
+      (after_override state component (list ++ param ∷ [])).selection
+      ≡ (after_override state component list).selection
   -- soft failure is that of the running sequence, and changes by its own parameter alone
-  pub soft : (value : Bool) → param ≡ params.Soft value → (after_override state component (list ++ param ∷ [])).soft_failure ≡ value
+  pub soft : (value : Bool) → param ≡ params.Soft value
+      → (after_override state component (list ++ param ∷ [])).soft_failure ≡ value
   pub other : key_of param ≢ keys.Soft
       → (after_override state component (list ++ param ∷ [])).soft_failure ≡ (after_override state component list).soft_failure
 
@@ -38,9 +44,13 @@ OverridesStep = (state : State) (component : ℕ) (list : List Param) (param : P
 -- ---- sequences: steps follow one another, and the first that fails ends it
 
 pub record SequenceRules : Type 0 where
-  pub none : (identities : List Identity) (count : ℕ) (state : State) (events : List Event) (ending : Ending)
+  pub none :
+      (identities : List Identity) (count : ℕ) (state : State) (events : List Event)
+      (ending : Ending)
       → Runs NoSteps identities count state events ending ↔ ((events ≡ []) × (ending ≡ Done state))
-  pub step : (place : ℕ) (command : CommandTree) (rest : SequenceTree) (identities : List Identity) (count : ℕ) (state : State)
+  pub step :
+      (place : ℕ) (command : CommandTree) (rest : SequenceTree) (identities : List Identity)
+      (count : ℕ) (state : State)
       (events : List Event) (ending : Ending)
       → Runs (StepThen place command rest) identities count state events ending
       ↔ InTurn (Does command identities count place state) (Runs rest identities count) events ending
@@ -106,7 +116,8 @@ BranchesRules =
     (Does (TryEach rest) identities count place state) events ending
 
 -- a null branch does nothing and is done; after the last one the try each fails as a condition does
-pub record LastRules (identities : List Identity) (count place component : ℕ) (state : State) : Type 0 where
+pub record LastRules (identities : List Identity) (count place component : ℕ) (state : State)
+    : Type 0 where
   pub null : (rest : BranchesTree) (events : List Event) (ending : Ending)
       → Does (TryEach (NullThen rest)) identities count place state events ending ↔ ((events ≡ []) × (ending ≡ Done state))
   pub exhausted : (events : List Event) (ending : Ending)

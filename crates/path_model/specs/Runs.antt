@@ -18,7 +18,8 @@ Selects selection count state = Becomes (record state { selection = selected_by 
 
 -- an inner sequence begins with the one component selected
 abbrev pub entry_state : State → ℕ → Bool → State
-entry_state state component soft_failure = record state { selection = component ∷ []; soft_failure = soft_failure }
+entry_state state component soft_failure =
+    record state { selection = component ∷ []; soft_failure = soft_failure }
 
 -- where it completes, its parameters stay; the selection and the outer soft failure go back
 abbrev pub completed_state : State → State → State
@@ -33,7 +34,8 @@ after_run outer (Directive place) = Directive place
 
 abbrev pub RunsInner : Behaviour → ℕ → Behaviour
 RunsInner inner component state events ending =
-    (end : Ending) × inner (entry_state state component false) events end × (ending ≡ after_run state end)
+    (end : Ending) × inner (entry_state state component false) events end
+    × (ending ≡ after_run state end)
 
 -- try each: where a branch fails softly, the next one starts with all as it was at the entry
 abbrev pub FailsSoftly : Ending → Type 0
@@ -49,9 +51,11 @@ after_branch outer (Directive place) = Directive place
 
 abbrev pub TriesBranch : Behaviour → (ℕ → Behaviour) → ℕ → Behaviour
 TriesBranch inner others component state events ending =
-    ((end : Ending) × inner (entry_state state component true) events end × (FailsSoftly end → ⊥) × (ending ≡ after_branch state end))
+    ((end : Ending) × inner (entry_state state component true) events end × (FailsSoftly end → ⊥)
+    × (ending ≡ after_branch state end))
     ⊎ ((end : Ending) × (before : List Event) × (after : List Event) × (events ≡ before ++ after)
-    × inner (entry_state state component true) before end × FailsSoftly end × others component state after ending)
+    × inner (entry_state state component true) before end × FailsSoftly end
+    × others component state after ending)
 
 -- ---- whole sequences
 
@@ -62,17 +66,22 @@ abbrev mutual
       Then (Does command identities count place) (Runs rest identities count) state
 
   pub Does : CommandTree → List Identity → ℕ → ℕ → Behaviour
-  Does (Test kind report) identities count place state = EachSelected (Tests kind identities place) state
+  Does (Test kind report) identities count place state =
+      EachSelected (Tests kind identities place) state
   Does (Act kind report) identities count place state = EachSelected (Acts kind place) state
   Does (Index selection) identities count place state = Selects selection count state
   Does (Override list) identities count place state = EachSelected (Overrides list) state
-  Does (TryEach branches) identities count place state = EachSelected (Tries branches identities count place) state
-  Does (RunSequence inner) identities count place state = EachSelected (RunsInner (Runs inner identities count)) state
+  Does (TryEach branches) identities count place state =
+      EachSelected (Tries branches identities count place) state
+  Does (RunSequence inner) identities count place state =
+      EachSelected (RunsInner (Runs inner identities count)) state
 
   -- the branches in order; where none completes, the try each fails as a condition does
   pub Tries : BranchesTree → List Identity → ℕ → ℕ → ℕ → Behaviour
   Tries NoBranches identities count place component state events ending =
       (events ≡ []) × (ending ≡ Condition place state.soft_failure)
-  Tries (NullThen rest) identities count place component state events ending = Becomes state events ending
+  Tries (NullThen rest) identities count place component state events ending =
+      Becomes state events ending
   Tries (BranchThen inner rest) identities count place component state events ending =
-      TriesBranch (Runs inner identities count) (Tries rest identities count place) component state events ending
+      TriesBranch (Runs inner identities count) (Tries rest identities count place) component state
+      events ending

@@ -13,7 +13,8 @@ WritesTo component (Wrote written) = written ≡ component
 WritesTo component _ = ⊥
 
 -- among these events the component matched this digest and size, and was not written since
-pub record HasMatched (events : List Event) (component : ℕ) (digest : Digest) (size : Option ℕ) : Type 0 where
+pub record HasMatched (events : List Event) (component : ℕ) (digest : Digest) (size : Option ℕ)
+    : Type 0 where
   pub before : List Event
   pub since : List Event
   pub is : events ≡ before ++ Matched component digest size ∷ since
@@ -22,7 +23,8 @@ pub record HasMatched (events : List Event) (component : ℕ) (digest : Digest) 
 -- an event that follows these: an invoke without a digest in force is not covered
 abbrev pub IsCovered : List Event → Event → Type 0
 IsCovered before (Invoked component None size passed) = ⊥
-IsCovered before (Invoked component (Some digest) size passed) = HasMatched before component digest size
+IsCovered before (Invoked component (Some digest) size passed) =
+    HasMatched before component digest size
 IsCovered before _ = Unit {0}
 
 abbrev pub Covered : List Event → ℕ → Type 0

@@ -22,9 +22,11 @@ use Rattle.path_model.specs.Turns.{Course, InTurn, with_selected, putting_back}
 -- ascending order
 pub record Selections : Type 0 where
   pub one : (component count : ℕ) → selected_by (One component) count ≡ component ∷ []
-  pub listed : (components : List ℕ) (count : ℕ) → selected_by (Listed components) count ≡ components
+  pub listed : (components : List ℕ) (count : ℕ)
+      → selected_by (Listed components) count ≡ components
   pub all_number : (count : ℕ) → length (selected_by All count) ≡ count
-  pub all_ascend : (count component : ℕ) → component < count → slice_get (selected_by All count) component ≡ Some component
+  pub all_ascend : (count component : ℕ) → component < count
+      → slice_get (selected_by All count) component ≡ Some component
 
 -- set component index tells nothing, and changes the selection alone
 abbrev pub IndexSelects : Type 0
@@ -42,7 +44,8 @@ SelectionKept =
 
 -- ---- with one component selected, a command is done at that component, and fails at its own place
 
-pub record DoneAtOne (identities : List Identity) (count place component : ℕ) (state : State) (events : List Event) (ending : Ending) : Type 0 where
+pub record DoneAtOne (identities : List Identity) (count place component : ℕ) (state : State)
+    (events : List Event) (ending : Ending) : Type 0 where
   pub test : (kind : TestKind) (report : ℕ)
       → Does (Test kind report) identities count place state events ending ↔ Tests kind identities place component state events ending
   pub act : (kind : ActKind) (report : ℕ)

@@ -3,14 +3,15 @@ use Rattle.std.specs.Prelude.{◌≡◌, ℕ, ◌⊎◌, Bool, List, ◌++◌}
 use Rattle.path_model.specs.declared.event.Event.{Event}
 use Rattle.path_model.specs.Behaviour.{State, Ending, Done, Condition, Directive}
 
--- what may happen, as events and an ending
+-- the possible events and endings
 abbrev pub Course : Type 1
 Course = List Event → Ending → Type 0
 
 -- the first fails, and so does the whole: by a condition, whatever soft failure is, or by a directive
 abbrev pub FirstFails : Course → Course
 FirstFails first events ending =
-    ((place : ℕ) × (soft_failure : Bool) × first events (Condition place soft_failure) × (ending ≡ Condition place soft_failure))
+    ((place : ℕ) × (soft_failure : Bool) × first events (Condition place soft_failure)
+    × (ending ≡ Condition place soft_failure))
     ⊎ ((place : ℕ) × first events (Directive place) × (ending ≡ Directive place))
 
 -- the first is done, and the second begins with the state that the first left
@@ -20,11 +21,17 @@ BothInTurn first second events ending =
     × first before (Done middle) × second middle after ending
 
 abbrev pub InTurn : Course → (State → Course) → Course
-InTurn first second events ending = FirstFails first events ending ⊎ BothInTurn first second events ending
+InTurn first second events ending =
+    FirstFails first events ending ⊎ BothInTurn first second events ending
 
 -- a state with another selection, and an ending with one
 abbrev pub with_selected : State → List ℕ → State
-with_selected state selection = record { parameters = state.parameters; selection = selection; soft_failure = state.soft_failure }
+with_selected state selection =
+    record {
+      parameters = state.parameters;
+      selection = selection;
+      soft_failure = state.soft_failure;
+    }
 
 abbrev pub putting_back : List ℕ → Ending → Ending
 putting_back selection (Done state) = Done (with_selected state selection)

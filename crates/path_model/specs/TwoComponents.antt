@@ -15,7 +15,8 @@ use Rattle.path_model.specs.Path.{RunsPlan, first_state}
 use Rattle.path_model.specs.Safe.{Safe}
 
 abbrev pub set_both : Digest → SequenceTree
-set_both digest = StepThen 10 (Index All) (StepThen 20 (Override (params.Digest digest ∷ [])) NoSteps)
+set_both digest =
+    StepThen 10 (Index All) (StepThen 20 (Override (params.Digest digest ∷ [])) NoSteps)
 
 abbrev pub match_first : SequenceTree
 match_first = StepThen 30 (Test tests.ImageMatch 0) NoSteps
@@ -25,9 +26,15 @@ invoke_second = StepThen 40 (Index (One 1)) (StepThen 50 (Act acts.Invoke 0) NoS
 
 abbrev pub two_components : Digest → PlanTree
 two_components digest =
-    record { shared = set_both digest; first = match_first; second = NoSteps; third = invoke_second; count = 2 }
+    record {
+      shared = set_both digest;
+      first = match_first;
+      second = NoSteps;
+      third = invoke_second;
+      count = 2;
+    }
 
--- what its shared sequence tells
+-- the events of its shared sequence
 abbrev pub both_told : Digest → List Event
 both_told digest = Set 0 (params.Digest digest) ∷ Set 1 (params.Digest digest) ∷ []
 
@@ -37,7 +44,8 @@ missed_run digest = both_told digest ++ Missed 0 ∷ Failed 30 ∷ []
 
 -- it passed, and the shared sequence ran twice more
 abbrev pub matched_run : Digest → List Event
-matched_run digest = both_told digest ++ Matched 0 digest None ∷ (both_told digest ++ both_told digest)
+matched_run digest =
+    both_told digest ++ Matched 0 digest None ∷ (both_told digest ++ both_told digest)
 
 abbrev pub launched_run : Digest → List Event
 launched_run digest = matched_run digest ++ Invoked 1 (Some digest) None true ∷ []
@@ -51,12 +59,21 @@ IsDone _ = ⊥
 
 -- these three runs, whatever the identities, and no others
 pub record RunsExactly (digest : Digest) (identities : List Identity) : Type 0 where
-  pub only : (events : List Event) (ending : Ending) → RunsPlan (two_components digest) identities first_state events ending
+  pub only : (events : List Event) (ending : Ending)
+      → RunsPlan (two_components digest) identities first_state events ending
       → ((events ≡ missed_run digest) × (ending ≡ Condition 30 false))
-      ⊎ (((events ≡ launched_run digest) × IsDone ending) ⊎ ((events ≡ unlaunched_run digest) × (ending ≡ Directive 50)))
-  pub missed : RunsPlan (two_components digest) identities first_state (missed_run digest) (Condition 30 false)
-  pub launched : (ending : Ending) × RunsPlan (two_components digest) identities first_state (launched_run digest) ending × IsDone ending
-  pub unlaunched : RunsPlan (two_components digest) identities first_state (unlaunched_run digest) (Directive 50)
+      ⊎
+      (((events ≡ launched_run digest) × IsDone ending)
+      ⊎ ((events ≡ unlaunched_run digest) × (ending ≡ Directive 50)))
+  pub missed :
+      RunsPlan (two_components digest) identities first_state (missed_run digest)
+      (Condition 30 false)
+  pub launched :
+      (ending : Ending)
+      × RunsPlan (two_components digest) identities first_state (launched_run digest) ending
+      × IsDone ending
+  pub unlaunched :
+      RunsPlan (two_components digest) identities first_state (unlaunched_run digest) (Directive 50)
 
 abbrev pub TwoComponentsRun : Type 0
 TwoComponentsRun = (digest : Digest) (identities : List Identity) → RunsExactly digest identities

@@ -1,4 +1,4 @@
-//! What shows that a procedure is not safe.
+//! A path that shows that a procedure is not safe.
 
 use crate::{Events, Identities};
 

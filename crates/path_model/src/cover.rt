@@ -7,7 +7,7 @@ ghost use Rattle.path_model.specs.FirstUncovered.{IsFirstUncovered, Bears};
 use crate::{Event, Events};
 use suit_params::Digest;
 
-// What an event says of a match.
+// How an event bears on a match.
 enum Bearing {
     // It is the match.
     Matches,
@@ -76,8 +76,8 @@ pub fn is_covered(before: &[Event], event: &Event) -> bool
     }
 }
 
-/// The index of the first invoke that is not covered, or `None` where each is. For each invoke the events before it
-/// are looked through, back to the match or to a write of the component.
+/// The index of the first invoke that is not covered, or `None` where each is. For each invoke the events before it are
+/// searched, back to the match or to a write of the component.
 pub fn first_uncovered(events: &Events) -> Option<usize>
     ensures { IsFirstUncovered events.now result }
 {

@@ -1,9 +1,7 @@
-//! What happens on a path.
+//! Events of a path.
 
-ghost use Rattle.std.specs.Prelude.{◌≡◌, [], ◌∷◌, ◌++◌, length, IfOk, OnOk, OnErr, IsTrue, ◌↔◌};
-
+use det_cbor::{Duplicate, List};
 use std::alloc::{AllocError, Global};
-use std::marker::Model;
 use suit_commands::TestKind;
 use suit_params::{Digest, Param};
 
@@ -48,11 +46,8 @@ pub enum Event {
     },
 }
 
-impl Event {
-    /// An equal event in memory of its own.
-    pub fn copy(&self, alloc: Global) -> Result<Event, AllocError>
-        ensures { IfOk result (λ other. other ≡ self.now) }
-    {
+impl Duplicate for Event {
+    fn copy(&self, alloc: Global) -> Result<Event, AllocError> {
         Ok(match self {
             Event::Set { component, param } => Event::Set {
                 component: *component,
@@ -99,67 +94,4 @@ impl Event {
 }
 
 /// A list of events.
-#[derive(Debug, Drop)]
-pub struct Events {
-    held: Vec<Event>,
-}
-
-impl Model for Events {
-    ghost use Rattle.std.specs.Prelude.{List};
-    ghost use Rattle.path_model.specs.declared.event.Event.{Event};
-
-    ghost Value = { List Event };
-
-    ghost view = { λ e. e.held.items };
-}
-
-impl Events {
-    /// A list of no events, which grows by this allocator. Takes no memory.
-    pub fn new(alloc: Global) -> Events
-        ensures { result ≡ [] }
-    {
-        Events {
-            held: Vec::new(alloc),
-        }
-    }
-
-    /// Adds an event at the end.
-    pub fn push(&mut self, event: Event) -> Result<(), AllocError>
-        ensures ok { OnOk result (self.new ≡ self.old ++ event ∷ []) }
-        ensures err { OnErr result (self.new ≡ self.old) }
-    {
-        Ok(self.held.push(event)?)
-    }
-
-    /// An equal list in memory of its own.
-    pub fn copy(&self, alloc: Global) -> Result<Events, AllocError>
-        ensures { IfOk result (λ other. other ≡ self.now) }
-    {
-        let mut held = Vec::new(alloc);
-        for event in &self.held {
-            held.push(event.copy(alloc)?)?;
-        }
-        Ok(Events { held })
-    }
-
-    /// The number of events.
-    pub fn len(&self) -> usize
-        ensures { result ≡ length self.now }
-    {
-        self.held.len()
-    }
-
-    /// Whether there are no events.
-    pub fn is_empty(&self) -> bool
-        ensures { IsTrue result ↔ (self.now ≡ []) }
-    {
-        self.held.is_empty()
-    }
-
-    /// The events, lent.
-    pub fn as_slice(&self) -> &[Event]
-        ensures { result.now ≡ self.now }
-    {
-        self.held.as_slice()
-    }
-}
+pub type Events = List<Event>;

@@ -1,4 +1,4 @@
-//! What the definitions of runs and paths come to. Each call does nothing, and its contract is a law.
+//! The laws of runs and paths. Each call does nothing, and its contract is a law.
 
 ghost use Rattle.path_model.specs.ParameterLaws.{StaysWhole, StartsEmpty, OverrideReplaces, OverrideKeeps, IsCanonical};
 ghost use Rattle.path_model.specs.CommandLaws.{ConditionsEnd, AbortFails, ConditionsNeed, IdentityDecides, IdentityFollowed, IdentityNeeded, MatchIsFree, ContentIsFree, DirectivesWrite, DirectivesNeed, InvokesTell};
@@ -11,8 +11,8 @@ ghost use Rattle.path_model.specs.OneRun.{OneRun};
 ghost use Rattle.path_model.specs.TwoComponents.{TwoComponentsRun, TwoComponentsUnsafe};
 ghost use Rattle.path_model.specs.CoverLaws.{NothingMatched, MatchStands, WriteEnds, OthersLeave, InvokeCovered, AbsentUncovered, MatchByIndices, CoveredByIndices, AllAreCovered, CoveredByStanding, EndsAtFirst, FirstIsOne, SameFollows, PartsCovered, SafetyIs, BadPathIs, BadPathRefutes};
 
-/// What is in force (draft-ietf-suit-manifest-25, section 8.4.8): nothing at first, and after an override the
-/// parameters that it gives, for its component and their keys alone. Where the same is in force, it is the same value.
+/// The parameters in force (draft-ietf-suit-manifest-25, section 8.4.8): none at first, and after an override those
+/// that it gives, for its component and their keys alone. Where the same is in force, it is the same value.
 pub fn overriding_laws()
     ensures whole { StaysWhole }
     ensures empty { StartsEmpty }
@@ -96,13 +96,13 @@ pub fn cover_laws()
     ensures standing { CoveredByStanding }
 {}
 
-/// What is covered in parts, and after other events under which the same matches stand.
+/// Cover in parts, and after other events under which the same matches stand.
 pub fn following_laws()
     ensures parts { PartsCovered }
     ensures same { SameFollows }
 {}
 
-/// What is safe, and what shows that a procedure is not.
+/// Safety, and the paths that show that a procedure is not safe.
 pub fn safety_laws()
     ensures safe { SafetyIs }
     ensures last { EndsAtFirst }
@@ -123,8 +123,8 @@ pub fn example_laws()
     ensures not_safe { TwoComponentsUnsafe }
 {}
 
-/// The identities that a path is judged for: all lists with one for each component, whose identifiers, as far
-/// as there are any, have sixteen bytes, and whose slots have 64 bits.
+/// The identities that a path is judged for: all lists with one for each component, whose identifiers, if any, have
+/// sixteen bytes, and whose slots have 64 bits.
 pub fn identity_laws()
     ensures { IdentitiesBounded }
 {}

@@ -1,5 +1,4 @@
-//! What may happen on the paths of a procedure, and which of its invokes are covered (draft-ietf-suit-manifest-25,
-//! section 6).
+//! Events on the paths of a procedure, and which of its invokes are covered (draft-ietf-suit-manifest-25, section 6).
 #![tactic(auto)]
 
 mod bad_path;

@@ -1,11 +1,12 @@
-//! What the definitions of plays come to. Each call does nothing, and its contract is a law.
+//! The laws of plays. Each call does nothing, and its contract is a law.
 
 ghost use Rattle.path_model.specs.DeviceLaws.{ConditionRules, WriteRules, FetchRules, CopyRules, SwapRules, InvokeRule, PayloadRules, FaultRule};
 ghost use Rattle.path_model.specs.PlayLaws.{PlayRuns, FaultedIsPath, FaultedLaunchesFirst, SafeLaunches, FaultedSafeLaunches, PlayEnds, FaultedEnds};
 
-/// What is played on contents may happen: a play is a run of its procedure, and the events of a play that a fault cut
-/// short are a path of it. The first ends by itself, and the other by the fault. What was launched before a fault is what the play launches first. So each launch of a safe
-/// procedure has the digest that was in force, and the size where there was one, whether or not a fault comes.
+/// A play on contents may happen: it is a run of its procedure, and the events of a play that a fault cut short are a
+/// path of it. The first ends by itself, and the other by the fault. The launches before a fault are the play's first
+/// ones. So each launch of a safe procedure has the digest that was in force, and the size where there was one, whether
+/// or not a fault comes.
 pub fn play_laws()
     ensures runs { PlayRuns }
     ensures faulted { FaultedIsPath }
@@ -16,8 +17,8 @@ pub fn play_laws()
     ensures faulted_safe { FaultedSafeLaunches }
 {}
 
-/// What conditions and directives come to on the contents of a device: when a match and a check of the content pass, when
-/// each directive fails and why, what it leaves, and what a fault of the outside may leave (sections 8.4.9 and 8.4.10).
+/// Conditions and directives on the contents of a device: when a match and a check of the content pass, when each
+/// directive fails and why, what it leaves, and what a fault of the outside may leave (sections 8.4.9 and 8.4.10).
 pub fn device_laws()
     ensures conditions { ConditionRules }
     ensures writes { WriteRules }

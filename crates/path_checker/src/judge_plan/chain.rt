@@ -1,4 +1,4 @@
-//! Events that share what they begin with.
+//! Lists of events that share their beginnings.
 
 ghost use Rattle.std.specs.Prelude.{◌≡◌, ◌↔◌, [], ◌∷◌, List, map, IsTrue, IfOk};
 ghost use Rattle.path_model.specs.declared.event.Event.{Event as TheEvent};
@@ -23,7 +23,7 @@ pub(crate) struct Link<'a> {
     before: Chain<'a>,
 }
 
-/// Events, the last one first. What two chains end with they hold together.
+/// Events, the last one first. Chains made from one chain share its events.
 #[cycle(chain)]
 #[derive(Drop)]
 pub(crate) struct Chain<'a> {
@@ -101,7 +101,7 @@ impl<'a> Chain<'a> {
         Chain { last: self.last }
     }
 
-    /// One event more.
+    /// With one more event.
     pub(crate) fn with(&self, bump: &'a Bump, event: Happened<'a>) -> Result<Chain<'a>, AllocError>
         ensures { IfOk result (λ chain. chain ≡ event_of event.entry ∷ self.now) }
     {
@@ -128,7 +128,8 @@ impl<'a> Chain<'a> {
 
     // Whether a match of the component is among them.
     fn has_match_of(&self, component: u32) -> bool
-        ensures { (IsTrue result → ⊥) → (event : TheEvent) → In event self.now → IsMatchOf component event → ⊥ }
+        ensures { (IsTrue result → ⊥) → (event : TheEvent) → In event self.now
+            → IsMatchOf component event → ⊥ }
     {
         let mut at = self.last;
         while let Some(link) = at {
@@ -140,7 +141,7 @@ impl<'a> Chain<'a> {
         false
     }
 
-    // One event more, unless it is a match of the component.
+    // With one more event, unless it is a match of the component.
     fn unless_match_of(
         self,
         bump: &'a Bump,
@@ -155,7 +156,7 @@ impl<'a> Chain<'a> {
         self.with(bump, event)
     }
 
-    /// Those that are no match of the component.
+    /// All events but the matches of the component.
     pub(crate) fn without(&self, bump: &'a Bump, component: u32) -> Result<Chain<'a>, AllocError>
         ensures { IfOk result (LeavesOut component self.now) }
     {
@@ -199,7 +200,7 @@ impl<'a> Chain<'a> {
         true
     }
 
-    /// A number that is equal where the same matches are among them, in whatever order.
+    /// A fingerprint: equal where the same matches are among them, in any order.
     pub(crate) fn fingerprint(&self) -> u64 {
         let mut print: u64 = 0;
         let mut at = self.last;

@@ -1,4 +1,4 @@
-//! The identities that are told of a path.
+//! The identities that are reported with a path.
 
 ghost use Rattle.std.specs.Prelude.{◌≡◌, ◌↔◌, ◌≤◌, IsTrue, IfSome, IfOk, Some, length};
 ghost use Rattle.path_model.specs.Path.{IsIdentifier, IsIdentity};
@@ -33,7 +33,7 @@ pub(crate) fn least_outside(numbers: &[u64]) -> u64
     number
 }
 
-// What the type says of sixteen bytes. It does nothing.
+// Sixteen bytes are an identifier, by their type. Does nothing.
 fn identifier_bounds(id: &[u8])
     requires { length id.now ≡ 16 }
     ensures { IsIdentifier id.now }

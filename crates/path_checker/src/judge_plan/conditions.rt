@@ -34,7 +34,9 @@ fn own_test<'a>(
     next: &mut Vec<Kept<'a>>,
     failed: &mut Vec<Stopped<'a>>,
 ) -> Result<(), AllocError>
-    ensures { OnOk result (Adds (TestsOwn kind place component (Some own.now)) (k.entry ∷ []) next.old.items next.new.items failed.old.items failed.new.items) }
+    ensures { OnOk result
+        (Adds (TestsOwn kind place component (Some own.now)) (k.entry ∷ []) next.old.items
+        next.new.items failed.old.items failed.new.items) }
 {
     let passed = Happened::Tried {
         component,
@@ -76,7 +78,9 @@ fn identity_test<'a>(
 ) -> Result<(), AllocError>
     requires room { component < 8 }
     requires kinds { IsOnIdentity kind }
-    ensures { OnOk result (Adds (λ identities. Tests kind identities place component) (k.entry ∷ []) next.old.items next.new.items failed.old.items failed.new.items) }
+    ensures { OnOk result
+        (Adds (λ identities. Tests kind identities place component) (k.entry ∷ []) next.old.items
+        next.new.items failed.old.items failed.new.items) }
 {
     match k.params.wanted(kind, component) {
         Some(own) => {
@@ -105,7 +109,9 @@ fn image_match<'a>(
     failed: &mut Vec<Stopped<'a>>,
 ) -> Result<(), AllocError>
     requires room { component < 8 }
-    ensures { OnOk result (Adds (λ identities. Tests TestKind.ImageMatch identities place component) (k.entry ∷ []) next.old.items next.new.items failed.old.items failed.new.items) }
+    ensures { OnOk result
+        (Adds (λ identities. Tests TestKind.ImageMatch identities place component) (k.entry ∷ [])
+        next.old.items next.new.items failed.old.items failed.new.items) }
 {
     match k.params.digest(component) {
         None => {
@@ -135,7 +141,9 @@ fn check_content<'a>(
     failed: &mut Vec<Stopped<'a>>,
 ) -> Result<(), AllocError>
     requires room { component < 8 }
-    ensures { OnOk result (Adds (λ identities. Tests TestKind.CheckContent identities place component) (k.entry ∷ []) next.old.items next.new.items failed.old.items failed.new.items) }
+    ensures { OnOk result
+        (Adds (λ identities. Tests TestKind.CheckContent identities place component) (k.entry ∷ [])
+        next.old.items next.new.items failed.old.items failed.new.items) }
 {
     let missed = Happened::Tried {
         component,
@@ -163,7 +171,10 @@ fn abort<'a>(
     k: Kept<'a>,
     failed: &mut Vec<Stopped<'a>>,
 ) -> Result<(), AllocError>
-    ensures { OnOk result ((n : List TheKept) → Adds (λ identities. Tests TestKind.Abort identities place component) (k.entry ∷ []) n n failed.old.items failed.new.items) }
+    ensures { OnOk result
+        ((n : List TheKept)
+        → Adds (λ identities. Tests TestKind.Abort identities place component) (k.entry ∷ []) n
+        n failed.old.items failed.new.items) }
 {
     let missed = Happened::Tried {
         component,
@@ -185,7 +196,9 @@ pub(crate) fn test<'a>(
     failed: &mut Vec<Stopped<'a>>,
 ) -> Result<(), AllocError>
     requires room { component < 8 }
-    ensures { OnOk result (Adds (λ identities. Tests kind identities place component) (k.entry ∷ []) next.old.items next.new.items failed.old.items failed.new.items) }
+    ensures { OnOk result
+        (Adds (λ identities. Tests kind identities place component) (k.entry ∷ []) next.old.items
+        next.new.items failed.old.items failed.new.items) }
 {
     match kind {
         TestKind::Vendor => identity_test(memory, place, kind, component, k, next, failed),

@@ -23,7 +23,10 @@ fn write<'a>(
     next: &mut Vec<Kept<'a>>,
 ) -> Result<(), AllocError>
     requires room { component < 8 }
-    ensures { OnOk result ((f : List TheStopped) → Adds (λ identities. Acts ActKind.Write place component) (k.entry ∷ []) next.old.items next.new.items f f) }
+    ensures { OnOk result
+        ((f : List TheStopped)
+        → Adds (λ identities. Acts ActKind.Write place component) (k.entry ∷ []) next.old.items
+        next.new.items f f) }
 {
     if k.params.has_content(component) {
         pass(memory, k, Happened::Wrote { component }, next)?;
@@ -39,7 +42,10 @@ fn fetch<'a>(
     next: &mut Vec<Kept<'a>>,
 ) -> Result<(), AllocError>
     requires room { component < 8 }
-    ensures { OnOk result ((f : List TheStopped) → Adds (λ identities. Acts ActKind.Fetch place component) (k.entry ∷ []) next.old.items next.new.items f f) }
+    ensures { OnOk result
+        ((f : List TheStopped)
+        → Adds (λ identities. Acts ActKind.Fetch place component) (k.entry ∷ []) next.old.items
+        next.new.items f f) }
 {
     if k.params.has_uri(component) {
         pass(memory, k, Happened::Wrote { component }, next)?;
@@ -55,7 +61,10 @@ fn copy<'a>(
     next: &mut Vec<Kept<'a>>,
 ) -> Result<(), AllocError>
     requires room { component < 8 }
-    ensures { OnOk result ((f : List TheStopped) → Adds (λ identities. Acts ActKind.Copy place component) (k.entry ∷ []) next.old.items next.new.items f f) }
+    ensures { OnOk result
+        ((f : List TheStopped)
+        → Adds (λ identities. Acts ActKind.Copy place component) (k.entry ∷ []) next.old.items
+        next.new.items f f) }
 {
     match k.params.source(component) {
         Some(_) => {
@@ -75,7 +84,10 @@ fn swap<'a>(
     next: &mut Vec<Kept<'a>>,
 ) -> Result<(), AllocError>
     requires room { component < 8 }
-    ensures { OnOk result ((f : List TheStopped) → Adds (λ identities. Acts ActKind.Swap place component) (k.entry ∷ []) next.old.items next.new.items f f) }
+    ensures { OnOk result
+        ((f : List TheStopped)
+        → Adds (λ identities. Acts ActKind.Swap place component) (k.entry ∷ []) next.old.items
+        next.new.items f f) }
 {
     match k.params.source(component) {
         Some(source) => {
@@ -95,8 +107,12 @@ fn invoke<'a>(
     next: &mut Vec<Kept<'a>>,
 ) -> Result<(), Halt<'a>>
     requires room { component < 8 }
-    ensures ok { OnOk result ((f : List TheStopped) → Adds (λ identities. Acts ActKind.Invoke place component) (k.entry ∷ []) next.old.items next.new.items f f) }
-    ensures err { IfErr result (λ h. Halts (λ identities. Acts ActKind.Invoke place component) (k.entry ∷ []) h) }
+    ensures ok { OnOk result
+        ((f : List TheStopped)
+        → Adds (λ identities. Acts ActKind.Invoke place component) (k.entry ∷ []) next.old.items
+        next.new.items f f) }
+    ensures err { IfErr result
+        (λ h. Halts (λ identities. Acts ActKind.Invoke place component) (k.entry ∷ []) h) }
 {
     let size = k.params.size(component);
     match k.params.digest(component) {
@@ -138,8 +154,12 @@ pub(crate) fn act<'a>(
     next: &mut Vec<Kept<'a>>,
 ) -> Result<(), Halt<'a>>
     requires room { component < 8 }
-    ensures ok { OnOk result ((f : List TheStopped) → Adds (λ identities. Acts kind place component) (k.entry ∷ []) next.old.items next.new.items f f) }
-    ensures err { IfErr result (λ h. Halts (λ identities. Acts kind place component) (k.entry ∷ []) h) }
+    ensures ok { OnOk result
+        ((f : List TheStopped)
+        → Adds (λ identities. Acts kind place component) (k.entry ∷ []) next.old.items
+        next.new.items f f) }
+    ensures err { IfErr result
+        (λ h. Halts (λ identities. Acts kind place component) (k.entry ∷ []) h) }
 {
     match kind {
         ActKind::Write => Ok(write(memory, place, component, k, next)?),
@@ -194,11 +214,14 @@ pub(crate) fn overrides<'a>(
     next: &mut Vec<Kept<'a>>,
 ) -> Result<(), AllocError>
     requires room { component < 8 }
-    ensures { OnOk result ((f : List TheStopped) → Adds (λ identities. Overrides list.now component) (k.entry ∷ []) next.old.items next.new.items f f) }
+    ensures { OnOk result
+        ((f : List TheStopped)
+        → Adds (λ identities. Overrides list.now component) (k.entry ∷ []) next.old.items
+        next.new.items f f) }
 {
     let mut k = k;
     push_sets(memory, &mut k.history, component, list)?;
-    k.params.override_with(component, list);
+    k.params.override_with(memory.alloc, component, list)?;
     k.soft_failure = soft_after_all(k.soft_failure, list);
     next.push(k)?;
     Ok(())

@@ -1,4 +1,4 @@
-//! What is known of the identities of all components.
+//! Knowledge of the identities of all components.
 
 ghost use Rattle.std.specs.Prelude.{◌≡◌, ◌<◌, length, slice_set, IsTrue, IfOk};
 ghost use Rattle.path_checker.specs.declared.judge_plan.facts.Own.TheVariants.{Vendor, Class, Device, Slot};
@@ -9,6 +9,7 @@ use crate::judge_plan::fingerprint::mixed;
 use crate::judge_plan::known::{IdentifierFork, KnownIdentifier, KnownSlot, SlotFork};
 use std::alloc::{AllocError, Global};
 use std::marker::Model;
+use std::rc::Rc;
 
 /// A vendor, class or device identifier, or a slot number, that an identity condition asks for.
 #[derive(Clone, Copy, Debug)]
@@ -19,7 +20,7 @@ pub(crate) enum Own {
     Slot(u64),
 }
 
-/// What is known of the identity of one component.
+/// Knowledge of one component's identity.
 #[derive(Debug, Drop)]
 pub(crate) struct Knowledge {
     pub vendor: KnownIdentifier,
@@ -28,10 +29,10 @@ pub(crate) struct Knowledge {
     pub slot: KnownSlot,
 }
 
-/// What is known of the identity of each component, from the first on.
-#[derive(Debug, Drop)]
+/// What is known of the identity of each component, from the first on. Copies share it.
+#[derive(Drop)]
 pub(crate) struct Facts {
-    held: Vec<Knowledge>,
+    held: Rc<Vec<Knowledge>>,
 }
 
 impl Model for Facts {
@@ -40,7 +41,7 @@ impl Model for Facts {
 
     ghost Value = { List Knowledge };
 
-    ghost view = { λ a. a.held.items };
+    ghost view = { λ a. a.held.value.items };
 }
 
 /// Whether a component has something of its own, or the facts where it has and where it has not.
@@ -51,7 +52,7 @@ pub(crate) enum Fork {
     Either(Facts, Facts),
 }
 
-/// The same of one component.
+/// The same for one component.
 #[derive(Drop)]
 pub(crate) enum KnowledgeFork {
     Has,
@@ -104,57 +105,33 @@ impl Knowledge {
     fn with_vendor(&self, alloc: Global, vendor: KnownIdentifier) -> Result<Knowledge, AllocError>
         ensures { IfOk result (λ other. other ≡ record self.now { vendor = vendor }) }
     {
-        let class = self.class.copy(alloc)?;
-        let device = self.device.copy(alloc)?;
-        let slot = self.slot.copy(alloc)?;
-        Ok(Knowledge {
-            vendor,
-            class,
-            device,
-            slot,
-        })
+        let mut other = self.copy(alloc)?;
+        other.vendor = vendor;
+        Ok(other)
     }
 
     fn with_class(&self, alloc: Global, class: KnownIdentifier) -> Result<Knowledge, AllocError>
         ensures { IfOk result (λ other. other ≡ record self.now { class = class }) }
     {
-        let vendor = self.vendor.copy(alloc)?;
-        let device = self.device.copy(alloc)?;
-        let slot = self.slot.copy(alloc)?;
-        Ok(Knowledge {
-            vendor,
-            class,
-            device,
-            slot,
-        })
+        let mut other = self.copy(alloc)?;
+        other.class = class;
+        Ok(other)
     }
 
     fn with_device(&self, alloc: Global, device: KnownIdentifier) -> Result<Knowledge, AllocError>
         ensures { IfOk result (λ other. other ≡ record self.now { device = device }) }
     {
-        let vendor = self.vendor.copy(alloc)?;
-        let class = self.class.copy(alloc)?;
-        let slot = self.slot.copy(alloc)?;
-        Ok(Knowledge {
-            vendor,
-            class,
-            device,
-            slot,
-        })
+        let mut other = self.copy(alloc)?;
+        other.device = device;
+        Ok(other)
     }
 
     fn with_slot(&self, alloc: Global, slot: KnownSlot) -> Result<Knowledge, AllocError>
         ensures { IfOk result (λ other. other ≡ record self.now { slot = slot }) }
     {
-        let vendor = self.vendor.copy(alloc)?;
-        let class = self.class.copy(alloc)?;
-        let device = self.device.copy(alloc)?;
-        Ok(Knowledge {
-            vendor,
-            class,
-            device,
-            slot,
-        })
+        let mut other = self.copy(alloc)?;
+        other.slot = slot;
+        Ok(other)
     }
 
     fn fork_vendor(&self, alloc: Global, id: &[u8; 16]) -> Result<KnowledgeFork, AllocError>
@@ -230,18 +207,28 @@ impl Facts {
         for _ in 0..count {
             held.push(Knowledge::new(alloc))?;
         }
+        Ok(Facts {
+            held: Rc::new(alloc, held)?,
+        })
+    }
+
+    /// The same, shared.
+    pub(crate) fn copy(&self) -> Result<Facts, AllocError>
+        ensures { IfOk result (λ other. other ≡ self.now) }
+    {
+        let held = self.held.clone()?;
         Ok(Facts { held })
     }
 
-    /// The same in memory of its own.
-    pub(crate) fn copy(&self, alloc: Global) -> Result<Facts, AllocError>
-        ensures { IfOk result (λ other. other ≡ self.now) }
+    // A copy of the knowledge of each component, in memory of its own.
+    fn copied(&self, alloc: Global) -> Result<Vec<Knowledge>, AllocError>
+        ensures { IfOk result (λ other. other.items ≡ self.now) }
     {
         let mut held = Vec::new(alloc);
-        for known in &self.held {
+        for known in self.as_slice() {
             held.push(known.copy(alloc)?)?;
         }
-        Ok(Facts { held })
+        Ok(held)
     }
 
     /// Whether the same is known.
@@ -262,30 +249,32 @@ impl Facts {
         true
     }
 
-    /// A number that is equal where the same is known.
+    /// A fingerprint: equal where the same is known.
     pub(crate) fn fingerprint(&self) -> u64 {
         let mut print = 0;
-        for known in &self.held {
+        for known in self.as_slice() {
             print = mixed(print, known.fingerprint());
         }
         print
     }
 
-    /// What is known of each component, lent.
+    /// The knowledge of each component, lent.
     pub(crate) fn as_slice(&self) -> &[Knowledge]
         ensures { result.now ≡ self.now }
     {
         self.held.as_slice()
     }
 
-    // The same but for one component.
+    // A copy that differs at one component.
     fn with(&self, alloc: Global, component: usize, known: Knowledge) -> Result<Facts, AllocError>
         requires { component < length self.now }
         ensures { IfOk result (λ other. other ≡ slice_set self.now component known) }
     {
-        let mut facts = self.copy(alloc)?;
-        facts.held[component] = known;
-        Ok(facts)
+        let mut held = self.copied(alloc)?;
+        held[component] = known;
+        Ok(Facts {
+            held: Rc::new(alloc, held)?,
+        })
     }
 
     /// Whether a component has something of its own. A component of which there is no identity has nothing.

@@ -1,14 +1,14 @@
-//! Numbers that are equal for equal states, and mostly differ for others.
+//! Fingerprints: equal for equal states, and mostly different for others.
 
 use suit_params::Param;
 
-/// A number that depends on both.
+/// Mixes a number into a fingerprint.
 pub(crate) fn mixed(print: u64, number: u64) -> u64 {
     let product = (print ^ number).wrapping_mul(0x9e37_79b9_7f4a_7c15);
     product ^ (product >> 32)
 }
 
-/// One of bytes.
+/// The fingerprint of bytes.
 pub(crate) fn of_bytes(bytes: &[u8]) -> u64 {
     let mut print = 1;
     for byte in bytes {
@@ -17,7 +17,7 @@ pub(crate) fn of_bytes(bytes: &[u8]) -> u64 {
     print
 }
 
-/// One of a value that may be absent.
+/// The fingerprint of an optional number.
 pub(crate) fn of_number(number: Option<u64>) -> u64 {
     match number {
         Some(number) => mixed(2, number),
@@ -25,7 +25,7 @@ pub(crate) fn of_number(number: Option<u64>) -> u64 {
     }
 }
 
-/// One of a parameter, which of a long one tells its length alone.
+/// The fingerprint of a parameter, by its length alone if it is long.
 pub(crate) fn of_param(param: Option<&Param>) -> u64 {
     match param {
         Some(Param::Vendor(id)) => of_bytes(&id[..]),

@@ -9,7 +9,7 @@ use std::alloc::{AllocError, AllocFailed};
 /// Why a judgement ends early.
 #[derive(Drop)]
 pub(crate) enum Halt<'a> {
-    /// There was no memory.
+    /// Memory ran out.
     NoMemory,
     /// The last event is an invoke that is not covered.
     Uncovered(Kept<'a>),

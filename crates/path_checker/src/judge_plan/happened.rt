@@ -1,4 +1,4 @@
-//! What happens on a path, lent from the procedure.
+//! Events of a path, lent from the procedure.
 
 ghost use Rattle.std.specs.Prelude.{◌≡◌, IfOk};
 ghost use Rattle.std.specs.Option.{option_copied};

@@ -1,4 +1,4 @@
-//! What happened before a state.
+//! The history of a state.
 
 ghost use Rattle.std.specs.Prelude.{◌≡◌, ◌↔◌, [], ◌∷◌, ◌++◌, IsTrue, IfOk, OnOk};
 ghost use Rattle.path_model.specs.Safe.{HasMatched};
@@ -14,7 +14,7 @@ use std::alloc::{AllocError, Global};
 use std::marker::Model;
 use suit_params::Digest;
 
-/// The events that led to a state, and the matches that stand after them. To copy one takes no memory.
+/// The events that led to a state, and the matches that stand after them. Copying takes no memory.
 #[derive(Drop)]
 pub(crate) struct History<'a> {
     all: Chain<'a>,
@@ -79,7 +79,7 @@ impl<'a> History<'a> {
         History { all, standing }
     }
 
-    /// Adds what happened last.
+    /// Adds the last event.
     pub(crate) fn push(&mut self, bump: &'a Bump, event: Happened<'a>) -> Result<(), AllocError>
         ensures { OnOk result (self.new ≡ self.old ++ event_of event.entry ∷ []) }
     {
@@ -104,7 +104,7 @@ impl<'a> History<'a> {
         self.standing.is_within(&other.standing) && other.standing.is_within(&self.standing)
     }
 
-    /// A number that is equal where the same matches stand.
+    /// A fingerprint: equal where the same matches stand.
     pub(crate) fn fingerprint(&self) -> u64 {
         self.standing.fingerprint()
     }

@@ -1,25 +1,27 @@
 //! The parameters in force, and their values.
 
-ghost use Rattle.std.specs.Prelude.{◌≡◌, ◌<◌, Some, is_some, IsTrue};
+ghost use Rattle.std.specs.Prelude.{◌≡◌, ◌<◌, Some, is_some, IsTrue, IfOk, OnOk, OnErr};
 ghost use Rattle.std.specs.Option.{option_copied};
 ghost use Rattle.suit_params.specs.declared.param.ParamKey.{ParamKey as TheKey};
 ghost use Rattle.suit_params.specs.declared.param.ParamKey.TheVariants.{Content, Uri, Source};
 ghost use Rattle.suit_params.specs.ParamKeys.{key_of};
-ghost use Rattle.suit_params.specs.InForce.{none_in_force, in_force, overridden, identifier_of, number_of, bytes_of, digest_in, size_in};
+ghost use Rattle.suit_params.specs.InForce.{none_in_force, in_force, overridden, IsOverridden, identifier_of, number_of, bytes_of, digest_in, size_in};
 ghost use Rattle.path_checker.specs.Wanting.{wanted_by};
 
 use crate::judge_plan::facts::Own;
 use crate::judge_plan::fingerprint::{mixed, of_param};
 use crate::judge_plan::same_param::same_param;
 use path_model::overriding_laws;
+use std::alloc::{AllocError, Global};
 use std::marker::Model;
+use std::rc::Rc;
 use suit_commands::TestKind;
 use suit_params::{Digest, Param, ParamKey, ParamList, Params, in_force_laws};
 
-/// The parameters in force, each under its own key.
+/// The parameters in force, each under its own key. Copies share them until one is overridden.
 #[derive(Drop)]
 pub(crate) struct InForce<'a> {
-    params: Params<'a>,
+    params: Rc<Params<'a>>,
 }
 
 impl<'a> Model for InForce<'a> {
@@ -28,11 +30,11 @@ impl<'a> Model for InForce<'a> {
 
     ghost Value = { List (Option Param) };
 
-    ghost view = { λ a. a.params };
+    ghost view = { λ a. a.params.value };
 
     ghost use Rattle.path_checker.specs.Keyed.{IsKeyed};
 
-    ghost invariant = { λ a. IsKeyed a.params };
+    ghost invariant = { λ a. IsKeyed a.params.value };
 }
 
 fn identifier_of(param: Option<&Param>) -> Option<[u8; 16]>
@@ -78,40 +80,71 @@ fn source_of(param: &Param) -> Option<u32>
     }
 }
 
+// Overrides them in place, or in a copy where they are shared.
+fn override_shared<'a>(
+    params: &mut Rc<Params<'a>>,
+    alloc: Global,
+    component: u32,
+    list: &'a ParamList,
+) -> Result<(), AllocError>
+    requires room { component < 8 }
+    ensures exact { OnOk result
+        (params.new.value ≡ overridden params.old.value component list.now) }
+    ensures last { OnOk result (IsOverridden params.old.value params.new.value component list.now) }
+    ensures err { OnErr result (params.new.value ≡ params.old.value) }
+{
+    match Rc::get_mut(params) {
+        Some(own) => {
+            own.override_with(component, list);
+            Ok(())
+        }
+        None => {
+            let mut other = params.copy();
+            other.override_with(component, list);
+            *params = Rc::new(alloc, other)?;
+            Ok(())
+        }
+    }
+}
+
 impl<'a> InForce<'a> {
     /// Nothing is in force.
-    pub(crate) fn new() -> InForce<'a>
-        ensures { result ≡ none_in_force }
+    pub(crate) fn new(alloc: Global) -> Result<InForce<'a>, AllocError>
+        ensures { IfOk result (λ params. params ≡ none_in_force) }
     {
         in_force_laws();
         overriding_laws();
-        InForce {
-            params: Params::new(),
-        }
+        let params = Rc::new(alloc, Params::new())?;
+        Ok(InForce { params })
     }
 
-    /// The same, lent again.
-    pub(crate) fn copy(&self) -> InForce<'a>
-        ensures { result ≡ self.now }
+    /// The same, shared.
+    pub(crate) fn copy(&self) -> Result<InForce<'a>, AllocError>
+        ensures { IfOk result (λ params. params ≡ self.now) }
     {
-        InForce {
-            params: self.params.copy(),
-        }
+        let params = self.params.clone()?;
+        Ok(InForce { params })
     }
 
     /// Overrides a component's parameters by those of a list, in their order.
-    pub(crate) fn override_with(&mut self, component: u32, list: &'a ParamList)
+    pub(crate) fn override_with(
+        &mut self,
+        alloc: Global,
+        component: u32,
+        list: &'a ParamList,
+    ) -> Result<(), AllocError>
         requires room { component < 8 }
-        ensures { self.new ≡ overridden self.old component list.now }
+        ensures { OnOk result (self.new ≡ overridden self.old component list.now) }
     {
         overriding_laws();
-        self.params.override_with(component, list);
+        override_shared(&mut self.params, alloc, component, list)
     }
 
     // Whether the same is in force for a component under a key.
     fn is_same_under(&self, other: &InForce<'_>, component: u32, key: ParamKey) -> bool
         requires room { component < 8 }
-        ensures { IsTrue result → in_force self.now component key ≡ in_force other.now component key }
+        ensures { IsTrue result
+            → in_force self.now component key ≡ in_force other.now component key }
     {
         same_param(
             self.params.get(component, key),
@@ -122,7 +155,8 @@ impl<'a> InForce<'a> {
     // Whether the same is in force for a component.
     fn is_same_at(&self, other: &InForce<'_>, component: u32) -> bool
         requires room { component < 8 }
-        ensures { IsTrue result → (key : TheKey) → in_force self.now component key ≡ in_force other.now component key }
+        ensures { IsTrue result → (key : TheKey)
+            → in_force self.now component key ≡ in_force other.now component key }
     {
         self.is_same_under(other, component, ParamKey::Vendor)
             && self.is_same_under(other, component, ParamKey::Class)
@@ -155,7 +189,7 @@ impl<'a> InForce<'a> {
         true
     }
 
-    /// A number that is equal where the same is in force. It looks at so many components alone.
+    /// A fingerprint: equal where the same is in force. Looks at so many components only.
     pub(crate) fn fingerprint(&self, count: usize) -> u64 {
         let mut print = 0;
         let mut component: u32 = 0;
@@ -240,7 +274,7 @@ impl<'a> InForce<'a> {
         identifier_of(self.params.get(component, key))
     }
 
-    /// What an identity condition asks for.
+    /// The identity that a condition asks for.
     pub(crate) fn wanted(&self, kind: TestKind, component: u32) -> Option<Own>
         requires room { component < 8 }
         ensures { result ≡ wanted_by kind self.now component }

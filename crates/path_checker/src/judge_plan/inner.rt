@@ -1,4 +1,4 @@
-//! Into inner sequences, and back from them.
+//! Entering and leaving inner sequences.
 
 ghost use Rattle.std.specs.Prelude.{◌≡◌, ◌<◌, true, [], ◌∷◌, ◌++◌, OnOk, IfOk};
 ghost use Rattle.path_checker.specs.Inner.{entered, all_entered, all_left, resumed, softly, hardly, exhausted, all_restarted};
@@ -9,7 +9,7 @@ use crate::judge_plan::selected::Selected;
 use std::alloc::{AllocError, Global};
 use std::marker::Model;
 
-/// The state round an inner sequence.
+/// The state around an inner sequence.
 #[derive(Drop)]
 pub(crate) struct Outer<'a> {
     params: InForce<'a>,
@@ -22,21 +22,26 @@ impl<'a> Model for Outer<'a> {
 
     ghost Value = { State };
 
-    ghost view = { λ a. record { parameters = a.params; selection = a.selection; soft_failure = a.soft_failure } };
+    ghost view = { λ a. record {
+      parameters = a.params;
+      selection = a.selection;
+      soft_failure = a.soft_failure;
+    } };
 }
 
 pub(crate) fn outer_of<'a>(alloc: Global, k: &Kept<'a>) -> Result<Outer<'a>, AllocError>
     ensures { IfOk result (λ outer. outer ≡ k.now.state) }
 {
     let selection = k.selection.copy(alloc)?;
+    let params = k.params.copy()?;
     Ok(Outer {
-        params: k.params.copy(),
+        params,
         selection,
         soft_failure: k.soft_failure,
     })
 }
 
-/// Into an inner sequence, with one component selected.
+/// Enters an inner sequence, with one component selected.
 pub(crate) fn enter<'a>(
     alloc: Global,
     component: u32,
@@ -65,10 +70,11 @@ pub(crate) fn enter_all<'a>(
     let mut inside = Vec::new(alloc);
     for k in from {
         let selection = Selected::one(alloc, component)?;
+        let params = outer.params.copy()?;
         inside.push(Kept {
             facts: k.facts,
             history: k.history,
-            params: outer.params.copy(),
+            params,
             selection,
             soft_failure: true,
         })?;
@@ -76,7 +82,7 @@ pub(crate) fn enter_all<'a>(
     Ok(inside)
 }
 
-/// Back from an inner sequence that completed: the parameters stay.
+/// Leaves an inner sequence that completed: the parameters stay.
 pub(crate) fn leave_all<'a>(
     alloc: Global,
     outer: &Outer<'a>,
@@ -94,15 +100,16 @@ pub(crate) fn leave_all<'a>(
     Ok(())
 }
 
-// Back from one that failed softly: all is as it was.
+// Leaves one that failed softly: everything is as it was.
 fn resume<'a>(alloc: Global, outer: &Outer<'a>, stop: Stopped<'a>) -> Result<Kept<'a>, AllocError>
     ensures { IfOk result (λ k. k ≡ resumed outer.now stop.entry) }
 {
     let selection = outer.selection.copy(alloc)?;
+    let params = outer.params.copy()?;
     Ok(Kept {
         facts: stop.facts,
         history: stop.history,
-        params: outer.params.copy(),
+        params,
         selection,
         soft_failure: outer.soft_failure,
     })
@@ -116,8 +123,10 @@ pub(crate) fn split<'a>(
     next: &mut Vec<Kept<'a>>,
     failed: &mut Vec<Stopped<'a>>,
 ) -> Result<(), AllocError>
-    ensures soft { OnOk result (next.new.items ≡ next.old.items ++ softly outer.now stops.entry.items) }
-    ensures hard { OnOk result (failed.new.items ≡ failed.old.items ++ hardly outer.now stops.entry.items) }
+    ensures soft { OnOk result
+        (next.new.items ≡ next.old.items ++ softly outer.now stops.entry.items) }
+    ensures hard { OnOk result
+        (failed.new.items ≡ failed.old.items ++ hardly outer.now stops.entry.items) }
 {
     for stop in stops {
         if stop.soft_failure {
@@ -138,7 +147,8 @@ pub(crate) fn exhaust<'a>(
     from: Vec<Kept<'a>>,
     failed: &mut Vec<Stopped<'a>>,
 ) -> Result<(), AllocError>
-    ensures { OnOk result (failed.new.items ≡ failed.old.items ++ exhausted outer.now place from.entry.items) }
+    ensures { OnOk result
+        (failed.new.items ≡ failed.old.items ++ exhausted outer.now place from.entry.items) }
 {
     for k in from {
         failed.push(Stopped {

@@ -16,7 +16,7 @@ use crate::judge_plan::selected::Selected;
 use std::alloc::{AllocError, Global};
 use std::marker::Model;
 
-/// A state, what is known of the identities there, and what happened before.
+/// A state, the knowledge of the identities there, and its history.
 #[derive(Drop)]
 pub(crate) struct Kept<'a> {
     pub facts: Facts,
@@ -34,7 +34,11 @@ impl<'a> Model for Kept<'a> {
     ghost view = { λ a. record {
       facts = a.facts;
       events = a.history;
-      state = record { parameters = a.params; selection = a.selection; soft_failure = a.soft_failure };
+      state = record {
+        parameters = a.params;
+        selection = a.selection;
+        soft_failure = a.soft_failure;
+      };
     } };
 }
 
@@ -61,7 +65,7 @@ impl<'a> Model for Stopped<'a> {
 }
 
 impl<'a> Stopped<'a> {
-    /// Whether they are the same but for the place and how they were come to.
+    /// Whether they are the same, except for the place and how they were reached.
     pub(crate) fn is_same(&self, other: &Stopped<'_>) -> bool
         ensures { IsTrue result → SameStop self.now other.now }
     {
@@ -70,7 +74,7 @@ impl<'a> Stopped<'a> {
             && self.history.same_matches(&other.history)
     }
 
-    /// A number that is equal where they are the same.
+    /// A fingerprint: equal where they are the same.
     pub(crate) fn fingerprint(&self) -> u64 {
         mixed(
             mixed(self.soft_failure as u64, self.facts.fingerprint()),
@@ -80,7 +84,7 @@ impl<'a> Stopped<'a> {
 }
 
 impl<'a> Kept<'a> {
-    /// Whether they are the same but for how they were come to.
+    /// Whether they are the same, except for how they were reached.
     pub(crate) fn is_same(&self, other: &Kept<'_>) -> bool
         ensures { IsTrue result → SameState self.now other.now }
     {
@@ -91,7 +95,7 @@ impl<'a> Kept<'a> {
             && self.history.same_matches(&other.history)
     }
 
-    /// A number that is equal where they are the same.
+    /// A fingerprint: equal where they are the same.
     pub(crate) fn fingerprint(&self) -> u64 {
         let selected = mixed(self.soft_failure as u64, self.selection.fingerprint());
         let count = self.facts.as_slice().len();
@@ -99,11 +103,11 @@ impl<'a> Kept<'a> {
         mixed(mixed(selected, known), self.history.fingerprint())
     }
 
-    /// The same in memory of its own.
+    /// A copy in memory of its own.
     pub(crate) fn copy(&self, alloc: Global) -> Result<Kept<'a>, AllocError>
         ensures { IfOk result (λ k. k ≡ self.now) }
     {
-        let facts = self.facts.copy(alloc)?;
+        let facts = self.facts.copy()?;
         self.copy_with(alloc, facts)
     }
 
@@ -112,10 +116,11 @@ impl<'a> Kept<'a> {
         ensures { IfOk result (λ k. k ≡ knowing self.now facts) }
     {
         let selection = self.selection.copy(alloc)?;
+        let params = self.params.copy()?;
         Ok(Kept {
             facts,
             history: self.history.copy(),
-            params: self.params.copy(),
+            params,
             selection,
             soft_failure: self.soft_failure,
         })
@@ -142,7 +147,8 @@ pub(crate) fn fail<'a>(
     place: u64,
     event: Happened<'a>,
 ) -> Result<Stopped<'a>, AllocError>
-    ensures { IfOk result (λ to. to ≡ stopped_by k.entry (event_of event.entry ∷ Failed place ∷ []) place) }
+    ensures { IfOk result
+        (λ to. to ≡ stopped_by k.entry (event_of event.entry ∷ Failed place ∷ []) place) }
 {
     let mut k = k;
     k.history.push(memory.events, event)?;
@@ -162,7 +168,8 @@ pub(crate) fn pass<'a>(
     event: Happened<'a>,
     next: &mut Vec<Kept<'a>>,
 ) -> Result<(), AllocError>
-    ensures { OnOk result (next.new.items ≡ next.old.items ++ with_events k.entry (event_of event.entry ∷ []) ∷ []) }
+    ensures { OnOk result
+        (next.new.items ≡ next.old.items ++ with_events k.entry (event_of event.entry ∷ []) ∷ []) }
 {
     let to = went(memory, k, event)?;
     next.push(to)?;
@@ -177,7 +184,10 @@ pub(crate) fn stop<'a>(
     event: Happened<'a>,
     failed: &mut Vec<Stopped<'a>>,
 ) -> Result<(), AllocError>
-    ensures { OnOk result (failed.new.items ≡ failed.old.items ++ stopped_by k.entry (event_of event.entry ∷ Failed place ∷ []) place ∷ []) }
+    ensures { OnOk result
+        (failed.new.items
+        ≡ failed.old.items
+        ++ stopped_by k.entry (event_of event.entry ∷ Failed place ∷ []) place ∷ []) }
 {
     let to = fail(memory, k, place, event)?;
     failed.push(to)?;

@@ -1,4 +1,4 @@
-//! What is known of one identifier or slot number.
+//! Knowledge of one identifier or slot number.
 
 ghost use Rattle.std.specs.Prelude.{◌≡◌, ◌↔◌, IsTrue, IfOk, Some, None, []};
 ghost use Rattle.path_checker.specs.Knowing.{Agrees};
@@ -47,7 +47,7 @@ pub(crate) enum IdentifierFork {
     Either(KnownIdentifier, KnownIdentifier),
 }
 
-/// The same of a slot number.
+/// The same for a slot number.
 #[derive(Drop)]
 pub(crate) enum SlotFork {
     Has,
@@ -82,7 +82,7 @@ impl KnownIdentifier {
         }
     }
 
-    /// The same in memory of its own.
+    /// A copy in memory of its own.
     pub(crate) fn copy(&self, alloc: Global) -> Result<KnownIdentifier, AllocError>
         ensures { IfOk result (λ other. other ≡ self.now) }
     {
@@ -99,7 +99,7 @@ impl KnownIdentifier {
         self.value == other.value && same_identifiers(&self.others, &other.others)
     }
 
-    /// A number that is equal where the same is known.
+    /// A fingerprint: equal where the same is known.
     pub(crate) fn fingerprint(&self) -> u64 {
         match &self.value {
             Some(value) => of_bytes(&value[..]),
@@ -173,7 +173,7 @@ impl KnownSlot {
         }
     }
 
-    /// The same in memory of its own.
+    /// A copy in memory of its own.
     pub(crate) fn copy(&self, alloc: Global) -> Result<KnownSlot, AllocError>
         ensures { IfOk result (λ other. other ≡ self.now) }
     {
@@ -190,7 +190,7 @@ impl KnownSlot {
         self.value == other.value && self.others == other.others
     }
 
-    /// A number that is equal where the same is known.
+    /// A fingerprint: equal where the same is known.
     pub(crate) fn fingerprint(&self) -> u64 {
         mixed(of_number(self.value), self.others.len() as u64)
     }

@@ -1,9 +1,9 @@
-//! Where a judgement takes its memory from.
+//! The allocators of a judgement.
 
 use bumpalo::Bump;
 use std::alloc::Global;
 
-/// Where a judgement takes its memory from. Events are given up together, when it ends.
+/// The allocators of a judgement. Events are freed together, when it ends.
 #[derive(Clone, Copy)]
 pub(crate) struct Memory<'a> {
     pub alloc: Global,

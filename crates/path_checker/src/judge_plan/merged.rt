@@ -1,4 +1,4 @@
-//! States of which some stand for all: those that are the same but for how they were come to are kept once.
+//! Some states stand for all: those that differ only in how they were reached are kept once.
 
 ghost use Rattle.std.specs.Prelude.{◌≡◌, IsTrue, IfOk};
 ghost use Rattle.path_checker.specs.Exploring.{In, Kept as TheKept, Stopped as TheStopped};
@@ -8,7 +8,7 @@ use crate::judge_plan::kept::{Kept, Stopped};
 use std::alloc::{AllocError, Global};
 use std::collections::HashMap;
 
-// The smallest number of failures that are looked through for equal ones.
+// The smallest number of failures that are searched for equal ones.
 const FEW: usize = 32;
 
 // Whether the state at an index stands for this one.
@@ -71,7 +71,7 @@ fn merged_stops<'a>(alloc: Global, from: Vec<Stopped<'a>>) -> Result<Vec<Stopped
     Ok(kept)
 }
 
-/// The failures, or some that stand for all where they have become twice as many as were left the last time.
+/// The failures, or some that stand for all once they are twice as many as were left the last time.
 pub(crate) fn settled<'a>(
     alloc: Global,
     from: Vec<Stopped<'a>>,

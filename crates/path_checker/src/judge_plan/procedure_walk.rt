@@ -28,11 +28,12 @@ pub(crate) fn first<'a>(alloc: Global, count: u32) -> Result<Vec<Kept<'a>>, Allo
 {
     let facts = Facts::unknown(alloc, count)?;
     let selection = Selected::one(alloc, 0)?;
+    let params = InForce::new(alloc)?;
     let mut from = Vec::new(alloc);
     from.push(Kept {
         facts,
         history: History::new(),
-        params: InForce::new(),
+        params,
         selection,
         soft_failure: false,
     })?;
@@ -48,8 +49,11 @@ fn part<'a>(
     failed: &mut Vec<Stopped<'a>>,
 ) -> Result<Vec<Kept<'a>>, Halt<'a>>
     requires small { IsSmallSequence count (lent_tree lent) }
-    ensures ok { IfOk result (λ v. Adds (FromStart (lent_tree lent.entry) count) from.entry.items [] v.items failed.old.items failed.new.items) }
-    ensures err { IfErr result (λ h. Halts (FromStart (lent_tree lent.entry) count) from.entry.items h) }
+    ensures ok { IfOk result
+        (λ v. Adds (FromStart (lent_tree lent.entry) count) from.entry.items [] v.items
+        failed.old.items failed.new.items) }
+    ensures err { IfErr result
+        (λ h. Halts (FromStart (lent_tree lent.entry) count) from.entry.items h) }
 {
     let started = restart_all(memory.alloc, from)?;
     match lent {
@@ -66,7 +70,9 @@ pub(crate) fn procedure<'a>(
     failed: &mut Vec<Stopped<'a>>,
 ) -> Result<Vec<Kept<'a>>, Halt<'a>>
     requires { ArePlan (plan_tree plan.now) }
-    ensures ok { IfOk result (λ v. Adds (RunsPlan (plan_tree plan.now)) from.entry.items [] v.items failed.old.items failed.new.items) }
+    ensures ok { IfOk result
+        (λ v. Adds (RunsPlan (plan_tree plan.now)) from.entry.items [] v.items failed.old.items
+        failed.new.items) }
     ensures err { IfErr result (λ h. Halts (RunsPlan (plan_tree plan.now)) from.entry.items h) }
 {
     let after_shared = part(memory, plan.count, plan.shared, from, failed)?;

@@ -1,6 +1,6 @@
 //! The selected components.
 
-ghost use Rattle.std.specs.Prelude.{◌≡◌, ◌<◌, ◌≤◌, [], ◌∷◌, IsTrue, IfOk};
+ghost use Rattle.std.specs.Prelude.{◌≡◌, ◌<◌, ◌≤◌, [], ◌∷◌, IsTrue, IfOk, IfSome};
 ghost use Rattle.std.specs.List.{range_with_len};
 ghost use Rattle.suit_commands.specs.Selections.{selected_by};
 ghost use Rattle.path_checker.specs.Small.{AreSmall, SelectsSmall};
@@ -69,7 +69,7 @@ impl Selected {
         Ok(Selected { held })
     }
 
-    /// The same in memory of its own.
+    /// A copy in memory of its own.
     pub(crate) fn copy(&self, alloc: Global) -> Result<Selected, AllocError>
         ensures { IfOk result (λ other. other ≡ self.now) }
     {
@@ -84,13 +84,24 @@ impl Selected {
         self.held == other.held
     }
 
-    /// A number that is equal where the same components are selected.
+    /// A fingerprint: equal where the same components are selected.
     pub(crate) fn fingerprint(&self) -> u64 {
         let mut print = 0;
         for component in &self.held {
             print = mixed(print, *component as u64);
         }
         print
+    }
+
+    /// The component, where one alone is selected.
+    pub(crate) fn sole(&self) -> Option<u32>
+        ensures sole { IfSome result (λ component. self.now ≡ component ∷ []) }
+        ensures small { IfSome result (λ component. component < 8) }
+    {
+        match self.as_slice() {
+            [component] => Some(*component),
+            _ => None,
+        }
     }
 
     /// The components, lent.

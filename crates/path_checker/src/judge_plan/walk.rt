@@ -32,8 +32,11 @@ pub(crate) fn sequence<'a>(
     failed: &mut Vec<Stopped<'a>>,
 ) -> Result<Vec<Kept<'a>>, Halt<'a>>
     requires small { IsSmallSequence count sequence.now }
-    ensures ok { IfOk result (λ v. Adds (λ identities. Runs sequence.now identities count) from.entry.items [] v.items failed.old.items failed.new.items) }
-    ensures err { IfErr result (λ h. Halts (λ identities. Runs sequence.now identities count) from.entry.items h) }
+    ensures ok { IfOk result
+        (λ v. Adds (λ identities. Runs sequence.now identities count) from.entry.items [] v.items
+        failed.old.items failed.new.items) }
+    ensures err { IfErr result
+        (λ h. Halts (λ identities. Runs sequence.now identities count) from.entry.items h) }
 {
     let mut now = from;
     let mut stops = Vec::new(memory.alloc);
@@ -56,8 +59,14 @@ fn command<'a>(
     failed: &mut Vec<Stopped<'a>>,
 ) -> Result<Vec<Kept<'a>>, Halt<'a>>
     requires small { IsSmallCommand count (command_tree step.now.command) }
-    ensures ok { IfOk result (λ v. Adds (λ identities. Does (command_tree step.now.command) identities count step.now.place) from.entry.items [] v.items failed.old.items failed.new.items) }
-    ensures err { IfErr result (λ h. Halts (λ identities. Does (command_tree step.now.command) identities count step.now.place) from.entry.items h) }
+    ensures ok { IfOk result
+        (λ v. Adds
+        (λ identities. Does (command_tree step.now.command) identities count step.now.place)
+        from.entry.items [] v.items failed.old.items failed.new.items) }
+    ensures err { IfErr result
+        (λ h. Halts
+        (λ identities. Does (command_tree step.now.command) identities count step.now.place)
+        from.entry.items h) }
 {
     let mut now = from;
     let mut next = Vec::new(memory.alloc);
@@ -97,9 +106,22 @@ fn each<'a>(
     failed: &mut Vec<Stopped<'a>>,
 ) -> Result<(), Halt<'a>>
     requires small { IsSmallCommand count (command_tree step.now.command) }
-    ensures ok { OnOk result (Adds (λ identities. Each (λ c. At (command_tree step.now.command) count step.now.place c identities) k.entry.state.selection) (k.entry ∷ []) next.old.items next.new.items failed.old.items failed.new.items) }
-    ensures err { IfErr result (λ h. Halts (λ identities. Each (λ c. At (command_tree step.now.command) count step.now.place c identities) k.entry.state.selection) (k.entry ∷ []) h) }
+    ensures ok { OnOk result
+        (Adds
+        (λ identities. Each
+        (λ c. At (command_tree step.now.command) count step.now.place c identities)
+        k.entry.state.selection)
+        (k.entry ∷ []) next.old.items next.new.items failed.old.items failed.new.items) }
+    ensures err { IfErr result
+        (λ h. Halts
+        (λ identities. Each
+        (λ c. At (command_tree step.now.command) count step.now.place c identities)
+        k.entry.state.selection)
+        (k.entry ∷ []) h) }
 {
+    if let Some(component) = k.selection.sole() {
+        return one(memory, count, step, component, k, next, failed);
+    }
     let selection = k.selection.copy(memory.alloc)?;
     let mut now = Vec::new(memory.alloc);
     now.push(k)?;
@@ -122,8 +144,12 @@ fn all_at<'a>(
 ) -> Result<Vec<Kept<'a>>, Halt<'a>>
     requires room { component < 8 }
     requires small { IsSmallCommand count (command_tree step.now.command) }
-    ensures ok { IfOk result (λ v. Adds (At (command_tree step.now.command) count step.now.place component) from.entry.items [] v.items failed.old.items failed.new.items) }
-    ensures err { IfErr result (λ h. Halts (At (command_tree step.now.command) count step.now.place component) from.entry.items h) }
+    ensures ok { IfOk result
+        (λ v. Adds (At (command_tree step.now.command) count step.now.place component)
+        from.entry.items [] v.items failed.old.items failed.new.items) }
+    ensures err { IfErr result
+        (λ h. Halts (At (command_tree step.now.command) count step.now.place component)
+        from.entry.items h) }
 {
     let mut now = from;
     let mut next = Vec::new(memory.alloc);
@@ -146,8 +172,12 @@ fn one<'a>(
 ) -> Result<(), Halt<'a>>
     requires room { component < 8 }
     requires small { IsSmallCommand count (command_tree step.now.command) }
-    ensures ok { OnOk result (Adds (At (command_tree step.now.command) count step.now.place component) (k.entry ∷ []) next.old.items next.new.items failed.old.items failed.new.items) }
-    ensures err { IfErr result (λ h. Halts (At (command_tree step.now.command) count step.now.place component) (k.entry ∷ []) h) }
+    ensures ok { OnOk result
+        (Adds (At (command_tree step.now.command) count step.now.place component) (k.entry ∷ [])
+        next.old.items next.new.items failed.old.items failed.new.items) }
+    ensures err { IfErr result
+        (λ h. Halts (At (command_tree step.now.command) count step.now.place component)
+        (k.entry ∷ []) h) }
 {
     match &step.command {
         Command::Test { kind, .. } => {
@@ -178,8 +208,12 @@ fn run<'a>(
 ) -> Result<(), Halt<'a>>
     requires room { component < 8 }
     requires small { IsSmallSequence count inner.now }
-    ensures ok { OnOk result (Adds (λ identities. RunsInner (Runs inner.now identities count) component) (k.entry ∷ []) next.old.items next.new.items failed.old.items failed.new.items) }
-    ensures err { IfErr result (λ h. Halts (λ identities. RunsInner (Runs inner.now identities count) component) (k.entry ∷ []) h) }
+    ensures ok { OnOk result
+        (Adds (λ identities. RunsInner (Runs inner.now identities count) component) (k.entry ∷ [])
+        next.old.items next.new.items failed.old.items failed.new.items) }
+    ensures err { IfErr result
+        (λ h. Halts (λ identities. RunsInner (Runs inner.now identities count) component)
+        (k.entry ∷ []) h) }
 {
     let outer = outer_of(memory.alloc, &k)?;
     let mut from = Vec::new(memory.alloc);
@@ -204,8 +238,12 @@ fn try_each<'a>(
 ) -> Result<(), Halt<'a>>
     requires room { component < 8 }
     requires small { AreSmallBranches count branches.now }
-    ensures ok { OnOk result (Adds (λ identities. Tries branches.now identities count place component) (k.entry ∷ []) next.old.items next.new.items failed.old.items failed.new.items) }
-    ensures err { IfErr result (λ h. Halts (λ identities. Tries branches.now identities count place component) (k.entry ∷ []) h) }
+    ensures ok { OnOk result
+        (Adds (λ identities. Tries branches.now identities count place component) (k.entry ∷ [])
+        next.old.items next.new.items failed.old.items failed.new.items) }
+    ensures err { IfErr result
+        (λ h. Halts (λ identities. Tries branches.now identities count place component)
+        (k.entry ∷ []) h) }
 {
     let outer = outer_of(memory.alloc, &k)?;
     let outer = &outer;
@@ -239,8 +277,13 @@ fn one_branch<'a>(
 ) -> Result<Vec<Kept<'a>>, Halt<'a>>
     requires room { component < 8 }
     requires small { IsSmallSequence count inner.now }
-    ensures ok { IfOk result (λ v. BranchAdds (λ identities. Runs inner.now identities count) outer.now component from.entry.items v.items next.old.items next.new.items failed.old.items failed.new.items) }
-    ensures err { IfErr result (λ h. Halts (λ identities. Runs inner.now identities count) (all_entered outer.now component true from.entry.items) h) }
+    ensures ok { IfOk result
+        (λ v. BranchAdds (λ identities. Runs inner.now identities count) outer.now component
+        from.entry.items v.items next.old.items next.new.items failed.old.items
+        failed.new.items) }
+    ensures err { IfErr result
+        (λ h. Halts (λ identities. Runs inner.now identities count)
+        (all_entered outer.now component true from.entry.items) h) }
 {
     let inside = enter_all(memory.alloc, component, outer, from)?;
     let mut stops = Vec::new(memory.alloc);

@@ -1,6 +1,6 @@
 use Rattle.std.proofs.Common.{rules, ◌≡◌, ◌<◌, ◌≤◌, ◌+◌, [], ◌∷◌, ◌++◌, List, drop, sym, ap, ◌∙◌, subst, arith}
 use Rattle.std.proofs.lemmas.List.{drop_all}
-use Rattle.std.proofs.lemmas.Result.{err_from_is_err_and, on_ok_weaker}
+use Rattle.std.proofs.lemmas.Result.{err_from_is_err_and, on_ok_weaker, IfErr-weaker}
 use Rattle.std.specs.Prelude.{OnOk, IfErr}
 use Rattle.std.specs.Vec.{vec_len}
 use Rattle.suit_commands.specs.Tree.{SequenceTree, BranchesTree}
@@ -17,7 +17,7 @@ use Rattle.path_checker.specs.Small.{IsSmallSequence, IsSmallCommand, AreSmallBr
 use Rattle.path_checker.proofs.DirectiveLeaves.{never_true}
 use Rattle.path_checker.proofs.Smallness.{small_step, small_index, small_branch}
 use Rattle.path_checker.proofs.Walking.{Walks, Walks-start, Walks-step, Walks-stops, Walks-end, runs_course, does_course}
-use Rattle.path_checker.proofs.Popping.{Pops-step, Pops-halt, Pops-end, none_left, each_course, does_each, Adds-same, Halts-same, Adds-index, Adds-at_index, Each-step, Each-stops}
+use Rattle.path_checker.proofs.Popping.{Pops-step, Pops-halt, Pops-end, none_left, each_course, each_sole, does_each, Adds-same, Halts-same, Adds-index, Adds-at_index, Each-step, Each-stops}
 use Rattle.path_checker.proofs.Branching.{Trying, Trying-start, Trying-branch, Trying-halt, Trying-null, Trying-end, rest_course, at_some, at_none, Adds-run, Halts-run, Adds-branch, Adds-appended}
 use Rattle.path_checker.proofs.Merging.{Adds-states, Adds-behind, Walks-stops_merged}
 use Rattle.path_checker.proofs.judge_plan.walk.+walk.Goals as goal
@@ -38,6 +38,16 @@ command-loop-k-preserved t c = Pops-step (does_course (command_tree c.args.step.
 pub command-returns-in_err-each-in_default-command : goal.command-returns-in_err-each-in_default-command
 command-returns-in_err-each-in_default-command t c =
     let p = err_from_is_err_and c.from_residual-in_err-each-in_default-command.result c.from_residual-in_err-each-in_default-command.ensures.1 in rw (p.1, p.2) (record { ok = tt; err = Pops-halt (does_course (command_tree c.args.step.now.command) c.args.count c.args.step.now.place) c.args.from.items c.args.failed.now.items c.loop-k.now.items c.pop.new.self.items c.loop-k.next.items c.loop-k.failed.items c.in-Some.k c.loop-k.invariant c.in-Some.ensures.items c.in_err-each-in_default-command.field-0.0 (Halts-same c.in-Some.k (each_course (command_tree c.args.step.now.command) c.args.count c.args.step.now.place c.in-Some.k.state.selection) (does_course (command_tree c.args.step.now.command) c.args.count c.args.step.now.place) (does_each c.args.step.now.command c.in_default-command.not-Index c.args.count c.args.step.now.place c.in-Some.k) c.in_err-each-in_default-command.field-0.0 c.in_err-each-in_default-command.ensures.err) })
+
+pub each-returns-in-Some-clause-ok : goal.each-returns-in-Some-clause-ok
+each-returns-in-Some-clause-ok t c =
+    let sole = sym (ap (λ k. k.state.selection) c.k.view_is) ∙ c.in-Some.ensures.sole in
+    on_ok_weaker c.one.result (λ h. Adds-same c.args.k (At (command_tree c.args.step.now.command) c.args.count c.args.step.now.place c.in-Some.component) (each_course (command_tree c.args.step.now.command) c.args.count c.args.step.now.place c.args.k.state.selection) c.args.next.now.items c.one.new.next.items c.args.failed.now.items c.one.new.failed.items (each_sole (command_tree c.args.step.now.command) c.args.count c.args.step.now.place c.in-Some.component c.args.k sole) h) c.one.ensures.ok
+
+pub each-returns-in-Some-clause-err : goal.each-returns-in-Some-clause-err
+each-returns-in-Some-clause-err t c =
+    let sole = sym (ap (λ k. k.state.selection) c.k.view_is) ∙ c.in-Some.ensures.sole in
+    IfErr-weaker c.one.result (λ h. Halts (At (command_tree c.args.step.now.command) c.args.count c.args.step.now.place c.in-Some.component) (c.args.k ∷ []) h) (λ h. Halts (each_course (command_tree c.args.step.now.command) c.args.count c.args.step.now.place c.args.k.state.selection) (c.args.k ∷ []) h) (λ h u. Halts-same c.args.k (At (command_tree c.args.step.now.command) c.args.count c.args.step.now.place c.in-Some.component) (each_course (command_tree c.args.step.now.command) c.args.count c.args.step.now.place c.args.k.state.selection) (each_sole (command_tree c.args.step.now.command) c.args.count c.args.step.now.place c.in-Some.component c.args.k sole) h u) c.one.ensures.err
 
 pub each-loop-component-init : goal.each-loop-component-init
 each-loop-component-init t c =

@@ -1,6 +1,7 @@
-use Rattle.std.proofs.Common.{sym}
+use Rattle.std.proofs.Common.{sym, ap, ◌∙◌}
 use Rattle.suit_params.specs.declared.param.ParamKey.TheVariants.{Source}
+use Rattle.suit_params.specs.InForce.{in_force}
 use Rattle.path_checker.proofs.judge_plan.in_force.InForce.source.Goals as goal
 
 pub source_of-requires : goal.source_of-requires
-source_of-requires c = c.self.invariant.keyed c.args.component Source c.in-Some.param.now c.requires.room (sym c.in-Some.ensures)
+source_of-requires c = c.self.invariant.keyed c.args.component Source c.in-Some.param.now c.requires.room (ap (λ ps. in_force ps c.args.component Source) (sym c.deref.ensures) ∙ sym c.in-Some.ensures)
