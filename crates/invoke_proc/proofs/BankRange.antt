@@ -1,4 +1,4 @@
--- What a read gives of a record's bank.
+-- A read of a record's bank.
 use Rattle.std.proofs.Common.{◌≡◌, ◌<◌, ◌≤◌, ℕ, ◌+◌, ◌*◌, List, sym, subst, arith}
 use Rattle.std.specs.List.{slice_range}
 use Rattle.suit_edge.specs.declared.edge.Edge.{Edge}

@@ -197,7 +197,7 @@ module _ (envelopes : EnvelopeLaws) (manifests : ManifestLaws) (authenticity : A
       pub one_start : (said other : EnvelopeSays) (m n : Manifest) → IsStarted layout key bytes said m → IsStarted layout key bytes other n → (said ≡ other) × (m ≡ n)
       one_start said other m n x y = (same_said said other m n x.says y.says, same_manifest said other m n x.says y.says)
 
--- what is installed is started
+-- an installed envelope is started
 pub is_started : (layout : List Entry) (key : Key) (bytes : List ℕ) (r : Record) (is : IsInstalled layout key bytes r)
     → IsStarted layout (key_bytes key) bytes (trimmed_says is.wrapper is.manifest) is.said
 is_started layout key bytes r is = record {

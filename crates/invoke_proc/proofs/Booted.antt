@@ -1,4 +1,4 @@
--- What a boot says of the flash, from what its stages say.
+-- The clauses of a boot about the flash, from those of its stages.
 use Rattle.std.proofs.Common.{◌≡◌, ◌⊎◌, inl, inr, ⊎_elim, ℕ, List, Option, Some, Err, refl, sym, subst, arith}
 use Rattle.suit_edge.specs.Flash.{Flash, IsFlash, IsSame, IsSettled}
 use Rattle.suit_edge.specs.FlashLaws.{keeps_same, keeps_then, same_flash_then}

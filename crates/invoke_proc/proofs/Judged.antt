@@ -1,4 +1,4 @@
--- What the stages say of a bank's bytes, together.
+-- The stages that judge a bank's bytes, put together.
 use Rattle.std.proofs.Common.{◌≡◌, ℕ, List, get_or, Option, refl, sym, subst}
 use Rattle.std.specs.Prelude.{MatchOption}
 use Rattle.suit_envelope.specs.declared.authenticity.Authenticity.{Authenticity}

@@ -1,5 +1,4 @@
 pub mod BankSays
-pub mod Since
 pub mod Judged
 pub mod Places
 pub mod Played

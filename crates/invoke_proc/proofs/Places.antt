@@ -21,7 +21,7 @@ use Rattle.step_machine.specs.Spots.{OutsideSpot}
 use Rattle.step_machine.specs.Worlds.{AreDistinct, IsChoice, StandAs, spot_of}
 use Rattle.path_model.specs.Path.{AreIdentities, IsIdentity}
 use Rattle.invoke_proc.specs.Booting.{StandActive}
-use Rattle.invoke_proc.specs.Typing.{HasIdentifiers}
+use Rattle.step_machine.specs.Typing.{HasIdentifiers}
 use Rattle.invoke_proc.specs.Choice.{AreActive}
 
 -- ---- places

@@ -1,12 +1,11 @@
--- What a procedure that was played is answered with.
-use Rattle.std.proofs.Common.{◌≡◌, inr, ⊎_elim, ◌≤◌, ℕ, List, [], Option, sym, ap, subst, arith}
-use Rattle.suit_edge.specs.Faults.{Faulted}
+-- The answer to a procedure that was played.
+use Rattle.std.proofs.Common.{◌≡◌, inr, ⊎_elim, ℕ, List, [], Option, sym, subst}
 use Rattle.suit_edge.specs.Flash.{Flash, IsFlash, IsSame, Keeps}
 use Rattle.suit_edge.specs.FlashLaws.{keeps_same, keeps_then}
 use Rattle.suit_edge.specs.declared.launch.Launch.{Launch}
+use Rattle.suit_commands.specs.Tree.{PlanTree}
 use Rattle.suit_manifest.specs.declared.manifest.Manifest.{Manifest}
 use Rattle.suit_manifest.specs.Procedures.{invocation_tree}
-use Rattle.path_model.specs.declared.cause.Cause.{Cause}
 use Rattle.path_model.specs.declared.cause.Cause.TheVariants as causes
 use Rattle.flash_layout.specs.declared.layout.Entry.{Entry}
 use Rattle.flash_slots.specs.RamContents.{Held, empty_ram}
@@ -14,43 +13,21 @@ use Rattle.step_machine.specs.declared.plan_end.PlanEnd.{PlanEnd}
 use Rattle.step_machine.specs.declared.plan_end.PlanEnd.TheVariants as plays
 use Rattle.step_machine.specs.declared.spot.Standing.{Standing}
 use Rattle.step_machine.specs.Devices.{contents_of}
-use Rattle.step_machine.specs.PlanRuns.{Counts, CountsFor, EndCounts, OutsideTargets, PlaysPlan, counts_of, setting_of}
+use Rattle.step_machine.specs.PlanRuns.{Counts, EndCounts, OutsideTargets, PlaysPlan, counts_of, setting_of}
+use Rattle.step_machine.proofs.Counting.{failed_behind, not_fallen}
 use Rattle.invoke_proc.specs.declared.boot_end.BootEnd.{BootEnd}
 use Rattle.invoke_proc.specs.declared.boot_end.BootEnd.TheVariants as ends
 use Rattle.invoke_proc.specs.Booting.{IfUnfaulted, IsStartEnd, KeepsOthers, KeptSo, PlayedSo, PlaysOn, SettledSo, StandActive, end_of}
-use Rattle.invoke_proc.specs.Counting.{BootCounts, FlashFailed}
+use Rattle.invoke_proc.specs.Counting.{BootCounts}
 
 -- ---- counts
-
-abbrev NotFallen : Counts → Counts → Type 0
-NotFallen before now = (before.host ≤ now.host) × (before.disk ≤ now.disk) × (before.launcher ≤ now.launcher)
-
-kept_counts : (a b : Counts) → b ≡ a → NotFallen a b
-kept_counts a b same = (omega (arith, ap (λ (c : Counts). c.host) same), omega (arith, ap (λ (c : Counts). c.disk) same), omega (arith, ap (λ (c : Counts). c.launcher) same))
-
-for_cause : (cause : Cause) (a b : Counts) → CountsFor cause a b → NotFallen a b
-for_cause causes.Missing a b is = kept_counts a b is
-for_cause causes.SelfCopy a b is = kept_counts a b is
-for_cause causes.TooLarge a b is = kept_counts a b is
-for_cause causes.Absent a b is = kept_counts a b is
-for_cause causes.HostFault a b is = (is.0.later, omega (arith, is.1), omega (arith, is.2))
-for_cause causes.FlashFault a b is = (omega (arith, is.0), is.1.later, is.2)
-for_cause causes.LaunchFault a b is = (omega (arith, is.0), is.1, is.2.later)
-
-at_end_counts : (end : PlanEnd) (a b : Counts) → EndCounts end a b → NotFallen a b
-at_end_counts plays.Done a b is = kept_counts a b is
-at_end_counts (plays.ConditionFailed place) a b is = kept_counts a b is
-at_end_counts (plays.DirectiveFailed place cause) a b is = for_cause cause a b is
 
 boot_counts : (end : PlanEnd) (a b : Counts) → EndCounts end a b → BootCounts (end_of end) a b
 boot_counts plays.Done a b is = is
 boot_counts (plays.ConditionFailed place) a b is = is
 boot_counts (plays.DirectiveFailed place cause) a b is = is
 
-failed_behind : (h d l i e m f : ℕ) → NotFallen (counts_of h d l) (counts_of i e m) → Faulted e f → FlashFailed (counts_of h d l) (counts_of i f m)
-failed_behind h d l i e m f not fault = (not.0, record { later = omega (arith, not.1, fault.later); rose = λ short. omega (arith, not.1, fault.rose short) }, not.2)
-
--- ---- what follows of a procedure that was settled
+-- ---- consequences of a settled procedure
 
 module _ (end : PlanEnd) (answer : BootEnd) (d e : ℕ) (settled : SettledSo end answer d e) where
   pub counts_after : (h b l i m : ℕ) → EndCounts end (counts_of h b l) (counts_of i d m) → BootCounts answer (counts_of h b l) (counts_of i e m)
@@ -58,7 +35,7 @@ module _ (end : PlanEnd) (answer : BootEnd) (d e : ℕ) (settled : SettledSo end
       ⊎_elim (λ same. subst (λ (a : BootEnd). BootCounts a (counts_of h b l) (counts_of i e m)) (sym same.0)
       (boot_counts end (counts_of h b l) (counts_of i e m) (subst (λ (n : ℕ). EndCounts end (counts_of h b l) (counts_of i n m)) (sym same.1) is)))
       (λ fault. subst (λ (a : BootEnd). BootCounts a (counts_of h b l) (counts_of i e m)) (sym fault.0)
-      (failed_behind h b l i d m e (at_end_counts end (counts_of h b l) (counts_of i d m) is) fault.1))
+      (failed_behind h b l i d m e (not_fallen end (counts_of h b l) (counts_of i d m) is) fault.1))
       settled
 
   start_end : (end : PlanEnd) → IsStartEnd (end_of end)
@@ -87,7 +64,7 @@ module _ (end : PlanEnd) (answer : BootEnd) (d e : ℕ) (settled : SettledSo end
   kept_after Kept Same k =
       ⊎_elim (λ same. subst (KeptSo Kept Same) (sym same.0) (kept_end Kept Same end k)) (λ fault. subst (KeptSo Kept Same) (sym fault.0) (inr k)) settled
 
--- what holds without a fault of the flash is weakened
+-- a property without a fault of the flash is weakened
 pub unfaulted : (P Q : Type 0) (answer : BootEnd) → (P → Q) → IfUnfaulted answer P → IfUnfaulted answer Q
 unfaulted P Q ends.Ended to p = to p
 unfaulted P Q ends.NothingInstalled to p = to p
@@ -105,28 +82,30 @@ unfaulted P Q (ends.Stopped place causes.LaunchFault) to p = to p
 unfaulted P Q ends.FlashFault to p = tt
 unfaulted P Q ends.NoMemory to p = to p
 
--- ---- what was played, from the world that it was played on
+-- ---- the play, from the world that it was played on
 
 pub plays_on : (layout : List Entry) (manifest : Manifest) (active : List ℕ) (payloads uris : List (List ℕ × List ℕ)) (files : List ℕ → Option (List ℕ))
     (before between after : List ℕ) (launched now : List Launch) (end : PlanEnd) (standings : List Standing) (ram left : List Held)
     → StandActive layout manifest.components active standings → ram ≡ empty_ram layout → uris ≡ [] → after ≡ between
-    → PlaysPlan (invocation_tree manifest) (setting_of standings payloads uris files) end (contents_of standings ram before) (contents_of standings left between) launched now
+    → (plan : PlanTree) → plan ≡ invocation_tree manifest
+    → PlaysPlan plan (setting_of standings payloads uris files) end (contents_of standings ram before) (contents_of standings left between) launched now
     → PlaysOn layout manifest active payloads files before after launched now end
-plays_on layout manifest active payloads uris files before between after launched now end standings ram left stand none words same played = record {
+plays_on layout manifest active payloads uris files before between after launched now end standings ram left stand none words same plan is played = record {
   standings = standings;
   stand = stand;
   ram = left;
   plays =
       subst (λ (l : List ℕ). PlaysPlan (invocation_tree manifest) (setting_of standings payloads [] files) end (contents_of standings (empty_ram layout) before) (contents_of standings left l) launched now) (sym same)
       (subst (λ (r : List Held). PlaysPlan (invocation_tree manifest) (setting_of standings payloads [] files) end (contents_of standings r before) (contents_of standings left between) launched now) none
-      (subst (λ (u : List (List ℕ × List ℕ)). PlaysPlan (invocation_tree manifest) (setting_of standings payloads u files) end (contents_of standings ram before) (contents_of standings left between) launched now) words played));
+      (subst (λ (u : List (List ℕ × List ℕ)). PlaysPlan (invocation_tree manifest) (setting_of standings payloads u files) end (contents_of standings ram before) (contents_of standings left between) launched now) words
+      (subst (λ (t : PlanTree). PlaysPlan t (setting_of standings payloads uris files) end (contents_of standings ram before) (contents_of standings left between) launched now) is played)));
 }
 
 pub keeps_on : (layout : List Entry) (manifest : Manifest) (active : List ℕ) (standings : List Standing) (a b c : Flash) (size : ℕ) → IsFlash b size
-    → StandActive layout manifest.components active standings → Keeps (OutsideTargets (invocation_tree manifest) standings) a b → IsSame b c
+    → StandActive layout manifest.components active standings → (plan : PlanTree) → plan ≡ invocation_tree manifest → Keeps (OutsideTargets plan standings) a b → IsSame b c
     → KeepsOthers layout manifest active a c
-keeps_on layout manifest active standings a b c size law stand kept same = record {
+keeps_on layout manifest active standings a b c size law stand plan is kept same = record {
   standings = standings;
   stand = stand;
-  keeps = keeps_then (OutsideTargets (invocation_tree manifest) standings) a b c size law kept (keeps_same (OutsideTargets (invocation_tree manifest) standings) b c same);
+  keeps = keeps_then (OutsideTargets (invocation_tree manifest) standings) a b c size law (subst (λ (t : PlanTree). Keeps (OutsideTargets t standings) a b) is kept) (keeps_same (OutsideTargets (invocation_tree manifest) standings) b c same);
 }

@@ -42,10 +42,10 @@ use Rattle.invoke_proc.specs.Banks.{bank_in, record_in}
 use Rattle.invoke_proc.specs.BootLaws.{BootLaws}
 use Rattle.invoke_proc.specs.Booting.{Answers, GainsSafe, KeepsBoot, KeptSo, PlayedSo, PlaysBoot, Starts}
 use Rattle.invoke_proc.specs.Sound.{IsUnrefused}
-use Rattle.invoke_proc.specs.Typing.{HasIdentifiers}
+use Rattle.step_machine.specs.Typing.{HasIdentifiers}
 use Rattle.invoke_proc.proofs.Places.{head_stays, identities_there}
 
--- ---- what is installed
+-- ---- the installed envelope
 
 the_layout : (a b : List Entry) (k l : Key) → Configured a k ≡ Configured b l → (a ≡ b) × (k ≡ l)
 the_layout a b k l same = grind (arith, same)
@@ -98,7 +98,7 @@ module _ (configs : OneConfigAnswer) (records : OneAnswer) (laws : BootLaws) (la
       no_bad i same = grind (arith, same)
   unrefused _ sound is = tt
 
-  -- what is started is what was judged safe
+  -- a started manifest is one judged safe
   pub safe_start : (r : Record) (m : Manifest) → Sound VERSION_1 reads → Starts layout key reads r m → Safe (invocation_tree m)
   safe_start r m sound starts =
       let installed = installed_of r sound starts.recorded in

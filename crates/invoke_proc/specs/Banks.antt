@@ -1,4 +1,4 @@
--- What the flash reads of its record, and of the record's bank.
+-- The flash's record, and the record's bank, as they are read.
 use Rattle.std.specs.Prelude.{◌≡◌, ℕ, List, Option, Some, None, Result, Err}
 use Rattle.suit_edge.specs.Faults.{Faulted}
 use Rattle.flash_layout.specs.declared.frame.TheConstants.{VERSION_1}
@@ -18,7 +18,7 @@ record_in reads held = RecordOf VERSION_1 (head_of VERSION_1 reads) held
 abbrev pub bank_in : List ℕ → Record → List ℕ
 bank_in reads r = recorded_bank VERSION_1 (head_of VERSION_1 reads) r
 
--- no record is there; or one is, and there is no memory for its envelope
+-- no record is there; or one is, and memory runs out for its envelope
 abbrev pub IsNoBank : List ℕ → NoBank → Type 0
 IsNoBank reads banks.NothingInstalled = record_in reads None
 IsNoBank reads banks.FlashFault = Unit {0}

@@ -14,14 +14,21 @@ use Rattle.invoke_proc.specs.Starting.{IsDeclined, IsStarted}
 
 pub record BootLaws : Type 0 where
   -- bytes have one cause to start nothing, at most
-  pub one : (layout : List Entry) (key bytes : List ℕ) (a b : BootEnd) → AllByRecursion IsByte bytes → a ≢ ends.NoMemory → b ≢ ends.NoMemory
+  pub one : (layout : List Entry) (key bytes : List ℕ) (a b : BootEnd) → AllByRecursion IsByte bytes
+      → a ≢ ends.NoMemory → b ≢ ends.NoMemory
       → IsDeclined layout key bytes a → IsDeclined layout key bytes b → a ≡ b
   -- and none where they start a manifest
-  pub none : (layout : List Entry) (key bytes : List ℕ) (said : EnvelopeSays) (manifest : Manifest) (end : BootEnd) → AllByRecursion IsByte bytes
+  pub none : (layout : List Entry) (key bytes : List ℕ) (said : EnvelopeSays) (manifest : Manifest)
+      (end : BootEnd)
+      → AllByRecursion IsByte bytes
       → IsStarted layout key bytes said manifest → IsDeclined layout key bytes end → end ≡ ends.NoMemory
   -- which is one
-  pub same : (layout : List Entry) (key bytes : List ℕ) (said other : EnvelopeSays) (manifest next : Manifest) → AllByRecursion IsByte bytes
+  pub same : (layout : List Entry) (key bytes : List ℕ) (said other : EnvelopeSays)
+      (manifest next : Manifest)
+      → AllByRecursion IsByte bytes
       → IsStarted layout key bytes said manifest → IsStarted layout key bytes other next → (said ≡ other) × (manifest ≡ next)
-  -- what is installed is started
-  pub installed : (layout : List Entry) (key : Key) (bytes : List ℕ) (r : Record) (is : IsInstalled layout key bytes r)
+  -- an installed envelope is started
+  pub installed :
+      (layout : List Entry) (key : Key) (bytes : List ℕ) (r : Record)
+      (is : IsInstalled layout key bytes r)
       → (said : EnvelopeSays) × IsStarted layout (key_bytes key) bytes said is.said

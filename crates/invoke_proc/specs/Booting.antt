@@ -1,4 +1,4 @@
--- What a boot starts, by what the flash reads, and what it answers, launches and leaves.
+-- A boot, by what the flash reads: what it starts, answers, launches and leaves.
 use Rattle.std.specs.Prelude.{◌≡◌, ◌⊎◌, ℕ, List, [], ◌++◌, Option, Some, None, map}
 use Rattle.std.specs.List.{AllByRecursion}
 use Rattle.suit_edge.specs.Flash.{Flash, Keeps}
@@ -31,10 +31,11 @@ use Rattle.invoke_proc.specs.Banks.{bank_in, record_in}
 use Rattle.invoke_proc.specs.Choice.{AreActive}
 use Rattle.invoke_proc.specs.Starting.{IsDeclined, IsStarted}
 
--- ---- what is started
+-- ---- the start
 
 -- each component of a manifest stands for the slot of it that is active
-pub record StandActive (layout : List Entry) (ids : List (List (List ℕ))) (active : List ℕ) (standings : List Standing) : Type 0 where
+pub record StandActive (layout : List Entry) (ids : List (List (List ℕ))) (active : List ℕ)
+    (standings : List Standing) : Type 0 where
   pub places : Places
   pub placed : ArePlaces layout ids places
   pub slots : SlotChoice
@@ -42,39 +43,51 @@ pub record StandActive (layout : List Entry) (ids : List (List (List ℕ))) (act
   pub stand : StandAs layout places slots standings
 
 -- the flash has a record, whose bank starts a manifest
-pub record Starts (layout : List Entry) (key : Key) (reads : List ℕ) (r : Record) (manifest : Manifest) : Type 0 where
+pub record Starts (layout : List Entry) (key : Key) (reads : List ℕ) (r : Record)
+    (manifest : Manifest) : Type 0 where
   pub recorded : record_in reads (Some r)
   pub said : EnvelopeSays
   pub started : IsStarted layout (key_bytes key) (bank_in reads r) said manifest
 
--- ---- what is answered
+-- ---- answers
 
 -- before anything is started; or something is
 abbrev pub Answers : List Entry → Key → List ℕ → BootEnd → Type 0
 Answers layout key reads ends.NothingInstalled = record_in reads None
-Answers layout key reads (ends.BadBank refusal) = (r : Record) × record_in reads (Some r) × IsDeclined layout (key_bytes key) (bank_in reads r) (ends.BadBank refusal)
-Answers layout key reads (ends.NotAuthentic lacking) = (r : Record) × record_in reads (Some r) × IsDeclined layout (key_bytes key) (bank_in reads r) (ends.NotAuthentic lacking)
-Answers layout key reads (ends.UnknownComponent component) = (r : Record) × record_in reads (Some r) × IsDeclined layout (key_bytes key) (bank_in reads r) (ends.UnknownComponent component)
+Answers layout key reads (ends.BadBank refusal) =
+    (r : Record) × record_in reads (Some r)
+    × IsDeclined layout (key_bytes key) (bank_in reads r) (ends.BadBank refusal)
+Answers layout key reads (ends.NotAuthentic lacking) =
+    (r : Record) × record_in reads (Some r)
+    × IsDeclined layout (key_bytes key) (bank_in reads r) (ends.NotAuthentic lacking)
+Answers layout key reads (ends.UnknownComponent component) =
+    (r : Record) × record_in reads (Some r)
+    × IsDeclined layout (key_bytes key) (bank_in reads r) (ends.UnknownComponent component)
 Answers layout key reads ends.Ended = (r : Record) × (m : Manifest) × Starts layout key reads r m
-Answers layout key reads (ends.Condition place) = (r : Record) × (m : Manifest) × Starts layout key reads r m
-Answers layout key reads (ends.Stopped place cause) = (r : Record) × (m : Manifest) × Starts layout key reads r m
+Answers layout key reads (ends.Condition place) =
+    (r : Record) × (m : Manifest) × Starts layout key reads r m
+Answers layout key reads (ends.Stopped place cause) =
+    (r : Record) × (m : Manifest) × Starts layout key reads r m
 Answers layout key reads ends.FlashFault = Unit {0}
 Answers layout key reads ends.NoMemory = (r : Record) × record_in reads (Some r)
 
--- ---- what is played
+-- ---- the play
 
 -- The invocation procedure of the manifest is played on the active slots, with working memory empty, no names of files,
 -- and these payloads. It ends so, and leaves these contents and launches.
-pub record PlaysOn (layout : List Entry) (manifest : Manifest) (active : List ℕ) (payloads : List (List ℕ × List ℕ)) (files : List ℕ → Option (List ℕ))
+pub record PlaysOn (layout : List Entry) (manifest : Manifest) (active : List ℕ)
+    (payloads : List (List ℕ × List ℕ)) (files : List ℕ → Option (List ℕ))
     (before after : List ℕ) (launched now : List Launch) (end : PlanEnd) : Type 0 where
   pub standings : List Standing
   pub stand : StandActive layout manifest.components active standings
   pub ram : List Held
   pub plays : PlaysPlan (invocation_tree manifest) (setting_of standings payloads [] files) end
-      (contents_of standings (empty_ram layout) before) (contents_of standings ram after) launched now
+      (contents_of standings (empty_ram layout) before) (contents_of standings ram after) launched
+      now
 
 -- that of what the flash has, with the payloads of the bank's envelope
-pub record PlaysBoot (layout : List Entry) (key : Key) (files : List ℕ → Option (List ℕ)) (before after : List ℕ) (launched now : List Launch) (end : PlanEnd)
+pub record PlaysBoot (layout : List Entry) (key : Key) (files : List ℕ → Option (List ℕ))
+    (before after : List ℕ) (launched now : List Launch) (end : PlanEnd)
     : Type 0 where
   pub installed : Record
   pub manifest : Manifest
@@ -103,7 +116,7 @@ end_of plays.Done = ends.Ended
 end_of (plays.ConditionFailed place) = ends.Condition place
 end_of (plays.DirectiveFailed place cause) = ends.Stopped place cause
 
--- what was launched has its digest, and its size where one is in force
+-- each launch has its digest, and its size where one is in force
 pub record GainsSafe (launched now : List Launch) : Type 0 where
   pub gained : List Launch
   pub added : now ≡ launched ++ gained
@@ -112,7 +125,8 @@ pub record GainsSafe (launched now : List Launch) : Type 0 where
 -- ---- what is left
 
 -- nothing changed but slots that components stand for which the procedure may write
-pub record KeepsOthers (layout : List Entry) (manifest : Manifest) (active : List ℕ) (old new : Flash) : Type 0 where
+pub record KeepsOthers (layout : List Entry) (manifest : Manifest) (active : List ℕ)
+    (old new : Flash) : Type 0 where
   pub standings : List Standing
   pub stand : StandActive layout manifest.components active standings
   pub keeps : Keeps (OutsideTargets (invocation_tree manifest) standings) old new
@@ -139,7 +153,7 @@ IfUnfaulted _ P = P
 
 -- ---- inside
 
--- what comes once something is started
+-- an end after something was started
 abbrev pub IsStartEnd : BootEnd → Type 0
 IsStartEnd ends.NothingInstalled = ⊥
 IsStartEnd (ends.BadBank refusal) = ⊥
@@ -149,4 +163,5 @@ IsStartEnd _ = Unit {0}
 
 -- a procedure that ended so is answered so, or the flash failed behind it
 abbrev pub SettledSo : PlanEnd → BootEnd → ℕ → ℕ → Type 0
-SettledSo end answer before now = ((answer ≡ end_of end) × (now ≡ before)) ⊎ ((answer ≡ ends.FlashFault) × Faulted before now)
+SettledSo end answer before now =
+    ((answer ≡ end_of end) × (now ≡ before)) ⊎ ((answer ≡ ends.FlashFault) × Faulted before now)

@@ -9,5 +9,6 @@ slot_in_use e number = if (number == 1) && (e.slots == 2) then 1 else 0
 -- of each component of the layout the slot that is active, and 0 behind the last
 pub record AreActive (layout : List Entry) (active numbers : List ℕ) : Type 0 where
   pub size : length numbers ≡ 8
-  pub each : (i : ℕ) (d : Entry) → i < length layout → slice_index numbers i ≡ slot_in_use (slice_index_or layout i d) (slice_index active i)
+  pub each : (i : ℕ) (d : Entry) → i < length layout
+      → slice_index numbers i ≡ slot_in_use (slice_index_or layout i d) (slice_index active i)
   pub rest : (i : ℕ) → length layout ≤ i → slice_index numbers i ≡ 0

@@ -4,5 +4,4 @@ pub mod Starting
 pub mod Banks
 pub mod BootLaws
 pub mod Booting
-pub mod Typing
 pub mod Sound

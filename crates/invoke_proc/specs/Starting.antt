@@ -1,4 +1,4 @@
--- What the bank of a record says is started, and why it is not (draft-ietf-suit-manifest-25, sections 8.2 to 8.4).
+-- The manifest that a record's bank starts, or why none (draft-ietf-suit-manifest-25, sections 8.2 to 8.4).
 use Rattle.std.specs.Prelude.{◌≡◌, ℕ, List, Option, Some, None}
 use Rattle.suit_params.specs.declared.refusal.Refusal.{Refusal}
 use Rattle.suit_params.specs.Refusing.{SaysWhole, RefusesWhole}
@@ -28,7 +28,8 @@ pub record Says (bytes : List ℕ) (said : EnvelopeSays) (manifest : Manifest) :
 -- they spell no envelope, or one whose manifest is none
 pub data IsBad (bytes : List ℕ) (r : Refusal) : Type 0 where
   NoEnvelope : RefusesBytes bytes r → IsBad bytes r
-  NoManifest : (said : EnvelopeSays) → EnvelopeOf bytes said → RefusesWhole RefusesManifest said.manifest_place said.manifest r → IsBad bytes r
+  NoManifest : (said : EnvelopeSays) → EnvelopeOf bytes said
+      → RefusesWhole RefusesManifest said.manifest_place said.manifest r → IsBad bytes r
 
 -- ---- authenticity
 
@@ -42,13 +43,15 @@ lacking_in (answers.MacDiffers expected found) = Some lacks.MacDiffers
 -- an envelope is not authentic under the key, for want of this
 pub record Lacks (said : EnvelopeSays) (key : List ℕ) (lacking : Lacking) : Type 0 where
   pub answer : Authenticity
-  pub answers : (digest : List ℕ) (blocks : List (List ℕ)) → WrapperSays said.wrapper digest blocks → AnswersAuthentic digest blocks said.manifest key answer
+  pub answers : (digest : List ℕ) (blocks : List (List ℕ)) → WrapperSays said.wrapper digest blocks
+      → AnswersAuthentic digest blocks said.manifest key answer
   pub tells : lacking_in answer ≡ Some lacking
 
--- ---- what is started
+-- ---- the start
 
 -- an authentic manifest, whose components the layout has
-pub record IsStarted (layout : List Entry) (key bytes : List ℕ) (said : EnvelopeSays) (manifest : Manifest) : Type 0 where
+pub record IsStarted (layout : List Entry) (key bytes : List ℕ) (said : EnvelopeSays)
+    (manifest : Manifest) : Type 0 where
   pub says : Says bytes said manifest
   pub authentic : IsAuthentic said.wrapper said.manifest key
   pub known : HasEach layout manifest.components
@@ -74,9 +77,9 @@ IsDeclined layout key bytes (ends.UnknownComponent component) = IsUnknown layout
 IsDeclined layout key bytes ends.NoMemory = Unit {0}
 IsDeclined layout key bytes _ = ⊥
 
--- ---- what single stages say
+-- ---- single stages
 
--- a manifest that is none, unless there was no memory
+-- a manifest that is none, unless memory ran out
 abbrev pub IsManifestFault : ℕ → List ℕ → BootEnd → Type 0
 IsManifestFault place bytes (ends.BadBank r) = RefusesWhole RefusesManifest place bytes r
 IsManifestFault place bytes ends.NoMemory = Unit {0}

@@ -1,4 +1,4 @@
-//! What is installed: the record, and the envelope in its bank.
+//! The installed record, and the envelope in its bank.
 
 ghost use Rattle.invoke_proc.specs.Banks.{BankCounts, IsNoBank, bank_in, record_in};
 ghost use Rattle.std.specs.Prelude.{◌≡◌, ◌≤◌, ◌<◌, IfErr, IfOk, IsTrue, Some, length};
@@ -34,7 +34,8 @@ fn read_into<D: Disk>(disk: &mut D, installed: &Record, room: &mut [u8]) -> Edge
     requires room { length room.old ≡ installed.now.length }
     ensures size { D.extent disk.new ≡ D.extent disk.old }
     ensures counts { EdgeCounts result (D.faults disk.old) (D.faults disk.new) }
-    ensures bytes { IsTrue D.told → IfDone result (room.new ≡ bank_in (D.flash disk.old).reads installed.now) }
+    ensures bytes { IsTrue D.told
+        → IfDone result (room.new ≡ bank_in (D.flash disk.old).reads installed.now) }
     ensures same { IsTrue D.told → IsSame (D.flash disk.old) (D.flash disk.new) }
     ensures grows { IsTrue D.told → Grows (D.flash disk.old) (D.flash disk.new) }
 {
@@ -48,7 +49,8 @@ fn read_over<D: Disk>(disk: &mut D, installed: &Record, bytes: &mut Vec<u8>) -> 
     requires room { length bytes.old.items ≡ installed.now.length }
     ensures size { D.extent disk.new ≡ D.extent disk.old }
     ensures counts { EdgeCounts result (D.faults disk.old) (D.faults disk.new) }
-    ensures bytes { IsTrue D.told → IfDone result (bytes.new.items ≡ bank_in (D.flash disk.old).reads installed.now) }
+    ensures bytes { IsTrue D.told
+        → IfDone result (bytes.new.items ≡ bank_in (D.flash disk.old).reads installed.now) }
     ensures same { IsTrue D.told → IsSame (D.flash disk.old) (D.flash disk.new) }
     ensures grows { IsTrue D.told → Grows (D.flash disk.old) (D.flash disk.new) }
 {
@@ -63,7 +65,8 @@ fn read_bank<D: Disk>(alloc: Global, disk: &mut D, installed: &Record) -> Result
     requires recorded { IsTrue D.told → record_in (D.flash disk.old).reads (Some installed.now) }
     ensures size { D.extent disk.new ≡ D.extent disk.old }
     ensures counts { BankCounts result (D.faults disk.old) (D.faults disk.new) }
-    ensures bytes { IsTrue D.told → IfOk result (λ bytes. bytes.items ≡ bank_in (D.flash disk.old).reads installed.now) }
+    ensures bytes { IsTrue D.told
+        → IfOk result (λ bytes. bytes.items ≡ bank_in (D.flash disk.old).reads installed.now) }
     ensures none { IsTrue D.told → IfErr result (IsNoBank (D.flash disk.old).reads) }
     ensures same { IsTrue D.told → IsSame (D.flash disk.old) (D.flash disk.new) }
     ensures grows { IsTrue D.told → Grows (D.flash disk.old) (D.flash disk.new) }
@@ -78,13 +81,15 @@ fn read_bank<D: Disk>(alloc: Global, disk: &mut D, installed: &Record) -> Result
     }
 }
 
-/// What is installed. Changes nothing, whatever it answers.
+/// Reads the record and its bank's envelope. Changes nothing, whatever it answers.
 pub(crate) fn find_bank<D: Disk>(alloc: Global, disk: &mut D) -> Result<Bank, NoBank>
     requires { VERSION_1.size ≤ D.extent disk.old }
     ensures size { D.extent disk.new ≡ D.extent disk.old }
     ensures counts { BankCounts result (D.faults disk.old) (D.faults disk.new) }
-    ensures recorded { IsTrue D.told → IfOk result (λ b. record_in (D.flash disk.old).reads (Some b.installed)) }
-    ensures bytes { IsTrue D.told → IfOk result (λ b. b.bytes.items ≡ bank_in (D.flash disk.old).reads b.installed) }
+    ensures recorded { IsTrue D.told
+        → IfOk result (λ b. record_in (D.flash disk.old).reads (Some b.installed)) }
+    ensures bytes { IsTrue D.told
+        → IfOk result (λ b. b.bytes.items ≡ bank_in (D.flash disk.old).reads b.installed) }
     ensures none { IsTrue D.told → IfErr result (IsNoBank (D.flash disk.old).reads) }
     ensures same { IsTrue D.told → IsSame (D.flash disk.old) (D.flash disk.new) }
     ensures grows { IsTrue D.told → Grows (D.flash disk.old) (D.flash disk.new) }

@@ -3,7 +3,7 @@
 use path_model::Cause;
 use suit_params::Refusal;
 
-/// What an envelope that is not authentic lacks.
+/// Why an envelope is not authentic.
 #[derive(Clone, Copy, Debug, PartialEq, Eq)]
 pub enum Lacking {
     /// The digest that the wrapper states is not that of the manifest.
@@ -33,6 +33,6 @@ pub enum BootEnd {
     Stopped { place: u64, cause: Cause },
     /// A call of the flash failed before the procedure, and its count of faults rose.
     FlashFault,
-    /// Memory was wanting. Nothing was launched or written.
+    /// Memory ran out. Nothing was launched or written.
     NoMemory,
 }

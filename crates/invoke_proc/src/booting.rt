@@ -1,4 +1,4 @@
-//! The boot.
+//! Booting.
 
 ghost use Rattle.flash_layout.specs.declared.frame.TheConstants.{VERSION_1};
 ghost use Rattle.flash_layout.specs.Configs.{ConfigOf, Configured, IsAllowed};
@@ -17,11 +17,11 @@ use crate::bank::{NoBank, find_bank};
 use crate::judging::judge;
 use crate::law::boot_laws;
 use crate::running::start;
-use crate::typing::typed;
 use flash_layout::{Key, Layout, config_laws};
 use path_model::play_laws;
 use rollback_record::{record_laws, sound_laws};
 use std::alloc::Global;
+use step_machine::has_identifiers;
 use suit_edge::{Disk, Host, Launcher};
 use suit_manifest::{manifest_laws, procedure_laws};
 
@@ -47,14 +47,19 @@ fn start_installed<H: Host, D: Disk, L: Launcher>(
 ) -> BootEnd
     requires { IsAllowed VERSION_1 (D.extent disk.old) layout.now key.now }
     ensures size { D.extent disk.new ≡ D.extent disk.old }
-    ensures counts { BootCounts result (counts_of (H.faults host.old) (D.faults disk.old) (L.faults launcher.old))
+    ensures counts { BootCounts result
+        (counts_of (H.faults host.old) (D.faults disk.old) (L.faults launcher.old))
         (counts_of (H.faults host.new) (D.faults disk.new) (L.faults launcher.new)) }
     ensures files { IsTrue H.told → H.file host.new ≡ H.file host.old }
+    ensures unasked { host.new ≡ host.old }
     ensures answers { IsTrue D.told → Answers layout.now key.now (D.flash disk.old).reads result }
     ensures plays { IsTrue H.told → IsTrue D.told → IsTrue L.told
-        → PlayedSo (PlaysBoot layout.now key.now (H.file host.old) (D.flash disk.old).reads (D.flash disk.new).reads
-        (L.launches launcher.old) (L.launches launcher.new)) (L.launches launcher.old) (L.launches launcher.new) result }
-    ensures keeps { IsTrue D.told → KeptSo (KeepsBoot layout.now key.now (D.flash disk.old) (D.flash disk.new))
+        → PlayedSo (PlaysBoot layout.now key.now (H.file host.old) (D.flash disk.old).reads
+        (D.flash disk.new).reads
+        (L.launches launcher.old) (L.launches launcher.new)) (L.launches launcher.old)
+        (L.launches launcher.new) result }
+    ensures keeps { IsTrue D.told
+        → KeptSo (KeepsBoot layout.now key.now (D.flash disk.old) (D.flash disk.new))
         (IsSame (D.flash disk.old) (D.flash disk.new)) result }
     ensures settled { IsTrue D.told → IfUnfaulted result
         (IsSame (D.flash disk.old) (D.flash disk.new) ⊎ IsSettled (D.flash disk.new)) }
@@ -86,7 +91,7 @@ fn start_installed<H: Host, D: Disk, L: Launcher>(
 ///
 /// The bank is judged first: the envelope and its manifest, whether the envelope is authentic under the key, and whether
 /// the layout has the manifest's components. All memory is taken before anything is launched or written. The layout and
-/// the key are those of the flash. Names of files are answered by none.
+/// the key are those of the flash. Names of files are answered by none, so the host is not called.
 pub fn boot<H: Host, D: Disk, L: Launcher>(
     alloc: Global,
     host: &mut H,
@@ -96,30 +101,40 @@ pub fn boot<H: Host, D: Disk, L: Launcher>(
     key: &Key,
 ) -> BootEnd
     requires allowed { IsAllowed VERSION_1 (D.extent disk.old) layout.now key.now }
-    requires held { IsTrue D.told → ConfigOf VERSION_1 (D.extent disk.old) (head_of VERSION_1 (D.flash disk.old).reads) (Configured layout.now key.now) }
+    requires held { IsTrue D.told
+        → ConfigOf VERSION_1 (D.extent disk.old) (head_of VERSION_1 (D.flash disk.old).reads)
+        (Configured layout.now key.now) }
     ensures size { D.extent disk.new ≡ D.extent disk.old }
-    ensures counts { BootCounts result (counts_of (H.faults host.old) (D.faults disk.old) (L.faults launcher.old))
+    ensures counts { BootCounts result
+        (counts_of (H.faults host.old) (D.faults disk.old) (L.faults launcher.old))
         (counts_of (H.faults host.new) (D.faults disk.new) (L.faults launcher.new)) }
     ensures files { IsTrue H.told → H.file host.new ≡ H.file host.old }
+    ensures unasked { host.new ≡ host.old }
     ensures answers { IsTrue D.told → Answers layout.now key.now (D.flash disk.old).reads result }
-    ensures unrefused { IsTrue D.told → Sound VERSION_1 (D.flash disk.old).reads → IsUnrefused result }
+    ensures unrefused { IsTrue D.told → Sound VERSION_1 (D.flash disk.old).reads
+        → IsUnrefused result }
     ensures plays { IsTrue H.told → IsTrue D.told → IsTrue L.told
-        → PlayedSo (PlaysBoot layout.now key.now (H.file host.old) (D.flash disk.old).reads (D.flash disk.new).reads
-        (L.launches launcher.old) (L.launches launcher.new)) (L.launches launcher.old) (L.launches launcher.new) result }
+        → PlayedSo (PlaysBoot layout.now key.now (H.file host.old) (D.flash disk.old).reads
+        (D.flash disk.new).reads
+        (L.launches launcher.old) (L.launches launcher.new)) (L.launches launcher.old)
+        (L.launches launcher.new) result }
     ensures host { IsTrue H.told → IsTrue D.told → IsTrue L.told → NeverHost result }
-    ensures safe { IsTrue H.told → IsTrue D.told → IsTrue L.told → Sound VERSION_1 (D.flash disk.old).reads
+    ensures safe { IsTrue H.told → IsTrue D.told → IsTrue L.told
+        → Sound VERSION_1 (D.flash disk.old).reads
         → GainsSafe (L.launches launcher.old) (L.launches launcher.new) }
-    ensures keeps { IsTrue D.told → KeptSo (KeepsBoot layout.now key.now (D.flash disk.old) (D.flash disk.new))
+    ensures keeps { IsTrue D.told
+        → KeptSo (KeepsBoot layout.now key.now (D.flash disk.old) (D.flash disk.new))
         (IsSame (D.flash disk.old) (D.flash disk.new)) result }
     ensures sound { IsTrue D.told → Settled VERSION_1 (D.flash disk.old)
         → Passes (D.flash disk.old) (D.flash disk.new) (Sound VERSION_1) }
     ensures follows { IsTrue D.told → Settled VERSION_1 (D.flash disk.old)
-        → Passes (D.flash disk.old) (D.flash disk.new) (Follows VERSION_1 (D.flash disk.old).reads) }
+        → Passes (D.flash disk.old) (D.flash disk.new)
+        (Follows VERSION_1 (D.flash disk.old).reads) }
     ensures settled { IsTrue D.told → Settled VERSION_1 (D.flash disk.old)
         → IfUnfaulted result (Settled VERSION_1 (D.flash disk.new)) }
     ensures grows { IsTrue D.told → Grows (D.flash disk.old) (D.flash disk.new) }
 {
-    typed(layout);
+    has_identifiers(layout);
     config_laws();
     record_laws();
     sound_laws();

@@ -14,7 +14,7 @@ use flash_layout::{Layout, Record};
 use std::alloc::{AllocError, Global};
 use step_machine::{SlotChoice, Uris, World};
 
-/// What the invocation procedure runs on: each component of the manifest in its active slot, and working memory empty.
+/// The invocation procedure's world: each component of the manifest in its active slot, and working memory empty.
 pub(crate) fn world_in<'a>(
     alloc: Global,
     layout: &Layout,
@@ -25,12 +25,17 @@ pub(crate) fn world_in<'a>(
     requires layout { (size : ℕ) × IsLayout VERSION_1 size layout.now }
     requires placed { ArePlaces layout.now startable.now.manifest.components startable.now.places }
     requires distinct { AreDistinct layout.now startable.now.places }
-    ensures stand { IfOk result (λ w. StandActive layout.now startable.now.manifest.components installed.now.active w.standings.items) }
-    ensures count { IfOk result (λ w. length w.standings.items ≡ length startable.now.manifest.components) }
+    ensures stand { IfOk result
+        (λ w. StandActive layout.now startable.now.manifest.components installed.now.active
+        w.standings.items) }
+    ensures count { IfOk result
+        (λ w. length w.standings.items ≡ length startable.now.manifest.components) }
     ensures ram { IfOk result (λ w. w.ram ≡ empty_ram layout.now) }
     ensures uris { IfOk result (λ w. w.uris.now ≡ uris.now) }
     ensures envelope { IfOk result (λ w. w.envelope.now ≡ startable.now.envelope) }
-    ensures fit { IfOk result (λ w. (size : ℕ) → IsLayout VERSION_1 size layout.now → AreStandings size w.ram w.standings.items) }
+    ensures fit { IfOk result
+        (λ w. (size : ℕ) → IsLayout VERSION_1 size layout.now
+        → AreStandings size w.ram w.standings.items) }
 {
     let slots = SlotChoice {
         number: active_slots(layout, &installed.active),

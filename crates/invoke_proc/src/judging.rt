@@ -18,7 +18,7 @@ use suit_envelope::{Authenticity, Envelope, authentic, decode_envelope};
 use suit_manifest::{Manifest, decode_manifest};
 use suit_params::Fault;
 
-/// What is started: the envelope of the bank, its manifest, and where the manifest's components stand in the layout.
+/// A bank to start: its envelope, its manifest, and where the manifest's components stand in the layout.
 #[derive(Drop)]
 pub(crate) struct Startable<'a> {
     pub(crate) envelope: Envelope<'a>,
@@ -46,11 +46,12 @@ fn lacking_in(answer: &Authenticity<'_>) -> Option<Lacking>
     }
 }
 
-// Whether the envelope is authentic under the key, or what it lacks.
+// Why the envelope is not authentic under the key; none if it is.
 fn lacking(envelope: &Envelope<'_>, key: &Key) -> Option<Lacking>
     requires key { IsKey key.now }
     requires wrapper { HasWrapper envelope.now.wrapper.now }
-    ensures { MatchOption result (IsAuthentic envelope.now.wrapper.now envelope.now.manifest.now (key_bytes key.now))
+    ensures { MatchOption result
+        (IsAuthentic envelope.now.wrapper.now envelope.now.manifest.now (key_bytes key.now))
         (Lacks (said_by envelope.now) (key_bytes key.now)) }
 {
     let answer = authentic(envelope, key_bytes(key));
@@ -60,9 +61,11 @@ fn lacking(envelope: &Envelope<'_>, key: &Key) -> Option<Lacking>
 // The envelope's manifest.
 fn manifest_in(alloc: Global, envelope: &Envelope<'_>) -> Result<Manifest, BootEnd>
     requires { envelope.now.manifest_place + length envelope.now.manifest.now < 2 ^ 64 }
-    ensures holds { IfOk result (λ m. SaysWhole IsManifest envelope.now.manifest_place envelope.now.manifest.now m) }
+    ensures holds { IfOk result
+        (λ m. SaysWhole IsManifest envelope.now.manifest_place envelope.now.manifest.now m) }
     ensures few { IfOk result (λ m. length m.components ≤ 8) }
-    ensures refused { IfErr result (IsManifestFault envelope.now.manifest_place envelope.now.manifest.now) }
+    ensures refused { IfErr result
+        (IsManifestFault envelope.now.manifest_place envelope.now.manifest.now) }
 {
     match decode_manifest(alloc, envelope.manifest, envelope.manifest_place) {
         Ok(manifest) => Ok(manifest),
@@ -82,10 +85,12 @@ fn places_in(
     requires key { IsKey key.now }
     requires wrapper { HasWrapper envelope.now.wrapper.now }
     requires few { length manifest.now.components ≤ 8 }
-    ensures authentic { IsOk result → IsAuthentic envelope.now.wrapper.now envelope.now.manifest.now (key_bytes key.now) }
+    ensures authentic { IsOk result
+        → IsAuthentic envelope.now.wrapper.now envelope.now.manifest.now (key_bytes key.now) }
     ensures placed { IfOk result (ArePlaces layout.now manifest.now.components) }
     ensures other { IfOk result (HaveOtherPlaces manifest.now.components) }
-    ensures declined { IfErr result (IsDeclinedAs layout.now (key_bytes key.now) (said_by envelope.now) manifest.now) }
+    ensures declined { IfErr result
+        (IsDeclinedAs layout.now (key_bytes key.now) (said_by envelope.now) manifest.now) }
 {
     match lacking(envelope, key) {
         Some(lacking) => return Err(BootEnd::NotAuthentic(lacking)),
@@ -97,7 +102,7 @@ fn places_in(
     }
 }
 
-/// What the bytes of a bank start, or why they start nothing.
+/// Judges a bank's bytes: which manifest they start, or why none.
 pub(crate) fn judge<'a>(
     alloc: Global,
     layout: &Layout,
@@ -106,7 +111,8 @@ pub(crate) fn judge<'a>(
 ) -> Result<Startable<'a>, BootEnd>
     requires entries { length layout.now ≤ 8 }
     requires key { IsKey key.now }
-    ensures started { IfOk result (λ s. IsStarted layout.now (key_bytes key.now) bytes.now (said_by s.envelope) s.manifest) }
+    ensures started { IfOk result
+        (λ s. IsStarted layout.now (key_bytes key.now) bytes.now (said_by s.envelope) s.manifest) }
     ensures whole { IfOk result (λ s. s.envelope.whole.now ≡ bytes.now) }
     ensures placed { IfOk result (λ s. ArePlaces layout.now s.manifest.components s.places) }
     ensures other { IfOk result (λ s. HaveOtherPlaces s.manifest.components s.places) }

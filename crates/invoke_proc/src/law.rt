@@ -1,11 +1,11 @@
-//! Laws of what the bank of a record says. The call here does nothing: its contract is the law.
+//! Laws of a record's bank. The call here does nothing: its contract is the law.
 
 ghost use Rattle.invoke_proc.specs.BootLaws.{BootLaws};
 
 use suit_envelope::{authenticity_laws, envelope_laws};
 use suit_manifest::manifest_laws;
 
-/// The bytes of a bank start one manifest, or nothing for one cause; what is installed is started.
+/// The bytes of a bank start one manifest, or nothing for one cause; an installed bank is started.
 pub fn boot_laws()
     ensures { BootLaws }
 {

@@ -1,4 +1,4 @@
-//! The invocation procedure of what is installed.
+//! The invocation procedure of the installed manifest.
 #![tactic(auto)]
 
 mod bank;
@@ -9,7 +9,6 @@ mod components;
 mod judging;
 mod law;
 mod running;
-mod typing;
 
 pub use boot_end::{BootEnd, Lacking};
 pub use booting::boot;

@@ -1,17 +1,15 @@
-//! The invocation procedure is run.
+//! Running the invocation procedure.
 
 ghost use Rattle.flash_layout.specs.declared.frame.TheConstants.{VERSION_1};
 ghost use Rattle.flash_layout.specs.Layouts.{IsLayout};
 ghost use Rattle.flash_layout.specs.Placement.{ArePlaces};
-ghost use Rattle.flash_slots.specs.RamContents.{empty_ram};
 ghost use Rattle.invoke_proc.specs.Booting.{IfUnfaulted, IsStartEnd, KeepsOthers, KeptSo, PlayedSo, PlaysOn, SettledSo, end_of};
 ghost use Rattle.invoke_proc.specs.Counting.{BootCounts};
-ghost use Rattle.std.specs.Prelude.{◌≡◌, ◌≤◌, ◌⊎◌, ℕ, [], IsTrue, List, length};
-ghost use Rattle.step_machine.specs.Devices.{contents_of};
-ghost use Rattle.step_machine.specs.PlanRuns.{EndCounts, OutsideTargets, PlaysPlan, counts_of, setting_of};
-ghost use Rattle.step_machine.specs.Worlds.{AreDistinct, AreStandings};
+ghost use Rattle.std.specs.Prelude.{◌≡◌, ◌≤◌, ◌⊎◌, ℕ, IsTrue, List, length};
+ghost use Rattle.step_machine.specs.PlanRuns.{counts_of};
+ghost use Rattle.step_machine.specs.Worlds.{AreDistinct};
 ghost use Rattle.suit_commands.specs.Allowed.{IsPlan};
-ghost use Rattle.suit_edge.specs.Flash.{Grows, IsSame, IsSettled, Keeps};
+ghost use Rattle.suit_edge.specs.Flash.{Grows, IsSame, IsSettled};
 ghost use Rattle.suit_envelope.specs.Payloads.{HasPayloads};
 ghost use Rattle.suit_manifest.specs.Procedures.{invocation_tree};
 
@@ -21,40 +19,9 @@ use crate::judging::Startable;
 use flash_layout::{Layout, Record};
 use path_model::Cause;
 use std::alloc::{AllocError, Global};
-use step_machine::{PlanEnd, Uris, World, run_plan};
+use step_machine::{PlanEnd, Uris, run_plan};
 use suit_edge::{Disk, Edge, Host, Launcher};
-use suit_manifest::{Manifest, invocation_plan};
-
-// Runs the invocation procedure of a manifest.
-fn play<H: Host, D: Disk, L: Launcher>(
-    host: &mut H,
-    disk: &mut D,
-    launcher: &mut L,
-    world: &mut World<'_>,
-    manifest: &Manifest,
-) -> PlanEnd
-    requires standings { AreStandings (D.extent disk.old) world.old.ram world.old.standings.items }
-    requires plan { IsPlan (invocation_tree manifest.now) }
-    requires few { length manifest.now.components ≤ 8 }
-    requires count { length world.old.standings.items ≡ length manifest.now.components }
-    ensures size { D.extent disk.new ≡ D.extent disk.old }
-    ensures counts { EndCounts result (counts_of (H.faults host.old) (D.faults disk.old) (L.faults launcher.old))
-        (counts_of (H.faults host.new) (D.faults disk.new) (L.faults launcher.new)) }
-    ensures files { IsTrue H.told → H.file host.new ≡ H.file host.old }
-    ensures plays { IsTrue H.told → IsTrue D.told → IsTrue L.told
-        → (payloads : List (List ℕ × List ℕ)) → HasPayloads world.old.envelope.now.whole.now payloads
-        → PlaysPlan (invocation_tree manifest.now)
-        (setting_of world.old.standings.items payloads world.old.uris.now (H.file host.old)) result
-        (contents_of world.old.standings.items world.old.ram (D.flash disk.old).reads)
-        (contents_of world.old.standings.items world.new.ram (D.flash disk.new).reads)
-        (L.launches launcher.old) (L.launches launcher.new) }
-    ensures keeps { IsTrue D.told → Keeps (OutsideTargets (invocation_tree manifest.now) world.old.standings.items)
-        (D.flash disk.old) (D.flash disk.new) }
-    ensures grows { IsTrue D.told → Grows (D.flash disk.old) (D.flash disk.new) }
-{
-    let plan = invocation_plan(manifest);
-    run_plan(host, disk, launcher, world, &plan)
-}
+use suit_manifest::invocation_plan;
 
 // The answer of a procedure that ended so.
 fn end_of(end: PlanEnd) -> BootEnd
@@ -67,7 +34,7 @@ fn end_of(end: PlanEnd) -> BootEnd
     }
 }
 
-// Makes sure of what a procedure wrote, unless a fault of the flash ended it.
+// Syncs what a procedure wrote, unless a fault of the flash ended it.
 fn settle<D: Disk>(disk: &mut D, end: PlanEnd) -> BootEnd
     ensures size { D.extent disk.new ≡ D.extent disk.old }
     ensures answer { SettledSo end result (D.faults disk.old) (D.faults disk.new) }
@@ -106,16 +73,22 @@ pub(crate) fn start<H: Host, D: Disk, L: Launcher>(
     requires plan { IsPlan (invocation_tree startable.now.manifest) }
     ensures size { D.extent disk.new ≡ D.extent disk.old }
     ensures starts { IsStartEnd result }
-    ensures counts { BootCounts result (counts_of (H.faults host.old) (D.faults disk.old) (L.faults launcher.old))
+    ensures counts { BootCounts result
+        (counts_of (H.faults host.old) (D.faults disk.old) (L.faults launcher.old))
         (counts_of (H.faults host.new) (D.faults disk.new) (L.faults launcher.new)) }
     ensures files { IsTrue H.told → H.file host.new ≡ H.file host.old }
+    ensures unasked { host.new ≡ host.old }
     ensures plays { IsTrue H.told → IsTrue D.told → IsTrue L.told
-        → (payloads : List (List ℕ × List ℕ)) → HasPayloads startable.now.envelope.whole.now payloads
-        → PlayedSo (PlaysOn layout.now startable.now.manifest installed.now.active payloads (H.file host.old)
-        (D.flash disk.old).reads (D.flash disk.new).reads (L.launches launcher.old) (L.launches launcher.new))
+        → (payloads : List (List ℕ × List ℕ))
+        → HasPayloads startable.now.envelope.whole.now payloads
+        → PlayedSo
+        (PlaysOn layout.now startable.now.manifest installed.now.active payloads (H.file host.old)
+        (D.flash disk.old).reads (D.flash disk.new).reads (L.launches launcher.old)
+        (L.launches launcher.new))
         (L.launches launcher.old) (L.launches launcher.new) result }
     ensures keeps { IsTrue D.told → KeptSo
-        (KeepsOthers layout.now startable.now.manifest installed.now.active (D.flash disk.old) (D.flash disk.new))
+        (KeepsOthers layout.now startable.now.manifest installed.now.active (D.flash disk.old)
+        (D.flash disk.new))
         (IsSame (D.flash disk.old) (D.flash disk.new)) result }
     ensures settled { IsTrue D.told → IfUnfaulted result
         (IsSame (D.flash disk.old) (D.flash disk.new) ⊎ IsSettled (D.flash disk.new)) }
@@ -126,6 +99,7 @@ pub(crate) fn start<H: Host, D: Disk, L: Launcher>(
         Ok(world) => world,
         Err(AllocError) => return BootEnd::NoMemory,
     };
-    let end = play(host, disk, launcher, &mut world, &startable.manifest);
+    let plan = invocation_plan(&startable.manifest);
+    let end = run_plan(host, disk, launcher, &mut world, &plan);
     settle(disk, end)
 }

@@ -1,4 +1,4 @@
--- What a part may do, its parts may do.
+-- A part's permissions extend to its own parts.
 use Rattle.std.proofs.Common.{◌≡◌, ℕ, ◌+◌, ◌<◌, ◌≤◌, List, [], ◌∷◌, Option, Some, length, get_or, drop, map, refl, sym, ap, ◌∙◌, subst, arith, inl, inr, suc, zero, add-one}
 use Rattle.std.proofs.Math.Seq.{drop-cons}
 use Rattle.std.specs.List.{AllByRecursion, range_with_len}

@@ -15,7 +15,7 @@ use Rattle.step_machine.specs.declared.machine.Machine.{Machine}
 use Rattle.step_machine.specs.Comes.{Comes}
 use Rattle.step_machine.specs.Invoking.{launched_as}
 use Rattle.step_machine.specs.PlanRuns.{Counts, OutsideTargets}
-use Rattle.step_machine.specs.Running.{Moment, Stays, StopCounts, Fits, Part, Runs, AreSources, counts_at, device_at}
+use Rattle.step_machine.specs.Running.{Moment, Stays, StopCounts, Fits, Part, RunsPart, AreSources, counts_at, device_at}
 use Rattle.step_machine.specs.Parts.{nothing_part, then_part}
 use Rattle.step_machine.proofs.Composing.{then_comes, first_stops}
 
@@ -64,10 +64,10 @@ fits_then machine a b setting stays fits = record {
   files = fits.files ∙ sym (stays.files fits.host);
 }
 
--- ---- what runs as another part does
+-- ---- parts that run as another does
 
-pub runs_as : (machine : Machine) (p q : Part) (s z : State) (m n : Moment) (r x : Result (Unit {0}) Stop) (t y : State) → Runs machine p s m r t n → StopCounts x (counts_at m) (counts_at n) → AreSources machine y.parameters
-    → ((setting : Setting) (w v : Device) → Comes (p setting) s w r t v → Comes (q setting) z w x y v) → Runs machine q z m x y n
+pub runs_as : (machine : Machine) (p q : Part) (s z : State) (m n : Moment) (r x : Result (Unit {0}) Stop) (t y : State) → RunsPart machine p s m r t n → StopCounts x (counts_at m) (counts_at n) → AreSources machine y.parameters
+    → ((setting : Setting) (w v : Device) → Comes (p setting) s w r t v → Comes (q setting) z w x y v) → RunsPart machine q z m x y n
 runs_as machine p q s z m n r x t y one counts sources comes = record {
   stays = one.stays;
   counts = counts;
@@ -78,7 +78,7 @@ runs_as machine p q s z m n r x t y one counts sources comes = record {
 -- no launch is made
 pub runs_quietly : (machine : Machine) (part : Part) (s : State) (m n : Moment) (r : Result (Unit {0}) Stop) (t : State) → Stays machine m n → StopCounts r (counts_at m) (counts_at n) → AreSources machine t.parameters
     → n.launcher.launches ≡ m.launcher.launches
-    → ((setting : Setting) → Fits machine m setting → (prior : List Launched) → Comes (part setting) s (device_at machine m prior) r t (device_at machine n prior)) → Runs machine part s m r t n
+    → ((setting : Setting) → Fits machine m setting → (prior : List Launched) → Comes (part setting) s (device_at machine m prior) r t (device_at machine n prior)) → RunsPart machine part s m r t n
 runs_quietly machine part s m n r t stays counts sources launches comes = record {
   stays = stays;
   counts = counts;
@@ -92,13 +92,13 @@ runs_quietly machine part s m n r t stays counts sources launches comes = record
 
 -- nothing outside changes
 pub runs_at_once : (machine : Machine) (part : Part) (s : State) (m : Moment) (r : Result (Unit {0}) Stop) (t : State) → StopCounts r (counts_at m) (counts_at m) → AreSources machine t.parameters
-    → ((setting : Setting) (w : Device) → Comes (part setting) s w r t w) → Runs machine part s m r t m
+    → ((setting : Setting) (w : Device) → Comes (part setting) s w r t w) → RunsPart machine part s m r t m
 runs_at_once machine part s m r t counts sources comes =
     runs_quietly machine part s m m r t (stays_start machine m) counts sources refl (λ setting fits prior. comes setting (device_at machine m prior))
 
--- ---- what came to pass before the rest
+-- ---- events before the rest
 
--- what the rest comes to, the whole comes to
+-- the whole ends as the rest does
 pub record Led (machine : Machine) (whole rest : Play Device) (s0 : State) (m0 : Moment) (s : State) (m : Moment) (prior : List Launched) : Type 0 where
   pub gained : List Launch
   pub added : m.launcher.launches ≡ m0.launcher.launches ++ gained
@@ -135,7 +135,7 @@ joined prior one other =
 
 module _ (machine : Machine) (whole rest : Part) (s0 : State) (m0 : Moment) (s : State) (m : Moment) (law : Obeys m) (b : Begun machine whole rest s0 m0 s m) where
   -- the rest runs, and so does the whole
-  pub runs_last : (r : Result (Unit {0}) Stop) (t : State) (n : Moment) → Runs machine rest s m r t n → Runs machine whole s0 m0 r t n
+  pub runs_last : (r : Result (Unit {0}) Stop) (t : State) (n : Moment) → RunsPart machine rest s m r t n → RunsPart machine whole s0 m0 r t n
   runs_last r t n last = record {
     stays = stays_then machine m0 m n law b.stays last.stays;
     counts = subst (λ (x : Counts). StopCounts r x (counts_at n)) b.counts last.counts;
@@ -153,7 +153,7 @@ module _ (machine : Machine) (whole rest : Part) (s0 : State) (m0 : Moment) (s :
 
 -- a part runs, and then others are left
 pub begun_after : (machine : Machine) (whole first rest second : Part) (s0 : State) (m0 : Moment) (s : State) (m : Moment) → Obeys m → Begun machine whole rest s0 m0 s m
-    → (z : State) (r : Result (Unit {0}) Stop) (t y : State) (n : Moment) → Runs machine first z m r t n → counts_at n ≡ counts_at m → AreSources machine y.parameters
+    → (z : State) (r : Result (Unit {0}) Stop) (t y : State) (n : Moment) → RunsPart machine first z m r t n → counts_at n ≡ counts_at m → AreSources machine y.parameters
     → ((setting : Setting) (w v : Device) → Comes (first setting) z w r t v → (q : Result (Unit {0}) Stop) (x : State) (after : Device) → Comes (second setting) y v q x after → Comes (rest setting) s w q x after)
     → Begun machine whole second s0 m0 y n
 begun_after machine whole first rest second s0 m0 s m law b z r t y n one counts sources comes = record {
@@ -174,29 +174,29 @@ begun_after machine whole first rest second s0 m0 s m law b z r t y n one counts
 
 module _ (machine : Machine) (whole first second : Part) (s0 : State) (m0 : Moment) (s : State) (m : Moment) (law : Obeys m) (b : Begun machine whole (then_part first second) s0 m0 s m) where
   -- the first is stopped, and so is the whole
-  pub runs_stopped : (stop : Stop) (t : State) (n : Moment) → Runs machine first s m (Err stop) t n → Runs machine whole s0 m0 (Err stop) t n
+  pub runs_stopped : (stop : Stop) (t : State) (n : Moment) → RunsPart machine first s m (Err stop) t n → RunsPart machine whole s0 m0 (Err stop) t n
   runs_stopped stop t n one =
       runs_last machine whole (then_part first second) s0 m0 s m law b (Err stop) t n
       (runs_as machine first (then_part first second) s s m n (Err stop) (Err stop) t t one one.counts one.sources (λ setting w v h. first_stops (first setting) (second setting) s w stop t v h))
 
   -- the first is done
-  pub begun_then : (u : Unit {0}) (t : State) (n : Moment) → Runs machine first s m (Ok u) t n → Begun machine whole second s0 m0 t n
+  pub begun_then : (u : Unit {0}) (t : State) (n : Moment) → RunsPart machine first s m (Ok u) t n → Begun machine whole second s0 m0 t n
   begun_then u t n one =
       begun_after machine whole first (then_part first second) second s0 m0 s m law b s (Ok u) t t n one one.counts one.sources
       (λ setting w v h r x after comes. then_comes (first setting) (second setting) s t w v h.0 h.1 r x after comes)
 
 -- nothing is left
-pub runs_done : (machine : Machine) (whole : Part) (s0 : State) (m0 : Moment) (s : State) (m : Moment) (u : Unit {0}) → Obeys m → Begun machine whole nothing_part s0 m0 s m → Runs machine whole s0 m0 (Ok u) s m
+pub runs_done : (machine : Machine) (whole : Part) (s0 : State) (m0 : Moment) (s : State) (m : Moment) (u : Unit {0}) → Obeys m → Begun machine whole nothing_part s0 m0 s m → RunsPart machine whole s0 m0 (Ok u) s m
 runs_done machine whole s0 m0 s m u law b =
     runs_last machine whole nothing_part s0 m0 s m law b (Ok u) s m (runs_at_once machine nothing_part s m (Ok u) s refl b.sources (λ setting w. (refl, refl)))
 
 -- ---- one part after another
 
-pub next : {machine : Machine} {whole first : Part} {s0 s t : State} {m0 m n : Moment} {u : Unit {0}} (second : Part) → Begun machine whole (then_part first second) s0 m0 s m → Obeys m → Runs machine first s m (Ok u) t n → Begun machine whole second s0 m0 t n
+pub next : {machine : Machine} {whole first : Part} {s0 s t : State} {m0 m n : Moment} {u : Unit {0}} (second : Part) → Begun machine whole (then_part first second) s0 m0 s m → Obeys m → RunsPart machine first s m (Ok u) t n → Begun machine whole second s0 m0 t n
 next {machine} {whole} {first} {s0} {s} {t} {m0} {m} {n} {u} second b law one = begun_then machine whole first second s0 m0 s m law b u t n one
 
-pub stops_there : {machine : Machine} {whole first : Part} {s0 s t : State} {m0 m n : Moment} {stop : Stop} (second : Part) → Begun machine whole (then_part first second) s0 m0 s m → Obeys m → Runs machine first s m (Err stop) t n → Runs machine whole s0 m0 (Err stop) t n
+pub stops_there : {machine : Machine} {whole first : Part} {s0 s t : State} {m0 m n : Moment} {stop : Stop} (second : Part) → Begun machine whole (then_part first second) s0 m0 s m → Obeys m → RunsPart machine first s m (Err stop) t n → RunsPart machine whole s0 m0 (Err stop) t n
 stops_there {machine} {whole} {first} {s0} {s} {t} {m0} {m} {n} {stop} second b law one = runs_stopped machine whole first second s0 m0 s m law b stop t n one
 
-pub ends_there : {machine : Machine} {whole rest : Part} {s0 s t : State} {m0 m n : Moment} {r : Result (Unit {0}) Stop} → Begun machine whole rest s0 m0 s m → Obeys m → Runs machine rest s m r t n → Runs machine whole s0 m0 r t n
+pub ends_there : {machine : Machine} {whole rest : Part} {s0 s t : State} {m0 m n : Moment} {r : Result (Unit {0}) Stop} → Begun machine whole rest s0 m0 s m → Obeys m → RunsPart machine rest s m r t n → RunsPart machine whole s0 m0 r t n
 ends_there {machine} {whole} {rest} {s0} {s} {t} {m0} {m} {n} {r} b law last = runs_last machine whole rest s0 m0 s m law b r t n last

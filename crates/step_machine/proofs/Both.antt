@@ -1,4 +1,4 @@
--- What stays in flash and memory where one content has changed, and where two have.
+-- The contents that stay in flash and memory where one has changed, and where two have.
 use Rattle.std.proofs.Common.{◌≡◌, ◌≢◌, ◌<◌, ℕ, zero, suc, List, [], ◌∷◌, ◌++◌, length, refl, sym, ap, subst, ◌∙◌, arith, set-set}
 use Rattle.std.specs.Prelude.{slice_set}
 use Rattle.std.proofs.lemmas.List.{length-set, set_comm}

@@ -24,7 +24,7 @@ use Rattle.step_machine.specs.Copying.{IsRamButBoth, OutsideBoth}
 use Rattle.step_machine.specs.Devices.{AreSpotsClear, IsApart}
 use Rattle.step_machine.specs.PlanRuns.{OutsideTargets}
 use Rattle.step_machine.specs.Parts.{act_part}
-use Rattle.step_machine.specs.Running.{Moment, Stays, Runs, IsReady, AreSources, device_at}
+use Rattle.step_machine.specs.Running.{Moment, Stays, RunsPart, IsReady, AreSources, device_at}
 use Rattle.step_machine.specs.Spots.{content_of, IsSpot, OutsideSpot, IsRamBut}
 use Rattle.step_machine.proofs.Leaves.{no_standing, same_rooms}
 use Rattle.step_machine.proofs.Lifting.{clear_outside, kept_slot, map_same, map_but}
@@ -109,13 +109,13 @@ apart_here standings i j lt apart below other = apart j no_standing below other
 
 -- ---- without a source
 
-pub copy_missing : (machine : Machine) (p c : ℕ) (s : State) (m : Moment) → AreSources machine s.parameters → number_of (in_force s.parameters c keys.Source) ≡ None → Runs machine (act_part acts.Copy p c) s m (Err (stops.Directive p causes.Missing)) s m
+pub copy_missing : (machine : Machine) (p c : ℕ) (s : State) (m : Moment) → AreSources machine s.parameters → number_of (in_force s.parameters c keys.Source) ≡ None → RunsPart machine (act_part acts.Copy p c) s m (Err (stops.Directive p causes.Missing)) s m
 copy_missing machine p c s m sources none =
     runs_at_once machine (act_part acts.Copy p c) s m (Err (stops.Directive p causes.Missing)) s refl sources
     (λ setting w. let is = ap (acted p (λ source. Wrote c ∷ []) (λ source. copied setting c source) s w) none in
     record { ending = ap (λ (o : Outcome Device). o.ending) is; named = ap (λ (o : Outcome Device). o.cause) is; world = ap (λ (o : Outcome Device). o.world) is })
 
-pub swap_missing : (machine : Machine) (p c : ℕ) (s : State) (m : Moment) → AreSources machine s.parameters → number_of (in_force s.parameters c keys.Source) ≡ None → Runs machine (act_part acts.Swap p c) s m (Err (stops.Directive p causes.Missing)) s m
+pub swap_missing : (machine : Machine) (p c : ℕ) (s : State) (m : Moment) → AreSources machine s.parameters → number_of (in_force s.parameters c keys.Source) ≡ None → RunsPart machine (act_part acts.Swap p c) s m (Err (stops.Directive p causes.Missing)) s m
 swap_missing machine p c s m sources none =
     runs_at_once machine (act_part acts.Swap p c) s m (Err (stops.Directive p causes.Missing)) s refl sources
     (λ setting w. let is = ap (acted p (λ source. Wrote c ∷ Wrote source ∷ []) (λ source. swapped setting c source) s w) none in

@@ -1,12 +1,14 @@
 -- Directives as parts of a procedure, at the component that is selected.
-use Rattle.std.proofs.Common.{◌≡◌, ◌≢◌, ◌<◌, ℕ, List, Option, Some, Result, length, get_or, refl, sym, ap, subst, ◌∙◌, arith}
+use Rattle.std.proofs.Common.{◌≡◌, ◌≢◌, ◌⊎◌, ⊎_elim, ◌<◌, ℕ, List, Option, Some, Result, length, get_or, refl, sym, ap, subst, ◌∙◌, arith}
 use Rattle.std.specs.Prelude.{IsTrue}
 use Rattle.suit_edge.specs.Flash.{IsSame, Keeps}
 use Rattle.suit_params.specs.declared.param.Param.{Param}
 use Rattle.suit_params.specs.declared.param.ParamKey.TheVariants as keys
 use Rattle.suit_params.specs.InForce.{in_force, number_of}
 use Rattle.suit_envelope.specs.Payloads.{HasPayloads}
+use Rattle.suit_commands.specs.declared.kinds.ActKind.{ActKind}
 use Rattle.suit_commands.specs.declared.kinds.ActKind.TheVariants as acts
+use Rattle.suit_commands.specs.Targets.{IsWriting}
 use Rattle.path_model.specs.declared.cause.Cause.{Cause}
 use Rattle.path_model.specs.Behaviour.{State}
 use Rattle.path_model.specs.Settings.{Setting}
@@ -15,14 +17,14 @@ use Rattle.flash_slots.specs.RamContents.{Held}
 use Rattle.step_machine.specs.declared.stop.Stop.{Stop}
 use Rattle.step_machine.specs.declared.spot.Standing.{Standing}
 use Rattle.step_machine.specs.declared.machine.Machine.{Machine}
-use Rattle.step_machine.specs.Allowing.{MayName}
+use Rattle.step_machine.specs.Allowing.{MayName, MayWrite}
 use Rattle.step_machine.specs.Copying.{CopiesAs, IsRamButBoth, OutsideBoth, Side, SwapsAs, side_of}
 use Rattle.step_machine.specs.Devices.{AreSpotsClear}
 use Rattle.step_machine.specs.Directives.{ActsSo, WritesAs}
 use Rattle.step_machine.specs.Fetching.{FetchesAs}
 use Rattle.step_machine.specs.Invoking.{InvokesAs}
 use Rattle.step_machine.specs.Parts.{act_part}
-use Rattle.step_machine.specs.Running.{Moment, Stays, StopCounts, Fits, Part, Runs, IsReady, IsUnderWay, counts_at, device_at, stopped}
+use Rattle.step_machine.specs.Running.{Moment, Stays, StopCounts, Fits, Part, RunsPart, IsReady, IsUnderWay, counts_at, device_at, stopped}
 use Rattle.step_machine.specs.Spots.{IsRamBut, IsSpot, OutsideSpot, content_of}
 use Rattle.step_machine.proofs.Beginning.{Obeys}
 use Rattle.step_machine.proofs.Copied.{apart_here, two_device}
@@ -32,9 +34,22 @@ use Rattle.step_machine.proofs.Looking.{runs_invoke}
 abbrev pub stands_at : Machine → ℕ → Standing
 stands_at machine c = get_or machine.standings.now c no_standing
 
--- what it holds at a moment
+-- its content at a moment
 abbrev pub holds_at : Machine → ℕ → Moment → List ℕ
 holds_at machine c m = content_of (stands_at machine c).spot m.ram m.disk.flash.reads
+
+-- ---- which directive it is
+
+pub act_as : (machine : Machine) (kind of : ActKind) (place c : ℕ) → kind ≡ of → (s : State) (m : Moment) (r : Result (Unit {0}) Stop) (t : State) (n : Moment)
+    → RunsPart machine (act_part of place c) s m r t n → RunsPart machine (act_part kind place c) s m r t n
+act_as machine kind of place c is s m r t n runs = subst (λ (k : ActKind). RunsPart machine (act_part k place c) s m r t n) (sym is) runs
+
+pub writes_as : (machine : Machine) (kind of : ActKind) (c : ℕ) → kind ≡ of → IsWriting of → (IsWriting kind → MayWrite machine c) → MayWrite machine c
+writes_as machine kind of c is writing may = may (subst IsWriting (sym is) writing)
+
+-- what comes from a source and does not swap is a copy
+pub copies : (kind : ActKind) → (kind ≡ acts.Copy) ⊎ (kind ≡ acts.Swap) → kind ≢ acts.Swap → kind ≡ acts.Copy
+copies kind from other = ⊎_elim (λ copy. copy) (λ swap. absurd (other swap)) from
 
 -- ---- the source in force
 
@@ -70,12 +85,12 @@ module _ (machine : Machine) (m n : Moment) (s : State) (place c : ℕ) (lt : c 
 
   module _ (but : IsRamBut (stands_at machine c).spot m.ram n.ram) (keeps : IsTrue m.disk.told → Keeps (OutsideSpot (stands_at machine c).spot) m.disk.flash n.disk.flash) where
     one_acts : (part : Part) → ((setting : Setting) → Fits machine m setting → (prior : List Launched) → ActsSo (part setting) place s (device_at machine m prior) r (with_content (device_at machine m prior) c (holds_at machine c n)))
-        → Runs machine part s m result s n
+        → RunsPart machine part s m result s n
     one_acts part acts =
         acts_run machine m n part s place r result (λ prior. with_content (device_at machine m prior) c (holds_at machine c n)) is stays launches counts under.sources
         (λ told prior. one_device machine m n c no_standing lt ready but (law told).fits (keeps told) prior) acts
 
-    pub write_runs : (IsTrue m.disk.told → WritesAs acts.Write (stands_at machine c).component (stands_at machine c).capacity s.parameters (holds_at machine c m) (holds_at machine c n) r) → Runs machine (act_part acts.Write place c) s m result s n
+    pub write_runs : (IsTrue m.disk.told → WritesAs acts.Write (stands_at machine c).component (stands_at machine c).capacity s.parameters (holds_at machine c m) (holds_at machine c n) r) → RunsPart machine (act_part acts.Write place c) s m result s n
     write_runs writes =
         one_acts (act_part acts.Write place c) (λ setting fits prior.
         subst (λ (k : ℕ). WritesAs acts.Write k (stands_at machine c).capacity s.parameters (holds_at machine c m) (holds_at machine c n) r) component_is (writes fits.disk)
@@ -83,7 +98,7 @@ module _ (machine : Machine) (m n : Moment) (s : State) (place c : ℕ) (lt : c 
 
     pub fetch_runs : (IsTrue m.disk.told → IsTrue m.host.told → (payloads : List (List ℕ × List ℕ)) → HasPayloads machine.envelope.now.whole.now payloads
         → FetchesAs (stands_at machine c).component (stands_at machine c).capacity s.parameters payloads machine.uris.now m.host.files (holds_at machine c m) (holds_at machine c n) r)
-        → Runs machine (act_part acts.Fetch place c) s m result s n
+        → RunsPart machine (act_part acts.Fetch place c) s m result s n
     fetch_runs fetches =
         one_acts (act_part acts.Fetch place c) (λ setting fits prior.
         subst (λ (k : ℕ). FetchesAs k (stands_at machine c).capacity s.parameters setting.payloads machine.uris.now m.host.files (holds_at machine c m) (holds_at machine c n) r) component_is (fetches fits.disk fits.host setting.payloads fits.payloads)
@@ -91,7 +106,7 @@ module _ (machine : Machine) (m n : Moment) (s : State) (place c : ℕ) (lt : c 
 
     pub copy_runs : (source : ℕ) → number_of (in_force s.parameters c keys.Source) ≡ Some source
         → (IsTrue m.disk.told → CopiesAs (stands_at machine c).component (stands_at machine c).capacity (stands_at machine source).component (holds_at machine source m) (holds_at machine c m) (holds_at machine c n) r)
-        → Runs machine (act_part acts.Copy place c) s m result s n
+        → RunsPart machine (act_part acts.Copy place c) s m result s n
     copy_runs source named copies =
         let below = source_below machine m.disk.size m.ram s c source lt ready under named in
         one_acts (act_part acts.Copy place c) (λ setting fits prior.
@@ -103,7 +118,7 @@ module _ (machine : Machine) (m n : Moment) (s : State) (place c : ℕ) (lt : c 
   pub swap_runs : (source : ℕ) (named : number_of (in_force s.parameters c keys.Source) ≡ Some source) → IsRamButBoth (stands_at machine c).spot (stands_at machine source).spot m.ram n.ram
       → (IsTrue m.disk.told → Keeps (OutsideBoth (stands_at machine c).spot (stands_at machine source).spot) m.disk.flash n.disk.flash)
       → (IsTrue m.disk.told → SwapsAs (side_of (stands_at machine c).component (stands_at machine c).capacity (holds_at machine c m) (holds_at machine c n)) (side_of (stands_at machine source).component (stands_at machine source).capacity (holds_at machine source m) (holds_at machine source n)) r)
-      → Runs machine (act_part acts.Swap place c) s m result s n
+      → RunsPart machine (act_part acts.Swap place c) s m result s n
   swap_runs source named but keeps swaps =
       let below = source_below machine m.disk.size m.ram s c source lt ready under named in
       let one : ℕ → Side = λ k. side_of k (stands_at machine c).capacity (holds_at machine c m) (holds_at machine c n) in
@@ -122,8 +137,8 @@ module _ (machine : Machine) (m n : Moment) (s : State) (place c : ℕ) (lt : c 
 pub invoke_runs : (machine : Machine) (m n : Moment) (s : State) (place c : ℕ) (lt : c < length machine.standings.now) → IsReady machine m.disk.size m.ram → IsUnderWay machine s → (r : Result (Unit {0}) Cause) (result : Result (Unit {0}) Stop) → result ≡ stopped place r
     → Stays machine m n → n.ram ≡ m.ram → (IsTrue m.disk.told → IsSame m.disk.flash n.disk.flash) → StopCounts (stopped place r) (counts_at m) (counts_at n)
     → (IsTrue m.disk.told → IsTrue m.launcher.told → InvokesAs (stands_at machine c).component s.parameters (holds_at machine c m) m.launcher.launches n.launcher.launches r)
-    → Runs machine (act_part acts.Invoke place c) s m result s n
+    → RunsPart machine (act_part acts.Invoke place c) s m result s n
 invoke_runs machine m n s place c lt ready under r result is stays ram same counts invokes =
-    subst (λ (x : Result (Unit {0}) Stop). Runs machine (act_part acts.Invoke place c) s m x s n) (sym is)
+    subst (λ (x : Result (Unit {0}) Stop). RunsPart machine (act_part acts.Invoke place c) s m x s n) (sym is)
     (runs_invoke machine m n place c s no_standing lt stays ram same under.sources r counts
     (λ t u. subst (λ (k : ℕ). InvokesAs k s.parameters (holds_at machine c m) m.launcher.launches n.launcher.launches r) (ready.standings.each c no_standing lt).component (invokes t u)))

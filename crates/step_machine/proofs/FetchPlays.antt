@@ -9,11 +9,17 @@ use Rattle.path_model.specs.declared.event.Event.TheVariants.{Wrote}
 use Rattle.path_model.specs.declared.cause.Cause.{Cause}
 use Rattle.path_model.specs.declared.cause.Cause.TheVariants as causes
 use Rattle.path_model.specs.Behaviour.{State}
-use Rattle.path_model.specs.Settings.{Setting, capacity_of, payload_of, NamesFile}
+use Rattle.path_model.specs.Settings.{Setting, capacity_of, found_under, payload_of, NamesFile}
 use Rattle.path_model.specs.Plays.{Outcome}
 use Rattle.path_model.specs.DevicePlays.{Device, Made, Refused, with_content, concluded, fetched, acted, ActIsCut, FetchLeaves, directive_play}
 use Rattle.step_machine.specs.Fetching.{FetchesAs, TakesIn, TakesNamed, payload_by}
 use Rattle.step_machine.proofs.Writing.{stopped, when_false, when_true, with_same}
+
+-- no URI is answered where there are no names of files
+pub none_under : (words : List (List ℕ × List ℕ)) (uri name : List ℕ) → words ≡ [] → Some name ≡ found_under words uri → ⊥
+none_under words uri name none is =
+    let e : Some name ≡ found_under [] uri = subst (λ (l : List (List ℕ × List ℕ)). Some name ≡ found_under l uri) none is in
+    absurd cc
 
 module _ (c cap : ℕ) (ps : Parameters) (payloads words : List (List ℕ × List ℕ)) (files : List ℕ → Option (List ℕ)) where
   uri_in : Parameters → Option (List ℕ)
@@ -127,7 +133,7 @@ module _ (c cap : ℕ) (ps : Parameters) (payloads words : List (List ℕ × Lis
     fetch_taken (Err causes.Absent) before after file found host is = absurd is
     fetch_taken (Err causes.LaunchFault) before after file found host is = absurd is
 
-    -- ---- what a URI names, where it was looked for
+    -- ---- the payload that a URI names, where it was looked for
 
     pub fetch_named : (r : Result (Unit {0}) Cause) (named : Option (List ℕ)) (before after : List ℕ) → payload_by payloads words files uri ≡ named → (r ≡ Err causes.HostFault → NamesFile words uri) → TakesNamed r cap named before after
         → FetchesAs c cap ps payloads words files before after r

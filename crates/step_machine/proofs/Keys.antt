@@ -61,7 +61,7 @@ module _ (key : List ℕ) (no : is_utf8 key ≡ false) where
       subst (λ (ps : Payloads). found_under ps key ≡ None) (are_listed bytes (listed_payloads bytes) payloads refl has)
       (not_in (counted_from (start_of bytes)))
 
--- ---- what a test of bytes came to
+-- ---- the result of a test of bytes
 
 text_where : (key : List ℕ) (is : Bool) (text : List ℕ) → Some text ≡ cond is (Some key) None → text ≡ key
 text_where key true text e = cc

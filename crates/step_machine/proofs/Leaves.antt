@@ -22,12 +22,12 @@ use Rattle.step_machine.specs.Comes.{Comes}
 use Rattle.step_machine.specs.Directives.{ActsSo, CauseCounts}
 use Rattle.step_machine.specs.Fetching.{FetchCounts}
 use Rattle.step_machine.specs.PlanRuns.{counts_of, OutsideTargets}
-use Rattle.step_machine.specs.Running.{Moment, Stays, StopCounts, Fits, Part, Runs, IsReady, AreSources, counts_at, device_at, stopped}
+use Rattle.step_machine.specs.Running.{Moment, Stays, StopCounts, Fits, Part, RunsPart, IsReady, AreSources, counts_at, device_at, stopped}
 use Rattle.step_machine.specs.Spots.{IsRamBut, IsSpot, OutsideSpot, content_of}
 use Rattle.step_machine.proofs.Beginning.{runs_quietly}
 use Rattle.step_machine.proofs.Lifting.{one_changed}
 
--- what stands at no index
+-- the standing at no index
 abbrev pub no_standing : Standing
 no_standing = record {
   component = 0;
@@ -78,9 +78,9 @@ acts_come play place s w v (Err cause) a = a
 pub acts_run : (machine : Machine) (m n : Moment) (part : Part) (s : State) (place : ℕ) (r : Result (Unit {0}) Cause) (result : Result (Unit {0}) Stop) (leaves : List Launched → Device) → result ≡ stopped place r
     → Stays machine m n → n.launcher.launches ≡ m.launcher.launches → StopCounts (stopped place r) (counts_at m) (counts_at n) → AreSources machine s.parameters
     → (IsTrue m.disk.told → (prior : List Launched) → leaves prior ≡ device_at machine n prior)
-    → ((setting : Setting) → Fits machine m setting → (prior : List Launched) → ActsSo (part setting) place s (device_at machine m prior) r (leaves prior)) → Runs machine part s m result s n
+    → ((setting : Setting) → Fits machine m setting → (prior : List Launched) → ActsSo (part setting) place s (device_at machine m prior) r (leaves prior)) → RunsPart machine part s m result s n
 acts_run machine m n part s place r result leaves is stays launches counts sources left acts =
-    subst (λ (x : Result (Unit {0}) Stop). Runs machine part s m x s n) (sym is)
+    subst (λ (x : Result (Unit {0}) Stop). RunsPart machine part s m x s n) (sym is)
     (runs_quietly machine part s m n (stopped place r) s stays counts sources launches (λ setting fits prior.
     subst (λ (v : Device). Comes (part setting) s (device_at machine m prior) (stopped place r) s v) (left fits.disk prior)
     (acts_come (part setting) place s (device_at machine m prior) _ r (acts setting fits prior))))

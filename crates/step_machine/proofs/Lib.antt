@@ -29,3 +29,4 @@ pub mod Standings
 pub mod Turns
 pub mod Directing
 pub mod Reading
+pub mod Counting

@@ -30,7 +30,7 @@ kept_slot K slot f g fits inside kept =
     let end : slot.start + extent_of slot ≤ length g.reads = omega (arith, fits, size) in
     ap (content_in slot.capacity) (same_range g.reads f.reads slot.start (slot.start + extent_of slot) size end (λ i lo hi. kept.reads.same i (inside i lo hi)))
 
--- what a spot holds, by what is read of a slot
+-- the content at a spot, by how a slot is read
 abbrev pub found_at : (Slot → List ℕ → List ℕ) → Spot → List Held → List ℕ → List ℕ
 found_at read (spots.Flash slot) ram reads = read slot reads
 found_at read (spots.Ram j) ram reads = (held_by ram j).content

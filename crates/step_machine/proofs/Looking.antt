@@ -1,4 +1,4 @@
--- What leaves all contents as they are: conditions, and launches.
+-- Conditions and launches leave all contents as they are.
 use Rattle.std.proofs.Common.{◌≡◌, ◌<◌, ℕ, zero, suc, Bool, true, false, List, [], ◌∷◌, ◌++◌, Option, Some, None, Result, Ok, Err, get_or, length, map, refl, sym, ap, subst, ◌∙◌, arith, inl, inr, ◌⊎◌, ⊎_elim}
 use Rattle.std.specs.Prelude.{◌↔◌, IsTrue, slice_get}
 use Rattle.std.proofs.lemmas.List.{append-nil}
@@ -18,7 +18,7 @@ use Rattle.path_model.specs.declared.identity.Identity.{Identity}
 use Rattle.path_model.specs.Behaviour.{State, Done, Condition}
 use Rattle.path_model.specs.Settings.{Setting}
 use Rattle.path_model.specs.DevicePlays.{Device, Launched, content_at, tested, matched, unread, is_image, condition_play, directive_play}
-use Rattle.path_model.specs.DeviceLaws.{Passes}
+use Rattle.path_model.specs.DeviceLaws.{TestPasses}
 use Rattle.step_machine.specs.declared.spot.Standing.{Standing}
 use Rattle.step_machine.specs.declared.stop.Stop.{Stop}
 use Rattle.step_machine.specs.declared.stop.Stop.TheVariants as stops
@@ -29,7 +29,7 @@ use Rattle.step_machine.specs.Devices.{contents_of}
 use Rattle.step_machine.specs.Directives.{StopsSo}
 use Rattle.step_machine.specs.Invoking.{InvokesAs, InvokeCounts, launched_as}
 use Rattle.step_machine.specs.PlanRuns.{counts_of, OutsideTargets}
-use Rattle.step_machine.specs.Running.{Moment, Stays, StopCounts, Fits, Gained, Runs, AreSources, counts_at, device_at, stopped}
+use Rattle.step_machine.specs.Running.{Moment, Stays, StopCounts, Fits, Gained, RunsPart, AreSources, counts_at, device_at, stopped}
 use Rattle.step_machine.specs.Parts.{test_part, act_part}
 use Rattle.step_machine.specs.Spots.{content_of}
 use Rattle.step_machine.proofs.Beginning.{runs_quietly}
@@ -57,10 +57,10 @@ condition_ends setting tests.ImageMatch p c s w = matched_ends p c (size_in s.pa
 condition_ends setting tests.CheckContent p c s w = tested_ends p _ _ s w _
 condition_ends setting tests.Abort p c s w = (inr refl, refl)
 
-pub condition_comes : (setting : Setting) (kind : TestKind) (p c : ℕ) (s : State) (w : Device) → (IsTrue true ↔ Passes setting kind p c s w) → Comes (condition_play setting kind p c) s w (Ok tt) s w
+pub condition_comes : (setting : Setting) (kind : TestKind) (p c : ℕ) (s : State) (w : Device) → (IsTrue true ↔ TestPasses setting kind p c s w) → Comes (condition_play setting kind p c) s w (Ok tt) s w
 condition_comes setting kind p c s w passes = (passes.0 refl, (condition_ends setting kind p c s w).1)
 
-pub condition_fails : (setting : Setting) (kind : TestKind) (p c : ℕ) (s : State) (w : Device) → (IsTrue false ↔ Passes setting kind p c s w) → Comes (condition_play setting kind p c) s w (Err (stops.Condition p s.soft_failure)) s w
+pub condition_fails : (setting : Setting) (kind : TestKind) (p c : ℕ) (s : State) (w : Device) → (IsTrue false ↔ TestPasses setting kind p c s w) → Comes (condition_play setting kind p c) s w (Err (stops.Condition p s.soft_failure)) s w
 condition_fails setting kind p c s w passes =
     let ends = condition_ends setting kind p c s w in
     (⊎_elim (λ done. absurd (not (passes.1 done))) (λ failed. failed) ends.0, ends.1)
@@ -97,7 +97,7 @@ module _ (machine : Machine) (m n : Moment) (kind : TestKind) (p c : ℕ) (s : S
     (same : IsTrue m.disk.told → IsSame m.disk.flash n.disk.flash) (launches : n.launcher.launches ≡ m.launcher.launches) (sources : AreSources machine s.parameters) where
   runs_test : (r : Result (Unit {0}) Stop) → StopCounts r (counts_at m) (counts_at n)
       → ((setting : Setting) → Fits machine m setting → (prior : List Launched) → Comes (condition_play setting kind p c) s (device_at machine m prior) r s (device_at machine m prior))
-      → Runs machine (test_part kind p c) s m r s n
+      → RunsPart machine (test_part kind p c) s m r s n
   runs_test r counts comes =
       runs_quietly machine (test_part kind p c) s m n r s stays counts sources launches (λ setting fits prior.
       subst (λ (v : Device). Comes (condition_play setting kind p c) s (device_at machine m prior) r s v) (same_device machine m n prior ram (same fits.disk).reads) (comes setting fits prior))
@@ -112,7 +112,7 @@ module _ (machine : Machine) (m n : Moment) (kind : TestKind) (p c : ℕ) (s : S
 
   module _ (component : (get_or machine.standings.now c d).component ≡ c) where
     passes_here : (b x : Bool) → b ≡ x → (IsTrue m.disk.told → PassesAs kind (get_or machine.standings.now c d).component s.parameters (get_or machine.standings.now c d).identity (content_of (get_or machine.standings.now c d).spot m.ram m.disk.flash.reads) b)
-        → (setting : Setting) → Fits machine m setting → (prior : List Launched) → IsTrue x ↔ Passes setting kind p c s (device_at machine m prior)
+        → (setting : Setting) → Fits machine m setting → (prior : List Launched) → IsTrue x ↔ TestPasses setting kind p c s (device_at machine m prior)
     passes_here b x is exact setting fits prior =
         subst (λ (k : ℕ). PassesAs kind k s.parameters (get_or machine.standings.now c d).identity (content_of (get_or machine.standings.now c d).spot m.ram m.disk.flash.reads) x) component
         (subst (λ (y : Bool). PassesAs kind (get_or machine.standings.now c d).component s.parameters (get_or machine.standings.now c d).identity (content_of (get_or machine.standings.now c d).spot m.ram m.disk.flash.reads) y) is (exact fits.disk))
@@ -120,19 +120,19 @@ module _ (machine : Machine) (m n : Moment) (kind : TestKind) (p c : ℕ) (s : S
 
     pub test_passed : (b : Bool) → b ≡ true → StopCounts (Ok tt) (counts_at m) (counts_at n)
         → (IsTrue m.disk.told → PassesAs kind (get_or machine.standings.now c d).component s.parameters (get_or machine.standings.now c d).identity (content_of (get_or machine.standings.now c d).spot m.ram m.disk.flash.reads) b)
-        → Runs machine (test_part kind p c) s m (Ok tt) s n
+        → RunsPart machine (test_part kind p c) s m (Ok tt) s n
     test_passed b is counts exact =
         runs_test (Ok tt) counts (λ setting fits prior. condition_comes setting kind p c s (device_at machine m prior) (passes_here b true is exact setting fits prior))
 
     pub test_failed : (b : Bool) → b ≡ false → StopCounts (Err (stops.Condition p s.soft_failure)) (counts_at m) (counts_at n)
         → (IsTrue m.disk.told → PassesAs kind (get_or machine.standings.now c d).component s.parameters (get_or machine.standings.now c d).identity (content_of (get_or machine.standings.now c d).spot m.ram m.disk.flash.reads) b)
-        → Runs machine (test_part kind p c) s m (Err (stops.Condition p s.soft_failure)) s n
+        → RunsPart machine (test_part kind p c) s m (Err (stops.Condition p s.soft_failure)) s n
     test_failed b is counts exact =
         runs_test (Err (stops.Condition p s.soft_failure)) counts (λ setting fits prior. condition_fails setting kind p c s (device_at machine m prior) (passes_here b false is exact setting fits prior))
 
     pub test_cut : StopCounts (Err (stops.Directive p causes.FlashFault)) (counts_at m) (counts_at n)
         → (IsTrue m.disk.told → CutsPlay kind (get_or machine.standings.now c d).component s.parameters)
-        → Runs machine (test_part kind p c) s m (Err (stops.Directive p causes.FlashFault)) s n
+        → RunsPart machine (test_part kind p c) s m (Err (stops.Directive p causes.FlashFault)) s n
     test_cut counts cuts =
         runs_test (Err (stops.Directive p causes.FlashFault)) counts (λ setting fits prior.
         condition_cut setting kind p c s (device_at machine m prior) (subst (λ (k : ℕ). CutsPlay kind k s.parameters) component (cuts fits.disk) setting p s (device_at machine m prior) refl))
@@ -168,7 +168,7 @@ module _ (machine : Machine) (m n : Moment) (p c : ℕ) (s : State) (d : Standin
 
   pub runs_invoke : (r : Result (Unit {0}) Cause) → StopCounts (stopped p r) (counts_at m) (counts_at n)
       → (IsTrue m.disk.told → IsTrue m.launcher.told → InvokesAs c s.parameters (content_of (get_or machine.standings.now c d).spot m.ram m.disk.flash.reads) m.launcher.launches n.launcher.launches r)
-      → Runs machine (act_part acts.Invoke p c) s m (stopped p r) s n
+      → RunsPart machine (act_part acts.Invoke p c) s m (stopped p r) s n
   runs_invoke r counts invokes = record {
     stays = stays;
     counts = counts;

@@ -7,7 +7,7 @@ use Rattle.step_machine.specs.declared.spot.Spot.{Spot}
 use Rattle.step_machine.specs.declared.spot.Spot.TheVariants as spots
 use Rattle.step_machine.specs.Spots.{IsRamBut}
 
--- what is held after a change
+-- the contents after a change
 pub held_holding : (ram : List Held) (c : ℕ) (content : List ℕ) → c < length ram → held_by (holding ram c content) c ≡ record { capacity = (held_by ram c).capacity; content = content }
 held_holding ram c content lt = get_or-set_same ram c (record { capacity = (held_by ram c).capacity; content = content }) (empty 0) lt
 
@@ -38,7 +38,7 @@ holding_twice old middle new c x y lt first second =
     second ∙ ap (λ (h : Held). slice_set middle c (record { capacity = h.capacity; content = y })) here
     ∙ ap (λ (r : List Held). slice_set r c last) first ∙ set-set old c held last
 
--- what is held after a change
+-- the contents after a change
 pub held_then : (old new : List Held) (c : ℕ) (x : List ℕ) → c < length old → new ≡ holding old c x → held_by new c ≡ record { capacity = (held_by old c).capacity; content = x }
 held_then old new c x lt is = ap (λ (r : List Held). held_by r c) is ∙ held_holding old c x lt
 

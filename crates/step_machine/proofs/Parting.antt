@@ -19,7 +19,7 @@ use Rattle.step_machine.specs.declared.stop.Stop.TheVariants as stops
 use Rattle.step_machine.specs.Comes.{Comes}
 use Rattle.step_machine.specs.Directives.{Stops, IsCutSo}
 use Rattle.step_machine.specs.PlanRuns.{Counts}
-use Rattle.step_machine.specs.Running.{Moment, StopCounts, Part, Runs, AreSources, counts_at}
+use Rattle.step_machine.specs.Running.{Moment, StopCounts, Part, RunsPart, AreSources, counts_at}
 use Rattle.step_machine.specs.Parts.{nothing_part, then_part, sequence_part, command_part, branches_part, at_part, each_part, passed_on}
 use Rattle.step_machine.proofs.Beginning.{Obeys, Begun, begun_after, runs_as, runs_at_once}
 use Rattle.step_machine.proofs.Composing.{comes_by, stops_as}
@@ -87,7 +87,7 @@ IsEach _ = Unit {0}
 
 -- a part is done for the selected components
 pub runs_command : (machine : Machine) (command : CommandTree) (count place : ℕ) (s : State) (m : Moment) (r : Result (Unit {0}) Stop) (t : State) (n : Moment) → IsEach command
-    → Runs machine (each_part command count place s.selection) s m r t n → Runs machine (command_part command count place) s m r t n
+    → RunsPart machine (each_part command count place s.selection) s m r t n → RunsPart machine (command_part command count place) s m r t n
 runs_command machine (Index selection) count place s m r t n each one = absurd each
 runs_command machine command count place s m r t n each one =
     runs_as machine (each_part command count place s.selection) (command_part command count place) s s m n r r t t one one.counts one.sources
@@ -95,24 +95,24 @@ runs_command machine command count place s m r t n each one =
 
 -- ---- at once
 
-pub runs_nothing : (machine : Machine) (s : State) (m : Moment) → AreSources machine s.parameters → Runs machine nothing_part s m (Ok tt) s m
+pub runs_nothing : (machine : Machine) (s : State) (m : Moment) → AreSources machine s.parameters → RunsPart machine nothing_part s m (Ok tt) s m
 runs_nothing machine s m sources = runs_at_once machine nothing_part s m (Ok tt) s refl sources (λ setting w. (refl, refl))
 
 pub runs_exhausted : (machine : Machine) (count place component : ℕ) (s : State) (m : Moment) → AreSources machine s.parameters
-    → Runs machine (branches_part NoBranches count place component) s m (Err (stops.Condition place s.soft_failure)) s m
+    → RunsPart machine (branches_part NoBranches count place component) s m (Err (stops.Condition place s.soft_failure)) s m
 runs_exhausted machine count place component s m sources =
     runs_at_once machine (branches_part NoBranches count place component) s m (Err (stops.Condition place s.soft_failure)) s refl sources (λ setting w. (refl, refl))
 
 pub runs_index : (machine : Machine) (selection : Selection) (count place : ℕ) (s t : State) (m : Moment) → AreSources machine s.parameters
     → t ≡ record s { selection = selected_by selection count }
-    → Runs machine (command_part (Index selection) count place) s m (Ok tt) t m
+    → RunsPart machine (command_part (Index selection) count place) s m (Ok tt) t m
 runs_index machine selection count place s t m sources is =
-    subst (λ (x : State). Runs machine (command_part (Index selection) count place) s m (Ok tt) x m) (sym is)
+    subst (λ (x : State). RunsPart machine (command_part (Index selection) count place) s m (Ok tt) x m) (sym is)
     (runs_at_once machine (command_part (Index selection) count place) s m (Ok tt) (record s { selection = selected_by selection count }) refl sources (λ setting w. (refl, refl)))
 
 pub runs_override : (machine : Machine) (list : List Param) (count place component : ℕ) (s t : State) (m : Moment) → AreSources machine t.parameters
     → t ≡ after_override s component list
-    → Runs machine (at_part (Override list) count place component) s m (Ok tt) t m
+    → RunsPart machine (at_part (Override list) count place component) s m (Ok tt) t m
 runs_override machine list count place component s t m sources is =
     runs_at_once machine (at_part (Override list) count place component) s m (Ok tt) t refl sources (λ setting w. (ap Done (sym is), refl))
 
@@ -126,35 +126,35 @@ passed_counts (stops.Directive p cause) out soft a b e h =
     let same : stops.Directive p cause ≡ out = cc in subst (λ (o : Stop). StopCounts (Err o) a b) same h
 
 module _ (machine : Machine) (inner : Part) (c : ℕ) (s : State) (m n : Moment) (t : State) where
-  pub inner_done : Runs machine inner (entry_state s c false) m (Ok tt) t n → Runs machine (inner_part inner c) s m (Ok tt) (completed_state s t) n
+  pub inner_done : RunsPart machine inner (entry_state s c false) m (Ok tt) t n → RunsPart machine (inner_part inner c) s m (Ok tt) (completed_state s t) n
   inner_done one =
       runs_as machine inner (inner_part inner c) (entry_state s c false) s m n (Ok tt) (Ok tt) t (completed_state s t) one one.counts one.sources (λ setting w v h. run_completes (inner setting) c s w t v h)
 
-  pub inner_soft : (stop : Stop) → passed_on stop s.soft_failure ≡ None → AreSources machine s.parameters → Runs machine inner (entry_state s c false) m (Err stop) t n → Runs machine (inner_part inner c) s m (Ok tt) s n
+  pub inner_soft : (stop : Stop) → passed_on stop s.soft_failure ≡ None → AreSources machine s.parameters → RunsPart machine inner (entry_state s c false) m (Err stop) t n → RunsPart machine (inner_part inner c) s m (Ok tt) s n
   inner_soft (stops.Condition p true) e sources one =
       runs_as machine inner (inner_part inner c) (entry_state s c false) s m n (Err (stops.Condition p true)) (Ok tt) t s one one.counts sources (λ setting w v h. run_fails_softly (inner setting) c s w p t v h)
   inner_soft (stops.Condition p false) e sources one = absurd cc
   inner_soft (stops.Directive p cause) e sources one = absurd cc
 
-  pub inner_stops : (stop out : Stop) → passed_on stop s.soft_failure ≡ Some out → AreSources machine s.parameters → Runs machine inner (entry_state s c false) m (Err stop) t n → Runs machine (inner_part inner c) s m (Err out) s n
+  pub inner_stops : (stop out : Stop) → passed_on stop s.soft_failure ≡ Some out → AreSources machine s.parameters → RunsPart machine inner (entry_state s c false) m (Err stop) t n → RunsPart machine (inner_part inner c) s m (Err out) s n
   inner_stops stop out e sources one =
       runs_as machine inner (inner_part inner c) (entry_state s c false) s m n (Err stop) (Err out) t s one (passed_counts stop out s.soft_failure (counts_at m) (counts_at n) e one.counts) sources
       (λ setting w v h. run_passes_on (inner setting) c s w stop out t s v e h)
 
   module _ (others : Part) where
-    pub branch_done : Runs machine inner (entry_state s c true) m (Ok tt) t n → Runs machine (trying_part inner others c) s m (Ok tt) (completed_state s t) n
+    pub branch_done : RunsPart machine inner (entry_state s c true) m (Ok tt) t n → RunsPart machine (trying_part inner others c) s m (Ok tt) (completed_state s t) n
     branch_done one =
         runs_as machine inner (trying_part inner others c) (entry_state s c true) s m n (Ok tt) (Ok tt) t (completed_state s t) one one.counts one.sources
         (λ setting w v h. try_completes (inner setting) (others setting) c s w t v h)
 
-    pub branch_stops : (stop out : Stop) → passed_on stop s.soft_failure ≡ Some out → AreSources machine s.parameters → Runs machine inner (entry_state s c true) m (Err stop) t n → Runs machine (trying_part inner others c) s m (Err out) s n
+    pub branch_stops : (stop out : Stop) → passed_on stop s.soft_failure ≡ Some out → AreSources machine s.parameters → RunsPart machine inner (entry_state s c true) m (Err stop) t n → RunsPart machine (trying_part inner others c) s m (Err out) s n
     branch_stops stop out e sources one =
         runs_as machine inner (trying_part inner others c) (entry_state s c true) s m n (Err stop) (Err out) t s one (passed_counts stop out s.soft_failure (counts_at m) (counts_at n) e one.counts) sources
         (λ setting w v h. try_passes_on (inner setting) (others setting) c s w stop out t s v e h)
 
 -- a branch failed softly: the others are left
 pub begun_tried : (machine : Machine) (whole inner others : Part) (c : ℕ) (s0 : State) (m0 : Moment) (s : State) (m n : Moment) (t : State) → Obeys m → Begun machine whole (trying_part inner others c) s0 m0 s m
-    → (stop : Stop) → passed_on stop s.soft_failure ≡ None → Runs machine inner (entry_state s c true) m (Err stop) t n → Begun machine whole others s0 m0 s n
+    → (stop : Stop) → passed_on stop s.soft_failure ≡ None → RunsPart machine inner (entry_state s c true) m (Err stop) t n → Begun machine whole others s0 m0 s n
 begun_tried machine whole inner others c s0 m0 s m n t law b (stops.Condition p false) e one = absurd cc
 begun_tried machine whole inner others c s0 m0 s m n t law b (stops.Directive p cause) e one = absurd cc
 begun_tried machine whole inner others c s0 m0 s m n t law b (stops.Condition p true) e one =

@@ -14,7 +14,7 @@ use Rattle.path_model.specs.Behaviour.{State, Done, Condition}
 use Rattle.path_model.specs.Conditions.{vendor_of, class_of, device_of, slot_of}
 use Rattle.path_model.specs.Settings.{Setting}
 use Rattle.path_model.specs.DevicePlays.{Device, content_at, tested, matched, is_image, is_content, same_identifier, same_number, unread, condition_play}
-use Rattle.path_model.specs.DeviceLaws.{Passes}
+use Rattle.path_model.specs.DeviceLaws.{TestPasses}
 use Rattle.step_machine.specs.Holding.{has_match, holds, Looks}
 use Rattle.step_machine.specs.Conditions.{PassesAs, CutsPlay}
 
@@ -38,7 +38,7 @@ tried_passes kind p c s w o identity is test =
 
 -- the same, of the component as a device has it
 holds_passes : (setting : Setting) (kind : TestKind) (p c : ℕ) (s : State) (w : Device) (identity : Identity) → slice_get setting.identities c ≡ Some identity
-    → IsTrue (holds kind c s.parameters identity (content_at w c)) ↔ Passes setting kind p c s w
+    → IsTrue (holds kind c s.parameters identity (content_at w c)) ↔ TestPasses setting kind p c s w
 holds_passes setting tests.Vendor p c s w identity is =
     tried_passes tests.Vendor p c s w (slice_get setting.identities c) identity is (λ o. same_identifier (identifier_of (in_force s.parameters c keys.Vendor)) (vendor_of o))
 holds_passes setting tests.Class p c s w identity is =
@@ -54,7 +54,7 @@ holds_passes setting tests.Abort p c s w identity is = tested_passes p (Tried c 
 
 pub passes_as : (kind : TestKind) (c : ℕ) (parameters : Parameters) (identity : Identity) (content : List ℕ) (passed : Bool) → passed ≡ holds kind c parameters identity content → PassesAs kind c parameters identity content passed
 passes_as kind c parameters identity content passed is setting p s w same identity_is content_is =
-    subst (λ (b : Bool). IsTrue b ↔ Passes setting kind p c s w)
+    subst (λ (b : Bool). IsTrue b ↔ TestPasses setting kind p c s w)
     (ap (λ (ps : Parameters). holds kind c ps identity (content_at w c)) same ∙ ap (λ (xs : List ℕ). holds kind c parameters identity xs) content_is ∙ sym is)
     (holds_passes setting kind p c s w identity identity_is)
 

@@ -21,11 +21,11 @@ use Rattle.step_machine.specs.Allowing.{AllowsSequence}
 use Rattle.step_machine.specs.Devices.{contents_of}
 use Rattle.step_machine.specs.Parts.{sequence_part, starting_part, then_part, plan_part}
 use Rattle.step_machine.specs.PlanRuns.{Counts, EndCounts, PlaysPlan, end_of}
-use Rattle.step_machine.specs.Running.{Moment, Part, StopCounts, Fits, Runs, AreSources}
+use Rattle.step_machine.specs.Running.{Moment, Part, StopCounts, Fits, RunsPart, AreSources}
 use Rattle.step_machine.proofs.Beginning.{Begun, begun, runs_as, runs_at_once}
 use Rattle.step_machine.proofs.Parting.{comes_same}
 
--- ---- what its sequences may do
+-- ---- the permissions of its sequences
 
 allows_placed : (machine : Machine) (sequence : SequenceTree) → AreIndexed machine.plan.now.count sequence → ((has : SequenceTree → Type 0) → has sequence → InSome (plan_tree machine.plan.now) has) → AllowsSequence machine sequence (0 ∷ [])
 allows_placed machine sequence indexed place = record {
@@ -53,7 +53,7 @@ module _ (machine : Machine) (is : IsPlan (plan_tree machine.plan.now)) where
 abbrev pub shared_part : Machine → Part
 shared_part machine = starting_part (plan_tree machine.plan.now).shared machine.plan.now.count
 
--- what is left behind the first so many
+-- the parts after the first so many
 abbrev pub left_5 : Machine → Part
 left_5 machine = starting_part (plan_tree machine.plan.now).third machine.plan.now.count
 
@@ -75,19 +75,19 @@ members_begun machine s m sources = begun machine (plan_part (plan_tree machine.
 -- ---- one of them
 
 pub runs_started : (machine : Machine) (sequence : SequenceTree) (count : ℕ) (s : State) (m : Moment) (r : Result (Unit {0}) Stop) (t : State) (n : Moment)
-    → Runs machine (sequence_part sequence count) (start_state s) m r t n → Runs machine (starting_part sequence count) s m r t n
+    → RunsPart machine (sequence_part sequence count) (start_state s) m r t n → RunsPart machine (starting_part sequence count) s m r t n
 runs_started machine sequence count s m r t n one =
     runs_as machine (sequence_part sequence count) (starting_part sequence count) (start_state s) s m n r r t t one one.counts one.sources
     (λ setting w v h. comes_same (sequence_part sequence count setting) (starting_part sequence count setting) (start_state s) s w refl (λ o cut. cut) r t v h)
 
-pub runs_absent : (machine : Machine) (count : ℕ) (s : State) (m : Moment) → AreSources machine s.parameters → Runs machine (starting_part NoSteps count) s m (Ok tt) (start_state s) m
+pub runs_absent : (machine : Machine) (count : ℕ) (s : State) (m : Moment) → AreSources machine s.parameters → RunsPart machine (starting_part NoSteps count) s m (Ok tt) (start_state s) m
 runs_absent machine count s m sources =
     runs_at_once machine (starting_part NoSteps count) s m (Ok tt) (start_state s) refl sources (λ setting w. (refl, refl))
 
 pub lent_as : (machine : Machine) (x y : Option (Bor SequenceTree)) → x ≡ y → (s : State) (m : Moment) (r : Result (Unit {0}) Stop) (t : State) (n : Moment)
-    → Runs machine (starting_part (lent_tree y) machine.plan.now.count) s m r t n → Runs machine (starting_part (lent_tree x) machine.plan.now.count) s m r t n
+    → RunsPart machine (starting_part (lent_tree y) machine.plan.now.count) s m r t n → RunsPart machine (starting_part (lent_tree x) machine.plan.now.count) s m r t n
 lent_as machine x y is s m r t n runs =
-    subst (λ (o : Option (Bor SequenceTree)). Runs machine (starting_part (lent_tree o) machine.plan.now.count) s m r t n) (sym is) runs
+    subst (λ (o : Option (Bor SequenceTree)). RunsPart machine (starting_part (lent_tree o) machine.plan.now.count) s m r t n) (sym is) runs
 
 -- ---- at first
 
@@ -111,7 +111,7 @@ end_counts (Err (stops.Condition place soft)) a b h = h
 end_counts (Err (stops.Directive place cause)) a b h = h
 
 module _ (machine : Machine) (m n : Moment) (t : State) (setting : Setting) (fits : Fits machine m setting) where
-  pub plan_plays : (r : Result (Unit {0}) Stop) → Runs machine (plan_part (plan_tree machine.plan.now)) first_state m r t n
+  pub plan_plays : (r : Result (Unit {0}) Stop) → RunsPart machine (plan_part (plan_tree machine.plan.now)) first_state m r t n
       → PlaysPlan (plan_tree machine.plan.now) setting (end_of r) (contents_of machine.standings.now m.ram m.disk.flash.reads) (contents_of machine.standings.now n.ram n.disk.flash.reads) m.launcher.launches n.launcher.launches
   plan_plays (Ok u) runs =
       let g = runs.goes setting fits [] in

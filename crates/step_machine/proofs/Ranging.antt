@@ -11,7 +11,7 @@ outside_wider p n q m le fits i out = elim out [
   | inr ge ↦ inr (omega (arith, ge, fits))
 ]
 
--- what keeps all but a range keeps all but a wider one
+-- keeping all but a range keeps all but a wider one
 pub keeps_wider : (p n q m : ℕ) → p ≤ q → q + m ≤ p + n → (a b : Flash) → Keeps (Outside q m) a b → Keeps (Outside p n) a b
 keeps_wider p n q m le fits a b kept = keeps_fewer (Outside p n) (Outside q m) (outside_wider p n q m le fits) a b kept
 

@@ -53,7 +53,7 @@ content_front (spots.Flash slot) ram reads n inside is =
 content_front (spots.Ram component) ram reads n inside is =
     sym (take_all n (held_by ram component).content (omega (arith, is)))
 
--- ---- what stays where another content changes
+-- ---- contents that stay where another changes
 
 kept_room : (K : ℕ → Type 0) (slot : Slot) (f g : Flash) → slot.start + extent_of slot ≤ length f.reads → ((i : ℕ) → slot.start ≤ i → i < slot.start + extent_of slot → K i) → Keeps K f g
     → area_of slot g.reads ≡ area_of slot f.reads

@@ -24,4 +24,5 @@ IsHeld (spots.Ram component) ram = component < length ram
 abbrev pub KeepsFront : Spot → List Held → List Held → Type 0
 KeepsFront (spots.Flash slot) old new = Unit {0}
 KeepsFront (spots.Ram component) old new =
-    take (length (held_by old component).content) (held_by new component).content ≡ (held_by old component).content
+    take (length (held_by old component).content) (held_by new component).content
+    ≡ (held_by old component).content

@@ -6,17 +6,19 @@ use Rattle.path_model.specs.declared.identity.Identity.{Identity}
 use Rattle.path_model.specs.Behaviour.{State}
 use Rattle.path_model.specs.Settings.{Setting}
 use Rattle.path_model.specs.DevicePlays.{Device, content_at, unread, condition_play}
-use Rattle.path_model.specs.DeviceLaws.{Passes}
+use Rattle.path_model.specs.DeviceLaws.{TestPasses}
 
 -- in each setting and on each device where the component is this and holds that content
 abbrev pub PassesAs : TestKind → ℕ → Parameters → Identity → List ℕ → Bool → Type 0
 PassesAs kind component parameters identity content passed =
     (setting : Setting) (place : ℕ) (state : State) (device : Device)
-    → state.parameters ≡ parameters → slice_get setting.identities component ≡ Some identity → content_at device component ≡ content
-    → IsTrue passed ↔ Passes setting kind place component state device
+    → state.parameters ≡ parameters → slice_get setting.identities component ≡ Some identity
+    → content_at device component ≡ content
+    → IsTrue passed ↔ TestPasses setting kind place component state device
 
 -- a play is cut there
 abbrev pub CutsPlay : TestKind → ℕ → Parameters → Type 0
 CutsPlay kind component parameters =
     (setting : Setting) (place : ℕ) (state : State) (device : Device)
-    → state.parameters ≡ parameters → (condition_play setting kind place component).IsCut state device (unread place device)
+    → state.parameters ≡ parameters
+    → (condition_play setting kind place component).IsCut state device (unread place device)

@@ -1,4 +1,4 @@
--- What a copy and a swap come to for two components, as plays have it (draft-ietf-suit-manifest-25, section 8.4.10).
+-- The result of a copy and a swap for two components, as plays have it (draft-ietf-suit-manifest-25, section 8.4.10).
 use Rattle.std.specs.Prelude.{◌≡◌, ◌≢◌, ◌<◌, ℕ, List, Some, Result, length}
 use Rattle.suit_params.specs.declared.param.ParamKey.TheVariants as keys
 use Rattle.suit_params.specs.InForce.{in_force, number_of}
@@ -15,7 +15,8 @@ use Rattle.step_machine.specs.Directives.{ActsSo}
 
 -- the source that is in force for the component
 abbrev pub NamesSource : State → ℕ → ℕ → Type 0
-NamesSource state component source = number_of (in_force state.parameters component keys.Source) ≡ Some source
+NamesSource state component source =
+    number_of (in_force state.parameters component keys.Source) ≡ Some source
 
 -- other components share no byte
 abbrev pub AreApart : ℕ → Spot → ℕ → Spot → Type 0
@@ -27,8 +28,10 @@ abbrev pub CopiesAs : ℕ → ℕ → ℕ → List ℕ → List ℕ → List ℕ
 CopiesAs component capacity source content before after result =
     (setting : Setting) (place : ℕ) (state : State) (device : Device)
     → NamesSource state component source → capacity_of setting component ≡ capacity
-    → content_at device source ≡ content → content_at device component ≡ before → component < length device.contents
-    → ActsSo (directive_play setting acts.Copy place component) place state device result (with_content device component after)
+    → content_at device source ≡ content → content_at device component ≡ before
+    → component < length device.contents
+    → ActsSo (directive_play setting acts.Copy place component) place state device result
+    (with_content device component after)
 
 -- ---- two contents that change
 
@@ -48,8 +51,10 @@ abbrev pub SwapsAs : Side → Side → Result (Unit {0}) Cause → Type 0
 SwapsAs one other result =
     (setting : Setting) (place : ℕ) (state : State) (device : Device)
     → NamesSource state one.component other.component
-    → capacity_of setting one.component ≡ one.capacity → capacity_of setting other.component ≡ other.capacity
-    → content_at device one.component ≡ one.before → content_at device other.component ≡ other.before
+    → capacity_of setting one.component ≡ one.capacity
+    → capacity_of setting other.component ≡ other.capacity
+    → content_at device one.component ≡ one.before
+    → content_at device other.component ≡ other.before
     → one.component < length device.contents → other.component < length device.contents
     → ActsSo (directive_play setting acts.Swap place one.component) place state device result
     (with_content (with_content device one.component one.after) other.component other.after)
@@ -60,4 +65,5 @@ OutsideBoth one other i = OutsideSpot one i × OutsideSpot other i
 
 -- all of the memory but two components
 abbrev pub IsRamButBoth : Spot → Spot → List Held → List Held → Type 0
-IsRamButBoth one other old new = (middle : List Held) × IsRamBut one old middle × IsRamBut other middle new
+IsRamButBoth one other old new =
+    (middle : List Held) × IsRamBut one old middle × IsRamBut other middle new

@@ -14,7 +14,8 @@ contents_of standings ram reads = map (λ standing. content_of standing.spot ram
 
 -- two contents share no byte
 abbrev pub AreSpotsClear : Spot → Spot → Type 0
-AreSpotsClear (spots.Flash one) (spots.Flash other) = AreClear one.start (extent_of one) other.start (extent_of other)
+AreSpotsClear (spots.Flash one) (spots.Flash other) =
+    AreClear one.start (extent_of one) other.start (extent_of other)
 AreSpotsClear (spots.Ram one) (spots.Ram other) = other ≢ one
 AreSpotsClear (spots.Flash one) (spots.Ram other) = Unit {0}
 AreSpotsClear (spots.Ram one) (spots.Flash other) = Unit {0}

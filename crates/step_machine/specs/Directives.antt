@@ -1,4 +1,4 @@
--- What a directive comes to for a component, as plays have it.
+-- The result of a directive for a component, as plays have it.
 use Rattle.std.specs.Prelude.{◌≡◌, ◌<◌, ℕ, List, Some, length, Result, Ok, Err}
 use Rattle.suit_edge.specs.Faults.{Faulted}
 use Rattle.suit_params.specs.InForce.{Parameters}
@@ -11,21 +11,26 @@ use Rattle.path_model.specs.Plays.{Outcome, Play}
 use Rattle.path_model.specs.DevicePlays.{Device, content_at, with_content, directive_play}
 
 -- an outcome that stops at this place, for this cause, and leaves this
-pub record Stops (place : ℕ) (cause : Cause) (after : Device) (outcome : Outcome Device) : Type 0 where
+pub record Stops (place : ℕ) (cause : Cause) (after : Device) (outcome : Outcome Device)
+    : Type 0 where
   pub ending : outcome.ending ≡ Directive place
   pub named : outcome.cause ≡ Some cause
   pub world : outcome.world ≡ after
 
 -- a play that a fault cut
-pub record IsCutSo (play : Play Device) (place : ℕ) (state : State) (before : Device) (cause : Cause) (after : Device) : Type 0 where
+pub record IsCutSo (play : Play Device) (place : ℕ) (state : State) (before : Device)
+    (cause : Cause) (after : Device) : Type 0 where
   pub outcome : Outcome Device
   pub cut : play.IsCut state before outcome
   pub stops : Stops place cause after outcome
 
 abbrev pub StopsSo : Play Device → ℕ → State → Device → Cause → Device → Type 0
-StopsSo play place state before causes.HostFault after = IsCutSo play place state before causes.HostFault after
-StopsSo play place state before causes.FlashFault after = IsCutSo play place state before causes.FlashFault after
-StopsSo play place state before causes.LaunchFault after = IsCutSo play place state before causes.LaunchFault after
+StopsSo play place state before causes.HostFault after =
+    IsCutSo play place state before causes.HostFault after
+StopsSo play place state before causes.FlashFault after =
+    IsCutSo play place state before causes.FlashFault after
+StopsSo play place state before causes.LaunchFault after =
+    IsCutSo play place state before causes.LaunchFault after
 StopsSo play place state before cause after = Stops place cause after (play.comes state before)
 
 -- a directive was done, or stopped: by itself, or by a fault
@@ -36,12 +41,15 @@ ActsSo play place state before (Err cause) after = StopsSo play place state befo
 
 -- in each setting and on each device where the component has that room and holds the content before, and holds the
 -- content after
-abbrev pub WritesAs : ActKind → ℕ → ℕ → Parameters → List ℕ → List ℕ → Result (Unit {0}) Cause → Type 0
+abbrev pub WritesAs : ActKind → ℕ → ℕ → Parameters → List ℕ → List ℕ → Result (Unit {0}) Cause
+    → Type 0
 WritesAs kind component capacity parameters before after result =
     (setting : Setting) (place : ℕ) (state : State) (device : Device)
-    → state.parameters ≡ parameters → capacity_of setting component ≡ capacity → content_at device component ≡ before
+    → state.parameters ≡ parameters → capacity_of setting component ≡ capacity
+    → content_at device component ≡ before
     → component < length device.contents
-    → ActsSo (directive_play setting kind place component) place state device result (with_content device component after)
+    → ActsSo (directive_play setting kind place component) place state device result
+    (with_content device component after)
 
 -- the flash's count of faults rose for a fault of the flash, and stayed otherwise; no other object has a fault
 abbrev pub CauseCounts : Result (Unit {0}) Cause → ℕ → ℕ → Type 0

@@ -1,4 +1,4 @@
--- What a fetch comes to for a component, as plays have it, and what becomes of a file that is taken piece by piece.
+-- The result of a fetch for a component, as plays have it, and of taking a file piece by piece.
 use Rattle.std.specs.Prelude.{◌≡◌, ◌⊎◌, ◌<◌, ◌≤◌, ◌+◌, ◌==◌, ℕ, if◌then◌else◌, List, [], ◌++◌, Option, Some, None, Result, Ok, Err, get_or, length, take}
 use Rattle.std.specs.Option.{option_and_then}
 use Rattle.suit_edge.specs.Faults.{Faulted}
@@ -48,8 +48,10 @@ TakesIn (Err _) capacity file content = ⊥
 
 -- the counts of the host and of the flash: the one rose whose fault it was, and no other
 abbrev pub FetchCounts : Result (Unit {0}) Cause → ℕ → ℕ → ℕ → ℕ → Type 0
-FetchCounts (Err causes.HostFault) before now disk_before disk_now = Faulted before now × (disk_now ≡ disk_before)
-FetchCounts (Err causes.FlashFault) before now disk_before disk_now = (now ≡ before) × Faulted disk_before disk_now
+FetchCounts (Err causes.HostFault) before now disk_before disk_now =
+    Faulted before now × (disk_now ≡ disk_before)
+FetchCounts (Err causes.FlashFault) before now disk_before disk_now =
+    (now ≡ before) × Faulted disk_before disk_now
 FetchCounts (Err causes.LaunchFault) before now disk_before disk_now = ⊥
 FetchCounts _ before now disk_before disk_now = (now ≡ before) × (disk_now ≡ disk_before)
 
@@ -61,7 +63,7 @@ PutsIn (Err causes.HostFault) capacity file put = Unit {0}
 PutsIn (Err causes.FlashFault) capacity file put = Unit {0}
 PutsIn (Err _) capacity file put = ⊥
 
--- What was named became the content. Where nothing was, the content stays, and a fault of the host leaves it or empties it.
+-- The named file became the content. If there was none it stays, and a fault of the host leaves it or empties it.
 abbrev pub TakesNamed : Result (Unit {0}) Cause → ℕ → Option (List ℕ) → List ℕ → List ℕ → Type 0
 TakesNamed (Err causes.Absent) capacity named before after = (named ≡ None) × (after ≡ before)
 TakesNamed (Err causes.HostFault) capacity named before after = (after ≡ before) ⊎ (after ≡ [])
@@ -70,18 +72,21 @@ TakesNamed result capacity named before after =
 
 -- ---- as plays have it
 
--- what a URI names, of these payloads, these names of files and these files
-abbrev pub payload_by : List (List ℕ × List ℕ) → List (List ℕ × List ℕ) → (List ℕ → Option (List ℕ)) → List ℕ → Option (List ℕ)
+-- the payload that a URI names, of these payloads, these names of files and these files
+abbrev pub payload_by : List (List ℕ × List ℕ) → List (List ℕ × List ℕ) → (List ℕ → Option (List ℕ))
+    → List ℕ → Option (List ℕ)
 payload_by payloads words files uri =
     if get_or uri 0 0 == 35 then found_under payloads uri
     else option_and_then files (found_under words uri)
 
 -- in each setting with these payloads and files, and on each device where the component has that room and holds the
 -- content before, and holds the content after
-abbrev pub FetchesAs : ℕ → ℕ → Parameters → List (List ℕ × List ℕ) → List (List ℕ × List ℕ) → (List ℕ → Option (List ℕ)) → List ℕ → List ℕ → Result (Unit {0}) Cause → Type 0
+abbrev pub FetchesAs : ℕ → ℕ → Parameters → List (List ℕ × List ℕ) → List (List ℕ × List ℕ)
+    → (List ℕ → Option (List ℕ)) → List ℕ → List ℕ → Result (Unit {0}) Cause → Type 0
 FetchesAs component capacity parameters payloads words files before after result =
     (setting : Setting) (place : ℕ) (state : State) (device : Device)
     → state.parameters ≡ parameters → capacity_of setting component ≡ capacity
     → setting.payloads ≡ payloads → setting.words ≡ words → setting.files ≡ files
     → content_at device component ≡ before → component < length device.contents
-    → ActsSo (directive_play setting acts.Fetch place component) place state device result (with_content device component after)
+    → ActsSo (directive_play setting acts.Fetch place component) place state device result
+    (with_content device component after)

@@ -30,5 +30,6 @@ holds tests.Abort component parameters identity content = false
 -- it looks at the content, since its parameter is there
 abbrev pub Looks : TestKind → ℕ → Parameters → Type 0
 Looks tests.ImageMatch component parameters = IsSome (digest_in parameters component)
-Looks tests.CheckContent component parameters = IsSome (bytes_of (in_force parameters component keys.Content))
+Looks tests.CheckContent component parameters =
+    IsSome (bytes_of (in_force parameters component keys.Content))
 Looks _ component parameters = ⊥

@@ -1,4 +1,4 @@
--- What an invoke comes to for a component, as plays have it.
+-- The result of an invoke for a component, as plays have it.
 use Rattle.std.specs.Prelude.{◌≡◌, ◌≤◌, ℕ, List, [], ◌∷◌, ◌++◌, true, Option, Result, Ok, Err, option_map}
 use Rattle.suit_edge.specs.declared.launch.Launch.{Launch}
 use Rattle.suit_edge.specs.declared.launcher.Image.{Image}
@@ -42,22 +42,35 @@ launched_as launch = record {
 }
 
 -- where it is done there is one launch more, and that is the one of the play; otherwise there is none, and the play is cut
-abbrev pub LaunchesSo : Play Device → ℕ → State → Device → List Launch → List Launch → Result (Unit {0}) Cause → Type 0
+abbrev pub LaunchesSo : Play Device → ℕ → State → Device → List Launch → List Launch
+    → Result (Unit {0}) Cause → Type 0
 LaunchesSo play place state device before now (Ok _) =
-    (launch : Launch) × (now ≡ before ++ launch ∷ []) × ((play.comes state device).ending ≡ Done state)
-    × ((play.comes state device).world ≡ record { contents = device.contents; launches = device.launches ++ launched_as launch ∷ [] })
-LaunchesSo play place state device before now (Err cause) = (now ≡ before) × StopsSo play place state device cause device
+    (launch : Launch) × (now ≡ before ++ launch ∷ [])
+    × ((play.comes state device).ending ≡ Done state)
+    ×
+    ((play.comes state device).world
+    ≡
+    record {
+      contents = device.contents;
+      launches = device.launches ++ launched_as launch ∷ [];
+    })
+LaunchesSo play place state device before now (Err cause) =
+    (now ≡ before) × StopsSo play place state device cause device
 
 -- on each device where the component holds this
-abbrev pub InvokesAs : ℕ → Parameters → List ℕ → List Launch → List Launch → Result (Unit {0}) Cause → Type 0
+abbrev pub InvokesAs : ℕ → Parameters → List ℕ → List Launch → List Launch → Result (Unit {0}) Cause
+    → Type 0
 InvokesAs component parameters content before now result =
     (setting : Setting) (place : ℕ) (state : State) (device : Device)
     → state.parameters ≡ parameters → content_at device component ≡ content
-    → LaunchesSo (directive_play setting acts.Invoke place component) place state device before now result
+    → LaunchesSo (directive_play setting acts.Invoke place component) place state device before now
+    result
 
 -- the counts of the launcher and of the flash: one of them rose for its fault
 abbrev pub InvokeCounts : Result (Unit {0}) Cause → ℕ → ℕ → ℕ → ℕ → Type 0
 InvokeCounts (Ok _) before now disk_before disk_now = (now ≡ before) × (disk_now ≡ disk_before)
-InvokeCounts (Err causes.LaunchFault) before now disk_before disk_now = Faulted before now × (disk_before ≤ disk_now)
-InvokeCounts (Err causes.FlashFault) before now disk_before disk_now = (before ≤ now) × Faulted disk_before disk_now
+InvokeCounts (Err causes.LaunchFault) before now disk_before disk_now =
+    Faulted before now × (disk_before ≤ disk_now)
+InvokeCounts (Err causes.FlashFault) before now disk_before disk_now =
+    (before ≤ now) × Faulted disk_before disk_now
 InvokeCounts (Err _) before now disk_before disk_now = ⊥

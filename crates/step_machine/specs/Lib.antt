@@ -8,6 +8,7 @@ pub mod Invoking
 pub mod Fetching
 pub mod Copying
 pub mod Worlds
+pub mod Typing
 pub mod PlanRuns
 pub mod Running
 pub mod Allowing

@@ -20,7 +20,8 @@ use Rattle.step_machine.specs.Invoking.{launched_as}
 use Rattle.step_machine.specs.Spots.{OutsideSpot}
 
 -- the setting of components that stand so, with these payloads, these URIs and these files
-abbrev pub setting_of : List Standing → List (List ℕ × List ℕ) → List (List ℕ × List ℕ) → (List ℕ → Option (List ℕ)) → Setting
+abbrev pub setting_of : List Standing → List (List ℕ × List ℕ) → List (List ℕ × List ℕ)
+    → (List ℕ → Option (List ℕ)) → Setting
 setting_of standings payloads words files = record {
   identities = map (λ (s : Standing). s.identity) standings;
   capacities = map (λ (s : Standing). s.capacity) standings;
@@ -35,7 +36,8 @@ setting_of standings payloads words files = record {
 -- fault cut short.
 abbrev pub EndsAs : PlanTree → Setting → List (List ℕ) → PlanEnd → Device → Type 0
 EndsAs plan setting contents ends.Done after =
-    (next : State) × ((played plan setting contents).ending ≡ Done next) × ((played plan setting contents).world ≡ after)
+    (next : State) × ((played plan setting contents).ending ≡ Done next)
+    × ((played plan setting contents).world ≡ after)
 EndsAs plan setting contents (ends.ConditionFailed place) after =
     (soft_failure : Bool) × ((played plan setting contents).ending ≡ Condition place soft_failure)
     × ((played plan setting contents).world ≡ after)
@@ -43,10 +45,13 @@ EndsAs plan setting contents (ends.DirectiveFailed place cause) after =
     StopsSo (plan_play plan setting) place first_state (first_device contents) cause after
 
 -- the contents before and after, and the launches before and after, of which those gained are the play's
-pub record PlaysPlan (plan : PlanTree) (setting : Setting) (end : PlanEnd) (before after : List (List ℕ)) (launched now : List Launch) : Type 0 where
+pub record PlaysPlan (plan : PlanTree) (setting : Setting) (end : PlanEnd)
+    (before after : List (List ℕ)) (launched now : List Launch) : Type 0 where
   pub gained : List Launch
   pub added : now ≡ launched ++ gained
-  pub ends : EndsAs plan setting before end (record { contents = after; launches = map launched_as gained })
+  pub ends :
+      EndsAs plan setting before end
+      (record { contents = after; launches = map launched_as gained })
 
 -- how a procedure ends of which a sequence ended so
 abbrev pub end_of : Result (Unit {0}) Stop → PlanEnd
@@ -79,9 +84,15 @@ EndCounts ends.Done before now = now ≡ before
 EndCounts (ends.ConditionFailed place) before now = now ≡ before
 EndCounts (ends.DirectiveFailed place cause) before now = CountsFor cause before now
 
--- ---- what it leaves alone
+-- a fault of the flash before the procedure or behind it: another object may have failed in the procedure
+abbrev pub FlashFailed : Counts → Counts → Type 0
+FlashFailed before now =
+    (before.host ≤ now.host) × Faulted before.disk now.disk × (before.launcher ≤ now.launcher)
+
+-- ---- the parts that it leaves alone
 
 -- outside the slots that the components stand for which the procedure may write
 abbrev pub OutsideTargets : PlanTree → List Standing → ℕ → Type 0
 OutsideTargets plan standings i =
-    (k : ℕ) (d : Standing) → k < length standings → IsTarget plan k → OutsideSpot (get_or standings k d).spot i
+    (k : ℕ) (d : Standing) → k < length standings → IsTarget plan k
+    → OutsideSpot (get_or standings k d).spot i

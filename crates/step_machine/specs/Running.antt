@@ -1,4 +1,4 @@
--- What a part of a procedure does on a device, from a moment to a later one.
+-- The effect of a part of a procedure on a device, from a moment to a later one.
 use Rattle.std.specs.Prelude.{◌≡◌, ◌<◌, ℕ, Bool, IsTrue, List, [], ◌∷◌, ◌++◌, Option, Some, Result, Ok, Err, length, map}
 use Rattle.std.specs.List.{AllByRecursion, range_with_len}
 use Rattle.suit_edge.specs.Flash.{Flash, Grows, Keeps}
@@ -60,7 +60,10 @@ counts_at m = counts_of m.host.faults m.disk.faults m.launcher.faults
 -- the device of plays, after these launches
 abbrev pub device_at : Machine → Moment → List Launched → Device
 device_at machine m launches =
-    record { contents = contents_of machine.standings.now m.ram m.disk.flash.reads; launches = launches }
+    record {
+      contents = contents_of machine.standings.now m.ram m.disk.flash.reads;
+      launches = launches;
+    }
 
 -- ---- the state of a running sequence
 
@@ -79,8 +82,10 @@ state_of progress = record {
 -- a source in force is one of the components, and the procedure names it as one
 abbrev pub AreSources : Machine → Parameters → Type 0
 AreSources machine parameters =
-    (component source : ℕ) → component < 8 → number_of (in_force parameters component keys.Source) ≡ Some source
-    → (source < length machine.standings.now) × InSome (plan_tree machine.plan.now) (λ s. Sources s source)
+    (component source : ℕ) → component < 8
+    → number_of (in_force parameters component keys.Source) ≡ Some source
+    → (source < length machine.standings.now)
+    × InSome (plan_tree machine.plan.now) (λ s. Sources s source)
 
 pub record IsUnderWay (machine : Machine) (state : State) : Type 0 where
   pub sources : AreSources machine state.parameters
@@ -93,15 +98,19 @@ pub record IsReady (machine : Machine) (size : ℕ) (ram : List Held) : Type 0 w
 
 -- ---- from a moment to a later one
 
--- what holds however it ends
+-- the properties that hold however it ends
 pub record Stays (machine : Machine) (before after : Moment) : Type 0 where
   pub host : after.host.told ≡ before.host.told
   pub disk : after.disk.told ≡ before.disk.told
   pub launcher : after.launcher.told ≡ before.launcher.told
   pub size : after.disk.size ≡ before.disk.size
-  pub rooms : map (λ (held : Held). held.capacity) after.ram ≡ map (λ (held : Held). held.capacity) before.ram
+  pub rooms :
+      map (λ (held : Held). held.capacity) after.ram
+      ≡ map (λ (held : Held). held.capacity) before.ram
   pub files : IsTrue before.host.told → after.host.files ≡ before.host.files
-  pub keeps : IsTrue before.disk.told → Keeps (OutsideTargets (plan_tree machine.plan.now) machine.standings.now) before.disk.flash after.disk.flash
+  pub keeps : IsTrue before.disk.told
+      → Keeps (OutsideTargets (plan_tree machine.plan.now) machine.standings.now) before.disk.flash
+      after.disk.flash
   pub grows : IsTrue before.disk.told → Grows before.disk.flash after.disk.flash
 
 -- where it was stopped by a fault, the count of its object rose
@@ -125,17 +134,22 @@ abbrev pub Part : Type 1
 Part = Setting → Play Device
 
 -- the play comes to it, and to the launches that were gained
-pub record Gained (machine : Machine) (play : Play Device) (state : State) (before : Moment) (result : Result (Unit {0}) Stop) (next : State) (after : Moment) (prior : List Launched) : Type 0 where
+pub record Gained (machine : Machine) (play : Play Device) (state : State) (before : Moment)
+    (result : Result (Unit {0}) Stop) (next : State) (after : Moment) (prior : List Launched)
+    : Type 0 where
   pub gained : List Launch
   pub added : after.launcher.launches ≡ before.launcher.launches ++ gained
-  pub comes : Comes play state (device_at machine before prior) result next (device_at machine after (prior ++ map launched_as gained))
+  pub comes :
+      Comes play state (device_at machine before prior) result next
+      (device_at machine after (prior ++ map launched_as gained))
 
 abbrev pub Goes : Machine → Part → State → Moment → Result (Unit {0}) Stop → State → Moment → Type 0
 Goes machine part state before result next after =
     (setting : Setting) → Fits machine before setting → (prior : List Launched)
     → Gained machine (part setting) state before result next after prior
 
-pub record Runs (machine : Machine) (part : Part) (state : State) (before : Moment) (result : Result (Unit {0}) Stop) (next : State) (after : Moment) : Type 0 where
+pub record RunsPart (machine : Machine) (part : Part) (state : State) (before : Moment)
+    (result : Result (Unit {0}) Stop) (next : State) (after : Moment) : Type 0 where
   pub stays : Stays machine before after
   pub counts : StopCounts result (counts_at before) (counts_at after)
   pub sources : AreSources machine next.parameters

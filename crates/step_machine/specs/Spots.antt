@@ -21,7 +21,7 @@ abbrev pub room_at : Spot → List Held → ℕ
 room_at (spots.Flash slot) ram = slot.capacity
 room_at (spots.Ram component) ram = (held_by ram component).capacity
 
--- ---- what stays where the content there changes
+-- ---- the contents that stay where the one there changes
 
 -- all of the flash but the slot
 abbrev pub OutsideSpot : Spot → ℕ → Type 0

@@ -1,4 +1,4 @@
--- What the components of a procedure are on a device: by its layout, and by the slots that they stand for.
+-- The components of a procedure on a device: by its layout, and by the slots that they stand for.
 use Rattle.std.specs.Prelude.{◌≡◌, ◌≢◌, ◌<◌, ◌≤◌, ℕ, List, length, get_or, slice_index}
 use Rattle.flash_layout.specs.declared.layout.Entry.{Entry}
 use Rattle.flash_layout.specs.declared.layout.Memory.{Memory}
@@ -17,47 +17,56 @@ use Rattle.step_machine.specs.Devices.{IsApart}
 
 -- the content stands in the slot of that number, or in working memory
 abbrev pub spot_of : Memory → Entry → ℕ → ℕ → Spot
-spot_of memory.Flash entry index number = spots.Flash (slot_at entry (slice_index entry.starts number))
+spot_of memory.Flash entry index number =
+    spots.Flash (slot_at entry (slice_index entry.starts number))
 spot_of memory.Ram entry index number = spots.Ram index
 
 -- a component of the manifest that has this entry at that index of the layout, and stands for the slot of that number
 abbrev pub standing_of : Entry → ℕ → ℕ → ℕ → Standing
 standing_of entry component index number = record {
   component = component;
-  identity = record { vendor = entry.vendor; class = entry.class; device = entry.device; slot = number };
+  identity =
+      record { vendor = entry.vendor; class = entry.class; device = entry.device; slot = number };
   capacity = entry.capacity;
   spot = spot_of entry.memory entry index number;
 }
 
 -- each component of the manifest stands so
-pub record StandAs (layout : List Entry) (places : Places) (slots : SlotChoice) (standings : List Standing) : Type 0 where
+pub record StandAs (layout : List Entry) (places : Places) (slots : SlotChoice)
+    (standings : List Standing) : Type 0 where
   pub count : length standings ≡ places.count
   pub each : (k : ℕ) (d : Standing) (e : Entry) → k < places.count
       → let index = slice_index places.layout_index k in
-      get_or standings k d ≡ standing_of (get_or layout index e) k index (slice_index slots.number index)
+      get_or standings k d
+      ≡ standing_of (get_or layout index e) k index (slice_index slots.number index)
 
 -- each component's list of starts has room for two
 abbrev pub HaveTwo : List Entry → Places → ℕ → Type 0
-HaveTwo layout places count = (k : ℕ) (e : Entry) → k < count → length (get_or layout (slice_index places.layout_index k) e).starts ≡ 2
+HaveTwo layout places count =
+    (k : ℕ) (e : Entry) → k < count
+    → length (get_or layout (slice_index places.layout_index k) e).starts ≡ 2
 
--- ---- what is needed of places and slots
+-- ---- requirements on places and slots
 
 -- components have other places, each in the layout
 pub record AreDistinct (layout : List Entry) (places : Places) : Type 0 where
   pub few : places.count ≤ 8
   pub inside : (k : ℕ) → k < places.count → slice_index places.layout_index k < length layout
-  pub other : (j k : ℕ) → j < k → k < places.count → slice_index places.layout_index j ≢ slice_index places.layout_index k
+  pub other : (j k : ℕ) → j < k → k < places.count
+      → slice_index places.layout_index j ≢ slice_index places.layout_index k
 
 -- each component of the layout stands for one of its slots, of which there are at most two
 pub record IsChoice (layout : List Entry) (slots : SlotChoice) : Type 0 where
   pub few : length layout ≤ 8
-  pub one : (i : ℕ) (e : Entry) → i < length layout → slice_index slots.number i < (get_or layout i e).slots
+  pub one : (i : ℕ) (e : Entry) → i < length layout
+      → slice_index slots.number i < (get_or layout i e).slots
   pub two : (i : ℕ) (e : Entry) → i < length layout → (get_or layout i e).slots ≤ 2
 
--- ---- what a procedure needs
+-- ---- the needs of a procedure
 
 -- the component with that index has room within the flash of that size, or within the memory
-pub record IsStandingAt (size : ℕ) (ram : List Held) (index : ℕ) (standing : Standing) : Type 0 where
+pub record IsStandingAt (size : ℕ) (ram : List Held) (index : ℕ) (standing : Standing)
+    : Type 0 where
   pub component : standing.component ≡ index
   pub spot : IsSpot size ram standing.spot
   pub room : room_at standing.spot ram ≡ standing.capacity
@@ -65,5 +74,6 @@ pub record IsStandingAt (size : ℕ) (ram : List Held) (index : ℕ) (standing :
 -- at most eight components, whose contents share no byte
 pub record AreStandings (size : ℕ) (ram : List Held) (standings : List Standing) : Type 0 where
   pub few : length standings ≤ 8
-  pub each : (k : ℕ) (d : Standing) → k < length standings → IsStandingAt size ram k (get_or standings k d)
+  pub each : (k : ℕ) (d : Standing) → k < length standings
+      → IsStandingAt size ram k (get_or standings k d)
   pub apart : (k : ℕ) → k < length standings → IsApart standings k

@@ -1,11 +1,9 @@
 //! Conditions and directives of a running procedure, at one component.
 
-ghost use Rattle.path_model.specs.Behaviour.{State};
-ghost use Rattle.std.specs.Prelude.{◌≡◌, ◌<◌, Some, length};
-ghost use Rattle.std.specs.Option.{option_copied};
+ghost use Rattle.std.specs.Prelude.{◌≡◌, ◌<◌, ◌⊎◌, [], Some, length};
 ghost use Rattle.step_machine.specs.Allowing.{MaySwap, MayWrite};
 ghost use Rattle.step_machine.specs.Parts.{act_part, test_part};
-ghost use Rattle.step_machine.specs.Running.{IsReady, IsUnderWay, Runs, moment, state_of, stopped};
+ghost use Rattle.step_machine.specs.Running.{IsReady, IsUnderWay, RunsPart, moment, state_of, stopped};
 ghost use Rattle.suit_commands.specs.Targets.{IsWriting};
 ghost use Rattle.suit_commands.specs.declared.kinds.ActKind.TheVariants as acts;
 
@@ -21,7 +19,7 @@ use suit_commands::{ActKind, TestKind};
 use suit_edge::{Disk, Host, Launcher};
 use suit_params::ParamKey;
 
-/// A condition.
+/// Tests a condition.
 pub(crate) fn test<H: Host, D: Disk, L: Launcher>(
     machine: &Machine<'_>,
     host: &mut H,
@@ -37,10 +35,13 @@ pub(crate) fn test<H: Host, D: Disk, L: Launcher>(
     requires ready { IsReady machine.now (D.extent disk.old) ram.old }
     requires inside { component < length machine.now.standings.now }
     requires under_way { IsUnderWay machine.now (state_of state.now) }
-    ensures runs { Runs machine.now (test_part kind place component) (state_of state.now)
-        (moment (⟦<H as HostSeen>⟧.seen host.old) (⟦<D as DiskSeen>⟧.seen disk.old) (⟦<L as LauncherSeen>⟧.seen launcher.old) ram.old)
+    ensures runs { RunsPart machine.now (test_part kind place component) (state_of state.now)
+        (moment (⟦<H as HostSeen>⟧.seen host.old) (⟦<D as DiskSeen>⟧.seen disk.old)
+        (⟦<L as LauncherSeen>⟧.seen launcher.old) ram.old)
         result (state_of state.now)
-        (moment (⟦<H as HostSeen>⟧.seen host.new) (⟦<D as DiskSeen>⟧.seen disk.new) (⟦<L as LauncherSeen>⟧.seen launcher.new) ram.new) }
+        (moment (⟦<H as HostSeen>⟧.seen host.new) (⟦<D as DiskSeen>⟧.seen disk.new)
+        (⟦<L as LauncherSeen>⟧.seen launcher.new) ram.new) }
+    ensures unasked { machine.now.uris.now ≡ [] → host.new ≡ host.old }
 {
     let standing = &machine.standings[component as usize];
     match passes(
@@ -63,7 +64,7 @@ pub(crate) fn test<H: Host, D: Disk, L: Launcher>(
     }
 }
 
-// A directive that came to this stops its sequence where it failed.
+// A directive with this result stops its sequence if it failed.
 fn stopped(place: u64, came: Result<(), Cause>) -> Result<(), Stop>
     ensures { result ≡ stopped place came }
 {
@@ -73,14 +74,15 @@ fn stopped(place: u64, came: Result<(), Cause>) -> Result<(), Stop>
     }
 }
 
-// Write.
-fn act_write<H: Host, D: Disk, L: Launcher>(
+// A copy or a swap, from the component that is named in force.
+fn act_from_source<H: Host, D: Disk, L: Launcher>(
     machine: &Machine<'_>,
     host: &mut H,
     disk: &mut D,
     launcher: &mut L,
     ram: &mut Ram,
     pieces: &mut Pieces,
+    kind: ActKind,
     place: u64,
     component: u32,
     state: &Progress<'_>,
@@ -88,71 +90,16 @@ fn act_write<H: Host, D: Disk, L: Launcher>(
     requires ready { IsReady machine.now (D.extent disk.old) ram.old }
     requires inside { component < length machine.now.standings.now }
     requires under_way { IsUnderWay machine.now (state_of state.now) }
+    requires from { (kind ≡ acts.Copy) ⊎ (kind ≡ acts.Swap) }
     requires target { MayWrite machine.now component }
-    ensures runs { Runs machine.now (act_part acts.Write place component) (state_of state.now)
-        (moment (⟦<H as HostSeen>⟧.seen host.old) (⟦<D as DiskSeen>⟧.seen disk.old) (⟦<L as LauncherSeen>⟧.seen launcher.old) ram.old)
+    requires swaps { kind ≡ acts.Swap → MaySwap machine.now }
+    ensures runs { RunsPart machine.now (act_part kind place component) (state_of state.now)
+        (moment (⟦<H as HostSeen>⟧.seen host.old) (⟦<D as DiskSeen>⟧.seen disk.old)
+        (⟦<L as LauncherSeen>⟧.seen launcher.old) ram.old)
         result (state_of state.now)
-        (moment (⟦<H as HostSeen>⟧.seen host.new) (⟦<D as DiskSeen>⟧.seen disk.new) (⟦<L as LauncherSeen>⟧.seen launcher.new) ram.new) }
-{
-    let standing = &machine.standings[component as usize];
-    stopped(place, write(disk, ram, standing, &state.params))
-}
-
-// Fetch.
-fn act_fetch<H: Host, D: Disk, L: Launcher>(
-    machine: &Machine<'_>,
-    host: &mut H,
-    disk: &mut D,
-    launcher: &mut L,
-    ram: &mut Ram,
-    pieces: &mut Pieces,
-    place: u64,
-    component: u32,
-    state: &Progress<'_>,
-) -> Result<(), Stop>
-    requires ready { IsReady machine.now (D.extent disk.old) ram.old }
-    requires inside { component < length machine.now.standings.now }
-    requires under_way { IsUnderWay machine.now (state_of state.now) }
-    requires target { MayWrite machine.now component }
-    ensures runs { Runs machine.now (act_part acts.Fetch place component) (state_of state.now)
-        (moment (⟦<H as HostSeen>⟧.seen host.old) (⟦<D as DiskSeen>⟧.seen disk.old) (⟦<L as LauncherSeen>⟧.seen launcher.old) ram.old)
-        result (state_of state.now)
-        (moment (⟦<H as HostSeen>⟧.seen host.new) (⟦<D as DiskSeen>⟧.seen disk.new) (⟦<L as LauncherSeen>⟧.seen launcher.new) ram.new) }
-{
-    let standing = &machine.standings[component as usize];
-    let fetched = fetch(
-        host,
-        disk,
-        ram,
-        machine.envelope,
-        machine.uris,
-        standing,
-        &state.params,
-        &mut pieces.one[..],
-    );
-    stopped(place, fetched)
-}
-
-// Copy.
-fn act_copy<H: Host, D: Disk, L: Launcher>(
-    machine: &Machine<'_>,
-    host: &mut H,
-    disk: &mut D,
-    launcher: &mut L,
-    ram: &mut Ram,
-    pieces: &mut Pieces,
-    place: u64,
-    component: u32,
-    state: &Progress<'_>,
-) -> Result<(), Stop>
-    requires ready { IsReady machine.now (D.extent disk.old) ram.old }
-    requires inside { component < length machine.now.standings.now }
-    requires under_way { IsUnderWay machine.now (state_of state.now) }
-    requires target { MayWrite machine.now component }
-    ensures runs { Runs machine.now (act_part acts.Copy place component) (state_of state.now)
-        (moment (⟦<H as HostSeen>⟧.seen host.old) (⟦<D as DiskSeen>⟧.seen disk.old) (⟦<L as LauncherSeen>⟧.seen launcher.old) ram.old)
-        result (state_of state.now)
-        (moment (⟦<H as HostSeen>⟧.seen host.new) (⟦<D as DiskSeen>⟧.seen disk.new) (⟦<L as LauncherSeen>⟧.seen launcher.new) ram.new) }
+        (moment (⟦<H as HostSeen>⟧.seen host.new) (⟦<D as DiskSeen>⟧.seen disk.new)
+        (⟦<L as LauncherSeen>⟧.seen launcher.new) ram.new) }
+    ensures unasked { machine.now.uris.now ≡ [] → host.new ≡ host.old }
 {
     let standing = &machine.standings[component as usize];
     match number(state.params.get(component, ParamKey::Source)) {
@@ -162,79 +109,25 @@ fn act_copy<H: Host, D: Disk, L: Launcher>(
         }),
         Some(source) => {
             let other = &machine.standings[source as usize];
-            stopped(place, copy(disk, ram, standing, other, &mut pieces.one[..]))
+            match kind {
+                ActKind::Swap => {
+                    let swapped = swap(
+                        disk,
+                        ram,
+                        standing,
+                        other,
+                        &mut pieces.one[..],
+                        &mut pieces.other[..],
+                    );
+                    stopped(place, swapped)
+                }
+                _ => stopped(place, copy(disk, ram, standing, other, &mut pieces.one[..])),
+            }
         }
     }
 }
 
-// Swap.
-fn act_swap<H: Host, D: Disk, L: Launcher>(
-    machine: &Machine<'_>,
-    host: &mut H,
-    disk: &mut D,
-    launcher: &mut L,
-    ram: &mut Ram,
-    pieces: &mut Pieces,
-    place: u64,
-    component: u32,
-    state: &Progress<'_>,
-) -> Result<(), Stop>
-    requires ready { IsReady machine.now (D.extent disk.old) ram.old }
-    requires inside { component < length machine.now.standings.now }
-    requires under_way { IsUnderWay machine.now (state_of state.now) }
-    requires target { MayWrite machine.now component }
-    requires swaps { MaySwap machine.now }
-    ensures runs { Runs machine.now (act_part acts.Swap place component) (state_of state.now)
-        (moment (⟦<H as HostSeen>⟧.seen host.old) (⟦<D as DiskSeen>⟧.seen disk.old) (⟦<L as LauncherSeen>⟧.seen launcher.old) ram.old)
-        result (state_of state.now)
-        (moment (⟦<H as HostSeen>⟧.seen host.new) (⟦<D as DiskSeen>⟧.seen disk.new) (⟦<L as LauncherSeen>⟧.seen launcher.new) ram.new) }
-{
-    let standing = &machine.standings[component as usize];
-    match number(state.params.get(component, ParamKey::Source)) {
-        None => Err(Stop::Directive {
-            place,
-            cause: Cause::Missing,
-        }),
-        Some(source) => {
-            let other = &machine.standings[source as usize];
-            let swapped = swap(
-                disk,
-                ram,
-                standing,
-                other,
-                &mut pieces.one[..],
-                &mut pieces.other[..],
-            );
-            stopped(place, swapped)
-        }
-    }
-}
-
-// Invoke.
-fn act_invoke<H: Host, D: Disk, L: Launcher>(
-    machine: &Machine<'_>,
-    host: &mut H,
-    disk: &mut D,
-    launcher: &mut L,
-    ram: &mut Ram,
-    pieces: &mut Pieces,
-    place: u64,
-    component: u32,
-    state: &Progress<'_>,
-) -> Result<(), Stop>
-    requires ready { IsReady machine.now (D.extent disk.old) ram.old }
-    requires inside { component < length machine.now.standings.now }
-    requires under_way { IsUnderWay machine.now (state_of state.now) }
-    ensures runs { Runs machine.now (act_part acts.Invoke place component) (state_of state.now)
-        (moment (⟦<H as HostSeen>⟧.seen host.old) (⟦<D as DiskSeen>⟧.seen disk.old) (⟦<L as LauncherSeen>⟧.seen launcher.old) ram.old)
-        result (state_of state.now)
-        (moment (⟦<H as HostSeen>⟧.seen host.new) (⟦<D as DiskSeen>⟧.seen disk.new) (⟦<L as LauncherSeen>⟧.seen launcher.new) ram.new) }
-{
-    let standing = &machine.standings[component as usize];
-    stopped(place, invoke(disk, launcher, ram, standing, &state.params))
-}
-
-/// A directive.
+/// Runs a directive.
 pub(crate) fn act<H: Host, D: Disk, L: Launcher>(
     machine: &Machine<'_>,
     host: &mut H,
@@ -252,26 +145,33 @@ pub(crate) fn act<H: Host, D: Disk, L: Launcher>(
     requires under_way { IsUnderWay machine.now (state_of state.now) }
     requires target { IsWriting kind → MayWrite machine.now component }
     requires swaps { kind ≡ acts.Swap → MaySwap machine.now }
-    ensures runs { Runs machine.now (act_part kind place component) (state_of state.now)
-        (moment (⟦<H as HostSeen>⟧.seen host.old) (⟦<D as DiskSeen>⟧.seen disk.old) (⟦<L as LauncherSeen>⟧.seen launcher.old) ram.old)
+    ensures runs { RunsPart machine.now (act_part kind place component) (state_of state.now)
+        (moment (⟦<H as HostSeen>⟧.seen host.old) (⟦<D as DiskSeen>⟧.seen disk.old)
+        (⟦<L as LauncherSeen>⟧.seen launcher.old) ram.old)
         result (state_of state.now)
-        (moment (⟦<H as HostSeen>⟧.seen host.new) (⟦<D as DiskSeen>⟧.seen disk.new) (⟦<L as LauncherSeen>⟧.seen launcher.new) ram.new) }
+        (moment (⟦<H as HostSeen>⟧.seen host.new) (⟦<D as DiskSeen>⟧.seen disk.new)
+        (⟦<L as LauncherSeen>⟧.seen launcher.new) ram.new) }
+    ensures unasked { machine.now.uris.now ≡ [] → host.new ≡ host.old }
 {
+    let standing = &machine.standings[component as usize];
     match kind {
-        ActKind::Write => act_write(
-            machine, host, disk, launcher, ram, pieces, place, component, state,
-        ),
-        ActKind::Fetch => act_fetch(
-            machine, host, disk, launcher, ram, pieces, place, component, state,
-        ),
-        ActKind::Copy => act_copy(
-            machine, host, disk, launcher, ram, pieces, place, component, state,
-        ),
-        ActKind::Invoke => act_invoke(
-            machine, host, disk, launcher, ram, pieces, place, component, state,
-        ),
-        ActKind::Swap => act_swap(
-            machine, host, disk, launcher, ram, pieces, place, component, state,
+        ActKind::Write => stopped(place, write(disk, ram, standing, &state.params)),
+        ActKind::Fetch => {
+            let fetched = fetch(
+                host,
+                disk,
+                ram,
+                machine.envelope,
+                machine.uris,
+                standing,
+                &state.params,
+                &mut pieces.one[..],
+            );
+            stopped(place, fetched)
+        }
+        ActKind::Invoke => stopped(place, invoke(disk, launcher, ram, standing, &state.params)),
+        ActKind::Copy | ActKind::Swap => act_from_source(
+            machine, host, disk, launcher, ram, pieces, kind, place, component, state,
         ),
     }
 }

@@ -1,4 +1,4 @@
-//! The rooms for contents, wherever they stand, are read in pieces.
+//! Reading contents in pieces, wherever they stand.
 
 ghost use Rattle.flash_slots.specs.Contents.{ResultCounts};
 ghost use Rattle.flash_slots.specs.RamContents.{held_by};
@@ -12,7 +12,7 @@ use flash_layout::FlashFault;
 use flash_slots::{Ram, read_some};
 use suit_edge::Disk;
 
-// Bytes from that one on, as many as fit in the room.
+// Copies bytes from that one on, as many as fit in the room.
 fn copy_some(bytes: &[u8], from: usize, room: &mut [u8]) -> usize
     requires { from ≤ length bytes.now }
     ensures count { result ≡ min (length room.old) (length bytes.now - from) }
@@ -30,7 +30,8 @@ fn read_held(ram: &Ram, component: u32, size: usize, from: usize, room: &mut [u8
     requires size { size ≤ length (held_by ram.now component).content }
     requires within { from ≤ size }
     ensures count { result ≡ min (length room.old) (size - from) }
-    ensures bytes { take result room.new ≡ take result (drop from (held_by ram.now component).content) }
+    ensures bytes { take result room.new
+        ≡ take result (drop from (held_by ram.now component).content) }
 {
     let content = ram.content(component);
     copy_some(&content[..size], from, room)
@@ -51,7 +52,10 @@ pub(crate) fn read_piece<D: Disk>(
     ensures size { D.extent disk.new ≡ D.extent disk.old }
     ensures counts { ResultCounts result (D.faults disk.old) (D.faults disk.new) }
     ensures count { IfOk result (λ n. n ≡ min (length room.old) (size - from)) }
-    ensures bytes { IsTrue D.told → IfOk result (λ n. take n room.new ≡ take n (drop from (area_at spot ram.now (D.flash disk.old).reads))) }
+    ensures bytes { IsTrue D.told
+        → IfOk result
+        (λ n. take n room.new
+        ≡ take n (drop from (area_at spot ram.now (D.flash disk.old).reads))) }
     ensures same { IsTrue D.told → IsSame (D.flash disk.old) (D.flash disk.new) }
     ensures grows { IsTrue D.told → Grows (D.flash disk.old) (D.flash disk.new) }
 {

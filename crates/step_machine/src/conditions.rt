@@ -58,7 +58,9 @@ fn has_image<D: Disk>(
     requires room { 0 < length room.old }
     ensures size { D.extent disk.new ≡ D.extent disk.old }
     ensures counts { ResultCounts result (D.faults disk.old) (D.faults disk.new) }
-    ensures exact { IsTrue D.told → IfOk result (λ has. has ≡ is_image digest size (content_of spot ram.now (D.flash disk.old).reads)) }
+    ensures exact { IsTrue D.told
+        → IfOk result
+        (λ has. has ≡ is_image digest size (content_of spot ram.now (D.flash disk.old).reads)) }
     ensures same { IsTrue D.told → IsSame (D.flash disk.old) (D.flash disk.new) }
     ensures grows { IsTrue D.told → Grows (D.flash disk.old) (D.flash disk.new) }
 {
@@ -93,7 +95,8 @@ fn holds_at<D: Disk>(
     ensures size { D.extent disk.new ≡ D.extent disk.old }
     ensures counts { ResultCounts result (D.faults disk.old) (D.faults disk.new) }
     ensures exact { IsTrue D.told → IfOk result (λ passed. passed
-        ≡ holds kind standing.now.component params.now standing.now.identity (content_of standing.now.spot ram.now (D.flash disk.old).reads)) }
+        ≡ holds kind standing.now.component params.now standing.now.identity
+        (content_of standing.now.spot ram.now (D.flash disk.old).reads)) }
     ensures looks { IfErr result (λ fault. Looks kind standing.now.component params.now) }
     ensures same { IsTrue D.told → IsSame (D.flash disk.old) (D.flash disk.new) }
     ensures grows { IsTrue D.told → Grows (D.flash disk.old) (D.flash disk.new) }
@@ -151,7 +154,8 @@ pub fn passes<D: Disk>(
     requires room { 0 < length room.old }
     ensures size { D.extent disk.new ≡ D.extent disk.old }
     ensures counts { ResultCounts result (D.faults disk.old) (D.faults disk.new) }
-    ensures exact { IsTrue D.told → IfOk result (PassesAs kind standing.now.component params.now standing.now.identity
+    ensures exact { IsTrue D.told
+        → IfOk result (PassesAs kind standing.now.component params.now standing.now.identity
         (content_of standing.now.spot ram.now (D.flash disk.old).reads)) }
     ensures cuts { IfErr result (λ fault. CutsPlay kind standing.now.component params.now) }
     ensures same { IsTrue D.told → IsSame (D.flash disk.old) (D.flash disk.new) }

@@ -1,4 +1,4 @@
-//! Contents, wherever they stand, are read in parts.
+//! Reading contents in parts, wherever they stand.
 
 ghost use Rattle.flash_slots.specs.Contents.{ResultCounts};
 ghost use Rattle.sha2.specs.Sha256.{sha256};
@@ -39,7 +39,8 @@ pub(crate) fn digest_at<D: Disk>(
     requires room { 0 < length room.old }
     ensures size { D.extent disk.new ≡ D.extent disk.old }
     ensures counts { ResultCounts result (D.faults disk.old) (D.faults disk.new) }
-    ensures exact { IsTrue D.told → IfOk result (λ d. d ≡ sha256 (content_of spot ram.now (D.flash disk.old).reads)) }
+    ensures exact { IsTrue D.told
+        → IfOk result (λ d. d ≡ sha256 (content_of spot ram.now (D.flash disk.old).reads)) }
     ensures same { IsTrue D.told → IsSame (D.flash disk.old) (D.flash disk.new) }
     ensures grows { IsTrue D.told → Grows (D.flash disk.old) (D.flash disk.new) }
 {
@@ -59,7 +60,8 @@ pub(crate) fn length_at<D: Disk>(disk: &mut D, ram: &Ram, spot: Spot) -> Result<
     ensures counts { ResultCounts result (D.faults disk.old) (D.faults disk.new) }
     ensures few { IfOk result (λ n. n ≤ room_at spot ram.now) }
     ensures area { IfOk result (λ n. n ≤ size_at spot ram.now) }
-    ensures exact { IsTrue D.told → IfOk result (λ n. n ≡ length (content_of spot ram.now (D.flash disk.old).reads)) }
+    ensures exact { IsTrue D.told
+        → IfOk result (λ n. n ≡ length (content_of spot ram.now (D.flash disk.old).reads)) }
     ensures same { IsTrue D.told → IsSame (D.flash disk.old) (D.flash disk.new) }
     ensures grows { IsTrue D.told → Grows (D.flash disk.old) (D.flash disk.new) }
 {
@@ -72,7 +74,7 @@ pub(crate) fn length_at<D: Disk>(disk: &mut D, ram: &Ram, spot: Spot) -> Result<
     }
 }
 
-// Whether a content is these bytes.
+// Whether a content equals these bytes.
 pub(crate) fn same_at<D: Disk>(
     disk: &mut D,
     ram: &Ram,
@@ -84,7 +86,9 @@ pub(crate) fn same_at<D: Disk>(
     requires room { 0 < length room.old }
     ensures size { D.extent disk.new ≡ D.extent disk.old }
     ensures counts { ResultCounts result (D.faults disk.old) (D.faults disk.new) }
-    ensures exact { IsTrue D.told → IfOk result (λ same. same ≡ bytes_eq (content_of spot ram.now (D.flash disk.old).reads) bytes.now) }
+    ensures exact { IsTrue D.told
+        → IfOk result
+        (λ same. same ≡ bytes_eq (content_of spot ram.now (D.flash disk.old).reads) bytes.now) }
     ensures same { IsTrue D.told → IsSame (D.flash disk.old) (D.flash disk.new) }
     ensures grows { IsTrue D.told → Grows (D.flash disk.old) (D.flash disk.new) }
 {

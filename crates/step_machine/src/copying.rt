@@ -21,7 +21,7 @@ use flash_slots::{Ram, Writing, begin};
 use path_model::Cause;
 use suit_edge::Disk;
 
-// The first bytes of a source are put into a slot that was emptied.
+// Copies the first bytes of a source into an emptied slot.
 fn put_pieces<D: Disk>(
     disk: &mut D,
     ram: &Ram,
@@ -41,9 +41,12 @@ fn put_pieces<D: Disk>(
     ensures counts { ResultCounts result (D.faults disk.old) (D.faults disk.new) }
     ensures slot { writing.new.slot ≡ writing.old.slot }
     ensures written { OnOk result (writing.new.written ≡ size) }
-    ensures pieces { IsTrue D.told → OnOk result (pieces_of writing.new.slot size (D.flash disk.new).reads
+    ensures pieces { IsTrue D.told
+        → OnOk result (pieces_of writing.new.slot size (D.flash disk.new).reads
         ≡ take size (area_at source ram.now (D.flash disk.old).reads)) }
-    ensures keeps { IsTrue D.told → Keeps (Outside writing.old.slot.start (extent_of writing.old.slot)) (D.flash disk.old) (D.flash disk.new) }
+    ensures keeps { IsTrue D.told
+        → Keeps (Outside writing.old.slot.start (extent_of writing.old.slot)) (D.flash disk.old)
+        (D.flash disk.new) }
     ensures grows { IsTrue D.told → Grows (D.flash disk.old) (D.flash disk.new) }
 {
     let mut from: u64 = 0;
@@ -61,7 +64,7 @@ fn put_pieces<D: Disk>(
     Ok(())
 }
 
-// The first bytes of a source become the content of a slot that has room for them.
+// Copies the first bytes of a source to a slot that has room for them.
 fn copy_to_slot<D: Disk>(
     disk: &mut D,
     ram: &Ram,
@@ -80,7 +83,8 @@ fn copy_to_slot<D: Disk>(
     ensures counts { ResultCounts result (D.faults disk.old) (D.faults disk.new) }
     ensures content { IsTrue D.told → OnOk result (slot_content slot (D.flash disk.new).reads
         ≡ take size (area_at source ram.now (D.flash disk.old).reads)) }
-    ensures keeps { IsTrue D.told → Keeps (Outside slot.start (extent_of slot)) (D.flash disk.old) (D.flash disk.new) }
+    ensures keeps { IsTrue D.told
+        → Keeps (Outside slot.start (extent_of slot)) (D.flash disk.old) (D.flash disk.new) }
     ensures grows { IsTrue D.told → Grows (D.flash disk.old) (D.flash disk.new) }
 {
     let mut writing = match begin(disk, slot) {
@@ -97,7 +101,7 @@ fn copy_to_slot<D: Disk>(
     }
 }
 
-// The first bytes of a source become the content of a component in working memory that has room for them.
+// Copies the first bytes of a source to a component in working memory that has room for them.
 fn copy_to_ram<D: Disk>(
     disk: &mut D,
     ram: &mut Ram,
@@ -114,9 +118,13 @@ fn copy_to_ram<D: Disk>(
     requires room { 0 < length room.old }
     ensures size { D.extent disk.new ≡ D.extent disk.old }
     ensures counts { ResultCounts result (D.faults disk.old) (D.faults disk.new) }
-    ensures content { IsTrue D.told → OnOk result ((held_by ram.new component).content ≡ take size (area_at source ram.old (D.flash disk.old).reads)) }
+    ensures content { IsTrue D.told
+        → OnOk result
+        ((held_by ram.new component).content
+        ≡ take size (area_at source ram.old (D.flash disk.old).reads)) }
     ensures ram { IsRamBut (spots.Ram component) ram.old ram.new }
-    ensures short { length (held_by ram.new component).content ≤ (held_by ram.old component).capacity }
+    ensures short { length (held_by ram.new component).content
+        ≤ (held_by ram.old component).capacity }
     ensures same { IsTrue D.told → IsSame (D.flash disk.old) (D.flash disk.new) }
     ensures grows { IsTrue D.told → Grows (D.flash disk.old) (D.flash disk.new) }
 {
@@ -136,7 +144,7 @@ fn copy_to_ram<D: Disk>(
     Ok(())
 }
 
-// The first bytes of a source become a content, where there is room for them.
+// Copies the first bytes of a source to a content, where there is room for them.
 fn copy_content<D: Disk>(
     disk: &mut D,
     ram: &mut Ram,
@@ -155,7 +163,8 @@ fn copy_content<D: Disk>(
     ensures counts { ResultCounts result (D.faults disk.old) (D.faults disk.new) }
     ensures content { IsTrue D.told → OnOk result (content_of spot ram.new (D.flash disk.new).reads
         ≡ take size (area_at source ram.old (D.flash disk.old).reads)) }
-    ensures short { IsTrue D.told → length (content_of spot ram.new (D.flash disk.new).reads) ≤ room_at spot ram.old }
+    ensures short { IsTrue D.told
+        → length (content_of spot ram.new (D.flash disk.new).reads) ≤ room_at spot ram.old }
     ensures ram { IsRamBut spot ram.old ram.new }
     ensures keeps { IsTrue D.told → Keeps (OutsideSpot spot) (D.flash disk.old) (D.flash disk.new) }
     ensures grows { IsTrue D.told → Grows (D.flash disk.old) (D.flash disk.new) }
@@ -184,17 +193,23 @@ pub fn copy<D: Disk>(
 ) -> Result<(), Cause>
     requires spot { IsSpot (D.extent disk.old) ram.old standing.now.spot }
     requires source { IsSpot (D.extent disk.old) ram.old source.now.spot }
-    requires apart { AreApart standing.now.component standing.now.spot source.now.component source.now.spot }
+    requires apart { AreApart standing.now.component standing.now.spot source.now.component
+        source.now.spot }
     requires capacity { room_at standing.now.spot ram.old ≡ standing.now.capacity }
     requires room { 0 < length room.old }
     ensures size { D.extent disk.new ≡ D.extent disk.old }
     ensures counts { CauseCounts result (D.faults disk.old) (D.faults disk.new) }
     ensures ram { IsRamBut standing.now.spot ram.old ram.new }
-    ensures copies { IsTrue D.told → CopiesAs standing.now.component standing.now.capacity source.now.component
+    ensures copies { IsTrue D.told
+        → CopiesAs standing.now.component standing.now.capacity source.now.component
         (content_of source.now.spot ram.old (D.flash disk.old).reads)
-        (content_of standing.now.spot ram.old (D.flash disk.old).reads) (content_of standing.now.spot ram.new (D.flash disk.new).reads) result }
-    ensures source { IsTrue D.told → content_of source.now.spot ram.new (D.flash disk.new).reads ≡ content_of source.now.spot ram.old (D.flash disk.old).reads }
-    ensures keeps { IsTrue D.told → Keeps (OutsideSpot standing.now.spot) (D.flash disk.old) (D.flash disk.new) }
+        (content_of standing.now.spot ram.old (D.flash disk.old).reads)
+        (content_of standing.now.spot ram.new (D.flash disk.new).reads) result }
+    ensures source { IsTrue D.told
+        → content_of source.now.spot ram.new (D.flash disk.new).reads
+        ≡ content_of source.now.spot ram.old (D.flash disk.old).reads }
+    ensures keeps { IsTrue D.told
+        → Keeps (OutsideSpot standing.now.spot) (D.flash disk.old) (D.flash disk.new) }
     ensures grows { IsTrue D.told → Grows (D.flash disk.old) (D.flash disk.new) }
 {
     if source.component == standing.component {

@@ -1,4 +1,4 @@
-//! The rooms for contents are changed in place.
+//! Changing contents in place.
 
 ghost use Rattle.flash_slots.specs.Contents.{ResultCounts};
 ghost use Rattle.std.specs.Prelude.{◌≡◌, ◌<◌, ◌≤◌, ◌+◌, ◌++◌, IsTrue, OnOk, drop, length, take};
@@ -15,7 +15,7 @@ use flash_layout::FlashFault;
 use flash_slots::{Ram, overwrite, set_length};
 use suit_edge::Disk;
 
-// A content of working memory has at least so many bytes from now on: those behind its own are any.
+// Extends a content in working memory to at least so many bytes: those behind its own are any.
 fn stretch(ram: &mut Ram, spot: Spot, size: u64)
     requires spot { IsHeld spot ram.old }
     requires fits { size ≤ room_at spot ram.old }
@@ -33,7 +33,7 @@ fn stretch(ram: &mut Ram, spot: Spot, size: u64)
     }
 }
 
-// A piece is put over a room, from one of its bytes on.
+// Writes a piece over a room, from one of its bytes on.
 fn write_piece<D: Disk>(
     disk: &mut D,
     ram: &mut Ram,
@@ -45,7 +45,10 @@ fn write_piece<D: Disk>(
     requires within { from + length piece.now ≤ size_at spot ram.old }
     ensures size { D.extent disk.new ≡ D.extent disk.old }
     ensures counts { ResultCounts result (D.faults disk.old) (D.faults disk.new) }
-    ensures area { IsTrue D.told → OnOk result (area_at spot ram.new (D.flash disk.new).reads ≡ written (area_at spot ram.old (D.flash disk.old).reads) from piece.now) }
+    ensures area { IsTrue D.told
+        → OnOk result
+        (area_at spot ram.new (D.flash disk.new).reads
+        ≡ written (area_at spot ram.old (D.flash disk.old).reads) from piece.now) }
     ensures long { size_at spot ram.new ≡ size_at spot ram.old }
     ensures ram { IsRamBut spot ram.old ram.new }
     ensures keeps { IsTrue D.told → Keeps (OutsideSpot spot) (D.flash disk.old) (D.flash disk.new) }
@@ -63,13 +66,16 @@ fn write_piece<D: Disk>(
     }
 }
 
-// The first bytes of a room become its content.
+// Makes the first bytes of a room its content.
 fn set_size<D: Disk>(disk: &mut D, ram: &mut Ram, spot: Spot, size: u64) -> Result<(), FlashFault>
     requires spot { IsSpot (D.extent disk.old) ram.old spot }
     requires within { size ≤ size_at spot ram.old }
     ensures size { D.extent disk.new ≡ D.extent disk.old }
     ensures counts { ResultCounts result (D.faults disk.old) (D.faults disk.new) }
-    ensures content { IsTrue D.told → OnOk result (content_of spot ram.new (D.flash disk.new).reads ≡ take size (area_at spot ram.old (D.flash disk.old).reads)) }
+    ensures content { IsTrue D.told
+        → OnOk result
+        (content_of spot ram.new (D.flash disk.new).reads
+        ≡ take size (area_at spot ram.old (D.flash disk.old).reads)) }
     ensures ram { IsRamBut spot ram.old ram.new }
     ensures keeps { IsTrue D.told → Keeps (OutsideSpot spot) (D.flash disk.old) (D.flash disk.new) }
     ensures grows { IsTrue D.told → Grows (D.flash disk.old) (D.flash disk.new) }
@@ -86,7 +92,7 @@ fn set_size<D: Disk>(disk: &mut D, ram: &mut Ram, spot: Spot, size: u64) -> Resu
     }
 }
 
-// Two pieces change places, through rooms that are just as long.
+// Exchanges two pieces, through rooms of the same length.
 fn exchange_piece<D: Disk>(
     disk: &mut D,
     ram: &mut Ram,
@@ -107,13 +113,16 @@ fn exchange_piece<D: Disk>(
     ensures size { D.extent disk.new ≡ D.extent disk.old }
     ensures counts { ResultCounts result (D.faults disk.old) (D.faults disk.new) }
     ensures one { IsTrue D.told → OnOk result (area_at one ram.new (D.flash disk.new).reads
-        ≡ written (area_at one ram.old (D.flash disk.old).reads) from (take (length room.old) (drop from (area_at other ram.old (D.flash disk.old).reads)))) }
+        ≡ written (area_at one ram.old (D.flash disk.old).reads) from
+        (take (length room.old) (drop from (area_at other ram.old (D.flash disk.old).reads)))) }
     ensures other { IsTrue D.told → OnOk result (area_at other ram.new (D.flash disk.new).reads
-        ≡ written (area_at other ram.old (D.flash disk.old).reads) from (take (length room.old) (drop from (area_at one ram.old (D.flash disk.old).reads)))) }
+        ≡ written (area_at other ram.old (D.flash disk.old).reads) from
+        (take (length room.old) (drop from (area_at one ram.old (D.flash disk.old).reads)))) }
     ensures long { size_at one ram.new ≡ size_at one ram.old }
     ensures other_long { size_at other ram.new ≡ size_at other ram.old }
     ensures ram { IsRamButBoth one other ram.old ram.new }
-    ensures keeps { IsTrue D.told → Keeps (OutsideBoth one other) (D.flash disk.old) (D.flash disk.new) }
+    ensures keeps { IsTrue D.told
+        → Keeps (OutsideBoth one other) (D.flash disk.old) (D.flash disk.new) }
     ensures grows { IsTrue D.told → Grows (D.flash disk.old) (D.flash disk.new) }
 {
     match read_piece(disk, ram, one, size, from, room) {
@@ -134,7 +143,7 @@ fn exchange_piece<D: Disk>(
     }
 }
 
-// The first bytes of two rooms change places.
+// Exchanges the first bytes of two rooms.
 fn exchange_pieces<D: Disk>(
     disk: &mut D,
     ram: &mut Ram,
@@ -153,12 +162,19 @@ fn exchange_pieces<D: Disk>(
     requires spare { 0 < length spare.old }
     ensures size { D.extent disk.new ≡ D.extent disk.old }
     ensures counts { ResultCounts result (D.faults disk.old) (D.faults disk.new) }
-    ensures one { IsTrue D.told → OnOk result (take size (area_at one ram.new (D.flash disk.new).reads) ≡ take size (area_at other ram.old (D.flash disk.old).reads)) }
-    ensures other { IsTrue D.told → OnOk result (take size (area_at other ram.new (D.flash disk.new).reads) ≡ take size (area_at one ram.old (D.flash disk.old).reads)) }
+    ensures one { IsTrue D.told
+        → OnOk result
+        (take size (area_at one ram.new (D.flash disk.new).reads)
+        ≡ take size (area_at other ram.old (D.flash disk.old).reads)) }
+    ensures other { IsTrue D.told
+        → OnOk result
+        (take size (area_at other ram.new (D.flash disk.new).reads)
+        ≡ take size (area_at one ram.old (D.flash disk.old).reads)) }
     ensures long { size_at one ram.new ≡ size_at one ram.old }
     ensures other_long { size_at other ram.new ≡ size_at other ram.old }
     ensures ram { IsRamButBoth one other ram.old ram.new }
-    ensures keeps { IsTrue D.told → Keeps (OutsideBoth one other) (D.flash disk.old) (D.flash disk.new) }
+    ensures keeps { IsTrue D.told
+        → Keeps (OutsideBoth one other) (D.flash disk.old) (D.flash disk.new) }
     ensures grows { IsTrue D.told → Grows (D.flash disk.old) (D.flash disk.new) }
 {
     let limit = room.len().min(spare.len()) as u64;
@@ -183,7 +199,7 @@ fn exchange_pieces<D: Disk>(
     Ok(())
 }
 
-// Two contents of these sizes change places, where there is room for each.
+// Exchanges two contents of these sizes, where there is room for each.
 pub(crate) fn exchange<D: Disk>(
     disk: &mut D,
     ram: &mut Ram,
@@ -206,10 +222,17 @@ pub(crate) fn exchange<D: Disk>(
     requires spare { 0 < length spare.old }
     ensures size { D.extent disk.new ≡ D.extent disk.old }
     ensures counts { ResultCounts result (D.faults disk.old) (D.faults disk.new) }
-    ensures one { IsTrue D.told → OnOk result (content_of one ram.new (D.flash disk.new).reads ≡ take sizes.1 (area_at other ram.old (D.flash disk.old).reads)) }
-    ensures other { IsTrue D.told → OnOk result (content_of other ram.new (D.flash disk.new).reads ≡ take sizes.0 (area_at one ram.old (D.flash disk.old).reads)) }
+    ensures one { IsTrue D.told
+        → OnOk result
+        (content_of one ram.new (D.flash disk.new).reads
+        ≡ take sizes.1 (area_at other ram.old (D.flash disk.old).reads)) }
+    ensures other { IsTrue D.told
+        → OnOk result
+        (content_of other ram.new (D.flash disk.new).reads
+        ≡ take sizes.0 (area_at one ram.old (D.flash disk.old).reads)) }
     ensures ram { IsRamButBoth one other ram.old ram.new }
-    ensures keeps { IsTrue D.told → Keeps (OutsideBoth one other) (D.flash disk.old) (D.flash disk.new) }
+    ensures keeps { IsTrue D.told
+        → Keeps (OutsideBoth one other) (D.flash disk.old) (D.flash disk.new) }
     ensures grows { IsTrue D.told → Grows (D.flash disk.old) (D.flash disk.new) }
 {
     let size = sizes.0.max(sizes.1);

@@ -2,7 +2,7 @@
 
 ghost use Rattle.path_model.specs.declared.cause.Cause.TheVariants as causes;
 ghost use Rattle.path_model.specs.Settings.{found_under};
-ghost use Rattle.std.specs.Prelude.{◌≡◌, ◌<◌, ◌≤◌, ◌+◌, ◌==◌, ℕ, Err, IsTrue, List, Some, get_or, length, option_map};
+ghost use Rattle.std.specs.Prelude.{[], ◌≡◌, ◌<◌, ◌≤◌, ◌+◌, ◌==◌, ℕ, Err, IsTrue, List, Some, get_or, length, option_map};
 ghost use Rattle.std.specs.Option.{option_and_then};
 ghost use Rattle.step_machine.specs.Fetching.{FetchCounts, FetchesAs, TakesNamed};
 ghost use Rattle.step_machine.specs.Spots.{IsRamBut, IsSpot, OutsideSpot, content_of, room_at};
@@ -29,7 +29,7 @@ fn is_key(uri: &[u8]) -> bool
     }
 }
 
-// The payload with this key becomes the content.
+// Makes the payload with this key the content.
 fn fetch_payload<D: Disk>(
     disk: &mut D,
     ram: &mut Ram,
@@ -40,12 +40,16 @@ fn fetch_payload<D: Disk>(
     requires spot { IsSpot (D.extent disk.old) ram.old standing.now.spot }
     requires capacity { room_at standing.now.spot ram.old ≡ standing.now.capacity }
     ensures size { D.extent disk.new ≡ D.extent disk.old }
-    ensures counts { (host : ℕ) → FetchCounts result host host (D.faults disk.old) (D.faults disk.new) }
+    ensures counts { (host : ℕ)
+        → FetchCounts result host host (D.faults disk.old) (D.faults disk.new) }
     ensures ram { IsRamBut standing.now.spot ram.old ram.new }
-    ensures takes { IsTrue D.told → (payloads : List (List ℕ × List ℕ)) → HasPayloads envelope.now.whole.now payloads
+    ensures takes { IsTrue D.told → (payloads : List (List ℕ × List ℕ))
+        → HasPayloads envelope.now.whole.now payloads
         → TakesNamed result standing.now.capacity (found_under payloads key.now)
-        (content_of standing.now.spot ram.old (D.flash disk.old).reads) (content_of standing.now.spot ram.new (D.flash disk.new).reads) }
-    ensures keeps { IsTrue D.told → Keeps (OutsideSpot standing.now.spot) (D.flash disk.old) (D.flash disk.new) }
+        (content_of standing.now.spot ram.old (D.flash disk.old).reads)
+        (content_of standing.now.spot ram.new (D.flash disk.new).reads) }
+    ensures keeps { IsTrue D.told
+        → Keeps (OutsideSpot standing.now.spot) (D.flash disk.old) (D.flash disk.new) }
     ensures grows { IsTrue D.told → Grows (D.flash disk.old) (D.flash disk.new) }
 {
     match payload_with(envelope, key) {
@@ -54,7 +58,7 @@ fn fetch_payload<D: Disk>(
     }
 }
 
-// The file of this name becomes the content. It is started first, so that where there is none nothing changes.
+// Makes the file of this name the content. It is started first, so that nothing changes if there is none.
 fn fetch_named<H: Host, D: Disk>(
     host: &mut H,
     disk: &mut D,
@@ -67,13 +71,18 @@ fn fetch_named<H: Host, D: Disk>(
     requires capacity { room_at standing.now.spot ram.old ≡ standing.now.capacity }
     requires room { 0 < length room.old }
     ensures size { D.extent disk.new ≡ D.extent disk.old }
-    ensures counts { FetchCounts result (H.faults host.old) (H.faults host.new) (D.faults disk.old) (D.faults disk.new) }
+    ensures counts { FetchCounts result (H.faults host.old) (H.faults host.new) (D.faults disk.old)
+        (D.faults disk.new) }
     ensures files { IsTrue H.told → H.file host.new ≡ H.file host.old }
-    ensures pulled { IsTrue H.told → H.pulled host.new ≤ H.pulled host.old + (standing.now.capacity + 1) }
+    ensures pulled { IsTrue H.told
+        → H.pulled host.new ≤ H.pulled host.old + (standing.now.capacity + 1) }
     ensures ram { IsRamBut standing.now.spot ram.old ram.new }
-    ensures takes { IsTrue D.told → IsTrue H.told → TakesNamed result standing.now.capacity (H.file host.old name.now)
-        (content_of standing.now.spot ram.old (D.flash disk.old).reads) (content_of standing.now.spot ram.new (D.flash disk.new).reads) }
-    ensures keeps { IsTrue D.told → Keeps (OutsideSpot standing.now.spot) (D.flash disk.old) (D.flash disk.new) }
+    ensures takes { IsTrue D.told → IsTrue H.told
+        → TakesNamed result standing.now.capacity (H.file host.old name.now)
+        (content_of standing.now.spot ram.old (D.flash disk.old).reads)
+        (content_of standing.now.spot ram.new (D.flash disk.new).reads) }
+    ensures keeps { IsTrue D.told
+        → Keeps (OutsideSpot standing.now.spot) (D.flash disk.old) (D.flash disk.new) }
     ensures grows { IsTrue D.told → Grows (D.flash disk.old) (D.flash disk.new) }
 {
     match host.start(name) {
@@ -83,7 +92,7 @@ fn fetch_named<H: Host, D: Disk>(
     }
 }
 
-// The file that answers the URI becomes the content.
+// Makes the file that answers the URI the content.
 fn fetch_file<H: Host, D: Disk>(
     host: &mut H,
     disk: &mut D,
@@ -97,15 +106,22 @@ fn fetch_file<H: Host, D: Disk>(
     requires capacity { room_at standing.now.spot ram.old ≡ standing.now.capacity }
     requires room { 0 < length room.old }
     ensures size { D.extent disk.new ≡ D.extent disk.old }
-    ensures counts { FetchCounts result (H.faults host.old) (H.faults host.new) (D.faults disk.old) (D.faults disk.new) }
+    ensures counts { FetchCounts result (H.faults host.old) (H.faults host.new) (D.faults disk.old)
+        (D.faults disk.new) }
     ensures files { IsTrue H.told → H.file host.new ≡ H.file host.old }
-    ensures pulled { IsTrue H.told → H.pulled host.new ≤ H.pulled host.old + (standing.now.capacity + 1) }
+    ensures unasked { uris.now ≡ [] → host.new ≡ host.old }
+    ensures pulled { IsTrue H.told
+        → H.pulled host.new ≤ H.pulled host.old + (standing.now.capacity + 1) }
     ensures ram { IsRamBut standing.now.spot ram.old ram.new }
     ensures takes { IsTrue D.told → IsTrue H.told
-        → TakesNamed result standing.now.capacity (option_and_then (H.file host.old) (found_under uris.now uri.now))
-        (content_of standing.now.spot ram.old (D.flash disk.old).reads) (content_of standing.now.spot ram.new (D.flash disk.new).reads) }
-    ensures named { result ≡ Err causes.HostFault → (name : List ℕ) × (found_under uris.now uri.now ≡ Some name) }
-    ensures keeps { IsTrue D.told → Keeps (OutsideSpot standing.now.spot) (D.flash disk.old) (D.flash disk.new) }
+        → TakesNamed result standing.now.capacity
+        (option_and_then (H.file host.old) (found_under uris.now uri.now))
+        (content_of standing.now.spot ram.old (D.flash disk.old).reads)
+        (content_of standing.now.spot ram.new (D.flash disk.new).reads) }
+    ensures named { result ≡ Err causes.HostFault
+        → (name : List ℕ) × (found_under uris.now uri.now ≡ Some name) }
+    ensures keeps { IsTrue D.told
+        → Keeps (OutsideSpot standing.now.spot) (D.flash disk.old) (D.flash disk.new) }
     ensures grows { IsTrue D.told → Grows (D.flash disk.old) (D.flash disk.new) }
 {
     match uris.name_of(uri) {
@@ -117,7 +133,7 @@ fn fetch_file<H: Host, D: Disk>(
 /// Fetch: the content becomes what the URI in force names (draft-ietf-suit-manifest-25, section 8.4.10): a payload of the
 /// envelope where it begins with `#`, and otherwise the file that answers it. Where there is none nothing changes. One that
 /// is too large leaves the content empty, a fault of the host leaves the old content or none, and one of the flash any. At
-/// most one byte more is pulled than there is room for.
+/// most one byte more is pulled than there is room for. Where there are no names of files the host is not called.
 pub fn fetch<H: Host, D: Disk>(
     host: &mut H,
     disk: &mut D,
@@ -133,15 +149,21 @@ pub fn fetch<H: Host, D: Disk>(
     requires capacity { room_at standing.now.spot ram.old ≡ standing.now.capacity }
     requires room { 0 < length room.old }
     ensures size { D.extent disk.new ≡ D.extent disk.old }
-    ensures counts { FetchCounts result (H.faults host.old) (H.faults host.new) (D.faults disk.old) (D.faults disk.new) }
+    ensures counts { FetchCounts result (H.faults host.old) (H.faults host.new) (D.faults disk.old)
+        (D.faults disk.new) }
     ensures files { IsTrue H.told → H.file host.new ≡ H.file host.old }
-    ensures pulled { IsTrue H.told → H.pulled host.new ≤ H.pulled host.old + (standing.now.capacity + 1) }
+    ensures unasked { uris.now ≡ [] → host.new ≡ host.old }
+    ensures pulled { IsTrue H.told
+        → H.pulled host.new ≤ H.pulled host.old + (standing.now.capacity + 1) }
     ensures ram { IsRamBut standing.now.spot ram.old ram.new }
     ensures fetches { IsTrue D.told → IsTrue H.told
         → (payloads : List (List ℕ × List ℕ)) → HasPayloads envelope.now.whole.now payloads
-        → FetchesAs standing.now.component standing.now.capacity params.now payloads uris.now (H.file host.old)
-        (content_of standing.now.spot ram.old (D.flash disk.old).reads) (content_of standing.now.spot ram.new (D.flash disk.new).reads) result }
-    ensures keeps { IsTrue D.told → Keeps (OutsideSpot standing.now.spot) (D.flash disk.old) (D.flash disk.new) }
+        → FetchesAs standing.now.component standing.now.capacity params.now payloads uris.now
+        (H.file host.old)
+        (content_of standing.now.spot ram.old (D.flash disk.old).reads)
+        (content_of standing.now.spot ram.new (D.flash disk.new).reads) result }
+    ensures keeps { IsTrue D.told
+        → Keeps (OutsideSpot standing.now.spot) (D.flash disk.old) (D.flash disk.new) }
     ensures grows { IsTrue D.told → Grows (D.flash disk.old) (D.flash disk.new) }
 {
     match bytes(params.get(standing.component, ParamKey::Uri)) {

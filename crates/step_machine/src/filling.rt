@@ -1,4 +1,4 @@
-//! A content becomes other bytes.
+//! Replacing a content.
 
 ghost use Rattle.flash_layout.specs.Slots.{LiesWithin, extent_of, slot_content};
 ghost use Rattle.flash_slots.specs.Contents.{ResultCounts};
@@ -13,14 +13,16 @@ use flash_layout::{FlashFault, Slot};
 use flash_slots::{AppendFault, Ram, TooLarge, begin};
 use suit_edge::Disk;
 
-// Bytes become the content of a slot that has room for them.
+// Writes bytes to a slot that has room for them.
 pub(crate) fn fill_slot<D: Disk>(disk: &mut D, slot: Slot, bytes: &[u8]) -> Result<(), FlashFault>
     requires slot { LiesWithin (D.extent disk.old) slot }
     requires fits { length bytes.now ≤ slot.capacity }
     ensures size { D.extent disk.new ≡ D.extent disk.old }
     ensures counts { ResultCounts result (D.faults disk.old) (D.faults disk.new) }
-    ensures content { IsTrue D.told → OnOk result (slot_content slot (D.flash disk.new).reads ≡ bytes.now) }
-    ensures keeps { IsTrue D.told → Keeps (Outside slot.start (extent_of slot)) (D.flash disk.old) (D.flash disk.new) }
+    ensures content { IsTrue D.told
+        → OnOk result (slot_content slot (D.flash disk.new).reads ≡ bytes.now) }
+    ensures keeps { IsTrue D.told
+        → Keeps (Outside slot.start (extent_of slot)) (D.flash disk.old) (D.flash disk.new) }
     ensures grows { IsTrue D.told → Grows (D.flash disk.old) (D.flash disk.new) }
 {
     let mut writing = match begin(disk, slot) {
@@ -38,7 +40,7 @@ pub(crate) fn fill_slot<D: Disk>(disk: &mut D, slot: Slot, bytes: &[u8]) -> Resu
     }
 }
 
-// Bytes become the content of a component in working memory that has room for them.
+// Writes bytes to a component in working memory that has room for them.
 #[tactic(auto, using(crate::proofs::Memory::refilled, crate::proofs::Memory::overfull))]
 fn fill_ram(ram: &mut Ram, component: u32, bytes: &[u8])
     requires component { component < length ram.old }
@@ -52,7 +54,7 @@ fn fill_ram(ram: &mut Ram, component: u32, bytes: &[u8])
     }
 }
 
-// Bytes become a content, where there is room for them.
+// Makes bytes a content, where there is room for them.
 pub(crate) fn fill<D: Disk>(
     disk: &mut D,
     ram: &mut Ram,
@@ -63,8 +65,11 @@ pub(crate) fn fill<D: Disk>(
     requires fits { length bytes.now ≤ room_at spot ram.old }
     ensures size { D.extent disk.new ≡ D.extent disk.old }
     ensures counts { ResultCounts result (D.faults disk.old) (D.faults disk.new) }
-    ensures content { IsTrue D.told → OnOk result (content_of spot ram.new (D.flash disk.new).reads ≡ bytes.now) }
-    ensures short { IsTrue D.told → OnErr result (length (content_of spot ram.new (D.flash disk.new).reads) ≤ room_at spot ram.old) }
+    ensures content { IsTrue D.told
+        → OnOk result (content_of spot ram.new (D.flash disk.new).reads ≡ bytes.now) }
+    ensures short { IsTrue D.told
+        → OnErr result
+        (length (content_of spot ram.new (D.flash disk.new).reads) ≤ room_at spot ram.old) }
     ensures ram { IsRamBut spot ram.old ram.new }
     ensures keeps { IsTrue D.told → Keeps (OutsideSpot spot) (D.flash disk.old) (D.flash disk.new) }
     ensures grows { IsTrue D.told → Grows (D.flash disk.old) (D.flash disk.new) }

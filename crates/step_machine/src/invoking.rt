@@ -27,7 +27,9 @@ fn image_in<'a, D: Disk>(disk: &mut D, slot: Slot) -> Result<Image<'a>, FlashFau
     ensures size { D.extent disk.new ≡ D.extent disk.old }
     ensures counts { ResultCounts result (D.faults disk.old) (D.faults disk.new) }
     ensures within { IfOk result (LiesWithin (D.extent disk.new)) }
-    ensures image { IsTrue D.told → IfOk result (IsImageOf (D.flash disk.old).reads (slot_content slot (D.flash disk.old).reads)) }
+    ensures image { IsTrue D.told
+        → IfOk result
+        (IsImageOf (D.flash disk.old).reads (slot_content slot (D.flash disk.old).reads)) }
     ensures same { IsTrue D.told → IsSame (D.flash disk.old) (D.flash disk.new) }
     ensures grows { IsTrue D.told → Grows (D.flash disk.old) (D.flash disk.new) }
 {
@@ -48,7 +50,10 @@ fn image_at<'a, D: Disk>(disk: &mut D, ram: &'a Ram, spot: Spot) -> Result<Image
     ensures size { D.extent disk.new ≡ D.extent disk.old }
     ensures counts { ResultCounts result (D.faults disk.old) (D.faults disk.new) }
     ensures within { IfOk result (LiesWithin (D.extent disk.new)) }
-    ensures image { IsTrue D.told → IfOk result (IsImageOf (D.flash disk.old).reads (content_of spot ram.now (D.flash disk.old).reads)) }
+    ensures image { IsTrue D.told
+        → IfOk result
+        (IsImageOf (D.flash disk.old).reads
+        (content_of spot ram.now (D.flash disk.old).reads)) }
     ensures same { IsTrue D.told → IsSame (D.flash disk.old) (D.flash disk.new) }
     ensures grows { IsTrue D.told → Grows (D.flash disk.old) (D.flash disk.new) }
 {
@@ -61,7 +66,7 @@ fn image_at<'a, D: Disk>(disk: &mut D, ram: &'a Ram, spot: Spot) -> Result<Image
     }
 }
 
-// ---- what is named beside it
+// ---- the parameters beside it
 
 fn digest_for<'a>(params: &Params<'a>, component: u32) -> Option<&'a [u8]>
     requires { component < 8 }
@@ -108,9 +113,11 @@ pub fn invoke<D: Disk, L: Launcher>(
     requires component { standing.now.component < 8 }
     requires spot { IsSpot (D.extent disk.old) ram.now standing.now.spot }
     ensures size { D.extent disk.new ≡ D.extent disk.old }
-    ensures counts { InvokeCounts result (L.faults launcher.old) (L.faults launcher.new) (D.faults disk.old) (D.faults disk.new) }
+    ensures counts { InvokeCounts result (L.faults launcher.old) (L.faults launcher.new)
+        (D.faults disk.old) (D.faults disk.new) }
     ensures invokes { IsTrue D.told → IsTrue L.told → InvokesAs standing.now.component params.now
-        (content_of standing.now.spot ram.now (D.flash disk.old).reads) (L.launches launcher.old) (L.launches launcher.new) result }
+        (content_of standing.now.spot ram.now (D.flash disk.old).reads) (L.launches launcher.old)
+        (L.launches launcher.new) result }
     ensures same { IsTrue D.told → IsSame (D.flash disk.old) (D.flash disk.new) }
     ensures grows { IsTrue D.told → Grows (D.flash disk.old) (D.flash disk.new) }
 {

@@ -25,6 +25,7 @@ mod spot;
 mod stop;
 mod swapping;
 mod taking;
+mod typing;
 mod uris;
 mod world;
 
@@ -38,5 +39,6 @@ pub use procedure::run_plan;
 pub use spot::{Spot, Standing};
 pub use stop::Stop;
 pub use swapping::swap;
+pub use typing::has_identifiers;
 pub use uris::Uris;
 pub use world::{SlotChoice, World};

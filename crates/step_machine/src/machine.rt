@@ -1,4 +1,4 @@
-//! What a running procedure finds, and does not change.
+//! The parts of a running procedure that do not change.
 
 use crate::{Standing, Uris};
 use suit_commands::Plan;

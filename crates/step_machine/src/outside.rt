@@ -6,7 +6,7 @@ use suit_edge::{Disk, Host, Launcher};
 pub(crate) trait HostSeen: Host {
     ghost use Rattle.step_machine.specs.Running.{HostAt};
 
-    /// What it tells of its files, and its count of faults.
+    /// Its files as it tells them, and its count of faults.
     ghost seen: { Self → HostAt };
 }
 
@@ -27,7 +27,12 @@ pub(crate) trait DiskSeen: Disk {
 impl<D: Disk> DiskSeen for D {
     ghost use Rattle.step_machine.specs.Running.{DiskAt};
 
-    ghost seen = { λ d. record { told = D.told; size = D.extent d; flash = D.flash d; faults = D.faults d } };
+    ghost seen = { λ d. record {
+      told = D.told;
+      size = D.extent d;
+      flash = D.flash d;
+      faults = D.faults d;
+    } };
 }
 
 /// A launcher at a moment.

@@ -19,7 +19,7 @@ fn soft_after(soft_failure: bool, param: &Param) -> bool
     }
 }
 
-// Soft failure after a list of them is.
+// Soft failure after a list of parameters is overridden.
 fn soft_after_list(soft_failure: bool, list: &ParamList) -> bool
     ensures { result ≡ soft_after_list soft_failure list.now }
 {

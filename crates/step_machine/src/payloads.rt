@@ -27,7 +27,7 @@ pub(crate) fn payload_with<'a>(envelope: &Envelope<'a>, key: &[u8]) -> Option<&'
     }
 }
 
-// The payload becomes the content. One that is too large leaves the content empty.
+// Makes the payload the content. One that is too large leaves the content empty.
 pub(crate) fn fill_with<D: Disk>(
     disk: &mut D,
     ram: &mut Ram,
@@ -37,11 +37,13 @@ pub(crate) fn fill_with<D: Disk>(
     requires spot { IsSpot (D.extent disk.old) ram.old standing.now.spot }
     requires room { room_at standing.now.spot ram.old ≡ standing.now.capacity }
     ensures size { D.extent disk.new ≡ D.extent disk.old }
-    ensures counts { (host : ℕ) → FetchCounts result host host (D.faults disk.old) (D.faults disk.new) }
+    ensures counts { (host : ℕ)
+        → FetchCounts result host host (D.faults disk.old) (D.faults disk.new) }
     ensures ram { IsRamBut standing.now.spot ram.old ram.new }
     ensures takes { IsTrue D.told → TakesIn result standing.now.capacity payload.now
         (content_of standing.now.spot ram.new (D.flash disk.new).reads) }
-    ensures keeps { IsTrue D.told → Keeps (OutsideSpot standing.now.spot) (D.flash disk.old) (D.flash disk.new) }
+    ensures keeps { IsTrue D.told
+        → Keeps (OutsideSpot standing.now.spot) (D.flash disk.old) (D.flash disk.new) }
     ensures grows { IsTrue D.told → Grows (D.flash disk.old) (D.flash disk.new) }
 {
     if standing.capacity < payload.len() as u64 {

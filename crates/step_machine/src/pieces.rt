@@ -1,4 +1,4 @@
-//! Files that were started are taken piece by piece.
+//! Pulling started files piece by piece.
 
 ghost use Rattle.std.specs.Prelude.{◌≡◌, ◌<◌, ◌≤◌, IfOk, IsTrue, length};
 ghost use Rattle.step_machine.specs.Fetching.{GivesPiece, PieceCounts, PullsPiece};
@@ -6,8 +6,8 @@ ghost use Rattle.step_machine.specs.Fetching.{GivesPiece, PieceCounts, PullsPiec
 use path_model::Cause;
 use suit_edge::{Host, Pulled};
 
-// The next piece of the file, at the front of the room, where so many bytes of it are wanted at most; none at its end.
-// No more than one byte beyond is asked for, and more than that is too large.
+// Pulls the next piece of the file to the front of the room, where at most so many bytes are wanted; none at its end.
+// At most one byte more is asked for, and a file that has it is too large.
 pub(crate) fn next_piece<H: Host>(host: &mut H, left: u64, room: &mut [u8]) -> Result<usize, Cause>
     requires room { 0 < length room.old }
     ensures few { IfOk result (λ n. n ≤ left) }
@@ -15,8 +15,10 @@ pub(crate) fn next_piece<H: Host>(host: &mut H, left: u64, room: &mut [u8]) -> R
     ensures counts { PieceCounts result (H.faults host.old) (H.faults host.new) }
     ensures files { IsTrue H.told → H.file host.new ≡ H.file host.old }
     ensures asked { IsTrue H.told → H.asked host.new ≡ H.asked host.old }
-    ensures pulled { IsTrue H.told → PullsPiece result left (H.pulled host.old) (H.pulled host.new) }
-    ensures piece { IsTrue H.told → GivesPiece result left (H.rest host.old) (H.rest host.new) room.new }
+    ensures pulled { IsTrue H.told
+        → PullsPiece result left (H.pulled host.old) (H.pulled host.new) }
+    ensures piece { IsTrue H.told
+        → GivesPiece result left (H.rest host.old) (H.rest host.new) room.new }
 {
     let wanted = left.saturating_add(1).min(room.len() as u64) as usize;
     match host.pull(&mut room[..wanted]) {

@@ -2,8 +2,8 @@
 
 use path_model::Cause;
 
-/// How a procedure ended. The place is that in the envelope of the innermost command that failed; for a try each of which
-/// no sequence completed it is that of the try each.
+/// How a procedure ended. The place in the envelope is that of the innermost command that failed, or that of a try each
+/// none of whose sequences completed.
 #[derive(Clone, Copy, Debug, PartialEq, Eq)]
 pub enum PlanEnd {
     /// Every command is done.

@@ -8,7 +8,7 @@ ghost use Rattle.step_machine.specs.Allowing.{AllowsSequence};
 ghost use Rattle.step_machine.specs.Devices.{contents_of};
 ghost use Rattle.step_machine.specs.Parts.{plan_part, starting_part};
 ghost use Rattle.step_machine.specs.PlanRuns.{EndCounts, OutsideTargets, PlaysPlan, counts_of, end_of, setting_of};
-ghost use Rattle.step_machine.specs.Running.{AreSources, IsReady, Runs, moment, state_of};
+ghost use Rattle.step_machine.specs.Running.{AreSources, IsReady, RunsPart, moment, state_of};
 ghost use Rattle.step_machine.specs.Worlds.{AreStandings};
 ghost use Rattle.suit_commands.specs.Allowed.{IsPlan};
 ghost use Rattle.suit_commands.specs.Plans.{lent_tree, plan_tree};
@@ -40,10 +40,14 @@ fn part<'p, H: Host, D: Disk, L: Launcher>(
     requires some { 0 < length machine.now.standings.now }
     requires allowed { AllowsSequence machine.now (lent_tree lent) (0 ∷ []) }
     requires sources { AreSources machine.now state.old.params }
-    ensures runs { Runs machine.now (starting_part (lent_tree lent.entry) machine.now.plan.now.count) (state_of state.old)
-        (moment (⟦<H as HostSeen>⟧.seen host.old) (⟦<D as DiskSeen>⟧.seen disk.old) (⟦<L as LauncherSeen>⟧.seen launcher.old) ram.old)
+    ensures runs { RunsPart machine.now
+        (starting_part (lent_tree lent.entry) machine.now.plan.now.count) (state_of state.old)
+        (moment (⟦<H as HostSeen>⟧.seen host.old) (⟦<D as DiskSeen>⟧.seen disk.old)
+        (⟦<L as LauncherSeen>⟧.seen launcher.old) ram.old)
         result (state_of state.new)
-        (moment (⟦<H as HostSeen>⟧.seen host.new) (⟦<D as DiskSeen>⟧.seen disk.new) (⟦<L as LauncherSeen>⟧.seen launcher.new) ram.new) }
+        (moment (⟦<H as HostSeen>⟧.seen host.new) (⟦<D as DiskSeen>⟧.seen disk.new)
+        (⟦<L as LauncherSeen>⟧.seen launcher.new) ram.new) }
+    ensures unasked { machine.now.uris.now ≡ [] → host.new ≡ host.old }
 {
     state.selected = Selected::One(0);
     state.soft_failure = false;
@@ -66,22 +70,18 @@ fn procedure<'p, H: Host, D: Disk, L: Launcher>(
     requires ready { IsReady machine.now (D.extent disk.old) ram.old }
     requires plan { IsPlan (plan_tree machine.now.plan.now) }
     requires sources { AreSources machine.now state.old.params }
-    ensures runs { Runs machine.now (plan_part (plan_tree machine.now.plan.now)) (state_of state.old)
-        (moment (⟦<H as HostSeen>⟧.seen host.old) (⟦<D as DiskSeen>⟧.seen disk.old) (⟦<L as LauncherSeen>⟧.seen launcher.old) ram.old)
+    ensures runs { RunsPart machine.now (plan_part (plan_tree machine.now.plan.now))
+        (state_of state.old)
+        (moment (⟦<H as HostSeen>⟧.seen host.old) (⟦<D as DiskSeen>⟧.seen disk.old)
+        (⟦<L as LauncherSeen>⟧.seen launcher.old) ram.old)
         result (state_of state.new)
-        (moment (⟦<H as HostSeen>⟧.seen host.new) (⟦<D as DiskSeen>⟧.seen disk.new) (⟦<L as LauncherSeen>⟧.seen launcher.new) ram.new) }
+        (moment (⟦<H as HostSeen>⟧.seen host.new) (⟦<D as DiskSeen>⟧.seen disk.new)
+        (⟦<L as LauncherSeen>⟧.seen launcher.new) ram.new) }
+    ensures unasked { machine.now.uris.now ≡ [] → host.new ≡ host.old }
 {
     let plan = machine.plan;
-    if let Err(stop) = part(
-        machine,
-        host,
-        disk,
-        launcher,
-        ram,
-        pieces,
-        plan.shared,
-        state,
-    ) {
+    let (shared, second) = (plan.shared, plan.second);
+    if let Err(stop) = part(machine, host, disk, launcher, ram, pieces, shared, state) {
         return Err(stop);
     }
     if let Err(stop) = part(
@@ -89,40 +89,13 @@ fn procedure<'p, H: Host, D: Disk, L: Launcher>(
     ) {
         return Err(stop);
     }
-    if let Err(stop) = part(
-        machine,
-        host,
-        disk,
-        launcher,
-        ram,
-        pieces,
-        plan.shared,
-        state,
-    ) {
+    if let Err(stop) = part(machine, host, disk, launcher, ram, pieces, shared, state) {
         return Err(stop);
     }
-    if let Err(stop) = part(
-        machine,
-        host,
-        disk,
-        launcher,
-        ram,
-        pieces,
-        plan.second,
-        state,
-    ) {
+    if let Err(stop) = part(machine, host, disk, launcher, ram, pieces, second, state) {
         return Err(stop);
     }
-    if let Err(stop) = part(
-        machine,
-        host,
-        disk,
-        launcher,
-        ram,
-        pieces,
-        plan.shared,
-        state,
-    ) {
+    if let Err(stop) = part(machine, host, disk, launcher, ram, pieces, shared, state) {
         return Err(stop);
     }
     part(
@@ -141,10 +114,14 @@ fn started<H: Host, D: Disk, L: Launcher>(
 ) -> Result<(), Stop>
     requires ready { IsReady machine.now (D.extent disk.old) ram.old }
     requires plan { IsPlan (plan_tree machine.now.plan.now) }
-    ensures runs { (next : State) × Runs machine.now (plan_part (plan_tree machine.now.plan.now)) first_state
-        (moment (⟦<H as HostSeen>⟧.seen host.old) (⟦<D as DiskSeen>⟧.seen disk.old) (⟦<L as LauncherSeen>⟧.seen launcher.old) ram.old)
+    ensures runs { (next : State)
+        × RunsPart machine.now (plan_part (plan_tree machine.now.plan.now)) first_state
+        (moment (⟦<H as HostSeen>⟧.seen host.old) (⟦<D as DiskSeen>⟧.seen disk.old)
+        (⟦<L as LauncherSeen>⟧.seen launcher.old) ram.old)
         result next
-        (moment (⟦<H as HostSeen>⟧.seen host.new) (⟦<D as DiskSeen>⟧.seen disk.new) (⟦<L as LauncherSeen>⟧.seen launcher.new) ram.new) }
+        (moment (⟦<H as HostSeen>⟧.seen host.new) (⟦<D as DiskSeen>⟧.seen disk.new)
+        (⟦<L as LauncherSeen>⟧.seen launcher.new) ram.new) }
+    ensures unasked { machine.now.uris.now ≡ [] → host.new ≡ host.old }
 {
     let params = Params::new();
     let mut state = Progress {
@@ -167,7 +144,7 @@ fn end_of(ended: Result<(), Stop>) -> PlanEnd
 
 /// Runs a procedure on a device (draft-ietf-suit-manifest-25, section 6.4). It ends as its play on the contents does, and
 /// leaves the contents and makes the launches that its play has. Where a fault comes it ends there, as a play that the
-/// fault cut short. Takes no memory.
+/// fault cut short. The host is called only where a URI names a file. Takes no memory.
 pub fn run_plan<H: Host, D: Disk, L: Launcher>(
     host: &mut H,
     disk: &mut D,
@@ -179,19 +156,24 @@ pub fn run_plan<H: Host, D: Disk, L: Launcher>(
     requires plan { IsPlan (plan_tree plan.now) }
     requires count { plan.now.count ≡ length world.old.standings.items }
     ensures standings { world.new.standings.items ≡ world.old.standings.items }
-    ensures rooms { map (λ (held : Held). held.capacity) world.new.ram ≡ map (λ (held : Held). held.capacity) world.old.ram }
+    ensures rooms { map (λ (held : Held). held.capacity) world.new.ram
+        ≡ map (λ (held : Held). held.capacity) world.old.ram }
     ensures size { D.extent disk.new ≡ D.extent disk.old }
-    ensures counts { EndCounts result (counts_of (H.faults host.old) (D.faults disk.old) (L.faults launcher.old))
+    ensures counts { EndCounts result
+        (counts_of (H.faults host.old) (D.faults disk.old) (L.faults launcher.old))
         (counts_of (H.faults host.new) (D.faults disk.new) (L.faults launcher.new)) }
     ensures files { IsTrue H.told → H.file host.new ≡ H.file host.old }
+    ensures unasked { world.old.uris.now ≡ [] → host.new ≡ host.old }
     ensures plays { IsTrue H.told → IsTrue D.told → IsTrue L.told
-        → (payloads : List (List ℕ × List ℕ)) → HasPayloads world.old.envelope.now.whole.now payloads
+        → (payloads : List (List ℕ × List ℕ))
+        → HasPayloads world.old.envelope.now.whole.now payloads
         → PlaysPlan (plan_tree plan.now)
         (setting_of world.old.standings.items payloads world.old.uris.now (H.file host.old)) result
         (contents_of world.old.standings.items world.old.ram (D.flash disk.old).reads)
         (contents_of world.old.standings.items world.new.ram (D.flash disk.new).reads)
         (L.launches launcher.old) (L.launches launcher.new) }
-    ensures keeps { IsTrue D.told → Keeps (OutsideTargets (plan_tree plan.now) world.old.standings.items)
+    ensures keeps { IsTrue D.told
+        → Keeps (OutsideTargets (plan_tree plan.now) world.old.standings.items)
         (D.flash disk.old) (D.flash disk.new) }
     ensures grows { IsTrue D.told → Grows (D.flash disk.old) (D.flash disk.new) }
 {

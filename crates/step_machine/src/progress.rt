@@ -62,7 +62,7 @@ impl<'p> Selected<'p> {
 }
 
 impl<'p> Progress<'p> {
-    /// That of an inner sequence, which begins with one component selected.
+    /// The state of an inner sequence, which begins with one component selected.
     pub(crate) fn entered(&self, component: u32, soft_failure: bool) -> Progress<'p>
         ensures { state_of result ≡ entry_state (state_of self.now) component soft_failure }
     {

@@ -3,7 +3,7 @@
 ghost use Rattle.std.specs.Prelude.{◌≡◌, ◌<◌, ◌∷◌, [], OnOk, length};
 ghost use Rattle.step_machine.specs.Allowing.{AllowsBranches, AllowsCommand, AllowsSequence};
 ghost use Rattle.step_machine.specs.Parts.{at_part, branches_part, command_part, each_part, passed_on, sequence_part};
-ghost use Rattle.step_machine.specs.Running.{IsReady, IsUnderWay, Runs, moment, selected_list, state_of};
+ghost use Rattle.step_machine.specs.Running.{IsReady, IsUnderWay, RunsPart, moment, selected_list, state_of};
 ghost use Rattle.path_model.specs.Plays.{running_inner};
 ghost use Rattle.path_model.specs.DevicePlays.{Device};
 ghost use Rattle.suit_commands.specs.Selections.{selected_after};
@@ -20,7 +20,7 @@ use flash_slots::Ram;
 use suit_commands::{Branches, Command, Sequence, Step};
 use suit_edge::{Disk, Host, Launcher};
 
-// How an inner sequence that was stopped stops the outer one; not where it failed softly.
+// How a stopped inner sequence stops the outer one; none if it failed softly.
 fn passed_on(stop: Stop, soft_failure: bool) -> Option<Stop>
     ensures { result ≡ passed_on stop soft_failure }
 {
@@ -52,10 +52,14 @@ pub(crate) fn sequence<'p, H: Host, D: Disk, L: Launcher>(
     requires ready { IsReady machine.now (D.extent disk.old) ram.old }
     requires allowed { AllowsSequence machine.now sequence.now (selected_list state.old.selected) }
     requires under_way { IsUnderWay machine.now (state_of state.old) }
-    ensures runs { Runs machine.now (sequence_part sequence.now machine.now.plan.now.count) (state_of state.old)
-        (moment (⟦<H as HostSeen>⟧.seen host.old) (⟦<D as DiskSeen>⟧.seen disk.old) (⟦<L as LauncherSeen>⟧.seen launcher.old) ram.old)
+    ensures runs { RunsPart machine.now (sequence_part sequence.now machine.now.plan.now.count)
+        (state_of state.old)
+        (moment (⟦<H as HostSeen>⟧.seen host.old) (⟦<D as DiskSeen>⟧.seen disk.old)
+        (⟦<L as LauncherSeen>⟧.seen launcher.old) ram.old)
         result (state_of state.new)
-        (moment (⟦<H as HostSeen>⟧.seen host.new) (⟦<D as DiskSeen>⟧.seen disk.new) (⟦<L as LauncherSeen>⟧.seen launcher.new) ram.new) }
+        (moment (⟦<H as HostSeen>⟧.seen host.new) (⟦<D as DiskSeen>⟧.seen disk.new)
+        (⟦<L as LauncherSeen>⟧.seen launcher.new) ram.new) }
+    ensures unasked { machine.now.uris.now ≡ [] → host.new ≡ host.old }
 {
     for step in sequence.as_slice() {
         if let Err(stop) = command(machine, host, disk, launcher, ram, pieces, step, state) {
@@ -78,14 +82,21 @@ fn command<'p, H: Host, D: Disk, L: Launcher>(
     state: &mut Progress<'p>,
 ) -> Result<(), Stop>
     requires ready { IsReady machine.now (D.extent disk.old) ram.old }
-    requires allowed { AllowsCommand machine.now (command_tree step.now.command) (selected_list state.old.selected) }
+    requires allowed { AllowsCommand machine.now (command_tree step.now.command)
+        (selected_list state.old.selected) }
     requires under_way { IsUnderWay machine.now (state_of state.old) }
-    ensures runs { Runs machine.now (command_part (command_tree step.now.command) machine.now.plan.now.count step.now.place) (state_of state.old)
-        (moment (⟦<H as HostSeen>⟧.seen host.old) (⟦<D as DiskSeen>⟧.seen disk.old) (⟦<L as LauncherSeen>⟧.seen launcher.old) ram.old)
+    ensures runs { RunsPart machine.now
+        (command_part (command_tree step.now.command) machine.now.plan.now.count step.now.place)
+        (state_of state.old)
+        (moment (⟦<H as HostSeen>⟧.seen host.old) (⟦<D as DiskSeen>⟧.seen disk.old)
+        (⟦<L as LauncherSeen>⟧.seen launcher.old) ram.old)
         result (state_of state.new)
-        (moment (⟦<H as HostSeen>⟧.seen host.new) (⟦<D as DiskSeen>⟧.seen disk.new) (⟦<L as LauncherSeen>⟧.seen launcher.new) ram.new) }
+        (moment (⟦<H as HostSeen>⟧.seen host.new) (⟦<D as DiskSeen>⟧.seen disk.new)
+        (⟦<L as LauncherSeen>⟧.seen launcher.new) ram.new) }
+    ensures unasked { machine.now.uris.now ≡ [] → host.new ≡ host.old }
     ensures selected { OnOk result (selected_list state.new.selected
-        ≡ selected_after (command_tree step.now.command) machine.now.plan.now.count (selected_list state.old.selected)) }
+        ≡ selected_after (command_tree step.now.command) machine.now.plan.now.count
+        (selected_list state.old.selected)) }
 {
     match &step.command {
         Command::Index(selection) => {
@@ -113,12 +124,19 @@ fn each<'p, H: Host, D: Disk, L: Launcher>(
     state: &mut Progress<'p>,
 ) -> Result<(), Stop>
     requires ready { IsReady machine.now (D.extent disk.old) ram.old }
-    requires allowed { AllowsCommand machine.now (command_tree step.now.command) (selected_list state.old.selected) }
+    requires allowed { AllowsCommand machine.now (command_tree step.now.command)
+        (selected_list state.old.selected) }
     requires under_way { IsUnderWay machine.now (state_of state.old) }
-    ensures runs { Runs machine.now (each_part (command_tree step.now.command) machine.now.plan.now.count step.now.place (selected_list state.old.selected)) (state_of state.old)
-        (moment (⟦<H as HostSeen>⟧.seen host.old) (⟦<D as DiskSeen>⟧.seen disk.old) (⟦<L as LauncherSeen>⟧.seen launcher.old) ram.old)
+    ensures runs { RunsPart machine.now
+        (each_part (command_tree step.now.command) machine.now.plan.now.count step.now.place
+        (selected_list state.old.selected))
+        (state_of state.old)
+        (moment (⟦<H as HostSeen>⟧.seen host.old) (⟦<D as DiskSeen>⟧.seen disk.old)
+        (⟦<L as LauncherSeen>⟧.seen launcher.old) ram.old)
         result (state_of state.new)
-        (moment (⟦<H as HostSeen>⟧.seen host.new) (⟦<D as DiskSeen>⟧.seen disk.new) (⟦<L as LauncherSeen>⟧.seen launcher.new) ram.new) }
+        (moment (⟦<H as HostSeen>⟧.seen host.new) (⟦<D as DiskSeen>⟧.seen disk.new)
+        (⟦<L as LauncherSeen>⟧.seen launcher.new) ram.new) }
+    ensures unasked { machine.now.uris.now ≡ [] → host.new ≡ host.old }
     ensures selected { state.new.selected ≡ state.old.selected }
 {
     let selected = state.selected;
@@ -150,10 +168,16 @@ fn at<'p, H: Host, D: Disk, L: Launcher>(
     requires inside { component < length machine.now.standings.now }
     requires allowed { AllowsCommand machine.now (command_tree step.now.command) (component ∷ []) }
     requires under_way { IsUnderWay machine.now (state_of state.old) }
-    ensures runs { Runs machine.now (at_part (command_tree step.now.command) machine.now.plan.now.count step.now.place component) (state_of state.old)
-        (moment (⟦<H as HostSeen>⟧.seen host.old) (⟦<D as DiskSeen>⟧.seen disk.old) (⟦<L as LauncherSeen>⟧.seen launcher.old) ram.old)
+    ensures runs { RunsPart machine.now
+        (at_part (command_tree step.now.command) machine.now.plan.now.count step.now.place
+        component)
+        (state_of state.old)
+        (moment (⟦<H as HostSeen>⟧.seen host.old) (⟦<D as DiskSeen>⟧.seen disk.old)
+        (⟦<L as LauncherSeen>⟧.seen launcher.old) ram.old)
         result (state_of state.new)
-        (moment (⟦<H as HostSeen>⟧.seen host.new) (⟦<D as DiskSeen>⟧.seen disk.new) (⟦<L as LauncherSeen>⟧.seen launcher.new) ram.new) }
+        (moment (⟦<H as HostSeen>⟧.seen host.new) (⟦<D as DiskSeen>⟧.seen disk.new)
+        (⟦<L as LauncherSeen>⟧.seen launcher.new) ram.new) }
+    ensures unasked { machine.now.uris.now ≡ [] → host.new ≡ host.old }
     ensures selected { state.new.selected ≡ state.old.selected }
 {
     match &step.command {
@@ -196,10 +220,16 @@ fn run_inner<'p, H: Host, D: Disk, L: Launcher>(
     requires inside { component < length machine.now.standings.now }
     requires allowed { AllowsSequence machine.now inner.now (component ∷ []) }
     requires under_way { IsUnderWay machine.now (state_of state.old) }
-    ensures runs { Runs machine.now (λ setting. running_inner Device (sequence_part inner.now machine.now.plan.now.count setting) component) (state_of state.old)
-        (moment (⟦<H as HostSeen>⟧.seen host.old) (⟦<D as DiskSeen>⟧.seen disk.old) (⟦<L as LauncherSeen>⟧.seen launcher.old) ram.old)
+    ensures runs { RunsPart machine.now
+        (λ setting. running_inner Device
+        (sequence_part inner.now machine.now.plan.now.count setting) component)
+        (state_of state.old)
+        (moment (⟦<H as HostSeen>⟧.seen host.old) (⟦<D as DiskSeen>⟧.seen disk.old)
+        (⟦<L as LauncherSeen>⟧.seen launcher.old) ram.old)
         result (state_of state.new)
-        (moment (⟦<H as HostSeen>⟧.seen host.new) (⟦<D as DiskSeen>⟧.seen disk.new) (⟦<L as LauncherSeen>⟧.seen launcher.new) ram.new) }
+        (moment (⟦<H as HostSeen>⟧.seen host.new) (⟦<D as DiskSeen>⟧.seen disk.new)
+        (⟦<L as LauncherSeen>⟧.seen launcher.new) ram.new) }
+    ensures unasked { machine.now.uris.now ≡ [] → host.new ≡ host.old }
     ensures selected { state.new.selected ≡ state.old.selected }
 {
     let mut inside = state.entered(component, false);
@@ -242,10 +272,14 @@ fn try_each<'p, H: Host, D: Disk, L: Launcher>(
     requires inside { component < length machine.now.standings.now }
     requires allowed { AllowsBranches machine.now branches.now component }
     requires under_way { IsUnderWay machine.now (state_of state.old) }
-    ensures runs { Runs machine.now (branches_part branches.now machine.now.plan.now.count place component) (state_of state.old)
-        (moment (⟦<H as HostSeen>⟧.seen host.old) (⟦<D as DiskSeen>⟧.seen disk.old) (⟦<L as LauncherSeen>⟧.seen launcher.old) ram.old)
+    ensures runs { RunsPart machine.now
+        (branches_part branches.now machine.now.plan.now.count place component) (state_of state.old)
+        (moment (⟦<H as HostSeen>⟧.seen host.old) (⟦<D as DiskSeen>⟧.seen disk.old)
+        (⟦<L as LauncherSeen>⟧.seen launcher.old) ram.old)
         result (state_of state.new)
-        (moment (⟦<H as HostSeen>⟧.seen host.new) (⟦<D as DiskSeen>⟧.seen disk.new) (⟦<L as LauncherSeen>⟧.seen launcher.new) ram.new) }
+        (moment (⟦<H as HostSeen>⟧.seen host.new) (⟦<D as DiskSeen>⟧.seen disk.new)
+        (⟦<L as LauncherSeen>⟧.seen launcher.new) ram.new) }
+    ensures unasked { machine.now.uris.now ≡ [] → host.new ≡ host.old }
     ensures selected { state.new.selected ≡ state.old.selected }
 {
     for branch in branches.as_slice() {

@@ -2,7 +2,7 @@
 
 use path_model::Cause;
 
-/// What stopped a sequence before its end.
+/// Why a sequence stopped before its end.
 #[derive(Clone, Copy, Debug, PartialEq, Eq)]
 pub enum Stop {
     /// A condition failed at this place in the envelope, and the sequence then held this soft failure.

@@ -27,7 +27,8 @@ pub fn swap<D: Disk>(
 ) -> Result<(), Cause>
     requires spot { IsSpot (D.extent disk.old) ram.old standing.now.spot }
     requires source { IsSpot (D.extent disk.old) ram.old source.now.spot }
-    requires apart { AreApart standing.now.component standing.now.spot source.now.component source.now.spot }
+    requires apart { AreApart standing.now.component standing.now.spot source.now.component
+        source.now.spot }
     requires capacity { room_at standing.now.spot ram.old ≡ standing.now.capacity }
     requires source_capacity { room_at source.now.spot ram.old ≡ source.now.capacity }
     requires room { 0 < length room.old }
@@ -37,11 +38,15 @@ pub fn swap<D: Disk>(
     ensures ram { IsRamButBoth standing.now.spot source.now.spot ram.old ram.new }
     ensures swaps { IsTrue D.told → SwapsAs
         (side_of standing.now.component standing.now.capacity
-        (content_of standing.now.spot ram.old (D.flash disk.old).reads) (content_of standing.now.spot ram.new (D.flash disk.new).reads))
+        (content_of standing.now.spot ram.old (D.flash disk.old).reads)
+        (content_of standing.now.spot ram.new (D.flash disk.new).reads))
         (side_of source.now.component source.now.capacity
-        (content_of source.now.spot ram.old (D.flash disk.old).reads) (content_of source.now.spot ram.new (D.flash disk.new).reads))
+        (content_of source.now.spot ram.old (D.flash disk.old).reads)
+        (content_of source.now.spot ram.new (D.flash disk.new).reads))
         result }
-    ensures keeps { IsTrue D.told → Keeps (OutsideBoth standing.now.spot source.now.spot) (D.flash disk.old) (D.flash disk.new) }
+    ensures keeps { IsTrue D.told
+        → Keeps (OutsideBoth standing.now.spot source.now.spot) (D.flash disk.old)
+        (D.flash disk.new) }
     ensures grows { IsTrue D.told → Grows (D.flash disk.old) (D.flash disk.new) }
 {
     if source.component == standing.component {

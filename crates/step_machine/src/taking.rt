@@ -1,4 +1,4 @@
-//! A file that was started becomes a content.
+//! Reading a started file into a content.
 
 ghost use Rattle.flash_layout.specs.Slots.{LiesWithin, extent_of, slot_content};
 ghost use Rattle.flash_slots.specs.Contents.{pieces_of};
@@ -18,7 +18,7 @@ use suit_edge::{Disk, Host};
 
 // ---- a slot
 
-// Each piece of the file is put behind those before it, up to the file's end.
+// Appends the file piece by piece, up to its end.
 fn append_file<H: Host, D: Disk>(
     host: &mut H,
     disk: &mut D,
@@ -31,7 +31,8 @@ fn append_file<H: Host, D: Disk>(
     requires capacity { writing.old.slot.capacity ≡ capacity }
     requires room { 0 < length room.old }
     ensures size { D.extent disk.new ≡ D.extent disk.old }
-    ensures counts { FetchCounts result (H.faults host.old) (H.faults host.new) (D.faults disk.old) (D.faults disk.new) }
+    ensures counts { FetchCounts result (H.faults host.old) (H.faults host.new) (D.faults disk.old)
+        (D.faults disk.new) }
     ensures files { IsTrue H.told → H.file host.new ≡ H.file host.old }
     ensures pulled { IsTrue H.told → H.pulled host.new ≤ H.pulled host.old + (capacity + 1) }
     ensures slot { writing.new.slot ≡ writing.old.slot }
@@ -40,7 +41,9 @@ fn append_file<H: Host, D: Disk>(
         (pieces_of writing.old.slot writing.new.written (D.flash disk.new).reads) }
     ensures empty { IsTrue D.told → slot_content writing.old.slot (D.flash disk.old).reads ≡ []
         → slot_content writing.old.slot (D.flash disk.new).reads ≡ [] }
-    ensures keeps { IsTrue D.told → Keeps (Outside writing.old.slot.start (extent_of writing.old.slot)) (D.flash disk.old) (D.flash disk.new) }
+    ensures keeps { IsTrue D.told
+        → Keeps (Outside writing.old.slot.start (extent_of writing.old.slot)) (D.flash disk.old)
+        (D.flash disk.new) }
     ensures grows { IsTrue D.told → Grows (D.flash disk.old) (D.flash disk.new) }
 {
     let mut left = capacity;
@@ -57,7 +60,7 @@ fn append_file<H: Host, D: Disk>(
     }
 }
 
-// The file becomes the content of a slot. Where it stops the slot is empty, or holds any content after a fault of the flash.
+// Makes the file a slot's content. If it stops, the slot is empty, or holds any content after a fault of the flash.
 fn take_into_slot<H: Host, D: Disk>(
     host: &mut H,
     disk: &mut D,
@@ -67,11 +70,15 @@ fn take_into_slot<H: Host, D: Disk>(
     requires slot { LiesWithin (D.extent disk.old) slot }
     requires room { 0 < length room.old }
     ensures size { D.extent disk.new ≡ D.extent disk.old }
-    ensures counts { FetchCounts result (H.faults host.old) (H.faults host.new) (D.faults disk.old) (D.faults disk.new) }
+    ensures counts { FetchCounts result (H.faults host.old) (H.faults host.new) (D.faults disk.old)
+        (D.faults disk.new) }
     ensures files { IsTrue H.told → H.file host.new ≡ H.file host.old }
     ensures pulled { IsTrue H.told → H.pulled host.new ≤ H.pulled host.old + (slot.capacity + 1) }
-    ensures takes { IsTrue D.told → IsTrue H.told → TakesIn result slot.capacity (H.rest host.old) (slot_content slot (D.flash disk.new).reads) }
-    ensures keeps { IsTrue D.told → Keeps (Outside slot.start (extent_of slot)) (D.flash disk.old) (D.flash disk.new) }
+    ensures takes { IsTrue D.told → IsTrue H.told
+        → TakesIn result slot.capacity (H.rest host.old)
+        (slot_content slot (D.flash disk.new).reads) }
+    ensures keeps { IsTrue D.told
+        → Keeps (Outside slot.start (extent_of slot)) (D.flash disk.old) (D.flash disk.new) }
     ensures grows { IsTrue D.told → Grows (D.flash disk.old) (D.flash disk.new) }
 {
     let mut writing = match begin(disk, slot) {
@@ -87,7 +94,7 @@ fn take_into_slot<H: Host, D: Disk>(
 
 // ---- working memory
 
-// Each piece of the file is put behind those before it, up to the file's end.
+// Appends the file piece by piece, up to its end.
 fn append_file_in_ram<H: Host>(
     host: &mut H,
     ram: &mut Ram,
@@ -99,11 +106,13 @@ fn append_file_in_ram<H: Host>(
     requires none { (held_by ram.old component).content ≡ [] }
     requires capacity { (held_by ram.old component).capacity ≡ capacity }
     requires room { 0 < length room.old }
-    ensures counts { (flash : ℕ) → FetchCounts result (H.faults host.old) (H.faults host.new) flash flash }
+    ensures counts { (flash : ℕ)
+        → FetchCounts result (H.faults host.old) (H.faults host.new) flash flash }
     ensures files { IsTrue H.told → H.file host.new ≡ H.file host.old }
     ensures pulled { IsTrue H.told → H.pulled host.new ≤ H.pulled host.old + (capacity + 1) }
     ensures ram { ram.new ≡ holding ram.old component (held_by ram.new component).content }
-    ensures puts { IsTrue H.told → PutsIn result capacity (H.rest host.old) (held_by ram.new component).content }
+    ensures puts { IsTrue H.told
+        → PutsIn result capacity (H.rest host.old) (held_by ram.new component).content }
 {
     let mut left = capacity;
     loop {
@@ -118,7 +127,7 @@ fn append_file_in_ram<H: Host>(
     }
 }
 
-// The file becomes the content of a component in working memory, which is emptied where it stops.
+// Makes the file the content of a component in working memory, which is emptied if it stops.
 fn take_into_ram<H: Host>(
     host: &mut H,
     ram: &mut Ram,
@@ -129,11 +138,13 @@ fn take_into_ram<H: Host>(
     requires component { component < length ram.old }
     requires capacity { (held_by ram.old component).capacity ≡ capacity }
     requires room { 0 < length room.old }
-    ensures counts { (flash : ℕ) → FetchCounts result (H.faults host.old) (H.faults host.new) flash flash }
+    ensures counts { (flash : ℕ)
+        → FetchCounts result (H.faults host.old) (H.faults host.new) flash flash }
     ensures files { IsTrue H.told → H.file host.new ≡ H.file host.old }
     ensures pulled { IsTrue H.told → H.pulled host.new ≤ H.pulled host.old + (capacity + 1) }
     ensures ram { ram.new ≡ holding ram.old component (held_by ram.new component).content }
-    ensures takes { IsTrue H.told → TakesIn result capacity (H.rest host.old) (held_by ram.new component).content }
+    ensures takes { IsTrue H.told
+        → TakesIn result capacity (H.rest host.old) (held_by ram.new component).content }
 {
     ram.clear(component);
     match append_file_in_ram(host, ram, component, capacity, room) {
@@ -147,7 +158,7 @@ fn take_into_ram<H: Host>(
 
 // ---- either
 
-// The file becomes the content, piece by piece. At most one byte more is pulled than there is room for.
+// Makes the file the content, piece by piece. At most one byte more is pulled than there is room for.
 pub(crate) fn take_into<H: Host, D: Disk>(
     host: &mut H,
     disk: &mut D,
@@ -159,13 +170,17 @@ pub(crate) fn take_into<H: Host, D: Disk>(
     requires capacity { room_at standing.now.spot ram.old ≡ standing.now.capacity }
     requires room { 0 < length room.old }
     ensures size { D.extent disk.new ≡ D.extent disk.old }
-    ensures counts { FetchCounts result (H.faults host.old) (H.faults host.new) (D.faults disk.old) (D.faults disk.new) }
+    ensures counts { FetchCounts result (H.faults host.old) (H.faults host.new) (D.faults disk.old)
+        (D.faults disk.new) }
     ensures files { IsTrue H.told → H.file host.new ≡ H.file host.old }
-    ensures pulled { IsTrue H.told → H.pulled host.new ≤ H.pulled host.old + (standing.now.capacity + 1) }
+    ensures pulled { IsTrue H.told
+        → H.pulled host.new ≤ H.pulled host.old + (standing.now.capacity + 1) }
     ensures ram { IsRamBut standing.now.spot ram.old ram.new }
-    ensures takes { IsTrue D.told → IsTrue H.told → TakesIn result standing.now.capacity (H.rest host.old)
+    ensures takes { IsTrue D.told → IsTrue H.told
+        → TakesIn result standing.now.capacity (H.rest host.old)
         (content_of standing.now.spot ram.new (D.flash disk.new).reads) }
-    ensures keeps { IsTrue D.told → Keeps (OutsideSpot standing.now.spot) (D.flash disk.old) (D.flash disk.new) }
+    ensures keeps { IsTrue D.told
+        → Keeps (OutsideSpot standing.now.spot) (D.flash disk.old) (D.flash disk.new) }
     ensures grows { IsTrue D.told → Grows (D.flash disk.old) (D.flash disk.new) }
 {
     match standing.spot {

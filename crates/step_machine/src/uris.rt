@@ -7,7 +7,7 @@ use det_cbor::Text;
 use std::alloc::{AllocError, Global};
 use std::marker::Model;
 
-/// The files that answer URIs: each URI with the name of its file. Of a URI that stands in it twice the first counts.
+/// The files that answer URIs: each URI with the name of its file. If a URI is listed twice, the first counts.
 #[derive(Debug, Drop)]
 pub struct Uris {
     held: Vec<(Text, Text)>,
@@ -22,7 +22,7 @@ impl Model for Uris {
 }
 
 impl Uris {
-    /// No URI is answered. Takes no memory.
+    /// Answers no URI. Takes no memory.
     pub fn new(alloc: Global) -> Uris
         ensures { result ≡ [] }
     {

@@ -1,4 +1,4 @@
-//! What a procedure runs on, beside the flash, the host and the launcher.
+//! The world of a procedure, beside the flash, the host and the launcher.
 
 ghost use Rattle.flash_layout.specs.declared.frame.Frame.{Frame};
 ghost use Rattle.flash_layout.specs.Layouts.{IsLayout};
@@ -103,11 +103,13 @@ impl<'a> World<'a> {
     ) -> Result<World<'a>, AllocError>
         requires places { AreDistinct layout.now places.now }
         requires slots { IsChoice layout.now slots.now }
-        ensures stand { IfOk result (λ world. StandAs layout.now places.now slots.now world.standings.items) }
+        ensures stand { IfOk result
+            (λ world. StandAs layout.now places.now slots.now world.standings.items) }
         ensures ram { IfOk result (λ world. world.ram ≡ empty_ram layout.now) }
         ensures uris { IfOk result (λ world. world.uris.now ≡ uris.now) }
         ensures envelope { IfOk result (λ world. world.envelope.now ≡ envelope.now) }
-        ensures fit { IfOk result (λ world. (frame : Frame) (size : ℕ) → IsLayout frame size layout.now
+        ensures fit { IfOk result
+            (λ world. (frame : Frame) (size : ℕ) → IsLayout frame size layout.now
             → AreStandings size world.ram world.standings.items) }
     {
         let ram = Ram::new(alloc, layout)?;

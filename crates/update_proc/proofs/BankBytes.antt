@@ -22,7 +22,7 @@ bank_in image b n two few =
     let at : 12288 + b * 16384 ≡ bank_place VERSION_1 b = omega arith in
     inner_range image 49152 (12288 + b * 16384) (12288 + b * 16384 + n) (omega arith) (omega (arith, two, few)) ∙ ap (λ (k : ℕ). slice_range image k (k + n)) at
 
--- what was written to it stands there
+-- the bytes written to it stand there
 pub bank_written : (old new bytes : List ℕ) (b : ℕ) → 49152 ≤ length old → b < 2 → length bytes ≤ 16384 → new ≡ written old (bank_place VERSION_1 b) bytes
     → bank_of VERSION_1 (head_of VERSION_1 new) b (length bytes) ≡ bytes
 bank_written old new bytes b large two few wrote =
@@ -47,7 +47,7 @@ module _ (image bytes : List ℕ) (place from count : ℕ) (fits : place + lengt
   length-piece : length piece ≡ count
   length-piece = omega (arith, length-between bytes from (from + count) within)
 
-  -- what was passed, and one piece more
+  -- the bytes passed, and one piece more
   pub more_passed : (reads : List ℕ) → reads ≡ image → slice_range image place (place + from) ≡ take from bytes → slice_range reads (place + from) (place + from + length piece) ≡ piece
       → slice_range image place (place + (from + count)) ≡ take (from + count) bytes
   more_passed reads same before part =

@@ -1,7 +1,6 @@
--- What an update is answered with, by how its procedure ended and by what came behind it.
-use Rattle.std.proofs.Common.{◌≡◌, ◌⊎◌, inl, inr, ⊎_elim, ◌<◌, ◌≤◌, ℕ, ◌-◌, ◌^◌, List, Option, Some, None, IfSome, refl, sym, ◌∙◌, ap, subst, arith}
+-- The answer of an update, by how its procedure ended and by what came behind it.
+use Rattle.std.proofs.Common.{◌≡◌, ◌⊎◌, inl, inr, ⊎_elim, ◌<◌, ℕ, ◌-◌, ◌^◌, List, Option, Some, None, IfSome, refl, sym, ◌∙◌, ap, subst, arith}
 use Rattle.std.specs.Prelude.{◌≢◌}
-use Rattle.suit_edge.specs.Faults.{Faulted}
 use Rattle.suit_edge.specs.declared.launch.Launch.{Launch}
 use Rattle.suit_params.specs.declared.digest.Digest.{Digest}
 use Rattle.path_model.specs.declared.cause.Cause.{Cause}
@@ -22,7 +21,8 @@ use Rattle.step_machine.specs.declared.plan_end.PlanEnd.{PlanEnd}
 use Rattle.step_machine.specs.declared.plan_end.PlanEnd.TheVariants as plays
 use Rattle.step_machine.specs.declared.spot.Standing.{Standing}
 use Rattle.step_machine.specs.Devices.{contents_of}
-use Rattle.step_machine.specs.PlanRuns.{Counts, CountsFor, EndCounts, PlaysPlan, counts_of, setting_of}
+use Rattle.step_machine.specs.PlanRuns.{Counts, EndCounts, PlaysPlan, counts_of, setting_of}
+use Rattle.step_machine.proofs.Counting.{failed_behind, not_fallen}
 use Rattle.step_machine.specs.Worlds.{IsChoice, StandAs}
 use Rattle.suit_commands.specs.Tree.{PlanTree}
 use Rattle.flash_layout.specs.declared.place.Places.{Places}
@@ -30,13 +30,13 @@ use Rattle.flash_slots.specs.RamContents.{Held, empty_ram}
 use Rattle.update_proc.specs.Choices.{AreChosen, active_slots}
 use Rattle.update_proc.specs.declared.update_end.UpdateEnd.{UpdateEnd}
 use Rattle.update_proc.specs.declared.update_end.UpdateEnd.TheVariants as ends
-use Rattle.update_proc.specs.Ends.{FinishedSo, FlashFailed, IfInstalled, IfStopped, IfTold, IfUnfaulted, IsEnd, IsRefusal, IsStartEnd, JudgedSo, UpdateCounts}
+use Rattle.update_proc.specs.Ends.{FinishedSo, IfInstalled, IfStopped, IfTold, IfUnfaulted, IsEnd, IsRefusal, IsStartEnd, JudgedSo, UpdateCounts}
 use Rattle.update_proc.specs.Installing.{BehindHead, IsNotWorn}
 use Rattle.update_proc.specs.Moments.{HasContentsOf}
 use Rattle.update_proc.specs.Records.{next_generation}
 use Rattle.update_proc.specs.Updates.{KeptSo, LaunchesBy, PlayedSo, PlaysUpdate}
 
--- ---- what was accepted
+-- ---- acceptance
 
 pub not_worn : (held : Option Record) (sequence : ℕ) (digest : Digest) → IfSome held (IsLoadable VERSION_1) → IsAcceptable sequence digest held → IfSome held IsNotWorn
 not_worn None sequence digest few is = tt
@@ -66,29 +66,6 @@ not_held one head held new is old now = no_loop held new.generation is (ap gener
 
 -- ---- counts
 
-abbrev NotFallen : Counts → Counts → Type 0
-NotFallen before now = (before.host ≤ now.host) × (before.disk ≤ now.disk) × (before.launcher ≤ now.launcher)
-
-kept_counts : (a b : Counts) → b ≡ a → NotFallen a b
-kept_counts a b same = (omega (arith, ap (λ (c : Counts). c.host) same), omega (arith, ap (λ (c : Counts). c.disk) same), omega (arith, ap (λ (c : Counts). c.launcher) same))
-
-for_cause : (cause : Cause) (a b : Counts) → CountsFor cause a b → NotFallen a b
-for_cause causes.Missing a b is = kept_counts a b is
-for_cause causes.SelfCopy a b is = kept_counts a b is
-for_cause causes.TooLarge a b is = kept_counts a b is
-for_cause causes.Absent a b is = kept_counts a b is
-for_cause causes.HostFault a b is = (is.0.later, omega (arith, is.1), omega (arith, is.2))
-for_cause causes.FlashFault a b is = (omega (arith, is.0), is.1.later, is.2)
-for_cause causes.LaunchFault a b is = (omega (arith, is.0), is.1, is.2.later)
-
-at_end_counts : (end : PlanEnd) (a b : Counts) → EndCounts end a b → NotFallen a b
-at_end_counts plays.Done a b is = kept_counts a b is
-at_end_counts (plays.ConditionFailed place) a b is = kept_counts a b is
-at_end_counts (plays.DirectiveFailed place cause) a b is = for_cause cause a b is
-
-failed_behind : (h d l i e m f : ℕ) → NotFallen (counts_of h d l) (counts_of i e m) → Faulted e f → FlashFailed (counts_of h d l) (counts_of i f m)
-failed_behind h d l i e m f not fault = (not.0, record { later = omega (arith, not.1, fault.later); rose = λ short. omega (arith, not.1, fault.rose short) }, not.2)
-
 end_counts : (end : PlanEnd) (answer : UpdateEnd) (a b : Counts) → IsEnd end answer → EndCounts end a b → UpdateCounts answer a b
 end_counts plays.Done answer a b (r, same) is = subst (λ (x : UpdateEnd). UpdateCounts x a b) (sym same) is
 end_counts (plays.ConditionFailed place) answer a b same is = subst (λ (x : UpdateEnd). UpdateCounts x a b) (sym same) is
@@ -99,7 +76,7 @@ start_end plays.Done answer (r, same) = subst IsStartEnd (sym same) tt
 start_end (plays.ConditionFailed place) answer same = subst IsStartEnd (sym same) tt
 start_end (plays.DirectiveFailed place cause) answer same = subst IsStartEnd (sym same) tt
 
--- ---- what follows of an end
+-- ---- consequences of an end
 
 -- some end has P, where the procedure's has
 left_end : (P : UpdateEnd → Type 0) (end : PlanEnd) (answer : UpdateEnd) → ((r : Record) → answer ≡ ends.Installed r → end ≡ plays.Done → P (ends.Installed r))
@@ -114,7 +91,7 @@ module _ (end : PlanEnd) (answer : UpdateEnd) (d e : ℕ) (finished : FinishedSo
   counts_after h b l i m is = ⊎_elim
       (λ so. end_counts end answer (counts_of h b l) (counts_of i e m) so.0 (subst (λ (n : ℕ). EndCounts end (counts_of h b l) (counts_of i n m)) (sym so.1) is))
       (λ fault. subst (λ (a : UpdateEnd). UpdateCounts a (counts_of h b l) (counts_of i e m)) (sym fault.0)
-      (failed_behind h b l i d m e (at_end_counts end (counts_of h b l) (counts_of i d m) is) fault.1))
+      (failed_behind h b l i d m e (not_fallen end (counts_of h b l) (counts_of i d m) is) fault.1))
       finished
 
   pub starts_after : IsStartEnd answer
@@ -126,7 +103,7 @@ module _ (end : PlanEnd) (answer : UpdateEnd) (d e : ℕ) (finished : FinishedSo
       → ((place : ℕ) (cause : Cause) → answer ≡ ends.Stopped place cause → end ≡ plays.DirectiveFailed place cause → P (ends.Stopped place cause)) → P ends.FlashFault → P answer
   after P done condition stopped fault_is = ⊎_elim (λ so. left_end P end answer done condition stopped so.0) (λ fault. subst P (sym fault.0) fault_is) finished
 
--- what holds without a fault of the flash is weakened
+-- a property without a fault of the flash is weakened
 pub unfaulted : (P Q : Type 0) (answer : UpdateEnd) → (P → Q) → IfUnfaulted answer P → IfUnfaulted answer Q
 unfaulted P Q (ends.Installed r) to p = to p
 unfaulted P Q (ends.Lower a b) to p = to p
@@ -185,7 +162,7 @@ installed_as answer r P is same = subst (λ (a : UpdateEnd). IfInstalled a P) sa
 pub reads_same : (layout : List Entry) (made after : List ℕ) → after ≡ made → HasContentsOf layout made after
 reads_same layout made after same i n slot is = ap (λ (l : List ℕ). slot_content slot l) same
 
--- ---- what was played, from the world that it was played on
+-- ---- the play, from the world that it was played on
 
 pub plays_update : (layout : List Entry) (places : Places) (tree : PlanTree) (held : Option Record) (payloads words uris : List (List ℕ × List ℕ)) (files : List ℕ → Option (List ℕ))
     (before made : List ℕ) (launched now : List Launch) (end : PlanEnd) (numbers : List ℕ) (standings : List Standing) (ram left : List Held)
@@ -204,7 +181,7 @@ plays_update layout places tree held payloads words uris files before made launc
       (subst (λ (u : List (List ℕ × List ℕ)). PlaysPlan tree (setting_of standings payloads u files) end (contents_of standings ram before) (contents_of standings left made) launched now) same played);
 }
 
--- ---- what is refused
+-- ---- refusals
 
 pub refused_counts : (answer : UpdateEnd) (a : Counts) → IsRefusal answer → UpdateCounts answer a a
 refused_counts (ends.Lower m n) a is = refl
@@ -256,7 +233,7 @@ accepted_judged sequence digest held (ends.Lower m n) is so = elim is [ ]
 accepted_judged sequence digest held (ends.OtherDigest m n) is so = elim is [ ]
 accepted_judged sequence digest held ends.Worn is so = elim is [ ]
 
--- ---- what reads as before
+-- ---- reads as before
 
 pub as_held : (held : Option Record) (a d : List ℕ) → d ≡ a → RecordOf VERSION_1 (head_of VERSION_1 a) held → {new : Record} → HasHeldOrNew VERSION_1 held new d
 as_held held a d same is = inl (subst (λ (l : List ℕ). RecordOf VERSION_1 (head_of VERSION_1 l) held) (sym same) is)
@@ -267,7 +244,7 @@ as_read a d same = subst (λ (l : List ℕ). SameOn BehindHead a l) (sym same) (
 pub held_as : (held : Option Record) (a d : List ℕ) → d ≡ a → RecordOf VERSION_1 (head_of VERSION_1 a) held → RecordOf VERSION_1 (head_of VERSION_1 d) held
 held_as held a d same is = subst (λ (l : List ℕ). RecordOf VERSION_1 (head_of VERSION_1 l) held) (sym same) is
 
--- ---- what was launched
+-- ---- launches
 
 pub some_play : (Plays : List ℕ → PlanEnd → Type 0) (layout : List Entry) (after : List ℕ) (launched now : List Launch) (answer : UpdateEnd) → PlayedSo Plays layout after launched now answer
     → (now ≡ launched) ⊎ ((made : List ℕ) × (end : PlanEnd) × Plays made end)

@@ -64,7 +64,7 @@ module _ (size : ℕ) (layout : List Entry) (is : IsLayout VERSION_1 size layout
     two = λ i e inside. (few_at i e inside).1;
   }
 
--- ---- what the record says is in use
+-- ---- the slots that the record says are in use
 
 pub chosen_as : (layout : List Entry) (places : Places) (tree : PlanTree) (within active numbers : List ℕ) → ((i : ℕ) → get_or within i 0 ≡ get_or active i 0)
     → AreChosen layout places tree within numbers → AreChosen layout places tree active numbers

@@ -1,5 +1,4 @@
--- What stands on the flash while an envelope is written to a bank and recorded: it is sound, and goes on from what stood
--- before.
+-- The flash while an envelope is written to a bank and recorded: it is sound, and goes on from what stood before.
 use Rattle.std.proofs.Common.{◌≡◌, inl, inr, ⊎_elim, ◌<◌, ◌≤◌, ℕ, ◌+◌, ◌-◌, ◌*◌, Bool, true, false, if◌then◌else◌, List, length, get_or, Option, Some, None, IfSome, sym, ◌∙◌, subst, arith}
 use Rattle.std.proofs.lemmas.Bool.{cases_eq}
 use Rattle.suit_edge.specs.Flash.{Flash, ImageOn, IsFirmOn, IsSettled, Keeps, Passes}
@@ -28,7 +27,7 @@ use Rattle.update_proc.specs.Installing.{BehindHead, Filling, HasActiveSlots, Is
 
 -- ---- places
 
--- what says what is recorded lies beside the other bank
+-- the bytes that say what is recorded lie beside the other bank
 says_beside : (held : Option Record) (bytes : List ℕ) → length bytes ≤ 16384 → IfSome held (IsLoadable VERSION_1) → (i : ℕ) → SaysRecorded held i → BesideBank held bytes i
 says_beside None bytes fits few i says = inl (omega (arith, says))
 says_beside (Some r) bytes fits few i says = ⊎_elim
@@ -52,7 +51,7 @@ says_head : (held : Option Record) → IfSome held (IsLoadable VERSION_1) → (i
 says_head None few i says = omega (arith, says)
 says_head (Some r) few i says = ⊎_elim (λ front. omega (arith, front)) (λ bank. omega (arith, bank.1, few.size, few.bank)) says
 
--- what lies behind the head is beside the banks
+-- places behind the head are beside the banks
 beside_behind : (held : Option Record) (bytes : List ℕ) → length bytes ≤ 16384 → (i : ℕ) → 49152 ≤ i → BesideBank held bytes i
 beside_behind None bytes fits i high = inr (omega (arith, fits, high))
 beside_behind (Some r) bytes fits i high = inr (omega (arith, fits, high))

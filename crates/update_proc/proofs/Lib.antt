@@ -7,7 +7,6 @@ mod SlotsApart
 mod MomentProofs
 mod WholeUpdate
 mod InUseSlots
-mod Since
 mod Started
 mod Finished
 pub mod Reread

@@ -1,4 +1,4 @@
--- What stands on the flash at each moment of an update: the contents of slots.
+-- The contents of slots at each moment of an update.
 use Rattle.std.proofs.Common.{◌≡◌, inr, ⊎_elim, ◌<◌, ◌≤◌, ℕ, ◌-◌, List, length, get_or, Option, [], Some, None, refl, sym, ◌∙◌, ap, subst, arith}
 use Rattle.std.proofs.lemmas.Bool.{cases_eq}
 use Rattle.std.proofs.lemmas.List.{get_or-map}
@@ -34,7 +34,7 @@ use Rattle.update_proc.proofs.SlotsApart.{content_kept, lies, one_or_clear, unto
 some_entry : Entry
 some_entry = record { identifier = []; memory = memory.Ram; slots = 0; starts = []; capacity = 0; vendor = None; class = None; device = None }
 
--- what lies behind the head is beside the banks
+-- places behind the head are beside the banks
 behind_bank : (held : Option Record) (bytes : List ℕ) → length bytes ≤ 16384 → (k : ℕ) → 49152 ≤ k → BesideBank held bytes k
 behind_bank None bytes fits k high = inr (omega (arith, fits, high))
 behind_bank (Some r) bytes fits k high = inr (omega (arith, fits, high))
@@ -87,7 +87,7 @@ module _ (size : ℕ) (layout : List Entry) (allowed : IsLayout VERSION_1 size l
   new : (r : Record) (made image : List ℕ) → IsNew layout r made image → HasInUse layout r.active made image
   new r made image is slot used = is.contents used.index (get_or r.active used.index 0) slot used.stands
 
--- ---- what the play made
+-- ---- the contents that the play made
 
 -- one choice of slots
 one_choice : (layout : List Entry) (places : Places) (tree : PlanTree) (active a b : List ℕ) → AreChosen layout places tree active a → AreChosen layout places tree active b

@@ -26,7 +26,7 @@ use Rattle.update_proc.specs.Moments.{IsNew, IsOld, KeepsContents}
 use Rattle.update_proc.specs.Offered.{ForOffer}
 use Rattle.update_proc.specs.Records.{new_record}
 use Rattle.update_proc.specs.Updates.{KeepsUpdate, KeptSo, LeftSo, WholeSo}
-use Rattle.update_proc.proofs.Since.{follows_now}
+use Rattle.rollback_record.proofs.HeadSince.{follows_now}
 use Rattle.update_proc.proofs.WholeUpdate.{listed, settled_head, settled_slots}
 
 none : Entry
@@ -46,7 +46,7 @@ pub recorded_as : (head : List ℕ) (o : Option (Bor Record)) (loaded : Option R
     → RecordOf VERSION_1 head (option_map (λ r. r.now) o)
 recorded_as head o loaded same is = subst (λ (p : Option Record). RecordOf VERSION_1 head p) (sym (as_loaded o loaded same)) is
 
--- what holds of the record that was read and of the digest that was stated holds of each such
+-- a property of the record that was read and the digest that was stated holds of each such
 pub for_offer : (one : OneAnswer) (image wrapper : List ℕ) (P : Option Record → Digest → Type 0) (held : Option Record) (stated : Digest)
     → RecordOf VERSION_1 (head_of VERSION_1 image) held → ((digest : List ℕ) (blocks : List (List ℕ)) → WrapperSays wrapper digest blocks → stated.bytes ≡ digest)
     → P held stated → ForOffer image wrapper P
@@ -81,7 +81,7 @@ whole_from K L S T s k ends.NoMemory is = s is
 -- ---- from before the read
 
 module _ (a b c : Flash) (same : IsSame a b) where
-  -- what holds of each image since
+  -- a property of each image since
   pub since_read : (P : List ℕ → Type 0) → ((image : List ℕ) → Now a image → P image) → Passes b c P → Passes a c P
   since_read P here run = joined a b c P (weakens a b (Now a) P here same.images) run
 
@@ -103,7 +103,7 @@ module _ (a b c : Flash) (same : IsSame a b) where
     config_a : ConfigOf VERSION_1 (length a.reads) (head_of VERSION_1 a.reads) (Configured layout key)
     config_a = subst (λ (n : ℕ). ConfigOf VERSION_1 n (head_of VERSION_1 a.reads) (Configured layout key)) (sym law.fits) config
 
-    -- what a power loss then may have left has the old record and the old contents
+    -- an image that a power loss then may have left has the old record and the old contents
     old_now : (numbers : List ℕ) (image : List ℕ) → Now a image → IsOld layout places tree numbers held a.reads image
     old_now numbers image now = record {
       record_is = subst (λ (h : List ℕ). RecordOf VERSION_1 h held) (sym (settled_head layout key a settled config_a image now)) was;

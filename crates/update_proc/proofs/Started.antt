@@ -40,7 +40,7 @@ use Rattle.update_proc.specs.Records.{new_record}
 use Rattle.update_proc.proofs.Finished.{not_held}
 use Rattle.update_proc.proofs.MomentProofs.{behind}
 use Rattle.update_proc.proofs.Numbering.{other_default}
-use Rattle.update_proc.proofs.Since.{config_there, follows_since, same_head, sound_since}
+use Rattle.rollback_record.proofs.HeadSince.{config_there, follows_since, same_head, sound_since}
 use Rattle.update_proc.proofs.WholeUpdate.{finished, head_out, kept_old, listed, reads_old, settled_head, settled_slots}
 
 none : Entry

@@ -36,11 +36,16 @@ abbrev pub HasOther : List Entry → ℕ → Type 0
 HasOther layout i = (i < length layout) × ((e : Entry) → (get_or layout i e).slots ≡ 2)
 
 -- A component that may be written stands for its other slot, where it has one. All others stand for the one in use.
-pub record AreChosen (layout : List Entry) (places : Places) (tree : PlanTree) (active numbers : List ℕ) : Type 0 where
+pub record AreChosen (layout : List Entry) (places : Places) (tree : PlanTree)
+    (active numbers : List ℕ) : Type 0 where
   pub size : length numbers ≡ 8
-  pub other : (i : ℕ) → IsWritten tree places i → HasOther layout i → slice_index numbers i ≡ 1 - slice_index active i
-  pub same : (i : ℕ) → (IsWritten tree places i × HasOther layout i → ⊥) → slice_index numbers i ≡ slice_index active i
-  pub either : (i : ℕ) → (slice_index numbers i ≡ slice_index active i) ⊎ (HasOther layout i × (slice_index numbers i ≡ 1 - slice_index active i))
+  pub other : (i : ℕ) → IsWritten tree places i → HasOther layout i
+      → slice_index numbers i ≡ 1 - slice_index active i
+  pub same : (i : ℕ) → (IsWritten tree places i × HasOther layout i → ⊥)
+      → slice_index numbers i ≡ slice_index active i
+  pub either : (i : ℕ)
+      → (slice_index numbers i ≡ slice_index active i)
+      ⊎ (HasOther layout i × (slice_index numbers i ≡ 1 - slice_index active i))
 
 -- ---- slots
 
@@ -49,10 +54,12 @@ pub record IsSlotOf (layout : List Entry) (i n : ℕ) (slot : Slot) : Type 0 whe
   pub inside : i < length layout
   pub flash : (e : Entry) → (get_or layout i e).memory ≡ memory.Flash
   pub number : (e : Entry) → n < (get_or layout i e).slots
-  pub is : (e : Entry) → slot ≡ slot_at (get_or layout i e) (slice_index (get_or layout i e).starts n)
+  pub is : (e : Entry)
+      → slot ≡ slot_at (get_or layout i e) (slice_index (get_or layout i e).starts n)
 
 -- a component that may be written stands for this slot
-pub record IsTouched (layout : List Entry) (places : Places) (tree : PlanTree) (numbers : List ℕ) (slot : Slot) : Type 0 where
+pub record IsTouched (layout : List Entry) (places : Places) (tree : PlanTree) (numbers : List ℕ)
+    (slot : Slot) : Type 0 where
   pub index : ℕ
   pub written : IsWritten tree places index
   pub stands : IsSlotOf layout index (slice_index numbers index) slot
@@ -65,4 +72,5 @@ pub record IsInUse (layout : List Entry) (active : List ℕ) (slot : Slot) : Typ
 -- each component of the flash that may be written has two slots
 abbrev pub HaveTwoSlots : List Entry → Places → PlanTree → Type 0
 HaveTwoSlots layout places tree =
-    (i : ℕ) (e : Entry) → IsWritten tree places i → (get_or layout i e).memory ≡ memory.Flash → (get_or layout i e).slots ≡ 2
+    (i : ℕ) (e : Entry) → IsWritten tree places i → (get_or layout i e).memory ≡ memory.Flash
+    → (get_or layout i e).slots ≡ 2

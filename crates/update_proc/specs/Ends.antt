@@ -1,5 +1,5 @@
 -- How an update ends, by how its procedure did.
-use Rattle.std.specs.Prelude.{◌≡◌, ◌⊎◌, ◌≤◌, ℕ, List, Option}
+use Rattle.std.specs.Prelude.{◌≡◌, ◌⊎◌, ℕ, List, Option}
 use Rattle.suit_edge.specs.Faults.{Faulted}
 use Rattle.suit_edge.specs.Flash.{Flash, Now}
 use Rattle.suit_params.specs.declared.digest.Digest.{Digest}
@@ -9,21 +9,23 @@ use Rattle.rollback_record.specs.Judging.{IsAcceptable, IsJudged}
 use Rattle.rollback_record.specs.declared.judging.Judged.TheVariants as judged
 use Rattle.step_machine.specs.declared.plan_end.PlanEnd.{PlanEnd}
 use Rattle.step_machine.specs.declared.plan_end.PlanEnd.TheVariants as plays
-use Rattle.step_machine.specs.PlanRuns.{Counts, CountsFor}
+use Rattle.step_machine.specs.PlanRuns.{Counts, CountsFor, FlashFailed}
 use Rattle.update_proc.specs.declared.update_end.UpdateEnd.{UpdateEnd}
 use Rattle.update_proc.specs.declared.update_end.UpdateEnd.TheVariants as ends
 
 -- ---- judged
 
--- what is judged of the number and the digest beside the held record, unless a fault came before
+-- the judgement of the number and the digest beside the held record, unless a fault came before
 abbrev pub JudgedSo : ℕ → Digest → Option Record → UpdateEnd → Type 0
-JudgedSo sequence digest held (ends.Lower recorded offered) = IsJudged sequence digest held (judged.Lower recorded offered)
-JudgedSo sequence digest held (ends.OtherDigest recorded offered) = IsJudged sequence digest held (judged.OtherDigest recorded offered)
+JudgedSo sequence digest held (ends.Lower recorded offered) =
+    IsJudged sequence digest held (judged.Lower recorded offered)
+JudgedSo sequence digest held (ends.OtherDigest recorded offered) =
+    IsJudged sequence digest held (judged.OtherDigest recorded offered)
 JudgedSo sequence digest held ends.Worn = IsJudged sequence digest held judged.Worn
 JudgedSo sequence digest held ends.FlashFault = Unit {0}
 JudgedSo sequence digest held _ = IsAcceptable sequence digest held
 
--- what is answered to what may not be recorded
+-- the answer to a manifest that may not be recorded
 abbrev pub IsRefusal : UpdateEnd → Type 0
 IsRefusal (ends.Lower recorded offered) = Unit {0}
 IsRefusal (ends.OtherDigest recorded offered) = Unit {0}
@@ -40,17 +42,19 @@ IsEnd (plays.DirectiveFailed place cause) answer = answer ≡ ends.Stopped place
 
 -- or the flash failed behind it
 abbrev pub FinishedSo : PlanEnd → UpdateEnd → ℕ → ℕ → Type 0
-FinishedSo end answer before now = (IsEnd end answer × (now ≡ before)) ⊎ ((answer ≡ ends.FlashFault) × Faulted before now)
+FinishedSo end answer before now =
+    (IsEnd end answer × (now ≡ before)) ⊎ ((answer ≡ ends.FlashFault) × Faulted before now)
 
 -- all was made sure of with this answer, or the flash failed
 abbrev pub SettledSo : UpdateEnd → UpdateEnd → ℕ → ℕ → Type 0
-SettledSo end answer before now = ((answer ≡ end) × (now ≡ before)) ⊎ ((answer ≡ ends.FlashFault) × Faulted before now)
+SettledSo end answer before now =
+    ((answer ≡ end) × (now ≡ before)) ⊎ ((answer ≡ ends.FlashFault) × Faulted before now)
 
--- what a power loss then may have left, or what has P
+-- an image that a power loss then may have left, or one with P
 abbrev pub NowOr : (List ℕ → Type 0) → Flash → List ℕ → Type 0
 NowOr P start image = Now start image ⊎ P image
 
--- what holds where the procedure was stopped
+-- a property where the procedure was stopped
 abbrev pub IfStopped : PlanEnd → Type 0 → Type 0
 IfStopped plays.Done P = Unit {0}
 IfStopped _ P = P
@@ -65,7 +69,7 @@ abbrev pub IfInstalled : UpdateEnd → (Record → Type 0) → Type 0
 IfInstalled (ends.Installed r) P = P r
 IfInstalled _ P = Unit {0}
 
--- what comes once an update was accepted
+-- an end after an update was accepted
 abbrev pub IsStartEnd : UpdateEnd → Type 0
 IsStartEnd (ends.Lower recorded offered) = ⊥
 IsStartEnd (ends.OtherDigest recorded offered) = ⊥
@@ -79,10 +83,6 @@ IfUnfaulted (ends.Stopped place causes.FlashFault) P = Unit {0}
 IfUnfaulted _ P = P
 
 -- ---- counts of faults
-
--- a fault of the flash before the procedure or behind it: another object may have failed in the procedure
-abbrev pub FlashFailed : Counts → Counts → Type 0
-FlashFailed before now = (before.host ≤ now.host) × Faulted before.disk now.disk × (before.launcher ≤ now.launcher)
 
 -- the count rose of the object whose fault it was
 abbrev pub UpdateCounts : UpdateEnd → Counts → Counts → Type 0

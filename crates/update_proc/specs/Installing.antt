@@ -1,4 +1,4 @@
--- What stands on the flash at each moment while an envelope is written to a bank and then recorded.
+-- The flash at each moment while an envelope is written to a bank and then recorded.
 use Rattle.std.specs.Prelude.{◌≡◌, ◌<◌, ◌≤◌, ◌^◌, ◌-◌, ℕ, List, length, slice_index, Option}
 use Rattle.suit_edge.specs.Flash.{Flash, ImageOn}
 use Rattle.suit_edge.specs.Ranges.{Outside, SameOn}
@@ -15,7 +15,8 @@ use Rattle.rollback_record.specs.SoundFlash.{IsInstalled, recorded_bank}
 use Rattle.update_proc.specs.Banks.{BesideBank}
 
 -- the envelope stands in the bank of the new record, and nothing else changed
-pub record IsFilled (held : Option Record) (new : Record) (bytes before made : List ℕ) : Type 0 where
+pub record IsFilled (held : Option Record) (new : Record) (bytes before made : List ℕ)
+    : Type 0 where
   pub beside : SameOn (BesideBank held bytes) before made
   pub holds : recorded_bank VERSION_1 (head_of VERSION_1 made) new ≡ bytes
 
@@ -31,15 +32,18 @@ pub record IsRecording (held : Option Record) (new : Record) (made image : List 
   pub record_is : HasHeldOrNew VERSION_1 held new image
 
 -- the bank is being written, or it is whole and the new record is being committed
-pub data IsInstalling (held : Option Record) (new : Record) (bytes : List ℕ) (start : Flash) (image : List ℕ) : Type 0 where
+pub data IsInstalling (held : Option Record) (new : Record) (bytes : List ℕ) (start : Flash)
+    (image : List ℕ) : Type 0 where
   Filling : ImageOn (BesideBank held bytes) start image → IsInstalling held new bytes start image
-  Recording : (made : List ℕ) → IsFilled held new bytes start.reads made → IsRecording held new made image
+  Recording : (made : List ℕ) → IsFilled held new bytes start.reads made
+      → IsRecording held new made image
       → IsInstalling held new bytes start image
 
 -- each component of a layout has the slot that is to be in use
 abbrev pub HasActiveSlots : List ℕ → List ℕ → Type 0
 HasActiveSlots image active =
-    (i : ℕ) → i < 8 → IsActiveSlot (config_page_of VERSION_1 (head_of VERSION_1 image)) i (slice_index active i)
+    (i : ℕ) → i < 8
+    → IsActiveSlot (config_page_of VERSION_1 (head_of VERSION_1 image)) i (slice_index active i)
 
 -- a record after which another one may come
 abbrev pub IsNotWorn : Record → Type 0
@@ -48,5 +52,6 @@ IsNotWorn r = r.generation < 2 ^ 64 - 1
 -- under the layout and the key of this image, the bytes may be installed under the record
 abbrev pub MayBeInstalled : List ℕ → List ℕ → Record → Type 0
 MayBeInstalled image bytes new =
-    (layout : List Entry) (key : Key) → ConfigOf VERSION_1 (length image) (head_of VERSION_1 image) (Configured layout key)
+    (layout : List Entry) (key : Key)
+    → ConfigOf VERSION_1 (length image) (head_of VERSION_1 image) (Configured layout key)
     → IsInstalled layout key bytes new

@@ -22,22 +22,29 @@ use Rattle.update_proc.specs.Updates.{PlaysUpdate}
 -- on a flash of that size with that layout
 pub record MomentLaws (size : ℕ) (layout : List Entry) : Type 0 where
   -- while no place changes but in slots that may be written, all other contents stay
-  pub procedure : (places : Places) (tree : PlanTree) (numbers before image : List ℕ) → length before ≡ size
+  pub procedure : (places : Places) (tree : PlanTree) (numbers before image : List ℕ)
+      → length before ≡ size
       → SameOn (OutsideTouched layout places tree numbers) before image → KeepsContents layout places tree numbers before image
   -- while a bank is written, each content stays
-  pub filling : (held : Option Record) (bytes before image : List ℕ) → length before ≡ size → length bytes ≤ VERSION_1.bank_size
+  pub filling : (held : Option Record) (bytes before image : List ℕ) → length before ≡ size
+      → length bytes ≤ VERSION_1.bank_size
       → SameOn (BesideBank held bytes) before image → HasContentsOf layout before image
   -- and while the record is committed
   pub recording : (held : Option Record) (new : Record) (made image : List ℕ) → length made ≡ size
       → IsRecording held new made image → HasContentsOf layout made image
   -- Where each component that may be written has two slots, the old record has the old contents of the slots in use by it,
-  pub old : (places : Places) (tree : PlanTree) (numbers : List ℕ) (held : Option Record) (first image : List ℕ)
+  pub old :
+      (places : Places) (tree : PlanTree) (numbers : List ℕ) (held : Option Record)
+      (first image : List ℕ)
       → HaveTwoSlots layout places tree → AreChosen layout places tree (active_slots held) numbers
       → IsOld layout places tree numbers held first image → HasInUse layout (active_slots held) first image
   -- and the new record those that were made:
-  pub new : (r : Record) (made image : List ℕ) → IsNew layout r made image → HasInUse layout r.active made image
+  pub new : (r : Record) (made image : List ℕ) → IsNew layout r made image
+      → HasInUse layout r.active made image
   -- of each component of the procedure, the content that its play to the end leaves there.
-  pub played : (places : Places) (tree : PlanTree) (held : Option Record) (payloads words : List (List ℕ × List ℕ)) (files : List ℕ → Option (List ℕ))
+  pub played :
+      (places : Places) (tree : PlanTree) (held : Option Record)
+      (payloads words : List (List ℕ × List ℕ)) (files : List ℕ → Option (List ℕ))
       (before made image : List ℕ) (launched now : List Launch) (r : Record) → AreChosen layout places tree (active_slots held) r.active
       → (play : PlaysUpdate layout places tree held payloads words files before made launched now plays.Done) → IsNew layout r made image
       → HasPlayed layout places r.active

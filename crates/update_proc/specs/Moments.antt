@@ -1,4 +1,4 @@
--- What stands on the flash at each moment of an update.
+-- The flash at each moment of an update.
 use Rattle.std.specs.Prelude.{◌≡◌, ◌<◌, ℕ, List, [], get_or, slice_index, Option, Some}
 use Rattle.suit_commands.specs.Tree.{PlanTree}
 use Rattle.flash_layout.specs.declared.frame.TheConstants.{VERSION_1}
@@ -15,21 +15,25 @@ use Rattle.update_proc.specs.Choices.{IsInUse, IsSlotOf, IsTouched}
 -- all places but those of slots that components stand for which may be written
 abbrev pub OutsideTouched : List Entry → Places → PlanTree → List ℕ → ℕ → Type 0
 OutsideTouched layout places tree numbers i =
-    (slot : Slot) → IsTouched layout places tree numbers slot → Outside slot.start (extent_of slot) i
+    (slot : Slot) → IsTouched layout places tree numbers slot
+    → Outside slot.start (extent_of slot) i
 
 -- the contents of all other slots
 abbrev pub KeepsContents : List Entry → Places → PlanTree → List ℕ → List ℕ → List ℕ → Type 0
 KeepsContents layout places tree numbers before image =
-    (i number : ℕ) (slot : Slot) → IsSlotOf layout i number slot → (IsTouched layout places tree numbers slot → ⊥)
+    (i number : ℕ) (slot : Slot) → IsSlotOf layout i number slot
+    → (IsTouched layout places tree numbers slot → ⊥)
     → slot_content slot image ≡ slot_content slot before
 
 -- the contents of all slots
 abbrev pub HasContentsOf : List Entry → List ℕ → List ℕ → Type 0
 HasContentsOf layout made image =
-    (i number : ℕ) (slot : Slot) → IsSlotOf layout i number slot → slot_content slot image ≡ slot_content slot made
+    (i number : ℕ) (slot : Slot) → IsSlotOf layout i number slot
+    → slot_content slot image ≡ slot_content slot made
 
 -- the flash has the old record, and no content changed but those that may be written
-pub record IsOld (layout : List Entry) (places : Places) (tree : PlanTree) (numbers : List ℕ) (held : Option Record) (first image : List ℕ) : Type 0 where
+pub record IsOld (layout : List Entry) (places : Places) (tree : PlanTree) (numbers : List ℕ)
+    (held : Option Record) (first image : List ℕ) : Type 0 where
   pub record_is : RecordOf VERSION_1 (head_of VERSION_1 image) held
   pub contents : KeepsContents layout places tree numbers first image
 
@@ -42,7 +46,8 @@ pub record IsNew (layout : List Entry) (new : Record) (made image : List ℕ) : 
 abbrev pub HasPlayed : List Entry → Places → List ℕ → List (List ℕ) → List ℕ → Type 0
 HasPlayed layout places active contents image =
     (k : ℕ) (slot : Slot) → k < places.count → let index = slice_index places.layout_index k in
-    IsSlotOf layout index (slice_index active index) slot → slot_content slot image ≡ get_or contents k []
+    IsSlotOf layout index (slice_index active index) slot
+    → slot_content slot image ≡ get_or contents k []
 
 -- the content of each slot that is in use
 abbrev pub HasInUse : List Entry → List ℕ → List ℕ → List ℕ → Type 0

@@ -1,4 +1,4 @@
--- What an update stands beside: the record that the flash holds, and the digest that the envelope states of its manifest
+-- The record that the flash holds beside an update, and the digest that the envelope states of its manifest
 -- (draft-ietf-suit-manifest-25, section 8.3).
 use Rattle.std.specs.Prelude.{ℕ, List, Option}
 use Rattle.suit_envelope.specs.WrapperParts.{WrapperSays}
@@ -11,5 +11,6 @@ use Rattle.rollback_record.specs.HeadRecord.{RecordOf}
 -- P holds of the record of this image, and of the digest that this wrapper states
 abbrev pub ForOffer : List ℕ → List ℕ → (Option Record → Digest → Type 0) → Type 0
 ForOffer image wrapper P =
-    (held : Option Record) (digest : Digest) (blocks : List (List ℕ)) → RecordOf VERSION_1 (head_of VERSION_1 image) held
+    (held : Option Record) (digest : Digest) (blocks : List (List ℕ))
+    → RecordOf VERSION_1 (head_of VERSION_1 image) held
     → WrapperSays wrapper digest.bytes blocks → P held digest

@@ -9,8 +9,8 @@ abbrev pub next_generation : Option Record → ℕ
 next_generation None = 1
 next_generation (Some r) = r.generation + 1
 
--- what comes to be recorded: the envelope of these bytes, whose manifest has this number and digest, with these slots in
--- use. The image is that of the flash before, where this was held.
+-- the new record: the envelope of these bytes, whose manifest has this number and digest, with these slots in use. The
+-- image is that of the flash before, where this was held.
 abbrev pub new_record : Option Record → List ℕ → List ℕ → ℕ → Digest → List ℕ → Record
 new_record held image bytes sequence digest active = record {
   generation = next_generation held;

@@ -1,4 +1,4 @@
--- What an update plays, what it leaves, and what stands at each moment of it.
+-- An update: its procedure, the flash that it leaves, and the flash at each moment.
 use Rattle.std.specs.Prelude.{◌≡◌, ◌⊎◌, ℕ, List, Option, Some}
 use Rattle.suit_commands.specs.Tree.{PlanTree}
 use Rattle.suit_edge.specs.Flash.{Flash, Passes}
@@ -23,12 +23,14 @@ use Rattle.update_proc.specs.declared.update_end.UpdateEnd.TheVariants as ends
 use Rattle.update_proc.specs.Choices.{AreChosen, active_slots}
 use Rattle.update_proc.specs.Moments.{HasContentsOf, IsNew, IsOld, KeepsContents}
 
--- ---- what is played
+-- ---- the play
 
 -- The procedure is played on the chosen slots, with working memory empty, these payloads, these names of files and these
 -- files. It ends so, and leaves these contents and launches.
-pub record PlaysUpdate (layout : List Entry) (places : Places) (tree : PlanTree) (held : Option Record) (payloads words : List (List ℕ × List ℕ))
-    (files : List ℕ → Option (List ℕ)) (before made : List ℕ) (launched now : List Launch) (end : PlanEnd) : Type 0 where
+pub record PlaysUpdate (layout : List Entry) (places : Places) (tree : PlanTree)
+    (held : Option Record) (payloads words : List (List ℕ × List ℕ))
+    (files : List ℕ → Option (List ℕ)) (before made : List ℕ) (launched now : List Launch)
+    (end : PlanEnd) : Type 0 where
   pub numbers : List ℕ
   pub chosen : AreChosen layout places tree (active_slots held) numbers
   pub choice : IsChoice layout (record { number = numbers })
@@ -36,30 +38,42 @@ pub record PlaysUpdate (layout : List Entry) (places : Places) (tree : PlanTree)
   pub stand : StandAs layout places (record { number = numbers }) standings
   pub ram : List Held
   pub plays : PlaysPlan tree (setting_of standings payloads words files) end
-      (contents_of standings (empty_ram layout) before) (contents_of standings ram made) launched now
+      (contents_of standings (empty_ram layout) before) (contents_of standings ram made) launched
+      now
 
 -- and those contents are left
-pub record PlaysAndLeaves (Plays : List ℕ → PlanEnd → Type 0) (layout : List Entry) (after : List ℕ) (end : PlanEnd) : Type 0 where
+pub record PlaysAndLeaves (Plays : List ℕ → PlanEnd → Type 0) (layout : List Entry) (after : List ℕ)
+    (end : PlanEnd) : Type 0 where
   pub made : List ℕ
   pub plays : Plays made end
   pub left : HasContentsOf layout made after
 
 -- The procedure was played and ended so; or nothing was launched. A fault of the flash that no command met came before
 -- the procedure, or behind it.
-abbrev pub PlayedSo : (List ℕ → PlanEnd → Type 0) → List Entry → List ℕ → List Launch → List Launch → UpdateEnd → Type 0
-PlayedSo Plays layout after launched now (ends.Installed r) = PlaysAndLeaves Plays layout after plays.Done
-PlayedSo Plays layout after launched now (ends.Condition place) = PlaysAndLeaves Plays layout after (plays.ConditionFailed place)
-PlayedSo Plays layout after launched now (ends.Stopped place cause) = PlaysAndLeaves Plays layout after (plays.DirectiveFailed place cause)
-PlayedSo Plays layout after launched now ends.FlashFault = (now ≡ launched) ⊎ ((made : List ℕ) × (end : PlanEnd) × Plays made end)
+abbrev pub PlayedSo : (List ℕ → PlanEnd → Type 0) → List Entry → List ℕ → List Launch → List Launch
+    → UpdateEnd → Type 0
+PlayedSo Plays layout after launched now (ends.Installed r) =
+    PlaysAndLeaves Plays layout after plays.Done
+PlayedSo Plays layout after launched now (ends.Condition place) =
+    PlaysAndLeaves Plays layout after (plays.ConditionFailed place)
+PlayedSo Plays layout after launched now (ends.Stopped place cause) =
+    PlaysAndLeaves Plays layout after (plays.DirectiveFailed place cause)
+PlayedSo Plays layout after launched now ends.FlashFault =
+    (now ≡ launched) ⊎ ((made : List ℕ) × (end : PlanEnd) × Plays made end)
 PlayedSo Plays layout after launched now _ = now ≡ launched
 
 -- Whatever was answered, nothing was launched, or the procedure was played beside the record that this image has.
-abbrev pub LaunchesBy : (Option Record → List ℕ → PlanEnd → Type 0) → List ℕ → List Launch → List Launch → Type 0
+abbrev pub LaunchesBy : (Option Record → List ℕ → PlanEnd → Type 0) → List ℕ → List Launch
+    → List Launch → Type 0
 LaunchesBy Plays image launched now =
-    (now ≡ launched) ⊎ ((held : Option Record) × RecordOf VERSION_1 (head_of VERSION_1 image) held × (made : List ℕ) × (end : PlanEnd) × Plays held made end)
+    (now ≡ launched)
+    ⊎
+    ((held : Option Record) × RecordOf VERSION_1 (head_of VERSION_1 image) held
+    × (made : List ℕ) × (end : PlanEnd) × Plays held made end)
 
 -- The procedure of an envelope of these bytes is played to its end, with these launches, and makes those contents.
-abbrev pub PlaysToEnd : List Entry → Places → PlanTree → Option Record → List ℕ → List (List ℕ × List ℕ)
+abbrev pub PlaysToEnd : List Entry → Places → PlanTree → Option Record → List ℕ
+    → List (List ℕ × List ℕ)
     → (List ℕ → Option (List ℕ)) → List ℕ → List Launch → List Launch → List ℕ → Type 0
 PlaysToEnd layout places tree held bytes uris files before launched now made =
     (payloads : List (List ℕ × List ℕ)) → HasPayloads bytes payloads
@@ -76,13 +90,16 @@ LeftSo Is Old New _ = Old
 
 -- As the flash reads in the end: no content changed but those of slots that may be written, and this is recorded. A new
 -- record is acceptable beside the old one.
-pub record LeavesUpdate (layout : List Entry) (places : Places) (tree : PlanTree) (held : Option Record) (new : List ℕ → Record) (before after : List ℕ) (answer : UpdateEnd)
+pub record LeavesUpdate (layout : List Entry) (places : Places) (tree : PlanTree)
+    (held : Option Record) (new : List ℕ → Record) (before after : List ℕ) (answer : UpdateEnd)
     : Type 0 where
   pub numbers : List ℕ
   pub chosen : AreChosen layout places tree (active_slots held) numbers
   pub accepted : IsAcceptable (new numbers).sequence (new numbers).digest held
   pub contents : KeepsContents layout places tree numbers before after
-  pub left : LeftSo (λ r. r ≡ new numbers) (RecordOf VERSION_1 (head_of VERSION_1 after) held) (RecordOf VERSION_1 (head_of VERSION_1 after) (Some (new numbers))) answer
+  pub left :
+      LeftSo (λ r. r ≡ new numbers) (RecordOf VERSION_1 (head_of VERSION_1 after) held)
+      (RecordOf VERSION_1 (head_of VERSION_1 after) (Some (new numbers))) answer
 
 -- Only a procedure that is done leaves the old record: it is done where it was installed, and where it stopped the old
 -- record stays. After a fault of the flash it is one of the two.
@@ -94,16 +111,23 @@ WholeSo Stays Done _ = Stays
 -- At each moment the flash has the old record, and no content changed but those of slots that may be written; or it has
 -- the new record, and the contents that the procedure made, which is done. Where it is not done, the old record stands at
 -- each moment.
-pub record KeepsUpdate (layout : List Entry) (places : Places) (tree : PlanTree) (Done : List ℕ → Type 0) (held : Option Record)
+pub record KeepsUpdate (layout : List Entry) (places : Places) (tree : PlanTree)
+    (Done : List ℕ → Type 0) (held : Option Record)
     (new : List ℕ → Record) (old now : Flash) (answer : UpdateEnd) : Type 0 where
   pub numbers : List ℕ
   pub chosen : AreChosen layout places tree (active_slots held) numbers
   pub accepted : IsAcceptable (new numbers).sequence (new numbers).digest held
   pub made : List ℕ
   pub others : KeepsContents layout places tree numbers old.reads made
-  pub any_moment : Passes old now (λ image. IsOld layout places tree numbers held old.reads image ⊎ IsNew layout (new numbers) made image)
-  pub whole : WholeSo (Passes old now (IsOld layout places tree numbers held old.reads)) (Done made) answer
-  pub left : LeftSo (λ r. r ≡ new numbers) (IsOld layout places tree numbers held old.reads now.reads) (IsNew layout (new numbers) made now.reads) answer
+  pub any_moment :
+      Passes old now
+      (λ image. IsOld layout places tree numbers held old.reads image
+      ⊎ IsNew layout (new numbers) made image)
+  pub whole :
+      WholeSo (Passes old now (IsOld layout places tree numbers held old.reads)) (Done made) answer
+  pub left :
+      LeftSo (λ r. r ≡ new numbers) (IsOld layout places tree numbers held old.reads now.reads)
+      (IsNew layout (new numbers) made now.reads) answer
 
 -- where the procedure was run, that was kept, and otherwise nothing changed
 abbrev pub KeptSo : Type 0 → Type 0 → UpdateEnd → Type 0

@@ -12,7 +12,7 @@ use crate::bank_reading::is_recorded;
 use flash_layout::{FlashFault, Record, VERSION_1, bank};
 use suit_edge::{Disk, Edge, write_and_sync};
 
-// Writes the envelope to that bank, and makes sure of all that is pending.
+// Writes the envelope to that bank, and syncs all pending writes.
 fn fill_bank<D: Disk>(disk: &mut D, which: u8, bytes: &[u8]) -> Result<u8, FlashFault>
     requires size { VERSION_1.size ≤ D.extent disk.old }
     requires which { which < 2 }
@@ -21,10 +21,12 @@ fn fill_bank<D: Disk>(disk: &mut D, which: u8, bytes: &[u8]) -> Result<u8, Flash
     ensures counts { ResultCounts result (D.faults disk.old) (D.faults disk.new) }
     ensures which { IfOk result (λ bank. bank ≡ which) }
     ensures holds { IsTrue D.told → OnOk result
-        (bank_of VERSION_1 (head_of VERSION_1 (D.flash disk.new).reads) which (length bytes.now) ≡ bytes.now) }
+        (bank_of VERSION_1 (head_of VERSION_1 (D.flash disk.new).reads) which (length bytes.now)
+        ≡ bytes.now) }
     ensures settled { IsTrue D.told → OnOk result (IsSettled (D.flash disk.new)) }
     ensures keeps { IsTrue D.told
-        → Keeps (Outside (bank_place VERSION_1 which) (length bytes.now)) (D.flash disk.old) (D.flash disk.new) }
+        → Keeps (Outside (bank_place VERSION_1 which) (length bytes.now)) (D.flash disk.old)
+        (D.flash disk.new) }
     ensures grows { IsTrue D.told → Grows (D.flash disk.old) (D.flash disk.new) }
 {
     match write_and_sync(disk, bank(u64::from(which)), bytes) {
@@ -33,7 +35,7 @@ fn fill_bank<D: Disk>(disk: &mut D, which: u8, bytes: &[u8]) -> Result<u8, Flash
     }
 }
 
-// Makes sure of all that is pending, and leaves the bank as it is.
+// Syncs all pending writes, and leaves the bank as it is.
 fn keep_bank<D: Disk>(disk: &mut D, which: u8) -> Result<u8, FlashFault>
     ensures size { D.extent disk.new ≡ D.extent disk.old }
     ensures counts { ResultCounts result (D.faults disk.old) (D.faults disk.new) }
@@ -48,9 +50,9 @@ fn keep_bank<D: Disk>(disk: &mut D, which: u8) -> Result<u8, FlashFault>
     }
 }
 
-/// Brings an envelope to a bank: the one that the record does not name, or the first one without a record. Where the
-/// record's bank holds the same bytes already, it is kept and nothing is written. Answers the bank. Then the envelope is
-/// sure, with all that was pending. At each moment nothing has changed but that range of the other bank.
+/// Writes an envelope to a bank: the one that the record does not name, or the first one without a record. Where the
+/// record's bank holds the same bytes already, it is kept and nothing is written. Answers the bank. Then all pending
+/// writes are synced, the envelope's among them. At each moment nothing has changed but that range of the other bank.
 pub fn write_bank<D: Disk>(
     disk: &mut D,
     held: Option<&Record>,
@@ -65,14 +67,18 @@ pub fn write_bank<D: Disk>(
     ensures counts { ResultCounts result (D.faults disk.old) (D.faults disk.new) }
     ensures which { IfOk result (λ bank. bank < 2) }
     ensures chosen { IsTrue D.told → IfOk result
-        (λ bank. bank ≡ bank_for (option_map (λ r. r.now) held.entry) (D.flash disk.old).reads bytes.now) }
+        (λ bank. bank ≡ bank_for (option_map (λ r. r.now) held.entry) (D.flash disk.old).reads
+        bytes.now) }
     ensures holds { IsTrue D.told → IfOk result (λ bank.
-        bank_of VERSION_1 (head_of VERSION_1 (D.flash disk.new).reads) bank (length bytes.now) ≡ bytes.now) }
+        bank_of VERSION_1 (head_of VERSION_1 (D.flash disk.new).reads) bank (length bytes.now)
+        ≡ bytes.now) }
     ensures settled { IsTrue D.told → OnOk result (IsSettled (D.flash disk.new)) }
-    ensures kept { IsTrue D.told → IsTrue (is_kept (option_map (λ r. r.now) held.entry) (D.flash disk.old).reads bytes.now)
+    ensures kept { IsTrue D.told
+        → IsTrue (is_kept (option_map (λ r. r.now) held.entry) (D.flash disk.old).reads bytes.now)
         → IsSame (D.flash disk.old) (D.flash disk.new) }
     ensures keeps { IsTrue D.told
-        → Keeps (BesideBank (option_map (λ r. r.now) held.entry) bytes.now) (D.flash disk.old) (D.flash disk.new) }
+        → Keeps (BesideBank (option_map (λ r. r.now) held.entry) bytes.now) (D.flash disk.old)
+        (D.flash disk.new) }
     ensures grows { IsTrue D.told → Grows (D.flash disk.old) (D.flash disk.new) }
 {
     match held {
@@ -101,11 +107,14 @@ fn write_beside<D: Disk>(
     ensures size { D.extent disk.new ≡ D.extent disk.old }
     ensures counts { ResultCounts result (D.faults disk.old) (D.faults disk.new) }
     ensures which { IfOk result (λ bank. bank < 2) }
-    ensures chosen { IsTrue D.told → IfOk result (λ bank. bank ≡ bank_for (Some held.now) (D.flash disk.old).reads bytes.now) }
+    ensures chosen { IsTrue D.told
+        → IfOk result (λ bank. bank ≡ bank_for (Some held.now) (D.flash disk.old).reads bytes.now) }
     ensures holds { IsTrue D.told → IfOk result (λ bank.
-        bank_of VERSION_1 (head_of VERSION_1 (D.flash disk.new).reads) bank (length bytes.now) ≡ bytes.now) }
+        bank_of VERSION_1 (head_of VERSION_1 (D.flash disk.new).reads) bank (length bytes.now)
+        ≡ bytes.now) }
     ensures settled { IsTrue D.told → OnOk result (IsSettled (D.flash disk.new)) }
-    ensures kept { IsTrue D.told → IsTrue (is_kept (Some held.now) (D.flash disk.old).reads bytes.now)
+    ensures kept { IsTrue D.told
+        → IsTrue (is_kept (Some held.now) (D.flash disk.old).reads bytes.now)
         → IsSame (D.flash disk.old) (D.flash disk.new) }
     ensures keeps { IsTrue D.told
         → Keeps (BesideBank (Some held.now) bytes.now) (D.flash disk.old) (D.flash disk.new) }

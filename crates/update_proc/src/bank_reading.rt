@@ -87,7 +87,8 @@ pub(crate) fn is_recorded<D: Disk>(
     ensures size { D.extent disk.new ≡ D.extent disk.old }
     ensures counts { ResultCounts result (D.faults disk.old) (D.faults disk.new) }
     ensures exact { IsTrue D.told → IfOk result (λ same. IsTrue same ↔
-        (recorded_bank VERSION_1 (head_of VERSION_1 (D.flash disk.old).reads) held.now ≡ bytes.now)) }
+        (recorded_bank VERSION_1 (head_of VERSION_1 (D.flash disk.old).reads) held.now
+        ≡ bytes.now)) }
     ensures same { IsTrue D.told → IsSame (D.flash disk.old) (D.flash disk.new) }
     ensures grows { IsTrue D.told → Grows (D.flash disk.old) (D.flash disk.new) }
 {

@@ -30,7 +30,7 @@ fn has_written(places: &Places, bits: u32, index: u32) -> bool
     false
 }
 
-// The slot that a component stands for which has so many: its other one where it may be written.
+// The slot that a component with so many stands for: its other one where it may be written.
 fn number_of(slots: u8, written: bool, active: u8) -> u8
     requires { active ≤ 1 }
     ensures other { IsTrue written → slots ≡ 2 → result ≡ 1 - active }

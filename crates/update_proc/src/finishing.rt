@@ -1,4 +1,4 @@
-//! What comes behind a procedure: its envelope is installed where it is done, and otherwise all is made sure of.
+//! The end of a procedure: the envelope is installed where it is done, and otherwise all pending writes are synced.
 
 ghost use Rattle.flash_layout.specs.Frames.{head_of};
 ghost use Rattle.rollback_record.specs.Committing.{HasHeldOrNew, InHead};
@@ -18,7 +18,7 @@ use path_model::Cause;
 use step_machine::PlanEnd;
 use suit_edge::{Disk, Edge};
 
-// Makes sure of all that is pending, and answers so.
+// Syncs all pending writes, and answers so.
 fn settle<D: Disk>(disk: &mut D, end: UpdateEnd) -> UpdateEnd
     ensures size { D.extent disk.new ≡ D.extent disk.old }
     ensures answer { SettledSo end result (D.faults disk.old) (D.faults disk.new) }
@@ -32,10 +32,11 @@ fn settle<D: Disk>(disk: &mut D, end: UpdateEnd) -> UpdateEnd
     }
 }
 
-// Makes sure of what a directive left that failed, unless the flash failed there.
+// Syncs what a failed directive left, unless the flash failed there.
 fn stop<D: Disk>(disk: &mut D, place: u64, cause: Cause) -> UpdateEnd
     ensures size { D.extent disk.new ≡ D.extent disk.old }
-    ensures answer { SettledSo (ends.Stopped place cause) result (D.faults disk.old) (D.faults disk.new) }
+    ensures answer { SettledSo (ends.Stopped place cause) result (D.faults disk.old)
+        (D.faults disk.new) }
     ensures settled { IsTrue D.told → IfUnfaulted result (IsSettled (D.flash disk.new)) }
     ensures same { IsTrue D.told → IsSame (D.flash disk.old) (D.flash disk.new) }
     ensures grows { IsTrue D.told → Grows (D.flash disk.old) (D.flash disk.new) }
@@ -46,7 +47,7 @@ fn stop<D: Disk>(disk: &mut D, place: u64, cause: Cause) -> UpdateEnd
     }
 }
 
-/// Installs the envelope where the procedure is done, and otherwise makes sure of what it left, unless a fault of the flash
+/// Installs the envelope where the procedure is done, and otherwise syncs what it left, unless a fault of the flash
 /// ended it.
 pub(crate) fn finish<D: Disk>(
     disk: &mut D,
@@ -62,34 +63,45 @@ pub(crate) fn finish<D: Disk>(
     requires fits { length bytes.now ≤ VERSION_1.bank_size }
     requires room { 0 < length room.old }
     requires held { IsTrue D.told
-        → RecordOf VERSION_1 (head_of VERSION_1 (D.flash disk.old).reads) (option_map (λ r. r.now) held) }
+        → RecordOf VERSION_1 (head_of VERSION_1 (D.flash disk.old).reads)
+        (option_map (λ r. r.now) held) }
     requires active { IsTrue D.told → HasActiveSlots (D.flash disk.old).reads offer.now.active }
     ensures size { D.extent disk.new ≡ D.extent disk.old }
     ensures answer { FinishedSo end result (D.faults disk.old) (D.faults disk.new) }
     ensures new { IsTrue D.told → IfInstalled result
-        (λ r. r ≡ new_record (option_map (λ r. r.now) held.entry) (D.flash disk.old).reads bytes.now offer.now.sequence offer.now.digest offer.now.active) }
+        (λ r. r ≡ new_record (option_map (λ r. r.now) held.entry) (D.flash disk.old).reads bytes.now
+        offer.now.sequence offer.now.digest offer.now.active) }
     ensures recorded { IsTrue D.told
-        → IfInstalled result (λ r. RecordOf VERSION_1 (head_of VERSION_1 (D.flash disk.new).reads) (Some r)) }
-    ensures stays { IsTrue D.told → IfTold result ((D.flash disk.new).reads ≡ (D.flash disk.old).reads) }
+        → IfInstalled result
+        (λ r. RecordOf VERSION_1 (head_of VERSION_1 (D.flash disk.new).reads) (Some r)) }
+    ensures stays { IsTrue D.told
+        → IfTold result ((D.flash disk.new).reads ≡ (D.flash disk.old).reads) }
     ensures still { IsTrue D.told
         → IfStopped end (Passes (D.flash disk.old) (D.flash disk.new) (Now (D.flash disk.old))) }
     ensures settled { IsTrue D.told → IfUnfaulted result (IsSettled (D.flash disk.new)) }
-    ensures reads { IsTrue D.told → let held = option_map (λ r. r.now) held.entry in HasHeldOrNew VERSION_1 held
-        (new_record held (D.flash disk.old).reads bytes.now offer.now.sequence offer.now.digest offer.now.active) (D.flash disk.new).reads }
-    ensures behind { IsTrue D.told → SameOn BehindHead (D.flash disk.old).reads (D.flash disk.new).reads }
+    ensures reads { IsTrue D.told
+        → let held = option_map (λ r. r.now) held.entry in HasHeldOrNew VERSION_1 held
+        (new_record held (D.flash disk.old).reads bytes.now offer.now.sequence offer.now.digest
+        offer.now.active) (D.flash disk.new).reads }
+    ensures behind { IsTrue D.told
+        → SameOn BehindHead (D.flash disk.old).reads (D.flash disk.new).reads }
     ensures any_moment { IsTrue D.told → let held = option_map (λ r. r.now) held.entry in
         let start = D.flash disk.old in
         Passes start (D.flash disk.new) (NowOr
-        (IsInstalling held (new_record held start.reads bytes.now offer.now.sequence offer.now.digest offer.now.active) bytes.now start) start) }
+        (IsInstalling held
+        (new_record held start.reads bytes.now offer.now.sequence offer.now.digest offer.now.active)
+        bytes.now start) start) }
     ensures sound { IsTrue D.told → let held = option_map (λ r. r.now) held.entry in
         let start = D.flash disk.old in
         IsFirmOn (InHead VERSION_1) start → Sound VERSION_1 start.reads
-        → MayBeInstalled start.reads bytes.now (new_record held start.reads bytes.now offer.now.sequence offer.now.digest offer.now.active)
+        → MayBeInstalled start.reads bytes.now
+        (new_record held start.reads bytes.now offer.now.sequence offer.now.digest offer.now.active)
         → Passes start (D.flash disk.new) (NowOr (Sound VERSION_1) start) }
     ensures follows { IsTrue D.told → let held = option_map (λ r. r.now) held.entry in
         let start = D.flash disk.old in
         IsFirmOn (InHead VERSION_1) start → Sound VERSION_1 start.reads
-        → IfSome held (λ r. IsNoEarlier r (new_record held start.reads bytes.now offer.now.sequence offer.now.digest offer.now.active))
+        → IfSome held (λ r. IsNoEarlier r (new_record held start.reads bytes.now offer.now.sequence
+        offer.now.digest offer.now.active))
         → Passes start (D.flash disk.new) (NowOr (Follows VERSION_1 start.reads) start) }
     ensures grows { IsTrue D.told → Grows (D.flash disk.old) (D.flash disk.new) }
 {

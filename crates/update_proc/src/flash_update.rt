@@ -1,4 +1,4 @@
-//! An update of a flash: what is recorded is read, and then the envelope is judged, played and installed beside it.
+//! An update of a flash: the record is read, and then the envelope is judged, played and installed beside it.
 
 ghost use Rattle.flash_layout.specs.Configs.{ConfigOf, Configured};
 ghost use Rattle.flash_layout.specs.Frames.{head_of};
@@ -51,27 +51,36 @@ pub fn update<H: Host, D: Disk, L: Launcher>(
     requires count { length manifest.now.components ≡ places.now.count }
     requires plan { IsPlan (update_tree manifest.now members.now) }
     requires wrapper { HasWrapper envelope.now.wrapper.now }
-    requires fits { length (trimmed envelope.now.wrapper.now envelope.now.manifest.now) ≤ VERSION_1.bank_size }
+    requires fits { length (trimmed envelope.now.wrapper.now envelope.now.manifest.now)
+        ≤ VERSION_1.bank_size }
     requires config { IsTrue D.told → (key : Key)
-        × ConfigOf VERSION_1 (D.extent disk.old) (head_of VERSION_1 (D.flash disk.old).reads) (Configured layout.now key) }
+        × ConfigOf VERSION_1 (D.extent disk.old) (head_of VERSION_1 (D.flash disk.old).reads)
+        (Configured layout.now key) }
     ensures size { D.extent disk.new ≡ D.extent disk.old }
     ensures judged { IsTrue D.told → ForOffer (D.flash disk.old).reads envelope.now.wrapper.now
         (λ held digest. JudgedSo manifest.now.sequence digest held result) }
-    ensures counts { UpdateCounts result (counts_of (H.faults host.old) (D.faults disk.old) (L.faults launcher.old))
+    ensures counts { UpdateCounts result
+        (counts_of (H.faults host.old) (D.faults disk.old) (L.faults launcher.old))
         (counts_of (H.faults host.new) (D.faults disk.new) (L.faults launcher.new)) }
     ensures files { IsTrue H.told → H.file host.new ≡ H.file host.old }
     ensures plays { IsTrue H.told → IsTrue D.told → IsTrue L.told
         → ForOffer (D.flash disk.old).reads envelope.now.wrapper.now (λ held digest.
         (payloads : List (List ℕ × List ℕ)) → HasPayloads envelope.now.whole.now payloads
-        → PlayedSo (λ made end. PlaysUpdate layout.now places.now (update_tree manifest.now members.now) held payloads uris.now
-        (H.file host.old) (D.flash disk.old).reads made (L.launches launcher.old) (L.launches launcher.new) end)
-        layout.now (D.flash disk.new).reads (L.launches launcher.old) (L.launches launcher.new) result) }
+        → PlayedSo (λ made end. PlaysUpdate layout.now places.now
+        (update_tree manifest.now members.now) held payloads uris.now
+        (H.file host.old) (D.flash disk.old).reads made (L.launches launcher.old)
+        (L.launches launcher.new) end)
+        layout.now (D.flash disk.new).reads (L.launches launcher.old) (L.launches launcher.new)
+        result) }
     ensures launches { IsTrue H.told → IsTrue D.told → IsTrue L.told
         → (payloads : List (List ℕ × List ℕ)) → HasPayloads envelope.now.whole.now payloads
-        → LaunchesBy (λ held made end. PlaysUpdate layout.now places.now (update_tree manifest.now members.now) held payloads uris.now
-        (H.file host.old) (D.flash disk.old).reads made (L.launches launcher.old) (L.launches launcher.new) end)
+        → LaunchesBy (λ held made end. PlaysUpdate layout.now places.now
+        (update_tree manifest.now members.now) held payloads uris.now
+        (H.file host.old) (D.flash disk.old).reads made (L.launches launcher.old)
+        (L.launches launcher.new) end)
         (D.flash disk.old).reads (L.launches launcher.old) (L.launches launcher.new) }
-    ensures keeps { IsTrue D.told → Settled VERSION_1 (D.flash disk.old) → let start = D.flash disk.old in
+    ensures keeps { IsTrue D.told → Settled VERSION_1 (D.flash disk.old)
+        → let start = D.flash disk.old in
         let bytes = trimmed envelope.now.wrapper.now envelope.now.manifest.now in
         ForOffer start.reads envelope.now.wrapper.now (λ held digest.
         KeptSo (KeepsUpdate layout.now places.now (update_tree manifest.now members.now)
@@ -87,14 +96,18 @@ pub fn update<H: Host, D: Disk, L: Launcher>(
         KeptSo (LeavesUpdate layout.now places.now (update_tree manifest.now members.now) held
         (λ numbers. new_record held start bytes manifest.now.sequence digest numbers)
         start (D.flash disk.new).reads result) ((D.flash disk.new).reads ≡ start) result) }
-    ensures sound { IsTrue D.told → Settled VERSION_1 (D.flash disk.old) → let start = D.flash disk.old in
+    ensures sound { IsTrue D.told → Settled VERSION_1 (D.flash disk.old)
+        → let start = D.flash disk.old in
         let bytes = trimmed envelope.now.wrapper.now envelope.now.manifest.now in
         ForOffer start.reads envelope.now.wrapper.now (λ held digest.
-        ((numbers : List ℕ) → AreChosen layout.now places.now (update_tree manifest.now members.now) (active_slots held) numbers
-        → MayBeInstalled start.reads bytes (new_record held start.reads bytes manifest.now.sequence digest numbers))
+        ((numbers : List ℕ) → AreChosen layout.now places.now (update_tree manifest.now members.now)
+        (active_slots held) numbers
+        → MayBeInstalled start.reads bytes
+        (new_record held start.reads bytes manifest.now.sequence digest numbers))
         → Passes start (D.flash disk.new) (Sound VERSION_1)) }
     ensures follows { IsTrue D.told → Settled VERSION_1 (D.flash disk.old)
-        → Passes (D.flash disk.old) (D.flash disk.new) (Follows VERSION_1 (D.flash disk.old).reads) }
+        → Passes (D.flash disk.old) (D.flash disk.new)
+        (Follows VERSION_1 (D.flash disk.old).reads) }
     ensures settled { IsTrue D.told → IfUnfaulted result
         (IsSame (D.flash disk.old) (D.flash disk.new) ⊎ IsSettled (D.flash disk.new)) }
     ensures later { IsTrue D.told → (D.flash disk.old).clock ≤ (D.flash disk.new).clock }

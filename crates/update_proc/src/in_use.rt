@@ -25,7 +25,7 @@ fn slot_in_use(entry: &Entry, number: u8) -> u8
     }
 }
 
-// Of each component of the layout the slot of its number.
+// The slot of its number, for each component of the layout.
 fn slots_in_use(layout: &Layout, active: &[u8; MAX_ENTRIES]) -> [u8; MAX_ENTRIES]
     requires { length layout.now ≤ 8 }
     ensures { AreInUse layout.now active.now result }
@@ -38,7 +38,7 @@ fn slots_in_use(layout: &Layout, active: &[u8; MAX_ENTRIES]) -> [u8; MAX_ENTRIES
     numbers
 }
 
-// The slots that the record has in use; without one the first ones.
+// The slots that the record has in use; the first ones without a record.
 fn slots_held(layout: &Layout, held: Option<&Record>) -> [u8; MAX_ENTRIES]
     requires { length layout.now ≤ 8 }
     ensures { AreInUse layout.now (active_slots (option_map (λ r. r.now) held.entry)) result }
@@ -49,7 +49,7 @@ fn slots_held(layout: &Layout, held: Option<&Record>) -> [u8; MAX_ENTRIES]
     }
 }
 
-/// The slots that components stand for in an update, where this is held. Each is one that its component has.
+/// The slots that components stand for in an update beside this record. Each is one that its component has.
 pub(crate) fn choose_slots(
     layout: &Layout,
     places: &Places,
@@ -59,7 +59,8 @@ pub(crate) fn choose_slots(
     requires layout { (size : ℕ) × IsLayout VERSION_1 size layout.now }
     requires places { places.now.count ≤ 8 }
     requires plan { IsPlan (plan_tree plan.now) }
-    ensures chosen { (active : List ℕ) × AreInUse layout.now (active_slots (option_map (λ r. r.now) held.entry)) active
+    ensures chosen { (active : List ℕ)
+        × AreInUse layout.now (active_slots (option_map (λ r. r.now) held.entry)) active
         × AreChosen layout.now places.now (plan_tree plan.now) active result.number }
     ensures choice { IsChoice layout.now result }
 {

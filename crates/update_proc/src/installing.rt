@@ -1,4 +1,4 @@
-//! An envelope is written to a bank, and recorded.
+//! Writing an envelope to a bank, and recording it.
 
 ghost use Rattle.flash_layout.specs.FaultCounts.{ResultCounts};
 ghost use Rattle.flash_layout.specs.Frames.{head_of};
@@ -44,31 +44,41 @@ pub fn install<D: Disk>(
     requires fits { length bytes.now ≤ VERSION_1.bank_size }
     requires room { 0 < length room.old }
     requires held { IsTrue D.told
-        → RecordOf VERSION_1 (head_of VERSION_1 (D.flash disk.old).reads) (option_map (λ r. r.now) held) }
+        → RecordOf VERSION_1 (head_of VERSION_1 (D.flash disk.old).reads)
+        (option_map (λ r. r.now) held) }
     requires active { IsTrue D.told → HasActiveSlots (D.flash disk.old).reads offer.now.active }
     ensures size { D.extent disk.new ≡ D.extent disk.old }
     ensures counts { ResultCounts result (D.faults disk.old) (D.faults disk.new) }
     ensures answer { IsTrue D.told → IfOk result
-        (λ r. r ≡ new_record (option_map (λ r. r.now) held.entry) (D.flash disk.old).reads bytes.now offer.now.sequence offer.now.digest offer.now.active) }
+        (λ r. r ≡ new_record (option_map (λ r. r.now) held.entry) (D.flash disk.old).reads bytes.now
+        offer.now.sequence offer.now.digest offer.now.active) }
     ensures recorded { IsTrue D.told
-        → IfOk result (λ r. RecordOf VERSION_1 (head_of VERSION_1 (D.flash disk.new).reads) (Some r)) }
+        → IfOk result
+        (λ r. RecordOf VERSION_1 (head_of VERSION_1 (D.flash disk.new).reads) (Some r)) }
     ensures settled { IsTrue D.told → OnOk result (IsSettled (D.flash disk.new)) }
-    ensures reads { IsTrue D.told → let held = option_map (λ r. r.now) held.entry in HasHeldOrNew VERSION_1 held
-        (new_record held (D.flash disk.old).reads bytes.now offer.now.sequence offer.now.digest offer.now.active) (D.flash disk.new).reads }
-    ensures behind { IsTrue D.told → SameOn BehindHead (D.flash disk.old).reads (D.flash disk.new).reads }
+    ensures reads { IsTrue D.told
+        → let held = option_map (λ r. r.now) held.entry in HasHeldOrNew VERSION_1 held
+        (new_record held (D.flash disk.old).reads bytes.now offer.now.sequence offer.now.digest
+        offer.now.active) (D.flash disk.new).reads }
+    ensures behind { IsTrue D.told
+        → SameOn BehindHead (D.flash disk.old).reads (D.flash disk.new).reads }
     ensures any_moment { IsTrue D.told → let held = option_map (λ r. r.now) held.entry in
         let start = D.flash disk.old in
         Passes start (D.flash disk.new)
-        (IsInstalling held (new_record held start.reads bytes.now offer.now.sequence offer.now.digest offer.now.active) bytes.now start) }
+        (IsInstalling held
+        (new_record held start.reads bytes.now offer.now.sequence offer.now.digest offer.now.active)
+        bytes.now start) }
     ensures sound { IsTrue D.told → let held = option_map (λ r. r.now) held.entry in
         let start = D.flash disk.old in
         IsFirmOn (InHead VERSION_1) start → Sound VERSION_1 start.reads
-        → MayBeInstalled start.reads bytes.now (new_record held start.reads bytes.now offer.now.sequence offer.now.digest offer.now.active)
+        → MayBeInstalled start.reads bytes.now
+        (new_record held start.reads bytes.now offer.now.sequence offer.now.digest offer.now.active)
         → Passes start (D.flash disk.new) (Sound VERSION_1) }
     ensures follows { IsTrue D.told → let held = option_map (λ r. r.now) held.entry in
         let start = D.flash disk.old in
         IsFirmOn (InHead VERSION_1) start → Sound VERSION_1 start.reads
-        → IfSome held (λ r. IsNoEarlier r (new_record held start.reads bytes.now offer.now.sequence offer.now.digest offer.now.active))
+        → IfSome held (λ r. IsNoEarlier r (new_record held start.reads bytes.now offer.now.sequence
+        offer.now.digest offer.now.active))
         → Passes start (D.flash disk.new) (Follows VERSION_1 start.reads) }
     ensures grows { IsTrue D.told → Grows (D.flash disk.old) (D.flash disk.new) }
 {

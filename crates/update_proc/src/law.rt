@@ -3,12 +3,12 @@
 ghost use Rattle.update_proc.specs.ChoiceLaws.{ChoiceLaw};
 ghost use Rattle.update_proc.specs.MomentLaws.{EachMoment};
 
-/// What becomes of the contents of slots while a procedure runs, while a bank is written and while the record is committed.
+/// The contents of slots while a procedure runs, while a bank is written and while the record is committed.
 pub fn moment_laws()
     ensures { EachMoment }
 {}
 
 /// Slots that are chosen for an update may be recorded as those in use.
-pub fn choice_law()
+pub fn choice_laws()
     ensures { ChoiceLaw }
 {}

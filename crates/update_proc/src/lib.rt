@@ -18,7 +18,7 @@ pub use bank::write_bank;
 pub use choosing::choose;
 pub use flash_update::update;
 pub use installing::install;
-pub use law::{choice_law, moment_laws};
+pub use law::{choice_laws, moment_laws};
 pub use offer::Offer;
 pub use update_end::UpdateEnd;
 pub use updating::update_beside;

@@ -1,9 +1,9 @@
-//! What is to be installed.
+//! An update to be installed.
 
 use flash_layout::MAX_ENTRIES;
 use suit_params::Digest;
 
-/// What an update's record says beside its generation and its envelope.
+/// The fields of an update's record beside its generation and its envelope.
 #[derive(Clone, Copy, Debug, PartialEq, Eq)]
 pub struct Offer {
     /// The sequence number of the manifest.

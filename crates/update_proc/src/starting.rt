@@ -1,4 +1,4 @@
-//! The update procedure is run, and its envelope installed.
+//! Running the update procedure, and installing its envelope.
 
 ghost use Rattle.flash_layout.specs.declared.key.Key.{Key};
 ghost use Rattle.flash_layout.specs.Configs.{ConfigOf, Configured};
@@ -22,7 +22,7 @@ ghost use Rattle.update_proc.specs.Updates.{KeepsUpdate, KeptSo, LeavesUpdate, P
 
 use crate::finishing::finish;
 use crate::in_use::choose_slots;
-use crate::{Offer, UpdateEnd, choice_law, moment_laws};
+use crate::{Offer, UpdateEnd, choice_laws, moment_laws};
 use flash_layout::{Layout, Places, Record, VERSION_1};
 use rollback_record::{record_laws, sound_laws};
 use std::alloc::{AllocError, Global};
@@ -61,44 +61,58 @@ pub(crate) fn start<H: Host, D: Disk, L: Launcher>(
     requires plan { IsPlan (plan_tree plan.now) }
     requires count { plan.now.count ≡ places.now.count }
     requires loadable { IfSome (option_map (λ r. r.now) held) (IsLoadable VERSION_1) }
-    requires judged { IsAcceptable accepted.now.sequence accepted.now.digest (option_map (λ r. r.now) held) }
+    requires judged { IsAcceptable accepted.now.sequence accepted.now.digest
+        (option_map (λ r. r.now) held) }
     requires fits { length accepted.now.bytes.now ≤ VERSION_1.bank_size }
     requires held { IsTrue D.told
-        → RecordOf VERSION_1 (head_of VERSION_1 (D.flash disk.old).reads) (option_map (λ r. r.now) held) }
+        → RecordOf VERSION_1 (head_of VERSION_1 (D.flash disk.old).reads)
+        (option_map (λ r. r.now) held) }
     requires config { IsTrue D.told → (key : Key)
-        × ConfigOf VERSION_1 (D.extent disk.old) (head_of VERSION_1 (D.flash disk.old).reads) (Configured layout.now key) }
+        × ConfigOf VERSION_1 (D.extent disk.old) (head_of VERSION_1 (D.flash disk.old).reads)
+        (Configured layout.now key) }
     ensures size { D.extent disk.new ≡ D.extent disk.old }
     ensures starts { IsStartEnd result }
-    ensures counts { UpdateCounts result (counts_of (H.faults host.old) (D.faults disk.old) (L.faults launcher.old))
+    ensures counts { UpdateCounts result
+        (counts_of (H.faults host.old) (D.faults disk.old) (L.faults launcher.old))
         (counts_of (H.faults host.new) (D.faults disk.new) (L.faults launcher.new)) }
     ensures files { IsTrue H.told → H.file host.new ≡ H.file host.old }
-    ensures plays { IsTrue H.told → IsTrue D.told → IsTrue L.told → let held = option_map (λ r. r.now) held.entry in
+    ensures plays { IsTrue H.told → IsTrue D.told → IsTrue L.told
+        → let held = option_map (λ r. r.now) held.entry in
         (payloads : List (List ℕ × List ℕ)) → HasPayloads envelope.now.whole.now payloads
-        → PlayedSo (λ made end. PlaysUpdate layout.now places.now (plan_tree plan.now) held payloads uris.now (H.file host.old)
+        → PlayedSo (λ made end. PlaysUpdate layout.now places.now (plan_tree plan.now) held payloads
+        uris.now (H.file host.old)
         (D.flash disk.old).reads made (L.launches launcher.old) (L.launches launcher.new) end)
-        layout.now (D.flash disk.new).reads (L.launches launcher.old) (L.launches launcher.new) result }
-    ensures keeps { IsTrue D.told → Settled VERSION_1 (D.flash disk.old) → let held = option_map (λ r. r.now) held.entry in
+        layout.now (D.flash disk.new).reads (L.launches launcher.old) (L.launches launcher.new)
+        result }
+    ensures keeps { IsTrue D.told → Settled VERSION_1 (D.flash disk.old)
+        → let held = option_map (λ r. r.now) held.entry in
         let start = D.flash disk.old in
         KeptSo (KeepsUpdate layout.now places.now (plan_tree plan.now)
         (λ made. IsTrue H.told → IsTrue L.told
         → PlaysToEnd layout.now places.now (plan_tree plan.now) held
         envelope.now.whole.now uris.now (H.file host.old) start.reads
         (L.launches launcher.old) (L.launches launcher.new) made) held
-        (λ numbers. new_record held start.reads accepted.now.bytes.now accepted.now.sequence accepted.now.digest numbers)
+        (λ numbers. new_record held start.reads accepted.now.bytes.now accepted.now.sequence
+        accepted.now.digest numbers)
         start (D.flash disk.new) result) (IsSame start (D.flash disk.new)) result }
     ensures left { IsTrue D.told → let held = option_map (λ r. r.now) held.entry in
         let start = (D.flash disk.old).reads in
         KeptSo (LeavesUpdate layout.now places.now (plan_tree plan.now) held
-        (λ numbers. new_record held start accepted.now.bytes.now accepted.now.sequence accepted.now.digest numbers)
+        (λ numbers. new_record held start accepted.now.bytes.now accepted.now.sequence
+        accepted.now.digest numbers)
         start (D.flash disk.new).reads result) ((D.flash disk.new).reads ≡ start) result }
-    ensures sound { IsTrue D.told → Settled VERSION_1 (D.flash disk.old) → let held = option_map (λ r. r.now) held.entry in
+    ensures sound { IsTrue D.told → Settled VERSION_1 (D.flash disk.old)
+        → let held = option_map (λ r. r.now) held.entry in
         let start = D.flash disk.old in
-        ((numbers : List ℕ) → AreChosen layout.now places.now (plan_tree plan.now) (active_slots held) numbers
+        ((numbers : List ℕ) → AreChosen layout.now places.now (plan_tree plan.now)
+        (active_slots held) numbers
         → MayBeInstalled start.reads accepted.now.bytes.now
-        (new_record held start.reads accepted.now.bytes.now accepted.now.sequence accepted.now.digest numbers))
+        (new_record held start.reads accepted.now.bytes.now accepted.now.sequence
+        accepted.now.digest numbers))
         → Passes start (D.flash disk.new) (Sound VERSION_1) }
     ensures follows { IsTrue D.told → Settled VERSION_1 (D.flash disk.old)
-        → Passes (D.flash disk.old) (D.flash disk.new) (Follows VERSION_1 (D.flash disk.old).reads) }
+        → Passes (D.flash disk.old) (D.flash disk.new)
+        (Follows VERSION_1 (D.flash disk.old).reads) }
     ensures settled { IsTrue D.told → IfUnfaulted result
         (IsSame (D.flash disk.old) (D.flash disk.new) ⊎ IsSettled (D.flash disk.new)) }
     ensures later { IsTrue D.told → (D.flash disk.old).clock ≤ (D.flash disk.new).clock }
@@ -107,7 +121,7 @@ pub(crate) fn start<H: Host, D: Disk, L: Launcher>(
     record_laws();
     sound_laws();
     moment_laws();
-    choice_law();
+    choice_laws();
     let slots = choose_slots(layout, places, plan, held);
     let mut world = match World::new(alloc, layout, places, &slots, uris, envelope) {
         Ok(world) => world,

@@ -19,8 +19,8 @@ pub enum UpdateEnd {
     Condition { place: u64 },
     /// A directive failed, or a fault came in the procedure.
     Stopped { place: u64, cause: Cause },
-    /// The flash failed beside the procedure.
+    /// The flash failed outside the procedure.
     FlashFault,
-    /// There is no memory, and the flash is as it was.
+    /// Memory ran out, and the flash is as it was.
     NoMemory,
 }

@@ -1,4 +1,4 @@
-//! What is offered is judged beside what is recorded, and then its procedure is run.
+//! An offered update is judged beside the record, and then its procedure is run.
 
 ghost use Rattle.flash_layout.specs.Configs.{ConfigOf, Configured};
 ghost use Rattle.flash_layout.specs.Frames.{head_of};
@@ -32,11 +32,13 @@ use suit_envelope::{Envelope, trim};
 use suit_manifest::{Manifest, Members, update_plan};
 use suit_params::Digest;
 
-// Why a manifest may not be recorded, where it may not.
+// Why a manifest may not be recorded; none if it may.
 fn refusal(held: Option<&Record>, sequence: u64, digest: &Digest) -> Option<UpdateEnd>
     ensures refused { IfSome result (λ end. IsRefusal end) }
-    ensures judged { IfSome result (λ end. JudgedSo sequence digest.now (option_map (λ r. r.now) held.entry) end) }
-    ensures accepted { IfNone result (IsAcceptable sequence digest.now (option_map (λ r. r.now) held.entry)) }
+    ensures judged { IfSome result
+        (λ end. JudgedSo sequence digest.now (option_map (λ r. r.now) held.entry) end) }
+    ensures accepted { IfNone result
+        (IsAcceptable sequence digest.now (option_map (λ r. r.now) held.entry)) }
 {
     match judge(held, sequence, digest) {
         Judged::Accepted => None,
@@ -70,23 +72,33 @@ pub fn update_beside<H: Host, D: Disk, L: Launcher>(
     requires distinct { AreDistinct layout.now places.now }
     requires count { length manifest.now.components ≡ places.now.count }
     requires plan { IsPlan (update_tree manifest.now members.now) }
-    requires fits { length (trimmed envelope.now.wrapper.now envelope.now.manifest.now) ≤ VERSION_1.bank_size }
+    requires fits { length (trimmed envelope.now.wrapper.now envelope.now.manifest.now)
+        ≤ VERSION_1.bank_size }
     requires loadable { IfSome (option_map (λ r. r.now) held) (IsLoadable VERSION_1) }
     requires held { IsTrue D.told
-        → RecordOf VERSION_1 (head_of VERSION_1 (D.flash disk.old).reads) (option_map (λ r. r.now) held) }
+        → RecordOf VERSION_1 (head_of VERSION_1 (D.flash disk.old).reads)
+        (option_map (λ r. r.now) held) }
     requires config { IsTrue D.told → (key : Key)
-        × ConfigOf VERSION_1 (D.extent disk.old) (head_of VERSION_1 (D.flash disk.old).reads) (Configured layout.now key) }
+        × ConfigOf VERSION_1 (D.extent disk.old) (head_of VERSION_1 (D.flash disk.old).reads)
+        (Configured layout.now key) }
     ensures size { D.extent disk.new ≡ D.extent disk.old }
-    ensures judged { JudgedSo manifest.now.sequence digest.now (option_map (λ r. r.now) held.entry) result }
-    ensures counts { UpdateCounts result (counts_of (H.faults host.old) (D.faults disk.old) (L.faults launcher.old))
+    ensures judged { JudgedSo manifest.now.sequence digest.now (option_map (λ r. r.now) held.entry)
+        result }
+    ensures counts { UpdateCounts result
+        (counts_of (H.faults host.old) (D.faults disk.old) (L.faults launcher.old))
         (counts_of (H.faults host.new) (D.faults disk.new) (L.faults launcher.new)) }
     ensures files { IsTrue H.told → H.file host.new ≡ H.file host.old }
-    ensures plays { IsTrue H.told → IsTrue D.told → IsTrue L.told → let held = option_map (λ r. r.now) held.entry in
+    ensures plays { IsTrue H.told → IsTrue D.told → IsTrue L.told
+        → let held = option_map (λ r. r.now) held.entry in
         (payloads : List (List ℕ × List ℕ)) → HasPayloads envelope.now.whole.now payloads
-        → PlayedSo (λ made end. PlaysUpdate layout.now places.now (update_tree manifest.now members.now) held payloads uris.now
-        (H.file host.old) (D.flash disk.old).reads made (L.launches launcher.old) (L.launches launcher.new) end)
-        layout.now (D.flash disk.new).reads (L.launches launcher.old) (L.launches launcher.new) result }
-    ensures keeps { IsTrue D.told → Settled VERSION_1 (D.flash disk.old) → let held = option_map (λ r. r.now) held.entry in
+        → PlayedSo (λ made end. PlaysUpdate layout.now places.now
+        (update_tree manifest.now members.now) held payloads uris.now
+        (H.file host.old) (D.flash disk.old).reads made (L.launches launcher.old)
+        (L.launches launcher.new) end)
+        layout.now (D.flash disk.new).reads (L.launches launcher.old) (L.launches launcher.new)
+        result }
+    ensures keeps { IsTrue D.told → Settled VERSION_1 (D.flash disk.old)
+        → let held = option_map (λ r. r.now) held.entry in
         let start = D.flash disk.old in
         let bytes = trimmed envelope.now.wrapper.now envelope.now.manifest.now in
         KeptSo (KeepsUpdate layout.now places.now (update_tree manifest.now members.now)
@@ -102,14 +114,18 @@ pub fn update_beside<H: Host, D: Disk, L: Launcher>(
         KeptSo (LeavesUpdate layout.now places.now (update_tree manifest.now members.now) held
         (λ numbers. new_record held start bytes manifest.now.sequence digest.now numbers)
         start (D.flash disk.new).reads result) ((D.flash disk.new).reads ≡ start) result }
-    ensures sound { IsTrue D.told → Settled VERSION_1 (D.flash disk.old) → let held = option_map (λ r. r.now) held.entry in
+    ensures sound { IsTrue D.told → Settled VERSION_1 (D.flash disk.old)
+        → let held = option_map (λ r. r.now) held.entry in
         let start = D.flash disk.old in
         let bytes = trimmed envelope.now.wrapper.now envelope.now.manifest.now in
-        ((numbers : List ℕ) → AreChosen layout.now places.now (update_tree manifest.now members.now) (active_slots held) numbers
-        → MayBeInstalled start.reads bytes (new_record held start.reads bytes manifest.now.sequence digest.now numbers))
+        ((numbers : List ℕ) → AreChosen layout.now places.now (update_tree manifest.now members.now)
+        (active_slots held) numbers
+        → MayBeInstalled start.reads bytes
+        (new_record held start.reads bytes manifest.now.sequence digest.now numbers))
         → Passes start (D.flash disk.new) (Sound VERSION_1) }
     ensures follows { IsTrue D.told → Settled VERSION_1 (D.flash disk.old)
-        → Passes (D.flash disk.old) (D.flash disk.new) (Follows VERSION_1 (D.flash disk.old).reads) }
+        → Passes (D.flash disk.old) (D.flash disk.new)
+        (Follows VERSION_1 (D.flash disk.old).reads) }
     ensures settled { IsTrue D.told → IfUnfaulted result
         (IsSame (D.flash disk.old) (D.flash disk.new) ⊎ IsSettled (D.flash disk.new)) }
     ensures later { IsTrue D.told → (D.flash disk.old).clock ≤ (D.flash disk.new).clock }

@@ -6,7 +6,7 @@ use Rattle.rollback_record.specs.SoundFlash.{Settled}
 use Rattle.invoke_proc.specs.Booting.{PlaysBoot}
 use Rattle.invoke_proc.proofs.HostNever.{never_host}
 use Rattle.invoke_proc.proofs.Played.{unfaulted}
-use Rattle.invoke_proc.proofs.Since.{follows_since, sound_since}
+use Rattle.rollback_record.proofs.HeadSince.{follows_since, sound_since}
 use Rattle.invoke_proc.proofs.SoundBoot.{gains, head_kept, played_gains, safe_start, settled_end, unrefused}
 use Rattle.invoke_proc.proofs.booting.boot.Goals as goal
 
@@ -36,9 +36,9 @@ returns-clause-safe g c th td tl sound =
     let key = c.args.key.now in
     let size = d.extent c.args.disk.now in
     let config = subst (λ (n : ℕ). ConfigOf VERSION_1 n (head_of VERSION_1 reads) (Configured layout key)) (sym (g.met.D.Disk.obeys c.args.disk.now td).fits) (c.requires.held td) in
-    played_gains c.play_laws.ensures.safe c.play_laws.ensures.faulted_safe c.manifest_laws.ensures size layout c.requires.allowed.layout_is c.typed.ensures key files reads after launched now
+    played_gains c.play_laws.ensures.safe c.play_laws.ensures.faulted_safe c.manifest_laws.ensures size layout c.requires.allowed.layout_is c.has_identifiers.ensures key files reads after launched now
     (PlaysBoot layout key files reads after launched now) c.start_installed.result
-    (λ end p. gains c.play_laws.ensures.safe c.play_laws.ensures.faulted_safe c.manifest_laws.ensures size layout c.requires.allowed.layout_is c.typed.ensures key files reads after launched now end p
+    (λ end p. gains c.play_laws.ensures.safe c.play_laws.ensures.faulted_safe c.manifest_laws.ensures size layout c.requires.allowed.layout_is c.has_identifiers.ensures key files reads after launched now end p
     (safe_start c.config_laws.ensures.answer c.record_laws.ensures.answer c.boot_laws.ensures layout key reads config p.installed p.manifest sound p.starts))
     (c.start_installed.ensures.plays th td tl)
 

@@ -2,6 +2,7 @@ use Rattle.std.proofs.Common.{ℕ, List, Option, refl, sym, ap, subst}
 use Rattle.std.specs.Option.{option_and_then}
 use Rattle.step_machine.specs.Fetching.{TakesNamed}
 use Rattle.step_machine.specs.Spots.{content_of}
+use Rattle.step_machine.proofs.FetchPlays.{none_under}
 use Rattle.step_machine.proofs.Memory.{ram_same}
 use Rattle.step_machine.proofs.fetching.fetch_file.Goals as goal
 
@@ -18,3 +19,6 @@ returns-in-None-clause-takes g c t u = (ap (option_and_then (g.H.Host.file c.arg
 
 pub returns-in-None-clause-ram : goal.returns-in-None-clause-ram
 returns-in-None-clause-ram g c = ram_same c.args.standing.now.spot c.args.ram.now
+
+pub returns-in-Some-clause-unasked : goal.returns-in-Some-clause-unasked
+returns-in-Some-clause-unasked g c none = absurd (none_under c.args.uris.now c.args.uri.now _ none c.in-Some.ensures)

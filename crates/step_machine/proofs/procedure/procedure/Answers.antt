@@ -1,3 +1,4 @@
+use Rattle.std.proofs.Common.{◌∙◌}
 use Rattle.step_machine.specs.Running.{state_of}
 use Rattle.step_machine.proofs.Allowed.{ready_after}
 use Rattle.step_machine.proofs.Beginning.{ends_there, next, stops_there}
@@ -9,7 +10,7 @@ part-requires-clause-allowed g c = allows_shared c.args.machine.now c.requires.p
 
 pub returns-in-Err : goal.returns-in-Err
 returns-in-Err g c =
-    record { runs = stops_there (left_1 c.args.machine.now) (members_begun c.args.machine.now (state_of c.args.state.now) _ c.requires.sources) (λ told. g.met.D.Disk.obeys c.args.disk.now told) c.in-Err.ensures.runs }
+    record { runs = stops_there (left_1 c.args.machine.now) (members_begun c.args.machine.now (state_of c.args.state.now) _ c.requires.sources) (λ told. g.met.D.Disk.obeys c.args.disk.now told) c.in-Err.ensures.runs; unasked = λ none. c.in-Err.ensures.unasked none }
 
 pub part-requires-2-clause-allowed : goal.part-requires-2-clause-allowed
 part-requires-2-clause-allowed g c = allows_first c.args.machine.now c.requires.plan
@@ -19,7 +20,7 @@ part-requires-2-clause-ready g c = ready_after c.args.machine.now _ _ (next (lef
 
 pub returns-in-Err-part : goal.returns-in-Err-part
 returns-in-Err-part g c =
-    record { runs = stops_there (left_2 c.args.machine.now) (next (left_1 c.args.machine.now) (members_begun c.args.machine.now (state_of c.args.state.now) _ c.requires.sources) (λ told. g.met.D.Disk.obeys c.args.disk.now told) c.in_default.ensures.runs) (λ told. g.met.D.Disk.obeys c.part.new.disk told) c.in-Err-part.ensures.runs }
+    record { runs = stops_there (left_2 c.args.machine.now) (next (left_1 c.args.machine.now) (members_begun c.args.machine.now (state_of c.args.state.now) _ c.requires.sources) (λ told. g.met.D.Disk.obeys c.args.disk.now told) c.in_default.ensures.runs) (λ told. g.met.D.Disk.obeys c.part.new.disk told) c.in-Err-part.ensures.runs; unasked = λ none. c.in-Err-part.ensures.unasked none ∙ c.in_default.ensures.unasked none }
 
 pub part-requires-3-clause-allowed : goal.part-requires-3-clause-allowed
 part-requires-3-clause-allowed g c = allows_shared c.args.machine.now c.requires.plan
@@ -29,7 +30,7 @@ part-requires-3-clause-ready g c = ready_after c.args.machine.now _ _ (next (lef
 
 pub returns-in-Err-part-2 : goal.returns-in-Err-part-2
 returns-in-Err-part-2 g c =
-    record { runs = stops_there (left_3 c.args.machine.now) (next (left_2 c.args.machine.now) (next (left_1 c.args.machine.now) (members_begun c.args.machine.now (state_of c.args.state.now) _ c.requires.sources) (λ told. g.met.D.Disk.obeys c.args.disk.now told) c.in_default.ensures.runs) (λ told. g.met.D.Disk.obeys c.part.new.disk told) c.in_default-part.ensures.runs) (λ told. g.met.D.Disk.obeys c.part-2.new.disk told) c.in-Err-part-2.ensures.runs }
+    record { runs = stops_there (left_3 c.args.machine.now) (next (left_2 c.args.machine.now) (next (left_1 c.args.machine.now) (members_begun c.args.machine.now (state_of c.args.state.now) _ c.requires.sources) (λ told. g.met.D.Disk.obeys c.args.disk.now told) c.in_default.ensures.runs) (λ told. g.met.D.Disk.obeys c.part.new.disk told) c.in_default-part.ensures.runs) (λ told. g.met.D.Disk.obeys c.part-2.new.disk told) c.in-Err-part-2.ensures.runs; unasked = λ none. c.in-Err-part-2.ensures.unasked none ∙ c.in_default-part.ensures.unasked none ∙ c.in_default.ensures.unasked none }
 
 pub part-requires-4-clause-allowed : goal.part-requires-4-clause-allowed
 part-requires-4-clause-allowed g c = allows_second c.args.machine.now c.requires.plan
@@ -39,7 +40,7 @@ part-requires-4-clause-ready g c = ready_after c.args.machine.now _ _ (next (lef
 
 pub returns-in-Err-part-3 : goal.returns-in-Err-part-3
 returns-in-Err-part-3 g c =
-    record { runs = stops_there (left_4 c.args.machine.now) (next (left_3 c.args.machine.now) (next (left_2 c.args.machine.now) (next (left_1 c.args.machine.now) (members_begun c.args.machine.now (state_of c.args.state.now) _ c.requires.sources) (λ told. g.met.D.Disk.obeys c.args.disk.now told) c.in_default.ensures.runs) (λ told. g.met.D.Disk.obeys c.part.new.disk told) c.in_default-part.ensures.runs) (λ told. g.met.D.Disk.obeys c.part-2.new.disk told) c.in_default-part-2.ensures.runs) (λ told. g.met.D.Disk.obeys c.part-3.new.disk told) c.in-Err-part-3.ensures.runs }
+    record { runs = stops_there (left_4 c.args.machine.now) (next (left_3 c.args.machine.now) (next (left_2 c.args.machine.now) (next (left_1 c.args.machine.now) (members_begun c.args.machine.now (state_of c.args.state.now) _ c.requires.sources) (λ told. g.met.D.Disk.obeys c.args.disk.now told) c.in_default.ensures.runs) (λ told. g.met.D.Disk.obeys c.part.new.disk told) c.in_default-part.ensures.runs) (λ told. g.met.D.Disk.obeys c.part-2.new.disk told) c.in_default-part-2.ensures.runs) (λ told. g.met.D.Disk.obeys c.part-3.new.disk told) c.in-Err-part-3.ensures.runs; unasked = λ none. c.in-Err-part-3.ensures.unasked none ∙ c.in_default-part-2.ensures.unasked none ∙ c.in_default-part.ensures.unasked none ∙ c.in_default.ensures.unasked none }
 
 pub part-requires-5-clause-allowed : goal.part-requires-5-clause-allowed
 part-requires-5-clause-allowed g c = allows_shared c.args.machine.now c.requires.plan
@@ -49,7 +50,7 @@ part-requires-5-clause-ready g c = ready_after c.args.machine.now _ _ (next (lef
 
 pub returns-in-Err-part-4 : goal.returns-in-Err-part-4
 returns-in-Err-part-4 g c =
-    record { runs = stops_there (left_5 c.args.machine.now) (next (left_4 c.args.machine.now) (next (left_3 c.args.machine.now) (next (left_2 c.args.machine.now) (next (left_1 c.args.machine.now) (members_begun c.args.machine.now (state_of c.args.state.now) _ c.requires.sources) (λ told. g.met.D.Disk.obeys c.args.disk.now told) c.in_default.ensures.runs) (λ told. g.met.D.Disk.obeys c.part.new.disk told) c.in_default-part.ensures.runs) (λ told. g.met.D.Disk.obeys c.part-2.new.disk told) c.in_default-part-2.ensures.runs) (λ told. g.met.D.Disk.obeys c.part-3.new.disk told) c.in_default-part-3.ensures.runs) (λ told. g.met.D.Disk.obeys c.part-4.new.disk told) c.in-Err-part-4.ensures.runs }
+    record { runs = stops_there (left_5 c.args.machine.now) (next (left_4 c.args.machine.now) (next (left_3 c.args.machine.now) (next (left_2 c.args.machine.now) (next (left_1 c.args.machine.now) (members_begun c.args.machine.now (state_of c.args.state.now) _ c.requires.sources) (λ told. g.met.D.Disk.obeys c.args.disk.now told) c.in_default.ensures.runs) (λ told. g.met.D.Disk.obeys c.part.new.disk told) c.in_default-part.ensures.runs) (λ told. g.met.D.Disk.obeys c.part-2.new.disk told) c.in_default-part-2.ensures.runs) (λ told. g.met.D.Disk.obeys c.part-3.new.disk told) c.in_default-part-3.ensures.runs) (λ told. g.met.D.Disk.obeys c.part-4.new.disk told) c.in-Err-part-4.ensures.runs; unasked = λ none. c.in-Err-part-4.ensures.unasked none ∙ c.in_default-part-3.ensures.unasked none ∙ c.in_default-part-2.ensures.unasked none ∙ c.in_default-part.ensures.unasked none ∙ c.in_default.ensures.unasked none }
 
 pub part-requires-6-clause-allowed : goal.part-requires-6-clause-allowed
 part-requires-6-clause-allowed g c = allows_third c.args.machine.now c.requires.plan
@@ -59,4 +60,4 @@ part-requires-6-clause-ready g c = ready_after c.args.machine.now _ _ (next (lef
 
 pub returns : goal.returns
 returns g c =
-    record { runs = ends_there (next (left_5 c.args.machine.now) (next (left_4 c.args.machine.now) (next (left_3 c.args.machine.now) (next (left_2 c.args.machine.now) (next (left_1 c.args.machine.now) (members_begun c.args.machine.now (state_of c.args.state.now) _ c.requires.sources) (λ told. g.met.D.Disk.obeys c.args.disk.now told) c.in_default.ensures.runs) (λ told. g.met.D.Disk.obeys c.part.new.disk told) c.in_default-part.ensures.runs) (λ told. g.met.D.Disk.obeys c.part-2.new.disk told) c.in_default-part-2.ensures.runs) (λ told. g.met.D.Disk.obeys c.part-3.new.disk told) c.in_default-part-3.ensures.runs) (λ told. g.met.D.Disk.obeys c.part-4.new.disk told) c.in_default-part-4.ensures.runs) (λ told. g.met.D.Disk.obeys c.part-5.new.disk told) c.part-6.ensures.runs }
+    record { runs = ends_there (next (left_5 c.args.machine.now) (next (left_4 c.args.machine.now) (next (left_3 c.args.machine.now) (next (left_2 c.args.machine.now) (next (left_1 c.args.machine.now) (members_begun c.args.machine.now (state_of c.args.state.now) _ c.requires.sources) (λ told. g.met.D.Disk.obeys c.args.disk.now told) c.in_default.ensures.runs) (λ told. g.met.D.Disk.obeys c.part.new.disk told) c.in_default-part.ensures.runs) (λ told. g.met.D.Disk.obeys c.part-2.new.disk told) c.in_default-part-2.ensures.runs) (λ told. g.met.D.Disk.obeys c.part-3.new.disk told) c.in_default-part-3.ensures.runs) (λ told. g.met.D.Disk.obeys c.part-4.new.disk told) c.in_default-part-4.ensures.runs) (λ told. g.met.D.Disk.obeys c.part-5.new.disk told) c.part-6.ensures.runs; unasked = λ none. c.part-6.ensures.unasked none ∙ c.in_default-part-4.ensures.unasked none ∙ c.in_default-part-3.ensures.unasked none ∙ c.in_default-part-2.ensures.unasked none ∙ c.in_default-part.ensures.unasked none ∙ c.in_default.ensures.unasked none }

@@ -32,6 +32,7 @@ returns g c =
       counts = subst (λ (x : PlanEnd). EndCounts x (counts_of (g.H.Host.faults c.args.host.now) (g.D.Disk.faults c.args.disk.now) (g.L.Launcher.faults c.args.launcher.now)) (counts_of (g.H.Host.faults c.started-ended.new.host) (g.D.Disk.faults c.started-ended.new.disk) (g.L.Launcher.faults c.started-ended.new.launcher))) (sym c.end_of.ensures)
           (end_counts c.started-ended.result _ _ runs.counts);
       files = runs.stays.files;
+      unasked = c.started-ended.ensures.unasked;
       plays = λ host_told disk_told launcher_told payloads are.
           let items = c.args.world.now.standings.items in
           let machine : Machine = record { plan = c.args.plan; standings = c.as_slice-standings.result; uris = c.args.world.now.uris; envelope = c.args.world.now.envelope } in

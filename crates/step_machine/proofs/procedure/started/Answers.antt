@@ -3,7 +3,7 @@ use Rattle.suit_params.specs.InForce.{Parameters}
 use Rattle.suit_commands.specs.Plans.{plan_tree}
 use Rattle.path_model.specs.Behaviour.{State}
 use Rattle.step_machine.specs.Parts.{plan_part}
-use Rattle.step_machine.specs.Running.{Moment, AreSources, Runs, moment, state_of}
+use Rattle.step_machine.specs.Running.{Moment, AreSources, RunsPart, moment, state_of}
 use Rattle.step_machine.proofs.Procedures.{no_sources}
 use Rattle.step_machine.proofs.procedure.started.Goals as goal
 
@@ -19,7 +19,8 @@ returns g c =
     record {
       runs = (
         t,
-        subst (λ (ps : Parameters). Runs machine (plan_part (plan_tree machine.plan.now)) (record { parameters = ps; selection = 0 ∷ []; soft_failure = false }) start c.procedure.result t n)
+        subst (λ (ps : Parameters). RunsPart machine (plan_part (plan_tree machine.plan.now)) (record { parameters = ps; selection = 0 ∷ []; soft_failure = false }) start c.procedure.result t n)
             c.new-params.ensures c.procedure.ensures.runs,
       );
+      unasked = c.procedure.ensures.unasked;
     }

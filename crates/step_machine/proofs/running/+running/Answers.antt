@@ -48,7 +48,7 @@ command-returns-in-Run-clause-runs g t c = command_as c.args.machine.now c.args.
 
 pub each-loop-position-init : goal.each-loop-position-init
 each-loop-position-init g t c =
-    record { ready = c.requires.ready; under_way = c.requires.under_way; same = refl; begun = begun c.args.machine.now _ _ _ c.requires.under_way.sources }
+    record { ready = c.requires.ready; under_way = c.requires.under_way; same = refl; begun = begun c.args.machine.now _ _ _ c.requires.under_way.sources; unasked = λ none. refl }
 
 pub each-at-requires : goal.each-at-requires
 each-at-requires g t c κs within =
@@ -68,6 +68,7 @@ each-loop-position-preserved g t c =
       };
       same = done.selected ∙ c.loop-position.invariant.same;
       begun = one_done c.args.machine.now (command_tree c.args.step.now.command) c.args.step.now.place (selected_list c.args.state.now.selected) c.loop-position.position (omega (arith, c.loop-position-test.true, c.len-position-end.ensures)) _ c.at-component.ensures _ _ _ _ _ c.loop-position.invariant.begun (λ told. g.met.D.Disk.obeys c.loop-position.disk told) _ _ c.in_default.field-0 done.runs;
+      unasked = λ none. done.unasked none ∙ c.loop-position.invariant.unasked none;
     }
 
 pub each-returns-in-Err-clause-runs : goal.each-returns-in-Err-clause-runs
@@ -78,6 +79,9 @@ pub each-returns-clause-runs : goal.each-returns-clause-runs
 each-returns-clause-runs g t c =
     each_done c.args.machine.now (command_tree c.args.step.now.command) c.args.step.now.place (selected_list c.args.state.now.selected) c.loop-position.position _ _ _ _ _ (omega (arith, c.loop-position-test.false, c.len-position-end.ensures)) (λ told. g.met.D.Disk.obeys c.loop-position.disk told) c.loop-position.invariant.begun
 
+pub each-returns-in-Err-clause-unasked : goal.each-returns-in-Err-clause-unasked
+each-returns-in-Err-clause-unasked g t c none = c.in-Err.ensures.unasked none ∙ c.loop-position.invariant.unasked none
+
 pub sequence-loop-step-init : goal.sequence-loop-step-init
 sequence-loop-step-init g t c =
     record {
@@ -86,6 +90,7 @@ sequence-loop-step-init g t c =
       under_way = c.requires.under_way;
       allowed = subst (λ (x : SequenceTree). AllowsSequence c.args.machine.now x (selected_list c.args.state.now.selected)) (sym c.as_slice-step-items.ensures) c.requires.allowed;
       begun = steps_begun c.args.machine.now _ _ (state_of c.args.state.now) _ c.as_slice-step-items.ensures c.requires.under_way.sources;
+      unasked = λ none. refl;
     }
 
 pub sequence-command-requires : goal.sequence-command-requires
@@ -110,15 +115,16 @@ sequence-loop-step-preserved g t c =
       };
       allowed = later_allowed c.args.machine.now c.as_slice-step-items.result.now c.loop-step.step-index c.step-item.result c.step-item.result c.loop-step-test.true c.step-item.is before after inv.allowed done.selected;
       begun = step_done c.args.machine.now c.as_slice-step-items.result.now c.loop-step.step-index c.step-item.result c.step-item.result c.loop-step-test.true c.step-item.is _ _ _ _ _ inv.begun (λ told. g.met.D.Disk.obeys c.loop-step.disk told) _ _ c.in_default.field-0 done.runs;
+      unasked = λ none. done.unasked none ∙ inv.unasked none;
     }
 
 pub sequence-returns-in-Err : goal.sequence-returns-in-Err
 sequence-returns-in-Err g t c =
-    record { runs = step_stopped c.args.machine.now c.as_slice-step-items.result.now c.loop-step.step-index c.step-item.result c.step-item.result c.loop-step-test.true c.step-item.is _ _ _ _ _ c.loop-step.invariant.begun (λ told. g.met.D.Disk.obeys c.loop-step.disk told) _ _ c.in-Err.stop c.in-Err.ensures.runs }
+    record { runs = step_stopped c.args.machine.now c.as_slice-step-items.result.now c.loop-step.step-index c.step-item.result c.step-item.result c.loop-step-test.true c.step-item.is _ _ _ _ _ c.loop-step.invariant.begun (λ told. g.met.D.Disk.obeys c.loop-step.disk told) _ _ c.in-Err.stop c.in-Err.ensures.runs; unasked = λ none. c.in-Err.ensures.unasked none ∙ c.loop-step.invariant.unasked none }
 
 pub sequence-returns : goal.sequence-returns
 sequence-returns g t c =
-    record { runs = steps_done c.args.machine.now c.as_slice-step-items.result.now c.loop-step.step-index _ _ _ _ _ c.loop-step-test.false (λ told. g.met.D.Disk.obeys c.loop-step.disk told) c.loop-step.invariant.begun }
+    record { runs = steps_done c.args.machine.now c.as_slice-step-items.result.now c.loop-step.step-index _ _ _ _ _ c.loop-step-test.false (λ told. g.met.D.Disk.obeys c.loop-step.disk told) c.loop-step.invariant.begun; unasked = c.loop-step.invariant.unasked }
 
 pub run_inner-sequence-requires : goal.run_inner-sequence-requires
 run_inner-sequence-requires g t c κs within =
@@ -146,6 +152,7 @@ try_each-loop-branch-init g t c = record {
   same = refl;
   allowed = subst (λ (x : BranchesTree). AllowsBranches c.args.machine.now x c.args.component) (sym c.as_slice-branch-items.ensures) c.requires.allowed;
   begun = branches_begun c.args.machine.now _ _ c.args.place c.args.component (state_of c.args.state.now) _ c.as_slice-branch-items.ensures c.requires.under_way.sources;
+  unasked = λ none. refl;
 }
 
 pub try_each-returns-in-None-clause-runs : goal.try_each-returns-in-None-clause-runs
@@ -177,6 +184,7 @@ try_each-loop-branch-preserved g t c =
       same = inv.same;
       allowed = allows_others c.args.machine.now c.as_slice-branch-items.result.now c.loop-branch.branch-index c.args.component c.branch-item.result c.in-Some.inner c.loop-branch-test.true (sym c.branch-item.is ∙ c.in-Some.is) inv.allowed;
       begun = try_next c.args.machine.now c.as_slice-branch-items.result.now c.loop-branch.branch-index c.args.place c.args.component c.branch-item.result c.branch-item.result _ c.args.state.now _ c.loop-branch.state _ c.loop-branch.invariant.begun (λ told. g.met.D.Disk.obeys c.loop-branch.disk told) c.loop-branch.invariant.same c.in-Some.inner c.loop-branch-test.true c.branch-item.is c.in-Some.is (state_of c.entered-inside.result) c.entered-inside.ensures (state_of c.sequence.new.state) _ c.in-Err.stop (sym c.passed_on.ensures ∙ c.in_default.is) c.in-Err.ensures.runs;
+      unasked = λ none. c.in-Err.ensures.unasked none ∙ inv.unasked none;
     }
 
 pub try_each-returns-clause-runs : goal.try_each-returns-clause-runs
@@ -190,3 +198,9 @@ try_each-returns-in-Ok-clause-runs g t c =
 pub try_each-returns-in-Some-passed_on-clause-runs : goal.try_each-returns-in-Some-passed_on-clause-runs
 try_each-returns-in-Some-passed_on-clause-runs g t c =
     try_stopped c.args.machine.now c.as_slice-branch-items.result.now c.loop-branch.branch-index c.args.place c.args.component c.branch-item.result c.branch-item.result _ c.args.state.now _ c.loop-branch.state _ c.loop-branch.invariant.begun (λ told. g.met.D.Disk.obeys c.loop-branch.disk told) c.loop-branch.invariant.same c.in-Some.inner c.loop-branch-test.true c.branch-item.is c.in-Some.is (state_of c.entered-inside.result) c.entered-inside.ensures (state_of c.sequence.new.state) _ c.in-Err.stop c.in-Some-passed_on.stop (sym c.passed_on.ensures ∙ c.in-Some-passed_on.is) c.in-Err.ensures.runs
+
+pub try_each-returns-in-Ok-clause-unasked : goal.try_each-returns-in-Ok-clause-unasked
+try_each-returns-in-Ok-clause-unasked g t c none = c.in-Ok.ensures.unasked none ∙ c.loop-branch.invariant.unasked none
+
+pub try_each-returns-in-Some-passed_on-clause-unasked : goal.try_each-returns-in-Some-passed_on-clause-unasked
+try_each-returns-in-Some-passed_on-clause-unasked g t c none = c.in-Err.ensures.unasked none ∙ c.loop-branch.invariant.unasked none

@@ -1,4 +1,4 @@
-use Rattle.std.proofs.Common.{◌≡◌, drop}
+use Rattle.std.proofs.Common.{◌≡◌, [], drop}
 use Rattle.suit_commands.specs.View.{sequence_tree, branches_tree, command_tree}
 use Rattle.step_machine.specs.Allowing.{AllowsBranches, AllowsSequence}
 use Rattle.step_machine.specs.Parts.{branches_part, each_part, sequence_part}
@@ -14,6 +14,7 @@ invariant-each-loop-position g l = record {
   begun : Begun l.machine (each_part (command_tree l.step.command) l.machine.plan.now.count l.step.place (selected_list l.initial.state.selected))
       (each_part (command_tree l.step.command) l.machine.plan.now.count l.step.place (drop l.position (selected_list l.initial.state.selected)))
       (state_of l.initial.state) (moment (record { told = g.H.Host.told; files = g.H.Host.file l.initial.host; faults = g.H.Host.faults l.initial.host }) (record { told = g.D.Disk.told; size = g.D.Disk.extent l.initial.disk; flash = g.D.Disk.flash l.initial.disk; faults = g.D.Disk.faults l.initial.disk }) (record { told = g.L.Launcher.told; launches = g.L.Launcher.launches l.initial.launcher; faults = g.L.Launcher.faults l.initial.launcher }) l.initial.ram) (state_of l.state) (moment (record { told = g.H.Host.told; files = g.H.Host.file l.host; faults = g.H.Host.faults l.host }) (record { told = g.D.Disk.told; size = g.D.Disk.extent l.disk; flash = g.D.Disk.flash l.disk; faults = g.D.Disk.faults l.disk }) (record { told = g.L.Launcher.told; launches = g.L.Launcher.launches l.launcher; faults = g.L.Launcher.faults l.launcher }) l.ram);
+  unasked : l.machine.uris.now ≡ [] → l.host ≡ l.initial.host;
 }
 
 abbrev pub invariant-sequence-loop-step : goal.invariant-sequence-loop-step
@@ -24,6 +25,7 @@ invariant-sequence-loop-step g l = record {
   allowed : AllowsSequence l.machine (sequence_tree (drop l.step-index l.step-items)) (selected_list l.state.selected);
   begun : Begun l.machine (sequence_part l.sequence l.machine.plan.now.count) (sequence_part (sequence_tree (drop l.step-index l.step-items)) l.machine.plan.now.count)
       (state_of l.initial.state) (moment (record { told = g.H.Host.told; files = g.H.Host.file l.initial.host; faults = g.H.Host.faults l.initial.host }) (record { told = g.D.Disk.told; size = g.D.Disk.extent l.initial.disk; flash = g.D.Disk.flash l.initial.disk; faults = g.D.Disk.faults l.initial.disk }) (record { told = g.L.Launcher.told; launches = g.L.Launcher.launches l.initial.launcher; faults = g.L.Launcher.faults l.initial.launcher }) l.initial.ram) (state_of l.state) (moment (record { told = g.H.Host.told; files = g.H.Host.file l.host; faults = g.H.Host.faults l.host }) (record { told = g.D.Disk.told; size = g.D.Disk.extent l.disk; flash = g.D.Disk.flash l.disk; faults = g.D.Disk.faults l.disk }) (record { told = g.L.Launcher.told; launches = g.L.Launcher.launches l.launcher; faults = g.L.Launcher.faults l.launcher }) l.ram);
+  unasked : l.machine.uris.now ≡ [] → l.host ≡ l.initial.host;
 }
 
 abbrev pub invariant-try_each-loop-branch : goal.invariant-try_each-loop-branch
@@ -34,4 +36,5 @@ invariant-try_each-loop-branch g l = record {
   allowed : AllowsBranches l.machine (branches_tree (drop l.branch-index l.branch-items)) l.component;
   begun : Begun l.machine (branches_part l.branches l.machine.plan.now.count l.place l.component) (branches_part (branches_tree (drop l.branch-index l.branch-items)) l.machine.plan.now.count l.place l.component)
       (state_of l.initial.state) (moment (record { told = g.H.Host.told; files = g.H.Host.file l.initial.host; faults = g.H.Host.faults l.initial.host }) (record { told = g.D.Disk.told; size = g.D.Disk.extent l.initial.disk; flash = g.D.Disk.flash l.initial.disk; faults = g.D.Disk.faults l.initial.disk }) (record { told = g.L.Launcher.told; launches = g.L.Launcher.launches l.initial.launcher; faults = g.L.Launcher.faults l.initial.launcher }) l.initial.ram) (state_of l.initial.state) (moment (record { told = g.H.Host.told; files = g.H.Host.file l.host; faults = g.H.Host.faults l.host }) (record { told = g.D.Disk.told; size = g.D.Disk.extent l.disk; flash = g.D.Disk.flash l.disk; faults = g.D.Disk.faults l.disk }) (record { told = g.L.Launcher.told; launches = g.L.Launcher.launches l.launcher; faults = g.L.Launcher.faults l.launcher }) l.ram);
+  unasked : l.machine.uris.now ≡ [] → l.host ≡ l.initial.host;
 }

@@ -5,7 +5,7 @@ use Rattle.suit_edge.specs.Flash.{Grows, Keeps}
 use Rattle.suit_edge.specs.Ranges.{Outside}
 use Rattle.step_machine.proofs.taking.append_file.Given as goal
 
--- what was put and what is left to pull are the file
+-- the bytes put and those left to pull are the file
 abbrev pub invariant-loop-count : goal.invariant-loop-count
 invariant-loop-count g l =
     let h = g.H.Host in

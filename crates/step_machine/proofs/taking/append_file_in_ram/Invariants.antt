@@ -2,7 +2,7 @@ use Rattle.std.proofs.Common.{◌≡◌, ◌<◌, ◌+◌, ◌++◌, length, IsT
 use Rattle.flash_slots.specs.RamContents.{held_by, holding}
 use Rattle.step_machine.proofs.taking.append_file_in_ram.Given as goal
 
--- what is held and what is left to pull are the file
+-- the bytes held and those left to pull are the file
 abbrev pub invariant-loop-count : goal.invariant-loop-count
 invariant-loop-count g l =
     let h = g.H.Host in

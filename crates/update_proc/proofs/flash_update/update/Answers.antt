@@ -19,7 +19,7 @@ use Rattle.update_proc.specs.Records.{new_record}
 use Rattle.update_proc.specs.Updates.{KeepsUpdate, KeptSo, LeavesUpdate, PlayedSo, PlaysToEnd, PlaysUpdate}
 use Rattle.update_proc.proofs.Finished.{launched_by, unfaulted}
 use Rattle.update_proc.proofs.Reread.{follows_from, for_offer, keeps_from, kept_from, recorded_as, settled_from, sound_from}
-use Rattle.update_proc.proofs.Since.{follows_now}
+use Rattle.rollback_record.proofs.HeadSince.{follows_now}
 use Rattle.update_proc.proofs.flash_update.update.Goals as goal
 
 abbrev held_of : Option (Bor Record) → Option Record

@@ -17,7 +17,7 @@ use Rattle.update_proc.specs.Installing.{MayBeInstalled}
 use Rattle.update_proc.specs.Records.{new_record}
 use Rattle.update_proc.specs.Updates.{KeepsUpdate, KeptSo, LeavesUpdate, PlayedSo, PlaysToEnd, PlaysUpdate}
 use Rattle.update_proc.proofs.Finished.{accepted_judged, refused_counts, refused_kept, refused_played, refused_settled}
-use Rattle.update_proc.proofs.Since.{follows_now}
+use Rattle.rollback_record.proofs.HeadSince.{follows_now}
 use Rattle.update_proc.proofs.updating.update_beside.Goals as goal
 
 abbrev held_of : Option (Bor Record) → Option Record

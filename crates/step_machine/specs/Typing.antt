@@ -1,4 +1,4 @@
--- What the types of a component's identifiers say of them.
+-- Identifiers have sixteen bytes, by their types.
 use Rattle.std.specs.Prelude.{IfSome}
 use Rattle.flash_layout.specs.declared.layout.Entry.{Entry}
 use Rattle.path_model.specs.Path.{IsIdentifier}

@@ -1,6 +1,6 @@
 use Rattle.std.proofs.Common.{ℕ, suc, ◌<◌, List, [], ◌∷◌, get_or, arith}
 use Rattle.std.specs.List.{AllByRecursion}
-use Rattle.invoke_proc.proofs.typing.bytes.Goals as goal
+use Rattle.step_machine.proofs.typing.bytes.Goals as goal
 
 all_below : (bytes : List ℕ) → ((i : ℕ) → get_or bytes i 0 < 256) → AllByRecursion (λ b. b < 256) bytes
 all_below [] all = tt

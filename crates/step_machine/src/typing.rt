@@ -1,6 +1,6 @@
-//! What the types of a component's identifiers say of them.
+//! Identifiers have sixteen bytes, by their types.
 
-ghost use Rattle.invoke_proc.specs.Typing.{HasIdentifiers};
+ghost use Rattle.step_machine.specs.Typing.{HasIdentifiers};
 ghost use Rattle.path_model.specs.Path.{IsIdentifier};
 ghost use Rattle.std.specs.Prelude.{◌≡◌, ◌<◌, All, IfSome, length};
 ghost use Rattle.std.specs.List.{AllByRecursion};
@@ -44,7 +44,7 @@ fn entry(entry: &Entry)
 }
 
 /// The components of a layout have identifiers of sixteen bytes.
-pub(crate) fn typed(layout: &Layout)
+pub fn has_identifiers(layout: &Layout)
     ensures { All HasIdentifiers layout.now }
 {
     for each in layout.as_slice() {
