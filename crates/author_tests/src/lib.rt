@@ -2,12 +2,4 @@
 #![tactic(auto)]
 
 #[cfg(test)]
-mod described;
-#[cfg(test)]
-mod describing;
-#[cfg(test)]
-mod made_envelope;
-#[cfg(test)]
-mod making;
-#[cfg(test)]
-mod param_fields;
+mod tests;

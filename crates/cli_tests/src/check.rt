@@ -56,7 +56,7 @@ fn check_into<H: Host, K: Sink>(
     sink: &mut K,
 ) -> Result<u8, AllocError> {
     let mut flash = blank(alloc, &[])?;
-    status_of(alloc, &CHECK, host, &mut flash, sink)
+    status_of(alloc, host, &mut flash, sink, &CHECK)
 }
 
 // ---- manifests
@@ -73,31 +73,6 @@ fn is_answered(alloc: Global, row: Row<'_>) -> Result<bool, AllocError> {
     let file = bytes_of(alloc, row.file)?;
     let lines = line_of(alloc, row.lines)?;
     checks(alloc, file.as_slice(), (row.status, lines.as_str()))
-}
-
-fn is_whole(alloc: Global, text: &str) -> Result<bool, AllocError> {
-    match row_of(text) {
-        Some(row) => is_answered(alloc, row),
-        None => Ok(false),
-    }
-}
-
-#[test]
-fn manifests_are_judged(rt: HostRuntime) -> Result<(), AllocError> {
-    for table in [
-        WHOLE,
-        REFUSED_ITEMS,
-        REFUSED_ENVELOPES,
-        REFUSED_MANIFESTS,
-        REFUSED_COMMANDS,
-        UNSAFE,
-        REFUSED_IN_TURN,
-    ] {
-        for row in table.split("\n\n") {
-            assert!(rt; is_whole(rt.alloc(), row)?, "{row}");
-        }
-    }
-    Ok(())
 }
 
 // Whether it is the status of the row, and the text a path that ends with its lines.
@@ -126,17 +101,37 @@ fn is_told(alloc: Global, row: Row<'_>) -> Result<bool, AllocError> {
     tells_path(alloc, &mut host, row)
 }
 
-fn is_on_path(alloc: Global, text: &str) -> Result<bool, AllocError> {
+// Whether the row of this text is answered so: by the last lines of a path, or by its whole lines.
+fn is_row(alloc: Global, text: &str, is_path: bool) -> Result<bool, AllocError> {
     match row_of(text) {
-        Some(row) => is_told(alloc, row),
+        Some(row) if is_path => is_told(alloc, row),
+        Some(row) => is_answered(alloc, row),
         None => Ok(false),
     }
 }
 
 #[test]
+fn manifests_are_judged(rt: HostRuntime) -> Result<(), AllocError> {
+    for table in [
+        WHOLE,
+        REFUSED_ITEMS,
+        REFUSED_ENVELOPES,
+        REFUSED_MANIFESTS,
+        REFUSED_COMMANDS,
+        UNSAFE,
+        REFUSED_IN_TURN,
+    ] {
+        for row in table.split("\n\n") {
+            assert!(rt; is_row(rt.alloc(), row, false)?, "{row}");
+        }
+    }
+    Ok(())
+}
+
+#[test]
 fn unsafe_paths_are_told(rt: HostRuntime) -> Result<(), AllocError> {
     for row in LAST_LINES.split("\n\n") {
-        assert!(rt; is_on_path(rt.alloc(), row)?, "{row}");
+        assert!(rt; is_row(rt.alloc(), row, true)?, "{row}");
     }
     Ok(())
 }
@@ -265,6 +260,9 @@ help
 e1.suit check
 run stat
 run init d -k
+run update f x
+run-update f
+drill 01
 show
 make d k
 make d k o p

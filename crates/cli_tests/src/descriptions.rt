@@ -8,7 +8,7 @@ use suit_edge::MemoryHost;
 const HELD: &str =
     "d86ba302585d835824822f5820d20f700f9bd3379dc3b7fad9bd61a590edbecbc9ab954f2c625ab24083fe064049d28443a10126a0f640582ad18443a10105a0f658208f14288850e78f244f655dddfe3953a83cb225cbfd33c2a0687eb9c8e286ef2e0358b6a801010201035835a2028181410004582c8214a2035824822f5820ba7816bf8f01cfea414140de5dae2223b00361a396177a9cb410ff61f20015ad0e03084382030f094382170f10822f58208cec887aebc30d8879f0a5cdf13265bec7d50e98670afe09827264786de8923314822f58208cec887aebc30d8879f0a5cdf13265bec7d50e98670afe09827264786de8923317822f5820ba59ea8f4f88a2fcd9aaf9a83d236bb75f1f528637b999a25866124a877ffb15104a8414a11563696d67150f";
 
-/// What `show` puts of the stored envelope, and of any other with its manifest.
+/// The output of `show` for the stored envelope, and any other with its manifest.
 pub(crate) const STORED_SAYS: &str =
     "{\"components\":[[\"00\"]],\"invoke\":[[\"invoke\",15]],\"sequence\":1,\"shared\":[[\"set\",{\"digest\":\"ba7816bf8f01cfea414140de5dae2223b00361a396177a9cb410ff61f20015ad\",\"size\":3}]],\"validate\":[[\"match\",15]]}\n";
 

@@ -5,7 +5,8 @@
 mod runs;
 
 pub use runs::{
-    AUTHENTIC, DEVICE, KEY, STORED, answers, answers_by_files, blank, bytes_of, names, status_of,
+    AUTHENTIC, DEVICE, KEY, STORED, answers, answers_by_files, answers_with, blank, bytes_of,
+    names, status_of, status_with,
 };
 
 #[cfg(test)]

@@ -19,6 +19,8 @@ const DESCRIPTION: &str =
 const WITH_INSTALL: &str =
     "{\"sequence\":1,\"components\":[[\"00\"]],\"shared\":[[\"set\",{\"digest\":{\"file\":\"abc.img\"},\"size\":{\"file\":\"abc.img\"}}]],\"validate\":[[\"match\",15]],\"invoke\":[[\"invoke\",15]],\"install\":[[\"set\",{\"uri\":\"img\"}],[\"fetch\",15]]}";
 
+const MAKE: [&str; 4] = ["make", "d.json", "k", "o.suit"];
+
 const ENVELOPE: &str =
     "d86ba2025853825824822f58201a9560565e58d0ad019dae827e1def7755aad759c564dcc11446bb8629c035b1582ad18443a10105a0f6582020d07a0b6d6e8c35313524a9e71b4f7857551ac0e818340d4076635db40631b3035847a501010201035835a2028181410004582c8214a2035824822f5820ba7816bf8f01cfea414140de5dae2223b00361a396177a9cb410ff61f20015ad0e03074382030f094382170f";
 
@@ -26,16 +28,14 @@ const ENVELOPE: &str =
 const WITH_SEVERED: &str =
     "{\"sequence\":1,\"components\":[[\"00\"]],\"shared\":[[\"set\",{\"digest\":{\"file\":\"abc.img\"},\"size\":{\"file\":\"abc.img\"}}]],\"validate\":[[\"match\",15]],\"invoke\":[[\"invoke\",15]],\"install\":[[\"set\",{\"uri\":\"img\"}],[\"fetch\",15]],\"sever\":[\"install\"]}";
 
+const FAULT: (u8, &str) = (7, "host fault\n");
+
 const SEVERED: &str =
     "d86ba3025853825824822f5820f7da94cc0c65d8e7f6fa7db8ae3289288138a0b64066032a5650208bbad40033582ad18443a10105a0f65820dfe11ba524c51b8c224afc07979afbe8972fb5aed5391e88f9d7f8c02248961103586ca601010201035835a2028181410004582c8214a2035824822f5820ba7816bf8f01cfea414140de5dae2223b00361a396177a9cb410ff61f20015ad0e03074382030f094382170f14822f58208cec887aebc30d8879f0a5cdf13265bec7d50e98670afe09827264786de89233144a8414a11563696d67150f";
 
-// What `show` puts of that one.
+// The output of `show` for that one.
 const SHOWN_SEVERED: &str =
     "{\"components\":[[\"00\"]],\"install\":[[\"set\",{\"uri\":\"img\"}],[\"fetch\",15]],\"invoke\":[[\"invoke\",15]],\"sequence\":1,\"sever\":[\"install\"],\"shared\":[[\"set\",{\"digest\":\"ba7816bf8f01cfea414140de5dae2223b00361a396177a9cb410ff61f20015ad\",\"size\":3}]],\"validate\":[[\"match\",15]]}\n";
-
-const MAKE: [&str; 4] = ["make", "d.json", "k", "o.suit"];
-
-const FAULT: (u8, &str) = (7, "host fault\n");
 
 // A host with a description, a key and an image, of which these calls fail.
 fn with_files(alloc: Global, description: &str, fails: &[u64]) -> Result<MemoryHost, AllocError> {
@@ -121,62 +121,58 @@ fn nothing_is_stored_where_it_is_refused(rt: HostRuntime) -> Result<(), AllocErr
     Ok(())
 }
 
-// Whether the description in the row's first line is refused with its second one.
-fn is_refused(alloc: Global, row: &str) -> Result<bool, AllocError> {
-    match row.split_once('\n') {
-        Some((description, said)) => {
-            let mut line = String::from_str(alloc, said)?;
-            line.push_str("\n")?;
-            refuses(alloc, description, (3, line.as_str()))
+// Whether the description, which is the frame with the part in the place of its @, is refused with the line.
+fn is_refused(alloc: Global, said: &str, frame: &str, part: &str) -> Result<bool, AllocError> {
+    let (before, after) = frame.split_once('@').unwrap_or((frame, ""));
+    let mut description = String::from_str(alloc, before)?;
+    description.push_str(part)?;
+    description.push_str(after)?;
+    let mut line = String::from_str(alloc, said)?;
+    line.push_str("\n")?;
+    refuses(alloc, description.as_str(), (3, line.as_str()))
+}
+
+// Whether each part of the group is: behind a line, and a frame, each in a line of its own.
+fn are_refused(alloc: Global, group: &str) -> Result<bool, AllocError> {
+    let (said, rest) = group.split_once('\n').unwrap_or((group, ""));
+    let (frame, parts) = rest.split_once('\n').unwrap_or((rest, ""));
+    for part in parts.split('\n') {
+        if !is_refused(alloc, said, frame, part)? {
+            return Ok(false);
         }
-        None => Ok(false),
     }
+    Ok(true)
 }
 
+const REFUSED: [&str; 5] = [
+    REFUSED_JSON,
+    REFUSED_FIELDS,
+    REFUSED_MEMBERS,
+    REFUSED_ARGUMENTS,
+    REFUSED_PARAMETERS,
+];
+
 #[test]
-fn a_file_may_be_no_json(rt: HostRuntime) -> Result<(), AllocError> {
-    for row in REFUSED_JSON.split("\n\n") {
-        assert!(rt; is_refused(rt.alloc(), row)?, "{row}");
+fn each_field_and_each_command_has_its_faults(rt: HostRuntime) -> Result<(), AllocError> {
+    for table in &REFUSED {
+        for group in table.split("\n\n") {
+            assert!(rt; are_refused(rt.alloc(), group)?, "{group}");
+        }
     }
     Ok(())
 }
 
-#[test]
-fn each_field_has_its_faults(rt: HostRuntime) -> Result<(), AllocError> {
-    for row in REFUSED_FIELDS.split("\n\n") {
-        assert!(rt; is_refused(rt.alloc(), row)?, "{row}");
-    }
-    Ok(())
-}
-
-#[test]
-fn each_member_apart_and_each_payload_has_its_faults(rt: HostRuntime) -> Result<(), AllocError> {
-    for row in REFUSED_MEMBERS.split("\n\n") {
-        assert!(rt; is_refused(rt.alloc(), row)?, "{row}");
-    }
-    Ok(())
-}
-
-#[test]
-fn each_command_has_its_faults(rt: HostRuntime) -> Result<(), AllocError> {
-    for row in REFUSED_ARGUMENTS.split("\n\n") {
-        assert!(rt; is_refused(rt.alloc(), row)?, "{row}");
-    }
-    Ok(())
-}
-
-#[test]
-fn each_parameter_has_its_faults(rt: HostRuntime) -> Result<(), AllocError> {
-    for row in REFUSED_PARAMETERS.split("\n\n") {
-        assert!(rt; is_refused(rt.alloc(), row)?, "{row}");
-    }
-    Ok(())
-}
-
-// Whether a call of the host that fails is told.
+// Whether a call of the host that fails is told, and nothing is stored.
 fn tells_fault(alloc: Global, call: u64) -> Result<bool, AllocError> {
     let mut host = with_files(alloc, DESCRIPTION, &[call])?;
-    answers_by_files(alloc, &MAKE, &mut host, FAULT)
+    let told = answers_by_files(alloc, &MAKE, &mut host, FAULT)?;
+    Ok(told && !holds(&mut host, "o.suit", b""))
+}
+
+// Whether the envelope is made where this call of the host fails.
+fn is_made(alloc: Global, call: u64) -> Result<bool, AllocError> {
+    let mut host = with_files(alloc, DESCRIPTION, &[call])?;
+    answers_by_files(alloc, &MAKE, &mut host, (0, "made 163\n"))
 }
 
 #[test]
@@ -184,5 +180,6 @@ fn each_call_of_the_host_may_fail(rt: HostRuntime) -> Result<(), AllocError> {
     for call in 0..10u64 {
         assert!(rt; tells_fault(rt.alloc(), call)?, "call {call}");
     }
+    assert!(rt; is_made(rt.alloc(), 10)?);
     Ok(())
 }

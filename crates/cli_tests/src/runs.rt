@@ -4,8 +4,8 @@ ghost use Rattle.std.specs.Prelude.{◌≡◌, ◌≤◌, IfOk, length};
 
 use det_cbor::{Names, Text};
 use std::alloc::{AllocError, Global};
-use suit_cli::{Status, run};
-use suit_edge::{Disk, Host, MemoryDisk, MemoryLauncher, MemorySink, Sink};
+use suit_cli::run;
+use suit_edge::{Disk, Host, Launcher, MemoryDisk, MemoryLauncher, MemorySink, Sink};
 
 /// The stored envelope: 119 bytes, whose manifest matches the image `abc` and invokes it.
 pub const STORED: &str =
@@ -32,7 +32,7 @@ pub fn names(alloc: Global, words: &[&str]) -> Result<Names, AllocError> {
     Ok(names)
 }
 
-/// The bytes of a constant in hexadecimal. Digits that are none end a test as want of memory does.
+/// The bytes of a constant in hexadecimal. Digits that are none end a test as running out of memory does.
 pub fn bytes_of(alloc: Global, digits: &str) -> Result<Vec<u8>, AllocError> {
     match hex::decode(alloc, digits) {
         Ok(bytes) => Ok(bytes),
@@ -47,21 +47,52 @@ pub fn blank(alloc: Global, fails: &[u64]) -> Result<MemoryDisk, AllocError>
     MemoryDisk::new(alloc, 65_536, fails)
 }
 
-/// The status of a run on these words.
-pub fn status_of<H: Host, D: Disk, K: Sink>(
+/// The status of a run on these words with this launcher.
+pub fn status_with<H: Host, D: Disk, L: Launcher, K: Sink>(
     alloc: Global,
     words: &[&str],
     host: &mut H,
     flash: &mut D,
+    launcher: &mut L,
     sink: &mut K,
 ) -> Result<u8, AllocError>
     requires { 49152 ≤ D.extent flash.old }
     ensures { D.extent flash.new ≡ D.extent flash.old }
 {
     let words = names(alloc, words)?;
+    Ok(run(alloc, &words, host, flash, launcher, sink).0)
+}
+
+/// The status of a run on these words.
+pub fn status_of<H: Host, D: Disk, K: Sink>(
+    alloc: Global,
+    host: &mut H,
+    flash: &mut D,
+    sink: &mut K,
+    words: &[&str],
+) -> Result<u8, AllocError>
+    requires { 49152 ≤ D.extent flash.old }
+    ensures { D.extent flash.new ≡ D.extent flash.old }
+{
     let mut launcher = MemoryLauncher::new(alloc, &[])?;
-    let Status(status) = run(alloc, &words, host, flash, &mut launcher, sink);
-    Ok(status)
+    status_with(alloc, words, host, flash, &mut launcher, sink)
+}
+
+/// Whether a run on these words with this launcher answers so.
+pub fn answers_with<H: Host, D: Disk, L: Launcher>(
+    alloc: Global,
+    host: &mut H,
+    flash: &mut D,
+    launcher: &mut L,
+    words: &[&str],
+    says: (u8, &str),
+) -> Result<bool, AllocError>
+    requires { 49152 ≤ D.extent flash.old }
+    ensures { D.extent flash.new ≡ D.extent flash.old }
+{
+    let mut sink = MemorySink::new(alloc, &[])?;
+    let status = status_with(alloc, words, host, flash, launcher, &mut sink)?;
+    Ok(status == says.0 && sink.bytes() == says.1.as_bytes())
 }
 
 /// Whether a run on these words answers so.
@@ -69,15 +100,14 @@ pub fn answers<H: Host, D: Disk>(
     alloc: Global,
     words: &[&str],
     host: &mut H,
-    flash: &mut D,
     says: (u8, &str),
+    flash: &mut D,
 ) -> Result<bool, AllocError>
     requires { 49152 ≤ D.extent flash.old }
     ensures { D.extent flash.new ≡ D.extent flash.old }
 {
-    let mut sink = MemorySink::new(alloc, &[])?;
-    let status = status_of(alloc, words, host, flash, &mut sink)?;
-    Ok(status == says.0 && sink.bytes() == says.1.as_bytes())
+    let mut launcher = MemoryLauncher::new(alloc, &[])?;
+    answers_with(alloc, host, flash, &mut launcher, words, says)
 }
 
 /// Whether a run that needs no flash answers so.
@@ -88,5 +118,5 @@ pub fn answers_by_files<H: Host>(
     says: (u8, &str),
 ) -> Result<bool, AllocError> {
     let mut flash = blank(alloc, &[])?;
-    answers(alloc, words, host, &mut flash, says)
+    answers(alloc, words, host, says, &mut flash)
 }

@@ -3,12 +3,4 @@
 #![tactic(auto)]
 
 #[cfg(test)]
-mod cbor;
-#[cfg(test)]
-mod json;
-#[cfg(test)]
-mod params;
-#[cfg(test)]
-mod rows;
-#[cfg(test)]
-mod words;
+mod tests;

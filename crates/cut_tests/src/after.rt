@@ -1,4 +1,4 @@
-//! What is found after a second update that was cut off.
+//! The flash after a second update that was cut off.
 
 ghost use Rattle.std.specs.Prelude.{◌≡◌, ◌≤◌};
 
@@ -7,98 +7,74 @@ use std::alloc::{AllocError, Global};
 use suit_edge::{Disk, Host, MemoryLauncher, MemorySink};
 use update_tests::{are_launched, status_of};
 
-/// What a run tells of the flash: the first update or the second is recorded, or neither.
-#[derive(Clone, Copy, Debug, PartialEq, Eq)]
-enum Recorded {
-    First,
-    Second,
-    Neither,
-}
-
-// Which one these lines are of.
-fn recorded_of(status: u8, lines: &[u8]) -> Recorded {
-    if status != 0 {
-        return Recorded::Neither;
-    }
-    if lines.starts_with(b"sequence 1\n") {
-        Recorded::First
-    } else if lines.starts_with(b"sequence 2\n") {
-        Recorded::Second
-    } else {
-        Recorded::Neither
-    }
-}
-
-fn told<H: Host, D: Disk>(
-    alloc: Global,
-    host: &mut H,
-    flash: &mut D,
-    launcher: &mut MemoryLauncher,
-) -> Result<Recorded, AllocError>
-    requires { 49152 ≤ D.extent flash.old }
-    ensures { D.extent flash.new ≡ D.extent flash.old }
-{
-    let mut sink = MemorySink::new(alloc, &[])?;
-    let status = status_of(alloc, "run status", host, flash, launcher, &mut sink)?;
-    Ok(recorded_of(status, sink.bytes()))
-}
-
-// Which one is recorded.
-fn read_record<H: Host, D: Disk>(
-    alloc: Global,
-    host: &mut H,
-    flash: &mut D,
-) -> Result<Recorded, AllocError>
-    requires { 49152 ≤ D.extent flash.old }
-    ensures { D.extent flash.new ≡ D.extent flash.old }
-{
-    let mut launcher = MemoryLauncher::new(alloc, &[])?;
-    told(alloc, host, flash, &mut launcher)
-}
-
-/// How a boot or the second update ends.
+/// How a command ends.
 #[derive(Clone, Copy, PartialEq, Eq)]
-enum Ending {
+pub(crate) enum Ending {
     Booted,
     Installed,
+    /// The first update is recorded, or the second.
+    First,
+    Second,
     ConditionFailed,
+    FlashFault,
     Other,
 }
 
 // How it ends with this status and these lines.
 fn ending_of(status: u8, lines: &[u8]) -> Ending {
-    if status == 6
-        && lines.starts_with(b"stopped at ")
-        && lines.ends_with(b": condition failed\n")
-    {
-        return Ending::ConditionFailed;
+    match status {
+        0 => done_of(lines),
+        6 if lines.starts_with(b"stopped at ") && lines.ends_with(b": condition failed\n") => {
+            Ending::ConditionFailed
+        }
+        8 => Ending::FlashFault,
+        _ => Ending::Other,
     }
-    if status != 0 {
-        return Ending::Other;
-    }
+}
+
+// How a run with these lines ended.
+fn done_of(lines: &[u8]) -> Ending {
     if lines == b"ended\n".as_slice() {
         Ending::Booted
     } else if lines == b"installed 2\n".as_slice() {
         Ending::Installed
+    } else if lines.starts_with(b"sequence 1\n") {
+        Ending::First
+    } else if lines.starts_with(b"sequence 2\n") {
+        Ending::Second
     } else {
         Ending::Other
     }
 }
 
-// How a command ends.
+// How a command ends with this launcher.
 fn ended<H: Host, D: Disk>(
     alloc: Global,
-    command: &str,
     host: &mut H,
     flash: &mut D,
     launcher: &mut MemoryLauncher,
+    command: &'static str,
 ) -> Result<Ending, AllocError>
     requires { 49152 ≤ D.extent flash.old }
     ensures { D.extent flash.new ≡ D.extent flash.old }
 {
     let mut sink = MemorySink::new(alloc, &[])?;
-    let status = status_of(alloc, command, host, flash, launcher, &mut sink)?;
+    let status = status_of(alloc, host, flash, launcher, command, &mut sink)?;
     Ok(ending_of(status, sink.bytes()))
+}
+
+/// How a command ends.
+pub(crate) fn end_of_run<H: Host, D: Disk>(
+    alloc: Global,
+    command: &'static str,
+    host: &mut H,
+    flash: &mut D,
+) -> Result<Ending, AllocError>
+    requires { 49152 ≤ D.extent flash.old }
+    ensures { D.extent flash.new ≡ D.extent flash.old }
+{
+    let mut launcher = MemoryLauncher::new(alloc, &[])?;
+    ended(alloc, host, flash, &mut launcher, command)
 }
 
 // Whether a boot starts this image alone.
@@ -130,7 +106,7 @@ fn boots<H: Host, D: Disk>(
     ensures { D.extent flash.new ≡ D.extent flash.old }
 {
     let mut launcher = MemoryLauncher::new(alloc, &[])?;
-    let ending = ended(alloc, "run boot", host, flash, &mut launcher)?;
+    let ending = ended(alloc, host, flash, &mut launcher, "run boot")?;
     let stops = slots == Slots::One && is_stopped(ending, &launcher);
     Ok(stops || is_started(ending, &launcher, image))
 }
@@ -144,10 +120,10 @@ fn boots_recorded<H: Host, D: Disk>(
     requires { 49152 ≤ D.extent flash.old }
     ensures { D.extent flash.new ≡ D.extent flash.old }
 {
-    match read_record(alloc, host, flash)? {
-        Recorded::First => boots(alloc, host, flash, b"abc", slots),
-        Recorded::Second => boots(alloc, host, flash, b"abd", slots),
-        Recorded::Neither => Ok(false),
+    match end_of_run(alloc, "run status", host, flash)? {
+        Ending::First => boots(alloc, host, flash, b"abc", slots),
+        Ending::Second => boots(alloc, host, flash, b"abd", slots),
+        _ => Ok(false),
     }
 }
 
@@ -162,7 +138,7 @@ fn installs<H: Host, D: Disk>(
     ensures { D.extent flash.new ≡ D.extent flash.old }
 {
     let mut launcher = MemoryLauncher::new(alloc, &[])?;
-    let ending = ended(alloc, UPDATE, host, flash, &mut launcher)?;
+    let ending = ended(alloc, host, flash, &mut launcher, UPDATE)?;
     Ok(ending == Ending::Installed && are_launched(launcher.launches(), at_once))
 }
 

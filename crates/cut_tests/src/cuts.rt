@@ -2,60 +2,38 @@
 
 ghost use Rattle.std.specs.Prelude.{◌≡◌, ◌≤◌, IfOk, length};
 
-use crate::after::{Slots, goes_on};
-use crate::recorded::{ON_ONE, ON_TWO, UPDATE, goes_unlaunched};
+use crate::after::{Ending, Slots, end_of_run, goes_on};
+use crate::recorded::{ON_ONE, ON_TWO, Sessions, UPDATE, goes_unlaunched};
 use cli_tests::blank;
 use std::alloc::{AllocError, Global};
-use suit_edge::{Disk, FuseDisk, Host, MemoryDisk, MemoryLauncher, MemorySink};
-use update_tests::{status_of, with_files};
+use suit_edge::{FuseDisk, Host, MemoryDisk};
+use update_tests::with_files;
 
 // Which of the writes since the last sync a loss keeps: none, all, and every other one.
 const CHOICES: [u64; 3] = [0, u64::MAX, 0xAAAA_AAAA_AAAA_AAAA];
 
-fn updated_with<H: Host, D: Disk>(
-    alloc: Global,
-    host: &mut H,
-    flash: &mut D,
-    launcher: &mut MemoryLauncher,
-) -> Result<u8, AllocError>
-    requires { 49152 ≤ D.extent flash.old }
-    ensures { D.extent flash.new ≡ D.extent flash.old }
-{
-    let mut sink = MemorySink::new(alloc, &[])?;
-    status_of(alloc, UPDATE, host, flash, launcher, &mut sink)
-}
-
-// The status of the second update.
-fn updated<H: Host, D: Disk>(alloc: Global, host: &mut H, flash: &mut D) -> Result<u8, AllocError>
-    requires { 49152 ≤ D.extent flash.old }
-    ensures { D.extent flash.new ≡ D.extent flash.old }
-{
-    let mut launcher = MemoryLauncher::new(alloc, &[])?;
-    updated_with(alloc, host, flash, &mut launcher)
-}
-
-/// A flash after the second update, and the status of that.
+/// A flash after the second update, and how that ended.
 #[derive(Drop)]
 struct Cut {
     flash: MemoryDisk,
-    status: u8,
+    ending: Ending,
 }
 
 // The second update on a flash that takes so many calls.
 fn cut_after<H: Host>(
     alloc: Global,
-    host: &mut H,
     first: &MemoryDisk,
     passes: u64,
+    host: &mut H,
 ) -> Result<Cut, AllocError>
     requires { 49152 ≤ length first.now.first }
     ensures { IfOk result (λ cut. length cut.flash.first ≡ length first.now.first) }
 {
     let mut fuse = FuseDisk::new(first.after_loss(alloc, 0)?, passes);
-    let status = updated(alloc, host, &mut fuse)?;
+    let ending = end_of_run(alloc, UPDATE, host, &mut fuse)?;
     Ok(Cut {
         flash: fuse.into_disk(),
-        status,
+        ending,
     })
 }
 
@@ -90,19 +68,19 @@ fn survives_each<H: Host>(
     Ok(true)
 }
 
-// The status of the update that takes so many calls of the flash, if all goes on after it.
-fn status_survived<H: Host>(
+// How the update that takes so many calls of the flash ends, if all goes on after it.
+fn ending_survived<H: Host>(
     alloc: Global,
     host: &mut H,
     first: &MemoryDisk,
     passes: u64,
     slots: Slots,
-) -> Result<Option<u8>, AllocError>
+) -> Result<Option<Ending>, AllocError>
     requires { 49152 ≤ length first.now.first }
 {
-    let cut = cut_after(alloc, host, first, passes)?;
+    let cut = cut_after(alloc, first, passes, host)?;
     if survives_each(alloc, host, &cut.flash, slots)? {
-        Ok(Some(cut.status))
+        Ok(Some(cut.ending))
     } else {
         Ok(None)
     }
@@ -111,16 +89,16 @@ fn status_survived<H: Host>(
 // After how many calls the update is done, where each cut before is told as a fault and survived; otherwise none.
 fn calls_survived<H: Host>(
     alloc: Global,
-    host: &mut H,
     first: &MemoryDisk,
+    host: &mut H,
     slots: Slots,
 ) -> Result<u64, AllocError>
     requires { 49152 ≤ length first.now.first }
 {
     for passes in 0..1_000u64 {
-        match status_survived(alloc, host, first, passes, slots)? {
-            Some(0) => return Ok(passes),
-            Some(8) => {}
+        match ending_survived(alloc, host, first, passes, slots)? {
+            Some(Ending::Installed) => return Ok(passes),
+            Some(Ending::FlashFault) => {}
             _ => return Ok(0),
         }
     }
@@ -130,19 +108,19 @@ fn calls_survived<H: Host>(
 fn calls_on<H: Host>(
     alloc: Global,
     host: &mut H,
-    before: &str,
+    before: Sessions,
     slots: Slots,
 ) -> Result<u64, AllocError> {
     let mut first = blank(alloc, &[])?;
-    if goes_unlaunched(alloc, before, host, &mut first)? {
-        calls_survived(alloc, host, &first, slots)
+    if goes_unlaunched(alloc, host, before, &mut first)? {
+        calls_survived(alloc, &first, host, slots)
     } else {
         Ok(0)
     }
 }
 
 // How many calls of the flash the second update makes, if a cut at each is survived.
-fn calls(alloc: Global, before: &str, slots: Slots) -> Result<u64, AllocError> {
+fn calls(alloc: Global, before: Sessions, slots: Slots) -> Result<u64, AllocError> {
     let mut host = with_files(alloc, &[])?;
     calls_on(alloc, &mut host, before, slots)
 }

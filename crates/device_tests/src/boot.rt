@@ -3,12 +3,9 @@
 ghost use Rattle.std.specs.Prelude.{◌≡◌, ◌≤◌};
 
 use crate::init::inits;
-use cli_tests::{AUTHENTIC, DEVICE, KEY, blank, bytes_of, names};
+use cli_tests::{AUTHENTIC, DEVICE, KEY, answers_with, blank, bytes_of};
 use std::alloc::{AllocError, Global};
-use suit_cli::{Status, run};
-use suit_edge::{
-    Disk, Edge, Host, Launcher, Launches, MemoryHost, MemoryLauncher, MemorySink, Sink,
-};
+use suit_edge::{Disk, Edge, Launcher, Launches, MemoryHost, MemoryLauncher};
 
 /// A record page: generation 1, sequence number 1, bank 0, 173 bytes, a digest, and slot 1 of component 0.
 const RECORD: [u8; 99] = [
@@ -17,38 +14,6 @@ const RECORD: [u8; 99] = [
     17, 17, 17, 17, 17, 17, 0, 0, 0, 0, 0, 0, 0, 0, 0, 0, 0, 0, 0, 0, 0, 0, 0, 0, 0, 0, 0, 0, 0, 0,
     0, 0, 0, 0, 0, 0, 0, 0, 1, 0, 0, 0, 0, 0, 0, 0,
 ];
-
-// The status of `run boot` on these objects.
-fn boot_of<H: Host, D: Disk, L: Launcher, K: Sink>(
-    alloc: Global,
-    host: &mut H,
-    flash: &mut D,
-    launcher: &mut L,
-    sink: &mut K,
-) -> Result<u8, AllocError>
-    requires { 49152 ≤ D.extent flash.old }
-    ensures { D.extent flash.new ≡ D.extent flash.old }
-{
-    let words = names(alloc, &["run", "boot"])?;
-    let Status(status) = run(alloc, &words, host, flash, launcher, sink);
-    Ok(status)
-}
-
-// Whether `run boot` with this host answers so.
-fn boots_with<H: Host, D: Disk, L: Launcher>(
-    alloc: Global,
-    host: &mut H,
-    flash: &mut D,
-    launcher: &mut L,
-    says: (u8, &str),
-) -> Result<bool, AllocError>
-    requires { 49152 ≤ D.extent flash.old }
-    ensures { D.extent flash.new ≡ D.extent flash.old }
-{
-    let mut sink = MemorySink::new(alloc, &[])?;
-    let status = boot_of(alloc, host, flash, launcher, &mut sink)?;
-    Ok(status == says.0 && sink.bytes() == says.1.as_bytes())
-}
 
 // Whether `run boot` answers so.
 fn boots<D: Disk, L: Launcher>(
@@ -61,7 +26,7 @@ fn boots<D: Disk, L: Launcher>(
     ensures { D.extent flash.new ≡ D.extent flash.old }
 {
     let mut host = MemoryHost::new(alloc, &[])?;
-    boots_with(alloc, &mut host, flash, launcher, says)
+    answers_with(alloc, &mut host, flash, launcher, &["run", "boot"], says)
 }
 
 // Writes an envelope into bank 0, a record of it, and a content of three bytes into slot 1.
@@ -98,7 +63,7 @@ fn is_ready<D: Disk>(alloc: Global, flash: &mut D) -> Result<bool, AllocError>
     requires { 49152 ≤ D.extent flash.old }
     ensures { D.extent flash.new ≡ D.extent flash.old }
 {
-    inits(alloc, DEVICE, &KEY, flash, (0, "ready\n"))
+    inits(alloc, DEVICE, flash, (0, "ready\n"), &KEY)
 }
 
 // Whether a boot of what is formatted and installed answers so.
@@ -136,8 +101,8 @@ fn starts_nothing<D: Disk, L: Launcher>(
 
 // Whether a boot of the formatted flash ends once the envelope is installed.
 fn ends<D: Disk, L: Launcher>(
-    alloc: Global,
     flash: &mut D,
+    alloc: Global,
     launcher: &mut L,
 ) -> Result<bool, AllocError>
     requires { 65536 ≤ D.extent flash.old }
@@ -163,7 +128,7 @@ fn what_is_installed_is_launched(rt: HostRuntime) -> Result<(), AllocError> {
     let mut launcher = MemoryLauncher::new(rt.alloc(), &[])?;
     assert!(rt; starts_nothing(rt.alloc(), &mut flash, &mut launcher)?);
     assert!(rt; launcher.launches().is_empty());
-    assert!(rt; ends(rt.alloc(), &mut flash, &mut launcher)?);
+    assert!(rt; ends(&mut flash, rt.alloc(), &mut launcher)?);
     assert!(rt; is_launched(launcher.launches()));
     Ok(())
 }

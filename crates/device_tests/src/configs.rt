@@ -12,15 +12,15 @@ const BAD: (u8, &str) = (13, "bad config\n");
 // Whether the command answers so on this flash.
 fn says<D: Disk>(
     alloc: Global,
-    command: &str,
     flash: &mut D,
+    command: &str,
     answer: (u8, &str),
 ) -> Result<bool, AllocError>
     requires { 49152 ≤ D.extent flash.old }
     ensures { D.extent flash.new ≡ D.extent flash.old }
 {
     let mut host = MemoryHost::new(alloc, &[])?;
-    answers(alloc, &["run", command], &mut host, flash, answer)
+    answers(alloc, &["run", command], &mut host, answer, flash)
 }
 
 // The gate is open over a page of another version.
@@ -28,11 +28,11 @@ fn says<D: Disk>(
 fn a_damaged_configuration_is_told(rt: HostRuntime) -> Result<(), AllocError> {
     let alloc = rt.alloc();
     let mut flash = blank(alloc, &[])?;
-    assert!(rt; inits(alloc, DEVICE, &KEY, &mut flash, (0, "ready\n"))?);
+    assert!(rt; inits(alloc, DEVICE, &mut flash, (0, "ready\n"), &KEY)?);
     assert!(rt; flash.write_at(1, &[2]) == Edge::Done);
-    assert!(rt; says(alloc, "status", &mut flash, BAD)?);
-    assert!(rt; says(alloc, "boot", &mut flash, BAD)?);
-    assert!(rt; inits(alloc, DEVICE, &KEY, &mut flash, (14, "not blank\n"))?);
+    assert!(rt; says(alloc, &mut flash, "status", BAD)?);
+    assert!(rt; says(alloc, &mut flash, "boot", BAD)?);
+    assert!(rt; inits(alloc, DEVICE, &mut flash, (14, "not blank\n"), &KEY)?);
     Ok(())
 }
 
@@ -43,7 +43,7 @@ fn inits_followed(alloc: Global, blanks: usize, answer: (u8, &str)) -> Result<bo
         device.push_str(" ")?;
     }
     let mut flash = blank(alloc, &[])?;
-    inits(alloc, device.as_str(), &KEY, &mut flash, answer)
+    inits(alloc, device.as_str(), &mut flash, answer, &KEY)
 }
 
 #[test]

@@ -10,9 +10,9 @@ use suit_edge::{Disk, MemoryHost};
 pub(crate) fn inits<D: Disk>(
     alloc: Global,
     device: &str,
-    key: &[u8],
     flash: &mut D,
     says: (u8, &str),
+    key: &[u8],
 ) -> Result<bool, AllocError>
     requires { 49152 ≤ D.extent flash.old }
     ensures { D.extent flash.new ≡ D.extent flash.old }
@@ -20,7 +20,7 @@ pub(crate) fn inits<D: Disk>(
     let mut host = MemoryHost::new(alloc, &[])?;
     host.add("d", device.as_bytes())?;
     host.add("k", key)?;
-    answers(alloc, &["run", "init", "d", "k"], &mut host, flash, says)
+    answers(alloc, &["run", "init", "d", "k"], &mut host, says, flash)
 }
 
 /// A description, and what comes of it.
@@ -84,9 +84,9 @@ fn is_judged(alloc: Global, row: &Row) -> Result<bool, AllocError> {
     inits(
         alloc,
         row.device,
-        b"key",
         &mut flash,
         (row.status, row.text),
+        b"key",
     )
 }
 
@@ -102,8 +102,8 @@ fn descriptions_are_judged(rt: HostRuntime) -> Result<(), AllocError> {
 fn a_flash_is_formatted_once(rt: HostRuntime) -> Result<(), AllocError> {
     let alloc = rt.alloc();
     let mut flash = blank(alloc, &[])?;
-    assert!(rt; inits(alloc, DEVICE, b"key", &mut flash, (0, "ready\n"))?);
-    assert!(rt; inits(alloc, DEVICE, b"key", &mut flash, (14, "not blank\n"))?);
+    assert!(rt; inits(alloc, DEVICE, &mut flash, (0, "ready\n"), b"key")?);
+    assert!(rt; inits(alloc, DEVICE, &mut flash, (14, "not blank\n"), b"key")?);
     Ok(())
 }
 
@@ -111,7 +111,7 @@ fn a_flash_is_formatted_once(rt: HostRuntime) -> Result<(), AllocError> {
 fn takes_key(alloc: Global, length: usize, says: (u8, &str)) -> Result<bool, AllocError> {
     let key = vec![in alloc; 1u8; length]?;
     let mut flash = blank(alloc, &[])?;
-    inits(alloc, DEVICE, key.as_slice(), &mut flash, says)
+    inits(alloc, DEVICE, &mut flash, says, key.as_slice())
 }
 
 #[test]
@@ -125,7 +125,7 @@ fn a_key_has_1_to_64_bytes(rt: HostRuntime) -> Result<(), AllocError> {
 // Whether a call of the flash that fails is told.
 fn tells_fault(alloc: Global, call: u64) -> Result<bool, AllocError> {
     let mut flash = blank(alloc, &[call])?;
-    inits(alloc, DEVICE, b"key", &mut flash, (8, "flash fault\n"))
+    inits(alloc, DEVICE, &mut flash, (8, "flash fault\n"), b"key")
 }
 
 #[test]

@@ -21,14 +21,14 @@ fn boots<D: Disk>(alloc: Global, flash: &mut D, says: (u8, &str)) -> Result<bool
     ensures { D.extent flash.new ≡ D.extent flash.old }
 {
     let mut host = MemoryHost::new(alloc, &[])?;
-    answers(alloc, &["run", "boot"], &mut host, flash, says)
+    answers(alloc, &["run", "boot"], &mut host, says, flash)
 }
 
 fn is_refused<D: Disk>(alloc: Global, flash: &mut D) -> Result<bool, AllocError>
     requires { 49152 ≤ D.extent flash.old }
 {
     Ok(
-        inits(alloc, DEVICE, &KEY, flash, (0, "ready\n"))?
+        inits(alloc, DEVICE, flash, (0, "ready\n"), &KEY)?
             && boots(alloc, flash, (15, "nothing installed\n"))?
             && flash.write_at(4_096, &NO_ENVELOPE) == Edge::Done
             && boots(alloc, flash, (3, "refused at 0: truncated\n"))?,

@@ -19,7 +19,7 @@ const RECORD: [u8; 99] = [
     0, 0, 0, 0, 0, 0, 0, 0, 1, 0, 0, 0, 0, 0, 0, 0,
 ];
 
-/// What is told of them, where slot 1 holds three bytes.
+/// The lines for them, where slot 1 holds three bytes.
 const LINES: &str =
     "sequence 5\ngeneration 7\nbank 1\ndigest 1111111111111111111111111111111111111111111111111111111111111111\ncomponent 0 slot 1 length 3\ncomponent 1 ram\n";
 
@@ -29,7 +29,7 @@ fn tells<D: Disk>(alloc: Global, flash: &mut D, says: (u8, &str)) -> Result<bool
     ensures { D.extent flash.new ≡ D.extent flash.old }
 {
     let mut host = MemoryHost::new(alloc, &[])?;
-    answers(alloc, &["run", "status"], &mut host, flash, says)
+    answers(alloc, &["run", "status"], &mut host, says, flash)
 }
 
 // Writes the record page, and the length of the content of slot 1.
@@ -46,7 +46,7 @@ fn is_told<D: Disk>(alloc: Global, flash: &mut D) -> Result<bool, AllocError>
     requires { 65536 ≤ D.extent flash.old }
 {
     Ok(
-        inits(alloc, DEVICE, b"key", flash, (0, "ready\n"))?
+        inits(alloc, DEVICE, flash, (0, "ready\n"), b"key")?
             && tells(alloc, flash, (15, "nothing installed\n"))?
             && install(flash)
             && tells(alloc, flash, (0, LINES))?,

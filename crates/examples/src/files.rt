@@ -1,4 +1,4 @@
-//! What a session does with files beside the program.
+//! The file steps of a session, beside the program.
 
 use crate::memory::told;
 use det_cbor::Bytes;

@@ -3,7 +3,7 @@
 use det_cbor::{Names, Text};
 use std::alloc::{AllocError, Global};
 
-/// What a line of a session asks for.
+/// A step of a session, by its line.
 pub(crate) enum Step {
     /// No words.
     Empty,

@@ -6,7 +6,7 @@ use std::alloc::Global;
 
 const SIZE: u64 = 65536;
 
-// What a text of JSON describes.
+// The layout that a JSON text describes.
 fn described(alloc: Global, json: &str) -> Result<Layout, LayoutFault> {
     match Value::from_str(alloc, json) {
         Ok(value) => layout_of(alloc, &value, SIZE),

@@ -3,14 +3,4 @@
 #![tactic(auto)]
 
 #[cfg(test)]
-mod commands;
-#[cfg(test)]
-mod envelope;
-#[cfg(test)]
-mod mac;
-#[cfg(test)]
-mod manifest;
-#[cfg(test)]
-mod refusals;
-#[cfg(test)]
-mod steps;
+mod tests;

@@ -2,12 +2,4 @@
 #![tactic(auto)]
 
 #[cfg(test)]
-mod all_runs;
-#[cfg(test)]
-mod cover;
-#[cfg(test)]
-mod same_events;
-#[cfg(test)]
-mod small_plans;
-#[cfg(test)]
-mod worked_plans;
+mod tests;

@@ -9,43 +9,30 @@ pub struct Fails<'a> {
     pub sink: &'a [u64],
 }
 
-const NONE: Fails<'static> = Fails {
-    host: &[],
-    flash: &[],
-    launcher: &[],
-    sink: &[],
-};
+/// The objects that a run is given.
+#[derive(Clone, Copy)]
+pub enum Object {
+    Host,
+    Flash,
+    Launcher,
+    Sink,
+}
 
 impl<'a> Fails<'a> {
-    /// These calls of the host.
-    pub fn of_host(calls: &'a [u64]) -> Fails<'a> {
-        Fails {
-            host: calls,
-            ..NONE
+    /// These calls of one object.
+    pub fn of(object: Object, calls: &'a [u64]) -> Fails<'a> {
+        let mut fails = Fails {
+            host: &[],
+            flash: &[],
+            launcher: &[],
+            sink: &[],
+        };
+        match object {
+            Object::Host => fails.host = calls,
+            Object::Flash => fails.flash = calls,
+            Object::Launcher => fails.launcher = calls,
+            Object::Sink => fails.sink = calls,
         }
-    }
-
-    /// These calls of the flash.
-    pub fn of_flash(calls: &'a [u64]) -> Fails<'a> {
-        Fails {
-            flash: calls,
-            ..NONE
-        }
-    }
-
-    /// These launches.
-    pub fn of_launcher(calls: &'a [u64]) -> Fails<'a> {
-        Fails {
-            launcher: calls,
-            ..NONE
-        }
-    }
-
-    /// These calls of the sink.
-    pub fn of_sink(calls: &'a [u64]) -> Fails<'a> {
-        Fails {
-            sink: calls,
-            ..NONE
-        }
+        fails
     }
 }

@@ -3,24 +3,14 @@
 #![tactic(auto)]
 
 mod fails;
+mod faults;
 mod files;
 mod session;
 
-pub use fails::Fails;
+pub use fails::{Fails, Object};
+pub use faults::fault_with;
 pub use files::with_files;
-pub use session::{are_launched, goes_so, status_of};
+pub use session::{BEGUN, are_launched, goes_after, status_of};
 
 #[cfg(test)]
-mod accepted;
-#[cfg(test)]
-mod failing;
-#[cfg(test)]
-mod goes;
-#[cfg(test)]
-mod installed;
-#[cfg(test)]
-mod refused;
-#[cfg(test)]
-mod stopped;
-#[cfg(test)]
-mod untold;
+mod tests;

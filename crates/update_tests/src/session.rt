@@ -2,31 +2,59 @@
 
 ghost use Rattle.std.specs.Prelude.{◌≡◌, ◌≤◌};
 
+use cli_tests::bytes_of;
 use det_cbor::{Bytes, Names, Text};
 use sha2::{Digest, Sha256};
 use std::alloc::{AllocError, Global};
 use suit_cli::{Status, run};
-use suit_edge::{Disk, Host, Launch, Launcher, Launches, MemorySink, Sink};
+use suit_edge::{Disk, Edge, Host, Launch, Launcher, Launches, MemorySink, Sink};
+
+/// A flash is formatted, and an update is made.
+pub const BEGUN: &str = "run init d k
+0
+ready
+
+make 1.json k 1.suit
+0
+made 175";
+
+/// The output of `run status` after the first update. A row names these lines `FIRST UPDATE`.
+const FIRST_UPDATE: &str = "sequence 1
+generation 1
+bank 0
+digest 2ede1de95a655c3dae8ceff0cb6a7dab3112f7110678df0ef8653bf63c795c99
+component 0 slot 1 length 3";
+
+// Where the first record page stands, and its length.
+const FIRST_RECORD: u64 = 4_096;
+
+const RECORD_BYTES: usize = 99;
 
 /// A command, and what it ends with.
 #[derive(Clone, Copy)]
 struct Row<'a> {
     command: &'a str,
     status: u8,
-    /// The lines that are put, without the end of the last one.
-    lines: &'a str,
+    /// The lines that are put, without the end of the last one; none where the sink fails.
+    lines: Option<&'a str>,
 }
 
 // The row of this text: the command, the status, and what is put.
 fn row_of(text: &str) -> Option<Row<'_>> {
     let (command, rest) = text.split_once('\n')?;
-    let (status, lines) = rest.split_once('\n')?;
-    let status = status.parse::<u8>().ok()?;
-    Some(Row {
-        command,
-        status,
-        lines,
-    })
+    let (digits, lines) = match rest.split_once('\n') {
+        Some((digits, "FIRST UPDATE")) => (digits, Some(FIRST_UPDATE)),
+        Some((digits, lines)) => (digits, Some(lines)),
+        None => (rest, None),
+    };
+    match digits.parse::<u8>() {
+        Ok(status) => Some(Row {
+            command,
+            status,
+            lines,
+        }),
+        Err(_) => None,
+    }
 }
 
 // The words of a command.
@@ -41,10 +69,10 @@ fn words_of(alloc: Global, command: &str) -> Result<Names, AllocError> {
 /// The status of a run of this command.
 pub fn status_of<H: Host, D: Disk, L: Launcher, K: Sink>(
     alloc: Global,
-    command: &str,
     host: &mut H,
     flash: &mut D,
     launcher: &mut L,
+    command: &str,
     sink: &mut K,
 ) -> Result<u8, AllocError>
     requires { 49152 ≤ D.extent flash.old }
@@ -56,36 +84,57 @@ pub fn status_of<H: Host, D: Disk, L: Launcher, K: Sink>(
 }
 
 // Whether these lines were put.
-fn are_put(put: &[u8], lines: &str) -> bool {
-    match put.strip_suffix(b"\n") {
-        Some(text) => text == lines.as_bytes(),
-        None => false,
+fn are_put(put: &[u8], lines: Option<&str>) -> bool {
+    match (put.strip_suffix(b"\n"), lines) {
+        (Some(text), Some(lines)) => text == lines.as_bytes(),
+        (None, None) => put.is_empty(),
+        _ => false,
     }
 }
 
-// Whether a run of the row's command ends so.
+// The calls of the sink that fail in a row.
+fn sink_fails(row: &Row<'_>) -> &'static [u64] {
+    match row.lines {
+        Some(_) => &[],
+        None => &[0],
+    }
+}
+
+// Writes a record page in hexadecimal to bank 0 of the records.
+fn writes_record<D: Disk>(alloc: Global, digits: &str, flash: &mut D) -> Result<bool, AllocError>
+    requires { 49152 ≤ D.extent flash.old }
+    ensures { D.extent flash.new ≡ D.extent flash.old }
+{
+    let page = bytes_of(alloc, digits)?;
+    Ok(page.len() == RECORD_BYTES && flash.write_at(FIRST_RECORD, page.as_slice()) == Edge::Done)
+}
+
+// Whether a run of the row's command ends so. The command `record` writes a record page.
 fn ends_so<H: Host, D: Disk, L: Launcher>(
     alloc: Global,
-    row: Row<'_>,
     host: &mut H,
     flash: &mut D,
     launcher: &mut L,
+    row: &Row<'_>,
 ) -> Result<bool, AllocError>
     requires { 49152 ≤ D.extent flash.old }
     ensures { D.extent flash.new ≡ D.extent flash.old }
 {
-    let mut sink = MemorySink::new(alloc, &[])?;
-    let status = status_of(alloc, row.command, host, flash, launcher, &mut sink)?;
+    if let Some(digits) = row.command.strip_prefix("record ") {
+        return writes_record(alloc, digits, flash);
+    }
+    let mut sink = MemorySink::new(alloc, sink_fails(row))?;
+    let status = status_of(alloc, host, flash, launcher, row.command, &mut sink)?;
     Ok(status == row.status && are_put(sink.bytes(), row.lines))
 }
 
-/// Whether each row of a session goes so. Between two rows there is an empty line.
-pub fn goes_so<H: Host, D: Disk, L: Launcher>(
+// Whether each row of a session goes so. Between two rows there is an empty line.
+fn goes_so<H: Host, D: Disk, L: Launcher>(
     alloc: Global,
-    session: &str,
     host: &mut H,
     flash: &mut D,
     launcher: &mut L,
+    session: &str,
 ) -> Result<bool, AllocError>
     requires { 49152 ≤ D.extent flash.old }
     ensures { D.extent flash.new ≡ D.extent flash.old }
@@ -94,11 +143,28 @@ pub fn goes_so<H: Host, D: Disk, L: Launcher>(
         let Some(row) = row_of(text) else {
             return Ok(false);
         };
-        if !ends_so(alloc, row, host, flash, launcher)? {
+        if !ends_so(alloc, host, flash, launcher, &row)? {
             return Ok(false);
         }
     }
     Ok(true)
+}
+
+/// Whether a session goes so, and then another one.
+pub fn goes_after<H: Host, D: Disk, L: Launcher>(
+    alloc: Global,
+    host: &mut H,
+    flash: &mut D,
+    launcher: &mut L,
+    sessions: (&str, &str),
+) -> Result<bool, AllocError>
+    requires { 49152 ≤ D.extent flash.old }
+    ensures { D.extent flash.new ≡ D.extent flash.old }
+{
+    Ok(
+        goes_so(alloc, host, flash, launcher, sessions.0)?
+            && goes_so(alloc, host, flash, launcher, sessions.1)?,
+    )
 }
 
 // Whether the digest of this image is named.

@@ -1,5 +1,5 @@
-//! What comes first of two stages, and faults in each byte string that holds CBOR. The envelopes were written by another
-//! program; what is said of each was worked out from the format.
+//! Which of two stages comes first, and faults in each byte string that holds CBOR. The envelopes were written by
+//! another program; the answer to each was worked out from the format.
 
 /// Members before widths, widths before paths, and the update before the invocation; then single faults.
 pub(crate) const REFUSED_IN_TURN: &str = "an update that invokes, and an invocation too wide

@@ -11,9 +11,9 @@ use std::alloc::{AllocError, Global};
 use std::fs;
 use suit_edge::{Disk, Edge, FileDisk, FuseDisk, MemoryDisk, write_gated};
 
-const SIZE: usize = 64;
+pub(super) const SIZE: usize = 64;
 
-const PLACE: u64 = 40;
+pub(super) const PLACE: u64 = 40;
 
 const NAME: &str = "suit.flash";
 
@@ -60,7 +60,7 @@ fn with_old_page(alloc: Global) -> Result<MemoryDisk, AllocError>
 }
 
 // The same, whose power goes after so many calls.
-fn with_fuse(alloc: Global, passes: u64) -> Result<FuseDisk, AllocError>
+pub(super) fn with_fuse(alloc: Global, passes: u64) -> Result<FuseDisk, AllocError>
     ensures size { IfOk result (λ fuse. length fuse.disk.first ≡ SIZE) }
     ensures firm { IfOk result (λ fuse. IsFirmOn (InSome (page_at 40 41 4)) (memory_flash fuse.disk)) }
 {
@@ -69,7 +69,11 @@ fn with_fuse(alloc: Global, passes: u64) -> Result<FuseDisk, AllocError>
 }
 
 // The content after a power loss.
-fn left_of(disk: &MemoryDisk, alloc: Global, choice: u64) -> Result<[u8; SIZE], AllocError>
+pub(super) fn left_of(
+    disk: &MemoryDisk,
+    alloc: Global,
+    choice: u64,
+) -> Result<[u8; SIZE], AllocError>
     requires { length disk.now.first ≡ SIZE }
 {
     let mut left = disk.after_loss(alloc, choice)?;

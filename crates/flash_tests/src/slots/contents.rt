@@ -20,7 +20,7 @@ const OLD_DIGEST: [u8; 32] = [
     0x5E, 0x77, 0x4C, 0x51, 0x7A, 0x7D, 0x91, 0x0A, 0x54, 0x36, 0x9E, 0x12, 0x63, 0xCC, 0xFB, 0xD4,
 ];
 
-// What a loss keeps of the pending writes: none, all, and each second one.
+// Which pending writes a loss keeps: none, all, or every second one.
 const CHOICES: [u64; 3] = [0, u64::MAX, 0xAAAA_AAAA_AAAA_AAAA];
 
 // Makes five bytes the content, in two pieces.

@@ -1,0 +1,7 @@
+//! The tests.
+
+mod cbor;
+mod json;
+mod params;
+mod rows;
+mod words;

@@ -1,0 +1,31 @@
+//! The fields of table rows.
+
+use det_cbor::Reason;
+use std::alloc::{AllocError, Global};
+
+/// The bytes of a text in hexadecimal. Another text is an error.
+pub(crate) fn bytes_of(alloc: Global, text: &str) -> Result<Vec<u8>, AllocError> {
+    match hex::decode(alloc, text) {
+        Ok(bytes) => Ok(bytes),
+        Err(_) => Err(AllocError),
+    }
+}
+
+/// Whether these are the digits of the number.
+pub(crate) fn is_number(digits: &str, number: u64) -> bool {
+    digits.parse::<u64>().is_ok_and(|found| found == number)
+}
+
+/// The name of a reason in a row.
+pub(crate) fn name_of(reason: Reason) -> &'static str {
+    match reason {
+        Reason::Truncated => "truncated",
+        Reason::Indefinite => "indefinite",
+        Reason::Kind => "kind",
+        Reason::NotShortest => "not-shortest",
+        Reason::TooDeep => "too-deep",
+        Reason::BadText => "bad-text",
+        Reason::Repeated => "repeated",
+        Reason::Order => "order",
+    }
+}

@@ -1,0 +1,8 @@
+//! The tests.
+
+mod accepted;
+mod failing;
+mod goes;
+mod installed;
+mod refused;
+mod stopped;
