@@ -1,4 +1,4 @@
--- What is judged of a manifest anywhere holds of it in the trimmed envelope.
+-- A judgement of a manifest anywhere holds of it in the trimmed envelope.
 use Rattle.std.proofs.Common.{◌≡◌, ◌≤◌, ℕ, List, [], refl, sym, ap, subst, ◌∙◌, arith}
 use Rattle.det_cbor.specs.ResultLaws.{same_ok}
 use Rattle.suit_envelope.specs.EnvelopeLaws.{EnvelopeLaws}
@@ -26,8 +26,8 @@ trimmed_are_bytes wrapper manifest first second =
     let pairs = all_append _ _ (head_are_bytes 0 2 (omega arith)) (all_append _ _ (string_are_bytes wrapper first) (all_append _ _ (head_are_bytes 0 3 (omega arith)) last)) in
     all_append _ _ (head_are_bytes 6 107 (omega arith)) (all_append _ _ (head_are_bytes 5 2 (omega arith)) pairs)
 
-pub installed_anywhere : EnvelopeLaws → InstalledAnywhere
-installed_anywhere laws layout key file envelope r says is =
+pub installation_laws : EnvelopeLaws → InstalledAnywhere
+installation_laws laws layout key file envelope r says is =
     let wrapper : List ℕ = envelope.wrapper in
     let manifest : List ℕ = envelope.manifest in
     let strings = laws.strings file envelope says in

@@ -32,7 +32,7 @@ RunsLike a b = (s : State) (es : List Event) (e : Ending) → a s es e → Happe
 pub likewise : (course : Course) (es : List Event) (e : Ending) → course es e → HappensLike course es e
 likewise course es e happens = record { told = es; end = e; happens = happens; events_alike = events_self es; ends_alike = ends_self e }
 
--- what is known of the events and the ending
+-- known events and a known ending
 pub like_known : (course : Course) (es hs bs : List Event) (e f g : Ending) → es ≡ hs → e ≡ f → course bs g → EventsAlike hs bs → EndsAlike f g → HappensLike course es e
 like_known course es hs bs e f g is end happens alike ends = record {
   told = bs;

@@ -1,4 +1,4 @@
--- What stands in maps and byte strings moves with them.
+-- The contents of maps and byte strings move with them.
 use Rattle.std.proofs.Common.{◌≡◌, ℕ, ◌+◌, Bool, true, List, [], ◌∷◌, length, Option, Some, None, refl, sym, ap, subst, ◌∙◌}
 use Rattle.std.specs.Prelude.{option_map, ◌||◌}
 use Rattle.std.specs.List.{AllByRecursion}

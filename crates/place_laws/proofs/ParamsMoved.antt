@@ -1,4 +1,4 @@
--- What a map says as parameters it says at each place.
+-- A map says the same parameters at each place.
 use Rattle.std.proofs.Common.{ℕ, List}
 use Rattle.det_cbor.specs.DataItem.{DataItem, DataPairs}
 use Rattle.suit_params.specs.declared.param.Param.{Param}

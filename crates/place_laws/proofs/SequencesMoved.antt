@@ -8,7 +8,7 @@ use Rattle.suit_commands.specs.Tree.{CommandTree, Test, Act, Index, Override, Tr
 use Rattle.suit_commands.specs.declared.selection.Selection.TheVariants.{One, All, Listed}
 use Rattle.place_laws.proofs.ParamsMoved.{params_moved}
 
--- what byte strings hold, at so many levels
+-- the contents of byte strings, at so many levels
 abbrev InnerMoves : Bool → ℕ → ℕ → Type 0
 InnerMoves shared count levels =
     (p q : ℕ) (content : List ℕ) (s : SequenceTree) → SaysInner shared count levels p content s

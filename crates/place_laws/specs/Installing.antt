@@ -1,4 +1,4 @@
--- What is judged of a manifest where it stands in an envelope holds of it in the trimmed envelope.
+-- A judgement of a manifest where it stands in an envelope holds of it in the trimmed envelope.
 use Rattle.std.specs.Prelude.{◌≡◌, ◌≤◌, ℕ, List}
 use Rattle.suit_params.specs.Refusing.{SaysWhole}
 use Rattle.suit_commands.specs.Numbers.{width_number}

@@ -1,4 +1,4 @@
--- What an item says at one place it says at each other place, places apart.
+-- An item says the same at each place, places apart.
 use Rattle.std.specs.Prelude.{ℕ, List}
 use Rattle.det_cbor.specs.DataItem.{DataItem}
 use Rattle.suit_params.specs.Refusing.{SaysWhole}

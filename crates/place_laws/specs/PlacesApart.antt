@@ -1,4 +1,4 @@
--- What is equal places apart: manifests, procedures and events. Places are those of commands in the envelope.
+-- Equality places apart: of manifests, procedures and events. Places are those of commands in the envelope.
 use Rattle.std.specs.Prelude.{◌≡◌, List, [], ◌∷◌}
 use Rattle.suit_commands.specs.Tree.{PlanTree}
 use Rattle.suit_commands.specs.SequenceMaking.{unplaced}

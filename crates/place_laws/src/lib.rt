@@ -3,4 +3,4 @@
 
 mod law;
 
-pub use law::{installed_anywhere, place_laws};
+pub use law::{installation_laws, place_laws};

@@ -10,14 +10,14 @@ use Rattle.suit_params.specs.Refusing.{refused, SaysHeld, RefusesHeld, Here, Lat
 use Rattle.suit_params.specs.Params.{pairs_place, IsMap}
 use Rattle.suit_params.specs.Judging.{judge_held, judge_each}
 use Rattle.suit_params.specs.JudgingLaws.{Judges}
-use Rattle.suit_params.specs.HeldLaws.{held_judges, Anything, all_anything, each_ok, each_again, each_err, each_refused}
+use Rattle.suit_params.specs.HeldLaws.{held_judges}
 use Rattle.suit_commands.specs.Sequences.{SaysSequence}
 use Rattle.suit_commands.specs.SequenceFaults.{RefusesSequence}
 use Rattle.suit_commands.specs.SequenceJudging.{judge_sequence}
 use Rattle.suit_commands.specs.Tree.{SequenceTree}
 use Rattle.suit_commands.proofs.SequenceJudging.{sequence_judges}
 use Rattle.suit_envelope.specs.Envelopes.{Entry, has_key, RefusesLack, LacksKey as Lack}
-use Rattle.suit_manifest.specs.Maps.{entries_of, IsKeyAmong, entry_under, SaysUnder, MaySayUnder, RefusesOtherKey, NoMap, BadKey, LacksKey, BadValue}
+use Rattle.suit_manifest.specs.Maps.{entries_of, IsKeyAmong, entry_under, SaysUnder, MaySayUnder, NoMap, BadKey, LacksKey, BadValue}
 use Rattle.suit_manifest.specs.Common.{CommonSays, common_keys, SaysShared, IsCommon, RefusesCommonValues, BadIdentifiers, BadShared, RefusesCommon}
 use Rattle.suit_manifest.specs.Components.{IsComponents, RefusesComponents}
 use Rattle.suit_manifest.specs.ComponentsJudging.{judge_components}
@@ -25,7 +25,7 @@ use Rattle.suit_manifest.specs.MapReading.{judge_entry, needed, judge_at, may}
 use Rattle.suit_manifest.specs.CommonReading.{judge_shared, judge_common_values, judge_common_pairs, judge_common}
 use Rattle.suit_manifest.proofs.Arrays.{by_map}
 use Rattle.suit_manifest.proofs.ComponentsJudging.{components_judge}
-use Rattle.suit_manifest.proofs.MapLaws.{keys_judge, none_lacks, some_has, lacks_none, needed_ok, needed_err, Fits, entries_fit, at_ok, at_err, need_again, need_refused, may_ok, may_again, may_err, may_refused}
+use Rattle.suit_manifest.proofs.MapLaws.{known_ok, known_again, known_err, known_refused, none_lacks, some_has, lacks_none, needed_ok, needed_err, Fits, entries_fit, at_ok, at_err, need_again, need_refused, may_ok, may_again, may_err, may_refused}
 
 -- a byte string that holds a sequence, for so many components
 pub held_sequence_judges : (shared : Bool) (count : ℕ) → Judges (judge_held (judge_sequence shared count 7)) (SaysHeld (SaysSequence shared count 8)) (RefusesHeld (RefusesSequence shared count 8))
@@ -119,32 +119,26 @@ lack_refused place es r (Later n rest s has later) = absurd (nothing later)
 pub pairs_fit : (levels place : ℕ) (pairs : DataPairs) → IsValidWithin levels (MapOf pairs) → AllByRecursion (Fits (levels + 1)) (entries_of place pairs)
 pairs_fit levels place pairs valid = entries_fit (levels + 1) (pairs_place place pairs) None pairs valid.2
 
-known_ok : (es : List Entry) → judge_each (judge_entry common_keys) es ≡ Ok tt → Known es
-known_ok es e = each_ok Anything (judge_entry common_keys) (IsKeyAmong common_keys) (RefusesOtherKey common_keys) (keys_judge common_keys) es (all_anything es) e
-
-known_again : (es : List Entry) → Known es → judge_each (judge_entry common_keys) es ≡ Ok tt
-known_again es known = each_again Anything (judge_entry common_keys) (IsKeyAmong common_keys) (RefusesOtherKey common_keys) (keys_judge common_keys) es known
-
 common_ok : (levels place : ℕ) (x : DataItem) (said : CommonSays) → IsValidWithin levels x → judge_common place x ≡ Ok said → IsCommon place x said
 common_ok levels place x said valid e =
     by_map CommonSays (λ (y : DataItem). IsValidWithin levels y → judge_common place y ≡ Ok said → IsCommon place y said)
     (λ pairs v f. let es = entries_of place pairs in bind_ok (judge_each (judge_entry common_keys) es) _ said f (λ done done-is g.
     let so = values_ok (levels + 1) place es said (pairs_fit levels place pairs v) g in
-    record { map = record { pairs = pairs; is = refl; known = known_ok es done-is; complete = (some_has 2 es so.components.entry so.components.there, tt) }; components = so.components; shared = so.shared }))
+    record { map = record { pairs = pairs; is = refl; known = known_ok common_keys es done-is; complete = (some_has 2 es so.components.entry so.components.there, tt) }; components = so.components; shared = so.shared }))
     (λ y o v f. let never = sym (o.judged judge_common_pairs place) ∙ f in absurd cc)
     x valid e
 
 common_again : (place : ℕ) (x : DataItem) (said : CommonSays) → IsCommon place x said → judge_common place x ≡ Ok said
 common_again place x said so =
     let es = entries_of place so.map.pairs in
-    ap (judge_common place) so.map.is ∙ rw (known_again es so.map.known) (values_again place es said (record { components = so.components; shared = so.shared }))
+    ap (judge_common place) so.map.is ∙ rw (known_again common_keys es so.map.known) (values_again place es said (record { components = so.components; shared = so.shared }))
 
 common_err : (levels place : ℕ) (x : DataItem) (r : Refusal) → IsValidWithin levels x → judge_common place x ≡ Err r → RefusesCommon place x r
 common_err levels place x r valid e =
     by_map CommonSays (λ (y : DataItem). IsValidWithin levels y → judge_common place y ≡ Err r → RefusesCommon place y r)
     (λ pairs v f. let es = entries_of place pairs in bind_err (judge_each (judge_entry common_keys) es) _ r f
-    (λ g. BadKey pairs r (each_err Anything (judge_entry common_keys) (IsKeyAmong common_keys) (RefusesOtherKey common_keys) (keys_judge common_keys) es r (all_anything es) g))
-    (λ done done-is g. by_bad pairs (known_ok es done-is) (values_err (levels + 1) place es r (pairs_fit levels place pairs v) g)))
+    (λ g. BadKey pairs r (known_err common_keys es r g))
+    (λ done done-is g. by_bad pairs (known_ok common_keys es done-is) (values_err (levels + 1) place es r (pairs_fit levels place pairs v) g)))
     (λ y o v f. subst (RefusesCommon place y) (same_err _ r (sym (o.judged judge_common_pairs place) ∙ f)) (NoMap y o.other))
     x valid e
   where
@@ -155,9 +149,9 @@ common_err levels place x r valid e =
 common_refused : (place : ℕ) (x : DataItem) (r : Refusal) → RefusesCommon place x r → judge_common place x ≡ Err r
 common_refused place x r (NoMap y other) =
     by_map CommonSays (λ (z : DataItem). (IsMap z → ⊥) → judge_common place z ≡ Err (refused place Shape)) (λ pairs f. absurd (f tt)) (λ z o f. o.judged judge_common_pairs place) y other
-common_refused place x r (BadKey pairs s bad) = rw (each_refused Anything (judge_entry common_keys) (IsKeyAmong common_keys) (RefusesOtherKey common_keys) (keys_judge common_keys) (entries_of place pairs) s bad) refl
-common_refused place x r (LacksKey pairs s known lacks) = rw (known_again (entries_of place pairs) known) (lack_refused place (entries_of place pairs) s lacks)
-common_refused place x r (BadValue pairs s known complete bad) = rw (known_again (entries_of place pairs) known) (values_refused place (entries_of place pairs) s bad)
+common_refused place x r (BadKey pairs s bad) = rw (known_refused common_keys (entries_of place pairs) s bad) refl
+common_refused place x r (LacksKey pairs s known lacks) = rw (known_again common_keys (entries_of place pairs) known) (lack_refused place (entries_of place pairs) s lacks)
+common_refused place x r (BadValue pairs s known complete bad) = rw (known_again common_keys (entries_of place pairs) known) (values_refused place (entries_of place pairs) s bad)
 
 pub common_judges : Judges judge_common IsCommon RefusesCommon
 common_judges = record { ok = common_ok; again = common_again; err = common_err; refuses = common_refused }

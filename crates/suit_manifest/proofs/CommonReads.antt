@@ -7,13 +7,13 @@ use Rattle.det_cbor.specs.HeadReading.{◌>>=◌}
 use Rattle.det_cbor.specs.Position.{Position}
 use Rattle.suit_params.specs.declared.refusal.Refusal.{Refusal}
 use Rattle.suit_params.specs.Judging.{judge_held, judge_each}
-use Rattle.suit_params.specs.HeldLaws.{ReadsAs, Anything, all_anything, each_ok}
+use Rattle.suit_params.specs.HeldLaws.{ReadsAs}
 use Rattle.suit_commands.specs.SequenceJudging.{judge_sequence}
 use Rattle.suit_commands.specs.SequenceReading.{whole_sequence}
 use Rattle.suit_commands.specs.Tree.{SequenceTree}
 use Rattle.suit_commands.proofs.SequenceReads.{sequence_read}
 use Rattle.suit_envelope.specs.Envelopes.{Entry}
-use Rattle.suit_manifest.specs.Maps.{entries_of, IsKeyAmong, entry_under, RefusesOtherKey}
+use Rattle.suit_manifest.specs.Maps.{entries_of, entry_under}
 use Rattle.suit_manifest.specs.Common.{CommonSays, common_keys}
 use Rattle.suit_manifest.specs.Elements.{held_at}
 use Rattle.suit_manifest.specs.ComponentsJudging.{judge_components}
@@ -29,7 +29,7 @@ use Rattle.suit_manifest.proofs.Picked.{head_under, rest_after, left_over, endin
 use Rattle.suit_manifest.proofs.RowsAgain.{KeysAscend}
 use Rattle.suit_manifest.proofs.ComponentsReads.{components_read}
 use Rattle.suit_manifest.proofs.CommonJudging.{pairs_fit}
-use Rattle.suit_manifest.proofs.MapLaws.{keys_judge, may_read, need_read, held_reads}
+use Rattle.suit_manifest.proofs.MapLaws.{known_ok, may_read, need_read, held_reads}
 
 -- a byte string that holds a sequence
 pub held_sequence_reads : (shared : Bool) (count : ℕ) → ReadsAs (held_at (whole_sequence shared count 7)) (judge_held (judge_sequence shared count 7))
@@ -47,7 +47,7 @@ regroup (Err e) v f = refl
 abbrev pub given : {V : Type 0} → V → Result V Refusal
 given v = Ok v
 
--- what was picked is what stands under the numbers, where all keys are known
+-- the values picked are those under the numbers, where all keys are known
 pub picked_is : {V : Type 0} (keys : List ℕ) (es : List Entry) (picked looked : V) → KeysAscend 0 keys → NumbersAscend es → (AllPicked keys es es → picked ≡ looked)
     → (ending (left_over keys es) >>= λ _. given picked) ≡ (judge_each (judge_entry keys) es >>= λ _. given looked)
 picked_is {V} keys es picked looked up ascend same =
@@ -55,7 +55,7 @@ picked_is {V} keys es picked looked up ascend same =
   where
     by_judge : (r : Result Unit Refusal) → judge_each (judge_entry keys) es ≡ r → (r >>= λ _. given picked) ≡ (r >>= λ _. given looked)
     by_judge (Ok done) is =
-        let known = each_ok Anything (judge_entry keys) (IsKeyAmong keys) (RefusesOtherKey keys) (keys_judge keys) es (all_anything es) is in
+        let known = known_ok keys es is in
         ap (λ (v : V). given v) (same (all_picked keys 0 es es up ascend known (λ n among. refl)))
     by_judge (Err r) is = refl
 

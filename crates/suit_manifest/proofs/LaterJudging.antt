@@ -15,14 +15,14 @@ use Rattle.suit_manifest.specs.declared.later.Later.{Later as LaterValues}
 use Rattle.suit_manifest.specs.Maps.{entry_under, MaySayUnder, RefusesUnder}
 use Rattle.suit_manifest.specs.Manifests.{SaysText, SaysMember, SaysSevered, SaysTextMember, SeveredUnder, TextUnder, RefusesText, RefusesMember, RefusesApart, RefusesItem, ReferenceKey, ValidateKey, LoadKey, InvokeKey, PayloadFetchKey, InstallKey, TextKey, SaysLater, RefusesLater, later_keys}
 use Rattle.suit_manifest.specs.MapReading.{judge_at, may}
-use Rattle.suit_manifest.specs.ManifestJudging.{judge_text, judge_member, judge_severed, judge_text_member, member_of, text_of, judge_later}
+use Rattle.suit_manifest.specs.ManifestJudging.{judge_text, judge_member, judge_severed, judge_text_member, member_or_empty, text_of, judge_later}
 use Rattle.suit_manifest.proofs.CommonJudging.{held_sequence_judges}
 use Rattle.suit_manifest.proofs.MapLaws.{Fits, may_ok, may_again, may_err, may_refused}
 use Rattle.suit_manifest.proofs.ValueJudging.{text_judges, severed_judges, text_member_judges}
 
 -- ---- members that may be there
 
-severed_said : (n count : ℕ) (es : List Entry) (o : Option Member) → MaySayUnder n (SaysSevered count) es o → SeveredUnder n count es (member_of o)
+severed_said : (n count : ℕ) (es : List Entry) (o : Option Member) → MaySayUnder n (SaysSevered count) es o → SeveredUnder n count es (member_or_empty o)
 severed_said n count es None so = so
 severed_said n count es (Some (members.Here s)) so = so
 severed_said n count es (Some (members.Apart d)) so = so
@@ -34,7 +34,7 @@ severed_said n count es (Some members.Empty) so = absurd (never so.says_so)
 record SeveredSays (n count : ℕ) (es : List Entry) (m : Member) : Type 0 where
   there : Option Member
   so : MaySayUnder n (SaysSevered count) es there
-  same : member_of there ≡ m
+  same : member_or_empty there ≡ m
 
 said_severed : (n count : ℕ) (es : List Entry) (m : Member) → SeveredUnder n count es m → SeveredSays n count es m
 said_severed n count es members.Empty so = record { there = None; so = so; same = refl }
@@ -121,7 +121,7 @@ module _ (count : ℕ) (es : List Entry) where
     member_ok : (n : ℕ) (said : Option SequenceTree) → member_in n ≡ Ok said → MaySayUnder n (SaysMember count) es said
     member_ok n said e = may_ok (judge_member count) says_member refuses_member (held_sequence_judges false count) levels n es said all e
 
-    severed_ok : (n : ℕ) (said : Option Member) → severed_in n ≡ Ok said → SeveredUnder n count es (member_of said)
+    severed_ok : (n : ℕ) (said : Option Member) → severed_in n ≡ Ok said → SeveredUnder n count es (member_or_empty said)
     severed_ok n said e = severed_said n count es said (may_ok (judge_severed count) (SaysSevered count) refuses_severed (severed_judges count) levels n es said all e)
 
     text_is : (said : Option TextMember) → text_there ≡ Ok said → TextUnder es (text_of said)
@@ -153,8 +153,8 @@ module _ (count : ℕ) (es : List Entry) where
         bind_err (member_in 7) _ r e (λ h. Here ValidateKey _ r (member_err 7 r h)) (λ b b-is e. Later ValidateKey _ r (b, member_ok 7 b b-is) (
         bind_err (member_in 8) _ r e (λ h. Here LoadKey _ r (member_err 8 r h)) (λ c c-is e. Later LoadKey _ r (c, member_ok 8 c c-is) (
         bind_err (member_in 9) _ r e (λ h. Here InvokeKey _ r (member_err 9 r h)) (λ d d-is e. Later InvokeKey _ r (d, member_ok 9 d d-is) (
-        bind_err (severed_in 16) _ r e (λ h. Here PayloadFetchKey _ r (severed_err 16 r h)) (λ f f-is e. Later PayloadFetchKey _ r (member_of f, severed_ok 16 f f-is) (
-        bind_err (severed_in 20) _ r e (λ h. Here InstallKey _ r (severed_err 20 r h)) (λ g g-is e. Later InstallKey _ r (member_of g, severed_ok 20 g g-is) (
+        bind_err (severed_in 16) _ r e (λ h. Here PayloadFetchKey _ r (severed_err 16 r h)) (λ f f-is e. Later PayloadFetchKey _ r (member_or_empty f, severed_ok 16 f f-is) (
+        bind_err (severed_in 20) _ r e (λ h. Here InstallKey _ r (severed_err 20 r h)) (λ g g-is e. Later InstallKey _ r (member_or_empty g, severed_ok 20 g g-is) (
         bind_err text_there _ r e (λ h. Here TextKey _ r (may_err judge_text_member SaysTextMember refuses_text text_member_judges levels 23 es r all h)) (λ t t-is e. absurd cc)))))))))))))
 
   pub later_again : (said : LaterValues) → LaterSay count es said → judge_later count es ≡ Ok said

@@ -45,7 +45,7 @@ err_refuses place bytes (Ok m) fits e = tt
 err_refuses place bytes (Err (Refused f)) fits e = whole_err judge_manifest IsManifest RefusesManifest manifest_judges place bytes f fits (sym (read_is place bytes fits) ∙ e)
 err_refuses place bytes (Err NoMemory) fits e = tt
 
--- what the call would answer without taking memory
+-- the answer of the call if no memory were taken
 manifest_is : (place : ℕ) (bytes : List ℕ) (m : Manifest) → IsBytes bytes → SaysWhole IsManifest place bytes m → manifest_from (record { left = bytes; place = place }) ≡ Ok m
 manifest_is place bytes m fits so = read_is place bytes fits ∙ whole_read judge_manifest IsManifest RefusesManifest manifest_judges place bytes m so
 

@@ -10,10 +10,10 @@ use Rattle.suit_params.specs.Refusing.{refused, SaysHeld, RefusesHeld, Here, Lat
 use Rattle.suit_params.specs.Params.{IsMap}
 use Rattle.suit_params.specs.Judging.{judge_held, judge_each}
 use Rattle.suit_params.specs.JudgingLaws.{Judges}
-use Rattle.suit_params.specs.HeldLaws.{held_judges, Anything, all_anything, each_ok, each_again, each_err, each_refused}
+use Rattle.suit_params.specs.HeldLaws.{held_judges}
 use Rattle.suit_envelope.specs.Envelopes.{Entry, has_key, RefusesLack, LacksKey as Lack}
 use Rattle.suit_manifest.specs.declared.manifest.Manifest.{Manifest}
-use Rattle.suit_manifest.specs.Maps.{entries_of, IsKeyAmong, entry_under, SaysUnder, RefusesOtherKey, NoMap, BadKey, LacksKey, BadValue}
+use Rattle.suit_manifest.specs.Maps.{entries_of, IsKeyAmong, entry_under, SaysUnder, NoMap, BadKey, LacksKey, BadValue}
 use Rattle.suit_manifest.specs.Common.{IsCommon, RefusesCommon}
 use Rattle.suit_manifest.specs.Manifests.{manifest_keys, required_keys, IsVersion, SaysNumber, common_said, IsManifest, RefusesVersion, RefusesNumber, RefusesManifestValues, BadVersion, BadNumber, BadCommon, BadLater, RefusesManifest}
 use Rattle.suit_manifest.specs.MapReading.{judge_entry, needed, judge_at}
@@ -21,7 +21,7 @@ use Rattle.suit_manifest.specs.CommonReading.{judge_common}
 use Rattle.suit_manifest.specs.ManifestJudging.{judge_number, judge_version, judge_later, manifest_of, judge_values, judge_pairs, judge_manifest}
 use Rattle.suit_manifest.proofs.Arrays.{by_map}
 use Rattle.suit_manifest.proofs.CommonJudging.{common_judges, pairs_fit}
-use Rattle.suit_manifest.proofs.MapLaws.{keys_judge, none_lacks, some_has, lacks_none, has_some, needed_ok, needed_err, Fits, at_ok, at_err}
+use Rattle.suit_manifest.proofs.MapLaws.{known_ok, known_again, known_err, known_refused, none_lacks, some_has, lacks_none, has_some, needed_ok, needed_err, Fits, at_ok, at_err}
 use Rattle.suit_manifest.proofs.ValueJudging.{number_judges, version_judges}
 use Rattle.suit_manifest.proofs.LaterJudging.{LaterSay, later_ok, later_err, later_again, later_refused}
 
@@ -145,12 +145,6 @@ lack_refused place es r (Later n rest s one (Later n2 rest2 s2 two (Later n3 res
 
 -- ---- the map
 
-known_ok : (es : List Entry) → judge_each (judge_entry manifest_keys) es ≡ Ok tt → Known es
-known_ok es e = each_ok Anything (judge_entry manifest_keys) (IsKeyAmong manifest_keys) (RefusesOtherKey manifest_keys) (keys_judge manifest_keys) es (all_anything es) e
-
-known_again : (es : List Entry) → Known es → judge_each (judge_entry manifest_keys) es ≡ Ok tt
-known_again es known = each_again Anything (judge_entry manifest_keys) (IsKeyAmong manifest_keys) (RefusesOtherKey manifest_keys) (keys_judge manifest_keys) es known
-
 manifest_ok : (levels place : ℕ) (x : DataItem) (said : Manifest) → IsValidWithin levels x → judge_manifest place x ≡ Ok said → IsManifest place x said
 manifest_ok levels place x said valid e =
     by_map Manifest (λ (y : DataItem). IsValidWithin levels y → judge_manifest place y ≡ Ok said → IsManifest place y said)
@@ -158,7 +152,7 @@ manifest_ok levels place x said valid e =
     let so = values_ok (levels + 1) place es said (pairs_fit levels place pairs v) g in
     let complete : HasAll es = (some_has 1 es so.version.entry so.version.there, (some_has 2 es so.sequence.entry so.sequence.there, (some_has 3 es so.common.entry so.common.there, tt))) in
     record {
-      map = record { pairs = pairs; is = refl; known = known_ok es done-is; complete = complete };
+      map = record { pairs = pairs; is = refl; known = known_ok manifest_keys es done-is; complete = complete };
       version = so.version;
       sequence = so.sequence;
       common = so.common;
@@ -178,14 +172,14 @@ manifest_again place x said so =
     let es = entries_of place so.map.pairs in
     let later : LaterSay (length said.components) es (record { reference = said.reference; validate = said.validate; load = said.load; invoke = said.invoke; payload_fetch = said.payload_fetch; install = said.install; text = said.text }) =
     record { reference = so.reference; validate = so.validate; load = so.load; invoke = so.invoke; payload_fetch = so.payload_fetch; install = so.install; text = so.text } in
-    ap (judge_manifest place) so.map.is ∙ rw (known_again es so.map.known) (values_again place es said (record { version = so.version; sequence = so.sequence; common = so.common; later = later }))
+    ap (judge_manifest place) so.map.is ∙ rw (known_again manifest_keys es so.map.known) (values_again place es said (record { version = so.version; sequence = so.sequence; common = so.common; later = later }))
 
 manifest_err : (levels place : ℕ) (x : DataItem) (r : Refusal) → IsValidWithin levels x → judge_manifest place x ≡ Err r → RefusesManifest place x r
 manifest_err levels place x r valid e =
     by_map Manifest (λ (y : DataItem). IsValidWithin levels y → judge_manifest place y ≡ Err r → RefusesManifest place y r)
     (λ pairs v f. let es = entries_of place pairs in bind_err (judge_each (judge_entry manifest_keys) es) _ r f
-    (λ g. BadKey pairs r (each_err Anything (judge_entry manifest_keys) (IsKeyAmong manifest_keys) (RefusesOtherKey manifest_keys) (keys_judge manifest_keys) es r (all_anything es) g))
-    (λ done done-is g. by_bad pairs (known_ok es done-is) (values_err (levels + 1) place es r (pairs_fit levels place pairs v) g)))
+    (λ g. BadKey pairs r (known_err manifest_keys es r g))
+    (λ done done-is g. by_bad pairs (known_ok manifest_keys es done-is) (values_err (levels + 1) place es r (pairs_fit levels place pairs v) g)))
     (λ y o v f. subst (RefusesManifest place y) (same_err _ r (sym (o.judged judge_pairs place) ∙ f)) (NoMap y o.other))
     x valid e
   where
@@ -196,9 +190,9 @@ manifest_err levels place x r valid e =
 manifest_refused : (place : ℕ) (x : DataItem) (r : Refusal) → RefusesManifest place x r → judge_manifest place x ≡ Err r
 manifest_refused place x r (NoMap y other) =
     by_map Manifest (λ (z : DataItem). (IsMap z → ⊥) → judge_manifest place z ≡ Err (refused place Shape)) (λ pairs f. absurd (f tt)) (λ z o f. o.judged judge_pairs place) y other
-manifest_refused place x r (BadKey pairs s bad) = rw (each_refused Anything (judge_entry manifest_keys) (IsKeyAmong manifest_keys) (RefusesOtherKey manifest_keys) (keys_judge manifest_keys) (entries_of place pairs) s bad) refl
-manifest_refused place x r (LacksKey pairs s known lacks) = rw (known_again (entries_of place pairs) known) (lack_refused place (entries_of place pairs) s lacks)
-manifest_refused place x r (BadValue pairs s known complete bad) = rw (known_again (entries_of place pairs) known) (values_refused place (entries_of place pairs) s complete bad)
+manifest_refused place x r (BadKey pairs s bad) = rw (known_refused manifest_keys (entries_of place pairs) s bad) refl
+manifest_refused place x r (LacksKey pairs s known lacks) = rw (known_again manifest_keys (entries_of place pairs) known) (lack_refused place (entries_of place pairs) s lacks)
+manifest_refused place x r (BadValue pairs s known complete bad) = rw (known_again manifest_keys (entries_of place pairs) known) (values_refused place (entries_of place pairs) s complete bad)
 
 pub manifest_judges : Judges judge_manifest IsManifest RefusesManifest
 manifest_judges = record { ok = manifest_ok; again = manifest_again; err = manifest_err; refuses = manifest_refused }

@@ -25,7 +25,7 @@ use Rattle.suit_manifest.proofs.KeyNumbers.{ordered}
 use Rattle.suit_manifest.proofs.MapRows.{value_among, says_among}
 use Rattle.suit_manifest.proofs.RowsAgain.{value_in, pairs_are, keyed, value_is}
 
--- ---- what stands under a number, of what is said
+-- ---- the values under numbers, of a said manifest
 
 found : (n place : ℕ) (ps : DataPairs) (e : Entry) (x : DataItem) → entry_under n (entries place ps) ≡ Some e → e.value ≡ x → value_in n ps ≡ Some x
 found n place ps e x there is = value_is n place ps ∙ ap (option_map (λ (f : Entry). f.value)) there ∙ ap Some is

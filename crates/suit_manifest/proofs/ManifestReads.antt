@@ -32,7 +32,7 @@ use Rattle.suit_manifest.specs.Manifests.{manifest_keys}
 use Rattle.suit_manifest.specs.Elements.{held_at, only_at}
 use Rattle.suit_manifest.specs.MapReading.{judge_entry, needed, judge_at, may, value_of}
 use Rattle.suit_manifest.specs.CommonReading.{judge_common, common_at}
-use Rattle.suit_manifest.specs.ManifestJudging.{judge_number, known_version, judge_version, judge_text, judge_member, judge_apart, judge_here, judge_severed, judge_text_apart, judge_item, judge_text_here, judge_text_member, member_of, text_of, judge_later, manifest_of, judge_values, judge_pairs, judge_manifest}
+use Rattle.suit_manifest.specs.ManifestJudging.{judge_number, known_version, judge_version, judge_text, judge_member, judge_held_apart, judge_here, judge_severed, judge_text_apart, judge_item, judge_text_here, judge_text_member, member_or_empty, text_of, judge_later, manifest_of, judge_values, judge_pairs, judge_manifest}
 use Rattle.suit_manifest.specs.ManifestReading.{number_at, version_at, text_at, member_at, apart_at, here_at, severed_at, text_apart_at, text_here_at, text_member_at, later_from, manifest_found, values_from, pairs_from, manifest_at}
 use Rattle.suit_manifest.proofs.Arrays.{at, behind, map_is}
 use Rattle.suit_manifest.proofs.CommonJudging.{pairs_fit}
@@ -76,7 +76,7 @@ severed_read count levels place x valid =
     by_kind Member (λ (y : DataItem). IsValidWithin levels y → severed_at count (at place y) ≡ judge_severed count place y)
     (λ items v. rw (item_head_read levels (at place (ArrayOf items)) (ArrayOf items) [] v (sym (append-nil (spell (ArrayOf items)))))
     (ap (λ (r : Result (List ℕ) Refusal). r >>= made_apart) (digest_read levels (ArrayOf items) place v)))
-    (λ y o v. rw (item_head_read levels (at place y) y [] v (sym (append-nil (spell y))), o.read (apart_at (at place y)) (here_at count (at place y)), o.judged judge_apart (judge_here count) place)
+    (λ y o v. rw (item_head_read levels (at place y) y [] v (sym (append-nil (spell y))), o.read (apart_at (at place y)) (here_at count (at place y)), o.judged judge_held_apart (judge_here count) place)
     (ap (λ (r : Result SequenceTree Refusal). r >>= made_here) (held_sequence_reads false count levels place y v)))
     x valid
 
@@ -130,7 +130,7 @@ abbrev made_later : Option (List ℕ) → Option SequenceTree → Option Sequenc
 made_later a b c d e f t = Ok (record { reference = a; validate = b; load = c; invoke = d; payload_fetch = e; install = f; text = t })
 
 abbrev made_member : Option Member → Result Member Refusal
-made_member m = Ok (member_of m)
+made_member m = Ok (member_or_empty m)
 
 abbrev made_text_member : Option TextMember → Result TextMember Refusal
 made_text_member m = Ok (text_of m)
@@ -143,7 +143,7 @@ also {A} {B} r s f g is same = ap (λ (t : Result A Refusal). t >>= f) is ∙ by
     by_answer (Ok a) = same a
     by_answer (Err e) = refl
 
--- what stands under the numbers
+-- the values under the numbers
 abbrev looked_later : List Entry → LaterValues
 looked_later es = record {
   reference = option_map value_of (entry_under 4 es);
@@ -186,7 +186,7 @@ module _ (count levels place : ℕ) (pairs : DataPairs) (valid : IsValidWithin l
       by_text : (e : Result (Option Member) Refusal) (f : Result (Option Member) Refusal) (g : Result (Option TextMember) Refusal) (a : Option (List ℕ)) (b c d : Option SequenceTree)
           → ((e >>= made_member) >>= λ payload_fetch. (f >>= made_member) >>= λ install. (g >>= made_text_member) >>= λ text.
           made_later a b c d payload_fetch install text)
-          ≡ (e >>= λ payload_fetch. f >>= λ install. g >>= λ text. made_later a b c d (member_of payload_fetch) (member_of install) (text_of text))
+          ≡ (e >>= λ payload_fetch. f >>= λ install. g >>= λ text. made_later a b c d (member_or_empty payload_fetch) (member_or_empty install) (text_of text))
       by_text (Ok x) (Ok y) (Ok z) a b c d = refl
       by_text (Ok x) (Ok y) (Err r) a b c d = refl
       by_text (Ok x) (Err r) g a b c d = refl
@@ -196,7 +196,7 @@ module _ (count levels place : ℕ) (pairs : DataPairs) (valid : IsValidWithin l
           → (r >>= λ reference. s >>= λ validate. t >>= λ load. u >>= λ invoke. (e >>= made_member) >>= λ payload_fetch. (f >>= made_member) >>= λ install. (g >>= made_text_member) >>= λ text.
           made_later reference validate load invoke payload_fetch install text)
           ≡ (r >>= λ reference. s >>= λ validate. t >>= λ load. u >>= λ invoke. e >>= λ payload_fetch. f >>= λ install. g >>= λ text.
-          made_later reference validate load invoke (member_of payload_fetch) (member_of install) (text_of text))
+          made_later reference validate load invoke (member_or_empty payload_fetch) (member_or_empty install) (text_of text))
       by_first (Ok a) (Ok b) (Ok c) (Ok d) e f g = by_text e f g a b c d
       by_first (Ok a) (Ok b) (Ok c) (Err x) e f g = refl
       by_first (Ok a) (Ok b) (Err x) u e f g = refl

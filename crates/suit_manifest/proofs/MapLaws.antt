@@ -11,11 +11,11 @@ use Rattle.det_cbor.specs.ArgumentLaws.{IsBytes, bytes_of_all}
 use Rattle.det_cbor.specs.ResultLaws.{chosen, bind_ok, bind_err, same_ok, same_err}
 use Rattle.suit_params.specs.declared.refusal.Refusal.{Refusal}
 use Rattle.suit_params.specs.declared.refusal.Why.TheVariants.{UnknownKey, Missing}
-use Rattle.suit_params.specs.Refusing.{refused, Says, Refuses, content_place}
-use Rattle.suit_params.specs.Judging.{judge_held}
+use Rattle.suit_params.specs.Refusing.{refused, Says, Refuses, RefusesFirst, content_place}
+use Rattle.suit_params.specs.Judging.{judge_held, judge_each}
 use Rattle.suit_params.specs.Reading.{whole_judged}
 use Rattle.suit_params.specs.JudgingLaws.{Judges}
-use Rattle.suit_params.specs.HeldLaws.{ReadsAs, by_string, content_read, JudgesEach, Anything}
+use Rattle.suit_params.specs.HeldLaws.{ReadsAs, by_string, content_read, JudgesEach, Anything, all_anything, each_ok, each_again, each_err, each_refused}
 use Rattle.suit_commands.specs.Selections.{Among}
 use Rattle.suit_envelope.specs.Envelopes.{Entry, entries, is_number, has_key}
 use Rattle.suit_manifest.specs.Maps.{IsKeyAmong, entry_under, SaysUnder, MaySayUnder, RefusesUnder, RefusesOtherKey, OtherKey}
@@ -94,7 +94,19 @@ keys_judge keys = record {
   refuses = λ e r bad. entry_refused keys e r bad;
 }
 
--- ---- what stands under a number
+pub known_ok : (keys : List ℕ) (es : List Entry) → judge_each (judge_entry keys) es ≡ Ok tt → AllByRecursion (IsKeyAmong keys) es
+known_ok keys es e = each_ok Anything (judge_entry keys) (IsKeyAmong keys) (RefusesOtherKey keys) (keys_judge keys) es (all_anything es) e
+
+pub known_again : (keys : List ℕ) (es : List Entry) → AllByRecursion (IsKeyAmong keys) es → judge_each (judge_entry keys) es ≡ Ok tt
+known_again keys es known = each_again Anything (judge_entry keys) (IsKeyAmong keys) (RefusesOtherKey keys) (keys_judge keys) es known
+
+pub known_err : (keys : List ℕ) (es : List Entry) (r : Refusal) → judge_each (judge_entry keys) es ≡ Err r → RefusesFirst (RefusesOtherKey keys) (IsKeyAmong keys) es r
+known_err keys es r e = each_err Anything (judge_entry keys) (IsKeyAmong keys) (RefusesOtherKey keys) (keys_judge keys) es r (all_anything es) e
+
+pub known_refused : (keys : List ℕ) (es : List Entry) (r : Refusal) → RefusesFirst (RefusesOtherKey keys) (IsKeyAmong keys) es r → judge_each (judge_entry keys) es ≡ Err r
+known_refused keys es r bad = each_refused Anything (judge_entry keys) (IsKeyAmong keys) (RefusesOtherKey keys) (keys_judge keys) es r bad
+
+-- ---- values under a number
 
 pub none_lacks : (n : ℕ) (es : List Entry) → entry_under n es ≡ None → has_key n es ≡ false
 none_lacks n [] e = refl
@@ -206,7 +218,7 @@ need_read {A} {B} read judge law levels place n es f g all same = by_entry (entr
     by_entry None fits = refl
     by_entry (Some a) fits = ap (λ (r : Result A Refusal). r >>= f) (law levels a.value_place a.value (fits a all refl)) ∙ by_said (judge_at judge a)
 
--- what byte strings hold, by a reader of whole contents
+-- the contents of byte strings, by a reader of whole contents
 pub held_reads : {A : Type 0} (whole : Position → Result A Refusal) (judge : ℕ → DataItem → Result A Refusal) → ((p : Position) → IsBytes p.left → whole p ≡ whole_judged judge p.place p.left) → ReadsAs (held_at whole) (judge_held judge)
 held_reads {A} whole judge law levels place x valid =
     by_string (λ (y : DataItem). IsValidWithin levels y → held_at whole (record { left = spell y; place = place }) ≡ judge_held judge place y)

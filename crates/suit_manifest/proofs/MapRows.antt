@@ -16,7 +16,7 @@ abbrev pub Ascend : ℕ → List Row → Type 0
 Ascend low [] = Unit {0}
 Ascend low (r ∷ rs) = (low ≤ r.0) × Ascend (r.0 + 1) rs
 
--- what stands under a number
+-- the value under a number
 abbrev pub value_among : ℕ → List Row → Option DataItem
 value_among n [] = None
 value_among n (r ∷ rs) = if r.0 == n then r.1 else value_among n rs
@@ -41,7 +41,7 @@ entry_found : (n key place : ℕ) (x : DataItem) (ps : DataPairs) → (key == n)
     → entry_under n (entries place (pair_then key (Some x) ps)) ≡ Some (record { key = UnsignedInteger key; key_place = place; value = x; value_place = place + length (spell (UnsignedInteger key)) })
 entry_found n key place x ps e = rw e refl
 
--- ---- what is said under a number
+-- ---- values said under a number
 
 said_by : {A : Type 0} (form : Says A) (n key place : ℕ) (value : Option DataItem) (ps : DataPairs) (later : Option DataItem) (later_place : ℕ) (x : DataItem) (said : A) (b : Bool)
     → (key == n) ≡ b → (if b then value else later) ≡ Some x → form (if b then place + length (spell (UnsignedInteger key)) else later_place) x said

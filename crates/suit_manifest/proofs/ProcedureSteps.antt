@@ -54,39 +54,36 @@ severable_allowed laws n count es held place (Apart stated) (Some s) so has = as
 
 -- ---- the laws
 
-update : SequenceLaws → (place : ℕ) (x : DataItem) (said : EnvelopeSays) (manifest : Manifest) (members : Members) → IsManifest place x manifest → HasMembers said manifest members → IsPlan (update_tree manifest members)
-update laws place x said manifest members is has =
+-- three sequences behind the shared one
+parts : SequenceLaws → (place : ℕ) (x : DataItem) (manifest : Manifest) → IsManifest place x manifest → (a b c : SequenceTree) → IsMember (count_said manifest) a → IsMember (count_said manifest) b → IsMember (count_said manifest) c
+    → IsPlan (record { shared = tree_or_empty manifest.shared; first = a; second = b; third = c; count = count_said manifest })
+parts laws place x manifest is a b c first second third =
     let held = is.common.says_so in
     let common = held.holds.says_so in
     let components = common.components.says_so in
-    let count = count_said manifest in
     let inner = entries_of (content_place is.common.entry.value_place held.content) common.map.pairs in
-    let es = entries_of place is.map.pairs in
     record {
       some_components = components.some;
       few_components = components.few;
-      shared = shared_allowed laws 4 count inner manifest.shared common.shared;
-      first = severable_allowed laws 16 count es said.payload_fetch said.payload_fetch_place manifest.payload_fetch members.payload_fetch is.payload_fetch has.payload_fetch;
-      second = severable_allowed laws 20 count es said.install said.install_place manifest.install members.install is.install has.install;
-      third = member_allowed laws 7 count es manifest.validate is.validate;
+      shared = shared_allowed laws 4 (count_said manifest) inner manifest.shared common.shared;
+      first = first;
+      second = second;
+      third = third;
     }
+
+update : SequenceLaws → (place : ℕ) (x : DataItem) (said : EnvelopeSays) (manifest : Manifest) (members : Members) → IsManifest place x manifest → HasMembers said manifest members → IsPlan (update_tree manifest members)
+update laws place x said manifest members is has =
+    let count = count_said manifest in
+    let es = entries_of place is.map.pairs in
+    parts laws place x manifest is _ _ _ (severable_allowed laws 16 count es said.payload_fetch said.payload_fetch_place manifest.payload_fetch members.payload_fetch is.payload_fetch has.payload_fetch)
+    (severable_allowed laws 20 count es said.install said.install_place manifest.install members.install is.install has.install)
+    (member_allowed laws 7 count es manifest.validate is.validate)
 
 invocation : SequenceLaws → (place : ℕ) (x : DataItem) (manifest : Manifest) → IsManifest place x manifest → IsPlan (invocation_tree manifest)
 invocation laws place x manifest is =
-    let held = is.common.says_so in
-    let common = held.holds.says_so in
-    let components = common.components.says_so in
     let count = count_said manifest in
-    let inner = entries_of (content_place is.common.entry.value_place held.content) common.map.pairs in
     let es = entries_of place is.map.pairs in
-    record {
-      some_components = components.some;
-      few_components = components.few;
-      shared = shared_allowed laws 4 count inner manifest.shared common.shared;
-      first = member_allowed laws 7 count es manifest.validate is.validate;
-      second = member_allowed laws 8 count es manifest.load is.load;
-      third = member_allowed laws 9 count es manifest.invoke is.invoke;
-    }
+    parts laws place x manifest is _ _ _ (member_allowed laws 7 count es manifest.validate is.validate) (member_allowed laws 8 count es manifest.load is.load) (member_allowed laws 9 count es manifest.invoke is.invoke)
 
 pub procedure_laws : SequenceLaws → ProcedureLaws
 procedure_laws laws = record { update = update laws; invocation = invocation laws }

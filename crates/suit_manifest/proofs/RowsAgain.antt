@@ -10,7 +10,7 @@ use Rattle.suit_manifest.specs.ManifestLaws.{IsAboveNumber, NumbersAscend}
 use Rattle.suit_manifest.specs.ManifestMaking.{Row, pair_then, row_pairs}
 use Rattle.suit_manifest.specs.Maps.{entry_under, IsKeyAmong}
 
--- what stands under a number among pairs
+-- the value under a number among pairs
 abbrev pub value_in : ℕ → DataPairs → Option DataItem
 value_in n NoPairs = None
 value_in n (PairThen key value ps) = if is_number n key then Some value else value_in n ps
@@ -48,7 +48,7 @@ among_above low n [] up among = absurd among
 among_above low n (k ∷ ks) up (inl same) = omega (arith, same, up.0)
 among_above low n (k ∷ ks) up (inr later) = omega (arith, up.0, among_above k n ks up.1 later)
 
--- ---- what is looked up
+-- ---- lookups
 
 absent_here : (keys : List ℕ) (low n : ℕ) (ps : DataPairs) → AreKeyed keys low ps → n ≤ low → value_in n ps ≡ None
 absent_here keys low n NoPairs keyed le = refl

@@ -119,7 +119,7 @@ pub by_kind : (A : Type 0) (P : DataItem → Type 0) → ((items : DataItems) �
 by_kind A P array other (ArrayOf xs) = array xs
 by_kind A P array other x = other x (record { other = λ h. h; judged = λ f g place. refl; read = λ a b. refl })
 
--- what is said and refused of both
+-- the meanings and refusals of both
 module _ (A B : Type 0) (make : List ℕ → A) (keep : B → A) (judge : ℕ → DataItem → Result B Refusal) (says : ℕ → DataItem → B → Type 0) (form : ℕ → DataItem → Refusal → Type 0) (law : Judges judge says form)
     (both : ℕ → DataItem → A → Type 0) (apart : (place : ℕ) (x : DataItem) (d : List ℕ) → IsDigest place x d → both place x (make d)) (here : (place : ℕ) (x : DataItem) (b : B) → says place x b → both place x (keep b)) where
   abbrev judge_digests : ℕ → DataItem → Result A Refusal

@@ -28,7 +28,7 @@ pub record IsCommon (place : ℕ) (x : DataItem) (said : CommonSays) : Type 0 wh
   pub shared :
       MaySayUnder 4 (SaysShared (length said.components)) (entries_of place map.pairs) said.shared
 
--- ---- what is refused
+-- ---- refusals
 
 pub data RefusesCommonValues (es : List Entry) (r : Refusal) : Type 0 where
   BadIdentifiers : RefusesUnder 2 RefusesComponents es r → RefusesCommonValues es r

@@ -5,6 +5,7 @@ use Rattle.det_cbor.specs.HeadReading.{◌>>=◌}
 use Rattle.det_cbor.specs.Position.{Position}
 use Rattle.suit_params.specs.declared.refusal.Refusal.{Refusal}
 use Rattle.suit_params.specs.Judging.{judge_held, judge_each}
+use Rattle.suit_commands.specs.Allowed.{levels_inside}
 use Rattle.suit_commands.specs.SequenceJudging.{judge_sequence}
 use Rattle.suit_commands.specs.SequenceReading.{whole_sequence}
 use Rattle.suit_commands.specs.Tree.{SequenceTree}
@@ -20,7 +21,7 @@ use Rattle.suit_manifest.specs.ComponentsReading.{components_at}
 use Rattle.suit_manifest.specs.MapReading.{judge_entry, needed, judge_at, may, take_from, end_from}
 
 abbrev pub judge_shared : ℕ → ℕ → DataItem → Result SequenceTree Refusal
-judge_shared count = judge_held (judge_sequence true count 7)
+judge_shared count = judge_held (judge_sequence true count levels_inside)
 
 -- by entries whose keys are known
 abbrev pub judge_common_values : ℕ → List Entry → Result CommonSays Refusal
@@ -40,7 +41,7 @@ judge_common = judge_map judge_common_pairs
 -- ---- reading
 
 abbrev pub shared_at : ℕ → Position → Result SequenceTree Refusal
-shared_at count = held_at (whole_sequence true count 7)
+shared_at count = held_at (whole_sequence true count levels_inside)
 
 -- the values, in the order of their keys
 abbrev pub common_found : Pairs → Result CommonValues Refusal

@@ -24,7 +24,7 @@ pub record IsComponents (place : ℕ) (x : DataItem) (ids : List (List (List ℕ
   pub short : AllByRecursion IsShort ids
   pub apart : AreApart ids
 
--- ---- what is refused
+-- ---- refusals
 
 abbrev pub IsArray : DataItem → Type 0
 IsArray (ArrayOf items) = Unit {0}

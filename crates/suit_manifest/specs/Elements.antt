@@ -35,7 +35,7 @@ all_from read zero p = Ok []
 all_from read (suc n) p =
     inner_from p >>= λ x. read x.0 >>= λ a. all_from read n x.1 >>= λ rest. Ok (a ∷ rest)
 
--- what a byte string holds, by a reader of the whole content
+-- the content of a byte string, by a reader of the whole content
 abbrev pub held_at : {A : Type 0} → (Position → Result A Refusal) → Position → Result A Refusal
 held_at read p = content_from p >>= λ c. read c.0
 

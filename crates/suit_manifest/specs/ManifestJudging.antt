@@ -7,6 +7,7 @@ use Rattle.suit_params.specs.declared.refusal.Why.TheVariants.{Shape, Version}
 use Rattle.suit_params.specs.Refusing.{refused}
 use Rattle.suit_params.specs.Reading.{whole_judged}
 use Rattle.suit_params.specs.Judging.{judge_string, judge_held, judge_each, judge_digest}
+use Rattle.suit_commands.specs.Allowed.{levels_inside}
 use Rattle.suit_commands.specs.SequenceJudging.{judge_sequence}
 use Rattle.suit_commands.specs.Tree.{SequenceTree}
 use Rattle.suit_envelope.specs.Envelopes.{Entry}
@@ -40,7 +41,7 @@ judge_text place (TextString text) = Ok text
 judge_text place _ = Err (refused place Shape)
 
 abbrev pub judge_member : ℕ → ℕ → DataItem → Result SequenceTree Refusal
-judge_member count = judge_held (judge_sequence false count 7)
+judge_member count = judge_held (judge_sequence false count levels_inside)
 
 -- an array in one way, and all else in another
 abbrev pub judge_or : {A : Type 0} → (ℕ → DataItem → Result A Refusal)
@@ -48,14 +49,14 @@ abbrev pub judge_or : {A : Type 0} → (ℕ → DataItem → Result A Refusal)
 judge_or array other place (ArrayOf items) = array place (ArrayOf items)
 judge_or array other place x = other place x
 
-abbrev pub judge_apart : ℕ → DataItem → Result Member Refusal
-judge_apart place x = judge_digest place x >>= λ d. Ok (members.Apart (record { bytes = d }))
+abbrev pub judge_held_apart : ℕ → DataItem → Result Member Refusal
+judge_held_apart place x = judge_digest place x >>= λ d. Ok (members.Apart (record { bytes = d }))
 
 abbrev pub judge_here : ℕ → ℕ → DataItem → Result Member Refusal
 judge_here count place x = judge_member count place x >>= λ s. Ok (members.Here s)
 
 abbrev pub judge_severed : ℕ → ℕ → DataItem → Result Member Refusal
-judge_severed count = judge_or judge_apart (judge_here count)
+judge_severed count = judge_or judge_held_apart (judge_here count)
 
 abbrev pub judge_text_apart : ℕ → DataItem → Result TextMember Refusal
 judge_text_apart place x = judge_digest place x >>= λ d. Ok (texts.Apart (record { bytes = d }))
@@ -74,11 +75,11 @@ judge_text_here place x = judge_content place x >>= λ content. Ok (texts.Here c
 abbrev pub judge_text_member : ℕ → DataItem → Result TextMember Refusal
 judge_text_member = judge_or judge_text_apart judge_text_here
 
--- ---- what may be there
+-- ---- optional values
 
-abbrev pub member_of : Option Member → Member
-member_of None = members.Empty
-member_of (Some m) = m
+abbrev pub member_or_empty : Option Member → Member
+member_or_empty None = members.Empty
+member_or_empty (Some m) = m
 
 abbrev pub text_of : Option TextMember → TextMember
 text_of None = texts.Empty
@@ -99,8 +100,8 @@ judge_later count es =
       validate = validate;
       load = load;
       invoke = invoke;
-      payload_fetch = member_of payload_fetch;
-      install = member_of install;
+      payload_fetch = member_or_empty payload_fetch;
+      install = member_or_empty install;
       text = text_of text;
     })
 

@@ -10,6 +10,7 @@ use Rattle.suit_params.specs.Refusing.{refused}
 use Rattle.suit_params.specs.Reading.{head_from, only_from, content_from, map_from}
 use Rattle.suit_params.specs.DigestReading.{digest_at}
 use Rattle.suit_params.specs.ParamReading.{text_bytes}
+use Rattle.suit_commands.specs.Allowed.{levels_inside}
 use Rattle.suit_commands.specs.SequenceReading.{whole_sequence}
 use Rattle.suit_commands.specs.Tree.{SequenceTree}
 use Rattle.suit_manifest.specs.declared.manifest.Manifest.{Manifest}
@@ -24,7 +25,7 @@ use Rattle.suit_manifest.specs.declared.pairs.Pairs.{Pairs}
 use Rattle.suit_manifest.specs.Elements.{held_at, only_at}
 use Rattle.suit_manifest.specs.MapReading.{needed, may, take_from, end_from}
 use Rattle.suit_manifest.specs.CommonReading.{common_at}
-use Rattle.suit_manifest.specs.ManifestJudging.{known_version, member_of, text_of, manifest_of}
+use Rattle.suit_manifest.specs.ManifestJudging.{known_version, member_or_empty, text_of, manifest_of}
 
 -- ---- values
 
@@ -46,7 +47,7 @@ unfoldable pub text_at : Position → Result (List ℕ) Refusal
 text_at p = head_from p >>= λ h. text_after p.place h.0.value h.1 h.0.kind
 
 abbrev pub member_at : ℕ → Position → Result SequenceTree Refusal
-member_at count = held_at (whole_sequence false count 7)
+member_at count = held_at (whole_sequence false count levels_inside)
 
 -- an array in one way, and all else in another
 abbrev pub array_or : {A : Type 0} → Result A Refusal → Result A Refusal → HeadKind
@@ -72,10 +73,10 @@ text_here_at p = content_from p >>= λ c. only_from c.0 >>= λ _. Ok (texts.Here
 unfoldable pub text_member_at : Position → Result TextMember Refusal
 text_member_at p = head_from p >>= λ h. array_or (text_apart_at p) (text_here_at p) h.0.kind
 
--- ---- what may be there
+-- ---- optional values
 
 abbrev pub severed_in : ℕ → Option Position → Result Member Refusal
-severed_in count o = may (severed_at count) o >>= λ m. Ok (member_of m)
+severed_in count o = may (severed_at count) o >>= λ m. Ok (member_or_empty m)
 
 abbrev pub text_in : Option Position → Result TextMember Refusal
 text_in o = may text_member_at o >>= λ m. Ok (text_of m)

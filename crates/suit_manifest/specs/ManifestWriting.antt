@@ -17,7 +17,7 @@ use Rattle.suit_manifest.specs.Components.{IsShort, AreApart}
 use Rattle.suit_manifest.specs.Manifests.{IsManifest, count_said}
 use Rattle.suit_manifest.specs.ManifestMaking.{common_item, placed_manifest, unplaced_manifest}
 
--- ---- what holds by the types of the code, and of the sequences by the calls that write them
+-- ---- bounds by the types of the code, and of the sequences by the calls that write them
 
 abbrev pub IsDigestBytes : List ℕ → Type 0
 IsDigestBytes digest = (length digest ≡ 32) × AllByRecursion IsByte digest
@@ -33,7 +33,9 @@ ComponentsFit ids = IsU64 (length ids) × AllByRecursion IdentifierFits ids
 
 -- of a sequence in a byte string
 abbrev pub HeldFits : SequenceTree → Type 0
-HeldFits s = IsString (spell (sequence_item s)) × IsWrittenSequence s (spell (sequence_item s)) × SequenceFits s
+HeldFits s =
+    IsString (spell (sequence_item s)) × IsWrittenSequence s (spell (sequence_item s))
+    × SequenceFits s
 
 abbrev pub SeveredFits : Member → Type 0
 SeveredFits members.Empty = Unit {0}

@@ -90,7 +90,7 @@ pub record IsManifest (place : ℕ) (x : DataItem) (said : Manifest) : Type 0 wh
   pub install : SeveredUnder 20 (count_said said) (entries_of place map.pairs) said.install
   pub text : TextUnder (entries_of place map.pairs) said.text
 
--- ---- what is refused
+-- ---- refusals
 
 pub data RefusesVersion (place : ℕ) : DataItem → Refusal → Type 0 where
   NoVersion : (x : DataItem) → (IsUnsigned x → ⊥) → RefusesVersion place x (refused place Shape)
@@ -130,7 +130,7 @@ pub data LaterKey : Type 0 where
   InstallKey : LaterKey
   TextKey : LaterKey
 
--- what is said and refused under one, where there are so many components
+-- the values said and refused under one, where there are so many components
 abbrev pub SaysLater : ℕ → List Entry → LaterKey → Type 0
 SaysLater count es ReferenceKey = (said : Option (List ℕ)) × MaySayUnder 4 SaysText es said
 SaysLater count es ValidateKey =

@@ -29,7 +29,7 @@ judge_key keys place _ = Err (refused place UnknownKey)
 abbrev pub judge_entry : List ℕ → Entry → Result Unit Refusal
 judge_entry keys e = judge_key keys e.key_place e.key >>= λ _. Ok tt
 
--- what is required under a number, of a map at a place
+-- a value required under a number, of a map at a place
 abbrev pub needed : {A : Type 0} → ℕ → ℕ → Option A → Result A Refusal
 needed place n None = Err (refused place (Missing n))
 needed place n (Some found) = Ok found
@@ -37,7 +37,7 @@ needed place n (Some found) = Ok found
 abbrev pub judge_at : {A : Type 0} → (ℕ → DataItem → Result A Refusal) → Entry → Result A Refusal
 judge_at judge e = judge e.value_place e.value
 
--- what may stand under a number
+-- an optional value under a number
 abbrev pub may : {A B : Type 0} → (A → Result B Refusal) → Option A → Result (Option B) Refusal
 may judge None = Ok None
 may judge (Some found) = judge found >>= λ said. Ok (Some said)
@@ -52,7 +52,7 @@ key_after n m p _ = Ok (false, p)
 unfoldable pub key_is : ℕ → Position → Result (Bool × Position) Refusal
 key_is n p = head_from p >>= λ h. key_after n h.0.value h.1 h.0.kind
 
--- what stands from one position up to another, by itself
+-- the bytes from one position up to another, by themselves
 abbrev pub up_to : Position → Position → Result (Position × Position) Refusal
 up_to p q = string_from (length p.left - length q.left) p
 

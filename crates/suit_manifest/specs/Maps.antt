@@ -29,7 +29,7 @@ pub record HasKeys (keys required : List ℕ) (place : ℕ) (x : DataItem) : Typ
   pub known : AllByRecursion (IsKeyAmong keys) (entries_of place pairs)
   pub complete : AllByRecursion (λ n. has_key n (entries_of place pairs) ≡ true) required
 
--- what stands under a number says this
+-- the value under a number says this
 pub record SaysUnder {A : Type 0} (n : ℕ) (form : Says A) (es : List Entry) (said : A)
     : Type 0 where
   pub entry : Entry
@@ -41,14 +41,14 @@ abbrev pub MaySayUnder : {A : Type 0} → ℕ → Says A → List Entry → Opti
 MaySayUnder n form es None = entry_under n es ≡ None
 MaySayUnder n form es (Some said) = SaysUnder n form es said
 
--- what stands under a number is refused for this reason
+-- the value under a number is refused for this reason
 pub record RefusesUnder (n : ℕ) (bad : Refuses) (es : List Entry) (r : Refusal) : Type 0 where
   pub entry : Entry
   pub there : entry_under n es ≡ Some entry
   pub refuses : bad entry.value_place entry.value r
 
--- ---- what is refused: unknown keys first, then missing ones, then values in their order. Keys ascend in a map, so the
--- order of the values is that of the numbers of their keys
+-- ---- refusals: unknown keys first, then missing ones, then values in their order. Keys ascend in a map, so the order
+-- of the values is that of the numbers of their keys
 
 pub data RefusesOtherKey (keys : List ℕ) (e : Entry) : Refusal → Type 0 where
   OtherKey : (IsKeyAmong keys e → ⊥) → RefusesOtherKey keys e (refused e.key_place UnknownKey)

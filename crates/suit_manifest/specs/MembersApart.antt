@@ -21,7 +21,7 @@ use Rattle.suit_manifest.specs.Manifests.{count_said}
 
 -- ---- one member: the content that the envelope holds for it, if any, and its place there
 
--- what the envelope holds has the stated digest, and is this sequence
+-- the member in the envelope has the stated digest, and is this sequence
 pub record IsTaken (count : ℕ) (held : Option (List ℕ)) (place : ℕ) (stated : Digest)
     (s : SequenceTree) : Type 0 where
   pub content : List ℕ
@@ -90,26 +90,26 @@ pub data LacksMembers (said : EnvelopeSays) (manifest : Manifest) (fault : Membe
 
 -- ---- answers
 
--- the content of a member is refused as a sequence, or there was no memory for it
+-- the content of a member is refused as a sequence, or memory ran out for it
 abbrev pub RefusesContent : ℕ → ℕ → List ℕ → MemberFault → Type 0
 RefusesContent count place content (Refused r) =
     RefusesWhole (RefusesSequence false count levels_allowed) place content r
 RefusesContent count place content NoMemory = Unit {0}
 RefusesContent count place content _ = ⊥
 
--- a fault by such a cause, or for want of memory
+-- a fault by such a cause, or because memory ran out
 abbrev pub IsLackBy : (MemberFault → Type 0) → MemberFault → Type 0
 IsLackBy lacks (Severed name) = lacks (Severed name)
 IsLackBy lacks (Differs name stated found) = lacks (Differs name stated found)
 IsLackBy lacks (Refused r) = lacks (Refused r)
 IsLackBy lacks NoMemory = Unit {0}
 
--- this was taken, unless there was no memory
+-- this was taken, unless memory ran out
 abbrev pub IsTakenAs : {A : Type 0} → A → Result A MemberFault → Type 0
 IsTakenAs wanted (Ok found) = found ≡ wanted
 IsTakenAs wanted (Err fault) = fault ≡ NoMemory
 
--- this was the fault, unless there was no memory
+-- this was the fault, unless memory ran out
 abbrev pub IsLackedAs : {A : Type 0} → MemberFault → Result A MemberFault → Type 0
 IsLackedAs wanted (Ok found) = ⊥
 IsLackedAs wanted (Err fault) = (fault ≡ wanted) ⊎ (fault ≡ NoMemory)

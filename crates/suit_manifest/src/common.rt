@@ -1,4 +1,4 @@
-//! The common part of a manifest, of an item that was judged before.
+//! The common part of a manifest, read from an item judged before.
 
 ghost use Rattle.std.specs.Prelude.{◌≡◌, ◌≤◌, length, IfOk};
 ghost use Rattle.suit_params.specs.Answering.{Gives};
@@ -21,7 +21,7 @@ pub(crate) struct Common {
     pub(crate) shared: Option<Sequence>,
 }
 
-/// A byte string that holds a sequence, for so many components.
+/// Reads a byte string that holds a sequence, for so many components.
 pub(crate) fn read_sequence(
     alloc: Global,
     mut item: Cursor<'_>,
@@ -35,7 +35,7 @@ pub(crate) fn read_sequence(
     decode_sequence(alloc, bytes_left(content), place, shared, count)
 }
 
-/// The same, where there may be none.
+/// The same, if there is one.
 pub(crate) fn read_optional(
     alloc: Global,
     item: Option<Cursor<'_>>,
@@ -66,7 +66,7 @@ fn find_values<'a>(mut pairs: Pairs<'a>) -> Result<CommonValues<'a>, Refusal>
     Ok(CommonValues { components, shared })
 }
 
-// Of a map at a place.
+// Reads the common part from the values of a map.
 fn read_values(alloc: Global, place: u64, values: CommonValues<'_>) -> Result<Common, Fault>
     ensures says { Gives (λ c. record { components = c.components; shared = c.shared }) result
         (common_values_from place values.entry) }
@@ -78,7 +78,7 @@ fn read_values(alloc: Global, place: u64, values: CommonValues<'_>) -> Result<Co
     Ok(Common { components, shared })
 }
 
-// Of a map at a place, of so many pairs.
+// Reads the common part from a map of so many pairs.
 fn read_pairs(alloc: Global, map: Cursor<'_>, place: u64, pairs: u64) -> Result<Common, Fault>
     ensures says { Gives (λ c. record { components = c.components; shared = c.shared }) result
         (common_pairs_from place pairs map.entry) }
@@ -88,8 +88,8 @@ fn read_pairs(alloc: Global, map: Cursor<'_>, place: u64, pairs: u64) -> Result<
     read_values(alloc, place, values)
 }
 
-/// A whole item, as the common part: keys that are not known are refused first, then missing
-/// ones, and then the first value that is refused.
+/// Reads a whole item as the common part: unknown keys are refused first, then missing ones, and
+/// then the first value that is refused.
 pub(crate) fn read_common(alloc: Global, mut item: Cursor<'_>) -> Result<Common, Fault>
     ensures says { Gives (λ c. record { components = c.components; shared = c.shared }) result
         (common_at item.entry) }

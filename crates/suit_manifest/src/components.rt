@@ -1,4 +1,4 @@
-//! The identifiers of a manifest's components, of an item that was judged before.
+//! The identifiers of a manifest's components, read from an item judged before.
 
 ghost use Rattle.std.specs.Prelude.{◌≡◌, ◌<◌, ◌≤◌, length, IfOk};
 ghost use Rattle.suit_params.specs.Answering.{Gives};
@@ -16,7 +16,7 @@ use suit_params::{
 /// How many components a manifest may have.
 pub const MAX_COMPONENTS: u64 = 8;
 
-// A byte string, as its content.
+// Reads a byte string's content.
 fn read_part(alloc: Global, mut item: Cursor<'_>) -> Result<Bytes, Fault>
     ensures { Gives (λ b. b) result (part_at item.entry) }
 {
@@ -24,7 +24,7 @@ fn read_part(alloc: Global, mut item: Cursor<'_>) -> Result<Bytes, Fault>
     Ok(copy_left(alloc, content)?)
 }
 
-// So many byte strings.
+// Reads so many byte strings.
 fn read_parts(alloc: Global, mut items: Cursor<'_>, count: u64) -> Result<Identifier, Fault>
     ensures { Gives (λ id. id) result (all_from part_at count items.entry) }
 {
@@ -36,7 +36,7 @@ fn read_parts(alloc: Global, mut items: Cursor<'_>, count: u64) -> Result<Identi
     Ok(parts)
 }
 
-// A whole item, as an identifier, which has at most 64 bytes.
+// Reads a whole item as an identifier, which has at most 64 bytes.
 fn read_identifier(alloc: Global, mut item: Cursor<'_>) -> Result<Identifier, Fault>
     ensures { Gives (λ id. id) result (identifier_at item.entry) }
 {
@@ -51,7 +51,7 @@ fn read_identifier(alloc: Global, mut item: Cursor<'_>) -> Result<Identifier, Fa
     }
 }
 
-// So many identifiers.
+// Reads so many identifiers.
 fn read_identifiers(alloc: Global, mut items: Cursor<'_>, count: u64) -> Result<Identifiers, Fault>
     ensures says { Gives (λ ids. ids) result (all_from identifier_at count items.entry) }
     ensures all { IfOk result (λ ids. length ids ≡ count) }
@@ -87,7 +87,7 @@ fn read_apart(alloc: Global, mut items: Cursor<'_>, count: u64) -> Result<Identi
     Ok(ids)
 }
 
-// So many identifiers of an array, which stands at a place.
+// Reads so many identifiers of an array at a place.
 fn read_counted(
     alloc: Global,
     items: Cursor<'_>,
@@ -106,7 +106,7 @@ fn read_counted(
     }
 }
 
-/// A whole item, as the identifiers of components: too many are refused first, then the first
+/// Reads a whole item as the identifiers of components: too many are refused first, then the first
 /// that is no identifier or too long, and then two that are alike.
 pub(crate) fn read_components(alloc: Global, mut item: Cursor<'_>) -> Result<Identifiers, Fault>
     ensures says { Gives (λ ids. ids) result (components_at item.entry) }

@@ -21,7 +21,7 @@ use det_cbor::Cursor;
 use std::alloc::Global;
 use suit_params::{Fault, only_item, read_content, read_map};
 
-// The common part, which a byte string holds.
+// Reads the common part, which a byte string holds.
 fn held_common(alloc: Global, mut item: Cursor<'_>) -> Result<Common, Fault>
     ensures says { Gives (λ c. record { components = c.components; shared = c.shared }) result
         (held_at (only_at common_at) item.entry) }
@@ -32,7 +32,7 @@ fn held_common(alloc: Global, mut item: Cursor<'_>) -> Result<Common, Fault>
     read_common(alloc, item)
 }
 
-// The manifest that the parts say together.
+// The manifest of these parts.
 fn manifest_of(sequence: u64, common: Common, later: Later) -> Manifest
     ensures { result
         ≡ manifest_of sequence (record { components = common.components; shared = common.shared })
@@ -52,7 +52,7 @@ fn manifest_of(sequence: u64, common: Common, later: Later) -> Manifest
     }
 }
 
-// Of a map at a place.
+// Reads a manifest from the values of a map.
 fn read_values(alloc: Global, place: u64, values: ManifestValues<'_>) -> Result<Manifest, Fault>
     ensures { Gives (λ m. m) result (values_from place values.entry) }
 {
@@ -66,7 +66,7 @@ fn read_values(alloc: Global, place: u64, values: ManifestValues<'_>) -> Result<
     Ok(manifest_of(sequence, common, later))
 }
 
-// Of a map at a place, of so many pairs.
+// Reads a manifest from a map of so many pairs.
 fn read_pairs(alloc: Global, map: Cursor<'_>, place: u64, pairs: u64) -> Result<Manifest, Fault>
     ensures { Gives (λ m. m) result (pairs_from place pairs map.entry) }
 {
@@ -74,7 +74,7 @@ fn read_pairs(alloc: Global, map: Cursor<'_>, place: u64, pairs: u64) -> Result<
     read_values(alloc, place, values)
 }
 
-// A whole item, as a manifest.
+// Reads a whole item as a manifest.
 fn read_manifest(alloc: Global, mut item: Cursor<'_>) -> Result<Manifest, Fault>
     ensures { Gives (λ m. m) result (manifest_at item.entry) }
 {
@@ -83,7 +83,7 @@ fn read_manifest(alloc: Global, mut item: Cursor<'_>) -> Result<Manifest, Fault>
     read_pairs(alloc, item, place, pairs)
 }
 
-// As `decode_manifest`, which says what this means.
+// See `decode_manifest`.
 fn whole_manifest(alloc: Global, bytes: &[u8], place: u64) -> Result<Manifest, Fault>
     requires { place + length bytes.now < 2 ^ 64 }
     ensures { Gives (λ m. m) result (manifest_from (record { left = bytes.now; place = place })) }
@@ -92,12 +92,11 @@ fn whole_manifest(alloc: Global, bytes: &[u8], place: u64) -> Result<Manifest, F
     read_manifest(alloc, item)
 }
 
-/// The manifest that the bytes spell (draft-ietf-suit-manifest-25, section 8.4). The first of the
-/// bytes stands at this place in the envelope, and so count the places of commands and refusals.
+/// Decodes the manifest that the bytes spell (draft-ietf-suit-manifest-25, section 8.4). The bytes
+/// start at this place in the envelope, from which the places of commands and refusals count.
 ///
 /// The bytes are judged as one item first, and the map then: unknown keys, missing keys, and values
-/// in their order. Takes memory for what the manifest says alone; what was taken is given back
-/// after a fault.
+/// in their order. Allocates only for the manifest, and frees it all after a fault.
 pub fn decode_manifest(alloc: Global, bytes: &[u8], place: u64) -> Result<Manifest, Fault>
     requires { place + length bytes.now < 2 ^ 64 }
     ensures ok { IfOk result (λ m. SaysWhole IsManifest place bytes.now m) }

@@ -1,4 +1,4 @@
-//! The values of a manifest's map after common, of an item that was judged before.
+//! The values of a manifest's map after common, read from an item judged before.
 
 ghost use Rattle.std.specs.Prelude.{◌≡◌};
 ghost use Rattle.suit_params.specs.Answering.{Gives};
@@ -13,7 +13,7 @@ use std::alloc::Global;
 use suit_commands::Sequence;
 use suit_params::Fault;
 
-/// The members that may be there.
+/// The optional members.
 #[derive(Debug, Drop)]
 pub(crate) struct Later {
     pub(crate) reference: Option<Text>,
@@ -25,7 +25,7 @@ pub(crate) struct Later {
     pub(crate) text: TextMember,
 }
 
-/// The values in their order, where there are so many components.
+/// Reads the values in their order, for so many components.
 pub(crate) fn read_later(alloc: Global, values: LaterValues<'_>, count: u32) -> Result<Later, Fault>
     ensures { Gives (λ l. l) result (later_from count values.entry) }
 {

@@ -16,7 +16,7 @@ pub(crate) struct ManifestValues<'a> {
     pub(crate) later: LaterValues<'a>,
 }
 
-/// Those after common.
+/// The values after common.
 #[derive(Debug, Drop)]
 pub(crate) struct LaterValues<'a> {
     pub(crate) reference: Option<Cursor<'a>>,

@@ -66,7 +66,7 @@ fn install(
     apart(alloc, envelope, name, place, &manifest.install, count)
 }
 
-// As `members_of`, which says more of the answer.
+// See `members_of`.
 #[tactic(auto, using(crate::proofs::BothMembers::fetch_lacks))]
 fn both(alloc: Global, envelope: &Envelope<'_>, manifest: &Manifest) -> Result<Members, MemberFault>
     requires few { length manifest.now.components < 2 ^ 32 }
@@ -89,11 +89,11 @@ fn both(alloc: Global, envelope: &Envelope<'_>, manifest: &Manifest) -> Result<M
 /// is decoded as a sequence for the manifest's number of components, at its place in the envelope.
 /// A member that the envelope holds, and whose digest the manifest does not state, is passed over.
 ///
-/// Payload-fetch is judged whole before install, each by its being there, then by its digest, then
-/// by the grammar. Takes memory for the sequences alone.
+/// Payload-fetch is judged whole before install, each by its presence, then by its digest, then by
+/// the grammar. Allocates only for the sequences.
 ///
 /// Needs fewer than 2^32 components, and an envelope whose members end at places below 2^64, as
-/// each that `decode_envelope` gives does.
+/// those of `decode_envelope` do.
 pub fn members_of(
     alloc: Global,
     envelope: &Envelope<'_>,

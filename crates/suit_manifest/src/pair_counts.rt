@@ -8,7 +8,7 @@ use crate::{Manifest, Member, TextMember};
 use det_cbor::Text;
 use suit_commands::Sequence;
 
-// 1 where there is a sequence, else 0. So with the values of the next three.
+// 1 if there is a sequence, else 0. The next three do the same for their values.
 fn held_count(sequence: &Option<Sequence>) -> u64
     ensures is { (key : ℕ) (others : DataPairs)
         → pair_count (pair_then key (held_item sequence.now) others) ≡ pair_count others + result }

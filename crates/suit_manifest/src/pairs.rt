@@ -1,4 +1,4 @@
-//! The pairs of a map of numbered keys, of an item that was judged before, in one pass.
+//! The pairs of a map of numbered keys, read in one pass from an item judged before.
 //!
 //! Keys ascend in such a map, so its values are found by asking for one number after another.
 
@@ -26,8 +26,8 @@ fn up_to<'a>(map: &mut Cursor<'a>, end: &Cursor<'_>) -> Result<Cursor<'a>, Refus
     piece(map, map.left().saturating_sub(end.left()) as u64)
 }
 
-// The next value, of a map that was judged before, as an item by itself. A number or a string is
-// passed by its head.
+// The next value of a map judged before, as an item by itself. A number or a string is passed by
+// its head.
 #[tactic(auto, unfolding(crate::specs::MapReading::value_from))]
 fn read_value<'a>(map: &mut Cursor<'a>) -> Result<Cursor<'a>, Refusal>
     ensures { map_ok (λ inner. (inner, map.new)) result ≡ value_from map.old }
@@ -44,7 +44,7 @@ fn read_value<'a>(map: &mut Cursor<'a>) -> Result<Cursor<'a>, Refusal>
     }
 }
 
-// Whether the next key is this number, which the cursor passes the head of.
+// Whether the next key is this number. The cursor passes its head.
 #[tactic(auto, unfolding(crate::specs::MapReading::key_is))]
 fn key_is(map: &mut Cursor<'_>, number: u64) -> Result<bool, Refusal>
     ensures { map_ok (λ is. (is, map.new)) result ≡ key_is number map.old }
@@ -56,7 +56,7 @@ fn key_is(map: &mut Cursor<'_>, number: u64) -> Result<bool, Refusal>
     }
 }
 
-/// The pairs of a map that are left.
+/// The remaining pairs of a map.
 #[derive(Debug, Drop)]
 pub(crate) struct Pairs<'a> {
     pub(crate) map: Cursor<'a>,
@@ -90,7 +90,7 @@ impl<'a> Pairs<'a> {
         }
     }
 
-    /// Refuses a pair that is left: its key is none of those that were asked for.
+    /// Refuses a remaining pair: its key is none of those asked for.
     pub(crate) fn end(&self) -> Result<(), Refusal>
         ensures { result ≡ end_from self.now }
     {
@@ -102,7 +102,7 @@ impl<'a> Pairs<'a> {
     }
 }
 
-/// A value that is required under a number, in the map at a place.
+/// A value required under a number, in the map at a place.
 pub(crate) fn needed<'a>(
     place: u64,
     number: u64,

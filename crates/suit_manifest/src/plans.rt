@@ -37,9 +37,9 @@ pub(crate) fn component_count(manifest: &Manifest) -> u32
 }
 
 /// The update procedure (draft-ietf-suit-manifest-25, section 6.4): payload-fetch, install and
-/// validate, each behind the shared sequence. A member that is nowhere is an empty one, and a
-/// member that the manifest holds is never taken from those that stand apart. Takes no memory.
-/// Needs fewer than 2^32 components; a manifest of the grammar has at most eight.
+/// validate, each after the shared sequence. An absent member is an empty one, and a member that
+/// the manifest holds is never taken from those that stand apart. Takes no memory. Needs fewer than
+/// 2^32 components; a manifest of the grammar has at most eight.
 pub fn update_plan<'a>(manifest: &'a Manifest, members: &'a Members) -> Plan<'a>
     requires { length manifest.now.components < 2 ^ 32 }
     ensures { plan_tree result ≡ update_tree manifest.now members.now }

@@ -1,4 +1,4 @@
-//! Writing the pairs of a manifest's maps, each of which may be there or not.
+//! Writing the optional pairs of a manifest's maps.
 
 ghost use Rattle.std.specs.Prelude.{◌≡◌, ◌++◌, IfSome, OnOk};
 ghost use Rattle.det_cbor.specs.DataItem.{DataPairs, UnsignedInteger, spell, spell_pairs, IsString};

@@ -1,8 +1,7 @@
-//! Values of a manifest's map, of items that were judged before.
+//! Values of a manifest's map, read from items judged before.
 
-ghost use Rattle.std.specs.Prelude.{◌≡◌, option_map};
+ghost use Rattle.std.specs.Prelude.{◌≡◌};
 ghost use Rattle.det_cbor.specs.HeadReading.{map_ok};
-ghost use Rattle.det_cbor.specs.ItemReading.{utf8_text};
 ghost use Rattle.suit_params.specs.ParamReading.{text_bytes};
 ghost use Rattle.suit_params.specs.Answering.{Gives};
 ghost use Rattle.suit_manifest.specs.MapReading.{may};
@@ -10,14 +9,14 @@ ghost use Rattle.suit_manifest.specs.ManifestReading.{number_at, version_at, tex
 
 use crate::common::read_sequence;
 use crate::{Member, TextMember};
-use det_cbor::{Cursor, HeadKind, Reason, Text};
+use det_cbor::{Cursor, HeadKind, Reason, Text, as_text};
 use std::alloc::Global;
 use suit_params::{
     Fault, Refusal, Why, copy_left, digest_of, only_item, read_bytes, read_content, read_head,
     refused, same_place,
 };
 
-/// An unsigned number.
+/// Reads an unsigned number.
 #[tactic(auto, unfolding(crate::specs::ManifestReading::number_at))]
 pub(crate) fn read_number(mut item: Cursor<'_>) -> Result<u64, Refusal>
     ensures { result ≡ number_at item.entry }
@@ -30,7 +29,7 @@ pub(crate) fn read_number(mut item: Cursor<'_>) -> Result<u64, Refusal>
     }
 }
 
-/// The version, which is 1.
+/// Reads the version, which is 1.
 pub(crate) fn read_version(item: Cursor<'_>) -> Result<u64, Refusal>
     ensures { result ≡ version_at item.entry }
 {
@@ -43,20 +42,12 @@ pub(crate) fn read_version(item: Cursor<'_>) -> Result<u64, Refusal>
     }
 }
 
-// The bytes as a text.
-#[tactic(auto, using(suit_params::specs::TextLaws::good_text, suit_params::specs::TextLaws::bad_text))]
-fn utf8(bytes: &[u8]) -> Option<&str>
-    ensures { option_map (λ t. t.now) result ≡ utf8_text bytes.now }
-{
-    std::str::from_utf8(bytes).ok()
-}
-
 // The next bytes as a text, which stands at a place.
 fn text<'a>(item: &mut Cursor<'a>, count: u64, place: u64) -> Result<&'a str, Refusal>
     ensures { map_ok (λ t. (t.now, item.new)) result ≡ text_bytes place count item.old }
 {
     let bytes = read_bytes(item, count)?;
-    match utf8(bytes) {
+    match as_text(bytes) {
         Some(text) => Ok(text),
         None => refused(place, Why::Cbor(Reason::BadText)),
     }
@@ -74,7 +65,7 @@ fn read_text<'a>(mut item: Cursor<'a>) -> Result<&'a str, Refusal>
     }
 }
 
-/// A text, where there may be none.
+/// Reads a text, if there is one.
 pub(crate) fn read_reference(alloc: Global, item: Option<Cursor<'_>>) -> Result<Option<Text>, Fault>
     ensures { Gives (λ t. t) result (may text_at item.entry) }
 {
@@ -96,7 +87,7 @@ fn read_here(alloc: Global, item: Cursor<'_>, count: u32) -> Result<Member, Faul
     Ok(Member::Here(read_sequence(alloc, item, false, count)?))
 }
 
-// A digest, or a byte string that holds a sequence.
+// Reads a digest, or a byte string that holds a sequence.
 #[tactic(auto, unfolding(crate::specs::ManifestReading::severed_at))]
 fn read_severed(alloc: Global, mut item: Cursor<'_>, count: u32) -> Result<Member, Fault>
     ensures { Gives (λ m. m) result (severed_at count item.entry) }
@@ -109,7 +100,7 @@ fn read_severed(alloc: Global, mut item: Cursor<'_>, count: u32) -> Result<Membe
     }
 }
 
-/// The same, where there may be none.
+/// The same, if there is one.
 pub(crate) fn read_member(
     alloc: Global,
     item: Option<Cursor<'_>>,
@@ -138,7 +129,7 @@ fn read_text_here(alloc: Global, mut item: Cursor<'_>) -> Result<TextMember, Fau
     Ok(TextMember::Here(copy_left(alloc, content)?))
 }
 
-// A digest, or a byte string that holds one item.
+// Reads a digest, or a byte string that holds one item.
 #[tactic(auto, unfolding(crate::specs::ManifestReading::text_member_at))]
 fn read_text_item(alloc: Global, mut item: Cursor<'_>) -> Result<TextMember, Fault>
     ensures { Gives (λ m. m) result (text_member_at item.entry) }
@@ -151,7 +142,7 @@ fn read_text_item(alloc: Global, mut item: Cursor<'_>) -> Result<TextMember, Fau
     }
 }
 
-/// The same, where there may be none.
+/// The same, if there is one.
 pub(crate) fn read_text_member(alloc: Global, item: Option<Cursor<'_>>) -> Result<TextMember, Fault>
     ensures { Gives (λ m. m) result (text_in item.entry) }
 {

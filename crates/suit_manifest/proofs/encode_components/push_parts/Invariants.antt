@@ -4,7 +4,7 @@ use Rattle.det_cbor.specs.DataItem.{spell_items, IsString}
 use Rattle.suit_manifest.specs.Components.{string_items}
 use Rattle.suit_manifest.proofs.encode_components.push_parts.Given as goal
 
--- what is written so far and the spelling of what is left are the whole spelling, and what is left decides
+-- the bytes written so far and the spelling of the rest are the whole spelling, and the rest decides
 abbrev pub invariant-loop-part : goal.invariant-loop-part
 invariant-loop-part l =
     (l.out ++ spell_items (string_items (drop l.part-index l.parts)) ≡ l.fn.out ++ spell_items (string_items l.parts))
