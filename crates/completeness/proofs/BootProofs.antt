@@ -44,14 +44,13 @@ use Rattle.suit_cli.specs.Stages.{Declines, Ending, Ends, FaultOf, Goes, NoMemor
 use Rattle.suit_cli.specs.Statuses.{ending_status}
 use Rattle.suit_cli.specs.Words.{RunBoot, RunUpdate, task_of}
 use Rattle.suit_cli.proofs.Running.{Declining, holds_none_declines, status_done}
-use Rattle.suit_cli.proofs.Starving.{starved_near}
 use Rattle.suit_cli.proofs.TaskAnswers.{does_of}
 use Rattle.suit_cli.proofs.UpdateEnds.{cause_not_low}
 use Rattle.completeness.specs.Outcomes.{AreTold, IsFaultless, LeavesFlash}
 use Rattle.completeness.specs.Plays.{LeavesPlay}
 use Rattle.completeness.specs.Boots.{Activates, BootsWhole, ReadyToBoot, Records, boot_play}
 use Rattle.completeness.proofs.Begun.{never_fault, two_faults}
-use Rattle.completeness.proofs.Leaving.{completes, leaves, never_condition, never_stops}
+use Rattle.completeness.proofs.Leaving.{completes, leaves, never_condition, never_stops, starved_leaves}
 use Rattle.completeness.proofs.OnePlay.{one_list}
 use Rattle.completeness.proofs.SamePlaces.{no_entry, one_standing, same_places, stand_there, turned}
 use Rattle.completeness.proofs.UpdatePlayed.{SeesSame}
@@ -215,15 +214,7 @@ module _ (configs : OneConfigAnswer) (records : OneAnswer) (laws : BootLaws) whe
     of_stages (Says reply) answer same faultless =
         absurd (never_reply configs R.layout R.key b a ready.told.flash (R.configured ready.told.flash) (Says reply) tt (does_of words b a reply RunBoot ready.asks answer))
     of_stages (FaultOf object) answer same faultless = absurd (never_fault words l n b a (FaultOf object) answer tt faultless)
-    of_stages NoMemory answer same faultless = inr (record {
-      lacks = record {
-        status = refl;
-        line = refl;
-        launches = ap (λ (x : Launching). x.launches) same;
-        files = (starved_near words b a NoMemory refl answer).files ready.told.host;
-      };
-      reads = (starved_near words b a NoMemory refl answer).flash.reads ready.told.flash;
-    })
+    of_stages NoMemory answer same faultless = inr (starved_leaves words l n b a ready.told answer same)
 
     pub boot_completes : (ended : Ended) → IsFaultless l n b a → ComesTo words l n b a ended → BootsWhole words l b ready n a ended ⊎ LeavesFlash l n b a ended
     boot_completes _ faultless (ByStages e answer same) = of_stages e answer same faultless

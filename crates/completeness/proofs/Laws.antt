@@ -22,20 +22,7 @@ use Rattle.completeness.proofs.UpdateProofs.{only_update, update_completes}
 
 module _ (layout : List Entry) (key : Key) (bytes : List ℕ) (a : Accepted) where
   meets : IsAccepted layout key bytes a → Meets layout key bytes a
-  meets is =
-      let f = facts layout key bytes a is in
-      record {
-        are_bytes = f.are_bytes;
-        envelope = f.envelope;
-        is_short = f.short;
-        authentic = f.authentic;
-        says = f.says;
-        placed = f.placed;
-        members = f.members;
-        update_narrow = f.update_narrow;
-        invocation_narrow = f.invocation_narrow;
-        are_safe = f.safe;
-      }
+  meets = facts layout key bytes a
 
   accepted : Meets layout key bytes a → IsAccepted layout key bytes a
   accepted m here = record {

@@ -23,6 +23,13 @@ use Rattle.step_machine.specs.Spots.{content_of}
 use Rattle.step_machine.specs.Worlds.{IsChoice, StandAs, spot_of}
 use Rattle.step_machine.proofs.Lifting.{map_same}
 use Rattle.update_proc.specs.Moments.{HasContentsOf}
+use Rattle.suit_cli.specs.Coming.{Answered}
+use Rattle.suit_cli.specs.Launching.{Launching}
+use Rattle.suit_cli.specs.Outside.{Outside}
+use Rattle.suit_cli.specs.Program.{answers}
+use Rattle.suit_cli.specs.Stages.{NoMemory}
+use Rattle.suit_cli.proofs.Starving.{starved_near}
+use Rattle.completeness.specs.Outcomes.{AreTold, LeavesFlash}
 use Rattle.completeness.specs.Plays.{Completes, LeavesPlay}
 use Rattle.completeness.proofs.SamePlaces.{no_entry}
 
@@ -74,3 +81,19 @@ module _ (plan : PlanTree) (setting : Setting) (before after : List (List ℕ)) 
 
   pub never_condition : (place : ℕ) → Completes (played plan setting before) → PlaysPlan plan setting (plays.ConditionFailed place) before after launched now → ⊥
   never_condition place done p = let never : Done done.state ≡ Condition place p.ends.0 = sym done.ending ∙ p.ends.1 in cc
+
+-- ---- an answer in stages that lacks memory
+
+pub starved_leaves : (words : List (List ℕ)) (l n : Launching) (b a : Outside) → AreTold l b → answers words b a NoMemory → n ≡ l
+    → LeavesFlash l n b a (Answered NoMemory)
+starved_leaves words l n b a told answer same =
+    let near = starved_near words b a NoMemory refl answer in
+    record {
+      lacks = record {
+        status = refl;
+        line = refl;
+        launches = ap (λ (x : Launching). x.launches) same;
+        files = near.files told.host;
+      };
+      reads = near.flash.reads told.flash;
+    }

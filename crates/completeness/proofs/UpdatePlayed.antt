@@ -151,7 +151,7 @@ module _ (layout : List Entry) (bytes : List ℕ) (s : EnvelopeSays) (m : Manife
               (keeps_there layout q p (turned p q same) Tree kept.numbers mid.flash.reads a.flash.reads kept.contents));
         }
 
-    -- ---- or memory was wanting
+    -- ---- or memory ran out
 
     pub record StarvedSo (end : UpdateEnd) : Type 0 where
       pub is : end ≡ ends.NoMemory

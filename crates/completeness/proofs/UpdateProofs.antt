@@ -40,12 +40,12 @@ use Rattle.suit_cli.specs.Statuses.{ending_status}
 use Rattle.suit_cli.proofs.Running.{Declining, status_done}
 use Rattle.suit_cli.proofs.UpdateEnds.{cause_not_low}
 use Rattle.completeness.specs.CompletenessLaws.{AsksUpdate}
-use Rattle.suit_cli.proofs.AcceptedFacts.{Facts, began, facts}
+use Rattle.suit_cli.proofs.AcceptedFacts.{began, facts}
 use Rattle.suit_cli.proofs.OneStage.{alike_self, one_envelope, one_manifest, one_members, one_read}
-use Rattle.suit_cli.proofs.Starving.{starved_near}
 use Rattle.suit_cli.proofs.TaskAnswers.{does_of}
 use Rattle.completeness.specs.Outcomes.{AreTold, IsFaultless, LeavesFlash}
-use Rattle.completeness.specs.Updates.{Installs, Offers, ReadyToUpdate, Sets, digest_of, record_for}
+use Rattle.completeness.specs.Updates.{Installs, Meets, Offers, ReadyToUpdate, Sets, digest_of, record_for}
+use Rattle.completeness.proofs.Leaving.{starved_leaves}
 use Rattle.completeness.proofs.Begun.{never_fault, two_faults}
 use Rattle.completeness.proofs.SamePlaces.{AreSame, same_places}
 use Rattle.completeness.proofs.UpdatePlayed.{InstalledSo, SeesSame, installed_so, way}
@@ -90,7 +90,7 @@ module _ (name : List ℕ) (uris : List (List ℕ × List ℕ)) (l n : Launching
 -- ---- one thing is accepted
 
 module _ (envelopes : EnvelopeLaws) (manifests : ManifestLaws) (members : MembersLaws) (layout : List Entry) (key : Key) (bytes : List ℕ) (b : Outside) (told : IsTrue b.told)
-    (x y : Accepted) (f : Facts layout key bytes x) (g : Facts layout key bytes y) where
+    (x y : Accepted) (f : Meets layout key bytes x) (g : Meets layout key bytes y) where
   pub same_said : y.said ≡ x.said
   same_said = ((one_envelope envelopes bytes).gives b b b b x.said y.said (alike_self b told) (refl, (f.are_bytes, f.envelope)) (refl, (g.are_bytes, g.envelope))).0
 
@@ -122,10 +122,10 @@ module _ (configs : OneAnswer) (envelopes : EnvelopeLaws) (manifests : ManifestL
           subst (λ (z : List ℕ). IsAccepted O.layout O.key z u.accepted) same_bytes
           (subst (λ (z : Key). IsAccepted O.layout z u.bytes u.accepted) config.1 (subst (λ (z : List Entry). IsAccepted z u.key u.bytes u.accepted) config.0 u.is_accepted))
 
-      f : Facts O.layout O.key O.bytes O.accepted
+      f : Meets O.layout O.key O.bytes O.accepted
       f = facts O.layout O.key O.bytes O.accepted O.is_accepted
 
-      g : Facts O.layout O.key O.bytes u.accepted
+      g : Meets O.layout O.key O.bytes u.accepted
       g = facts O.layout O.key O.bytes u.accepted accepted_there
 
       manifest_is : u.accepted.manifest ≡ O.accepted.manifest
@@ -189,15 +189,7 @@ module _ (configs : OneAnswer) (envelopes : EnvelopeLaws) (manifests : ManifestL
         absurd (laws.accepted ready.name b a (O.layout, O.key) O.bytes O.accepted reply ready.told.host ready.told.flash O.configured O.read O.is_accepted
         (does_of words b a reply (RunUpdate ready.name ready.uris) ready.asks answer))
     of_stages (FaultOf object) answer same faultless = absurd (never_fault words l n b a (FaultOf object) answer tt faultless)
-    of_stages NoMemory answer same faultless = inr (record {
-      lacks = record {
-        status = refl;
-        line = refl;
-        launches = ap (λ (x : Launching). x.launches) same;
-        files = (starved_near words b a NoMemory refl answer).files ready.told.host;
-      };
-      reads = (starved_near words b a NoMemory refl answer).flash.reads ready.told.flash;
-    })
+    of_stages NoMemory answer same faultless = inr (starved_leaves words l n b a ready.told answer same)
 
     pub update_completes : (ended : Ended) → IsFaultless l n b a → ComesTo words l n b a ended → Installs words l b ready n a ended ⊎ LeavesFlash l n b a ended
     update_completes _ faultless (ByStages e answer same) = of_stages e answer same faultless
@@ -214,7 +206,7 @@ module _ (configs : OneAnswer) (envelopes : EnvelopeLaws) (manifests : ManifestL
       abbrev V : Accepted
       V = u.accepted
 
-      h : Facts u.layout u.key u.bytes V
+      h : Meets u.layout u.key u.bytes V
       h = facts u.layout u.key u.bytes V u.is_accepted
 
       itself : AreSame V.places V.places

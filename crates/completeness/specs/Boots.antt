@@ -41,21 +41,26 @@ pub record Records (before : Outside) : Type 0 where
 -- ---- the play
 
 -- the active slots, which its components stand for, and the payloads of its envelope
-pub record Activates (layout : List Entry) (reads : List ℕ) (installed : Record) (manifest : Manifest) : Type 0 where
+pub record Activates (layout : List Entry) (reads : List ℕ) (installed : Record)
+    (manifest : Manifest) : Type 0 where
   pub standings : List Standing
   pub stand : StandActive layout manifest.components installed.active standings
   pub payloads : List (List ℕ × List ℕ)
   pub has : HasPayloads (bank_in reads installed) payloads
 
 -- the play of its invocation procedure on the flash as it reads, with working memory empty and no names of files
-abbrev pub boot_play : (layout : List Entry) (manifest : Manifest) (installed : Record) (before : Outside) → Activates layout before.flash.reads installed manifest → Outcome Device
+abbrev pub boot_play : (layout : List Entry) (manifest : Manifest) (installed : Record)
+    (before : Outside)
+    → Activates layout before.flash.reads installed manifest → Outcome Device
 boot_play layout manifest installed before on =
-    played (invocation_tree manifest) (setting_of on.standings on.payloads [] before.files) (contents_of on.standings (empty_ram layout) before.flash.reads)
+    played (invocation_tree manifest) (setting_of on.standings on.payloads [] before.files)
+    (contents_of on.standings (empty_ram layout) before.flash.reads)
 
 -- ---- the needs
 
 -- The words ask for it; and the invocation procedure of what is recorded, played on the active slots, comes to its end.
-pub record ReadyToBoot (words : List (List ℕ)) (launched : Launching) (before : Outside) : Type 0 where
+pub record ReadyToBoot (words : List (List ℕ)) (launched : Launching) (before : Outside)
+    : Type 0 where
   pub asks : task_of words ≡ Some RunBoot
   pub told : AreTold launched before
   pub records : Records before
@@ -64,10 +69,12 @@ pub record ReadyToBoot (words : List (List ℕ)) (launched : Launching) (before 
 
 -- ---- the end
 
--- It ended, and the line says so. What was launched is what the play launches, and the flash has the contents that it leaves.
-pub record BootsWhole (words : List (List ℕ)) (launched : Launching) (before : Outside) (ready : ReadyToBoot words launched before) (now : Launching) (after : Outside) (ended : Ended)
+-- It ended, and the line says so. The launches are those of the play, and the flash has the contents that it leaves.
+pub record BootsWhole (words : List (List ℕ)) (launched : Launching) (before : Outside)
+    (ready : ReadyToBoot words launched before) (now : Launching) (after : Outside) (ended : Ended)
     : Type 0 where
   pub ended_is : ended ≡ Booted ends.Ended (codes "ended\n")
   pub left : let r = ready.records in
-      LeavesPlay ready.on.standings (boot_play r.layout r.is.said r.installed before ready.on) launched.launches now.launches after.flash.reads
+      LeavesPlay ready.on.standings (boot_play r.layout r.is.said r.installed before ready.on)
+      launched.launches now.launches after.flash.reads
   pub files : after.files ≡ before.files

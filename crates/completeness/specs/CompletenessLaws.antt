@@ -11,7 +11,7 @@ use Rattle.suit_cli.specs.Acceptance.{Accepted, IsAccepted}
 use Rattle.suit_cli.specs.Coming.{Ended, ended_status}
 use Rattle.suit_cli.specs.Launching.{Launching}
 use Rattle.suit_cli.specs.Outside.{Outside, Sunk}
-use Rattle.suit_cli.specs.Program.{ComesTo, Runs}
+use Rattle.suit_cli.specs.Program.{ComesTo, Performs}
 use Rattle.suit_cli.specs.Words.{RunBoot, RunUpdate, task_of}
 use Rattle.completeness.specs.Outcomes.{AreTold, EndsWell, IsFaultless, LeavesFlash, PutsDone}
 use Rattle.completeness.specs.Updates.{Installs, Meets, ReadyToUpdate}
@@ -23,7 +23,7 @@ use Rattle.completeness.specs.Boots.{BootsWhole, ReadyToBoot}
 abbrev pub AcceptsWhatMeets : Type 0
 AcceptsWhatMeets = (layout : List Entry) (key : Key) (bytes : List ℕ) (a : Accepted) → IsAccepted layout key bytes a ↔ Meets layout key bytes a
 
--- an update that is ready is installed, or memory is wanting, where no fault is counted
+-- an update that is ready is installed, or memory runs out, where no fault is counted
 abbrev pub UpdateCompletes : Type 0
 UpdateCompletes =
     (words : List (List ℕ)) (launched now : Launching) (before after : Outside) (ended : Ended) (ready : ReadyToUpdate words launched before)
@@ -34,7 +34,7 @@ UpdateCompletes =
 abbrev pub UpdateEndsWell : Type 0
 UpdateEndsWell =
     (words : List (List ℕ)) (launched now : Launching) (before after : Outside) (sunk_before sunk_after : Sunk) (result : ℕ) (ready : ReadyToUpdate words launched before)
-    → IsFaultless launched now before after → Runs words launched now before after sunk_before sunk_after result
+    → IsFaultless launched now before after → Performs words launched now before after sunk_before sunk_after result
     → EndsWell (Installs words launched before ready now after) (LeavesFlash launched now before after) sunk_before sunk_after result
 
 abbrev pub AsksUpdate : List (List ℕ) → Type 0
@@ -51,12 +51,12 @@ OnlyReadyUpdates =
 abbrev pub UpdateSaysSo : Type 0
 UpdateSaysSo =
     (words : List (List ℕ)) (launched now : Launching) (before after : Outside) (sunk_before sunk_after : Sunk) (held : Option Record) → AsksUpdate words → AreTold launched before
-    → RecordOf VERSION_1 (head_of VERSION_1 before.flash.reads) held → Runs words launched now before after sunk_before sunk_after 0
+    → RecordOf VERSION_1 (head_of VERSION_1 before.flash.reads) held → Performs words launched now before after sunk_before sunk_after 0
     → (ready : ReadyToUpdate words launched before) × PutsDone (Installs words launched before ready now after) sunk_before sunk_after
 
 -- ---- `run boot`
 
--- a boot that is ready is played to its end, or memory is wanting and the flash is left as it was, where no fault is counted
+-- a ready boot is played to its end, or memory runs out and the flash is left as it was, where no fault is counted
 abbrev pub BootCompletes : Type 0
 BootCompletes =
     (words : List (List ℕ)) (launched now : Launching) (before after : Outside) (ended : Ended) (ready : ReadyToBoot words launched before)
@@ -66,7 +66,7 @@ BootCompletes =
 abbrev pub BootEndsWell : Type 0
 BootEndsWell =
     (words : List (List ℕ)) (launched now : Launching) (before after : Outside) (sunk_before sunk_after : Sunk) (result : ℕ) (ready : ReadyToBoot words launched before)
-    → IsFaultless launched now before after → Runs words launched now before after sunk_before sunk_after result
+    → IsFaultless launched now before after → Performs words launched now before after sunk_before sunk_after result
     → EndsWell (BootsWhole words launched before ready now after) (LeavesFlash launched now before after) sunk_before sunk_after result
 
 -- on a sound flash it is done only where it was ready
@@ -79,7 +79,7 @@ OnlyReadyBoots =
 abbrev pub BootSaysSo : Type 0
 BootSaysSo =
     (words : List (List ℕ)) (launched now : Launching) (before after : Outside) (sunk_before sunk_after : Sunk) → task_of words ≡ Some RunBoot → AreTold launched before
-    → before.flash.size ≡ length before.flash.reads → Sound VERSION_1 before.flash.reads → Runs words launched now before after sunk_before sunk_after 0
+    → before.flash.size ≡ length before.flash.reads → Sound VERSION_1 before.flash.reads → Performs words launched now before after sunk_before sunk_after 0
     → (ready : ReadyToBoot words launched before) × PutsDone (BootsWhole words launched before ready now after) sunk_before sunk_after
 
 pub record CompletenessLaws : Type 0 where

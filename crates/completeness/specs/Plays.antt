@@ -16,7 +16,8 @@ pub record Completes (outcome : Outcome Device) : Type 0 where
 
 -- The launches were those of the play; and as the flash reads in the end, with working memory left somehow, each component
 -- has the content that the play leaves there.
-pub record LeavesPlay (standings : List Standing) (outcome : Outcome Device) (launched now : List Launch) (after : List ℕ) : Type 0 where
+pub record LeavesPlay (standings : List Standing) (outcome : Outcome Device)
+    (launched now : List Launch) (after : List ℕ) : Type 0 where
   pub gained : List Launch
   pub added : now ≡ launched ++ gained
   pub launches : map launched_as gained ≡ outcome.world.launches

@@ -2,12 +2,9 @@
 use Rattle.std.specs.Prelude.{◌≡◌, ℕ, List, Option, Some, codes}
 use Rattle.suit_params.specs.declared.digest.Digest.{Digest}
 use Rattle.suit_commands.specs.Tree.{PlanTree}
-use Rattle.suit_envelope.specs.Authentic.{IsAuthentic}
 use Rattle.suit_envelope.specs.Members.{string_digest}
 use Rattle.suit_envelope.specs.Payloads.{HasPayloads}
-use Rattle.suit_envelope.specs.Said.{EnvelopeOf}
-use Rattle.suit_manifest.specs.MembersApart.{HasMembers}
-use Rattle.suit_manifest.specs.Procedures.{invocation_tree, update_tree}
+use Rattle.suit_manifest.specs.Procedures.{update_tree}
 use Rattle.path_model.specs.DevicePlays.{Device, played}
 use Rattle.path_model.specs.Plays.{Outcome}
 use Rattle.flash_layout.specs.declared.frame.TheConstants.{VERSION_1}
@@ -15,11 +12,9 @@ use Rattle.flash_layout.specs.declared.key.Key.{Key}
 use Rattle.flash_layout.specs.declared.layout.Entry.{Entry}
 use Rattle.flash_layout.specs.declared.slot.Record.{Record}
 use Rattle.flash_layout.specs.Frames.{head_of}
-use Rattle.flash_layout.specs.Placement.{ArePlaces}
 use Rattle.flash_slots.specs.RamContents.{empty_ram}
 use Rattle.rollback_record.specs.HeadRecord.{RecordOf}
 use Rattle.rollback_record.specs.Judging.{IsAcceptable}
-use Rattle.rollback_record.specs.SoundFlash.{key_bytes}
 use Rattle.step_machine.specs.declared.spot.Standing.{Standing}
 use Rattle.step_machine.specs.Devices.{contents_of}
 use Rattle.step_machine.specs.PlanRuns.{setting_of}
@@ -28,11 +23,10 @@ use Rattle.update_proc.specs.declared.update_end.UpdateEnd.TheVariants as ends
 use Rattle.update_proc.specs.Choices.{AreChosen, active_slots}
 use Rattle.update_proc.specs.Moments.{KeepsContents}
 use Rattle.suit_cli.specs.Acceptance.{Accepted, IsAccepted}
+pub use Rattle.suit_cli.specs.Acceptance.{Meets}
 use Rattle.suit_cli.specs.Coming.{Ended, Updated}
-use Rattle.suit_cli.specs.Envelopes.{AreBytes, IsShort, ManifestOf}
 use Rattle.suit_cli.specs.Inputs.{longest_file, IsRead}
 use Rattle.suit_cli.specs.Installed.{Holds}
-use Rattle.suit_cli.specs.Judgement.{AreSafe, IsNarrow}
 use Rattle.suit_cli.specs.Launching.{Launching}
 use Rattle.suit_cli.specs.Lines.{number_line}
 use Rattle.suit_cli.specs.Outside.{Outside}
@@ -40,25 +34,6 @@ use Rattle.suit_cli.specs.Updating.{new_of}
 use Rattle.suit_cli.specs.Words.{RunUpdate, task_of}
 use Rattle.completeness.specs.Outcomes.{AreTold}
 use Rattle.completeness.specs.Plays.{Completes, LeavesPlay}
-
--- ---- acceptance
-
--- the demands on the bytes of a file, under the layout and the key of the flash
-pub record Meets (layout : List Entry) (key : Key) (bytes : List ℕ) (a : Accepted) : Type 0 where
-  -- they spell an envelope that is short enough
-  pub are_bytes : AreBytes bytes
-  pub envelope : EnvelopeOf bytes a.said
-  pub is_short : IsShort a.said
-  -- it is authentic, and has a manifest
-  pub authentic : IsAuthentic a.said.wrapper a.said.manifest (key_bytes key)
-  pub says : ManifestOf a.said a.manifest
-  -- the layout has the manifest's components, and its members are there and match
-  pub placed : ArePlaces layout a.manifest.components a.places
-  pub members : HasMembers a.said a.manifest a.members
-  -- both its procedures are within the width that is judged, and safe
-  pub update_narrow : IsNarrow (update_tree a.manifest a.members)
-  pub invocation_narrow : IsNarrow (invocation_tree a.manifest)
-  pub are_safe : AreSafe (update_tree a.manifest a.members) (invocation_tree a.manifest)
 
 -- ---- the offer
 
@@ -90,7 +65,8 @@ pub record Offers (name : List ℕ) (before : Outside) : Type 0 where
 -- ---- the play
 
 -- the slots that its components stand for, and the payloads of its envelope
-pub record Sets (layout : List Entry) (bytes : List ℕ) (a : Accepted) (held : Option Record) : Type 0 where
+pub record Sets (layout : List Entry) (bytes : List ℕ) (a : Accepted) (held : Option Record)
+    : Type 0 where
   pub numbers : List ℕ
   pub chosen : AreChosen layout a.places (procedure_of a) (active_slots held) numbers
   pub standings : List Standing
@@ -99,35 +75,48 @@ pub record Sets (layout : List Entry) (bytes : List ℕ) (a : Accepted) (held : 
   pub has : HasPayloads bytes payloads
 
 -- its play on the flash as it reads, with working memory empty and these names of files for URIs
-abbrev pub play_of : (layout : List Entry) (bytes : List ℕ) (a : Accepted) (held : Option Record) → Sets layout bytes a held → List (List ℕ × List ℕ) → Outside → Outcome Device
+abbrev pub play_of : (layout : List Entry) (bytes : List ℕ) (a : Accepted) (held : Option Record)
+    → Sets layout bytes a held → List (List ℕ × List ℕ) → Outside → Outcome Device
 play_of layout bytes a held sets uris before =
-    played (procedure_of a) (setting_of sets.standings sets.payloads uris before.files) (contents_of sets.standings (empty_ram layout) before.flash.reads)
+    played (procedure_of a) (setting_of sets.standings sets.payloads uris before.files)
+    (contents_of sets.standings (empty_ram layout) before.flash.reads)
 
 -- ---- the needs
 
 -- The words ask for it, what they name is accepted, and it may be recorded beside what the flash holds; and its procedure,
 -- played on the chosen slots, comes to its end.
-pub record ReadyToUpdate (words : List (List ℕ)) (launched : Launching) (before : Outside) : Type 0 where
+pub record ReadyToUpdate (words : List (List ℕ)) (launched : Launching) (before : Outside)
+    : Type 0 where
   pub name : List ℕ
   pub uris : List (List ℕ × List ℕ)
   pub asks : task_of words ≡ Some (RunUpdate name uris)
   pub told : AreTold launched before
   pub offers : Offers name before
   pub sets : Sets offers.layout offers.bytes offers.accepted offers.held
-  pub completes : Completes (play_of offers.layout offers.bytes offers.accepted offers.held sets uris before)
+  pub completes :
+      Completes (play_of offers.layout offers.bytes offers.accepted offers.held sets uris before)
 
 -- ---- the end
 
--- It is installed, and the line says its number. The flash has its record, and the contents that the play leaves; those of
--- slots that it may not write are as they were. What was launched is what the play launches.
-pub record Installs (words : List (List ℕ)) (launched : Launching) (before : Outside) (ready : ReadyToUpdate words launched before) (now : Launching) (after : Outside) (ended : Ended)
+-- It is installed, and the line says its number. The flash has its record, and the contents that the play leaves; those
+-- of slots that it may not write are as they were. The launches are those of the play.
+pub record Installs (words : List (List ℕ)) (launched : Launching) (before : Outside)
+    (ready : ReadyToUpdate words launched before) (now : Launching) (after : Outside)
+    (ended : Ended)
     : Type 0 where
   pub ended_is : let o = ready.offers in
-      ended ≡ Updated (ends.Installed (record_for o.accepted o.held before.flash.reads ready.sets.numbers)) (number_line (codes "installed") o.accepted.manifest.sequence)
+      ended
+      ≡ Updated
+      (ends.Installed (record_for o.accepted o.held before.flash.reads ready.sets.numbers))
+      (number_line (codes "installed") o.accepted.manifest.sequence)
   pub recorded : let o = ready.offers in
-      RecordOf VERSION_1 (head_of VERSION_1 after.flash.reads) (Some (record_for o.accepted o.held before.flash.reads ready.sets.numbers))
+      RecordOf VERSION_1 (head_of VERSION_1 after.flash.reads)
+      (Some (record_for o.accepted o.held before.flash.reads ready.sets.numbers))
   pub left : let o = ready.offers in
-      LeavesPlay ready.sets.standings (play_of o.layout o.bytes o.accepted o.held ready.sets ready.uris before) launched.launches now.launches after.flash.reads
+      LeavesPlay ready.sets.standings
+      (play_of o.layout o.bytes o.accepted o.held ready.sets ready.uris before)
+      launched.launches now.launches after.flash.reads
   pub others : let o = ready.offers in
-      KeepsContents o.layout o.accepted.places (procedure_of o.accepted) ready.sets.numbers before.flash.reads after.flash.reads
+      KeepsContents o.layout o.accepted.places (procedure_of o.accepted) ready.sets.numbers
+      before.flash.reads after.flash.reads
   pub files : after.files ≡ before.files

@@ -9,11 +9,11 @@ use suit_cli::{soundness_laws, update_laws};
 use suit_envelope::envelope_laws;
 use suit_manifest::{manifest_laws, members_laws};
 
-/// Does nothing. Its contract has the laws of a host, a flash and a launcher that tell what they hold. Where the file is
-/// accepted, may be recorded, and its procedure can be played to its end, and none of them counts a fault, `run update`
-/// installs it with status 0, or memory was wanting, and the flash reads as before. Where what is recorded on a sound flash can be
-/// played to its end, `run boot` does that, with the launches of the play, or memory was wanting, and nothing was launched.
-/// Each ends with status 0 only then.
+/// Does nothing. Its contract has the laws of a host, a flash and a launcher that tell what they hold. Where the file
+/// is accepted, may be recorded, and its procedure can be played to its end, and none of them counts a fault, `run
+/// update` installs it with status 0, or memory ran out, and the flash reads as before. Where what is recorded on a
+/// sound flash can be played to its end, `run boot` does that, with the launches of the play, or memory ran out, and
+/// nothing was launched. Each ends with status 0 only then.
 pub fn completeness_laws()
     ensures { CompletenessLaws }
 {

@@ -4,7 +4,7 @@ use Rattle.std.specs.Str.{IsUtf8}
 use Rattle.suit.specs.declared.source.Found.{Found}
 use Rattle.suit.specs.declared.source.Found.TheVariants as found
 
--- ---- what a look for a word found, where it has so much room
+-- ---- the result of looking for a word, with so much room
 
 abbrev pub FitsRoom : Found → List ℕ → Type 0
 FitsRoom (found.Word n) room = n ≤ length room

@@ -11,7 +11,7 @@ use suit_cli::{Status, run};
 use suit_edge::{FileDisk, FileHost, FileLauncher, StdSink};
 use words::command_line;
 
-/// The status where there is no memory for the words.
+/// The status where memory ran out for the words.
 const OUT_OF_MEMORY: u8 = 11;
 
 fn main(rt: HostRuntime) -> ExitCode {

@@ -1,11 +1,11 @@
 //! Where the words of the command line come from.
 
-ghost use Rattle.std.specs.Prelude.{List, ℕ, Bool, IsTrue, slice_get};
+ghost use Rattle.std.specs.Prelude.{◌≡◌, List, ℕ, Bool, IsTrue, slice_get};
 ghost use Rattle.suit.specs.CommandLine.{FitsRoom, Finds};
 
 use std::env::{Env, FillError};
 
-/// What a look for a word found.
+/// The result of looking for a word.
 #[derive(Clone, Copy, Debug, PartialEq, Eq)]
 pub enum Found {
     /// The word has so many bytes, which stand at the front of the room.
@@ -37,7 +37,10 @@ pub struct Started<'a, R> {
 }
 
 impl<'a, R> Started<'a, R> {
-    pub fn new(rt: &'a R) -> Started<'a, R> {
+    /// The command line of this runtime.
+    pub(crate) fn new(rt: &'a R) -> Started<'a, R>
+        ensures { result.rt.now ≡ rt.now }
+    {
         Started { rt }
     }
 }

@@ -34,7 +34,8 @@ fn word_at<S: Source>(
     index: usize,
     room: &mut Vec<u8>,
 ) -> Result<Option<Text>, AllocError>
-    ensures { IfOk result (λ word. IsTrue S.told → IsFound (slice_get (S.words source.now) index) word) }
+    ensures { IfOk result
+        (λ word. IsTrue S.told → IsFound (slice_get (S.words source.now) index) word) }
 {
     for _ in 0..usize::BITS {
         match source.word(index, room.as_mut_slice()) {

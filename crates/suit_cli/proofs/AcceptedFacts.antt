@@ -1,16 +1,13 @@
--- What was found of an envelope that was accepted, and where one is not.
+-- Facts about an envelope that was accepted, and where one is not.
 use Rattle.std.proofs.Common.{◌≡◌, ◌⊎◌, inl, inr, ℕ, List, refl, sym, subst}
 use Rattle.suit_commands.specs.Tree.{PlanTree}
-use Rattle.suit_envelope.specs.Authentic.{IsAuthentic}
 use Rattle.suit_envelope.specs.Envelopes.{EnvelopeSays}
 use Rattle.suit_envelope.specs.Said.{EnvelopeOf}
 use Rattle.suit_manifest.specs.declared.manifest.Manifest.{Manifest}
 use Rattle.suit_manifest.specs.declared.manifest.Members.{Members}
-use Rattle.suit_manifest.specs.MembersApart.{HasMembers}
 use Rattle.suit_manifest.specs.Procedures.{update_tree, invocation_tree}
 use Rattle.flash_layout.specs.declared.key.Key.{Key}
 use Rattle.flash_layout.specs.declared.layout.Entry.{Entry}
-use Rattle.flash_layout.specs.Placement.{ArePlaces}
 use Rattle.rollback_record.specs.SoundFlash.{key_bytes}
 use Rattle.suit_cli.specs.declared.reply.Reply.{Reply}
 use Rattle.suit_cli.specs.Outside.{Outside, with_flash}
@@ -19,7 +16,7 @@ use Rattle.suit_cli.specs.Inputs.{longest_file, IsAbsent, IsRead, IsTooLong, IsU
 use Rattle.suit_cli.specs.Envelopes.{AreBytes, IsShort, ManifestOf, envelope_in, manifest_in, members_in, short}
 use Rattle.suit_cli.specs.Judgement.{AreSafe, IsNarrow, narrow}
 use Rattle.suit_cli.specs.Holding.{HasProcedures}
-use Rattle.suit_cli.specs.Acceptance.{Accepted, AreUnsafe, IsAccepted, accepts, accepts_manifest, authentic_in, judges, places_in, safe_in}
+use Rattle.suit_cli.specs.Acceptance.{Accepted, AreUnsafe, IsAccepted, Meets, accepts, accepts_manifest, authentic_in, judges, places_in, safe_in}
 use Rattle.suit_cli.specs.Commands.{begins_update}
 use Rattle.suit_cli.specs.UpdateLaws.{AtAuthenticity, AtComponents, AtEnvelope, AtInvocationWidth, AtLength, AtManifest, AtMembers, AtPaths, AtUpdateWidth, HasAll, IsAuthenticIn, IsDeclined}
 use Rattle.suit_cli.proofs.Chains.{anywhere}
@@ -29,19 +26,7 @@ use Rattle.suit_cli.proofs.Running.{Declining, declining, holds_none_declines, l
 
 -- ---- accepted
 
-pub record Facts (layout : List Entry) (key : Key) (bytes : List ℕ) (a : Accepted) : Type 0 where
-  pub are_bytes : AreBytes bytes
-  pub envelope : EnvelopeOf bytes a.said
-  pub short : IsShort a.said
-  pub authentic : IsAuthentic a.said.wrapper a.said.manifest (key_bytes key)
-  pub says : ManifestOf a.said a.manifest
-  pub placed : ArePlaces layout a.manifest.components a.places
-  pub members : HasMembers a.said a.manifest a.members
-  pub update_narrow : IsNarrow (update_tree a.manifest a.members)
-  pub invocation_narrow : IsNarrow (invocation_tree a.manifest)
-  pub safe : AreSafe (update_tree a.manifest a.members) (invocation_tree a.manifest)
-
-pub facts : (layout : List Entry) (key : Key) (bytes : List ℕ) (a : Accepted) → IsAccepted layout key bytes a → Facts layout key bytes a
+pub facts : (layout : List Entry) (key : Key) (bytes : List ℕ) (a : Accepted) → IsAccepted layout key bytes a → Meets layout key bytes a
 facts layout key bytes a is =
     let e = is anywhere in
     let s = e.later in
@@ -50,17 +35,17 @@ facts layout key bytes a is =
     let p = m.later in
     let x = p.later in
     let j = x.later in
-    subst (Facts layout key bytes) (sym j.later.1) (record {
+    subst (Meets layout key bytes) (sym j.later.1) (record {
       are_bytes = e.given.1.0;
       envelope = e.given.1.1;
-      short = s.given.1;
+      is_short = s.given.1;
       authentic = u.given.1;
       says = m.given.1;
       placed = p.given.1;
       members = x.given.1;
       update_narrow = j.given.given.1;
       invocation_narrow = j.given.later.given.1;
-      safe = j.given.later.later.1;
+      are_safe = j.given.later.later.1;
     })
 
 -- ---- not accepted

@@ -1,4 +1,4 @@
--- What the code of `make` comes to, stage by stage.
+-- The results of the code of `make`, stage by stage.
 use Rattle.std.proofs.Common.{◌≡◌, ◌∙◌, ℕ, ◌<◌, ◌+◌, Bool, true, false, List, [], ◌∷◌, ◌++◌, length, drop, get_or, Option, Some, None, Result, Ok, Err, ◌⊎◌, inl, inr, refl, sym, ap, subst}
 use Rattle.std.specs.Prelude.{IfOk, IsTrue, ◌&&◌, ◌||◌}
 use Rattle.std.specs.Str.{IsUtf8, bytes_eq}
@@ -27,7 +27,7 @@ use Rattle.suit_cli.specs.Authoring.{longest_named, IsNoText, IsNoDescription, T
 
 -- ---- the description
 
--- it is no JSON, which was told unless there was no memory
+-- it is no JSON, which was told unless memory ran out
 pub no_text_there : (bytes : List ℕ) (made : Result Reply AllocError) → (IsUtf8 bytes → read bytes ≡ None) → Makes made outcomes.Refused bad_json_line
     → (here : Outside) → Does (description_in bytes) here here (Err (stop_of made))
 no_text_there bytes (Ok reply) none says here = (refl, IsNoText none says)
@@ -68,7 +68,7 @@ file_stops read name names before after (stops.Declined reply) does = inl does
 file_stops read name names before after (stops.Fault object) does = inl does
 file_stops read name names before after stops.NoMemory does = inr (inl does)
 
--- memory may be wanting before any of them
+-- memory may run out before any of them
 pub files_starve : (read : Files) (names : List (List ℕ)) (here : Outside) → Does (files_after read names) here here (Err stops.NoMemory)
 files_starve read [] here = refl
 files_starve read (name ∷ names) here = inl refl

@@ -23,7 +23,7 @@ use Rattle.suit_cli.specs.Launching.{Launching}
 use Rattle.suit_cli.specs.Booting.{IsBoot, Boots, boot_line}
 use Rattle.suit_cli.specs.Coming.{BootsBy, Comes, ByStages, ByBoot, ByUpdate, Ended, Answered, Booted, Updated, IsStarved, IsTold}
 
--- a boot that refused the bank is one that lacked memory, too
+-- a boot that refused the bank is one whose memory ran out, too
 starved_boot : (layout : List Entry) (key : Key) (l m : Launching) (b a : Outside) (refusal : Refusal) → IsBoot layout key l m b a (ends.BadBank refusal)
     → IsBoot layout key l m b a ends.NoMemory
 starved_boot layout key l m b a refusal boot = record {

@@ -1,4 +1,4 @@
--- `run boot` asks for no file, and so no fault of the host stops it.
+-- `run boot` never ends with status 7. It is given no names of files.
 use Rattle.std.proofs.Common.{◌≡◌, ℕ, List, Some, sym, ap, subst, ◌∙◌, arith}
 use Rattle.std.proofs.lemmas.Option.{same_Some}
 use Rattle.std.specs.Prelude.{IsTrue}

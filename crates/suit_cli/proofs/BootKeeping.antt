@@ -1,4 +1,4 @@
--- What stands at each moment of a boot.
+-- The flash at each moment of a boot.
 use Rattle.std.proofs.Common.{◌≡◌, ◌⊎◌, inl, inr, ℕ, List, subst}
 use Rattle.suit_edge.specs.Flash.{Flash, IsFlash, IsSame}
 use Rattle.suit_edge.specs.FlashLaws.{keeps_same, keeps_then, same_flash_then}

@@ -1,5 +1,5 @@
 -- How the code's steps make a chain of stages.
-use Rattle.std.proofs.Common.{◌≡◌, ℕ, List, [], None, false, Result, Ok, Err, refl, sym, subst}
+use Rattle.std.proofs.Common.{◌≡◌, ℕ, Bool, List, [], None, false, Result, Ok, Err, refl, sym, subst}
 use Rattle.std.specs.Result.{IsErrAnd}
 use Rattle.std.specs.Prelude.{OnOk}
 use Rattle.std.specs.declared.alloc.AllocError.{AllocError}
@@ -15,7 +15,7 @@ use Rattle.suit_manifest.specs.MembersApart.{LacksMembers, IsLackBy}
 use Rattle.suit_cli.specs.declared.reply.Reply.{Reply}
 use Rattle.suit_cli.specs.declared.reply.Stop.{Stop}
 use Rattle.suit_cli.specs.declared.reply.Stop.TheVariants as stops
-use Rattle.suit_cli.specs.Outside.{Outside}
+use Rattle.suit_cli.specs.Outside.{Files, Flashed, Outside}
 use Rattle.suit_cli.specs.Stages.{Ending, Answers, Stage, Then, Declines, Faults, Lacks, Last, EndsWithout, Does, Finds, Tells, ending_of}
 use Rattle.suit_cli.specs.Replies.{Makes, stop_of}
 use Rattle.suit_cli.specs.Texts.{refusal_line, usage_line}
@@ -31,6 +31,15 @@ use Rattle.suit_cli.specs.Judgement.{narrow, AreJudged}
 pub anywhere : Outside
 anywhere = record { told = false; files = λ name. None; pulled = 0; asked = []; faults = 0; flash = record { told = false; size = 0; reads = []; faults = 0 } }
 
+-- the flash at a moment, by the parts that a disk tells
+abbrev pub flash_at : Bool → ℕ → List ℕ → ℕ → Flashed
+flash_at told size reads faults = record { told = told; size = size; reads = reads; faults = faults }
+
+-- the outside at a moment, by the parts that a host tells, and a flash beside it
+abbrev pub outside_at : Bool → Files → ℕ → List (List ℕ) → ℕ → Flashed → Outside
+outside_at told files pulled asked faults flash =
+    record { told = told; files = files; pulled = pulled; asked = asked; faults = faults; flash = flash }
+
 module _ {A : Type 0} (stage : Stage A) (next : A → Answers) (before after : Outside) where
   pub stopped : (stop : Stop) → Does stage before after (Err stop) → Then stage next before after (ending_of (Err stop))
   stopped (stops.Declined reply) does = Declines reply does
@@ -42,7 +51,7 @@ module _ {A : Type 0} (stage : Stage A) (next : A → Answers) (before after : O
   ends_there (Ok reply) stop is does = absurd is
   ends_there (Err other) stop is does = subst (λ (s : Stop). Then stage next before after (ending_of (Err s))) (sym is) (stopped stop does)
 
--- for want of memory, at the last one
+-- because memory ran out, at the last one
 pub lacks_last : (says : Reply → Type 0) (here : Outside) (result : Result Reply Stop) → IsErrAnd result (λ e. e ≡ stops.NoMemory) → Last says here here (ending_of result)
 lacks_last says here (Ok reply) is = absurd is
 lacks_last says here (Err stop) is = subst (λ (s : Stop). Last says here here (ending_of (Err s))) (sym is) (EndsWithout refl)
@@ -67,7 +76,7 @@ pub judged_of : (update invocation update_tree invocation_tree : PlanTree) → u
 judged_of update invocation update_tree invocation_tree first second result tells =
     subst (λ (p : PlanTree). Tells (Last (AreJudged p invocation_tree)) result) first (subst (λ (p : PlanTree). Tells (Last (AreJudged update p)) result) second tells)
 
--- a refusal that was told, unless there was no memory
+-- a refusal that was told, unless memory ran out
 pub refuses_there : (bytes : List ℕ) (refusal : Refusal) (made : Result Reply AllocError) → AreBytes bytes → RefusesBytes bytes refusal → Makes made outcomes.Refused (refusal_line refusal)
     → (here : Outside) → Does (envelope_in bytes) here here (Err (stop_of made))
 refuses_there bytes refusal (Ok reply) all refuses says here = (refl, (all, record { refusal = refusal; refuses = refuses; says = says }))

@@ -23,7 +23,7 @@ use Rattle.suit_cli.specs.Commands.{shows_manifest, shows}
 use Rattle.suit_cli.specs.CommandLaws.{NoManifest, CheckLaws, ShowSays, BeforeKey, AtKey, AtLines, ShowsUnder, AskBoth, ShowFaults, FaultsAtFile, FaultsAtKey, ShowLaws}
 use Rattle.suit_cli.proofs.SameFiles.{no_key_here, key_here}
 use Rattle.suit_cli.proofs.OneStage.{asks_for, asks_reads, passes, stands, one_key}
-use Rattle.suit_cli.proofs.Running.{Reached, reaches, ReachedFault, reaches_fault, check_asks, check_faults, manifest_passed, no_manifest_stands, check_says, check_always, last_says}
+use Rattle.suit_cli.proofs.Running.{Reached, reaches, reaches_fault, check_asks, check_faults, manifest_passed, no_manifest_stands, check_says, check_always, last_says}
 
 pub check_laws : EnvelopeLaws → ManifestLaws → MembersLaws → CheckLaws
 check_laws envelopes manifests members = record {
@@ -42,7 +42,7 @@ show_says name key_name b a r answer = of_reached (reaches name (λ bytes. shows
   of_rest said manifest m has told files (Declines _ d) = AtKey said manifest has (no_key_here m b told files key_name r d.1)
   of_rest said manifest m has told files (Goes key n _ k (Ends _ same shown)) = AtLines said manifest key has (key_here m b told files key_name key k.1) shown
 
-  of_reached : NoManifest name b r ⊎ Reached name (λ bytes. shows_manifest key_name) b a r → ShowSays name key_name b r
+  of_reached : NoManifest name b r ⊎ Reached name (λ bytes. shows_manifest key_name) b a (Says r) → ShowSays name key_name b r
   of_reached (inl none) = BeforeKey none
   of_reached (inr at) = of_rest at.said at.manifest at.there at.has at.quiet.told at.quiet.files at.on
 
@@ -64,7 +64,7 @@ show_faults name key_name object b a answer = of_reached object (reaches_fault n
   of_rest m said manifest has told asks objects.Flash (Faults _ f) = absurd f
   of_rest m said manifest has told asks o (Goes _ middle _ _ last) = elim last [ ]
 
-  of_reached : (o : Object) → at_host (MayAsk name) o b a ⊎ ReachedFault name (λ bytes. shows_manifest key_name) o b a → at_host (ShowFaults name key_name) o b a
+  of_reached : (o : Object) → at_host (MayAsk name) o b a ⊎ Reached name (λ bytes. shows_manifest key_name) b a (FaultOf o) → at_host (ShowFaults name key_name) o b a
   of_reached objects.Host (inl asks) = FaultsAtFile asks
   of_reached objects.Flash (inl asks) = absurd asks
   of_reached o (inr at) = of_rest at.there at.said at.manifest at.has at.quiet.told at.asks o at.on

@@ -25,7 +25,7 @@ describing_says name b a r answer = of_reached (reaches name describes_manifest 
   of_rest said manifest m has (Goes members m0 _ mem (Declines _ d)) = AtText said manifest members has mem.1 d.1
   of_rest said manifest m has (Goes members m0 _ mem (Goes u m1 _ text (Ends _ same says))) = AtDescription said manifest members has mem.1 text.1 says
 
-  of_reached : NoManifest name b r ⊎ Reached name describes_manifest b a r → DescribingSays name b r
+  of_reached : NoManifest name b r ⊎ Reached name describes_manifest b a (Says r) → DescribingSays name b r
   of_reached (inl none) = BeforeMembers none
   of_reached (inr at) = of_rest at.said at.manifest at.there at.has at.on
 

@@ -161,7 +161,7 @@ init_laws = record {
 
 -- ---- `run status`
 
--- what reads gave then, they give at the start
+-- reads give at the start as they gave then
 config_here : (f g : Flashed) → IsStill f g → (config : Config) → (IsTrue g.told → ConfigOf VERSION_1 g.size (head_of VERSION_1 g.reads) config)
     → IsTrue f.told → ConfigOf VERSION_1 f.size (head_of VERSION_1 f.reads) config
 config_here f g still config holds t =

@@ -1,4 +1,4 @@
--- What stands between the stages of `run init`.
+-- The state between the stages of `run init`.
 use Rattle.std.proofs.Common.{◌≡◌, ℕ, ◌≤◌, List, [], ◌∷◌, length, sym, subst, refl, arith, Result, Ok, Err}
 use Rattle.std.specs.Prelude.{◌≢◌, IfOk, IsTrue, Some, None, codes}
 use Rattle.std.specs.Str.{IsUtf8}
@@ -30,7 +30,7 @@ module _ (size : ℕ) (x y : List ℕ) (same : x ≡ y) (result : Result (List E
   pub device_of : Finds (device_in size x) result → Finds (device_in size y) result
   device_of finds = subst (λ (b : List ℕ). Finds (device_in size b) result) same finds
 
--- it is no JSON, which was told unless there was no memory
+-- it is no JSON, which was told unless memory ran out
 pub no_json_there : (size : ℕ) (bytes : List ℕ) (made : Result Reply AllocError) → (IsUtf8 bytes → read bytes ≡ None) → Makes made outcomes.Refused bad_json_line
     → (here : Outside) → Does (device_in size bytes) here here (Err (stop_of made))
 no_json_there size bytes (Ok reply) none says here = (refl, IsNoJson none says)
@@ -63,7 +63,7 @@ some_bytes (byte ∷ bytes) some = omega arith
 pub looks_self : (o : Outside) → Looks o o
 looks_self o = record { beside = refl; still = record { told = refl; size = refl; reads = λ t. refl }; faults = refl }
 
--- the gate is open after all, which was told unless there was no memory
+-- the gate is open after all, which was told unless memory ran out
 pub in_use_there : (layout : List Entry) (key : Key) (before after : Outside) → Looks before after → (IsTrue before.flash.told → IsOpen before.flash.reads CONFIG_GATE)
     → (made : Result Reply AllocError) (stop : Stop) → Makes made outcomes.NotBlank (codes "not blank\n") → stop ≡ stop_of made
     → formats layout key before after (ending_of (Err stop))

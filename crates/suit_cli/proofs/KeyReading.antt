@@ -1,4 +1,4 @@
--- What a file comes to that is read for a key.
+-- The result of reading a file for a key.
 use Rattle.std.proofs.Common.{◌≡◌, ◌∙◌, ℕ, Bool, false, List, [], Result, Ok, Err, sym, subst}
 use Rattle.std.proofs.lemmas.Bool.{false≢true}
 use Rattle.std.specs.Prelude.{◌≢◌, IsTrue}
@@ -29,7 +29,7 @@ module _ (name : List ℕ) (before after : Outside) where
   unread_there (Ok key) stop is does = absurd is
   unread_there (Err other) stop is does = subst (λ (s : Stop). Does (key_in name) before after (Err s)) (sym is) (unread stop does)
 
-  -- it is empty, which was told unless there was no memory
+  -- it is empty, which was told unless memory ran out
   pub empty_there : (key : List ℕ) (made : Result Reply AllocError) (stop : Stop) → key ≡ [] → Does (file longest_key name) before after (Ok key)
       → Makes made outcomes.Refused empty_key_line → stop ≡ stop_of made → Does (key_in name) before after (Err stop)
   empty_there key made stop none does says is =

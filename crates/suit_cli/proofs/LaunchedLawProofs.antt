@@ -1,4 +1,4 @@
--- What is launched by a boot of a sound flash.
+-- The launches of a boot of a sound flash.
 use Rattle.std.proofs.Common.{◌≡◌, ◌⊎◌, inl, inr, ⊎_elim, ℕ, List, length, Option, sym, ◌∙◌, ap, subst}
 use Rattle.std.specs.Prelude.{IsTrue}
 use Rattle.suit_edge.specs.declared.launch.Launch.{Launch}

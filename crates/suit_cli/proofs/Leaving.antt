@@ -1,4 +1,4 @@
--- What a power loss during a command may leave.
+-- The images a power loss during a command may leave.
 use Rattle.std.proofs.Common.{◌≡◌, ℕ, List, Option, Some, None, inl, inr, sym, subst, refl}
 use Rattle.std.specs.Prelude.{IsTrue}
 use Rattle.suit_edge.specs.Flash.{Flash, Now, Passes, IsFlash, IsSame}

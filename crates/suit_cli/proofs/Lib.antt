@@ -4,7 +4,6 @@ pub mod MemberTexts
 pub mod Bytes
 pub mod OneStage
 pub mod Running
-pub mod BadPathLaws
 pub mod StagesKeep
 pub mod RunClauses
 pub mod CommandLawProofs

@@ -66,7 +66,7 @@ module _ (laws : SoundLaws) (frame : Frame) where
   each_follows [] life = λ i j d lt within. absurd (omega (arith, within))
   each_follows (first ∷ later) life = pairs_from first later life.1
 
--- ---- what is recorded
+-- ---- the record
 
 not_blank : (layout : List Entry) (key : Key) → Blank ≡ Configured layout key → ⊥
 not_blank layout key same = grind (arith, same)
@@ -92,7 +92,7 @@ life_laws configs laws = record {
   numbers = λ frame images life i j d lt within. never_lower configs frame _ _ (each_follows laws frame images life i j d lt within);
 }
 
--- ---- what a sound image has recorded
+-- ---- the record of a sound image
 
 the_layout : (a b : List Entry) (k l : Key) → Configured a k ≡ Configured b l → (a ≡ b) × (k ≡ l)
 the_layout a b k l same = grind (arith, same)

@@ -8,7 +8,7 @@ use Rattle.author.specs.declared.fault.DescriptionFault.{DescriptionFault}
 use Rattle.author.specs.declared.fault.DescriptionFault.TheVariants as faults
 use Rattle.author.specs.Faults.{IsDescription, RefusesDescription, IsFaultOf}
 use Rattle.author.specs.FileNames.{file_names}
-use Rattle.author.specs.MadeEnvelopes.{made_parts, made_bytes, IsShort, Passes, Trimmed, Whole}
+use Rattle.author.specs.MadeEnvelopes.{made_parts, made_bytes, IsShort, ExceedsLimit, Trimmed, Whole}
 use Rattle.author.specs.Severances.{parted}
 use Rattle.author.proofs.OneFault.{refused_for}
 use Rattle.suit_cli.specs.declared.reply.Reply.{Reply}
@@ -71,7 +71,7 @@ faults_near read (name ∷ names) m a (inr rest) =
     near_then m rest.middle a (near_reads _ name m rest.middle rest.given.0) (faults_near (read ++ (name, rest.value) ∷ []) names rest.middle a rest.later)
 
 module _ (b : Outside) where
-  -- what was read stands behind what was read before
+  -- the files read stand behind those read before
   files_said : (read : Files) (names : List (List ℕ)) (m a : Outside) (files : Files) → IsNear b m → (files_after read names).gives m a files
       → (rest : Files) × (files ≡ read ++ rest) × AreRead b names rest
   files_said read [] m a files near given = ([], given.1 ∙ sym (append-nil read), NoFile)
@@ -187,7 +187,7 @@ one_envelope value files key x y first second =
     let same : second.made.said ≡ first.made.said = ap (said_or first.made.said) (sym second.made.reads ∙ first.made.reads) in
     second.made.is ∙ ap (λ p. made_bytes (made_parts key (parted p))) same ∙ sym first.made.is
 
-passes_not_short : (parts : _) (limit : ℕ) → IsShort parts → Passes parts limit → ⊥
+passes_not_short : (parts : _) (limit : ℕ) → IsShort parts → ExceedsLimit parts limit → ⊥
 passes_not_short parts limit short (Trimmed above) = let within = short.0 in omega (arith, above, within)
 passes_not_short parts limit short (Whole small above) = let within = short.1 in omega (arith, above, within)
 
@@ -195,7 +195,7 @@ made_not_long : (value : Data) (files : Files) (key x : List ℕ) (r : Reply) �
 made_not_long value files key x r made long =
     let same : long.passes.said ≡ made.made.said = ap (said_or made.made.said) (sym long.passes.reads ∙ made.made.reads) in
     passes_not_short (made_parts key (parted made.made.said)) long.limit made.made.short
-    (subst (λ p. Passes (made_parts key (parted p)) long.limit) same long.passes.passes)
+    (subst (λ p. ExceedsLimit (made_parts key (parted p)) long.limit) same long.passes.passes)
 
 -- ---- the causes, one behind another
 
@@ -304,7 +304,7 @@ module _ (b : Outside) (told : IsTrue b.told) where
     one_make : (r q : Reply) → MakeSays description key_name b r → MakeSays description key_name b q → q ≡ r
     one_make r q first second = one_stop r q (stops_of description key_name b r first) (stops_of description key_name b q second)
 
--- ---- what is left of the files
+-- ---- the files that are left
 
 files_never_flash : (read : Files) (names : List (List ℕ)) (m a : Outside) → (files_after read names).faults objects.Flash m a → ⊥
 files_never_flash read [] m a faults = faults

@@ -1,11 +1,9 @@
--- What a run comes to, clause by clause.
+-- The result of a run, clause by clause.
 use Rattle.std.proofs.Common.{◌≡◌, ℕ, List, Option, Some, None, ◌⊎◌, inl, inr, refl, sym, ap, subst, ◌∙◌, ◌++◌, arith}
 use Rattle.std.specs.Prelude.{IsTrue, ◌≢◌, ◌<◌}
 use Rattle.suit_edge.specs.Faults.{Faulted}
 use Rattle.suit_commands.specs.Tree.{PlanTree}
 use Rattle.suit_envelope.specs.EnvelopeLaws.{EnvelopeLaws}
-use Rattle.suit_envelope.specs.declared.authenticity.Authenticity.{Authenticity}
-use Rattle.suit_envelope.specs.declared.authenticity.Authenticity.TheVariants as authenticities
 use Rattle.suit_manifest.specs.ManifestLaws.{ManifestLaws}
 use Rattle.suit_manifest.specs.MembersLaws.{MembersLaws}
 use Rattle.suit_cli.specs.declared.reply.Reply.{Reply}
@@ -18,9 +16,8 @@ use Rattle.suit_cli.specs.Outside.{Outside, Sunk}
 use Rattle.suit_cli.specs.Stages.{Ending, Says, FaultOf, NoMemory, Goes, Declines}
 use Rattle.suit_cli.specs.Statuses.{status_of, ending_status, ending_text}
 use Rattle.suit_cli.specs.Judgement.{AreSafe, AreJudged, JudgedSafe, JudgedUnsafe}
-use Rattle.suit_cli.specs.Shown.{authenticity_outcome}
 use Rattle.suit_cli.specs.Program.{answers, PutsText, IsPut, IsCut, EndsIn, ChecksProcedures, IsCheck, ChecksSafe, ChecksUnsafe, IsUsage, Judges}
-use Rattle.suit_cli.proofs.Running.{Declining, IsJudged, checked, judged_when, judged_safe, judged_unsafe, done_safe, unsafe_shows, IsShownOf, showed, status_done, status_unsafe, status_usage, not_seven, not_eight, not_nine_ending, inited, begun, stated, plain_not, unsafe_refuted}
+use Rattle.suit_cli.proofs.Running.{Declining, IsJudged, checked, judged_when, judged_safe, judged_unsafe, done_safe, unsafe_shows, shown_plain, showed, status_done, status_unsafe, status_usage, not_seven, not_eight, inited, begun, stated, plain_not, unsafe_refuted}
 use Rattle.suit_cli.proofs.Describing.{described}
 use Rattle.suit_cli.proofs.AcceptedFacts.{IsUnsafeFile, began}
 use Rattle.suit_cli.proofs.TaskAnswers.{ByCheck, ByUpdate, JudgesTask, does_of, judged_task}
@@ -62,16 +59,7 @@ usage_of words b a r (Goes (Check name) m _ g rest) is = absurd (of_check (check
   of_check : Declining r.outcome ⊎ IsJudged name m r → ⊥
   of_check (inl d) = subst Declining is d
   of_check (inr j) = of_judged j.update j.invocation j.judged
-usage_of words b a r (Goes (Show name key) m _ g rest) is = absurd (of_show (showed name key m a r rest)) where
-  of_answer : (answer : Authenticity) → r.outcome ≡ authenticity_outcome answer → ⊥
-  of_answer authenticities.Yes e = let never = sym is ∙ e in cc
-  of_answer (authenticities.DigestDiffers stated found) e = let never = sym is ∙ e in cc
-  of_answer authenticities.NoMac e = let never = sym is ∙ e in cc
-  of_answer (authenticities.MacDiffers expected found) e = let never = sym is ∙ e in cc
-
-  of_show : Declining r.outcome ⊎ IsShownOf r → ⊥
-  of_show (inl d) = subst Declining is d
-  of_show (inr s) = of_answer s.shown.answer s.shown.outcome_is
+usage_of words b a r (Goes (Show name key) m _ g rest) is = absurd (plain_not r.outcome _ (shown_plain r (showed name key m a r rest)) is (λ d. d) (λ e. cc))
 usage_of words b a r (Goes (RunInit device key) m _ g rest) is = absurd (plain_not r.outcome _ (inited device key m a r rest) is (λ d. d) (λ e. cc))
 usage_of words b a r (Goes (RunUpdate name uris) m _ g rest) is = absurd (of_way (began name m a r rest)) where
   of_way : Declining r.outcome ⊎ IsUnsafeFile name m r → ⊥
@@ -169,11 +157,11 @@ module _ (words : List (List ℕ)) (b a : Outside) (sb sa : Sunk) (result : ℕ)
     judged_reply r answer =
         judged_when envelopes manifests members checks_it.name b a checks_it.told r (does_of words b a r (Check checks_it.name) checks_it.word answer) u i checks_it.has
 
-    pub only_yes : AreSafe u i → EndsIn 0 result
-    only_yes safe = ends_in 0 (λ r answer. ap status_of (judged_safe u i r (judged_reply r answer) safe))
+    pub safe_is_yes : AreSafe u i → EndsIn 0 result
+    safe_is_yes safe = ends_in 0 (λ r answer. ap status_of (judged_safe u i r (judged_reply r answer) safe))
 
-    pub only_no : (AreSafe u i → ⊥) → EndsIn 1 result
-    only_no never = ends_in 1 (λ r answer. ap status_of (judged_unsafe u i r (judged_reply r answer) never))
+    pub unsafe_is_no : (AreSafe u i → ⊥) → EndsIn 1 result
+    unsafe_is_no never = ends_in 1 (λ r answer. ap status_of (judged_unsafe u i r (judged_reply r answer) never))
 
   pub usage : result ≡ 2 → IsUsage words sb sa
   usage two =
@@ -186,8 +174,8 @@ module _ (words : List (List ℕ)) (b a : Outside) (sb sa : Sunk) (result : ℕ)
         puts = λ t. put.puts t ∙ ap (λ (e : Ending). sb.put ++ ending_text e) said.is ∙ ap (λ (l : List ℕ). sb.put ++ l) found.1;
       }
 
-  pub only_usage : task_of words ≡ None → EndsIn 2 result
-  only_usage none = ends_in 2 (λ r answer. no_task_usage words b a r none answer)
+  pub no_command_is_usage : task_of words ≡ None → EndsIn 2 result
+  no_command_is_usage none = ends_in 2 (λ r answer. no_task_usage words b a r none answer)
 
   pub kept : Counts runs.ending b a
   kept = (answers_lets words b a runs.ending runs.answer).counts

@@ -1,5 +1,5 @@
--- What a run comes to, in stages, by a boot or by an update.
-use Rattle.std.proofs.Common.{◌≡◌, ℕ, List, [], ◌++◌, length, append-nil, Option, Some, None, ◌⊎◌, inl, inr, refl, sym, ap, subst, ◌∙◌, ◌≤◌, arith}
+-- How a run ends: in stages, by a boot or by an update.
+use Rattle.std.proofs.Common.{◌≡◌, ℕ, List, [], length, append-nil, Option, Some, None, sym, ap, subst, ◌∙◌, ◌≤◌, arith}
 use Rattle.std.specs.Prelude.{IsTrue, ◌≢◌}
 use Rattle.suit_edge.specs.declared.launch.Launch.{Launch}
 use Rattle.suit_commands.specs.Tree.{PlanTree}
@@ -15,14 +15,14 @@ use Rattle.invoke_proc.specs.declared.boot_end.BootEnd.TheVariants as ends
 use Rattle.invoke_proc.specs.Booting.{GainsSafe}
 use Rattle.invoke_proc.specs.Counting.{BootCounts}
 use Rattle.suit_cli.specs.Words.{Task, Make, Describe, Show, Check, RunInit, RunUpdate, RunBoot, RunStatus, task_of}
-use Rattle.suit_cli.specs.Outside.{Outside, Flashed, Leaves, Sunk}
+use Rattle.suit_cli.specs.Outside.{Outside, Leaves, Sunk}
 use Rattle.suit_cli.specs.Judgement.{AreSafe}
 use Rattle.suit_cli.specs.Launching.{Launching}
 use Rattle.suit_cli.specs.Booting.{Boots, boot_status}
-use Rattle.suit_cli.specs.Coming.{Ended, Answered, Booted, Updated, ByStages, ByBoot, ByUpdate, ended_status, ended_text}
+use Rattle.suit_cli.specs.Coming.{Ended, Answered, Booted, Updated, ByStages, ByBoot, ByUpdate, ended_status}
 use Rattle.suit_cli.specs.Updating.{Updates, update_status}
 use Rattle.update_proc.specs.declared.update_end.UpdateEnd.{UpdateEnd}
-use Rattle.suit_cli.specs.Program.{ComesTo, Puts, PutsText, IsPut, IsCut, Runs, EndsIn, IsStatus, OfEnded, OfSinkFault, ChecksProcedures, IsCheck, ChecksSafe, ChecksUnsafe, IsUsage, IsCutOff, MayHide, MayLaunch, AreCounted, AsFound, IsForUpdate, LeavesBy, LeavesFor, KeepsLauncher, most_pulled, stored_by}
+use Rattle.suit_cli.specs.Program.{ComesTo, Puts, PutsText, IsPut, IsCut, Performs, EndsIn, IsStatus, OfEnded, OfSinkFault, ChecksProcedures, IsCheck, ChecksSafe, ChecksUnsafe, IsUsage, IsCutOff, MayLaunch, AreCounted, AsFound, IsForUpdate, LeavesBy, LeavesFor, KeepsLauncher, most_pulled, stored_by}
 use Rattle.suit_cli.proofs.Running as running
 use Rattle.suit_cli.proofs.RunClauses as staged
 use Rattle.suit_cli.proofs.RunClauses.{Staged}
@@ -125,7 +125,7 @@ leaves_by (Some RunStatus) b a left = left
 
 -- ---- the clauses
 
-module _ (words : List (List ℕ)) (l m : Launching) (b a : Outside) (sb sa : Sunk) (result : ℕ) (runs : Runs words l m b a sb sa result) where
+module _ (words : List (List ℕ)) (l m : Launching) (b a : Outside) (sb sa : Sunk) (result : ℕ) (runs : Performs words l m b a sb sa result) where
   way : Way words l m b a sb sa result
   way = of_comes runs.ended runs.comes runs.puts where
     of_comes : (ended : Ended) → ComesTo words l m b a ended → Puts sb sa ended result → Way words l m b a sb sa result
@@ -156,17 +156,17 @@ module _ (words : List (List ℕ)) (l m : Launching) (b a : Outside) (sb sa : Su
     of_way (AsUpdate name uris end lines word updates puts) = absurd (low_update end lines puts (omega (arith, one)) (λ zero. omega (arith, one, zero)))
 
   module _ (envelopes : EnvelopeLaws) (manifests : ManifestLaws) (members : MembersLaws) (u i : PlanTree) (checks_it : ChecksProcedures words b u i) where
-    pub only_yes : AreSafe u i → EndsIn 0 result
-    only_yes safe = of_way way where
+    pub safe_is_yes : AreSafe u i → EndsIn 0 result
+    safe_is_yes safe = of_way way where
       of_way : Way words l m b a sb sa result → EndsIn 0 result
-      of_way (InStages run same) = staged.only_yes words b a sb sa result run envelopes manifests members u i checks_it safe
+      of_way (InStages run same) = staged.safe_is_yes words b a sb sa result run envelopes manifests members u i checks_it safe
       of_way (AsBoot end lines word boots puts) = let never : Some (Check checks_it.name) ≡ Some RunBoot = sym checks_it.word ∙ word in absurd cc
       of_way (AsUpdate name uris end lines word updates puts) = let never : Some (Check checks_it.name) ≡ Some (RunUpdate name uris) = sym checks_it.word ∙ word in absurd cc
 
-    pub only_no : (AreSafe u i → ⊥) → EndsIn 1 result
-    only_no refuted = of_way way where
+    pub unsafe_is_no : (AreSafe u i → ⊥) → EndsIn 1 result
+    unsafe_is_no refuted = of_way way where
       of_way : Way words l m b a sb sa result → EndsIn 1 result
-      of_way (InStages run same) = staged.only_no words b a sb sa result run envelopes manifests members u i checks_it refuted
+      of_way (InStages run same) = staged.unsafe_is_no words b a sb sa result run envelopes manifests members u i checks_it refuted
       of_way (AsBoot end lines word boots puts) = let never : Some (Check checks_it.name) ≡ Some RunBoot = sym checks_it.word ∙ word in absurd cc
       of_way (AsUpdate name uris end lines word updates puts) = let never : Some (Check checks_it.name) ≡ Some (RunUpdate name uris) = sym checks_it.word ∙ word in absurd cc
 
@@ -177,10 +177,10 @@ module _ (words : List (List ℕ)) (l m : Launching) (b a : Outside) (sb sa : Su
     of_way (AsBoot end lines word boots puts) = absurd (low_boot end lines puts (omega (arith, two)) (λ zero. omega (arith, two, zero)))
     of_way (AsUpdate name uris end lines word updates puts) = absurd (low_update end lines puts (omega (arith, two)) (λ zero. omega (arith, two, zero)))
 
-  pub only_usage : task_of words ≡ None → EndsIn 2 result
-  only_usage none = of_way way where
+  pub no_command_is_usage : task_of words ≡ None → EndsIn 2 result
+  no_command_is_usage none = of_way way where
     of_way : Way words l m b a sb sa result → EndsIn 2 result
-    of_way (InStages run same) = staged.only_usage words b a sb sa result run none
+    of_way (InStages run same) = staged.no_command_is_usage words b a sb sa result run none
     of_way (AsBoot end lines word boots puts) = let never : None ≡ Some RunBoot = sym none ∙ word in absurd cc
     of_way (AsUpdate name uris end lines word updates puts) = let never : None ≡ Some (RunUpdate name uris) = sym none ∙ word in absurd cc
 
@@ -223,6 +223,20 @@ module _ (words : List (List ℕ)) (l m : Launching) (b a : Outside) (sb sa : Su
     of_puts (IsPut is still puts) = still
     of_puts (IsCut is faulted puts) = absurd (never is)
 
+  -- of a boot or an update
+  counted_by : (n : ℕ) (text : List ℕ) → MayLaunch (task_of words) → PutsText sb sa n text result
+      → ByStatus n (counts_of b.faults b.flash.faults l.faults) (counts_of a.faults a.flash.faults m.faults)
+      → AreCounted words l m b a sb sa result
+  counted_by n text launches puts by = record {
+    host = λ is. by.host (sym (put_status n text puts (λ nine. omega (arith, is, nine))) ∙ is);
+    only_host = λ never cut hides. by.only_host (λ e. never (put_status n text puts cut ∙ e)) (λ e. hides (launches, put_status n text puts cut ∙ e));
+    flash = λ is. by.flash (sym (put_status n text puts (λ nine. omega (arith, is, nine))) ∙ is);
+    only_flash = λ never cut other. by.only_flash (λ e. never (put_status n text puts cut ∙ e)) (λ e. other (put_status n text puts cut ∙ e));
+    launcher = λ is. by.launcher (sym (put_status n text puts (λ nine. omega (arith, is, nine))) ∙ is);
+    only_launcher = λ never cut hides. by.only_launcher (λ e. never (put_status n text puts cut ∙ e)) (λ e. hides (launches, put_status n text puts cut ∙ e));
+    only_output = only_output_fault;
+  }
+
   pub counts : AreCounted words l m b a sb sa result
   counts = of_way way where
     of_way : Way words l m b a sb sa result → AreCounted words l m b a sb sa result
@@ -240,27 +254,9 @@ module _ (words : List (List ℕ)) (l m : Launching) (b a : Outside) (sb sa : Su
           only_output = only_output_fault;
         }
     of_way (AsBoot end lines word boots puts) =
-        let by = boot_counts l m b a end lines boots in
-        record {
-          host = λ is. by.host (sym (put_status _ _ puts (λ nine. omega (arith, is, nine))) ∙ is);
-          only_host = λ never cut hides. by.only_host (λ e. never (put_status _ _ puts cut ∙ e)) (λ e. hides (subst MayLaunch (sym word) tt, put_status _ _ puts cut ∙ e));
-          flash = λ is. by.flash (sym (put_status _ _ puts (λ nine. omega (arith, is, nine))) ∙ is);
-          only_flash = λ never cut other. by.only_flash (λ e. never (put_status _ _ puts cut ∙ e)) (λ e. other (put_status _ _ puts cut ∙ e));
-          launcher = λ is. by.launcher (sym (put_status _ _ puts (λ nine. omega (arith, is, nine))) ∙ is);
-          only_launcher = λ never cut hides. by.only_launcher (λ e. never (put_status _ _ puts cut ∙ e)) (λ e. hides (subst MayLaunch (sym word) tt, put_status _ _ puts cut ∙ e));
-          only_output = only_output_fault;
-        }
+        counted_by _ _ (subst MayLaunch (sym word) tt) puts (boot_counts l m b a end lines boots)
     of_way (AsUpdate name uris end lines word updates puts) =
-        let by = update_counts name uris l m b a end lines updates in
-        record {
-          host = λ is. by.host (sym (put_status _ _ puts (λ nine. omega (arith, is, nine))) ∙ is);
-          only_host = λ never cut hides. by.only_host (λ e. never (put_status _ _ puts cut ∙ e)) (λ e. hides (subst MayLaunch (sym word) tt, put_status _ _ puts cut ∙ e));
-          flash = λ is. by.flash (sym (put_status _ _ puts (λ nine. omega (arith, is, nine))) ∙ is);
-          only_flash = λ never cut other. by.only_flash (λ e. never (put_status _ _ puts cut ∙ e)) (λ e. other (put_status _ _ puts cut ∙ e));
-          launcher = λ is. by.launcher (sym (put_status _ _ puts (λ nine. omega (arith, is, nine))) ∙ is);
-          only_launcher = λ never cut hides. by.only_launcher (λ e. never (put_status _ _ puts cut ∙ e)) (λ e. hides (subst MayLaunch (sym word) tt, put_status _ _ puts cut ∙ e));
-          only_output = only_output_fault;
-        }
+        counted_by _ _ (subst MayLaunch (sym word) tt) puts (update_counts name uris l m b a end lines updates)
 
   pub no_host : IsTrue b.told → IsTrue b.flash.told → IsTrue l.told → task_of words ≡ Some RunBoot → result ≡ 7 → ⊥
   no_host told flash_told launcher_told is_boot seven = of_way way where

@@ -1,5 +1,5 @@
--- What a run that had an answer and put it says of its status.
-use Rattle.std.proofs.Common.{◌≡◌, ℕ, List, [], ◌∷◌, Some, None, ◌⊎◌, inl, inr, refl, sym, subst, ◌∙◌, ◌+◌, arith}
+-- The status of a run that had an answer and put it.
+use Rattle.std.proofs.Common.{◌≡◌, ◌<◌, ◌≤◌, ap, ℕ, zero, suc, List, [], ◌∷◌, Some, None, ◌⊎◌, inl, inr, refl, sym, subst, ◌∙◌, ◌+◌, arith}
 use Rattle.std.specs.Prelude.{IsTrue}
 use Rattle.suit_commands.specs.Tree.{PlanTree}
 use Rattle.suit_envelope.specs.Envelopes.{EnvelopeSays}
@@ -21,8 +21,9 @@ use Rattle.suit_cli.specs.declared.reply.Object.TheVariants as objects
 use Rattle.suit_cli.specs.Outside.{Outside, Flashed, Quiet, Asks, MayAsk, Reads}
 use Rattle.suit_cli.specs.Stages.{Ending, Says, FaultOf, NoMemory, Answers, at_host, Goes, Declines, Faults, Last, Ends, IsSaid}
 use Rattle.suit_cli.specs.Statuses.{status_of, ending_status}
-use Rattle.suit_cli.specs.Inputs.{longest_file, longest_key, IsUnread, IsAbsent, IsTooLong, IsNoKey, IsUnreadKey, IsEmptyKey}
+use Rattle.suit_cli.specs.Inputs.{file, longest_file, longest_key, IsUnread, IsAbsent, IsTooLong, IsNoKey, IsUnreadKey, IsEmptyKey}
 use Rattle.suit_cli.specs.Envelopes.{TellsLack}
+use Rattle.suit_cli.specs.Envelopes as stages
 use Rattle.suit_cli.specs.Holding.{HasManifest, HasProcedures}
 use Rattle.suit_cli.specs.CommandLaws.{NoManifest, AtFile, AtEnvelope, AtLength, AtManifest, CheckSays, BeforeMembers, AtMembers, AtUpdateWidth, AtInvocationWidth, AtPaths, SameButPath}
 use Rattle.suit_cli.specs.Judgement.{IsNarrow, AreSafe, AreJudged, JudgedSafe, JudgedUnsafe, ShowUnsafe, UpdateUnsafe, InvocationUnsafe}
@@ -30,7 +31,7 @@ use Rattle.suit_cli.specs.Shown.{IsShown, authenticity_outcome}
 use Rattle.suit_cli.specs.Devices.{IsNoDevice, IsNoJson, IsNoLayout}
 use Rattle.suit_cli.specs.Installed.{HoldsNone, IsBlank, IsBad}
 use Rattle.suit_cli.specs.Commands.{in_manifest, judges_manifest, checks, shows_manifest, shows, inits_as, inits, begins_boot, tells_status, does}
-use Rattle.suit_cli.proofs.BadPathLaws.{IsBadPath-not_safe}
+use Rattle.path_model.proofs.Refuting.{IsBadPath-not_safe}
 use Rattle.suit_cli.proofs.OneStage.{Alike, alike_self, asks_for, asks_reads, alike_asked, passes, stands, one_reply, one_file, one_envelope, one_short, one_manifest, one_members, one_narrow}
 
 -- ---- the outcomes of stages that decline
@@ -93,16 +94,29 @@ unsafe_shows u i r (JudgedUnsafe is unsafe) outcome = unsafe
 -- ---- up to the manifest
 
 -- of a host that tells: it stops there, or a manifest is reached
-pub record Reached (name : List ℕ) (next : List ℕ → EnvelopeSays → Manifest → Answers) (b a : Outside) (r : Reply) : Type 0 where
+pub record Reached (name : List ℕ) (next : List ℕ → EnvelopeSays → Manifest → Answers) (b a : Outside) (e : Ending) : Type 0 where
   pub said : EnvelopeSays
   pub manifest : Manifest
   pub has : HasManifest name b said manifest
   pub there : Outside
   pub quiet : Quiet (longest_file + 1) b there
   pub asks : Asks (name ∷ []) b there
-  pub on : next has.in_envelope.bytes said manifest there a (Says r)
+  pub on : next has.in_envelope.bytes said manifest there a e
 
-pub reaches : (name : List ℕ) (next : List ℕ → EnvelopeSays → Manifest → Answers) (b a : Outside) (r : Reply) → in_manifest name next b a (Says r) → NoManifest name b r ⊎ Reached name next b a r
+reached : (name : List ℕ) (next : List ℕ → EnvelopeSays → Manifest → Answers) (b a : Outside) (e : Ending) (bytes : List ℕ) (said : EnvelopeSays) (manifest : Manifest) (m0 m1 m2 m3 : Outside)
+    → (file longest_file name).gives b m0 bytes → (stages.envelope_in bytes).gives m0 m1 said → (stages.short said).gives m1 m2 tt → (stages.manifest_in said).gives m2 m3 manifest
+    → next bytes said manifest m3 a e → Reached name next b a e
+reached name next b a e bytes said manifest m0 m1 m2 m3 read env is_short man rest = record {
+  said = said;
+  manifest = manifest;
+  has = record { in_envelope = record { bytes = bytes; read = read.1; are_bytes = env.1.0; envelope = env.1.1 }; is_short = is_short.1; says = man.1 };
+  there = m3;
+  quiet = subst (λ (o : Outside). Quiet (longest_file + 1) b o) (sym (man.0 ∙ is_short.0 ∙ env.0)) read.0.quiet;
+  asks = subst (λ (o : Outside). Asks (name ∷ []) b o) (sym (man.0 ∙ is_short.0 ∙ env.0)) read.0.asks;
+  on = rest;
+}
+
+pub reaches : (name : List ℕ) (next : List ℕ → EnvelopeSays → Manifest → Answers) (b a : Outside) (r : Reply) → in_manifest name next b a (Says r) → NoManifest name b r ⊎ Reached name next b a (Says r)
 reaches name next b a r (Declines _ d) = inl (AtFile d.1)
 reaches name next b a r (Goes bytes m0 _ read (Declines _ d)) = inl (AtEnvelope bytes read.1 d.1.0 d.1.1)
 reaches name next b a r (Goes bytes m0 _ read (Goes said m1 _ env (Declines _ d))) =
@@ -110,42 +124,17 @@ reaches name next b a r (Goes bytes m0 _ read (Goes said m1 _ env (Declines _ d)
 reaches name next b a r (Goes bytes m0 _ read (Goes said m1 _ env (Goes u m2 _ short (Declines _ d)))) =
     inl (AtManifest said (record { bytes = bytes; read = read.1; are_bytes = env.1.0; envelope = env.1.1 }) short.1 d.1)
 reaches name next b a r (Goes bytes m0 _ read (Goes said m1 _ env (Goes u m2 _ short (Goes manifest m3 _ man rest)))) =
-    inr (record {
-      said = said;
-      manifest = manifest;
-      has = record { in_envelope = record { bytes = bytes; read = read.1; are_bytes = env.1.0; envelope = env.1.1 }; is_short = short.1; says = man.1 };
-      there = m3;
-      quiet = subst (λ (o : Outside). Quiet (longest_file + 1) b o) (sym (man.0 ∙ short.0 ∙ env.0)) read.0.quiet;
-      asks = subst (λ (o : Outside). Asks (name ∷ []) b o) (sym (man.0 ∙ short.0 ∙ env.0)) read.0.asks;
-      on = rest;
-    })
+    inr (reached name next b a (Says r) bytes said manifest m0 m1 m2 m3 read env short man rest)
 
 -- a fault comes at the file, or behind the manifest
-pub record ReachedFault (name : List ℕ) (next : List ℕ → EnvelopeSays → Manifest → Answers) (object : Object) (b a : Outside) : Type 0 where
-  pub said : EnvelopeSays
-  pub manifest : Manifest
-  pub has : HasManifest name b said manifest
-  pub there : Outside
-  pub quiet : Quiet (longest_file + 1) b there
-  pub asks : Asks (name ∷ []) b there
-  pub on : next has.in_envelope.bytes said manifest there a (FaultOf object)
-
-pub reaches_fault : (name : List ℕ) (next : List ℕ → EnvelopeSays → Manifest → Answers) (object : Object) (b a : Outside) → in_manifest name next b a (FaultOf object) → at_host (MayAsk name) object b a ⊎ ReachedFault name next object b a
+pub reaches_fault : (name : List ℕ) (next : List ℕ → EnvelopeSays → Manifest → Answers) (object : Object) (b a : Outside) → in_manifest name next b a (FaultOf object) → at_host (MayAsk name) object b a ⊎ Reached name next b a (FaultOf object)
 reaches_fault name next objects.Host b a (Faults _ f) = inl f.asks
 reaches_fault name next objects.Flash b a (Faults _ f) = absurd f
 reaches_fault name next object b a (Goes bytes m0 _ read (Faults _ f)) = absurd f
 reaches_fault name next object b a (Goes bytes m0 _ read (Goes said m1 _ env (Faults _ f))) = absurd f
 reaches_fault name next object b a (Goes bytes m0 _ read (Goes said m1 _ env (Goes u m2 _ short (Faults _ f)))) = absurd f
 reaches_fault name next object b a (Goes bytes m0 _ read (Goes said m1 _ env (Goes u m2 _ short (Goes manifest m3 _ man rest)))) =
-    inr (record {
-      said = said;
-      manifest = manifest;
-      has = record { in_envelope = record { bytes = bytes; read = read.1; are_bytes = env.1.0; envelope = env.1.1 }; is_short = short.1; says = man.1 };
-      there = m3;
-      quiet = subst (λ (o : Outside). Quiet (longest_file + 1) b o) (sym (man.0 ∙ short.0 ∙ env.0)) read.0.quiet;
-      asks = subst (λ (o : Outside). Asks (name ∷ []) b o) (sym (man.0 ∙ short.0 ∙ env.0)) read.0.asks;
-      on = rest;
-    })
+    inr (reached name next b a (FaultOf object) bytes said manifest m0 m1 m2 m3 read env short man rest)
 
 pub no_manifest_declines : (name : List ℕ) (b : Outside) (r : Reply) → NoManifest name b r → Declining r.outcome
 no_manifest_declines name b r (AtFile u) = unread_declines _ _ _ r u
@@ -208,11 +197,11 @@ judges_says name b m a r said manifest has (Goes members m0 _ mem (Goes v m1 _ f
 
 pub check_says : (name : List ℕ) (b a : Outside) (r : Reply) → checks name b a (Says r) → CheckSays name b r
 check_says name b a r answer = of_reached (reaches name (λ bytes. judges_manifest) b a r answer) where
-  of_reached : NoManifest name b r ⊎ Reached name (λ bytes. judges_manifest) b a r → CheckSays name b r
+  of_reached : NoManifest name b r ⊎ Reached name (λ bytes. judges_manifest) b a (Says r) → CheckSays name b r
   of_reached (inl none) = BeforeMembers none
   of_reached (inr at) = judges_says name b at.there a r at.said at.manifest at.has at.on
 
--- what it asks for
+-- judging leaves the outside as it is
 judges_still : (said : EnvelopeSays) (manifest : Manifest) (m a : Outside) (r : Reply) → judges_manifest said manifest m a (Says r) → a ≡ m
 judges_still said manifest m a r (Declines _ d) = d.0
 judges_still said manifest m a r (Goes members m0 _ mem (Declines _ d)) = d.0 ∙ mem.0
@@ -230,7 +219,7 @@ module _ (name : List ℕ) (next : List ℕ → EnvelopeSays → Manifest → An
   pub file_faults : ((bytes : List ℕ) (said : EnvelopeSays) (manifest : Manifest) (object : Object) (m : Outside) → next bytes said manifest m a (FaultOf object) → ⊥)
       → (object : Object) → in_manifest name next b a (FaultOf object) → at_host (MayAsk name) object b a
   file_faults never object answer = of_reached (reaches_fault name next object b a answer) where
-    of_reached : at_host (MayAsk name) object b a ⊎ ReachedFault name next object b a → at_host (MayAsk name) object b a
+    of_reached : at_host (MayAsk name) object b a ⊎ Reached name next b a (FaultOf object) → at_host (MayAsk name) object b a
     of_reached (inl asks) = asks
     of_reached (inr at) = absurd (never at.has.in_envelope.bytes at.said at.manifest object at.there at.on)
 
@@ -323,7 +312,7 @@ showed name key_name b a r answer = of_reached (reaches name (λ bytes. shows_ma
   of_rest said manifest m (Declines _ d) = inl (no_key_declines _ _ r d.1)
   of_rest said manifest m (Goes key m0 _ k (Ends _ same shown)) = inr (record { said = said; manifest = manifest; key = key; shown = shown })
 
-  of_reached : NoManifest name b r ⊎ Reached name (λ bytes. shows_manifest key_name) b a r → Declining r.outcome ⊎ IsShownOf r
+  of_reached : NoManifest name b r ⊎ Reached name (λ bytes. shows_manifest key_name) b a (Says r) → Declining r.outcome ⊎ IsShownOf r
   of_reached (inl none) = inl (no_manifest_declines name b r none)
   of_reached (inr at) = of_rest at.said at.manifest at.there at.on
 
@@ -366,103 +355,83 @@ pub plain_not : (o p : Outcome) → Plain o → o ≡ p → (Declining p → ⊥
 plain_not o p (inl d) is never done = never (subst Declining is d)
 plain_not o p (inr d) is never done = done (sym is ∙ d)
 
+-- of `show` with a key
+pub shown_plain : (r : Reply) → Declining r.outcome ⊎ IsShownOf r → Plain r.outcome
+shown_plain r (inl d) = inl d
+shown_plain r (inr s) = subst Plain (sym s.shown.outcome_is) (of_answer s.shown.answer) where
+  of_answer : (answer : Authenticity) → Plain (authenticity_outcome answer)
+  of_answer authenticities.Yes = inr refl
+  of_answer (authenticities.DigestDiffers stated found) = inl tt
+  of_answer authenticities.NoMac = inl tt
+  of_answer (authenticities.MacDiffers expected found) = inl tt
+
 -- ---- outcomes by their statuses
 
+-- the outcome of a status below 3
+abbrev outcome_at : ℕ → Outcome
+outcome_at zero = outcomes.Done
+outcome_at (suc zero) = outcomes.Unsafe
+outcome_at (suc (suc n)) = outcomes.Usage
+
+low_outcome : (o : Outcome) → status_of o < 3 → outcome_at (status_of o) ≡ o
+low_outcome outcomes.Done low = refl
+low_outcome outcomes.Unsafe low = refl
+low_outcome outcomes.Usage low = refl
+low_outcome outcomes.Refused low = absurd (omega arith)
+low_outcome outcomes.NotAuthentic low = absurd (omega arith)
+low_outcome outcomes.TooWide low = absurd (omega arith)
+low_outcome outcomes.Unconfigured low = absurd (omega arith)
+low_outcome outcomes.NotBlank low = absurd (omega arith)
+low_outcome outcomes.NothingInstalled low = absurd (omega arith)
+low_outcome outcomes.Severed low = absurd (omega arith)
+low_outcome outcomes.Differs low = absurd (omega arith)
+low_outcome outcomes.UnknownComponent low = absurd (omega arith)
+low_outcome outcomes.Absent low = absurd (omega arith)
+low_outcome outcomes.TooLong low = absurd (omega arith)
+
+outcome_is : (o : Outcome) (n : ℕ) → status_of o ≡ n → n < 3 → o ≡ outcome_at n
+outcome_is o n e low = sym (low_outcome o (omega (arith, e, low))) ∙ ap outcome_at e
+
 pub status_done : (o : Outcome) → status_of o ≡ 0 → o ≡ outcomes.Done
-status_done outcomes.Done e = refl
-status_done outcomes.Unsafe e = absurd (omega arith)
-status_done outcomes.Usage e = absurd (omega arith)
-status_done outcomes.Refused e = absurd (omega arith)
-status_done outcomes.NotAuthentic e = absurd (omega arith)
-status_done outcomes.TooWide e = absurd (omega arith)
-status_done outcomes.Unconfigured e = absurd (omega arith)
-status_done outcomes.NotBlank e = absurd (omega arith)
-status_done outcomes.NothingInstalled e = absurd (omega arith)
-status_done outcomes.Severed e = absurd (omega arith)
-status_done outcomes.Differs e = absurd (omega arith)
-status_done outcomes.UnknownComponent e = absurd (omega arith)
-status_done outcomes.Absent e = absurd (omega arith)
-status_done outcomes.TooLong e = absurd (omega arith)
+status_done o e = outcome_is o 0 e (omega arith)
 
 pub status_unsafe : (o : Outcome) → status_of o ≡ 1 → o ≡ outcomes.Unsafe
-status_unsafe outcomes.Unsafe e = refl
-status_unsafe outcomes.Done e = absurd (omega arith)
-status_unsafe outcomes.Usage e = absurd (omega arith)
-status_unsafe outcomes.Refused e = absurd (omega arith)
-status_unsafe outcomes.NotAuthentic e = absurd (omega arith)
-status_unsafe outcomes.TooWide e = absurd (omega arith)
-status_unsafe outcomes.Unconfigured e = absurd (omega arith)
-status_unsafe outcomes.NotBlank e = absurd (omega arith)
-status_unsafe outcomes.NothingInstalled e = absurd (omega arith)
-status_unsafe outcomes.Severed e = absurd (omega arith)
-status_unsafe outcomes.Differs e = absurd (omega arith)
-status_unsafe outcomes.UnknownComponent e = absurd (omega arith)
-status_unsafe outcomes.Absent e = absurd (omega arith)
-status_unsafe outcomes.TooLong e = absurd (omega arith)
+status_unsafe o e = outcome_is o 1 e (omega arith)
 
 pub status_usage : (o : Outcome) → status_of o ≡ 2 → o ≡ outcomes.Usage
-status_usage outcomes.Usage e = refl
-status_usage outcomes.Done e = absurd (omega arith)
-status_usage outcomes.Unsafe e = absurd (omega arith)
-status_usage outcomes.Refused e = absurd (omega arith)
-status_usage outcomes.NotAuthentic e = absurd (omega arith)
-status_usage outcomes.TooWide e = absurd (omega arith)
-status_usage outcomes.Unconfigured e = absurd (omega arith)
-status_usage outcomes.NotBlank e = absurd (omega arith)
-status_usage outcomes.NothingInstalled e = absurd (omega arith)
-status_usage outcomes.Severed e = absurd (omega arith)
-status_usage outcomes.Differs e = absurd (omega arith)
-status_usage outcomes.UnknownComponent e = absurd (omega arith)
-status_usage outcomes.Absent e = absurd (omega arith)
-status_usage outcomes.TooLong e = absurd (omega arith)
+status_usage o e = outcome_is o 2 e (omega arith)
+
+-- no reply has the status of a fault
+reply_status : (o : Outcome) → (status_of o < 7) ⊎ (9 < status_of o)
+reply_status outcomes.Done = inl (omega arith)
+reply_status outcomes.Unsafe = inl (omega arith)
+reply_status outcomes.Usage = inl (omega arith)
+reply_status outcomes.Refused = inl (omega arith)
+reply_status outcomes.NotAuthentic = inl (omega arith)
+reply_status outcomes.TooWide = inr (omega arith)
+reply_status outcomes.Unconfigured = inr (omega arith)
+reply_status outcomes.NotBlank = inr (omega arith)
+reply_status outcomes.NothingInstalled = inr (omega arith)
+reply_status outcomes.Severed = inr (omega arith)
+reply_status outcomes.Differs = inr (omega arith)
+reply_status outcomes.UnknownComponent = inr (omega arith)
+reply_status outcomes.Absent = inr (omega arith)
+reply_status outcomes.TooLong = inr (omega arith)
+
+no_fault_status : (o : Outcome) (n : ℕ) → status_of o ≡ n → 7 ≤ n → n ≤ 9 → ⊥
+no_fault_status o n e from to = of_status (reply_status o) where
+  of_status : (status_of o < 7) ⊎ (9 < status_of o) → ⊥
+  of_status (inl below) = omega (arith, below, e, from)
+  of_status (inr above) = omega (arith, above, e, to)
 
 pub not_seven : (o : Outcome) → status_of o ≡ 7 → ⊥
-not_seven outcomes.Done e = omega arith
-not_seven outcomes.Unsafe e = omega arith
-not_seven outcomes.Usage e = omega arith
-not_seven outcomes.Refused e = omega arith
-not_seven outcomes.NotAuthentic e = omega arith
-not_seven outcomes.TooWide e = omega arith
-not_seven outcomes.Unconfigured e = omega arith
-not_seven outcomes.NotBlank e = omega arith
-not_seven outcomes.NothingInstalled e = omega arith
-not_seven outcomes.Severed e = omega arith
-not_seven outcomes.Differs e = omega arith
-not_seven outcomes.UnknownComponent e = omega arith
-not_seven outcomes.Absent e = omega arith
-not_seven outcomes.TooLong e = omega arith
+not_seven o e = no_fault_status o 7 e (omega arith) (omega arith)
 
 pub not_eight : (o : Outcome) → status_of o ≡ 8 → ⊥
-not_eight outcomes.Done e = omega arith
-not_eight outcomes.Unsafe e = omega arith
-not_eight outcomes.Usage e = omega arith
-not_eight outcomes.Refused e = omega arith
-not_eight outcomes.NotAuthentic e = omega arith
-not_eight outcomes.TooWide e = omega arith
-not_eight outcomes.Unconfigured e = omega arith
-not_eight outcomes.NotBlank e = omega arith
-not_eight outcomes.NothingInstalled e = omega arith
-not_eight outcomes.Severed e = omega arith
-not_eight outcomes.Differs e = omega arith
-not_eight outcomes.UnknownComponent e = omega arith
-not_eight outcomes.Absent e = omega arith
-not_eight outcomes.TooLong e = omega arith
+not_eight o e = no_fault_status o 8 e (omega arith) (omega arith)
 
 not_nine : (o : Outcome) → status_of o ≡ 9 → ⊥
-not_nine outcomes.Done e = omega arith
-not_nine outcomes.Unsafe e = omega arith
-not_nine outcomes.Usage e = omega arith
-not_nine outcomes.Refused e = omega arith
-not_nine outcomes.NotAuthentic e = omega arith
-not_nine outcomes.TooWide e = omega arith
-not_nine outcomes.Unconfigured e = omega arith
-not_nine outcomes.NotBlank e = omega arith
-not_nine outcomes.NothingInstalled e = omega arith
-not_nine outcomes.Severed e = omega arith
-not_nine outcomes.Differs e = omega arith
-not_nine outcomes.UnknownComponent e = omega arith
-not_nine outcomes.Absent e = omega arith
-not_nine outcomes.TooLong e = omega arith
+not_nine o e = no_fault_status o 9 e (omega arith) (omega arith)
 
 pub not_nine_ending : (e : Ending) → ending_status e ≡ 9 → ⊥
 not_nine_ending (Says r) is = not_nine r.outcome is

@@ -1,4 +1,4 @@
--- What is read at a later moment, of the same files.
+-- Reading the same files at a later moment.
 use Rattle.std.proofs.Common.{◌≡◌, ℕ, List, Option, sym, ap, subst, ◌∙◌}
 use Rattle.std.specs.Prelude.{IsTrue}
 use Rattle.suit_cli.specs.declared.reply.Reply.{Reply}

@@ -1,4 +1,4 @@
--- What is settled when a command ends.
+-- When a command leaves the flash settled.
 use Rattle.std.proofs.Common.{◌≡◌, ◌⊎◌, ⊎_elim, ℕ, List, sym, subst}
 use Rattle.suit_edge.specs.Faults.{Faulted}
 use Rattle.suit_edge.specs.Flash.{Flash, IsFlash, IsSame, IsSettled, Passes}

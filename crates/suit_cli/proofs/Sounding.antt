@@ -26,9 +26,16 @@ use Rattle.suit_cli.specs.Formatting.{MayFormat, MayLeave}
 use Rattle.suit_cli.specs.Stages.{Ending}
 use Rattle.suit_cli.specs.Launching.{Launching}
 use Rattle.suit_cli.specs.Coming.{Answered, Ended, PassesAny, StaysSound}
-use Rattle.suit_cli.specs.Program.{IfLaunches, KeepsFor, MayBeLeft}
+use Rattle.suit_cli.specs.Program.{IfBoots, IfLaunches, KeepsFor, MayBeLeft}
 
--- what goes on to an image goes on to each with the same head
+-- the configuration is there after a read
+pub held_after : (layout : List Entry) (key : Key) (size later_size : ℕ) (reads later : List ℕ) → later_size ≡ size → later ≡ reads
+    → ConfigOf VERSION_1 size (head_of VERSION_1 reads) (Configured layout key) → ConfigOf VERSION_1 later_size (head_of VERSION_1 later) (Configured layout key)
+held_after layout key size later_size reads later extent same held =
+    subst (λ (n : ℕ). ConfigOf VERSION_1 n (head_of VERSION_1 later) (Configured layout key)) (sym extent)
+    (subst (λ (l : List ℕ). ConfigOf VERSION_1 size (head_of VERSION_1 l) (Configured layout key)) (sym same) held)
+
+-- an image that goes on to one goes on to each with the same head
 held_follows : (a b c : List ℕ) → length c ≡ length b → head_of VERSION_1 c ≡ head_of VERSION_1 b → Follows VERSION_1 a b → Follows VERSION_1 a c
 held_follows a b c size head (FollowsBlank blank) = FollowsBlank blank
 held_follows a b c size head (FollowsOn on) = FollowsOn (record {
@@ -166,6 +173,23 @@ if_unmoved laws task a = if_launches task (Settled VERSION_1 a → StaysSound a 
 
 pub if_launches_by : (task t : Option Task) (P : Type 0) → task ≡ t → IfLaunches t P → IfLaunches task P
 if_launches_by task t P same p = subst (λ (u : Option Task). IfLaunches u P) (sym same) p
+
+pub if_boots : (task : Option Task) (P : Type 0) → P → IfBoots task P
+if_boots None P p = tt
+if_boots (Some (Make description key out)) P p = tt
+if_boots (Some (Describe name)) P p = tt
+if_boots (Some (Show name key)) P p = tt
+if_boots (Some (Check name)) P p = tt
+if_boots (Some (RunInit device key)) P p = tt
+if_boots (Some (RunUpdate name uris)) P p = tt
+if_boots (Some RunBoot) P p = p
+if_boots (Some RunStatus) P p = tt
+
+pub if_boots_by : (task t : Option Task) (P : Type 0) → task ≡ t → IfBoots t P → IfBoots task P
+if_boots_by task t P same p = subst (λ (u : Option Task). IfBoots u P) (sym same) p
+
+pub as_it_boots : (task : Option Task) (P : Type 0) → task ≡ Some RunBoot → IfBoots task P → P
+as_it_boots task P boots p = subst (λ (u : Option Task). IfBoots u P) boots p
 
 -- where nothing was done
 pub keeps_unmoved : (task : Option Task) (l m : Launching) (before : Outside) (ending : Ending) (a : Flash) → KeepsFor task l m before (Answered ending) a a

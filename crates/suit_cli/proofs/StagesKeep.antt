@@ -1,4 +1,4 @@
--- What the stages of an answer leave alone, and what they count.
+-- How an answer's stages keep the outside, and count faults.
 use Rattle.std.proofs.Common.{◌≡◌, ℕ, List, Some, refl, sym, ap, subst, ◌∙◌, ◌+◌, arith}
 use Rattle.std.specs.Prelude.{IsTrue}
 use Rattle.suit_edge.specs.Faults.{Faulted}
@@ -6,7 +6,7 @@ use Rattle.suit_cli.specs.declared.reply.Reply.{Reply}
 use Rattle.suit_cli.specs.Words.{Task, Describe, Show, Check, RunInit, RunStatus, task_of}
 use Rattle.suit_cli.specs.declared.reply.Object.{Object}
 use Rattle.suit_cli.specs.declared.reply.Object.TheVariants as objects
-use Rattle.suit_cli.specs.Outside.{Outside, Flashed, Quiet, Reads, Fails, Looks, LooksInVain, with_flash}
+use Rattle.suit_cli.specs.Outside.{Outside, Flashed, Quiet, Reads, ReadsInVain, Looks, LooksInVain, with_flash}
 use Rattle.suit_cli.specs.Stages.{Ending, Says, FaultOf, NoMemory, Answers, Stage, judging, reading, looking, at_host, at_flash, Then, Goes, Declines, Faults, Lacks, Last, Ends, EndsWithout, Said, IsSaid}
 use Rattle.flash_layout.specs.declared.key.Key.{Key}
 use Rattle.flash_layout.specs.declared.layout.Entry.{Entry}
@@ -148,7 +148,7 @@ reading_keeps most name good bad = record {
   faults = λ object b a f. at_fault object b a f;
   lacks = λ b a l. reads_calm most name b a l;
 } where
-  at_fault : (object : Object) (b a : Outside) → at_host (Fails most name) object b a → Faulty most object b a
+  at_fault : (object : Object) (b a : Outside) → at_host (ReadsInVain most name) object b a → Faulty most object b a
   at_fault objects.Host b a f = record { quiet = f.quiet; faulted = host_fault b a f.faulted f.flash }
   at_fault objects.Flash b a f = absurd f
 

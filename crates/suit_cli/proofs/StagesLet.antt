@@ -1,4 +1,4 @@
--- What an answer leaves of the files, and what it counts.
+-- How an answer keeps the files, and counts faults.
 use Rattle.std.proofs.Common.{◌≡◌, ◌∙◌, ℕ, ◌≤◌, ◌+◌, List, [], ◌∷◌, ◌++◌, Option, Some, None, inl, inr, refl, sym, ap, subst, arith}
 use Rattle.std.specs.Prelude.{IsTrue, ◌≢◌}
 use Rattle.serde_json.specs.Data.{Data}
@@ -56,7 +56,7 @@ files_keeps : (read : List (List ℕ × List ℕ)) (names : List (List ℕ)) →
 files_keeps read [] = judging_keeps _ _
 files_keeps read (name ∷ names) = in_turn_keeps 4194305 (most_named names) _ _ (reading_keeps _ _ _ _) (λ bytes. files_keeps (read ++ (name, bytes) ∷ []) names)
 
--- ---- what an answer leaves
+-- ---- the effect of an answer
 
 pub record LeftBy (most : ℕ) (stored : Option (List ℕ)) (e : Ending) (b a : Outside) : Type 0 where
   pub leaves : Leaves most stored b a

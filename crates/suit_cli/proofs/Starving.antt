@@ -1,4 +1,4 @@
--- What is left where memory was wanting.
+-- The files and the flash where memory ran out.
 use Rattle.std.proofs.Common.{◌≡◌, ◌⊎◌, ⊎_elim, ℕ, List, [], ◌∷◌, ◌++◌, Option, Some, None, length, sym, ap, subst, ◌∙◌, arith}
 use Rattle.std.specs.Prelude.{IsTrue}
 use Rattle.suit_params.specs.declared.digest.Digest.{Digest}
@@ -40,7 +40,7 @@ use Rattle.suit_cli.proofs.AcceptedFacts.{facts}
 use Rattle.suit_cli.proofs.FlashLawProofs.{IsNear, near_looks, near_reads, near_same, near_then}
 use Rattle.suit_cli.proofs.UpdateEnds.{update_files}
 
--- ---- stages that leave files and flash as they were, but for what is done behind the last want of memory
+-- ---- stages that leave files and flash as they were, except after the last point where memory may run out
 
 record Nears {A : Type 0} (stage : Stage A) : Type 0 where
   pub gives : (b a : Outside) (x : A) → stage.gives b a x → IsNear b a

@@ -20,7 +20,7 @@ use Rattle.suit_cli.specs.Installed.{FlashCounts, IsBlank, component_line, compo
 
 -- ---- the configuration
 
--- there is none, which was told unless there was no memory
+-- there is none, which was told unless memory ran out
 pub blank_there : (before after : Outside) → Looks before after → (IsTrue before.flash.told → ConfigOf VERSION_1 before.flash.size (head_of VERSION_1 before.flash.reads) Blank)
     → (made : Result Reply AllocError) (stop : Stop) → Makes made outcomes.Unconfigured (codes "blank\n") → stop ≡ stop_of made → Does config_in before after (Err stop)
 blank_there before after looks blank made stop says is = subst (λ (s : Stop). Does config_in before after (Err s)) (sym is) (of_made made says)

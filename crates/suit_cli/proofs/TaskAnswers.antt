@@ -1,17 +1,14 @@
 -- Answers to words, by what they ask for.
 use Rattle.std.proofs.Common.{◌≡◌, ℕ, List, Some, None, ◌⊎◌, inl, inr, sym, subst, ◌∙◌}
 use Rattle.std.proofs.lemmas.Option.{same_Some}
-use Rattle.suit_envelope.specs.declared.authenticity.Authenticity.{Authenticity}
-use Rattle.suit_envelope.specs.declared.authenticity.Authenticity.TheVariants as authenticities
 use Rattle.suit_cli.specs.declared.reply.Reply.{Reply}
 use Rattle.suit_cli.specs.declared.reply.Outcome.TheVariants as outcomes
 use Rattle.suit_cli.specs.Words.{Task, Make, Describe, Show, Check, RunInit, RunUpdate, RunBoot, RunStatus, task_of}
 use Rattle.suit_cli.specs.Outside.{Outside}
 use Rattle.suit_cli.specs.Stages.{Says, Goes, Declines}
-use Rattle.suit_cli.specs.Shown.{authenticity_outcome}
 use Rattle.suit_cli.specs.Commands.{checks, does}
 use Rattle.suit_cli.specs.Program.{answers}
-use Rattle.suit_cli.proofs.Running.{Declining, IsShownOf, showed, inited, begun, stated, plain_not}
+use Rattle.suit_cli.proofs.Running.{Declining, shown_plain, showed, inited, begun, stated, plain_not}
 use Rattle.suit_cli.proofs.AcceptedFacts.{IsUnsafeFile, began}
 use Rattle.suit_cli.proofs.Describing.{described}
 use Rattle.suit_cli.proofs.MakeLawProofs.{made_as}
@@ -33,16 +30,7 @@ judged_task words b a r (Declines _ d) is = let never = sym d.1.1.outcome_is ∙
 judged_task words b a r (Goes (Make description key out) m _ g rest) is = absurd (plain_not r.outcome _ (made_as description key out m a r rest) is (λ d. d) (λ e. cc))
 judged_task words b a r (Goes (Describe name) m _ g rest) is = absurd (plain_not r.outcome _ (described name m a r rest) is (λ d. d) (λ e. cc))
 judged_task words b a r (Goes (Check name) m _ g rest) is = ByCheck name g.1 (subst (λ (o : Outside). checks name o a (Says r)) g.0 rest)
-judged_task words b a r (Goes (Show name key) m _ g rest) is = absurd (of_show (showed name key m a r rest)) where
-  of_answer : (answer : Authenticity) → r.outcome ≡ authenticity_outcome answer → ⊥
-  of_answer authenticities.Yes e = let never = sym is ∙ e in cc
-  of_answer (authenticities.DigestDiffers stated found) e = let never = sym is ∙ e in cc
-  of_answer authenticities.NoMac e = let never = sym is ∙ e in cc
-  of_answer (authenticities.MacDiffers expected found) e = let never = sym is ∙ e in cc
-
-  of_show : Declining r.outcome ⊎ IsShownOf r → ⊥
-  of_show (inl d) = subst Declining is d
-  of_show (inr s) = of_answer s.shown.answer s.shown.outcome_is
+judged_task words b a r (Goes (Show name key) m _ g rest) is = absurd (plain_not r.outcome _ (shown_plain r (showed name key m a r rest)) is (λ d. d) (λ e. cc))
 judged_task words b a r (Goes (RunInit device key) m _ g rest) is = absurd (plain_not r.outcome _ (inited device key m a r rest) is (λ d. d) (λ e. cc))
 judged_task words b a r (Goes (RunUpdate name uris) m _ g rest) is = of_way (began name m a r rest) where
   of_way : Declining r.outcome ⊎ IsUnsafeFile name m r → JudgesTask words b a r

@@ -82,7 +82,7 @@ module _ (name : List ℕ) (uris : List (List ℕ × List ℕ)) (l : Launching) 
         lines_are = by.1;
       })
 
--- what was accepted of the same bytes
+-- the acceptance of the same bytes
 pub accepted_as : (layout : List Entry) (key : Key) (x y : List ℕ) → x ≡ y → (a : Accepted) → IsAccepted layout key x a → IsAccepted layout key y a
 accepted_as layout key x y same a is = subst (λ (bytes : List ℕ). IsAccepted layout key bytes a) same is
 

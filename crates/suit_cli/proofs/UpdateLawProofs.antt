@@ -34,11 +34,11 @@ use Rattle.suit_cli.specs.Installed.{Holds, HoldsNone, IsBad, IsBlank}
 use Rattle.suit_cli.specs.Commands.{begins_update}
 use Rattle.suit_cli.specs.Envelopes.{IsShort, envelope_in, short, manifest_in, members_in}
 use Rattle.suit_cli.specs.Judgement.{AreSafe, IsNarrow, narrow}
-use Rattle.suit_cli.specs.Acceptance.{Accepted, AreUnsafe, IsAccepted, IsUnauthentic, LacksComponent, accepts, accepts_manifest, authentic_in, judges, places_in, safe_in}
+use Rattle.suit_cli.specs.Acceptance.{Accepted, AreUnsafe, IsAccepted, IsUnauthentic, Meets, LacksComponent, accepts, accepts_manifest, authentic_in, judges, places_in, safe_in}
 use Rattle.suit_cli.specs.CommandLaws.{SameButPath}
 use Rattle.suit_cli.specs.UpdateLaws.{AtAuthenticity, AtBytes, AtComponents, AtConfig, AtFile, AtEnvelope, AtInvocationWidth, AtLength, AtManifest, AtMembers, AtPaths, AtUpdateWidth, HasAll, IsAuthenticIn, IsDeclined, Spell, UpdateLaws, UpdateSays}
 use Rattle.suit_cli.proofs.OneStage.{Alike, IsOne, one_envelope, one_judging, one_manifest, one_members, one_narrow, one_read, one_reply, one_short, one_unread, read_not_unread}
-use Rattle.suit_cli.proofs.AcceptedFacts.{Facts, declined_so, facts, read_before, unread_before}
+use Rattle.suit_cli.proofs.AcceptedFacts.{declined_so, facts, read_before, unread_before}
 use Rattle.suit_cli.proofs.Running.{unsafe_refuted}
 use Rattle.suit_cli.proofs.AcceptSteps.{behind_authentic, behind_envelope, behind_judges, behind_members, behind_places, behind_short, behind_width}
 use Rattle.suit_cli.proofs.Turns.{declined_by}
@@ -203,16 +203,16 @@ module _ (envelopes : EnvelopeLaws) (authenticity : AuthenticityLaw) (manifests 
       let s = past_widths said manifest taken all first second in inr (unsafe.outcome_is, s.2.1.outcome_is)
 
   -- and none where the bytes are accepted
-  pub accepted_not : (x : Accepted) → Facts layout key bytes x → ⊥
+  pub accepted_not : (x : Accepted) → Meets layout key bytes x → ⊥
   accepted_not x f =
       let all : HasAll layout key bytes x.said x.manifest x.members = record {
-        authentic_in = record { spell = record { are_bytes = f.are_bytes; envelope = f.envelope }; is_short = f.short; authentic = f.authentic; says = f.says };
+        authentic_in = record { spell = record { are_bytes = f.are_bytes; envelope = f.envelope }; is_short = f.is_short; authentic = f.authentic; says = f.says };
         places = x.places;
         placed = f.placed;
         has_members = f.members;
       } in
       let s = past_widths x.said x.manifest x.members all f.update_narrow f.invocation_narrow in
-      unsafe_refuted (update_tree x.manifest x.members) (invocation_tree x.manifest) q.text s.2.1.shows_path f.safe
+      unsafe_refuted (update_tree x.manifest x.members) (invocation_tree x.manifest) q.text s.2.1.shows_path f.are_safe
 
 -- ---- the command
 

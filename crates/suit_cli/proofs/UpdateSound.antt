@@ -27,7 +27,7 @@ use Rattle.step_machine.specs.PlanRuns.{setting_of}
 use Rattle.step_machine.specs.Worlds.{AreDistinct}
 use Rattle.step_machine.specs.declared.plan_end.PlanEnd.{PlanEnd}
 use Rattle.invoke_proc.specs.Booting.{GainsSafe}
-use Rattle.invoke_proc.specs.Typing.{HasIdentifiers}
+use Rattle.step_machine.specs.Typing.{HasIdentifiers}
 use Rattle.invoke_proc.proofs.Judged.{has_each}
 use Rattle.invoke_proc.proofs.Places.{are_distinct, are_identities}
 use Rattle.invoke_proc.proofs.SoundBoot.{have_digests}
@@ -36,13 +36,12 @@ use Rattle.update_proc.specs.Installing.{MayBeInstalled}
 use Rattle.update_proc.specs.Offered.{ForOffer}
 use Rattle.update_proc.specs.Updates.{LaunchesBy, PlaysUpdate}
 use Rattle.place_laws.specs.Installing.{InstalledAnywhere}
-use Rattle.suit_cli.specs.Acceptance.{Accepted}
+use Rattle.suit_cli.specs.Acceptance.{Accepted, Meets}
 use Rattle.suit_cli.specs.Updating.{HasOffer, new_of}
-use Rattle.suit_cli.proofs.AcceptedFacts.{Facts}
 
 -- ---- the places of its components
 
-module _ (manifests : ManifestLaws) (layout : List Entry) (key : Key) (bytes : List ℕ) (a : Accepted) (f : Facts layout key bytes a) (other : HaveOtherPlaces a.manifest.components a.places) where
+module _ (manifests : ManifestLaws) (layout : List Entry) (key : Key) (bytes : List ℕ) (a : Accepted) (f : Meets layout key bytes a) (other : HaveOtherPlaces a.manifest.components a.places) where
   pub distinct : AreDistinct layout a.places
   distinct =
       let grammar = manifests.grammatical a.said.manifest_place f.says.item a.manifest f.says.says_so in
@@ -62,12 +61,12 @@ module _ (configs : OneAnswer) (layout : List Entry) (key : Key) (reads : List �
   some_record (SoundEmpty other k is none) = (None, none)
   some_record (SoundInstalled other k r is held installed) = (Some r, held)
 
-  pub has_offer : (bytes : List ℕ) (a : Accepted) → Facts layout key bytes a → Sound VERSION_1 reads → HasOffer reads a.said.wrapper
+  pub has_offer : (bytes : List ℕ) (a : Accepted) → Meets layout key bytes a → Sound VERSION_1 reads → HasOffer reads a.said.wrapper
   has_offer bytes a f sound = let some = some_record sound in (some.0, record { bytes = f.authentic.digest }, f.authentic.blocks, some.1, f.authentic.says)
 
   -- ---- it may be installed
 
-  module _ (installs : InstalledAnywhere) (bytes : List ℕ) (a : Accepted) (f : Facts layout key bytes a) where
+  module _ (installs : InstalledAnywhere) (bytes : List ℕ) (a : Accepted) (f : Meets layout key bytes a) where
     abbrev stated : Digest
     stated = record { bytes = f.authentic.digest }
 
@@ -80,7 +79,7 @@ module _ (configs : OneAnswer) (layout : List Entry) (key : Key) (reads : List �
       number = refl;
       digest = (f.authentic.blocks, f.authentic.says);
       components = has_each layout a.manifest.components a.places f.placed;
-      safe = f.safe.invocation_safe;
+      safe = f.are_safe.invocation_safe;
       narrow = f.invocation_narrow;
     })
 
@@ -106,7 +105,7 @@ gains_nothing : (launched now : List Launch) → now ≡ launched → GainsSafe 
 gains_nothing launched now same = record { gained = []; added = same ∙ sym (append-nil launched); safe = tt }
 
 module _ (safe : SafeLaunches) (faulted : FaultedSafeLaunches) (manifests : ManifestLaws) (size : ℕ) (layout : List Entry) (key : Key) (allowed : IsAllowed VERSION_1 size layout key)
-    (typed : All HasIdentifiers layout) (bytes : List ℕ) (a : Accepted) (f : Facts layout key bytes a) (other : HaveOtherPlaces a.manifest.components a.places)
+    (typed : All HasIdentifiers layout) (bytes : List ℕ) (a : Accepted) (f : Meets layout key bytes a) (other : HaveOtherPlaces a.manifest.components a.places)
     (uris : List (List ℕ × List ℕ)) (files : List ℕ → Option (List ℕ)) (before : List ℕ) (launched now : List Launch) where
   abbrev payloads : List (List ℕ × List ℕ)
   payloads = integrated_payloads (map_entries f.envelope.says_so.map)
@@ -122,7 +121,7 @@ module _ (safe : SafeLaunches) (faulted : FaultedSafeLaunches) (manifests : Mani
     gained = p.plays.gained;
     added = p.plays.added;
     safe =
-        have_digests safe faulted (update_tree a.manifest a.members) (setting_of p.standings payloads uris files) (contents_of p.standings (empty_ram layout) before) f.safe.update_safe
+        have_digests safe faulted (update_tree a.manifest a.members) (setting_of p.standings payloads uris files) (contents_of p.standings (empty_ram layout) before) f.are_safe.update_safe
         (are_identities size layout allowed.layout_is a.places (record { number = p.numbers }) p.standings typed (distinct manifests layout key bytes a f other) p.choice p.stand
         (update_tree a.manifest a.members) (sym f.placed.count ∙ sym p.stand.count))
         (record { contents = contents_of p.standings p.ram made; launches = map launched_as p.plays.gained }) end p.plays.ends;

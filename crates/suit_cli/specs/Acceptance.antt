@@ -1,13 +1,14 @@
--- What an update judges of an envelope before anything is done.
+-- How an update judges an envelope before anything is done.
 use Rattle.std.specs.Prelude.{◌≡◌, ◌≢◌, ℕ, List, Result, Ok, Err, codes}
 use Rattle.suit_commands.specs.Tree.{PlanTree}
 use Rattle.suit_envelope.specs.Authentic.{IsAuthentic}
 use Rattle.suit_envelope.specs.Envelopes.{EnvelopeSays}
-use Rattle.suit_envelope.specs.Said.{said_by}
+use Rattle.suit_envelope.specs.Said.{EnvelopeOf, said_by}
 use Rattle.suit_envelope.specs.declared.authenticity.Authenticity.{Authenticity}
 use Rattle.suit_envelope.specs.declared.authenticity.Authenticity.TheVariants as authenticities
 use Rattle.suit_manifest.specs.declared.manifest.Manifest.{Manifest}
 use Rattle.suit_manifest.specs.declared.manifest.Members.{Members}
+use Rattle.suit_manifest.specs.MembersApart.{HasMembers}
 use Rattle.suit_manifest.specs.Procedures.{update_tree, invocation_tree}
 use Rattle.flash_layout.specs.declared.key.Key.{Key}
 use Rattle.flash_layout.specs.declared.layout.Entry.{Entry}
@@ -23,8 +24,8 @@ use Rattle.suit_cli.specs.Texts.{authenticity_line}
 use Rattle.suit_cli.specs.Replies.{IsReply}
 use Rattle.suit_cli.specs.Outside.{Outside}
 use Rattle.suit_cli.specs.Stages.{Stage, Finds, in_turn, judging}
-use Rattle.suit_cli.specs.Envelopes.{envelope_in, short, manifest_in, members_in}
-use Rattle.suit_cli.specs.Judgement.{AreSafe, ShowUnsafe, narrow}
+use Rattle.suit_cli.specs.Envelopes.{AreBytes, IsShort, ManifestOf, envelope_in, short, manifest_in, members_in}
+use Rattle.suit_cli.specs.Judgement.{AreSafe, IsNarrow, ShowUnsafe, narrow}
 use Rattle.suit_cli.specs.Shown.{TellsAuthenticity}
 
 -- ---- authenticity under the flash's key
@@ -36,17 +37,20 @@ pub record IsUnauthentic (said : EnvelopeSays) (key : List ℕ) (reply : Reply) 
   pub says : IsReply reply outcomes.NotAuthentic (authenticity_line answer)
 
 abbrev pub authentic_in : EnvelopeSays → List ℕ → Stage (Unit {0})
-authentic_in said key = judging (λ _. IsAuthentic said.wrapper said.manifest key) (IsUnauthentic said key)
+authentic_in said key =
+    judging (λ _. IsAuthentic said.wrapper said.manifest key) (IsUnauthentic said key)
 
 -- ---- the components in the flash's layout
 
 pub record LacksComponent (layout : List Entry) (manifest : Manifest) (reply : Reply) : Type 0 where
   pub component : ℕ
   pub lacks : IsFirstUnknown layout manifest.components component
-  pub says : IsReply reply outcomes.UnknownComponent (number_line (codes "unknown component") component)
+  pub says :
+      IsReply reply outcomes.UnknownComponent (number_line (codes "unknown component") component)
 
 abbrev pub places_in : List Entry → Manifest → Stage Places
-places_in layout manifest = judging (ArePlaces layout manifest.components) (LacksComponent layout manifest)
+places_in layout manifest =
+    judging (ArePlaces layout manifest.components) (LacksComponent layout manifest)
 
 -- ---- both procedures
 
@@ -67,7 +71,7 @@ judges update invocation =
 
 -- ---- all of it
 
--- what may be installed: an envelope, its manifest, the places of the manifest's components in the layout, and its members
+-- an installable envelope, its manifest, the places of the manifest's components in the layout, and its members
 pub record Accepted : Type 0 where
   pub said : EnvelopeSays
   pub manifest : Manifest
@@ -79,7 +83,10 @@ accepts_manifest layout said manifest =
     in_turn (places_in layout manifest) (λ places.
     in_turn (members_in said manifest) (λ members.
     in_turn (judges (update_tree manifest members) (invocation_tree manifest)) (λ _.
-    judging (λ accepted. accepted ≡ record { said = said; manifest = manifest; places = places; members = members }) (λ reply. ⊥))))
+    judging
+    (λ accepted. accepted
+    ≡ record { said = said; manifest = manifest; places = places; members = members })
+    (λ reply. ⊥))))
 
 abbrev pub accepts : List Entry → Key → List ℕ → Stage Accepted
 accepts layout key bytes =
@@ -91,12 +98,35 @@ accepts layout key bytes =
 
 -- the bytes are accepted so
 abbrev pub IsAccepted : List Entry → Key → List ℕ → Accepted → Type 0
-IsAccepted layout key bytes accepted = (here : Outside) → (accepts layout key bytes).gives here here accepted
+IsAccepted layout key bytes accepted =
+    (here : Outside) → (accepts layout key bytes).gives here here accepted
 
--- ---- what the code answers
+-- the same as demands on the bytes, under the layout and the key of the flash
+pub record Meets (layout : List Entry) (key : Key) (bytes : List ℕ) (a : Accepted) : Type 0 where
+  -- they spell an envelope that is short enough
+  pub are_bytes : AreBytes bytes
+  pub envelope : EnvelopeOf bytes a.said
+  pub is_short : IsShort a.said
+  -- it is authentic, and has a manifest
+  pub authentic : IsAuthentic a.said.wrapper a.said.manifest (key_bytes key)
+  pub says : ManifestOf a.said a.manifest
+  -- the layout has the manifest's components, and its members are there and match
+  pub placed : ArePlaces layout a.manifest.components a.places
+  pub members : HasMembers a.said a.manifest a.members
+  -- both its procedures are within the width that is judged, and safe
+  pub update_narrow : IsNarrow (update_tree a.manifest a.members)
+  pub invocation_narrow : IsNarrow (invocation_tree a.manifest)
+  pub are_safe : AreSafe (update_tree a.manifest a.members) (invocation_tree a.manifest)
+
+-- ---- the code's answers
 
 abbrev pub accepted_by : Acceptable → Accepted
-accepted_by a = record { said = said_by a.envelope; manifest = a.manifest; places = a.places; members = a.members }
+accepted_by a = record {
+  said = said_by a.envelope;
+  manifest = a.manifest;
+  places = a.places;
+  members = a.members;
+}
 
 abbrev pub accepted_or_stop : Result Acceptable Stop → Result Accepted Stop
 accepted_or_stop (Ok a) = Ok (accepted_by a)

@@ -1,4 +1,4 @@
--- What the code answers in the stages of envelopes.
+-- The code's answers in the stages of envelopes.
 use Rattle.std.specs.Prelude.{List, ℕ, Result, Ok, Err}
 use Rattle.suit_envelope.specs.Said.{said_by}
 use Rattle.suit_envelope.specs.declared.envelope.Envelope.{Envelope}
@@ -17,7 +17,7 @@ said_or_stop (Err stop) = Err stop
 abbrev pub FindsEnvelope : List ℕ → Result Envelope Stop → Type 0
 FindsEnvelope bytes result = Finds (envelope_in bytes) (said_or_stop result)
 
--- a fault of a member is told so, unless there was no memory
+-- a fault of a member is told so, unless memory ran out
 abbrev pub TellsFault : MemberFault → Stop → Type 0
 TellsFault fault (stops.Declined reply) = TellsLack reply fault
 TellsFault fault (stops.Fault object) = ⊥

@@ -39,7 +39,7 @@ pub record IsAuthored (bytes : List ℕ) (value : Data) : Type 0 where
   pub reads : read bytes ≡ Some value
   pub describes : IsDescription value
 
--- the line of what is wrong; want of memory has none here
+-- the line of what is wrong; running out of memory has none here
 abbrev pub IsDescriptionLine : DescriptionFault → List ℕ → Type 0
 IsDescriptionLine (faults.BadField pointer) text = text ≡ pointed_line (codes "bad field") pointer
 IsDescriptionLine (faults.BadHex pointer) text = text ≡ pointed_line (codes "bad hex") pointer
@@ -54,8 +54,10 @@ pub record TellsDescription (fault : DescriptionFault) (reply : Reply) : Type 0 
 
 -- it is no JSON, or describes no envelope: then the first fault is told
 pub data IsNotAuthored (bytes : List ℕ) (reply : Reply) : Type 0 where
-  IsNoText : (IsUtf8 bytes → read bytes ≡ None) → IsReply reply outcomes.Refused bad_json_line → IsNotAuthored bytes reply
-  IsNoDescription : (value : Data) (fault : DescriptionFault) → IsUtf8 bytes → read bytes ≡ Some value → RefusesDescription value fault → TellsDescription fault reply
+  IsNoText : (IsUtf8 bytes → read bytes ≡ None) → IsReply reply outcomes.Refused bad_json_line
+      → IsNotAuthored bytes reply
+  IsNoDescription : (value : Data) (fault : DescriptionFault) → IsUtf8 bytes
+      → read bytes ≡ Some value → RefusesDescription value fault → TellsDescription fault reply
       → IsNotAuthored bytes reply
 
 abbrev pub description_in : List ℕ → Stage Data
@@ -70,7 +72,8 @@ value_or_stop (Err stop) = Err stop
 
 abbrev pub files_after : List (List ℕ × List ℕ) → List (List ℕ) → Stage (List (List ℕ × List ℕ))
 files_after taken [] = judging (λ files. files ≡ taken) (λ reply. ⊥)
-files_after taken (name ∷ names) = in_turn (file longest_named name) (λ bytes. files_after (taken ++ (name, bytes) ∷ []) names)
+files_after taken (name ∷ names) =
+    in_turn (file longest_named name) (λ bytes. files_after (taken ++ (name, bytes) ∷ []) names)
 
 abbrev pub files_in : List (List ℕ) → Stage (List (List ℕ × List ℕ))
 files_in names = files_after [] names
@@ -78,12 +81,14 @@ files_in names = files_after [] names
 -- ---- the envelope
 
 -- the one that is described, which is authentic under the key, and whose manifest is the described one
-pub record IsEnvelopeOf (value : Data) (files : List (List ℕ × List ℕ)) (key bytes : List ℕ) : Type 0 where
+pub record IsEnvelopeOf (value : Data) (files : List (List ℕ × List ℕ)) (key bytes : List ℕ)
+    : Type 0 where
   pub made : IsMadeOf value files key bytes
   pub authentic : IsAuthenticUnder key bytes
   pub manifest : HoldsManifestOf value files bytes
 
-pub record IsLongEnvelope (value : Data) (files : List (List ℕ × List ℕ)) (key : List ℕ) (reply : Reply) : Type 0 where
+pub record IsLongEnvelope (value : Data) (files : List (List ℕ × List ℕ)) (key : List ℕ)
+    (reply : Reply) : Type 0 where
   pub limit : ℕ
   pub passes : IsTooLong value files key limit
   pub says : IsReply reply outcomes.TooLong (too_long_line (codes "envelope"))
@@ -93,7 +98,7 @@ made_in value files key = judging (IsEnvelopeOf value files key) (IsLongEnvelope
 
 -- ---- the store
 
--- it follows all refusals, and no want of memory comes once it has begun
+-- it follows all refusals, and memory cannot run out once it has begun
 abbrev pub storing : List ℕ → List ℕ → Stage (Unit {0})
 storing out bytes = record {
   gives = λ before after _. Stores out bytes before after;
@@ -106,7 +111,9 @@ abbrev pub made_line : ℕ → List ℕ
 made_line size = number_line (codes "made") size
 
 abbrev pub stores : List ℕ → List ℕ → Answers
-stores out envelope = storing out envelope >>= λ _. Said (λ reply. IsReply reply outcomes.Done (made_line (length envelope)))
+stores out envelope =
+    storing out envelope
+    >>= λ _. Said (λ reply. IsReply reply outcomes.Done (made_line (length envelope)))
 
 -- ---- `make DESCRIPTION KEY OUT` from the description's value on
 

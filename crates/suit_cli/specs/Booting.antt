@@ -1,4 +1,4 @@
--- What `run boot` comes to.
+-- The result of `run boot`.
 use Rattle.std.specs.Prelude.{◌≡◌, ◌⊎◌, ℕ, IsTrue, List, codes}
 use Rattle.suit_edge.specs.Flash.{Flash, IsSame}
 use Rattle.flash_layout.specs.declared.frame.TheConstants.{VERSION_1}
@@ -56,27 +56,36 @@ boot_status ends.NoMemory = 11
 -- ---- the boot
 
 -- What is in the flash was started, by this layout and this key, and it ended so: what that says of the record and its
--- bank, how the procedure was played, and whose fault was counted. It never ends by a fault of the host, since it asks for no
--- file, and where nothing was started the flash reads as before. What is launched on a sound flash has its digest, and its size where
--- one is in force.
-pub record IsBoot (layout : List Entry) (key : Key) (launched now : Launching) (before after : Outside) (end : BootEnd) : Type 0 where
+-- bank, how the procedure was played, and whose fault was counted. It never ends by a fault of the host, and where nothing
+-- was started the flash reads as before. What is launched on a sound flash has its digest, and its size where one is in
+-- force.
+pub record IsBoot (layout : List Entry) (key : Key) (launched now : Launching)
+    (before after : Outside) (end : BootEnd) : Type 0 where
   pub told : after.told ≡ before.told
   pub files : IsTrue before.told → after.files ≡ before.files
   pub flash_told : after.flash.told ≡ before.flash.told
   pub size : after.flash.size ≡ before.flash.size
   pub launcher_told : now.told ≡ launched.told
-  pub counts : BootCounts end (counts_of before.faults before.flash.faults launched.faults) (counts_of after.faults after.flash.faults now.faults)
+  pub counts :
+      BootCounts end (counts_of before.faults before.flash.faults launched.faults)
+      (counts_of after.faults after.flash.faults now.faults)
   pub answers : IsTrue before.flash.told → booting.Answers layout key before.flash.reads end
   pub unrefused : IsTrue before.flash.told → Sound VERSION_1 before.flash.reads → IsUnrefused end
   pub no_host : IsTrue before.told → IsTrue before.flash.told → IsTrue launched.told → NeverHost end
-  pub left : IsTrue before.flash.told → booting.KeptSo (Unit {0}) (after.flash.reads ≡ before.flash.reads) end
+  pub left : IsTrue before.flash.told
+      → booting.KeptSo (Unit {0}) (after.flash.reads ≡ before.flash.reads) end
   pub plays : IsTrue before.told → IsTrue before.flash.told → IsTrue launched.told
-      → PlayedSo (PlaysBoot layout key before.files before.flash.reads after.flash.reads launched.launches now.launches) launched.launches now.launches end
-  pub safe : IsTrue before.told → IsTrue before.flash.told → IsTrue launched.told → Sound VERSION_1 before.flash.reads
+      → PlayedSo
+      (PlaysBoot layout key before.files before.flash.reads after.flash.reads launched.launches
+      now.launches)
+      launched.launches now.launches end
+  pub safe : IsTrue before.told → IsTrue before.flash.told → IsTrue launched.told
+      → Sound VERSION_1 before.flash.reads
       → GainsSafe launched.launches now.launches
 
 -- the flash holds a configuration, what is installed was started by it, and these lines tell how that ended
-pub record Boots (launched now : Launching) (before after : Outside) (end : BootEnd) (lines : List ℕ) : Type 0 where
+pub record Boots (launched now : Launching) (before after : Outside) (end : BootEnd)
+    (lines : List ℕ) : Type 0 where
   pub layout : List Entry
   pub key : Key
   pub middle : Outside
@@ -91,7 +100,8 @@ pub record Boots (launched now : Launching) (before after : Outside) (end : Boot
 pub record KeepsBooted (before : Outside) (old now : Flash) : Type 0 where
   pub layout : List Entry
   pub key : Key
-  pub config : ConfigOf VERSION_1 before.flash.size (head_of VERSION_1 old.reads) (Configured layout key)
+  pub config :
+      ConfigOf VERSION_1 before.flash.size (head_of VERSION_1 old.reads) (Configured layout key)
   pub kept : KeepsBoot layout key old now
 
 -- or nothing changed

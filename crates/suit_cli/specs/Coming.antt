@@ -1,10 +1,10 @@
--- What a command ends with: an answer in stages, a boot, or an update.
+-- How a command ends: with an answer in stages, a boot, or an update.
 use Rattle.std.specs.Prelude.{◌≡◌, ◌⊎◌, ℕ, List}
 use Rattle.suit_edge.specs.Flash.{Flash, IsSame, Passes}
 use Rattle.flash_layout.specs.declared.frame.TheConstants.{VERSION_1}
 use Rattle.flash_layout.specs.declared.key.Key.{Key}
 use Rattle.flash_layout.specs.declared.layout.Entry.{Entry}
-use Rattle.rollback_record.specs.SoundFlash.{Follows, Sound}
+use Rattle.rollback_record.specs.SoundFlash.{Follows, Settled, Sound}
 use Rattle.invoke_proc.specs.declared.boot_end.BootEnd.{BootEnd}
 use Rattle.invoke_proc.specs.declared.boot_end.BootEnd.TheVariants as ends
 use Rattle.update_proc.specs.declared.update_end.UpdateEnd.{UpdateEnd}
@@ -41,34 +41,46 @@ ended_of (said.Booted end lines) = Booted end lines
 ended_of (said.Updated end lines) = Updated end lines
 
 -- an answer in stages launches nothing and has no fault of the launcher; or the task is that of a boot, or of an update
-pub data Comes (stages : Answers) (Is : Task → Type 0) (launched now : Launching) (before after : Outside) : Ended → Type 0 where
-  ByStages : (ending : Ending) → stages before after ending → now ≡ launched → Comes stages Is launched now before after (Answered ending)
-  ByBoot : (end : BootEnd) (lines : List ℕ) → Is RunBoot → Boots launched now before after end lines → Comes stages Is launched now before after (Booted end lines)
-  ByUpdate : (name : List ℕ) (uris : List (List ℕ × List ℕ)) (end : UpdateEnd) (lines : List ℕ) → Is (RunUpdate name uris) → Updates name uris launched now before after end lines
+pub data Comes (stages : Answers) (Is : Task → Type 0) (launched now : Launching)
+    (before after : Outside) : Ended → Type 0 where
+  ByStages : (ending : Ending) → stages before after ending → now ≡ launched
+      → Comes stages Is launched now before after (Answered ending)
+  ByBoot : (end : BootEnd) (lines : List ℕ) → Is RunBoot → Boots launched now before after end lines
+      → Comes stages Is launched now before after (Booted end lines)
+  ByUpdate : (name : List ℕ) (uris : List (List ℕ × List ℕ)) (end : UpdateEnd) (lines : List ℕ)
+      → Is (RunUpdate name uris) → Updates name uris launched now before after end lines
       → Comes stages Is launched now before after (Updated end lines)
 
 -- each image that a power loss may leave on the way is sound, and goes on from what reads gave at the start
 abbrev pub StaysSound : Flash → Flash → Type 0
 StaysSound old new = Passes old new (Sound VERSION_1) × Passes old new (Follows VERSION_1 old.reads)
 
+-- where nothing was pending on a sound flash
+abbrev pub KeepsSound : Flash → Flash → Type 0
+KeepsSound old new = Settled VERSION_1 old → StaysSound old new
+
 -- where an update came to an end the flash was kept as that end says, and otherwise nothing changed
-abbrev pub StaysOrKeeps : List ℕ → List (List ℕ × List ℕ) → Launching → Launching → Outside → Ended → Flash → Flash → Type 0
-StaysOrKeeps name uris launched later before (Updated end lines) old now = KeepsFlash name uris launched later before end old now
+abbrev pub StaysOrKeeps : List ℕ → List (List ℕ × List ℕ) → Launching → Launching → Outside → Ended
+    → Flash → Flash → Type 0
+StaysOrKeeps name uris launched later before (Updated end lines) old now =
+    KeepsFlash name uris launched later before end old now
 StaysOrKeeps name uris launched later before _ old now = IsSame old now
 
 -- ---- inside
 
 -- the same, once an envelope was accepted
-abbrev pub KeepsAccepted : List Entry → List ℕ → Accepted → List (List ℕ × List ℕ) → Launching → Launching → Outside → Ended
+abbrev pub KeepsAccepted : List Entry → List ℕ → Accepted → List (List ℕ × List ℕ) → Launching
+    → Launching → Outside → Ended
     → Flash → Flash → Type 0
-KeepsAccepted layout bytes a uris launched later before (Updated end lines) old now = KeepsOffer layout bytes a uris launched later before end old now
+KeepsAccepted layout bytes a uris launched later before (Updated end lines) old now =
+    KeepsOffer layout bytes a uris launched later before end old now
 KeepsAccepted layout bytes a uris launched later before _ old now = IsSame old now
 
 -- of a run of calls, no more than that
 abbrev pub PassesAny : Flash → Flash → Type 0
 PassesAny old new = Passes old new (λ image. Unit {0})
 
--- a refused bank of which nothing is told for want of memory, since nothing was started
+-- a refused bank of which nothing is told because memory ran out, since nothing was started
 abbrev pub IsStarved : BootEnd → BootEnd → Type 0
 IsStarved (ends.BadBank refusal) told = told ≡ ends.NoMemory
 IsStarved _ told = ⊥
@@ -78,19 +90,25 @@ abbrev pub IsTold : BootEnd → Ended → Type 0
 IsTold end (Booted told lines) = ((told ≡ end) ⊎ IsStarved end told) × (lines ≡ boot_line told)
 IsTold end _ = ⊥
 
--- nothing was done, for want of memory
+-- nothing was done, because memory ran out
 abbrev pub IsUndone : Launching → Launching → Outside → Outside → Ending → Type 0
-IsUndone launched now before after ending = (ending ≡ NoMemory) × (after ≡ before) × (now ≡ launched)
+IsUndone launched now before after ending =
+    (ending ≡ NoMemory) × (after ≡ before) × (now ≡ launched)
 
--- from the configuration on: there is no memory for the lines; or it is a boot
+-- from the configuration on: memory runs out for the lines; or it is a boot
 abbrev pub BootsBy : List Entry → Key → Launching → Launching → Outside → Outside → Ended → Type 0
-BootsBy layout key launched now before after (Answered ending) = IsUndone launched now before after ending
-BootsBy layout key launched now before after (Booted end lines) = IsBoot layout key launched now before after end × (lines ≡ boot_line end)
+BootsBy layout key launched now before after (Answered ending) =
+    IsUndone launched now before after ending
+BootsBy layout key launched now before after (Booted end lines) =
+    IsBoot layout key launched now before after end × (lines ≡ boot_line end)
 BootsBy layout key launched now before after (Updated end lines) = ⊥
 
--- from what was accepted on: there is no memory for the lines; or it is an update
-abbrev pub UpdatesBy : List Entry → List ℕ → Accepted → List (List ℕ × List ℕ) → Launching → Launching → Outside → Outside → Ended → Type 0
-UpdatesBy layout bytes a uris launched now before after (Answered ending) = IsUndone launched now before after ending
+-- from what was accepted on: memory runs out for the lines; or it is an update
+abbrev pub UpdatesBy : List Entry → List ℕ → Accepted → List (List ℕ × List ℕ) → Launching
+    → Launching → Outside → Outside → Ended → Type 0
+UpdatesBy layout bytes a uris launched now before after (Answered ending) =
+    IsUndone launched now before after ending
 UpdatesBy layout bytes a uris launched now before after (Booted end lines) = ⊥
 UpdatesBy layout bytes a uris launched now before after (Updated end lines) =
-    IsUpdate layout bytes a uris launched now before after end × (lines ≡ update_line a.manifest.sequence end)
+    IsUpdate layout bytes a uris launched now before after end
+    × (lines ≡ update_line a.manifest.sequence end)

@@ -26,25 +26,32 @@ pub data NoManifest (name : List ℕ) (before : Outside) (reply : Reply) : Type 
   -- status 20, `absent NAME`, or 21, `too long NAME`
   AtFile : IsUnread longest_file name before reply → NoManifest name before reply
   -- status 3, `refused at P: WHY`
-  AtEnvelope : (bytes : List ℕ) → IsRead longest_file name before bytes → AreBytes bytes → IsRefused (RefusesBytes bytes) reply → NoManifest name before reply
+  AtEnvelope : (bytes : List ℕ) → IsRead longest_file name before bytes → AreBytes bytes
+      → IsRefused (RefusesBytes bytes) reply → NoManifest name before reply
   -- status 21, `too long envelope`
-  AtLength : (said : EnvelopeSays) → HasEnvelope name before said → IsLong said reply → NoManifest name before reply
+  AtLength : (said : EnvelopeSays) → HasEnvelope name before said → IsLong said reply
+      → NoManifest name before reply
   -- status 3, `refused at P: WHY`
-  AtManifest : (said : EnvelopeSays) → HasEnvelope name before said → IsShort said → IsRefused (RefusesItsManifest said) reply → NoManifest name before reply
+  AtManifest : (said : EnvelopeSays) → HasEnvelope name before said → IsShort said
+      → IsRefused (RefusesItsManifest said) reply → NoManifest name before reply
 
 -- ---- `check FILE`
 
 pub data CheckSays (name : List ℕ) (before : Outside) (reply : Reply) : Type 0 where
   BeforeMembers : NoManifest name before reply → CheckSays name before reply
   -- status 16, `severed NAME`, 17, `member NAME differs`, or 3, `refused at P: WHY`
-  AtMembers : (said : EnvelopeSays) (manifest : Manifest) → HasManifest name before said manifest → IsLack said manifest reply → CheckSays name before reply
+  AtMembers : (said : EnvelopeSays) (manifest : Manifest) → HasManifest name before said manifest
+      → IsLack said manifest reply → CheckSays name before reply
   -- status 12, `too wide: N`
-  AtUpdateWidth : (said : EnvelopeSays) (manifest : Manifest) (members : Members) → HasManifest name before said manifest → HasMembers said manifest members
+  AtUpdateWidth : (said : EnvelopeSays) (manifest : Manifest) (members : Members)
+      → HasManifest name before said manifest → HasMembers said manifest members
       → IsWide (update_tree manifest members) reply → CheckSays name before reply
-  AtInvocationWidth : (said : EnvelopeSays) (manifest : Manifest) (members : Members) → HasManifest name before said manifest → HasMembers said manifest members
+  AtInvocationWidth : (said : EnvelopeSays) (manifest : Manifest) (members : Members)
+      → HasManifest name before said manifest → HasMembers said manifest members
       → IsNarrow (update_tree manifest members) → IsWide (invocation_tree manifest) reply → CheckSays name before reply
   -- status 0, `update safe` and `invocation safe`, or 1 with the lines of a path
-  AtPaths : (update invocation : PlanTree) → HasProcedures name before update invocation → AreJudged update invocation reply → CheckSays name before reply
+  AtPaths : (update invocation : PlanTree) → HasProcedures name before update invocation
+      → AreJudged update invocation reply → CheckSays name before reply
 
 -- two replies are one, but for the path that is printed
 abbrev pub SameButPath : Reply → Reply → Type 0
@@ -52,26 +59,34 @@ SameButPath reply other = (other ≡ reply) ⊎ ((reply.outcome ≡ outcomes.Uns
 
 pub record CheckLaws : Type 0 where
   -- each reply has its cause
-  pub only : (name : List ℕ) (before after : Outside) (reply : Reply) → checks name before after (Says reply) → CheckSays name before reply
-  -- and where a cause stands, each answer that is neither a fault nor want of memory is its reply
-  pub always : (name : List ℕ) (before after : Outside) (reply other : Reply) → IsTrue before.told → CheckSays name before reply → checks name before after (Says other)
+  pub only : (name : List ℕ) (before after : Outside) (reply : Reply)
+      → checks name before after (Says reply) → CheckSays name before reply
+  -- and where a cause stands, each answer that is neither a fault nor running out of memory is its reply
+  pub always : (name : List ℕ) (before after : Outside) (reply other : Reply) → IsTrue before.told
+      → CheckSays name before reply → checks name before after (Says other)
       → SameButPath reply other
   -- the file alone is asked for; and only the host faults, at the file
-  pub asks : (name : List ℕ) (before after : Outside) (reply : Reply) → checks name before after (Says reply) → Asks (name ∷ []) before after
-  pub faults : (name : List ℕ) (before after : Outside) (object : Object) → checks name before after (FaultOf object) → at_host (MayAsk name) object before after
+  pub asks : (name : List ℕ) (before after : Outside) (reply : Reply)
+      → checks name before after (Says reply) → Asks (name ∷ []) before after
+  pub faults : (name : List ℕ) (before after : Outside) (object : Object)
+      → checks name before after (FaultOf object) → at_host (MayAsk name) object before after
 
 -- ---- `show FILE KEY`
 
 pub data ShowSays (name key_name : List ℕ) (before : Outside) (reply : Reply) : Type 0 where
   BeforeKey : NoManifest name before reply → ShowSays name key_name before reply
   -- status 20, 21, or 3, `empty key`
-  AtKey : (said : EnvelopeSays) (manifest : Manifest) → HasManifest name before said manifest → IsNoKey key_name before reply → ShowSays name key_name before reply
+  AtKey : (said : EnvelopeSays) (manifest : Manifest) → HasManifest name before said manifest
+      → IsNoKey key_name before reply → ShowSays name key_name before reply
   -- status 0 or 4, and the lines
-  AtLines : (said : EnvelopeSays) (manifest : Manifest) (key : List ℕ) → HasManifest name before said manifest → IsKey key_name before key → IsShown said manifest key reply
+  AtLines : (said : EnvelopeSays) (manifest : Manifest) (key : List ℕ)
+      → HasManifest name before said manifest → IsKey key_name before key
+      → IsShown said manifest key reply
       → ShowSays name key_name before reply
 
 -- the manifest of the file, and the key
-pub record ShowsUnder (name key_name : List ℕ) (before : Outside) (said : EnvelopeSays) (manifest : Manifest) (key : List ℕ) : Type 0 where
+pub record ShowsUnder (name key_name : List ℕ) (before : Outside) (said : EnvelopeSays)
+    (manifest : Manifest) (key : List ℕ) : Type 0 where
   pub has : HasManifest name before said manifest
   pub has_key : IsKey key_name before key
 
@@ -83,24 +98,34 @@ AskBoth name key_name before after =
 -- A fault of the host comes at the file, or at the key; at the key only behind a manifest that is accepted.
 pub data ShowFaults (name key_name : List ℕ) (before after : Outside) : Type 0 where
   FaultsAtFile : MayAsk name before after → ShowFaults name key_name before after
-  FaultsAtKey : (said : EnvelopeSays) (manifest : Manifest) → HasManifest name before said manifest → AskBoth name key_name before after
+  FaultsAtKey : (said : EnvelopeSays) (manifest : Manifest) → HasManifest name before said manifest
+      → AskBoth name key_name before after
       → ShowFaults name key_name before after
 
 pub record ShowLaws : Type 0 where
-  pub only : (name key_name : List ℕ) (before after : Outside) (reply : Reply) → shows name key_name before after (Says reply)
+  pub only : (name key_name : List ℕ) (before after : Outside) (reply : Reply)
+      → shows name key_name before after (Says reply)
       → ShowSays name key_name before reply
   -- where there is no manifest, or no key, each answer is the reply that says so
-  pub no_manifest : (name key_name : List ℕ) (before after : Outside) (reply other : Reply) → IsTrue before.told → NoManifest name before reply
+  pub no_manifest : (name key_name : List ℕ) (before after : Outside) (reply other : Reply)
+      → IsTrue before.told → NoManifest name before reply
       → shows name key_name before after (Says other) → other ≡ reply
-  pub no_key : (name key_name : List ℕ) (before after : Outside) (said : EnvelopeSays) (manifest : Manifest) (reply other : Reply) → IsTrue before.told
+  pub no_key : (name key_name : List ℕ) (before after : Outside) (said : EnvelopeSays)
+      (manifest : Manifest) (reply other : Reply)
+      → IsTrue before.told
       → HasManifest name before said manifest → IsNoKey key_name before reply → shows name key_name before after (Says other) → other ≡ reply
   -- where there are both, it shows them
-  pub shown : (name key_name : List ℕ) (before after : Outside) (said : EnvelopeSays) (manifest : Manifest) (key : List ℕ) (reply : Reply) → IsTrue before.told
+  pub shown : (name key_name : List ℕ) (before after : Outside) (said : EnvelopeSays)
+      (manifest : Manifest) (key : List ℕ) (reply : Reply)
+      → IsTrue before.told
       → ShowsUnder name key_name before said manifest key → shows name key_name before after (Says reply) → IsShown said manifest key reply
-  pub faults : (name key_name : List ℕ) (before after : Outside) (object : Object) → shows name key_name before after (FaultOf object)
+  pub faults : (name key_name : List ℕ) (before after : Outside) (object : Object)
+      → shows name key_name before after (FaultOf object)
       → at_host (ShowFaults name key_name) object before after
   -- status 0 exactly where the envelope is authentic under the key, and otherwise 4
-  pub authentic : (said : EnvelopeSays) (manifest : Manifest) (key : List ℕ) (reply : Reply) → IsShown said manifest key reply
+  pub authentic : (said : EnvelopeSays) (manifest : Manifest) (key : List ℕ) (reply : Reply)
+      → IsShown said manifest key reply
       → IsAuthentic said.wrapper said.manifest key → reply.outcome ≡ outcomes.Done
-  pub not_authentic : (said : EnvelopeSays) (manifest : Manifest) (key : List ℕ) (reply : Reply) → IsShown said manifest key reply
+  pub not_authentic : (said : EnvelopeSays) (manifest : Manifest) (key : List ℕ) (reply : Reply)
+      → IsShown said manifest key reply
       → (IsAuthentic said.wrapper said.manifest key → ⊥) → reply.outcome ≡ outcomes.NotAuthentic

@@ -82,12 +82,12 @@ inits_as size device key_name =
 abbrev pub inits : List ℕ → List ℕ → Answers
 inits device key_name = unused >>= λ size. inits_as size device key_name
 
--- `run boot`: the configuration. What comes behind it is a boot, or memory is lacking for its line.
+-- `run boot`: the configuration. A boot follows, or memory runs out for its line.
 abbrev pub begins_boot : Answers
 begins_boot = config_in >>= λ config. Last (λ reply. ⊥)
 
--- `run update FILE`: the configuration, the file, and what it spells. What comes behind it is an update, or memory is lacking
--- for its line.
+-- `run update FILE`: the configuration, the file, and what it spells. An update follows, or memory runs out for its
+-- line.
 abbrev pub begins_update : List ℕ → Answers
 begins_update name =
     config_in >>= λ config.

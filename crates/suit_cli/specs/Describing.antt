@@ -26,16 +26,20 @@ there_in said manifest = members_in said (only_there said manifest)
 abbrev pub TextDiffers : EnvelopeSays → TextMember → Type 0
 TextDiffers said texts.Empty = ⊥
 TextDiffers said (texts.Here content) = ⊥
-TextDiffers said (texts.Apart stated) = (content : List ℕ) × (said.text ≡ Some content) × (string_digest content ≢ stated.bytes)
+TextDiffers said (texts.Apart stated) =
+    (content : List ℕ) × (said.text ≡ Some content) × (string_digest content ≢ stated.bytes)
 
 pub record IsOtherText (said : EnvelopeSays) (manifest : Manifest) (reply : Reply) : Type 0 where
   pub other : TextDiffers said manifest.text
   pub says : IsReply reply outcomes.Differs (differs_line names.Text)
 
 abbrev pub text_in : EnvelopeSays → Manifest → Stage (Unit {0})
-text_in said manifest = judging (λ _. TextDiffers said manifest.text → ⊥) (IsOtherText said manifest)
+text_in said manifest =
+    judging (λ _. TextDiffers said manifest.text → ⊥) (IsOtherText said manifest)
 
 -- the description's compact text, and a line feed
-pub record IsDescribed (bytes : List ℕ) (said : EnvelopeSays) (manifest : Manifest) (members : Members) (reply : Reply) : Type 0 where
+pub record IsDescribed (bytes : List ℕ) (said : EnvelopeSays) (manifest : Manifest)
+    (members : Members) (reply : Reply) : Type 0 where
   pub text : (payloads : List (List ℕ × List ℕ)) → HasPayloads bytes payloads
-      → IsReply reply outcomes.Done (compact_text (described_by said payloads manifest members) ++ codes "\n")
+      → IsReply reply outcomes.Done
+      (compact_text (described_by said payloads manifest members) ++ codes "\n")

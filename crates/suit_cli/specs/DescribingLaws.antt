@@ -19,21 +19,29 @@ use Rattle.suit_cli.specs.CommandLaws.{NoManifest}
 pub data DescribingSays (name : List ℕ) (before : Outside) (reply : Reply) : Type 0 where
   BeforeMembers : NoManifest name before reply → DescribingSays name before reply
   -- status 17, `member NAME differs`, or 3, `refused at P: WHY`
-  AtMembers : (said : EnvelopeSays) (manifest : Manifest) → HasManifest name before said manifest → IsLack said (only_there said manifest) reply → DescribingSays name before reply
+  AtMembers : (said : EnvelopeSays) (manifest : Manifest) → HasManifest name before said manifest
+      → IsLack said (only_there said manifest) reply → DescribingSays name before reply
   -- status 17, `member text differs`
-  AtText : (said : EnvelopeSays) (manifest : Manifest) (members : Members) → HasManifest name before said manifest → HasMembers said (only_there said manifest) members
+  AtText : (said : EnvelopeSays) (manifest : Manifest) (members : Members)
+      → HasManifest name before said manifest → HasMembers said (only_there said manifest) members
       → IsOtherText said manifest reply → DescribingSays name before reply
   -- status 0, and the description
-  AtDescription : (said : EnvelopeSays) (manifest : Manifest) (members : Members) (has : HasManifest name before said manifest)
+  AtDescription :
+      (said : EnvelopeSays) (manifest : Manifest) (members : Members)
+      (has : HasManifest name before said manifest)
       → HasMembers said (only_there said manifest) members → (TextDiffers said manifest.text → ⊥)
       → IsDescribed has.in_envelope.bytes said manifest members reply → DescribingSays name before reply
 
 pub record DescribingLaws : Type 0 where
   -- each reply has its cause
-  pub only : (name : List ℕ) (before after : Outside) (reply : Reply) → describes name before after (Says reply) → DescribingSays name before reply
-  -- and where a cause stands, each answer that is neither a fault nor want of memory is its reply
-  pub always : (name : List ℕ) (before after : Outside) (reply other : Reply) → IsTrue before.told → DescribingSays name before reply
+  pub only : (name : List ℕ) (before after : Outside) (reply : Reply)
+      → describes name before after (Says reply) → DescribingSays name before reply
+  -- and where a cause stands, each answer that is neither a fault nor running out of memory is its reply
+  pub always : (name : List ℕ) (before after : Outside) (reply other : Reply) → IsTrue before.told
+      → DescribingSays name before reply
       → describes name before after (Says other) → other ≡ reply
   -- the file alone is asked for; and only the host faults, at the file
-  pub asks : (name : List ℕ) (before after : Outside) (reply : Reply) → describes name before after (Says reply) → Asks (name ∷ []) before after
-  pub faults : (name : List ℕ) (before after : Outside) (object : Object) → describes name before after (FaultOf object) → at_host (MayAsk name) object before after
+  pub asks : (name : List ℕ) (before after : Outside) (reply : Reply)
+      → describes name before after (Says reply) → Asks (name ∷ []) before after
+  pub faults : (name : List ℕ) (before after : Outside) (object : Object)
+      → describes name before after (FaultOf object) → at_host (MayAsk name) object before after

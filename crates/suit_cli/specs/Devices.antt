@@ -34,12 +34,14 @@ pointed_line word pointer = joined (word ∷ codes " " ∷ pointer ∷ codes "\n
 
 -- two components by their numbers
 abbrev pub alike_line : ℕ → ℕ → List ℕ
-alike_line i j = joined (codes "components " ∷ decimal i ∷ codes " and " ∷ decimal j ∷ codes " are alike\n" ∷ [])
+alike_line i j =
+    joined (codes "components " ∷ decimal i ∷ codes " and " ∷ decimal j ∷ codes " are alike\n" ∷ [])
 
 abbrev pub overlap_line : ℕ → ℕ → List ℕ
-overlap_line i j = joined (codes "slots of " ∷ decimal i ∷ codes " and " ∷ decimal j ∷ codes " overlap\n" ∷ [])
+overlap_line i j =
+    joined (codes "slots of " ∷ decimal i ∷ codes " and " ∷ decimal j ∷ codes " overlap\n" ∷ [])
 
--- the line of what is wrong; want of memory has none here
+-- the line of what is wrong; running out of memory has none here
 abbrev pub IsFaultLine : LayoutFault → List ℕ → Type 0
 IsFaultLine (faults.BadField pointer) text = text ≡ pointed_line (codes "bad field") pointer
 IsFaultLine (faults.BadHex pointer) text = text ≡ pointed_line (codes "bad hex") pointer
@@ -47,7 +49,8 @@ IsFaultLine (faults.BadUuid pointer) text = text ≡ pointed_line (codes "bad uu
 IsFaultLine (faults.TooMany n) text = text ≡ joined (decimal n ∷ codes " components\n" ∷ [])
 IsFaultLine (faults.TwoAlike i j) text = text ≡ alike_line i j
 IsFaultLine (faults.Overlap i j) text = text ≡ overlap_line i j
-IsFaultLine (faults.Outside i) text = text ≡ joined (codes "slot of " ∷ decimal i ∷ codes " is outside\n" ∷ [])
+IsFaultLine (faults.Outside i) text =
+    text ≡ joined (codes "slot of " ∷ decimal i ∷ codes " is outside\n" ∷ [])
 IsFaultLine faults.NoMemory text = ⊥
 
 pub record TellsLayout (fault : LayoutFault) (reply : Reply) : Type 0 where
@@ -56,8 +59,10 @@ pub record TellsLayout (fault : LayoutFault) (reply : Reply) : Type 0 where
 
 -- it is no JSON, or describes no layout
 pub data IsNoDevice (size : ℕ) (bytes : List ℕ) (reply : Reply) : Type 0 where
-  IsNoJson : (IsUtf8 bytes → read bytes ≡ None) → IsReply reply outcomes.Refused bad_json_line → IsNoDevice size bytes reply
-  IsNoLayout : (value : Data) (fault : LayoutFault) → IsUtf8 bytes → read bytes ≡ Some value → RefusesLayout size value fault → TellsLayout fault reply
+  IsNoJson : (IsUtf8 bytes → read bytes ≡ None) → IsReply reply outcomes.Refused bad_json_line
+      → IsNoDevice size bytes reply
+  IsNoLayout : (value : Data) (fault : LayoutFault) → IsUtf8 bytes → read bytes ≡ Some value
+      → RefusesLayout size value fault → TellsLayout fault reply
       → IsNoDevice size bytes reply
 
 abbrev pub device_in : ℕ → List ℕ → Stage (List Entry)

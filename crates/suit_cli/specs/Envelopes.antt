@@ -27,12 +27,14 @@ pub record IsRefused (Refuses : Refusal → Type 0) (reply : Reply) : Type 0 whe
 
 -- ---- the envelope
 
--- what was read is bytes, which spell an envelope or are refused
+-- a file is bytes, which spell an envelope or are refused
 abbrev pub AreBytes : List ℕ → Type 0
 AreBytes bytes = AllByRecursion IsByte bytes
 
 abbrev pub envelope_in : List ℕ → Stage EnvelopeSays
-envelope_in bytes = judging (λ said. AreBytes bytes × EnvelopeOf bytes said) (λ reply. AreBytes bytes × IsRefused (RefusesBytes bytes) reply)
+envelope_in bytes =
+    judging (λ said. AreBytes bytes × EnvelopeOf bytes said)
+    (λ reply. AreBytes bytes × IsRefused (RefusesBytes bytes) reply)
 
 -- the longest envelope with its manifest and wrapper alone, in bytes
 abbrev pub longest_trimmed : ℕ
@@ -67,7 +69,8 @@ manifest_in said = judging (ManifestOf said) (IsRefused (RefusesItsManifest said
 -- how a member that is not taken is told
 abbrev pub TellsLack : Reply → MemberFault → Type 0
 TellsLack reply (faults.Severed name) = IsReply reply outcomes.Severed (severed_line name)
-TellsLack reply (faults.Differs name stated found) = IsReply reply outcomes.Differs (differs_line name)
+TellsLack reply (faults.Differs name stated found) =
+    IsReply reply outcomes.Differs (differs_line name)
 TellsLack reply (faults.Refused refusal) = IsReply reply outcomes.Refused (refusal_line refusal)
 TellsLack reply faults.NoMemory = ⊥
 

@@ -23,15 +23,19 @@ pub data InitSays (device key_name : List ℕ) (before : Outside) (reply : Reply
   -- status 14, `not blank`
   AtGate : IsInUse before.flash reply → InitSays device key_name before reply
   -- status 20, `absent NAME`, or 21, `too long NAME`
-  AtDevice : IsShut before.flash → IsUnread longest_device device before reply → InitSays device key_name before reply
+  AtDevice : IsShut before.flash → IsUnread longest_device device before reply
+      → InitSays device key_name before reply
   -- status 3, `bad json` or what is wrong in it
-  AtDescription : (bytes : List ℕ) → IsShut before.flash → IsRead longest_device device before bytes → IsNoDevice before.flash.size bytes reply
+  AtDescription : (bytes : List ℕ) → IsShut before.flash → IsRead longest_device device before bytes
+      → IsNoDevice before.flash.size bytes reply
       → InitSays device key_name before reply
   -- status 20, 21, or 3, `empty key`
-  AtKey : (bytes : List ℕ) (layout : List Entry) → IsShut before.flash → IsRead longest_device device before bytes → IsDevice before.flash.size bytes layout
+  AtKey : (bytes : List ℕ) (layout : List Entry) → IsShut before.flash
+      → IsRead longest_device device before bytes → IsDevice before.flash.size bytes layout
       → IsNoKey key_name before reply → InitSays device key_name before reply
   -- status 0, `ready`
-  AtFormat : (bytes : List ℕ) (layout : List Entry) (key : List ℕ) → IsShut before.flash → IsRead longest_device device before bytes
+  AtFormat : (bytes : List ℕ) (layout : List Entry) (key : List ℕ) → IsShut before.flash
+      → IsRead longest_device device before bytes
       → IsDevice before.flash.size bytes layout → IsKey key_name before key → IsReply reply outcomes.Done (codes "ready\n") → InitSays device key_name before reply
 
 -- the described layout and the key stand in the flash, no record, and each slot is empty
@@ -46,17 +50,22 @@ pub record IsReady (device key_name : List ℕ) (before after : Outside) : Type 
 
 pub record InitLaws : Type 0 where
   -- each reply has its cause
-  pub only : (device key_name : List ℕ) (before after : Outside) (reply : Reply) → inits device key_name before after (Says reply) → InitSays device key_name before reply
-  -- and where a cause stands, each answer that is neither a fault nor want of memory is its reply
-  pub always : (device key_name : List ℕ) (before after : Outside) (reply other : Reply) → IsTrue before.told → IsTrue before.flash.told
+  pub only : (device key_name : List ℕ) (before after : Outside) (reply : Reply)
+      → inits device key_name before after (Says reply) → InitSays device key_name before reply
+  -- and where a cause stands, each answer that is neither a fault nor running out of memory is its reply
+  pub always : (device key_name : List ℕ) (before after : Outside) (reply other : Reply)
+      → IsTrue before.told → IsTrue before.flash.told
       → InitSays device key_name before reply → inits device key_name before after (Says other) → other ≡ reply
   -- where it is done, the flash is ready
-  pub ready : (device key_name : List ℕ) (before after : Outside) (reply : Reply) → IsTrue before.flash.told → inits device key_name before after (Says reply)
+  pub ready : (device key_name : List ℕ) (before after : Outside) (reply : Reply)
+      → IsTrue before.flash.told → inits device key_name before after (Says reply)
       → reply.outcome ≡ outcomes.Done → IsReady device key_name before after
-  -- otherwise, and after want of memory, it is as it was
-  pub still : (device key_name : List ℕ) (before after : Outside) (reply : Reply) → inits device key_name before after (Says reply)
+  -- otherwise, and after memory ran out, it is as it was
+  pub still : (device key_name : List ℕ) (before after : Outside) (reply : Reply)
+      → inits device key_name before after (Says reply)
       → (reply.outcome ≡ outcomes.Done → ⊥) → IsStill before.flash after.flash
-  pub starved : (device key_name : List ℕ) (before after : Outside) → inits device key_name before after NoMemory → IsStill before.flash after.flash
+  pub starved : (device key_name : List ℕ) (before after : Outside)
+      → inits device key_name before after NoMemory → IsStill before.flash after.flash
 
 -- ---- `run status`
 
@@ -64,14 +73,19 @@ pub data StatusSays (before : Outside) (reply : Reply) : Type 0 where
   -- status 13, `blank` or `bad config`
   AtConfig : HoldsNone before.flash reply → StatusSays before reply
   -- status 15, `nothing installed`
-  AtRecord : (config : List Entry × Key) → Holds before.flash config → IsNothing before.flash reply → StatusSays before reply
+  AtRecord : (config : List Entry × Key) → Holds before.flash config → IsNothing before.flash reply
+      → StatusSays before reply
   -- status 0, and the lines
-  AtLines : (config : List Entry × Key) (installed : Record) (lines : List ℕ) → Holds before.flash config → IsInstalled before.flash installed
+  AtLines : (config : List Entry × Key) (installed : Record) (lines : List ℕ)
+      → Holds before.flash config → IsInstalled before.flash installed
       → (IsTrue before.flash.told → lines ≡ component_lines 0 config.0 installed.active before.flash.reads)
       → IsReply reply outcomes.Done (record_lines installed ++ lines) → StatusSays before reply
 
 pub record StatusLaws : Type 0 where
-  pub only : (before after : Outside) (reply : Reply) → tells_status before after (Says reply) → StatusSays before reply
-  pub always : (before after : Outside) (reply other : Reply) → IsTrue before.flash.told → StatusSays before reply → tells_status before after (Says other)
+  pub only : (before after : Outside) (reply : Reply) → tells_status before after (Says reply)
+      → StatusSays before reply
+  pub always : (before after : Outside) (reply other : Reply) → IsTrue before.flash.told
+      → StatusSays before reply → tells_status before after (Says other)
       → other ≡ reply
-  pub still : (before after : Outside) (reply : Reply) → tells_status before after (Says reply) → IsStill before.flash after.flash
+  pub still : (before after : Outside) (reply : Reply) → tells_status before after (Says reply)
+      → IsStill before.flash after.flash

@@ -43,7 +43,8 @@ pub record Formats (layout : List Entry) (key : Key) (before after : Outside) : 
   pub size : after.flash.size ≡ before.flash.size
   pub faults : after.flash.faults ≡ before.flash.faults
   pub shut : IsShut before.flash
-  pub formatted : IsTrue before.flash.told → IsFormatted VERSION_1 before.flash.size layout key after.flash.reads
+  pub formatted : IsTrue before.flash.told
+      → IsFormatted VERSION_1 before.flash.size layout key after.flash.reads
 
 -- the flash counted a fault; nothing has changed but what formatting writes
 pub record FormatsInVain (layout : List Entry) (before after : Outside) : Type 0 where
@@ -51,7 +52,8 @@ pub record FormatsInVain (layout : List Entry) (before after : Outside) : Type 0
   pub told : after.flash.told ≡ before.flash.told
   pub size : after.flash.size ≡ before.flash.size
   pub faulted : Faulted before.flash.faults after.flash.faults
-  pub kept : IsTrue before.flash.told → SameOn (OutsideFormat VERSION_1 layout) before.flash.reads after.flash.reads
+  pub kept : IsTrue before.flash.told
+      → SameOn (OutsideFormat VERSION_1 layout) before.flash.reads after.flash.reads
 
 -- it declines where the gate is open after all, which no flash that tells can do behind the stage that found it shut
 abbrev pub formatting : List Entry → Key → Stage (Unit {0})
@@ -63,9 +65,10 @@ formatting layout key = record {
 }
 
 abbrev pub formats : List Entry → Key → Answers
-formats layout key = formatting layout key >>= λ _. Said (λ reply. IsReply reply outcomes.Done (codes "ready\n"))
+formats layout key =
+    formatting layout key >>= λ _. Said (λ reply. IsReply reply outcomes.Done (codes "ready\n"))
 
--- ---- what a power loss leaves
+-- ---- the image that a power loss leaves
 
 -- an image of the start, or one that is as said
 abbrev pub MayBe : Flash → (List ℕ → Type 0) → List ℕ → Type 0
@@ -73,7 +76,8 @@ MayBe start Other image = Now start image ⊎ Other image
 
 -- The first file describes a layout for a flash of the size, and the second holds a key. Where each image that a power
 -- loss at the start may leave is blank, this one is blank, or has that layout and key, no record, and each slot empty.
-pub record MayFormat (size : ℕ) (device key_name : List ℕ) (before : Outside) (start : Flash) (image : List ℕ) : Type 0 where
+pub record MayFormat (size : ℕ) (device key_name : List ℕ) (before : Outside) (start : Flash)
+    (image : List ℕ) : Type 0 where
   pub bytes : List ℕ
   pub layout : List Entry
   pub key : List ℕ
@@ -85,4 +89,6 @@ pub record MayFormat (size : ℕ) (device key_name : List ℕ) (before : Outside
 -- an image of the start; or, of a flash that is not in use, one on the way to its format
 abbrev pub MayLeave : List ℕ → List ℕ → Outside → Flash → List ℕ → Type 0
 MayLeave device key_name before start =
-    MayBe start (λ image. IsShut before.flash × MayFormat before.flash.size device key_name before start image)
+    MayBe start
+    (λ image. IsShut before.flash
+    × MayFormat before.flash.size device key_name before start image)

@@ -1,4 +1,4 @@
--- What a file holds, where each stage up to some moment is good.
+-- The contents of a file, where each stage up to some moment is good.
 use Rattle.std.specs.Prelude.{◌≡◌, ℕ, List}
 use Rattle.suit_commands.specs.Tree.{PlanTree}
 use Rattle.suit_envelope.specs.Envelopes.{EnvelopeSays}
@@ -20,13 +20,15 @@ pub record HasEnvelope (name : List ℕ) (before : Outside) (said : EnvelopeSays
   pub envelope : EnvelopeOf bytes said
 
 -- one within its limit, and its manifest
-pub record HasManifest (name : List ℕ) (before : Outside) (said : EnvelopeSays) (manifest : Manifest) : Type 0 where
+pub record HasManifest (name : List ℕ) (before : Outside) (said : EnvelopeSays)
+    (manifest : Manifest) : Type 0 where
   pub in_envelope : HasEnvelope name before said
   pub is_short : IsShort said
   pub says : ManifestOf said manifest
 
 -- one whose members are there and match; these are its procedures, within the width that is judged
-pub record HasProcedures (name : List ℕ) (before : Outside) (update invocation : PlanTree) : Type 0 where
+pub record HasProcedures (name : List ℕ) (before : Outside) (update invocation : PlanTree)
+    : Type 0 where
   pub said : EnvelopeSays
   pub manifest : Manifest
   pub members : Members

@@ -31,8 +31,10 @@ abbrev pub IsAbove : ℕ → Option (List ℕ) → Type 0
 IsAbove limit file = (bytes : List ℕ) × (file ≡ Some bytes) × (limit < length bytes)
 
 pub data IsUnread (limit : ℕ) (name : List ℕ) (before : Outside) (reply : Reply) : Type 0 where
-  IsAbsent : (IsTrue before.told → before.files name ≡ None) → IsReply reply outcomes.Absent (absent_line name) → IsUnread limit name before reply
-  IsTooLong : (IsTrue before.told → IsAbove limit (before.files name)) → IsReply reply outcomes.TooLong (too_long_line name) → IsUnread limit name before reply
+  IsAbsent : (IsTrue before.told → before.files name ≡ None)
+      → IsReply reply outcomes.Absent (absent_line name) → IsUnread limit name before reply
+  IsTooLong : (IsTrue before.told → IsAbove limit (before.files name))
+      → IsReply reply outcomes.TooLong (too_long_line name) → IsUnread limit name before reply
 
 -- the whole file; one byte more than the limit shows that it is too long
 abbrev pub file : ℕ → List ℕ → Stage (List ℕ)
@@ -47,7 +49,8 @@ pub record IsKey (name : List ℕ) (before : Outside) (key : List ℕ) : Type 0 
 
 pub data IsNoKey (name : List ℕ) (before : Outside) (reply : Reply) : Type 0 where
   IsUnreadKey : IsUnread longest_key name before reply → IsNoKey name before reply
-  IsEmptyKey : IsRead longest_key name before [] → IsReply reply outcomes.Refused empty_key_line → IsNoKey name before reply
+  IsEmptyKey : IsRead longest_key name before [] → IsReply reply outcomes.Refused empty_key_line
+      → IsNoKey name before reply
 
 abbrev pub key_in : List ℕ → Stage (List ℕ)
 key_in name = reading (longest_key + 1) name (IsKey name) (IsNoKey name)

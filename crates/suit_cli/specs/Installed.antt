@@ -27,11 +27,17 @@ use Rattle.suit_cli.specs.Stages.{Stage, looking}
 -- ---- the configuration
 
 abbrev pub Holds : Flashed → List Entry × Key → Type 0
-Holds flash config = IsTrue flash.told → ConfigOf VERSION_1 flash.size (head_of VERSION_1 flash.reads) (Configured config.0 config.1)
+Holds flash config =
+    IsTrue flash.told
+    → ConfigOf VERSION_1 flash.size (head_of VERSION_1 flash.reads)
+    (Configured config.0 config.1)
 
 pub data HoldsNone (flash : Flashed) (reply : Reply) : Type 0 where
-  IsBlank : (IsTrue flash.told → ConfigOf VERSION_1 flash.size (head_of VERSION_1 flash.reads) Blank) → IsReply reply outcomes.Unconfigured (codes "blank\n") → HoldsNone flash reply
-  IsBad : (IsTrue flash.told → ConfigOf VERSION_1 flash.size (head_of VERSION_1 flash.reads) Bad) → IsReply reply outcomes.Unconfigured (codes "bad config\n") → HoldsNone flash reply
+  IsBlank :
+      (IsTrue flash.told → ConfigOf VERSION_1 flash.size (head_of VERSION_1 flash.reads) Blank)
+      → IsReply reply outcomes.Unconfigured (codes "blank\n") → HoldsNone flash reply
+  IsBad : (IsTrue flash.told → ConfigOf VERSION_1 flash.size (head_of VERSION_1 flash.reads) Bad)
+      → IsReply reply outcomes.Unconfigured (codes "bad config\n") → HoldsNone flash reply
 
 abbrev pub config_in : Stage (List Entry × Key)
 config_in = looking Holds HoldsNone
@@ -39,7 +45,8 @@ config_in = looking Holds HoldsNone
 -- ---- the record
 
 abbrev pub IsInstalled : Flashed → Record → Type 0
-IsInstalled flash installed = IsTrue flash.told → RecordOf VERSION_1 (head_of VERSION_1 flash.reads) (Some installed)
+IsInstalled flash installed =
+    IsTrue flash.told → RecordOf VERSION_1 (head_of VERSION_1 flash.reads) (Some installed)
 
 pub record IsNothing (flash : Flashed) (reply : Reply) : Type 0 where
   pub none : IsTrue flash.told → RecordOf VERSION_1 (head_of VERSION_1 flash.reads) None
@@ -56,10 +63,14 @@ slot_in_use e active = if (active == 1) && (e.slots == 2) then 1 else 0
 
 -- how many bytes it has
 abbrev pub length_in : Entry → ℕ → List ℕ → ℕ
-length_in e number image = length (slot_content (slot_at e (slice_index (slot_starts e) number)) image)
+length_in e number image =
+    length (slot_content (slot_at e (slice_index (slot_starts e) number)) image)
 
 abbrev pub slot_line : ℕ → ℕ → ℕ → List ℕ
-slot_line i number size = joined (codes "component " ∷ decimal i ∷ codes " slot " ∷ decimal number ∷ codes " length " ∷ decimal size ∷ codes "\n" ∷ [])
+slot_line i number size =
+    joined
+    (codes "component " ∷ decimal i ∷ codes " slot " ∷ decimal number ∷ codes " length "
+    ∷ decimal size ∷ codes "\n" ∷ [])
 
 abbrev pub ram_line : ℕ → List ℕ
 ram_line i = joined (codes "component " ∷ decimal i ∷ codes " ram\n" ∷ [])
@@ -69,16 +80,22 @@ line_of memory.Flash i number size = slot_line i number size
 line_of memory.Ram i number size = ram_line i
 
 abbrev pub component_line : ℕ → Entry → ℕ → List ℕ → List ℕ
-component_line i e active image = line_of e.memory i (slot_in_use e active) (length_in e (slot_in_use e active) image)
+component_line i e active image =
+    line_of e.memory i (slot_in_use e active) (length_in e (slot_in_use e active) image)
 
 -- a line for each component
 abbrev pub component_lines : ℕ → List Entry → List ℕ → List ℕ → List ℕ
 component_lines i [] active image = []
-component_lines i (e ∷ layout) active image = component_line i e (slice_index active i) image ++ component_lines (i + 1) layout active image
+component_lines i (e ∷ layout) active image =
+    component_line i e (slice_index active i) image ++ component_lines (i + 1) layout active image
 
 -- as the flash reads, where it tells; no length declines
 abbrev pub lines_in : List Entry → Record → Stage (List ℕ)
-lines_in layout installed = looking (λ flash lines. IsTrue flash.told → lines ≡ component_lines 0 layout installed.active flash.reads) (λ flash reply. ⊥)
+lines_in layout installed =
+    looking
+    (λ flash lines. IsTrue flash.told
+    → lines ≡ component_lines 0 layout installed.active flash.reads)
+    (λ flash reply. ⊥)
 
 -- how the count of faults stands where the flash alone may fail
 abbrev pub FlashCounts : {A : Type 0} → Result A Stop → ℕ → ℕ → Type 0

@@ -35,10 +35,14 @@ pub record AreSafe (update invocation : PlanTree) : Type 0 where
 
 -- the lines of a path on which an invoke is not covered, of the first procedure that has one
 pub data ShowUnsafe (update invocation : PlanTree) (text : List ℕ) : Type 0 where
-  UpdateUnsafe : (bad : BadPath) → IsBadPath update bad → text ≡ update_unsafe_line ++ path_lines bad → ShowUnsafe update invocation text
-  InvocationUnsafe : (bad : BadPath) → Safe update → IsBadPath invocation bad → text ≡ invocation_unsafe_lines ++ path_lines bad
+  UpdateUnsafe : (bad : BadPath) → IsBadPath update bad
+      → text ≡ update_unsafe_line ++ path_lines bad → ShowUnsafe update invocation text
+  InvocationUnsafe : (bad : BadPath) → Safe update → IsBadPath invocation bad
+      → text ≡ invocation_unsafe_lines ++ path_lines bad
       → ShowUnsafe update invocation text
 
 pub data AreJudged (update invocation : PlanTree) (reply : Reply) : Type 0 where
-  JudgedSafe : AreSafe update invocation → IsReply reply outcomes.Done safe_lines → AreJudged update invocation reply
-  JudgedUnsafe : reply.outcome ≡ outcomes.Unsafe → ShowUnsafe update invocation reply.text → AreJudged update invocation reply
+  JudgedSafe : AreSafe update invocation → IsReply reply outcomes.Done safe_lines
+      → AreJudged update invocation reply
+  JudgedUnsafe : reply.outcome ≡ outcomes.Unsafe → ShowUnsafe update invocation reply.text
+      → AreJudged update invocation reply

@@ -25,7 +25,8 @@ cause_text causes.LaunchFault = codes "launch fault"
 
 -- the place in the envelope, and why it stopped there
 abbrev pub stopped_line : ℕ → List ℕ → List ℕ
-stopped_line place why = joined (codes "stopped at " ∷ decimal place ∷ codes ": " ∷ why ∷ codes "\n" ∷ [])
+stopped_line place why =
+    joined (codes "stopped at " ∷ decimal place ∷ codes ": " ∷ why ∷ codes "\n" ∷ [])
 
 abbrev pub cause_status : Cause → ℕ
 cause_status causes.Missing = 6

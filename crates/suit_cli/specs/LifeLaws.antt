@@ -30,10 +30,11 @@ abbrev pub IsLife : Frame → List (List ℕ) → Type 0
 IsLife frame [] = Unit {0}
 IsLife frame (first ∷ later) = Begins frame first × LivesOn frame first later
 
--- ---- what is recorded
+-- ---- the record
 
 -- the image has the layout, the key and the record
-pub record HasRecorded (frame : Frame) (layout : List Entry) (key : Key) (r : Record) (image : List ℕ) : Type 0 where
+pub record HasRecorded (frame : Frame) (layout : List Entry) (key : Key) (r : Record)
+    (image : List ℕ) : Type 0 where
   pub config : ConfigOf frame (length image) (head_of frame image) (Configured layout key)
   pub record_is : RecordOf frame (head_of frame image) (Some r)
 
@@ -44,22 +45,29 @@ NeverLower frame a b = (layout : List Entry) (key : Key) (r : Record) → HasRec
 
 pub record LifeLaws : Type 0 where
   -- each image of a life is sound,
-  pub sound : (frame : Frame) (images : List (List ℕ)) → IsLife frame images → All (Sound frame) images
+  pub sound : (frame : Frame) (images : List (List ℕ)) → IsLife frame images
+      → All (Sound frame) images
   -- goes on from each earlier one,
-  pub follows : (frame : Frame) (images : List (List ℕ)) → IsLife frame images → AllPairs (Follows frame) images
+  pub follows : (frame : Frame) (images : List (List ℕ)) → IsLife frame images
+      → AllPairs (Follows frame) images
   -- and so never records a lower number
-  pub numbers : (frame : Frame) (images : List (List ℕ)) → IsLife frame images → AllPairs (NeverLower frame) images
+  pub numbers : (frame : Frame) (images : List (List ℕ)) → IsLife frame images
+      → AllPairs (NeverLower frame) images
 
--- ---- what is sound, and what is not
+-- ---- sound and unsound images
 
 pub record SoundnessLaws : Type 0 where
   -- zero bytes alone are
   pub zeros : (frame : Frame) (image : List ℕ) → AreZeros image → Sound frame image
   -- so is what formatting leaves
-  pub formatted : (frame : Frame) (layout : List Entry) (key : Key) (image : List ℕ) → IsFormatted frame (length image) layout key image → Sound frame image
-  -- what a sound image has recorded is installed: authentic under its key, with the record's number and digest, and safe
-  pub installed : (frame : Frame) (layout : List Entry) (key : Key) (r : Record) (image : List ℕ) → HasRecorded frame layout key r image → Sound frame image
+  pub formatted : (frame : Frame) (layout : List Entry) (key : Key) (image : List ℕ)
+      → IsFormatted frame (length image) layout key image → Sound frame image
+  -- a sound image records an installed envelope: authentic under its key, with the record's number and digest, and safe
+  pub installed : (frame : Frame) (layout : List Entry) (key : Key) (r : Record) (image : List ℕ)
+      → HasRecorded frame layout key r image → Sound frame image
       → IsInstalled layout key (recorded_bank frame (head_of frame image) r) r
   -- an image is not, whose record's bank spells no envelope
-  pub no_envelope : (frame : Frame) (layout : List Entry) (key : Key) (r : Record) (image : List ℕ) (why : Refusal) → HasRecorded frame layout key r image
+  pub no_envelope : (frame : Frame) (layout : List Entry) (key : Key) (r : Record) (image : List ℕ)
+      (why : Refusal)
+      → HasRecorded frame layout key r image
       → RefusesBytes (recorded_bank frame (head_of frame image) r) why → Sound frame image → ⊥

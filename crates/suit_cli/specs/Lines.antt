@@ -38,40 +38,51 @@ outcome_text false = codes "fail"
 
 abbrev pub identity_texts : ℕ → List ℕ → List ℕ → List ℕ → ℕ → List ℕ
 identity_texts component vendor class device slot =
-    joined (codes "identity " ∷ decimal component ∷ codes " vendor " ∷ vendor ∷ codes " class " ∷ class
+    joined
+    (codes "identity " ∷ decimal component ∷ codes " vendor " ∷ vendor ∷ codes " class " ∷ class
     ∷ codes " device " ∷ device ∷ codes " slot " ∷ decimal slot ∷ codes "\n" ∷ [])
 
 abbrev pub identity_line : ℕ → Identity → List ℕ
 identity_line component identity =
-    identity_texts component (identifier_text identity.vendor) (identifier_text identity.class) (identifier_text identity.device) identity.slot
+    identity_texts component (identifier_text identity.vendor) (identifier_text identity.class)
+    (identifier_text identity.device) identity.slot
 
 abbrev pub set_line : ℕ → ℕ → List ℕ
-set_line component key = joined (codes "set " ∷ decimal component ∷ codes " " ∷ decimal key ∷ codes "\n" ∷ [])
+set_line component key =
+    joined (codes "set " ∷ decimal component ∷ codes " " ∷ decimal key ∷ codes "\n" ∷ [])
 
 abbrev pub tried_line : ℕ → ℕ → List ℕ → List ℕ
 tried_line component code outcome =
-    joined (codes "tried " ∷ decimal component ∷ codes " " ∷ decimal code ∷ codes " " ∷ outcome ∷ codes "\n" ∷ [])
+    joined
+    (codes "tried " ∷ decimal component ∷ codes " " ∷ decimal code ∷ codes " " ∷ outcome
+    ∷ codes "\n" ∷ [])
 
 -- a line of a word, a component, a digest and a size
 abbrev pub image_line : List ℕ → ℕ → List ℕ → List ℕ → List ℕ
 image_line word component digest size =
-    joined (word ∷ codes " " ∷ decimal component ∷ codes " " ∷ digest ∷ codes " " ∷ size ∷ codes "\n" ∷ [])
+    joined
+    (word ∷ codes " " ∷ decimal component ∷ codes " " ∷ digest ∷ codes " " ∷ size ∷ codes "\n"
+    ∷ [])
 
 abbrev pub number_line : List ℕ → ℕ → List ℕ
 number_line word number = joined (word ∷ codes " " ∷ decimal number ∷ codes "\n" ∷ [])
 
 abbrev pub event_line : Event → List ℕ
 event_line (Set component param) = set_line component (key_number (key_of param))
-event_line (Tried component kind passed) = tried_line component (test_code kind) (outcome_text passed)
-event_line (Matched component digest size) = image_line (codes "matched") component (digest_text (Some digest)) (size_text size)
+event_line (Tried component kind passed) =
+    tried_line component (test_code kind) (outcome_text passed)
+event_line (Matched component digest size) =
+    image_line (codes "matched") component (digest_text (Some digest)) (size_text size)
 event_line (Missed component) = number_line (codes "missed") component
 event_line (Wrote component) = number_line (codes "wrote") component
-event_line (Invoked component digest size passed) = image_line (codes "invoked") component (digest_text digest) (size_text size)
+event_line (Invoked component digest size passed) =
+    image_line (codes "invoked") component (digest_text digest) (size_text size)
 event_line (Failed place) = number_line (codes "failed") place
 
 abbrev pub identity_lines : ℕ → List Identity → List ℕ
 identity_lines component [] = []
-identity_lines component (identity ∷ identities) = identity_line component identity ++ identity_lines (component + 1) identities
+identity_lines component (identity ∷ identities) =
+    identity_line component identity ++ identity_lines (component + 1) identities
 
 abbrev pub event_lines : List Event → List ℕ
 event_lines [] = []

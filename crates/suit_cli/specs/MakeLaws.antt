@@ -12,7 +12,7 @@ use Rattle.suit_cli.specs.Inputs.{IsRead, IsUnread, IsKey, IsNoKey}
 use Rattle.suit_cli.specs.Authoring.{longest_description, longest_named, IsAuthored, IsNotAuthored, IsEnvelopeOf, IsLongEnvelope, made_line}
 use Rattle.suit_cli.specs.Commands.{makes}
 
--- ---- what the files hold
+-- ---- the contents of the files
 
 -- a description of this value
 pub record HoldsDescription (name : List ℕ) (before : Outside) (value : Data) : Type 0 where
@@ -23,17 +23,21 @@ pub record HoldsDescription (name : List ℕ) (before : Outside) (value : Data) 
 -- each of these names has a file, within its limit
 pub data AreRead (before : Outside) : List (List ℕ) → List (List ℕ × List ℕ) → Type 0 where
   NoFile : AreRead before [] []
-  FileThen : (name bytes : List ℕ) (names : List (List ℕ)) (files : List (List ℕ × List ℕ)) → IsRead longest_named name before bytes → AreRead before names files
+  FileThen : (name bytes : List ℕ) (names : List (List ℕ)) (files : List (List ℕ × List ℕ))
+      → IsRead longest_named name before bytes → AreRead before names files
       → AreRead before (name ∷ names) ((name, bytes) ∷ files)
 
 -- one has none, or one that is too long: the first of these is told
 pub data OneIsUnread (before : Outside) (reply : Reply) : List (List ℕ) → Type 0 where
-  AtName : (name : List ℕ) (names : List (List ℕ)) → IsUnread longest_named name before reply → OneIsUnread before reply (name ∷ names)
-  LaterName : (name bytes : List ℕ) (names : List (List ℕ)) → IsRead longest_named name before bytes → OneIsUnread before reply names
+  AtName : (name : List ℕ) (names : List (List ℕ)) → IsUnread longest_named name before reply
+      → OneIsUnread before reply (name ∷ names)
+  LaterName : (name bytes : List ℕ) (names : List (List ℕ)) → IsRead longest_named name before bytes
+      → OneIsUnread before reply names
       → OneIsUnread before reply (name ∷ names)
 
 -- a description, a key, and the named files
-pub record HasParts (description key_name : List ℕ) (before : Outside) (value : Data) (key : List ℕ) (files : List (List ℕ × List ℕ)) : Type 0 where
+pub record HasParts (description key_name : List ℕ) (before : Outside) (value : Data) (key : List ℕ)
+    (files : List (List ℕ × List ℕ)) : Type 0 where
   pub described : HoldsDescription description before value
   pub has_key : IsKey key_name before key
   pub are_read : AreRead before (file_names value) files
@@ -42,25 +46,32 @@ pub record HasParts (description key_name : List ℕ) (before : Outside) (value 
 
 pub data MakeSays (description key_name : List ℕ) (before : Outside) (reply : Reply) : Type 0 where
   -- status 20, `absent NAME`, or 21, `too long NAME`
-  AtDescription : IsUnread longest_description description before reply → MakeSays description key_name before reply
+  AtDescription : IsUnread longest_description description before reply
+      → MakeSays description key_name before reply
   -- status 3, `bad json` or what is wrong in it
-  AtFields : (bytes : List ℕ) → IsRead longest_description description before bytes → IsNotAuthored bytes reply → MakeSays description key_name before reply
+  AtFields : (bytes : List ℕ) → IsRead longest_description description before bytes
+      → IsNotAuthored bytes reply → MakeSays description key_name before reply
   -- status 20, 21, or 3, `empty key`
-  AtKey : (value : Data) → HoldsDescription description before value → IsNoKey key_name before reply → MakeSays description key_name before reply
+  AtKey : (value : Data) → HoldsDescription description before value → IsNoKey key_name before reply
+      → MakeSays description key_name before reply
   -- status 20 or 21
-  AtNamed : (value : Data) (key : List ℕ) → HoldsDescription description before value → IsKey key_name before key → OneIsUnread before reply (file_names value)
+  AtNamed : (value : Data) (key : List ℕ) → HoldsDescription description before value
+      → IsKey key_name before key → OneIsUnread before reply (file_names value)
       → MakeSays description key_name before reply
   -- status 21, `too long envelope`
-  AtLength : (value : Data) (key : List ℕ) (files : List (List ℕ × List ℕ)) → HasParts description key_name before value key files
+  AtLength : (value : Data) (key : List ℕ) (files : List (List ℕ × List ℕ))
+      → HasParts description key_name before value key files
       → IsLongEnvelope value files key reply → MakeSays description key_name before reply
   -- status 0, `made N`
-  AtStore : (value : Data) (key : List ℕ) (files : List (List ℕ × List ℕ)) (envelope : List ℕ) → HasParts description key_name before value key files
+  AtStore : (value : Data) (key : List ℕ) (files : List (List ℕ × List ℕ)) (envelope : List ℕ)
+      → HasParts description key_name before value key files
       → IsEnvelopeOf value files key envelope → IsReply reply outcomes.Done (made_line (length envelope)) → MakeSays description key_name before reply
 
--- ---- what is stored
+-- ---- the stored envelope
 
 -- the described envelope stands under the name, and the reply tells its length
-pub record IsStored (description key_name out : List ℕ) (before after : Outside) (reply : Reply) : Type 0 where
+pub record IsStored (description key_name out : List ℕ) (before after : Outside) (reply : Reply)
+    : Type 0 where
   pub value : Data
   pub key : List ℕ
   pub files : List (List ℕ × List ℕ)
@@ -73,19 +84,25 @@ pub record IsStored (description key_name out : List ℕ) (before after : Outsid
 
 pub record MakeLaws : Type 0 where
   -- each reply has its cause
-  pub only : (description key_name out : List ℕ) (before after : Outside) (reply : Reply) → makes description key_name out before after (Says reply)
+  pub only : (description key_name out : List ℕ) (before after : Outside) (reply : Reply)
+      → makes description key_name out before after (Says reply)
       → MakeSays description key_name before reply
-  -- and where a cause stands, each answer that is neither a fault nor want of memory is its reply
-  pub always : (description key_name out : List ℕ) (before after : Outside) (reply other : Reply) → IsTrue before.told → MakeSays description key_name before reply
+  -- and where a cause stands, each answer that is neither a fault nor running out of memory is its reply
+  pub always : (description key_name out : List ℕ) (before after : Outside) (reply other : Reply)
+      → IsTrue before.told → MakeSays description key_name before reply
       → makes description key_name out before after (Says other) → other ≡ reply
   -- where it is done, the envelope is stored
-  pub stored : (description key_name out : List ℕ) (before after : Outside) (reply : Reply) → IsTrue before.told → makes description key_name out before after (Says reply)
+  pub stored : (description key_name out : List ℕ) (before after : Outside) (reply : Reply)
+      → IsTrue before.told → makes description key_name out before after (Says reply)
       → reply.outcome ≡ outcomes.Done → IsStored description key_name out before after reply
-  -- otherwise, and after want of memory, the files are as they were
-  pub still : (description key_name out : List ℕ) (before after : Outside) (reply : Reply) → IsTrue before.told → makes description key_name out before after (Says reply)
+  -- otherwise, and after memory ran out, the files are as they were
+  pub still : (description key_name out : List ℕ) (before after : Outside) (reply : Reply)
+      → IsTrue before.told → makes description key_name out before after (Says reply)
       → (reply.outcome ≡ outcomes.Done → ⊥) → after.files ≡ before.files
-  pub starved : (description key_name out : List ℕ) (before after : Outside) → IsTrue before.told → makes description key_name out before after NoMemory
+  pub starved : (description key_name out : List ℕ) (before after : Outside) → IsTrue before.told
+      → makes description key_name out before after NoMemory
       → after.files ≡ before.files
   -- and whatever it ends with, so are all but the one that it names
-  pub others : (description key_name out : List ℕ) (before after : Outside) (ending : Ending) → IsTrue before.told → makes description key_name out before after ending
+  pub others : (description key_name out : List ℕ) (before after : Outside) (ending : Ending)
+      → IsTrue before.told → makes description key_name out before after ending
       → (other : List ℕ) → other ≢ out → after.files other ≡ before.files other

@@ -1,4 +1,4 @@
--- What a command finds outside of it, and what it leaves there.
+-- The outside of a command: what it finds there, and what it leaves.
 use Rattle.std.specs.Prelude.{◌≡◌, ◌≢◌, ◌⊎◌, ◌≤◌, ◌+◌, ℕ, Bool, IsTrue, List, [], ◌∷◌, ◌++◌, Option, Some, None}
 use Rattle.suit_edge.specs.Faults.{Faulted}
 
@@ -35,7 +35,8 @@ Asks names before after = IsTrue before.told → after.asked ≡ before.asked ++
 
 -- this one was, and no other; or a fault came before the host told it
 abbrev pub MayAsk : List ℕ → Outside → Outside → Type 0
-MayAsk name before after = IsTrue before.told → (after.asked ≡ before.asked) ⊎ (after.asked ≡ before.asked ++ name ∷ [])
+MayAsk name before after =
+    IsTrue before.told → (after.asked ≡ before.asked) ⊎ (after.asked ≡ before.asked ++ name ∷ [])
 
 -- so much was pulled of the file with that name, and no fault was counted
 pub record Reads (most : ℕ) (name : List ℕ) (before after : Outside) : Type 0 where
@@ -45,7 +46,7 @@ pub record Reads (most : ℕ) (name : List ℕ) (before after : Outside) : Type 
   pub flash : after.flash ≡ before.flash
 
 -- or the host counted one at that file
-pub record Fails (most : ℕ) (name : List ℕ) (before after : Outside) : Type 0 where
+pub record ReadsInVain (most : ℕ) (name : List ℕ) (before after : Outside) : Type 0 where
   pub quiet : Quiet most before after
   pub asks : MayAsk name before after
   pub faulted : Faulted before.faults after.faults
@@ -56,7 +57,8 @@ pub record Fails (most : ℕ) (name : List ℕ) (before after : Outside) : Type 
 -- nothing changed but the file with this name, and perhaps the count of faults
 pub record LeavesOthers (name : List ℕ) (before after : Outside) : Type 0 where
   pub told : after.told ≡ before.told
-  pub others : IsTrue before.told → (other : List ℕ) → other ≢ name → after.files other ≡ before.files other
+  pub others : IsTrue before.told → (other : List ℕ) → other ≢ name
+      → after.files other ≡ before.files other
   pub pulled : IsTrue before.told → after.pulled ≡ before.pulled
   pub asked : IsTrue before.told → after.asked ≡ before.asked
   pub flash : after.flash ≡ before.flash
@@ -72,7 +74,7 @@ pub record StoresInVain (name : List ℕ) (before after : Outside) : Type 0 wher
   pub beside : LeavesOthers name before after
   pub faulted : Faulted before.faults after.faults
 
--- ---- what is left of the files
+-- ---- the files that are left
 
 -- all are as they were, or all but the one with this name
 abbrev pub FilesStay : Option (List ℕ) → Files → Files → Type 0

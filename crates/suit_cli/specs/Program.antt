@@ -1,4 +1,4 @@
--- What a run of the program comes to.
+-- The result of a run of the program.
 use Rattle.std.specs.Prelude.{◌≡◌, ◌≢◌, ◌⊎◌, ◌+◌, ℕ, IsTrue, List, ◌++◌, take, Option, Some, None}
 use Rattle.suit_edge.specs.Faults.{Faulted}
 use Rattle.suit_edge.specs.Flash.{Flash, Now}
@@ -26,7 +26,9 @@ use Rattle.suit_cli.specs.Commands.{does}
 
 -- the words are judged first; all but those of a command are usage
 abbrev pub task_in : List (List ℕ) → Stage Task
-task_in words = judging (λ task. task_of words ≡ Some task) (λ reply. (task_of words ≡ None) × IsReply reply outcomes.Usage usage_line)
+task_in words =
+    judging (λ task. task_of words ≡ Some task)
+    (λ reply. (task_of words ≡ None) × IsReply reply outcomes.Usage usage_line)
 
 abbrev pub answers : List (List ℕ) → Answers
 answers words = task_in words >>= does
@@ -39,15 +41,20 @@ ComesTo words = Comes (answers words) (λ task. task_of words ≡ Some task)
 
 -- lines come whole behind what was put, or up to a fault of the sink, which has its own status
 pub data PutsText (before after : Sunk) (status : ℕ) (text : List ℕ) (result : ℕ) : Type 0 where
-  IsPut : result ≡ status → after.faults ≡ before.faults → (IsTrue before.told → after.put ≡ before.put ++ text) → PutsText before after status text result
-  IsCut : result ≡ sink_fault_status → Faulted before.faults after.faults → (IsTrue before.told → (n : ℕ) × (after.put ≡ before.put ++ take n text))
+  IsPut : result ≡ status → after.faults ≡ before.faults
+      → (IsTrue before.told → after.put ≡ before.put ++ text)
+      → PutsText before after status text result
+  IsCut : result ≡ sink_fault_status → Faulted before.faults after.faults
+      → (IsTrue before.told → (n : ℕ) × (after.put ≡ before.put ++ take n text))
       → PutsText before after status text result
 
 abbrev pub Puts : Sunk → Sunk → Ended → ℕ → Type 0
-Puts before after ended result = PutsText before after (ended_status ended) (ended_text ended) result
+Puts before after ended result =
+    PutsText before after (ended_status ended) (ended_text ended) result
 
 -- the words had an answer over the outside and the launcher, and it was put
-pub record Runs (words : List (List ℕ)) (launched now : Launching) (before after : Outside) (sunk_before sunk_after : Sunk) (result : ℕ) : Type 0 where
+pub record Performs (words : List (List ℕ)) (launched now : Launching) (before after : Outside)
+    (sunk_before sunk_after : Sunk) (result : ℕ) : Type 0 where
   pub ended : Ended
   pub comes : ComesTo words launched now before after ended
   pub puts : Puts sunk_before sunk_after ended result
@@ -57,11 +64,12 @@ pub record Runs (words : List (List ℕ)) (launched now : Launching) (before aft
 abbrev pub IsExcuse : ℕ → Type 0
 IsExcuse result = (result ≡ 7) ⊎ (result ≡ 8) ⊎ (result ≡ 9) ⊎ (result ≡ 11)
 
--- this status, unless a fault or want of memory came first
+-- this status, unless a fault came or memory ran out first
 abbrev pub EndsIn : ℕ → ℕ → Type 0
 EndsIn status result = (result ≡ status) ⊎ IsExcuse result
 
--- those of an answer, a boot or an update, of a fault of the host, the flash, the launcher or the sink, and of want of memory
+-- those of an answer, a boot or an update, of a fault of the host, flash, launcher or sink, and of running out of
+-- memory
 pub data IsStatus (result : ℕ) : Type 0 where
   OfEnded : (ended : Ended) → result ≡ ended_status ended → IsStatus result
   OfSinkFault : result ≡ sink_fault_status → IsStatus result
@@ -69,7 +77,8 @@ pub data IsStatus (result : ℕ) : Type 0 where
 -- ---- the headline
 
 -- the words check a file with these procedures, as the host tells
-pub record ChecksProcedures (words : List (List ℕ)) (before : Outside) (update invocation : PlanTree) : Type 0 where
+pub record ChecksProcedures (words : List (List ℕ)) (before : Outside)
+    (update invocation : PlanTree) : Type 0 where
   pub told : IsTrue before.told
   pub name : List ℕ
   pub word : task_of words ≡ Some (Check name)
@@ -92,7 +101,8 @@ Judges (Some (RunUpdate file uris)) name = file ≡ name
 Judges _ name = ⊥
 
 -- the words judge a file's procedures, both are not safe, and a path that shows it was put
-pub record ChecksUnsafe (words : List (List ℕ)) (before : Outside) (sunk_before sunk_after : Sunk) : Type 0 where
+pub record ChecksUnsafe (words : List (List ℕ)) (before : Outside) (sunk_before sunk_after : Sunk)
+    : Type 0 where
   pub update : PlanTree
   pub invocation : PlanTree
   pub name : List ℕ
@@ -110,21 +120,24 @@ pub record IsUsage (words : List (List ℕ)) (sunk_before sunk_after : Sunk) : T
   pub no_task : task_of words ≡ None
   pub puts : IsTrue sunk_before.told → sunk_after.put ≡ sunk_before.put ++ usage_line
 
--- ---- what is cut off
+-- ---- output that is cut off
 
 -- the sink counted a fault, and only the beginning of the answer's lines was put
-pub record IsCutOff (words : List (List ℕ)) (launched now : Launching) (before after : Outside) (sunk_before sunk_after : Sunk) : Type 0 where
+pub record IsCutOff (words : List (List ℕ)) (launched now : Launching) (before after : Outside)
+    (sunk_before sunk_after : Sunk) : Type 0 where
   pub faulted : Faulted sunk_before.faults sunk_after.faults
   pub ended : Ended
   pub comes : ComesTo words launched now before after ended
-  pub puts : IsTrue sunk_before.told → (n : ℕ) × (sunk_after.put ≡ sunk_before.put ++ take n (ended_text ended))
+  pub puts : IsTrue sunk_before.told
+      → (n : ℕ) × (sunk_after.put ≡ sunk_before.put ++ take n (ended_text ended))
 
--- ---- what is left of the files
+-- ---- the files that are left
 
 -- how much is pulled: of each file at most one byte more than its limit. `make` reads the files that its description names.
 abbrev pub most_pulled : Option Task → Files → ℕ
 most_pulled None files = 0
-most_pulled (Some (Make description key out)) files = (longest_description + 1) + ((longest_key + 1) + most_named (names_held (files description)))
+most_pulled (Some (Make description key out)) files =
+    (longest_description + 1) + ((longest_key + 1) + most_named (names_held (files description)))
 most_pulled (Some (Describe name)) files = longest_file + 1
 most_pulled (Some (Show name key)) files = (longest_file + 1) + (longest_key + 1)
 most_pulled (Some (Check name)) files = longest_file + 1
@@ -147,7 +160,8 @@ stored_by (Some RunStatus) = None
 
 -- no file changes
 abbrev pub KeepsFiles : Outside → Outside → Type 0
-KeepsFiles before after = (after.told ≡ before.told) × (IsTrue before.told → after.files ≡ before.files)
+KeepsFiles before after =
+    (after.told ≡ before.told) × (IsTrue before.told → after.files ≡ before.files)
 
 -- of `run boot` and `run update` no more than that
 abbrev pub LeavesBy : Option Task → Outside → Outside → Type 0
@@ -160,8 +174,8 @@ LeavesFor words before after = LeavesBy (task_of words) before after
 
 -- ---- power losses
 
--- What a power loss at a moment of the run may leave, by an image. All commands but `run init`, `run boot` and `run update`
--- leave those of the start.
+-- The images that a power loss at a moment of the run may leave. All commands but `run init`, `run boot` and `run
+-- update` leave those of the start.
 abbrev pub MayBeLeft : Option Task → Outside → Flash → List ℕ → Type 0
 MayBeLeft (Some (RunInit device key)) before start image = MayLeave device key before start image
 MayBeLeft (Some RunBoot) before start image = Unit {0}
@@ -183,22 +197,26 @@ MayHide words result = MayLaunch (task_of words) × (result ≡ 8)
 -- Each status of a fault comes only where the count of its object rose. Where it does not come, and the sink did not fail
 -- either, that count stays, but that in `run boot` and `run update` a fault of the flash may come behind one of another
 -- object, and a launcher may fail where the flash did.
-pub record AreCounted (words : List (List ℕ)) (launched now : Launching) (before after : Outside) (sunk_before sunk_after : Sunk) (result : ℕ) : Type 0 where
+pub record AreCounted (words : List (List ℕ)) (launched now : Launching) (before after : Outside)
+    (sunk_before sunk_after : Sunk) (result : ℕ) : Type 0 where
   pub host : result ≡ 7 → Faulted before.faults after.faults
-  pub only_host : result ≢ 7 → result ≢ 9 → (MayHide words result → ⊥) → after.faults ≡ before.faults
+  pub only_host : result ≢ 7 → result ≢ 9 → (MayHide words result → ⊥)
+      → after.faults ≡ before.faults
   pub flash : result ≡ 8 → Faulted before.flash.faults after.flash.faults
   pub only_flash : result ≢ 8 → result ≢ 9 → result ≢ 10 → after.flash.faults ≡ before.flash.faults
   pub launcher : result ≡ 10 → Faulted launched.faults now.faults
-  pub only_launcher : result ≢ 10 → result ≢ 9 → (MayHide words result → ⊥) → now.faults ≡ launched.faults
+  pub only_launcher : result ≢ 10 → result ≢ 9 → (MayHide words result → ⊥)
+      → now.faults ≡ launched.faults
   pub only_output : result ≢ 9 → sunk_after.faults ≡ sunk_before.faults
 
--- ---- want of memory
+-- ---- running out of memory
 
 -- Status 11: no file changed, the flash reads as it did, and nothing was launched.
 pub record AsFound (launched now : Launching) (before after : Outside) : Type 0 where
   pub files : IsTrue before.told → after.files ≡ before.files
   pub reads : IsTrue before.flash.told → after.flash.reads ≡ before.flash.reads
-  pub launches : IsTrue before.told → IsTrue before.flash.told → IsTrue launched.told → now.launches ≡ launched.launches
+  pub launches : IsTrue before.told → IsTrue before.flash.told → IsTrue launched.told
+      → now.launches ≡ launched.launches
 
 -- an update stands beside the flash's record, which a sound flash has, or says to be none
 abbrev pub IsForUpdate : Option Task → Type 0
@@ -219,18 +237,25 @@ IfLaunches (Some RunBoot) P = P
 IfLaunches (Some (RunUpdate name uris)) P = P
 IfLaunches _ P = Unit {0}
 
+-- inside: of a boot alone
+abbrev pub IfBoots : Option Task → Type 0 → Type 0
+IfBoots (Some RunBoot) P = P
+IfBoots _ P = Unit {0}
+
 -- ---- at each moment
 
 -- Of a settled flash, an update keeps the old record and the contents of all slots that it may not write, or leaves the new record
 -- with the contents that its procedure made, which was done: by the end that it came to. A boot keeps all but slots that its
 -- procedure may write, of any flash.
 abbrev pub KeepsFor : Option Task → Launching → Launching → Outside → Ended → Flash → Flash → Type 0
-KeepsFor (Some (RunUpdate name uris)) launched later before ended old now = Settled VERSION_1 old → StaysOrKeeps name uris launched later before ended old now
+KeepsFor (Some (RunUpdate name uris)) launched later before ended old now =
+    Settled VERSION_1 old → StaysOrKeeps name uris launched later before ended old now
 KeepsFor (Some RunBoot) launched later before ended old now = BootKeeps before old now
 KeepsFor _ launched later before ended old now = Unit {0}
 
 -- the words had an answer that was put, and so the flash was kept with that very answer
-pub record KeepsAsTold (words : List (List ℕ)) (launched later : Launching) (before after : Outside) (sunk_before sunk_after : Sunk) (result : ℕ)
+pub record KeepsAsTold (words : List (List ℕ)) (launched later : Launching) (before after : Outside)
+    (sunk_before sunk_after : Sunk) (result : ℕ)
     (old now : Flash) : Type 0 where
-  pub runs : Runs words launched later before after sunk_before sunk_after result
+  pub runs : Performs words launched later before after sunk_before sunk_after result
   pub keeps : KeepsFor (task_of words) launched later before runs.ended old now

@@ -10,7 +10,7 @@ pub record IsReply (reply : Reply) (outcome : Outcome) (text : List ℕ) : Type 
   pub outcome_is : reply.outcome ≡ outcome
   pub text_is : reply.text ≡ text
 
--- such a reply was made, unless there was no memory
+-- such a reply was made, unless memory ran out
 abbrev pub Makes : Result Reply AllocError → Outcome → List ℕ → Type 0
 Makes result outcome text = IfOk result (λ reply. IsReply reply outcome text)
 

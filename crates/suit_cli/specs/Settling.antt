@@ -1,4 +1,4 @@
--- What is settled when a command ends.
+-- When a command leaves the flash settled.
 use Rattle.std.specs.Prelude.{ℕ}
 use Rattle.suit_edge.specs.Faults.{Faulted}
 use Rattle.suit_edge.specs.Flash.{Flash}
@@ -7,4 +7,5 @@ use Rattle.rollback_record.specs.SoundFlash.{Settled}
 
 -- a settled flash is settled again, unless it counted a fault
 abbrev pub StaysSettled : Flash → Flash → ℕ → ℕ → Type 0
-StaysSettled old new before now = Settled VERSION_1 old → (Faulted before now → ⊥) → Settled VERSION_1 new
+StaysSettled old new before now =
+    Settled VERSION_1 old → (Faulted before now → ⊥) → Settled VERSION_1 new

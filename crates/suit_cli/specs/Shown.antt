@@ -1,4 +1,4 @@
--- What is shown of an envelope under a key.
+-- The lines that show an envelope under a key.
 use Rattle.std.specs.Prelude.{◌≡◌, ◌≢◌, ℕ, ◌+◌, Bool, true, false, List, [], ◌∷◌, ◌++◌, Option, Some, None, codes}
 use Rattle.hmac_mac0.specs.Mac0.{IsMac0}
 use Rattle.suit_params.specs.declared.digest.Digest.{Digest}
@@ -36,12 +36,15 @@ kind_text false = codes "other"
 -- a line for each block, from a number on
 pub data BlockLines : ℕ → List (List ℕ) → List ℕ → Type 0 where
   NoLines : (number : ℕ) → BlockLines number [] []
-  LineThen : (number : ℕ) (block : List ℕ) (blocks : List (List ℕ)) (is_mac : Bool) (lines : List ℕ) → HasKind block is_mac → BlockLines (number + 1) blocks lines
+  LineThen : (number : ℕ) (block : List ℕ) (blocks : List (List ℕ)) (is_mac : Bool) (lines : List ℕ)
+      → HasKind block is_mac → BlockLines (number + 1) blocks lines
       → BlockLines number (block ∷ blocks) (block_line number (kind_text is_mac) ++ lines)
 
 -- a text is continued by the lines of the wrapper's blocks
 abbrev pub AddsBlocks : List ℕ → List ℕ → List ℕ → Type 0
-AddsBlocks wrapper old new = (digest : List ℕ) (all : List (List ℕ)) → WrapperSays wrapper digest all → (lines : List ℕ) × BlockLines 0 all lines × (new ≡ old ++ lines)
+AddsBlocks wrapper old new =
+    (digest : List ℕ) (all : List (List ℕ)) → WrapperSays wrapper digest all
+    → (lines : List ℕ) × BlockLines 0 all lines × (new ≡ old ++ lines)
 
 -- ---- members
 
@@ -84,7 +87,8 @@ pub record MemberLines (said : EnvelopeSays) (manifest : Manifest) (lines : List
 
 -- a text is continued by these lines
 abbrev pub AddsMembers : EnvelopeSays → Manifest → List ℕ → List ℕ → Type 0
-AddsMembers said manifest old new = (lines : List ℕ) × MemberLines said manifest lines × (new ≡ old ++ lines)
+AddsMembers said manifest old new =
+    (lines : List ℕ) × MemberLines said manifest lines × (new ≡ old ++ lines)
 
 -- ---- all of it
 
@@ -95,13 +99,16 @@ authenticity_outcome authenticities.NoMac = outcomes.NotAuthentic
 authenticity_outcome (authenticities.MacDiffers expected found) = outcomes.NotAuthentic
 
 -- the answer is Yes exactly where the envelope is authentic, and otherwise it says why it is not
-pub record TellsAuthenticity (said : EnvelopeSays) (key : List ℕ) (answer : Authenticity) : Type 0 where
+pub record TellsAuthenticity (said : EnvelopeSays) (key : List ℕ) (answer : Authenticity)
+    : Type 0 where
   pub yes : answer ≡ authenticities.Yes → IsAuthentic said.wrapper said.manifest key
   pub every_yes : IsAuthentic said.wrapper said.manifest key → answer ≡ authenticities.Yes
-  pub answers : (digest : List ℕ) (blocks : List (List ℕ)) → WrapperSays said.wrapper digest blocks → AnswersAuthentic digest blocks said.manifest key answer
+  pub answers : (digest : List ℕ) (blocks : List (List ℕ)) → WrapperSays said.wrapper digest blocks
+      → AnswersAuthentic digest blocks said.manifest key answer
 
 -- whether there is a tag, then the blocks, the members, and last whether the envelope is authentic under the key
-pub record IsShown (said : EnvelopeSays) (manifest : Manifest) (key : List ℕ) (reply : Reply) : Type 0 where
+pub record IsShown (said : EnvelopeSays) (manifest : Manifest) (key : List ℕ) (reply : Reply)
+    : Type 0 where
   pub digest : List ℕ
   pub blocks : List (List ℕ)
   pub says : WrapperSays said.wrapper digest blocks
@@ -112,4 +119,5 @@ pub record IsShown (said : EnvelopeSays) (manifest : Manifest) (key : List ℕ) 
   pub member_text : List ℕ
   pub member_lines : MemberLines said manifest member_text
   pub outcome_is : reply.outcome ≡ authenticity_outcome answer
-  pub text_is : reply.text ≡ tagged_line said.tagged ++ block_text ++ member_text ++ authenticity_line answer
+  pub text_is :
+      reply.text ≡ tagged_line said.tagged ++ block_text ++ member_text ++ authenticity_line answer

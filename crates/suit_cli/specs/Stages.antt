@@ -5,9 +5,9 @@ use Rattle.suit_cli.specs.declared.reply.Object.TheVariants as objects
 use Rattle.suit_cli.specs.declared.reply.Reply.{Reply}
 use Rattle.suit_cli.specs.declared.reply.Stop.{Stop}
 use Rattle.suit_cli.specs.declared.reply.Stop.TheVariants as stops
-use Rattle.suit_cli.specs.Outside.{Outside, Flashed, Reads, Fails, Looks, LooksInVain}
+use Rattle.suit_cli.specs.Outside.{Outside, Flashed, Reads, ReadsInVain, Looks, LooksInVain}
 
--- what an answer ends with
+-- the ending of an answer
 pub data Ending : Type 0 where
   Says : Reply → Ending
   FaultOf : Object → Ending
@@ -17,7 +17,7 @@ pub data Ending : Type 0 where
 abbrev pub Answers : Type 1
 Answers = Outside → Outside → Ending → Type 0
 
--- A stage gives a value, or declines with a reply, or an object faults in it, or it lacks memory.
+-- A stage gives a value, or declines with a reply, or an object faults in it, or memory runs out.
 pub record Stage (A : Type 0) : Type 1 where
   pub gives : Outside → Outside → A → Type 0
   pub declines : Outside → Outside → Reply → Type 0
@@ -44,11 +44,12 @@ judging good bad = record {
 }
 
 -- reading pulls at most so many bytes of the file with a name, and of no other, and judges what it found
-abbrev pub reading : {A : Type 0} → ℕ → List ℕ → (Outside → A → Type 0) → (Outside → Reply → Type 0) → Stage A
+abbrev pub reading : {A : Type 0} → ℕ → List ℕ → (Outside → A → Type 0) → (Outside → Reply → Type 0)
+    → Stage A
 reading most name good bad = record {
   gives = λ before after a. Reads most name before after × good before a;
   declines = λ before after reply. Reads most name before after × bad before reply;
-  faults = at_host (Fails most name);
+  faults = at_host (ReadsInVain most name);
   lacks = Reads most name;
 }
 
@@ -64,28 +65,39 @@ looking good bad = record {
 -- ---- two stages as one
 
 -- the first gives a value, and this is said of it from then on
-pub record After {A : Type 0} (first : Stage A) (says : A → Outside → Outside → Type 0) (before after : Outside) : Type 0 where
+pub record After {A : Type 0} (first : Stage A) (says : A → Outside → Outside → Type 0)
+    (before after : Outside) : Type 0 where
   pub value : A
   pub middle : Outside
   pub given : first.gives before middle value
   pub later : says value middle after
 
--- one and then another; memory may be wanting before them
+-- one and then another; memory may run out before them
 abbrev pub in_turn : {A B : Type 0} → Stage A → (A → Stage B) → Stage B
 in_turn first next = record {
   gives = λ before after b. After first (λ a m n. (next a).gives m n b) before after;
-  declines = λ before after reply. first.declines before after reply ⊎ After first (λ a m n. (next a).declines m n reply) before after;
-  faults = λ object before after. first.faults object before after ⊎ After first (λ a m n. (next a).faults object m n) before after;
-  lacks = λ before after. (after ≡ before) ⊎ (first.lacks before after ⊎ After first (λ a m n. (next a).lacks m n) before after);
+  declines =
+      λ before after reply. first.declines before after reply
+      ⊎ After first (λ a m n. (next a).declines m n reply) before after;
+  faults =
+      λ object before after. first.faults object before after
+      ⊎ After first (λ a m n. (next a).faults object m n) before after;
+  lacks =
+      λ before after. (after ≡ before)
+      ⊎ (first.lacks before after ⊎ After first (λ a m n. (next a).lacks m n) before after);
 }
 
 -- ---- one stage after another
 
 -- a stage is good and the next follows, from where it left the outside; or the answer ends there
-pub data Then {A : Type 0} (stage : Stage A) (next : A → Answers) (before after : Outside) : Ending → Type 0 where
-  Goes : (a : A) (middle : Outside) (ending : Ending) → stage.gives before middle a → next a middle after ending → Then stage next before after ending
-  Declines : (reply : Reply) → stage.declines before after reply → Then stage next before after (Says reply)
-  Faults : (object : Object) → stage.faults object before after → Then stage next before after (FaultOf object)
+pub data Then {A : Type 0} (stage : Stage A) (next : A → Answers) (before after : Outside)
+    : Ending → Type 0 where
+  Goes : (a : A) (middle : Outside) (ending : Ending) → stage.gives before middle a
+      → next a middle after ending → Then stage next before after ending
+  Declines : (reply : Reply) → stage.declines before after reply
+      → Then stage next before after (Says reply)
+  Faults : (object : Object) → stage.faults object before after
+      → Then stage next before after (FaultOf object)
   Lacks : stage.lacks before after → Then stage next before after NoMemory
 
 infixr 10 ◌>>=◌
@@ -97,11 +109,11 @@ pub data Last (says : Reply → Type 0) (before after : Outside) : Ending → Ty
   Ends : (reply : Reply) → after ≡ before → says reply → Last says before after (Says reply)
   EndsWithout : after ≡ before → Last says before after NoMemory
 
--- a reply that was made before, so that no memory is lacking
+-- a reply that was made before, so that memory cannot run out
 pub data Said (says : Reply → Type 0) (before after : Outside) : Ending → Type 0 where
   IsSaid : (reply : Reply) → after ≡ before → says reply → Said says before after (Says reply)
 
--- ---- what the code answers
+-- ---- the code's answers
 
 -- a value of a stage, or why there is none
 abbrev pub Does : {A : Type 0} → Stage A → Outside → Outside → Result A Stop → Type 0

@@ -31,7 +31,7 @@ abbrev pub fault_line : Object → List ℕ
 fault_line objects.Host = host_fault_line
 fault_line objects.Flash = flash_fault_line
 
--- a fault and want of memory have their own; so has a fault of the sink, whatever the answer was
+-- a fault and running out of memory have their own; so has a fault of the sink, whatever the answer was
 abbrev pub ending_status : Ending → ℕ
 ending_status (Says reply) = status_of reply.outcome
 ending_status (FaultOf object) = fault_status object

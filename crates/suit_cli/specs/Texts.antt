@@ -19,7 +19,8 @@ usage_line = codes "usage: suit make DESCRIPTION KEY OUT | show FILE [KEY] | che
 
 -- the place of a fault in the file, and what is wrong there
 abbrev pub refused_line : ℕ → List ℕ → List ℕ
-refused_line place why = joined (codes "refused at " ∷ decimal place ∷ codes ": " ∷ why ∷ codes "\n" ∷ [])
+refused_line place why =
+    joined (codes "refused at " ∷ decimal place ∷ codes ": " ∷ why ∷ codes "\n" ∷ [])
 
 abbrev pub reason_text : Reason → List ℕ
 reason_text reasons.Truncated = codes "truncated"
@@ -48,7 +49,8 @@ why_text whys.Algorithm = codes "algorithm"
 why_text (whys.Version n) = numbered (codes "version") n
 why_text (whys.TooMany n) = joined (decimal n ∷ codes " components" ∷ [])
 why_text whys.LongIdentifier = codes "long identifier"
-why_text (whys.TwoAlike i j) = joined (codes "components " ∷ decimal i ∷ codes " and " ∷ decimal j ∷ codes " are alike" ∷ [])
+why_text (whys.TwoAlike i j) =
+    joined (codes "components " ∷ decimal i ∷ codes " and " ∷ decimal j ∷ codes " are alike" ∷ [])
 why_text whys.UnknownParam = codes "unknown parameter"
 why_text whys.BadParam = codes "bad parameter"
 why_text whys.Unsupported = codes "unsupported"
@@ -100,7 +102,7 @@ out_of_memory_line = codes "out of memory\n"
 abbrev pub empty_key_line : List ℕ
 empty_key_line = codes "empty key\n"
 
--- ---- what an envelope is shown by
+-- ---- the lines that show an envelope
 
 abbrev pub tagged_line : Bool → List ℕ
 tagged_line true = codes "tagged yes\n"
@@ -108,7 +110,8 @@ tagged_line false = codes "tagged no\n"
 
 -- the number of a block, and its kind
 abbrev pub block_line : ℕ → List ℕ → List ℕ
-block_line number kind = joined (codes "block " ∷ decimal number ∷ codes " " ∷ kind ∷ codes "\n" ∷ [])
+block_line number kind =
+    joined (codes "block " ∷ decimal number ∷ codes " " ∷ kind ∷ codes "\n" ∷ [])
 
 abbrev pub state_text : MemberState → List ℕ
 state_text states.Here = codes "here"
@@ -125,6 +128,7 @@ member_line name state = member_texts name (state_text state)
 
 abbrev pub authenticity_line : Authenticity → List ℕ
 authenticity_line authenticities.Yes = codes "authentic\n"
-authenticity_line (authenticities.DigestDiffers stated found) = codes "not authentic: digest differs\n"
+authenticity_line (authenticities.DigestDiffers stated found) =
+    codes "not authentic: digest differs\n"
 authenticity_line authenticities.NoMac = codes "not authentic: no mac\n"
 authenticity_line (authenticities.MacDiffers expected found) = codes "not authentic: mac differs\n"

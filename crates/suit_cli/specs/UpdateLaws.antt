@@ -29,43 +29,55 @@ pub record Spell (bytes : List ℕ) (said : EnvelopeSays) : Type 0 where
   pub envelope : EnvelopeOf bytes said
 
 -- it is authentic under the key, and has a manifest
-pub record IsAuthenticIn (key : Key) (bytes : List ℕ) (said : EnvelopeSays) (manifest : Manifest) : Type 0 where
+pub record IsAuthenticIn (key : Key) (bytes : List ℕ) (said : EnvelopeSays) (manifest : Manifest)
+    : Type 0 where
   pub spell : Spell bytes said
   pub is_short : IsShort said
   pub authentic : IsAuthentic said.wrapper said.manifest (key_bytes key)
   pub says : ManifestOf said manifest
 
 -- whose components the layout has, and whose members are there and match
-pub record HasAll (layout : List Entry) (key : Key) (bytes : List ℕ) (said : EnvelopeSays) (manifest : Manifest) (members : Members) : Type 0 where
+pub record HasAll (layout : List Entry) (key : Key) (bytes : List ℕ) (said : EnvelopeSays)
+    (manifest : Manifest) (members : Members) : Type 0 where
   pub authentic_in : IsAuthenticIn key bytes said manifest
   pub places : Places
   pub placed : ArePlaces layout manifest.components places
   pub has_members : HasMembers said manifest members
 
 -- why bytes are not accepted under a layout and a key: the first of these
-pub data IsDeclined (layout : List Entry) (key : Key) (bytes : List ℕ) (reply : Reply) : Type 0 where
+pub data IsDeclined (layout : List Entry) (key : Key) (bytes : List ℕ) (reply : Reply)
+    : Type 0 where
   -- status 3, `refused at P: WHY`
-  AtEnvelope : AreBytes bytes → IsRefused (RefusesBytes bytes) reply → IsDeclined layout key bytes reply
+  AtEnvelope : AreBytes bytes → IsRefused (RefusesBytes bytes) reply
+      → IsDeclined layout key bytes reply
   -- status 21, `too long envelope`
-  AtLength : (said : EnvelopeSays) → Spell bytes said → IsLong said reply → IsDeclined layout key bytes reply
+  AtLength : (said : EnvelopeSays) → Spell bytes said → IsLong said reply
+      → IsDeclined layout key bytes reply
   -- status 4, `not authentic: WHY`
-  AtAuthenticity : (said : EnvelopeSays) → Spell bytes said → IsShort said → IsUnauthentic said (key_bytes key) reply → IsDeclined layout key bytes reply
+  AtAuthenticity : (said : EnvelopeSays) → Spell bytes said → IsShort said
+      → IsUnauthentic said (key_bytes key) reply → IsDeclined layout key bytes reply
   -- status 3, `refused at P: WHY`
-  AtManifest : (said : EnvelopeSays) → Spell bytes said → IsShort said → IsAuthentic said.wrapper said.manifest (key_bytes key)
+  AtManifest : (said : EnvelopeSays) → Spell bytes said → IsShort said
+      → IsAuthentic said.wrapper said.manifest (key_bytes key)
       → IsRefused (RefusesItsManifest said) reply → IsDeclined layout key bytes reply
   -- status 18, `unknown component I`
-  AtComponents : (said : EnvelopeSays) (manifest : Manifest) → IsAuthenticIn key bytes said manifest → LacksComponent layout manifest reply
+  AtComponents : (said : EnvelopeSays) (manifest : Manifest) → IsAuthenticIn key bytes said manifest
+      → LacksComponent layout manifest reply
       → IsDeclined layout key bytes reply
   -- status 16, `severed NAME`, 17, `member NAME differs`, or 3, `refused at P: WHY`
-  AtMembers : (said : EnvelopeSays) (manifest : Manifest) (places : Places) → IsAuthenticIn key bytes said manifest → ArePlaces layout manifest.components places
+  AtMembers : (said : EnvelopeSays) (manifest : Manifest) (places : Places)
+      → IsAuthenticIn key bytes said manifest → ArePlaces layout manifest.components places
       → IsLack said manifest reply → IsDeclined layout key bytes reply
   -- status 12, `too wide: N`
-  AtUpdateWidth : (said : EnvelopeSays) (manifest : Manifest) (members : Members) → HasAll layout key bytes said manifest members
+  AtUpdateWidth : (said : EnvelopeSays) (manifest : Manifest) (members : Members)
+      → HasAll layout key bytes said manifest members
       → IsWide (update_tree manifest members) reply → IsDeclined layout key bytes reply
-  AtInvocationWidth : (said : EnvelopeSays) (manifest : Manifest) (members : Members) → HasAll layout key bytes said manifest members
+  AtInvocationWidth : (said : EnvelopeSays) (manifest : Manifest) (members : Members)
+      → HasAll layout key bytes said manifest members
       → IsNarrow (update_tree manifest members) → IsWide (invocation_tree manifest) reply → IsDeclined layout key bytes reply
   -- status 1, and the lines of a path
-  AtPaths : (said : EnvelopeSays) (manifest : Manifest) (members : Members) → HasAll layout key bytes said manifest members
+  AtPaths : (said : EnvelopeSays) (manifest : Manifest) (members : Members)
+      → HasAll layout key bytes said manifest members
       → IsNarrow (update_tree manifest members) → IsNarrow (invocation_tree manifest)
       → AreUnsafe (update_tree manifest members) (invocation_tree manifest) reply → IsDeclined layout key bytes reply
 
@@ -73,17 +85,23 @@ pub data UpdateSays (name : List ℕ) (before : Outside) (reply : Reply) : Type 
   -- status 13, `blank` or `bad config`
   AtConfig : HoldsNone before.flash reply → UpdateSays name before reply
   -- status 20, `absent NAME`, or 21, `too long NAME`
-  AtFile : (config : List Entry × Key) → Holds before.flash config → IsUnread longest_file name before reply → UpdateSays name before reply
-  AtBytes : (config : List Entry × Key) (bytes : List ℕ) → Holds before.flash config → IsRead longest_file name before bytes
+  AtFile : (config : List Entry × Key) → Holds before.flash config
+      → IsUnread longest_file name before reply → UpdateSays name before reply
+  AtBytes : (config : List Entry × Key) (bytes : List ℕ) → Holds before.flash config
+      → IsRead longest_file name before bytes
       → IsDeclined config.0 config.1 bytes reply → UpdateSays name before reply
 
 pub record UpdateLaws : Type 0 where
   -- each reply has its cause
-  pub only : (name : List ℕ) (before after : Outside) (reply : Reply) → begins_update name before after (Says reply) → UpdateSays name before reply
-  -- where a cause stands, each answer that is neither a fault nor want of memory is its reply
-  pub always : (name : List ℕ) (before after : Outside) (reply other : Reply) → IsTrue before.told → IsTrue before.flash.told → UpdateSays name before reply
+  pub only : (name : List ℕ) (before after : Outside) (reply : Reply)
+      → begins_update name before after (Says reply) → UpdateSays name before reply
+  -- where a cause stands, each answer that is neither a fault nor running out of memory is its reply
+  pub always : (name : List ℕ) (before after : Outside) (reply other : Reply) → IsTrue before.told
+      → IsTrue before.flash.told → UpdateSays name before reply
       → begins_update name before after (Says other) → SameButPath reply other
   -- and none is a reply where the bytes of the file are accepted
-  pub accepted : (name : List ℕ) (before after : Outside) (config : List Entry × Key) (bytes : List ℕ) (a : Accepted) (reply : Reply) → IsTrue before.told
+  pub accepted : (name : List ℕ) (before after : Outside) (config : List Entry × Key)
+      (bytes : List ℕ) (a : Accepted) (reply : Reply)
+      → IsTrue before.told
       → IsTrue before.flash.told → Holds before.flash config → IsRead longest_file name before bytes → IsAccepted config.0 config.1 bytes a
       → begins_update name before after (Says reply) → ⊥

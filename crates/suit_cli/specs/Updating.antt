@@ -1,4 +1,4 @@
--- What `run update` comes to.
+-- The result of `run update`.
 use Rattle.std.specs.Prelude.{◌≡◌, ℕ, ◌∷◌, [], IsTrue, List, Option, codes}
 use Rattle.std.specs.Fmt.{decimal}
 use Rattle.suit_edge.specs.Flash.{Flash, IsSame}
@@ -33,10 +33,14 @@ use Rattle.suit_cli.specs.Acceptance.{Accepted, IsAccepted}
 -- ---- the lines
 
 abbrev pub rollback_line : ℕ → ℕ → List ℕ
-rollback_line recorded offered = joined (codes "rollback: recorded " ∷ decimal recorded ∷ codes ", offered " ∷ decimal offered ∷ codes "\n" ∷ [])
+rollback_line recorded offered =
+    joined
+    (codes "rollback: recorded " ∷ decimal recorded ∷ codes ", offered " ∷ decimal offered
+    ∷ codes "\n" ∷ [])
 
 abbrev pub other_manifest_line : ℕ → List ℕ
-other_manifest_line number = joined (codes "rollback: number " ∷ decimal number ∷ codes " has another manifest\n" ∷ [])
+other_manifest_line number =
+    joined (codes "rollback: number " ∷ decimal number ∷ codes " has another manifest\n" ∷ [])
 
 -- of a manifest with this number
 abbrev pub update_line : ℕ → UpdateEnd → List ℕ
@@ -63,34 +67,49 @@ update_status ends.NoMemory = 11
 
 -- ---- the update
 
--- what comes to be recorded beside what this image of the flash holds
+-- the new record beside this image of the flash
 abbrev pub new_of : Accepted → Option Record → List ℕ → Digest → List ℕ → Record
-new_of a held image digest numbers = new_record held image (trimmed a.said.wrapper a.said.manifest) a.manifest.sequence digest numbers
+new_of a held image digest numbers =
+    new_record held image (trimmed a.said.wrapper a.said.manifest) a.manifest.sequence digest
+    numbers
 
--- The envelope that these bytes spell was accepted, and installed so, with these names of files for URIs: how it was judged
--- beside the record, how the procedure was played, what the flash is left with, and whose fault was counted. What is
--- launched has its digest, and its size where one is in force.
-pub record IsUpdate (layout : List Entry) (bytes : List ℕ) (a : Accepted) (uris : List (List ℕ × List ℕ)) (launched now : Launching) (before after : Outside) (end : UpdateEnd)
+-- The envelope that these bytes spell was accepted, and installed so, with these names of files for URIs: how it was
+-- judged beside the record, how the procedure was played, what the flash is left with, and whose fault was counted.
+-- Each launch has its digest, and its size where one is in force.
+pub record IsUpdate (layout : List Entry) (bytes : List ℕ) (a : Accepted)
+    (uris : List (List ℕ × List ℕ)) (launched now : Launching) (before after : Outside)
+    (end : UpdateEnd)
     : Type 0 where
   pub told : after.told ≡ before.told
   pub files : IsTrue before.told → after.files ≡ before.files
   pub flash_told : after.flash.told ≡ before.flash.told
   pub size : after.flash.size ≡ before.flash.size
   pub launcher_told : now.told ≡ launched.told
-  pub counts : UpdateCounts end (counts_of before.faults before.flash.faults launched.faults) (counts_of after.faults after.flash.faults now.faults)
-  pub judged : IsTrue before.flash.told → ForOffer before.flash.reads a.said.wrapper (λ held digest. JudgedSo a.manifest.sequence digest held end)
-  pub plays : IsTrue before.told → IsTrue before.flash.told → IsTrue launched.told → ForOffer before.flash.reads a.said.wrapper (λ held digest.
+  pub counts :
+      UpdateCounts end (counts_of before.faults before.flash.faults launched.faults)
+      (counts_of after.faults after.flash.faults now.faults)
+  pub judged : IsTrue before.flash.told
+      → ForOffer before.flash.reads a.said.wrapper
+      (λ held digest. JudgedSo a.manifest.sequence digest held end)
+  pub plays : IsTrue before.told → IsTrue before.flash.told → IsTrue launched.told
+      → ForOffer before.flash.reads a.said.wrapper (λ held digest.
       (payloads : List (List ℕ × List ℕ)) → HasPayloads bytes payloads
-      → PlayedSo (λ made play. PlaysUpdate layout a.places (update_tree a.manifest a.members) held payloads uris before.files before.flash.reads made launched.launches now.launches play)
+      → PlayedSo
+      (λ made play. PlaysUpdate layout a.places (update_tree a.manifest a.members) held payloads
+      uris before.files before.flash.reads made launched.launches now.launches play)
       layout after.flash.reads launched.launches now.launches end)
   pub left : IsTrue before.flash.told → ForOffer before.flash.reads a.said.wrapper (λ held digest.
-      KeptSo (LeavesUpdate layout a.places (update_tree a.manifest a.members) held (new_of a held before.flash.reads digest) before.flash.reads after.flash.reads end)
+      KeptSo
+      (LeavesUpdate layout a.places (update_tree a.manifest a.members) held
+      (new_of a held before.flash.reads digest) before.flash.reads after.flash.reads end)
       (after.flash.reads ≡ before.flash.reads) end)
-  pub safe : IsTrue before.told → IsTrue before.flash.told → IsTrue launched.told → GainsSafe launched.launches now.launches
+  pub safe : IsTrue before.told → IsTrue before.flash.told → IsTrue launched.told
+      → GainsSafe launched.launches now.launches
 
 -- the flash holds a configuration, the file was read and accepted under it, an update was made of it, and these lines tell
 -- how that ended
-pub record Updates (name : List ℕ) (uris : List (List ℕ × List ℕ)) (launched now : Launching) (before after : Outside) (end : UpdateEnd) (lines : List ℕ)
+pub record Updates (name : List ℕ) (uris : List (List ℕ × List ℕ)) (launched now : Launching)
+    (before after : Outside) (end : UpdateEnd) (lines : List ℕ)
     : Type 0 where
   pub layout : List Entry
   pub key : Key
@@ -108,33 +127,42 @@ pub record Updates (name : List ℕ) (uris : List (List ℕ × List ℕ)) (launc
 
 -- Where the host and the launcher tell, the update procedure of what was accepted is played to its end, and makes those
 -- contents.
-abbrev pub IsDone : List Entry → List ℕ → Accepted → List (List ℕ × List ℕ) → Launching → Launching → Outside → Option Record
+abbrev pub IsDone : List Entry → List ℕ → Accepted → List (List ℕ × List ℕ) → Launching → Launching
+    → Outside → Option Record
     → List ℕ → List ℕ → Type 0
 IsDone layout bytes a uris launched later before held reads made =
     IsTrue before.told → IsTrue launched.told
-    → PlaysToEnd layout a.places (update_tree a.manifest a.members) held bytes uris before.files reads launched.launches later.launches made
+    → PlaysToEnd layout a.places (update_tree a.manifest a.members) held bytes uris before.files
+    reads launched.launches later.launches made
 
 -- At each moment of an update that ended so, the flash had the old record, and no content changed but those of slots that
 -- may be written; or it had the new record, and the contents that its procedure made, which was done. Where it was not done
 -- the old record stood at each moment, and where it was not run nothing changed.
-abbrev pub KeepsOffer : List Entry → List ℕ → Accepted → List (List ℕ × List ℕ) → Launching → Launching → Outside → UpdateEnd → Flash → Flash → Type 0
+abbrev pub KeepsOffer : List Entry → List ℕ → Accepted → List (List ℕ × List ℕ) → Launching
+    → Launching → Outside → UpdateEnd → Flash → Flash → Type 0
 KeepsOffer layout bytes a uris launched later before end old now =
     ForOffer old.reads a.said.wrapper (λ held digest.
-    KeptSo (KeepsUpdate layout a.places (update_tree a.manifest a.members) (IsDone layout bytes a uris launched later before held old.reads) held
-    (new_of a held old.reads digest) old now end) (IsSame old now) end)
+    KeptSo
+    (KeepsUpdate layout a.places (update_tree a.manifest a.members)
+    (IsDone layout bytes a uris launched later before held old.reads) held
+    (new_of a held old.reads digest) old now end)
+    (IsSame old now) end)
 
 -- the flash holds a record, or none, and the wrapper states a digest
 abbrev pub HasOffer : List ℕ → List ℕ → Type 0
 HasOffer image wrapper =
-    (held : Option Record) × (digest : Digest) × (blocks : List (List ℕ)) × RecordOf VERSION_1 (head_of VERSION_1 image) held
+    (held : Option Record) × (digest : Digest) × (blocks : List (List ℕ))
+    × RecordOf VERSION_1 (head_of VERSION_1 image) held
     × WrapperSays wrapper digest.bytes blocks
 
 -- The file with that name was accepted, and so the flash was kept. This holds of a settled flash.
-pub record KeepsFlash (name : List ℕ) (uris : List (List ℕ × List ℕ)) (launched later : Launching) (before : Outside) (end : UpdateEnd)
+pub record KeepsFlash (name : List ℕ) (uris : List (List ℕ × List ℕ)) (launched later : Launching)
+    (before : Outside) (end : UpdateEnd)
     (old now : Flash) : Type 0 where
   pub layout : List Entry
   pub key : Key
-  pub config : ConfigOf VERSION_1 before.flash.size (head_of VERSION_1 old.reads) (Configured layout key)
+  pub config :
+      ConfigOf VERSION_1 before.flash.size (head_of VERSION_1 old.reads) (Configured layout key)
   pub bytes : List ℕ
   pub read : IsRead longest_file name before bytes
   pub accepted : Accepted

@@ -6,7 +6,7 @@ use Rattle.command_words.specs.Table as table
 use Rattle.suit_cli.specs.declared.words.Command.{Command}
 use Rattle.suit_cli.specs.declared.words.Command.TheVariants as commands
 
--- what the words ask for, with the names of its files; those that answer URIs stand beside their URIs, in the order of the words
+-- the task, with the names of its files; those that answer URIs stand beside their URIs, in the order of the words
 pub data Task : Type 0 where
   Make : (description key out : List ℕ) → Task
   Describe : List ℕ → Task

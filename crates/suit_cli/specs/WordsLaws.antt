@@ -21,6 +21,8 @@ asked_by RunStatus = asked.Status
 
 pub record WordsLaws : Type 0 where
   -- each command comes of the words that spell it, within its bounds and with no dash in front of any, and of no others
-  pub reads : (words : List (List ℕ)) (task : Task) → (task_of words ≡ Some task) ↔ Asks words (asked_by task)
+  pub reads : (words : List (List ℕ)) (task : Task)
+      → (task_of words ≡ Some task) ↔ Asks words (asked_by task)
   -- all words that spell none of them are usage
-  pub usage : (words : List (List ℕ)) → (task_of words ≡ None) ↔ ((task : Task) → Asks words (asked_by task) → ⊥)
+  pub usage : (words : List (List ℕ))
+      → (task_of words ≡ None) ↔ ((task : Task) → Asks words (asked_by task) → ⊥)

@@ -18,7 +18,7 @@ use suit_envelope::{Envelope, MemberName, decode_envelope, trimmed_length};
 use suit_manifest::{Manifest, MemberFault, Members, decode_manifest, members_of};
 use suit_params::Fault;
 
-/// The longest envelope with its manifest and wrapper alone, in bytes.
+/// The longest trimmed envelope, in bytes.
 const LONGEST_TRIMMED: u64 = 16_384;
 
 /// The envelope that a file's bytes spell.
@@ -33,7 +33,7 @@ pub(crate) fn envelope_in(alloc: Global, bytes: &[u8]) -> Result<Envelope<'_>, S
     }
 }
 
-/// Whether the trimmed envelope is within its limit.
+/// Checks that the trimmed envelope is within its limit.
 pub(crate) fn short(alloc: Global, envelope: &Envelope<'_>) -> Result<(), Stop>
     ensures { Finds (short (said_by envelope.now)) result }
 {
@@ -66,7 +66,7 @@ fn name_text(name: MemberName) -> &'static str
     }
 }
 
-/// A reply that a member differs.
+/// The reply that a member differs.
 pub(crate) fn differs(alloc: Global, name: MemberName) -> Result<Reply, AllocError>
     ensures { Makes result outcomes.Differs (differs_line name) }
 {

@@ -1,4 +1,4 @@
-//! What an update judges of an envelope before anything is done.
+//! The checks of an envelope before an update does anything.
 
 ghost use Rattle.std.specs.Prelude.{◌≡◌, ◌↔◌, ◌≤◌, ◌<◌, ◌^◌, IfOk, IsTrue, codes, length};
 ghost use Rattle.flash_layout.specs.Layouts.{IsKey};
@@ -31,8 +31,8 @@ use suit_manifest::{
     Manifest, Members, invocation_plan, manifest_laws, procedure_laws, update_plan,
 };
 
-/// What may be installed: an envelope, its manifest, the places of the manifest's components in the flash's layout, and
-/// the members that stand apart.
+/// An update that may be installed: an envelope, its manifest, the places of the manifest's components in the flash's
+/// layout, and the members outside the manifest.
 #[derive(Drop)]
 pub(crate) struct Acceptable<'a> {
     pub(crate) envelope: Envelope<'a>,
@@ -58,7 +58,7 @@ fn is_yes(answer: &Authenticity<'_>) -> bool
     }
 }
 
-// Whether the envelope is authentic under the flash's key.
+// Checks that the envelope is authentic under the flash's key.
 fn authentic_in(alloc: Global, envelope: &Envelope<'_>, key: &Key) -> Result<(), Stop>
     requires key { IsKey key.now }
     requires wrapper { HasWrapper envelope.now.wrapper.now }
@@ -75,7 +75,8 @@ fn authentic_in(alloc: Global, envelope: &Envelope<'_>, key: &Key) -> Result<(),
 
 // A reply that the layout lacks a component.
 fn unknown(alloc: Global, component: u32) -> Result<Reply, AllocError>
-    ensures { Makes result outcomes.UnknownComponent (number_line (codes "unknown component") component) }
+    ensures { Makes result outcomes.UnknownComponent
+        (number_line (codes "unknown component") component) }
 {
     let line = number_line(alloc, "unknown component", u64::from(component))?;
     Ok(Reply {
@@ -97,12 +98,13 @@ fn places_in(alloc: Global, layout: &Layout, manifest: &Manifest) -> Result<Plac
     }
 }
 
-// Whether both procedures are within the width that is judged, and safe.
+// Checks that both procedures are narrow enough to judge, and safe.
 fn judged(alloc: Global, manifest: &Manifest, members: &Members) -> Result<(), Stop>
     requires components { length manifest.now.components < 2 ^ 32 }
     requires update { IsPlan (update_tree manifest.now members.now) }
     requires invocation { IsPlan (invocation_tree manifest.now) }
-    ensures { Finds (judges (update_tree manifest.now members.now) (invocation_tree manifest.now)) result }
+    ensures { Finds (judges (update_tree manifest.now members.now) (invocation_tree manifest.now))
+        result }
 {
     let update = update_plan(manifest, members);
     match narrow(alloc, &update) {
@@ -120,7 +122,7 @@ fn judged(alloc: Global, manifest: &Manifest, members: &Members) -> Result<(), S
     }
 }
 
-// What may be installed of an authentic envelope with this manifest.
+// The update that an authentic envelope with this manifest offers.
 fn accept_manifest<'a>(
     alloc: Global,
     layout: &Layout,
@@ -131,7 +133,8 @@ fn accept_manifest<'a>(
     requires components { length manifest.components ≤ 8 }
     requires places { MembersEndBelow (2 ^ 64) (said_by envelope.now) }
     requires manifest { ManifestOf (said_by envelope.now) manifest }
-    ensures finds { FindsAccepted (accepts_manifest layout.now (said_by envelope.now) manifest) result }
+    ensures finds { FindsAccepted (accepts_manifest layout.now (said_by envelope.now) manifest)
+        result }
     ensures envelope { IfOk result (λ a. a.envelope ≡ envelope.now) }
     ensures other { IfOk result (λ a. HaveOtherPlaces a.manifest.components a.places) }
 {
@@ -156,7 +159,7 @@ fn accept_manifest<'a>(
     })
 }
 
-/// What may be installed of a file's bytes on a flash with this layout and key.
+/// The update that a file offers to a flash with this layout and key.
 pub(crate) fn accept<'a>(
     alloc: Global,
     layout: &Layout,

@@ -1,4 +1,4 @@
-//! What a command answers.
+//! The answer of a command.
 
 use crate::reply::{Reply, Stop};
 use det_cbor::Text;

@@ -1,4 +1,4 @@
-//! The lines of a boot. They are written into room that was taken before, so that none lacks memory.
+//! The lines of a boot. They are written into room reserved before, so that memory cannot run out.
 
 ghost use Rattle.std.specs.Prelude.{◌≡◌, ◌≤◌, ◌+◌, ◌++◌, length, string_bytes};
 ghost use Rattle.std.specs.String.{string_capacity, string_len};
@@ -11,10 +11,10 @@ use invoke_proc::{BootEnd, Lacking};
 use itoa::Buffer;
 use path_model::Cause;
 
-/// The bytes that any of these lines fits in.
+/// The room for any of these lines, in bytes.
 pub(crate) const ROOM: usize = 64;
 
-/// Adds a text that there is room for.
+/// Appends a text that fits.
 pub(crate) fn push(line: &mut String, text: &str)
     requires { string_len line.old + length text.now ≤ string_capacity line.old }
     ensures text { string_bytes line.new ≡ string_bytes line.old ++ text.now }
@@ -69,7 +69,7 @@ pub(crate) fn stopped(mut line: String, place: u64, why: &str) -> Text
     Text::from_string(line)
 }
 
-/// What an envelope lacks, in a line.
+/// The line that tells why an envelope is not authentic.
 pub(crate) fn lacking_line(lacking: Lacking) -> &'static str
     ensures text { result.now ≡ lacking_line lacking }
     ensures fits { length result.now ≤ 64 }

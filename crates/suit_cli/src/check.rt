@@ -1,4 +1,4 @@
-//! The command `check`: the judgement of a file.
+//! The command `check`: judges a file.
 
 ghost use Rattle.std.specs.Prelude.{◌≡◌, ◌≤◌, ◌<◌, ◌^◌, ◌+◌, length};
 ghost use Rattle.suit_envelope.specs.Said.{said_by};
@@ -19,7 +19,7 @@ use suit_edge::Host;
 use suit_envelope::{Envelope, envelope_laws};
 use suit_manifest::{Manifest, invocation_plan, procedure_laws, update_plan};
 
-// The judgement of an envelope's manifest.
+// Judges an envelope's manifest.
 fn judge_manifest(
     alloc: Global,
     envelope: &Envelope<'_>,
@@ -38,7 +38,7 @@ fn judge_manifest(
     judge(alloc, &update, &invocation)
 }
 
-// The judgement of a file's bytes.
+// Judges a file's bytes.
 fn judge_file(alloc: Global, bytes: &[u8]) -> Result<Reply, Stop>
     requires { length bytes.now ≤ longest_file }
     ensures { Tells (judges_file bytes.now) result }

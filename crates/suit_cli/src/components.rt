@@ -16,7 +16,7 @@ use flash_slots::length;
 use std::alloc::{AllocError, Global};
 use suit_edge::Disk;
 
-// The slot that a component's content stands in: the one that is active, where the component has it.
+// The slot that holds a component's content: the active one, if the component has it.
 fn slot_in_use(entry: &Entry, active: u8) -> u8
     ensures is { result ≡ slot_in_use entry.now active }
     ensures few { result < 2 }
@@ -122,7 +122,7 @@ fn push_components<D: Disk>(
     Ok(())
 }
 
-/// The lines of the components, as the flash reads.
+/// The lines of the components, as read from the flash.
 pub(crate) fn component_lines<D: Disk>(
     alloc: Global,
     layout: &[Entry],

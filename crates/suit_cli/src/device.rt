@@ -12,14 +12,14 @@ use flash_layout::{Key, Layout, LayoutFault, layout_of};
 use serde_json::Value;
 use std::alloc::{AllocError, Global};
 
-/// A word, and the place of a value.
+/// A line of a word and the place of a value.
 pub(crate) fn pointed_line(alloc: Global, word: &str, pointer: &str) -> Result<String, AllocError>
     ensures { IfOk result (λ t. string_bytes t ≡ pointed_line word.now pointer.now) }
 {
     format!(in alloc; "{word} {pointer}\n")
 }
 
-// What is wrong with a description.
+// The line that tells what is wrong with a description.
 fn fault_line(alloc: Global, fault: LayoutFault) -> Result<String, AllocError>
     ensures { IfOk result (λ t. IsFaultLine fault (string_bytes t)) }
 {
@@ -49,7 +49,7 @@ fn refused_layout(alloc: Global, fault: LayoutFault) -> Result<Reply, AllocError
     })
 }
 
-/// The layout of a flash of this size that a description says.
+/// The layout that a description gives for a flash of this size.
 pub(crate) fn device_in(alloc: Global, size: u64, bytes: &[u8]) -> Result<Layout, Stop>
     ensures finds { Finds (device_in size bytes.now) result }
     ensures allowed { IfOk result (IsLayout VERSION_1 size) }

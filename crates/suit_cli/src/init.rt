@@ -1,4 +1,4 @@
-//! The command `run init`: the format of a blank flash.
+//! The command `run init`: formats a blank flash.
 
 ghost use Rattle.std.specs.Prelude.{◌≡◌, ◌≤◌, IfOk, IsTrue};
 ghost use Rattle.suit_edge.specs.Flash.{IsSame, Passes};
@@ -20,7 +20,7 @@ use rollback_record::sound_laws;
 use std::alloc::Global;
 use suit_edge::{Disk, Edge, Host, OPEN};
 
-// The size of a flash whose configuration page is not in use.
+// The size of a flash whose configuration page is unused.
 fn unused<D: Disk>(alloc: Global, flash: &mut D) -> Result<u64, Stop>
     requires { VERSION_1.size ≤ D.extent flash.old }
     ensures finds { (here : Outside) → Does unused
@@ -42,7 +42,7 @@ fn unused<D: Disk>(alloc: Global, flash: &mut D) -> Result<u64, Stop>
     Ok(size)
 }
 
-// The format. The reply is made before the first write, which no want of memory follows.
+// Formats the flash. The reply is made before the first write, so that memory cannot run out later.
 fn formats<D: Disk>(alloc: Global, layout: &Layout, key: &Key, flash: &mut D) -> Result<Reply, Stop>
     requires large { VERSION_1.size ≤ D.extent flash.old }
     requires layout { IsLayout VERSION_1 (D.extent flash.old) layout.now }
@@ -53,7 +53,8 @@ fn formats<D: Disk>(alloc: Global, layout: &Layout, key: &Key, flash: &mut D) ->
     ensures extent { D.extent flash.new ≡ D.extent flash.old }
     ensures any_moment { IsTrue D.told → Passes (D.flash flash.old) (D.flash flash.new)
         (MayBe (D.flash flash.old)
-        (IsBlankOrFormatted VERSION_1 (D.extent flash.old) layout.now key.now (D.flash flash.old))) }
+        (IsBlankOrFormatted VERSION_1 (D.extent flash.old) layout.now key.now
+        (D.flash flash.old))) }
     ensures settled { IsTrue D.told → StaysSettled (D.flash flash.old) (D.flash flash.new)
         (D.faults flash.old) (D.faults flash.new) }
 {
@@ -66,7 +67,7 @@ fn formats<D: Disk>(alloc: Global, layout: &Layout, key: &Key, flash: &mut D) ->
     }
 }
 
-// The device's description, the key, and the format by them.
+// Reads the device's description and the key, and formats by them.
 fn init_as<H: Host, D: Disk>(
     alloc: Global,
     size: u64,
@@ -94,7 +95,7 @@ fn init_as<H: Host, D: Disk>(
     formats(alloc, &layout, &key, flash)
 }
 
-/// The reply to `run init DEVICE KEY`. All is judged before the first write.
+/// The reply to `run init DEVICE KEY`. Everything is judged before the first write.
 pub(crate) fn init<H: Host, D: Disk>(
     alloc: Global,
     device: &str,

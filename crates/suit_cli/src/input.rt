@@ -19,7 +19,7 @@ pub(crate) const LONGEST_DEVICE: u64 = 65_536;
 /// The longest key, in bytes.
 const LONGEST_KEY: u64 = 64;
 
-/// The bytes of a named file. At most one byte beyond the limit is taken of it.
+/// Reads a named file. At most one byte beyond the limit is pulled.
 pub(crate) fn read<H: Host>(
     alloc: Global,
     name: &str,
@@ -43,7 +43,7 @@ pub(crate) fn read<H: Host>(
     }
 }
 
-/// The key in a named file. At most 65 bytes are taken of it.
+/// Reads the key in a named file. At most 65 bytes are pulled.
 pub(crate) fn read_key<H: Host>(alloc: Global, name: &str, host: &mut H) -> Result<Bytes, Stop>
     ensures { (flash : Flashed) → Does (key_in name.now)
         (⟦<H as SeenHost>⟧.seen host.old flash) (⟦<H as SeenHost>⟧.seen host.new flash) result }

@@ -31,7 +31,7 @@ fn too_wide(alloc: Global, width: u64) -> Result<Reply, AllocError>
     })
 }
 
-/// Whether a procedure is within the width that is judged.
+/// Checks that a procedure is narrow enough to judge.
 #[tactic(auto, unfolding(suit_commands::specs::Capped::capped))]
 pub(crate) fn narrow(alloc: Global, plan: &Plan<'_>) -> Result<(), Stop>
     ensures { Finds (narrow (plan_tree plan.now)) result }
@@ -44,7 +44,7 @@ pub(crate) fn narrow(alloc: Global, plan: &Plan<'_>) -> Result<(), Stop>
     }
 }
 
-/// The judgement of both procedures, the update first.
+/// Judges both procedures, the update first.
 pub(crate) fn judge(alloc: Global, update: &Plan<'_>, invocation: &Plan<'_>) -> Result<Reply, Stop>
     requires update_plan { IsPlan (plan_tree update.now) }
     requires invocation_plan { IsPlan (plan_tree invocation.now) }
@@ -60,7 +60,7 @@ pub(crate) fn judge(alloc: Global, update: &Plan<'_>, invocation: &Plan<'_>) -> 
     }
 }
 
-// The judgement of the invocation, after a safe update.
+// Judges the invocation, after a safe update.
 fn judge_invocation(alloc: Global, update: &Plan<'_>, invocation: &Plan<'_>) -> Result<Reply, Stop>
     requires plan { IsPlan (plan_tree invocation.now) }
     requires narrow { IsNarrow (plan_tree invocation.now) }
@@ -83,7 +83,7 @@ fn judge_invocation(alloc: Global, update: &Plan<'_>, invocation: &Plan<'_>) -> 
     }
 }
 
-/// Whether both procedures are safe, the update judged first.
+/// Checks that both procedures are safe, the update first.
 pub(crate) fn judge_safe(
     alloc: Global,
     update: &Plan<'_>,
@@ -107,7 +107,7 @@ pub(crate) fn judge_safe(
     }
 }
 
-// Whether the invocation is safe, after a safe update.
+// Checks that the invocation is safe, after a safe update.
 fn safe_invocation(alloc: Global, update: &Plan<'_>, invocation: &Plan<'_>) -> Result<(), Stop>
     requires plan { IsPlan (plan_tree invocation.now) }
     requires narrow { IsNarrow (plan_tree invocation.now) }

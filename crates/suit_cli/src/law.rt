@@ -1,4 +1,4 @@
-//! What holds of the answers of each command, whatever makes them.
+//! Laws of the answers of each command, however they are computed.
 
 ghost use Rattle.suit_cli.specs.CommandLaws.{CheckLaws, ShowLaws};
 ghost use Rattle.suit_cli.specs.DescribingLaws.{DescribingLaws};
@@ -15,7 +15,7 @@ use suit_manifest::{manifest_laws, members_laws};
 
 /// Does nothing. Its contract has the laws of `check FILE` over a host that tells what it holds: the status and the
 /// lines of each reply have their cause in the file, and where a cause stands, each answer is that reply, unless the
-/// host failed or memory was wanting. Only the path that is printed is left open.
+/// host failed or memory ran out. Only the path that is printed is left open.
 pub fn check_laws()
     ensures { CheckLaws }
 {
@@ -34,8 +34,8 @@ pub fn show_laws()
     manifest_laws();
 }
 
-/// Does nothing. Its contract has the laws of `show FILE` over a host that tells what it holds: each reply has its cause
-/// in the file, and where a cause stands, each answer is that reply, unless the host failed or memory was wanting.
+/// Does nothing. Its contract has the laws of `show FILE` over a host that tells what it holds: each reply has its
+/// cause in the file, and where a cause stands, each answer is that reply, unless the host failed or memory ran out.
 pub fn describing_laws()
     ensures { DescribingLaws }
 {
@@ -44,24 +44,25 @@ pub fn describing_laws()
     members_laws();
 }
 
-/// Does nothing. Its contract has the laws of `make DESCRIPTION KEY OUT` over a host that tells what it holds: each reply
-/// has its cause, in the order of the checks, and where a cause stands, each answer is that reply, unless the host failed
-/// or memory was wanting. Where it is done, the described envelope is stored, authentic under the key; otherwise, and
-/// after want of memory, the files are as they were; and whatever it ends with, so are all but the one that it names.
+/// Does nothing. Its contract has the laws of `make DESCRIPTION KEY OUT` over a host that tells what it holds: each
+/// reply has its cause, in the order of the checks, and where a cause stands, each answer is that reply, unless the
+/// host failed or memory ran out. Where it is done, the described envelope is stored, authentic under the key;
+/// otherwise, and after memory ran out, the files are as they were; and whatever it ends with, so are all but the one
+/// that it names.
 pub fn make_laws()
     ensures { MakeLaws }
 {}
 
-/// Does nothing. Its contract has the laws of `run init DEVICE KEY`: each reply has its cause, in the order of the checks,
-/// and where a cause stands, each answer is that reply, unless an object failed or memory was wanting. Where it is done,
-/// the flash has the described layout and the key, no record and each slot empty; and otherwise, and after want of memory,
-/// the flash is as it was.
+/// Does nothing. Its contract has the laws of `run init DEVICE KEY`: each reply has its cause, in the order of the
+/// checks, and where a cause stands, each answer is that reply, unless an object failed or memory ran out. Where it is
+/// done, the flash has the described layout and the key, no record and each slot empty; and otherwise, and after memory
+/// ran out, the flash is as it was.
 pub fn init_laws()
     ensures { InitLaws }
 {}
 
 /// Does nothing. Its contract has the laws of `run status` over a flash that tells what it holds: each reply has its
-/// cause, and where a cause stands, each answer is that reply, unless the flash failed or memory was wanting. The flash
+/// cause, and where a cause stands, each answer is that reply, unless the flash failed or memory ran out. The flash
 /// stays as it is.
 pub fn status_laws()
     ensures { StatusLaws }
@@ -79,10 +80,10 @@ pub fn words_laws()
     word_laws();
 }
 
-/// Does nothing. Its contract has the laws of `run update FILE` over a host and a flash that tell what they hold, before
-/// anything is done: each reply has its cause, in the order of the checks, and where a cause stands, each answer is that
-/// reply, unless an object failed or memory was wanting; only the path that is printed is left open. Where the bytes of the
-/// file are accepted, no answer is such a reply.
+/// Does nothing. Its contract has the laws of `run update FILE` over a host and a flash that tell what they hold,
+/// before anything is done: each reply has its cause, in the order of the checks, and where a cause stands, each answer
+/// is that reply, unless an object failed or memory ran out; only the path that is printed is left open. Where the
+/// bytes of the file are accepted, no answer is such a reply.
 pub fn update_laws()
     ensures { UpdateLaws }
 {

@@ -24,7 +24,6 @@ mod run_update;
 mod show;
 mod show_description;
 mod status;
-mod typing;
 mod update_lines;
 mod why;
 mod words;
@@ -33,7 +32,7 @@ pub use law::{
     check_laws, describing_laws, init_laws, make_laws, show_laws, status_laws, update_laws,
     words_laws,
 };
-pub use life::{launched_laws, life_laws, new_flash_law, restart_law, soundness_laws};
+pub use life::{launched_laws, life_laws, new_flash_laws, restart_laws, soundness_laws};
 pub use outside::{SeenDisk, SeenHost, SeenLauncher, SeenSink};
 pub use program::{Status, run};
 pub use reply::Outcome;

@@ -35,17 +35,19 @@ pub fn soundness_laws()
 }
 
 /// A flash of zero bytes with nothing pending is settled, as a new disk in memory is: `run` may begin on it.
-pub fn new_flash_law<D: Disk>(flash: &D)
-    ensures { IsSettled (D.flash flash.now) → AreZeros (D.flash flash.now).reads → Settled VERSION_1 (D.flash flash.now) }
+pub fn new_flash_laws<D: Disk>(flash: &D)
+    ensures { IsSettled (D.flash flash.now) → AreZeros (D.flash flash.now).reads
+        → Settled VERSION_1 (D.flash flash.now) }
 {}
 
 /// A flash that reads a sound image and has nothing pending is settled, as a disk is that was started again on what a power
 /// loss left: `run` may go on from each image of a life.
-pub fn restart_law<D: Disk>(flash: &D)
-    ensures { IsSettled (D.flash flash.now) → Sound VERSION_1 (D.flash flash.now).reads → Settled VERSION_1 (D.flash flash.now) }
+pub fn restart_laws<D: Disk>(flash: &D)
+    ensures { IsSettled (D.flash flash.now) → Sound VERSION_1 (D.flash flash.now).reads
+        → Settled VERSION_1 (D.flash flash.now) }
 {}
 
-/// What a boot of a sound flash launches, and so of each image of a life: nothing, or what the invocation procedure of the
+/// A boot of a sound flash, and so of each image of a life, launches nothing, or just what the invocation procedure of the
 /// recorded manifest invokes, each with the digest that was in force, and the size where one was.
 pub fn launched_laws()
     ensures { LaunchedLaws }

@@ -115,7 +115,8 @@ fn image_texts(
     digest: &str,
     size: &str,
 ) -> Result<String, AllocError>
-    ensures { IfOk result (λ t. string_bytes t ≡ image_line word.now component digest.now size.now) }
+    ensures { IfOk result
+        (λ t. string_bytes t ≡ image_line word.now component digest.now size.now) }
 {
     format!(in alloc; "{word} {component} {digest} {size}\n")
 }

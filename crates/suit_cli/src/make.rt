@@ -1,4 +1,4 @@
-//! The command `make`: the envelope of a description.
+//! The command `make`: makes the envelope of a description.
 
 ghost use Rattle.std.specs.Prelude.{◌≡◌, IfOk, IsTrue, length, string_bytes};
 ghost use Rattle.author.specs.FileNames.{file_names};
@@ -28,7 +28,7 @@ const LONGEST_DESCRIPTION: u64 = 65_536;
 /// The longest file that a description names, in bytes.
 const LONGEST_NAMED: u64 = 4_194_304;
 
-// What is wrong with a description.
+// The line that tells what is wrong with a description.
 fn fault_line(alloc: Global, fault: DescriptionFault) -> Result<String, AllocError>
     ensures { IfOk result (λ t. IsDescriptionLine fault (string_bytes t)) }
 {
@@ -74,7 +74,7 @@ fn description_in(alloc: Global, bytes: &[u8]) -> Result<Description, Stop>
     }
 }
 
-// The files of these names, in their order.
+// Reads the files of these names, in order.
 fn read_files<H: Host>(alloc: Global, names: &Names, host: &mut H) -> Result<FileList, Stop>
     ensures does { (flash : Flashed) → Does (files_in names.now)
         (⟦<H as SeenHost>⟧.seen host.old flash) (⟦<H as SeenHost>⟧.seen host.new flash) result }
@@ -120,7 +120,7 @@ fn made_reply(alloc: Global, envelope: &[u8]) -> Result<Reply, AllocError>
     })
 }
 
-// Stores an envelope. The reply is made before, so that no want of memory follows the store.
+// Stores an envelope. The reply is made before, so that memory cannot run out after the store.
 fn store<H: Host>(alloc: Global, out: &str, envelope: &[u8], host: &mut H) -> Result<Reply, Stop>
     ensures { (flash : Flashed) → stores out.now envelope.now
         (⟦<H as SeenHost>⟧.seen host.old flash) (⟦<H as SeenHost>⟧.seen host.new flash)
@@ -133,7 +133,7 @@ fn store<H: Host>(alloc: Global, out: &str, envelope: &[u8], host: &mut H) -> Re
     }
 }
 
-// The key, the files, the envelope, and its store.
+// Reads the key and the files, and stores the envelope.
 fn make_described<H: Host>(
     alloc: Global,
     description: &Description,
@@ -151,7 +151,7 @@ fn make_described<H: Host>(
     store(alloc, out, envelope.as_slice(), host)
 }
 
-/// The reply to `make DESCRIPTION KEY OUT`. All is judged before the store.
+/// The reply to `make DESCRIPTION KEY OUT`. Everything is judged before the store.
 pub(crate) fn make_envelope<H: Host>(
     alloc: Global,
     description: &str,

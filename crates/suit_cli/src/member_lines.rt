@@ -23,7 +23,7 @@ pub(crate) enum MemberState {
     Absent,
     /// The manifest states its digest, and the envelope holds it.
     Apart,
-    /// What the envelope holds has another digest.
+    /// The envelope holds one with another digest.
     Differs,
     /// The envelope does not hold it.
     Severed,
@@ -50,7 +50,7 @@ fn state_of(sequence: &Option<Sequence>) -> MemberState
     }
 }
 
-// Of a member whose digest is stated.
+// The state of a member whose digest is stated.
 fn apart(envelope: &Envelope<'_>, name: MemberName, stated: &Digest) -> MemberState
     ensures { StandsApart (member_of (said_by envelope.now) name) stated.now result }
 {

@@ -6,36 +6,48 @@ use suit_edge::{Disk, Host, Launcher, Sink};
 pub trait SeenHost: Host {
     ghost use Rattle.suit_cli.specs.Outside.{Outside, Flashed};
 
-    /// Beside a flash: what it tells of its files, of the bytes that were pulled from them and of the names that were asked for, and its
-    /// count of faults.
+    /// Beside a flash: what it tells of its files, of the bytes pulled from them and of the names that were asked for,
+    /// and its count of faults.
     ghost seen: { Self → Flashed → Outside };
 }
 
 impl<H: Host> SeenHost for H {
     ghost use Rattle.suit_cli.specs.Outside.{Outside};
 
-    ghost seen = { λ h f. record { told = H.told; files = H.file h; pulled = H.pulled h; asked = H.asked h; faults = H.faults h; flash = f } };
+    ghost seen = { λ h f. record {
+      told = H.told;
+      files = H.file h;
+      pulled = H.pulled h;
+      asked = H.asked h;
+      faults = H.faults h;
+      flash = f;
+    } };
 }
 
 /// A flash at a moment.
 pub trait SeenDisk: Disk {
     ghost use Rattle.suit_cli.specs.Outside.{Flashed};
 
-    /// Its size, what it tells that reads give, and its count of faults.
+    /// Its size, its bytes as it tells them, and its count of faults.
     ghost seen: { Self → Flashed };
 }
 
 impl<D: Disk> SeenDisk for D {
     ghost use Rattle.suit_cli.specs.Outside.{Flashed};
 
-    ghost seen = { λ d. record { told = D.told; size = D.extent d; reads = (D.flash d).reads; faults = D.faults d } };
+    ghost seen = { λ d. record {
+      told = D.told;
+      size = D.extent d;
+      reads = (D.flash d).reads;
+      faults = D.faults d;
+    } };
 }
 
 /// A launcher at a moment.
 pub trait SeenLauncher: Launcher {
     ghost use Rattle.suit_cli.specs.Launching.{Launching};
 
-    /// What it tells of its launches, and its count of faults.
+    /// The launches that it tells of, and its count of faults.
     ghost seen: { Self → Launching };
 }
 
@@ -49,7 +61,7 @@ impl<L: Launcher> SeenLauncher for L {
 pub trait SeenSink: Sink {
     ghost use Rattle.suit_cli.specs.Outside.{Sunk};
 
-    /// What it tells of the bytes that were put, and its count of faults.
+    /// The bytes that it tells were put, and its count of faults.
     ghost seen: { Self → Sunk };
 }
 

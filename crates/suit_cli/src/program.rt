@@ -11,7 +11,7 @@ ghost use Rattle.suit_cli.specs.Judgement.{AreSafe};
 ghost use Rattle.suit_cli.specs.Program.{
   Puts,
   PutsText,
-  Runs,
+  Performs,
   IsStatus,
   EndsIn,
   IsCheck,
@@ -26,13 +26,14 @@ ghost use Rattle.suit_cli.specs.Program.{
   LeavesFor,
   MayBeLeft,
   ComesTo,
+  IfBoots,
   IfLaunches,
   KeepsAsTold,
   KeepsFor,
   KeepsLauncher,
 };
 ghost use Rattle.suit_cli.specs.Settling.{StaysSettled};
-ghost use Rattle.suit_cli.specs.Coming.{Answered, Comes, StaysSound, ended_of};
+ghost use Rattle.suit_cli.specs.Coming.{Answered, Comes, KeepsSound, StaysSound, ended_of};
 ghost use Rattle.invoke_proc.specs.Booting.{GainsSafe};
 ghost use Rattle.rollback_record.specs.SoundFlash.{Settled, Sound};
 
@@ -78,12 +79,13 @@ fn perform<H: Host, D: Disk, L: Launcher>(
         (⟦<L as SeenLauncher>⟧.seen launcher.old) (⟦<L as SeenLauncher>⟧.seen launcher.new)
         (⟦<H as SeenHost>⟧.seen host.old (⟦<D as SeenDisk>⟧.seen flash.old))
         (⟦<H as SeenHost>⟧.seen host.new (⟦<D as SeenDisk>⟧.seen flash.new)) (ended_of result) }
+    ensures unasked { IfBoots (Some (task_said command.entry)) (host.new ≡ host.old) }
     ensures extent { D.extent flash.new ≡ D.extent flash.old }
     ensures any_moment { IsTrue D.told → Passes (D.flash flash.old) (D.flash flash.new)
         (MayBeLeft (Some (task_said command.entry))
         (⟦<H as SeenHost>⟧.seen host.old (⟦<D as SeenDisk>⟧.seen flash.old)) (D.flash flash.old)) }
     ensures sound { IsTrue D.told → IfLaunches (Some (task_said command.entry))
-        (Settled VERSION_1 (D.flash flash.old) → StaysSound (D.flash flash.old) (D.flash flash.new)) }
+        (KeepsSound (D.flash flash.old) (D.flash flash.new)) }
     ensures settled { IsTrue D.told → StaysSettled (D.flash flash.old) (D.flash flash.new)
         (D.faults flash.old) (D.faults flash.new) }
     ensures keeps { IsTrue D.told → KeepsFor (Some (task_said command.entry))
@@ -118,12 +120,13 @@ fn answer<H: Host, D: Disk, L: Launcher>(
         (⟦<L as SeenLauncher>⟧.seen launcher.old) (⟦<L as SeenLauncher>⟧.seen launcher.new)
         (⟦<H as SeenHost>⟧.seen host.old (⟦<D as SeenDisk>⟧.seen flash.old))
         (⟦<H as SeenHost>⟧.seen host.new (⟦<D as SeenDisk>⟧.seen flash.new)) (ended_of result) }
+    ensures unasked { IfBoots (task_of words.now) (host.new ≡ host.old) }
     ensures extent { D.extent flash.new ≡ D.extent flash.old }
     ensures any_moment { IsTrue D.told → Passes (D.flash flash.old) (D.flash flash.new)
         (MayBeLeft (task_of words.now)
         (⟦<H as SeenHost>⟧.seen host.old (⟦<D as SeenDisk>⟧.seen flash.old)) (D.flash flash.old)) }
     ensures sound { IsTrue D.told → IfLaunches (task_of words.now)
-        (Settled VERSION_1 (D.flash flash.old) → StaysSound (D.flash flash.old) (D.flash flash.new)) }
+        (KeepsSound (D.flash flash.old) (D.flash flash.new)) }
     ensures settled { IsTrue D.told → StaysSettled (D.flash flash.old) (D.flash flash.new)
         (D.faults flash.old) (D.faults flash.new) }
     ensures keeps { IsTrue D.told → KeepsFor (task_of words.now)
@@ -143,7 +146,7 @@ fn answer<H: Host, D: Disk, L: Launcher>(
     }
 }
 
-// Puts a text at once, and ends with this status, or with 9 where the sink failed.
+// Puts a text in one call, and returns this status, or that of a fault of the sink.
 fn put_text<K: Sink>(out: &mut K, status: u8, text: &str) -> Status
     ensures { PutsText
         (⟦<K as SeenSink>⟧.seen out.old) (⟦<K as SeenSink>⟧.seen out.new) status text.now result.0 }
@@ -154,10 +157,11 @@ fn put_text<K: Sink>(out: &mut K, status: u8, text: &str) -> Status
     }
 }
 
-// Puts the lines of a reply, or why there is none.
+// Puts the lines of a reply, or the reason that there is none.
 fn put_said<K: Sink>(out: &mut K, said: Result<Reply, Stop>) -> Status
     ensures { Puts
-        (⟦<K as SeenSink>⟧.seen out.old) (⟦<K as SeenSink>⟧.seen out.new) (Answered (ending_of said)) result.0 }
+        (⟦<K as SeenSink>⟧.seen out.old) (⟦<K as SeenSink>⟧.seen out.new)
+        (Answered (ending_of said)) result.0 }
 {
     match said {
         Ok(reply) | Err(Stop::Declined(reply)) => {
@@ -171,7 +175,8 @@ fn put_said<K: Sink>(out: &mut K, said: Result<Reply, Stop>) -> Status
 // Puts the lines of an answer.
 fn put<K: Sink>(out: &mut K, answer: Answer) -> Status
     ensures { Puts
-        (⟦<K as SeenSink>⟧.seen out.old) (⟦<K as SeenSink>⟧.seen out.new) (ended_of answer) result.0 }
+        (⟦<K as SeenSink>⟧.seen out.old) (⟦<K as SeenSink>⟧.seen out.new)
+        (ended_of answer) result.0 }
 {
     match answer {
         Answer::Said(said) => put_said(out, said),
@@ -180,8 +185,8 @@ fn put<K: Sink>(out: &mut K, answer: Answer) -> Status
     }
 }
 
-/// Does all that the program does. The words do not hold the program's name. The flash needs its first 49,152 bytes, where
-/// the configuration, the records and the banks stand.
+/// Runs the program. The words leave out its name. The flash must have at least 49,152 bytes, where the configuration, the
+/// records and the banks are.
 pub fn run<H: Host, D: Disk, L: Launcher, K: Sink>(
     alloc: Global,
     words: &Names,
@@ -192,9 +197,9 @@ pub fn run<H: Host, D: Disk, L: Launcher, K: Sink>(
 ) -> Status
     requires { VERSION_1.size ≤ D.extent flash.old }
 
-    // The words have an answer, made in stages over what the host and the flash tell, or by a boot or an update that the
-    // launcher tells too; its lines are put, whole or up to a fault of the sink, and its status is the result.
-    ensures runs { Runs words.now
+    // The answer to the words: stage by stage from what the host and the flash tell, or from a boot or an update, of
+    // which the launcher tells as well. Its lines are put, whole or up to a fault of the sink, and its status is returned.
+    ensures runs { Performs words.now
         (⟦<L as SeenLauncher>⟧.seen launcher.old) (⟦<L as SeenLauncher>⟧.seen launcher.new)
         (⟦<H as SeenHost>⟧.seen host.old (⟦<D as SeenDisk>⟧.seen flash.old))
         (⟦<H as SeenHost>⟧.seen host.new (⟦<D as SeenDisk>⟧.seen flash.new))
@@ -204,34 +209,34 @@ pub fn run<H: Host, D: Disk, L: Launcher, K: Sink>(
     // where one is not.
     ensures yes { IsTrue H.told → IsCheck words.now → result.0 ≡ 0 → ChecksSafe words.now
         (⟦<H as SeenHost>⟧.seen host.old (⟦<D as SeenDisk>⟧.seen flash.old)) }
-    ensures only_yes { (update invocation : PlanTree) → ChecksProcedures words.now
+    ensures safe_is_yes { (update invocation : PlanTree) → ChecksProcedures words.now
         (⟦<H as SeenHost>⟧.seen host.old (⟦<D as SeenDisk>⟧.seen flash.old)) update invocation →
         AreSafe update invocation → EndsIn 0 result.0 }
     ensures no { IsTrue H.told → result.0 ≡ 1 → ChecksUnsafe words.now
         (⟦<H as SeenHost>⟧.seen host.old (⟦<D as SeenDisk>⟧.seen flash.old))
         (⟦<K as SeenSink>⟧.seen out.old) (⟦<K as SeenSink>⟧.seen out.new) }
-    ensures only_no { (update invocation : PlanTree) → ChecksProcedures words.now
+    ensures unsafe_is_no { (update invocation : PlanTree) → ChecksProcedures words.now
         (⟦<H as SeenHost>⟧.seen host.old (⟦<D as SeenDisk>⟧.seen flash.old)) update invocation →
         (AreSafe update invocation → ⊥) → EndsIn 1 result.0 }
 
     // Usage, exactly where the words are no command.
     ensures usage { result.0 ≡ 2 →
         IsUsage words.now (⟦<K as SeenSink>⟧.seen out.old) (⟦<K as SeenSink>⟧.seen out.new) }
-    ensures only_usage { task_of words.now ≡ None → EndsIn 2 result.0 }
+    ensures no_command_is_usage { task_of words.now ≡ None → EndsIn 2 result.0 }
 
-    // No file changes but the one that `make` stores, and so much is pulled of them.
+    // No file changes but the one that `make` stores, and there is a limit to what is read.
     ensures stays { LeavesFor words.now
         (⟦<H as SeenHost>⟧.seen host.old (⟦<D as SeenDisk>⟧.seen flash.old))
         (⟦<H as SeenHost>⟧.seen host.new (⟦<D as SeenDisk>⟧.seen flash.new)) }
 
-    // The flash keeps its size; and what a power loss at any moment of the run may leave of it.
+    // The flash keeps its size. A power loss at any moment of the run leaves one of these images.
     ensures size { D.extent flash.new ≡ D.extent flash.old }
     ensures any_moment { IsTrue D.told → Passes (D.flash flash.old) (D.flash flash.new)
         (MayBeLeft (task_of words.now)
         (⟦<H as SeenHost>⟧.seen host.old (⟦<D as SeenDisk>⟧.seen flash.old)) (D.flash flash.old)) }
 
-    // Only `run boot` and `run update` launch. What they launch has its digest, and its size where one is in force; of
-    // `run boot` this holds on a sound flash.
+    // Only `run boot` and `run update` launch. Each launch has its digest, and its size where one is in force; for `run
+    // boot` this holds on a sound flash.
     ensures only_launching { KeepsLauncher words.now
         (⟦<L as SeenLauncher>⟧.seen launcher.old) (⟦<L as SeenLauncher>⟧.seen launcher.new) }
     ensures launches { IsTrue H.told → IsTrue D.told → IsTrue L.told
@@ -264,15 +269,18 @@ pub fn run<H: Host, D: Disk, L: Launcher, K: Sink>(
         (⟦<H as SeenHost>⟧.seen host.new (⟦<D as SeenDisk>⟧.seen flash.new))
         (⟦<K as SeenSink>⟧.seen out.old) (⟦<K as SeenSink>⟧.seen out.new) result.0 }
 
-    // `run boot` asks for no file: status 7 does not come of it.
+    // `run boot` leaves the host alone, and status 7 does not come of it.
+    ensures unasked { task_of words.now ≡ Some RunBoot → host.new ≡ host.old }
     ensures no_host { IsTrue H.told → IsTrue D.told → IsTrue L.told
         → task_of words.now ≡ Some RunBoot → result.0 ≡ 7 → ⊥ }
 
-    // Status 11: no file changed, the flash reads as it did, and nothing was launched; of `run update` this holds on a sound
+    // Status 11: no file changed, the flash reads as it did, and nothing was launched; for `run update`, on a sound
     // flash.
     ensures starved { result.0 ≡ 11
-        → (IsTrue D.told → IsForUpdate (task_of words.now) → Sound VERSION_1 (D.flash flash.old).reads)
-        → AsFound (⟦<L as SeenLauncher>⟧.seen launcher.old) (⟦<L as SeenLauncher>⟧.seen launcher.new)
+        → (IsTrue D.told → IsForUpdate (task_of words.now)
+        → Sound VERSION_1 (D.flash flash.old).reads)
+        → AsFound
+        (⟦<L as SeenLauncher>⟧.seen launcher.old) (⟦<L as SeenLauncher>⟧.seen launcher.new)
         (⟦<H as SeenHost>⟧.seen host.old (⟦<D as SeenDisk>⟧.seen flash.old))
         (⟦<H as SeenHost>⟧.seen host.new (⟦<D as SeenDisk>⟧.seen flash.new)) }
 

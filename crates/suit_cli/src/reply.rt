@@ -1,4 +1,4 @@
-//! What is said of the words, before it is put.
+//! Replies to the words, and their statuses.
 
 ghost use Rattle.std.specs.Prelude.{◌≡◌, ◌++◌, codes};
 ghost use Rattle.suit_cli.specs.declared.reply.Outcome.TheVariants as outcomes;
@@ -14,10 +14,10 @@ use path_model::BadPath;
 use std::alloc::{AllocError, Global};
 use suit_params::Refusal;
 
-/// What a command came to.
+/// The outcome of a command.
 #[derive(Clone, Copy, Debug, PartialEq, Eq)]
 pub enum Outcome {
-    /// It did all that was asked for.
+    /// Everything that was asked for is done.
     Done,
     /// A procedure is not safe.
     Unsafe,
@@ -27,13 +27,13 @@ pub enum Outcome {
     Refused,
     /// An envelope is not authentic under a key.
     NotAuthentic,
-    /// There is too much to judge in a procedure.
+    /// A procedure is too wide to judge.
     TooWide,
     /// The flash has no configuration, or a bad one.
     Unconfigured,
     /// The flash has a configuration already.
     NotBlank,
-    /// No record stands in the flash.
+    /// The flash has no record.
     NothingInstalled,
     /// A member that stands apart is not in the envelope.
     Severed,
@@ -107,14 +107,14 @@ pub(crate) struct Reply {
     pub(crate) text: Text,
 }
 
-/// Why an answer goes no further.
+/// Why a command stops.
 #[derive(Debug, Drop)]
 pub(crate) enum Stop {
-    /// A stage was not passed, as this reply says.
+    /// A stage failed, as this reply says.
     Declined(Reply),
     /// A call of this object failed, and its count of faults rose.
     Fault(Object),
-    /// Memory was wanting.
+    /// Memory ran out.
     NoMemory,
 }
 
@@ -129,7 +129,7 @@ impl From<AllocError> for Stop {
     }
 }
 
-/// An answer that goes no further, as a reply says.
+/// The stop that a reply tells.
 pub(crate) fn declined(made: Result<Reply, AllocError>) -> Stop
     ensures { result ≡ stop_of made }
 {
@@ -148,7 +148,7 @@ impl Reply {
         Ok(Reply { outcome, text })
     }
 
-    /// A reply of one line, which a name ends.
+    /// A reply of one line that ends with a name.
     pub(crate) fn named(
         alloc: Global,
         outcome: Outcome,

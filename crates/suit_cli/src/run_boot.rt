@@ -1,4 +1,4 @@
-//! The command `run boot`: the start of what is installed.
+//! The command `run boot`: starts what is installed.
 
 ghost use Rattle.std.specs.Prelude.{◌≡◌, ◌≤◌, IsTrue};
 ghost use Rattle.std.specs.String.{string_capacity, string_len};
@@ -6,9 +6,8 @@ ghost use Rattle.flash_layout.specs.declared.frame.TheConstants.{VERSION_1};
 ghost use Rattle.flash_layout.specs.Configs.{ConfigOf, Configured, IsAllowed};
 ghost use Rattle.flash_layout.specs.Frames.{head_of};
 ghost use Rattle.invoke_proc.specs.declared.boot_end.BootEnd.TheVariants as ends;
-ghost use Rattle.rollback_record.specs.SoundFlash.{Settled};
 ghost use Rattle.suit_cli.specs.Booting.{BootKeeps, KeepsBy};
-ghost use Rattle.suit_cli.specs.Coming.{BootsBy, Comes, IsTold, PassesAny, StaysSound, ended_of};
+ghost use Rattle.suit_cli.specs.Coming.{BootsBy, Comes, IsTold, KeepsSound, PassesAny, ended_of};
 ghost use Rattle.suit_cli.specs.Commands.{does};
 ghost use Rattle.suit_cli.specs.Settling.{StaysSettled};
 ghost use Rattle.suit_cli.specs.Words.{RunBoot};
@@ -25,7 +24,7 @@ use std::alloc::Global;
 use suit_edge::{Disk, Host, Launcher};
 use suit_params::Refusal;
 
-// The answer where the bank is refused. Where there is no memory for the line, that is the answer: nothing was started.
+// The answer where the bank is refused. If memory runs out for the line, that is the answer: nothing was started.
 fn refused(alloc: Global, refusal: Refusal, line: String) -> Answer
     requires empty { string_len line ≡ 0 }
     requires room { 64 ≤ string_capacity line }
@@ -37,7 +36,7 @@ fn refused(alloc: Global, refusal: Refusal, line: String) -> Answer
     }
 }
 
-// How a boot ended, told in this room.
+// How a boot ended, with its line in this room.
 fn told(alloc: Global, end: BootEnd, line: String) -> Answer
     requires empty { string_len line ≡ 0 }
     requires room { 64 ≤ string_capacity line }
@@ -63,7 +62,7 @@ fn told(alloc: Global, end: BootEnd, line: String) -> Answer
     }
 }
 
-// The start by the configuration. The room for the line is taken before anything is started.
+// Starts by the configuration. The room for the line is taken before anything is started.
 fn boot_by<H: Host, D: Disk, L: Launcher>(
     alloc: Global,
     host: &mut H,
@@ -73,18 +72,21 @@ fn boot_by<H: Host, D: Disk, L: Launcher>(
     key: &Key,
 ) -> Answer
     requires allowed { IsAllowed VERSION_1 (D.extent flash.old) layout.now key.now }
-    requires held { IsTrue D.told → ConfigOf VERSION_1 (D.extent flash.old) (head_of VERSION_1 (D.flash flash.old).reads)
+    requires held { IsTrue D.told
+        → ConfigOf VERSION_1 (D.extent flash.old) (head_of VERSION_1 (D.flash flash.old).reads)
         (Configured layout.now key.now) }
     ensures answer { BootsBy layout.now key.now
         (⟦<L as SeenLauncher>⟧.seen launcher.old) (⟦<L as SeenLauncher>⟧.seen launcher.new)
         (⟦<H as SeenHost>⟧.seen host.old (⟦<D as SeenDisk>⟧.seen flash.old))
         (⟦<H as SeenHost>⟧.seen host.new (⟦<D as SeenDisk>⟧.seen flash.new)) (ended_of result) }
+    ensures unasked { host.new ≡ host.old }
     ensures extent { D.extent flash.new ≡ D.extent flash.old }
     ensures any_moment { IsTrue D.told → PassesAny (D.flash flash.old) (D.flash flash.new) }
-    ensures sound { IsTrue D.told → Settled VERSION_1 (D.flash flash.old) → StaysSound (D.flash flash.old) (D.flash flash.new) }
+    ensures sound { IsTrue D.told → KeepsSound (D.flash flash.old) (D.flash flash.new) }
     ensures settled { IsTrue D.told → StaysSettled (D.flash flash.old) (D.flash flash.new)
         (D.faults flash.old) (D.faults flash.new) }
-    ensures keeps { IsTrue D.told → KeepsBy layout.now key.now (D.flash flash.old) (D.flash flash.new) }
+    ensures keeps { IsTrue D.told
+        → KeepsBy layout.now key.now (D.flash flash.old) (D.flash flash.new) }
 {
     sound_laws();
     let mut line = String::new(alloc);
@@ -107,13 +109,15 @@ pub(crate) fn run_boot<H: Host, D: Disk, L: Launcher>(
         (⟦<L as SeenLauncher>⟧.seen launcher.old) (⟦<L as SeenLauncher>⟧.seen launcher.new)
         (⟦<H as SeenHost>⟧.seen host.old (⟦<D as SeenDisk>⟧.seen flash.old))
         (⟦<H as SeenHost>⟧.seen host.new (⟦<D as SeenDisk>⟧.seen flash.new)) (ended_of result) }
+    ensures unasked { host.new ≡ host.old }
     ensures extent { D.extent flash.new ≡ D.extent flash.old }
     ensures any_moment { IsTrue D.told → PassesAny (D.flash flash.old) (D.flash flash.new) }
-    ensures sound { IsTrue D.told → Settled VERSION_1 (D.flash flash.old) → StaysSound (D.flash flash.old) (D.flash flash.new) }
+    ensures sound { IsTrue D.told → KeepsSound (D.flash flash.old) (D.flash flash.new) }
     ensures settled { IsTrue D.told → StaysSettled (D.flash flash.old) (D.flash flash.new)
         (D.faults flash.old) (D.faults flash.new) }
     ensures keeps { IsTrue D.told → BootKeeps
-        (⟦<H as SeenHost>⟧.seen host.old (⟦<D as SeenDisk>⟧.seen flash.old)) (D.flash flash.old) (D.flash flash.new) }
+        (⟦<H as SeenHost>⟧.seen host.old (⟦<D as SeenDisk>⟧.seen flash.old))
+        (D.flash flash.old) (D.flash flash.new) }
 {
     sound_laws();
     match config_in(alloc, flash) {

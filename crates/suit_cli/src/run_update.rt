@@ -11,9 +11,9 @@ ghost use Rattle.suit_cli.specs.Acceptance.{IsAccepted, accepted_by};
 ghost use Rattle.suit_cli.specs.Coming.{
   Comes,
   KeepsAccepted,
+  KeepsSound,
   PassesAny,
   StaysOrKeeps,
-  StaysSound,
   UpdatesBy,
   ended_of,
 };
@@ -27,19 +27,18 @@ use crate::input::{LONGEST_FILE, read};
 use crate::outside::{SeenDisk, SeenHost, SeenLauncher};
 use crate::reply::Stop;
 use crate::status::config_in;
-use crate::typing::typed;
 use crate::update_lines::{UPDATE_ROOM, update_line};
 use flash_layout::{Key, Layout, config_laws};
 use path_model::play_laws;
-use place_laws::installed_anywhere;
+use place_laws::installation_laws;
 use rollback_record::sound_laws;
 use std::alloc::Global;
-use step_machine::Uris;
+use step_machine::{Uris, has_identifiers};
 use suit_edge::{Disk, Host, Launcher};
 use suit_manifest::{manifest_laws, procedure_laws};
 use update_proc::update;
 
-// The update of an accepted envelope. The room for the line is taken before anything is done.
+// Runs the update of an accepted envelope. The room for the line is taken before anything is done.
 fn update_by<H: Host, D: Disk, L: Launcher>(
     alloc: Global,
     host: &mut H,
@@ -51,21 +50,26 @@ fn update_by<H: Host, D: Disk, L: Launcher>(
     uris: &Uris,
 ) -> Answer
     requires allowed { IsAllowed VERSION_1 (D.extent flash.old) layout.now key.now }
-    requires held { IsTrue D.told → ConfigOf VERSION_1 (D.extent flash.old) (head_of VERSION_1 (D.flash flash.old).reads)
+    requires held { IsTrue D.told
+        → ConfigOf VERSION_1 (D.extent flash.old) (head_of VERSION_1 (D.flash flash.old).reads)
         (Configured layout.now key.now) }
-    requires accepted { IsAccepted layout.now key.now accepted.now.envelope.whole.now (accepted_by accepted.now) }
+    requires accepted { IsAccepted layout.now key.now accepted.now.envelope.whole.now
+        (accepted_by accepted.now) }
     requires wrapper { HasWrapper accepted.now.envelope.wrapper.now }
     requires other { HaveOtherPlaces accepted.now.manifest.components accepted.now.places }
-    ensures answer { UpdatesBy layout.now accepted.now.envelope.whole.now (accepted_by accepted.now) uris.now
+    ensures answer { UpdatesBy layout.now accepted.now.envelope.whole.now (accepted_by accepted.now)
+        uris.now
         (⟦<L as SeenLauncher>⟧.seen launcher.old) (⟦<L as SeenLauncher>⟧.seen launcher.new)
         (⟦<H as SeenHost>⟧.seen host.old (⟦<D as SeenDisk>⟧.seen flash.old))
         (⟦<H as SeenHost>⟧.seen host.new (⟦<D as SeenDisk>⟧.seen flash.new)) (ended_of result) }
     ensures extent { D.extent flash.new ≡ D.extent flash.old }
     ensures any_moment { IsTrue D.told → PassesAny (D.flash flash.old) (D.flash flash.new) }
-    ensures sound { IsTrue D.told → Settled VERSION_1 (D.flash flash.old) → StaysSound (D.flash flash.old) (D.flash flash.new) }
-    ensures settled { IsTrue D.told → StaysSettled (D.flash flash.old) (D.flash flash.new) (D.faults flash.old) (D.faults flash.new) }
+    ensures sound { IsTrue D.told → KeepsSound (D.flash flash.old) (D.flash flash.new) }
+    ensures settled { IsTrue D.told → StaysSettled (D.flash flash.old) (D.flash flash.new)
+        (D.faults flash.old) (D.faults flash.new) }
     ensures keeps { IsTrue D.told → Settled VERSION_1 (D.flash flash.old)
-        → KeepsAccepted layout.now accepted.now.envelope.whole.now (accepted_by accepted.now) uris.now
+        → KeepsAccepted
+        layout.now accepted.now.envelope.whole.now (accepted_by accepted.now) uris.now
         (⟦<L as SeenLauncher>⟧.seen launcher.old) (⟦<L as SeenLauncher>⟧.seen launcher.new)
         (⟦<H as SeenHost>⟧.seen host.old (⟦<D as SeenDisk>⟧.seen flash.old))
         (ended_of result) (D.flash flash.old) (D.flash flash.new) }
@@ -75,8 +79,8 @@ fn update_by<H: Host, D: Disk, L: Launcher>(
     play_laws();
     manifest_laws();
     procedure_laws();
-    installed_anywhere();
-    typed(layout);
+    installation_laws();
+    has_identifiers(layout);
     let mut line = String::new(alloc);
     match line.reserve(UPDATE_ROOM) {
         Ok(()) => {}
@@ -107,15 +111,18 @@ pub(crate) fn run_update<H: Host, D: Disk, L: Launcher>(
     flash: &mut D,
     launcher: &mut L,
 ) -> Answer
-    ensures answer { Comes (does (RunUpdate name.now uris.now)) (λ task. RunUpdate name.now uris.now ≡ task)
+    ensures answer { Comes (does (RunUpdate name.now uris.now))
+        (λ task. RunUpdate name.now uris.now ≡ task)
         (⟦<L as SeenLauncher>⟧.seen launcher.old) (⟦<L as SeenLauncher>⟧.seen launcher.new)
         (⟦<H as SeenHost>⟧.seen host.old (⟦<D as SeenDisk>⟧.seen flash.old))
         (⟦<H as SeenHost>⟧.seen host.new (⟦<D as SeenDisk>⟧.seen flash.new)) (ended_of result) }
     ensures extent { D.extent flash.new ≡ D.extent flash.old }
     ensures any_moment { IsTrue D.told → PassesAny (D.flash flash.old) (D.flash flash.new) }
-    ensures sound { IsTrue D.told → Settled VERSION_1 (D.flash flash.old) → StaysSound (D.flash flash.old) (D.flash flash.new) }
-    ensures settled { IsTrue D.told → StaysSettled (D.flash flash.old) (D.flash flash.new) (D.faults flash.old) (D.faults flash.new) }
-    ensures keeps { IsTrue D.told → Settled VERSION_1 (D.flash flash.old) → StaysOrKeeps name.now uris.now
+    ensures sound { IsTrue D.told → KeepsSound (D.flash flash.old) (D.flash flash.new) }
+    ensures settled { IsTrue D.told → StaysSettled (D.flash flash.old) (D.flash flash.new)
+        (D.faults flash.old) (D.faults flash.new) }
+    ensures keeps { IsTrue D.told → Settled VERSION_1 (D.flash flash.old)
+        → StaysOrKeeps name.now uris.now
         (⟦<L as SeenLauncher>⟧.seen launcher.old) (⟦<L as SeenLauncher>⟧.seen launcher.new)
         (⟦<H as SeenHost>⟧.seen host.old (⟦<D as SeenDisk>⟧.seen flash.old))
         (ended_of result) (D.flash flash.old) (D.flash flash.new) }

@@ -111,7 +111,7 @@ fn show_lines(
     })
 }
 
-// The key, and then the lines that show a manifest under it.
+// Reads the key, and shows a manifest under it.
 fn show_manifest<H: Host>(
     alloc: Global,
     envelope: &Envelope<'_>,
@@ -128,7 +128,7 @@ fn show_manifest<H: Host>(
     Ok(show_lines(alloc, envelope, manifest, key.as_slice())?)
 }
 
-// Of a file's bytes.
+// The lines that show a file's bytes.
 fn show_file<H: Host>(
     alloc: Global,
     bytes: &[u8],

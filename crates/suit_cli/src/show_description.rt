@@ -24,7 +24,7 @@ use suit_edge::Host;
 use suit_envelope::{Envelope, MemberBytes, MemberName, envelope_laws, member};
 use suit_manifest::{Manifest, Members, TextMember};
 
-// The members that stand apart, as far as the envelope holds them.
+// The members that stand apart and are in the envelope.
 fn there_in(alloc: Global, envelope: &Envelope<'_>, manifest: &Manifest) -> Result<Members, Stop>
     requires few { length manifest.now.components < 2 ^ 32 }
     requires places { MembersEndBelow (2 ^ 64) (said_by envelope.now) }
@@ -58,8 +58,11 @@ fn description_text(
     manifest: &Manifest,
     members: &Members,
 ) -> Result<String, AllocError>
-    ensures { IfOk result (λ text. (payloads : List (List ℕ × List ℕ)) → HasPayloads envelope.now.whole.now payloads
-        → string_bytes text ≡ compact_text (described_by (said_by envelope.now) payloads manifest.now members.now)) }
+    ensures { IfOk result
+        (λ text. (payloads : List (List ℕ × List ℕ)) → HasPayloads envelope.now.whole.now payloads
+        → string_bytes text
+        ≡ compact_text
+        (described_by (said_by envelope.now) payloads manifest.now members.now)) }
 {
     describe_laws();
     describe(alloc, envelope, manifest, members)?.to_string(alloc)
@@ -83,7 +86,7 @@ fn described(
     })
 }
 
-// The members, the text, and the description.
+// Reads the members and the text, and describes the manifest.
 fn describe_manifest(
     alloc: Global,
     envelope: &Envelope<'_>,
@@ -99,7 +102,7 @@ fn describe_manifest(
     Ok(described(alloc, envelope, manifest, &members)?)
 }
 
-// Of a file's bytes.
+// The description of the envelope in a file's bytes.
 fn describe_file(alloc: Global, bytes: &[u8]) -> Result<Reply, Stop>
     requires { length bytes.now ≤ longest_file }
     ensures { Tells (describes_file bytes.now) result }

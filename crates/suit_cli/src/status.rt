@@ -28,7 +28,8 @@ pub(crate) fn config_in<D: Disk>(alloc: Global, flash: &mut D) -> Result<(Layout
         (with_flash here (⟦<D as SeenDisk>⟧.seen flash.old))
         (with_flash here (⟦<D as SeenDisk>⟧.seen flash.new)) result }
     ensures extent { D.extent flash.new ≡ D.extent flash.old }
-    ensures allowed { IfOk result (λ config. IsAllowed VERSION_1 (D.extent flash.old) config.0 config.1) }
+    ensures allowed { IfOk result
+        (λ config. IsAllowed VERSION_1 (D.extent flash.old) config.0 config.1) }
     ensures same { IsTrue D.told → IsSame (D.flash flash.old) (D.flash flash.new) }
 {
     match load_config(alloc, flash) {
@@ -76,7 +77,7 @@ fn digest_line(alloc: Global, digest: &Digest) -> Result<String, AllocError>
     format!(in alloc; "digest {text}\n")
 }
 
-// The lines of the record, and those of the components behind them.
+// The lines of the record, followed by those of the components.
 fn status_lines(alloc: Global, installed: &Record, lines: &str) -> Result<Reply, AllocError>
     ensures { Makes result outcomes.Done (record_lines installed.now ++ lines.now) }
 {

@@ -1,4 +1,4 @@
-//! The lines of an update. They are written into room that was taken before, so that none lacks memory.
+//! The lines of an update. They are written into room reserved before, so that memory cannot run out.
 
 ghost use Rattle.std.specs.Prelude.{◌≡◌, ◌≤◌, ◌+◌, ◌++◌, length};
 ghost use Rattle.std.specs.Fmt.{decimal};
@@ -10,7 +10,7 @@ use det_cbor::Text;
 use itoa::Buffer;
 use update_proc::UpdateEnd;
 
-/// The bytes that any of these lines fits in.
+/// The room for any of these lines, in bytes.
 pub(crate) const UPDATE_ROOM: usize = 80;
 
 // The line of a number below the recorded one.

@@ -41,7 +41,7 @@ fn index_text(alloc: Global, index: u64, count: u64) -> Result<String, AllocErro
     format!(in alloc; "index {index} of {count}")
 }
 
-/// What is wrong with refused input.
+/// The reason of a refusal, in words.
 pub(crate) fn why_text(alloc: Global, why: Why) -> Result<String, AllocError>
     ensures { IfOk result (λ t. string_bytes t ≡ why_text why) }
 {

@@ -1,4 +1,4 @@
-//! What the words of the command line ask for.
+//! The commands that the words of the command line ask for.
 
 ghost use Rattle.std.specs.Prelude.{◌≡◌, IfOk, map, option_map};
 ghost use Rattle.command_words.specs.Tasks.{texts};
@@ -11,7 +11,7 @@ use det_cbor::{Names, Text};
 use std::alloc::{AllocError, Global};
 use step_machine::Uris;
 
-/// What the program is asked to do, with the names of its files.
+/// A command, with the names of its files.
 #[derive(Debug, Drop)]
 pub(crate) enum Command<'a> {
     /// To make an envelope of the description in the first file, authentic under the key in the second, and to store it
@@ -56,7 +56,7 @@ fn uris_of(alloc: Global, words: &[UriWord<'_>]) -> Result<Uris, AllocError>
     Ok(uris)
 }
 
-// Of the commands that words may ask for, those that are built. The others are usage as yet.
+// The commands that are built. The others are usage as yet.
 fn built<'a>(
     alloc: Global,
     command: command_words::Command<'a>,
@@ -82,7 +82,7 @@ fn built<'a>(
     })
 }
 
-/// The command that the words are; none where they are usage.
+/// The command that the words spell; none where they are usage.
 pub(crate) fn command_of<'a>(
     alloc: Global,
     words: &'a [&'a str],

@@ -1,8 +1,7 @@
 use Rattle.std.proofs.Common.{subst}
 use Rattle.suit_edge.specs.Flash.{IsFlash}
-use Rattle.suit_cli.specs.Outside.{Outside}
 use Rattle.suit_cli.specs.Stages.{Goes}
-use Rattle.suit_cli.proofs.Chains.{anywhere, ends_there}
+use Rattle.suit_cli.proofs.Chains.{anywhere, ends_there, outside_at}
 use Rattle.suit_cli.proofs.Leaving.{not_yet, formats_later}
 use Rattle.suit_cli.proofs.Settling.{looked, looked_then}
 use Rattle.suit_cli.proofs.init.init.Goals as goal
@@ -10,14 +9,7 @@ use Rattle.suit_cli.proofs.init.init.Goals as goal
 pub returns-in_err-size-clause-answer : goal.returns-in_err-size-clause-answer
 returns-in_err-size-clause-answer g c =
     let h = g.H.Host in
-    let here : Outside = record {
-      told = h.told;
-      files = h.file c.args.host.now;
-      pulled = h.pulled c.args.host.now;
-      asked = h.asked c.args.host.now;
-      faults = h.faults c.args.host.now;
-      flash = anywhere.flash;
-    } in
+    let here = outside_at h.told (h.file c.args.host.now) (h.pulled c.args.host.now) (h.asked c.args.host.now) (h.faults c.args.host.now) anywhere.flash in
     ends_there _ _ _ _ c.from_residual.result c.in_err-size.field-0.0 c.from_residual.ensures.1 (c.in_err-size.ensures.finds here)
 
 pub returns-in_err-size-clause-any_moment : goal.returns-in_err-size-clause-any_moment
@@ -26,14 +18,7 @@ returns-in_err-size-clause-any_moment g c told = not_yet _ _ _ (c.in_err-size.en
 pub returns-clause-answer : goal.returns-clause-answer
 returns-clause-answer g c =
     let h = g.H.Host in
-    let here : Outside = record {
-      told = h.told;
-      files = h.file c.args.host.now;
-      pulled = h.pulled c.args.host.now;
-      asked = h.asked c.args.host.now;
-      faults = h.faults c.args.host.now;
-      flash = anywhere.flash;
-    } in
+    let here = outside_at h.told (h.file c.args.host.now) (h.pulled c.args.host.now) (h.asked c.args.host.now) (h.faults c.args.host.now) anywhere.flash in
     Goes c.in_ok-size.size _ _ (c.in_ok-size.ensures.finds here) c.init_as.ensures.answer
 
 pub returns-clause-any_moment : goal.returns-clause-any_moment

@@ -1,10 +1,9 @@
 use Rattle.std.proofs.Common.{ℕ, ◌≤◌, List, length, Ok, Err, sym, ap, subst, ◌∙◌}
 use Rattle.flash_layout.specs.declared.frame.TheConstants.{VERSION_1}
 use Rattle.flash_layout.specs.Layouts.{IsLayout}
-use Rattle.suit_cli.specs.Outside.{Outside}
 use Rattle.suit_cli.specs.Stages.{Goes}
 use Rattle.suit_cli.specs.Devices.{key_of}
-use Rattle.suit_cli.proofs.Chains.{anywhere, ends_there}
+use Rattle.suit_cli.proofs.Chains.{anywhere, ends_there, flash_at, outside_at}
 use Rattle.suit_cli.proofs.Leaving.{still, not_yet, way_by_key, formats_by}
 use Rattle.suit_cli.proofs.Initing.{device_of, some_bytes, by_key, as_seen, key_seen}
 use Rattle.suit_cli.proofs.init.init_as.Goals as goal
@@ -19,14 +18,7 @@ pub returns-in_err-layout-clause-answer : goal.returns-in_err-layout-clause-answ
 returns-in_err-layout-clause-answer g c =
     let h = g.H.Host in
     let d = g.D.Disk in
-    let first : Outside = record {
-      told = h.told;
-      files = h.file c.read.new.host;
-      pulled = h.pulled c.read.new.host;
-      asked = h.asked c.read.new.host;
-      faults = h.faults c.read.new.host;
-      flash = record { told = d.told; size = d.extent c.args.flash.now; reads = (d.flash c.args.flash.now).reads; faults = d.faults c.args.flash.now };
-    } in
+    let first = outside_at h.told (h.file c.read.new.host) (h.pulled c.read.new.host) (h.asked c.read.new.host) (h.faults c.read.new.host) (flash_at d.told (d.extent c.args.flash.now) (d.flash c.args.flash.now).reads (d.faults c.args.flash.now)) in
     Goes c.in_ok-bytes.bytes _ _ (c.in_ok-bytes.ensures _)
     (ends_there _ _ _ _ c.from_residual-in_err-layout.result c.in_err-layout.field-0.0 c.from_residual-in_err-layout.ensures.1
     (device_of c.args.size _ _ c.as_slice.ensures (Err c.in_err-layout.field-0.0) c.in_err-layout.ensures.finds first))
@@ -38,14 +30,7 @@ pub returns-in_err-key_bytes-clause-answer : goal.returns-in_err-key_bytes-claus
 returns-in_err-key_bytes-clause-answer g c =
     let h = g.H.Host in
     let d = g.D.Disk in
-    let first : Outside = record {
-      told = h.told;
-      files = h.file c.read.new.host;
-      pulled = h.pulled c.read.new.host;
-      asked = h.asked c.read.new.host;
-      faults = h.faults c.read.new.host;
-      flash = record { told = d.told; size = d.extent c.args.flash.now; reads = (d.flash c.args.flash.now).reads; faults = d.faults c.args.flash.now };
-    } in
+    let first = outside_at h.told (h.file c.read.new.host) (h.pulled c.read.new.host) (h.asked c.read.new.host) (h.faults c.read.new.host) (flash_at d.told (d.extent c.args.flash.now) (d.flash c.args.flash.now).reads (d.faults c.args.flash.now)) in
     Goes c.in_ok-bytes.bytes _ _ (c.in_ok-bytes.ensures _)
     (Goes c.in_ok-layout.layout _ _ (device_of c.args.size _ _ c.as_slice.ensures (Ok c.in_ok-layout.layout) c.in_ok-layout.ensures.finds first)
     (ends_there _ _ _ _ c.from_residual-in_err-key_bytes.result c.in_err-key_bytes.field-0.0 c.from_residual-in_err-key_bytes.ensures.1 (c.in_err-key_bytes.ensures _)))
@@ -66,22 +51,8 @@ pub returns-clause-answer : goal.returns-clause-answer
 returns-clause-answer g c =
     let h = g.H.Host in
     let d = g.D.Disk in
-    let first : Outside = record {
-      told = h.told;
-      files = h.file c.read.new.host;
-      pulled = h.pulled c.read.new.host;
-      asked = h.asked c.read.new.host;
-      faults = h.faults c.read.new.host;
-      flash = record { told = d.told; size = d.extent c.args.flash.now; reads = (d.flash c.args.flash.now).reads; faults = d.faults c.args.flash.now };
-    } in
-    let here : Outside = record {
-      told = h.told;
-      files = h.file c.read_key.new.host;
-      pulled = h.pulled c.read_key.new.host;
-      asked = h.asked c.read_key.new.host;
-      faults = h.faults c.read_key.new.host;
-      flash = anywhere.flash;
-    } in
+    let first = outside_at h.told (h.file c.read.new.host) (h.pulled c.read.new.host) (h.asked c.read.new.host) (h.faults c.read.new.host) (flash_at d.told (d.extent c.args.flash.now) (d.flash c.args.flash.now).reads (d.faults c.args.flash.now)) in
+    let here = outside_at h.told (h.file c.read_key.new.host) (h.pulled c.read_key.new.host) (h.asked c.read_key.new.host) (h.faults c.read_key.new.host) anywhere.flash in
     Goes c.in_ok-bytes.bytes _ _ (c.in_ok-bytes.ensures _)
     (Goes c.in_ok-layout.layout _ _ (device_of c.args.size _ _ c.as_slice.ensures (Ok c.in_ok-layout.layout) c.in_ok-layout.ensures.finds first)
     (Goes c.in_ok-key_bytes.key_bytes _ _ (c.in_ok-key_bytes.ensures _)
@@ -90,14 +61,7 @@ returns-clause-answer g c =
 pub returns-clause-any_moment : goal.returns-clause-any_moment
 returns-clause-any_moment g c told =
     let h = g.H.Host in
-    let middle : Outside = record {
-      told = h.told;
-      files = h.file c.read.new.host;
-      pulled = h.pulled c.read.new.host;
-      asked = h.asked c.read.new.host;
-      faults = h.faults c.read.new.host;
-      flash = anywhere.flash;
-    } in
+    let middle = outside_at h.told (h.file c.read.new.host) (h.pulled c.read.new.host) (h.asked c.read.new.host) (h.faults c.read.new.host) anywhere.flash in
     let one = c.in_ok-bytes.ensures anywhere.flash in
     let two = c.in_ok-key_bytes.ensures anywhere.flash in
     formats_by c.args.size _ c.args.device.now c.args.key_name.now c.in_ok-bytes.bytes c.in_ok-key_bytes.key_bytes c.in_ok-layout.layout _ _ _ c.requires.size

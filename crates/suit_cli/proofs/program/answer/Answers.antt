@@ -1,11 +1,11 @@
-use Rattle.std.proofs.Common.{sym, ap, ◌∙◌, Option, Some, None}
+use Rattle.std.proofs.Common.{refl, sym, ap, ◌∙◌, Option, Some, None}
 use Rattle.std.specs.Prelude.{option_map}
 use Rattle.command_words.specs.Tasks.{texts}
 use Rattle.suit_cli.specs.Words.{task_of, task_said}
 use Rattle.suit_cli.specs.declared.words.Command.{Command}
 use Rattle.suit_cli.proofs.BootAnswers.{comes_starved, comes_usage, comes_task}
 use Rattle.suit_cli.proofs.Leaving.{start_left}
-use Rattle.suit_cli.proofs.Sounding.{if_launches_by, keeps_unmoved, if_unmoved, keeps_by}
+use Rattle.suit_cli.proofs.Sounding.{if_boots, if_boots_by, if_launches_by, keeps_unmoved, if_unmoved, keeps_by}
 use Rattle.suit_cli.proofs.program.answer.Goals as goal
 
 pub returns-in-Err-clause-answer : goal.returns-in-Err-clause-answer
@@ -67,3 +67,19 @@ returns-in-Ok-Some-clause-keeps g c told =
     (sym (ap task_of (ap texts c.as_slice.ensures.value ∙ c.in-Ok.ensures)) ∙ sym c.in-Ok-Some.ensures
     ∙ ap (λ (o : Option Command). option_map task_said o) c.in-Ok-Some.field-0-is)
     (c.perform.ensures.keeps told)
+
+pub returns-in-Err-clause-unasked : goal.returns-in-Err-clause-unasked
+returns-in-Err-clause-unasked g c = if_boots (task_of c.args.words.now) _ refl
+
+pub returns-clause-unasked : goal.returns-clause-unasked
+returns-clause-unasked g c = if_boots (task_of c.args.words.now) _ refl
+
+pub returns-in-Ok-None-clause-unasked : goal.returns-in-Ok-None-clause-unasked
+returns-in-Ok-None-clause-unasked g c = if_boots (task_of c.args.words.now) _ refl
+
+pub returns-in-Ok-Some-clause-unasked : goal.returns-in-Ok-Some-clause-unasked
+returns-in-Ok-Some-clause-unasked g c =
+    if_boots_by _ _ _
+    (sym (ap task_of (ap texts c.as_slice.ensures.value ∙ c.in-Ok.ensures)) ∙ sym c.in-Ok-Some.ensures
+    ∙ ap (λ (o : Option Command). option_map task_said o) c.in-Ok-Some.field-0-is)
+    c.perform.ensures.unasked

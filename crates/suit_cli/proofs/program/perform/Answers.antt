@@ -1,12 +1,11 @@
 use Rattle.std.proofs.Common.{Some, ap}
-use Rattle.suit_cli.specs.Outside.{Outside}
 use Rattle.suit_cli.specs.Words.{task_said}
-use Rattle.suit_cli.proofs.Chains.{anywhere}
+use Rattle.suit_cli.proofs.Chains.{anywhere, outside_at}
 use Rattle.suit_cli.proofs.BootAnswers.{comes_command, comes_same}
 use Rattle.suit_cli.proofs.Leaving.{left_by}
 use Rattle.suit_cli.proofs.Settling.{looked}
 use Rattle.suit_cli.specs.declared.words.Command.{Command}
-use Rattle.suit_cli.proofs.Sounding.{if_launches, if_launches_by, keeps_by}
+use Rattle.suit_cli.proofs.Sounding.{if_boots, if_launches, if_launches_by, keeps_by}
 use Rattle.suit_cli.proofs.program.perform.Goals as goal
 
 pub returns-in-Make-clause-answer : goal.returns-in-Make-clause-answer
@@ -27,14 +26,7 @@ returns-in-RunInit-clause-answer g c = comes_command c.args.command _ c.in-RunIn
 pub returns-in-RunStatus-clause-answer : goal.returns-in-RunStatus-clause-answer
 returns-in-RunStatus-clause-answer g c =
     let h = g.H.Host in
-    let here : Outside = record {
-      told = h.told;
-      files = h.file c.args.host.now;
-      pulled = h.pulled c.args.host.now;
-      asked = h.asked c.args.host.now;
-      faults = h.faults c.args.host.now;
-      flash = anywhere.flash;
-    } in
+    let here = outside_at h.told (h.file c.args.host.now) (h.pulled c.args.host.now) (h.asked c.args.host.now) (h.faults c.args.host.now) anywhere.flash in
     comes_command c.args.command _ c.in-RunStatus.is _ _ _ _ (c.status.ensures.answer here)
 
 pub returns-in-RunBoot-clause-answer : goal.returns-in-RunBoot-clause-answer
@@ -45,6 +37,9 @@ returns-in-RunStatus-clause-settled g c told = looked _ _ _ _ _ (g.met.D.Disk.ob
 
 pub returns-in-RunBoot-clause-sound : goal.returns-in-RunBoot-clause-sound
 returns-in-RunBoot-clause-sound g c told = if_launches (Some (task_said c.args.command)) _ (c.run_boot.ensures.sound told)
+
+pub returns-in-RunBoot-clause-unasked : goal.returns-in-RunBoot-clause-unasked
+returns-in-RunBoot-clause-unasked g c = if_boots (Some (task_said c.args.command)) _ c.run_boot.ensures.unasked
 
 pub returns-in-RunUpdate-clause-answer : goal.returns-in-RunUpdate-clause-answer
 returns-in-RunUpdate-clause-answer g c = comes_same c.args.command _ c.in-RunUpdate.is _ _ _ _ _ c.run_update.ensures.answer

@@ -1,33 +1,33 @@
 use Rattle.std.proofs.Common.{refl, subst, sym}
 use Rattle.suit_edge.specs.Flash.{IsFlash}
 use Rattle.suit_cli.specs.Coming.{ended_of}
-use Rattle.suit_cli.proofs.Sounding.{stays_by}
-use Rattle.suit_cli.proofs.RunEnds.{yes, only_yes, no_path, only_no, usage, only_usage, stays, only_launching, launches, is_status, counts, cut_off, no_host, starved}
+use Rattle.suit_cli.proofs.Sounding.{as_it_boots, stays_by}
+use Rattle.suit_cli.proofs.RunEnds.{yes, safe_is_yes, no_path, unsafe_is_no, usage, no_command_is_usage, stays, only_launching, launches, is_status, counts, cut_off, no_host, starved}
 use Rattle.suit_cli.proofs.program.run.Goals as goal
 
 pub returns-clause-yes : goal.returns-clause-yes
 returns-clause-yes g c =
     yes c.args.words.now _ _ _ _ _ _ c.put.result.0 (record { ended = ended_of c.answer-answer.result; comes = c.answer-answer.ensures.answer; puts = c.put.ensures })
 
-pub returns-clause-only_yes : goal.returns-clause-only_yes
-returns-clause-only_yes g c update invocation checks =
-    only_yes c.args.words.now _ _ _ _ _ _ c.put.result.0 (record { ended = ended_of c.answer-answer.result; comes = c.answer-answer.ensures.answer; puts = c.put.ensures }) c.envelope_laws.ensures c.manifest_laws.ensures c.members_laws.ensures update invocation checks
+pub returns-clause-safe_is_yes : goal.returns-clause-safe_is_yes
+returns-clause-safe_is_yes g c update invocation checks =
+    safe_is_yes c.args.words.now _ _ _ _ _ _ c.put.result.0 (record { ended = ended_of c.answer-answer.result; comes = c.answer-answer.ensures.answer; puts = c.put.ensures }) c.envelope_laws.ensures c.manifest_laws.ensures c.members_laws.ensures update invocation checks
 
 pub returns-clause-no : goal.returns-clause-no
 returns-clause-no g c =
     no_path c.args.words.now _ _ _ _ _ _ c.put.result.0 (record { ended = ended_of c.answer-answer.result; comes = c.answer-answer.ensures.answer; puts = c.put.ensures })
 
-pub returns-clause-only_no : goal.returns-clause-only_no
-returns-clause-only_no g c update invocation checks =
-    only_no c.args.words.now _ _ _ _ _ _ c.put.result.0 (record { ended = ended_of c.answer-answer.result; comes = c.answer-answer.ensures.answer; puts = c.put.ensures }) c.envelope_laws.ensures c.manifest_laws.ensures c.members_laws.ensures update invocation checks
+pub returns-clause-unsafe_is_no : goal.returns-clause-unsafe_is_no
+returns-clause-unsafe_is_no g c update invocation checks =
+    unsafe_is_no c.args.words.now _ _ _ _ _ _ c.put.result.0 (record { ended = ended_of c.answer-answer.result; comes = c.answer-answer.ensures.answer; puts = c.put.ensures }) c.envelope_laws.ensures c.manifest_laws.ensures c.members_laws.ensures update invocation checks
 
 pub returns-clause-usage : goal.returns-clause-usage
 returns-clause-usage g c =
     usage c.args.words.now _ _ _ _ _ _ c.put.result.0 (record { ended = ended_of c.answer-answer.result; comes = c.answer-answer.ensures.answer; puts = c.put.ensures })
 
-pub returns-clause-only_usage : goal.returns-clause-only_usage
-returns-clause-only_usage g c =
-    only_usage c.args.words.now _ _ _ _ _ _ c.put.result.0 (record { ended = ended_of c.answer-answer.result; comes = c.answer-answer.ensures.answer; puts = c.put.ensures })
+pub returns-clause-no_command_is_usage : goal.returns-clause-no_command_is_usage
+returns-clause-no_command_is_usage g c =
+    no_command_is_usage c.args.words.now _ _ _ _ _ _ c.put.result.0 (record { ended = ended_of c.answer-answer.result; comes = c.answer-answer.ensures.answer; puts = c.put.ensures })
 
 pub returns-clause-stays : goal.returns-clause-stays
 returns-clause-stays g c =
@@ -73,3 +73,6 @@ returns-clause-starved g c =
 pub returns-clause-no_host : goal.returns-clause-no_host
 returns-clause-no_host g c =
     no_host c.args.words.now _ _ _ _ _ _ c.put.result.0 (record { ended = ended_of c.answer-answer.result; comes = c.answer-answer.ensures.answer; puts = c.put.ensures })
+
+pub returns-clause-unasked : goal.returns-clause-unasked
+returns-clause-unasked g c boots = as_it_boots _ _ boots c.answer-answer.ensures.unasked

@@ -1,12 +1,10 @@
 use Rattle.std.proofs.Common.{ℕ, List, inl, sym, subst}
 use Rattle.suit_edge.specs.Flash.{IsFlash}
 use Rattle.flash_layout.specs.declared.frame.TheConstants.{VERSION_1}
-use Rattle.flash_layout.specs.Configs.{ConfigOf, Configured, IsAllowed}
-use Rattle.flash_layout.specs.Frames.{head_of}
-use Rattle.suit_cli.specs.Outside.{Outside}
-use Rattle.suit_cli.proofs.Chains.{anywhere}
+use Rattle.flash_layout.specs.Configs.{IsAllowed}
+use Rattle.suit_cli.proofs.Chains.{anywhere, outside_at}
 use Rattle.suit_cli.proofs.BootAnswers.{comes_by, unconfigured}
-use Rattle.suit_cli.proofs.Sounding.{stays_now, stays_later, settled_later, any_of, any_later}
+use Rattle.suit_cli.proofs.Sounding.{held_after, stays_now, stays_later, settled_later, any_of, any_later}
 use Rattle.suit_cli.proofs.Settling.{looked, looked_then}
 use Rattle.suit_cli.proofs.BootKeeping.{boot_keeps}
 use Rattle.suit_cli.proofs.run_boot.run_boot.Goals as goal
@@ -14,14 +12,7 @@ use Rattle.suit_cli.proofs.run_boot.run_boot.Goals as goal
 pub returns-in-Err-clause-answer : goal.returns-in-Err-clause-answer
 returns-in-Err-clause-answer g c =
     let h = g.H.Host in
-    let here : Outside = record {
-      told = h.told;
-      files = h.file c.args.host.now;
-      pulled = h.pulled c.args.host.now;
-      asked = h.asked c.args.host.now;
-      faults = h.faults c.args.host.now;
-      flash = anywhere.flash;
-    } in
+    let here = outside_at h.told (h.file c.args.host.now) (h.pulled c.args.host.now) (h.asked c.args.host.now) (h.faults c.args.host.now) anywhere.flash in
     unconfigured _ _ _ c.in-Err.stop (c.in-Err.ensures.finds here)
 
 pub returns-in-Err-clause-any_moment : goal.returns-in-Err-clause-any_moment
@@ -33,14 +24,7 @@ returns-in-Err-clause-sound g c told settled = stays_now c.sound_laws.ensures _ 
 pub returns-in-Ok-clause-answer : goal.returns-in-Ok-clause-answer
 returns-in-Ok-clause-answer g c =
     let h = g.H.Host in
-    let here : Outside = record {
-      told = h.told;
-      files = h.file c.args.host.now;
-      pulled = h.pulled c.args.host.now;
-      asked = h.asked c.args.host.now;
-      faults = h.faults c.args.host.now;
-      flash = anywhere.flash;
-    } in
+    let here = outside_at h.told (h.file c.args.host.now) (h.pulled c.args.host.now) (h.asked c.args.host.now) (h.faults c.args.host.now) anywhere.flash in
     comes_by c.in-Ok.config.0 c.in-Ok.config.1 _ _ _ _ _ (c.in-Ok.ensures.finds here) _ c.boot_by.ensures.answer
 
 pub returns-in-Ok-clause-any_moment : goal.returns-in-Ok-clause-any_moment
@@ -58,9 +42,7 @@ boot_by-requires-clause-allowed g c =
 
 pub boot_by-requires-clause-held : goal.boot_by-requires-clause-held
 boot_by-requires-clause-held g c told =
-    subst (λ (n : ℕ). ConfigOf VERSION_1 n (head_of VERSION_1 (g.D.Disk.flash c.config_in.new.flash).reads) (Configured c.in-Ok.config.0 c.in-Ok.config.1)) (sym c.in-Ok.ensures.extent)
-    (subst (λ (reads : List ℕ). ConfigOf VERSION_1 (g.D.Disk.extent c.args.flash.now) (head_of VERSION_1 reads) (Configured c.in-Ok.config.0 c.in-Ok.config.1)) (sym (c.in-Ok.ensures.same told).reads)
-    ((c.in-Ok.ensures.finds anywhere).1 told))
+    held_after c.in-Ok.config.0 c.in-Ok.config.1 _ _ _ _ c.in-Ok.ensures.extent (c.in-Ok.ensures.same told).reads ((c.in-Ok.ensures.finds anywhere).1 told)
 
 pub returns-in-Err-clause-settled : goal.returns-in-Err-clause-settled
 returns-in-Err-clause-settled g c told = looked _ _ _ _ _ (g.met.D.Disk.obeys c.config_in.new.flash told) (c.in-Err.ensures.same told)

@@ -1,15 +1,13 @@
 use Rattle.std.proofs.Common.{ℕ, ◌≤◌, List, length, refl, sym, subst, ◌∙◌}
 use Rattle.suit_edge.specs.Flash.{IsFlash}
 use Rattle.flash_layout.specs.declared.frame.TheConstants.{VERSION_1}
-use Rattle.flash_layout.specs.Configs.{ConfigOf, Configured, IsAllowed}
-use Rattle.flash_layout.specs.Frames.{head_of}
-use Rattle.suit_cli.specs.Outside.{Outside}
+use Rattle.flash_layout.specs.Configs.{IsAllowed}
 use Rattle.suit_cli.specs.Launching.{Launching}
 use Rattle.suit_cli.specs.Coming.{ended_of}
 use Rattle.suit_cli.specs.Inputs.{longest_file}
 use Rattle.suit_cli.specs.Acceptance.{accepted_by}
-use Rattle.suit_cli.proofs.Chains.{anywhere}
-use Rattle.suit_cli.proofs.Sounding.{stays_now, stays_later, settled_later, any_of, any_later}
+use Rattle.suit_cli.proofs.Chains.{anywhere, flash_at, outside_at}
+use Rattle.suit_cli.proofs.Sounding.{held_after, stays_now, stays_later, settled_later, any_of, any_later}
 use Rattle.suit_cli.proofs.UpdateAnswers.{accepted_as, comes_updated, keeps_as, keeps_since, unaccepted_as, unaccepted_update, unconfigured_update, unread_update, updates_as}
 use Rattle.suit_cli.proofs.Settling.{looked, looked_then}
 use Rattle.suit_cli.proofs.run_update.run_update.Goals as goal
@@ -17,14 +15,7 @@ use Rattle.suit_cli.proofs.run_update.run_update.Goals as goal
 pub returns-in-Err-clause-answer : goal.returns-in-Err-clause-answer
 returns-in-Err-clause-answer g c =
     let h = g.H.Host in
-    let here : Outside = record {
-      told = h.told;
-      files = h.file c.args.host.now;
-      pulled = h.pulled c.args.host.now;
-      asked = h.asked c.args.host.now;
-      faults = h.faults c.args.host.now;
-      flash = anywhere.flash;
-    } in
+    let here = outside_at h.told (h.file c.args.host.now) (h.pulled c.args.host.now) (h.asked c.args.host.now) (h.faults c.args.host.now) anywhere.flash in
     unconfigured_update c.args.name.now c.args.uris.now _ _ _ c.in-Err.stop (c.in-Err.ensures.finds here)
 
 pub returns-in-Err-clause-any_moment : goal.returns-in-Err-clause-any_moment
@@ -39,14 +30,7 @@ returns-in-Err-clause-keeps g c told settled = c.in-Err.ensures.same told
 pub returns-in-Err-read-clause-answer : goal.returns-in-Err-read-clause-answer
 returns-in-Err-read-clause-answer g c =
     let h = g.H.Host in
-    let here : Outside = record {
-      told = h.told;
-      files = h.file c.args.host.now;
-      pulled = h.pulled c.args.host.now;
-      asked = h.asked c.args.host.now;
-      faults = h.faults c.args.host.now;
-      flash = anywhere.flash;
-    } in
+    let here = outside_at h.told (h.file c.args.host.now) (h.pulled c.args.host.now) (h.asked c.args.host.now) (h.faults c.args.host.now) anywhere.flash in
     unread_update c.args.name.now c.args.uris.now _ _ c.in-Ok.config.0 c.in-Ok.config.1 _ (c.in-Ok.ensures.finds here) _ c.in-Err-read.stop (c.in-Err-read.ensures _)
 
 pub returns-in-Err-read-clause-any_moment : goal.returns-in-Err-read-clause-any_moment
@@ -61,14 +45,7 @@ returns-in-Err-read-clause-keeps g c told settled = c.in-Ok.ensures.same told
 pub returns-in-Err-accept-clause-answer : goal.returns-in-Err-accept-clause-answer
 returns-in-Err-accept-clause-answer g c =
     let h = g.H.Host in
-    let here : Outside = record {
-      told = h.told;
-      files = h.file c.args.host.now;
-      pulled = h.pulled c.args.host.now;
-      asked = h.asked c.args.host.now;
-      faults = h.faults c.args.host.now;
-      flash = anywhere.flash;
-    } in
+    let here = outside_at h.told (h.file c.args.host.now) (h.pulled c.args.host.now) (h.asked c.args.host.now) (h.faults c.args.host.now) anywhere.flash in
     unaccepted_update c.args.name.now c.args.uris.now _ _ c.in-Ok.config.0 c.in-Ok.config.1 _ (c.in-Ok.ensures.finds here) c.in-Ok-read.bytes _ (c.in-Ok-read.ensures _) c.in-Err-accept.stop
     (unaccepted_as c.in-Ok.config.0 c.in-Ok.config.1 _ _ c.as_slice.ensures c.in-Err-accept.stop c.in-Err-accept.ensures.finds _)
 
@@ -96,9 +73,7 @@ update_by-requires-clause-allowed g c =
 
 pub update_by-requires-clause-held : goal.update_by-requires-clause-held
 update_by-requires-clause-held g c told =
-    subst (λ (n : ℕ). ConfigOf VERSION_1 n (head_of VERSION_1 (g.D.Disk.flash c.config_in.new.flash).reads) (Configured c.in-Ok.config.0 c.in-Ok.config.1)) (sym c.in-Ok.ensures.extent)
-    (subst (λ (reads : List ℕ). ConfigOf VERSION_1 (g.D.Disk.extent c.args.flash.now) (head_of VERSION_1 reads) (Configured c.in-Ok.config.0 c.in-Ok.config.1)) (sym (c.in-Ok.ensures.same told).reads)
-    ((c.in-Ok.ensures.finds anywhere).1 told))
+    held_after c.in-Ok.config.0 c.in-Ok.config.1 _ _ _ _ c.in-Ok.ensures.extent (c.in-Ok.ensures.same told).reads ((c.in-Ok.ensures.finds anywhere).1 told)
 
 pub update_by-requires-clause-accepted : goal.update_by-requires-clause-accepted
 update_by-requires-clause-accepted g c = accepted_as c.in-Ok.config.0 c.in-Ok.config.1 _ _ (sym c.in-Ok-accept.ensures.whole) (accepted_by c.in-Ok-accept.accepted) c.in-Ok-accept.ensures.finds
@@ -112,14 +87,7 @@ update_by-requires-clause-other g c = c.in-Ok-accept.ensures.other
 pub returns-clause-answer : goal.returns-clause-answer
 returns-clause-answer g c =
     let h = g.H.Host in
-    let here : Outside = record {
-      told = h.told;
-      files = h.file c.args.host.now;
-      pulled = h.pulled c.args.host.now;
-      asked = h.asked c.args.host.now;
-      faults = h.faults c.args.host.now;
-      flash = anywhere.flash;
-    } in
+    let here = outside_at h.told (h.file c.args.host.now) (h.pulled c.args.host.now) (h.asked c.args.host.now) (h.faults c.args.host.now) anywhere.flash in
     comes_updated c.args.name.now c.args.uris.now _ _ c.in-Ok.config.0 c.in-Ok.config.1 _ (c.in-Ok.ensures.finds here) c.in-Ok-read.bytes _ (c.in-Ok-read.ensures _) _ _ (accepted_by c.in-Ok-accept.accepted)
     (accepted_as c.in-Ok.config.0 c.in-Ok.config.1 _ _ c.as_slice.ensures (accepted_by c.in-Ok-accept.accepted) c.in-Ok-accept.ensures.finds) _
     (updates_as c.in-Ok.config.0 _ _ (c.in-Ok-accept.ensures.whole ∙ c.as_slice.ensures) (accepted_by c.in-Ok-accept.accepted) c.args.uris.now _ _ _ _ _ c.update_by.ensures.answer)
@@ -139,22 +107,8 @@ returns-clause-keeps g c told settled =
     let law = subst (IsFlash (g.D.Disk.flash c.config_in.new.flash)) c.in-Ok.ensures.extent (g.met.D.Disk.obeys c.config_in.new.flash told) in
     let h = g.H.Host in
     let d = g.D.Disk in
-    let before : Outside = record {
-      told = h.told;
-      files = h.file c.args.host.now;
-      pulled = h.pulled c.args.host.now;
-      asked = h.asked c.args.host.now;
-      faults = h.faults c.args.host.now;
-      flash = record { told = d.told; size = d.extent c.args.flash.now; reads = (d.flash c.args.flash.now).reads; faults = d.faults c.args.flash.now };
-    } in
-    let middle : Outside = record {
-      told = h.told;
-      files = h.file c.read.new.host;
-      pulled = h.pulled c.read.new.host;
-      asked = h.asked c.read.new.host;
-      faults = h.faults c.read.new.host;
-      flash = record { told = d.told; size = d.extent c.config_in.new.flash; reads = (d.flash c.config_in.new.flash).reads; faults = d.faults c.config_in.new.flash };
-    } in
+    let before = outside_at h.told (h.file c.args.host.now) (h.pulled c.args.host.now) (h.asked c.args.host.now) (h.faults c.args.host.now) (flash_at d.told (d.extent c.args.flash.now) (d.flash c.args.flash.now).reads (d.faults c.args.flash.now)) in
+    let middle = outside_at h.told (h.file c.read.new.host) (h.pulled c.read.new.host) (h.asked c.read.new.host) (h.faults c.read.new.host) (flash_at d.told (d.extent c.config_in.new.flash) (d.flash c.config_in.new.flash).reads (d.faults c.config_in.new.flash)) in
     let l : Launching = record { told = g.L.Launcher.told; launches = g.L.Launcher.launches c.args.launcher.now; faults = g.L.Launcher.faults c.args.launcher.now } in
     let m : Launching = record { told = g.L.Launcher.told; launches = g.L.Launcher.launches c.update_by.new.launcher; faults = g.L.Launcher.faults c.update_by.new.launcher } in
     keeps_since c.args.name.now c.args.uris.now l m before middle refl (c.in-Ok-read.ensures anywhere.flash).0.quiet.files (g.D.Disk.extent c.args.flash.now) refl

@@ -41,7 +41,7 @@ pub update-end-requires-clause-wrapper : goal.update-end-requires-clause-wrapper
 update-end-requires-clause-wrapper g c = c.requires.wrapper
 
 pub update-end-requires-clause-fits : goal.update-end-requires-clause-fits
-update-end-requires-clause-fits g c = (facts c.args.layout.now c.args.key.now c.args.accepted.now.envelope.whole.now (accepted_by c.args.accepted.now) c.requires.accepted).short
+update-end-requires-clause-fits g c = (facts c.args.layout.now c.args.key.now c.args.accepted.now.envelope.whole.now (accepted_by c.args.accepted.now) c.requires.accepted).is_short
 
 pub update-end-requires-clause-config : goal.update-end-requires-clause-config
 update-end-requires-clause-config g c told = (c.args.key.now, c.requires.held told)
@@ -61,7 +61,7 @@ returns-clause-answer g c =
         plays = u.plays;
         left = u.left;
         safe = λ th td tl.
-            gains_update c.play_laws.ensures.safe c.play_laws.ensures.faulted_safe c.manifest_laws.ensures (g.D.Disk.extent c.args.flash.now) c.args.layout.now c.args.key.now c.requires.allowed c.typed.ensures
+            gains_update c.play_laws.ensures.safe c.play_laws.ensures.faulted_safe c.manifest_laws.ensures (g.D.Disk.extent c.args.flash.now) c.args.layout.now c.args.key.now c.requires.allowed c.has_identifiers.ensures
             c.args.accepted.now.envelope.whole.now (accepted_by c.args.accepted.now) f c.requires.other c.args.uris.now (g.H.Host.file c.args.host.now) (g.D.Disk.flash c.args.flash.now).reads
             (g.L.Launcher.launches c.args.launcher.now) (g.L.Launcher.launches c.update-end.new.launcher) (u.launches th td tl);
       },
@@ -75,7 +75,7 @@ pub returns-clause-sound : goal.returns-clause-sound
 returns-clause-sound g c told settled =
     let a = g.D.Disk.flash c.args.flash.now in
     let config = subst (λ (n : ℕ). ConfigOf VERSION_1 n (head_of VERSION_1 a.reads) (Configured c.args.layout.now c.args.key.now)) (sym (g.met.D.Disk.obeys c.args.flash.now told).fits) (c.requires.held told) in (
-      sound_update c.config_laws.ensures.answer c.args.layout.now c.args.key.now a.reads config c.installed_anywhere.ensures c.args.accepted.now.envelope.whole.now (accepted_by c.args.accepted.now) (facts c.args.layout.now c.args.key.now c.args.accepted.now.envelope.whole.now (accepted_by c.args.accepted.now) c.requires.accepted)
+      sound_update c.config_laws.ensures.answer c.args.layout.now c.args.key.now a.reads config c.installation_laws.ensures c.args.accepted.now.envelope.whole.now (accepted_by c.args.accepted.now) (facts c.args.layout.now c.args.key.now c.args.accepted.now.envelope.whole.now (accepted_by c.args.accepted.now) c.requires.accepted)
           a (g.D.Disk.flash c.update-end.new.disk) settled.sound (c.update-end.ensures.sound told settled),
       c.update-end.ensures.follows told settled,
     )

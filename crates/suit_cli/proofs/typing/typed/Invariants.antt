@@ -1,7 +1,0 @@
-use Rattle.std.proofs.Common.{ℕ, ◌<◌, get_or}
-use Rattle.flash_layout.specs.declared.layout.Entry.{Entry}
-use Rattle.invoke_proc.specs.Typing.{HasIdentifiers}
-use Rattle.suit_cli.proofs.typing.typed.Given as goal
-
-abbrev pub invariant-loop-each : goal.invariant-loop-each
-invariant-loop-each l = (k : ℕ) (d : Entry) → k < l.each-index → HasIdentifiers (get_or l.each-items k d)
