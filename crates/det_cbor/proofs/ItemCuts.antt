@@ -4,20 +4,16 @@ use Rattle.std.proofs.lemmas.Bool.{cases_lt}
 use Rattle.std.specs.Ordering.{ordering_then, nat_cmp}
 use Rattle.det_cbor.specs.Heads.{head_bytes}
 use Rattle.det_cbor.specs.DataItem.{DataItem, UnsignedInteger, NegativeInteger, ByteString, TextString, ArrayOf, MapOf, TaggedItem, Boolean, NullItem, DataItems, NoItems, ItemThen, DataPairs, NoPairs, PairThen, item_count, pair_count, spell, spell_items, spell_pairs, IsValidWithin, AreValidWithin, ArePairsWithin}
-use Rattle.det_cbor.specs.ItemHeads.{head_and_parts}
+use Rattle.det_cbor.specs.ItemHeads.{head_and_parts, value_fits}
 use Rattle.det_cbor.specs.ItemOrder.{major_type, head_argument, spell_parts, head_order, parts_order, items_order, pairs_order, item_order}
 use Rattle.det_cbor.proofs.Cuts.{Cuts, Cuts-nothing, Cuts-append, Cuts-string, then_assoc, cmp_less, cmp_greater}
 use Rattle.det_cbor.proofs.HeadOrder.{Cuts-head}
 
 argument_fits : (levels : ℕ) (x : DataItem) → IsValidWithin levels x → head_argument x < 2 ^ 64
-argument_fits levels (UnsignedInteger n) v = v
-argument_fits levels (NegativeInteger n) v = v
-argument_fits levels (ByteString bytes) v = v.0
-argument_fits levels (TextString bytes) v = v.0.0
 argument_fits levels (Boolean false) v = omega arith
 argument_fits levels (Boolean true) v = omega arith
 argument_fits levels NullItem v = omega arith
-argument_fits levels _ v = v.1
+argument_fits levels x v = value_fits levels x v
 
 pub then_both : (a b : Ordering) → ordering_then a b ≡ Equal → (a ≡ Equal) × (b ≡ Equal)
 then_both Equal b e = (refl, e)

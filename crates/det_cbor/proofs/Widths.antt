@@ -55,33 +55,25 @@ shorter_32 major n lt =
       | inr a ↦ omega (arith, from_16 major n a lt)
     ]
 
-longer_24 : (major n : ℕ) → n < 2 ^ 8 → length (head_bytes major n) < 2 → n < 24
-longer_24 major n lt short =
-    elim (cases_lt n 24) [
+-- a number lies below a limit where its head is shorter than all heads from there on
+short_below : (major n limit size : ℕ) → (limit ≤ n → length (head_bytes major n) ≡ size) → length (head_bytes major n) < size → n < limit
+short_below major n limit size long short =
+    elim (cases_lt n limit) [
       | inl a ↦ a
-      | inr a ↦ absurd (omega (arith, from_24 major n a lt))
+      | inr a ↦ absurd (omega (arith, long a))
     ]
+
+longer_24 : (major n : ℕ) → n < 2 ^ 8 → length (head_bytes major n) < 2 → n < 24
+longer_24 major n lt short = short_below major n 24 2 (λ a. from_24 major n a lt) short
 
 longer_8 : (major n : ℕ) → n < 2 ^ 16 → length (head_bytes major n) < 3 → n < 2 ^ 8
-longer_8 major n lt short =
-    elim (cases_lt n (2 ^ 8)) [
-      | inl a ↦ a
-      | inr a ↦ absurd (omega (arith, from_8 major n a lt))
-    ]
+longer_8 major n lt short = short_below major n (2 ^ 8) 3 (λ a. from_8 major n a lt) short
 
 longer_16 : (major n : ℕ) → n < 2 ^ 32 → length (head_bytes major n) < 5 → n < 2 ^ 16
-longer_16 major n lt short =
-    elim (cases_lt n (2 ^ 16)) [
-      | inl a ↦ a
-      | inr a ↦ absurd (omega (arith, from_16 major n a lt))
-    ]
+longer_16 major n lt short = short_below major n (2 ^ 16) 5 (λ a. from_16 major n a lt) short
 
 longer_32 : (major n : ℕ) → n < 2 ^ 64 → length (head_bytes major n) < 9 → n < 2 ^ 32
-longer_32 major n lt short =
-    elim (cases_lt n (2 ^ 32)) [
-      | inl a ↦ a
-      | inr a ↦ absurd (omega (arith, from_32 major n a lt))
-    ]
+longer_32 major n lt short = short_below major n (2 ^ 32) 9 (λ a. from_32 major n a lt) short
 
 pub code_24 : IsCode 24 24
 code_24 = record { above = omega arith; below = omega arith; wide = wide8; shorter = shorter_24; longer = longer_24 }

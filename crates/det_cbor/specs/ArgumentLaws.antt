@@ -126,34 +126,35 @@ head_8 major n ge lt =
     let b : ltb n (2 ^ 8) ≡ true = lt-ltb _ _ lt in
     rw (a, b) refl
 
+-- a number that one byte does not hold is below neither of the first two limits
+past_8 : (n : ℕ) → 2 ^ 8 ≤ n → (ltb n 24 ≡ false) × (ltb n (2 ^ 8) ≡ false)
+past_8 n ge = (le-ltb _ _ (omega arith), le-ltb _ _ ge)
+
 pub head_16 : (major n : ℕ) → 2 ^ 8 ≤ n → n < 2 ^ 16
     → head_bytes major n ≡ (32 * major + 25) ∷ to_be_bytes w16 n
 unfolding head_bytes
 head_16 major n ge lt =
-    let a : ltb n 24 ≡ false = le-ltb _ _ (omega arith) in
-    let b : ltb n (2 ^ 8) ≡ false = le-ltb _ _ ge in
+    let past = past_8 n ge in
     let c : ltb n (2 ^ 16) ≡ true = lt-ltb _ _ lt in
-    rw (a, b, c) refl
+    rw (past.0, past.1, c) refl
 
 pub head_32 : (major n : ℕ) → 2 ^ 16 ≤ n → n < 2 ^ 32
     → head_bytes major n ≡ (32 * major + 26) ∷ to_be_bytes w32 n
 unfolding head_bytes
 head_32 major n ge lt =
-    let a : ltb n 24 ≡ false = le-ltb _ _ (omega arith) in
-    let b : ltb n (2 ^ 8) ≡ false = le-ltb _ _ (omega arith) in
+    let past = past_8 n (omega arith) in
     let c : ltb n (2 ^ 16) ≡ false = le-ltb _ _ ge in
     let d : ltb n (2 ^ 32) ≡ true = lt-ltb _ _ lt in
-    rw (a, b, c, d) refl
+    rw (past.0, past.1, c, d) refl
 
 pub head_64 : (major n : ℕ) → 2 ^ 32 ≤ n → n < 2 ^ 64
     → head_bytes major n ≡ (32 * major + 27) ∷ to_be_bytes w64 n
 unfolding head_bytes
 head_64 major n ge lt =
-    let a : ltb n 24 ≡ false = le-ltb _ _ (omega arith) in
-    let b : ltb n (2 ^ 8) ≡ false = le-ltb _ _ (omega arith) in
+    let past = past_8 n (omega arith) in
     let c : ltb n (2 ^ 16) ≡ false = le-ltb _ _ (omega arith) in
     let d : ltb n (2 ^ 32) ≡ false = le-ltb _ _ ge in
-    rw (a, b, c, d) refl
+    rw (past.0, past.1, c, d) refl
 
 -- the argument of a width, as it is read
 wide_takes : (w : Width) (limit least code major low : ℕ) (wide : IsWide w limit) → limit ≤ 2 ^ 64

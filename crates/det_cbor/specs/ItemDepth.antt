@@ -9,15 +9,8 @@ use Rattle.det_cbor.specs.DataLists.{item_size, list_size, pair_list_size}
 use Rattle.det_cbor.specs.ItemTree.{tree_of, trees_of, pair_trees_of}
 
 pub item_falls : (x : Item) → max (deep-Item x) 0 ≤ item_size (tree_of x)
-item_falls (item.Unsigned n) = omega arith
-item_falls (item.Negative n) = omega arith
-item_falls (item.Bytes bytes) = omega arith
-item_falls (item.Text text) = omega arith
-item_falls (item.Array items) = omega arith
-item_falls (item.Map pairs) = omega arith
-item_falls (item.Tagged tag inner) = omega arith
-item_falls (item.Bool truth) = omega arith
 item_falls item.Null = omega arith
+item_falls _ = omega arith
 
 pub items_fall : (xs : List Item) → max (most deep-Item xs) 0 ≤ list_size (trees_of xs)
 items_fall [] = omega arith

@@ -21,16 +21,10 @@ item_kind (Boolean b) = kinds.Bool
 item_kind NullItem = kinds.Null
 
 abbrev pub item_value : DataItem → ℕ
-item_value (UnsignedInteger n) = n
-item_value (NegativeInteger n) = n
-item_value (ByteString bytes) = length bytes
-item_value (TextString bytes) = length bytes
-item_value (ArrayOf xs) = item_count xs
-item_value (MapOf ps) = pair_count ps
-item_value (TaggedItem tag x) = tag
 item_value (Boolean false) = 0
 item_value (Boolean true) = 1
 item_value NullItem = 0
+item_value x = head_argument x
 
 abbrev pub item_head : DataItem → Head
 item_head x = record { kind = item_kind x; value = item_value x }

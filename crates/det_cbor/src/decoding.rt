@@ -5,7 +5,7 @@ ghost use Rattle.det_cbor.specs.declared.reason.Reason.{Reason};
 ghost use Rattle.det_cbor.specs.DataItem.{DataItem, TaggedItem};
 ghost use Rattle.det_cbor.specs.Decoding.{Gives, IsFaultOf, IsDecoded, IsRefusedAt};
 ghost use Rattle.det_cbor.specs.Faults.{Faulty};
-ghost use Rattle.det_cbor.specs.ItemReading.{items_by, pairs_by, string_item, text_item, item_at};
+ghost use Rattle.det_cbor.specs.ItemReading.{items_by, pairs_by, item_at};
 ghost use Rattle.det_cbor.specs.ItemTree.{tree_of};
 ghost use Rattle.det_cbor.specs.OneReading.{StartsWithItem};
 
@@ -14,32 +14,6 @@ use crate::read_fault::ReadFault;
 use crate::validity::MAX_LEVELS;
 use crate::{Bytes, CborFault, HeadKind, Inner, Item, Items, Pairs, Reason, Text};
 use std::alloc::Global;
-
-fn read_string<'a>(
-    alloc: Global,
-    bytes: &[u8],
-    count: u64,
-    rest: &'a [u8],
-) -> Result<(Item, &'a [u8]), ReadFault>
-    ensures { Gives (λ x. (tree_of x.0, x.1.now)) result (string_item bytes.now count rest.now) }
-{
-    let (string, rest) = string_in(bytes, count, rest)?;
-    let held = Bytes::from_slice(alloc, string)?;
-    Ok((Item::Bytes(held), rest))
-}
-
-fn read_text<'a>(
-    alloc: Global,
-    bytes: &[u8],
-    count: u64,
-    rest: &'a [u8],
-) -> Result<(Item, &'a [u8]), ReadFault>
-    ensures { Gives (λ x. (tree_of x.0, x.1.now)) result (text_item bytes.now count rest.now) }
-{
-    let (text, rest) = text_in(bytes, count, rest)?;
-    let held = Text::from_str(alloc, text)?;
-    Ok((Item::Text(held), rest))
-}
 
 // Reads an item with at most so many levels.
 #[cycle(read)]
@@ -51,8 +25,14 @@ fn read_item(alloc: Global, bytes: &[u8], levels: u8) -> Result<(Item, &[u8]), R
     match head.kind {
         HeadKind::Unsigned => Ok((Item::Unsigned(head.value), rest)),
         HeadKind::Negative => Ok((Item::Negative(head.value), rest)),
-        HeadKind::Bytes => read_string(alloc, bytes, head.value, rest),
-        HeadKind::Text => read_text(alloc, bytes, head.value, rest),
+        HeadKind::Bytes => {
+            let (string, rest) = string_in(bytes, head.value, rest)?;
+            Ok((Item::Bytes(Bytes::from_slice(alloc, string)?), rest))
+        }
+        HeadKind::Text => {
+            let (text, rest) = text_in(bytes, head.value, rest)?;
+            Ok((Item::Text(Text::from_str(alloc, text)?), rest))
+        }
         HeadKind::Array => {
             let (items, rest) = read_items(alloc, head.value, rest, part_levels(bytes, levels)?)?;
             Ok((Item::Array(items), rest))

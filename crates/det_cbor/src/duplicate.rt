@@ -2,7 +2,7 @@
 
 ghost use Rattle.std.specs.Prelude.{◌≡◌, IfOk};
 
-use crate::{Bytes, Text};
+use crate::Text;
 use std::alloc::{AllocError, Global};
 
 /// A value that can be copied into memory of its own.
@@ -10,11 +10,26 @@ pub trait Duplicate: Drop {
     /// An equal value in memory of its own.
     fn copy(&self, alloc: Global) -> Result<Self, AllocError>
         ensures { IfOk result (λ other. other ≡ self.now) };
+
+    /// Equal values in memory of their own.
+    fn copy_all(values: &[Self], alloc: Global) -> Result<Vec<Self>, AllocError>
+        ensures { IfOk result (λ copies. copies.items ≡ values.now) }
+    {
+        let mut copies = Vec::new(alloc);
+        for value in values {
+            copies.push(value.copy(alloc)?)?;
+        }
+        Ok(copies)
+    }
 }
 
-impl Duplicate for Bytes {
-    fn copy(&self, alloc: Global) -> Result<Bytes, AllocError> {
-        Bytes::copy(self, alloc)
+impl Duplicate for u8 {
+    fn copy(&self, _alloc: Global) -> Result<u8, AllocError> {
+        Ok(*self)
+    }
+
+    fn copy_all(values: &[u8], alloc: Global) -> Result<Vec<u8>, AllocError> {
+        values.to_vec(alloc)
     }
 }
 

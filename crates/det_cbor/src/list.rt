@@ -10,7 +10,7 @@ use std::marker::Model;
 /// A list in memory of its own.
 #[derive(Debug, Drop)]
 pub struct List<T> {
-    held: Vec<T>,
+    pub(crate) held: Vec<T>,
 }
 
 /// A list of texts, such as the words of a command line.
@@ -104,11 +104,9 @@ impl<T: Duplicate> List<T> {
     pub fn copy(&self, alloc: Global) -> Result<List<T>, AllocError>
         ensures { IfOk result (λ other. other ≡ self.now) }
     {
-        let mut list = List::new(alloc);
-        for element in &self.held {
-            list.push(element.copy(alloc)?)?;
-        }
-        Ok(list)
+        Ok(List {
+            held: T::copy_all(self.held.as_slice(), alloc)?,
+        })
     }
 }
 
