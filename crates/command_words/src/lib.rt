@@ -2,14 +2,10 @@
 #![tactic(auto)]
 
 mod arguments;
-mod check;
 mod command;
-mod drill;
 mod law;
-mod make;
 mod number;
-mod run;
-mod show;
+mod rows;
 mod table;
 mod uri_word;
 mod uri_words;

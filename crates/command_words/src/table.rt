@@ -6,12 +6,8 @@ ghost use Rattle.command_words.specs.Table.{task_of};
 ghost use Rattle.command_words.specs.Said.{said};
 ghost use Rattle.command_words.specs.Spelled.{AskFor};
 
-use crate::check::check;
 use crate::command::Command;
-use crate::drill::drill;
-use crate::make::make;
-use crate::run::run;
-use crate::show::show;
+use crate::rows::{check, drill, make, run, show};
 use crate::word::are_plain;
 use std::alloc::{AllocError, Global};
 

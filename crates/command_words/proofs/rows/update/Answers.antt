@@ -4,7 +4,7 @@ use Rattle.command_words.specs.UriWords.{are_answers}
 use Rattle.command_words.specs.Arguments.{update_app}
 use Rattle.command_words.proofs.Handed.{taken, is_there, is_that}
 use Rattle.command_words.proofs.UpdateWords.{updates_texts, answers_are, so_few, said_of, answers_in_rows}
-use Rattle.command_words.proofs.run.update.Goals as goal
+use Rattle.command_words.proofs.rows.update.Goals as goal
 
 pub found-requires : goal.found-requires
 found-requires c =

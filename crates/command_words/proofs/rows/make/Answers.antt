@@ -4,7 +4,7 @@ use Rattle.command_words.specs.Arguments.{make_app}
 use Rattle.command_words.proofs.Handed.{taken, is_there, is_that}
 use Rattle.command_words.proofs.TextLists.{as_many}
 use Rattle.command_words.proofs.Taken.{makes}
-use Rattle.command_words.proofs.make.make.Goals as goal
+use Rattle.command_words.proofs.rows.make.Goals as goal
 
 pub found-requires : goal.found-requires
 found-requires c =

@@ -4,7 +4,7 @@ use Rattle.command_words.specs.Arguments.{init_app}
 use Rattle.command_words.proofs.Handed.{taken, is_there, is_that}
 use Rattle.command_words.proofs.TextLists.{as_many}
 use Rattle.command_words.proofs.Taken.{inits}
-use Rattle.command_words.proofs.run.init.Goals as goal
+use Rattle.command_words.proofs.rows.init.Goals as goal
 
 pub found-requires : goal.found-requires
 found-requires c =

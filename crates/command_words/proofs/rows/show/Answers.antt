@@ -7,7 +7,7 @@ use Rattle.command_words.specs.Arguments.{show_app}
 use Rattle.command_words.proofs.Handed.{taken, is_there, is_that, found_in}
 use Rattle.command_words.proofs.TextLists.{as_many}
 use Rattle.command_words.proofs.Taken.{Shows, shows, shown}
-use Rattle.command_words.proofs.show.show.Goals as goal
+use Rattle.command_words.proofs.rows.show.Goals as goal
 
 shows_texts : (words : List (Bor Word)) → 2 ≤ length words → length words ≤ 3 → list_all is_plain (texts words) ≡ true → Shows (texts words)
 shows_texts words some few plain = let many = as_many words in shows (texts words) (omega arith) (omega arith) plain

@@ -4,7 +4,7 @@ use Rattle.command_words.specs.Arguments.{check_app}
 use Rattle.command_words.proofs.Handed.{taken, is_there, is_that}
 use Rattle.command_words.proofs.TextLists.{as_many}
 use Rattle.command_words.proofs.Taken.{checks}
-use Rattle.command_words.proofs.check.check.Goals as goal
+use Rattle.command_words.proofs.rows.check.Goals as goal
 
 pub found-requires : goal.found-requires
 found-requires c =

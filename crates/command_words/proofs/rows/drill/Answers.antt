@@ -5,7 +5,7 @@ use Rattle.command_words.specs.Arguments.{drill_app}
 use Rattle.command_words.proofs.Handed.{taken, is_there, is_that}
 use Rattle.command_words.proofs.TextLists.{as_many}
 use Rattle.command_words.proofs.Taken.{drills}
-use Rattle.command_words.proofs.drill.drill.Goals as goal
+use Rattle.command_words.proofs.rows.drill.Goals as goal
 
 pub found-requires : goal.found-requires
 found-requires c =

@@ -1,6 +1,6 @@
 use Rattle.std.proofs.Common.{[]}
 use Rattle.command_words.proofs.OtherNames.{run_default}
-use Rattle.command_words.proofs.run.run.Goals as goal
+use Rattle.command_words.proofs.rows.run.Goals as goal
 
 pub returns-in_default : goal.returns-in_default
 returns-in_default c =
