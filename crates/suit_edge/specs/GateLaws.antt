@@ -64,6 +64,13 @@ module _ (start : Flash) (size gate place : ℕ) (body : List ℕ) (law : IsFlas
   abbrev page : ℕ → Type 0
   page = OutsideEach (page_at gate place (length body))
 
+  -- a place of the bytes is not that of the gate
+  beside : (i : ℕ) → place ≤ i → i < place + length body → Outside gate 1 i
+  beside i low high = ⊎_elim (λ before. inr (later before)) (λ behind. inl (omega (arith, behind, high))) apart
+    where
+      later : gate < place → gate + 1 ≤ i
+      later before = omega (arith, before, low)
+
   -- while the bytes are written
   pub filling : (b : Flash) → Keeps (Outside place (length body)) start b
       → Passes start b (IsOpening gate place body start)
@@ -86,12 +93,6 @@ module _ (start : Flash) (size gate place : ℕ) (body : List ℕ) (law : IsFlas
             (subst (λ (l : List ℕ). SameOn page start.reads l) (sym wrote) (same_fewer page (Outside place (length body)) (λ i o. o.1.0) start.reads (written start.reads place body) out))
             (same_fewer page (Outside gate 1) (λ i o. o.0) b_reads image same);
       }
-    where
-      beside : (i : ℕ) → place ≤ i → i < place + length body → Outside gate 1 i
-      beside i low high = ⊎_elim (λ before. inr (later before)) (λ behind. inl (omega (arith, behind, high))) apart
-        where
-          later : gate < place → gate + 1 ≤ i
-          later before = omega (arith, before, low)
 
   -- while the gate is opened
   pub opening : (b c : Flash) → IsFlash b size → Keeps (Outside place (length body)) start b
@@ -125,12 +126,6 @@ module _ (start : Flash) (size gate place : ℕ) (body : List ℕ) (law : IsFlas
         let long : length image ≡ length start.reads = same.size ∙ sure.size in
         same_range image start.reads place (place + length body) long (omega (arith, long, law.fits))
         (λ i low high. same.same i (beside i low high) ∙ sure.same i (inr (inl (low, high))))
-      where
-        beside : (i : ℕ) → place ≤ i → i < place + length body → Outside gate 1 i
-        beside i low high = ⊎_elim (λ before. inr (later before)) (λ behind. inl (omega (arith, behind, high))) apart
-          where
-            later : gate < place → gate + 1 ≤ i
-            later before = omega (arith, before, low)
 
     -- while its gate is closed
     still : (image : List ℕ) → IsClosing gate start image → IsGated gate place body start image

@@ -21,7 +21,12 @@ impl Model for Calls {
     ghost Value = { CallCounts };
 
     ghost view = { λ c.
-        record { fails = c.fails.items; number = c.number; faults = c.faults; starved = c.starved } };
+        record {
+          fails = c.fails.items;
+          number = c.number;
+          faults = c.faults;
+          starved = c.starved;
+        } };
 }
 
 impl Calls {

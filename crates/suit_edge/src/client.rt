@@ -5,7 +5,7 @@ ghost use Rattle.suit_edge.specs.Client.{IsVouched, bytes_at};
 ghost use Rattle.suit_edge.specs.Edge.{IfDone};
 ghost use Rattle.suit_edge.specs.Faults.{EdgeCounts};
 ghost use Rattle.suit_edge.specs.Flash.{IsFirmOn, IsSettled, Keeps, Passes};
-ghost use Rattle.suit_edge.specs.Gate.{page_at};
+ghost use Rattle.suit_edge.specs.Gate.{IsNewPage, IsOpen, page_at};
 ghost use Rattle.suit_edge.specs.Ranges.{AreClear, InSome, Outside, written};
 
 use crate::{Disk, Edge, write_gated};
@@ -61,7 +61,7 @@ fn keep_pieces<D: Disk>(disk: &mut D, place: u64, bytes: &[u8]) -> Edge
 }
 
 /// Writes the bytes in pieces, and then the page beside them. At any moment an open page is the old one, or the new
-/// one over the new bytes.
+/// one over the new bytes; at the end it is the new one. After a failed call either may stand.
 pub fn vouch<D: Disk>(
     disk: &mut D,
     place: u64,
@@ -80,6 +80,12 @@ pub fn vouch<D: Disk>(
         → IsFirmOn (InSome (page_at gate page (length body.now))) (D.flash disk.old) }
     ensures size { D.extent disk.new ≡ D.extent disk.old }
     ensures counts { EdgeCounts result (D.faults disk.old) (D.faults disk.new) }
+    ensures opened { IsTrue D.told → IfDone result (IsOpen (D.flash disk.new).reads gate) }
+    ensures page { IsTrue D.told
+        → IfDone result
+        (IsNewPage gate page body.now (written (D.flash disk.old).reads place bytes.now)
+        (D.flash disk.new).reads) }
+    ensures settled { IsTrue D.told → IfDone result (IsSettled (D.flash disk.new)) }
     ensures any_moment { IsTrue D.told
         → Passes (D.flash disk.old) (D.flash disk.new)
         (IsVouched (bytes_at place (length bytes.now)) gate page body.now

@@ -39,17 +39,9 @@ impl<R: Files + Drop> FileHost<R> {
 }
 
 impl<R: Files + Drop> Host for FileHost<R> {
-    ghost use Rattle.std.specs.Prelude.{false, None, []};
+    ghost use Rattle.std.specs.Prelude.{false};
 
     ghost told = { false };
-
-    ghost file = { λ _ _. None };
-
-    ghost rest = { λ _. [] };
-
-    ghost pulled = { λ _. 0 };
-
-    ghost asked = { λ _. [] };
 
     ghost faults = { λ h. h };
 

@@ -1,6 +1,6 @@
 //! Files by name.
 
-ghost use Rattle.std.specs.Prelude.{◌≡◌, ◌≢◌, ◌≤◌, ◌+◌, ℕ, Bool, IsTrue, List, Option, length};
+ghost use Rattle.std.specs.Prelude.{◌≡◌, ◌≢◌, ◌≤◌, ◌+◌, ℕ, Bool, IsTrue, List, [], Option, None, length};
 ghost use Rattle.suit_edge.specs.Faults.{EdgeCounts};
 ghost use Rattle.suit_edge.specs.Host.{StartAsks, StartCounts, Starts, PullCounts, Pulls, count_of, Stores};
 
@@ -28,21 +28,21 @@ pub enum Pulled {
 
 /// A keeper of files, each under a name. One file is read at a time.
 pub trait Host {
-    /// Whether the members below tell what the host holds.
+    /// Whether the members below tell what the host holds. A host that tells nothing writes only its count of faults.
     ghost told: { Bool };
 
     /// The bytes of the file with a name, where one has it.
-    ghost file: { Self → List ℕ → Option (List ℕ) };
+    ghost file: { Self → List ℕ → Option (List ℕ) } = { λ _ _. None };
 
     /// The bytes left of the file that was started last; none where none is started.
-    ghost rest: { Self → List ℕ };
+    ghost rest: { Self → List ℕ } = { λ _. [] };
 
     /// The number of bytes handed out so far.
-    ghost pulled: { Self → ℕ };
+    ghost pulled: { Self → ℕ } = { λ _. 0 };
 
     /// The names of the files that were started, the last one at the end. An absent file is among them; one whose start
     /// failed may be.
-    ghost asked: { Self → List (List ℕ) };
+    ghost asked: { Self → List (List ℕ) } = { λ _. [] };
 
     /// The count of faults, which never falls.
     ghost faults: { Self → ℕ };

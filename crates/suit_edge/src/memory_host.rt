@@ -15,7 +15,7 @@ ghost use Rattle.suit_edge.specs.MemoryHost.{
 };
 
 use crate::calls::Calls;
-use crate::file_table::FileTable;
+use crate::file_table::{FileTable, find, set};
 use crate::rest::Rest;
 use crate::{Edge, Host, Pulled, Started};
 use det_cbor::{Bytes, Names, Text};
@@ -39,7 +39,13 @@ impl Model for MemoryHost {
     ghost Value = { HostState };
 
     ghost view = { λ h.
-        record { files = h.files; rest = h.rest; pulled = h.pulled; asked = h.asked; calls = h.calls } };
+        record {
+          files = h.files.items;
+          rest = h.rest;
+          pulled = h.pulled;
+          asked = h.asked;
+          calls = h.calls;
+        } };
 }
 
 impl MemoryHost {
@@ -63,7 +69,7 @@ impl MemoryHost {
             (self.new ≡ record self.old { files = with_file self.old.files name.now bytes.now }) }
         ensures err { OnErr result (self.new ≡ self.old) }
     {
-        self.files.set(name, bytes)
+        set(self.alloc, &mut self.files, name, bytes)
     }
 
     // Asks for a file, and begins it.
@@ -71,7 +77,7 @@ impl MemoryHost {
         ensures ok { IfOk result (λ started. Begins started self.old self.new name.now) }
         ensures err { OnErr result (self.new ≡ self.old) }
     {
-        let (started, bytes) = match self.files.find(name) {
+        let (started, bytes) = match find(self.files.as_slice(), name) {
             None => (Started::Absent, Bytes::new(self.alloc)),
             Some(bytes) => (Started::Done, bytes.copy(self.alloc)?),
         };
@@ -166,7 +172,7 @@ impl Host for MemoryHost {
         if self.calls.next_fails() {
             return Edge::Failed;
         }
-        if self.files.set(name, bytes).is_err() {
+        if set(self.alloc, &mut self.files, name, bytes).is_err() {
             self.calls.starve();
             return Edge::Failed;
         }
