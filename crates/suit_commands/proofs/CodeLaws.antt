@@ -5,12 +5,12 @@ use Rattle.det_cbor.specs.ResultLaws.{same_ok, same_err}
 use Rattle.suit_params.specs.declared.refusal.Refusal.{Refusal}
 use Rattle.suit_params.specs.declared.refusal.Why.TheVariants.{Unsupported}
 use Rattle.suit_params.specs.Refusing.{refused}
-use Rattle.suit_params.proofs.Numbered.{one_of}
+use Rattle.suit_params.proofs.Numbered.{numbered_has}
 use Rattle.suit_commands.specs.declared.kinds.TestKind.TheVariants as tests
 use Rattle.suit_commands.specs.declared.kinds.ActKind.TheVariants as acts
 use Rattle.suit_commands.specs.declared.command_code.CommandCode.{CommandCode}
 use Rattle.suit_commands.specs.declared.command_code.CommandCode.TheVariants as codes
-use Rattle.suit_commands.specs.CommandCodes.{code_number, numbered}
+use Rattle.suit_commands.specs.CommandCodes.{code_number, all_codes, numbered}
 use Rattle.suit_commands.specs.SequenceFaults.{IsCode}
 use Rattle.suit_commands.specs.SequenceJudging.{known_code, judge_code}
 
@@ -19,41 +19,14 @@ use Rattle.suit_commands.specs.SequenceJudging.{known_code, judge_code}
 -- each command is found by its number
 pub numbered_again : (code : CommandCode) → numbered (code_number code) ≡ Some code
 numbered_again (codes.Test tests.Vendor) = refl
-numbered_again (codes.Test tests.Class) = refl
-numbered_again (codes.Test tests.Device) = refl
-numbered_again (codes.Test tests.Slot) = refl
-numbered_again (codes.Test tests.ImageMatch) = refl
-numbered_again (codes.Test tests.CheckContent) = refl
-numbered_again (codes.Test tests.Abort) = refl
+numbered_again (codes.Test _) = refl
 numbered_again (codes.Act acts.Write) = refl
-numbered_again (codes.Act acts.Fetch) = refl
-numbered_again (codes.Act acts.Copy) = refl
-numbered_again (codes.Act acts.Invoke) = refl
-numbered_again (codes.Act acts.Swap) = refl
-numbered_again codes.Index = refl
-numbered_again codes.TryEach = refl
-numbered_again codes.Override = refl
-numbered_again codes.Run = refl
+numbered_again (codes.Act _) = refl
+numbered_again _ = refl
 
 -- the one found has the number
 pub numbered_ok : (n : ℕ) (code : CommandCode) → numbered n ≡ Some code → n ≡ code_number code
-numbered_ok n code e =
-    one_of code_number n 1 (codes.Test tests.Vendor) _ code refl e (λ e.
-    one_of code_number n 2 (codes.Test tests.Class) _ code refl e (λ e.
-    one_of code_number n 3 (codes.Test tests.ImageMatch) _ code refl e (λ e.
-    one_of code_number n 5 (codes.Test tests.Slot) _ code refl e (λ e.
-    one_of code_number n 6 (codes.Test tests.CheckContent) _ code refl e (λ e.
-    one_of code_number n 12 codes.Index _ code refl e (λ e.
-    one_of code_number n 14 (codes.Test tests.Abort) _ code refl e (λ e.
-    one_of code_number n 15 codes.TryEach _ code refl e (λ e.
-    one_of code_number n 18 (codes.Act acts.Write) _ code refl e (λ e.
-    one_of code_number n 20 codes.Override _ code refl e (λ e.
-    one_of code_number n 21 (codes.Act acts.Fetch) _ code refl e (λ e.
-    one_of code_number n 22 (codes.Act acts.Copy) _ code refl e (λ e.
-    one_of code_number n 23 (codes.Act acts.Invoke) _ code refl e (λ e.
-    one_of code_number n 24 (codes.Test tests.Device) _ code refl e (λ e.
-    one_of code_number n 31 (codes.Act acts.Swap) _ code refl e (λ e.
-    one_of code_number n 32 codes.Run _ code refl e (λ e. absurd cc))))))))))))))))
+numbered_ok n code e = numbered_has code_number all_codes n code e
 
 -- ---- which are allowed
 
@@ -89,20 +62,12 @@ Known shared o code = (o ≡ Some code) × Allows shared code
 known_ok : (place : ℕ) (shared : Bool) (o : Option CommandCode) (code : CommandCode) → known_code place shared o ≡ Ok code → Known shared o code
 known_ok place true (Some (codes.Act kind)) code e = absurd cc
 known_ok place false (Some (codes.Act kind)) code e = subst (Known false (Some (codes.Act kind))) (same_ok _ code e) (refl, refl)
-known_ok place shared (Some (codes.Test kind)) code e = subst (Known shared (Some (codes.Test kind))) (same_ok _ code e) (refl, tt)
-known_ok place shared (Some codes.Index) code e = subst (Known shared (Some codes.Index)) (same_ok _ code e) (refl, tt)
-known_ok place shared (Some codes.TryEach) code e = subst (Known shared (Some codes.TryEach)) (same_ok _ code e) (refl, tt)
-known_ok place shared (Some codes.Override) code e = subst (Known shared (Some codes.Override)) (same_ok _ code e) (refl, tt)
-known_ok place shared (Some codes.Run) code e = subst (Known shared (Some codes.Run)) (same_ok _ code e) (refl, tt)
+known_ok place shared (Some known) code e = subst (Known shared (Some known)) (same_ok _ code e) (refl, tt)
 known_ok place shared None code e = absurd cc
 
 known_again : (place : ℕ) (shared : Bool) (code : CommandCode) → Allows shared code → known_code place shared (Some code) ≡ Ok code
 known_again place shared (codes.Act kind) allowed = rw allowed refl
-known_again place shared (codes.Test kind) allowed = refl
-known_again place shared codes.Index allowed = refl
-known_again place shared codes.TryEach allowed = refl
-known_again place shared codes.Override allowed = refl
-known_again place shared codes.Run allowed = refl
+known_again place shared _ allowed = refl
 
 abbrev NoneKnown : Bool → Option CommandCode → Type 0
 NoneKnown shared o = (code : CommandCode) → o ≡ Some code → Allows shared code → ⊥
@@ -116,21 +81,13 @@ known_err place true (Some (codes.Act kind)) r e = (λ code is allowed. not_shar
     the_same : (code : CommandCode) → Some (codes.Act kind) ≡ Some code → code ≡ codes.Act kind
     the_same code is = cc
 known_err place false (Some (codes.Act kind)) r e = absurd cc
-known_err place shared (Some (codes.Test kind)) r e = absurd cc
-known_err place shared (Some codes.Index) r e = absurd cc
-known_err place shared (Some codes.TryEach) r e = absurd cc
-known_err place shared (Some codes.Override) r e = absurd cc
-known_err place shared (Some codes.Run) r e = absurd cc
+known_err place shared (Some known) r e = absurd cc
 known_err place shared None r e = (λ code is allowed. absurd cc, same_err _ r e)
 
 known_refused : (place : ℕ) (shared : Bool) (o : Option CommandCode) → NoneKnown shared o → known_code place shared o ≡ Err (refused place Unsupported)
 known_refused place true (Some (codes.Act kind)) none = refl
 known_refused place false (Some (codes.Act kind)) none = absurd (none (codes.Act kind) refl refl)
-known_refused place shared (Some (codes.Test kind)) none = absurd (none (codes.Test kind) refl tt)
-known_refused place shared (Some codes.Index) none = absurd (none codes.Index refl tt)
-known_refused place shared (Some codes.TryEach) none = absurd (none codes.TryEach refl tt)
-known_refused place shared (Some codes.Override) none = absurd (none codes.Override refl tt)
-known_refused place shared (Some codes.Run) none = absurd (none codes.Run refl tt)
+known_refused place shared (Some known) none = absurd (none known refl tt)
 known_refused place shared None none = refl
 
 -- ---- the judgement of a code

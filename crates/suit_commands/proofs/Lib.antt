@@ -27,6 +27,7 @@ pub mod SequenceReads
 pub mod SequenceAnswers
 pub mod SaidParams
 pub mod SequenceMade
+pub mod Levels
 pub mod SequenceLawProofs
 pub mod SequenceSpelled
 pub mod SequenceValid

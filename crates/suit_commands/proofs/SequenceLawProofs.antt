@@ -10,12 +10,13 @@ use Rattle.suit_commands.specs.Sequences.{SaysSequence, SaysArray, SaysSteps, Sa
 use Rattle.suit_commands.specs.SequenceJudging.{judge_sequence}
 use Rattle.suit_commands.specs.SequenceLaws.{HasOneSequence, HasOneRefusal, SequenceLaws}
 use Rattle.suit_commands.specs.Tree.{CommandTree, SequenceTree, BranchesTree, BranchThen}
+use Rattle.suit_commands.proofs.Levels.{sequence_within, deepest}
 use Rattle.suit_commands.proofs.SaidParams.{said_params}
 use Rattle.suit_commands.proofs.SequenceJudging.{sequence_judges}
 use Rattle.suit_commands.proofs.SequenceMade.{sequence_made, sequence_placed, sequence_again, one_item}
 
-reading_laws : (shared : Bool) (count levels place : ℕ) (x : DataItem) → IsValid x → HasOneSequence shared count (suc levels) place x ⊎ HasOneRefusal shared count (suc levels) place x
-reading_laws shared count levels place x valid = by_answer (judge_sequence shared count levels place x) refl
+one_reading : (shared : Bool) (count levels place : ℕ) (x : DataItem) → IsValid x → HasOneSequence shared count (suc levels) place x ⊎ HasOneRefusal shared count (suc levels) place x
+one_reading shared count levels place x valid = by_answer (judge_sequence shared count levels place x) refl
   where
     by_answer : (a : Result SequenceTree Refusal) → judge_sequence shared count levels place x ≡ a → HasOneSequence shared count (suc levels) place x ⊎ HasOneRefusal shared count (suc levels) place x
     by_answer (Ok s) is = inl (record {
@@ -87,9 +88,11 @@ allowed shared count (suc levels) place x s valid said = sequence_allowed shared
 
 pub sequence_laws : SequenceLaws
 sequence_laws = record {
-  reading_laws = reading_laws;
+  one_reading = one_reading;
   whole = λ shared count levels. one_answer (judge_sequence shared count levels) (SaysSequence shared count (suc levels)) (RefusesSequence shared count (suc levels)) (sequence_judges shared count levels);
   allowed = allowed;
+  eight_levels = λ shared count s is. sequence_within shared count 8 s is;
+  eighth_level = deepest;
   made = sequence_made;
   places = sequence_placed;
   again = sequence_again;

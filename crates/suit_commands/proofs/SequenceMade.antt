@@ -5,7 +5,7 @@ use Rattle.suit_params.specs.Refusing.{content_place, SaysWhole}
 use Rattle.suit_params.proofs.ParamLawProofs.{param_laws}
 use Rattle.suit_commands.specs.Sequences.{elements_place, place_after, SaysSequence, SaysArray, SaysSteps, SaysNoSteps, SaysStep, SaysCommand, SaysTest, SaysAct, SaysOne, SaysAll, SaysListed, SaysOverride, SaysTry, SaysRun, SaysBranches, SaysNoBranches, SaysNull, SaysBranch, SaysInner, SaysHeldSequence}
 use Rattle.suit_commands.specs.SequenceMaking.{code_of, step_items, argument_item, branch_items, sequence_item, inner_item, argument_place, next_code, first_code, placed, placed_command, placed_branches, unplaced, unplaced_command, unplaced_branches}
-use Rattle.suit_commands.specs.Tree.{CommandTree, Test, Act, Index, Override, TryEach, RunSequence, SequenceTree, NoSteps, StepThen, BranchesTree, NoBranches, BranchThen, NullThen}
+use Rattle.suit_commands.specs.Tree.{CommandTree, Test, TryEach, RunSequence, SequenceTree, NoSteps, StepThen, BranchesTree, NoBranches, BranchThen, NullThen}
 
 -- ---- the item
 
@@ -20,23 +20,13 @@ mutual
 
   code_made : (shared : Bool) (count levels place code : ℕ) (x : DataItem) (command : CommandTree) → SaysCommand shared count levels place code x command → code ≡ code_of command
   code_made shared count levels place code x command (SaysTest l at kind report le) = refl
-  code_made shared count levels place code x command (SaysAct l at kind report unshared le) = refl
-  code_made shared count levels place code x command (SaysOne l at i lt) = refl
-  code_made shared count levels place code x command (SaysAll l at) = refl
-  code_made shared count levels place code x command (SaysListed l at is some all) = refl
-  code_made shared count levels place code x command (SaysOverride l at y list said) = refl
-  code_made shared count levels place code x command (SaysTry l at items bs two said) = refl
-  code_made shared count levels place code x command (SaysRun l at content s said) = refl
+  code_made shared count levels place code x command _ = refl
 
   argument_made : (shared : Bool) (count levels place code : ℕ) (x : DataItem) (command : CommandTree) → SaysCommand shared count levels place code x command → x ≡ argument_item command
-  argument_made shared count levels place code x command (SaysTest l at kind report le) = refl
-  argument_made shared count levels place code x command (SaysAct l at kind report unshared le) = refl
-  argument_made shared count levels place code x command (SaysOne l at i lt) = refl
-  argument_made shared count levels place code x command (SaysAll l at) = refl
-  argument_made shared count levels place code x command (SaysListed l at is some all) = refl
   argument_made shared count levels place code x command (SaysOverride l at y list said) = param_laws.made count _ x list said
   argument_made shared count levels place code x command (SaysTry l at items bs two said) = ap ArrayOf (branches_made shared count _ _ items bs said)
   argument_made shared count levels place code x command (SaysRun l at content s said) = ap ByteString (inner_made shared count _ _ content s said)
+  argument_made shared count levels place code x command _ = refl
 
   branches_made : (shared : Bool) (count levels place : ℕ) (items : DataItems) (bs : BranchesTree) → SaysBranches shared count levels place items bs → items ≡ branch_items bs
   branches_made shared count levels place items bs (SaysNoBranches l at) = refl
@@ -107,19 +97,12 @@ mutual
 
   code_unplaced : (command : CommandTree) → code_of (unplaced_command command) ≡ code_of command
   code_unplaced (Test kind report) = refl
-  code_unplaced (Act kind report) = refl
-  code_unplaced (Index selection) = refl
-  code_unplaced (Override list) = refl
-  code_unplaced (TryEach tries) = refl
-  code_unplaced (RunSequence inner) = refl
+  code_unplaced _ = refl
 
   argument_unplaced : (command : CommandTree) → argument_item (unplaced_command command) ≡ argument_item command
-  argument_unplaced (Test kind report) = refl
-  argument_unplaced (Act kind report) = refl
-  argument_unplaced (Index selection) = refl
-  argument_unplaced (Override list) = refl
   argument_unplaced (TryEach tries) = ap ArrayOf (branches_unplaced tries)
   argument_unplaced (RunSequence inner) = λ i. ByteString (spell (ArrayOf (steps_unplaced inner i)))
+  argument_unplaced _ = refl
 
   branches_unplaced : (tries : BranchesTree) → branch_items (unplaced_branches tries) ≡ branch_items tries
   branches_unplaced NoBranches = refl

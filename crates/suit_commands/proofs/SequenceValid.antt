@@ -27,17 +27,7 @@ use Rattle.suit_commands.proofs.SequenceSpelled.{index_count}
 
 key_low : (key : ParamKey) → key_number key ≤ 24
 key_low keys.Vendor = omega arith
-key_low keys.Class = omega arith
-key_low keys.Device = omega arith
-key_low keys.Digest = omega arith
-key_low keys.Slot = omega arith
-key_low keys.Strict = omega arith
-key_low keys.Soft = omega arith
-key_low keys.Size = omega arith
-key_low keys.Content = omega arith
-key_low keys.Uri = omega arith
-key_low keys.Source = omega arith
-key_low keys.Args = omega arith
+key_low _ = omega arith
 
 few : (low : ℕ) (ps : List Param) → low ≤ 24 → AreAbove low ps → low + length ps ≤ 24
 few low [] le above = omega arith
@@ -45,17 +35,7 @@ few low (p ∷ ps) le above = omega (arith, above.0, few (key_number (key_of p))
 
 value_inside : (p : Param) → IsValidWithin 1 (value_item p) → IsValidWithin 2 (value_item p)
 value_inside (params.Vendor id) v = v
-value_inside (params.Class id) v = v
-value_inside (params.Device id) v = v
-value_inside (params.Digest digest) v = v
-value_inside (params.Slot n) v = v
-value_inside (params.Strict b) v = v
-value_inside (params.Soft b) v = v
-value_inside (params.Size n) v = v
-value_inside (params.Content bytes) v = v
-value_inside (params.Uri text) v = v
-value_inside (params.Source i) v = v
-value_inside (params.Args bytes) v = v
+value_inside _ v = v
 
 pairs_inside : (before : Option (List ℕ)) (ps : List Param) → ArePairsWithin 1 before (param_pairs ps) → ArePairsWithin 2 before (param_pairs ps)
 pairs_inside before [] v = tt
@@ -71,27 +51,16 @@ override_valid ps fit ascend =
 
 test_small : (kind : TestKind) → test_code kind < 2 ^ 64
 test_small tests.Vendor = omega arith
-test_small tests.Class = omega arith
-test_small tests.Device = omega arith
-test_small tests.Slot = omega arith
-test_small tests.ImageMatch = omega arith
-test_small tests.CheckContent = omega arith
-test_small tests.Abort = omega arith
+test_small _ = omega arith
 
 act_small : (kind : ActKind) → act_code kind < 2 ^ 64
 act_small acts.Write = omega arith
-act_small acts.Fetch = omega arith
-act_small acts.Copy = omega arith
-act_small acts.Invoke = omega arith
-act_small acts.Swap = omega arith
+act_small _ = omega arith
 
 code_small : (c : CommandTree) → code_of c < 2 ^ 64
 code_small (Test kind report) = test_small kind
 code_small (Act kind report) = act_small kind
-code_small (Index selection) = omega arith
-code_small (Override list) = omega arith
-code_small (TryEach tries) = omega arith
-code_small (RunSequence inner) = omega arith
+code_small _ = omega arith
 
 indices_valid : (is : List ℕ) → AllByRecursion IsU64 is → AreValidWithin 2 (index_items is)
 indices_valid [] fit = tt

@@ -1,5 +1,6 @@
 -- Codes of commands (draft-ietf-suit-manifest-25, sections 8.4.9 and 8.4.10).
-use Rattle.std.specs.Prelude.{ℕ, ◌==◌, if◌then◌else◌, Option, Some, None}
+use Rattle.std.specs.Prelude.{ℕ, List, [], ◌∷◌, Option}
+use Rattle.suit_params.specs.Numbering.{numbered_in}
 use Rattle.suit_commands.specs.declared.kinds.TestKind.TheVariants as tests
 use Rattle.suit_commands.specs.declared.kinds.ActKind.TheVariants as acts
 use Rattle.suit_commands.specs.declared.command_code.CommandCode.{CommandCode}
@@ -15,23 +16,15 @@ code_number codes.TryEach = 15
 code_number codes.Override = 20
 code_number codes.Run = 32
 
+-- all, in the order of their numbers
+abbrev pub all_codes : List CommandCode
+all_codes =
+    codes.Test tests.Vendor ∷ codes.Test tests.Class ∷ codes.Test tests.ImageMatch
+    ∷ codes.Test tests.Slot ∷ codes.Test tests.CheckContent ∷ codes.Index ∷ codes.Test tests.Abort
+    ∷ codes.TryEach ∷ codes.Act acts.Write ∷ codes.Override ∷ codes.Act acts.Fetch
+    ∷ codes.Act acts.Copy ∷ codes.Act acts.Invoke ∷ codes.Test tests.Device ∷ codes.Act acts.Swap
+    ∷ codes.Run ∷ []
+
 -- the command that has a number
 abbrev pub numbered : ℕ → Option CommandCode
-numbered n =
-    if n == 1 then Some (codes.Test tests.Vendor)
-    else if n == 2 then Some (codes.Test tests.Class)
-    else if n == 3 then Some (codes.Test tests.ImageMatch)
-    else if n == 5 then Some (codes.Test tests.Slot)
-    else if n == 6 then Some (codes.Test tests.CheckContent)
-    else if n == 12 then Some codes.Index
-    else if n == 14 then Some (codes.Test tests.Abort)
-    else if n == 15 then Some codes.TryEach
-    else if n == 18 then Some (codes.Act acts.Write)
-    else if n == 20 then Some codes.Override
-    else if n == 21 then Some (codes.Act acts.Fetch)
-    else if n == 22 then Some (codes.Act acts.Copy)
-    else if n == 23 then Some (codes.Act acts.Invoke)
-    else if n == 24 then Some (codes.Test tests.Device)
-    else if n == 31 then Some (codes.Act acts.Swap)
-    else if n == 32 then Some codes.Run
-    else None
+numbered n = numbered_in code_number all_codes n

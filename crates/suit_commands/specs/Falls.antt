@@ -7,17 +7,13 @@ use Rattle.suit_commands.specs.View.{sequence_tree, branches_tree, command_tree}
 use Rattle.suit_commands.specs.Size.{sequence_size, command_size, branches_size}
 use Rattle.suit_commands.specs.declared.command.Step.{Step}
 use Rattle.suit_commands.specs.declared.command.Command.{Command}
-use Rattle.suit_commands.specs.declared.command.Command.TheVariants.{Test, Act, Index, Override, TryEach, Run}
+use Rattle.suit_commands.specs.declared.command.Command.TheVariants.{TryEach}
 use Rattle.suit_commands.specs.declared.command.Branches.TheDeep.{deep-Command, deep-Step}
 use Rattle.suit_commands.specs.declared.command.Branches.TheShapes.{weighed-Branches-held-at-1}
 
 command_falls : (c : Command) → deep-Command c ≤ command_size (command_tree c)
-command_falls (Test kind report) = omega arith
-command_falls (Act kind report) = omega arith
-command_falls (Index i) = omega arith
-command_falls (Override list) = omega arith
 command_falls (TryEach tries) = omega arith
-command_falls (Run inner) = omega arith
+command_falls _ = omega arith
 
 pub sequence_falls : (ss : List Step) → max (most deep-Step ss) 0 ≤ sequence_size (sequence_tree ss)
 sequence_falls [] = omega arith

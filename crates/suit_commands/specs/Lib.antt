@@ -13,6 +13,7 @@ pub mod Reaches
 pub mod Selections
 pub mod SequenceFaults
 pub mod SequenceJudging
+pub mod Depth
 pub mod SequenceLaws
 pub mod SequenceReading
 pub mod SequenceMaking

@@ -1,10 +1,11 @@
 -- Laws of all sequences of commands.
-use Rattle.std.specs.Prelude.{◌≡◌, ◌⊎◌, ℕ, suc, Bool, List}
+use Rattle.std.specs.Prelude.{◌≡◌, ◌≤◌, ◌⊎◌, ℕ, suc, Bool, List}
 use Rattle.det_cbor.specs.DataItem.{DataItem, spell, IsValid}
 use Rattle.suit_params.specs.declared.refusal.Refusal.{Refusal}
 use Rattle.suit_params.specs.Refusing.{SaysWhole}
 use Rattle.suit_params.specs.OneWhole.{HasOneAnswer}
-use Rattle.suit_commands.specs.Allowed.{IsSequence}
+use Rattle.suit_commands.specs.Allowed.{IsSequence, levels_allowed}
+use Rattle.suit_commands.specs.Depth.{sequence_depth}
 use Rattle.suit_commands.specs.Sequences.{SaysSequence, elements_place}
 use Rattle.suit_commands.specs.SequenceMaking.{step_items, sequence_item, placed, unplaced}
 use Rattle.suit_commands.specs.SequenceFaults.{RefusesSequence}
@@ -25,11 +26,11 @@ pub record HasOneRefusal (shared : Bool) (count levels place : ℕ) (x : DataIte
   pub empty : (s : SequenceTree) → SaysSequence shared count levels place x s → ⊥
 
 -- the laws: where at least one level is allowed, each item says one sequence or has one refusal, and never both, and so
--- all bytes do; what is said is a sequence of the grammar; the item that says it is the one that is made of it, its
--- places are those of that item's spelling, and bytes that say it are that spelling; and what is equal places apart is
--- made into one item
+-- all bytes do; what is said is a sequence of the grammar, which has at most eight levels, and may have eight; the item
+-- that says it is the one that is made of it, its places are those of that item's spelling, and bytes that say it are
+-- that spelling; and what is equal places apart is made into one item
 pub record SequenceLaws : Type 0 where
-  pub reading_laws : (shared : Bool) (count levels place : ℕ) (x : DataItem) → IsValid x
+  pub one_reading : (shared : Bool) (count levels place : ℕ) (x : DataItem) → IsValid x
       → HasOneSequence shared count (suc levels) place x
       ⊎ HasOneRefusal shared count (suc levels) place x
   pub whole : (shared : Bool) (count levels : ℕ)
@@ -37,6 +38,10 @@ pub record SequenceLaws : Type 0 where
       (RefusesSequence shared count (suc levels))
   pub allowed : (shared : Bool) (count levels place : ℕ) (x : DataItem) (s : SequenceTree)
       → IsValid x → SaysSequence shared count levels place x s → IsSequence shared count levels s
+  pub eight_levels : (shared : Bool) (count : ℕ) (s : SequenceTree)
+      → IsSequence shared count levels_allowed s → sequence_depth s ≤ 8
+  pub eighth_level : (shared : Bool) (count : ℕ)
+      → (s : SequenceTree) × (sequence_depth s ≡ 8) × IsSequence shared count levels_allowed s
   pub made : (shared : Bool) (count levels place : ℕ) (x : DataItem) (s : SequenceTree)
       → SaysSequence shared count levels place x s → x ≡ sequence_item s
   pub places : (shared : Bool) (count levels place : ℕ) (x : DataItem) (s : SequenceTree)

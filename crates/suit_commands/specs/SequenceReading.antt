@@ -8,11 +8,12 @@ use Rattle.suit_params.specs.declared.param.Param.{Param}
 use Rattle.suit_params.specs.declared.refusal.Refusal.{Refusal}
 use Rattle.suit_params.specs.declared.refusal.Why.TheVariants.{Shape, Unsupported, BadArgument, Nested}
 use Rattle.suit_params.specs.Refusing.{refused}
-use Rattle.suit_params.specs.Reading.{head_from, only_from, string_from}
+use Rattle.suit_params.specs.Reading.{head_from, only_from, kind_from, string_from}
 use Rattle.suit_params.specs.ParamJudging.{judge_index}
 use Rattle.suit_params.specs.ParamReading.{next_params}
 use Rattle.suit_commands.specs.declared.command_code.CommandCode.{CommandCode}
 use Rattle.suit_commands.specs.declared.command_code.CommandCode.TheVariants as codes
+use Rattle.suit_commands.specs.declared.scope.Scope.{Scope}
 use Rattle.suit_commands.specs.declared.selection.Selection.{Selection}
 use Rattle.suit_commands.specs.declared.selection.Selection.TheVariants.{One, All, Listed}
 use Rattle.suit_commands.specs.CommandCodes.{numbered}
@@ -25,23 +26,17 @@ InnerReader = ℕ → Position → Result SequenceTree Refusal
 
 -- ---- codes
 
-abbrev pub code_after : Bool → ℕ → ℕ → Position → HeadKind → Result (CommandCode × Position) Refusal
-code_after shared place n p kinds.Unsigned =
-    known_code place shared (numbered n) >>= λ code. Ok (code, p)
-code_after shared place n p _ = Err (refused place Unsupported)
-
 unfoldable pub code_from : Bool → Position → Result (CommandCode × Position) Refusal
-code_from shared p = head_from p >>= λ h. code_after shared p.place h.0.value h.1 h.0.kind
+code_from shared p =
+    kind_from kinds.Unsigned Unsupported p
+    >>= λ n. known_code p.place shared (numbered n.0) >>= λ code. Ok (code, n.1)
 
 -- ---- arguments
 
-abbrev pub report_after : ℕ → ℕ → Position → HeadKind → Result (ℕ × Position) Refusal
-report_after place n p kinds.Unsigned =
-    if nat_lt n 16 then Ok (n, p) else Err (refused place BadArgument)
-report_after place n p _ = Err (refused place BadArgument)
-
 unfoldable pub report_from : Position → Result (ℕ × Position) Refusal
-report_from p = head_from p >>= λ h. report_after p.place h.0.value h.1 h.0.kind
+report_from p =
+    kind_from kinds.Unsigned BadArgument p
+    >>= λ n. if nat_lt n.0 16 then Ok n else Err (refused p.place BadArgument)
 
 abbrev pub element_after : ℕ → ℕ → ℕ → ℕ → Position → HeadKind → Result (ℕ × Position) Refusal
 element_after count list place n p kinds.Unsigned = judge_index count place n >>= λ i. Ok (i, p)
@@ -58,40 +53,30 @@ indices_from count list zero p = Ok ([], p)
 indices_from count list (suc n) p =
     element_from count list p >>= λ i. indices_from count list n i.1 >>= λ is. Ok (i.0 ∷ is.0, is.1)
 
-abbrev pub listed_from : ℕ → ℕ → ℕ → Position → Result (Selection × Position) Refusal
-listed_from count place n p = indices_from count place n p >>= λ is. Ok (Listed is.0, is.1)
-
 abbrev pub selection_after : ℕ → ℕ → ℕ → Position → HeadKind → Result (Selection × Position) Refusal
 selection_after count place n p kinds.Unsigned = judge_index count place n >>= λ i. Ok (One i, p)
 selection_after count place n p kinds.Bool =
     if n == 1 then Ok (All, p) else Err (refused place BadArgument)
 selection_after count place n p kinds.Array =
-    if n == 0 then Err (refused place BadArgument) else listed_from count place n p
+    if n == 0 then Err (refused place BadArgument)
+    else (indices_from count place n p >>= λ is. Ok (Listed is.0, is.1))
 selection_after count place n p _ = Err (refused place BadArgument)
 
 unfoldable pub selection_from : ℕ → Position → Result (Selection × Position) Refusal
 selection_from count p = head_from p >>= λ h. selection_after count p.place h.0.value h.1 h.0.kind
 
-abbrev pub override_after : ℕ → Position → HeadKind → Result (List Param × Position) Refusal
-override_after count p kinds.Map = next_params count p
-override_after count p _ = Err (refused p.place BadArgument)
-
 -- the head is looked at first, and then the whole item is read
 unfoldable pub override_from : ℕ → Position → Result (List Param × Position) Refusal
-override_from count p = head_from p >>= λ h. override_after count p h.0.kind
+override_from count p = kind_from kinds.Map BadArgument p >>= λ n. next_params count p
 
 -- ---- byte strings that hold sequences
 
 abbrev pub held_sequence : InnerReader → ℕ → ℕ → Position → Result (SequenceTree × Position) Refusal
 held_sequence inner place n p = string_from n p >>= λ c. inner place c.0 >>= λ s. Ok (s, c.1)
 
-abbrev pub run_after : InnerReader → ℕ → ℕ → Position → HeadKind
-    → Result (SequenceTree × Position) Refusal
-run_after inner place n p kinds.Bytes = held_sequence inner place n p
-run_after inner place n p _ = Err (refused place BadArgument)
-
 unfoldable pub run_from : InnerReader → Position → Result (SequenceTree × Position) Refusal
-run_from inner p = head_from p >>= λ h. run_after inner p.place h.0.value h.1 h.0.kind
+run_from inner p =
+    kind_from kinds.Bytes BadArgument p >>= λ n. held_sequence inner p.place n.0 n.1
 
 abbrev pub branch_by : InnerReader → Bool → ℕ → ℕ → Position → HeadKind
     → Result (Option SequenceTree × Position) Refusal
@@ -112,14 +97,10 @@ branches_from inner (suc n) p =
     branch_from inner (n == 0) p >>= λ b. branches_from inner n b.1
     >>= λ bs. Ok (branch_before b.0 bs.0, bs.1)
 
-abbrev pub try_after : InnerReader → ℕ → ℕ → Position → HeadKind
-    → Result (BranchesTree × Position) Refusal
-try_after inner place n p kinds.Array =
-    if nat_lt n 2 then Err (refused place BadArgument) else branches_from inner n p
-try_after inner place n p _ = Err (refused place BadArgument)
-
 unfoldable pub try_from : InnerReader → Position → Result (BranchesTree × Position) Refusal
-try_from inner p = head_from p >>= λ h. try_after inner p.place h.0.value h.1 h.0.kind
+try_from inner p =
+    kind_from kinds.Array BadArgument p
+    >>= λ n. if nat_lt n.0 2 then Err (refused p.place BadArgument) else branches_from inner n.0 n.1
 
 -- ---- commands
 
@@ -142,18 +123,17 @@ steps_from inner shared count (suc n) p =
     step_from inner shared count p >>= λ c. steps_from inner shared count n c.1
     >>= λ rest. Ok (StepThen p.place c.0 rest)
 
-abbrev pub sequence_after : InnerReader → Bool → ℕ → ℕ → ℕ → Position → HeadKind
-    → Result SequenceTree Refusal
-sequence_after inner shared count place n p kinds.Array =
+-- so many codes and arguments, where they are in pairs
+abbrev pub paired_from : InnerReader → Bool → ℕ → ℕ → ℕ → Position → Result SequenceTree Refusal
+paired_from inner shared count place n p =
     if n == 0 then Err (refused place Shape)
     else if n % 2 == 0 then steps_from inner shared count (n / 2) p
     else Err (refused place Shape)
-sequence_after inner shared count place n p _ = Err (refused place Shape)
 
 -- a whole item, as a sequence
 unfoldable pub sequence_at : InnerReader → Bool → ℕ → Position → Result SequenceTree Refusal
 sequence_at inner shared count p =
-    head_from p >>= λ h. sequence_after inner shared count p.place h.0.value h.1 h.0.kind
+    kind_from kinds.Array Shape p >>= λ n. paired_from inner shared count p.place n.0 n.1
 
 -- ---- sequences in sequences, of so many levels
 
@@ -161,6 +141,10 @@ unfoldable pub nested_from : Bool → ℕ → ℕ → InnerReader
 nested_from shared count zero place p = Err (refused place Nested)
 nested_from shared count (suc levels) place p =
     only_from p >>= sequence_at (nested_from shared count levels) shared count
+
+-- where so many levels may stand inside, in the shared sequence or another one
+abbrev pub inner_reader : Scope → InnerReader
+inner_reader scope = nested_from scope.shared scope.count scope.levels
 
 -- bytes that are to hold one sequence, with so many levels inside it
 abbrev pub whole_sequence : Bool → ℕ → ℕ → Position → Result SequenceTree Refusal

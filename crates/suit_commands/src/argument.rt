@@ -5,14 +5,15 @@ ghost use Rattle.det_cbor.specs.HeadReading.{map_ok};
 ghost use Rattle.suit_params.specs.Answering.{Gives};
 ghost use Rattle.suit_params.specs.ParamJudging.{judge_index};
 ghost use Rattle.suit_params.specs.ParamReading.{next_params};
-ghost use Rattle.suit_commands.specs.SequenceReading.{report_from, element_from, indices_from, listed_from, selection_from, override_from};
+ghost use Rattle.suit_commands.specs.SequenceReading.{report_from, element_from, indices_from, selection_from, override_from};
 
+use crate::scope::Scope;
 use crate::{IndexList, Selection};
 use det_cbor::{Cursor, HeadKind};
 use std::alloc::Global;
 use suit_params::{
-    Fault, ParamList, Refusal, Why, component_index, params_of, read_head, read_item, refused,
-    same_place,
+    Fault, ParamList, Refusal, Why, component_index, params_of, read_head, read_item, read_kind,
+    refused, same_place,
 };
 
 /// Reads a reporting policy.
@@ -21,16 +22,11 @@ pub(crate) fn read_report(cursor: &mut Cursor<'_>) -> Result<u8, Refusal>
     ensures { map_ok (λ n. (n, cursor.new)) result ≡ report_from cursor.old }
 {
     let place = cursor.place();
-    let head = read_head(cursor)?;
-    match head.kind {
-        HeadKind::Unsigned => {
-            if head.value < 16 {
-                Ok(head.value as u8)
-            } else {
-                refused(place, Why::BadArgument)
-            }
-        }
-        _ => refused(place, Why::BadArgument),
+    let report = read_kind(cursor, HeadKind::Unsigned, Why::BadArgument)?;
+    if report < 16 {
+        Ok(report as u8)
+    } else {
+        refused(place, Why::BadArgument)
     }
 }
 
@@ -49,48 +45,31 @@ fn read_element(cursor: &mut Cursor<'_>, list: u64, count: u32) -> Result<u32, R
 
 // Reads so many elements of the list at a place.
 fn read_indices(
-    alloc: Global,
     cursor: &mut Cursor<'_>,
     list: u64,
     elements: u64,
-    count: u32,
+    scope: Scope,
 ) -> Result<IndexList, Fault>
-    ensures { Gives (λ is. (is, cursor.new)) result (indices_from count list elements cursor.old) }
+    ensures { Gives (λ is. (is, cursor.new)) result
+        (indices_from scope.count list elements cursor.old) }
 {
-    let mut indices = IndexList::new(alloc);
+    let mut indices = IndexList::new(scope.alloc);
     for _ in 0..elements {
-        let index = read_element(cursor, list, count)?;
+        let index = read_element(cursor, list, scope.count)?;
         indices.push(index)?;
     }
     Ok(indices)
 }
 
-fn read_listed(
-    alloc: Global,
-    cursor: &mut Cursor<'_>,
-    list: u64,
-    elements: u64,
-    count: u32,
-) -> Result<Selection, Fault>
-    ensures { Gives (λ s. (s, cursor.new)) result (listed_from count list elements cursor.old) }
-{
-    let indices = read_indices(alloc, cursor, list, elements, count)?;
-    Ok(Selection::Listed(indices))
-}
-
 /// Reads the selection of a set component index, for so many components.
 #[tactic(auto, unfolding(crate::specs::SequenceReading::selection_from))]
-pub(crate) fn read_selection(
-    alloc: Global,
-    cursor: &mut Cursor<'_>,
-    count: u32,
-) -> Result<Selection, Fault>
-    ensures { Gives (λ s. (s, cursor.new)) result (selection_from count cursor.old) }
+pub(crate) fn read_selection(cursor: &mut Cursor<'_>, scope: Scope) -> Result<Selection, Fault>
+    ensures { Gives (λ s. (s, cursor.new)) result (selection_from scope.count cursor.old) }
 {
     let place = cursor.place();
     let head = read_head(cursor)?;
     match head.kind {
-        HeadKind::Unsigned => Ok(Selection::One(component_index(place, head.value, count)?)),
+        HeadKind::Unsigned => Ok(Selection::One(component_index(place, head.value, scope.count)?)),
         HeadKind::Bool => {
             if head.value == 1 {
                 Ok(Selection::All)
@@ -102,7 +81,8 @@ pub(crate) fn read_selection(
             if head.value == 0 {
                 Ok(refused(place, Why::BadArgument)?)
             } else {
-                read_listed(alloc, cursor, place, head.value, count)
+                let indices = read_indices(cursor, place, head.value, scope)?;
+                Ok(Selection::Listed(indices))
             }
         }
         _ => Ok(refused(place, Why::BadArgument)?),
@@ -119,18 +99,10 @@ fn read_map(alloc: Global, cursor: &mut Cursor<'_>, count: u32) -> Result<ParamL
 
 /// Reads the parameters of an override, for so many components.
 #[tactic(auto, unfolding(crate::specs::SequenceReading::override_from))]
-pub(crate) fn read_override(
-    alloc: Global,
-    cursor: &mut Cursor<'_>,
-    count: u32,
-) -> Result<ParamList, Fault>
-    ensures { Gives (λ list. (list, cursor.new)) result (override_from count cursor.old) }
+pub(crate) fn read_override(cursor: &mut Cursor<'_>, scope: Scope) -> Result<ParamList, Fault>
+    ensures { Gives (λ list. (list, cursor.new)) result (override_from scope.count cursor.old) }
 {
     let mut ahead = same_place(cursor);
-    let place = ahead.place();
-    let head = read_head(&mut ahead)?;
-    match head.kind {
-        HeadKind::Map => read_map(alloc, cursor, count),
-        _ => Ok(refused(place, Why::BadArgument)?),
-    }
+    read_kind(&mut ahead, HeadKind::Map, Why::BadArgument)?;
+    read_map(scope.alloc, cursor, scope.count)
 }

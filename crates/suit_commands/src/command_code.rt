@@ -8,7 +8,7 @@ ghost use Rattle.suit_commands.specs.SequenceReading.{code_from};
 
 use crate::{ActKind, TestKind};
 use det_cbor::{Cursor, HeadKind};
-use suit_params::{Refusal, Why, read_head, refused};
+use suit_params::{Refusal, Why, read_kind, refused};
 
 /// Which command a code stands for (draft-ietf-suit-manifest-25, sections 8.4.9 and 8.4.10).
 #[derive(Clone, Copy, Debug, PartialEq, Eq)]
@@ -70,9 +70,6 @@ pub(crate) fn read_code(cursor: &mut Cursor<'_>, shared: bool) -> Result<Command
     ensures { map_ok (λ code. (code, cursor.new)) result ≡ code_from shared cursor.old }
 {
     let place = cursor.place();
-    let head = read_head(cursor)?;
-    match head.kind {
-        HeadKind::Unsigned => known_code(place, shared, head.value),
-        _ => refused(place, Why::Unsupported),
-    }
+    let number = read_kind(cursor, HeadKind::Unsigned, Why::Unsupported)?;
+    known_code(place, shared, number)
 }

@@ -11,6 +11,7 @@ ghost use Rattle.suit_commands.specs.SequenceReading.{whole_sequence};
 ghost use Rattle.suit_commands.specs.Tree.{SequenceTree};
 
 use crate::Sequence;
+use crate::scope::Scope;
 use crate::sequence_reading::read_array;
 use det_cbor::Cursor;
 use std::alloc::Global;
@@ -19,20 +20,15 @@ use suit_params::{Fault, only_item};
 /// How many levels of sequences a member or the shared sequence may have, itself included.
 pub const MAX_LEVELS: u8 = 8;
 
-// See `decode_sequence`.
-fn whole_sequence(
-    alloc: Global,
-    bytes: &[u8],
-    place: u64,
-    shared: bool,
-    count: u32,
-) -> Result<Sequence, Fault>
+// Reads the one item that is to be a sequence.
+fn whole_sequence(bytes: &[u8], place: u64, scope: Scope) -> Result<Sequence, Fault>
     requires { place + length bytes.now < 2 ^ 64 }
     ensures { Gives (λ s. s) result
-        (whole_sequence shared count levels_inside (record { left = bytes.now; place = place })) }
+        (whole_sequence scope.shared scope.count scope.levels
+        (record { left = bytes.now; place = place })) }
 {
     let item = only_item(Cursor::new(bytes, place))?;
-    read_array(alloc, item, MAX_LEVELS - 1, shared, count)
+    read_array(item, scope)
 }
 
 /// Decodes the sequence of commands that the bytes spell (draft-ietf-suit-manifest-25, section
@@ -63,5 +59,11 @@ pub fn decode_sequence(
         → RefusesWhole (RefusesSequence shared count levels_allowed) place bytes.now r
         → IsRefusedAs r result }
 {
-    whole_sequence(alloc, bytes, place, shared, count)
+    let scope = Scope {
+        alloc,
+        levels: MAX_LEVELS - 1,
+        shared,
+        count,
+    };
+    whole_sequence(bytes, place, scope)
 }

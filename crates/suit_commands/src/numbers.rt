@@ -2,6 +2,7 @@
 
 ghost use Rattle.std.specs.Prelude.{◌≡◌};
 ghost use Rattle.suit_commands.specs.Capped.{capped};
+ghost use Rattle.suit_commands.specs.NumberLaws.{NumberLaws};
 ghost use Rattle.suit_commands.specs.Numbers.{work_of, ways_of, start_ways, work_number, spread_number, width_number};
 ghost use Rattle.suit_commands.specs.Plans.{lent_tree, plan_tree};
 
@@ -60,3 +61,9 @@ fn lent_on(sequence: Option<&Sequence>, count: u32) -> u64
         None => 1,
     }
 }
+
+/// Does nothing. Its contract has the laws. Each sequence of a procedure completes in at least one way, so the spread
+/// is never below 1 and the width never below the work; and the width is the work times the spread.
+pub fn number_laws()
+    ensures { NumberLaws }
+{}

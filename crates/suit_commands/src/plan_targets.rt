@@ -4,6 +4,7 @@ ghost use Rattle.std.specs.Prelude.{◌≡◌, ◌≤◌, ◌∷◌, [], ℕ, �
 ghost use Rattle.suit_commands.specs.Allowed.{IsPlan};
 ghost use Rattle.suit_commands.specs.Bits.{HasBit};
 ghost use Rattle.suit_commands.specs.Indexed.{AreIndexed};
+ghost use Rattle.suit_commands.specs.NumberLaws.{TargetLaws};
 ghost use Rattle.suit_commands.specs.Plans.{lent_tree, plan_tree};
 ghost use Rattle.suit_commands.specs.Targets.{Writes, Swaps, Sources, InSome, IsTarget};
 
@@ -30,6 +31,7 @@ pub fn targets(plan: &Plan<'_>) -> Targets
     Targets { bits: written }
 }
 
+#[tactic(auto, using(crate::proofs::IndexedSteps::member_indexed, crate::proofs::IndexedSteps::shared_indexed))]
 fn written_by(plan: &Plan<'_>) -> u32
     requires { IsPlan (plan_tree plan.now) }
     ensures { (component : ℕ)
@@ -52,6 +54,7 @@ fn swaps_in(plan: &Plan<'_>) -> bool
         || lent_swaps(plan.third)
 }
 
+#[tactic(auto, using(crate::proofs::IndexedSteps::member_indexed, crate::proofs::IndexedSteps::shared_indexed))]
 fn sources_in(plan: &Plan<'_>) -> u32
     requires { IsPlan (plan_tree plan.now) }
     ensures { (component : ℕ)
@@ -105,3 +108,8 @@ fn lent_sources(sequence: Option<&Sequence>, count: u32) -> u32
         None => 0,
     }
 }
+
+/// Does nothing. Its contract has the law: each target of a procedure is a component of the manifest.
+pub fn target_laws()
+    ensures { TargetLaws }
+{}

@@ -2,12 +2,15 @@
 use Rattle.std.proofs.Common.{◌≡◌, ℕ, ◌+◌, false, eqb, List, Err, refl, arith}
 use Rattle.std.proofs.lemmas.Bool.{ne_eqb}
 use Rattle.det_cbor.specs.DataItem.{DataItem, UnsignedInteger, NegativeInteger, ByteString, ArrayOf, NoItems, ItemThen, item_count}
+use Rattle.det_cbor.specs.declared.head.HeadKind.TheVariants as kinds
+use Rattle.det_cbor.specs.HeadReading.{◌>>=◌}
 use Rattle.det_cbor.specs.Position.{Position}
 use Rattle.suit_params.specs.declared.refusal.Why.TheVariants.{Shape}
 use Rattle.suit_params.specs.Refusing.{refused, IsByteString}
 use Rattle.suit_params.specs.Digests.{IsPair, IsNumber, pair_item, first_place}
 use Rattle.suit_params.specs.Judging.{judge_value, judge_elements, judge_digest}
-use Rattle.suit_params.specs.DigestReading.{value_after, algorithm_after, elements_after}
+use Rattle.suit_params.specs.Reading.{kind_after}
+use Rattle.suit_params.specs.DigestReading.{algorithm_after, elements_at}
 use Rattle.det_cbor.specs.ItemHeads.{item_kind, item_value}
 
 -- ---- pairs
@@ -15,9 +18,9 @@ use Rattle.det_cbor.specs.ItemHeads.{item_kind, item_value}
 pub record OtherThanPair (x : DataItem) : Type 0 where
   pub other : IsPair x → ⊥
   pub judged : (place : ℕ) → judge_digest place x ≡ Err (refused place Shape)
-  pub read : (place : ℕ) (p : Position) → elements_after place (item_value x) p (item_kind x) ≡ Err (refused place Shape)
+  pub read : (place : ℕ) (p : Position) → (kind_after kinds.Array Shape place (item_value x) p (item_kind x) >>= elements_at place) ≡ Err (refused place Shape)
 
-other_count : (n place : ℕ) (p : Position) → (n ≡ 2 → ⊥) → elements_after place n p (item_kind (ArrayOf NoItems)) ≡ Err (refused place Shape)
+other_count : (n place : ℕ) (p : Position) → (n ≡ 2 → ⊥) → elements_at place (n, p) ≡ Err (refused place Shape)
 other_count n place p other = let no : eqb n 2 ≡ false = ne_eqb n 2 other in rw no refl
 
 pub by_pair : (P : DataItem → Type 0) → ((a b : DataItem) → P (pair_item a b)) → ((x : DataItem) → OtherThanPair x → P x) → (x : DataItem) → P x
@@ -45,8 +48,8 @@ by_number P unsigned negative other x = other x (record { other = λ h. h; judge
 pub record OtherThanBytes (b : DataItem) : Type 0 where
   pub other : IsByteString b → ⊥
   pub judged : (array place : ℕ) → judge_value array place b ≡ Err (refused place Shape)
-  pub read : (array place : ℕ) (p : Position) → value_after array place (item_value b) p (item_kind b) ≡ Err (refused place Shape)
+  pub read : (place : ℕ) (p : Position) → kind_after kinds.Bytes Shape place (item_value b) p (item_kind b) ≡ Err (refused place Shape)
 
 pub by_bytes : (P : DataItem → Type 0) → ((bytes : List ℕ) → P (ByteString bytes)) → ((b : DataItem) → OtherThanBytes b → P b) → (b : DataItem) → P b
 by_bytes P bytes other (ByteString content) = bytes content
-by_bytes P bytes other x = other x (record { other = λ h. h; judged = λ array place. refl; read = λ array place p. refl })
+by_bytes P bytes other x = other x (record { other = λ h. h; judged = λ array place. refl; read = λ place p. refl })

@@ -13,7 +13,7 @@ use Rattle.suit_params.specs.declared.refusal.Why.TheVariants.{Shape, Algorithm}
 use Rattle.suit_params.specs.Refusing.{refused, IsByteString}
 use Rattle.suit_params.specs.Digests.{pair_item, sha_256, IsDigest, IsPair, IsNumber, first_place, second_place, RefusesDigest, NoPair, NoNumber, OtherAlgorithm, NoByteString, OtherLength}
 use Rattle.suit_params.specs.Judging.{judge_value, judge_elements, judge_digest}
-use Rattle.suit_params.specs.Reading.{bytes_from}
+use Rattle.suit_params.specs.Reading.{bytes_from, array_from}
 use Rattle.suit_params.specs.DigestReading.{value_at, algorithm_at, digest_at}
 use Rattle.suit_params.specs.HeadLaws.{item_head_read, bytes_again, after}
 use Rattle.suit_params.proofs.DigestCases.{by_pair, by_number, by_bytes}
@@ -37,7 +37,7 @@ value_read levels array p b rest valid is =
     let taken = bytes_again q bytes rest refl in
     rw (item_head_read levels p (ByteString bytes) rest v i)
     (by_test (eqb (length bytes) 32) (bytes_from (length bytes) q) (refused array Algorithm) (λ d. Ok d.0) (Ok bytes) (rw taken refl)))
-    (λ c other v i. rw (item_head_read levels p c rest v i, other.read array p.place (after p _ _), other.judged array p.place) refl)
+    (λ c other v i. rw (item_head_read levels p c rest v i, other.read p.place (after p _ _), other.judged array p.place) refl)
     b valid is
 
 elements_read : (levels array : ℕ) (a b : DataItem) (left rest : List ℕ) → IsValidWithin levels a → IsValidWithin levels b → left ≡ spell a ++ (spell b ++ rest)
@@ -55,7 +55,7 @@ elements_read levels array a b left rest valid second is =
     a valid is
 
 pub digest_read : (levels : ℕ) (x : DataItem) (place : ℕ) → IsValidWithin levels x → digest_at (at_place (spell x) place) ≡ judge_digest place x
-unfolding digest_at
+unfolding digest_at array_from
 digest_read levels x place valid =
     by_pair (λ (y : DataItem). IsValidWithin levels y → digest_at (at_place (spell y) place) ≡ judge_digest place y)
     (λ a b v.

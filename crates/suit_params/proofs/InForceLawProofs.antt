@@ -1,6 +1,6 @@
 -- Keys have cells of their own, and parameters in force have their values.
-use Rattle.std.proofs.Common.{◌≡◌, ◌≢◌, ◌<◌, ℕ, List, length, Option, Some, None, refl, sym, ap, ◌∙◌, arith, inl, inr}
-use Rattle.std.specs.Prelude.{◌==◌, if◌then◌else◌}
+use Rattle.std.proofs.Common.{◌≡◌, ◌≢◌, ◌<◌, ℕ, List, length, Option, Some, None, refl, sym, ap, ◌∙◌, arith, inl, inr, ◌⊎◌}
+use Rattle.std.specs.Prelude.{slice_get}
 use Rattle.std.proofs.lemmas.List.{get_or-replicate, length-replicate}
 use Rattle.std.proofs.lemmas.Option.{same_Some}
 use Rattle.suit_params.specs.declared.digest.Digest.{Digest}
@@ -10,44 +10,18 @@ use Rattle.suit_params.specs.declared.param.ParamKey.{ParamKey}
 use Rattle.suit_params.specs.declared.param.ParamKey.TheVariants as keys
 use Rattle.suit_params.specs.InForce.{Parameters, rank, cell, none_in_force, with_param, in_force, identifier_of, number_of, digest_of, bytes_of}
 use Rattle.suit_params.specs.InForceLaws.{HasIdentifier, HasNumber, HasDigest, HasBytes, InForceLaws}
-use Rattle.suit_params.specs.ParamKeys.{key_of}
+use Rattle.suit_params.specs.ParamKeys.{key_of, all_keys}
 use Rattle.suit_params.proofs.Overriding.{within, in_force_is, at_same, at_other}
 
 -- ---- cells
 
--- the key that stands at one of the twelve
-abbrev key_at : ℕ → Option ParamKey
-key_at n =
-    if n == 0 then Some keys.Vendor
-    else if n == 1 then Some keys.Class
-    else if n == 2 then Some keys.Digest
-    else if n == 3 then Some keys.Slot
-    else if n == 4 then Some keys.Strict
-    else if n == 5 then Some keys.Soft
-    else if n == 6 then Some keys.Size
-    else if n == 7 then Some keys.Content
-    else if n == 8 then Some keys.Uri
-    else if n == 9 then Some keys.Source
-    else if n == 10 then Some keys.Args
-    else if n == 11 then Some keys.Device
-    else None
-
-key_again : (key : ParamKey) → key_at (rank key) ≡ Some key
+-- the keys stand in the order of their cells
+key_again : (key : ParamKey) → slice_get all_keys (rank key) ≡ Some key
 key_again keys.Vendor = refl
-key_again keys.Class = refl
-key_again keys.Digest = refl
-key_again keys.Slot = refl
-key_again keys.Strict = refl
-key_again keys.Soft = refl
-key_again keys.Size = refl
-key_again keys.Content = refl
-key_again keys.Uri = refl
-key_again keys.Source = refl
-key_again keys.Args = refl
-key_again keys.Device = refl
+key_again _ = refl
 
 own_cell : (j k : ParamKey) → rank j ≡ rank k → j ≡ k
-own_cell j k e = same_Some j k (sym (key_again j) ∙ ap key_at e ∙ key_again k)
+own_cell j k e = same_Some j k (sym (key_again j) ∙ ap (slice_get all_keys) e ∙ key_again k)
 
 at_first : (component : ℕ) (key : ParamKey) → component < 8 → in_force none_in_force component key ≡ None
 unfolding none_in_force
@@ -63,6 +37,13 @@ others ps component p key full low apart = at_other ps component component p key
 
 -- ---- values
 
+-- a parameter made in one of three ways has the value that it was made of
+made_of : {V : Type 0} (value : Option Param → Option V) (p : Param) (v : V) (first second third : V → Param) → value (Some (first v)) ≡ Some v → value (Some (second v)) ≡ Some v → value (Some (third v)) ≡ Some v
+    → (p ≡ first v) ⊎ (p ≡ second v) ⊎ (p ≡ third v) → value (Some p) ≡ Some v
+made_of value p v first second third one two three (inl e) = ap (λ (q : Param). value (Some q)) e ∙ one
+made_of value p v first second third one two three (inr (inl e)) = ap (λ (q : Param). value (Some q)) e ∙ two
+made_of value p v first second third one two three (inr (inr e)) = ap (λ (q : Param). value (Some q)) e ∙ three
+
 identifier_is : (p : Param) (id : List ℕ) → identifier_of (Some p) ≡ Some id → HasIdentifier p id
 identifier_is (params.Vendor x) id e = inl (ap params.Vendor (same_Some x id e))
 identifier_is (params.Class x) id e = inr (inl (ap params.Class (same_Some x id e)))
@@ -70,9 +51,10 @@ identifier_is (params.Device x) id e = inr (inr (ap params.Device (same_Some x i
 identifier_is _ id e = absurd cc
 
 identifier_has : (p : Param) (id : List ℕ) → HasIdentifier p id → identifier_of (Some p) ≡ Some id
-identifier_has p id (inl e) = ap (λ (q : Param). identifier_of (Some q)) e
-identifier_has p id (inr (inl e)) = ap (λ (q : Param). identifier_of (Some q)) e
-identifier_has p id (inr (inr e)) = ap (λ (q : Param). identifier_of (Some q)) e
+identifier_has p id has = made_of identifier_of p id (λ v. params.Vendor v) (λ v. params.Class v) (λ v. params.Device v) refl refl refl has
+
+number_has : (p : Param) (n : ℕ) → HasNumber p n → number_of (Some p) ≡ Some n
+number_has p n has = made_of number_of p n (λ v. params.Slot v) (λ v. params.Size v) (λ v. params.Source v) refl refl refl has
 
 number_is : (p : Param) (n : ℕ) → number_of (Some p) ≡ Some n → HasNumber p n
 number_is (params.Slot x) n e = inl (ap params.Slot (same_Some x n e))
@@ -80,28 +62,21 @@ number_is (params.Size x) n e = inr (inl (ap params.Size (same_Some x n e)))
 number_is (params.Source x) n e = inr (inr (ap params.Source (same_Some x n e)))
 number_is _ n e = absurd cc
 
-number_has : (p : Param) (n : ℕ) → HasNumber p n → number_of (Some p) ≡ Some n
-number_has p n (inl e) = ap (λ (q : Param). number_of (Some q)) e
-number_has p n (inr (inl e)) = ap (λ (q : Param). number_of (Some q)) e
-number_has p n (inr (inr e)) = ap (λ (q : Param). number_of (Some q)) e
+digest_has : (p : Param) (digest : Digest) → HasDigest p digest → digest_of (Some p) ≡ Some digest
+digest_has p digest e = ap (λ (q : Param). digest_of (Some q)) e
 
 digest_is : (p : Param) (digest : Digest) → digest_of (Some p) ≡ Some digest → HasDigest p digest
 digest_is (params.Digest x) digest e = ap params.Digest (same_Some x digest e)
 digest_is _ digest e = absurd cc
 
-digest_has : (p : Param) (digest : Digest) → HasDigest p digest → digest_of (Some p) ≡ Some digest
-digest_has p digest e = ap (λ (q : Param). digest_of (Some q)) e
+bytes_has : (p : Param) (bytes : List ℕ) → HasBytes p bytes → bytes_of (Some p) ≡ Some bytes
+bytes_has p bytes has = made_of bytes_of p bytes (λ v. params.Content v) (λ v. params.Uri v) (λ v. params.Args v) refl refl refl has
 
 bytes_is : (p : Param) (bytes : List ℕ) → bytes_of (Some p) ≡ Some bytes → HasBytes p bytes
 bytes_is (params.Content x) bytes e = inl (ap params.Content (same_Some x bytes e))
 bytes_is (params.Uri x) bytes e = inr (inl (ap params.Uri (same_Some x bytes e)))
 bytes_is (params.Args x) bytes e = inr (inr (ap params.Args (same_Some x bytes e)))
 bytes_is _ bytes e = absurd cc
-
-bytes_has : (p : Param) (bytes : List ℕ) → HasBytes p bytes → bytes_of (Some p) ≡ Some bytes
-bytes_has p bytes (inl e) = ap (λ (q : Param). bytes_of (Some q)) e
-bytes_has p bytes (inr (inl e)) = ap (λ (q : Param). bytes_of (Some q)) e
-bytes_has p bytes (inr (inr e)) = ap (λ (q : Param). bytes_of (Some q)) e
 
 pub in_force_laws : InForceLaws
 in_force_laws = record {

@@ -1,12 +1,13 @@
--- Finding by number, by one test of the number after another.
-use Rattle.std.proofs.Common.{◌≡◌, ℕ, Bool, true, false, cond, eqb, Option, Some, refl, sym, ap, ◌∙◌}
+-- What is found by number has the number.
+use Rattle.std.proofs.Common.{◌≡◌, ℕ, eqb, List, [], ◌∷◌, Some, ap, ◌∙◌, inl, inr}
 use Rattle.std.proofs.lemmas.Bool.{eqb-true}
+use Rattle.det_cbor.specs.ResultLaws.{chosen}
+use Rattle.suit_params.specs.Numbering.{numbered_in}
 
--- it is found by a test, or by those behind it
-pub one_of : {A : Type 0} (number : A → ℕ) (n m : ℕ) (a : A) (rest : Option A) (found : A) → number a ≡ m → cond (eqb n m) (Some a) rest ≡ Some found
-    → (rest ≡ Some found → n ≡ number found) → n ≡ number found
-one_of {A} number n m a rest found has e others = by_test (eqb n m) refl e
-  where
-    by_test : (t : Bool) → eqb n m ≡ t → cond t (Some a) rest ≡ Some found → n ≡ number found
-    by_test true is f = let same : a ≡ found = cc in eqb-true n m is ∙ sym has ∙ ap number same
-    by_test false is f = others f
+pub numbered_has : {A : Type 0} (number : A → ℕ) (all : List A) (n : ℕ) (found : A) → numbered_in number all n ≡ Some found → n ≡ number found
+numbered_has number [] n found e = absurd cc
+numbered_has number (a ∷ others) n found e =
+    elim (chosen (eqb n (number a)) (Some a) (numbered_in number others n) (Some found) e) [
+      | inl (is, f) ↦ let same : a ≡ found = cc in eqb-true n (number a) is ∙ ap number same
+      | inr (other, f) ↦ numbered_has number others n found f
+    ]

@@ -7,40 +7,18 @@ use Rattle.suit_params.specs.declared.param.ParamKey.TheVariants as keys
 use Rattle.suit_params.specs.declared.refusal.Refusal.{Refusal}
 use Rattle.suit_params.specs.declared.refusal.Why.TheVariants.{UnknownParam}
 use Rattle.suit_params.specs.Refusing.{refused}
-use Rattle.suit_params.specs.ParamKeys.{key_number, key_item, numbered}
+use Rattle.suit_params.specs.ParamKeys.{key_number, key_item, all_keys, numbered}
 use Rattle.suit_params.specs.ParamJudging.{known_param, judge_key}
-use Rattle.suit_params.proofs.Numbered.{one_of}
+use Rattle.suit_params.proofs.Numbered.{numbered_has}
 
 -- each key is found by its number
 pub numbered_again : (key : ParamKey) → numbered (key_number key) ≡ Some key
 numbered_again keys.Vendor = refl
-numbered_again keys.Class = refl
-numbered_again keys.Device = refl
-numbered_again keys.Digest = refl
-numbered_again keys.Slot = refl
-numbered_again keys.Strict = refl
-numbered_again keys.Soft = refl
-numbered_again keys.Size = refl
-numbered_again keys.Content = refl
-numbered_again keys.Uri = refl
-numbered_again keys.Source = refl
-numbered_again keys.Args = refl
+numbered_again _ = refl
 
 -- the one found has the number
 pub numbered_ok : (n : ℕ) (key : ParamKey) → numbered n ≡ Some key → n ≡ key_number key
-numbered_ok n key e =
-    one_of key_number n 1 keys.Vendor _ key refl e (λ e.
-    one_of key_number n 2 keys.Class _ key refl e (λ e.
-    one_of key_number n 3 keys.Digest _ key refl e (λ e.
-    one_of key_number n 5 keys.Slot _ key refl e (λ e.
-    one_of key_number n 12 keys.Strict _ key refl e (λ e.
-    one_of key_number n 13 keys.Soft _ key refl e (λ e.
-    one_of key_number n 14 keys.Size _ key refl e (λ e.
-    one_of key_number n 18 keys.Content _ key refl e (λ e.
-    one_of key_number n 21 keys.Uri _ key refl e (λ e.
-    one_of key_number n 22 keys.Source _ key refl e (λ e.
-    one_of key_number n 23 keys.Args _ key refl e (λ e.
-    one_of key_number n 24 keys.Device _ key refl e (λ e. absurd cc))))))))))))
+numbered_ok n key e = numbered_has key_number all_keys n key e
 
 pub key_ok : (place : ℕ) (x : DataItem) (key : ParamKey) → judge_key place x ≡ Ok key → x ≡ key_item key
 key_ok place (UnsignedInteger n) key e = by_answer (numbered n) refl e

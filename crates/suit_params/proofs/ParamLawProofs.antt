@@ -19,8 +19,8 @@ use Rattle.suit_params.proofs.ParamMade.{said_key, made}
 use Rattle.suit_params.proofs.ParamOrder.{number_above, key_small}
 use Rattle.suit_params.proofs.ParamWritten.{written_says, written_valid}
 
-reading_laws : (count place : ℕ) (x : DataItem) → IsValid x → HasOneList count place x ⊎ HasOneRefusal count place x
-reading_laws count place x valid = by_answer (judge_params count place x) refl
+one_reading : (count place : ℕ) (x : DataItem) → IsValid x → HasOneList count place x ⊎ HasOneRefusal count place x
+one_reading count place x valid = by_answer (judge_params count place x) refl
   where
     by_answer : (a : Result (List Param) Refusal) → judge_params count place x ≡ a → HasOneList count place x ⊎ HasOneRefusal count place x
     by_answer (Ok ps) is = inl (record {
@@ -40,17 +40,7 @@ reading_laws count place x valid = by_answer (judge_params count place x) refl
 
 key_positive : (key : ParamKey) → 0 < key_number key
 key_positive keys.Vendor = omega arith
-key_positive keys.Class = omega arith
-key_positive keys.Device = omega arith
-key_positive keys.Digest = omega arith
-key_positive keys.Slot = omega arith
-key_positive keys.Strict = omega arith
-key_positive keys.Soft = omega arith
-key_positive keys.Size = omega arith
-key_positive keys.Content = omega arith
-key_positive keys.Uri = omega arith
-key_positive keys.Source = omega arith
-key_positive keys.Args = omega arith
+key_positive _ = omega arith
 
 above_key : (low key : ParamKey) → IsAbove (Some (spell (key_item low))) (spell (key_item key)) → key_number low < key_number key
 above_key low key above = number_above (key_number low) (key_number key) (key_small low) (key_small key) above
@@ -71,4 +61,4 @@ ascending : (count place : ℕ) (x : DataItem) (ps : List Param) → IsValid x �
 ascending count place x ps valid (ParamMap pairs qs said) = pairs_ascend count 1 _ pairs qs valid.2 said
 
 pub param_laws : ParamLaws
-param_laws = record { reading_laws = reading_laws; ascending = ascending; written = written_says; valid = written_valid; made = made; digests = one_answer judge_digest IsDigest RefusesDigest digest_judges; maps = λ count. one_answer (judge_params count) (IsParams count) (RefusesParams count) (params_judge count) }
+param_laws = record { one_reading = one_reading; ascending = ascending; written = written_says; valid = written_valid; made = made; digests = one_answer judge_digest IsDigest RefusesDigest digest_judges; maps = λ count. one_answer (judge_params count) (IsParams count) (RefusesParams count) (params_judge count) }

@@ -4,39 +4,19 @@ use Rattle.det_cbor.specs.DataItem.{DataItem, DataPairs, ByteString, MapOf, Pair
 use Rattle.suit_params.specs.declared.param.Param.{Param}
 use Rattle.suit_params.specs.declared.param.ParamKey.{ParamKey}
 use Rattle.suit_params.specs.ParamKeys.{key_of, key_item}
-use Rattle.suit_params.specs.Params.{SaysValue, SaysVendor, SaysClass, SaysDevice, SaysDigest, SaysSlot, SaysStrict, SaysSoft, SaysSize, SaysContent, SaysUri, SaysSource, SaysArgs, SayParams, NoMore, ParamThen, IsParams, ParamMap}
+use Rattle.suit_params.specs.Params.{SaysValue, SaysVendor, SaysDigest, SayParams, NoMore, ParamThen, IsParams, ParamMap}
 use Rattle.suit_params.specs.ParamMaking.{value_item, param_pairs, params_item}
 
 -- a value says a parameter of its key
 pub said_key : (count place : ℕ) (key : ParamKey) (x : DataItem) (p : Param) → SaysValue count place key x p → key_of p ≡ key
 said_key count place key x p (SaysVendor id long) = refl
-said_key count place key x p (SaysClass id long) = refl
-said_key count place key x p (SaysDevice id long) = refl
-said_key count place key x p (SaysDigest content digest whole) = refl
-said_key count place key x p (SaysSlot n) = refl
-said_key count place key x p (SaysStrict b) = refl
-said_key count place key x p (SaysSoft b) = refl
-said_key count place key x p (SaysSize n) = refl
-said_key count place key x p (SaysContent bytes) = refl
-said_key count place key x p (SaysUri text) = refl
-said_key count place key x p (SaysSource i lt) = refl
-said_key count place key x p (SaysArgs bytes) = refl
+said_key count place key x p _ = refl
 
 -- ---- the item that is made
 
 value_made : (count place : ℕ) (key : ParamKey) (x : DataItem) (p : Param) → SaysValue count place key x p → x ≡ value_item p
-value_made count place key x p (SaysVendor id long) = refl
-value_made count place key x p (SaysClass id long) = refl
-value_made count place key x p (SaysDevice id long) = refl
 value_made count place key x p (SaysDigest content digest whole) = ap ByteString (whole.spells.is ∙ ap spell whole.says_so.is)
-value_made count place key x p (SaysSlot n) = refl
-value_made count place key x p (SaysStrict b) = refl
-value_made count place key x p (SaysSoft b) = refl
-value_made count place key x p (SaysSize n) = refl
-value_made count place key x p (SaysContent bytes) = refl
-value_made count place key x p (SaysUri text) = refl
-value_made count place key x p (SaysSource i lt) = refl
-value_made count place key x p (SaysArgs bytes) = refl
+value_made count place key x p _ = refl
 
 pairs_made : (count place : ℕ) (pairs : DataPairs) (ps : List Param) → SayParams count place pairs ps → pairs ≡ param_pairs ps
 pairs_made count place pairs ps (NoMore at) = refl

@@ -3,6 +3,7 @@ use Rattle.std.proofs.Common.{◌≡◌, ℕ, suc, ◌+◌, Bool, true, false, c
 use Rattle.std.proofs.lemmas.List.{length-append, append-nil}
 use Rattle.det_cbor.specs.Heads.{head_bytes}
 use Rattle.det_cbor.specs.DataItem.{DataItem, UnsignedInteger, ByteString, TextString, MapOf, Boolean, DataPairs, NoPairs, PairThen, pair_count, spell, spell_pairs, IsValidWithin, ArePairsWithin}
+use Rattle.det_cbor.specs.declared.head.HeadKind.TheVariants as kinds
 use Rattle.det_cbor.specs.HeadReading.{◌>>=◌}
 use Rattle.det_cbor.specs.HeadSpelling.{spelled}
 use Rattle.det_cbor.specs.ItemOrder.{spell_parts}
@@ -12,13 +13,13 @@ use Rattle.suit_params.specs.declared.param.Param.TheVariants as params
 use Rattle.suit_params.specs.declared.param.ParamKey.{ParamKey}
 use Rattle.suit_params.specs.declared.param.ParamKey.TheVariants as keys
 use Rattle.suit_params.specs.declared.refusal.Refusal.{Refusal}
-use Rattle.suit_params.specs.declared.refusal.Why.TheVariants.{BadParam}
+use Rattle.suit_params.specs.declared.refusal.Why.TheVariants.{Shape, BadParam}
 use Rattle.suit_params.specs.Refusing.{refused, content_place}
 use Rattle.suit_params.specs.Judging.{judge_digest}
-use Rattle.suit_params.specs.Reading.{bytes_from, only_from}
+use Rattle.suit_params.specs.Reading.{kind_after, bytes_from, only_from, map_from}
 use Rattle.suit_params.specs.DigestReading.{digest_at}
 use Rattle.suit_params.specs.ParamJudging.{judge_key, judge_id, judge_bytes, judge_text, judge_number, judge_flag, judge_index, judge_content, judge_value, judge_pairs, judge_params}
-use Rattle.suit_params.specs.ParamReading.{key_from, id_from, held_from, text_from, number_from, flag_from, bytes_value_from, value_from, params_from, params_after, params_at}
+use Rattle.suit_params.specs.ParamReading.{key_from, id_from, held_from, text_from, number_from, flag_from, bytes_value_from, value_from, params_from, params_at}
 use Rattle.det_cbor.specs.ItemHeads.{item_kind, item_value, item_head, item_spelled}
 use Rattle.suit_params.specs.HeadLaws.{item_head_read, bytes_again, after}
 use Rattle.suit_params.specs.HeldLaws.{ReadsAs, with_rest, content_is}
@@ -163,13 +164,12 @@ pairs_read : (count levels : ℕ) (p : Position) (before : Option (List ℕ)) (p
 pairs_read count levels p before NoPairs rest valid is = refl
 pairs_read count levels p before (PairThen key value others) rest valid is =
     let one : pair_count others + 1 ≡ suc (pair_count others) = omega arith in
-    let after_value = spell_pairs others ++ rest in
-    let after_key = spell value ++ after_value in
-    let q = after p (spell key) after_key in
-    let r = after q (spell value) after_value in
-    let whole : p.left ≡ spell key ++ after_key = is ∙ simp append_assoc in
-    rw (one, key_read levels p key after_key valid.0 whole)
-    (by_key (judge_key p.place key) q r (λ k. value_read count k levels q value after_value valid.2 refl) (pairs_read count levels r (Some (spell key)) others rest valid.3 refl))
+    let behind = spell_pairs others ++ rest in
+    let q = after p (spell key) (spell value ++ behind) in
+    let r = after q (spell value) behind in
+    let whole : p.left ≡ spell key ++ (spell value ++ behind) = is ∙ simp append_assoc in
+    rw (one, key_read levels p key (spell value ++ behind) valid.0 whole)
+    (by_key (judge_key p.place key) q r (λ k. value_read count k levels q value behind valid.2 refl) (pairs_read count levels r (Some (spell key)) others rest valid.3 refl))
   where
     by_value : (a : Result Param Refusal) (r : Position) → params_from count (pair_count others) r ≡ judge_pairs count r.place others
         → ((a >>= with_rest r) >>= λ v. params_from count (pair_count others) v.1 >>= λ ps. Ok (v.0 ∷ ps)) ≡ (a >>= λ p. judge_pairs count r.place others >>= λ ps. Ok (p ∷ ps))
@@ -184,14 +184,14 @@ pairs_read count levels p before (PairThen key value others) rest valid is =
 -- ---- the map
 
 -- an item that is no map
-no_map : (count levels place : ℕ) (x : DataItem) → IsValidWithin levels x → ((p : Position) → params_after count place (item_value x) p (item_kind x) ≡ judge_params count place x) → params_at count (record { left = spell x; place = place }) ≡ judge_params count place x
-unfolding params_at
+no_map : (count levels place : ℕ) (x : DataItem) → IsValidWithin levels x → ((p : Position) → (kind_after kinds.Map Shape place (item_value x) p (item_kind x) >>= λ n. params_from count n.0 n.1) ≡ judge_params count place x) → params_at count (record { left = spell x; place = place }) ≡ judge_params count place x
+unfolding params_at map_from
 no_map count levels place x valid e =
     let p : Position = record { left = spell x; place = place } in
     rw (item_head_read levels p x [] valid (sym (append-nil (spell x)))) (e (after p (spelled (item_head x)) (spell_parts x ++ [])))
 
 pub params_read : (count : ℕ) → ReadsAs (params_at count) (judge_params count)
-unfolding params_at
+unfolding params_at map_from
 params_read count levels place (MapOf pairs) valid =
     let p : Position = record { left = spell (MapOf pairs); place = place } in
     let q = after p (head_bytes 5 (pair_count pairs)) (spell_pairs pairs ++ []) in

@@ -1,9 +1,9 @@
 -- The judgement of a parameter's value is that of the grammar and the refusals.
-use Rattle.std.proofs.Common.{◌≡◌, ℕ, ◌<◌, ◌≤◌, Bool, true, false, eqb, ltb, List, length, Result, Ok, Err, refl, sym, ap, subst, ◌∙◌, inl, inr}
+use Rattle.std.proofs.Common.{◌≡◌, ℕ, Bool, true, false, cond, eqb, ltb, List, length, Result, Ok, Err, refl, subst}
 use Rattle.std.proofs.lemmas.Bool.{eqb-true, eqb-false, ne_eqb, lt-ltb, le-ltb, ltb-true, ltb-false}
 use Rattle.det_cbor.specs.DataItem.{DataItem, UnsignedInteger, ByteString, TextString, Boolean, IsValidWithin}
 use Rattle.det_cbor.specs.HeadReading.{◌>>=◌}
-use Rattle.det_cbor.specs.ResultLaws.{chosen, bind_ok, bind_err, same_ok, same_err}
+use Rattle.det_cbor.specs.ResultLaws.{same_ok, same_err}
 use Rattle.det_cbor.specs.ArgumentLaws.{IsBytes, bytes_of_all}
 use Rattle.suit_params.specs.declared.param.Param.{Param}
 use Rattle.suit_params.specs.declared.param.Param.TheVariants as params
@@ -11,194 +11,101 @@ use Rattle.suit_params.specs.declared.param.ParamKey.{ParamKey}
 use Rattle.suit_params.specs.declared.param.ParamKey.TheVariants as keys
 use Rattle.suit_params.specs.declared.refusal.Refusal.{Refusal}
 use Rattle.suit_params.specs.declared.refusal.Why.TheVariants.{BadParam, BadIndex}
-use Rattle.suit_params.specs.Refusing.{refused, IsByteString, content_place}
+use Rattle.suit_params.specs.Refusing.{refused, content_place}
 use Rattle.suit_params.specs.Judging.{judge_digest}
 use Rattle.suit_params.specs.Digests.{IsDigest, RefusesDigest}
-use Rattle.suit_params.specs.Params.{SaysValue, SaysVendor, SaysClass, SaysDevice, SaysDigest, SaysSlot, SaysStrict, SaysSoft, SaysSize, SaysContent, SaysUri, SaysSource, SaysArgs, IsIdentifier, IsUnsigned, IsBoolean, IsText, IsOfKind, RefusesValue, OtherKind, BadDigest, NoComponent}
-use Rattle.suit_params.specs.ParamJudging.{judge_id, judge_bytes, judge_text, judge_number, judge_flag, judge_index, judge_content, judge_value}
+use Rattle.suit_params.specs.Params.{SaysValue, SaysVendor, SaysClass, SaysDevice, SaysDigest, SaysSlot, SaysStrict, SaysSoft, SaysSize, SaysContent, SaysUri, SaysSource, SaysArgs, IsOfKind, RefusesValue, OtherKind, BadDigest, NoComponent}
+use Rattle.suit_params.specs.ParamJudging.{judge_id, judge_index, judge_content, judge_value}
 use Rattle.suit_params.specs.JudgingLaws.{whole_ok, whole_err, whole_read, whole_refused}
 use Rattle.suit_params.proofs.DigestAnswers.{digest_judges}
 
--- ---- kinds of items
+-- ---- judging
 
-id_ok : (place : ℕ) (x : DataItem) (id : List ℕ) → judge_id place x ≡ Ok id → (x ≡ ByteString id) × (length id ≡ 16)
-id_ok place (ByteString bytes) id e =
-    elim (chosen {A = Result (List ℕ) Refusal} (eqb (length bytes) 16) (Ok bytes) (Err (refused place BadParam)) (Ok id) e) [
-      | inl (is, f) ↦ let same : bytes ≡ id = same_ok bytes id f in (ap ByteString same, ap length (sym same) ∙ eqb-true _ _ is)
-      | inr (other, f) ↦ absurd cc
-    ]
-id_ok place _ id e = absurd cc
+-- an answer is what the item says, or why it is refused
+data Judged (count place : ℕ) (key : ParamKey) (x : DataItem) : Result Param Refusal → Type 0 where
+  Said : (p : Param) → SaysValue count place key x p → Judged count place key x (Ok p)
+  Bad : (r : Refusal) → RefusesValue count place key x r → Judged count place key x (Err r)
 
-id_again : (place : ℕ) (id : List ℕ) → length id ≡ 16 → judge_id place (ByteString id) ≡ Ok id
-id_again place id long = let is : eqb (length id) 16 ≡ true = rw long refl in rw is refl
+-- byte strings that are identifiers by their length
+id_judged : (count place : ℕ) (key : ParamKey) (id : List ℕ) (make : List ℕ → Param) → (length id ≡ 16 → SaysValue count place key (ByteString id) (make id))
+    → ((length id ≡ 16 → ⊥) → IsOfKind key (ByteString id) → ⊥) → Judged count place key (ByteString id) (judge_id place (ByteString id) >>= λ v. Ok (make v))
+id_judged count place key id make says other = by_length (eqb (length id) 16) refl
+  where
+    by_length : (t : Bool) → eqb (length id) 16 ≡ t → Judged count place key (ByteString id) (cond {A = Result (List ℕ) Refusal} t (Ok id) (Err (refused place BadParam)) >>= λ v. Ok (make v))
+    by_length true is = Said (make id) (says (eqb-true _ _ is))
+    by_length false is = Bad (refused place BadParam) (OtherKind key (ByteString id) (other (eqb-false _ _ is)))
 
-bytes_ok : (place : ℕ) (x : DataItem) (bytes : List ℕ) → judge_bytes place x ≡ Ok bytes → x ≡ ByteString bytes
-bytes_ok place (ByteString content) bytes e = ap ByteString (same_ok content bytes e)
-bytes_ok place _ bytes e = absurd cc
+source_judged : (count place i : ℕ) → Judged count place keys.Source (UnsignedInteger i) (judge_index count place i >>= λ j. Ok (params.Source j))
+source_judged count place i = by_count (ltb i count) refl
+  where
+    by_count : (t : Bool) → ltb i count ≡ t → Judged count place keys.Source (UnsignedInteger i) (cond {A = Result ℕ Refusal} t (Ok i) (Err (refused place (BadIndex i count))) >>= λ j. Ok (params.Source j))
+    by_count true is = Said (params.Source i) (SaysSource i (ltb-true i count is))
+    by_count false is = Bad (refused place (BadIndex i count)) (NoComponent i (ltb-false i count is))
 
-text_ok : (place : ℕ) (x : DataItem) (text : List ℕ) → judge_text place x ≡ Ok text → x ≡ TextString text
-text_ok place (TextString content) text e = ap TextString (same_ok content text e)
-text_ok place _ text e = absurd cc
+digest_judged : (count place : ℕ) (content : List ℕ) → IsBytes content → Judged count place keys.Digest (ByteString content) (judge_content place content >>= λ d. Ok (params.Digest (record { bytes = d })))
+digest_judged count place content fits = by_answer (judge_content place content) refl
+  where
+    by_answer : (a : Result (List ℕ) Refusal) → judge_content place content ≡ a → Judged count place keys.Digest (ByteString content) (a >>= λ d. Ok (params.Digest (record { bytes = d })))
+    by_answer (Ok d) is = Said (params.Digest (record { bytes = d })) (SaysDigest content d (whole_ok judge_digest IsDigest RefusesDigest digest_judges (content_place place content) content d fits is))
+    by_answer (Err r) is = Bad r (BadDigest content r (whole_err judge_digest IsDigest RefusesDigest digest_judges (content_place place content) content r fits is))
 
-number_ok : (place : ℕ) (x : DataItem) (n : ℕ) → judge_number place x ≡ Ok n → x ≡ UnsignedInteger n
-number_ok place (UnsignedInteger m) n e = ap UnsignedInteger (same_ok m n e)
-number_ok place _ n e = absurd cc
-
-flag_ok : (place : ℕ) (x : DataItem) (b : Bool) → judge_flag place x ≡ Ok b → x ≡ Boolean b
-flag_ok place (Boolean a) b e = ap Boolean (same_ok a b e)
-flag_ok place _ b e = absurd cc
-
-index_ok : (count place i j : ℕ) → judge_index count place i ≡ Ok j → (i ≡ j) × (i < count)
-index_ok count place i j e =
-    elim (chosen {A = Result ℕ Refusal} (ltb i count) (Ok i) (Err (refused place (BadIndex i count))) (Ok j) e) [
-      | inl (is, f) ↦ (same_ok i j f, ltb-true i count is)
-      | inr (other, f) ↦ absurd cc
-    ]
-
--- ---- meanings
-
--- an item says what is found in it, where the item is the one that is made of that
-found : (count place : ℕ) (key : ParamKey) (x y : DataItem) (p q : Param) → x ≡ y → SaysValue count place key y q → ◌≡◌ {A = Result Param Refusal} (Ok q) (Ok p) → SaysValue count place key x p
-found count place key x y p q is says e = subst (SaysValue count place key x) (same_ok q p e) (subst (λ (z : DataItem). SaysValue count place key z q) (sym is) says)
-
-content_bytes : (levels : ℕ) (x : DataItem) (content : List ℕ) → IsValidWithin levels x → x ≡ ByteString content → IsBytes content
-content_bytes levels x content valid is = let all = subst (IsValidWithin levels) is valid in bytes_of_all content all.1
+judged : (count : ℕ) (key : ParamKey) (levels place : ℕ) (x : DataItem) → IsValidWithin levels x → Judged count place key x (judge_value count key place x)
+judged count keys.Vendor levels place (ByteString id) valid = id_judged count place keys.Vendor id (λ v. params.Vendor v) (SaysVendor id) (λ no. no)
+judged count keys.Class levels place (ByteString id) valid = id_judged count place keys.Class id (λ v. params.Class v) (SaysClass id) (λ no. no)
+judged count keys.Device levels place (ByteString id) valid = id_judged count place keys.Device id (λ v. params.Device v) (SaysDevice id) (λ no. no)
+judged count keys.Digest levels place (ByteString content) valid = digest_judged count place content (bytes_of_all content valid.1)
+judged count keys.Slot levels place (UnsignedInteger n) valid = Said (params.Slot n) (SaysSlot n)
+judged count keys.Strict levels place (Boolean b) valid = Said (params.Strict b) (SaysStrict b)
+judged count keys.Soft levels place (Boolean b) valid = Said (params.Soft b) (SaysSoft b)
+judged count keys.Size levels place (UnsignedInteger n) valid = Said (params.Size n) (SaysSize n)
+judged count keys.Content levels place (ByteString bytes) valid = Said (params.Content bytes) (SaysContent bytes)
+judged count keys.Uri levels place (TextString text) valid = Said (params.Uri text) (SaysUri text)
+judged count keys.Source levels place (UnsignedInteger i) valid = source_judged count place i
+judged count keys.Args levels place (ByteString bytes) valid = Said (params.Args bytes) (SaysArgs bytes)
+judged count key levels place x valid = Bad (refused place BadParam) (OtherKind key x (λ no. no))
 
 pub value_ok : (count : ℕ) (key : ParamKey) (levels place : ℕ) (x : DataItem) (p : Param) → IsValidWithin levels x → judge_value count key place x ≡ Ok p → SaysValue count place key x p
-value_ok count keys.Vendor levels place x p valid e = bind_ok (judge_id place x) _ p e (λ id is f. let s = id_ok place x id is in found count place keys.Vendor x _ p _ s.0 (SaysVendor id s.1) f)
-value_ok count keys.Class levels place x p valid e = bind_ok (judge_id place x) _ p e (λ id is f. let s = id_ok place x id is in found count place keys.Class x _ p _ s.0 (SaysClass id s.1) f)
-value_ok count keys.Device levels place x p valid e = bind_ok (judge_id place x) _ p e (λ id is f. let s = id_ok place x id is in found count place keys.Device x _ p _ s.0 (SaysDevice id s.1) f)
-value_ok count keys.Digest levels place x p valid e =
-    bind_ok (judge_bytes place x) _ p e (λ content is f. bind_ok (judge_content place content) _ p f (λ d d-is g.
-    let s = bytes_ok place x content is in
-    let whole = whole_ok judge_digest IsDigest RefusesDigest digest_judges (content_place place content) content d (content_bytes levels x content valid s) d-is in
-    found count place keys.Digest x _ p _ s (SaysDigest content d whole) g))
-value_ok count keys.Slot levels place x p valid e = bind_ok (judge_number place x) _ p e (λ n is f. found count place keys.Slot x _ p _ (number_ok place x n is) (SaysSlot n) f)
-value_ok count keys.Strict levels place x p valid e = bind_ok (judge_flag place x) _ p e (λ b is f. found count place keys.Strict x _ p _ (flag_ok place x b is) (SaysStrict b) f)
-value_ok count keys.Soft levels place x p valid e = bind_ok (judge_flag place x) _ p e (λ b is f. found count place keys.Soft x _ p _ (flag_ok place x b is) (SaysSoft b) f)
-value_ok count keys.Size levels place x p valid e = bind_ok (judge_number place x) _ p e (λ n is f. found count place keys.Size x _ p _ (number_ok place x n is) (SaysSize n) f)
-value_ok count keys.Content levels place x p valid e = bind_ok (judge_bytes place x) _ p e (λ bytes is f. found count place keys.Content x _ p _ (bytes_ok place x bytes is) (SaysContent bytes) f)
-value_ok count keys.Uri levels place x p valid e = bind_ok (judge_text place x) _ p e (λ text is f. found count place keys.Uri x _ p _ (text_ok place x text is) (SaysUri text) f)
-value_ok count keys.Source levels place x p valid e =
-    bind_ok (judge_number place x) _ p e (λ n is f. bind_ok (judge_index count place n) _ p f (λ i i-is g.
-    let s = index_ok count place n i i-is in
-    let lt : i < count = subst (λ (m : ℕ). m < count) s.0 s.1 in
-    found count place keys.Source x _ p _ (number_ok place x n is ∙ ap UnsignedInteger s.0) (SaysSource i lt) g))
-value_ok count keys.Args levels place x p valid e = bind_ok (judge_bytes place x) _ p e (λ bytes is f. found count place keys.Args x _ p _ (bytes_ok place x bytes is) (SaysArgs bytes) f)
-
-pub value_again : (count : ℕ) (key : ParamKey) (place : ℕ) (x : DataItem) (p : Param) → SaysValue count place key x p → judge_value count key place x ≡ Ok p
-value_again count key place x p (SaysVendor id long) = rw (id_again place id long) refl
-value_again count key place x p (SaysClass id long) = rw (id_again place id long) refl
-value_again count key place x p (SaysDevice id long) = rw (id_again place id long) refl
-value_again count key place x p (SaysDigest content digest whole) = let is : judge_content place content ≡ Ok digest = whole_read judge_digest IsDigest RefusesDigest digest_judges (content_place place content) content digest whole in rw is refl
-value_again count key place x p (SaysSlot n) = refl
-value_again count key place x p (SaysStrict b) = refl
-value_again count key place x p (SaysSoft b) = refl
-value_again count key place x p (SaysSize n) = refl
-value_again count key place x p (SaysContent bytes) = refl
-value_again count key place x p (SaysUri text) = refl
-value_again count key place x p (SaysSource i lt) = rw (lt-ltb i count lt) refl
-value_again count key place x p (SaysArgs bytes) = refl
-
--- ---- refusals
-
-id_err : (place : ℕ) (x : DataItem) (r : Refusal) → judge_id place x ≡ Err r → (IsIdentifier x → ⊥) × (refused place BadParam ≡ r)
-id_err place (ByteString bytes) r e =
-    elim (chosen {A = Result (List ℕ) Refusal} (eqb (length bytes) 16) (Ok bytes) (Err (refused place BadParam)) (Err r) e) [
-      | inl (is, f) ↦ absurd cc
-      | inr (other, f) ↦ (eqb-false _ _ other, same_err _ r f)
-    ]
-id_err place x r e = (λ h. h, same_err _ r e)
-
-id_other : (place : ℕ) (x : DataItem) → (IsIdentifier x → ⊥) → judge_id place x ≡ Err (refused place BadParam)
-id_other place (ByteString a) other = let no : eqb (length a) 16 ≡ false = ne_eqb (length a) 16 other in rw no refl
-id_other place _ other = refl
-
-bytes_err : (place : ℕ) (x : DataItem) (r : Refusal) → judge_bytes place x ≡ Err r → (IsByteString x → ⊥) × (refused place BadParam ≡ r)
-bytes_err place (ByteString bytes) r e = absurd cc
-bytes_err place x r e = (λ h. h, same_err _ r e)
-
-bytes_other : (place : ℕ) (x : DataItem) → (IsByteString x → ⊥) → judge_bytes place x ≡ Err (refused place BadParam)
-bytes_other place (ByteString a) other = absurd (other tt)
-bytes_other place _ other = refl
-
-text_err : (place : ℕ) (x : DataItem) (r : Refusal) → judge_text place x ≡ Err r → (IsText x → ⊥) × (refused place BadParam ≡ r)
-text_err place (TextString text) r e = absurd cc
-text_err place x r e = (λ h. h, same_err _ r e)
-
-text_other : (place : ℕ) (x : DataItem) → (IsText x → ⊥) → judge_text place x ≡ Err (refused place BadParam)
-text_other place (TextString a) other = absurd (other tt)
-text_other place _ other = refl
-
-number_err : (place : ℕ) (x : DataItem) (r : Refusal) → judge_number place x ≡ Err r → (IsUnsigned x → ⊥) × (refused place BadParam ≡ r)
-number_err place (UnsignedInteger n) r e = absurd cc
-number_err place x r e = (λ h. h, same_err _ r e)
-
-number_other : (place : ℕ) (x : DataItem) → (IsUnsigned x → ⊥) → judge_number place x ≡ Err (refused place BadParam)
-number_other place (UnsignedInteger a) other = absurd (other tt)
-number_other place _ other = refl
-
-flag_err : (place : ℕ) (x : DataItem) (r : Refusal) → judge_flag place x ≡ Err r → (IsBoolean x → ⊥) × (refused place BadParam ≡ r)
-flag_err place (Boolean b) r e = absurd cc
-flag_err place x r e = (λ h. h, same_err _ r e)
-
-flag_other : (place : ℕ) (x : DataItem) → (IsBoolean x → ⊥) → judge_flag place x ≡ Err (refused place BadParam)
-flag_other place (Boolean a) other = absurd (other tt)
-flag_other place _ other = refl
-
-index_err : (count place i : ℕ) (r : Refusal) → judge_index count place i ≡ Err r → (count ≤ i) × (refused place (BadIndex i count) ≡ r)
-index_err count place i r e =
-    elim (chosen {A = Result ℕ Refusal} (ltb i count) (Ok i) (Err (refused place (BadIndex i count))) (Err r) e) [
-      | inl (is, f) ↦ absurd cc
-      | inr (other, f) ↦ (ltb-false i count other, same_err _ r f)
-    ]
-
--- a value of another kind is refused so
-of_kind : (count place : ℕ) (key : ParamKey) (x : DataItem) (r : Refusal) → (IsOfKind key x → ⊥) × (refused place BadParam ≡ r) → RefusesValue count place key x r
-of_kind count place key x r found = subst (RefusesValue count place key x) found.1 (OtherKind key x found.0)
-
--- a judgement that only puts a constructor round what it found
-simple : {A : Type 0} (count place : ℕ) (key : ParamKey) (x : DataItem) (r : Refusal) (a : Result A Refusal) (make : A → Param) → (a >>= λ v. Ok (make v)) ≡ Err r → (a ≡ Err r → (IsOfKind key x → ⊥) × (refused place BadParam ≡ r)) → RefusesValue count place key x r
-simple count place key x r a make e other = bind_err a _ r e (λ f. of_kind count place key x r (other f)) (λ v is f. absurd cc)
+value_ok count key levels place x p valid e = by_answer (judge_value count key place x) (judged count key levels place x valid) e
+  where
+    by_answer : (a : Result Param Refusal) → Judged count place key x a → a ≡ Ok p → SaysValue count place key x p
+    by_answer a (Said q says) e = subst (SaysValue count place key x) (same_ok q p e) says
+    by_answer a (Bad r refuses) e = absurd cc
 
 pub value_err : (count : ℕ) (key : ParamKey) (levels place : ℕ) (x : DataItem) (r : Refusal) → IsValidWithin levels x → judge_value count key place x ≡ Err r → RefusesValue count place key x r
-value_err count keys.Vendor levels place x r valid e = simple count place keys.Vendor x r (judge_id place x) (λ v. params.Vendor v) e (id_err place x r)
-value_err count keys.Class levels place x r valid e = simple count place keys.Class x r (judge_id place x) (λ v. params.Class v) e (id_err place x r)
-value_err count keys.Device levels place x r valid e = simple count place keys.Device x r (judge_id place x) (λ v. params.Device v) e (id_err place x r)
-value_err count keys.Digest levels place x r valid e =
-    bind_err (judge_bytes place x) _ r e (λ f. of_kind count place keys.Digest x r (bytes_err place x r f)) (λ content is f. bind_err (judge_content place content) _ r f
-    (λ g.
-    let s = bytes_ok place x content is in
-    let whole = whole_err judge_digest IsDigest RefusesDigest digest_judges (content_place place content) content r (content_bytes levels x content valid s) g in
-    subst (λ (y : DataItem). RefusesValue count place keys.Digest y r) (sym s) (BadDigest content r whole))
-    (λ d d-is g. absurd cc))
-value_err count keys.Slot levels place x r valid e = simple count place keys.Slot x r (judge_number place x) (λ v. params.Slot v) e (number_err place x r)
-value_err count keys.Strict levels place x r valid e = simple count place keys.Strict x r (judge_flag place x) (λ v. params.Strict v) e (flag_err place x r)
-value_err count keys.Soft levels place x r valid e = simple count place keys.Soft x r (judge_flag place x) (λ v. params.Soft v) e (flag_err place x r)
-value_err count keys.Size levels place x r valid e = simple count place keys.Size x r (judge_number place x) (λ v. params.Size v) e (number_err place x r)
-value_err count keys.Content levels place x r valid e = simple count place keys.Content x r (judge_bytes place x) (λ v. params.Content v) e (bytes_err place x r)
-value_err count keys.Uri levels place x r valid e = simple count place keys.Uri x r (judge_text place x) (λ v. params.Uri v) e (text_err place x r)
-value_err count keys.Source levels place x r valid e =
-    bind_err (judge_number place x) _ r e (λ f. of_kind count place keys.Source x r (number_err place x r f)) (λ n is f. bind_err (judge_index count place n) _ r f
-    (λ g.
-    let found = index_err count place n r g in
-    subst (λ (y : DataItem). RefusesValue count place keys.Source y r) (sym (number_ok place x n is)) (subst (RefusesValue count place keys.Source (UnsignedInteger n)) found.1 (NoComponent n found.0)))
-    (λ i i-is g. absurd cc))
-value_err count keys.Args levels place x r valid e = simple count place keys.Args x r (judge_bytes place x) (λ v. params.Args v) e (bytes_err place x r)
+value_err count key levels place x r valid e = by_answer (judge_value count key place x) (judged count key levels place x valid) e
+  where
+    by_answer : (a : Result Param Refusal) → Judged count place key x a → a ≡ Err r → RefusesValue count place key x r
+    by_answer a (Said q says) e = absurd cc
+    by_answer a (Bad s refuses) e = subst (RefusesValue count place key x) (same_err s r e) refuses
+
+-- ---- and back
+
+-- a byte string of another length is no identifier
+no_id : (place : ℕ) (id : List ℕ) → (length id ≡ 16 → ⊥) → judge_id place (ByteString id) ≡ Err (refused place BadParam)
+no_id place id other = let no : eqb (length id) 16 ≡ false = ne_eqb (length id) 16 other in rw no refl
+
+pub value_again : (count : ℕ) (key : ParamKey) (place : ℕ) (x : DataItem) (p : Param) → SaysValue count place key x p → judge_value count key place x ≡ Ok p
+value_again count key place x p (SaysVendor id long) = rw long refl
+value_again count key place x p (SaysClass id long) = rw long refl
+value_again count key place x p (SaysDevice id long) = rw long refl
+value_again count key place x p (SaysDigest content digest whole) = let is : judge_content place content ≡ Ok digest = whole_read judge_digest IsDigest RefusesDigest digest_judges (content_place place content) content digest whole in rw is refl
+value_again count key place x p (SaysSource i lt) = rw (lt-ltb i count lt) refl
+value_again count key place x p _ = refl
 
 other_kind : (count place : ℕ) (key : ParamKey) (x : DataItem) → (IsOfKind key x → ⊥) → judge_value count key place x ≡ Err (refused place BadParam)
-other_kind count place keys.Vendor x other = rw (id_other place x other) refl
-other_kind count place keys.Class x other = rw (id_other place x other) refl
-other_kind count place keys.Device x other = rw (id_other place x other) refl
-other_kind count place keys.Digest x other = rw (bytes_other place x other) refl
-other_kind count place keys.Slot x other = rw (number_other place x other) refl
-other_kind count place keys.Strict x other = rw (flag_other place x other) refl
-other_kind count place keys.Soft x other = rw (flag_other place x other) refl
-other_kind count place keys.Size x other = rw (number_other place x other) refl
-other_kind count place keys.Content x other = rw (bytes_other place x other) refl
-other_kind count place keys.Uri x other = rw (text_other place x other) refl
-other_kind count place keys.Source x other = rw (number_other place x other) refl
-other_kind count place keys.Args x other = rw (bytes_other place x other) refl
+other_kind count place keys.Vendor (ByteString id) other = rw (no_id place id other) refl
+other_kind count place keys.Class (ByteString id) other = rw (no_id place id other) refl
+other_kind count place keys.Device (ByteString id) other = rw (no_id place id other) refl
+other_kind count place keys.Digest (ByteString content) other = absurd (other tt)
+other_kind count place keys.Slot (UnsignedInteger n) other = absurd (other tt)
+other_kind count place keys.Strict (Boolean b) other = absurd (other tt)
+other_kind count place keys.Soft (Boolean b) other = absurd (other tt)
+other_kind count place keys.Size (UnsignedInteger n) other = absurd (other tt)
+other_kind count place keys.Content (ByteString bytes) other = absurd (other tt)
+other_kind count place keys.Uri (TextString text) other = absurd (other tt)
+other_kind count place keys.Source (UnsignedInteger i) other = absurd (other tt)
+other_kind count place keys.Args (ByteString bytes) other = absurd (other tt)
+other_kind count place key x other = refl
 
 pub value_refused : (count : ℕ) (key : ParamKey) (place : ℕ) (x : DataItem) (r : Refusal) → RefusesValue count place key x r → judge_value count key place x ≡ Err r
 value_refused count key place x r (OtherKind k y other) = other_kind count place k y other

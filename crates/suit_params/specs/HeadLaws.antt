@@ -1,5 +1,5 @@
 -- The head of an item that is spelled at a position, and the parts that follow it.
-use Rattle.std.proofs.Common.{◌≡◌, ℕ, ◌+◌, ◌-◌, true, false, ltb, List, ◌++◌, length, Ok, refl, ap, ◌∙◌, append_assoc, arith}
+use Rattle.std.proofs.Common.{◌≡◌, ℕ, ◌+◌, ◌-◌, false, ltb, List, ◌++◌, length, Ok, refl, ap, ◌∙◌, append_assoc, arith}
 use Rattle.std.proofs.lemmas.Bool.{le-ltb}
 use Rattle.std.proofs.lemmas.List.{take_at, drop_at, length-append}
 use Rattle.det_cbor.specs.DataItem.{DataItem, spell, IsValidWithin}

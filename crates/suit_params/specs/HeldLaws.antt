@@ -4,6 +4,7 @@ use Rattle.std.specs.List.{AllByRecursion}
 use Rattle.std.proofs.lemmas.List.{length-append}
 use Rattle.det_cbor.specs.Heads.{head_bytes}
 use Rattle.det_cbor.specs.DataItem.{DataItem, ByteString, spell, IsValidWithin}
+use Rattle.det_cbor.specs.declared.head.HeadKind.TheVariants as kinds
 use Rattle.det_cbor.specs.HeadReading.{◌>>=◌}
 use Rattle.det_cbor.specs.Position.{Position}
 use Rattle.det_cbor.specs.ResultLaws.{bind_ok, bind_err, same_ok, same_err}
@@ -12,7 +13,7 @@ use Rattle.suit_params.specs.declared.refusal.Refusal.{Refusal}
 use Rattle.suit_params.specs.declared.refusal.Why.TheVariants.{Shape, Trailing}
 use Rattle.suit_params.specs.Refusing.{refused, Refuses, Says, IsByteString, content_place, SaysWhole, RefusesWhole, RefusesHeld, NoString, BadContent, SaysHeld, RefusesFirst, Here, Later}
 use Rattle.suit_params.specs.Judging.{judge_string, judge_held, judge_each}
-use Rattle.suit_params.specs.Reading.{inside, item_from, only_from, string_from, content_after, content_from, whole_judged}
+use Rattle.suit_params.specs.Reading.{inside, item_from, kind_after, only_from, string_from, content_from, whole_judged}
 use Rattle.det_cbor.specs.ItemHeads.{item_kind, item_value}
 use Rattle.suit_params.specs.HeadLaws.{item_head_read, bytes_again, after}
 use Rattle.suit_params.specs.JudgingLaws.{Judges, item_ok, whole_ok, whole_err, whole_read, whole_refused}
@@ -23,7 +24,7 @@ pub record OtherThanString (x : DataItem) : Type 0 where
   pub other : IsByteString x → ⊥
   pub judged : (place : ℕ) → judge_string place x ≡ Err (refused place Shape)
   pub read : (place : ℕ) (p : Position)
-      → content_after place (item_value x) p (item_kind x) ≡ Err (refused place Shape)
+      → kind_after kinds.Bytes Shape place (item_value x) p (item_kind x) ≡ Err (refused place Shape)
 
 pub by_string : (P : DataItem → Type 0) → ((bytes : List ℕ) → P (ByteString bytes))
     → ((x : DataItem) → OtherThanString x → P x) → (x : DataItem) → P x

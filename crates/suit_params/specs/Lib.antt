@@ -13,6 +13,7 @@ pub mod Answering
 pub mod ParamReading
 pub mod ParamWriting
 pub mod ParamMaking
+pub mod Numbering
 pub mod OneWhole
 pub mod ParamLaws
 pub mod InForceLaws

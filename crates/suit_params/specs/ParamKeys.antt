@@ -1,10 +1,11 @@
 -- Keys of parameters (draft-ietf-suit-manifest-25, section 8.4.8).
-use Rattle.std.specs.Prelude.{ℕ, ◌==◌, if◌then◌else◌, Option, Some, None}
+use Rattle.std.specs.Prelude.{ℕ, List, [], ◌∷◌, Option}
 use Rattle.det_cbor.specs.DataItem.{DataItem, UnsignedInteger}
 use Rattle.suit_params.specs.declared.param.Param.{Param}
 use Rattle.suit_params.specs.declared.param.Param.TheVariants as params
 use Rattle.suit_params.specs.declared.param.ParamKey.{ParamKey}
 use Rattle.suit_params.specs.declared.param.ParamKey.TheVariants as keys
+use Rattle.suit_params.specs.Numbering.{numbered_in}
 
 -- which parameter it is
 abbrev pub key_of : Param → ParamKey
@@ -40,19 +41,12 @@ key_number keys.Args = 23
 abbrev pub key_item : ParamKey → DataItem
 key_item key = UnsignedInteger (key_number key)
 
+-- all, in the order of their numbers
+abbrev pub all_keys : List ParamKey
+all_keys =
+    keys.Vendor ∷ keys.Class ∷ keys.Digest ∷ keys.Slot ∷ keys.Strict ∷ keys.Soft ∷ keys.Size
+    ∷ keys.Content ∷ keys.Uri ∷ keys.Source ∷ keys.Args ∷ keys.Device ∷ []
+
 -- the parameter that has a number
 abbrev pub numbered : ℕ → Option ParamKey
-numbered n =
-    if n == 1 then Some keys.Vendor
-    else if n == 2 then Some keys.Class
-    else if n == 3 then Some keys.Digest
-    else if n == 5 then Some keys.Slot
-    else if n == 12 then Some keys.Strict
-    else if n == 13 then Some keys.Soft
-    else if n == 14 then Some keys.Size
-    else if n == 18 then Some keys.Content
-    else if n == 21 then Some keys.Uri
-    else if n == 22 then Some keys.Source
-    else if n == 23 then Some keys.Args
-    else if n == 24 then Some keys.Device
-    else None
+numbered n = numbered_in key_number all_keys n

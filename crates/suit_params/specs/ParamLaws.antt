@@ -36,7 +36,7 @@ AreAscending ps = AreAbove 0 ps
 -- says that list, and is valid where the list ascends; an item that says a list is the one that is made of it; and so
 -- all bytes are one digest or have one refusal, and say one list or have one refusal
 pub record ParamLaws : Type 0 where
-  pub reading_laws : (count place : ℕ) (x : DataItem) → IsValid x
+  pub one_reading : (count place : ℕ) (x : DataItem) → IsValid x
       → HasOneList count place x ⊎ HasOneRefusal count place x
   pub ascending : (count place : ℕ) (x : DataItem) (ps : List Param) → IsValid x
       → IsParams count place x ps → AreAscending ps

@@ -1,7 +1,6 @@
 -- How a map of parameters is read, of an item that was judged before.
 use Rattle.std.specs.Prelude.{ℕ, zero, suc, ◌==◌, if◌then◌else◌, List, [], ◌∷◌, Bool, Result, Ok, Err}
 use Rattle.std.specs.Str.{is_utf8}
-use Rattle.det_cbor.specs.declared.head.HeadKind.{HeadKind}
 use Rattle.det_cbor.specs.declared.head.HeadKind.TheVariants as kinds
 use Rattle.det_cbor.specs.declared.reason.Reason.TheVariants.{BadText}
 use Rattle.det_cbor.specs.HeadReading.{◌>>=◌}
@@ -11,63 +10,43 @@ use Rattle.suit_params.specs.declared.param.Param.TheVariants as params
 use Rattle.suit_params.specs.declared.param.ParamKey.{ParamKey}
 use Rattle.suit_params.specs.declared.param.ParamKey.TheVariants as keys
 use Rattle.suit_params.specs.declared.refusal.Refusal.{Refusal}
-use Rattle.suit_params.specs.declared.refusal.Why.TheVariants.{Cbor, Shape, UnknownParam, BadParam}
+use Rattle.suit_params.specs.declared.refusal.Why.TheVariants.{Cbor, UnknownParam, BadParam}
 use Rattle.suit_params.specs.Refusing.{refused}
-use Rattle.suit_params.specs.Reading.{head_from, bytes_from, inner_from, only_from, string_from}
+use Rattle.suit_params.specs.Reading.{bytes_from, inner_from, only_from, kind_from, string_from, map_from}
 use Rattle.suit_params.specs.DigestReading.{digest_at}
 use Rattle.suit_params.specs.ParamKeys.{numbered}
 use Rattle.suit_params.specs.ParamJudging.{known_param, judge_index}
 
 -- ---- keys
 
-abbrev pub key_after : ℕ → ℕ → Position → HeadKind → Result (ParamKey × Position) Refusal
-key_after place n p kinds.Unsigned = known_param place (numbered n) >>= λ key. Ok (key, p)
-key_after place n p _ = Err (refused place UnknownParam)
-
 unfoldable pub key_from : Position → Result (ParamKey × Position) Refusal
-key_from p = head_from p >>= λ h. key_after p.place h.0.value h.1 h.0.kind
+key_from p =
+    kind_from kinds.Unsigned UnknownParam p
+    >>= λ n. known_param p.place (numbered n.0) >>= λ key. Ok (key, n.1)
 
 -- ---- values by their kinds
 
-abbrev pub id_after : ℕ → ℕ → Position → HeadKind → Result (List ℕ × Position) Refusal
-id_after place n p kinds.Bytes = if n == 16 then bytes_from n p else Err (refused place BadParam)
-id_after place n p _ = Err (refused place BadParam)
-
 unfoldable pub id_from : Position → Result (List ℕ × Position) Refusal
-id_from p = head_from p >>= λ h. id_after p.place h.0.value h.1 h.0.kind
-
-abbrev pub held_after : ℕ → ℕ → Position → HeadKind → Result (Position × Position) Refusal
-held_after place n p kinds.Bytes = string_from n p
-held_after place n p _ = Err (refused place BadParam)
+id_from p =
+    kind_from kinds.Bytes BadParam p
+    >>= λ n. if n.0 == 16 then bytes_from n.0 n.1 else Err (refused p.place BadParam)
 
 -- the content of a byte string, at its place
 unfoldable pub held_from : Position → Result (Position × Position) Refusal
-held_from p = head_from p >>= λ h. held_after p.place h.0.value h.1 h.0.kind
+held_from p = kind_from kinds.Bytes BadParam p >>= λ n. string_from n.0 n.1
 
 abbrev pub text_bytes : ℕ → ℕ → Position → Result (List ℕ × Position) Refusal
 text_bytes place n p =
     bytes_from n p >>= λ t. if is_utf8 t.0 then Ok t else Err (refused place (Cbor BadText))
 
-abbrev pub text_after : ℕ → ℕ → Position → HeadKind → Result (List ℕ × Position) Refusal
-text_after place n p kinds.Text = text_bytes place n p
-text_after place n p _ = Err (refused place BadParam)
-
 unfoldable pub text_from : Position → Result (List ℕ × Position) Refusal
-text_from p = head_from p >>= λ h. text_after p.place h.0.value h.1 h.0.kind
-
-abbrev pub number_after : ℕ → ℕ → Position → HeadKind → Result (ℕ × Position) Refusal
-number_after place n p kinds.Unsigned = Ok (n, p)
-number_after place n p _ = Err (refused place BadParam)
+text_from p = kind_from kinds.Text BadParam p >>= λ n. text_bytes p.place n.0 n.1
 
 unfoldable pub number_from : Position → Result (ℕ × Position) Refusal
-number_from p = head_from p >>= λ h. number_after p.place h.0.value h.1 h.0.kind
-
-abbrev pub flag_after : ℕ → ℕ → Position → HeadKind → Result (Bool × Position) Refusal
-flag_after place n p kinds.Bool = Ok (n == 1, p)
-flag_after place n p _ = Err (refused place BadParam)
+number_from p = kind_from kinds.Unsigned BadParam p
 
 unfoldable pub flag_from : Position → Result (Bool × Position) Refusal
-flag_from p = head_from p >>= λ h. flag_after p.place h.0.value h.1 h.0.kind
+flag_from p = kind_from kinds.Bool BadParam p >>= λ n. Ok (n.0 == 1, n.1)
 
 abbrev pub index_from : ℕ → Position → Result (ℕ × Position) Refusal
 index_from count p = number_from p >>= λ n. judge_index count p.place n.0 >>= λ i. Ok (i, n.1)
@@ -106,13 +85,9 @@ params_from count zero p = Ok []
 params_from count (suc n) p =
     param_from count p >>= λ v. params_from count n v.1 >>= λ ps. Ok (v.0 ∷ ps)
 
-abbrev pub params_after : ℕ → ℕ → ℕ → Position → HeadKind → Result (List Param) Refusal
-params_after count place n p kinds.Map = params_from count n p
-params_after count place n p _ = Err (refused place Shape)
-
 -- a whole item, as a map of parameters
 unfoldable pub params_at : ℕ → Position → Result (List Param) Refusal
-params_at count p = head_from p >>= λ h. params_after count p.place h.0.value h.1 h.0.kind
+params_at count p = map_from p >>= λ n. params_from count n.0 n.1
 
 -- the next item, as a map of parameters
 abbrev pub next_params : ℕ → Position → Result (List Param × Position) Refusal

@@ -1,9 +1,11 @@
 -- How heads, strings and items are read at a position, with the refusal of what is faulty.
-use Rattle.std.specs.Prelude.{ℕ, ◌+◌, ◌-◌, ◌==◌, nat_lt, if◌then◌else◌, List, length, take, drop, Result, Ok, Err}
+use Rattle.std.specs.Prelude.{ℕ, ◌+◌, ◌-◌, ◌==◌, nat_lt, if◌then◌else◌, Bool, List, length, take, drop, Result, Ok, Err}
+use denote.Enum.Bare.{sameb}
 use Rattle.det_cbor.specs.DataItem.{DataItem, spell}
 use Rattle.det_cbor.specs.declared.head.Head.{Head}
 use Rattle.det_cbor.specs.declared.head.HeadKind.{HeadKind}
 use Rattle.det_cbor.specs.declared.head.HeadKind.TheVariants as kinds
+use Rattle.det_cbor.specs.contracts.head.HeadKind.{the_type}
 use Rattle.det_cbor.specs.declared.reason.Reason.{Reason}
 use Rattle.det_cbor.specs.declared.reason.Reason.TheVariants.{Truncated}
 use Rattle.det_cbor.specs.declared.reason.CborRefusal.{CborRefusal}
@@ -11,6 +13,7 @@ use Rattle.det_cbor.specs.HeadReading.{◌>>=◌, head_at, place_in}
 use Rattle.det_cbor.specs.ItemReading.{Read, item_at}
 use Rattle.det_cbor.specs.Position.{Position}
 use Rattle.suit_params.specs.declared.refusal.Refusal.{Refusal}
+use Rattle.suit_params.specs.declared.refusal.Why.{Why}
 use Rattle.suit_params.specs.declared.refusal.Why.TheVariants.{Cbor, Trailing, Shape}
 use Rattle.suit_params.specs.Refusing.{refused}
 
@@ -27,6 +30,21 @@ found_head p (Err reason) = Err (refused (p.place + place_in p.left reason) (Cbo
 
 unfoldable pub head_from : Position → Result (Head × Position) Refusal
 head_from p = found_head p (head_at p.left)
+
+-- ---- heads of one kind
+
+abbrev pub same_kind : HeadKind → HeadKind → Bool
+same_kind found kind = sameb the_type found kind
+
+abbrev pub kind_after : HeadKind → Why → ℕ → ℕ → Position → HeadKind → Result (ℕ × Position) Refusal
+kind_after kind why place n p found =
+    if same_kind found kind then Ok (n, p) else Err (refused place why)
+
+-- the value of the next head, which is to be of a kind, and the position after it
+abbrev pub kind_from : HeadKind → Why → Position → Result (ℕ × Position) Refusal
+kind_from kind why p = head_from p >>= λ h. kind_after kind why p.place h.0.value h.1 h.0.kind
+
+-- ---- bytes and items
 
 unfoldable pub bytes_from : ℕ → Position → Result (List ℕ × Position) Refusal
 bytes_from n p =
@@ -58,13 +76,9 @@ only_from p =
 abbrev pub string_from : ℕ → Position → Result (Position × Position) Refusal
 string_from n p = bytes_from n p >>= λ c. Ok (record { left = c.0; place = p.place }, c.1)
 
-abbrev pub content_after : ℕ → ℕ → Position → HeadKind → Result (Position × Position) Refusal
-content_after place n p kinds.Bytes = string_from n p
-content_after place n p _ = Err (refused place Shape)
-
 -- the next item as a byte string, as its content at its place
 unfoldable pub content_from : Position → Result (Position × Position) Refusal
-content_from p = head_from p >>= λ h. content_after p.place h.0.value h.1 h.0.kind
+content_from p = kind_from kinds.Bytes Shape p >>= λ n. string_from n.0 n.1
 
 -- ---- items that are judged
 
@@ -82,18 +96,10 @@ whole_judged judge place bytes =
 
 -- ---- arrays and maps: their numbers of parts
 
-abbrev pub array_after : ℕ → ℕ → Position → HeadKind → Result (ℕ × Position) Refusal
-array_after place n p kinds.Array = Ok (n, p)
-array_after place n p _ = Err (refused place Shape)
-
 -- an array's number of elements, and the position of the first
 unfoldable pub array_from : Position → Result (ℕ × Position) Refusal
-array_from p = head_from p >>= λ h. array_after p.place h.0.value h.1 h.0.kind
-
-abbrev pub map_after : ℕ → ℕ → Position → HeadKind → Result (ℕ × Position) Refusal
-map_after place n p kinds.Map = Ok (n, p)
-map_after place n p _ = Err (refused place Shape)
+array_from p = kind_from kinds.Array Shape p
 
 -- a map's number of pairs, and the position of the first
 unfoldable pub map_from : Position → Result (ℕ × Position) Refusal
-map_from p = head_from p >>= λ h. map_after p.place h.0.value h.1 h.0.kind
+map_from p = kind_from kinds.Map Shape p

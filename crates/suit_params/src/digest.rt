@@ -6,11 +6,10 @@ ghost use Rattle.det_cbor.specs.Position.{Position};
 ghost use Rattle.suit_params.specs.declared.refusal.Refusal.{Refusal};
 ghost use Rattle.suit_params.specs.Refusing.{RefusesNext, TakesNext};
 ghost use Rattle.suit_params.specs.Digests.{IsDigest, RefusesDigest};
-ghost use Rattle.suit_params.specs.Reading.{bytes_from};
 ghost use Rattle.suit_params.specs.DigestReading.{value_at, algorithm_at, digest_at, next_digest};
 
 use crate::refusal::refused;
-use crate::{Refusal, Why, read_bytes, read_head, read_item, same_place};
+use crate::{Refusal, Why, read_array, read_bytes, read_head, read_item, read_kind, same_place};
 use det_cbor::{Cursor, HeadKind};
 
 /// A SHA-256.
@@ -19,33 +18,19 @@ pub struct Digest {
     pub bytes: [u8; 32],
 }
 
-// The next 32 bytes.
-fn digest_bytes(item: &mut Cursor<'_>) -> Result<Digest, Refusal>
-    ensures { map_ok (λ d. (d.bytes, item.new)) result ≡ bytes_from 32 item.old }
-{
-    let bytes = read_bytes(item, 32)?;
-    let mut digest = Digest { bytes: [0; 32] };
-    digest.bytes.copy_from_slice(bytes);
-    Ok(digest)
-}
-
 // The second element of a digest, whose array stands at a place.
 #[tactic(auto, unfolding(crate::specs::DigestReading::value_at))]
 fn value(item: &mut Cursor<'_>, array: u64) -> Result<Digest, Refusal>
     ensures { map_ok (λ d. (d.bytes, item.new)) result ≡ value_at array item.old }
 {
-    let place = item.place();
-    let head = read_head(item)?;
-    match head.kind {
-        HeadKind::Bytes => {
-            if head.value == 32 {
-                digest_bytes(item)
-            } else {
-                refused(array, Why::Algorithm)
-            }
-        }
-        _ => refused(place, Why::Shape),
+    let count = read_kind(item, HeadKind::Bytes, Why::Shape)?;
+    if count != 32 {
+        return refused(array, Why::Algorithm);
     }
+    let bytes = read_bytes(item, 32)?;
+    let mut digest = Digest { bytes: [0; 32] };
+    digest.bytes.copy_from_slice(bytes);
+    Ok(digest)
 }
 
 // The first element of a digest, whose array stands at a place.
@@ -74,17 +59,12 @@ pub fn digest_of(mut item: Cursor<'_>) -> Result<Digest, Refusal>
     ensures { map_ok (λ d. d.bytes) result ≡ digest_at item.entry }
 {
     let array = item.place();
-    let head = read_head(&mut item)?;
-    match head.kind {
-        HeadKind::Array => {
-            if head.value == 2 {
-                algorithm(&mut item, array)?;
-                value(&mut item, array)
-            } else {
-                refused(array, Why::Shape)
-            }
-        }
-        _ => refused(array, Why::Shape),
+    let elements = read_array(&mut item)?;
+    if elements == 2 {
+        algorithm(&mut item, array)?;
+        value(&mut item, array)
+    } else {
+        refused(array, Why::Shape)
     }
 }
 

@@ -16,15 +16,15 @@ mod refusal;
 
 pub use digest::{Digest, digest_of, read_digest};
 pub use identifier::{Identifier, Identifiers};
-pub use law::{in_force_laws, param_laws};
+pub use law::in_force_laws;
 pub use param::{Param, ParamKey};
 pub use param_list::ParamList;
-pub use param_map::{params_of, read_params};
+pub use param_map::{param_laws, params_of, read_params};
 pub use param_value::component_index;
 pub use param_writing::write_params;
 pub use params::Params;
 pub use reading::{
     bytes_left, copy_left, next_content, only_item, read_array, read_bytes, read_content,
-    read_head, read_item, read_map, same_place,
+    read_head, read_item, read_kind, read_map, same_place,
 };
 pub use refusal::{Fault, Refusal, Why, refused};

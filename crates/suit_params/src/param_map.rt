@@ -10,12 +10,13 @@ ghost use Rattle.suit_params.specs.Answering.{Gives, IsFaultBy, IsReadAs, IsRefu
 ghost use Rattle.suit_params.specs.ParamKeys.{numbered};
 ghost use Rattle.suit_params.specs.Params.{IsParams, RefusesParams};
 ghost use Rattle.suit_params.specs.ParamJudging.{known_param};
+ghost use Rattle.suit_params.specs.ParamLaws.{ParamLaws};
 ghost use Rattle.suit_params.specs.ParamReading.{key_from, bytes_value_from, value_from, param_from, params_from, params_at, next_params};
 
 use crate::param_value::{
     read_flag, read_held, read_held_digest, read_id, read_index, read_number, read_text,
 };
-use crate::reading::{copy_left, read_head, read_item, same_place};
+use crate::reading::{copy_left, read_item, read_kind, read_map, same_place};
 use crate::refusal::refused;
 use crate::{Fault, Param, ParamKey, ParamList, Refusal, Why};
 use det_cbor::{Bytes, Cursor, HeadKind, Text};
@@ -47,11 +48,8 @@ fn read_key(map: &mut Cursor<'_>) -> Result<ParamKey, Refusal>
     ensures { map_ok (λ key. (key, map.new)) result ≡ key_from map.old }
 {
     let place = map.place();
-    let head = read_head(map)?;
-    match head.kind {
-        HeadKind::Unsigned => numbered(place, head.value),
-        _ => refused(place, Why::UnknownParam),
-    }
+    let number = read_kind(map, HeadKind::Unsigned, Why::UnknownParam)?;
+    numbered(place, number)
 }
 
 // A byte string, as its content in memory of its own.
@@ -115,12 +113,8 @@ fn read_pairs(
 pub fn params_of(alloc: Global, mut item: Cursor<'_>, count: u32) -> Result<ParamList, Fault>
     ensures { Gives (λ list. list) result (params_at count item.entry) }
 {
-    let place = item.place();
-    let head = read_head(&mut item)?;
-    match head.kind {
-        HeadKind::Map => read_pairs(alloc, item, head.value, count),
-        _ => Ok(refused(place, Why::Shape)?),
-    }
+    let pairs = read_map(&mut item)?;
+    read_pairs(alloc, item, pairs, count)
 }
 
 fn next_params(alloc: Global, cursor: &mut Cursor<'_>, count: u32) -> Result<ParamList, Fault>
@@ -156,3 +150,11 @@ pub fn read_params(alloc: Global, cursor: &mut Cursor<'_>, count: u32) -> Result
 {
     params_ahead(alloc, cursor, count)
 }
+
+/// Does nothing. Its contract has the laws. A valid item says one list of parameters or has one
+/// refusal, and never both; the keys' numbers of a list ascend; the map that is made of a list says
+/// that list, and is valid where the list ascends; and an item that says a list is the one that is
+/// made of it. All bytes are one digest or have one refusal, and say one list or have one refusal.
+pub fn param_laws()
+    ensures { ParamLaws }
+{}

@@ -7,7 +7,7 @@ ghost use Rattle.suit_params.specs.ParamReading.{id_from, held_from, text_bytes,
 ghost use Rattle.suit_params.specs.ParamJudging.{judge_index};
 
 use crate::digest::digest_of;
-use crate::reading::{next_content, only_item, read_bytes, read_head};
+use crate::reading::{next_content, only_item, read_bytes, read_kind};
 use crate::refusal::refused;
 use crate::{Digest, Refusal, Why};
 use det_cbor::{Cursor, HeadKind, Reason, as_text};
@@ -28,16 +28,11 @@ pub(crate) fn read_id(map: &mut Cursor<'_>) -> Result<[u8; 16], Refusal>
     ensures { map_ok (λ id. (id, map.new)) result ≡ id_from map.old }
 {
     let place = map.place();
-    let head = read_head(map)?;
-    match head.kind {
-        HeadKind::Bytes => {
-            if head.value == 16 {
-                id_bytes(map)
-            } else {
-                refused(place, Why::BadParam)
-            }
-        }
-        _ => refused(place, Why::BadParam),
+    let count = read_kind(map, HeadKind::Bytes, Why::BadParam)?;
+    if count == 16 {
+        id_bytes(map)
+    } else {
+        refused(place, Why::BadParam)
     }
 }
 
@@ -46,12 +41,8 @@ pub(crate) fn read_id(map: &mut Cursor<'_>) -> Result<[u8; 16], Refusal>
 pub(crate) fn read_held<'a>(map: &mut Cursor<'a>) -> Result<Cursor<'a>, Refusal>
     ensures { map_ok (λ inner. (inner, map.new)) result ≡ held_from map.old }
 {
-    let place = map.place();
-    let head = read_head(map)?;
-    match head.kind {
-        HeadKind::Bytes => next_content(map, head.value),
-        _ => refused(place, Why::BadParam),
-    }
+    let count = read_kind(map, HeadKind::Bytes, Why::BadParam)?;
+    next_content(map, count)
 }
 
 // The next bytes as a text, which stands at a place.
@@ -71,11 +62,8 @@ pub(crate) fn read_text<'a>(map: &mut Cursor<'a>) -> Result<&'a str, Refusal>
     ensures { map_ok (λ t. (t.now, map.new)) result ≡ text_from map.old }
 {
     let place = map.place();
-    let head = read_head(map)?;
-    match head.kind {
-        HeadKind::Text => text(map, head.value, place),
-        _ => refused(place, Why::BadParam),
-    }
+    let count = read_kind(map, HeadKind::Text, Why::BadParam)?;
+    text(map, count, place)
 }
 
 /// An unsigned number.
@@ -83,12 +71,7 @@ pub(crate) fn read_text<'a>(map: &mut Cursor<'a>) -> Result<&'a str, Refusal>
 pub(crate) fn read_number(map: &mut Cursor<'_>) -> Result<u64, Refusal>
     ensures { map_ok (λ n. (n, map.new)) result ≡ number_from map.old }
 {
-    let place = map.place();
-    let head = read_head(map)?;
-    match head.kind {
-        HeadKind::Unsigned => Ok(head.value),
-        _ => refused(place, Why::BadParam),
-    }
+    read_kind(map, HeadKind::Unsigned, Why::BadParam)
 }
 
 /// True or false.
@@ -96,12 +79,7 @@ pub(crate) fn read_number(map: &mut Cursor<'_>) -> Result<u64, Refusal>
 pub(crate) fn read_flag(map: &mut Cursor<'_>) -> Result<bool, Refusal>
     ensures { map_ok (λ b. (b, map.new)) result ≡ flag_from map.old }
 {
-    let place = map.place();
-    let head = read_head(map)?;
-    match head.kind {
-        HeadKind::Bool => Ok(head.value == 1),
-        _ => refused(place, Why::BadParam),
-    }
+    Ok(read_kind(map, HeadKind::Bool, Why::BadParam)? == 1)
 }
 
 /// A component's index, which stands at a place: below the number of components.

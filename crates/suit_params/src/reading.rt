@@ -3,7 +3,7 @@
 ghost use Rattle.std.specs.Prelude.{◌≡◌, ℕ, ◌<◌, length, get_or, IfOk, OnErr};
 ghost use Rattle.det_cbor.specs.HeadReading.{map_ok};
 ghost use Rattle.det_cbor.specs.Position.{Takes};
-ghost use Rattle.suit_params.specs.Reading.{head_from, bytes_from, inner_from, only_from, string_from, content_from, array_from, map_from};
+ghost use Rattle.suit_params.specs.Reading.{head_from, kind_from, bytes_from, inner_from, only_from, string_from, content_from, array_from, map_from};
 
 use crate::refusal::refused;
 use crate::{Refusal, Why};
@@ -41,6 +41,19 @@ pub fn read_head(cursor: &mut Cursor<'_>) -> Result<Head, Refusal>
     ensures same { OnErr result (cursor.new ≡ cursor.old) }
 {
     Ok(cursor.head()?)
+}
+
+/// The value of the next head, which is to be of a kind. A head of another kind is refused, at its place.
+pub fn read_kind(cursor: &mut Cursor<'_>, kind: HeadKind, why: Why) -> Result<u64, Refusal>
+    ensures { map_ok (λ n. (n, cursor.new)) result ≡ kind_from kind why cursor.old }
+{
+    let place = cursor.place();
+    let head = read_head(cursor)?;
+    if head.kind == kind {
+        Ok(head.value)
+    } else {
+        refused(place, why)
+    }
 }
 
 #[tactic(auto, using(crate::proofs::Readings::bytes_ok, crate::proofs::Readings::bytes_err))]
@@ -84,12 +97,8 @@ pub fn only_item(mut content: Cursor<'_>) -> Result<Cursor<'_>, Refusal>
 pub fn read_content<'a>(cursor: &mut Cursor<'a>) -> Result<Cursor<'a>, Refusal>
     ensures { map_ok (λ inner. (inner, cursor.new)) result ≡ content_from cursor.old }
 {
-    let place = cursor.place();
-    let head = read_head(cursor)?;
-    match head.kind {
-        HeadKind::Bytes => next_content(cursor, head.value),
-        _ => refused(place, Why::Shape),
-    }
+    let count = read_kind(cursor, HeadKind::Bytes, Why::Shape)?;
+    next_content(cursor, count)
 }
 
 /// The next bytes, as many as are asked for, as a cursor on them.
@@ -106,12 +115,7 @@ pub fn next_content<'a>(cursor: &mut Cursor<'a>, count: u64) -> Result<Cursor<'a
 pub fn read_array(item: &mut Cursor<'_>) -> Result<u64, Refusal>
     ensures { map_ok (λ n. (n, item.new)) result ≡ array_from item.old }
 {
-    let place = item.place();
-    let head = read_head(item)?;
-    match head.kind {
-        HeadKind::Array => Ok(head.value),
-        _ => refused(place, Why::Shape),
-    }
+    read_kind(item, HeadKind::Array, Why::Shape)
 }
 
 /// The number of pairs of a map. The cursor passes its head.
@@ -119,12 +123,7 @@ pub fn read_array(item: &mut Cursor<'_>) -> Result<u64, Refusal>
 pub fn read_map(item: &mut Cursor<'_>) -> Result<u64, Refusal>
     ensures { map_ok (λ n. (n, item.new)) result ≡ map_from item.old }
 {
-    let place = item.place();
-    let head = read_head(item)?;
-    match head.kind {
-        HeadKind::Map => Ok(head.value),
-        _ => refused(place, Why::Shape),
-    }
+    read_kind(item, HeadKind::Map, Why::Shape)
 }
 
 /// The bytes that are left.

@@ -1,15 +1,9 @@
-use Rattle.std.proofs.Common.{◌+◌, ◌≤◌, arith}
-use Rattle.suit_commands.specs.Size.{sequence_size, branches_size}
-use Rattle.suit_commands.specs.declared.command.Branches.TheDeep.{deep-Step}
+use Rattle.std.proofs.Common.{arith}
 use Rattle.suit_commands.specs.Smaller.{step_smaller, branch_inside}
 use Rattle.suit_commands.proofs.swap_walk.+swap.Goals as goal
 
 pub branches_swap-has_swap-requires : goal.branches_swap-has_swap-requires
-branches_swap-has_swap-requires t c =
-    let e : sequence_size c.in-Some.inner + 1 ≤ branches_size c.args.branches.now = branch_inside c.as_slice-branch-items.result.now c.loop-branch.branch-index c.branch-item.result c.branch-item.result c.in-Some.inner c.args.branches.now c.loop-branch-test.true c.branch-item.is c.in-Some.is c.loop-branch.invariant.whole in
-    (omega (arith, e, c.decreases), tt)
+branches_swap-has_swap-requires t c = (omega (arith, branch_inside c.as_slice-branch-items.result.now c.loop-branch.branch-index c.branch-item.result c.branch-item.result c.in-Some.inner c.args.branches.now c.loop-branch-test.true c.branch-item.is c.in-Some.is c.loop-branch.invariant.whole, c.decreases), tt)
 
 pub has_swap-command_swaps-requires : goal.has_swap-command_swaps-requires
-has_swap-command_swaps-requires t c =
-    let e : deep-Step c.step-item.result ≤ sequence_size c.args.sequence.now = step_smaller c.as_slice-step-items.result.now c.loop-step.step-index c.step-item.result c.step-item.result c.args.sequence.now c.loop-step-test.true c.step-item.is c.loop-step.invariant.whole in
-    (omega (arith, e, c.decreases), tt)
+has_swap-command_swaps-requires t c = (omega (arith, step_smaller c.as_slice-step-items.result.now c.loop-step.step-index c.step-item.result c.step-item.result c.args.sequence.now c.loop-step-test.true c.step-item.is c.loop-step.invariant.whole, c.decreases), tt)

@@ -1,7 +1,5 @@
-use Rattle.std.proofs.Common.{◌≡◌, ◌+◌, ◌≤◌, ◌∙◌, ap, arith}
-use Rattle.suit_commands.specs.Size.{sequence_size, branches_size}
+use Rattle.std.proofs.Common.{◌≡◌, ◌∙◌, ap, arith}
 use Rattle.suit_commands.specs.WaysOnce.{counted, capped_ways}
-use Rattle.suit_commands.specs.declared.command.Branches.TheDeep.{deep-Step}
 use Rattle.suit_commands.specs.Smaller.{step_smaller, branch_inside}
 use Rattle.suit_commands.proofs.WaysSteps.{made_fits, step_ways, steps_ways, branch_ways, branches_ways, there_ways, test_capped, inner_made, other_ways, start_fits, none_fits, steps_begin, branches_begin, some_ways, null_ways}
 use Rattle.suit_commands.proofs.ways_walk.+ways.Goals as goal
@@ -24,9 +22,7 @@ branches_ways-loop-branch-init t c = record {
 }
 
 pub branches_ways-sequence_ways-ways-requires : goal.branches_ways-sequence_ways-ways-requires
-branches_ways-sequence_ways-ways-requires t c =
-    let e : sequence_size c.in-Some.inner + 1 ≤ branches_size c.args.branches.now = branch_inside c.as_slice-branch-items.result.now c.loop-branch.branch-index c.branch-item.result c.branch-item.result c.in-Some.inner c.args.branches.now c.loop-branch-test.true c.branch-item.is c.in-Some.is c.loop-branch.invariant.whole in
-    (omega (arith, e, c.decreases), tt)
+branches_ways-sequence_ways-ways-requires t c = (omega (arith, branch_inside c.as_slice-branch-items.result.now c.loop-branch.branch-index c.branch-item.result c.branch-item.result c.in-Some.inner c.args.branches.now c.loop-branch-test.true c.branch-item.is c.in-Some.is c.loop-branch.invariant.whole, c.decreases), tt)
 
 pub branches_ways-loop-branch-preserved : goal.branches_ways-loop-branch-preserved
 branches_ways-loop-branch-preserved t c =
@@ -51,9 +47,7 @@ sequence_ways-loop-step-init t c = record {
 }
 
 pub sequence_ways-command_ways-once-requires : goal.sequence_ways-command_ways-once-requires
-sequence_ways-command_ways-once-requires t c =
-    let e : deep-Step c.step-item.result ≤ sequence_size c.args.sequence.now = step_smaller c.as_slice-step-items.result.now c.loop-step.step-index c.step-item.result c.step-item.result c.args.sequence.now c.loop-step-test.true c.step-item.is c.loop-step.invariant.whole in
-    (omega (arith, e, c.decreases), tt)
+sequence_ways-command_ways-once-requires t c = (omega (arith, step_smaller c.as_slice-step-items.result.now c.loop-step.step-index c.step-item.result c.step-item.result c.args.sequence.now c.loop-step-test.true c.step-item.is c.loop-step.invariant.whole, c.decreases), tt)
 
 pub sequence_ways-loop-step-preserved : goal.sequence_ways-loop-step-preserved
 sequence_ways-loop-step-preserved t c = record {

@@ -1,10 +1,8 @@
-use Rattle.std.proofs.Common.{◌≡◌, ◌+◌, ◌≤◌, ◌<◌, ◌^◌, ℕ, sym, ◌∙◌, subst, arith}
-use Rattle.suit_commands.specs.Size.{sequence_size, branches_size}
+use Rattle.std.proofs.Common.{◌≡◌, ◌<◌, ◌^◌, ℕ, sym, ◌∙◌, subst, arith}
 use Rattle.suit_commands.specs.View.{command_tree}
 use Rattle.suit_commands.specs.Capped.{capped}
 use Rattle.suit_commands.specs.Numbers.{command_work}
 use Rattle.suit_commands.specs.declared.command.Command.{Command}
-use Rattle.suit_commands.specs.declared.command.Branches.TheDeep.{deep-Step}
 use Rattle.suit_commands.proofs.Capping.{capped_small}
 use Rattle.suit_commands.specs.Smaller.{step_smaller, branch_inside}
 use Rattle.suit_commands.proofs.WorkSteps.{inner_work, step_counted, branch_counted, null_counted, plain_work, steps_counted, branches_counted}
@@ -26,9 +24,7 @@ pub command_work-returns-in_default : goal.command_work-returns-in_default
 command_work-returns-in_default t c = plain_work c.args.command.now c.args.count c.args.selected (omega arith) c.in_default.not-Index c.in_default.not-TryEach c.in_default.not-Run
 
 pub branches_work-sequence_work-requires : goal.branches_work-sequence_work-requires
-branches_work-sequence_work-requires t c =
-    let e : sequence_size c.in-Some.inner + 1 ≤ branches_size c.args.branches.now = branch_inside c.as_slice-branch-items.result.now c.loop-branch.branch-index c.branch-item.result c.branch-item.result c.in-Some.inner c.args.branches.now c.loop-branch-test.true c.branch-item.is c.in-Some.is c.loop-branch.invariant.whole in
-    (omega (arith, e, c.decreases), tt)
+branches_work-sequence_work-requires t c = (omega (arith, branch_inside c.as_slice-branch-items.result.now c.loop-branch.branch-index c.branch-item.result c.branch-item.result c.in-Some.inner c.args.branches.now c.loop-branch-test.true c.branch-item.is c.in-Some.is c.loop-branch.invariant.whole, c.decreases), tt)
 
 pub branches_work-loop-branch-preserved : goal.branches_work-loop-branch-preserved
 branches_work-loop-branch-preserved t c = record {
@@ -47,9 +43,7 @@ pub branches_work-returns : goal.branches_work-returns
 branches_work-returns t c = branches_counted c.as_slice-branch-items.result.now c.loop-branch.branch-index c.args.count c.loop-branch.total _ c.loop-branch-test.false c.loop-branch.invariant.fits c.loop-branch.invariant.sum
 
 pub sequence_work-command_work-requires : goal.sequence_work-command_work-requires
-sequence_work-command_work-requires t c =
-    let e : deep-Step c.step-item.result ≤ sequence_size c.args.sequence.now = step_smaller c.as_slice-step-items.result.now c.loop-step.step-index c.step-item.result c.step-item.result c.args.sequence.now c.loop-step-test.true c.step-item.is c.loop-step.invariant.whole in
-    (omega (arith, e, c.decreases), tt)
+sequence_work-command_work-requires t c = (omega (arith, step_smaller c.as_slice-step-items.result.now c.loop-step.step-index c.step-item.result c.step-item.result c.args.sequence.now c.loop-step-test.true c.step-item.is c.loop-step.invariant.whole, c.decreases), tt)
 
 pub sequence_work-loop-step-preserved : goal.sequence_work-loop-step-preserved
 sequence_work-loop-step-preserved t c = record {

@@ -1,5 +1,5 @@
 use Rattle.suit_commands.proofs.TargetLawProofs.{target_laws}
-use Rattle.suit_commands.proofs.law.target_laws.Goals as goal
+use Rattle.suit_commands.proofs.plan_targets.target_laws.Goals as goal
 
 pub returns : goal.returns
 returns c = target_laws

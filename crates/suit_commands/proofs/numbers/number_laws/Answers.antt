@@ -1,5 +1,5 @@
 use Rattle.suit_commands.proofs.NumberLawProofs.{number_laws}
-use Rattle.suit_commands.proofs.law.number_laws.Goals as goal
+use Rattle.suit_commands.proofs.numbers.number_laws.Goals as goal
 
 pub returns : goal.returns
 returns c = number_laws
