@@ -1,9 +1,9 @@
 -- An envelope that is read is judged so.
-use Rattle.std.proofs.Common.{◌≡◌, ℕ, suc, ◌+◌, Bool, true, false, cond, eqb, List, [], ◌∷◌, ◌++◌, Option, Some, None, Result, Ok, Err, refl, sym, ap, ◌∙◌, append_assoc, arith}
+use Rattle.std.proofs.Common.{◌≡◌, ℕ, suc, ◌+◌, Bool, true, false, cond, eqb, List, [], ◌∷◌, ◌++◌, Option, None, Result, Ok, Err, refl, sym, ap, ◌∙◌}
 use Rattle.std.specs.Result.{result_ok}
 use Rattle.std.proofs.lemmas.List.{append-nil}
 use Rattle.det_cbor.specs.Heads.{head_bytes}
-use Rattle.det_cbor.specs.DataItem.{DataItem, ByteString, MapOf, TaggedItem, NullItem, DataPairs, NoPairs, PairThen, pair_count, spell, spell_pairs, IsValidWithin, ArePairsWithin}
+use Rattle.det_cbor.specs.DataItem.{DataItem, ByteString, MapOf, TaggedItem, NullItem, DataPairs, NoPairs, PairThen, pair_count, spell, spell_pairs, IsValidWithin}
 use Rattle.det_cbor.specs.HeadReading.{◌>>=◌}
 use Rattle.det_cbor.specs.HeadSpelling.{spelled}
 use Rattle.det_cbor.specs.ItemOrder.{spell_parts}
@@ -23,6 +23,7 @@ use Rattle.suit_envelope.specs.EnvelopeReading.{PairsSay, see, all_seen, value_f
 use Rattle.suit_envelope.specs.declared.key.Key.{Key}
 use Rattle.suit_envelope.specs.declared.key.Key.TheVariants.{Wrapper, Manifest, PayloadFetch, Install, Text, Payload, Unknown}
 use Rattle.suit_envelope.proofs.KeyLaws.{inner_read, key_read, see_all, lacks_is}
+use Rattle.suit_envelope.proofs.PairSteps.{after_pair, PairFirst, by_pairs}
 use Rattle.suit_envelope.proofs.WrapperJudging.{wrapper_read}
 
 -- ---- values
@@ -107,25 +108,25 @@ step : (known : Result Unit Refusal) (t : PairsSay) (q : Position) (f : PairsSay
 step (Ok done) t q f others z e = e
 step (Err s) t q f others z e = refl
 
-pub pairs_read : (levels : ℕ) (p : Position) (before : Option (List ℕ)) (ps : DataPairs) (rest : List ℕ) (s : PairsSay) → ArePairsWithin levels before ps → p.left ≡ spell_pairs ps ++ rest
-    → pairs_from (pair_count ps) p s ≡ (judge_each judge_key (entries p.place ps) >>= λ _. Ok (more s (entries p.place ps)))
-pairs_read levels p before NoPairs rest s valid is = λ i. Ok (record { seen = s.seen; said = s.said; judged = then_nothing s.judged i })
-pairs_read levels p before (PairThen key value ps) rest s valid is =
-    let count : pair_count ps + 1 ≡ suc (pair_count ps) = omega arith in
-    let after_value = spell_pairs ps ++ rest in
-    let after_key = spell value ++ after_value in
-    let q = after p (spell key) after_key in
-    let r = after q (spell value) after_value in
-    let whole : p.left ≡ spell key ++ after_key = is ∙ simp append_assoc in
+abbrev PairsRead : ℕ → Position → DataPairs → Type 0
+PairsRead n p ps = (s : PairsSay) → pairs_from n p s ≡ (judge_each judge_key (entries p.place ps) >>= λ _. Ok (more s (entries p.place ps)))
+
+first_read : (levels : ℕ) (p : Position) (key value : DataItem) (ps : DataPairs) (rest : List ℕ) → PairFirst PairsRead levels p key value ps rest → PairsRead (suc (pair_count ps)) p (PairThen key value ps)
+first_read levels p key value ps rest first = λ s.
+    let q = after p (spell key) (spell value ++ rest) in
+    let r = after_pair p key value rest in
     let e : Entry = record { key = key; key_place = p.place; value = value; value_place = q.place } in
     let es = entries r.place ps in
     let t = pair_more s (key_of key) q.place (value_is q.place value) in
     let others : pairs_from (pair_count ps) r t ≡ (judge_each judge_key es >>= λ _. Ok (more s (e ∷ es))) =
-    pairs_read levels r (Some (spell key)) ps rest t valid.3 refl ∙ ap (λ (z : PairsSay). judge_each judge_key es >>= λ _. Ok z) (one_more levels s e es valid.2) in
+    first.later t ∙ ap (λ (z : PairsSay). judge_each judge_key es >>= λ _. Ok z) (one_more levels s e es first.value_valid) in
     let value_of : Key × Position → Result (PairsSay × Position) Refusal = λ k. value_from k.1 >>= λ v. Ok (pair_more s k.0 k.1.place v.0, v.1) in
     let go_on : PairsSay × Position → Result PairsSay Refusal = λ u. pairs_from (pair_count ps) u.1 u.0 in
-    rw (count, key_read levels p.place p key after_key value_of valid.0 whole, value_read levels q value after_value valid.2 refl)
+    rw (key_read levels p.place p key (spell value ++ rest) value_of first.key_valid first.is, value_read levels q value rest first.value_valid refl)
     (step (known_key p.place (key_of key)) t r go_on (judge_each judge_key es) (more s (e ∷ es)) others)
+
+none_read : (p : Position) → PairsRead 0 p NoPairs
+none_read p = λ s i. Ok (record { seen = s.seen; said = s.said; judged = then_nothing s.judged i })
 
 -- ---- the map
 
@@ -135,7 +136,7 @@ map_read levels p ps tagged rest valid =
     let q = after p (head_bytes 5 (pair_count ps)) (spell_pairs ps ++ rest) in
     let es = entries q.place ps in
     let nothing = says_nothing tagged in
-    rw (pairs_read (levels + 1) q None ps rest (no_pairs nothing) valid.2 refl)
+    rw (by_pairs PairsRead none_read first_read (levels + 1) q None ps rest valid.2 refl (no_pairs nothing))
     (by_keys (judge_each judge_key es) (more (no_pairs nothing) es) (lacks_is p.place es))
   where
     by_keys : (r : Result Unit Refusal) (s : PairsSay) {lacks : Result Unit Refusal} → all_seen p.place s.seen ≡ lacks

@@ -19,7 +19,7 @@ use Rattle.suit_envelope.specs.Envelopes.{Entry, key_of, numbered_key, is_number
 use Rattle.suit_envelope.specs.Judging.{known_key, judge_lack}
 use Rattle.suit_envelope.specs.EnvelopeReading.{key_from, see, all_seen}
 use Rattle.suit_envelope.specs.declared.key.Key.{Key}
-use Rattle.suit_envelope.specs.declared.key.Key.TheVariants.{Payload}
+use Rattle.suit_envelope.specs.declared.key.Key.TheVariants.{PayloadFetch, Install, Text, Payload, Unknown}
 use Rattle.suit_envelope.specs.declared.key.Seen.{Seen}
 
 -- ---- one key
@@ -52,53 +52,35 @@ either : (b : Bool) → (b ≡ true) ⊎ (b ≡ false)
 either true = inl refl
 either false = inr refl
 
-sees_wrapper : (s : Seen) (n : ℕ) → (see s (numbered_key n)).wrapper ≡ (s.wrapper || eqb n 2)
-sees_wrapper s n =
-    elim (either (eqb n 2)) [
-      | inl a ↦ rw a (or_true s.wrapper)
-      | inr a ↦ rw a (elim (either (eqb n 3)) [
-        | inl b ↦ rw b (sym (or_false s.wrapper))
-        | inr b ↦ rw b (elim (either (eqb n 16)) [
-          | inl c ↦ rw c (sym (or_false s.wrapper))
-          | inr c ↦ rw c (elim (either (eqb n 20)) [
-            | inl d ↦ rw d (sym (or_false s.wrapper))
-            | inr d ↦ rw d (elim (either (eqb n 23)) [
-              | inl f ↦ rw f (sym (or_false s.wrapper))
-              | inr f ↦ rw f (sym (or_false s.wrapper))
-            ])
-          ])
-        ])
-      ])
-    ]
+-- a number after the two that are required changes nothing
+others_unseen : (s : Seen) (fetch install text : Bool) → see s (cond fetch PayloadFetch (cond install Install (cond text Text Unknown))) ≡ s
+others_unseen s true install text = refl
+others_unseen s false true text = refl
+others_unseen s false false true = refl
+others_unseen s false false false = refl
 
-sees_manifest : (s : Seen) (n : ℕ) → (see s (numbered_key n)).manifest ≡ (s.manifest || eqb n 3)
-sees_manifest s n =
+-- what is seen after a key of the wrapper, or not, and one of the manifest, or not
+abbrev seen_with : Seen → Bool → Bool → Seen
+seen_with s wrapper manifest = record { wrapper = s.wrapper || wrapper; manifest = s.manifest || manifest }
+
+sees_nothing : (s : Seen) → s ≡ seen_with s false false
+sees_nothing s = λ i. record { wrapper = sym (or_false s.wrapper) i; manifest = sym (or_false s.manifest) i }
+
+number_seen : (s : Seen) (n : ℕ) → see s (numbered_key n) ≡ seen_with s (eqb n 2) (eqb n 3)
+number_seen s n =
     elim (either (eqb n 2)) [
       | inl a ↦
           let is : n ≡ 2 = eqb-true n 2 a in
-          subst (λ (k : ℕ). (see s (numbered_key k)).manifest ≡ (s.manifest || eqb k 3)) (sym is) (sym (or_false s.manifest))
+          subst (λ (k : ℕ). see s (numbered_key k) ≡ seen_with s (eqb k 2) (eqb k 3)) (sym is) (λ i. record { wrapper = or_true s.wrapper i; manifest = sym (or_false s.manifest) i })
       | inr a ↦ rw a (elim (either (eqb n 3)) [
-        | inl b ↦ rw b (or_true s.manifest)
-        | inr b ↦ rw b (elim (either (eqb n 16)) [
-          | inl c ↦ rw c (sym (or_false s.manifest))
-          | inr c ↦ rw c (elim (either (eqb n 20)) [
-            | inl d ↦ rw d (sym (or_false s.manifest))
-            | inr d ↦ rw d (elim (either (eqb n 23)) [
-              | inl f ↦ rw f (sym (or_false s.manifest))
-              | inr f ↦ rw f (sym (or_false s.manifest))
-            ])
-          ])
-        ])
+        | inl b ↦ rw b (λ i. record { wrapper = sym (or_false s.wrapper) i; manifest = or_true s.manifest i })
+        | inr b ↦ rw b (others_unseen s (eqb n 16) (eqb n 20) (eqb n 23) ∙ sees_nothing s)
       ])
     ]
 
-key_wrapper : (s : Seen) (k : DataItem) → (see s (key_of k)).wrapper ≡ (s.wrapper || is_number 2 k)
-key_wrapper s (UnsignedInteger n) = sees_wrapper s n
-key_wrapper s _ = sym (or_false s.wrapper)
-
-key_manifest : (s : Seen) (k : DataItem) → (see s (key_of k)).manifest ≡ (s.manifest || is_number 3 k)
-key_manifest s (UnsignedInteger n) = sees_manifest s n
-key_manifest s _ = sym (or_false s.manifest)
+key_seen : (s : Seen) (k : DataItem) → see s (key_of k) ≡ seen_with s (is_number 2 k) (is_number 3 k)
+key_seen s (UnsignedInteger n) = number_seen s n
+key_seen s _ = sees_nothing s
 
 abbrev pub see_all : Seen → List Entry → Seen
 see_all s [] = s
@@ -108,19 +90,21 @@ or_assoc : (a b c : Bool) → ((a || b) || c) ≡ (a || (b || c))
 or_assoc true b c = refl
 or_assoc false b c = refl
 
-all_wrapper : (s : Seen) (es : List Entry) → (see_all s es).wrapper ≡ (s.wrapper || has_key 2 es)
-all_wrapper s [] = sym (or_false s.wrapper)
-all_wrapper s (e ∷ es) = all_wrapper (see s (key_of e.key)) es ∙ ap (λ (b : Bool). b || has_key 2 es) (key_wrapper s e.key) ∙ or_assoc s.wrapper (is_number 2 e.key) (has_key 2 es)
-
-all_manifest : (s : Seen) (es : List Entry) → (see_all s es).manifest ≡ (s.manifest || has_key 3 es)
-all_manifest s [] = sym (or_false s.manifest)
-all_manifest s (e ∷ es) = all_manifest (see s (key_of e.key)) es ∙ ap (λ (b : Bool). b || has_key 3 es) (key_manifest s e.key) ∙ or_assoc s.manifest (is_number 3 e.key) (has_key 3 es)
+all_are_seen : (s : Seen) (es : List Entry) → see_all s es ≡ seen_with s (has_key 2 es) (has_key 3 es)
+all_are_seen s [] = sees_nothing s
+all_are_seen s (e ∷ es) =
+    all_are_seen (see s (key_of e.key)) es
+    ∙ ap (λ (t : Seen). seen_with t (has_key 2 es) (has_key 3 es)) (key_seen s e.key)
+    ∙ (λ i. record {
+      wrapper = or_assoc s.wrapper (is_number 2 e.key) (has_key 2 es) i;
+      manifest = or_assoc s.manifest (is_number 3 e.key) (has_key 3 es) i;
+    })
 
 -- the keys seen decide which are missing
 pub lacks_is : (place : ℕ) (es : List Entry) → all_seen place (see_all (record { wrapper = false; manifest = false }) es) ≡ judge_each (judge_lack place es) (2 ∷ 3 ∷ [])
 lacks_is place es =
     let none : Seen = record { wrapper = false; manifest = false } in
-    rw (all_wrapper none es, all_manifest none es) (by_both (has_key 2 es) (has_key 3 es))
+    rw (all_are_seen none es) (by_both (has_key 2 es) (has_key 3 es))
   where
     there : Bool → ℕ → Result Unit Refusal
     there b n = cond b (Ok tt) (Err (refused place (Missing n)))

@@ -1,6 +1,7 @@
 pub mod Loops
 pub mod WrapperJudging
 pub mod KeyLaws
+pub mod PairSteps
 pub mod EnvelopeReads
 pub mod EnvelopeJudging
 pub mod EnvelopeAnswers

@@ -15,11 +15,8 @@ use Rattle.suit_envelope.specs.PayloadOrder.{AreAscending}
 
 -- the bounds of parts by the types of the code
 pub record Fits (parts : EnvelopeParts) : Type 0 where
-  pub wrapper : IsString parts.wrapper
-  pub manifest : IsString parts.manifest
-  pub payload_fetch : IfSome parts.payload_fetch IsString
-  pub install : IfSome parts.install IsString
-  pub text : IfSome parts.text IsString
+  pub required : AllByRecursion IsString (parts.wrapper ∷ parts.manifest ∷ [])
+  pub members : AllByRecursion (λ m. IfSome m IsString) (parts.payload_fetch ∷ parts.install ∷ parts.text ∷ [])
   pub payloads : AllByRecursion IsPayload parts.payloads
   pub count : pair_count (pairs_made parts) < 2 ^ 64
 
@@ -57,8 +54,8 @@ pub made_valid : (parts : EnvelopeParts) → Fits parts → AreAscending None pa
 unfolding Follows
 made_valid parts fit ascend =
     let payloads = payloads_follow parts.payloads fit.payloads ascend in
-    let text = member_follows 22 23 23 parts.text _ (omega arith) (omega arith) (omega arith) fit.text payloads in
-    let install = member_follows 19 20 22 parts.install _ (omega arith) (omega arith) (omega arith) fit.install text in
-    let payload_fetch = member_follows 3 16 19 parts.payload_fetch _ (omega arith) (omega arith) (omega arith) fit.payload_fetch install in
+    let text = member_follows 22 23 23 parts.text _ (omega arith) (omega arith) (omega arith) fit.members.1.1.0 payloads in
+    let install = member_follows 19 20 22 parts.install _ (omega arith) (omega arith) (omega arith) fit.members.1.0 text in
+    let payload_fetch = member_follows 3 16 19 parts.payload_fetch _ (omega arith) (omega arith) (omega arith) fit.members.0 install in
     let manifest = payload_fetch 3 (omega arith) in
-    (omega arith, omega arith, (omega arith, fit.count, (omega arith, tt, fit.wrapper, (omega arith, number_below 2 3 (omega arith) (omega arith), fit.manifest, manifest))))
+    (omega arith, omega arith, (omega arith, fit.count, (omega arith, tt, fit.required.0, (omega arith, number_below 2 3 (omega arith) (omega arith), fit.required.1.0, manifest))))

@@ -10,7 +10,7 @@ use Rattle.suit_envelope.specs.Envelopes.{Entry}
 use Rattle.suit_envelope.specs.Payloads.{payload_then, integrated_payloads, payload_under}
 use Rattle.suit_envelope.proofs.EntryOrder.{not_above_itself, AreAbove, AreAscending}
 
-abbrev Payloads : Type 0
+abbrev pub Payloads : Type 0
 Payloads = List (List ℕ × List ℕ)
 
 -- ---- the order of keys

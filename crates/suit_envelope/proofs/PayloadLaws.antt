@@ -1,26 +1,26 @@
 -- The payloads of an envelope that is spelled are found by their keys.
-use Rattle.std.proofs.Common.{◌≡◌, ◌≢◌, ℕ, suc, ◌+◌, ◌-◌, ◌<◌, Bool, true, false, cond, eqb, List, [], ◌++◌, length, Option, Some, None, Result, Ok, Err, refl, sym, ap, subst, ◌∙◌, append_assoc, arith}
+use Rattle.std.proofs.Common.{◌≡◌, ◌≢◌, ℕ, suc, ◌+◌, ◌-◌, ◌<◌, Bool, true, false, cond, eqb, List, [], ◌++◌, length, Option, Some, None, Result, Ok, Err, refl, sym, ap, subst, ◌∙◌, arith}
 use Rattle.std.specs.Prelude.{IfSome, option_map}
 use Rattle.std.specs.List.{AllByRecursion, Contains}
 use Rattle.std.specs.Str.{bytes_eq}
 use Rattle.std.proofs.lemmas.List.{append-nil, length-append}
 use Rattle.det_cbor.specs.Heads.{head_bytes}
-use Rattle.det_cbor.specs.DataItem.{DataItem, UnsignedInteger, ByteString, TextString, MapOf, TaggedItem, DataPairs, NoPairs, PairThen, pair_count, spell, spell_pairs, IsValid, IsValidWithin, ArePairsWithin}
-use Rattle.det_cbor.specs.HeadReading.{◌>>=◌}
+use Rattle.det_cbor.specs.DataItem.{DataItem, UnsignedInteger, ByteString, TextString, MapOf, TaggedItem, DataPairs, PairThen, pair_count, spell, spell_pairs, IsValid, IsValidWithin, ArePairsWithin}
 use Rattle.det_cbor.specs.Position.{Position}
 use Rattle.det_cbor.specs.ResultLaws.{same_ok, not_both}
 use Rattle.suit_params.specs.declared.refusal.Refusal.{Refusal}
-use Rattle.suit_params.specs.Refusing.{IsByteString}
-use Rattle.suit_params.specs.Judging.{judge_string}
+use Rattle.suit_params.specs.Refusing.{IsByteString, content_place}
+use Rattle.suit_params.specs.Reading.{content_from}
 use Rattle.suit_params.specs.HeadLaws.{item_head_read, bytes_again, after}
-use Rattle.suit_params.specs.HeldLaws.{by_string, content_read, with_rest}
-use Rattle.suit_envelope.specs.Envelopes.{Entry, EnvelopeMap, entries, map_entries, key_of, as_map, envelope_map, IsKnown, IsValue}
+use Rattle.suit_params.specs.HeldLaws.{by_string, content_read}
+use Rattle.suit_envelope.specs.Envelopes.{EnvelopeMap, entries, map_entries, key_of, as_map, envelope_map, IsKnown, IsValue}
 use Rattle.suit_envelope.specs.Payloads.{payload_then, integrated_payloads, HasPayloads, payload_under}
 use Rattle.suit_envelope.specs.PayloadReading.{text_from, is_wanted, content_where, pair_from, or_later, found_from, counted_from, payload_from}
 use Rattle.suit_envelope.specs.WrapperParts.{start_of}
 use Rattle.suit_envelope.specs.declared.key.Key.TheVariants.{Unknown}
 use Rattle.suit_envelope.proofs.EntryOrder.{entries_ascend}
-use Rattle.suit_envelope.proofs.PayloadKeys.{AreApart, payloads_apart, contained_under, under_contained}
+use Rattle.suit_envelope.proofs.PairSteps.{after_pair, PairFirst, by_pairs}
+use Rattle.suit_envelope.proofs.PayloadKeys.{Payloads, AreApart, payloads_apart, contained_under, under_contained}
 
 -- ---- keys
 
@@ -40,6 +40,48 @@ text_read levels p _ rest known valid is = absurd (known refl)
 
 -- ---- pairs
 
+-- a pair is read at a position: its key, as far as it is a text, and the content of its value; of the pairs behind it,
+-- whose payloads are these, this holds
+pub record PayloadFirst (P : ℕ → Position → Payloads → Type 0) (n : ℕ) (p : Position) (key : DataItem) (content : List ℕ) (others : Payloads) : Type 0 where
+  pub levels : ℕ
+  pub valid : IsValidWithin levels key
+  pub known : key_of key ≢ Unknown
+  pub behind : Position
+  pub text : text_from p ≡ Ok (text_of key, behind)
+  pub place : ℕ
+  pub next : Position
+  pub held : content_from behind ≡ Ok (record { left = content; place = place }, next)
+  pub later : P n next others
+
+-- this holds of no pair, and of a pair more
+pub record PayloadSteps (P : ℕ → Position → Payloads → Type 0) : Type 0 where
+  pub none : (p : Position) → P 0 p []
+  pub more : (n : ℕ) (p : Position) (key : DataItem) (content : List ℕ) (others : Payloads) → PayloadFirst P n p key content others → P (suc n) p (payload_then key (ByteString content) others)
+
+-- this holds of the payloads among pairs that are good
+abbrev AmongGood : (ℕ → Position → Payloads → Type 0) → ℕ → Position → DataPairs → Type 0
+AmongGood P n p ps = AllByRecursion IsKnown (entries p.place ps) → AllByRecursion IsValue (entries p.place ps) → P n p (integrated_payloads (entries p.place ps))
+
+first_good : (P : ℕ → Position → Payloads → Type 0) → PayloadSteps P
+    → (levels : ℕ) (p : Position) (key value : DataItem) (ps : DataPairs) (rest : List ℕ) → PairFirst (AmongGood P) levels p key value ps rest → AmongGood P (suc (pair_count ps)) p (PairThen key value ps)
+first_good P steps levels p key value ps rest first = λ known values.
+    by_string (λ (y : DataItem). IsByteString y → PairFirst (AmongGood P) levels p key y ps rest → AmongGood P (suc (pair_count ps)) p (PairThen key y ps))
+    (λ content b f k v.
+    let q = after p (spell key) (spell (ByteString content) ++ rest) in
+    steps.more (pair_count ps) p key content (integrated_payloads (entries (after_pair p key (ByteString content) rest).place ps)) (record {
+      levels = levels;
+      valid = f.key_valid;
+      known = k.0;
+      behind = q;
+      text = text_read levels p key (spell (ByteString content) ++ rest) k.0 f.key_valid f.is;
+      place = content_place q.place content;
+      next = after_pair p key (ByteString content) rest;
+      held = content_read levels q (ByteString content) rest f.value_valid refl;
+      later = f.later k.1 v.1;
+    }))
+    (λ y other b. absurd (other.other b))
+    value values.0.0 first known values
+
 -- a pair whose value is this byte string is the first payload, or it is none
 first_or_later : (wanted : List ℕ) (k : DataItem) (content : List ℕ) (others : List (List ℕ × List ℕ)) → key_of k ≢ Unknown
     → or_later (content_where (is_wanted (text_of k) wanted) content) (Ok (payload_under others wanted)) ≡ Ok (payload_under (payload_then k (ByteString content) others) wanted)
@@ -50,26 +92,6 @@ first_or_later wanted (TextString text) content others known = by_test (bytes_eq
     by_test false = refl
 first_or_later wanted (UnsignedInteger n) content others known = refl
 first_or_later wanted _ content others known = absurd (known refl)
-
-found_read : (wanted : List ℕ) (levels : ℕ) (p : Position) (before : Option (List ℕ)) (ps : DataPairs) (rest : List ℕ) → AllByRecursion IsKnown (entries p.place ps) → AllByRecursion IsValue (entries p.place ps)
-    → ArePairsWithin levels before ps → p.left ≡ spell_pairs ps ++ rest → found_from wanted (pair_count ps) p ≡ Ok (payload_under (integrated_payloads (entries p.place ps)) wanted)
-found_read wanted levels p before NoPairs rest known values valid is = refl
-found_read wanted levels p before (PairThen key value ps) rest known values valid is =
-    let count : pair_count ps + 1 ≡ suc (pair_count ps) = omega arith in
-    let after_value = spell_pairs ps ++ rest in
-    let after_key = spell value ++ after_value in
-    let q = after p (spell key) after_key in
-    let r = after q (spell value) after_value in
-    let whole : p.left ≡ spell key ++ after_key = is ∙ simp append_assoc in
-    let later : found_from wanted (pair_count ps) r ≡ Ok (payload_under (integrated_payloads (entries r.place ps)) wanted) = found_read wanted levels r (Some (spell key)) ps rest known.1 values.1 valid.3 refl in
-    let others = integrated_payloads (entries r.place ps) in
-    let turn : Position × Position → Result (Option (List ℕ) × Position) Refusal = λ c. Ok (content_where (is_wanted (text_of key) wanted) c.0.left, c.1) in
-    let go_on : Option (List ℕ) × Position → Result (Option (List ℕ)) Refusal = λ f. or_later f.0 (found_from wanted (pair_count ps) f.1) in
-    rw (count, text_read levels p key after_key known.0 valid.0 whole, content_read levels q value after_value valid.2 refl)
-    (by_string (λ (y : DataItem). IsByteString y → (((judge_string q.place y >>= with_rest r) >>= turn) >>= go_on) ≡ Ok (payload_under (payload_then key y others) wanted))
-    (λ bytes b. ap (or_later (content_where (is_wanted (text_of key) wanted) bytes)) later ∙ first_or_later wanted key bytes others known.0)
-    (λ y other b. absurd (other.other b))
-    value values.0.0)
 
 -- ---- the map
 
@@ -123,18 +145,34 @@ map_read _ m valid is = absurd cc
 
 -- ---- the envelope
 
-pub payload_read : (bytes : List ℕ) (payloads : List (List ℕ × List ℕ)) (key : List ℕ) → HasPayloads bytes payloads → payload_from key bytes ≡ Ok (payload_under payloads key)
-payload_read bytes payloads key has =
-    let x = has.envelope.item in
+-- of the payloads of an envelope this holds, by the pairs of its map
+pub record PayloadsHeld (P : ℕ → Position → Payloads → Type 0) (bytes : List ℕ) (payloads : Payloads) : Type 0 where
+  pub count : ℕ
+  pub start : Position
+  pub counted : counted_from (start_of bytes) ≡ Ok (count, start)
+  pub holds : P count start payloads
+
+pub payloads_held : (P : ℕ → Position → Payloads → Type 0) → PayloadSteps P → (bytes : List ℕ) (payloads : Payloads) → HasPayloads bytes payloads → PayloadsHeld P bytes payloads
+payloads_held P steps bytes payloads has =
     let is = has.envelope.says_so in
     let m = is.map in
-    let r = map_read x m has.envelope.spells.valid is.shape in
+    let r = map_read has.envelope.item m has.envelope.spells.valid is.shape in
     let es : entries r.start.place m.pairs ≡ map_entries m = ap (λ (n : ℕ). entries n m.pairs) r.place in
-    let known = subst (AllByRecursion IsKnown) (sym es) is.known in
-    let values = subst (AllByRecursion IsValue) (sym es) is.values in
-    let found = found_read key r.levels r.start None m.pairs [] known values r.valid r.left in
-    let read : counted_from (start_of bytes) ≡ Ok (pair_count m.pairs, r.start) = ap (λ (l : List ℕ). counted_from (start_of l)) has.envelope.spells.is ∙ r.read in
-    rw read (found ∙ ap (λ (l : List Entry). Ok (payload_under (integrated_payloads l) key)) es ∙ ap (λ (ps : List (List ℕ × List ℕ)). Ok (payload_under ps key)) (sym has.are))
+    let all : AmongGood P (pair_count m.pairs) r.start m.pairs = by_pairs (AmongGood P) (λ p known values. steps.none p) (first_good P steps) r.levels r.start None m.pairs [] r.valid r.left in
+    record {
+      count = pair_count m.pairs;
+      start = r.start;
+      counted = ap (λ (l : List ℕ). counted_from (start_of l)) has.envelope.spells.is ∙ r.read;
+      holds = subst (P (pair_count m.pairs) r.start) (ap integrated_payloads es ∙ sym has.are) (all (subst (AllByRecursion IsKnown) (sym es) is.known) (subst (AllByRecursion IsValue) (sym es) is.values));
+    }
+
+pub payload_read : (bytes : List ℕ) (payloads : Payloads) (key : List ℕ) → HasPayloads bytes payloads → payload_from key bytes ≡ Ok (payload_under payloads key)
+payload_read bytes payloads key has =
+    let found = payloads_held (λ n p ps. found_from key n p ≡ Ok (payload_under ps key)) (record {
+      none = λ p. refl;
+      more = λ n p k content others f. rw (f.text, f.held) (ap (or_later (content_where (is_wanted (text_of k) key) content)) f.later ∙ first_or_later key k content others f.known);
+    }) bytes payloads has in
+    rw found.counted found.holds
 
 pub apart : (bytes : List ℕ) (payloads : List (List ℕ × List ℕ)) → HasPayloads bytes payloads → AreApart payloads
 apart bytes payloads has =

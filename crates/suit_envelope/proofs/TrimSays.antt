@@ -49,7 +49,7 @@ trims wrapper manifest holds wrapper_fits manifest_fits =
     record {
       item = trimmed_item wrapper manifest;
       spells = record {
-        valid = made_valid parts (record { wrapper = wrapper_fits; manifest = manifest_fits; payload_fetch = tt; install = tt; text = tt; payloads = tt; count = lit< tt }) tt;
+        valid = made_valid parts (record { required = (wrapper_fits, (manifest_fits, tt)); members = (tt, (tt, (tt, tt))); payloads = tt; count = lit< tt }) tt;
         is = refl;
       };
       says_so = subst (IsEnvelope 0 (trimmed_item wrapper manifest)) (made.all ∙ placed wrapper manifest) made.is;

@@ -9,8 +9,8 @@ use Rattle.suit_envelope.specs.Macs.{contents_from}
 use Rattle.suit_envelope.specs.Authentic.{first_from}
 use Rattle.suit_envelope.specs.WrapperParts.{WrapperSays, count_from}
 use Rattle.suit_envelope.specs.Walk.{walk_on, walked_from}
-use Rattle.suit_envelope.proofs.WrapperLaws.{count_read}
-use Rattle.suit_envelope.proofs.AuthenticLaws.{first_read, first_never}
+use Rattle.suit_envelope.proofs.WrapperLaws.{first_read, count_read}
+use Rattle.suit_envelope.proofs.AuthenticLaws.{first_is, contents_after, first_never}
 
 walk_contents : (n : ℕ) (p : Position) (blocks : List (List ℕ)) → contents_from n p ≡ Ok blocks → walked_from n p ≡ blocks
 walk_contents zero p blocks is = cc
@@ -25,9 +25,9 @@ pub walk_all : (wrapper : List ℕ) (content rest : Position) (count : ℕ) → 
     → (digest : List ℕ) (blocks : List (List ℕ)) → WrapperSays wrapper digest blocks → walked_from count rest ≡ blocks
 walk_all wrapper content rest count e counted digest blocks so =
     let f = first_read wrapper digest blocks so in
-    let parts = ok_pair content f.content rest f.rest (e ∙ f.is) in
+    let parts = ok_pair content f.content rest f.rest (e ∙ first_is wrapper digest blocks f) in
     let long : count ≡ length blocks = counted ∙ count_read wrapper digest blocks so in
-    ap (λ (n : ℕ). walked_from n rest) long ∙ ap (walked_from (length blocks)) parts.1 ∙ walk_contents (length blocks) f.rest blocks f.others
+    ap (λ (n : ℕ). walked_from n rest) long ∙ ap (walked_from (length blocks)) parts.1 ∙ walk_contents (length blocks) f.rest blocks (contents_after wrapper digest blocks so f)
 
 pub walk_never : (wrapper : List ℕ) (r : Refusal) (answer : List (List ℕ)) → Err r ≡ first_from wrapper → (digest : List ℕ) (blocks : List (List ℕ)) → WrapperSays wrapper digest blocks → answer ≡ blocks
 walk_never wrapper r answer e digest blocks so = absurd (first_never wrapper r e (digest, blocks, so))

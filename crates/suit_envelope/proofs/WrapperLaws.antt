@@ -13,10 +13,13 @@ use Rattle.det_cbor.specs.Position.{Position}
 use Rattle.suit_params.specs.declared.refusal.Refusal.{Refusal}
 use Rattle.suit_params.specs.Refusing.{IsByteString, content_place, SaysWhole}
 use Rattle.suit_params.specs.Digests.{IsDigest, digest_item}
-use Rattle.suit_params.specs.Reading.{inside, only_from, content_from}
+use Rattle.suit_params.specs.Reading.{inside, head_from, only_from, content_from}
+use Rattle.det_cbor.specs.declared.head.Head.{Head}
+use Rattle.det_cbor.specs.ItemHeads.{item_head}
 use Rattle.suit_params.specs.HeadLaws.{item_head_read, after}
 use Rattle.suit_params.specs.JudgingLaws.{item_read}
 use Rattle.suit_params.specs.HeldLaws.{by_string, content_read}
+use Rattle.suit_envelope.specs.Authentic.{payload_of}
 use Rattle.suit_envelope.specs.Wrapper.{placed, elements_place, IsBlock, IsWrapper}
 use Rattle.suit_envelope.specs.WrapperParts.{strings_of, wrapper_item, WrapperSays, HasWrapper, start_of, digest_from, count_from, passed_from, block_from}
 use Rattle.suit_envelope.proofs.WrapperJudging.{wrapper_read, wrapper_judges}
@@ -66,17 +69,40 @@ nth_read levels (suc n) p (block ∷ blocks) valid is lt =
     let q = after p (spell (ByteString block)) (spell_items (strings_of blocks)) in
     rw (content_read levels p (ByteString block) (spell_items (strings_of blocks)) valid.0 is) (nth_read levels n q blocks valid.1 refl (omega arith))
 
-pub block_read : (wrapper digest : List ℕ) (blocks : List (List ℕ)) (n : ℕ) → WrapperSays wrapper digest blocks → n < length blocks → option_map (λ (c : Position). c.left) (result_ok (block_from n wrapper)) ≡ slice_get blocks n
-block_read wrapper digest blocks n so lt =
+-- the first byte string of a wrapper is read, and the blocks are left
+pub record FirstRead (wrapper digest : List ℕ) (blocks : List (List ℕ)) : Type 0 where
+  pub head : Head
+  pub inside : Position
+  pub starts : head_from (start_of wrapper) ≡ Ok (head, inside)
+  pub content : Position
+  pub rest : Position
+  pub held : content_from inside ≡ Ok (content, rest)
+  pub payload : content.left ≡ payload_of digest
+  pub left : rest.left ≡ spell_items (strings_of blocks)
+
+pub first_read : (wrapper digest : List ℕ) (blocks : List (List ℕ)) → WrapperSays wrapper digest blocks → FirstRead wrapper digest blocks
+first_read wrapper digest blocks so =
     let x = wrapper_item digest blocks in
     let p = start_of wrapper in
-    let first = ByteString (spell (digest_item digest)) in
+    let first = ByteString (payload_of digest) in
     let left = spell_items (strings_of blocks) in
     let q = after p (head_bytes 4 (item_count (strings_of blocks) + 1)) ((spell first ++ left) ++ []) in
-    let r = after q (spell first) left in
     let whole : (spell first ++ left) ++ [] ≡ spell first ++ left = append-nil (spell first ++ left) in
-    rw (item_head_read 0 p x [] so.spells.valid (so.spells.is ∙ sym (append-nil (spell x))), content_read 1 q first left so.spells.valid.2.0 whole)
-    (nth_read 1 n r blocks so.spells.valid.2.1 refl lt)
+    record {
+      head = item_head x;
+      inside = q;
+      starts = item_head_read 0 p x [] so.spells.valid (so.spells.is ∙ sym (append-nil (spell x)));
+      content = record { left = payload_of digest; place = content_place q.place (payload_of digest) };
+      rest = after q (spell first) left;
+      held = content_read 1 q first left so.spells.valid.2.0 whole;
+      payload = refl;
+      left = refl;
+    }
+
+pub block_read : (wrapper digest : List ℕ) (blocks : List (List ℕ)) (n : ℕ) → WrapperSays wrapper digest blocks → n < length blocks → option_map (λ (c : Position). c.left) (result_ok (block_from n wrapper)) ≡ slice_get blocks n
+block_read wrapper digest blocks n so lt =
+    let first = first_read wrapper digest blocks so in
+    rw (first.starts, first.held) (nth_read 1 n first.rest blocks so.spells.valid.2.1 first.left lt)
 
 -- ---- an item that is a wrapper has these parts
 

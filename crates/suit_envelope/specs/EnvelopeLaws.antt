@@ -6,6 +6,7 @@ use Rattle.suit_envelope.specs.Authentic.{AnswersAuthentic, TellSame}
 use Rattle.suit_envelope.specs.declared.authenticity.Authenticity.{Authenticity}
 use Rattle.suit_envelope.specs.Envelopes.{EnvelopeSays, IsEnvelope, RefusesEnvelope, map_entries}
 use Rattle.suit_envelope.specs.EntriesSay.{SaysEntries}
+pub use Rattle.suit_envelope.specs.PayloadOrder.{PayloadOrderLaw}
 use Rattle.suit_envelope.specs.Places.{PartsEndBelow, PartsAreStrings}
 use Rattle.suit_envelope.specs.Said.{EnvelopeOf}
 use Rattle.suit_envelope.specs.Trimmed.{trimmed, IsTrimmed}

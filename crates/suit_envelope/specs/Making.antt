@@ -3,6 +3,7 @@ use Rattle.std.specs.Prelude.{◌≡◌, ℕ, true, List, [], ◌∷◌, Option,
 use Rattle.std.specs.Str.{IsUtf8}
 use Rattle.det_cbor.specs.DataItem.{DataItem, UnsignedInteger, ByteString, TextString, MapOf, TaggedItem, DataPairs, NoPairs, PairThen, IsString}
 use Rattle.suit_envelope.specs.Envelopes.{EnvelopeSays}
+use Rattle.suit_envelope.specs.Said.{EnvelopeOf}
 use Rattle.suit_envelope.specs.declared.parts.EnvelopeParts.{EnvelopeParts}
 
 -- a member that is there stands before the other pairs
@@ -43,3 +44,7 @@ pub record SaysParts (parts : EnvelopeParts) (said : EnvelopeSays) : Type 0 wher
   pub payload_fetch : said.payload_fetch ≡ parts.payload_fetch
   pub install : said.install ≡ parts.install
   pub text : said.text ≡ parts.text
+
+-- these bytes spell an envelope that says what the parts are
+abbrev pub SpellsParts : EnvelopeParts → List ℕ → Type 0
+SpellsParts parts bytes = (said : EnvelopeSays) × (EnvelopeOf bytes said × SaysParts parts said)

@@ -3,12 +3,10 @@
 ghost use Rattle.std.specs.Prelude.{◌≡◌, ◌+◌, ◌≤◌, ◌++◌, ℕ, None, IfOk, IfSome, OnOk};
 ghost use Rattle.std.specs.List.{AllByRecursion};
 ghost use Rattle.det_cbor.specs.DataItem.{DataPairs, TextString, ByteString, spell, spell_pairs, pair_count, IsString};
-ghost use Rattle.suit_envelope.specs.Envelopes.{EnvelopeSays};
-ghost use Rattle.suit_envelope.specs.Said.{EnvelopeOf};
 ghost use Rattle.suit_envelope.specs.Payloads.{HasPayloads};
 ghost use Rattle.suit_envelope.specs.PayloadOrder.{AreAscending};
 ghost use Rattle.suit_envelope.specs.WrapperParts.{HasWrapper};
-ghost use Rattle.suit_envelope.specs.Making.{member_then, payload_pairs, pairs_made, envelope_made, IsPayload, SaysParts};
+ghost use Rattle.suit_envelope.specs.Making.{member_then, payload_pairs, pairs_made, envelope_made, IsPayload, SpellsParts};
 
 use crate::writing::{push_pair, push_start};
 use crate::{EnvelopeParts, PayloadList};
@@ -68,8 +66,7 @@ pub fn encode_envelope(alloc: Global, parts: &EnvelopeParts<'_>) -> Result<Bytes
     requires wrapper { HasWrapper parts.now.wrapper }
     requires payloads { AreAscending None parts.now.payloads }
     ensures spelling { IfOk result (λ bytes. bytes ≡ spell (envelope_made parts.now)) }
-    ensures envelope { IfOk result
-        (λ bytes. (said : EnvelopeSays) × (EnvelopeOf bytes said × SaysParts parts.now said)) }
+    ensures envelope { IfOk result (SpellsParts parts.now) }
     ensures payloads { IfOk result (λ bytes. HasPayloads bytes parts.now.payloads) }
 {
     let mut out = Bytes::new(alloc);

@@ -1,7 +1,6 @@
 //! Laws of all envelopes, whatever reads them.
 
-ghost use Rattle.suit_envelope.specs.EnvelopeLaws.{EnvelopeLaws, AuthenticityLaw};
-ghost use Rattle.suit_envelope.specs.PayloadOrder.{PayloadOrderLaw};
+ghost use Rattle.suit_envelope.specs.EnvelopeLaws.{EnvelopeLaws, AuthenticityLaw, PayloadOrderLaw};
 
 /// Does nothing. Its contract has the laws. All bytes have one envelope or one refusal, and never
 /// both. An envelope says what stands under the numbers of its map: a wrapper and a manifest, and

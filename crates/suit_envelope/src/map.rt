@@ -76,13 +76,7 @@ pub(crate) fn envelope_of<'a>(
     let head = read_head(&mut item)?;
     match head.kind {
         HeadKind::Map => map(item, head.value, place, nothing(whole, false)),
-        HeadKind::Tag => {
-            if head.value == 107 {
-                behind_tag(item, whole)
-            } else {
-                refused(place, Why::Shape)
-            }
-        }
+        HeadKind::Tag if head.value == 107 => behind_tag(item, whole),
         _ => refused(place, Why::Shape),
     }
 }

@@ -1,6 +1,6 @@
 //! The integrated payloads of an envelope that is made.
 
-ghost use Rattle.std.specs.Prelude.{◌≡◌, [], length, None, OnOk, OnErr, IsTrue, ◌↔◌};
+ghost use Rattle.std.specs.Prelude.{◌≡◌, [], None, OnOk, OnErr};
 ghost use Rattle.suit_envelope.specs.PayloadOrder.{AreAscending, put_payload};
 
 use crate::PayloadBytes;
@@ -51,20 +51,6 @@ impl<'a> PayloadList<'a> {
             Err(at) => self.held.insert(at, (key, payload))?,
         }
         Ok(())
-    }
-
-    /// The number of payloads.
-    pub fn len(&self) -> usize
-        ensures { result ≡ length self.now }
-    {
-        self.held.len()
-    }
-
-    /// Whether there are no payloads.
-    pub fn is_empty(&self) -> bool
-        ensures { IsTrue result ↔ (self.now ≡ []) }
-    {
-        self.held.is_empty()
     }
 
     /// The payloads, lent.

@@ -34,10 +34,7 @@ pub(crate) fn wrapper_of(mut item: Cursor<'_>) -> Result<Digest, Refusal>
     let place = item.place();
     let head = read_head(&mut item)?;
     match head.kind {
-        HeadKind::Array => {
-            if head.value == 0 {
-                return refused(place, Why::Shape);
-            }
+        HeadKind::Array if head.value > 0 => {
             let digest = digest_held(&mut item)?;
             blocks(item, head.value - 1)?;
             Ok(digest)

@@ -3,6 +3,7 @@ use Rattle.std.proofs.Common.{◌≡◌, ℕ, suc, ◌+◌, List, [], ◌++◌, 
 use Rattle.std.proofs.lemmas.List.{append-nil}
 use Rattle.det_cbor.specs.Heads.{head_bytes}
 use Rattle.det_cbor.specs.DataItem.{DataItem, UnsignedInteger, NegativeInteger, ByteString, TextString, ArrayOf, MapOf, TaggedItem, Boolean, NullItem, DataItems, NoItems, ItemThen, item_count, DataPairs, pair_count, spell, spell_items, IsValidWithin, AreValidWithin}
+use Rattle.det_cbor.specs.declared.head.HeadKind.TheVariants as kinds
 use Rattle.det_cbor.specs.HeadReading.{◌>>=◌}
 use Rattle.det_cbor.specs.ItemOrder.{spell_parts}
 use Rattle.det_cbor.specs.Position.{Position}
@@ -14,7 +15,7 @@ use Rattle.suit_params.specs.HeldLaws.{ReadsAs}
 use Rattle.det_cbor.specs.ItemHeads.{item_kind, item_value}
 use Rattle.suit_params.specs.HeadLaws.{item_head_read, after}
 use Rattle.suit_envelope.proofs.KeyLaws.{inner_read}
-use Rattle.suit_params.specs.Reading.{array_after, array_from, map_after, map_from}
+use Rattle.suit_params.specs.Reading.{kind_after, array_from, map_from}
 use Rattle.suit_manifest.specs.Components.{IsArray}
 use Rattle.suit_manifest.specs.Elements.{judge_all, judge_array, judge_map, all_from}
 
@@ -23,7 +24,7 @@ use Rattle.suit_manifest.specs.Elements.{judge_all, judge_array, judge_map, all_
 pub record OtherThanArray (A : Type 0) (x : DataItem) : Type 0 where
   pub other : IsArray x → ⊥
   pub judged : (inner : ℕ → DataItems → Result A Refusal) (place : ℕ) → judge_array inner place x ≡ Err (refused place Shape)
-  pub read : (place : ℕ) (p : Position) → array_after place (item_value x) p (item_kind x) ≡ Err (refused place Shape)
+  pub read : (place : ℕ) (p : Position) → kind_after kinds.Array Shape place (item_value x) p (item_kind x) ≡ Err (refused place Shape)
 
 pub by_array : (A : Type 0) (P : DataItem → Type 0) → ((items : DataItems) → P (ArrayOf items)) → ((x : DataItem) → OtherThanArray A x → P x) → (x : DataItem) → P x
 by_array A P array other (ArrayOf xs) = array xs
@@ -32,7 +33,7 @@ by_array A P array other x = other x (record { other = λ h. h; judged = λ inne
 pub record OtherThanMap (A : Type 0) (x : DataItem) : Type 0 where
   pub other : IsMap x → ⊥
   pub judged : (inner : ℕ → DataPairs → Result A Refusal) (place : ℕ) → judge_map inner place x ≡ Err (refused place Shape)
-  pub read : (place : ℕ) (p : Position) → map_after place (item_value x) p (item_kind x) ≡ Err (refused place Shape)
+  pub read : (place : ℕ) (p : Position) → kind_after kinds.Map Shape place (item_value x) p (item_kind x) ≡ Err (refused place Shape)
 
 pub by_map : (A : Type 0) (P : DataItem → Type 0) → ((pairs : DataPairs) → P (MapOf pairs)) → ((x : DataItem) → OtherThanMap A x → P x) → (x : DataItem) → P x
 by_map A P map other (MapOf ps) = map ps

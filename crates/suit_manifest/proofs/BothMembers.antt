@@ -86,13 +86,13 @@ one_of : (said : EnvelopeSays) (manifest : Manifest) → HasOrLacks names.Payloa
 one_of said manifest (inl a) (inl b) =
     let members : Members = record { payload_fetch = a.0; install = b.0 } in
     let has : HasMembers said manifest members = record { payload_fetch = a.1; install = b.1 } in
-    inl (record { members = members; has = has; only = λ m x. members_same said manifest m members x has; sound = λ f bad. members_never said manifest members f has bad })
+    inl (record { one = members; holds = has; only = λ m x. members_same said manifest m members x has; sound = λ f bad. members_never said manifest members f has bad })
 one_of said manifest (inl a) (inr f) =
     let lacks : LacksMembers said manifest f.0 = ByInstall a.0 a.1 f.1 in
-    inr (record { fault = f.0; lacks = lacks; only = λ g x. faults_same said manifest g f.0 x lacks; empty = λ m x. members_never said manifest m f.0 x lacks })
+    inr (record { one = f.0; holds = lacks; only = λ g x. faults_same said manifest g f.0 x lacks; sound = λ m x. members_never said manifest m f.0 x lacks })
 one_of said manifest (inr f) other =
     let lacks : LacksMembers said manifest f.0 = ByPayloadFetch f.1 in
-    inr (record { fault = f.0; lacks = lacks; only = λ g x. faults_same said manifest g f.0 x lacks; empty = λ m x. members_never said manifest m f.0 x lacks })
+    inr (record { one = f.0; holds = lacks; only = λ g x. faults_same said manifest g f.0 x lacks; sound = λ m x. members_never said manifest m f.0 x lacks })
 
 holds_bytes : (held : Option (List ℕ)) → IfSome held IsString → HoldsBytes held
 holds_bytes None fits = tt

@@ -1,14 +1,12 @@
 -- The judgement of the common part is that of the grammar and the refusals.
-use Rattle.std.proofs.Common.{◌≡◌, ℕ, ◌+◌, Bool, true, List, [], ◌∷◌, length, None, Result, Ok, Err, refl, sym, ap, subst, ◌∙◌}
+use Rattle.std.proofs.Common.{◌≡◌, ℕ, ◌+◌, Bool, true, List, [], ◌∷◌, length, Result, Ok, Err, refl, ap, subst, ◌∙◌}
 use Rattle.std.specs.List.{AllByRecursion}
-use Rattle.det_cbor.specs.DataItem.{DataItem, MapOf, DataPairs, IsValidWithin}
+use Rattle.det_cbor.specs.DataItem.{DataItem, IsValidWithin}
 use Rattle.det_cbor.specs.HeadReading.{◌>>=◌}
 use Rattle.det_cbor.specs.ResultLaws.{bind_ok, bind_err, same_ok, same_err}
 use Rattle.suit_params.specs.declared.refusal.Refusal.{Refusal}
-use Rattle.suit_params.specs.declared.refusal.Why.TheVariants.{Shape}
-use Rattle.suit_params.specs.Refusing.{refused, SaysHeld, RefusesHeld, Here, Later, RefusesFirst}
-use Rattle.suit_params.specs.Params.{pairs_place, IsMap}
-use Rattle.suit_params.specs.Judging.{judge_held, judge_each}
+use Rattle.suit_params.specs.Refusing.{SaysHeld, RefusesHeld, Here, Later, RefusesFirst}
+use Rattle.suit_params.specs.Judging.{judge_held}
 use Rattle.suit_params.specs.JudgingLaws.{Judges}
 use Rattle.suit_params.specs.HeldLaws.{held_judges}
 use Rattle.suit_commands.specs.Sequences.{SaysSequence}
@@ -17,15 +15,15 @@ use Rattle.suit_commands.specs.SequenceJudging.{judge_sequence}
 use Rattle.suit_commands.specs.Tree.{SequenceTree}
 use Rattle.suit_commands.proofs.SequenceJudging.{sequence_judges}
 use Rattle.suit_envelope.specs.Envelopes.{Entry, has_key, RefusesLack, LacksKey as Lack}
-use Rattle.suit_manifest.specs.Maps.{entries_of, IsKeyAmong, entry_under, SaysUnder, MaySayUnder, NoMap, BadKey, LacksKey, BadValue}
+use Rattle.suit_manifest.specs.Maps.{entries_of, IsKeyAmong, entry_under, SaysUnder, MaySayUnder}
 use Rattle.suit_manifest.specs.Common.{CommonSays, common_keys, SaysShared, IsCommon, RefusesCommonValues, BadIdentifiers, BadShared, RefusesCommon}
 use Rattle.suit_manifest.specs.Components.{IsComponents, RefusesComponents}
 use Rattle.suit_manifest.specs.ComponentsJudging.{judge_components}
-use Rattle.suit_manifest.specs.MapReading.{judge_entry, needed, judge_at, may}
-use Rattle.suit_manifest.specs.CommonReading.{judge_shared, judge_common_values, judge_common_pairs, judge_common}
-use Rattle.suit_manifest.proofs.Arrays.{by_map}
+use Rattle.suit_manifest.specs.MapReading.{needed, judge_at, may}
+use Rattle.suit_manifest.specs.CommonReading.{judge_shared, judge_common_values, judge_common}
 use Rattle.suit_manifest.proofs.ComponentsJudging.{components_judge}
-use Rattle.suit_manifest.proofs.MapLaws.{known_ok, known_again, known_err, known_refused, none_lacks, some_has, lacks_none, needed_ok, needed_err, Fits, entries_fit, at_ok, at_err, need_again, need_refused, may_ok, may_again, may_err, may_refused}
+use Rattle.suit_manifest.proofs.KeyedMaps.{map_ok, none_lacks_last, BadEntries, ItLacks, ItRefuses, map_err, map_refused}
+use Rattle.suit_manifest.proofs.MapLaws.{known_again, none_lacks, some_has, lacks_none, needed_ok, needed_err, Fits, at_ok, at_err, need_again, need_refused, may_ok, may_again, may_err, may_refused}
 
 -- a byte string that holds a sequence, for so many components
 pub held_sequence_judges : (shared : Bool) (count : ℕ) → Judges (judge_held (judge_sequence shared count 7)) (SaysHeld (SaysSequence shared count 8)) (RefusesHeld (RefusesSequence shared count 8))
@@ -66,18 +64,17 @@ values_again place es said so =
     both (Ok a) ids e = ap (λ (t : Result (List (List (List ℕ))) Refusal). t >>= rest) e
     both (Err r) ids e = absurd cc
 
-data BadCommon (place : ℕ) (es : List Entry) (r : Refusal) : Type 0 where
-  ItLacks : RefusesFirst (RefusesLack place es) (λ n. has_key n es ≡ true) (2 ∷ []) r → BadCommon place es r
-  ItRefuses : has_key 2 es ≡ true → RefusesCommonValues es r → BadCommon place es r
+abbrev BadCommon : ℕ → List Entry → Refusal → Type 0
+BadCommon = BadEntries (2 ∷ []) RefusesCommonValues
 
 values_err : (levels place : ℕ) (es : List Entry) (r : Refusal) → AllByRecursion (Fits levels) es → judge_common_values place es ≡ Err r → BadCommon place es r
 values_err levels place es r all e =
     bind_err (needed place 2 (entry_under 2 es)) _ r e
     (λ f. let found = needed_err place 2 (entry_under 2 es) r f in subst (BadCommon place es) found.1 (ItLacks (Here 2 [] _ (Lack (none_lacks 2 es found.0)))))
     (λ a a-is f. let there = needed_ok place 2 (entry_under 2 es) a a-is in bind_err (judge_at judge_components a) _ r f
-    (λ g. ItRefuses (some_has 2 es a there) (BadIdentifiers (at_err judge_components IsComponents RefusesComponents components_judge levels 2 es a r all there g)))
+    (λ g. ItRefuses (some_has 2 es a there, tt) (BadIdentifiers (at_err judge_components IsComponents RefusesComponents components_judge levels 2 es a r all there g)))
     (λ ids ids-is g. bind_err (may (judge_at (judge_shared (length ids))) (entry_under 4 es)) _ r g
-    (λ h. ItRefuses (some_has 2 es a there) (BadShared ids (at_ok judge_components IsComponents RefusesComponents components_judge levels 2 es a ids all there ids-is)
+    (λ h. ItRefuses (some_has 2 es a there, tt) (BadShared ids (at_ok judge_components IsComponents RefusesComponents components_judge levels 2 es a ids all there ids-is)
     (may_err (judge_shared (length ids)) (ShareSays (length ids)) (ShareForm (length ids)) (held_sequence_judges true (length ids)) levels 4 es r all h)))
     (λ shared shared-is h. absurd cc)))
 
@@ -109,49 +106,25 @@ values_refused place es r (BadShared ids so bad) =
 
 lack_refused : (place : ℕ) (es : List Entry) (r : Refusal) → RefusesFirst (RefusesLack place es) (λ n. has_key n es ≡ true) (2 ∷ []) r → judge_common_values place es ≡ Err r
 lack_refused place es r (Here n rest s (Lack lacks)) = rw (lacks_none 2 es lacks) refl
-lack_refused place es r (Later n rest s has later) = absurd (nothing later)
-  where
-    nothing : RefusesFirst (RefusesLack place es) (λ n. has_key n es ≡ true) [] r → ⊥
-    nothing later = elim later [ ]
+lack_refused place es r (Later n rest s has later) = none_lacks_last place es r later
 
 -- ---- the map
 
-pub pairs_fit : (levels place : ℕ) (pairs : DataPairs) → IsValidWithin levels (MapOf pairs) → AllByRecursion (Fits (levels + 1)) (entries_of place pairs)
-pairs_fit levels place pairs valid = entries_fit (levels + 1) (pairs_place place pairs) None pairs valid.2
-
 common_ok : (levels place : ℕ) (x : DataItem) (said : CommonSays) → IsValidWithin levels x → judge_common place x ≡ Ok said → IsCommon place x said
 common_ok levels place x said valid e =
-    by_map CommonSays (λ (y : DataItem). IsValidWithin levels y → judge_common place y ≡ Ok said → IsCommon place y said)
-    (λ pairs v f. let es = entries_of place pairs in bind_ok (judge_each (judge_entry common_keys) es) _ said f (λ done done-is g.
-    let so = values_ok (levels + 1) place es said (pairs_fit levels place pairs v) g in
-    record { map = record { pairs = pairs; is = refl; known = known_ok common_keys es done-is; complete = (some_has 2 es so.components.entry so.components.there, tt) }; components = so.components; shared = so.shared }))
-    (λ y o v f. let never = sym (o.judged judge_common_pairs place) ∙ f in absurd cc)
-    x valid e
+    let map = map_ok common_keys judge_common_values levels place x said valid e in
+    let so = values_ok (levels + 1) place (entries_of place map.pairs) said map.fit map.values in
+    let complete : AllByRecursion (λ n. has_key n (entries_of place map.pairs) ≡ true) (2 ∷ []) = (some_has 2 (entries_of place map.pairs) so.components.entry so.components.there, tt) in
+    record { map = record { pairs = map.pairs; is = map.is; known = map.known; complete = complete }; components = so.components; shared = so.shared }
 
 common_again : (place : ℕ) (x : DataItem) (said : CommonSays) → IsCommon place x said → judge_common place x ≡ Ok said
 common_again place x said so =
     let es = entries_of place so.map.pairs in
     ap (judge_common place) so.map.is ∙ rw (known_again common_keys es so.map.known) (values_again place es said (record { components = so.components; shared = so.shared }))
 
-common_err : (levels place : ℕ) (x : DataItem) (r : Refusal) → IsValidWithin levels x → judge_common place x ≡ Err r → RefusesCommon place x r
-common_err levels place x r valid e =
-    by_map CommonSays (λ (y : DataItem). IsValidWithin levels y → judge_common place y ≡ Err r → RefusesCommon place y r)
-    (λ pairs v f. let es = entries_of place pairs in bind_err (judge_each (judge_entry common_keys) es) _ r f
-    (λ g. BadKey pairs r (known_err common_keys es r g))
-    (λ done done-is g. by_bad pairs (known_ok common_keys es done-is) (values_err (levels + 1) place es r (pairs_fit levels place pairs v) g)))
-    (λ y o v f. subst (RefusesCommon place y) (same_err _ r (sym (o.judged judge_common_pairs place) ∙ f)) (NoMap y o.other))
-    x valid e
-  where
-    by_bad : (pairs : DataPairs) → Known (entries_of place pairs) → BadCommon place (entries_of place pairs) r → RefusesCommon place (MapOf pairs) r
-    by_bad pairs known (ItLacks lacks) = LacksKey pairs r known lacks
-    by_bad pairs known (ItRefuses has bad) = BadValue pairs r known (has, tt) bad
-
-common_refused : (place : ℕ) (x : DataItem) (r : Refusal) → RefusesCommon place x r → judge_common place x ≡ Err r
-common_refused place x r (NoMap y other) =
-    by_map CommonSays (λ (z : DataItem). (IsMap z → ⊥) → judge_common place z ≡ Err (refused place Shape)) (λ pairs f. absurd (f tt)) (λ z o f. o.judged judge_common_pairs place) y other
-common_refused place x r (BadKey pairs s bad) = rw (known_refused common_keys (entries_of place pairs) s bad) refl
-common_refused place x r (LacksKey pairs s known lacks) = rw (known_again common_keys (entries_of place pairs) known) (lack_refused place (entries_of place pairs) s lacks)
-common_refused place x r (BadValue pairs s known complete bad) = rw (known_again common_keys (entries_of place pairs) known) (values_refused place (entries_of place pairs) s bad)
+bad_refused : (place : ℕ) (es : List Entry) (r : Refusal) → BadCommon place es r → judge_common_values place es ≡ Err r
+bad_refused place es r (ItLacks lacks) = lack_refused place es r lacks
+bad_refused place es r (ItRefuses has bad) = values_refused place es r bad
 
 pub common_judges : Judges judge_common IsCommon RefusesCommon
-common_judges = record { ok = common_ok; again = common_again; err = common_err; refuses = common_refused }
+common_judges = record { ok = common_ok; again = common_again; err = map_err common_keys (2 ∷ []) judge_common_values RefusesCommonValues values_err; refuses = map_refused common_keys (2 ∷ []) judge_common_values RefusesCommonValues bad_refused }

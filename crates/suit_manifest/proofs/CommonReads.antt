@@ -1,10 +1,8 @@
 -- The common part is read as it is judged.
 use Rattle.std.proofs.Common.{◌≡◌, ℕ, ◌+◌, Bool, true, List, [], length, Option, None, Result, Ok, Err, refl, sym, ap, ◌∙◌, arith}
 use Rattle.std.specs.Prelude.{option_map}
-use Rattle.det_cbor.specs.Heads.{head_bytes}
-use Rattle.det_cbor.specs.DataItem.{MapOf, DataPairs, pair_count, IsValidWithin}
+use Rattle.det_cbor.specs.DataItem.{MapOf, DataPairs, IsValidWithin}
 use Rattle.det_cbor.specs.HeadReading.{◌>>=◌}
-use Rattle.det_cbor.specs.Position.{Position}
 use Rattle.suit_params.specs.declared.refusal.Refusal.{Refusal}
 use Rattle.suit_params.specs.Judging.{judge_held, judge_each}
 use Rattle.suit_params.specs.HeldLaws.{ReadsAs}
@@ -19,16 +17,15 @@ use Rattle.suit_manifest.specs.Elements.{held_at}
 use Rattle.suit_manifest.specs.ComponentsJudging.{judge_components}
 use Rattle.suit_manifest.specs.ComponentsReading.{components_at}
 use Rattle.suit_manifest.specs.MapReading.{judge_entry, judge_at, may, value_of}
-use Rattle.suit_manifest.specs.CommonReading.{judge_shared, judge_common_values, judge_common_pairs, judge_common, shared_at, common_found, common_values_from, common_pairs_from, common_at}
+use Rattle.suit_manifest.specs.CommonReading.{judge_shared, judge_common_values, judge_common, shared_at, common_found, common_values_from, common_at}
 use Rattle.suit_manifest.specs.declared.common.CommonValues.{CommonValues}
 use Rattle.suit_manifest.specs.ManifestLaws.{NumbersAscend}
-use Rattle.suit_manifest.proofs.Arrays.{behind, map_is}
 use Rattle.suit_manifest.proofs.KeyNumbers.{ordered_within}
 use Rattle.suit_manifest.proofs.PairsTaken.{AreLeft, take_read, end_read}
 use Rattle.suit_manifest.proofs.Picked.{head_under, rest_after, left_over, ending, known_or_left, AllPicked, all_picked}
 use Rattle.suit_manifest.proofs.RowsAgain.{KeysAscend}
 use Rattle.suit_manifest.proofs.ComponentsReads.{components_read}
-use Rattle.suit_manifest.proofs.CommonJudging.{pairs_fit}
+use Rattle.suit_manifest.proofs.KeyedMaps.{pairs_fit, all_pairs, keyed_read}
 use Rattle.suit_manifest.proofs.MapLaws.{known_ok, may_read, need_read, held_reads}
 
 -- a byte string that holds a sequence
@@ -37,12 +34,8 @@ held_sequence_reads shared count = held_reads (whole_sequence shared count 7) (j
 
 -- the pairs of a map, of which none was taken
 pub all_left : (levels place : ℕ) (pairs : DataPairs) → IsValidWithin levels (MapOf pairs)
-    → AreLeft (levels + 1) (entries_of place pairs) (record { map = behind place (MapOf pairs) (head_bytes 5 (pair_count pairs)); left = pair_count pairs })
+    → AreLeft (levels + 1) (entries_of place pairs) (all_pairs place pairs)
 all_left levels place pairs valid = record { pairs = pairs; before = None; rest = []; valid = valid.2; bytes = refl; are = refl; count = refl }
-
-pub regroup : {V A : Type 0} (r : Result Unit Refusal) (v : V) (f : V → Result A Refusal) → ((r >>= λ _. Ok v) >>= f) ≡ (r >>= λ _. f v)
-regroup (Ok done) v f = refl
-regroup (Err e) v f = refl
 
 abbrev pub given : {V : Type 0} → V → Result V Refusal
 given v = Ok v
@@ -65,10 +58,10 @@ abbrev looked : List Entry → CommonValues
 looked es = record { components = option_map value_of (entry_under 2 es); shared = option_map value_of (entry_under 4 es) }
 
 found_read : (levels place : ℕ) (pairs : DataPairs) → IsValidWithin levels (MapOf pairs)
-    → common_found (record { map = behind place (MapOf pairs) (head_bytes 5 (pair_count pairs)); left = pair_count pairs }) ≡ (judge_each (judge_entry common_keys) (entries_of place pairs) >>= λ _. Ok (looked (entries_of place pairs)))
+    → common_found (all_pairs place pairs) ≡ (judge_each (judge_entry common_keys) (entries_of place pairs) >>= λ _. Ok (looked (entries_of place pairs)))
 found_read levels place pairs valid =
     let es = entries_of place pairs in
-    let a = take_read 2 (levels + 1) es (record { map = behind place (MapOf pairs) (head_bytes 5 (pair_count pairs)); left = pair_count pairs }) (all_left levels place pairs valid) in
+    let a = take_read 2 (levels + 1) es (all_pairs place pairs) (all_left levels place pairs valid) in
     let b = take_read 4 (levels + 1) (rest_after 2 es) a.next a.left in
     let picked : CommonValues = record { components = option_map value_of (head_under 2 es); shared = option_map value_of (head_under 4 (rest_after 2 es)) } in
     let last = picked_is common_keys es picked (looked es) (omega arith, (omega arith, tt)) (ordered_within levels place pairs valid)
@@ -88,12 +81,5 @@ values_read levels place pairs valid =
     (λ ids. ap (λ (r : Result (Option SequenceTree) Refusal). r >>= with_shared ids)
     (may_read (shared_at (length ids)) (judge_shared (length ids)) (held_sequence_reads true (length ids)) (levels + 1) 4 es all))
 
-abbrev read_common : Position → ℕ → Position → Result CommonSays Refusal
-read_common p n q = common_pairs_from p.place n q
-
 pub common_read : ReadsAs common_at judge_common
-common_read = map_is read_common judge_common_pairs (λ levels place pairs valid.
-    let es = entries_of place pairs in
-    ap (λ (r : Result CommonValues Refusal). r >>= common_values_from place) (found_read levels place pairs valid)
-    ∙ regroup (judge_each (judge_entry common_keys) es) (looked es) (common_values_from place)
-    ∙ ap (λ (r : Result CommonSays Refusal). judge_each (judge_entry common_keys) es >>= λ _. r) (values_read levels place pairs valid))
+common_read = keyed_read common_keys judge_common_values common_found looked common_values_from found_read values_read

@@ -11,8 +11,7 @@ use Rattle.suit_manifest.specs.ComponentsReading.{apart_from}
 
 -- those that were read before, in front of what is read
 abbrev pub with_front : {A : Type 0} → List A → Result (List A) Refusal → Result (List A) Refusal
-with_front front (Ok rest) = Ok (front ++ rest)
-with_front front (Err r) = Err r
+with_front front r = r >>= λ rest. Ok (front ++ rest)
 
 one_more : {A : Type 0} (front : List A) (a : A) (r : Result (List A) Refusal) → with_front front (r >>= λ rest. Ok (a ∷ rest)) ≡ with_front (front ++ a ∷ []) r
 one_more {A} front a (Ok rest) = ap (λ (l : List A). Ok l) (sym (append_assoc front (a ∷ []) rest))
@@ -51,10 +50,10 @@ all_read_bad read front count done at next inner r total lt item bad so_far =
 
 -- ---- identifiers that are alike
 
-pub apart_step : (ids : List (List (List ℕ))) (count last : ℕ) (at next inner : Position) (total : Result Unit Refusal) → last < count → None ≡ first_like ids last → Ok (inner, next) ≡ inner_from at
+pub apart_step : (ids : List (List (List ℕ))) (count last : ℕ) (at next inner : Position) (total : Result Unit Refusal) → last < count → Ok (inner, next) ≡ inner_from at → None ≡ first_like ids last
     → apart_from ids last (count - last) at ≡ total → apart_from ids (last + 1) (count - (last + 1)) next ≡ total
-apart_step ids count last at next inner total lt none item so_far =
+apart_step ids count last at next inner total lt item none so_far =
     let one : count - last ≡ suc (count - (last + 1)) = omega arith in
     let after : last + 1 ≡ suc last = omega arith in
-    let step : apart_from ids last (count - last) at ≡ apart_from ids (last + 1) (count - (last + 1)) next = rw (one, ← none, ← item, after) refl in
+    let step : apart_from ids last (count - last) at ≡ apart_from ids (last + 1) (count - (last + 1)) next = rw (one, ← item, ← none, after) refl in
     sym step ∙ so_far

@@ -18,6 +18,7 @@ pub mod ValuesPassed
 pub mod PairsTaken
 pub mod Picked
 pub mod MapLaws
+pub mod KeyedMaps
 pub mod CommonJudging
 pub mod CommonReads
 pub mod ValueJudging

@@ -1,27 +1,25 @@
 -- The judgement of a manifest is that of the grammar and the refusals.
-use Rattle.std.proofs.Common.{◌≡◌, ℕ, ◌+◌, true, List, [], ◌∷◌, length, Some, Ok, Err, refl, sym, ap, subst, ◌∙◌}
+use Rattle.std.proofs.Common.{◌≡◌, ℕ, ◌+◌, true, List, [], ◌∷◌, length, Some, Ok, Err, refl, ap, subst, ◌∙◌}
 use Rattle.std.specs.List.{AllByRecursion}
-use Rattle.det_cbor.specs.DataItem.{DataItem, MapOf, DataPairs, IsValidWithin}
+use Rattle.det_cbor.specs.DataItem.{DataItem, IsValidWithin}
 use Rattle.det_cbor.specs.HeadReading.{◌>>=◌}
-use Rattle.det_cbor.specs.ResultLaws.{bind_ok, bind_err, same_ok, same_err}
+use Rattle.det_cbor.specs.ResultLaws.{bind_ok, bind_err, same_ok}
 use Rattle.suit_params.specs.declared.refusal.Refusal.{Refusal}
-use Rattle.suit_params.specs.declared.refusal.Why.TheVariants.{Shape}
-use Rattle.suit_params.specs.Refusing.{refused, SaysHeld, RefusesHeld, Here, Later, RefusesFirst}
-use Rattle.suit_params.specs.Params.{IsMap}
-use Rattle.suit_params.specs.Judging.{judge_held, judge_each}
+use Rattle.suit_params.specs.Refusing.{SaysHeld, RefusesHeld, Here, Later, RefusesFirst}
+use Rattle.suit_params.specs.Judging.{judge_held}
 use Rattle.suit_params.specs.JudgingLaws.{Judges}
 use Rattle.suit_params.specs.HeldLaws.{held_judges}
 use Rattle.suit_envelope.specs.Envelopes.{Entry, has_key, RefusesLack, LacksKey as Lack}
 use Rattle.suit_manifest.specs.declared.manifest.Manifest.{Manifest}
-use Rattle.suit_manifest.specs.Maps.{entries_of, IsKeyAmong, entry_under, SaysUnder, NoMap, BadKey, LacksKey, BadValue}
+use Rattle.suit_manifest.specs.Maps.{entries_of, IsKeyAmong, entry_under, SaysUnder}
 use Rattle.suit_manifest.specs.Common.{IsCommon, RefusesCommon}
 use Rattle.suit_manifest.specs.Manifests.{manifest_keys, required_keys, IsVersion, SaysNumber, common_said, IsManifest, RefusesVersion, RefusesNumber, RefusesManifestValues, BadVersion, BadNumber, BadCommon, BadLater, RefusesManifest}
-use Rattle.suit_manifest.specs.MapReading.{judge_entry, needed, judge_at}
+use Rattle.suit_manifest.specs.MapReading.{needed, judge_at}
 use Rattle.suit_manifest.specs.CommonReading.{judge_common}
-use Rattle.suit_manifest.specs.ManifestJudging.{judge_number, judge_version, judge_later, manifest_of, judge_values, judge_pairs, judge_manifest}
-use Rattle.suit_manifest.proofs.Arrays.{by_map}
-use Rattle.suit_manifest.proofs.CommonJudging.{common_judges, pairs_fit}
-use Rattle.suit_manifest.proofs.MapLaws.{known_ok, known_again, known_err, known_refused, none_lacks, some_has, lacks_none, has_some, needed_ok, needed_err, Fits, at_ok, at_err}
+use Rattle.suit_manifest.specs.ManifestJudging.{judge_number, judge_version, judge_later, manifest_of, judge_values, judge_manifest}
+use Rattle.suit_manifest.proofs.CommonJudging.{common_judges}
+use Rattle.suit_manifest.proofs.KeyedMaps.{map_ok, none_lacks_last, BadEntries, ItLacks, ItRefuses, map_err, map_refused}
+use Rattle.suit_manifest.proofs.MapLaws.{known_again, none_lacks, some_has, lacks_none, has_some, needed_ok, needed_err, Fits, at_ok, at_err}
 use Rattle.suit_manifest.proofs.ValueJudging.{number_judges, version_judges}
 use Rattle.suit_manifest.proofs.LaterJudging.{LaterSay, later_ok, later_err, later_again, later_refused}
 
@@ -58,21 +56,25 @@ values_ok levels place es said all e =
       later = later_ok (length common.components) es levels all later later-is;
     }))))))))
 
-values_again : (place : ℕ) (es : List Entry) (said : Manifest) → ValuesSay es said → judge_values place es ≡ Ok said
-values_again place es said so =
+-- where the version and the number are good, the common part decides, and what follows it
+to_common : (place : ℕ) (es : List Entry) (n : ℕ) (c : Entry) → SaysUnder 1 IsVersion es 1 → SaysUnder 2 SaysNumber es n → entry_under 3 es ≡ Some c
+    → judge_values place es ≡ (judge_at (judge_held judge_common) c >>= λ common. judge_later (length common.components) es >>= λ later. Ok (manifest_of n common later))
+to_common place es n c version number there =
     rw (
-      so.version.there,
-      so.sequence.there,
-      so.common.there,
-      version_judges.again so.version.entry.value_place so.version.entry.value 1 so.version.says_so,
-      number_judges.again so.sequence.entry.value_place so.sequence.entry.value said.sequence so.sequence.says_so,
-      held_common.again so.common.entry.value_place so.common.entry.value (common_said said) so.common.says_so,
-      later_again (length said.components) es _ so.later,
+      version.there,
+      number.there,
+      there,
+      version_judges.again version.entry.value_place version.entry.value 1 version.says_so,
+      number_judges.again number.entry.value_place number.entry.value n number.says_so,
     ) refl
 
-data BadManifest (place : ℕ) (es : List Entry) (r : Refusal) : Type 0 where
-  ItLacks : Lacks place es r → BadManifest place es r
-  ItRefuses : HasAll es → RefusesManifestValues es r → BadManifest place es r
+values_again : (place : ℕ) (es : List Entry) (said : Manifest) → ValuesSay es said → judge_values place es ≡ Ok said
+values_again place es said so =
+    to_common place es said.sequence so.common.entry so.version so.sequence so.common.there
+    ∙ rw (held_common.again so.common.entry.value_place so.common.entry.value (common_said said) so.common.says_so, later_again (length said.components) es _ so.later) refl
+
+abbrev BadManifest : ℕ → List Entry → Refusal → Type 0
+BadManifest = BadEntries required_keys RefusesManifestValues
 
 values_err : (levels place : ℕ) (es : List Entry) (r : Refusal) → AllByRecursion (Fits levels) es → judge_values place es ≡ Err r → BadManifest place es r
 values_err levels place es r all e =
@@ -112,24 +114,10 @@ values_refused place es r has (BadNumber version bad) =
     let c = has_some 3 es has.1.1.0 in
     rw (version.there, bad.there, c.1, version_judges.again version.entry.value_place version.entry.value 1 version.says_so, number_judges.refuses bad.entry.value_place bad.entry.value r bad.refuses) refl
 values_refused place es r has (BadCommon n version number bad) =
-    rw (
-      version.there,
-      number.there,
-      bad.there,
-      version_judges.again version.entry.value_place version.entry.value 1 version.says_so,
-      number_judges.again number.entry.value_place number.entry.value n number.says_so,
-      held_common.refuses bad.entry.value_place bad.entry.value r bad.refuses,
-    ) refl
+    to_common place es n bad.entry version number bad.there ∙ rw (held_common.refuses bad.entry.value_place bad.entry.value r bad.refuses) refl
 values_refused place es r has (BadLater n common version number said bad) =
-    rw (
-      version.there,
-      number.there,
-      said.there,
-      version_judges.again version.entry.value_place version.entry.value 1 version.says_so,
-      number_judges.again number.entry.value_place number.entry.value n number.says_so,
-      held_common.again said.entry.value_place said.entry.value common said.says_so,
-      later_refused (length common.components) es r bad,
-    ) refl
+    to_common place es n said.entry version number said.there
+    ∙ rw (held_common.again said.entry.value_place said.entry.value common said.says_so, later_refused (length common.components) es r bad) refl
 
 lack_refused : (place : ℕ) (es : List Entry) (r : Refusal) → Lacks place es r → judge_values place es ≡ Err r
 lack_refused place es r (Here n rest s (Lack lacks)) = rw (lacks_none 1 es lacks) refl
@@ -138,21 +126,18 @@ lack_refused place es r (Later n rest s one (Later n2 rest2 s2 two (Here n3 rest
     let a = has_some 1 es one in
     let b = has_some 2 es two in
     rw (a.1, b.1, lacks_none 3 es lacks) refl
-lack_refused place es r (Later n rest s one (Later n2 rest2 s2 two (Later n3 rest3 s3 three after))) = absurd (nothing after)
-  where
-    nothing : RefusesFirst (RefusesLack place es) (λ n. has_key n es ≡ true) [] r → ⊥
-    nothing after = elim after [ ]
+lack_refused place es r (Later n rest s one (Later n2 rest2 s2 two (Later n3 rest3 s3 three after))) = none_lacks_last place es r after
 
 -- ---- the map
 
 manifest_ok : (levels place : ℕ) (x : DataItem) (said : Manifest) → IsValidWithin levels x → judge_manifest place x ≡ Ok said → IsManifest place x said
 manifest_ok levels place x said valid e =
-    by_map Manifest (λ (y : DataItem). IsValidWithin levels y → judge_manifest place y ≡ Ok said → IsManifest place y said)
-    (λ pairs v f. let es = entries_of place pairs in bind_ok (judge_each (judge_entry manifest_keys) es) _ said f (λ done done-is g.
-    let so = values_ok (levels + 1) place es said (pairs_fit levels place pairs v) g in
+    let map = map_ok manifest_keys judge_values levels place x said valid e in
+    let es = entries_of place map.pairs in
+    let so = values_ok (levels + 1) place es said map.fit map.values in
     let complete : HasAll es = (some_has 1 es so.version.entry so.version.there, (some_has 2 es so.sequence.entry so.sequence.there, (some_has 3 es so.common.entry so.common.there, tt))) in
     record {
-      map = record { pairs = pairs; is = refl; known = known_ok manifest_keys es done-is; complete = complete };
+      map = record { pairs = map.pairs; is = map.is; known = map.known; complete = complete };
       version = so.version;
       sequence = so.sequence;
       common = so.common;
@@ -163,9 +148,7 @@ manifest_ok levels place x said valid e =
       payload_fetch = so.later.payload_fetch;
       install = so.later.install;
       text = so.later.text;
-    }))
-    (λ y o v f. let never = sym (o.judged judge_pairs place) ∙ f in absurd cc)
-    x valid e
+    }
 
 manifest_again : (place : ℕ) (x : DataItem) (said : Manifest) → IsManifest place x said → judge_manifest place x ≡ Ok said
 manifest_again place x said so =
@@ -174,25 +157,9 @@ manifest_again place x said so =
     record { reference = so.reference; validate = so.validate; load = so.load; invoke = so.invoke; payload_fetch = so.payload_fetch; install = so.install; text = so.text } in
     ap (judge_manifest place) so.map.is ∙ rw (known_again manifest_keys es so.map.known) (values_again place es said (record { version = so.version; sequence = so.sequence; common = so.common; later = later }))
 
-manifest_err : (levels place : ℕ) (x : DataItem) (r : Refusal) → IsValidWithin levels x → judge_manifest place x ≡ Err r → RefusesManifest place x r
-manifest_err levels place x r valid e =
-    by_map Manifest (λ (y : DataItem). IsValidWithin levels y → judge_manifest place y ≡ Err r → RefusesManifest place y r)
-    (λ pairs v f. let es = entries_of place pairs in bind_err (judge_each (judge_entry manifest_keys) es) _ r f
-    (λ g. BadKey pairs r (known_err manifest_keys es r g))
-    (λ done done-is g. by_bad pairs (known_ok manifest_keys es done-is) (values_err (levels + 1) place es r (pairs_fit levels place pairs v) g)))
-    (λ y o v f. subst (RefusesManifest place y) (same_err _ r (sym (o.judged judge_pairs place) ∙ f)) (NoMap y o.other))
-    x valid e
-  where
-    by_bad : (pairs : DataPairs) → Known (entries_of place pairs) → BadManifest place (entries_of place pairs) r → RefusesManifest place (MapOf pairs) r
-    by_bad pairs known (ItLacks lacks) = LacksKey pairs r known lacks
-    by_bad pairs known (ItRefuses has bad) = BadValue pairs r known has bad
-
-manifest_refused : (place : ℕ) (x : DataItem) (r : Refusal) → RefusesManifest place x r → judge_manifest place x ≡ Err r
-manifest_refused place x r (NoMap y other) =
-    by_map Manifest (λ (z : DataItem). (IsMap z → ⊥) → judge_manifest place z ≡ Err (refused place Shape)) (λ pairs f. absurd (f tt)) (λ z o f. o.judged judge_pairs place) y other
-manifest_refused place x r (BadKey pairs s bad) = rw (known_refused manifest_keys (entries_of place pairs) s bad) refl
-manifest_refused place x r (LacksKey pairs s known lacks) = rw (known_again manifest_keys (entries_of place pairs) known) (lack_refused place (entries_of place pairs) s lacks)
-manifest_refused place x r (BadValue pairs s known complete bad) = rw (known_again manifest_keys (entries_of place pairs) known) (values_refused place (entries_of place pairs) s complete bad)
+bad_refused : (place : ℕ) (es : List Entry) (r : Refusal) → BadManifest place es r → judge_values place es ≡ Err r
+bad_refused place es r (ItLacks lacks) = lack_refused place es r lacks
+bad_refused place es r (ItRefuses has bad) = values_refused place es r has bad
 
 pub manifest_judges : Judges judge_manifest IsManifest RefusesManifest
-manifest_judges = record { ok = manifest_ok; again = manifest_again; err = manifest_err; refuses = manifest_refused }
+manifest_judges = record { ok = manifest_ok; again = manifest_again; err = map_err manifest_keys required_keys judge_values RefusesManifestValues values_err; refuses = map_refused manifest_keys required_keys judge_values RefusesManifestValues bad_refused }

@@ -19,16 +19,16 @@ reading_laws place x valid = by_answer (judge_manifest place x) refl
   where
     by_answer : (a : Result Manifest Refusal) → judge_manifest place x ≡ a → HasOneManifest place x ⊎ HasOneRefusal place x
     by_answer (Ok m) is = inl (record {
-      manifest = m;
-      says = manifest_judges.ok 0 place x m valid is;
+      one = m;
+      holds = manifest_judges.ok 0 place x m valid is;
       only = λ n said. same_ok n m (sym (manifest_judges.again place x n said) ∙ is);
       sound = λ r bad. not_both (judge_manifest place x) m r is (manifest_judges.refuses place x r bad);
     })
     by_answer (Err r) is = inr (record {
-      refusal = r;
-      refuses = manifest_judges.err 0 place x r valid is;
+      one = r;
+      holds = manifest_judges.err 0 place x r valid is;
       only = λ s bad. same_err s r (sym (manifest_judges.refuses place x s bad) ∙ is);
-      empty = λ m said. not_both (judge_manifest place x) m r (manifest_judges.again place x m said) is;
+      sound = λ m said. not_both (judge_manifest place x) m r (manifest_judges.again place x m said) is;
     })
 
 pub manifest_laws : SequenceLaws → ManifestLaws

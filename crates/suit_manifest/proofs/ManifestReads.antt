@@ -4,15 +4,16 @@ use Rattle.std.specs.Prelude.{option_map}
 use Rattle.std.specs.List.{AllByRecursion}
 use Rattle.std.proofs.lemmas.List.{append-nil}
 use Rattle.det_cbor.specs.Heads.{head_bytes}
-use Rattle.det_cbor.specs.DataItem.{DataItem, UnsignedInteger, NegativeInteger, ByteString, TextString, ArrayOf, MapOf, TaggedItem, Boolean, NullItem, DataPairs, pair_count, spell, IsValidWithin}
+use Rattle.det_cbor.specs.DataItem.{DataItem, UnsignedInteger, NegativeInteger, ByteString, TextString, ArrayOf, MapOf, TaggedItem, Boolean, NullItem, DataPairs, spell, IsValidWithin}
 use Rattle.det_cbor.specs.HeadReading.{◌>>=◌}
 use Rattle.det_cbor.specs.Position.{Position}
 use Rattle.suit_params.specs.declared.refusal.Refusal.{Refusal}
 use Rattle.suit_params.specs.declared.refusal.Why.TheVariants.{Trailing}
 use Rattle.suit_params.specs.Refusing.{refused, content_place}
 use Rattle.suit_params.specs.Judging.{judge_held, judge_each}
-use Rattle.suit_params.specs.Reading.{inside, item_from, only_from, whole_judged}
+use Rattle.suit_params.specs.Reading.{item_from, only_from, whole_judged}
 use Rattle.suit_params.proofs.DigestJudging.{digest_read}
+use Rattle.det_cbor.specs.ArgumentLaws.{IsBytes, bytes_of_all}
 use Rattle.suit_params.specs.HeldLaws.{ReadsAs, by_string, content_read, whole_is}
 use Rattle.suit_params.specs.HeadLaws.{item_head_read, bytes_again, after}
 use Rattle.suit_params.specs.TextLaws.{good_text}
@@ -32,11 +33,11 @@ use Rattle.suit_manifest.specs.Manifests.{manifest_keys}
 use Rattle.suit_manifest.specs.Elements.{held_at, only_at}
 use Rattle.suit_manifest.specs.MapReading.{judge_entry, needed, judge_at, may, value_of}
 use Rattle.suit_manifest.specs.CommonReading.{judge_common, common_at}
-use Rattle.suit_manifest.specs.ManifestJudging.{judge_number, known_version, judge_version, judge_text, judge_member, judge_held_apart, judge_here, judge_severed, judge_text_apart, judge_item, judge_text_here, judge_text_member, member_or_empty, text_of, judge_later, manifest_of, judge_values, judge_pairs, judge_manifest}
-use Rattle.suit_manifest.specs.ManifestReading.{number_at, version_at, text_at, member_at, apart_at, here_at, severed_at, text_apart_at, text_here_at, text_member_at, later_from, manifest_found, values_from, pairs_from, manifest_at}
-use Rattle.suit_manifest.proofs.Arrays.{at, behind, map_is}
-use Rattle.suit_manifest.proofs.CommonJudging.{pairs_fit}
-use Rattle.suit_manifest.proofs.CommonReads.{held_sequence_reads, all_left, given, regroup, picked_is, common_read}
+use Rattle.suit_manifest.specs.ManifestJudging.{judge_number, known_version, judge_version, judge_text, judge_member, judge_held_apart, judge_here, judge_severed, judge_text_apart, judge_item, judge_text_here, judge_text_member, member_or_empty, text_of, judge_later, manifest_of, judge_values, judge_manifest}
+use Rattle.suit_manifest.specs.ManifestReading.{number_at, version_at, text_at, member_at, apart_at, here_at, severed_at, text_apart_at, text_here_at, text_member_at, later_from, manifest_found, values_from, manifest_at}
+use Rattle.suit_manifest.proofs.Arrays.{at}
+use Rattle.suit_manifest.proofs.KeyedMaps.{pairs_fit, all_pairs, keyed_read}
+use Rattle.suit_manifest.proofs.CommonReads.{held_sequence_reads, all_left, given, picked_is, common_read}
 use Rattle.suit_manifest.proofs.KeyNumbers.{ordered_within}
 use Rattle.suit_manifest.proofs.PairsTaken.{take_read, end_read}
 use Rattle.suit_manifest.proofs.Picked.{head_under, rest_after, ending}
@@ -81,24 +82,16 @@ severed_read count levels place x valid =
     x valid
 
 -- an item that is judged, and of which nothing is kept
-item_then : {A : Type 0} (p : Position) (z : A) → (only_from p >>= λ _. Ok z) ≡ (whole_judged judge_item p.place p.left >>= λ _. Ok z)
-item_then {A} p z = by_answer (item_from p)
+item_then : {A : Type 0} (p : Position) (z : A) → IsBytes p.left → (only_from p >>= λ _. Ok z) ≡ (whole_judged judge_item p.place p.left >>= λ _. Ok z)
+item_then {A} p z fits = whole_is (λ q. Ok z) (λ place x. Ok z) (λ levels place x valid. refl) p fits ∙ by_answer (item_from p)
   where
-    ending : Position × Position → Result Position Refusal
-    ending x = cond (eqb (length x.1.left) 0) (Ok x.0) (Err (refused x.1.place Trailing))
+    by_end : (t : Bool) (x : DataItem) (r : Refusal) → cond t (Ok z) (Err r) ≡ (cond {A = Result DataItem Refusal} t (Ok x) (Err r) >>= λ _. Ok z)
+    by_end true x r = refl
+    by_end false x r = refl
 
-    alone : DataItem × Position → Result (Position × Position) Refusal
-    alone x = Ok (inside p x.0, x.1)
-
-    judging : DataItem × Position → Result DataItem Refusal
-    judging x = cond (eqb (length x.1.left) 0) (judge_item p.place x.0) (Err (refused x.1.place Trailing))
-
-    by_end : (t : Bool) (x : DataItem) (place : ℕ) → (cond {A = Result Position Refusal} t (Ok (inside p x)) (Err (refused place Trailing)) >>= λ _. Ok z) ≡ (cond {A = Result DataItem Refusal} t (Ok x) (Err (refused place Trailing)) >>= λ _. Ok z)
-    by_end true x place = refl
-    by_end false x place = refl
-
-    by_answer : (a : Result (DataItem × Position) Refusal) → (((a >>= alone) >>= ending) >>= λ _. Ok z) ≡ ((a >>= judging) >>= λ _. Ok z)
-    by_answer (Ok x) = by_end (eqb (length x.1.left) 0) x.0 x.1.place
+    by_answer : (a : Result (DataItem × Position) Refusal)
+        → (a >>= λ x. cond (eqb (length x.1.left) 0) (Ok z) (Err (refused x.1.place Trailing))) ≡ ((a >>= λ x. cond (eqb (length x.1.left) 0) (judge_item p.place x.0) (Err (refused x.1.place Trailing))) >>= λ _. Ok z)
+    by_answer (Ok x) = by_end (eqb (length x.1.left) 0) x.0 (refused x.1.place Trailing)
     by_answer (Err r) = refl
 
 text_here_read : ReadsAs text_here_at judge_text_here
@@ -106,7 +99,7 @@ text_here_read levels place x valid =
     by_string (λ (y : DataItem). IsValidWithin levels y → text_here_at (at place y) ≡ judge_text_here place y)
     (λ bytes v.
     let c : Position = record { left = bytes; place = content_place place bytes } in
-    rw (content_read levels (at place (ByteString bytes)) (ByteString bytes) [] v (sym (append-nil (spell (ByteString bytes))))) (item_then c (texts.Here bytes) ∙ regroup (whole_judged judge_item c.place bytes) bytes))
+    rw (content_read levels (at place (ByteString bytes)) (ByteString bytes) [] v (sym (append-nil (spell (ByteString bytes))))) (item_then c (texts.Here bytes) (bytes_of_all bytes v.1) ∙ regroup (whole_judged judge_item c.place bytes) bytes))
     (λ y o v. rw (content_read levels (at place y) y [] v (sym (append-nil (spell y))), o.judged place) refl)
     x valid
   where
@@ -245,11 +238,11 @@ abbrev all_of : Option Position → Option Position → Option Position → Late
 all_of version sequence common later = Ok (record { version = version; sequence = sequence; common = common; later = later })
 
 found_read : (levels place : ℕ) (pairs : DataPairs) → IsValidWithin levels (MapOf pairs)
-    → manifest_found (record { map = behind place (MapOf pairs) (head_bytes 5 (pair_count pairs)); left = pair_count pairs }) ≡ (judge_each (judge_entry manifest_keys) (entries_of place pairs) >>= λ _. Ok (looked (entries_of place pairs)))
+    → manifest_found (all_pairs place pairs) ≡ (judge_each (judge_entry manifest_keys) (entries_of place pairs) >>= λ _. Ok (looked (entries_of place pairs)))
 found_read levels place pairs valid =
     let es = entries_of place pairs in
     let l = levels + 1 in
-    let a = take_read 1 l es (record { map = behind place (MapOf pairs) (head_bytes 5 (pair_count pairs)); left = pair_count pairs }) (all_left levels place pairs valid) in
+    let a = take_read 1 l es (all_pairs place pairs) (all_left levels place pairs valid) in
     let b = take_read 2 l (rest_after 1 es) a.next a.left in
     let c = take_read 3 l (rest_after 2 (rest_after 1 es)) b.next b.left in
     let from_four = rest_after 3 (rest_after 2 (rest_after 1 es)) in
@@ -299,12 +292,5 @@ found_read levels place pairs valid =
     with_later (Ok done) later version sequence common = refl
     with_later (Err bad) later version sequence common = refl
 
-abbrev read_manifest : Position → ℕ → Position → Result Manifest Refusal
-read_manifest p n q = pairs_from p.place n q
-
 pub manifest_read : ReadsAs manifest_at judge_manifest
-manifest_read = map_is read_manifest judge_pairs (λ levels place pairs valid.
-    let es = entries_of place pairs in
-    ap (λ (r : Result ManifestValues Refusal). r >>= values_from place) (found_read levels place pairs valid)
-    ∙ regroup (judge_each (judge_entry manifest_keys) es) (looked es) (values_from place)
-    ∙ ap (λ (r : Result Manifest Refusal). judge_each (judge_entry manifest_keys) es >>= λ _. r) (values_read levels place pairs valid))
+manifest_read = keyed_read manifest_keys judge_values manifest_found looked values_from found_read values_read

@@ -1,12 +1,12 @@
 -- The judgement of a manifest's values is that of the grammar and the refusals.
-use Rattle.std.proofs.Common.{◌≡◌, ℕ, false, eqb, List, Result, Ok, Err, refl, sym, ap, subst, ◌∙◌, inl, inr}
+use Rattle.std.proofs.Common.{◌≡◌, ℕ, false, eqb, List, Result, Ok, Err, refl, sym, ap, subst, ◌∙◌, ◌⊎◌, inl, inr}
 use Rattle.std.proofs.lemmas.Bool.{eqb-true, eqb-false, ne_eqb, eq-eqb}
 use Rattle.det_cbor.specs.DataItem.{DataItem, UnsignedInteger, NegativeInteger, ByteString, TextString, ArrayOf, MapOf, TaggedItem, Boolean, NullItem, DataItems, IsValidWithin}
 use Rattle.det_cbor.specs.HeadReading.{◌>>=◌}
-use Rattle.det_cbor.specs.ResultLaws.{chosen, bind_ok, bind_err, same_ok, same_err}
+use Rattle.det_cbor.specs.ResultLaws.{chosen, bind_ok, bind_err, same_ok, same_err, not_both}
 use Rattle.suit_params.specs.declared.refusal.Refusal.{Refusal}
 use Rattle.suit_params.specs.declared.refusal.Why.TheVariants.{Shape, Version}
-use Rattle.suit_params.specs.Refusing.{refused, SaysHeld, NoString, content_place}
+use Rattle.suit_params.specs.Refusing.{refused, Refuses, SaysHeld, NoString, content_place}
 use Rattle.suit_params.specs.Params.{IsText}
 use Rattle.suit_params.specs.Digests.{IsDigest}
 use Rattle.suit_params.specs.Judging.{judge_held, judge_digest}
@@ -29,58 +29,71 @@ use Rattle.suit_manifest.proofs.CommonJudging.{held_sequence_judges}
 
 -- ---- numbers and texts
 
-number_ok : (place : ℕ) (x : DataItem) (n : ℕ) → judge_number place x ≡ Ok n → x ≡ UnsignedInteger n
-number_ok place (UnsignedInteger m) n e = ap UnsignedInteger (same_ok m n e)
-number_ok place _ n e = absurd cc
+-- an item is of the one kind that a judgement takes, as what is made of a value, or it is of another and refused
+IsJudged : {A : Type 0} → (ℕ → DataItem → Result A Refusal) → (DataItem → Type 0) → (A → DataItem) → DataItem → Type 0
+IsJudged {A} judge kind make x = ((a : A) × (x ≡ make a) × ((place : ℕ) → judge place x ≡ Ok a)) ⊎ ((kind x → ⊥) × ((place : ℕ) → judge place x ≡ Err (refused place Shape)))
 
-number_err : (place : ℕ) (x : DataItem) (r : Refusal) → judge_number place x ≡ Err r → (IsUnsigned x → ⊥) × (refused place Shape ≡ r)
-number_err place (UnsignedInteger m) r e = absurd cc
-number_err place _ r e = (λ h. h, same_err _ r e)
+number_is : (x : DataItem) → IsJudged judge_number IsUnsigned UnsignedInteger x
+unfolding IsJudged
+number_is (UnsignedInteger n) = inl (n, refl, λ place. refl)
+number_is _ = inr (λ h. h, λ place. refl)
+
+text_is : (x : DataItem) → IsJudged judge_text IsText TextString x
+unfolding IsJudged
+text_is (TextString t) = inl (t, refl, λ place. refl)
+text_is _ = inr (λ h. h, λ place. refl)
+
+judged_ok : {A : Type 0} (judge : ℕ → DataItem → Result A Refusal) (kind : DataItem → Type 0) (make : A → DataItem) (place : ℕ) (x : DataItem) (a : A)
+    → IsJudged judge kind make x → judge place x ≡ Ok a → x ≡ make a
+unfolding IsJudged
+judged_ok judge kind make place x a (inl (b, is, ok)) e = is ∙ ap make (same_ok b a (sym (ok place) ∙ e))
+judged_ok judge kind make place x a (inr (other, err)) e = absurd (not_both (judge place x) a (refused place Shape) e (err place))
+
+judged_err : {A : Type 0} (judge : ℕ → DataItem → Result A Refusal) (kind : DataItem → Type 0) (make : A → DataItem) (place : ℕ) (x : DataItem) (r : Refusal)
+    → IsJudged judge kind make x → judge place x ≡ Err r → (kind x → ⊥) × (refused place Shape ≡ r)
+unfolding IsJudged
+judged_err judge kind make place x r (inl (b, is, ok)) e = absurd (not_both (judge place x) b r (ok place) e)
+judged_err judge kind make place x r (inr (other, err)) e = (other, same_err (refused place Shape) r (sym (err place) ∙ e))
+
+judged_other : {A : Type 0} (judge : ℕ → DataItem → Result A Refusal) (kind : DataItem → Type 0) (make : A → DataItem) (place : ℕ) (x : DataItem)
+    → ((a : A) → kind (make a)) → IsJudged judge kind make x → (kind x → ⊥) → judge place x ≡ Err (refused place Shape)
+unfolding IsJudged
+judged_other judge kind make place x is_kind (inl (b, is, ok)) other = absurd (other (subst kind (sym is) (is_kind b)))
+judged_other judge kind make place x is_kind (inr (wrong, err)) other = err place
+
+-- the judgement is that of the kind, and of all other items
+kind_judges : {A : Type 0} (judge : ℕ → DataItem → Result A Refusal) (kind : DataItem → Type 0) (make : A → DataItem) (form : Refuses)
+    → ((x : DataItem) → IsJudged judge kind make x) → ((place : ℕ) (a : A) → judge place (make a) ≡ Ok a)
+    → ((place : ℕ) (x : DataItem) → (kind x → ⊥) → form place x (refused place Shape)) → ((place : ℕ) (x : DataItem) (r : Refusal) → form place x r → judge place x ≡ Err r)
+    → Judges judge (λ place x a. x ≡ make a) form
+kind_judges judge kind make form all made wrong refuses = record {
+  ok = λ levels place x a valid e. judged_ok judge kind make place x a (all x) e;
+  again = λ place x a is. ap (judge place) is ∙ made place a;
+  err = λ levels place x r valid e. let found = judged_err judge kind make place x r (all x) e in subst (form place x) found.1 (wrong place x found.0);
+  refuses = refuses;
+}
 
 number_other : (place : ℕ) (x : DataItem) → (IsUnsigned x → ⊥) → judge_number place x ≡ Err (refused place Shape)
-number_other place (UnsignedInteger m) other = absurd (other tt)
-number_other place _ other = refl
+number_other place x other = judged_other judge_number IsUnsigned UnsignedInteger place x (λ n. tt) (number_is x) other
 
 number_refused : (place : ℕ) (x : DataItem) (r : Refusal) → RefusesNumber place x r → judge_number place x ≡ Err r
 number_refused place x r (NoNumber y other) = number_other place x other
 
 pub number_judges : Judges judge_number SaysNumber RefusesNumber
-number_judges = record {
-  ok = λ levels place x n valid e. number_ok place x n e;
-  again = λ place x n so. ap (judge_number place) so;
-  err = λ levels place x r valid e. let found = number_err place x r e in subst (RefusesNumber place x) found.1 (NoNumber x found.0);
-  refuses = number_refused;
-}
-
-text_ok : (place : ℕ) (x : DataItem) (t : List ℕ) → judge_text place x ≡ Ok t → x ≡ TextString t
-text_ok place (TextString s) t e = ap TextString (same_ok s t e)
-text_ok place _ t e = absurd cc
-
-text_err : (place : ℕ) (x : DataItem) (r : Refusal) → judge_text place x ≡ Err r → (IsText x → ⊥) × (refused place Shape ≡ r)
-text_err place (TextString s) r e = absurd cc
-text_err place _ r e = (λ h. h, same_err _ r e)
+number_judges = kind_judges judge_number IsUnsigned UnsignedInteger RefusesNumber number_is (λ place n. refl) (λ place x other. NoNumber x other) number_refused
 
 text_refused : (place : ℕ) (x : DataItem) (r : Refusal) → RefusesText place x r → judge_text place x ≡ Err r
-text_refused place x r (NoText y other) = by_item x other
-  where
-    by_item : (z : DataItem) → (IsText z → ⊥) → judge_text place z ≡ Err (refused place Shape)
-    by_item (TextString s) o = absurd (o tt)
-    by_item _ o = refl
+text_refused place x r (NoText y other) = judged_other judge_text IsText TextString place x (λ t. tt) (text_is x) other
 
 pub text_judges : Judges judge_text SaysText RefusesText
-text_judges = record {
-  ok = λ levels place x t valid e. text_ok place x t e;
-  again = λ place x t so. ap (judge_text place) so;
-  err = λ levels place x r valid e. let found = text_err place x r e in subst (RefusesText place x) found.1 (NoText x found.0);
-  refuses = text_refused;
-}
+text_judges = kind_judges judge_text IsText TextString RefusesText text_is (λ place t. refl) (λ place x other. NoText x other) text_refused
 
 -- ---- the version
 
 version_ok : (place : ℕ) (x : DataItem) (v : ℕ) → judge_version place x ≡ Ok v → IsVersion place x v
 version_ok place x v e =
     bind_ok (judge_number place x) _ v e (λ n n-is f. elim (chosen {A = Result ℕ Refusal} (eqb n 1) (Ok n) (Err (refused place (Version n))) (Ok v) f) [
-      | inl (first, g) ↦ let same = same_ok n v g in record { is = number_ok place x n n-is ∙ ap UnsignedInteger same; first = sym same ∙ eqb-true n 1 first }
+      | inl (first, g) ↦ let same = same_ok n v g in record { is = judged_ok judge_number IsUnsigned UnsignedInteger place x n (number_is x) n-is ∙ ap UnsignedInteger same; first = sym same ∙ eqb-true n 1 first }
       | inr (other, g) ↦ absurd cc
     ])
 
@@ -90,10 +103,10 @@ version_again place x v so = ap (judge_version place) so.is ∙ rw (eq-eqb v 1 s
 version_err : (place : ℕ) (x : DataItem) (r : Refusal) → judge_version place x ≡ Err r → RefusesVersion place x r
 version_err place x r e =
     bind_err (judge_number place x) _ r e
-    (λ f. let found = number_err place x r f in subst (RefusesVersion place x) found.1 (NoVersion x found.0))
+    (λ f. let found = judged_err judge_number IsUnsigned UnsignedInteger place x r (number_is x) f in subst (RefusesVersion place x) found.1 (NoVersion x found.0))
     (λ n n-is f. elim (chosen {A = Result ℕ Refusal} (eqb n 1) (Ok n) (Err (refused place (Version n))) (Err r) f) [
       | inl (first, g) ↦ absurd cc
-      | inr (other, g) ↦ subst (λ (y : DataItem). RefusesVersion place y r) (sym (number_ok place x n n-is)) (subst (RefusesVersion place (UnsignedInteger n)) (same_err _ r g) (OtherVersion n (eqb-false n 1 other)))
+      | inr (other, g) ↦ subst (λ (y : DataItem). RefusesVersion place y r) (sym (judged_ok judge_number IsUnsigned UnsignedInteger place x n (number_is x) n-is)) (subst (RefusesVersion place (UnsignedInteger n)) (same_err _ r g) (OtherVersion n (eqb-false n 1 other)))
     ])
 
 version_refused : (place : ℕ) (x : DataItem) (r : Refusal) → RefusesVersion place x r → judge_version place x ≡ Err r

@@ -4,7 +4,7 @@ use Rattle.det_cbor.specs.DataItem.{DataItem, DataPairs}
 use Rattle.det_cbor.specs.HeadReading.{◌>>=◌}
 use Rattle.det_cbor.specs.Position.{Position}
 use Rattle.suit_params.specs.declared.refusal.Refusal.{Refusal}
-use Rattle.suit_params.specs.Judging.{judge_held, judge_each}
+use Rattle.suit_params.specs.Judging.{judge_held}
 use Rattle.suit_commands.specs.Allowed.{levels_inside}
 use Rattle.suit_commands.specs.SequenceJudging.{judge_sequence}
 use Rattle.suit_commands.specs.SequenceReading.{whole_sequence}
@@ -13,12 +13,12 @@ use Rattle.suit_envelope.specs.Envelopes.{Entry}
 use Rattle.suit_params.specs.Reading.{map_from}
 use Rattle.suit_manifest.specs.declared.common.CommonValues.{CommonValues}
 use Rattle.suit_manifest.specs.declared.pairs.Pairs.{Pairs}
-use Rattle.suit_manifest.specs.Maps.{entries_of, entry_under}
+use Rattle.suit_manifest.specs.Maps.{entry_under}
 use Rattle.suit_manifest.specs.Common.{CommonSays, common_keys}
 use Rattle.suit_manifest.specs.Elements.{judge_map, held_at}
 use Rattle.suit_manifest.specs.ComponentsJudging.{judge_components}
 use Rattle.suit_manifest.specs.ComponentsReading.{components_at}
-use Rattle.suit_manifest.specs.MapReading.{judge_entry, needed, judge_at, may, take_from, end_from}
+use Rattle.suit_manifest.specs.MapReading.{judge_keyed, needed, judge_at, may, take_from, end_from}
 
 abbrev pub judge_shared : ℕ → ℕ → DataItem → Result SequenceTree Refusal
 judge_shared count = judge_held (judge_sequence true count levels_inside)
@@ -31,9 +31,7 @@ judge_common_values place es =
     >>= λ shared. Ok (record { components = ids; shared = shared })
 
 abbrev pub judge_common_pairs : ℕ → DataPairs → Result CommonSays Refusal
-judge_common_pairs place pairs =
-    judge_each (judge_entry common_keys) (entries_of place pairs)
-    >>= λ _. judge_common_values place (entries_of place pairs)
+judge_common_pairs = judge_keyed common_keys judge_common_values
 
 abbrev pub judge_common : ℕ → DataItem → Result CommonSays Refusal
 judge_common = judge_map judge_common_pairs

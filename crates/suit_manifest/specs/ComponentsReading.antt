@@ -1,5 +1,5 @@
 -- How the identifiers of components are read, of an item that was judged before.
-use Rattle.std.specs.Prelude.{ℕ, zero, suc, ◌==◌, nat_lt, if◌then◌else◌, List, length, Result, Ok, Err}
+use Rattle.std.specs.Prelude.{ℕ, zero, suc, ◌-◌, ◌==◌, nat_lt, if◌then◌else◌, List, length, Result, Ok, Err}
 use Rattle.det_cbor.specs.HeadReading.{◌>>=◌}
 use Rattle.det_cbor.specs.Position.{Position}
 use Rattle.suit_params.specs.declared.refusal.Refusal.{Refusal}
@@ -17,15 +17,16 @@ abbrev pub identifier_at : Position → Result (List (List ℕ)) Refusal
 identifier_at p =
     array_from p >>= λ h. all_from part_at h.0 h.1 >>= short_enough p.place (length p.left)
 
--- identifiers from one on, of which there are so many
+-- identifiers behind one, of which there are so many: the place of each is found by passing the one before it
 abbrev pub apart_from : List (List (List ℕ)) → ℕ → ℕ → Position → Result Unit Refusal
 apart_from ids last zero p = Ok tt
 apart_from ids last (suc n) p =
-    judge_like p.place last (first_like ids last) >>= λ _. inner_from p
-    >>= λ x. apart_from ids (suc last) n x.1
+    inner_from p >>= λ x. judge_like x.1.place last (first_like ids last)
+    >>= λ _. apart_from ids (suc last) n x.1
 
+-- no identifier is before the first
 abbrev pub ids_from : ℕ → Position → Result (List (List (List ℕ))) Refusal
-ids_from n p = all_from identifier_at n p >>= λ ids. apart_from ids 0 n p >>= λ _. Ok ids
+ids_from n p = all_from identifier_at n p >>= λ ids. apart_from ids 1 (n - 1) p >>= λ _. Ok ids
 
 abbrev pub counted_ids : ℕ → ℕ → Position → Result (List (List (List ℕ))) Refusal
 counted_ids place n p =

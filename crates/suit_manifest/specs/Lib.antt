@@ -15,4 +15,5 @@ pub mod MapReading
 pub mod CommonReading
 pub mod ManifestJudging
 pub mod ManifestReading
+pub mod JustOne
 pub mod ManifestLaws

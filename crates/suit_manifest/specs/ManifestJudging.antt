@@ -6,7 +6,7 @@ use Rattle.suit_params.specs.declared.refusal.Refusal.{Refusal}
 use Rattle.suit_params.specs.declared.refusal.Why.TheVariants.{Shape, Version}
 use Rattle.suit_params.specs.Refusing.{refused}
 use Rattle.suit_params.specs.Reading.{whole_judged}
-use Rattle.suit_params.specs.Judging.{judge_string, judge_held, judge_each, judge_digest}
+use Rattle.suit_params.specs.Judging.{judge_string, judge_held, judge_digest}
 use Rattle.suit_commands.specs.Allowed.{levels_inside}
 use Rattle.suit_commands.specs.SequenceJudging.{judge_sequence}
 use Rattle.suit_commands.specs.Tree.{SequenceTree}
@@ -17,11 +17,11 @@ use Rattle.suit_manifest.specs.declared.manifest.Member.TheVariants as members
 use Rattle.suit_manifest.specs.declared.manifest.TextMember.{TextMember}
 use Rattle.suit_manifest.specs.declared.manifest.TextMember.TheVariants as texts
 use Rattle.suit_manifest.specs.declared.later.Later.{Later}
-use Rattle.suit_manifest.specs.Maps.{entries_of, entry_under}
+use Rattle.suit_manifest.specs.Maps.{entry_under}
 use Rattle.suit_manifest.specs.Common.{CommonSays}
 use Rattle.suit_manifest.specs.Manifests.{manifest_keys}
 use Rattle.suit_manifest.specs.Elements.{judge_map}
-use Rattle.suit_manifest.specs.MapReading.{judge_entry, needed, judge_at, may}
+use Rattle.suit_manifest.specs.MapReading.{judge_keyed, needed, judge_at, may}
 use Rattle.suit_manifest.specs.CommonReading.{judge_common}
 
 -- ---- values
@@ -134,9 +134,7 @@ judge_values place es =
     Ok (manifest_of n common later)
 
 abbrev pub judge_pairs : ℕ → DataPairs → Result Manifest Refusal
-judge_pairs place pairs =
-    judge_each (judge_entry manifest_keys) (entries_of place pairs)
-    >>= λ _. judge_values place (entries_of place pairs)
+judge_pairs = judge_keyed manifest_keys judge_values
 
 abbrev pub judge_manifest : ℕ → DataItem → Result Manifest Refusal
 judge_manifest = judge_map judge_pairs

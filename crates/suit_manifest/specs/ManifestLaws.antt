@@ -2,29 +2,23 @@
 use Rattle.std.specs.Prelude.{◌≡◌, ◌⊎◌, ◌<◌, ℕ, List, [], ◌∷◌}
 use Rattle.std.specs.List.{AllByRecursion}
 use Rattle.det_cbor.specs.DataItem.{DataItem, UnsignedInteger, MapOf, DataPairs, spell, IsValid}
-use Rattle.suit_params.specs.declared.refusal.Refusal.{Refusal}
 use Rattle.suit_params.specs.OneWhole.{HasOneAnswer}
 use Rattle.suit_params.specs.Refusing.{SaysWhole}
 use Rattle.suit_manifest.specs.declared.manifest.Manifest.{Manifest}
 use Rattle.suit_envelope.specs.Envelopes.{Entry}
+use Rattle.suit_manifest.specs.JustOne.{HoldsOfOne}
 use Rattle.suit_manifest.specs.Maps.{entries_of}
 use Rattle.suit_manifest.specs.Manifests.{IsManifest, RefusesManifest}
 use Rattle.suit_manifest.specs.ManifestMaking.{manifest_item, placed_manifest, unplaced_manifest}
 use Rattle.suit_manifest.specs.ManifestWriting.{IsGrammatical}
 
 -- just one manifest is said, and nothing is refused
-pub record HasOneManifest (place : ℕ) (x : DataItem) : Type 0 where
-  pub manifest : Manifest
-  pub says : IsManifest place x manifest
-  pub only : (m : Manifest) → IsManifest place x m → m ≡ manifest
-  pub sound : (r : Refusal) → RefusesManifest place x r → ⊥
+abbrev pub HasOneManifest : ℕ → DataItem → Type 0
+HasOneManifest place x = HoldsOfOne (IsManifest place x) (RefusesManifest place x)
 
 -- there is just one refusal, and no manifest is said
-pub record HasOneRefusal (place : ℕ) (x : DataItem) : Type 0 where
-  pub refusal : Refusal
-  pub refuses : RefusesManifest place x refusal
-  pub only : (r : Refusal) → RefusesManifest place x r → r ≡ refusal
-  pub empty : (m : Manifest) → IsManifest place x m → ⊥
+abbrev pub HasOneRefusal : ℕ → DataItem → Type 0
+HasOneRefusal place x = HoldsOfOne (RefusesManifest place x) (IsManifest place x)
 
 -- ---- the numbers of the keys of a map ascend: values that are judged by their numbers are judged in the order of their bytes
 

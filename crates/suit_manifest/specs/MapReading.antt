@@ -1,7 +1,7 @@
 -- How maps of numbered keys are judged, and read of an item that was judged before.
 use Rattle.std.specs.Prelude.{ℕ, ◌-◌, ◌==◌, if◌then◌else◌, Bool, false, List, length, Option, Some, None, Result, Ok, Err}
 use Rattle.std.specs.List.{list_any}
-use Rattle.det_cbor.specs.DataItem.{DataItem, UnsignedInteger, spell}
+use Rattle.det_cbor.specs.DataItem.{DataItem, UnsignedInteger, DataPairs, spell}
 use Rattle.det_cbor.specs.declared.head.HeadKind.{HeadKind}
 use Rattle.det_cbor.specs.declared.head.HeadKind.TheVariants as kinds
 use Rattle.det_cbor.specs.HeadReading.{◌>>=◌}
@@ -9,8 +9,10 @@ use Rattle.det_cbor.specs.Position.{Position}
 use Rattle.suit_params.specs.declared.refusal.Refusal.{Refusal}
 use Rattle.suit_params.specs.declared.refusal.Why.TheVariants.{UnknownKey, Missing}
 use Rattle.suit_params.specs.Refusing.{refused}
+use Rattle.suit_params.specs.Judging.{judge_each}
 use Rattle.suit_params.specs.Reading.{head_from, bytes_from, inner_from, string_from}
 use Rattle.suit_envelope.specs.Envelopes.{Entry}
+use Rattle.suit_manifest.specs.Maps.{entries_of}
 use Rattle.suit_manifest.specs.declared.pairs.Pairs.{Pairs}
 
 -- ---- judging
@@ -41,6 +43,13 @@ judge_at judge e = judge e.value_place e.value
 abbrev pub may : {A B : Type 0} → (A → Result B Refusal) → Option A → Result (Option B) Refusal
 may judge None = Ok None
 may judge (Some found) = judge found >>= λ said. Ok (Some said)
+
+-- the pairs of a map: their keys, and then the values under them
+abbrev pub judge_keyed : {A : Type 0} → List ℕ → (ℕ → List Entry → Result A Refusal) → ℕ
+    → DataPairs → Result A Refusal
+judge_keyed keys values place pairs =
+    judge_each (judge_entry keys) (entries_of place pairs)
+    >>= λ _. values place (entries_of place pairs)
 
 -- ---- reading: the pairs of a map that are left, of which there are so many
 

@@ -1,5 +1,5 @@
 -- The members that stand apart from a manifest, in its envelope (draft-ietf-suit-manifest-25, sections 8.4 and 8.5).
-use Rattle.std.specs.Prelude.{◌≡◌, ◌≢◌, ◌⊎◌, ℕ, false, List, Option, Some, None, Result, Ok, Err}
+use Rattle.std.specs.Prelude.{◌≡◌, ◌≢◌, ◌⊎◌, ℕ, false, List, Option, Some, None, Result, MatchResult, IsErrAnd}
 use Rattle.suit_params.specs.declared.refusal.Refusal.{Refusal}
 use Rattle.suit_params.specs.declared.digest.Digest.{Digest}
 use Rattle.suit_params.specs.Refusing.{SaysWhole, RefusesWhole}
@@ -106,10 +106,8 @@ IsLackBy lacks NoMemory = Unit {0}
 
 -- this was taken, unless memory ran out
 abbrev pub IsTakenAs : {A : Type 0} → A → Result A MemberFault → Type 0
-IsTakenAs wanted (Ok found) = found ≡ wanted
-IsTakenAs wanted (Err fault) = fault ≡ NoMemory
+IsTakenAs wanted answer = MatchResult answer (λ found. found ≡ wanted) (λ fault. fault ≡ NoMemory)
 
 -- this was the fault, unless memory ran out
 abbrev pub IsLackedAs : {A : Type 0} → MemberFault → Result A MemberFault → Type 0
-IsLackedAs wanted (Ok found) = ⊥
-IsLackedAs wanted (Err fault) = (fault ≡ wanted) ⊎ (fault ≡ NoMemory)
+IsLackedAs wanted answer = IsErrAnd answer (λ fault. (fault ≡ wanted) ⊎ (fault ≡ NoMemory))

@@ -1,6 +1,6 @@
 //! The identifiers of a manifest's components, read from an item judged before.
 
-ghost use Rattle.std.specs.Prelude.{◌≡◌, ◌<◌, ◌≤◌, length, IfOk};
+ghost use Rattle.std.specs.Prelude.{◌≡◌, ◌-◌, ◌<◌, ◌≤◌, length, IfOk};
 ghost use Rattle.suit_params.specs.Answering.{Gives};
 ghost use Rattle.suit_manifest.specs.Elements.{all_from};
 ghost use Rattle.suit_manifest.specs.ComponentsReading.{part_at, identifier_at, apart_from, ids_from, counted_ids, components_at};
@@ -64,15 +64,15 @@ fn read_identifiers(alloc: Global, mut items: Cursor<'_>, count: u64) -> Result<
     Ok(ids)
 }
 
-// Refuses two that are alike: the second is found first, and then the first that it is like.
+// Refuses two that are alike: the second is found first, and then the first that it is like. No identifier is before the first.
 fn judge_apart(ids: &Identifiers, mut items: Cursor<'_>) -> Result<(), Refusal>
-    ensures { result ≡ apart_from ids.now 0 (length ids.now) items.entry }
+    ensures { result ≡ apart_from ids.now 1 (length ids.now - 1) items.entry }
 {
-    for last in 0..ids.len() {
-        match first_like(ids, last) {
-            Some(first) => return refused(items.place(), Why::TwoAlike(first as u64, last as u64)),
-            None => read_item(&mut items)?,
-        };
+    for last in 1..ids.len() {
+        read_item(&mut items)?;
+        if let Some(first) = first_like(ids, last) {
+            return refused(items.place(), Why::TwoAlike(first as u64, last as u64));
+        }
     }
     Ok(())
 }

@@ -63,20 +63,12 @@ fn push_start(alloc: Global, out: &mut Bytes, manifest: &Manifest) -> Result<(),
 
 fn encode_common(alloc: Global, manifest: &Manifest) -> Result<Bytes, AllocError>
     ensures spelling { IfOk result (λ bytes. bytes ≡ spell (common_item manifest.now)) }
-    ensures fits { IfOk result (λ bytes. CommonFits manifest.now) }
+    ensures fits { IfOk result (λ _. CommonFits manifest.now) }
 {
     let mut out = Bytes::new(alloc);
-    push_common(alloc, &mut out, manifest)?;
+    push_map(&mut out, common_count(manifest))?;
+    push_number(&mut out, 2)?;
+    push_components(&mut out, &manifest.components)?;
+    push_held(alloc, &mut out, 4, &manifest.shared)?;
     Ok(out)
-}
-
-fn push_common(alloc: Global, out: &mut Bytes, manifest: &Manifest) -> Result<(), AllocError>
-    ensures ok { OnOk result (out.new ≡ out.old ++ spell (common_item manifest.now)) }
-    ensures fits { OnOk result (CommonFits manifest.now) }
-{
-    push_map(out, common_count(manifest))?;
-    push_number(out, 2)?;
-    push_components(out, &manifest.components)?;
-    push_held(alloc, out, 4, &manifest.shared)?;
-    Ok(())
 }

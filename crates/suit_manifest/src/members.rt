@@ -5,13 +5,12 @@ ghost use Rattle.suit_envelope.specs.Places.{MembersEndBelow};
 ghost use Rattle.suit_envelope.specs.Said.{said_by};
 ghost use Rattle.suit_manifest.specs.declared.manifest.Members.{Members};
 ghost use Rattle.suit_manifest.specs.declared.members.MemberFault.{MemberFault};
-ghost use Rattle.suit_manifest.specs.MembersApart.{HasPayloadFetch, HasInstall, LacksPayloadFetch, LacksInstall, HasMembers, LacksMembers, IsLackBy, IsTakenAs, IsLackedAs};
+ghost use Rattle.suit_manifest.specs.MembersApart.{HasMembers, LacksMembers, IsLackBy, IsTakenAs, IsLackedAs};
 
 use crate::plans::component_count;
 use crate::severable::apart;
 use crate::{Manifest, Members};
 use std::alloc::Global;
-use suit_commands::Sequence;
 use suit_envelope::{Envelope, MemberName};
 use suit_params::{Digest, Refusal};
 
@@ -33,39 +32,6 @@ pub enum MemberFault {
     NoMemory,
 }
 
-fn payload_fetch(
-    alloc: Global,
-    envelope: &Envelope<'_>,
-    manifest: &Manifest,
-) -> Result<Option<Sequence>, MemberFault>
-    requires few { length manifest.now.components < 2 ^ 32 }
-    requires places { MembersEndBelow (2 ^ 64) (said_by envelope.now) }
-    ensures ok { IfOk result (HasPayloadFetch (said_by envelope.now) manifest.now) }
-    ensures refused { IfErr result
-        (IsLackBy (LacksPayloadFetch (said_by envelope.now) manifest.now)) }
-{
-    let count = component_count(manifest);
-    let place = envelope.payload_fetch_place;
-    let name = MemberName::PayloadFetch;
-    apart(alloc, envelope, name, place, &manifest.payload_fetch, count)
-}
-
-fn install(
-    alloc: Global,
-    envelope: &Envelope<'_>,
-    manifest: &Manifest,
-) -> Result<Option<Sequence>, MemberFault>
-    requires few { length manifest.now.components < 2 ^ 32 }
-    requires places { MembersEndBelow (2 ^ 64) (said_by envelope.now) }
-    ensures ok { IfOk result (HasInstall (said_by envelope.now) manifest.now) }
-    ensures refused { IfErr result (IsLackBy (LacksInstall (said_by envelope.now) manifest.now)) }
-{
-    let count = component_count(manifest);
-    let place = envelope.install_place;
-    let name = MemberName::Install;
-    apart(alloc, envelope, name, place, &manifest.install, count)
-}
-
 // See `members_of`.
 #[tactic(auto, using(crate::proofs::BothMembers::fetch_lacks))]
 fn both(alloc: Global, envelope: &Envelope<'_>, manifest: &Manifest) -> Result<Members, MemberFault>
@@ -74,8 +40,13 @@ fn both(alloc: Global, envelope: &Envelope<'_>, manifest: &Manifest) -> Result<M
     ensures ok { IfOk result (HasMembers (said_by envelope.now) manifest.now) }
     ensures refused { IfErr result (IsLackBy (LacksMembers (said_by envelope.now) manifest.now)) }
 {
-    let first = payload_fetch(alloc, envelope, manifest)?;
-    match install(alloc, envelope, manifest) {
+    let count = component_count(manifest);
+    let name = MemberName::PayloadFetch;
+    let place = envelope.payload_fetch_place;
+    let first = apart(alloc, envelope, name, place, &manifest.payload_fetch, count)?;
+    let name = MemberName::Install;
+    let place = envelope.install_place;
+    match apart(alloc, envelope, name, place, &manifest.install, count) {
         Ok(second) => Ok(Members {
             payload_fetch: first,
             install: second,

@@ -2,7 +2,6 @@
 
 ghost use Rattle.std.specs.Prelude.{◌≡◌};
 ghost use Rattle.det_cbor.specs.HeadReading.{map_ok};
-ghost use Rattle.suit_params.specs.ParamReading.{text_bytes};
 ghost use Rattle.suit_params.specs.Answering.{Gives};
 ghost use Rattle.suit_manifest.specs.MapReading.{may};
 ghost use Rattle.suit_manifest.specs.ManifestReading.{number_at, version_at, text_at, apart_at, here_at, severed_at, text_apart_at, text_here_at, text_member_at, severed_in, text_in};
@@ -42,17 +41,6 @@ pub(crate) fn read_version(item: Cursor<'_>) -> Result<u64, Refusal>
     }
 }
 
-// The next bytes as a text, which stands at a place.
-fn text<'a>(item: &mut Cursor<'a>, count: u64, place: u64) -> Result<&'a str, Refusal>
-    ensures { map_ok (λ t. (t.now, item.new)) result ≡ text_bytes place count item.old }
-{
-    let bytes = read_bytes(item, count)?;
-    match as_text(bytes) {
-        Some(text) => Ok(text),
-        None => refused(place, Why::Cbor(Reason::BadText)),
-    }
-}
-
 #[tactic(auto, unfolding(crate::specs::ManifestReading::text_at))]
 fn read_text<'a>(mut item: Cursor<'a>) -> Result<&'a str, Refusal>
     ensures { map_ok (λ t. t.now) result ≡ text_at item.entry }
@@ -60,7 +48,10 @@ fn read_text<'a>(mut item: Cursor<'a>) -> Result<&'a str, Refusal>
     let place = item.place();
     let head = read_head(&mut item)?;
     match head.kind {
-        HeadKind::Text => text(&mut item, head.value, place),
+        HeadKind::Text => match as_text(read_bytes(&mut item, head.value)?) {
+            Some(text) => Ok(text),
+            None => refused(place, Why::Cbor(Reason::BadText)),
+        },
         _ => refused(place, Why::Shape),
     }
 }

@@ -30,11 +30,8 @@ returns-clause-envelope c =
           spells = record {
             valid = made_valid parts
                 (record {
-                  wrapper = rw (← c.as_slice.ensures) (c.push_pair.ensures.string);
-                  manifest = rw (← c.as_slice-2.ensures) (c.push_pair-2.ensures.string);
-                  payload_fetch = c.push_member.ensures.string;
-                  install = c.push_member-2.ensures.string;
-                  text = c.push_member-3.ensures.string;
+                  required = (rw (← c.as_slice.ensures) (c.push_pair.ensures.string), (rw (← c.as_slice-2.ensures) (c.push_pair-2.ensures.string), tt));
+                  members = (c.push_member.ensures.string, (c.push_member-2.ensures.string, (c.push_member-3.ensures.string, tt)));
                   payloads = c.in_ok-push_payloads.ensures.payloads;
                   count = count;
                 })
