@@ -16,6 +16,7 @@ pub mod Narrowing
 pub mod ConditionLeaves
 pub mod DirectiveLeaves
 pub mod InnerSteps
+pub mod InPlace
 pub mod KeyedLaws
 pub mod Smallness
 pub mod Starting

@@ -20,7 +20,7 @@ use Rattle.path_checker.specs.Exploring.{Course, In, Kept, Stopped, Found, Reach
 use Rattle.path_checker.specs.Steps.{At, with_selection}
 use Rattle.path_checker.specs.Halting.{Halts}
 use Rattle.path_checker.proofs.Membership.{In-right}
-use Rattle.path_checker.proofs.Exploring.{then_course, Explores-one}
+use Rattle.path_checker.proofs.Exploring.{then_course, Explores-none, Explores-one}
 use Rattle.path_checker.proofs.Uncovering.{Uncovered-lift}
 use Rattle.path_checker.proofs.Carrying.{Explores-more}
 use Rattle.path_checker.proofs.Leaves.{Same, Explores-same}
@@ -32,6 +32,16 @@ pub record Pops (course : Course) (from : List Kept) (failed0 : List Stopped) (n
   pub from_is : from ≡ now ++ gone
   pub failed_is : failed ≡ failed0 ++ added
   pub explores : Explores course gone next added
+
+-- at first no state is taken
+pub Pops-start : (course : Course) (from : List Kept) (failed0 : List Stopped) (next : List Kept) → next ≡ [] → Pops course from failed0 from next failed0
+Pops-start course from failed0 next none = record {
+  gone = [];
+  added = [];
+  from_is = sym (append-nil from);
+  failed_is = sym (append-nil failed0);
+  explores = subst (λ (n : List Kept). Explores course [] n []) (sym none) (Explores-none course);
+}
 
 module _ (course : Course) (from : List Kept) (failed0 : List Stopped) (old rest next : List Kept) (failed : List Stopped) (k : Kept) (w : Pops course from failed0 old next failed) (popped : old ≡ rest ++ k ∷ []) where
   pub pops-is : from ≡ rest ++ (k ∷ w.gone)
@@ -52,6 +62,13 @@ module _ (course : Course) (from : List Kept) (failed0 : List Stopped) (old rest
       here : (facts : List Knowledge) (events : List Event) → Uncovers course (k ∷ []) facts events → Uncovers course from facts events
       here facts events (k', inl p, v) = (k', subst (In k') (sym pops-is) (In-right k' rest (k ∷ w.gone) (inl p)), v)
       here facts events (k', inr n, v) = absurd n
+
+-- the same lists, in other memory
+pub Pops-moved : (course : Course) (from : List Kept) (failed0 : List Stopped) (old rest rest' next next' : List Kept) (failed : List Stopped) (k : Kept) → Pops course from failed0 old next failed → old ≡ rest ++ k ∷ [] → rest' ≡ rest → next' ≡ next → Pops course from failed0 old next' failed × (old ≡ rest' ++ k ∷ [])
+Pops-moved course from failed0 old rest rest' next next' failed k w popped rest_is next_is = (
+  subst (λ (n : List Kept). Pops course from failed0 old n failed) (sym next_is) w,
+  popped ∙ ap (λ (x : List Kept). x ++ k ∷ []) (sym rest_is),
+)
 
 -- where all states are taken
 pub Pops-end : (course : Course) (from : List Kept) (failed0 : List Stopped) (now next : List Kept) (failed : List Stopped) → Pops course from failed0 now next failed → now ≡ [] → Adds course from [] next failed0 failed

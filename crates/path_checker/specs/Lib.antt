@@ -10,6 +10,7 @@ pub mod Inner
 pub mod Keyed
 pub mod Wanting
 pub mod Small
+pub mod Selecting
 pub mod Steps
 pub mod Procedures
 pub mod Halting

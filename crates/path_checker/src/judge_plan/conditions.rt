@@ -58,7 +58,7 @@ fn own_test<'a>(
             Ok(())
         }
         Fork::Either(has, has_not) => {
-            let other = k.copy_with(memory.alloc, has_not)?;
+            let other = k.copy_with(has_not)?;
             pass(memory, under(k, has), passed, next)?;
             stop(memory, other, place, missed, failed)?;
             Ok(())
@@ -125,7 +125,7 @@ fn image_match<'a>(
                 digest,
                 size,
             };
-            pass(memory, k.copy(memory.alloc)?, matched, next)?;
+            pass(memory, k.copy()?, matched, next)?;
             stop(memory, k, place, Happened::Missed { component }, failed)?;
             Ok(())
         }
@@ -156,7 +156,7 @@ fn check_content<'a>(
             kind: TestKind::CheckContent,
             passed: true,
         };
-        pass(memory, k.copy(memory.alloc)?, passed, next)?;
+        pass(memory, k.copy()?, passed, next)?;
         stop(memory, k, place, missed, failed)?;
         return Ok(());
     }

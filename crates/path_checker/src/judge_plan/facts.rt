@@ -29,7 +29,7 @@ pub(crate) struct Knowledge {
     pub slot: KnownSlot,
 }
 
-/// What is known of the identity of each component, from the first on. Copies share it.
+/// Knowledge of the identity of each component, from the first on. Copies share it.
 #[derive(Drop)]
 pub(crate) struct Facts {
     held: Rc<Vec<Knowledge>>,

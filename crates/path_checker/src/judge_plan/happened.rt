@@ -57,9 +57,9 @@ impl<'a> Happened<'a> {
     pub(crate) fn told(&self, alloc: Global) -> Result<Event, AllocError>
         ensures { IfOk result (λ event. event ≡ event_of self.now) }
     {
-        Ok(match self {
+        Ok(match *self {
             Happened::Set { component, param } => Event::Set {
-                component: *component,
+                component,
                 param: param.copy(alloc)?,
             },
             Happened::Tried {
@@ -67,37 +67,33 @@ impl<'a> Happened<'a> {
                 kind,
                 passed,
             } => Event::Tried {
-                component: *component,
-                kind: *kind,
-                passed: *passed,
+                component,
+                kind,
+                passed,
             },
             Happened::Matched {
                 component,
                 digest,
                 size,
             } => Event::Matched {
-                component: *component,
-                digest: **digest,
-                size: *size,
+                component,
+                digest: *digest,
+                size,
             },
-            Happened::Missed { component } => Event::Missed {
-                component: *component,
-            },
-            Happened::Wrote { component } => Event::Wrote {
-                component: *component,
-            },
+            Happened::Missed { component } => Event::Missed { component },
+            Happened::Wrote { component } => Event::Wrote { component },
             Happened::Invoked {
                 component,
                 digest,
                 size,
                 passed,
             } => Event::Invoked {
-                component: *component,
-                digest: copied(*digest),
-                size: *size,
-                passed: *passed,
+                component,
+                digest: copied(digest),
+                size,
+                passed,
             },
-            Happened::Failed { place } => Event::Failed { place: *place },
+            Happened::Failed { place } => Event::Failed { place },
         })
     }
 }

@@ -13,7 +13,7 @@ use std::marker::Model;
 #[derive(Drop)]
 pub(crate) struct Outer<'a> {
     params: InForce<'a>,
-    selection: Selected,
+    selection: Selected<'a>,
     soft_failure: bool,
 }
 
@@ -29,32 +29,26 @@ impl<'a> Model for Outer<'a> {
     } };
 }
 
-pub(crate) fn outer_of<'a>(alloc: Global, k: &Kept<'a>) -> Result<Outer<'a>, AllocError>
+pub(crate) fn outer_of<'a>(k: &Kept<'a>) -> Result<Outer<'a>, AllocError>
     ensures { IfOk result (λ outer. outer ≡ k.now.state) }
 {
-    let selection = k.selection.copy(alloc)?;
     let params = k.params.copy()?;
     Ok(Outer {
         params,
-        selection,
+        selection: k.selection.copy(),
         soft_failure: k.soft_failure,
     })
 }
 
 /// Enters an inner sequence, with one component selected.
-pub(crate) fn enter<'a>(
-    alloc: Global,
-    component: u32,
-    soft_failure: bool,
-    k: Kept<'a>,
-) -> Result<Kept<'a>, AllocError>
+pub(crate) fn enter<'a>(component: u32, soft_failure: bool, k: Kept<'a>) -> Kept<'a>
     requires room { component < 8 }
-    ensures { IfOk result (λ to. to ≡ entered k.entry.state component soft_failure k.entry) }
+    ensures { result ≡ entered k.entry.state component soft_failure k.entry }
 {
     let mut k = k;
-    k.selection = Selected::one(alloc, component)?;
+    k.selection = Selected::one(component);
     k.soft_failure = soft_failure;
-    Ok(k)
+    k
 }
 
 /// The states in which a branch begins.
@@ -69,13 +63,12 @@ pub(crate) fn enter_all<'a>(
 {
     let mut inside = Vec::new(alloc);
     for k in from {
-        let selection = Selected::one(alloc, component)?;
         let params = outer.params.copy()?;
         inside.push(Kept {
             facts: k.facts,
             history: k.history,
             params,
-            selection,
+            selection: Selected::one(component),
             soft_failure: true,
         })?;
     }
@@ -84,7 +77,6 @@ pub(crate) fn enter_all<'a>(
 
 /// Leaves an inner sequence that completed: the parameters stay.
 pub(crate) fn leave_all<'a>(
-    alloc: Global,
     outer: &Outer<'a>,
     done: Vec<Kept<'a>>,
     next: &mut Vec<Kept<'a>>,
@@ -93,7 +85,7 @@ pub(crate) fn leave_all<'a>(
 {
     for k in done {
         let mut k = k;
-        k.selection = outer.selection.copy(alloc)?;
+        k.selection = outer.selection.copy();
         k.soft_failure = outer.soft_failure;
         next.push(k)?;
     }
@@ -101,23 +93,21 @@ pub(crate) fn leave_all<'a>(
 }
 
 // Leaves one that failed softly: everything is as it was.
-fn resume<'a>(alloc: Global, outer: &Outer<'a>, stop: Stopped<'a>) -> Result<Kept<'a>, AllocError>
+fn resume<'a>(outer: &Outer<'a>, stop: Stopped<'a>) -> Result<Kept<'a>, AllocError>
     ensures { IfOk result (λ k. k ≡ resumed outer.now stop.entry) }
 {
-    let selection = outer.selection.copy(alloc)?;
     let params = outer.params.copy()?;
     Ok(Kept {
         facts: stop.facts,
         history: stop.history,
         params,
-        selection,
+        selection: outer.selection.copy(),
         soft_failure: outer.soft_failure,
     })
 }
 
 /// The failures of an inner sequence: soft ones go on, and the others are those of the outer one.
 pub(crate) fn split<'a>(
-    alloc: Global,
     outer: &Outer<'a>,
     stops: Vec<Stopped<'a>>,
     next: &mut Vec<Kept<'a>>,
@@ -130,7 +120,7 @@ pub(crate) fn split<'a>(
 {
     for stop in stops {
         if stop.soft_failure {
-            next.push(resume(alloc, outer, stop)?)?;
+            next.push(resume(outer, stop)?)?;
         } else {
             let mut stop = stop;
             stop.soft_failure = outer.soft_failure;
@@ -162,18 +152,13 @@ pub(crate) fn exhaust<'a>(
 }
 
 /// The states in which a member or the shared sequence begins.
-pub(crate) fn restart_all<'a>(
-    alloc: Global,
-    from: Vec<Kept<'a>>,
-) -> Result<Vec<Kept<'a>>, AllocError>
-    ensures { IfOk result (λ v. v.items ≡ all_restarted from.entry.items) }
+pub(crate) fn restart_all<'a>(from: Vec<Kept<'a>>) -> Vec<Kept<'a>>
+    ensures { result.items ≡ all_restarted from.entry.items }
 {
-    let mut started = Vec::new(alloc);
-    for k in from {
-        let mut k = k;
-        k.selection = Selected::one(alloc, 0)?;
+    let mut started = from;
+    for k in started.iter_mut() {
+        k.selection = Selected::one(0);
         k.soft_failure = false;
-        started.push(k)?;
     }
-    Ok(started)
+    started
 }

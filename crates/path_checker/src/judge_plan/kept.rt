@@ -13,7 +13,7 @@ use crate::judge_plan::history::History;
 use crate::judge_plan::in_force::InForce;
 use crate::judge_plan::memory::Memory;
 use crate::judge_plan::selected::Selected;
-use std::alloc::{AllocError, Global};
+use std::alloc::AllocError;
 use std::marker::Model;
 
 /// A state, the knowledge of the identities there, and its history.
@@ -22,7 +22,7 @@ pub(crate) struct Kept<'a> {
     pub facts: Facts,
     pub history: History<'a>,
     pub params: InForce<'a>,
-    pub selection: Selected,
+    pub selection: Selected<'a>,
     pub soft_failure: bool,
 }
 
@@ -97,31 +97,32 @@ impl<'a> Kept<'a> {
 
     /// A fingerprint: equal where they are the same.
     pub(crate) fn fingerprint(&self) -> u64 {
-        let selected = mixed(self.soft_failure as u64, self.selection.fingerprint());
         let count = self.facts.as_slice().len();
         let known = mixed(self.facts.fingerprint(), self.params.fingerprint(count));
-        mixed(mixed(selected, known), self.history.fingerprint())
+        mixed(
+            mixed(self.soft_failure as u64, known),
+            self.history.fingerprint(),
+        )
     }
 
-    /// A copy in memory of its own.
-    pub(crate) fn copy(&self, alloc: Global) -> Result<Kept<'a>, AllocError>
+    /// The same. Takes no memory.
+    pub(crate) fn copy(&self) -> Result<Kept<'a>, AllocError>
         ensures { IfOk result (λ k. k ≡ self.now) }
     {
         let facts = self.facts.copy()?;
-        self.copy_with(alloc, facts)
+        self.copy_with(facts)
     }
 
     /// The same under other facts.
-    pub(crate) fn copy_with(&self, alloc: Global, facts: Facts) -> Result<Kept<'a>, AllocError>
+    pub(crate) fn copy_with(&self, facts: Facts) -> Result<Kept<'a>, AllocError>
         ensures { IfOk result (λ k. k ≡ knowing self.now facts) }
     {
-        let selection = self.selection.copy(alloc)?;
         let params = self.params.copy()?;
         Ok(Kept {
             facts,
             history: self.history.copy(),
             params,
-            selection,
+            selection: self.selection.copy(),
             soft_failure: self.soft_failure,
         })
     }

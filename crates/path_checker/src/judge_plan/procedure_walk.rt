@@ -27,14 +27,13 @@ pub(crate) fn first<'a>(alloc: Global, count: u32) -> Result<Vec<Kept<'a>>, Allo
     ensures { IfOk result (λ v. v.items ≡ first_kept count ∷ []) }
 {
     let facts = Facts::unknown(alloc, count)?;
-    let selection = Selected::one(alloc, 0)?;
     let params = InForce::new(alloc)?;
     let mut from = Vec::new(alloc);
     from.push(Kept {
         facts,
         history: History::new(),
         params,
-        selection,
+        selection: Selected::one(0),
         soft_failure: false,
     })?;
     Ok(from)
@@ -55,7 +54,7 @@ fn part<'a>(
     ensures err { IfErr result
         (λ h. Halts (FromStart (lent_tree lent.entry) count) from.entry.items h) }
 {
-    let started = restart_all(memory.alloc, from)?;
+    let started = restart_all(from);
     match lent {
         Some(inner) => sequence(memory, count, inner, started, failed),
         None => Ok(started),

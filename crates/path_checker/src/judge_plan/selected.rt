@@ -5,92 +5,101 @@ ghost use Rattle.std.specs.List.{range_with_len};
 ghost use Rattle.suit_commands.specs.Selections.{selected_by};
 ghost use Rattle.path_checker.specs.Small.{AreSmall, SelectsSmall};
 
-use crate::judge_plan::fingerprint::mixed;
 use std::alloc::{AllocError, Global};
 use std::marker::Model;
 use suit_commands::Selection;
 
-/// The selected components in order, each of the eight that there is room for.
-#[derive(Debug, Drop)]
-pub(crate) struct Selected {
-    held: Vec<u32>,
+/// Some of the components: one, the first so many, or those that a command lists.
+#[derive(Clone, Copy, Debug)]
+pub(crate) enum Components<'a> {
+    One(u32),
+    First(u32),
+    Listed(&'a [u32]),
 }
 
-impl Model for Selected {
+/// The selected components in order, each of the eight that there is room for. Takes no memory.
+#[derive(Debug, Drop)]
+pub(crate) struct Selected<'a> {
+    held: Components<'a>,
+}
+
+impl<'a> Model for Selected<'a> {
     ghost use Rattle.std.specs.Prelude.{List, ℕ};
 
     ghost Value = { List ℕ };
 
-    ghost view = { λ a. a.held.items };
+    ghost use Rattle.path_checker.specs.Selecting.{components_of};
+
+    ghost view = { λ a. components_of a.held };
 
     ghost use Rattle.path_checker.specs.Small.{AreSmall};
 
-    ghost invariant = { λ a. AreSmall a.held.items };
+    ghost invariant = { λ a. AreSmall (components_of a.held) };
 }
 
-impl Selected {
+// The numbers below a count, ascending.
+fn numbers(alloc: Global, count: u32) -> Result<Vec<u32>, AllocError>
+    ensures { IfOk result (λ held. held.items ≡ range_with_len 0 count) }
+{
+    let mut held = Vec::new(alloc);
+    for component in 0..count {
+        held.push(component)?;
+    }
+    Ok(held)
+}
+
+impl<'a> Selected<'a> {
     /// One component.
-    pub(crate) fn one(alloc: Global, component: u32) -> Result<Selected, AllocError>
+    pub(crate) fn one(component: u32) -> Selected<'a>
         requires room { component < 8 }
-        ensures { IfOk result (λ selected. selected ≡ component ∷ []) }
+        ensures { result ≡ component ∷ [] }
     {
-        let held = Vec::from_slice(alloc, &[component])?;
-        Ok(Selected { held })
+        Selected {
+            held: Components::One(component),
+        }
     }
 
     /// Those that a selection names, where there are so many components.
-    pub(crate) fn by(
-        alloc: Global,
-        selection: &Selection,
-        count: u32,
-    ) -> Result<Selected, AllocError>
+    pub(crate) fn by(selection: &'a Selection, count: u32) -> Selected<'a>
         requires { SelectsSmall count selection.now }
-        ensures { IfOk result (λ selected. selected ≡ selected_by selection.now count) }
+        ensures { result ≡ selected_by selection.now count }
     {
         match selection {
-            Selection::One(component) => Selected::one(alloc, *component),
-            Selection::All => Selected::first(alloc, count),
-            Selection::Listed(indices) => {
-                let held = Vec::from_slice(alloc, indices.as_slice())?;
-                Ok(Selected { held })
-            }
+            Selection::One(component) => Selected::one(*component),
+            Selection::All => Selected::first(count),
+            Selection::Listed(indices) => Selected {
+                held: Components::Listed(indices.as_slice()),
+            },
         }
     }
 
     // The first so many, ascending.
-    fn first(alloc: Global, count: u32) -> Result<Selected, AllocError>
+    fn first(count: u32) -> Selected<'a>
         requires { count ≤ 8 }
-        ensures { IfOk result (λ selected. selected ≡ range_with_len 0 count) }
+        ensures { result ≡ range_with_len 0 count }
     {
-        let mut held = Vec::new(alloc);
-        for component in 0..count {
-            held.push(component)?;
+        Selected {
+            held: Components::First(count),
         }
-        Ok(Selected { held })
     }
 
-    /// A copy in memory of its own.
-    pub(crate) fn copy(&self, alloc: Global) -> Result<Selected, AllocError>
-        ensures { IfOk result (λ other. other ≡ self.now) }
+    /// The same.
+    pub(crate) fn copy(&self) -> Selected<'a>
+        ensures { result ≡ self.now }
     {
-        let held = Vec::from_slice(alloc, &self.held)?;
-        Ok(Selected { held })
+        Selected { held: self.held }
     }
 
-    /// Whether the same components are selected, in the same order.
-    pub(crate) fn is_same(&self, other: &Selected) -> bool
+    /// Whether the same components are selected, in the same order. May be false of those that are told in two ways.
+    pub(crate) fn is_same(&self, other: &Selected<'_>) -> bool
         ensures { IsTrue result → self.now ≡ other.now }
     {
-        self.held == other.held
-    }
-
-    /// A fingerprint: equal where the same components are selected.
-    pub(crate) fn fingerprint(&self) -> u64 {
-        let mut print = 0;
-        for component in &self.held {
-            print = mixed(print, *component as u64);
+        match (&self.held, &other.held) {
+            (Components::One(component), Components::One(other)) => *component == *other,
+            (Components::First(count), Components::First(other)) => *count == *other,
+            (Components::Listed(components), Components::Listed(other)) => *components == *other,
+            _ => false,
         }
-        print
     }
 
     /// The component, where one alone is selected.
@@ -98,17 +107,23 @@ impl Selected {
         ensures sole { IfSome result (λ component. self.now ≡ component ∷ []) }
         ensures small { IfSome result (λ component. component < 8) }
     {
-        match self.as_slice() {
-            [component] => Some(*component),
+        match self.held {
+            Components::One(component) => Some(component),
+            Components::First(1) => Some(0),
+            Components::Listed([component]) => Some(*component),
             _ => None,
         }
     }
 
-    /// The components, lent.
-    pub(crate) fn as_slice(&self) -> &[u32]
-        ensures value { result.now ≡ self.now }
-        ensures small { AreSmall result.now }
+    /// The components, in memory of their own.
+    pub(crate) fn listed(&self, alloc: Global) -> Result<Vec<u32>, AllocError>
+        ensures value { IfOk result (λ held. held.items ≡ self.now) }
+        ensures small { IfOk result (λ held. AreSmall held.items) }
     {
-        self.held.as_slice()
+        match self.held {
+            Components::One(component) => Vec::from_slice(alloc, &[component]),
+            Components::First(count) => numbers(alloc, count),
+            Components::Listed(components) => Vec::from_slice(alloc, components),
+        }
     }
 }

@@ -19,7 +19,8 @@ use crate::judge_plan::kept::{Kept, Stopped};
 use crate::judge_plan::memory::Memory;
 use crate::judge_plan::merged::{merged_states, settled};
 use crate::judge_plan::selected::Selected;
-use std::alloc::{AllocError, Global};
+use std::alloc::AllocError;
+use std::mem;
 use suit_commands::{Branches, Command, Selection, Sequence, Step};
 
 /// Runs a sequence from each of the states.
@@ -45,8 +46,31 @@ pub(crate) fn sequence<'a>(
         now = command(memory, count, step, now, &mut stops)?;
         stops = settled(memory.alloc, stops, &mut left)?;
     }
-    failed.append(&mut stops)?;
+    join(failed, stops)?;
     Ok(now)
+}
+
+// Adds failures behind others. Takes no memory where there are no others.
+fn join<'a>(failed: &mut Vec<Stopped<'a>>, stops: Vec<Stopped<'a>>) -> Result<(), AllocError>
+    ensures { OnOk result (failed.new.items ≡ failed.old.items ++ stops.entry.items) }
+{
+    let mut stops = stops;
+    if failed.is_empty() {
+        *failed = stops;
+        return Ok(());
+    }
+    failed.append(&mut stops)?;
+    Ok(())
+}
+
+// Both lists as they are. Where they are empty, the next one gets the other's memory.
+fn reuse<'a>(now: &mut Vec<Kept<'a>>, next: &mut Vec<Kept<'a>>)
+    ensures now { now.new.items ≡ now.old.items }
+    ensures next { next.new.items ≡ next.old.items }
+{
+    if now.is_empty() && next.is_empty() {
+        mem::swap(now, next);
+    }
 }
 
 // Does a command in each of the states.
@@ -71,8 +95,9 @@ fn command<'a>(
     let mut now = from;
     let mut next = Vec::new(memory.alloc);
     while let Some(k) = now.pop() {
+        reuse(&mut now, &mut next);
         match &step.command {
-            Command::Index(selection) => next.push(select(memory, selection, count, k)?)?,
+            Command::Index(selection) => next.push(select(selection, count, k))?,
             _ => each(memory, count, step, k, &mut next, failed)?,
         }
     }
@@ -81,18 +106,13 @@ fn command<'a>(
 }
 
 // The state after set component index.
-fn select<'a>(
-    memory: Memory<'a>,
-    selection: &Selection,
-    count: u32,
-    k: Kept<'a>,
-) -> Result<Kept<'a>, AllocError>
+fn select<'a>(selection: &'a Selection, count: u32, k: Kept<'a>) -> Kept<'a>
     requires { SelectsSmall count selection.now }
-    ensures { IfOk result (λ to. to ≡ with_selection k.entry (selected_by selection.now count)) }
+    ensures { result ≡ with_selection k.entry (selected_by selection.now count) }
 {
     let mut k = k;
-    k.selection = Selected::by(memory.alloc, selection, count)?;
-    Ok(k)
+    k.selection = Selected::by(selection, count);
+    k
 }
 
 // Does a command at each selected component.
@@ -122,7 +142,7 @@ fn each<'a>(
     if let Some(component) = k.selection.sole() {
         return one(memory, count, step, component, k, next, failed);
     }
-    let selection = k.selection.copy(memory.alloc)?;
+    let selection = k.selection.listed(memory.alloc)?;
     let mut now = Vec::new(memory.alloc);
     now.push(k)?;
     for component in selection.as_slice() {
@@ -215,13 +235,13 @@ fn run<'a>(
         (λ h. Halts (λ identities. RunsInner (Runs inner.now identities count) component)
         (k.entry ∷ []) h) }
 {
-    let outer = outer_of(memory.alloc, &k)?;
+    let outer = outer_of(&k)?;
     let mut from = Vec::new(memory.alloc);
-    from.push(enter(memory.alloc, component, false, k)?)?;
+    from.push(enter(component, false, k))?;
     let mut stops = Vec::new(memory.alloc);
     let done = sequence(memory, count, inner, from, &mut stops)?;
-    leave_all(memory.alloc, &outer, done, next)?;
-    Ok(split(memory.alloc, &outer, stops, next, failed)?)
+    leave_all(&outer, done, next)?;
+    Ok(split(&outer, stops, next, failed)?)
 }
 
 // Tries the branches in order.
@@ -245,7 +265,7 @@ fn try_each<'a>(
         (λ h. Halts (λ identities. Tries branches.now identities count place component)
         (k.entry ∷ []) h) }
 {
-    let outer = outer_of(memory.alloc, &k)?;
+    let outer = outer_of(&k)?;
     let outer = &outer;
     let mut now = Vec::new(memory.alloc);
     now.push(k)?;
@@ -288,8 +308,8 @@ fn one_branch<'a>(
     let inside = enter_all(memory.alloc, component, outer, from)?;
     let mut stops = Vec::new(memory.alloc);
     let done = sequence(memory, count, inner, inside, &mut stops)?;
-    leave_all(memory.alloc, outer, done, next)?;
+    leave_all(outer, done, next)?;
     let mut rest = Vec::new(memory.alloc);
-    split(memory.alloc, outer, stops, &mut rest, failed)?;
+    split(outer, stops, &mut rest, failed)?;
     Ok(rest)
 }

@@ -14,16 +14,16 @@ use Rattle.path_checker.proofs.judge_plan.procedure_walk.part.Goals as goal
 pub returns-in-Some-clause-ok : goal.returns-in-Some-clause-ok
 returns-in-Some-clause-ok c =
     subst (λ (o : Option (Bor SequenceTree)). IfOk c.sequence.result (λ v. Adds (FromStart (lent_tree o) c.args.count) c.args.from.items [] v.items c.args.failed.now.items c.sequence.new.failed.items)) (sym c.in-Some.is)
-    (IfOk-weaker c.sequence.result (λ v. Adds (runs_course c.in-Some.inner.now c.args.count) c.in_ok-started.started.items [] v.items c.args.failed.now.items c.sequence.new.failed.items) (λ v. Adds (FromStart c.in-Some.inner.now c.args.count) c.args.from.items [] v.items c.args.failed.now.items c.sequence.new.failed.items)
-    (λ v a. Adds-started c.in-Some.inner.now c.args.count c.args.from.items c.in_ok-started.started.items v.items c.args.failed.now.items c.sequence.new.failed.items c.in_ok-started.ensures a) c.sequence.ensures.ok)
+    (IfOk-weaker c.sequence.result (λ v. Adds (runs_course c.in-Some.inner.now c.args.count) c.restart_all-started.result.items [] v.items c.args.failed.now.items c.sequence.new.failed.items) (λ v. Adds (FromStart c.in-Some.inner.now c.args.count) c.args.from.items [] v.items c.args.failed.now.items c.sequence.new.failed.items)
+    (λ v a. Adds-started c.in-Some.inner.now c.args.count c.args.from.items c.restart_all-started.result.items v.items c.args.failed.now.items c.sequence.new.failed.items c.restart_all-started.ensures a) c.sequence.ensures.ok)
 
 pub returns-in-Some-clause-err : goal.returns-in-Some-clause-err
 returns-in-Some-clause-err c =
     subst (λ (o : Option (Bor SequenceTree)). IfErr c.sequence.result (λ h. Halts (FromStart (lent_tree o) c.args.count) c.args.from.items h)) (sym c.in-Some.is)
-    (IfErr-weaker c.sequence.result (λ h. Halts (runs_course c.in-Some.inner.now c.args.count) c.in_ok-started.started.items h) (λ h. Halts (FromStart c.in-Some.inner.now c.args.count) c.args.from.items h)
-    (λ h u. Halts-started c.in-Some.inner.now c.args.count c.args.from.items c.in_ok-started.started.items c.in_ok-started.ensures h u) c.sequence.ensures.err)
+    (IfErr-weaker c.sequence.result (λ h. Halts (runs_course c.in-Some.inner.now c.args.count) c.restart_all-started.result.items h) (λ h. Halts (FromStart c.in-Some.inner.now c.args.count) c.args.from.items h)
+    (λ h u. Halts-started c.in-Some.inner.now c.args.count c.args.from.items c.restart_all-started.result.items c.restart_all-started.ensures h u) c.sequence.ensures.err)
 
 pub returns-in-None-clause-ok : goal.returns-in-None-clause-ok
 returns-in-None-clause-ok c =
-    subst (λ (o : Option (Bor SequenceTree)). Adds (FromStart (lent_tree o) c.args.count) c.args.from.items [] c.in_ok-started.started.items c.args.failed.now.items c.args.failed.now.items) (sym c.in-None.is)
-    (Adds-absent c.args.count c.args.from.items c.in_ok-started.started.items c.args.failed.now.items c.in_ok-started.ensures)
+    subst (λ (o : Option (Bor SequenceTree)). Adds (FromStart (lent_tree o) c.args.count) c.args.from.items [] c.restart_all-started.result.items c.args.failed.now.items c.args.failed.now.items) (sym c.in-None.is)
+    (Adds-absent c.args.count c.args.from.items c.restart_all-started.result.items c.args.failed.now.items c.restart_all-started.ensures)

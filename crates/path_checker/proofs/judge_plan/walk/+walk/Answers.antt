@@ -13,11 +13,11 @@ use Rattle.suit_commands.specs.Smaller.{step_smaller, branch_smaller}
 use Rattle.path_checker.specs.Exploring.{Course, Stopped, Adds}
 use Rattle.path_checker.specs.Steps.{At}
 use Rattle.path_checker.specs.Halting.{Halts}
-use Rattle.path_checker.specs.Small.{IsSmallSequence, IsSmallCommand, AreSmallBranches}
+use Rattle.path_checker.specs.Small.{IsSmallSequence, IsSmallCommand, AreSmallBranches, AreSmall}
 use Rattle.path_checker.proofs.DirectiveLeaves.{never_true}
 use Rattle.path_checker.proofs.Smallness.{small_step, small_index, small_branch}
 use Rattle.path_checker.proofs.Walking.{Walks, Walks-start, Walks-step, Walks-stops, Walks-end, runs_course, does_course}
-use Rattle.path_checker.proofs.Popping.{Pops-step, Pops-halt, Pops-end, none_left, each_course, each_sole, does_each, Adds-same, Halts-same, Adds-index, Adds-at_index, Each-step, Each-stops}
+use Rattle.path_checker.proofs.Popping.{Pops-start, Pops-step, Pops-halt, Pops-moved, Pops-end, none_left, each_course, each_sole, does_each, Adds-same, Halts-same, Adds-index, Adds-at_index, Each-step, Each-stops}
 use Rattle.path_checker.proofs.Branching.{Trying, Trying-start, Trying-branch, Trying-halt, Trying-null, Trying-end, rest_course, at_some, at_none, Adds-run, Halts-run, Adds-branch, Adds-appended}
 use Rattle.path_checker.proofs.Merging.{Adds-states, Adds-behind, Walks-stops_merged}
 use Rattle.path_checker.proofs.judge_plan.walk.+walk.Goals as goal
@@ -29,15 +29,24 @@ pub all_at-returns-in_err-one-clause-err : goal.all_at-returns-in_err-one-clause
 all_at-returns-in_err-one-clause-err t c =
     let p = err_from_is_err_and c.from_residual.result c.from_residual.ensures.1 in rw (p.1, p.2) (Pops-halt (At (command_tree c.args.step.now.command) c.args.count c.args.step.now.place c.args.component) c.args.from.items c.args.failed.now.items c.loop-k.now.items c.pop.new.self.items c.loop-k.next.items c.loop-k.failed.items c.in-Some.k c.loop-k.invariant c.in-Some.ensures.items c.in_err-one.field-0.0 c.in_err-one.ensures.err)
 
-pub command-loop-k-preserved-in_ok-push-in-Index : goal.command-loop-k-preserved-in_ok-push-in-Index
-command-loop-k-preserved-in_ok-push-in-Index t c = Pops-step (does_course (command_tree c.args.step.now.command) c.args.count c.args.step.now.place) c.args.from.items c.args.failed.now.items c.loop-k.now.items c.pop.new.self.items c.loop-k.next.items c.loop-k.failed.items c.in-Some.k c.loop-k.invariant c.in-Some.ensures.items c.push.new.self.items c.loop-k.failed.items (Adds-index c.in-Some.k _ c.in-Index.selection c.args.count c.args.step.now.place c.args.step.now.command c.loop-k.next.items c.push.new.self.items c.loop-k.failed.items c.in-Index.is c.in_ok-select-in-Index.ensures c.in_ok-push-in-Index.ensures.items)
+pub command-loop-k-init : goal.command-loop-k-init
+command-loop-k-init t c = Pops-start (does_course (command_tree c.args.step.now.command) c.args.count c.args.step.now.place) c.args.from.items c.args.failed.now.items c.new-next.result.items c.new-next.ensures.items
+
+pub command-loop-k-preserved-in-Continue-1 : goal.command-loop-k-preserved-in-Continue-1
+command-loop-k-preserved-in-Continue-1 t c =
+    let w = Pops-moved (does_course (command_tree c.args.step.now.command) c.args.count c.args.step.now.place) c.args.from.items c.args.failed.now.items c.loop-k.now.items c.pop.new.self.items c.reuse.new.now.items c.loop-k.next.items c.reuse.new.next.items c.loop-k.failed.items c.in-Some.k c.loop-k.invariant c.in-Some.ensures.items c.reuse.ensures.now c.reuse.ensures.next in
+    Pops-step (does_course (command_tree c.args.step.now.command) c.args.count c.args.step.now.place) c.args.from.items c.args.failed.now.items c.loop-k.now.items c.reuse.new.now.items c.reuse.new.next.items c.loop-k.failed.items c.in-Some.k w.0 w.1 c.push.new.self.items c.loop-k.failed.items (Adds-index c.in-Some.k _ c.in-Index.selection c.args.count c.args.step.now.place c.args.step.now.command c.reuse.new.next.items c.push.new.self.items c.loop-k.failed.items c.in-Index.is c.select.ensures c.in_ok-push-in-Index.ensures.items)
 
 pub command-loop-k-preserved : goal.command-loop-k-preserved
-command-loop-k-preserved t c = Pops-step (does_course (command_tree c.args.step.now.command) c.args.count c.args.step.now.place) c.args.from.items c.args.failed.now.items c.loop-k.now.items c.pop.new.self.items c.loop-k.next.items c.loop-k.failed.items c.in-Some.k c.loop-k.invariant c.in-Some.ensures.items c.each.new.next.items c.each.new.failed.items (Adds-same c.in-Some.k (each_course (command_tree c.args.step.now.command) c.args.count c.args.step.now.place c.in-Some.k.state.selection) (does_course (command_tree c.args.step.now.command) c.args.count c.args.step.now.place) c.loop-k.next.items c.each.new.next.items c.loop-k.failed.items c.each.new.failed.items (does_each c.args.step.now.command c.in_default-command.not-Index c.args.count c.args.step.now.place c.in-Some.k) c.in_ok-each-in_default-command.ensures.ok)
+command-loop-k-preserved t c =
+    let w = Pops-moved (does_course (command_tree c.args.step.now.command) c.args.count c.args.step.now.place) c.args.from.items c.args.failed.now.items c.loop-k.now.items c.pop.new.self.items c.reuse.new.now.items c.loop-k.next.items c.reuse.new.next.items c.loop-k.failed.items c.in-Some.k c.loop-k.invariant c.in-Some.ensures.items c.reuse.ensures.now c.reuse.ensures.next in
+    Pops-step (does_course (command_tree c.args.step.now.command) c.args.count c.args.step.now.place) c.args.from.items c.args.failed.now.items c.loop-k.now.items c.reuse.new.now.items c.reuse.new.next.items c.loop-k.failed.items c.in-Some.k w.0 w.1 c.each.new.next.items c.each.new.failed.items (Adds-same c.in-Some.k (each_course (command_tree c.args.step.now.command) c.args.count c.args.step.now.place c.in-Some.k.state.selection) (does_course (command_tree c.args.step.now.command) c.args.count c.args.step.now.place) c.reuse.new.next.items c.each.new.next.items c.loop-k.failed.items c.each.new.failed.items (does_each c.args.step.now.command c.in_default-command.not-Index c.args.count c.args.step.now.place c.in-Some.k) c.in_ok-each-in_default-command.ensures.ok)
 
 pub command-returns-in_err-each-in_default-command : goal.command-returns-in_err-each-in_default-command
 command-returns-in_err-each-in_default-command t c =
-    let p = err_from_is_err_and c.from_residual-in_err-each-in_default-command.result c.from_residual-in_err-each-in_default-command.ensures.1 in rw (p.1, p.2) (record { ok = tt; err = Pops-halt (does_course (command_tree c.args.step.now.command) c.args.count c.args.step.now.place) c.args.from.items c.args.failed.now.items c.loop-k.now.items c.pop.new.self.items c.loop-k.next.items c.loop-k.failed.items c.in-Some.k c.loop-k.invariant c.in-Some.ensures.items c.in_err-each-in_default-command.field-0.0 (Halts-same c.in-Some.k (each_course (command_tree c.args.step.now.command) c.args.count c.args.step.now.place c.in-Some.k.state.selection) (does_course (command_tree c.args.step.now.command) c.args.count c.args.step.now.place) (does_each c.args.step.now.command c.in_default-command.not-Index c.args.count c.args.step.now.place c.in-Some.k) c.in_err-each-in_default-command.field-0.0 c.in_err-each-in_default-command.ensures.err) })
+    let p = err_from_is_err_and c.from_residual-in_err-each-in_default-command.result c.from_residual-in_err-each-in_default-command.ensures.1 in
+    let w = Pops-moved (does_course (command_tree c.args.step.now.command) c.args.count c.args.step.now.place) c.args.from.items c.args.failed.now.items c.loop-k.now.items c.pop.new.self.items c.reuse.new.now.items c.loop-k.next.items c.reuse.new.next.items c.loop-k.failed.items c.in-Some.k c.loop-k.invariant c.in-Some.ensures.items c.reuse.ensures.now c.reuse.ensures.next in
+    rw (p.1, p.2) (record { ok = tt; err = Pops-halt (does_course (command_tree c.args.step.now.command) c.args.count c.args.step.now.place) c.args.from.items c.args.failed.now.items c.loop-k.now.items c.reuse.new.now.items c.reuse.new.next.items c.loop-k.failed.items c.in-Some.k w.0 w.1 c.in_err-each-in_default-command.field-0.0 (Halts-same c.in-Some.k (each_course (command_tree c.args.step.now.command) c.args.count c.args.step.now.place c.in-Some.k.state.selection) (does_course (command_tree c.args.step.now.command) c.args.count c.args.step.now.place) (does_each c.args.step.now.command c.in_default-command.not-Index c.args.count c.args.step.now.place c.in-Some.k) c.in_err-each-in_default-command.field-0.0 c.in_err-each-in_default-command.ensures.err) })
 
 pub each-returns-in-Some-clause-ok : goal.each-returns-in-Some-clause-ok
 each-returns-in-Some-clause-ok t c =
@@ -51,11 +60,11 @@ each-returns-in-Some-clause-err t c =
 
 pub each-loop-component-init : goal.each-loop-component-init
 each-loop-component-init t c =
-    let whole : c.as_slice-component-items.result.now ≡ c.args.k.state.selection = c.as_slice-component-items.ensures.value ∙ c.in_ok-selection.ensures ∙ ap (λ k. k.state.selection) c.k.view_is in
+    let whole : c.as_slice-component-items.result.now ≡ c.args.k.state.selection = c.as_slice-component-items.ensures.value ∙ c.in_ok-selection.ensures.value ∙ ap (λ k. k.state.selection) c.k.view_is in
     let one : c.push.new.self.items ≡ c.args.k ∷ [] = c.in_ok-push.ensures.items ∙ ap (λ x. x ++ c.args.k ∷ []) c.new-now.ensures.items in
     record {
       whole = whole;
-      small = c.as_slice-component-items.ensures.small;
+      small = subst AreSmall (sym c.as_slice-component-items.ensures.value) c.in_ok-selection.ensures.small;
       walks = subst (λ cs. Walks (each_course (command_tree c.args.step.now.command) c.args.count c.args.step.now.place c.args.k.state.selection) (c.args.k ∷ []) c.args.failed.now.items (each_course (command_tree c.args.step.now.command) c.args.count c.args.step.now.place cs) c.push.new.self.items c.args.failed.now.items) (sym whole) (subst (λ n. Walks (each_course (command_tree c.args.step.now.command) c.args.count c.args.step.now.place c.args.k.state.selection) (c.args.k ∷ []) c.args.failed.now.items (each_course (command_tree c.args.step.now.command) c.args.count c.args.step.now.place c.args.k.state.selection) n c.args.failed.now.items) (sym one) (Walks-start (each_course (command_tree c.args.step.now.command) c.args.count c.args.step.now.place c.args.k.state.selection) (c.args.k ∷ []) c.args.failed.now.items));
     }
 
@@ -104,13 +113,13 @@ one-returns-in-Run-clause-err t c = subst (λ (m : Command). IfErr c.run.result 
 
 pub run-returns-in_err-done-clause-err : goal.run-returns-in_err-done-clause-err
 run-returns-in_err-done-clause-err t c =
-    let one : c.push.new.self.items ≡ c.in_ok-enter.field-0 ∷ [] = c.in_ok-push.ensures.items ∙ ap (λ x. x ++ c.in_ok-enter.field-0 ∷ []) c.new-from.ensures.items in
-    let p = err_from_is_err_and c.from_residual-in_err-done.result c.from_residual-in_err-done.ensures.1 in rw (p.1, p.2) (Halts-run (runs_course c.args.inner.now c.args.count) c.in_ok-outer.outer c.args.component c.args.k c.in_ok-enter.field-0 c.push.new.self.items c.in_ok-outer.ensures c.in_ok-enter.ensures one c.in_err-done.field-0.0 c.in_err-done.ensures.err)
+    let one : c.push.new.self.items ≡ c.enter.result ∷ [] = c.in_ok-push.ensures.items ∙ ap (λ x. x ++ c.enter.result ∷ []) c.new-from.ensures.items in
+    let p = err_from_is_err_and c.from_residual-in_err-done.result c.from_residual-in_err-done.ensures.1 in rw (p.1, p.2) (Halts-run (runs_course c.args.inner.now c.args.count) c.in_ok-outer.outer c.args.component c.args.k c.enter.result c.push.new.self.items c.in_ok-outer.ensures c.enter.ensures one c.in_err-done.field-0.0 c.in_err-done.ensures.err)
 
 pub run-returns-clause-ok : goal.run-returns-clause-ok
 run-returns-clause-ok t c =
-    let one : c.push.new.self.items ≡ c.in_ok-enter.field-0 ∷ [] = c.in_ok-push.ensures.items ∙ ap (λ x. x ++ c.in_ok-enter.field-0 ∷ []) c.new-from.ensures.items in
-    Adds-run (runs_course c.args.inner.now c.args.count) c.in_ok-outer.outer c.args.component c.args.k c.in_ok-enter.field-0 c.push.new.self.items c.in_ok-done.done.items c.args.next.now.items c.leave_all.new.next.items c.split.new.next.items c.sequence.new.failed.items c.args.failed.now.items c.split.new.failed.items c.new-stops.result.items c.in_ok-outer.ensures c.in_ok-enter.ensures one c.new-stops.ensures.items c.in_ok-done.ensures.ok c.in_ok-leave_all.ensures c.in_ok-split.ensures.soft c.in_ok-split.ensures.hard
+    let one : c.push.new.self.items ≡ c.enter.result ∷ [] = c.in_ok-push.ensures.items ∙ ap (λ x. x ++ c.enter.result ∷ []) c.new-from.ensures.items in
+    Adds-run (runs_course c.args.inner.now c.args.count) c.in_ok-outer.outer c.args.component c.args.k c.enter.result c.push.new.self.items c.in_ok-done.done.items c.args.next.now.items c.leave_all.new.next.items c.split.new.next.items c.sequence.new.failed.items c.args.failed.now.items c.split.new.failed.items c.new-stops.result.items c.in_ok-outer.ensures c.enter.ensures one c.new-stops.ensures.items c.in_ok-done.ensures.ok c.in_ok-leave_all.ensures c.in_ok-split.ensures.soft c.in_ok-split.ensures.hard
 
 pub sequence-loop-step-init : goal.sequence-loop-step-init
 sequence-loop-step-init t c = record {
@@ -139,8 +148,8 @@ sequence-loop-step-preserved t c = record {
 pub sequence-returns-clause-ok : goal.sequence-returns-clause-ok
 sequence-returns-clause-ok t c =
     let none : drop c.loop-step.step-index c.as_slice-step-items.result.now ≡ [] = drop_all c.loop-step.step-index c.as_slice-step-items.result.now c.loop-step-test.false in
-    Adds-behind (runs_course c.args.sequence.now c.args.count) c.args.from.items c.loop-step.now.items c.args.failed.now.items c.append.new.self.items c.loop-step.stops.items
-    (Walks-end (runs_course c.args.sequence.now c.args.count) c.args.from.items c.loop-step.now.items [] c.loop-step.stops.items (subst (λ xs. Walks (runs_course c.args.sequence.now c.args.count) c.args.from.items [] (runs_course (sequence_tree xs) c.args.count) c.loop-step.now.items c.loop-step.stops.items) none c.loop-step.invariant.walks)) c.in_ok-append.ensures.items
+    Adds-behind (runs_course c.args.sequence.now c.args.count) c.args.from.items c.loop-step.now.items c.args.failed.now.items c.join.new.failed.items c.loop-step.stops.items
+    (Walks-end (runs_course c.args.sequence.now c.args.count) c.args.from.items c.loop-step.now.items [] c.loop-step.stops.items (subst (λ xs. Walks (runs_course c.args.sequence.now c.args.count) c.args.from.items [] (runs_course (sequence_tree xs) c.args.count) c.loop-step.now.items c.loop-step.stops.items) none c.loop-step.invariant.walks)) c.in_ok-join.ensures
 
 pub try_each-loop-branch-init : goal.try_each-loop-branch-init
 try_each-loop-branch-init t c =
