@@ -3,7 +3,6 @@ use Rattle.std.proofs.Common.{◌≡◌, ℕ, ◌+◌, ◌-◌, ◌*◌, ◌^◌
 use Rattle.std.specs.List.{slice_range, All}
 use Rattle.std.specs.Prelude.{IfSome}
 use Rattle.std.proofs.lemmas.Bool.{le-ltb}
-use Rattle.std.proofs.lemmas.Nat.{from_be_bytes-to_be_bytes_8}
 use Rattle.std.proofs.lemmas.List.Elements.{All-head, All-tail, All-weaker}
 use Rattle.std.proofs.lemmas.List.{take_at, drop_at, take_all, append-nil, length-append, length-replicate}
 use Rattle.det_cbor.specs.HeadReading.{kind_of_major}
@@ -22,12 +21,13 @@ use Rattle.flash_layout.specs.declared.layout.Memory.{Memory}
 use Rattle.flash_layout.specs.declared.layout.Memory.TheVariants as memory
 use Rattle.flash_layout.specs.declared.key.Key.{Key}
 use Rattle.flash_layout.specs.Frames.{page_bytes}
-use Rattle.flash_layout.specs.Identifiers.{string_items, spelled_id}
+use Rattle.suit_params.specs.Identifiers.{string_items, spelled_id}
 use Rattle.flash_layout.specs.Layouts.{IsUuid, IsTypedEntry, AreTyped, IsEntry, IsLayout}
 use Rattle.suit_params.specs.declared.refusal.Refusal.{Refusal}
 use Rattle.flash_layout.specs.ConfigLaws.{OneConfig}
 use Rattle.flash_layout.specs.ConfigPage.{IsConfigPage, memory_byte, optional_id, number_bytes, entry_bytes, entries_bytes, config_page}
 use Rattle.flash_layout.specs.PageReading.{parts_from, identifier_at, memory_at, id_at, number_at, entry_at, entries_at, key_at, page_at}
+use Rattle.flash_layout.proofs.PageFields.{field, number_read, number_long}
 use Rattle.flash_layout.proofs.Spellings.{spelled_parts}
 
 -- ---- identifiers
@@ -88,9 +88,6 @@ identifier_read parts short =
 
 -- ---- fields of known lengths
 
-field : (before mid after whole : List ℕ) (i j : ℕ) → whole ≡ before ++ (mid ++ after) → length before ≡ i → length mid ≡ j - i → slice_range whole i j ≡ mid
-field before mid after whole i j is from to = rw (is, drop_at before (mid ++ after) i from) (take_at mid after (j - i) to)
-
 memory_read : (m : Memory) → memory_at (memory_byte m) ≡ m
 memory_read memory.Flash = refl
 memory_read memory.Ram = refl
@@ -102,14 +99,6 @@ id_read (Some id) is = ap (λ (l : List ℕ). Some l) (take_all 16 id (omega (ar
 id_long : (id : Option (List ℕ)) → IfSome id IsUuid → length (optional_id id) ≡ 17
 id_long None is = refl
 id_long (Some id) is = omega (arith, is)
-
-number_read : (n : ℕ) → n < 2 ^ 64 → number_at (number_bytes n) ≡ n
-unfolding number_at number_bytes
-number_read n fits = from_be_bytes-to_be_bytes_8 n fits
-
-number_long : (n : ℕ) → length (number_bytes n) ≡ 8
-unfolding number_bytes
-number_long n = refl
 
 pair_of : (xs : List ℕ) → length xs ≡ 2 → get_or xs 0 0 ∷ get_or xs 1 0 ∷ [] ≡ xs
 pair_of [] is = absurd cc

@@ -9,6 +9,7 @@ mod Loading
 mod OneAnswers
 pub mod OneLayout
 mod Overlapping
+pub mod PageFields
 mod Sharing
 mod Spellings
 mod Steps

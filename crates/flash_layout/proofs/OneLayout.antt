@@ -113,30 +113,20 @@ never_both size d layout _ p (BadEntries q f e r) =
     let same : q ≡ layout = ok_same q layout (sym e ∙ p.reads) in
     not_held size layout f p.held (subst (λ x. RefusesEntries size x f) same r)
 
-fault_cases : (size : ℕ) (d : Data) (f g : LayoutFault) → IsFaultOf size d g → RefusesLayout size d f → (g ≡ f) ⊎ (g ≡ NoMemory)
-fault_cases size d f (BadField t) h r = inl (once size d _ f h r)
-fault_cases size d f (BadHex t) h r = inl (once size d _ f h r)
-fault_cases size d f (BadUuid t) h r = inl (once size d _ f h r)
-fault_cases size d f (TooMany n) h r = inl (once size d _ f h r)
-fault_cases size d f (TwoAlike i j) h r = inl (once size d _ f h r)
-fault_cases size d f (Overlap i j) h r = inl (once size d _ f h r)
-fault_cases size d f (Outside i) h r = inl (once size d _ f h r)
-fault_cases size d f NoMemory h r = inr refl
+refused_or_short : (size : ℕ) (d : Data) (g : LayoutFault) → IsFaultOf size d g → RefusesLayout size d g ⊎ (g ≡ NoMemory)
+refused_or_short size d (BadField t) h = inl h
+refused_or_short size d (BadHex t) h = inl h
+refused_or_short size d (BadUuid t) h = inl h
+refused_or_short size d (TooMany n) h = inl h
+refused_or_short size d (TwoAlike i j) h = inl h
+refused_or_short size d (Overlap i j) h = inl h
+refused_or_short size d (Outside i) h = inl h
+refused_or_short size d NoMemory h = inr refl
 
 pub refused_for : (size : ℕ) (d : Data) (f : LayoutFault) (result : Result (List Entry) LayoutFault) → IfOk result (IsLayoutOf size d) → IfErr result (IsFaultOf size d) → RefusesLayout size d f → IsRefusedFor f result
 refused_for size d f (Ok layout) ok bad r = never_both size d layout f ok r
-refused_for size d f (Err g) ok bad r = fault_cases size d f g bad r
-
-accepted_case : (size : ℕ) (d : Data) (layout : List Entry) (g : LayoutFault) → IsLayoutOf size d layout → IsFaultOf size d g → g ≡ NoMemory
-accepted_case size d layout (BadField t) p h = absurd (never_both size d layout _ p h)
-accepted_case size d layout (BadHex t) p h = absurd (never_both size d layout _ p h)
-accepted_case size d layout (BadUuid t) p h = absurd (never_both size d layout _ p h)
-accepted_case size d layout (TooMany n) p h = absurd (never_both size d layout _ p h)
-accepted_case size d layout (TwoAlike i j) p h = absurd (never_both size d layout _ p h)
-accepted_case size d layout (Overlap i j) p h = absurd (never_both size d layout _ p h)
-accepted_case size d layout (Outside i) p h = absurd (never_both size d layout _ p h)
-accepted_case size d layout NoMemory p h = refl
+refused_for size d f (Err g) ok bad r = ⊎_elim (λ refused. inl (once size d g f refused r)) inr (refused_or_short size d g bad)
 
 pub accepted : (size : ℕ) (d : Data) (layout : List Entry) (result : Result (List Entry) LayoutFault) → IsLayoutOf size d layout → IfErr result (IsFaultOf size d) → IsAccepted result
 accepted size d layout (Ok other) p bad = tt
-accepted size d layout (Err g) p bad = accepted_case size d layout g p bad
+accepted size d layout (Err g) p bad = ⊎_elim (λ refused. absurd (never_both size d layout g p refused)) (λ short. short) (refused_or_short size d g bad)

@@ -3,7 +3,7 @@ use Rattle.std.proofs.Common.{◌≡◌, ℕ, ◌+◌, ◌<◌, List, [], ◌∷
 use Rattle.std.proofs.lemmas.List.{length-append}
 use Rattle.det_cbor.specs.Heads.{head_bytes}
 use Rattle.det_cbor.specs.DataItem.{item_count, spell_items}
-use Rattle.flash_layout.specs.Identifiers.{string_items, spelled_id}
+use Rattle.suit_params.specs.Identifiers.{string_items, spelled_id}
 
 pub count_of : (parts : List (List ℕ)) → item_count (string_items parts) ≡ length parts
 count_of [] = refl

@@ -22,9 +22,9 @@ use Rattle.flash_layout.specs.declared.component_name.ComponentName.TheVariants 
 use Rattle.flash_layout.specs.declared.component_fields.ComponentFields.{ComponentFields}
 use Rattle.flash_layout.specs.declared.device_fields.DeviceFields.{DeviceFields}
 use Rattle.flash_layout.specs.declared.starts.Starts.{Starts}
-use Rattle.flash_layout.specs.Identifiers.{spelled_id}
+use Rattle.suit_params.specs.Identifiers.{spelled_id}
 use Rattle.flash_layout.specs.Layouts.{IsInRam, IsOfMemory, IsLayout}
-use Rattle.flash_layout.specs.ComponentFields.{component_named, short_id, id_of, capacity_limit, some_capacity, capacity_of, no_starts, one_or_two, flash_starts, starts_of, no_component, memory_said, takes_known, takes_component, starts_in, whole, component_of}
+use Rattle.flash_layout.specs.ComponentFields.{component_named, short_id, id_of, capacity_limit, some_capacity, capacity_of, no_starts, one_or_two, flash_starts, starts_of, no_component, memory_said, takes_known, takes_component, starts_in, entry_with, whole, component_of}
 use Rattle.flash_layout.specs.Devices.{some_components, components_of, takes_device, described_layout}
 use Rattle.flash_layout.specs.Overlaps.{IsClearItself, LiesInside}
 use Rattle.flash_layout.specs.LayoutFaults.{AreHeld}
@@ -156,19 +156,6 @@ if_some P None x e h = absurd (true≢false (sym (ap has_some e)))
 
 required_ok : {A : Type 0} (key : List ℕ) (o : Option A) (x : A) → required key o ≡ Ok x → o ≡ Some x
 required_ok key o x e = found_ok Field o x (under_ok (key_token key) (found_or Field o) x e)
-
--- a component of these parts
-abbrev pub entry_with : ComponentFields → ℕ → List (List ℕ) → Memory → Starts → Entry
-entry_with t capacity id kind starts = record {
-  identifier = id;
-  memory = kind;
-  slots = starts.count;
-  starts = starts.places;
-  capacity = capacity;
-  vendor = t.vendor;
-  class = t.class;
-  device = t.device;
-}
 
 formed_is : (t : ComponentFields) (capacity : ℕ) (id : List (List ℕ)) (kind : Memory) (s : Starts) → AreSound (Some kind) t → IsCapacity (Some kind) capacity → starts_in kind t.slots ≡ Ok s
     → IsFormed (entry_with t capacity id kind s) kind

@@ -18,7 +18,7 @@ use Rattle.flash_layout.specs.declared.component_name.ComponentName.{ComponentNa
 use Rattle.flash_layout.specs.declared.component_name.ComponentName.TheVariants as names
 use Rattle.flash_layout.specs.declared.component_fields.ComponentFields.{ComponentFields}
 use Rattle.flash_layout.specs.declared.starts.Starts.{Starts}
-use Rattle.flash_layout.specs.Identifiers.{spelled_id}
+use Rattle.suit_params.specs.Identifiers.{spelled_id}
 
 -- ---- names
 
@@ -117,20 +117,24 @@ abbrev pub starts_in : Memory → Option Starts → Result Starts Flaw
 starts_in memory.Flash starts = required (codes "slots") starts
 starts_in memory.Ram starts = Ok no_starts
 
+-- a component of these parts
+abbrev pub entry_with : ComponentFields → ℕ → List (List ℕ) → Memory → Starts → Entry
+entry_with t capacity id kind starts = record {
+  identifier = id;
+  memory = kind;
+  slots = starts.count;
+  starts = starts.places;
+  capacity = capacity;
+  vendor = t.vendor;
+  class = t.class;
+  device = t.device;
+}
+
 abbrev pub whole : ComponentFields → Result Entry Flaw
 whole t =
     required (codes "capacity") t.capacity >>= λ capacity. required (codes "id") t.id >>= λ id.
     required (codes "kind") t.memory >>= λ kind. starts_in kind t.slots >>= λ starts.
-    Ok (record {
-      identifier = id;
-      memory = kind;
-      slots = starts.count;
-      starts = starts.places;
-      capacity = capacity;
-      vendor = t.vendor;
-      class = t.class;
-      device = t.device;
-    })
+    Ok (entry_with t capacity id kind starts)
 
 abbrev pub component_of : Data → Result Entry Flaw
 component_of d = object_of takes_component (no_component (memory_said d)) d >>= λ t. whole t

@@ -8,7 +8,7 @@ use Rattle.flash_layout.specs.declared.layout.Memory.{Memory}
 use Rattle.flash_layout.specs.declared.layout.Memory.TheVariants as memory
 use Rattle.flash_layout.specs.declared.key.Key.{Key}
 use Rattle.flash_layout.specs.Frames.{entries_size}
-use Rattle.flash_layout.specs.Identifiers.{spelled_id}
+use Rattle.suit_params.specs.Identifiers.{spelled_id}
 use Rattle.flash_layout.specs.Layouts.{IsLayout, IsKey}
 
 -- with zeros after the bytes, so many in all

@@ -6,7 +6,7 @@ use Rattle.flash_layout.specs.declared.layout.Entry.{Entry}
 use Rattle.flash_layout.specs.declared.layout.Memory.{Memory}
 use Rattle.flash_layout.specs.declared.layout.Memory.TheVariants as memory
 use Rattle.flash_layout.specs.declared.key.Key.{Key}
-use Rattle.flash_layout.specs.Identifiers.{spelled_id}
+use Rattle.suit_params.specs.Identifiers.{spelled_id}
 
 -- ---- slots
 

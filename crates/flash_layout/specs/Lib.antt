@@ -1,6 +1,5 @@
 pub mod Frames
 pub mod FrameLaws
-pub mod Identifiers
 pub mod Layouts
 pub mod Slots
 pub mod ConfigPage

@@ -3,14 +3,14 @@
 ghost use Rattle.std.specs.Prelude.{◌≡◌};
 ghost use Rattle.serde_json.specs.View.{view};
 ghost use Rattle.json_fields.specs.Answers.{Gives};
-ghost use Rattle.flash_layout.specs.ComponentFields.{memory_said, capacity_limit, capacity_of, no_component, starts_in, whole, component_of};
+ghost use Rattle.flash_layout.specs.ComponentFields.{memory_said, capacity_limit, capacity_of, no_component, starts_in, whole};
 
 use crate::component_name::{ComponentName, component_named, memory_named};
 use crate::id_text::id;
 use crate::rules::MAX_RAM;
 use crate::starts::{Starts, starts_of};
 use crate::{Entry, Memory};
-use json_fields::{Draft, FlawKind, JsonFault, flawed, number, object, required, uuid};
+use json_fields::{Draft, FlawKind, Form, JsonFault, flawed, number, object, required, uuid};
 use serde_json::Value;
 use std::alloc::Global;
 use suit_params::Identifier;
@@ -135,12 +135,21 @@ fn whole(alloc: Global, fields: ComponentFields) -> Result<Entry, JsonFault>
     })
 }
 
-/// A component.
-pub(crate) fn component(alloc: Global, value: &Value) -> Result<Entry, JsonFault>
-    ensures { Gives (λ e. e) result (component_of (view value.now)) }
-{
-    let mut fields = no_component(memory_said(value));
-    object(alloc, value, &mut fields)?;
-    let entry = whole(alloc, fields)?;
-    Ok(entry)
+/// A component of a device.
+#[derive(Drop)]
+pub(crate) struct OneComponent;
+
+impl Form for OneComponent {
+    type Item = Entry;
+
+    ghost use Rattle.flash_layout.specs.ComponentFields.{component_of};
+
+    ghost reads = { λ _ d. component_of d };
+
+    fn read(&self, alloc: Global, value: &Value) -> Result<Entry, JsonFault> {
+        let mut fields = no_component(memory_said(value));
+        object(alloc, value, &mut fields)?;
+        let entry = whole(alloc, fields)?;
+        Ok(entry)
+    }
 }

@@ -1,17 +1,17 @@
 //! Values of JSON as layouts.
 
-ghost use Rattle.std.specs.Prelude.{◌≤◌, All, IfOk, IfErr, MatchResult, List};
+ghost use Rattle.std.specs.Prelude.{◌≡◌, ◌≤◌, All, IfOk, IfErr, MatchResult, List};
 ghost use Rattle.serde_json.specs.View.{view};
 ghost use Rattle.flash_layout.specs.declared.layout.Entry.{Entry};
 ghost use Rattle.flash_layout.specs.declared.layout_fault.LayoutFault.{LayoutFault};
 ghost use Rattle.flash_layout.specs.Layouts.{IsLayout};
-ghost use Rattle.flash_layout.specs.LayoutFaults.{AreHeld, RefusesEntries, IsLayoutOf, RefusesLayout, IsFaultOf, IsAccepted, IsRefusedFor};
+ghost use Rattle.flash_layout.specs.LayoutFaults.{AreHeld, RefusesEntries, IsLayoutOf, RefusesLayout, IsFaultOf, fault_told, IsAccepted, IsRefusedFor};
 
 use crate::device_fields::device;
 use crate::first_faults::{first_alike, first_outside, first_overlap};
 use crate::frame::{MAX_ENTRIES, VERSION_1};
-use crate::layout_fault::told;
 use crate::{Layout, LayoutFault};
+use json_fields::{FlawKind, JsonFault};
 use serde_json::Value;
 use std::alloc::Global;
 
@@ -34,6 +34,20 @@ fn judge(size: u64, layout: &Layout) -> Result<(), LayoutFault>
     match first_outside(size, entries) {
         Some(component) => Err(LayoutFault::Outside(component)),
         None => Ok(()),
+    }
+}
+
+// The fault for a flaw of the fields.
+fn told(fault: JsonFault) -> LayoutFault
+    ensures { result ≡ fault_told fault }
+{
+    match fault {
+        JsonFault::NoMemory => LayoutFault::NoMemory,
+        JsonFault::Flawed(flaw) => match flaw.kind {
+            FlawKind::Field => LayoutFault::BadField(flaw.pointer),
+            FlawKind::Hex => LayoutFault::BadHex(flaw.pointer),
+            FlawKind::Uuid => LayoutFault::BadUuid(flaw.pointer),
+        },
     }
 }
 

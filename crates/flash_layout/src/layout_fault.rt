@@ -1,10 +1,6 @@
 //! Why a value describes no layout.
 
-ghost use Rattle.std.specs.Prelude.{◌≡◌};
-ghost use Rattle.flash_layout.specs.LayoutFaults.{fault_told};
-
 use det_cbor::Text;
-use json_fields::{FlawKind, JsonFault};
 
 /// Why a value describes no layout of a flash. The texts are JSON Pointers (RFC 6901): where the first wrong value
 /// stands. Components go by their numbers.
@@ -25,18 +21,4 @@ pub enum LayoutFault {
     /// The first component with a slot that starts in the head of the flash or ends behind the flash.
     Outside(u32),
     NoMemory,
-}
-
-/// The fault for a flaw of the fields.
-pub(crate) fn told(fault: JsonFault) -> LayoutFault
-    ensures { result ≡ fault_told fault }
-{
-    match fault {
-        JsonFault::NoMemory => LayoutFault::NoMemory,
-        JsonFault::Flawed(flaw) => match flaw.kind {
-            FlawKind::Field => LayoutFault::BadField(flaw.pointer),
-            FlawKind::Hex => LayoutFault::BadHex(flaw.pointer),
-            FlawKind::Uuid => LayoutFault::BadUuid(flaw.pointer),
-        },
-    }
 }

@@ -6,11 +6,12 @@ ghost use Rattle.flash_layout.specs.declared.layout.Entry.{Entry};
 ghost use Rattle.flash_layout.specs.declared.key.Key.{Key};
 ghost use Rattle.flash_layout.specs.ConfigPage.{IsConfigPage};
 ghost use Rattle.flash_layout.specs.Layouts.{AreTyped};
-ghost use Rattle.flash_layout.specs.PageReading.{entries_at, entry_at, id_at, key_at, memory_at, number_at, page_at};
+ghost use Rattle.flash_layout.specs.PageReading.{entries_at, entry_at, id_at, key_at, memory_at, page_at};
 
 use crate::frame::{ENTRY_SIZE, FRONT_SIZE, MAX_ENTRIES, PAGE_BYTES, VERSION_1};
 use crate::id_reading::read_identifier;
 use crate::key::is_key;
+use crate::page::read_number;
 use crate::page_writing::write_page;
 use crate::rules::is_layout;
 use crate::typing::typed;
@@ -39,16 +40,6 @@ fn read_id(bytes: &[u8]) -> Option<[u8; 16]>
     let mut id = [0; 16];
     id.copy_from_slice(&bytes[1..17]);
     Some(id)
-}
-
-#[tactic(auto, unfolding(crate::specs::PageReading::number_at))]
-fn read_number(bytes: &[u8]) -> u64
-    requires { length bytes.now ≡ 8 }
-    ensures { result ≡ number_at bytes.now }
-{
-    let mut number = [0; 8];
-    number.copy_from_slice(bytes);
-    u64::from_be_bytes(number)
 }
 
 // A component.

@@ -1,8 +1,8 @@
 //! How the configuration page is spelled.
 
 ghost use Rattle.std.specs.Prelude.{◌≡◌, ◌≤◌, ◌+◌, ◌*◌, ◌∷◌, ◌++◌, All, length, slice_index};
-ghost use Rattle.flash_layout.specs.Identifiers.{spelled_id};
-ghost use Rattle.flash_layout.specs.ConfigPage.{config_page, entries_bytes, entry_bytes, identifier_field, ids_field, memory_byte, number_bytes, numbers_field, optional_id, padded, page_front};
+ghost use Rattle.suit_params.specs.Identifiers.{spelled_id};
+ghost use Rattle.flash_layout.specs.ConfigPage.{config_page, entries_bytes, entry_bytes, identifier_field, ids_field, memory_byte, numbers_field, optional_id, padded, page_front};
 
 use crate::frame::{ENTRIES_SIZE, ENTRY_SIZE, FRONT_SIZE, MAX_ENTRIES, PAGE_BYTES, VERSION_1};
 use crate::page::Page;
@@ -12,7 +12,7 @@ use suit_edge::OPEN;
 use suit_params::Identifier;
 
 // Adds the length of an identifier's spelling, and the spelling with zeros after it.
-fn put_spelling(page: &mut Page, spelling: &[u8])
+fn put_spelling(page: &mut Page<PAGE_BYTES>, spelling: &[u8])
     requires short { length spelling.now ≤ 64 }
     requires room { length page.old + 65 ≤ PAGE_BYTES }
     ensures bytes { page.new ≡ page.old ++ length spelling.now ∷ padded 64 spelling.now }
@@ -24,7 +24,7 @@ fn put_spelling(page: &mut Page, spelling: &[u8])
 }
 
 // Adds an identifier.
-fn put_identifier(page: &mut Page, identifier: &Identifier)
+fn put_identifier(page: &mut Page<PAGE_BYTES>, identifier: &Identifier)
     requires short { length (spelled_id identifier.now) ≤ 64 }
     requires room { length page.old + 65 ≤ PAGE_BYTES }
     ensures bytes { page.new ≡ page.old ++ identifier_field identifier.now }
@@ -37,7 +37,7 @@ fn put_identifier(page: &mut Page, identifier: &Identifier)
 }
 
 // Adds a UUID.
-fn put_uuid(page: &mut Page, id: &[u8; 16])
+fn put_uuid(page: &mut Page<PAGE_BYTES>, id: &[u8; 16])
     requires { length page.old + 17 ≤ PAGE_BYTES }
     ensures bytes { page.new ≡ page.old ++ 1 ∷ id.now }
     ensures long { length page.new ≡ length page.old + 17 }
@@ -47,7 +47,7 @@ fn put_uuid(page: &mut Page, id: &[u8; 16])
 }
 
 // Adds a UUID, or that there is none.
-fn put_id(page: &mut Page, id: &Option<[u8; 16]>)
+fn put_id(page: &mut Page<PAGE_BYTES>, id: &Option<[u8; 16]>)
     requires { length page.old + 17 ≤ PAGE_BYTES }
     ensures bytes { page.new ≡ page.old ++ optional_id id.now }
     ensures long { length page.new ≡ length page.old + 17 }
@@ -59,7 +59,7 @@ fn put_id(page: &mut Page, id: &Option<[u8; 16]>)
 }
 
 // Adds the three UUIDs of a component.
-fn put_ids(page: &mut Page, entry: &Entry)
+fn put_ids(page: &mut Page<PAGE_BYTES>, entry: &Entry)
     requires { length page.old + 51 ≤ PAGE_BYTES }
     ensures bytes { page.new ≡ page.old ++ ids_field entry.now }
     ensures long { length page.new ≡ length page.old + 51 }
@@ -69,25 +69,15 @@ fn put_ids(page: &mut Page, entry: &Entry)
     put_id(page, &entry.device);
 }
 
-// Adds a number in eight bytes.
-#[tactic(auto, unfolding(crate::specs::ConfigPage::number_bytes))]
-fn put_number(page: &mut Page, number: u64)
-    requires { length page.old + 8 ≤ PAGE_BYTES }
-    ensures bytes { page.new ≡ page.old ++ number_bytes number }
-    ensures long { length page.new ≡ length page.old + 8 }
-{
-    page.put(&number.to_be_bytes());
-}
-
 // Adds a component's capacity, and where its slots start.
-fn put_numbers(page: &mut Page, entry: &Entry)
+fn put_numbers(page: &mut Page<PAGE_BYTES>, entry: &Entry)
     requires { length page.old + 24 ≤ PAGE_BYTES }
     ensures bytes { page.new ≡ page.old ++ numbers_field entry.now }
     ensures long { length page.new ≡ length page.old + 24 }
 {
-    put_number(page, entry.capacity);
-    put_number(page, entry.starts[0]);
-    put_number(page, entry.starts[1]);
+    page.put_number(entry.capacity);
+    page.put_number(entry.starts[0]);
+    page.put_number(entry.starts[1]);
 }
 
 // The byte of a memory.
@@ -102,7 +92,7 @@ fn memory_byte(memory: Memory) -> u8
 
 // Adds a component.
 #[tactic(auto, unfolding(crate::specs::ConfigPage::entry_bytes))]
-fn put_entry(page: &mut Page, entry: &Entry)
+fn put_entry(page: &mut Page<PAGE_BYTES>, entry: &Entry)
     requires short { length (spelled_id entry.now.identifier) ≤ 64 }
     requires room { length page.old + ENTRY_SIZE ≤ PAGE_BYTES }
     ensures bytes { page.new ≡ page.old ++ entry_bytes entry.now }
@@ -115,7 +105,7 @@ fn put_entry(page: &mut Page, entry: &Entry)
 }
 
 // Adds components.
-fn put_entries(page: &mut Page, entries: &[Entry])
+fn put_entries(page: &mut Page<PAGE_BYTES>, entries: &[Entry])
     requires short { All (λ e. length (spelled_id e.identifier) ≤ 64) entries.now }
     requires room { length page.old + ENTRY_SIZE * length entries.now ≤ PAGE_BYTES }
     ensures bytes { page.new ≡ page.old ++ entries_bytes entries.now }
@@ -127,7 +117,7 @@ fn put_entries(page: &mut Page, entries: &[Entry])
 }
 
 // Adds the open gate, the version, the lengths and the key.
-fn put_front(page: &mut Page, count: u8, key: &Key)
+fn put_front(page: &mut Page<PAGE_BYTES>, count: u8, key: &Key)
     requires { length page.old + FRONT_SIZE ≤ PAGE_BYTES }
     ensures bytes { page.new
         ≡ page.old ++ OPEN ∷ VERSION_1.version ∷ key.now.length ∷ count ∷ key.now.bytes }
@@ -139,7 +129,7 @@ fn put_front(page: &mut Page, count: u8, key: &Key)
 
 /// The page of a layout and a key, with its gate open. Takes no memory.
 #[tactic(auto, unfolding(crate::specs::ConfigPage::config_page))]
-pub(crate) fn write_page(layout: &Layout, key: &Key) -> Page
+pub(crate) fn write_page(layout: &Layout, key: &Key) -> Page<PAGE_BYTES>
     requires few { length layout.now ≤ MAX_ENTRIES }
     requires short { All (λ e. length (spelled_id e.identifier) ≤ 64) layout.now }
     ensures bytes { result ≡ config_page VERSION_1 layout.now key.now }

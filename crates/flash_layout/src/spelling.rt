@@ -3,7 +3,7 @@
 ghost use Rattle.std.specs.Prelude.{◌≡◌, ◌≤◌, ◌<◌, ◌+◌, [], ◌∷◌, ◌++◌, length, OnOk, OnErr, IfOk, IfErr, IsOk, IsTrue, ◌↔◌};
 ghost use Rattle.det_cbor.specs.DataItem.{spell_items};
 ghost use Rattle.det_cbor.specs.Heads.{head_bytes};
-ghost use Rattle.flash_layout.specs.Identifiers.{spelled_id, string_items};
+ghost use Rattle.suit_params.specs.Identifiers.{spelled_id, string_items};
 
 use det_cbor::Bytes;
 use std::marker::Model;

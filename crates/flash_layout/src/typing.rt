@@ -5,16 +5,18 @@ ghost use Rattle.flash_layout.specs.Layouts.{AreTyped, IsTypedEntry, IsUuid};
 
 use crate::{Entry, Key, Layout};
 
-fn in_range(number: u64)
+/// A number of the code is in the range of its type.
+pub fn in_range(number: u64)
     ensures { number < 2 ^ 64 }
 {
     let _ = number;
 }
 
-fn sized(id: &[u8; 16])
-    ensures { length id.now ≡ 16 }
+/// Bytes of the code are as many as their type says.
+pub fn sized<const COUNT: usize>(bytes: &[u8; COUNT])
+    ensures { length bytes.now ≡ COUNT }
 {
-    let _ = id;
+    let _ = bytes;
 }
 
 fn is_uuid(id: &Option<[u8; 16]>)
@@ -53,16 +55,10 @@ fn entries(layout: &Layout)
     }
 }
 
-fn room(bytes: &[u8; 64])
-    ensures { length bytes.now ≡ 64 }
-{
-    let _ = bytes;
-}
-
 /// A layout and a key of the code have fields of the lengths and ranges of their types.
 pub(crate) fn typed(layout: &Layout, key: &Key)
     ensures { AreTyped layout.now key.now }
 {
     entries(layout);
-    room(&key.bytes);
+    sized(&key.bytes);
 }

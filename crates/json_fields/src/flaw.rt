@@ -3,6 +3,13 @@
 use det_cbor::Text;
 use std::alloc::AllocError;
 
+/// Why a value was not read.
+#[derive(Debug, Drop)]
+pub enum JsonFault {
+    Flawed(Flaw),
+    NoMemory,
+}
+
 /// The flaw of a value.
 #[derive(Clone, Copy, Debug, PartialEq, Eq)]
 pub enum FlawKind {
@@ -21,13 +28,6 @@ pub struct Flaw {
     /// Where it is, from the value that was read: a JSON Pointer (RFC 6901). A missing field has the place that it
     /// would have.
     pub pointer: Text,
-}
-
-/// Why a value was not read.
-#[derive(Debug, Drop)]
-pub enum JsonFault {
-    Flawed(Flaw),
-    NoMemory,
 }
 
 impl From<AllocError> for JsonFault {

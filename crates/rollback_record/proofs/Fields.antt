@@ -1,25 +1,14 @@
 -- The fields spelled on a record page are read back.
-use Rattle.std.proofs.Common.{◌≡◌, ℕ, ◌-◌, ◌^◌, ◌<◌, List, [], ◌∷◌, ◌++◌, length, get_or, replicate, refl, sym, ap, ◌∙◌, append_assoc, arith}
+use Rattle.std.proofs.Common.{◌≡◌, ℕ, ◌-◌, List, [], ◌∷◌, ◌++◌, length, get_or, replicate, refl, sym, ap, ◌∙◌, append_assoc, arith}
 use Rattle.std.specs.List.{slice_range}
-use Rattle.std.proofs.lemmas.Nat.{from_be_bytes-to_be_bytes_8}
 use Rattle.std.proofs.lemmas.List.Edits.{get_or-between}
-use Rattle.std.proofs.lemmas.List.{take_at, drop_at, append-nil, length-append, length-replicate}
+use Rattle.std.proofs.lemmas.List.{append-nil, length-append, length-replicate}
 use Rattle.flash_layout.specs.declared.frame.Frame.{Frame}
 use Rattle.flash_layout.specs.declared.slot.Record.{Record}
 use Rattle.flash_layout.specs.ConfigPage.{number_bytes}
 use Rattle.flash_layout.specs.PageReading.{number_at}
+use Rattle.flash_layout.proofs.PageFields.{field, number_read, number_long}
 use Rattle.rollback_record.specs.RecordPage.{IsTypedRecord, IsRecordPage, record_body, fields_at}
-
-field : (before mid after whole : List ℕ) (i j : ℕ) → whole ≡ before ++ (mid ++ after) → length before ≡ i → length mid ≡ j - i → slice_range whole i j ≡ mid
-field before mid after whole i j is from to = rw (is, drop_at before (mid ++ after) i from) (take_at mid after (j - i) to)
-
-number_read : (n : ℕ) → n < 2 ^ 64 → number_at (number_bytes n) ≡ n
-unfolding number_at number_bytes
-number_read n fits = from_be_bytes-to_be_bytes_8 n fits
-
-number_long : (n : ℕ) → length (number_bytes n) ≡ 8
-unfolding number_bytes
-number_long n = refl
 
 same_record : (a b : Record) → a.generation ≡ b.generation → a.sequence ≡ b.sequence → a.bank ≡ b.bank → a.length ≡ b.length → a.digest.bytes ≡ b.digest.bytes → a.active ≡ b.active → a ≡ b
 same_record a b p q r s t u = λ i. record { generation = p i; sequence = q i; bank = r i; length = s i; digest = record { bytes = t i }; active = u i }

@@ -1,13 +1,10 @@
 //! The bytes of a record page, and how they are read and put together without memory.
 
-ghost use Rattle.flash_layout.specs.ConfigPage.{number_bytes};
-ghost use Rattle.flash_layout.specs.PageReading.{number_at};
 ghost use Rattle.rollback_record.specs.RecordPage.{HasSecondSlot, IsActiveSlot, IsInRange, IsRecordPage, bank_field, digest_field, fields_at, numbers_field, record_body};
-ghost use Rattle.std.specs.Prelude.{◌≡◌, ◌↔◌, ◌≤◌, ◌<◌, ◌+◌, ℕ, [], ◌∷◌, ◌++◌, drop, Some, IfSome, IsTrue, length, slice_index};
+ghost use Rattle.std.specs.Prelude.{◌≡◌, ◌↔◌, ◌≤◌, ◌<◌, ◌+◌, ℕ, ◌∷◌, ◌++◌, Some, IfSome, IsTrue, length, slice_index};
 
 use crate::typing::typed;
-use flash_layout::{ENTRY_SIZE, FRONT_SIZE, PAGE_BYTES, Record, VERSION_1};
-use std::marker::Model;
+use flash_layout::{ENTRY_SIZE, FRONT_SIZE, PAGE_BYTES, Page, Record, VERSION_1, read_number};
 use suit_edge::OPEN;
 use suit_params::Digest;
 
@@ -17,94 +14,28 @@ pub const RECORD_BYTES: usize = 99;
 /// The bytes of the configuration page.
 pub(crate) const CONFIG_BYTES: usize = PAGE_BYTES;
 
-/// Up to so many bytes.
-#[derive(Drop)]
-pub(crate) struct Page {
-    room: [u8; RECORD_BYTES],
-    used: usize,
-}
-
-impl Model for Page {
-    ghost use Rattle.std.specs.Prelude.{List, ℕ, ◌≤◌, take};
-    ghost use Rattle.rollback_record.specs.declared.page.TheConstants.{RECORD_BYTES};
-
-    ghost Value = { List ℕ };
-
-    ghost view = { λ p. take p.used p.room };
-
-    ghost invariant = { λ p. p.used ≤ RECORD_BYTES };
-}
-
-impl Page {
-    // No bytes.
-    fn new() -> Page
-        ensures { result ≡ [] }
-    {
-        Page {
-            room: [0; RECORD_BYTES],
-            used: 0,
-        }
-    }
-
-    // Adds bytes at the end.
-    fn put(&mut self, bytes: &[u8])
-        requires { length self.old + length bytes.now ≤ RECORD_BYTES }
-        ensures bytes { self.new ≡ self.old ++ bytes.now }
-        ensures long { length self.new ≡ length self.old + length bytes.now }
-    {
-        let end = self.used + bytes.len();
-        self.room[self.used..end].copy_from_slice(bytes);
-        self.used = end;
-    }
-
-    /// The bytes, lent.
-    pub(crate) fn as_slice(&self) -> &[u8]
-        ensures { result.now ≡ self.now }
-    {
-        &self.room[..self.used]
-    }
-
-    /// The bytes behind the gate, lent.
-    pub(crate) fn body(&self) -> &[u8]
-        requires { 1 ≤ length self.now }
-        ensures { result.now ≡ drop 1 self.now }
-    {
-        &self.room[1..self.used]
-    }
-}
-
-// Adds a number in eight bytes.
-#[tactic(auto, unfolding(flash_layout::specs::ConfigPage::number_bytes))]
-fn put_number(page: &mut Page, number: u64)
-    requires { length page.old + 8 ≤ RECORD_BYTES }
-    ensures bytes { page.new ≡ page.old ++ number_bytes number }
-    ensures long { length page.new ≡ length page.old + 8 }
-{
-    page.put(&number.to_be_bytes());
-}
-
 // Adds the generation and the number.
-fn put_numbers(page: &mut Page, installed: &Record)
+fn put_numbers(page: &mut Page<RECORD_BYTES>, installed: &Record)
     requires { length page.old + 16 ≤ RECORD_BYTES }
     ensures bytes { page.new ≡ page.old ++ numbers_field installed.now }
     ensures long { length page.new ≡ length page.old + 16 }
 {
-    put_number(page, installed.generation);
-    put_number(page, installed.sequence);
+    page.put_number(installed.generation);
+    page.put_number(installed.sequence);
 }
 
 // Adds the bank, and how many of its bytes are used.
-fn put_bank(page: &mut Page, installed: &Record)
+fn put_bank(page: &mut Page<RECORD_BYTES>, installed: &Record)
     requires { length page.old + 9 ≤ RECORD_BYTES }
     ensures bytes { page.new ≡ page.old ++ bank_field installed.now }
     ensures long { length page.new ≡ length page.old + 9 }
 {
     page.put(&[installed.bank]);
-    put_number(page, installed.length);
+    page.put_number(installed.length);
 }
 
 // Adds the digest.
-fn put_digest(page: &mut Page, digest: &[u8; 32])
+fn put_digest(page: &mut Page<RECORD_BYTES>, digest: &[u8; 32])
     requires { length page.old + 65 ≤ RECORD_BYTES }
     ensures bytes { page.new ≡ page.old ++ digest_field digest.now }
     ensures long { length page.new ≡ length page.old + 65 }
@@ -116,7 +47,7 @@ fn put_digest(page: &mut Page, digest: &[u8; 32])
 
 /// The page of a record, with its gate open.
 #[tactic(auto, unfolding(crate::specs::RecordPage::record_body))]
-pub(crate) fn spell(installed: &Record) -> Page
+pub(crate) fn spell(installed: &Record) -> Page<RECORD_BYTES>
     ensures bytes { result ≡ OPEN ∷ record_body installed.now }
     ensures long { length result ≡ RECORD_BYTES }
 {
@@ -127,16 +58,6 @@ pub(crate) fn spell(installed: &Record) -> Page
     put_digest(&mut page, &installed.digest.bytes);
     page.put(&installed.active);
     page
-}
-
-#[tactic(auto, unfolding(flash_layout::specs::PageReading::number_at))]
-fn read_number(bytes: &[u8]) -> u64
-    requires { length bytes.now ≡ 8 }
-    ensures { result ≡ number_at bytes.now }
-{
-    let mut number = [0; 8];
-    number.copy_from_slice(bytes);
-    u64::from_be_bytes(number)
 }
 
 // The fields, without a judgement.

@@ -107,7 +107,7 @@ pub fn commit<D: Disk>(disk: &mut D, held: Option<&Record>, new: &Record) -> Res
     };
     let gate = record_page(which);
     let page = spell(new);
-    match write_gated(disk, gate, gate + 1, page.body()) {
+    match write_gated(disk, gate, gate + 1, page.behind_gate()) {
         Edge::Failed => Err(FlashFault),
         Edge::Done => Ok(()),
     }

@@ -1,6 +1,6 @@
 use Rattle.std.proofs.Common.{◌≡◌, ◌++◌, drop}
 use Rattle.det_cbor.specs.DataItem.{spell_items}
-use Rattle.flash_layout.specs.Identifiers.{string_items}
+use Rattle.suit_params.specs.Identifiers.{string_items}
 use Rattle.flash_layout.proofs.spelling.put_strings.Given as goal
 
 -- the rest makes the whole
