@@ -6,6 +6,7 @@ ghost use Rattle.json_fields.specs.Answers.{Gives};
 ghost use Rattle.author.specs.FileValues.{file_named, digest_of, size_of, content_of};
 
 use crate::FileList;
+use crate::file_list::bytes_of;
 use det_cbor::{Bytes, Text};
 use json_fields::{
     Draft, FlawKind, JsonFault, flawed, hex, number, object, required, sized_hex, text,
@@ -19,6 +20,15 @@ use suit_params::Digest;
 #[derive(Drop)]
 pub(crate) struct FileField {
     name: Option<Text>,
+}
+
+/// The name of `{"file": NAME}`.
+pub(crate) fn file_named(alloc: Global, value: &Value) -> Result<Text, JsonFault>
+    ensures { Gives (λ name. name) result (file_named (view value.now)) }
+{
+    let mut field = FileField { name: None };
+    object(alloc, value, &mut field)?;
+    required(alloc, "file", field.name)
 }
 
 impl Draft for FileField {
@@ -36,22 +46,13 @@ impl Draft for FileField {
     }
 }
 
-/// The name of `{"file": NAME}`.
-pub(crate) fn file_named(alloc: Global, value: &Value) -> Result<Text, JsonFault>
-    ensures { Gives (λ name. name) result (file_named (view value.now)) }
-{
-    let mut field = FileField { name: None };
-    object(alloc, value, &mut field)?;
-    required(alloc, "file", field.name)
-}
-
 /// A SHA-256, or that of a file.
 pub(crate) fn digest(alloc: Global, value: &Value, files: &FileList) -> Result<Digest, JsonFault>
     ensures { Gives (λ digest. digest.bytes) result (digest_of files.now (view value.now)) }
 {
     if value.is_object() {
         let name = file_named(alloc, value)?;
-        let bytes = Sha256::digest(files.bytes_of(name.as_str()));
+        let bytes = Sha256::digest(bytes_of(files, name.as_str()));
         Ok(Digest { bytes })
     } else {
         let bytes = sized_hex::<32>(alloc, value)?;
@@ -65,7 +66,7 @@ pub(crate) fn size(alloc: Global, value: &Value, files: &FileList) -> Result<u64
 {
     if value.is_object() {
         let name = file_named(alloc, value)?;
-        Ok(files.bytes_of(name.as_str()).len() as u64)
+        Ok(bytes_of(files, name.as_str()).len() as u64)
     } else {
         number(alloc, value, u64::MAX)
     }
@@ -77,7 +78,7 @@ pub(crate) fn content(alloc: Global, value: &Value, files: &FileList) -> Result<
 {
     if value.is_object() {
         let name = file_named(alloc, value)?;
-        Ok(Bytes::from_slice(alloc, files.bytes_of(name.as_str()))?)
+        Ok(Bytes::from_slice(alloc, bytes_of(files, name.as_str()))?)
     } else {
         hex(alloc, value)
     }

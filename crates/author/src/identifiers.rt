@@ -6,7 +6,7 @@ ghost use Rattle.det_cbor.specs.Heads.{head_bytes};
 ghost use Rattle.serde_json.specs.View.{view};
 ghost use Rattle.json_fields.specs.Answers.{Gives};
 ghost use Rattle.suit_manifest.specs.Components.{identifier_item, string_items};
-ghost use Rattle.author.specs.Identifiers.{identifier_of, identifiers_of};
+ghost use Rattle.author.specs.Identifiers.{identifiers_of};
 
 use det_cbor::{Bytes, Head, HeadKind, push_head};
 use json_fields::{FlawKind, Form, HexBytes, JsonFault, array, flawed};
@@ -50,18 +50,6 @@ fn spelling(alloc: Global, identifier: &Identifier) -> Result<Bytes, AllocError>
 }
 
 // An array of byte strings, which a manifest spells in at most 64 bytes.
-fn identifier(alloc: Global, value: &Value) -> Result<Identifier, JsonFault>
-    ensures { Gives (λ id. id) result (identifier_of (view value.now)) }
-{
-    let parts = array(alloc, value, &HexBytes)?;
-    let identifier = Identifier::from_vec(parts);
-    if spelling(alloc, &identifier)?.len() <= 64 {
-        Ok(identifier)
-    } else {
-        flawed(alloc, FlawKind::Field)
-    }
-}
-
 #[derive(Drop)]
 struct OneIdentifier;
 
@@ -73,7 +61,13 @@ impl Form for OneIdentifier {
     ghost reads = { λ _ d. identifier_of d };
 
     fn read(&self, alloc: Global, value: &Value) -> Result<Identifier, JsonFault> {
-        identifier(alloc, value)
+        let parts = array(alloc, value, &HexBytes)?;
+        let identifier = Identifier::from_vec(parts);
+        if spelling(alloc, &identifier)?.len() <= 64 {
+            Ok(identifier)
+        } else {
+            flawed(alloc, FlawKind::Field)
+        }
     }
 }
 

@@ -30,9 +30,10 @@ mod severing;
 
 pub use describing::description;
 pub use fault::DescriptionFault;
-pub use file_list::FileList;
+pub use file_list::{FileList, bytes_of, has_files};
 pub use held::Description;
 pub use law::description_laws;
 pub use made_envelope::make;
 pub use make_fault::MakeFault;
 pub use making::manifest_of;
+pub use member_fields::is_one_item;

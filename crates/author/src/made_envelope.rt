@@ -34,7 +34,8 @@ fn made_parts<'a>(
 ) -> Result<EnvelopeParts<'a>, AllocError>
     ensures is { IfOk result (λ parts. parts ≡ made_parts key.now parted.entry) }
     ensures one_block { IfOk result (λ parts. HasOneBlock key.now parts.wrapper parts.manifest) }
-    ensures written { IfOk result (λ parts. IsWrittenManifest parted.entry.manifest parts.manifest) }
+    ensures written { IfOk result
+        (λ parts. IsWrittenManifest parted.entry.manifest parts.manifest) }
     ensures fits { IfOk result (λ _. ManifestFits parted.entry.manifest) }
 {
     let manifest = encode_manifest(alloc, &parted.manifest)?;

@@ -6,11 +6,11 @@ use thiserror::Error;
 /// Why no envelope is made.
 #[derive(Clone, Copy, Debug, PartialEq, Eq, Error)]
 pub enum MakeFault {
+    #[error("out of memory")]
+    NoMemory,
     /// The limit in bytes that the envelope exceeds, trimmed or whole.
     #[error("longer than {0} bytes")]
     TooLong(u64),
-    #[error("out of memory")]
-    NoMemory,
 }
 
 impl From<AllocError> for MakeFault {

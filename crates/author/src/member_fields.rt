@@ -69,8 +69,8 @@ pub(crate) fn member(alloc: Global, value: &Value, scope: &Scope<'_>) -> Result<
     }
 }
 
-// Whether bytes are exactly one item of deterministic CBOR. Takes no memory.
-fn is_one_item(bytes: &[u8]) -> bool
+/// Whether bytes are exactly one item of deterministic CBOR. Takes no memory.
+pub fn is_one_item(bytes: &[u8]) -> bool
     ensures { result ≡ is_one_item bytes.now }
 {
     let mut cursor = Cursor::new(bytes, 0);

@@ -5,6 +5,7 @@ ghost use Rattle.json_fields.specs.Answers.{Gives};
 ghost use Rattle.author.specs.Payloads.{source_bytes, payload_of, payloads_of};
 
 use crate::FileList;
+use crate::file_list::bytes_of;
 use det_cbor::{Bytes, Text};
 use json_fields::{Draft, FlawKind, JsonFault, flawed, hex, object, text};
 use serde_json::Value;
@@ -49,7 +50,7 @@ fn source<'a>(
 {
     let PayloadField { file, bytes } = field;
     match (file, bytes) {
-        (Some(name), None) => Ok(PayloadBytes::lent(files.bytes_of(name.as_str()))),
+        (Some(name), None) => Ok(PayloadBytes::lent(bytes_of(files, name.as_str()))),
         (None, Some(bytes)) => Ok(PayloadBytes::owned(bytes)),
         _ => flawed(alloc, FlawKind::Field),
     }

@@ -2,14 +2,13 @@
 
 ghost use Rattle.std.specs.Prelude.{◌≡◌, IfOk, option_map};
 ghost use Rattle.serde_json.specs.View.{view};
-ghost use Rattle.author.specs.Members.{is_one_item};
 ghost use Rattle.suit_envelope.specs.Said.{said_by};
 ghost use Rattle.describe.specs.CommandData.{sequence_if};
 ghost use Rattle.describe.specs.MemberData.{digest_data, member_data, is_severed, held_text, apart_text, text_data};
 
 use crate::commands::sequence;
 use crate::values::{hex_value, one_member};
-use det_cbor::Cursor;
+use author::is_one_item;
 use serde_json::Value;
 use std::alloc::{AllocError, Global};
 use suit_commands::Sequence;
@@ -63,17 +62,6 @@ pub(crate) fn is_severed(member: &Member, apart: &Option<Sequence>) -> bool
         Member::Empty => false,
         Member::Here(_) => false,
         Member::Apart(_) => apart.is_some(),
-    }
-}
-
-// Whether bytes hold one item of deterministic CBOR and nothing more. Takes no memory.
-fn is_one_item(bytes: &[u8]) -> bool
-    ensures { result ≡ is_one_item bytes.now }
-{
-    let mut cursor = Cursor::new(bytes, 0);
-    match cursor.skip() {
-        Ok(_) => cursor.left() == 0,
-        Err(_) => false,
     }
 }
 
