@@ -50,21 +50,9 @@ none_keeps Kept Same banks.NoMemory same = same
 -- ---- of any answer
 
 pub always : (P : Type 0) (answer : BootEnd) → P → IfUnfaulted answer P
-always P ends.Ended p = p
-always P ends.NothingInstalled p = p
-always P (ends.BadBank r) p = p
-always P (ends.NotAuthentic l) p = p
-always P (ends.UnknownComponent i) p = p
-always P (ends.Condition place) p = p
-always P (ends.Stopped place causes.Missing) p = p
-always P (ends.Stopped place causes.SelfCopy) p = p
-always P (ends.Stopped place causes.TooLarge) p = p
-always P (ends.Stopped place causes.Absent) p = p
-always P (ends.Stopped place causes.HostFault) p = p
 always P (ends.Stopped place causes.FlashFault) p = tt
-always P (ends.Stopped place causes.LaunchFault) p = p
 always P ends.FlashFault p = tt
-always P ends.NoMemory p = p
+always P _ p = p
 
 pub played_as : (P Q : PlanEnd → Type 0) (launched now : List Launch) (answer : BootEnd) → ((end : PlanEnd) → P end → Q end) → PlayedSo P launched now answer
     → PlayedSo Q launched now answer

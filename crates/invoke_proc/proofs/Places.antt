@@ -22,7 +22,7 @@ use Rattle.step_machine.specs.Worlds.{AreDistinct, IsChoice, StandAs, spot_of}
 use Rattle.path_model.specs.Path.{AreIdentities, IsIdentity}
 use Rattle.invoke_proc.specs.Booting.{StandActive}
 use Rattle.step_machine.specs.Typing.{HasIdentifiers}
-use Rattle.invoke_proc.specs.Choice.{AreActive}
+use Rattle.step_machine.specs.InUse.{AreInUse}
 
 -- ---- places
 
@@ -70,12 +70,12 @@ module _ (size : ℕ) (layout : List Entry) (is : IsLayout VERSION_1 size layout
   few_at : (i : ℕ) (e : Entry) → i < length layout → (1 ≤ (get_or layout i e).slots) × ((get_or layout i e).slots ≤ 2)
   few_at i e inside = let at = get_or layout i e in slots_few size at at.memory (is.each i e inside).held
 
-  in_use : (active : List ℕ) (slots : SlotChoice) → AreActive layout active slots.number → (i : ℕ) (e : Entry) → i < length layout
+  in_use : (active : List ℕ) (slots : SlotChoice) → AreInUse layout active slots.number → (i : ℕ) (e : Entry) → i < length layout
       → get_or slots.number i 0 < (get_or layout i e).slots
   in_use active slots are i e inside =
       subst (λ (n : ℕ). n < (get_or layout i e).slots) (sym (are.each i e inside)) (some_slot (get_or layout i e).slots (get_or active i 0) (few_at i e inside).0)
 
-  pub is_choice : (active : List ℕ) (slots : SlotChoice) → AreActive layout active slots.number → IsChoice layout slots
+  pub is_choice : (active : List ℕ) (slots : SlotChoice) → AreInUse layout active slots.number → IsChoice layout slots
   is_choice active slots are = record {
     few = is.few;
     one = in_use active slots are;

@@ -66,21 +66,9 @@ module _ (end : PlanEnd) (answer : BootEnd) (d e : ℕ) (settled : SettledSo end
 
 -- a property without a fault of the flash is weakened
 pub unfaulted : (P Q : Type 0) (answer : BootEnd) → (P → Q) → IfUnfaulted answer P → IfUnfaulted answer Q
-unfaulted P Q ends.Ended to p = to p
-unfaulted P Q ends.NothingInstalled to p = to p
-unfaulted P Q (ends.BadBank r) to p = to p
-unfaulted P Q (ends.NotAuthentic l) to p = to p
-unfaulted P Q (ends.UnknownComponent i) to p = to p
-unfaulted P Q (ends.Condition place) to p = to p
-unfaulted P Q (ends.Stopped place causes.Missing) to p = to p
-unfaulted P Q (ends.Stopped place causes.SelfCopy) to p = to p
-unfaulted P Q (ends.Stopped place causes.TooLarge) to p = to p
-unfaulted P Q (ends.Stopped place causes.Absent) to p = to p
-unfaulted P Q (ends.Stopped place causes.HostFault) to p = to p
 unfaulted P Q (ends.Stopped place causes.FlashFault) to p = tt
-unfaulted P Q (ends.Stopped place causes.LaunchFault) to p = to p
 unfaulted P Q ends.FlashFault to p = tt
-unfaulted P Q ends.NoMemory to p = to p
+unfaulted P Q _ to p = to p
 
 -- ---- the play, from the world that it was played on
 

@@ -36,12 +36,11 @@ use Rattle.step_machine.specs.Invoking.{launched_as}
 use Rattle.step_machine.specs.PlanRuns.{EndsAs, OutsideTargets, setting_of}
 use Rattle.invoke_proc.specs.declared.boot_end.BootEnd.{BootEnd}
 use Rattle.invoke_proc.specs.declared.boot_end.BootEnd.TheVariants as ends
-use Rattle.invoke_proc.specs.declared.boot_end.Lacking.{Lacking}
-use Rattle.suit_params.specs.declared.refusal.Refusal.{Refusal}
 use Rattle.invoke_proc.specs.Banks.{bank_in, record_in}
 use Rattle.invoke_proc.specs.BootLaws.{BootLaws}
 use Rattle.invoke_proc.specs.Booting.{Answers, GainsSafe, KeepsBoot, KeptSo, PlayedSo, PlaysBoot, Starts}
 use Rattle.invoke_proc.specs.Sound.{IsUnrefused}
+use Rattle.invoke_proc.specs.Starting.{IsDeclined}
 use Rattle.step_machine.specs.Typing.{HasIdentifiers}
 use Rattle.invoke_proc.proofs.Places.{head_stays, identities_there}
 
@@ -74,28 +73,17 @@ module _ (configs : OneConfigAnswer) (records : OneAnswer) (laws : BootLaws) (la
       (subst (λ (l : Key). IsInstalled layout l (bank_in reads s) s) same.1
       (subst (λ (l : List Entry). IsInstalled l k (bank_in reads s) s) same.0 installed))
 
+  -- so its bank is declined for want of memory alone
+  declined : (answer : BootEnd) (r : Record) → Sound VERSION_1 reads → record_in reads (Some r) → IsDeclined layout (key_bytes key) (bank_in reads r) answer → IsUnrefused answer
+  declined answer r sound recorded is =
+      let installed = installed_of r sound recorded in
+      let start = laws.installed layout key (bank_in reads r) r installed in
+      subst IsUnrefused (sym (laws.none layout (key_bytes key) (bank_in reads r) start.0 installed.said answer installed.are_bytes start.1 is)) tt
+
   pub unrefused : (answer : BootEnd) → Sound VERSION_1 reads → Answers layout key reads answer → IsUnrefused answer
-  unrefused (ends.BadBank refusal) sound is =
-      let installed = installed_of is.0 sound is.1 in
-      let start = laws.installed layout key (bank_in reads is.0) is.0 installed in
-      no_bad refusal (laws.none layout (key_bytes key) (bank_in reads is.0) start.0 installed.said (ends.BadBank refusal) installed.are_bytes start.1 is.2)
-    where
-      no_bad : (r : Refusal) → ends.BadBank r ≡ ends.NoMemory → ⊥
-      no_bad r same = grind (arith, same)
-  unrefused (ends.NotAuthentic lacking) sound is =
-      let installed = installed_of is.0 sound is.1 in
-      let start = laws.installed layout key (bank_in reads is.0) is.0 installed in
-      no_bad lacking (laws.none layout (key_bytes key) (bank_in reads is.0) start.0 installed.said (ends.NotAuthentic lacking) installed.are_bytes start.1 is.2)
-    where
-      no_bad : (l : Lacking) → ends.NotAuthentic l ≡ ends.NoMemory → ⊥
-      no_bad l same = grind (arith, same)
-  unrefused (ends.UnknownComponent component) sound is =
-      let installed = installed_of is.0 sound is.1 in
-      let start = laws.installed layout key (bank_in reads is.0) is.0 installed in
-      no_bad component (laws.none layout (key_bytes key) (bank_in reads is.0) start.0 installed.said (ends.UnknownComponent component) installed.are_bytes start.1 is.2)
-    where
-      no_bad : (i : ℕ) → ends.UnknownComponent i ≡ ends.NoMemory → ⊥
-      no_bad i same = grind (arith, same)
+  unrefused (ends.BadBank refusal) sound is = declined (ends.BadBank refusal) is.0 sound is.1 is.2
+  unrefused (ends.NotAuthentic lacking) sound is = declined (ends.NotAuthentic lacking) is.0 sound is.1 is.2
+  unrefused (ends.UnknownComponent component) sound is = declined (ends.UnknownComponent component) is.0 sound is.1 is.2
   unrefused _ sound is = tt
 
   -- a started manifest is one judged safe

@@ -28,7 +28,7 @@ use Rattle.step_machine.specs.Worlds.{StandAs}
 use Rattle.invoke_proc.specs.declared.boot_end.BootEnd.{BootEnd}
 use Rattle.invoke_proc.specs.declared.boot_end.BootEnd.TheVariants as ends
 use Rattle.invoke_proc.specs.Banks.{bank_in, record_in}
-use Rattle.invoke_proc.specs.Choice.{AreActive}
+use Rattle.step_machine.specs.InUse.{AreInUse}
 use Rattle.invoke_proc.specs.Starting.{IsDeclined, IsStarted}
 
 -- ---- the start
@@ -39,7 +39,7 @@ pub record StandActive (layout : List Entry) (ids : List (List (List ℕ))) (act
   pub places : Places
   pub placed : ArePlaces layout ids places
   pub slots : SlotChoice
-  pub chosen : AreActive layout active slots.number
+  pub chosen : AreInUse layout active slots.number
   pub stand : StandAs layout places slots standings
 
 -- the flash has a record, whose bank starts a manifest

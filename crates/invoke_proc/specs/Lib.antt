@@ -1,4 +1,3 @@
-pub mod Choice
 pub mod Counting
 pub mod Starting
 pub mod Banks

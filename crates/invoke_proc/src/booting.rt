@@ -39,31 +39,31 @@ fn without_bank(fault: NoBank) -> BootEnd
 // Starts what the flash has, whether it is sound or not.
 fn start_installed<H: Host, D: Disk, L: Launcher>(
     alloc: Global,
+    layout: &Layout,
+    key: &Key,
     host: &mut H,
     disk: &mut D,
     launcher: &mut L,
-    layout: &Layout,
-    key: &Key,
 ) -> BootEnd
     requires { IsAllowed VERSION_1 (D.extent disk.old) layout.now key.now }
+    ensures answers { IsTrue D.told → Answers layout.now key.now (D.flash disk.old).reads result }
     ensures size { D.extent disk.new ≡ D.extent disk.old }
+    ensures settled { IsTrue D.told → IfUnfaulted result
+        (IsSame (D.flash disk.old) (D.flash disk.new) ⊎ IsSettled (D.flash disk.new)) }
     ensures counts { BootCounts result
         (counts_of (H.faults host.old) (D.faults disk.old) (L.faults launcher.old))
         (counts_of (H.faults host.new) (D.faults disk.new) (L.faults launcher.new)) }
     ensures files { IsTrue H.told → H.file host.new ≡ H.file host.old }
-    ensures unasked { host.new ≡ host.old }
-    ensures answers { IsTrue D.told → Answers layout.now key.now (D.flash disk.old).reads result }
     ensures plays { IsTrue H.told → IsTrue D.told → IsTrue L.told
         → PlayedSo (PlaysBoot layout.now key.now (H.file host.old) (D.flash disk.old).reads
         (D.flash disk.new).reads
         (L.launches launcher.old) (L.launches launcher.new)) (L.launches launcher.old)
         (L.launches launcher.new) result }
+    ensures unasked { host.new ≡ host.old }
+    ensures grows { IsTrue D.told → Grows (D.flash disk.old) (D.flash disk.new) }
     ensures keeps { IsTrue D.told
         → KeptSo (KeepsBoot layout.now key.now (D.flash disk.old) (D.flash disk.new))
         (IsSame (D.flash disk.old) (D.flash disk.new)) result }
-    ensures settled { IsTrue D.told → IfUnfaulted result
-        (IsSame (D.flash disk.old) (D.flash disk.new) ⊎ IsSettled (D.flash disk.new)) }
-    ensures grows { IsTrue D.told → Grows (D.flash disk.old) (D.flash disk.new) }
 {
     manifest_laws();
     procedure_laws();
@@ -71,7 +71,7 @@ fn start_installed<H: Host, D: Disk, L: Launcher>(
         Ok(bank) => bank,
         Err(fault) => return without_bank(fault),
     };
-    let startable = match judge(alloc, layout, key, bank.bytes.as_slice()) {
+    let startable = match judge(alloc, bank.bytes.as_slice(), layout, key) {
         Ok(startable) => startable,
         Err(end) => return end,
     };
@@ -141,5 +141,5 @@ pub fn boot<H: Host, D: Disk, L: Launcher>(
     manifest_laws();
     play_laws();
     boot_laws();
-    start_installed(alloc, host, disk, launcher, layout, key)
+    start_installed(alloc, layout, key, host, disk, launcher)
 }

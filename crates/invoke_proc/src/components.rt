@@ -8,11 +8,10 @@ ghost use Rattle.invoke_proc.specs.Booting.{StandActive};
 ghost use Rattle.std.specs.Prelude.{◌≡◌, ℕ, IfOk, length};
 ghost use Rattle.step_machine.specs.Worlds.{AreDistinct, AreStandings};
 
-use crate::choice::active_slots;
 use crate::judging::Startable;
 use flash_layout::{Layout, Record};
 use std::alloc::{AllocError, Global};
-use step_machine::{SlotChoice, Uris, World};
+use step_machine::{SlotChoice, Uris, World, slots_in_use};
 
 /// The invocation procedure's world: each component of the manifest in its active slot, and working memory empty.
 pub(crate) fn world_in<'a>(
@@ -38,7 +37,7 @@ pub(crate) fn world_in<'a>(
         → AreStandings size w.ram w.standings.items) }
 {
     let slots = SlotChoice {
-        number: active_slots(layout, &installed.active),
+        number: slots_in_use(layout, &installed.active),
     };
     match World::new(
         alloc,

@@ -18,16 +18,8 @@ use suit_envelope::{Authenticity, Envelope, authentic, decode_envelope};
 use suit_manifest::{Manifest, decode_manifest};
 use suit_params::Fault;
 
-/// A bank to start: its envelope, its manifest, and where the manifest's components stand in the layout.
-#[derive(Drop)]
-pub(crate) struct Startable<'a> {
-    pub(crate) envelope: Envelope<'a>,
-    pub(crate) manifest: Manifest,
-    pub(crate) places: Places,
-}
-
-// The bytes of the key.
-fn key_bytes(key: &Key) -> &[u8]
+/// The bytes of the key.
+pub fn key_bytes(key: &Key) -> &[u8]
     requires { IsKey key.now }
     ensures { result.now ≡ key_bytes key.now }
 {
@@ -102,15 +94,23 @@ fn places_in(
     }
 }
 
+/// A bank to start: its envelope, its manifest, and where the manifest's components stand in the layout.
+#[derive(Drop)]
+pub(crate) struct Startable<'a> {
+    pub(crate) envelope: Envelope<'a>,
+    pub(crate) manifest: Manifest,
+    pub(crate) places: Places,
+}
+
 /// Judges a bank's bytes: which manifest they start, or why none.
 pub(crate) fn judge<'a>(
     alloc: Global,
+    bytes: &'a [u8],
     layout: &Layout,
     key: &Key,
-    bytes: &'a [u8],
 ) -> Result<Startable<'a>, BootEnd>
-    requires entries { length layout.now ≤ 8 }
     requires key { IsKey key.now }
+    requires entries { length layout.now ≤ 8 }
     ensures started { IfOk result
         (λ s. IsStarted layout.now (key_bytes key.now) bytes.now (said_by s.envelope) s.manifest) }
     ensures whole { IfOk result (λ s. s.envelope.whole.now ≡ bytes.now) }

@@ -4,7 +4,6 @@
 mod bank;
 mod boot_end;
 mod booting;
-mod choice;
 mod components;
 mod judging;
 mod law;
@@ -12,4 +11,5 @@ mod running;
 
 pub use boot_end::{BootEnd, Lacking};
 pub use booting::boot;
+pub use judging::key_bytes;
 pub use law::boot_laws;

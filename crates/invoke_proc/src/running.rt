@@ -19,7 +19,7 @@ use crate::judging::Startable;
 use flash_layout::{Layout, Record};
 use path_model::Cause;
 use std::alloc::{AllocError, Global};
-use step_machine::{PlanEnd, Uris, run_plan};
+use step_machine::{PlanEnd, Steps, Uris, run_plan};
 use suit_edge::{Disk, Edge, Host, Launcher};
 use suit_manifest::invocation_plan;
 
@@ -36,11 +36,8 @@ fn end_of(end: PlanEnd) -> BootEnd
 
 // Syncs what a procedure wrote, unless a fault of the flash ended it.
 fn settle<D: Disk>(disk: &mut D, end: PlanEnd) -> BootEnd
-    ensures size { D.extent disk.new ≡ D.extent disk.old }
-    ensures answer { SettledSo end result (D.faults disk.old) (D.faults disk.new) }
+    ensures read { ⟦<D as Steps>⟧.only_reads (SettledSo end result) disk.old disk.new }
     ensures settled { IsTrue D.told → IfUnfaulted result (IsSettled (D.flash disk.new)) }
-    ensures same { IsTrue D.told → IsSame (D.flash disk.old) (D.flash disk.new) }
-    ensures grows { IsTrue D.told → Grows (D.flash disk.old) (D.flash disk.new) }
 {
     match end {
         PlanEnd::DirectiveFailed {

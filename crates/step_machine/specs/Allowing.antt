@@ -15,26 +15,28 @@ MayName machine source = InSome (plan_tree machine.plan.now) (λ s. Sources s so
 abbrev pub MayWrite : Machine → ℕ → Type 0
 MayWrite machine component = IsTarget (plan_tree machine.plan.now) component
 
-pub record AllowsSequence (machine : Machine) (sequence : SequenceTree) (selection : List ℕ)
-    : Type 0 where
-  pub indexed : AreIndexed machine.plan.now.count sequence
-  pub writes : (component : ℕ) → Writes sequence machine.plan.now.count selection component
-      → MayWrite machine component
-  pub swaps : Swaps sequence → MaySwap machine
-  pub sources : (source : ℕ) → Sources sequence source → MayName machine source
+-- a part with this alone
+pub record Allows (machine : Machine) (IsRight : Type 0) (WritesTo : ℕ → Type 0) (HasSwap : Type 0)
+    (HasSource : ℕ → Type 0) : Type 0 where
+  pub indexed : IsRight
+  pub writes : (component : ℕ) → WritesTo component → MayWrite machine component
+  pub swaps : HasSwap → MaySwap machine
+  pub sources : (source : ℕ) → HasSource source → MayName machine source
 
-pub record AllowsCommand (machine : Machine) (command : CommandTree) (selection : List ℕ)
-    : Type 0 where
-  pub indexed : IsIndexed machine.plan.now.count command
-  pub writes : (component : ℕ) → CommandWrites command machine.plan.now.count selection component
-      → MayWrite machine component
-  pub swaps : CommandSwaps command → MaySwap machine
-  pub sources : (source : ℕ) → CommandSources command source → MayName machine source
+abbrev pub AllowsSequence : Machine → SequenceTree → List ℕ → Type 0
+AllowsSequence machine sequence selection =
+    Allows machine (AreIndexed machine.plan.now.count sequence)
+    (Writes sequence machine.plan.now.count selection) (Swaps sequence) (Sources sequence)
+
+abbrev pub AllowsCommand : Machine → CommandTree → List ℕ → Type 0
+AllowsCommand machine command selection =
+    Allows machine (IsIndexed machine.plan.now.count command)
+    (CommandWrites command machine.plan.now.count selection) (CommandSwaps command)
+    (CommandSources command)
 
 -- for one of the selected components
-pub record AllowsBranches (machine : Machine) (branches : BranchesTree) (outer : ℕ) : Type 0 where
-  pub indexed : BranchesIndexed machine.plan.now.count branches
-  pub writes : (component : ℕ) → BranchesWrite branches machine.plan.now.count outer component
-      → MayWrite machine component
-  pub swaps : BranchesSwap branches → MaySwap machine
-  pub sources : (source : ℕ) → BranchesSource branches source → MayName machine source
+abbrev pub AllowsBranches : Machine → BranchesTree → ℕ → Type 0
+AllowsBranches machine branches outer =
+    Allows machine (BranchesIndexed machine.plan.now.count branches)
+    (BranchesWrite branches machine.plan.now.count outer) (BranchesSwap branches)
+    (BranchesSource branches)

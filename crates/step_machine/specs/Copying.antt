@@ -9,7 +9,7 @@ use Rattle.path_model.specs.Settings.{Setting, capacity_of}
 use Rattle.path_model.specs.DevicePlays.{Device, content_at, with_content, directive_play}
 use Rattle.flash_slots.specs.RamContents.{Held}
 use Rattle.step_machine.specs.declared.spot.Spot.{Spot}
-use Rattle.step_machine.specs.Spots.{IsRamBut, OutsideSpot}
+use Rattle.step_machine.specs.Spots.{IsRamBut, IsSpot, OutsideSpot}
 use Rattle.step_machine.specs.Devices.{AreSpotsClear}
 use Rattle.step_machine.specs.Directives.{ActsSo}
 
@@ -58,6 +58,12 @@ SwapsAs one other result =
     → one.component < length device.contents → other.component < length device.contents
     → ActsSo (directive_play setting acts.Swap place one.component) place state device result
     (with_content (with_content device one.component one.after) other.component other.after)
+
+-- both are within the flash or the memory, and share no byte
+pub record IsPair (size : ℕ) (ram : List Held) (a b : Spot) : Type 0 where
+  pub one : IsSpot size ram a
+  pub other : IsSpot size ram b
+  pub clear : AreSpotsClear a b
 
 -- all of the flash but two slots
 abbrev pub OutsideBoth : Spot → Spot → ℕ → Type 0

@@ -1,5 +1,5 @@
 -- The result of a fetch for a component, as plays have it, and of taking a file piece by piece.
-use Rattle.std.specs.Prelude.{◌≡◌, ◌⊎◌, ◌<◌, ◌≤◌, ◌+◌, ◌==◌, ℕ, if◌then◌else◌, List, [], ◌++◌, Option, Some, None, Result, Ok, Err, get_or, length, take}
+use Rattle.std.specs.Prelude.{◌≡◌, ◌⊎◌, ◌<◌, ◌≤◌, ◌+◌, ◌==◌, ℕ, Bool, IsTrue, if◌then◌else◌, List, [], ◌++◌, Option, Some, None, Result, Ok, Err, get_or, length, take}
 use Rattle.std.specs.Option.{option_and_then}
 use Rattle.suit_edge.specs.Faults.{Faulted}
 use Rattle.suit_params.specs.InForce.{Parameters}
@@ -90,3 +90,9 @@ FetchesAs component capacity parameters payloads words files before after result
     → content_at device component ≡ before → component < length device.contents
     → ActsSo (directive_play setting acts.Fetch place component) place state device result
     (with_content device component after)
+
+-- its files stay, and at most one byte more than these was pulled
+pub record PullsUpTo (told : Bool) (most : ℕ) (earlier later : List ℕ → Option (List ℕ))
+    (before now : ℕ) : Type 0 where
+  pub files : IsTrue told → later ≡ earlier
+  pub pulled : IsTrue told → now ≤ before + (most + 1)

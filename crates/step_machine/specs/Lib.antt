@@ -1,3 +1,4 @@
+pub mod Steps
 pub mod Spots
 pub mod Holding
 pub mod Conditions
@@ -15,3 +16,4 @@ pub mod Allowing
 pub mod Parts
 pub mod Overriding
 pub mod Areas
+pub mod InUse

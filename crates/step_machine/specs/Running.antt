@@ -1,7 +1,7 @@
 -- The effect of a part of a procedure on a device, from a moment to a later one.
 use Rattle.std.specs.Prelude.{◌≡◌, ◌<◌, ℕ, Bool, IsTrue, List, [], ◌∷◌, ◌++◌, Option, Some, Result, Ok, Err, length, map}
 use Rattle.std.specs.List.{AllByRecursion, range_with_len}
-use Rattle.suit_edge.specs.Flash.{Flash, Grows, Keeps}
+use Rattle.suit_edge.specs.Flash.{Grows, Keeps}
 use Rattle.suit_edge.specs.declared.launch.Launch.{Launch}
 use Rattle.suit_params.specs.InForce.{Parameters, in_force, number_of}
 use Rattle.suit_params.specs.declared.param.ParamKey.TheVariants as keys
@@ -25,6 +25,7 @@ use Rattle.step_machine.specs.Comes.{Comes}
 use Rattle.step_machine.specs.Devices.{contents_of}
 use Rattle.step_machine.specs.Invoking.{launched_as}
 use Rattle.step_machine.specs.PlanRuns.{Counts, counts_of, CountsFor, OutsideTargets}
+use Rattle.step_machine.specs.Steps.{DiskAt}
 use Rattle.step_machine.specs.Worlds.{AreStandings}
 
 -- ---- a moment
@@ -32,12 +33,6 @@ use Rattle.step_machine.specs.Worlds.{AreStandings}
 pub record HostAt : Type 0 where
   pub told : Bool
   pub files : List ℕ → Option (List ℕ)
-  pub faults : ℕ
-
-pub record DiskAt : Type 1 where
-  pub told : Bool
-  pub size : ℕ
-  pub flash : Flash
   pub faults : ℕ
 
 pub record LauncherAt : Type 0 where

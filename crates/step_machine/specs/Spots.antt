@@ -5,6 +5,7 @@ use Rattle.flash_slots.specs.RamContents.{Held, held_by, holding}
 use Rattle.suit_edge.specs.Ranges.{Outside}
 use Rattle.step_machine.specs.declared.spot.Spot.{Spot}
 use Rattle.step_machine.specs.declared.spot.Spot.TheVariants as spots
+use Rattle.step_machine.specs.declared.spot.Standing.{Standing}
 
 -- the content, where working memory holds this and the flash reads so
 abbrev pub content_of : Spot → List Held → List ℕ → List ℕ
@@ -20,6 +21,11 @@ IsSpot size ram (spots.Ram component) = component < length ram
 abbrev pub room_at : Spot → List Held → ℕ
 room_at (spots.Flash slot) ram = slot.capacity
 room_at (spots.Ram component) ram = (held_by ram component).capacity
+
+-- a component whose content stands there, with room for as many bytes as it says
+pub record IsPlaced (size : ℕ) (ram : List Held) (standing : Standing) : Type 0 where
+  pub spot : IsSpot size ram standing.spot
+  pub capacity : room_at standing.spot ram ≡ standing.capacity
 
 -- ---- the contents that stay where the one there changes
 

@@ -3,12 +3,12 @@
 ghost use Rattle.std.specs.Prelude.{◌≡◌, ◌<◌, ◌⊎◌, [], Some, length};
 ghost use Rattle.step_machine.specs.Allowing.{MaySwap, MayWrite};
 ghost use Rattle.step_machine.specs.Parts.{act_part, test_part};
-ghost use Rattle.step_machine.specs.Running.{IsReady, IsUnderWay, RunsPart, moment, state_of, stopped};
+ghost use Rattle.step_machine.specs.Running.{IsReady, IsUnderWay, RunsPart, state_of, stopped};
 ghost use Rattle.suit_commands.specs.Targets.{IsWriting};
 ghost use Rattle.suit_commands.specs.declared.kinds.ActKind.TheVariants as acts;
 
 use crate::machine::{Machine, Pieces};
-use crate::outside::{DiskSeen, HostSeen, LauncherSeen};
+use crate::outside::Moments;
 use crate::params_in_force::number;
 use crate::progress::Progress;
 use crate::{Stop, copy, fetch, invoke, passes, swap, write};
@@ -36,11 +36,9 @@ pub(crate) fn test<H: Host, D: Disk, L: Launcher>(
     requires inside { component < length machine.now.standings.now }
     requires under_way { IsUnderWay machine.now (state_of state.now) }
     ensures runs { RunsPart machine.now (test_part kind place component) (state_of state.now)
-        (moment (⟦<H as HostSeen>⟧.seen host.old) (⟦<D as DiskSeen>⟧.seen disk.old)
-        (⟦<L as LauncherSeen>⟧.seen launcher.old) ram.old)
+        (⟦<D as Moments<H, L>>⟧.at host.old disk.old launcher.old ram.old)
         result (state_of state.now)
-        (moment (⟦<H as HostSeen>⟧.seen host.new) (⟦<D as DiskSeen>⟧.seen disk.new)
-        (⟦<L as LauncherSeen>⟧.seen launcher.new) ram.new) }
+        (⟦<D as Moments<H, L>>⟧.at host.new disk.new launcher.new ram.new) }
     ensures unasked { machine.now.uris.now ≡ [] → host.new ≡ host.old }
 {
     let standing = &machine.standings[component as usize];
@@ -94,11 +92,9 @@ fn act_from_source<H: Host, D: Disk, L: Launcher>(
     requires target { MayWrite machine.now component }
     requires swaps { kind ≡ acts.Swap → MaySwap machine.now }
     ensures runs { RunsPart machine.now (act_part kind place component) (state_of state.now)
-        (moment (⟦<H as HostSeen>⟧.seen host.old) (⟦<D as DiskSeen>⟧.seen disk.old)
-        (⟦<L as LauncherSeen>⟧.seen launcher.old) ram.old)
+        (⟦<D as Moments<H, L>>⟧.at host.old disk.old launcher.old ram.old)
         result (state_of state.now)
-        (moment (⟦<H as HostSeen>⟧.seen host.new) (⟦<D as DiskSeen>⟧.seen disk.new)
-        (⟦<L as LauncherSeen>⟧.seen launcher.new) ram.new) }
+        (⟦<D as Moments<H, L>>⟧.at host.new disk.new launcher.new ram.new) }
     ensures unasked { machine.now.uris.now ≡ [] → host.new ≡ host.old }
 {
     let standing = &machine.standings[component as usize];
@@ -146,11 +142,9 @@ pub(crate) fn act<H: Host, D: Disk, L: Launcher>(
     requires target { IsWriting kind → MayWrite machine.now component }
     requires swaps { kind ≡ acts.Swap → MaySwap machine.now }
     ensures runs { RunsPart machine.now (act_part kind place component) (state_of state.now)
-        (moment (⟦<H as HostSeen>⟧.seen host.old) (⟦<D as DiskSeen>⟧.seen disk.old)
-        (⟦<L as LauncherSeen>⟧.seen launcher.old) ram.old)
+        (⟦<D as Moments<H, L>>⟧.at host.old disk.old launcher.old ram.old)
         result (state_of state.now)
-        (moment (⟦<H as HostSeen>⟧.seen host.new) (⟦<D as DiskSeen>⟧.seen disk.new)
-        (⟦<L as LauncherSeen>⟧.seen launcher.new) ram.new) }
+        (⟦<D as Moments<H, L>>⟧.at host.new disk.new launcher.new ram.new) }
     ensures unasked { machine.now.uris.now ≡ [] → host.new ≡ host.old }
 {
     let standing = &machine.standings[component as usize];

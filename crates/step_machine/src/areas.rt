@@ -5,9 +5,9 @@ ghost use Rattle.flash_slots.specs.RamContents.{held_by};
 ghost use Rattle.std.specs.Prelude.{◌≡◌, ◌<◌, ◌≤◌, ◌-◌, IfOk, IsTrue, drop, length, min, take};
 ghost use Rattle.step_machine.specs.Areas.{area_at, size_at};
 ghost use Rattle.step_machine.specs.Spots.{IsSpot};
-ghost use Rattle.suit_edge.specs.Flash.{Grows, IsSame};
 
 use crate::Spot;
+use crate::outside::Steps;
 use flash_layout::FlashFault;
 use flash_slots::{Ram, read_some};
 use suit_edge::Disk;
@@ -49,15 +49,12 @@ pub(crate) fn read_piece<D: Disk>(
     requires spot { IsSpot (D.extent disk.old) ram.now spot }
     requires area { size ≤ size_at spot ram.now }
     requires within { from ≤ size }
-    ensures size { D.extent disk.new ≡ D.extent disk.old }
-    ensures counts { ResultCounts result (D.faults disk.old) (D.faults disk.new) }
+    ensures read { ⟦<D as Steps>⟧.only_reads (ResultCounts result) disk.old disk.new }
     ensures count { IfOk result (λ n. n ≡ min (length room.old) (size - from)) }
     ensures bytes { IsTrue D.told
         → IfOk result
         (λ n. take n room.new
         ≡ take n (drop from (area_at spot ram.now (D.flash disk.old).reads))) }
-    ensures same { IsTrue D.told → IsSame (D.flash disk.old) (D.flash disk.new) }
-    ensures grows { IsTrue D.told → Grows (D.flash disk.old) (D.flash disk.new) }
 {
     match spot {
         Spot::Flash(slot) => match read_some(disk, slot, size, from, room) {

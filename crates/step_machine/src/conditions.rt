@@ -10,6 +10,7 @@ ghost use Rattle.step_machine.specs.Spots.{IsSpot, content_of};
 ghost use Rattle.suit_edge.specs.Flash.{Grows, IsSame};
 
 use crate::contents::{digest_at, length_at, same_at};
+use crate::outside::Steps;
 use crate::params_in_force::{bytes, digest, identifier, number};
 use crate::{Spot, Standing};
 use flash_layout::FlashFault;
@@ -56,13 +57,10 @@ fn has_image<D: Disk>(
 ) -> Result<bool, FlashFault>
     requires spot { IsSpot (D.extent disk.old) ram.now spot }
     requires room { 0 < length room.old }
-    ensures size { D.extent disk.new ≡ D.extent disk.old }
-    ensures counts { ResultCounts result (D.faults disk.old) (D.faults disk.new) }
+    ensures read { ⟦<D as Steps>⟧.only_reads (ResultCounts result) disk.old disk.new }
     ensures exact { IsTrue D.told
         → IfOk result
         (λ has. has ≡ is_image digest size (content_of spot ram.now (D.flash disk.old).reads)) }
-    ensures same { IsTrue D.told → IsSame (D.flash disk.old) (D.flash disk.new) }
-    ensures grows { IsTrue D.told → Grows (D.flash disk.old) (D.flash disk.new) }
 {
     let found = match digest_at(disk, ram, spot, room) {
         Ok(found) => found,
@@ -84,22 +82,19 @@ fn has_image<D: Disk>(
 fn holds_at<D: Disk>(
     disk: &mut D,
     ram: &Ram,
+    kind: TestKind,
     standing: &Standing,
     params: &Params<'_>,
-    kind: TestKind,
     room: &mut [u8],
 ) -> Result<bool, FlashFault>
-    requires component { standing.now.component < 8 }
-    requires spot { IsSpot (D.extent disk.old) ram.now standing.now.spot }
     requires room { 0 < length room.old }
-    ensures size { D.extent disk.new ≡ D.extent disk.old }
-    ensures counts { ResultCounts result (D.faults disk.old) (D.faults disk.new) }
+    requires spot { IsSpot (D.extent disk.old) ram.now standing.now.spot }
+    requires component { standing.now.component < 8 }
+    ensures read { ⟦<D as Steps>⟧.only_reads (ResultCounts result) disk.old disk.new }
     ensures exact { IsTrue D.told → IfOk result (λ passed. passed
         ≡ holds kind standing.now.component params.now standing.now.identity
         (content_of standing.now.spot ram.now (D.flash disk.old).reads)) }
     ensures looks { IfErr result (λ fault. Looks kind standing.now.component params.now) }
-    ensures same { IsTrue D.told → IsSame (D.flash disk.old) (D.flash disk.new) }
-    ensures grows { IsTrue D.told → Grows (D.flash disk.old) (D.flash disk.new) }
 {
     let component = standing.component;
     let own = standing.identity;
@@ -161,7 +156,7 @@ pub fn passes<D: Disk>(
     ensures same { IsTrue D.told → IsSame (D.flash disk.old) (D.flash disk.new) }
     ensures grows { IsTrue D.told → Grows (D.flash disk.old) (D.flash disk.new) }
 {
-    match holds_at(disk, ram, standing, params, kind, room) {
+    match holds_at(disk, ram, kind, standing, params, room) {
         Ok(holds) => Ok(holds),
         Err(FlashFault) => Err(FlashFault),
     }

@@ -6,9 +6,9 @@ ghost use Rattle.std.specs.Prelude.{◌≡◌, ◌<◌, ◌≤◌, IfOk, IsTrue,
 ghost use Rattle.std.specs.Str.{bytes_eq};
 ghost use Rattle.step_machine.specs.Areas.{size_at};
 ghost use Rattle.step_machine.specs.Spots.{IsSpot, content_of, room_at};
-ghost use Rattle.suit_edge.specs.Flash.{Grows, IsSame};
 
 use crate::Spot;
+use crate::outside::Steps;
 use flash_layout::FlashFault;
 use flash_slots::{Ram, digest, length, same_content};
 use sha2::{Digest as _, Sha256};
@@ -37,12 +37,9 @@ pub(crate) fn digest_at<D: Disk>(
 ) -> Result<[u8; 32], FlashFault>
     requires spot { IsSpot (D.extent disk.old) ram.now spot }
     requires room { 0 < length room.old }
-    ensures size { D.extent disk.new ≡ D.extent disk.old }
-    ensures counts { ResultCounts result (D.faults disk.old) (D.faults disk.new) }
+    ensures read { ⟦<D as Steps>⟧.only_reads (ResultCounts result) disk.old disk.new }
     ensures exact { IsTrue D.told
         → IfOk result (λ d. d ≡ sha256 (content_of spot ram.now (D.flash disk.old).reads)) }
-    ensures same { IsTrue D.told → IsSame (D.flash disk.old) (D.flash disk.new) }
-    ensures grows { IsTrue D.told → Grows (D.flash disk.old) (D.flash disk.new) }
 {
     match spot {
         Spot::Flash(slot) => match digest(disk, slot, room) {
@@ -56,14 +53,11 @@ pub(crate) fn digest_at<D: Disk>(
 // How many bytes a content has.
 pub(crate) fn length_at<D: Disk>(disk: &mut D, ram: &Ram, spot: Spot) -> Result<u64, FlashFault>
     requires spot { IsSpot (D.extent disk.old) ram.now spot }
-    ensures size { D.extent disk.new ≡ D.extent disk.old }
-    ensures counts { ResultCounts result (D.faults disk.old) (D.faults disk.new) }
+    ensures read { ⟦<D as Steps>⟧.only_reads (ResultCounts result) disk.old disk.new }
     ensures few { IfOk result (λ n. n ≤ room_at spot ram.now) }
     ensures area { IfOk result (λ n. n ≤ size_at spot ram.now) }
     ensures exact { IsTrue D.told
         → IfOk result (λ n. n ≡ length (content_of spot ram.now (D.flash disk.old).reads)) }
-    ensures same { IsTrue D.told → IsSame (D.flash disk.old) (D.flash disk.new) }
-    ensures grows { IsTrue D.told → Grows (D.flash disk.old) (D.flash disk.new) }
 {
     match spot {
         Spot::Flash(slot) => match length(disk, slot) {
@@ -84,13 +78,10 @@ pub(crate) fn same_at<D: Disk>(
 ) -> Result<bool, FlashFault>
     requires spot { IsSpot (D.extent disk.old) ram.now spot }
     requires room { 0 < length room.old }
-    ensures size { D.extent disk.new ≡ D.extent disk.old }
-    ensures counts { ResultCounts result (D.faults disk.old) (D.faults disk.new) }
     ensures exact { IsTrue D.told
         → IfOk result
         (λ same. same ≡ bytes_eq (content_of spot ram.now (D.flash disk.old).reads) bytes.now) }
-    ensures same { IsTrue D.told → IsSame (D.flash disk.old) (D.flash disk.new) }
-    ensures grows { IsTrue D.told → Grows (D.flash disk.old) (D.flash disk.new) }
+    ensures read { ⟦<D as Steps>⟧.only_reads (ResultCounts result) disk.old disk.new }
 {
     match spot {
         Spot::Flash(slot) => match same_content(disk, slot, bytes, room) {

@@ -10,11 +10,12 @@ ghost use Rattle.step_machine.specs.Devices.{AreSpotsClear};
 ghost use Rattle.step_machine.specs.Directives.{CauseCounts};
 ghost use Rattle.step_machine.specs.Spots.{IsRamBut, IsSpot, OutsideSpot, content_of, room_at};
 ghost use Rattle.step_machine.specs.declared.spot.Spot.TheVariants as spots;
-ghost use Rattle.suit_edge.specs.Flash.{Grows, IsSame, Keeps};
+ghost use Rattle.suit_edge.specs.Flash.{Grows, Keeps};
 ghost use Rattle.suit_edge.specs.Ranges.{Outside};
 
 use crate::areas::read_piece;
 use crate::contents::{content_fits, length_at};
+use crate::outside::Steps;
 use crate::{Spot, Standing};
 use flash_layout::{FlashFault, Slot};
 use flash_slots::{Ram, Writing, begin};
@@ -37,8 +38,7 @@ fn put_pieces<D: Disk>(
     requires area { size ≤ size_at source ram.now }
     requires clear { AreSpotsClear (spots.Flash writing.old.slot) source }
     requires room { 0 < length room.old }
-    ensures size { D.extent disk.new ≡ D.extent disk.old }
-    ensures counts { ResultCounts result (D.faults disk.old) (D.faults disk.new) }
+    ensures goes { ⟦<D as Steps>⟧.goes_on (ResultCounts result) disk.old disk.new }
     ensures slot { writing.new.slot ≡ writing.old.slot }
     ensures written { OnOk result (writing.new.written ≡ size) }
     ensures pieces { IsTrue D.told
@@ -47,7 +47,6 @@ fn put_pieces<D: Disk>(
     ensures keeps { IsTrue D.told
         → Keeps (Outside writing.old.slot.start (extent_of writing.old.slot)) (D.flash disk.old)
         (D.flash disk.new) }
-    ensures grows { IsTrue D.told → Grows (D.flash disk.old) (D.flash disk.new) }
 {
     let mut from: u64 = 0;
     while from < size {
@@ -79,13 +78,11 @@ fn copy_to_slot<D: Disk>(
     requires area { size ≤ size_at source ram.now }
     requires clear { AreSpotsClear (spots.Flash slot) source }
     requires room { 0 < length room.old }
-    ensures size { D.extent disk.new ≡ D.extent disk.old }
-    ensures counts { ResultCounts result (D.faults disk.old) (D.faults disk.new) }
+    ensures goes { ⟦<D as Steps>⟧.goes_on (ResultCounts result) disk.old disk.new }
     ensures content { IsTrue D.told → OnOk result (slot_content slot (D.flash disk.new).reads
         ≡ take size (area_at source ram.now (D.flash disk.old).reads)) }
     ensures keeps { IsTrue D.told
         → Keeps (Outside slot.start (extent_of slot)) (D.flash disk.old) (D.flash disk.new) }
-    ensures grows { IsTrue D.told → Grows (D.flash disk.old) (D.flash disk.new) }
 {
     let mut writing = match begin(disk, slot) {
         Ok(writing) => writing,
@@ -116,8 +113,7 @@ fn copy_to_ram<D: Disk>(
     requires area { size ≤ size_at source ram.old }
     requires clear { AreSpotsClear (spots.Ram component) source }
     requires room { 0 < length room.old }
-    ensures size { D.extent disk.new ≡ D.extent disk.old }
-    ensures counts { ResultCounts result (D.faults disk.old) (D.faults disk.new) }
+    ensures read { ⟦<D as Steps>⟧.only_reads (ResultCounts result) disk.old disk.new }
     ensures content { IsTrue D.told
         → OnOk result
         ((held_by ram.new component).content
@@ -125,8 +121,6 @@ fn copy_to_ram<D: Disk>(
     ensures ram { IsRamBut (spots.Ram component) ram.old ram.new }
     ensures short { length (held_by ram.new component).content
         ≤ (held_by ram.old component).capacity }
-    ensures same { IsTrue D.told → IsSame (D.flash disk.old) (D.flash disk.new) }
-    ensures grows { IsTrue D.told → Grows (D.flash disk.old) (D.flash disk.new) }
 {
     ram.clear(component);
     let mut from: u64 = 0;
@@ -148,26 +142,24 @@ fn copy_to_ram<D: Disk>(
 fn copy_content<D: Disk>(
     disk: &mut D,
     ram: &mut Ram,
-    spot: Spot,
     source: Spot,
     size: u64,
+    spot: Spot,
     room: &mut [u8],
 ) -> Result<(), FlashFault>
-    requires spot { IsSpot (D.extent disk.old) ram.old spot }
-    requires fits { size ≤ room_at spot ram.old }
+    requires room { 0 < length room.old }
     requires source { IsSpot (D.extent disk.old) ram.old source }
     requires area { size ≤ size_at source ram.old }
+    requires spot { IsSpot (D.extent disk.old) ram.old spot }
+    requires fits { size ≤ room_at spot ram.old }
     requires clear { AreSpotsClear spot source }
-    requires room { 0 < length room.old }
-    ensures size { D.extent disk.new ≡ D.extent disk.old }
-    ensures counts { ResultCounts result (D.faults disk.old) (D.faults disk.new) }
+    ensures goes { ⟦<D as Steps>⟧.goes_on (ResultCounts result) disk.old disk.new }
     ensures content { IsTrue D.told → OnOk result (content_of spot ram.new (D.flash disk.new).reads
         ≡ take size (area_at source ram.old (D.flash disk.old).reads)) }
     ensures short { IsTrue D.told
         → length (content_of spot ram.new (D.flash disk.new).reads) ≤ room_at spot ram.old }
     ensures ram { IsRamBut spot ram.old ram.new }
     ensures keeps { IsTrue D.told → Keeps (OutsideSpot spot) (D.flash disk.old) (D.flash disk.new) }
-    ensures grows { IsTrue D.told → Grows (D.flash disk.old) (D.flash disk.new) }
 {
     match spot {
         Spot::Flash(slot) => match copy_to_slot(disk, ram, slot, source, size, room) {
@@ -191,11 +183,11 @@ pub fn copy<D: Disk>(
     source: &Standing,
     room: &mut [u8],
 ) -> Result<(), Cause>
+    requires capacity { room_at standing.now.spot ram.old ≡ standing.now.capacity }
     requires spot { IsSpot (D.extent disk.old) ram.old standing.now.spot }
     requires source { IsSpot (D.extent disk.old) ram.old source.now.spot }
     requires apart { AreApart standing.now.component standing.now.spot source.now.component
         source.now.spot }
-    requires capacity { room_at standing.now.spot ram.old ≡ standing.now.capacity }
     requires room { 0 < length room.old }
     ensures size { D.extent disk.new ≡ D.extent disk.old }
     ensures counts { CauseCounts result (D.faults disk.old) (D.faults disk.new) }
@@ -223,7 +215,7 @@ pub fn copy<D: Disk>(
     if standing.capacity < size {
         return Err(Cause::TooLarge);
     }
-    match copy_content(disk, ram, standing.spot, source.spot, size, room) {
+    match copy_content(disk, ram, source.spot, size, standing.spot, room) {
         Ok(()) => Ok(()),
         Err(FlashFault) => Err(Cause::FlashFault),
     }

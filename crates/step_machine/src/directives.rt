@@ -29,13 +29,13 @@ pub fn write<D: Disk>(
     ensures size { D.extent disk.new ≡ D.extent disk.old }
     ensures counts { CauseCounts result (D.faults disk.old) (D.faults disk.new) }
     ensures ram { IsRamBut standing.now.spot ram.old ram.new }
+    ensures keeps { IsTrue D.told
+        → Keeps (OutsideSpot standing.now.spot) (D.flash disk.old) (D.flash disk.new) }
+    ensures grows { IsTrue D.told → Grows (D.flash disk.old) (D.flash disk.new) }
     ensures writes { IsTrue D.told
         → WritesAs acts.Write standing.now.component standing.now.capacity params.now
         (content_of standing.now.spot ram.old (D.flash disk.old).reads)
         (content_of standing.now.spot ram.new (D.flash disk.new).reads) result }
-    ensures keeps { IsTrue D.told
-        → Keeps (OutsideSpot standing.now.spot) (D.flash disk.old) (D.flash disk.new) }
-    ensures grows { IsTrue D.told → Grows (D.flash disk.old) (D.flash disk.new) }
 {
     match bytes(params.get(standing.component, ParamKey::Content)) {
         None => Err(Cause::Missing),

@@ -3,14 +3,14 @@
 ghost use Rattle.flash_slots.specs.Contents.{ResultCounts};
 ghost use Rattle.std.specs.Prelude.{◌≡◌, ◌<◌, ◌≤◌, ◌+◌, ◌++◌, IsTrue, OnOk, drop, length, take};
 ghost use Rattle.step_machine.specs.Areas.{IsHeld, KeepsFront, area_at, size_at};
-ghost use Rattle.step_machine.specs.Copying.{IsRamButBoth, OutsideBoth};
-ghost use Rattle.step_machine.specs.Devices.{AreSpotsClear};
+ghost use Rattle.step_machine.specs.Copying.{IsPair, IsRamButBoth, OutsideBoth};
 ghost use Rattle.step_machine.specs.Spots.{IsRamBut, IsSpot, OutsideSpot, content_of, room_at};
-ghost use Rattle.suit_edge.specs.Flash.{Grows, Keeps};
+ghost use Rattle.suit_edge.specs.Flash.{Keeps};
 ghost use Rattle.suit_edge.specs.Ranges.{written};
 
 use crate::Spot;
 use crate::areas::read_piece;
+use crate::outside::Steps;
 use flash_layout::FlashFault;
 use flash_slots::{Ram, overwrite, set_length};
 use suit_edge::Disk;
@@ -43,8 +43,7 @@ fn write_piece<D: Disk>(
 ) -> Result<(), FlashFault>
     requires spot { IsSpot (D.extent disk.old) ram.old spot }
     requires within { from + length piece.now ≤ size_at spot ram.old }
-    ensures size { D.extent disk.new ≡ D.extent disk.old }
-    ensures counts { ResultCounts result (D.faults disk.old) (D.faults disk.new) }
+    ensures goes { ⟦<D as Steps>⟧.goes_on (ResultCounts result) disk.old disk.new }
     ensures area { IsTrue D.told
         → OnOk result
         (area_at spot ram.new (D.flash disk.new).reads
@@ -52,7 +51,6 @@ fn write_piece<D: Disk>(
     ensures long { size_at spot ram.new ≡ size_at spot ram.old }
     ensures ram { IsRamBut spot ram.old ram.new }
     ensures keeps { IsTrue D.told → Keeps (OutsideSpot spot) (D.flash disk.old) (D.flash disk.new) }
-    ensures grows { IsTrue D.told → Grows (D.flash disk.old) (D.flash disk.new) }
 {
     match spot {
         Spot::Flash(slot) => match overwrite(disk, slot, from, piece) {
@@ -70,15 +68,13 @@ fn write_piece<D: Disk>(
 fn set_size<D: Disk>(disk: &mut D, ram: &mut Ram, spot: Spot, size: u64) -> Result<(), FlashFault>
     requires spot { IsSpot (D.extent disk.old) ram.old spot }
     requires within { size ≤ size_at spot ram.old }
-    ensures size { D.extent disk.new ≡ D.extent disk.old }
-    ensures counts { ResultCounts result (D.faults disk.old) (D.faults disk.new) }
+    ensures goes { ⟦<D as Steps>⟧.goes_on (ResultCounts result) disk.old disk.new }
     ensures content { IsTrue D.told
         → OnOk result
         (content_of spot ram.new (D.flash disk.new).reads
         ≡ take size (area_at spot ram.old (D.flash disk.old).reads)) }
     ensures ram { IsRamBut spot ram.old ram.new }
     ensures keeps { IsTrue D.told → Keeps (OutsideSpot spot) (D.flash disk.old) (D.flash disk.new) }
-    ensures grows { IsTrue D.told → Grows (D.flash disk.old) (D.flash disk.new) }
 {
     match spot {
         Spot::Flash(slot) => match set_length(disk, slot, size) {
@@ -98,20 +94,17 @@ fn exchange_piece<D: Disk>(
     ram: &mut Ram,
     one: Spot,
     other: Spot,
-    from: u64,
-    size: u64,
     room: &mut [u8],
     spare: &mut [u8],
+    from: u64,
+    size: u64,
 ) -> Result<(), FlashFault>
-    requires one { IsSpot (D.extent disk.old) ram.old one }
-    requires other { IsSpot (D.extent disk.old) ram.old other }
-    requires clear { AreSpotsClear one other }
+    requires pair { IsPair (D.extent disk.old) ram.old one other }
     requires alike { length spare.old ≡ length room.old }
     requires within { from + length room.old ≤ size }
     requires area { size ≤ size_at one ram.old }
     requires other_area { size ≤ size_at other ram.old }
-    ensures size { D.extent disk.new ≡ D.extent disk.old }
-    ensures counts { ResultCounts result (D.faults disk.old) (D.faults disk.new) }
+    ensures goes { ⟦<D as Steps>⟧.goes_on (ResultCounts result) disk.old disk.new }
     ensures one { IsTrue D.told → OnOk result (area_at one ram.new (D.flash disk.new).reads
         ≡ written (area_at one ram.old (D.flash disk.old).reads) from
         (take (length room.old) (drop from (area_at other ram.old (D.flash disk.old).reads)))) }
@@ -123,7 +116,6 @@ fn exchange_piece<D: Disk>(
     ensures ram { IsRamButBoth one other ram.old ram.new }
     ensures keeps { IsTrue D.told
         → Keeps (OutsideBoth one other) (D.flash disk.old) (D.flash disk.new) }
-    ensures grows { IsTrue D.told → Grows (D.flash disk.old) (D.flash disk.new) }
 {
     match read_piece(disk, ram, one, size, from, room) {
         Ok(_) => {}
@@ -153,15 +145,12 @@ fn exchange_pieces<D: Disk>(
     room: &mut [u8],
     spare: &mut [u8],
 ) -> Result<(), FlashFault>
-    requires one { IsSpot (D.extent disk.old) ram.old one }
-    requires other { IsSpot (D.extent disk.old) ram.old other }
-    requires clear { AreSpotsClear one other }
+    requires pair { IsPair (D.extent disk.old) ram.old one other }
     requires within { size ≤ size_at one ram.old }
     requires other_within { size ≤ size_at other ram.old }
     requires room { 0 < length room.old }
     requires spare { 0 < length spare.old }
-    ensures size { D.extent disk.new ≡ D.extent disk.old }
-    ensures counts { ResultCounts result (D.faults disk.old) (D.faults disk.new) }
+    ensures goes { ⟦<D as Steps>⟧.goes_on (ResultCounts result) disk.old disk.new }
     ensures one { IsTrue D.told
         → OnOk result
         (take size (area_at one ram.new (D.flash disk.new).reads)
@@ -175,7 +164,6 @@ fn exchange_pieces<D: Disk>(
     ensures ram { IsRamButBoth one other ram.old ram.new }
     ensures keeps { IsTrue D.told
         → Keeps (OutsideBoth one other) (D.flash disk.old) (D.flash disk.new) }
-    ensures grows { IsTrue D.told → Grows (D.flash disk.old) (D.flash disk.new) }
 {
     let limit = room.len().min(spare.len()) as u64;
     let mut from: u64 = 0;
@@ -186,10 +174,10 @@ fn exchange_pieces<D: Disk>(
             ram,
             one,
             other,
-            from,
-            size,
             &mut room[..count],
             &mut spare[..count],
+            from,
+            size,
         ) {
             Ok(()) => {}
             Err(FlashFault) => return Err(FlashFault),
@@ -209,9 +197,7 @@ pub(crate) fn exchange<D: Disk>(
     room: &mut [u8],
     spare: &mut [u8],
 ) -> Result<(), FlashFault>
-    requires one { IsSpot (D.extent disk.old) ram.old one }
-    requires other { IsSpot (D.extent disk.old) ram.old other }
-    requires clear { AreSpotsClear one other }
+    requires pair { IsPair (D.extent disk.old) ram.old one other }
     requires size { sizes.0 ≤ size_at one ram.old }
     requires other_size { sizes.1 ≤ size_at other ram.old }
     requires own { sizes.0 ≤ room_at one ram.old }
@@ -220,8 +206,7 @@ pub(crate) fn exchange<D: Disk>(
     requires other_fits { sizes.0 ≤ room_at other ram.old }
     requires room { 0 < length room.old }
     requires spare { 0 < length spare.old }
-    ensures size { D.extent disk.new ≡ D.extent disk.old }
-    ensures counts { ResultCounts result (D.faults disk.old) (D.faults disk.new) }
+    ensures goes { ⟦<D as Steps>⟧.goes_on (ResultCounts result) disk.old disk.new }
     ensures one { IsTrue D.told
         → OnOk result
         (content_of one ram.new (D.flash disk.new).reads
@@ -233,7 +218,6 @@ pub(crate) fn exchange<D: Disk>(
     ensures ram { IsRamButBoth one other ram.old ram.new }
     ensures keeps { IsTrue D.told
         → Keeps (OutsideBoth one other) (D.flash disk.old) (D.flash disk.new) }
-    ensures grows { IsTrue D.told → Grows (D.flash disk.old) (D.flash disk.new) }
 {
     let size = sizes.0.max(sizes.1);
     stretch(ram, one, size);

@@ -5,13 +5,15 @@ ghost use Rattle.path_model.specs.Settings.{found_under};
 ghost use Rattle.std.specs.Prelude.{[], ◌≡◌, ◌<◌, ◌≤◌, ◌+◌, ◌==◌, ℕ, Err, IsTrue, List, Some, get_or, length, option_map};
 ghost use Rattle.std.specs.Option.{option_and_then};
 ghost use Rattle.step_machine.specs.Fetching.{FetchCounts, FetchesAs, TakesNamed};
-ghost use Rattle.step_machine.specs.Spots.{IsRamBut, IsSpot, OutsideSpot, content_of, room_at};
+ghost use Rattle.step_machine.specs.Spots.{IsPlaced, IsRamBut, IsSpot, OutsideSpot, content_of, room_at};
 ghost use Rattle.suit_edge.specs.Flash.{Grows, Keeps};
 ghost use Rattle.suit_envelope.specs.Payloads.{HasPayloads};
 
+use crate::outside::{Pulls, Steps};
 use crate::params_in_force::bytes;
 use crate::payloads::{fill_with, payload_with};
 use crate::taking::take_into;
+use crate::uris::name_of;
 use crate::{Standing, Uris};
 use flash_slots::Ram;
 use path_model::Cause;
@@ -37,8 +39,7 @@ fn fetch_payload<D: Disk>(
     standing: &Standing,
     key: &[u8],
 ) -> Result<(), Cause>
-    requires spot { IsSpot (D.extent disk.old) ram.old standing.now.spot }
-    requires capacity { room_at standing.now.spot ram.old ≡ standing.now.capacity }
+    requires placed { IsPlaced (D.extent disk.old) ram.old standing.now }
     ensures size { D.extent disk.new ≡ D.extent disk.old }
     ensures counts { (host : ℕ)
         → FetchCounts result host host (D.faults disk.old) (D.faults disk.new) }
@@ -61,21 +62,14 @@ fn fetch_payload<D: Disk>(
 // Makes the file of this name the content. It is started first, so that nothing changes if there is none.
 fn fetch_named<H: Host, D: Disk>(
     host: &mut H,
+    name: &str,
     disk: &mut D,
     ram: &mut Ram,
     standing: &Standing,
-    name: &str,
     room: &mut [u8],
 ) -> Result<(), Cause>
-    requires spot { IsSpot (D.extent disk.old) ram.old standing.now.spot }
-    requires capacity { room_at standing.now.spot ram.old ≡ standing.now.capacity }
     requires room { 0 < length room.old }
-    ensures size { D.extent disk.new ≡ D.extent disk.old }
-    ensures counts { FetchCounts result (H.faults host.old) (H.faults host.new) (D.faults disk.old)
-        (D.faults disk.new) }
-    ensures files { IsTrue H.told → H.file host.new ≡ H.file host.old }
-    ensures pulled { IsTrue H.told
-        → H.pulled host.new ≤ H.pulled host.old + (standing.now.capacity + 1) }
+    requires placed { IsPlaced (D.extent disk.old) ram.old standing.now }
     ensures ram { IsRamBut standing.now.spot ram.old ram.new }
     ensures takes { IsTrue D.told → IsTrue H.told
         → TakesNamed result standing.now.capacity (H.file host.old name.now)
@@ -83,7 +77,9 @@ fn fetch_named<H: Host, D: Disk>(
         (content_of standing.now.spot ram.new (D.flash disk.new).reads) }
     ensures keeps { IsTrue D.told
         → Keeps (OutsideSpot standing.now.spot) (D.flash disk.old) (D.flash disk.new) }
-    ensures grows { IsTrue D.told → Grows (D.flash disk.old) (D.flash disk.new) }
+    ensures goes { ⟦<D as Steps>⟧.goes_on
+        (FetchCounts result (H.faults host.old) (H.faults host.new)) disk.old disk.new }
+    ensures pulls { ⟦<H as Pulls>⟧.pulls standing.now.capacity host.old host.new }
 {
     match host.start(name) {
         Started::Done => take_into(host, disk, ram, standing, room),
@@ -102,16 +98,12 @@ fn fetch_file<H: Host, D: Disk>(
     uri: &[u8],
     room: &mut [u8],
 ) -> Result<(), Cause>
-    requires spot { IsSpot (D.extent disk.old) ram.old standing.now.spot }
-    requires capacity { room_at standing.now.spot ram.old ≡ standing.now.capacity }
+    requires placed { IsPlaced (D.extent disk.old) ram.old standing.now }
     requires room { 0 < length room.old }
-    ensures size { D.extent disk.new ≡ D.extent disk.old }
-    ensures counts { FetchCounts result (H.faults host.old) (H.faults host.new) (D.faults disk.old)
-        (D.faults disk.new) }
-    ensures files { IsTrue H.told → H.file host.new ≡ H.file host.old }
     ensures unasked { uris.now ≡ [] → host.new ≡ host.old }
-    ensures pulled { IsTrue H.told
-        → H.pulled host.new ≤ H.pulled host.old + (standing.now.capacity + 1) }
+    ensures goes { ⟦<D as Steps>⟧.goes_on
+        (FetchCounts result (H.faults host.old) (H.faults host.new)) disk.old disk.new }
+    ensures pulls { ⟦<H as Pulls>⟧.pulls standing.now.capacity host.old host.new }
     ensures ram { IsRamBut standing.now.spot ram.old ram.new }
     ensures takes { IsTrue D.told → IsTrue H.told
         → TakesNamed result standing.now.capacity
@@ -122,10 +114,9 @@ fn fetch_file<H: Host, D: Disk>(
         → (name : List ℕ) × (found_under uris.now uri.now ≡ Some name) }
     ensures keeps { IsTrue D.told
         → Keeps (OutsideSpot standing.now.spot) (D.flash disk.old) (D.flash disk.new) }
-    ensures grows { IsTrue D.told → Grows (D.flash disk.old) (D.flash disk.new) }
 {
-    match uris.name_of(uri) {
-        Some(name) => fetch_named(host, disk, ram, standing, name, room),
+    match name_of(uris, uri) {
+        Some(name) => fetch_named(host, name, disk, ram, standing, room),
         None => Err(Cause::Absent),
     }
 }

@@ -5,10 +5,11 @@ ghost use Rattle.flash_slots.specs.Contents.{ResultCounts};
 ghost use Rattle.flash_slots.specs.RamContents.{held_by, holding};
 ghost use Rattle.std.specs.Prelude.{◌≡◌, ◌<◌, ◌≤◌, IsTrue, OnErr, OnOk, length};
 ghost use Rattle.step_machine.specs.Spots.{IsRamBut, IsSpot, OutsideSpot, content_of, room_at};
-ghost use Rattle.suit_edge.specs.Flash.{Grows, Keeps};
+ghost use Rattle.suit_edge.specs.Flash.{Keeps};
 ghost use Rattle.suit_edge.specs.Ranges.{Outside};
 
 use crate::Spot;
+use crate::outside::Steps;
 use flash_layout::{FlashFault, Slot};
 use flash_slots::{AppendFault, Ram, TooLarge, begin};
 use suit_edge::Disk;
@@ -17,13 +18,11 @@ use suit_edge::Disk;
 pub(crate) fn fill_slot<D: Disk>(disk: &mut D, slot: Slot, bytes: &[u8]) -> Result<(), FlashFault>
     requires slot { LiesWithin (D.extent disk.old) slot }
     requires fits { length bytes.now ≤ slot.capacity }
-    ensures size { D.extent disk.new ≡ D.extent disk.old }
-    ensures counts { ResultCounts result (D.faults disk.old) (D.faults disk.new) }
+    ensures goes { ⟦<D as Steps>⟧.goes_on (ResultCounts result) disk.old disk.new }
     ensures content { IsTrue D.told
         → OnOk result (slot_content slot (D.flash disk.new).reads ≡ bytes.now) }
     ensures keeps { IsTrue D.told
         → Keeps (Outside slot.start (extent_of slot)) (D.flash disk.old) (D.flash disk.new) }
-    ensures grows { IsTrue D.told → Grows (D.flash disk.old) (D.flash disk.new) }
 {
     let mut writing = match begin(disk, slot) {
         Ok(writing) => writing,
@@ -63,8 +62,7 @@ pub(crate) fn fill<D: Disk>(
 ) -> Result<(), FlashFault>
     requires spot { IsSpot (D.extent disk.old) ram.old spot }
     requires fits { length bytes.now ≤ room_at spot ram.old }
-    ensures size { D.extent disk.new ≡ D.extent disk.old }
-    ensures counts { ResultCounts result (D.faults disk.old) (D.faults disk.new) }
+    ensures goes { ⟦<D as Steps>⟧.goes_on (ResultCounts result) disk.old disk.new }
     ensures content { IsTrue D.told
         → OnOk result (content_of spot ram.new (D.flash disk.new).reads ≡ bytes.now) }
     ensures short { IsTrue D.told
@@ -72,7 +70,6 @@ pub(crate) fn fill<D: Disk>(
         (length (content_of spot ram.new (D.flash disk.new).reads) ≤ room_at spot ram.old) }
     ensures ram { IsRamBut spot ram.old ram.new }
     ensures keeps { IsTrue D.told → Keeps (OutsideSpot spot) (D.flash disk.old) (D.flash disk.new) }
-    ensures grows { IsTrue D.told → Grows (D.flash disk.old) (D.flash disk.new) }
 {
     match spot {
         Spot::Flash(slot) => match fill_slot(disk, slot, bytes) {

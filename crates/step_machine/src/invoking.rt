@@ -11,6 +11,7 @@ ghost use Rattle.suit_edge.specs.Launch.{LiesWithin};
 ghost use Rattle.suit_params.specs.InForce.{bytes_of, digest_in, in_force, size_in};
 ghost use Rattle.suit_params.specs.declared.param.ParamKey.TheVariants as keys;
 
+use crate::outside::Steps;
 use crate::params_in_force::{bytes, named_digest, number};
 use crate::{Spot, Standing};
 use flash_layout::{FlashFault, LENGTH_SIZE, Slot};
@@ -24,14 +25,11 @@ use suit_params::{ParamKey, Params};
 // A slot's content as an image that can be launched.
 fn image_in<'a, D: Disk>(disk: &mut D, slot: Slot) -> Result<Image<'a>, FlashFault>
     requires slot { slot.start + extent_of slot ≤ D.extent disk.old }
-    ensures size { D.extent disk.new ≡ D.extent disk.old }
-    ensures counts { ResultCounts result (D.faults disk.old) (D.faults disk.new) }
+    ensures read { ⟦<D as Steps>⟧.only_reads (ResultCounts result) disk.old disk.new }
     ensures within { IfOk result (LiesWithin (D.extent disk.new)) }
     ensures image { IsTrue D.told
         → IfOk result
         (IsImageOf (D.flash disk.old).reads (slot_content slot (D.flash disk.old).reads)) }
-    ensures same { IsTrue D.told → IsSame (D.flash disk.old) (D.flash disk.new) }
-    ensures grows { IsTrue D.told → Grows (D.flash disk.old) (D.flash disk.new) }
 {
     // Each place of the slot fits a u64, since the flash's size does.
     let _size = disk.size();
@@ -47,15 +45,12 @@ fn image_in<'a, D: Disk>(disk: &mut D, slot: Slot) -> Result<Image<'a>, FlashFau
 // A content as an image that can be launched.
 fn image_at<'a, D: Disk>(disk: &mut D, ram: &'a Ram, spot: Spot) -> Result<Image<'a>, FlashFault>
     requires spot { IsSpot (D.extent disk.old) ram.now spot }
-    ensures size { D.extent disk.new ≡ D.extent disk.old }
-    ensures counts { ResultCounts result (D.faults disk.old) (D.faults disk.new) }
+    ensures read { ⟦<D as Steps>⟧.only_reads (ResultCounts result) disk.old disk.new }
     ensures within { IfOk result (LiesWithin (D.extent disk.new)) }
     ensures image { IsTrue D.told
         → IfOk result
         (IsImageOf (D.flash disk.old).reads
         (content_of spot ram.now (D.flash disk.old).reads)) }
-    ensures same { IsTrue D.told → IsSame (D.flash disk.old) (D.flash disk.new) }
-    ensures grows { IsTrue D.told → Grows (D.flash disk.old) (D.flash disk.new) }
 {
     match spot {
         Spot::Flash(slot) => match image_in(disk, slot) {

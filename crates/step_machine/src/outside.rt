@@ -1,50 +1,60 @@
-//! The host, the flash and the launcher, each at a moment as one record.
+//! The flash beside a host and a launcher, and what calls leave of it.
 
 use suit_edge::{Disk, Host, Launcher};
 
-/// A host at a moment.
-pub(crate) trait HostSeen: Host {
-    ghost use Rattle.step_machine.specs.Running.{HostAt};
+/// Moments of a flash beside a host and a launcher.
+pub(crate) trait Moments<H: Host, L: Launcher>: Disk {
+    ghost use Rattle.flash_slots.specs.RamContents.{Held};
+    ghost use Rattle.std.specs.Prelude.{List};
+    ghost use Rattle.step_machine.specs.Running.{Moment};
 
-    /// Its files as it tells them, and its count of faults.
-    ghost seen: { Self → HostAt };
+    /// The files, the contents and the launches that are told of, and the counts of faults, with this in working memory.
+    ghost at: { H → Self → L → List Held → Moment };
 }
 
-impl<H: Host> HostSeen for H {
-    ghost use Rattle.step_machine.specs.Running.{HostAt};
+impl<H: Host, D: Disk, L: Launcher> Moments<H, L> for D {
+    ghost use Rattle.step_machine.specs.Running.{moment};
+    ghost use Rattle.step_machine.specs.Steps.{disk_at};
 
-    ghost seen = { λ h. record { told = H.told; files = H.file h; faults = H.faults h } };
+    ghost at = { λ h d l ram. moment
+        (record { told = H.told; files = H.file h; faults = H.faults h })
+        (disk_at D.told (D.extent d) (D.flash d) (D.faults d))
+        (record { told = L.told; launches = L.launches l; faults = L.faults l }) ram };
 }
 
-/// A flash at a moment.
-pub(crate) trait DiskSeen: Disk {
-    ghost use Rattle.step_machine.specs.Running.{DiskAt};
+/// Calls of a flash, from before to behind.
+pub trait Steps: Disk {
+    ghost use Rattle.std.specs.Prelude.{ℕ};
 
-    /// Its size, what it holds, and its count of faults.
-    ghost seen: { Self → DiskAt };
+    /// It was only read, and its count of faults is so.
+    ghost only_reads: { (ℕ → ℕ → Type 0) → Self → Self → Type 0 };
+
+    /// Its size and its moments stay, and its count of faults is so.
+    ghost goes_on: { (ℕ → ℕ → Type 0) → Self → Self → Type 0 };
 }
 
-impl<D: Disk> DiskSeen for D {
-    ghost use Rattle.step_machine.specs.Running.{DiskAt};
+impl<D: Disk> Steps for D {
+    ghost use Rattle.step_machine.specs.Steps.{GoesOn, IsOnlyRead, disk_at};
 
-    ghost seen = { λ d. record {
-      told = D.told;
-      size = D.extent d;
-      flash = D.flash d;
-      faults = D.faults d;
-    } };
+    ghost only_reads = { λ counts a b. IsOnlyRead counts
+        (disk_at D.told (D.extent a) (D.flash a) (D.faults a))
+        (disk_at D.told (D.extent b) (D.flash b) (D.faults b)) };
+
+    ghost goes_on = { λ counts a b. GoesOn counts
+        (disk_at D.told (D.extent a) (D.flash a) (D.faults a))
+        (disk_at D.told (D.extent b) (D.flash b) (D.faults b)) };
 }
 
-/// A launcher at a moment.
-pub(crate) trait LauncherSeen: Launcher {
-    ghost use Rattle.step_machine.specs.Running.{LauncherAt};
+/// Calls of a host, from before to behind.
+pub(crate) trait Pulls: Host {
+    ghost use Rattle.std.specs.Prelude.{ℕ};
 
-    /// Its launches, and its count of faults.
-    ghost seen: { Self → LauncherAt };
+    /// Its files stay, and at most one byte more than these was pulled.
+    ghost pulls: { ℕ → Self → Self → Type 0 };
 }
 
-impl<L: Launcher> LauncherSeen for L {
-    ghost use Rattle.step_machine.specs.Running.{LauncherAt};
+impl<H: Host> Pulls for H {
+    ghost use Rattle.step_machine.specs.Fetching.{PullsUpTo};
 
-    ghost seen = { λ l. record { told = L.told; launches = L.launches l; faults = L.faults l } };
+    ghost pulls = { λ most a b. PullsUpTo H.told most (H.file a) (H.file b) (H.pulled a) (H.pulled b) };
 }

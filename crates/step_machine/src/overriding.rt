@@ -1,6 +1,6 @@
 //! Override parameters.
 
-ghost use Rattle.path_model.specs.Directives.{after_override, soft_after};
+ghost use Rattle.path_model.specs.Directives.{after_override};
 ghost use Rattle.std.specs.Prelude.{◌≡◌, ◌<◌};
 ghost use Rattle.step_machine.specs.Running.{state_of};
 ghost use Rattle.step_machine.specs.Overriding.{soft_after_list};
@@ -9,23 +9,15 @@ ghost use Rattle.suit_params.specs.InForce.{IsOverridden};
 use crate::progress::Progress;
 use suit_params::{Param, ParamList};
 
-// Soft failure after one parameter is overridden.
-fn soft_after(soft_failure: bool, param: &Param) -> bool
-    ensures { result ≡ soft_after soft_failure param.now }
-{
-    match param {
-        Param::Soft(value) => *value,
-        _ => soft_failure,
-    }
-}
-
 // Soft failure after a list of parameters is overridden.
 fn soft_after_list(soft_failure: bool, list: &ParamList) -> bool
     ensures { result ≡ soft_after_list soft_failure list.now }
 {
     let mut soft = soft_failure;
     for param in list.as_slice() {
-        soft = soft_after(soft, param);
+        if let Param::Soft(value) = param {
+            soft = *value;
+        }
     }
     soft
 }

@@ -3,7 +3,7 @@
 ghost use Rattle.path_model.specs.Settings.{found_under};
 ghost use Rattle.std.specs.Prelude.{◌≡◌, ◌<◌, ℕ, IsTrue, List, option_map};
 ghost use Rattle.step_machine.specs.Fetching.{FetchCounts, TakesIn};
-ghost use Rattle.step_machine.specs.Spots.{IsRamBut, IsSpot, OutsideSpot, content_of, room_at};
+ghost use Rattle.step_machine.specs.Spots.{IsPlaced, IsRamBut, OutsideSpot, content_of};
 ghost use Rattle.suit_edge.specs.Flash.{Grows, Keeps};
 ghost use Rattle.suit_envelope.specs.Payloads.{HasPayloads};
 
@@ -34,16 +34,15 @@ pub(crate) fn fill_with<D: Disk>(
     standing: &Standing,
     payload: &[u8],
 ) -> Result<(), Cause>
-    requires spot { IsSpot (D.extent disk.old) ram.old standing.now.spot }
-    requires room { room_at standing.now.spot ram.old ≡ standing.now.capacity }
-    ensures size { D.extent disk.new ≡ D.extent disk.old }
-    ensures counts { (host : ℕ)
-        → FetchCounts result host host (D.faults disk.old) (D.faults disk.new) }
+    requires placed { IsPlaced (D.extent disk.old) ram.old standing.now }
     ensures ram { IsRamBut standing.now.spot ram.old ram.new }
     ensures takes { IsTrue D.told → TakesIn result standing.now.capacity payload.now
         (content_of standing.now.spot ram.new (D.flash disk.new).reads) }
     ensures keeps { IsTrue D.told
         → Keeps (OutsideSpot standing.now.spot) (D.flash disk.old) (D.flash disk.new) }
+    ensures size { D.extent disk.new ≡ D.extent disk.old }
+    ensures counts { (host : ℕ)
+        → FetchCounts result host host (D.faults disk.old) (D.faults disk.new) }
     ensures grows { IsTrue D.told → Grows (D.flash disk.old) (D.flash disk.new) }
 {
     if standing.capacity < payload.len() as u64 {

@@ -8,7 +8,7 @@ ghost use Rattle.step_machine.specs.Allowing.{AllowsSequence};
 ghost use Rattle.step_machine.specs.Devices.{contents_of};
 ghost use Rattle.step_machine.specs.Parts.{plan_part, starting_part};
 ghost use Rattle.step_machine.specs.PlanRuns.{EndCounts, OutsideTargets, PlaysPlan, counts_of, end_of, setting_of};
-ghost use Rattle.step_machine.specs.Running.{AreSources, IsReady, RunsPart, moment, state_of};
+ghost use Rattle.step_machine.specs.Running.{AreSources, IsReady, RunsPart, state_of};
 ghost use Rattle.step_machine.specs.Worlds.{AreStandings};
 ghost use Rattle.suit_commands.specs.Allowed.{IsPlan};
 ghost use Rattle.suit_commands.specs.Plans.{lent_tree, plan_tree};
@@ -16,7 +16,7 @@ ghost use Rattle.suit_edge.specs.Flash.{Grows, Keeps};
 ghost use Rattle.suit_envelope.specs.Payloads.{HasPayloads};
 
 use crate::machine::{Machine, Pieces};
-use crate::outside::{DiskSeen, HostSeen, LauncherSeen};
+use crate::outside::Moments;
 use crate::progress::{Progress, Selected};
 use crate::running::sequence;
 use crate::{PlanEnd, Stop, World};
@@ -42,11 +42,9 @@ fn part<'p, H: Host, D: Disk, L: Launcher>(
     requires sources { AreSources machine.now state.old.params }
     ensures runs { RunsPart machine.now
         (starting_part (lent_tree lent.entry) machine.now.plan.now.count) (state_of state.old)
-        (moment (⟦<H as HostSeen>⟧.seen host.old) (⟦<D as DiskSeen>⟧.seen disk.old)
-        (⟦<L as LauncherSeen>⟧.seen launcher.old) ram.old)
+        (⟦<D as Moments<H, L>>⟧.at host.old disk.old launcher.old ram.old)
         result (state_of state.new)
-        (moment (⟦<H as HostSeen>⟧.seen host.new) (⟦<D as DiskSeen>⟧.seen disk.new)
-        (⟦<L as LauncherSeen>⟧.seen launcher.new) ram.new) }
+        (⟦<D as Moments<H, L>>⟧.at host.new disk.new launcher.new ram.new) }
     ensures unasked { machine.now.uris.now ≡ [] → host.new ≡ host.old }
 {
     state.selected = Selected::One(0);
@@ -72,11 +70,9 @@ fn procedure<'p, H: Host, D: Disk, L: Launcher>(
     requires sources { AreSources machine.now state.old.params }
     ensures runs { RunsPart machine.now (plan_part (plan_tree machine.now.plan.now))
         (state_of state.old)
-        (moment (⟦<H as HostSeen>⟧.seen host.old) (⟦<D as DiskSeen>⟧.seen disk.old)
-        (⟦<L as LauncherSeen>⟧.seen launcher.old) ram.old)
+        (⟦<D as Moments<H, L>>⟧.at host.old disk.old launcher.old ram.old)
         result (state_of state.new)
-        (moment (⟦<H as HostSeen>⟧.seen host.new) (⟦<D as DiskSeen>⟧.seen disk.new)
-        (⟦<L as LauncherSeen>⟧.seen launcher.new) ram.new) }
+        (⟦<D as Moments<H, L>>⟧.at host.new disk.new launcher.new ram.new) }
     ensures unasked { machine.now.uris.now ≡ [] → host.new ≡ host.old }
 {
     let plan = machine.plan;
@@ -116,11 +112,9 @@ fn started<H: Host, D: Disk, L: Launcher>(
     requires plan { IsPlan (plan_tree machine.now.plan.now) }
     ensures runs { (next : State)
         × RunsPart machine.now (plan_part (plan_tree machine.now.plan.now)) first_state
-        (moment (⟦<H as HostSeen>⟧.seen host.old) (⟦<D as DiskSeen>⟧.seen disk.old)
-        (⟦<L as LauncherSeen>⟧.seen launcher.old) ram.old)
+        (⟦<D as Moments<H, L>>⟧.at host.old disk.old launcher.old ram.old)
         result next
-        (moment (⟦<H as HostSeen>⟧.seen host.new) (⟦<D as DiskSeen>⟧.seen disk.new)
-        (⟦<L as LauncherSeen>⟧.seen launcher.new) ram.new) }
+        (⟦<D as Moments<H, L>>⟧.at host.new disk.new launcher.new ram.new) }
     ensures unasked { machine.now.uris.now ≡ [] → host.new ≡ host.old }
 {
     let params = Params::new();

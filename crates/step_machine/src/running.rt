@@ -3,7 +3,7 @@
 ghost use Rattle.std.specs.Prelude.{◌≡◌, ◌<◌, ◌∷◌, [], OnOk, length};
 ghost use Rattle.step_machine.specs.Allowing.{AllowsBranches, AllowsCommand, AllowsSequence};
 ghost use Rattle.step_machine.specs.Parts.{at_part, branches_part, command_part, each_part, passed_on, sequence_part};
-ghost use Rattle.step_machine.specs.Running.{IsReady, IsUnderWay, RunsPart, moment, selected_list, state_of};
+ghost use Rattle.step_machine.specs.Running.{IsReady, IsUnderWay, RunsPart, selected_list, state_of};
 ghost use Rattle.path_model.specs.Plays.{running_inner};
 ghost use Rattle.path_model.specs.DevicePlays.{Device};
 ghost use Rattle.suit_commands.specs.Selections.{selected_after};
@@ -13,7 +13,7 @@ ghost use Rattle.suit_commands.specs.View.{command_tree};
 use crate::Stop;
 use crate::acting::{act, test};
 use crate::machine::{Machine, Pieces};
-use crate::outside::{DiskSeen, HostSeen, LauncherSeen};
+use crate::outside::Moments;
 use crate::overriding::override_with;
 use crate::progress::{Progress, Selected};
 use flash_slots::Ram;
@@ -54,11 +54,9 @@ pub(crate) fn sequence<'p, H: Host, D: Disk, L: Launcher>(
     requires under_way { IsUnderWay machine.now (state_of state.old) }
     ensures runs { RunsPart machine.now (sequence_part sequence.now machine.now.plan.now.count)
         (state_of state.old)
-        (moment (⟦<H as HostSeen>⟧.seen host.old) (⟦<D as DiskSeen>⟧.seen disk.old)
-        (⟦<L as LauncherSeen>⟧.seen launcher.old) ram.old)
+        (⟦<D as Moments<H, L>>⟧.at host.old disk.old launcher.old ram.old)
         result (state_of state.new)
-        (moment (⟦<H as HostSeen>⟧.seen host.new) (⟦<D as DiskSeen>⟧.seen disk.new)
-        (⟦<L as LauncherSeen>⟧.seen launcher.new) ram.new) }
+        (⟦<D as Moments<H, L>>⟧.at host.new disk.new launcher.new ram.new) }
     ensures unasked { machine.now.uris.now ≡ [] → host.new ≡ host.old }
 {
     for step in sequence.as_slice() {
@@ -88,11 +86,9 @@ fn command<'p, H: Host, D: Disk, L: Launcher>(
     ensures runs { RunsPart machine.now
         (command_part (command_tree step.now.command) machine.now.plan.now.count step.now.place)
         (state_of state.old)
-        (moment (⟦<H as HostSeen>⟧.seen host.old) (⟦<D as DiskSeen>⟧.seen disk.old)
-        (⟦<L as LauncherSeen>⟧.seen launcher.old) ram.old)
+        (⟦<D as Moments<H, L>>⟧.at host.old disk.old launcher.old ram.old)
         result (state_of state.new)
-        (moment (⟦<H as HostSeen>⟧.seen host.new) (⟦<D as DiskSeen>⟧.seen disk.new)
-        (⟦<L as LauncherSeen>⟧.seen launcher.new) ram.new) }
+        (⟦<D as Moments<H, L>>⟧.at host.new disk.new launcher.new ram.new) }
     ensures unasked { machine.now.uris.now ≡ [] → host.new ≡ host.old }
     ensures selected { OnOk result (selected_list state.new.selected
         ≡ selected_after (command_tree step.now.command) machine.now.plan.now.count
@@ -131,11 +127,9 @@ fn each<'p, H: Host, D: Disk, L: Launcher>(
         (each_part (command_tree step.now.command) machine.now.plan.now.count step.now.place
         (selected_list state.old.selected))
         (state_of state.old)
-        (moment (⟦<H as HostSeen>⟧.seen host.old) (⟦<D as DiskSeen>⟧.seen disk.old)
-        (⟦<L as LauncherSeen>⟧.seen launcher.old) ram.old)
+        (⟦<D as Moments<H, L>>⟧.at host.old disk.old launcher.old ram.old)
         result (state_of state.new)
-        (moment (⟦<H as HostSeen>⟧.seen host.new) (⟦<D as DiskSeen>⟧.seen disk.new)
-        (⟦<L as LauncherSeen>⟧.seen launcher.new) ram.new) }
+        (⟦<D as Moments<H, L>>⟧.at host.new disk.new launcher.new ram.new) }
     ensures unasked { machine.now.uris.now ≡ [] → host.new ≡ host.old }
     ensures selected { state.new.selected ≡ state.old.selected }
 {
@@ -172,11 +166,9 @@ fn at<'p, H: Host, D: Disk, L: Launcher>(
         (at_part (command_tree step.now.command) machine.now.plan.now.count step.now.place
         component)
         (state_of state.old)
-        (moment (⟦<H as HostSeen>⟧.seen host.old) (⟦<D as DiskSeen>⟧.seen disk.old)
-        (⟦<L as LauncherSeen>⟧.seen launcher.old) ram.old)
+        (⟦<D as Moments<H, L>>⟧.at host.old disk.old launcher.old ram.old)
         result (state_of state.new)
-        (moment (⟦<H as HostSeen>⟧.seen host.new) (⟦<D as DiskSeen>⟧.seen disk.new)
-        (⟦<L as LauncherSeen>⟧.seen launcher.new) ram.new) }
+        (⟦<D as Moments<H, L>>⟧.at host.new disk.new launcher.new ram.new) }
     ensures unasked { machine.now.uris.now ≡ [] → host.new ≡ host.old }
     ensures selected { state.new.selected ≡ state.old.selected }
 {
@@ -224,11 +216,9 @@ fn run_inner<'p, H: Host, D: Disk, L: Launcher>(
         (λ setting. running_inner Device
         (sequence_part inner.now machine.now.plan.now.count setting) component)
         (state_of state.old)
-        (moment (⟦<H as HostSeen>⟧.seen host.old) (⟦<D as DiskSeen>⟧.seen disk.old)
-        (⟦<L as LauncherSeen>⟧.seen launcher.old) ram.old)
+        (⟦<D as Moments<H, L>>⟧.at host.old disk.old launcher.old ram.old)
         result (state_of state.new)
-        (moment (⟦<H as HostSeen>⟧.seen host.new) (⟦<D as DiskSeen>⟧.seen disk.new)
-        (⟦<L as LauncherSeen>⟧.seen launcher.new) ram.new) }
+        (⟦<D as Moments<H, L>>⟧.at host.new disk.new launcher.new ram.new) }
     ensures unasked { machine.now.uris.now ≡ [] → host.new ≡ host.old }
     ensures selected { state.new.selected ≡ state.old.selected }
 {
@@ -274,11 +264,9 @@ fn try_each<'p, H: Host, D: Disk, L: Launcher>(
     requires under_way { IsUnderWay machine.now (state_of state.old) }
     ensures runs { RunsPart machine.now
         (branches_part branches.now machine.now.plan.now.count place component) (state_of state.old)
-        (moment (⟦<H as HostSeen>⟧.seen host.old) (⟦<D as DiskSeen>⟧.seen disk.old)
-        (⟦<L as LauncherSeen>⟧.seen launcher.old) ram.old)
+        (⟦<D as Moments<H, L>>⟧.at host.old disk.old launcher.old ram.old)
         result (state_of state.new)
-        (moment (⟦<H as HostSeen>⟧.seen host.new) (⟦<D as DiskSeen>⟧.seen disk.new)
-        (⟦<L as LauncherSeen>⟧.seen launcher.new) ram.new) }
+        (⟦<D as Moments<H, L>>⟧.at host.new disk.new launcher.new ram.new) }
     ensures unasked { machine.now.uris.now ≡ [] → host.new ≡ host.old }
     ensures selected { state.new.selected ≡ state.old.selected }
 {

@@ -3,12 +3,13 @@
 ghost use Rattle.flash_layout.specs.Slots.{LiesWithin, extent_of, slot_content};
 ghost use Rattle.flash_slots.specs.Contents.{pieces_of};
 ghost use Rattle.flash_slots.specs.RamContents.{held_by, holding};
-ghost use Rattle.std.specs.Prelude.{◌≡◌, ◌<◌, ◌≤◌, ◌+◌, [], ℕ, IsTrue, length};
+ghost use Rattle.std.specs.Prelude.{◌≡◌, ◌<◌, ◌≤◌, [], ℕ, IsTrue, length};
 ghost use Rattle.step_machine.specs.Fetching.{FetchCounts, PutsIn, TakesIn};
-ghost use Rattle.step_machine.specs.Spots.{IsRamBut, IsSpot, OutsideSpot, content_of, room_at};
-ghost use Rattle.suit_edge.specs.Flash.{Grows, Keeps};
+ghost use Rattle.step_machine.specs.Spots.{IsPlaced, IsRamBut, OutsideSpot, content_of};
+ghost use Rattle.suit_edge.specs.Flash.{Keeps};
 ghost use Rattle.suit_edge.specs.Ranges.{Outside};
 
+use crate::outside::{Pulls, Steps};
 use crate::pieces::next_piece;
 use crate::{Spot, Standing};
 use flash_layout::{FlashFault, Slot};
@@ -30,11 +31,9 @@ fn append_file<H: Host, D: Disk>(
     requires none { writing.old.written ≡ 0 }
     requires capacity { writing.old.slot.capacity ≡ capacity }
     requires room { 0 < length room.old }
-    ensures size { D.extent disk.new ≡ D.extent disk.old }
-    ensures counts { FetchCounts result (H.faults host.old) (H.faults host.new) (D.faults disk.old)
-        (D.faults disk.new) }
-    ensures files { IsTrue H.told → H.file host.new ≡ H.file host.old }
-    ensures pulled { IsTrue H.told → H.pulled host.new ≤ H.pulled host.old + (capacity + 1) }
+    ensures goes { ⟦<D as Steps>⟧.goes_on
+        (FetchCounts result (H.faults host.old) (H.faults host.new)) disk.old disk.new }
+    ensures pulls { ⟦<H as Pulls>⟧.pulls capacity host.old host.new }
     ensures slot { writing.new.slot ≡ writing.old.slot }
     ensures within { writing.new.written ≤ capacity }
     ensures puts { IsTrue D.told → IsTrue H.told → PutsIn result capacity (H.rest host.old)
@@ -44,7 +43,6 @@ fn append_file<H: Host, D: Disk>(
     ensures keeps { IsTrue D.told
         → Keeps (Outside writing.old.slot.start (extent_of writing.old.slot)) (D.flash disk.old)
         (D.flash disk.new) }
-    ensures grows { IsTrue D.told → Grows (D.flash disk.old) (D.flash disk.new) }
 {
     let mut left = capacity;
     loop {
@@ -69,17 +67,14 @@ fn take_into_slot<H: Host, D: Disk>(
 ) -> Result<(), Cause>
     requires slot { LiesWithin (D.extent disk.old) slot }
     requires room { 0 < length room.old }
-    ensures size { D.extent disk.new ≡ D.extent disk.old }
-    ensures counts { FetchCounts result (H.faults host.old) (H.faults host.new) (D.faults disk.old)
-        (D.faults disk.new) }
-    ensures files { IsTrue H.told → H.file host.new ≡ H.file host.old }
-    ensures pulled { IsTrue H.told → H.pulled host.new ≤ H.pulled host.old + (slot.capacity + 1) }
     ensures takes { IsTrue D.told → IsTrue H.told
         → TakesIn result slot.capacity (H.rest host.old)
         (slot_content slot (D.flash disk.new).reads) }
     ensures keeps { IsTrue D.told
         → Keeps (Outside slot.start (extent_of slot)) (D.flash disk.old) (D.flash disk.new) }
-    ensures grows { IsTrue D.told → Grows (D.flash disk.old) (D.flash disk.new) }
+    ensures goes { ⟦<D as Steps>⟧.goes_on
+        (FetchCounts result (H.faults host.old) (H.faults host.new)) disk.old disk.new }
+    ensures pulls { ⟦<H as Pulls>⟧.pulls slot.capacity host.old host.new }
 {
     let mut writing = match begin(disk, slot) {
         Ok(writing) => writing,
@@ -108,8 +103,7 @@ fn append_file_in_ram<H: Host>(
     requires room { 0 < length room.old }
     ensures counts { (flash : ℕ)
         → FetchCounts result (H.faults host.old) (H.faults host.new) flash flash }
-    ensures files { IsTrue H.told → H.file host.new ≡ H.file host.old }
-    ensures pulled { IsTrue H.told → H.pulled host.new ≤ H.pulled host.old + (capacity + 1) }
+    ensures pulls { ⟦<H as Pulls>⟧.pulls capacity host.old host.new }
     ensures ram { ram.new ≡ holding ram.old component (held_by ram.new component).content }
     ensures puts { IsTrue H.told
         → PutsIn result capacity (H.rest host.old) (held_by ram.new component).content }
@@ -138,13 +132,12 @@ fn take_into_ram<H: Host>(
     requires component { component < length ram.old }
     requires capacity { (held_by ram.old component).capacity ≡ capacity }
     requires room { 0 < length room.old }
-    ensures counts { (flash : ℕ)
-        → FetchCounts result (H.faults host.old) (H.faults host.new) flash flash }
-    ensures files { IsTrue H.told → H.file host.new ≡ H.file host.old }
-    ensures pulled { IsTrue H.told → H.pulled host.new ≤ H.pulled host.old + (capacity + 1) }
     ensures ram { ram.new ≡ holding ram.old component (held_by ram.new component).content }
     ensures takes { IsTrue H.told
         → TakesIn result capacity (H.rest host.old) (held_by ram.new component).content }
+    ensures counts { (flash : ℕ)
+        → FetchCounts result (H.faults host.old) (H.faults host.new) flash flash }
+    ensures pulls { ⟦<H as Pulls>⟧.pulls capacity host.old host.new }
 {
     ram.clear(component);
     match append_file_in_ram(host, ram, component, capacity, room) {
@@ -166,22 +159,17 @@ pub(crate) fn take_into<H: Host, D: Disk>(
     standing: &Standing,
     room: &mut [u8],
 ) -> Result<(), Cause>
-    requires spot { IsSpot (D.extent disk.old) ram.old standing.now.spot }
-    requires capacity { room_at standing.now.spot ram.old ≡ standing.now.capacity }
+    requires placed { IsPlaced (D.extent disk.old) ram.old standing.now }
     requires room { 0 < length room.old }
-    ensures size { D.extent disk.new ≡ D.extent disk.old }
-    ensures counts { FetchCounts result (H.faults host.old) (H.faults host.new) (D.faults disk.old)
-        (D.faults disk.new) }
-    ensures files { IsTrue H.told → H.file host.new ≡ H.file host.old }
-    ensures pulled { IsTrue H.told
-        → H.pulled host.new ≤ H.pulled host.old + (standing.now.capacity + 1) }
+    ensures goes { ⟦<D as Steps>⟧.goes_on
+        (FetchCounts result (H.faults host.old) (H.faults host.new)) disk.old disk.new }
+    ensures pulls { ⟦<H as Pulls>⟧.pulls standing.now.capacity host.old host.new }
     ensures ram { IsRamBut standing.now.spot ram.old ram.new }
     ensures takes { IsTrue D.told → IsTrue H.told
         → TakesIn result standing.now.capacity (H.rest host.old)
         (content_of standing.now.spot ram.new (D.flash disk.new).reads) }
     ensures keeps { IsTrue D.told
         → Keeps (OutsideSpot standing.now.spot) (D.flash disk.old) (D.flash disk.new) }
-    ensures grows { IsTrue D.told → Grows (D.flash disk.old) (D.flash disk.new) }
 {
     match standing.spot {
         Spot::Flash(slot) => take_into_slot(host, disk, slot, room),

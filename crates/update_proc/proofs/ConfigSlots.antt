@@ -8,7 +8,7 @@ use Rattle.flash_layout.specs.declared.frame.TheConstants.{VERSION_1}
 use Rattle.flash_layout.specs.declared.key.Key.{Key}
 use Rattle.flash_layout.specs.declared.layout.Entry.{Entry}
 use Rattle.flash_layout.specs.ConfigPage.{IsConfigPage, config_page, entries_bytes, entry_bytes, number_bytes, optional_id, padded, page_front}
-use Rattle.flash_layout.specs.Identifiers.{spelled_id}
+use Rattle.suit_params.specs.Identifiers.{spelled_id}
 use Rattle.flash_layout.specs.Layouts.{IsEntry, IsTypedEntry, IsUuid}
 use Rattle.rollback_record.specs.RecordPage.{HasSecondSlot}
 

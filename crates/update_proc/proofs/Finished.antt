@@ -105,20 +105,9 @@ module _ (end : PlanEnd) (answer : UpdateEnd) (d e : ℕ) (finished : FinishedSo
 
 -- a property without a fault of the flash is weakened
 pub unfaulted : (P Q : Type 0) (answer : UpdateEnd) → (P → Q) → IfUnfaulted answer P → IfUnfaulted answer Q
-unfaulted P Q (ends.Installed r) to p = to p
-unfaulted P Q (ends.Lower a b) to p = to p
-unfaulted P Q (ends.OtherDigest a b) to p = to p
-unfaulted P Q ends.Worn to p = to p
-unfaulted P Q (ends.Condition place) to p = to p
-unfaulted P Q (ends.Stopped place causes.Missing) to p = to p
-unfaulted P Q (ends.Stopped place causes.SelfCopy) to p = to p
-unfaulted P Q (ends.Stopped place causes.TooLarge) to p = to p
-unfaulted P Q (ends.Stopped place causes.Absent) to p = to p
-unfaulted P Q (ends.Stopped place causes.HostFault) to p = to p
 unfaulted P Q (ends.Stopped place causes.FlashFault) to p = tt
-unfaulted P Q (ends.Stopped place causes.LaunchFault) to p = to p
 unfaulted P Q ends.FlashFault to p = tt
-unfaulted P Q ends.NoMemory to p = to p
+unfaulted P Q _ to p = to p
 
 -- ---- what was stopped is as before
 

@@ -18,7 +18,7 @@ use Rattle.rollback_record.specs.HeadRecord.{IsLoadable, RecordOf}
 use Rattle.rollback_record.specs.RecordPage.{HasSecondSlot}
 use Rattle.step_machine.specs.Worlds.{IsChoice}
 use Rattle.update_proc.specs.Choices.{AreChosen, active_slots}
-use Rattle.update_proc.specs.InUse.{AreInUse}
+use Rattle.step_machine.specs.InUse.{AreInUse}
 use Rattle.update_proc.proofs.ActiveSlots.{held_active}
 use Rattle.update_proc.proofs.ConfigSlots.{has_two}
 

@@ -58,25 +58,17 @@ for_offer one image wrapper P held stated is says p other digest blocks there sa
 
 pub kept_from : (K L S T : Type 0) → (K → L) → (S → T) → (answer : UpdateEnd) → KeptSo K S answer → KeptSo L T answer
 kept_from K L S T k s (ends.Installed r) is = k is
-kept_from K L S T k s (ends.Lower m n) is = s is
-kept_from K L S T k s (ends.OtherDigest m n) is = s is
-kept_from K L S T k s ends.Worn is = s is
 kept_from K L S T k s (ends.Condition place) is = k is
 kept_from K L S T k s (ends.Stopped place cause) is = k is
 kept_from K L S T k s ends.FlashFault (inl is) = inl (s is)
 kept_from K L S T k s ends.FlashFault (inr is) = inr (k is)
-kept_from K L S T k s ends.NoMemory is = s is
+kept_from K L S T k s _ is = s is
 
 pub whole_from : (K L S T : Type 0) → (S → T) → (K → L) → (answer : UpdateEnd) → WholeSo S K answer → WholeSo T L answer
 whole_from K L S T s k (ends.Installed r) is = k is
-whole_from K L S T s k (ends.Lower m n) is = s is
-whole_from K L S T s k (ends.OtherDigest m n) is = s is
-whole_from K L S T s k ends.Worn is = s is
-whole_from K L S T s k (ends.Condition place) is = s is
-whole_from K L S T s k (ends.Stopped place cause) is = s is
 whole_from K L S T s k ends.FlashFault (inl is) = inl (s is)
 whole_from K L S T s k ends.FlashFault (inr is) = inr (k is)
-whole_from K L S T s k ends.NoMemory is = s is
+whole_from K L S T s k _ is = s is
 
 -- ---- from before the read
 

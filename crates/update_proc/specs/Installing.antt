@@ -1,5 +1,5 @@
 -- The flash at each moment while an envelope is written to a bank and then recorded.
-use Rattle.std.specs.Prelude.{◌≡◌, ◌<◌, ◌≤◌, ◌^◌, ◌-◌, ℕ, List, length, slice_index, Option}
+use Rattle.std.specs.Prelude.{◌≡◌, ◌<◌, ◌≤◌, ◌^◌, ◌-◌, ℕ, List, length, slice_index, IfSome, Option}
 use Rattle.suit_edge.specs.Flash.{Flash, ImageOn}
 use Rattle.suit_edge.specs.Ranges.{Outside, SameOn}
 use Rattle.flash_layout.specs.declared.frame.TheConstants.{VERSION_1}
@@ -10,6 +10,7 @@ use Rattle.flash_layout.specs.Configs.{ConfigOf, Configured}
 use Rattle.flash_layout.specs.Frames.{config_page_of, head_of, record_place}
 use Rattle.rollback_record.specs.declared.page.TheConstants.{RECORD_BYTES}
 use Rattle.rollback_record.specs.Committing.{HasHeldOrNew}
+use Rattle.rollback_record.specs.HeadRecord.{IsLoadable}
 use Rattle.rollback_record.specs.RecordPage.{IsActiveSlot}
 use Rattle.rollback_record.specs.SoundFlash.{IsInstalled, recorded_bank}
 use Rattle.update_proc.specs.Banks.{BesideBank}
@@ -48,6 +49,13 @@ HasActiveSlots image active =
 -- a record after which another one may come
 abbrev pub IsNotWorn : Record → Type 0
 IsNotWorn r = r.generation < 2 ^ 64 - 1
+
+-- a flash of this size may take bytes of that length beside the record
+pub record MayInstall (size : ℕ) (held : Option Record) (bytes : List ℕ) : Type 0 where
+  pub large : VERSION_1.size ≤ size
+  pub loadable : IfSome held (IsLoadable VERSION_1)
+  pub worn : IfSome held IsNotWorn
+  pub fits : length bytes ≤ VERSION_1.bank_size
 
 -- under the layout and the key of this image, the bytes may be installed under the record
 abbrev pub MayBeInstalled : List ℕ → List ℕ → Record → Type 0

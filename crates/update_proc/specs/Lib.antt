@@ -5,7 +5,6 @@ pub mod Choices
 pub mod ChoiceLaws
 pub mod Moments
 pub mod MomentLaws
-pub mod InUse
 pub mod Ends
 pub mod Updates
 pub mod Offered

@@ -5,9 +5,9 @@ ghost use Rattle.flash_layout.specs.Frames.{head_of};
 ghost use Rattle.rollback_record.specs.HeadRecord.{IsLoadable};
 ghost use Rattle.rollback_record.specs.SoundFlash.{recorded_bank};
 ghost use Rattle.std.specs.Prelude.{◌≡◌, ◌↔◌, ◌+◌, ◌<◌, ◌≤◌, IfOk, IsTrue, length, slice_range};
-ghost use Rattle.suit_edge.specs.Flash.{Grows, IsSame};
 
 use flash_layout::{FlashFault, Record, VERSION_1, bank};
+use step_machine::Steps;
 use suit_edge::{Disk, Edge};
 
 // Whether two pieces are the same.
@@ -20,18 +20,15 @@ fn is_equal(a: &[u8], b: &[u8]) -> bool
 // Whether a piece stands at the place.
 fn has_piece<D: Disk>(
     disk: &mut D,
-    place: u64,
     piece: &[u8],
+    place: u64,
     room: &mut [u8],
 ) -> Result<bool, FlashFault>
     requires within { place + length piece.now ≤ D.extent disk.old }
     requires room { length piece.now ≤ length room.old }
-    ensures size { D.extent disk.new ≡ D.extent disk.old }
-    ensures counts { ResultCounts result (D.faults disk.old) (D.faults disk.new) }
     ensures exact { IsTrue D.told → IfOk result (λ same. IsTrue same ↔
         (slice_range (D.flash disk.old).reads place (place + length piece.now) ≡ piece.now)) }
-    ensures same { IsTrue D.told → IsSame (D.flash disk.old) (D.flash disk.new) }
-    ensures grows { IsTrue D.told → Grows (D.flash disk.old) (D.flash disk.new) }
+    ensures read { ⟦<D as Steps>⟧.only_reads (ResultCounts result) disk.old disk.new }
 {
     let count = piece.len();
     match disk.read_at(place, &mut room[..count]) {
@@ -49,12 +46,9 @@ fn has_bytes<D: Disk>(
 ) -> Result<bool, FlashFault>
     requires within { place + length bytes.now ≤ D.extent disk.old }
     requires room { 0 < length room.old }
-    ensures size { D.extent disk.new ≡ D.extent disk.old }
-    ensures counts { ResultCounts result (D.faults disk.old) (D.faults disk.new) }
+    ensures read { ⟦<D as Steps>⟧.only_reads (ResultCounts result) disk.old disk.new }
     ensures exact { IsTrue D.told → IfOk result (λ same. IsTrue same ↔
         (slice_range (D.flash disk.old).reads place (place + length bytes.now) ≡ bytes.now)) }
-    ensures same { IsTrue D.told → IsSame (D.flash disk.old) (D.flash disk.new) }
-    ensures grows { IsTrue D.told → Grows (D.flash disk.old) (D.flash disk.new) }
 {
     // Each place fits a u64, since the flash's size does.
     let _size = disk.size();
@@ -62,7 +56,7 @@ fn has_bytes<D: Disk>(
     while from < bytes.len() {
         let count = room.len().min(bytes.len() - from);
         let piece = &bytes[from..from + count];
-        let same = match has_piece(disk, place + from as u64, piece, room) {
+        let same = match has_piece(disk, piece, place + from as u64, room) {
             Ok(same) => same,
             Err(FlashFault) => return Err(FlashFault),
         };
@@ -81,16 +75,13 @@ pub(crate) fn is_recorded<D: Disk>(
     bytes: &[u8],
     room: &mut [u8],
 ) -> Result<bool, FlashFault>
-    requires size { VERSION_1.size ≤ D.extent disk.old }
-    requires held { IsLoadable VERSION_1 held.now }
     requires room { 0 < length room.old }
-    ensures size { D.extent disk.new ≡ D.extent disk.old }
-    ensures counts { ResultCounts result (D.faults disk.old) (D.faults disk.new) }
+    requires held { IsLoadable VERSION_1 held.now }
+    requires size { VERSION_1.size ≤ D.extent disk.old }
+    ensures read { ⟦<D as Steps>⟧.only_reads (ResultCounts result) disk.old disk.new }
     ensures exact { IsTrue D.told → IfOk result (λ same. IsTrue same ↔
         (recorded_bank VERSION_1 (head_of VERSION_1 (D.flash disk.old).reads) held.now
         ≡ bytes.now)) }
-    ensures same { IsTrue D.told → IsSame (D.flash disk.old) (D.flash disk.new) }
-    ensures grows { IsTrue D.told → Grows (D.flash disk.old) (D.flash disk.new) }
 {
     if held.length != bytes.len() as u64 {
         return Ok(false);

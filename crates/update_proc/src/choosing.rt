@@ -4,6 +4,7 @@ ghost use Rattle.std.specs.Prelude.{◌≡◌, ◌↔◌, ◌⊎◌, ◌<◌, �
 ghost use Rattle.suit_commands.specs.Allowed.{IsPlan};
 ghost use Rattle.suit_commands.specs.Bits.{HasBit};
 ghost use Rattle.suit_commands.specs.Plans.{plan_tree};
+ghost use Rattle.update_proc.specs.ChoiceLaws.{ChoiceLaw};
 ghost use Rattle.update_proc.specs.Choices.{AreChosen, HasWritten};
 
 use flash_layout::{Layout, MAX_ENTRIES, Places};
@@ -68,3 +69,8 @@ pub fn choose(
     }
     numbers
 }
+
+/// Slots that are chosen for an update may be recorded as those in use. Does nothing: its contract is the law.
+pub fn choice_laws()
+    ensures { ChoiceLaw }
+{}

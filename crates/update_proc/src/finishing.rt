@@ -2,29 +2,26 @@
 
 ghost use Rattle.flash_layout.specs.Frames.{head_of};
 ghost use Rattle.rollback_record.specs.Committing.{HasHeldOrNew, InHead};
-ghost use Rattle.rollback_record.specs.HeadRecord.{IsLoadable, RecordOf};
+ghost use Rattle.rollback_record.specs.HeadRecord.{RecordOf};
 ghost use Rattle.rollback_record.specs.SoundFlash.{Follows, IsNoEarlier, Sound};
 ghost use Rattle.std.specs.Prelude.{◌≡◌, ◌<◌, ◌≤◌, IfSome, IsTrue, Some, length, option_map};
 ghost use Rattle.suit_edge.specs.Ranges.{SameOn};
-ghost use Rattle.suit_edge.specs.Flash.{Grows, IsFirmOn, IsSame, IsSettled, Now, Passes};
+ghost use Rattle.suit_edge.specs.Flash.{Grows, IsFirmOn, IsSettled, Now, Passes};
 ghost use Rattle.update_proc.specs.Ends.{FinishedSo, IfInstalled, IfStopped, IfTold, IfUnfaulted, NowOr, SettledSo};
-ghost use Rattle.update_proc.specs.Installing.{BehindHead, HasActiveSlots, IsInstalling, IsNotWorn, MayBeInstalled};
+ghost use Rattle.update_proc.specs.Installing.{BehindHead, HasActiveSlots, IsInstalling, MayBeInstalled, MayInstall};
 ghost use Rattle.update_proc.specs.Records.{new_record};
 ghost use Rattle.update_proc.specs.declared.update_end.UpdateEnd.TheVariants as ends;
 
 use crate::{Offer, UpdateEnd, install};
 use flash_layout::{FlashFault, Record, VERSION_1};
 use path_model::Cause;
-use step_machine::PlanEnd;
+use step_machine::{PlanEnd, Steps};
 use suit_edge::{Disk, Edge};
 
 // Syncs all pending writes, and answers so.
 fn settle<D: Disk>(disk: &mut D, end: UpdateEnd) -> UpdateEnd
-    ensures size { D.extent disk.new ≡ D.extent disk.old }
-    ensures answer { SettledSo end result (D.faults disk.old) (D.faults disk.new) }
+    ensures read { ⟦<D as Steps>⟧.only_reads (SettledSo end result) disk.old disk.new }
     ensures settled { IsTrue D.told → IfUnfaulted result (IsSettled (D.flash disk.new)) }
-    ensures same { IsTrue D.told → IsSame (D.flash disk.old) (D.flash disk.new) }
-    ensures grows { IsTrue D.told → Grows (D.flash disk.old) (D.flash disk.new) }
 {
     match disk.sync() {
         Edge::Done => end,
@@ -34,12 +31,9 @@ fn settle<D: Disk>(disk: &mut D, end: UpdateEnd) -> UpdateEnd
 
 // Syncs what a failed directive left, unless the flash failed there.
 fn stop<D: Disk>(disk: &mut D, place: u64, cause: Cause) -> UpdateEnd
-    ensures size { D.extent disk.new ≡ D.extent disk.old }
-    ensures answer { SettledSo (ends.Stopped place cause) result (D.faults disk.old)
-        (D.faults disk.new) }
     ensures settled { IsTrue D.told → IfUnfaulted result (IsSettled (D.flash disk.new)) }
-    ensures same { IsTrue D.told → IsSame (D.flash disk.old) (D.flash disk.new) }
-    ensures grows { IsTrue D.told → Grows (D.flash disk.old) (D.flash disk.new) }
+    ensures read { ⟦<D as Steps>⟧.only_reads (SettledSo (ends.Stopped place cause) result)
+        disk.old disk.new }
 {
     match cause {
         Cause::FlashFault => UpdateEnd::Stopped { place, cause },
@@ -57,34 +51,32 @@ pub(crate) fn finish<D: Disk>(
     bytes: &[u8],
     room: &mut [u8],
 ) -> UpdateEnd
-    requires size { VERSION_1.size ≤ D.extent disk.old }
-    requires loadable { IfSome (option_map (λ r. r.now) held) (IsLoadable VERSION_1) }
-    requires worn { IfSome (option_map (λ r. r.now) held) IsNotWorn }
-    requires fits { length bytes.now ≤ VERSION_1.bank_size }
     requires room { 0 < length room.old }
+    requires ready { MayInstall (D.extent disk.old) (option_map (λ r. r.now) held)
+        bytes.now }
     requires held { IsTrue D.told
         → RecordOf VERSION_1 (head_of VERSION_1 (D.flash disk.old).reads)
         (option_map (λ r. r.now) held) }
     requires active { IsTrue D.told → HasActiveSlots (D.flash disk.old).reads offer.now.active }
+    ensures behind { IsTrue D.told
+        → SameOn BehindHead (D.flash disk.old).reads (D.flash disk.new).reads }
     ensures size { D.extent disk.new ≡ D.extent disk.old }
     ensures answer { FinishedSo end result (D.faults disk.old) (D.faults disk.new) }
-    ensures new { IsTrue D.told → IfInstalled result
-        (λ r. r ≡ new_record (option_map (λ r. r.now) held.entry) (D.flash disk.old).reads bytes.now
-        offer.now.sequence offer.now.digest offer.now.active) }
     ensures recorded { IsTrue D.told
         → IfInstalled result
         (λ r. RecordOf VERSION_1 (head_of VERSION_1 (D.flash disk.new).reads) (Some r)) }
     ensures stays { IsTrue D.told
         → IfTold result ((D.flash disk.new).reads ≡ (D.flash disk.old).reads) }
+    ensures new { IsTrue D.told → IfInstalled result
+        (λ r. r ≡ new_record (option_map (λ r. r.now) held.entry) (D.flash disk.old).reads bytes.now
+        offer.now.sequence offer.now.digest offer.now.active) }
     ensures still { IsTrue D.told
         → IfStopped end (Passes (D.flash disk.old) (D.flash disk.new) (Now (D.flash disk.old))) }
-    ensures settled { IsTrue D.told → IfUnfaulted result (IsSettled (D.flash disk.new)) }
     ensures reads { IsTrue D.told
         → let held = option_map (λ r. r.now) held.entry in HasHeldOrNew VERSION_1 held
         (new_record held (D.flash disk.old).reads bytes.now offer.now.sequence offer.now.digest
         offer.now.active) (D.flash disk.new).reads }
-    ensures behind { IsTrue D.told
-        → SameOn BehindHead (D.flash disk.old).reads (D.flash disk.new).reads }
+    ensures settled { IsTrue D.told → IfUnfaulted result (IsSettled (D.flash disk.new)) }
     ensures any_moment { IsTrue D.told → let held = option_map (λ r. r.now) held.entry in
         let start = D.flash disk.old in
         Passes start (D.flash disk.new) (NowOr

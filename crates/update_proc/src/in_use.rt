@@ -3,40 +3,16 @@
 ghost use Rattle.flash_layout.specs.declared.frame.TheConstants.{VERSION_1};
 ghost use Rattle.flash_layout.specs.Layouts.{IsLayout};
 ghost use Rattle.std.specs.Prelude.{◌≡◌, ◌≤◌, ℕ, List, length, option_map};
+ghost use Rattle.step_machine.specs.InUse.{AreInUse};
 ghost use Rattle.step_machine.specs.Worlds.{IsChoice};
 ghost use Rattle.suit_commands.specs.Allowed.{IsPlan};
 ghost use Rattle.suit_commands.specs.Plans.{plan_tree};
 ghost use Rattle.update_proc.specs.Choices.{AreChosen, active_slots};
-ghost use Rattle.update_proc.specs.InUse.{AreInUse, slot_in_use};
 
 use crate::choose;
-use flash_layout::{Entry, Layout, MAX_ENTRIES, Places, Record};
-use step_machine::SlotChoice;
+use flash_layout::{Layout, MAX_ENTRIES, Places, Record};
+use step_machine::{SlotChoice, slots_in_use};
 use suit_commands::Plan;
-
-// The slot of this number, where the component has a second one; otherwise its first.
-fn slot_in_use(entry: &Entry, number: u8) -> u8
-    ensures { result ≡ slot_in_use entry.now number }
-{
-    if number == 1 && entry.slots == 2 {
-        1
-    } else {
-        0
-    }
-}
-
-// The slot of its number, for each component of the layout.
-fn slots_in_use(layout: &Layout, active: &[u8; MAX_ENTRIES]) -> [u8; MAX_ENTRIES]
-    requires { length layout.now ≤ 8 }
-    ensures { AreInUse layout.now active.now result }
-{
-    let entries = layout.as_slice();
-    let mut numbers = [0u8; MAX_ENTRIES];
-    for i in 0..entries.len() {
-        numbers[i] = slot_in_use(&entries[i], active[i]);
-    }
-    numbers
-}
 
 // The slots that the record has in use; the first ones without a record.
 fn slots_held(layout: &Layout, held: Option<&Record>) -> [u8; MAX_ENTRIES]

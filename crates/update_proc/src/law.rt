@@ -1,14 +1,8 @@
-//! Laws of updates. The calls here do nothing: their contracts are the laws.
+//! The law of the moments of an update. The call here does nothing: its contract is the law.
 
-ghost use Rattle.update_proc.specs.ChoiceLaws.{ChoiceLaw};
 ghost use Rattle.update_proc.specs.MomentLaws.{EachMoment};
 
 /// The contents of slots while a procedure runs, while a bank is written and while the record is committed.
 pub fn moment_laws()
     ensures { EachMoment }
-{}
-
-/// Slots that are chosen for an update may be recorded as those in use.
-pub fn choice_laws()
-    ensures { ChoiceLaw }
 {}

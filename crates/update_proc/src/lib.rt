@@ -15,10 +15,10 @@ mod update_end;
 mod updating;
 
 pub use bank::write_bank;
-pub use choosing::choose;
+pub use choosing::{choice_laws, choose};
 pub use flash_update::update;
 pub use installing::install;
-pub use law::{choice_laws, moment_laws};
+pub use law::moment_laws;
 pub use offer::Offer;
 pub use update_end::UpdateEnd;
 pub use updating::update_beside;

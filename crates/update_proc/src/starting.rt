@@ -47,35 +47,38 @@ pub(crate) fn start<H: Host, D: Disk, L: Launcher>(
     host: &mut H,
     disk: &mut D,
     launcher: &mut L,
+    accepted: &Accepted<'_>,
+    held: Option<&Record>,
     layout: &Layout,
     places: &Places,
     envelope: &Envelope<'_>,
     plan: &Plan<'_>,
     uris: &Uris,
-    held: Option<&Record>,
-    accepted: &Accepted<'_>,
 ) -> UpdateEnd
     requires size { VERSION_1.size ≤ D.extent disk.old }
     requires layout { IsLayout VERSION_1 (D.extent disk.old) layout.now }
+    requires config { IsTrue D.told → (key : Key)
+        × ConfigOf VERSION_1 (D.extent disk.old) (head_of VERSION_1 (D.flash disk.old).reads)
+        (Configured layout.now key) }
     requires distinct { AreDistinct layout.now places.now }
     requires plan { IsPlan (plan_tree plan.now) }
     requires count { plan.now.count ≡ places.now.count }
     requires loadable { IfSome (option_map (λ r. r.now) held) (IsLoadable VERSION_1) }
-    requires judged { IsAcceptable accepted.now.sequence accepted.now.digest
-        (option_map (λ r. r.now) held) }
-    requires fits { length accepted.now.bytes.now ≤ VERSION_1.bank_size }
     requires held { IsTrue D.told
         → RecordOf VERSION_1 (head_of VERSION_1 (D.flash disk.old).reads)
         (option_map (λ r. r.now) held) }
-    requires config { IsTrue D.told → (key : Key)
-        × ConfigOf VERSION_1 (D.extent disk.old) (head_of VERSION_1 (D.flash disk.old).reads)
-        (Configured layout.now key) }
+    requires judged { IsAcceptable accepted.now.sequence accepted.now.digest
+        (option_map (λ r. r.now) held) }
+    requires fits { length accepted.now.bytes.now ≤ VERSION_1.bank_size }
     ensures size { D.extent disk.new ≡ D.extent disk.old }
+    ensures later { IsTrue D.told → (D.flash disk.old).clock ≤ (D.flash disk.new).clock }
     ensures starts { IsStartEnd result }
     ensures counts { UpdateCounts result
         (counts_of (H.faults host.old) (D.faults disk.old) (L.faults launcher.old))
         (counts_of (H.faults host.new) (D.faults disk.new) (L.faults launcher.new)) }
     ensures files { IsTrue H.told → H.file host.new ≡ H.file host.old }
+    ensures settled { IsTrue D.told → IfUnfaulted result
+        (IsSame (D.flash disk.old) (D.flash disk.new) ⊎ IsSettled (D.flash disk.new)) }
     ensures plays { IsTrue H.told → IsTrue D.told → IsTrue L.told
         → let held = option_map (λ r. r.now) held.entry in
         (payloads : List (List ℕ × List ℕ)) → HasPayloads envelope.now.whole.now payloads
@@ -101,6 +104,7 @@ pub(crate) fn start<H: Host, D: Disk, L: Launcher>(
         (λ numbers. new_record held start accepted.now.bytes.now accepted.now.sequence
         accepted.now.digest numbers)
         start (D.flash disk.new).reads result) ((D.flash disk.new).reads ≡ start) result }
+    ensures grows { IsTrue D.told → Grows (D.flash disk.old) (D.flash disk.new) }
     ensures sound { IsTrue D.told → Settled VERSION_1 (D.flash disk.old)
         → let held = option_map (λ r. r.now) held.entry in
         let start = D.flash disk.old in
@@ -113,10 +117,6 @@ pub(crate) fn start<H: Host, D: Disk, L: Launcher>(
     ensures follows { IsTrue D.told → Settled VERSION_1 (D.flash disk.old)
         → Passes (D.flash disk.old) (D.flash disk.new)
         (Follows VERSION_1 (D.flash disk.old).reads) }
-    ensures settled { IsTrue D.told → IfUnfaulted result
-        (IsSame (D.flash disk.old) (D.flash disk.new) ⊎ IsSettled (D.flash disk.new)) }
-    ensures later { IsTrue D.told → (D.flash disk.old).clock ≤ (D.flash disk.new).clock }
-    ensures grows { IsTrue D.told → Grows (D.flash disk.old) (D.flash disk.new) }
 {
     record_laws();
     sound_laws();

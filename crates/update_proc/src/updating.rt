@@ -148,6 +148,6 @@ pub fn update_beside<H: Host, D: Disk, L: Launcher>(
         digest: *digest,
     };
     start(
-        alloc, host, disk, launcher, layout, places, envelope, &plan, uris, held, &accepted,
+        alloc, host, disk, launcher, &accepted, held, layout, places, envelope, &plan, uris,
     )
 }

@@ -12,15 +12,15 @@ loop-from-preserved g c = record {
   room = search rules;
   size = search rules;
   faults = search rules;
+  same = λ t.
+      same_flash_then _ _ _ _ (g.met.D.Disk.obeys c.loop-from.disk t) (c.loop-from.invariant.same t) (c.read_some.ensures.same t);
+  grows = λ t. grows_then (g.D.Disk.flash c.args.disk.now) (g.D.Disk.flash c.loop-from.disk) (g.D.Disk.flash c.read_some.new.disk) (c.loop-from.invariant.same t).images.later (c.loop-from.invariant.grows t) (c.read_some.ensures.grows t);
   hashed = λ t.
       let image = (g.D.Disk.flash c.args.disk.now).reads in
       let inside : c.args.slot.start + (8 + c.args.slot.capacity) ≤ length image = omega (arith, (g.met.D.Disk.obeys c.args.disk.now t).fits, c.requires.slot) in
       let within : c.loop-from.from + c.in-Ok-read_some.count ≤ c.in-Ok.size = omega (arith, c.in-Ok-read_some.ensures.count, c.loop-from-test.true, c.loop-from.invariant.within) in
       subst (λ (m : List ℕ). Holds256 c.update.new.self m) (more_passed c.args.slot image c.in-Ok.size (c.in-Ok.ensures.exact t) c.in-Ok.ensures.few inside (g.D.Disk.flash c.loop-from.disk).reads c.loop-from.room c.read_some.new.room c.loop-from.from c.in-Ok-read_some.count (c.loop-from.invariant.same t).reads within (c.in-Ok-read_some.ensures.bytes t))
       (c.update.ensures _ (c.loop-from.invariant.hashed t));
-  same = λ t.
-      same_flash_then _ _ _ _ (g.met.D.Disk.obeys c.loop-from.disk t) (c.loop-from.invariant.same t) (c.read_some.ensures.same t);
-  grows = λ t. grows_then (g.D.Disk.flash c.args.disk.now) (g.D.Disk.flash c.loop-from.disk) (g.D.Disk.flash c.read_some.new.disk) (c.loop-from.invariant.same t).images.later (c.loop-from.invariant.grows t) (c.read_some.ensures.grows t);
 }
 
 pub returns-clause-exact : goal.returns-clause-exact

@@ -26,15 +26,15 @@ returns-clause-host g c th td tl =
 
 pub returns-clause-safe : goal.returns-clause-safe
 returns-clause-safe g c th td tl sound =
+    let layout = c.args.layout.now in
+    let key = c.args.key.now in
     let d = g.D.Disk in
+    let size = d.extent c.args.disk.now in
     let reads = (d.flash c.args.disk.now).reads in
     let after = (d.flash c.start_installed.new.disk).reads in
     let files = g.H.Host.file c.args.host.now in
     let launched = g.L.Launcher.launches c.args.launcher.now in
     let now = g.L.Launcher.launches c.start_installed.new.launcher in
-    let layout = c.args.layout.now in
-    let key = c.args.key.now in
-    let size = d.extent c.args.disk.now in
     let config = subst (λ (n : ℕ). ConfigOf VERSION_1 n (head_of VERSION_1 reads) (Configured layout key)) (sym (g.met.D.Disk.obeys c.args.disk.now td).fits) (c.requires.held td) in
     played_gains c.play_laws.ensures.safe c.play_laws.ensures.faulted_safe c.manifest_laws.ensures size layout c.requires.allowed.layout_is c.has_identifiers.ensures key files reads after launched now
     (PlaysBoot layout key files reads after launched now) c.start_installed.result
@@ -44,19 +44,13 @@ returns-clause-safe g c th td tl sound =
 
 pub returns-clause-sound : goal.returns-clause-sound
 returns-clause-sound g c t settled =
-    let d = g.D.Disk in
-    let a = d.flash c.args.disk.now in
-    let b = d.flash c.start_installed.new.disk in
-    sound_since c.sound_laws.ensures a b (d.extent c.args.disk.now) (g.met.D.Disk.obeys c.args.disk.now t) c.requires.allowed.whole settled
-    (head_kept c.manifest_laws.ensures (d.extent c.args.disk.now) c.args.layout.now c.requires.allowed.layout_is c.requires.allowed.typed.entries c.args.key.now a b c.start_installed.result (c.start_installed.ensures.keeps t))
+    sound_since c.sound_laws.ensures (g.D.Disk.flash c.args.disk.now) (g.D.Disk.flash c.start_installed.new.disk) (g.D.Disk.extent c.args.disk.now) (g.met.D.Disk.obeys c.args.disk.now t) c.requires.allowed.whole settled
+    (head_kept c.manifest_laws.ensures (g.D.Disk.extent c.args.disk.now) c.args.layout.now c.requires.allowed.layout_is c.requires.allowed.typed.entries c.args.key.now (g.D.Disk.flash c.args.disk.now) (g.D.Disk.flash c.start_installed.new.disk) c.start_installed.result (c.start_installed.ensures.keeps t))
 
 pub returns-clause-follows : goal.returns-clause-follows
 returns-clause-follows g c t settled =
-    let d = g.D.Disk in
-    let a = d.flash c.args.disk.now in
-    let b = d.flash c.start_installed.new.disk in
-    follows_since c.sound_laws.ensures a b (d.extent c.args.disk.now) (g.met.D.Disk.obeys c.args.disk.now t) c.requires.allowed.whole settled
-    (head_kept c.manifest_laws.ensures (d.extent c.args.disk.now) c.args.layout.now c.requires.allowed.layout_is c.requires.allowed.typed.entries c.args.key.now a b c.start_installed.result (c.start_installed.ensures.keeps t))
+    follows_since c.sound_laws.ensures (g.D.Disk.flash c.args.disk.now) (g.D.Disk.flash c.start_installed.new.disk) (g.D.Disk.extent c.args.disk.now) (g.met.D.Disk.obeys c.args.disk.now t) c.requires.allowed.whole settled
+    (head_kept c.manifest_laws.ensures (g.D.Disk.extent c.args.disk.now) c.args.layout.now c.requires.allowed.layout_is c.requires.allowed.typed.entries c.args.key.now (g.D.Disk.flash c.args.disk.now) (g.D.Disk.flash c.start_installed.new.disk) c.start_installed.result (c.start_installed.ensures.keeps t))
 
 pub returns-clause-settled : goal.returns-clause-settled
 returns-clause-settled g c t settled =

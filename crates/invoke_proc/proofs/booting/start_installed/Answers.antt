@@ -75,8 +75,6 @@ returns-clause-keeps g c t =
 
 pub returns-clause-settled : goal.returns-clause-settled
 returns-clause-settled g c t =
-    let d = g.D.Disk in
-    let a = d.flash c.args.disk.now in
-    let b = d.flash c.find_bank.new.disk in
-    let e = d.flash c.start.new.disk in
-    unfaulted _ _ c.start.result (booted.settled_from a b e _ (g.met.D.Disk.obeys c.find_bank.new.disk t) (c.in-Ok.ensures.same t)) (c.start.ensures.settled t)
+    unfaulted _ _ c.start.result
+    (booted.settled_from (g.D.Disk.flash c.args.disk.now) (g.D.Disk.flash c.find_bank.new.disk) (g.D.Disk.flash c.start.new.disk) _ (g.met.D.Disk.obeys c.find_bank.new.disk t) (c.in-Ok.ensures.same t))
+    (c.start.ensures.settled t)

@@ -18,10 +18,10 @@ pub run_plan-end-requires-clause-count : goal.run_plan-end-requires-clause-count
 run_plan-end-requires-clause-count g c = ap (λ (t : PlanTree). t.count) c.invocation_plan-plan.ensures ∙ sym c.in-Ok.ensures.count
 
 pub returns-clause-starts : goal.returns-clause-starts
-returns-clause-starts g c = starts_after c.run_plan-end.result c.settle.result _ _ c.settle.ensures.answer
+returns-clause-starts g c = starts_after c.run_plan-end.result c.settle.result _ _ c.settle.ensures.read.counts
 
 pub returns-clause-counts : goal.returns-clause-counts
-returns-clause-counts g c = counts_after c.run_plan-end.result c.settle.result _ _ c.settle.ensures.answer _ _ _ _ _ c.run_plan-end.ensures.counts
+returns-clause-counts g c = counts_after c.run_plan-end.result c.settle.result _ _ c.settle.ensures.read.counts _ _ _ _ _ c.run_plan-end.ensures.counts
 
 pub returns-clause-plays : goal.returns-clause-plays
 returns-clause-plays g c th td tl payloads has =
@@ -33,10 +33,10 @@ returns-clause-plays g c th td tl payloads has =
     let files = g.H.Host.file c.args.host.now in
     let launched = g.L.Launcher.launches c.args.launcher.now in
     let now = g.L.Launcher.launches c.run_plan-end.new.launcher in
-    plays_after c.run_plan-end.result c.settle.result _ _ c.settle.ensures.answer
+    plays_after c.run_plan-end.result c.settle.result _ _ c.settle.ensures.read.counts
     (PlaysOn c.args.layout.now c.args.startable.now.manifest c.args.installed.now.active payloads files before after launched now) launched now
     (plays_on c.args.layout.now c.args.startable.now.manifest c.args.installed.now.active payloads w.uris.now files before between after launched now c.run_plan-end.result
-    w.standings.items w.ram c.run_plan-end.new.world.ram c.in-Ok.ensures.stand c.in-Ok.ensures.ram (c.in-Ok.ensures.uris ∙ c.new-uris.ensures) (c.settle.ensures.same td).reads _ c.invocation_plan-plan.ensures
+    w.standings.items w.ram c.run_plan-end.new.world.ram c.in-Ok.ensures.stand c.in-Ok.ensures.ram (c.in-Ok.ensures.uris ∙ c.new-uris.ensures) (c.settle.ensures.read.same td).reads _ c.invocation_plan-plan.ensures
     (c.run_plan-end.ensures.plays th td tl payloads (subst (λ (e : Envelope). HasPayloads e.whole.now payloads) (sym c.in-Ok.ensures.envelope) has)))
 
 pub returns-clause-keeps : goal.returns-clause-keeps
@@ -44,10 +44,10 @@ returns-clause-keeps g c td =
     let d = g.D.Disk in
     let a = d.flash c.args.disk.now in
     let e = d.flash c.settle.new.disk in
-    kept_after c.run_plan-end.result c.settle.result _ _ c.settle.ensures.answer
+    kept_after c.run_plan-end.result c.settle.result _ _ c.settle.ensures.read.counts
     (KeepsOthers c.args.layout.now c.args.startable.now.manifest c.args.installed.now.active a e) (IsSame a e)
     (keeps_on c.args.layout.now c.args.startable.now.manifest c.args.installed.now.active c.in-Ok.world.standings.items a (d.flash c.run_plan-end.new.disk) e _
-    (g.met.D.Disk.obeys c.run_plan-end.new.disk td) c.in-Ok.ensures.stand _ c.invocation_plan-plan.ensures (c.run_plan-end.ensures.keeps td) (c.settle.ensures.same td))
+    (g.met.D.Disk.obeys c.run_plan-end.new.disk td) c.in-Ok.ensures.stand _ c.invocation_plan-plan.ensures (c.run_plan-end.ensures.keeps td) (c.settle.ensures.read.same td))
 
 pub returns-clause-unasked : goal.returns-clause-unasked
 returns-clause-unasked g c = c.run_plan-end.ensures.unasked (c.in-Ok.ensures.uris ∙ c.new-uris.ensures)

@@ -18,7 +18,7 @@ returns-then-standing-size-clause-ram g c = ram_same c.args.standing.now.spot c.
 
 pub returns-in-Err-clause-copies : goal.returns-in-Err-clause-copies
 returns-in-Err-clause-copies g c t =
-    copy_unread c.args.standing.now c.args.source.now c.args.ram.now _ _ (omega (arith, c.if-source-standing.false)) (c.length_at.ensures.same t).reads (omega (arith, c.content_fits.ensures, c.requires.capacity))
+    copy_unread c.args.standing.now c.args.source.now c.args.ram.now _ _ (omega (arith, c.if-source-standing.false)) (c.length_at.ensures.read.same t).reads (omega (arith, c.content_fits.ensures, c.requires.capacity))
 
 pub returns-in-Ok-copy_content-clause-copies : goal.returns-in-Ok-copy_content-clause-copies
 returns-in-Ok-copy_content-clause-copies g c t =
@@ -29,7 +29,7 @@ returns-in-Ok-copy_content-clause-copies g c t =
     let fits : length (content_of c.args.source.now.spot c.args.ram.now (g.D.Disk.flash c.args.disk.now).reads) ≤ c.args.standing.now.capacity = omega (arith, size, c.if-standing-size.false) in
     let is : after ≡ content_of c.args.source.now.spot c.args.ram.now (g.D.Disk.flash c.args.disk.now).reads =
     c.in-Ok-copy_content.ensures.content t
-    ∙ ap (λ (l : List ℕ). take c.in-Ok.size (area_at c.args.source.now.spot c.args.ram.now l)) (c.length_at.ensures.same t).reads
+    ∙ ap (λ (l : List ℕ). take c.in-Ok.size (area_at c.args.source.now.spot c.args.ram.now l)) (c.length_at.ensures.read.same t).reads
     ∙ sym (content_front c.args.source.now.spot c.args.ram.now (g.D.Disk.flash c.args.disk.now).reads c.in-Ok.size inside size) in
     copy_done c.args.standing.now.component c.args.standing.now.capacity c.args.source.now.component (content_of c.args.source.now.spot c.args.ram.now (g.D.Disk.flash c.args.disk.now).reads) (content_of c.args.standing.now.spot c.args.ram.now (g.D.Disk.flash c.args.disk.now).reads) after other _ fits is
 
@@ -42,18 +42,18 @@ returns-in-Err-copy_content-clause-copies g c t =
 
 pub returns-in-Ok-copy_content-clause-source : goal.returns-in-Ok-copy_content-clause-source
 returns-in-Ok-copy_content-clause-source g c t =
-    source_stays c.args.standing.now.spot c.args.source.now.spot c.args.ram.now c.copy_content.new.ram _ _ _ _ (c.requires.apart (omega (arith, c.if-source-standing.false))) c.requires.source (c.length_at.ensures.same t).reads
-    ((g.met.D.Disk.obeys c.length_at.new.disk t).fits ∙ c.length_at.ensures.size) c.copy_content.ensures.ram (c.copy_content.ensures.keeps t)
+    source_stays c.args.standing.now.spot c.args.source.now.spot c.args.ram.now c.copy_content.new.ram _ _ _ _ (c.requires.apart (omega (arith, c.if-source-standing.false))) c.requires.source (c.length_at.ensures.read.same t).reads
+    ((g.met.D.Disk.obeys c.length_at.new.disk t).fits ∙ c.length_at.ensures.read.size) c.copy_content.ensures.ram (c.copy_content.ensures.keeps t)
 
 pub returns-in-Err-copy_content-clause-source : goal.returns-in-Err-copy_content-clause-source
 returns-in-Err-copy_content-clause-source g c t =
-    source_stays c.args.standing.now.spot c.args.source.now.spot c.args.ram.now c.copy_content.new.ram _ _ _ _ (c.requires.apart (omega (arith, c.if-source-standing.false))) c.requires.source (c.length_at.ensures.same t).reads
-    ((g.met.D.Disk.obeys c.length_at.new.disk t).fits ∙ c.length_at.ensures.size) c.copy_content.ensures.ram (c.copy_content.ensures.keeps t)
+    source_stays c.args.standing.now.spot c.args.source.now.spot c.args.ram.now c.copy_content.new.ram _ _ _ _ (c.requires.apart (omega (arith, c.if-source-standing.false))) c.requires.source (c.length_at.ensures.read.same t).reads
+    ((g.met.D.Disk.obeys c.length_at.new.disk t).fits ∙ c.length_at.ensures.read.size) c.copy_content.ensures.ram (c.copy_content.ensures.keeps t)
 
 pub returns-in-Ok-copy_content-clause-keeps : goal.returns-in-Ok-copy_content-clause-keeps
 returns-in-Ok-copy_content-clause-keeps g c t =
-    read_then (OutsideSpot c.args.standing.now.spot) _ _ _ _ (g.met.D.Disk.obeys c.length_at.new.disk t) (c.length_at.ensures.same t) (c.copy_content.ensures.keeps t)
+    read_then (OutsideSpot c.args.standing.now.spot) _ _ _ _ (g.met.D.Disk.obeys c.length_at.new.disk t) (c.length_at.ensures.read.same t) (c.copy_content.ensures.keeps t)
 
 pub returns-in-Err-copy_content-clause-keeps : goal.returns-in-Err-copy_content-clause-keeps
 returns-in-Err-copy_content-clause-keeps g c t =
-    read_then (OutsideSpot c.args.standing.now.spot) _ _ _ _ (g.met.D.Disk.obeys c.length_at.new.disk t) (c.length_at.ensures.same t) (c.copy_content.ensures.keeps t)
+    read_then (OutsideSpot c.args.standing.now.spot) _ _ _ _ (g.met.D.Disk.obeys c.length_at.new.disk t) (c.length_at.ensures.read.same t) (c.copy_content.ensures.keeps t)

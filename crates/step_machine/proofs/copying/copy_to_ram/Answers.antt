@@ -33,6 +33,6 @@ loop-from-preserved g c =
           more_put (area_at c.args.source ram first.reads) here (held_by c.append.new.self component).content piece c.loop-from.from c.in-Ok.count (c.loop-from.invariant.content t)
           (c.in-Ok.ensures.bytes t ∙ ap (λ (l : List ℕ). take c.in-Ok.count (drop c.loop-from.from l)) same) behind.1;
       same = λ t.
-          same_flash_then _ _ _ _ (g.met.D.Disk.obeys c.loop-from.disk t) (c.loop-from.invariant.same t) (c.read_piece.ensures.same t);
-      grows = λ t. grows_then (g.D.Disk.flash c.args.disk.now) (g.D.Disk.flash c.loop-from.disk) (g.D.Disk.flash c.read_piece.new.disk) (c.loop-from.invariant.same t).images.later (c.loop-from.invariant.grows t) (c.read_piece.ensures.grows t);
+          same_flash_then _ _ _ _ (g.met.D.Disk.obeys c.loop-from.disk t) (c.loop-from.invariant.same t) (c.read_piece.ensures.read.same t);
+      grows = λ t. grows_then (g.D.Disk.flash c.args.disk.now) (g.D.Disk.flash c.loop-from.disk) (g.D.Disk.flash c.read_piece.new.disk) (c.loop-from.invariant.same t).images.later (c.loop-from.invariant.grows t) (c.read_piece.ensures.read.grows t);
     }

@@ -1,7 +1,9 @@
 use Rattle.std.proofs.Common.{◌≡◌, ◌≤◌, ◌+◌, ◌∙◌, List, ℕ, length, take, drop, refl, sym, ap, subst, arith, rules}
 use Rattle.std.proofs.lemmas.List.{length-take-le}
-use Rattle.suit_edge.specs.FlashLaws.{grows_then}
+use Rattle.suit_edge.specs.FlashLaws.{grows_then, keeps_same, keeps_then}
+use Rattle.suit_edge.specs.Ranges.{Outside}
 use Rattle.flash_layout.specs.declared.slot.Slot.{Slot}
+use Rattle.flash_layout.specs.Slots.{extent_of}
 use Rattle.flash_slots.specs.Contents.{pieces_of}
 use Rattle.step_machine.specs.declared.spot.Spot.TheVariants as spots
 use Rattle.step_machine.specs.Areas.{area_at}
@@ -10,6 +12,11 @@ use Rattle.step_machine.proofs.Ranging.{read_and_put}
 use Rattle.step_machine.proofs.Rooms.{kept_area, more_put}
 use Rattle.step_machine.proofs.copying.put_pieces.Goals as goal
 
+pub returns-in-Err-clause-keeps : goal.returns-in-Err-clause-keeps
+returns-in-Err-clause-keeps g c t =
+    let outside : ℕ → Type 0 = Outside c.args.writing.now.slot.start (extent_of c.args.writing.now.slot) in
+    keeps_then outside _ _ _ _ (g.met.D.Disk.obeys c.loop-from.disk t) (c.loop-from.invariant.keeps t) (keeps_same outside _ _ (c.read_piece.ensures.read.same t))
+
 pub returns-in-Err-append-clause-keeps : goal.returns-in-Err-append-clause-keeps
 returns-in-Err-append-clause-keeps g c t =
     let slot = c.args.writing.now.slot in
@@ -17,7 +24,7 @@ returns-in-Err-append-clause-keeps g c t =
     let few : c.in-Ok.count ≤ length c.read_piece.new.room = omega (arith, c.in-Ok.ensures.count, c.read_piece.auto.room) in
     let count : length (take c.in-Ok.count c.read_piece.new.room) ≡ c.in-Ok.count = length-take-le c.in-Ok.count c.read_piece.new.room few in
     let within : c.loop-from.from + c.in-Ok.count ≤ slot.capacity = omega (arith, c.in-Ok.ensures.count, c.loop-from-test.true, c.requires.fits) in
-    read_and_put slot c.loop-from.writing.slot _ _ _ _ _ _ _ _ c.loop-from.invariant.slot (omega (arith, written, count, within)) (g.met.D.Disk.obeys c.loop-from.disk t) (g.met.D.Disk.obeys c.read_piece.new.disk t) (c.loop-from.invariant.keeps t) (c.read_piece.ensures.same t) (c.append.ensures.keeps t)
+    read_and_put slot c.loop-from.writing.slot _ _ _ _ _ _ _ _ c.loop-from.invariant.slot (omega (arith, written, count, within)) (g.met.D.Disk.obeys c.loop-from.disk t) (g.met.D.Disk.obeys c.read_piece.new.disk t) (c.loop-from.invariant.keeps t) (c.read_piece.ensures.read.same t) (c.append.ensures.keeps t)
 
 pub loop-from-preserved : goal.loop-from-preserved
 loop-from-preserved g c =
@@ -45,17 +52,17 @@ loop-from-preserved g c =
           let was : pieces_of c.loop-from.writing.slot c.loop-from.writing.written (g.D.Disk.flash c.read_piece.new.disk).reads ≡ take c.loop-from.from (area_at c.args.source c.args.ram.now first.reads) =
           ap (λ (x : Slot). pieces_of x c.loop-from.writing.written (g.D.Disk.flash c.read_piece.new.disk).reads) c.loop-from.invariant.slot
           ∙ ap (λ (n : ℕ). pieces_of slot n (g.D.Disk.flash c.read_piece.new.disk).reads) written
-          ∙ ap (pieces_of slot c.loop-from.from) (c.read_piece.ensures.same t).reads ∙ c.loop-from.invariant.pieces t in
+          ∙ ap (pieces_of slot c.loop-from.from) (c.read_piece.ensures.read.same t).reads ∙ c.loop-from.invariant.pieces t in
           ap (λ (n : ℕ). pieces_of slot n last) (sym now) ∙ ap (λ (x : Slot). pieces_of x c.append.new.self.written last) (sym kept)
           ∙ more_put (area_at c.args.source c.args.ram.now first.reads) _ _ piece c.loop-from.from c.in-Ok.count was
           (c.in-Ok.ensures.bytes t ∙ ap (λ (l : List ℕ). take c.in-Ok.count (drop c.loop-from.from l)) same) (c.in-Ok-append.ensures.pieces t);
-      keeps = λ t. read_and_put slot c.loop-from.writing.slot _ _ _ _ _ _ _ _ c.loop-from.invariant.slot (omega (arith, written, count, within)) (g.met.D.Disk.obeys c.loop-from.disk t) (g.met.D.Disk.obeys c.read_piece.new.disk t) (c.loop-from.invariant.keeps t) (c.read_piece.ensures.same t) (c.append.ensures.keeps t);
+      keeps = λ t. read_and_put slot c.loop-from.writing.slot _ _ _ _ _ _ _ _ c.loop-from.invariant.slot (omega (arith, written, count, within)) (g.met.D.Disk.obeys c.loop-from.disk t) (g.met.D.Disk.obeys c.read_piece.new.disk t) (c.loop-from.invariant.keeps t) (c.read_piece.ensures.read.same t) (c.append.ensures.keeps t);
       grows = λ t.
           let first = g.D.Disk.flash c.args.disk.now in
           let f = g.D.Disk.flash c.loop-from.disk in
           let h = g.D.Disk.flash c.read_piece.new.disk in
           let one = (c.loop-from.invariant.keeps t).images.later in
-          let two = (c.read_piece.ensures.same t).images.later in
+          let two = (c.read_piece.ensures.read.same t).images.later in
           grows_then first h (g.D.Disk.flash c.append.new.disk) (omega (arith, one, two))
-          (grows_then first f h one (c.loop-from.invariant.grows t) (c.read_piece.ensures.grows t)) (c.append.ensures.grows t);
+          (grows_then first f h one (c.loop-from.invariant.grows t) (c.read_piece.ensures.read.grows t)) (c.append.ensures.grows t);
     }

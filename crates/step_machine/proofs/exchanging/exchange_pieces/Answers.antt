@@ -25,7 +25,7 @@ loop-from-init g c = record {
 
 pub returns-in-Err-clause-ram : goal.returns-in-Err-clause-ram
 returns-in-Err-clause-ram g c =
-    both_then c.args.one c.args.other c.args.ram.now c.loop-from.ram c.exchange_piece.new.ram c.requires.clear c.loop-from.invariant.ram c.exchange_piece.ensures.ram
+    both_then c.args.one c.args.other c.args.ram.now c.loop-from.ram c.exchange_piece.new.ram c.requires.pair.clear c.loop-from.invariant.ram c.exchange_piece.ensures.ram
 
 pub returns-in-Err-clause-keeps : goal.returns-in-Err-clause-keeps
 returns-in-Err-clause-keeps g c t =
@@ -49,25 +49,25 @@ loop-from-preserved g c =
       spare = omega (arith, length-append c.exchange_piece.new.spare (drop n c.loop-from.spare), length-drop n c.loop-from.spare, c.exchange_piece.auto.spare, spare_taken, spare_few, c.loop-from.invariant.spare);
       long = c.exchange_piece.ensures.long ∙ c.loop-from.invariant.long;
       other_long = c.exchange_piece.ensures.other_long ∙ c.loop-from.invariant.other_long;
-      ram = both_then one other ram c.loop-from.ram c.exchange_piece.new.ram c.requires.clear c.loop-from.invariant.ram c.exchange_piece.ensures.ram;
-      size = c.exchange_piece.ensures.size ∙ c.loop-from.invariant.size;
-      faults = c.in-Ok.ensures.counts ∙ c.loop-from.invariant.faults;
+      ram = both_then one other ram c.loop-from.ram c.exchange_piece.new.ram c.requires.pair.clear c.loop-from.invariant.ram c.exchange_piece.ensures.ram;
+      size = c.exchange_piece.ensures.goes.size ∙ c.loop-from.invariant.size;
+      faults = c.in-Ok.ensures.goes.counts ∙ c.loop-from.invariant.faults;
       one = λ t.
-          piece_mixed one other ram c.loop-from.ram _ (g.D.Disk.flash c.loop-from.disk).reads _ _ from n _ (g.met.D.Disk.obeys c.args.disk.now t).fits c.requires.one c.requires.other (omega (arith, within, c.requires.within)) (omega (arith, within, c.requires.other_within)) room_taken
+          piece_mixed one other ram c.loop-from.ram _ (g.D.Disk.flash c.loop-from.disk).reads _ _ from n _ (g.met.D.Disk.obeys c.args.disk.now t).fits c.requires.pair.one c.requires.pair.other (omega (arith, within, c.requires.within)) (omega (arith, within, c.requires.other_within)) room_taken
           (c.loop-from.invariant.one t) (c.loop-from.invariant.other t) (c.in-Ok.ensures.one t);
       other = λ t.
-          piece_mixed other one ram c.loop-from.ram _ (g.D.Disk.flash c.loop-from.disk).reads _ _ from n _ (g.met.D.Disk.obeys c.args.disk.now t).fits c.requires.other c.requires.one (omega (arith, within, c.requires.other_within)) (omega (arith, within, c.requires.within)) room_taken
+          piece_mixed other one ram c.loop-from.ram _ (g.D.Disk.flash c.loop-from.disk).reads _ _ from n _ (g.met.D.Disk.obeys c.args.disk.now t).fits c.requires.pair.other c.requires.pair.one (omega (arith, within, c.requires.other_within)) (omega (arith, within, c.requires.within)) room_taken
           (c.loop-from.invariant.other t) (c.loop-from.invariant.one t) (c.in-Ok.ensures.other t);
       keeps = λ t.
           keeps_then (OutsideBoth one other) _ (g.D.Disk.flash c.loop-from.disk) _ _ (g.met.D.Disk.obeys c.loop-from.disk t) (c.loop-from.invariant.keeps t) (c.exchange_piece.ensures.keeps t);
       grows = λ t.
-          grows_then (g.D.Disk.flash c.args.disk.now) (g.D.Disk.flash c.loop-from.disk) (g.D.Disk.flash c.exchange_piece.new.disk) (c.loop-from.invariant.keeps t).images.later (c.loop-from.invariant.grows t) (c.exchange_piece.ensures.grows t);
+          grows_then (g.D.Disk.flash c.args.disk.now) (g.D.Disk.flash c.loop-from.disk) (g.D.Disk.flash c.exchange_piece.new.disk) (c.loop-from.invariant.keeps t).images.later (c.loop-from.invariant.grows t) (c.exchange_piece.ensures.goes.grows t);
     }
 
 pub returns-clause-one : goal.returns-clause-one
 returns-clause-one g c t =
-    all_mixed c.args.one c.args.other c.args.ram.now _ _ _ c.loop-from.from c.args.size (g.met.D.Disk.obeys c.args.disk.now t).fits c.requires.other (omega (arith, c.loop-from-test.false, c.loop-from.invariant.within)) c.requires.other_within (c.loop-from.invariant.one t)
+    all_mixed c.args.one c.args.other c.args.ram.now _ _ _ c.loop-from.from c.args.size (g.met.D.Disk.obeys c.args.disk.now t).fits c.requires.pair.other (omega (arith, c.loop-from-test.false, c.loop-from.invariant.within)) c.requires.other_within (c.loop-from.invariant.one t)
 
 pub returns-clause-other : goal.returns-clause-other
 returns-clause-other g c t =
-    all_mixed c.args.other c.args.one c.args.ram.now _ _ _ c.loop-from.from c.args.size (g.met.D.Disk.obeys c.args.disk.now t).fits c.requires.one (omega (arith, c.loop-from-test.false, c.loop-from.invariant.within)) c.requires.within (c.loop-from.invariant.other t)
+    all_mixed c.args.other c.args.one c.args.ram.now _ _ _ c.loop-from.from c.args.size (g.met.D.Disk.obeys c.args.disk.now t).fits c.requires.pair.one (omega (arith, c.loop-from-test.false, c.loop-from.invariant.within)) c.requires.within (c.loop-from.invariant.other t)

@@ -30,9 +30,9 @@ invariant-sequence-loop-step g l = record {
 
 abbrev pub invariant-try_each-loop-branch : goal.invariant-try_each-loop-branch
 invariant-try_each-loop-branch g l = record {
+  same : l.state ≡ l.initial.state;
   whole : branches_tree l.branch-items ≡ l.branches;
   ready : IsReady l.machine (g.D.Disk.extent l.disk) l.ram;
-  same : l.state ≡ l.initial.state;
   allowed : AllowsBranches l.machine (branches_tree (drop l.branch-index l.branch-items)) l.component;
   begun : Begun l.machine (branches_part l.branches l.machine.plan.now.count l.place l.component) (branches_part (branches_tree (drop l.branch-index l.branch-items)) l.machine.plan.now.count l.place l.component)
       (state_of l.initial.state) (moment (record { told = g.H.Host.told; files = g.H.Host.file l.initial.host; faults = g.H.Host.faults l.initial.host }) (record { told = g.D.Disk.told; size = g.D.Disk.extent l.initial.disk; flash = g.D.Disk.flash l.initial.disk; faults = g.D.Disk.faults l.initial.disk }) (record { told = g.L.Launcher.told; launches = g.L.Launcher.launches l.initial.launcher; faults = g.L.Launcher.faults l.initial.launcher }) l.initial.ram) (state_of l.initial.state) (moment (record { told = g.H.Host.told; files = g.H.Host.file l.host; faults = g.H.Host.faults l.host }) (record { told = g.D.Disk.told; size = g.D.Disk.extent l.disk; flash = g.D.Disk.flash l.disk; faults = g.D.Disk.faults l.disk }) (record { told = g.L.Launcher.told; launches = g.L.Launcher.launches l.launcher; faults = g.L.Launcher.faults l.launcher }) l.ram);

@@ -25,33 +25,33 @@ returns-then-source-size-clause-ram g c = both_same c.args.standing.now.spot c.a
 
 pub returns-in-Err-clause-swaps : goal.returns-in-Err-clause-swaps
 returns-in-Err-clause-swaps g c t =
-    swap_unread c.args.standing.now c.args.source.now c.args.ram.now (g.D.Disk.flash c.args.disk.now).reads _ (omega (arith, c.if-source-standing.false)) (c.length_at.ensures.same t).reads (omega (arith, c.content_fits.ensures, c.requires.capacity)) (omega (arith, c.content_fits-2.ensures, c.requires.source_capacity))
+    swap_unread c.args.standing.now c.args.source.now c.args.ram.now (g.D.Disk.flash c.args.disk.now).reads _ (omega (arith, c.if-source-standing.false)) (c.length_at.ensures.read.same t).reads (omega (arith, c.content_fits.ensures, c.requires.capacity)) (omega (arith, c.content_fits-2.ensures, c.requires.source_capacity))
 
 pub returns-in-Err-length_at-clause-swaps : goal.returns-in-Err-length_at-clause-swaps
 returns-in-Err-length_at-clause-swaps g c t =
-    swap_unread c.args.standing.now c.args.source.now c.args.ram.now (g.D.Disk.flash c.args.disk.now).reads _ (omega (arith, c.if-source-standing.false)) ((c.length_at-2.ensures.same t).reads ∙ (c.length_at.ensures.same t).reads) (omega (arith, c.content_fits.ensures, c.requires.capacity)) (omega (arith, c.content_fits-2.ensures, c.requires.source_capacity))
+    swap_unread c.args.standing.now c.args.source.now c.args.ram.now (g.D.Disk.flash c.args.disk.now).reads _ (omega (arith, c.if-source-standing.false)) ((c.length_at-2.ensures.read.same t).reads ∙ (c.length_at.ensures.read.same t).reads) (omega (arith, c.content_fits.ensures, c.requires.capacity)) (omega (arith, c.content_fits-2.ensures, c.requires.source_capacity))
 
 pub returns-then-standing-source_size-clause-swaps : goal.returns-then-standing-source_size-clause-swaps
 returns-then-standing-source_size-clause-swaps g c t =
     let size : c.in-Ok-length_at.size ≡ length (content_of c.args.source.now.spot c.args.ram.now (g.D.Disk.flash c.args.disk.now).reads) =
-    c.in-Ok-length_at.ensures.exact t ∙ ap (λ (l : List ℕ). length (content_of c.args.source.now.spot c.args.ram.now l)) (c.length_at.ensures.same t).reads in
-    swap_too_large c.args.standing.now c.args.source.now c.args.ram.now (g.D.Disk.flash c.args.disk.now).reads _ (omega (arith, c.if-source-standing.false)) ((c.length_at-2.ensures.same t).reads ∙ (c.length_at.ensures.same t).reads) (inl (omega (arith, size, c.if-standing-source_size.true)))
+    c.in-Ok-length_at.ensures.exact t ∙ ap (λ (l : List ℕ). length (content_of c.args.source.now.spot c.args.ram.now l)) (c.length_at.ensures.read.same t).reads in
+    swap_too_large c.args.standing.now c.args.source.now c.args.ram.now (g.D.Disk.flash c.args.disk.now).reads _ (omega (arith, c.if-source-standing.false)) ((c.length_at-2.ensures.read.same t).reads ∙ (c.length_at.ensures.read.same t).reads) (inl (omega (arith, size, c.if-standing-source_size.true)))
 
 pub returns-then-source-size-clause-swaps : goal.returns-then-source-size-clause-swaps
 returns-then-source-size-clause-swaps g c t =
     let size = c.in-Ok.ensures.exact t in
-    swap_too_large c.args.standing.now c.args.source.now c.args.ram.now (g.D.Disk.flash c.args.disk.now).reads _ (omega (arith, c.if-source-standing.false)) ((c.length_at-2.ensures.same t).reads ∙ (c.length_at.ensures.same t).reads) (inr (omega (arith, size, c.if-source-size.true)))
+    swap_too_large c.args.standing.now c.args.source.now c.args.ram.now (g.D.Disk.flash c.args.disk.now).reads _ (omega (arith, c.if-source-standing.false)) ((c.length_at-2.ensures.read.same t).reads ∙ (c.length_at.ensures.read.same t).reads) (inr (omega (arith, size, c.if-source-size.true)))
 
 pub returns-in-Ok-exchange-clause-swaps : goal.returns-in-Ok-exchange-clause-swaps
 returns-in-Ok-exchange-clause-swaps g c t =
     let apart : c.args.source.now.component ≢ c.args.standing.now.component = omega (arith, c.if-source-standing.false) in
-    let same : (g.D.Disk.flash c.length_at-2.new.disk).reads ≡ (g.D.Disk.flash c.args.disk.now).reads = (c.length_at-2.ensures.same t).reads ∙ (c.length_at.ensures.same t).reads in
+    let same : (g.D.Disk.flash c.length_at-2.new.disk).reads ≡ (g.D.Disk.flash c.args.disk.now).reads = (c.length_at-2.ensures.read.same t).reads ∙ (c.length_at.ensures.read.same t).reads in
     let fits = sym (g.met.D.Disk.obeys c.args.disk.now t).fits in
     let one : Side = side_of c.args.standing.now.component c.args.standing.now.capacity (content_of c.args.standing.now.spot c.args.ram.now (g.D.Disk.flash c.args.disk.now).reads) (content_of c.args.standing.now.spot c.exchange.new.ram (g.D.Disk.flash c.exchange.new.disk).reads) in
     let other : Side = side_of c.args.source.now.component c.args.source.now.capacity (content_of c.args.source.now.spot c.args.ram.now (g.D.Disk.flash c.args.disk.now).reads) (content_of c.args.source.now.spot c.exchange.new.ram (g.D.Disk.flash c.exchange.new.disk).reads) in
     let size = c.in-Ok.ensures.exact t in
     let source_size : c.in-Ok-length_at.size ≡ length (content_of c.args.source.now.spot c.args.ram.now (g.D.Disk.flash c.args.disk.now).reads) =
-    c.in-Ok-length_at.ensures.exact t ∙ ap (λ (l : List ℕ). length (content_of c.args.source.now.spot c.args.ram.now l)) (c.length_at.ensures.same t).reads in
+    c.in-Ok-length_at.ensures.exact t ∙ ap (λ (l : List ℕ). length (content_of c.args.source.now.spot c.args.ram.now l)) (c.length_at.ensures.read.same t).reads in
     let is : one.after ≡ other.before =
     c.in-Ok-exchange.ensures.one t ∙ ap (λ (l : List ℕ). take c.in-Ok-length_at.size (area_at c.args.source.now.spot c.args.ram.now l)) same
     ∙ sym (content_front c.args.source.now.spot c.args.ram.now (g.D.Disk.flash c.args.disk.now).reads c.in-Ok-length_at.size (subst (λ (i : ℕ). IsSpot i c.args.ram.now c.args.source.now.spot) fits c.requires.source) source_size) in
@@ -72,9 +72,9 @@ returns-in-Err-exchange-clause-swaps g c t =
 pub returns-in-Ok-exchange-clause-keeps : goal.returns-in-Ok-exchange-clause-keeps
 returns-in-Ok-exchange-clause-keeps g c t =
     two_reads_then (OutsideBoth c.args.standing.now.spot c.args.source.now.spot) _ _ _ _ _ _ (g.met.D.Disk.obeys c.length_at.new.disk t) (g.met.D.Disk.obeys c.length_at-2.new.disk t)
-    (c.length_at.ensures.same t) (c.length_at-2.ensures.same t) (c.exchange.ensures.keeps t)
+    (c.length_at.ensures.read.same t) (c.length_at-2.ensures.read.same t) (c.exchange.ensures.keeps t)
 
 pub returns-in-Err-exchange-clause-keeps : goal.returns-in-Err-exchange-clause-keeps
 returns-in-Err-exchange-clause-keeps g c t =
     two_reads_then (OutsideBoth c.args.standing.now.spot c.args.source.now.spot) _ _ _ _ _ _ (g.met.D.Disk.obeys c.length_at.new.disk t) (g.met.D.Disk.obeys c.length_at-2.new.disk t)
-    (c.length_at.ensures.same t) (c.length_at-2.ensures.same t) (c.exchange.ensures.keeps t)
+    (c.length_at.ensures.read.same t) (c.length_at-2.ensures.read.same t) (c.exchange.ensures.keeps t)

@@ -18,11 +18,7 @@ returns-in_err-append_file-clause-keeps g c t =
     pieces_put c.args.slot c.in-Ok.writing.slot _ _ _ _ c.in-Ok.ensures.slot (g.met.D.Disk.obeys c.begin.new.disk t) (c.begin.ensures.keeps t) (c.append_file.ensures.keeps t)
 
 pub returns-in-Ok-finish-clause-keeps : goal.returns-in-Ok-finish-clause-keeps
-returns-in-Ok-finish-clause-keeps g c t =
-    slot_put c.args.slot c.in-Ok.writing.slot c.append_file.new.writing.slot _ _ _ _ _ _ c.in-Ok.ensures.slot (c.append_file.ensures.slot ∙ c.in-Ok.ensures.slot) (g.met.D.Disk.obeys c.begin.new.disk t) (g.met.D.Disk.obeys c.append_file.new.disk t)
-    (c.begin.ensures.keeps t) (c.append_file.ensures.keeps t) (c.finish.ensures.keeps t)
+returns-in-Ok-finish-clause-keeps g c t = slot_put c.args.slot c.in-Ok.writing.slot c.append_file.new.writing.slot _ _ _ _ _ _ c.in-Ok.ensures.slot (c.append_file.ensures.slot ∙ c.in-Ok.ensures.slot) (g.met.D.Disk.obeys c.begin.new.disk t) (g.met.D.Disk.obeys c.append_file.new.disk t) (c.begin.ensures.keeps t) (c.append_file.ensures.keeps t) (c.finish.ensures.keeps t)
 
 pub returns-in-Err-finish-clause-keeps : goal.returns-in-Err-finish-clause-keeps
-returns-in-Err-finish-clause-keeps g c t =
-    slot_put c.args.slot c.in-Ok.writing.slot c.append_file.new.writing.slot _ _ _ _ _ _ c.in-Ok.ensures.slot (c.append_file.ensures.slot ∙ c.in-Ok.ensures.slot) (g.met.D.Disk.obeys c.begin.new.disk t) (g.met.D.Disk.obeys c.append_file.new.disk t)
-    (c.begin.ensures.keeps t) (c.append_file.ensures.keeps t) (c.finish.ensures.keeps t)
+returns-in-Err-finish-clause-keeps g c t = slot_put c.args.slot c.in-Ok.writing.slot c.append_file.new.writing.slot _ _ _ _ _ _ c.in-Ok.ensures.slot (c.append_file.ensures.slot ∙ c.in-Ok.ensures.slot) (g.met.D.Disk.obeys c.begin.new.disk t) (g.met.D.Disk.obeys c.append_file.new.disk t) (c.begin.ensures.keeps t) (c.append_file.ensures.keeps t) (c.finish.ensures.keeps t)

@@ -22,8 +22,8 @@ loop-from-preserved g c = record {
       let within : c.loop-from.from + c.min-count.result ≤ length c.args.bytes.now = omega (arith, c.min-count.ensures, c.loop-from-test.true) in
       more_passed (g.D.Disk.flash c.args.disk.now).reads c.args.bytes.now c.args.place c.loop-from.from c.min-count.result fits within (g.D.Disk.flash c.loop-from.disk).reads (c.loop-from.invariant.same t).reads (c.loop-from.invariant.passed t)
       ((c.in-Ok.ensures.exact t).0 c.if-not-same.false);
-  same = λ t. same_flash_then _ _ _ _ (g.met.D.Disk.obeys c.loop-from.disk t) (c.loop-from.invariant.same t) (c.has_piece.ensures.same t);
-  grows = λ t. grows_then (g.D.Disk.flash c.args.disk.now) (g.D.Disk.flash c.loop-from.disk) (g.D.Disk.flash c.has_piece.new.disk) (c.loop-from.invariant.same t).images.later (c.loop-from.invariant.grows t) (c.has_piece.ensures.grows t);
+  same = λ t. same_flash_then _ _ _ _ (g.met.D.Disk.obeys c.loop-from.disk t) (c.loop-from.invariant.same t) (c.has_piece.ensures.read.same t);
+  grows = λ t. grows_then (g.D.Disk.flash c.args.disk.now) (g.D.Disk.flash c.loop-from.disk) (g.D.Disk.flash c.has_piece.new.disk) (c.loop-from.invariant.same t).images.later (c.loop-from.invariant.grows t) (c.has_piece.ensures.read.grows t);
 }
 
 pub returns-clause-exact : goal.returns-clause-exact

@@ -6,10 +6,10 @@ use Rattle.update_proc.proofs.bank_reading.has_bytes.Given as goal
 abbrev pub invariant-loop-from : goal.invariant-loop-from
 invariant-loop-from g l = record {
   within : l.from ≤ length l.bytes;
+  passed : IsTrue g.D.Disk.told → slice_range (g.D.Disk.flash l.fn.disk).reads l.place (l.place + l.from) ≡ take l.from l.bytes;
   room : length l.room ≡ length l.fn.room;
   size : g.D.Disk.extent l.disk ≡ g.D.Disk.extent l.fn.disk;
   faults : g.D.Disk.faults l.disk ≡ g.D.Disk.faults l.fn.disk;
-  passed : IsTrue g.D.Disk.told → slice_range (g.D.Disk.flash l.fn.disk).reads l.place (l.place + l.from) ≡ take l.from l.bytes;
   same : IsTrue g.D.Disk.told → IsSame (g.D.Disk.flash l.fn.disk) (g.D.Disk.flash l.disk);
   grows : IsTrue g.D.Disk.told → Grows (g.D.Disk.flash l.fn.disk) (g.D.Disk.flash l.disk);
 }

@@ -6,41 +6,41 @@ use Rattle.update_proc.proofs.finishing.finish.Goals as goal
 pub returns-in-Ok-clause-any_moment : goal.returns-in-Ok-clause-any_moment
 returns-in-Ok-clause-any_moment g c t = weakens _ _ _ _ (λ image is. inr is) (c.install.ensures.any_moment t)
 
-pub returns-in-Ok-clause-sound : goal.returns-in-Ok-clause-sound
-returns-in-Ok-clause-sound g c t firm sound may = weakens _ _ _ _ (λ image is. inr is) (c.install.ensures.sound t firm sound may)
-
-pub returns-in-Ok-clause-follows : goal.returns-in-Ok-clause-follows
-returns-in-Ok-clause-follows g c t firm sound sure = weakens _ _ _ _ (λ image is. inr is) (c.install.ensures.follows t firm sound sure)
-
 pub returns-in-Err-clause-any_moment : goal.returns-in-Err-clause-any_moment
 returns-in-Err-clause-any_moment g c t = weakens _ _ _ _ (λ image is. inr is) (c.install.ensures.any_moment t)
+
+pub returns-in-Ok-clause-sound : goal.returns-in-Ok-clause-sound
+returns-in-Ok-clause-sound g c t firm sound may = weakens _ _ _ _ (λ image is. inr is) (c.install.ensures.sound t firm sound may)
 
 pub returns-in-Err-clause-sound : goal.returns-in-Err-clause-sound
 returns-in-Err-clause-sound g c t firm sound may = weakens _ _ _ _ (λ image is. inr is) (c.install.ensures.sound t firm sound may)
 
+pub returns-in-ConditionFailed-clause-reads : goal.returns-in-ConditionFailed-clause-reads
+returns-in-ConditionFailed-clause-reads g c t = as_held _ _ _ (c.settle.ensures.read.same t).reads (c.requires.held t)
+
+pub returns-in-Ok-clause-follows : goal.returns-in-Ok-clause-follows
+returns-in-Ok-clause-follows g c t firm sound sure = weakens _ _ _ _ (λ image is. inr is) (c.install.ensures.follows t firm sound sure)
+
 pub returns-in-Err-clause-follows : goal.returns-in-Err-clause-follows
 returns-in-Err-clause-follows g c t firm sound sure = weakens _ _ _ _ (λ image is. inr is) (c.install.ensures.follows t firm sound sure)
 
-pub returns-in-ConditionFailed-clause-reads : goal.returns-in-ConditionFailed-clause-reads
-returns-in-ConditionFailed-clause-reads g c t = as_held _ _ _ (c.settle.ensures.same t).reads (c.requires.held t)
-
 pub returns-in-ConditionFailed-clause-behind : goal.returns-in-ConditionFailed-clause-behind
-returns-in-ConditionFailed-clause-behind g c t = as_read _ _ (c.settle.ensures.same t).reads
+returns-in-ConditionFailed-clause-behind g c t = as_read _ _ (c.settle.ensures.read.same t).reads
 
 pub returns-in-DirectiveFailed-clause-reads : goal.returns-in-DirectiveFailed-clause-reads
-returns-in-DirectiveFailed-clause-reads g c t = as_held _ _ _ (c.stop.ensures.same t).reads (c.requires.held t)
+returns-in-DirectiveFailed-clause-reads g c t = as_held _ _ _ (c.stop.ensures.read.same t).reads (c.requires.held t)
 
 pub returns-in-DirectiveFailed-clause-behind : goal.returns-in-DirectiveFailed-clause-behind
-returns-in-DirectiveFailed-clause-behind g c t = as_read _ _ (c.stop.ensures.same t).reads
+returns-in-DirectiveFailed-clause-behind g c t = as_read _ _ (c.stop.ensures.read.same t).reads
 
 pub returns-in-ConditionFailed-clause-stays : goal.returns-in-ConditionFailed-clause-stays
-returns-in-ConditionFailed-clause-stays g c t = any_told _ _ (c.settle.ensures.same t).reads
+returns-in-ConditionFailed-clause-stays g c t = any_told _ _ (c.settle.ensures.read.same t).reads
 
 pub returns-in-DirectiveFailed-clause-stays : goal.returns-in-DirectiveFailed-clause-stays
-returns-in-DirectiveFailed-clause-stays g c t = any_told _ _ (c.stop.ensures.same t).reads
+returns-in-DirectiveFailed-clause-stays g c t = any_told _ _ (c.stop.ensures.read.same t).reads
 
 pub returns-in-ConditionFailed-clause-still : goal.returns-in-ConditionFailed-clause-still
-returns-in-ConditionFailed-clause-still g c t = any_stopped c.args.end _ (c.settle.ensures.same t).images
+returns-in-ConditionFailed-clause-still g c t = any_stopped c.args.end _ (c.settle.ensures.read.same t).images
 
 pub returns-in-DirectiveFailed-clause-still : goal.returns-in-DirectiveFailed-clause-still
-returns-in-DirectiveFailed-clause-still g c t = any_stopped c.args.end _ (c.stop.ensures.same t).images
+returns-in-DirectiveFailed-clause-still g c t = any_stopped c.args.end _ (c.stop.ensures.read.same t).images

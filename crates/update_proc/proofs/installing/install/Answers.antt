@@ -59,33 +59,33 @@ pub returns-in-Ok-commit-clause-any_moment : goal.returns-in-Ok-commit-clause-an
 returns-in-Ok-commit-clause-any_moment g c t =
     bank_and_commit _ _ _ _ _ _ _ (same_record (held_of c.args.held) (g.D.Disk.flash c.args.disk.now).reads c.args.bytes.now c.args.offer.now.sequence c.args.offer.now.digest c.args.offer.now.active _ _ c.generation_after.ensures (c.in-Ok.ensures.chosen t)) (c.write_bank.ensures.keeps t) (c.in-Ok.ensures.holds t) (c.in-Ok.ensures.settled t) (c.commit.ensures.any_moment t) (c.commit.ensures.keeps t)
 
+pub returns-in-Err-commit-clause-any_moment : goal.returns-in-Err-commit-clause-any_moment
+returns-in-Err-commit-clause-any_moment g c t =
+    bank_and_commit _ _ _ _ _ _ _ (same_record (held_of c.args.held) (g.D.Disk.flash c.args.disk.now).reads c.args.bytes.now c.args.offer.now.sequence c.args.offer.now.digest c.args.offer.now.active _ _ c.generation_after.ensures (c.in-Ok.ensures.chosen t)) (c.write_bank.ensures.keeps t) (c.in-Ok.ensures.holds t) (c.in-Ok.ensures.settled t) (c.commit.ensures.any_moment t) (c.commit.ensures.keeps t)
+
 pub returns-in-Ok-commit-clause-sound : goal.returns-in-Ok-commit-clause-sound
 returns-in-Ok-commit-clause-sound g c t firm sound may =
     let large : 49152 ≤ length (g.D.Disk.flash c.args.disk.now).reads = omega (arith, (g.met.D.Disk.obeys c.args.disk.now t).fits, c.requires.size) in
     each_sound c.sound_laws.ensures (held_of c.args.held) c.args.bytes.now c.args.offer.now.sequence c.args.offer.now.digest c.args.offer.now.active (g.D.Disk.flash c.args.disk.now) large c.requires.loadable c.requires.fits (c.requires.held t) sound firm (g.D.Disk.flash c.commit.new.disk) (c.requires.active t) (bank_and_commit _ _ _ _ _ _ _ (same_record (held_of c.args.held) (g.D.Disk.flash c.args.disk.now).reads c.args.bytes.now c.args.offer.now.sequence c.args.offer.now.digest c.args.offer.now.active _ _ c.generation_after.ensures (c.in-Ok.ensures.chosen t)) (c.write_bank.ensures.keeps t) (c.in-Ok.ensures.holds t) (c.in-Ok.ensures.settled t) (c.commit.ensures.any_moment t) (c.commit.ensures.keeps t)) may
-
-pub returns-in-Ok-commit-clause-follows : goal.returns-in-Ok-commit-clause-follows
-returns-in-Ok-commit-clause-follows g c t firm sound sure =
-    let large : 49152 ≤ length (g.D.Disk.flash c.args.disk.now).reads = omega (arith, (g.met.D.Disk.obeys c.args.disk.now t).fits, c.requires.size) in
-    each_follows c.sound_laws.ensures (held_of c.args.held) c.args.bytes.now c.args.offer.now.sequence c.args.offer.now.digest c.args.offer.now.active (g.D.Disk.flash c.args.disk.now) large c.requires.loadable c.requires.fits (c.requires.held t) sound firm (g.D.Disk.flash c.commit.new.disk) (bank_and_commit _ _ _ _ _ _ _ (same_record (held_of c.args.held) (g.D.Disk.flash c.args.disk.now).reads c.args.bytes.now c.args.offer.now.sequence c.args.offer.now.digest c.args.offer.now.active _ _ c.generation_after.ensures (c.in-Ok.ensures.chosen t)) (c.write_bank.ensures.keeps t) (c.in-Ok.ensures.holds t) (c.in-Ok.ensures.settled t) (c.commit.ensures.any_moment t) (c.commit.ensures.keeps t)) sure
-
-pub returns-in-Err-commit-clause-any_moment : goal.returns-in-Err-commit-clause-any_moment
-returns-in-Err-commit-clause-any_moment g c t =
-    bank_and_commit _ _ _ _ _ _ _ (same_record (held_of c.args.held) (g.D.Disk.flash c.args.disk.now).reads c.args.bytes.now c.args.offer.now.sequence c.args.offer.now.digest c.args.offer.now.active _ _ c.generation_after.ensures (c.in-Ok.ensures.chosen t)) (c.write_bank.ensures.keeps t) (c.in-Ok.ensures.holds t) (c.in-Ok.ensures.settled t) (c.commit.ensures.any_moment t) (c.commit.ensures.keeps t)
 
 pub returns-in-Err-commit-clause-sound : goal.returns-in-Err-commit-clause-sound
 returns-in-Err-commit-clause-sound g c t firm sound may =
     let large : 49152 ≤ length (g.D.Disk.flash c.args.disk.now).reads = omega (arith, (g.met.D.Disk.obeys c.args.disk.now t).fits, c.requires.size) in
     each_sound c.sound_laws.ensures (held_of c.args.held) c.args.bytes.now c.args.offer.now.sequence c.args.offer.now.digest c.args.offer.now.active (g.D.Disk.flash c.args.disk.now) large c.requires.loadable c.requires.fits (c.requires.held t) sound firm (g.D.Disk.flash c.commit.new.disk) (c.requires.active t) (bank_and_commit _ _ _ _ _ _ _ (same_record (held_of c.args.held) (g.D.Disk.flash c.args.disk.now).reads c.args.bytes.now c.args.offer.now.sequence c.args.offer.now.digest c.args.offer.now.active _ _ c.generation_after.ensures (c.in-Ok.ensures.chosen t)) (c.write_bank.ensures.keeps t) (c.in-Ok.ensures.holds t) (c.in-Ok.ensures.settled t) (c.commit.ensures.any_moment t) (c.commit.ensures.keeps t)) may
 
+pub returns-in-Err-clause-behind : goal.returns-in-Err-clause-behind
+returns-in-Err-clause-behind g c t =
+    behind_bank (held_of c.args.held) c.args.bytes.now _ _ c.requires.fits (c.write_bank.ensures.keeps t).reads
+
+pub returns-in-Ok-commit-clause-follows : goal.returns-in-Ok-commit-clause-follows
+returns-in-Ok-commit-clause-follows g c t firm sound sure =
+    let large : 49152 ≤ length (g.D.Disk.flash c.args.disk.now).reads = omega (arith, (g.met.D.Disk.obeys c.args.disk.now t).fits, c.requires.size) in
+    each_follows c.sound_laws.ensures (held_of c.args.held) c.args.bytes.now c.args.offer.now.sequence c.args.offer.now.digest c.args.offer.now.active (g.D.Disk.flash c.args.disk.now) large c.requires.loadable c.requires.fits (c.requires.held t) sound firm (g.D.Disk.flash c.commit.new.disk) (bank_and_commit _ _ _ _ _ _ _ (same_record (held_of c.args.held) (g.D.Disk.flash c.args.disk.now).reads c.args.bytes.now c.args.offer.now.sequence c.args.offer.now.digest c.args.offer.now.active _ _ c.generation_after.ensures (c.in-Ok.ensures.chosen t)) (c.write_bank.ensures.keeps t) (c.in-Ok.ensures.holds t) (c.in-Ok.ensures.settled t) (c.commit.ensures.any_moment t) (c.commit.ensures.keeps t)) sure
+
 pub returns-in-Err-commit-clause-follows : goal.returns-in-Err-commit-clause-follows
 returns-in-Err-commit-clause-follows g c t firm sound sure =
     let large : 49152 ≤ length (g.D.Disk.flash c.args.disk.now).reads = omega (arith, (g.met.D.Disk.obeys c.args.disk.now t).fits, c.requires.size) in
     each_follows c.sound_laws.ensures (held_of c.args.held) c.args.bytes.now c.args.offer.now.sequence c.args.offer.now.digest c.args.offer.now.active (g.D.Disk.flash c.args.disk.now) large c.requires.loadable c.requires.fits (c.requires.held t) sound firm (g.D.Disk.flash c.commit.new.disk) (bank_and_commit _ _ _ _ _ _ _ (same_record (held_of c.args.held) (g.D.Disk.flash c.args.disk.now).reads c.args.bytes.now c.args.offer.now.sequence c.args.offer.now.digest c.args.offer.now.active _ _ c.generation_after.ensures (c.in-Ok.ensures.chosen t)) (c.write_bank.ensures.keeps t) (c.in-Ok.ensures.holds t) (c.in-Ok.ensures.settled t) (c.commit.ensures.any_moment t) (c.commit.ensures.keeps t)) sure
-
-pub returns-in-Err-clause-behind : goal.returns-in-Err-clause-behind
-returns-in-Err-clause-behind g c t =
-    behind_bank (held_of c.args.held) c.args.bytes.now _ _ c.requires.fits (c.write_bank.ensures.keeps t).reads
 
 pub returns-in-Ok-commit-clause-behind : goal.returns-in-Ok-commit-clause-behind
 returns-in-Ok-commit-clause-behind g c t =

@@ -29,92 +29,69 @@ abbrev held_of : Option (Bor Record) → Option Record
 held_of held = option_map (λ r. r.now) held
 
 pub choose_slots-slots-requires-clause-layout : goal.choose_slots-slots-requires-clause-layout
-choose_slots-slots-requires-clause-layout g c =
-    (g.D.Disk.extent c.args.disk.now, c.requires.layout)
+choose_slots-slots-requires-clause-layout g c = (g.D.Disk.extent c.args.disk.now, c.requires.layout)
 
 pub choose_slots-slots-requires-clause-places : goal.choose_slots-slots-requires-clause-places
-choose_slots-slots-requires-clause-places g c =
-    c.requires.distinct.few
+choose_slots-slots-requires-clause-places g c = c.requires.distinct.few
 
 pub choose_slots-slots-requires-clause-plan : goal.choose_slots-slots-requires-clause-plan
-choose_slots-slots-requires-clause-plan g c =
-    c.requires.plan
+choose_slots-slots-requires-clause-plan g c = c.requires.plan
 
 pub new-requires-clause-places : goal.new-requires-clause-places
-new-requires-clause-places g c =
-    c.requires.distinct
+new-requires-clause-places g c = c.requires.distinct
 
 pub new-requires-clause-slots : goal.new-requires-clause-slots
-new-requires-clause-slots g c =
-    c.choose_slots-slots.ensures.choice
+new-requires-clause-slots g c = c.choose_slots-slots.ensures.choice
 
 pub returns-in-Err-clause-size : goal.returns-in-Err-clause-size
-returns-in-Err-clause-size g c =
-    refl
+returns-in-Err-clause-size g c = refl
 
 pub returns-in-Err-clause-counts : goal.returns-in-Err-clause-counts
-returns-in-Err-clause-counts g c =
-    refl
+returns-in-Err-clause-counts g c = refl
 
 pub returns-in-Err-clause-files : goal.returns-in-Err-clause-files
-returns-in-Err-clause-files g c t =
-    refl
+returns-in-Err-clause-files g c t = refl
 
 pub returns-in-Err-clause-plays : goal.returns-in-Err-clause-plays
-returns-in-Err-clause-plays g c th td tl payloads has =
-    refl
-
-pub returns-in-Err-clause-keeps : goal.returns-in-Err-clause-keeps
-returns-in-Err-clause-keeps g c t settled =
-    same_flash (g.D.Disk.flash c.args.disk.now)
-
-pub returns-in-Err-clause-sound : goal.returns-in-Err-clause-sound
-returns-in-Err-clause-sound g c t settled may =
-    starts (g.D.Disk.flash c.args.disk.now) (Sound VERSION_1) (each_sound VERSION_1 (g.D.Disk.flash c.args.disk.now) settled)
+returns-in-Err-clause-plays g c th td tl payloads has = refl
 
 pub returns-in-Err-clause-follows : goal.returns-in-Err-clause-follows
 returns-in-Err-clause-follows g c t settled =
     starts (g.D.Disk.flash c.args.disk.now) (Follows VERSION_1 (g.D.Disk.flash c.args.disk.now).reads) (follows_now c.sound_laws.ensures (g.D.Disk.flash c.args.disk.now) settled)
 
 pub returns-in-Err-clause-settled : goal.returns-in-Err-clause-settled
-returns-in-Err-clause-settled g c t =
-    inl (same_flash (g.D.Disk.flash c.args.disk.now))
+returns-in-Err-clause-settled g c t = inl (same_flash (g.D.Disk.flash c.args.disk.now))
+
+pub returns-in-Err-clause-sound : goal.returns-in-Err-clause-sound
+returns-in-Err-clause-sound g c t settled may =
+    starts (g.D.Disk.flash c.args.disk.now) (Sound VERSION_1) (each_sound VERSION_1 (g.D.Disk.flash c.args.disk.now) settled)
+
+pub returns-in-Err-clause-keeps : goal.returns-in-Err-clause-keeps
+returns-in-Err-clause-keeps g c t settled = same_flash (g.D.Disk.flash c.args.disk.now)
 
 pub returns-in-Err-clause-grows : goal.returns-in-Err-clause-grows
-returns-in-Err-clause-grows g c t =
-    grows_start (g.D.Disk.flash c.args.disk.now)
+returns-in-Err-clause-grows g c t = grows_start (g.D.Disk.flash c.args.disk.now)
 
 pub run_plan-end-requires-clause-standings : goal.run_plan-end-requires-clause-standings
-run_plan-end-requires-clause-standings g c =
-    c.in-Ok.ensures.fit VERSION_1 (g.D.Disk.extent c.args.disk.now) c.requires.layout
+run_plan-end-requires-clause-standings g c = c.in-Ok.ensures.fit VERSION_1 (g.D.Disk.extent c.args.disk.now) c.requires.layout
 
 pub run_plan-end-requires-clause-plan : goal.run_plan-end-requires-clause-plan
-run_plan-end-requires-clause-plan g c =
-    c.requires.plan
+run_plan-end-requires-clause-plan g c = c.requires.plan
 
 pub run_plan-end-requires-clause-count : goal.run_plan-end-requires-clause-count
-run_plan-end-requires-clause-count g c =
-    c.requires.count ∙ sym c.in-Ok.ensures.stand.count
+run_plan-end-requires-clause-count g c = c.requires.count ∙ sym c.in-Ok.ensures.stand.count
 
 pub slice_bounds-finish-end : goal.slice_bounds-finish-end
 slice_bounds-finish-end g c =
     refl
 
-pub finish-requires-clause-size : goal.finish-requires-clause-size
-finish-requires-clause-size g c =
-    subst (λ (n : ℕ). 49152 ≤ n) (sym c.run_plan-end.ensures.size) c.requires.size
-
-pub finish-requires-clause-loadable : goal.finish-requires-clause-loadable
-finish-requires-clause-loadable g c =
-    c.requires.loadable
-
-pub finish-requires-clause-worn : goal.finish-requires-clause-worn
-finish-requires-clause-worn g c =
-    not_worn (held_of c.args.held) c.args.accepted.now.sequence c.args.accepted.now.digest c.requires.loadable c.requires.judged
-
-pub finish-requires-clause-fits : goal.finish-requires-clause-fits
-finish-requires-clause-fits g c =
-    c.requires.fits
+pub finish-requires-clause-ready : goal.finish-requires-clause-ready
+finish-requires-clause-ready g c = record {
+  large = subst (λ (n : ℕ). 49152 ≤ n) (sym c.run_plan-end.ensures.size) c.requires.size;
+  loadable = c.requires.loadable;
+  worn = not_worn (held_of c.args.held) c.args.accepted.now.sequence c.args.accepted.now.digest c.requires.loadable c.requires.judged;
+  fits = c.requires.fits;
+}
 
 pub finish-requires-clause-held : goal.finish-requires-clause-held
 finish-requires-clause-held g c t =
@@ -129,20 +106,17 @@ finish-requires-clause-active g c t =
     active_b c.sound_laws.ensures c.moment_laws.ensures c.choice_laws.ensures (g.D.Disk.extent c.args.disk.now) c.requires.size c.args.layout.now c.requires.layout c.args.places.now (plan_tree c.args.plan.now) (held_of c.args.held) c.requires.loadable c.choose_slots-slots.result.number c.in-Ok.world.standings.items c.requires.distinct c.choose_slots-slots.ensures.choice c.in-Ok.ensures.stand chosen (g.D.Disk.flash c.args.disk.now) (g.D.Disk.flash c.run_plan-end.new.disk) (g.met.D.Disk.obeys c.args.disk.now t) law_b (c.requires.config t).0 (c.requires.config t).1 (c.requires.held t) (c.run_plan-end.ensures.keeps t)
 
 pub returns-clause-size : goal.returns-clause-size
-returns-clause-size g c =
-    c.finish.ensures.size ∙ c.run_plan-end.ensures.size
+returns-clause-size g c = c.finish.ensures.size ∙ c.run_plan-end.ensures.size
 
 pub returns-clause-starts : goal.returns-clause-starts
-returns-clause-starts g c =
-    starts_after c.run_plan-end.result c.finish.result _ _ c.finish.ensures.answer
+returns-clause-starts g c = starts_after c.run_plan-end.result c.finish.result _ _ c.finish.ensures.answer
 
 pub returns-clause-counts : goal.returns-clause-counts
 returns-clause-counts g c =
     counts_after c.run_plan-end.result c.finish.result _ _ c.finish.ensures.answer _ _ _ _ _ c.run_plan-end.ensures.counts
 
 pub returns-clause-files : goal.returns-clause-files
-returns-clause-files g c t =
-    c.run_plan-end.ensures.files t
+returns-clause-files g c t = c.run_plan-end.ensures.files t
 
 pub returns-in-Err-clause-later : goal.returns-in-Err-clause-later
 returns-in-Err-clause-later g c t = omega arith

@@ -27,6 +27,10 @@ pub returns-in-Some-clause-judged : goal.returns-in-Some-clause-judged
 returns-in-Some-clause-judged g c =
     c.in-Some.ensures.judged
 
+pub returns-in-Err-clause-judged : goal.returns-in-Err-clause-judged
+returns-in-Err-clause-judged g c =
+    c.in-None.ensures.accepted
+
 pub returns-in-Some-clause-counts : goal.returns-in-Some-clause-counts
 returns-in-Some-clause-counts g c =
     refused_counts c.in-Some.end (counts_of (g.H.Host.faults c.args.host.now) (g.D.Disk.faults c.args.disk.now) (g.L.Launcher.faults c.args.launcher.now)) c.in-Some.ensures.refused
@@ -35,29 +39,25 @@ pub returns-in-Some-clause-plays : goal.returns-in-Some-clause-plays
 returns-in-Some-clause-plays g c th t tl payloads has =
     refused_played (λ made end. PlaysUpdate c.args.layout.now c.args.places.now (update_tree c.args.manifest.now c.args.members.now) (held_of c.args.held) payloads c.args.uris.now (g.H.Host.file c.args.host.now) (g.D.Disk.flash c.args.disk.now).reads made (g.L.Launcher.launches c.args.launcher.now) (g.L.Launcher.launches c.args.launcher.now) end) c.args.layout.now (g.D.Disk.flash c.args.disk.now).reads (g.L.Launcher.launches c.args.launcher.now) c.in-Some.end c.in-Some.ensures.refused
 
-pub returns-in-Some-clause-keeps : goal.returns-in-Some-clause-keeps
-returns-in-Some-clause-keeps g c t settled =
-    refused_kept _ (IsSame (g.D.Disk.flash c.args.disk.now) (g.D.Disk.flash c.args.disk.now)) c.in-Some.end c.in-Some.ensures.refused (same_flash (g.D.Disk.flash c.args.disk.now))
-
 pub returns-in-Some-clause-sound : goal.returns-in-Some-clause-sound
 returns-in-Some-clause-sound g c t settled may =
+    starts (g.D.Disk.flash c.args.disk.now) (Sound VERSION_1) (each_sound VERSION_1 (g.D.Disk.flash c.args.disk.now) settled)
+
+pub returns-in-Err-clause-sound : goal.returns-in-Err-clause-sound
+returns-in-Err-clause-sound g c t settled may =
     starts (g.D.Disk.flash c.args.disk.now) (Sound VERSION_1) (each_sound VERSION_1 (g.D.Disk.flash c.args.disk.now) settled)
 
 pub returns-in-Some-clause-follows : goal.returns-in-Some-clause-follows
 returns-in-Some-clause-follows g c t settled =
     starts (g.D.Disk.flash c.args.disk.now) (Follows VERSION_1 (g.D.Disk.flash c.args.disk.now).reads) (follows_now c.sound_laws.ensures (g.D.Disk.flash c.args.disk.now) settled)
 
-pub returns-in-Some-clause-grows : goal.returns-in-Some-clause-grows
-returns-in-Some-clause-grows g c t =
-    grows_start (g.D.Disk.flash c.args.disk.now)
-
-pub returns-in-Err-clause-sound : goal.returns-in-Err-clause-sound
-returns-in-Err-clause-sound g c t settled may =
-    starts (g.D.Disk.flash c.args.disk.now) (Sound VERSION_1) (each_sound VERSION_1 (g.D.Disk.flash c.args.disk.now) settled)
-
 pub returns-in-Err-clause-follows : goal.returns-in-Err-clause-follows
 returns-in-Err-clause-follows g c t settled =
     starts (g.D.Disk.flash c.args.disk.now) (Follows VERSION_1 (g.D.Disk.flash c.args.disk.now).reads) (follows_now c.sound_laws.ensures (g.D.Disk.flash c.args.disk.now) settled)
+
+pub returns-in-Some-clause-grows : goal.returns-in-Some-clause-grows
+returns-in-Some-clause-grows g c t =
+    grows_start (g.D.Disk.flash c.args.disk.now)
 
 pub returns-in-Err-clause-grows : goal.returns-in-Err-clause-grows
 returns-in-Err-clause-grows g c t =
@@ -67,17 +67,17 @@ pub returns-in-Some-clause-settled : goal.returns-in-Some-clause-settled
 returns-in-Some-clause-settled g c t =
     refused_settled (IsSame (g.D.Disk.flash c.args.disk.now) (g.D.Disk.flash c.args.disk.now) ⊎ IsSettled (g.D.Disk.flash c.args.disk.now)) c.in-Some.end c.in-Some.ensures.refused (inl (same_flash (g.D.Disk.flash c.args.disk.now)))
 
-pub returns-in-Err-clause-judged : goal.returns-in-Err-clause-judged
-returns-in-Err-clause-judged g c =
-    c.in-None.ensures.accepted
+pub returns-in-Err-clause-settled : goal.returns-in-Err-clause-settled
+returns-in-Err-clause-settled g c t =
+    inl (same_flash (g.D.Disk.flash c.args.disk.now))
+
+pub returns-in-Some-clause-keeps : goal.returns-in-Some-clause-keeps
+returns-in-Some-clause-keeps g c t settled =
+    refused_kept _ (IsSame (g.D.Disk.flash c.args.disk.now) (g.D.Disk.flash c.args.disk.now)) c.in-Some.end c.in-Some.ensures.refused (same_flash (g.D.Disk.flash c.args.disk.now))
 
 pub returns-in-Err-clause-keeps : goal.returns-in-Err-clause-keeps
 returns-in-Err-clause-keeps g c t settled =
     same_flash (g.D.Disk.flash c.args.disk.now)
-
-pub returns-in-Err-clause-settled : goal.returns-in-Err-clause-settled
-returns-in-Err-clause-settled g c t =
-    inl (same_flash (g.D.Disk.flash c.args.disk.now))
 
 pub update_plan-plan-requires : goal.update_plan-plan-requires
 update_plan-plan-requires g c =

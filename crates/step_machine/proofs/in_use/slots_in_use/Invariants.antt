@@ -1,7 +1,7 @@
 use Rattle.std.proofs.Common.{◌≡◌, ◌<◌, ◌≤◌, ℕ, length, get_or}
 use Rattle.flash_layout.specs.declared.layout.Entry.{Entry}
-use Rattle.invoke_proc.specs.Choice.{slot_in_use}
-use Rattle.invoke_proc.proofs.choice.active_slots.Given as goal
+use Rattle.step_machine.specs.InUse.{slot_in_use}
+use Rattle.step_machine.proofs.in_use.slots_in_use.Given as goal
 
 -- those before are active, and none is set behind them
 abbrev pub invariant-loop-i : goal.invariant-loop-i

@@ -1,7 +1,7 @@
-//! The slots that are active.
+//! The slots that are in use.
 
-ghost use Rattle.invoke_proc.specs.Choice.{AreActive, slot_in_use};
-ghost use Rattle.std.specs.Prelude.{◌≡◌, ◌≤◌, ◌<◌, length};
+ghost use Rattle.std.specs.Prelude.{◌≡◌, ◌≤◌, length};
+ghost use Rattle.step_machine.specs.InUse.{AreInUse, slot_in_use};
 
 use flash_layout::{Entry, Layout, MAX_ENTRIES};
 
@@ -16,10 +16,10 @@ fn slot_in_use(entry: &Entry, number: u8) -> u8
     }
 }
 
-/// The slots that stand for the components of a layout in the invocation procedure: those that are active.
-pub(crate) fn active_slots(layout: &Layout, active: &[u8; MAX_ENTRIES]) -> [u8; MAX_ENTRIES]
+/// The slot of its number, for each component of the layout. Behind the last there are zeros.
+pub fn slots_in_use(layout: &Layout, active: &[u8; MAX_ENTRIES]) -> [u8; MAX_ENTRIES]
     requires { length layout.now ≤ 8 }
-    ensures { AreActive layout.now active.now result }
+    ensures { AreInUse layout.now active.now result }
 {
     let entries = layout.as_slice();
     let mut numbers = [0u8; MAX_ENTRIES];
