@@ -80,7 +80,7 @@ module _ (l n : Launching) (b a : Outside) (end : BootEnd) (lines : List ℕ) (b
   }
 
   boot_files : a.files ≡ b.files
-  boot_files = boots.boot.files (subst IsTrue (sym boot_sees.told) told.host) ∙ boot_sees.files
+  boot_files = boots.boot.alone.files (subst IsTrue (sym boot_sees.told) told.host) ∙ boot_sees.files
 
 -- ---- stages
 

@@ -11,6 +11,8 @@ use Rattle.invoke_proc.specs.BootLaws.{BootLaws}
 use Rattle.suit_cli.specs.Acceptance.{Accepted, IsAccepted}
 use Rattle.suit_cli.specs.Coming.{ended_status}
 use Rattle.suit_cli.specs.LifeLaws.{SoundnessLaws}
+use Rattle.suit_cli.specs.Outside.{Outside}
+use Rattle.suit_cli.specs.Stages.{After, Stage}
 use Rattle.suit_cli.specs.UpdateLaws.{UpdateLaws}
 use Rattle.suit_cli.proofs.AcceptedFacts.{facts}
 use Rattle.completeness.specs.Boots.{BootsWhole}
@@ -20,60 +22,20 @@ use Rattle.completeness.proofs.BootProofs.{boot_completes, only_boot}
 use Rattle.completeness.proofs.Runs.{ends_well, says_so}
 use Rattle.completeness.proofs.UpdateProofs.{only_update, update_completes}
 
+-- a stage was good, and all behind it
+passed : {A : Type 0} (first : Stage A) (says : A → Outside → Outside → Type 0) (here : Outside) (value : A) → first.gives here here value → says value here here
+    → After first says here here
+passed first says here value given later = record { value = value; middle = here; given = given; later = later }
+
 module _ (layout : List Entry) (key : Key) (bytes : List ℕ) (a : Accepted) where
   meets : IsAccepted layout key bytes a → Meets layout key bytes a
   meets = facts layout key bytes a
 
   accepted : Meets layout key bytes a → IsAccepted layout key bytes a
-  accepted m here = record {
-    value = a.said;
-    middle = here;
-    given = (refl, (m.are_bytes, m.envelope));
-    later =
-        record {
-          value = tt;
-          middle = here;
-          given = (refl, m.is_short);
-          later =
-              record {
-                value = tt;
-                middle = here;
-                given = (refl, m.authentic);
-                later =
-                    record {
-                      value = a.manifest;
-                      middle = here;
-                      given = (refl, m.says);
-                      later =
-                          record {
-                            value = a.places;
-                            middle = here;
-                            given = (refl, m.placed);
-                            later =
-                                record {
-                                  value = a.members;
-                                  middle = here;
-                                  given = (refl, m.members);
-                                  later =
-                                      record {
-                                        value = tt;
-                                        middle = here;
-                                        later = (refl, refl);
-                                        given =
-                                            record {
-                                              value = tt;
-                                              middle = here;
-                                              given = (refl, m.update_narrow);
-                                              later =
-                                                  record { value = tt; middle = here; given = (refl, m.invocation_narrow); later = (refl, m.are_safe) };
-                                            };
-                                      };
-                                };
-                          };
-                    };
-              };
-        };
-  }
+  accepted m here =
+      passed _ _ here a.said (refl, (m.are_bytes, m.envelope)) (passed _ _ here tt (refl, m.is_short) (passed _ _ here tt (refl, m.authentic)
+      (passed _ _ here a.manifest (refl, m.says) (passed _ _ here a.places (refl, m.placed) (passed _ _ here a.members (refl, m.members)
+      (passed _ _ here tt (passed _ _ here tt (refl, m.update_narrow) (passed _ _ here tt (refl, m.invocation_narrow) (refl, m.are_safe))) (refl, refl)))))))
 
 pub completeness_laws : OneConfigAnswer → OneAnswer → EnvelopeLaws → ManifestLaws → MembersLaws → BootLaws → UpdateLaws → SoundnessLaws → CompletenessLaws
 completeness_laws configs records envelopes manifests members boots updates soundness = record {

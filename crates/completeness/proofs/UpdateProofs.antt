@@ -85,7 +85,7 @@ module _ (name : List ℕ) (uris : List (List ℕ × List ℕ)) (l n : Launching
   }
 
   pub files_left : a.files ≡ b.files
-  files_left = u.update.files (subst IsTrue (sym sees.told) told.host) ∙ sees.files
+  files_left = u.update.alone.files (subst IsTrue (sym sees.told) told.host) ∙ sees.files
 
 -- ---- one thing is accepted
 

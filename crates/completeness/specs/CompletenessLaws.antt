@@ -17,25 +17,42 @@ use Rattle.completeness.specs.Outcomes.{AreTold, EndsWell, IsFaultless, LeavesFl
 use Rattle.completeness.specs.Updates.{Installs, Meets, ReadyToUpdate}
 use Rattle.completeness.specs.Boots.{BootsWhole, ReadyToBoot}
 
+-- ---- either
+
+-- all that a command needs
+abbrev pub Needs : Type 1
+Needs = List (List ℕ) → Launching → Outside → Type 0
+
+-- and all that is so when it was done
+abbrev pub DoneBy : Needs → Type 1
+DoneBy Ready =
+    (words : List (List ℕ)) (launched : Launching) (before : Outside)
+    → Ready words launched before → Launching → Outside → Ended → Type 0
+
+-- what is ready is done, or memory runs out and the flash is left as it was, where no fault is counted
+abbrev pub Completes : (Ready : Needs) → DoneBy Ready → Type 0
+Completes Ready IsDone =
+    (words : List (List ℕ)) (launched now : Launching) (before after : Outside) (ended : Ended)
+    (ready : Ready words launched before)
+    → IsFaultless launched now before after → ComesTo words launched now before after ended
+    → IsDone words launched before ready now after ended
+    ⊎ LeavesFlash launched now before after ended
+
+-- so the status is 0 or 11, and 9 only where the sink failed
+abbrev pub EndsWhole : (Ready : Needs) → DoneBy Ready → Type 0
+EndsWhole Ready IsDone =
+    (words : List (List ℕ)) (launched now : Launching) (before after : Outside)
+    (sunk_before sunk_after : Sunk) (result : ℕ) (ready : Ready words launched before)
+    → IsFaultless launched now before after
+    → Performs words launched now before after sunk_before sunk_after result
+    → EndsWell (IsDone words launched before ready now after)
+    (LeavesFlash launched now before after) sunk_before sunk_after result
+
 -- ---- `run update`
 
 -- the bytes of a file are accepted exactly where they meet what is asked of them
 abbrev pub AcceptsWhatMeets : Type 0
 AcceptsWhatMeets = (layout : List Entry) (key : Key) (bytes : List ℕ) (a : Accepted) → IsAccepted layout key bytes a ↔ Meets layout key bytes a
-
--- an update that is ready is installed, or memory runs out, where no fault is counted
-abbrev pub UpdateCompletes : Type 0
-UpdateCompletes =
-    (words : List (List ℕ)) (launched now : Launching) (before after : Outside) (ended : Ended) (ready : ReadyToUpdate words launched before)
-    → IsFaultless launched now before after → ComesTo words launched now before after ended
-    → Installs words launched before ready now after ended ⊎ LeavesFlash launched now before after ended
-
--- so the status is 0 or 11, and 9 only where the sink failed
-abbrev pub UpdateEndsWell : Type 0
-UpdateEndsWell =
-    (words : List (List ℕ)) (launched now : Launching) (before after : Outside) (sunk_before sunk_after : Sunk) (result : ℕ) (ready : ReadyToUpdate words launched before)
-    → IsFaultless launched now before after → Performs words launched now before after sunk_before sunk_after result
-    → EndsWell (Installs words launched before ready now after) (LeavesFlash launched now before after) sunk_before sunk_after result
 
 abbrev pub AsksUpdate : List (List ℕ) → Type 0
 AsksUpdate words = (name : List ℕ) × (uris : List (List ℕ × List ℕ)) × (task_of words ≡ Some (RunUpdate name uris))
@@ -56,19 +73,6 @@ UpdateSaysSo =
 
 -- ---- `run boot`
 
--- a ready boot is played to its end, or memory runs out and the flash is left as it was, where no fault is counted
-abbrev pub BootCompletes : Type 0
-BootCompletes =
-    (words : List (List ℕ)) (launched now : Launching) (before after : Outside) (ended : Ended) (ready : ReadyToBoot words launched before)
-    → IsFaultless launched now before after → ComesTo words launched now before after ended
-    → BootsWhole words launched before ready now after ended ⊎ LeavesFlash launched now before after ended
-
-abbrev pub BootEndsWell : Type 0
-BootEndsWell =
-    (words : List (List ℕ)) (launched now : Launching) (before after : Outside) (sunk_before sunk_after : Sunk) (result : ℕ) (ready : ReadyToBoot words launched before)
-    → IsFaultless launched now before after → Performs words launched now before after sunk_before sunk_after result
-    → EndsWell (BootsWhole words launched before ready now after) (LeavesFlash launched now before after) sunk_before sunk_after result
-
 -- on a sound flash it is done only where it was ready
 abbrev pub OnlyReadyBoots : Type 0
 OnlyReadyBoots =
@@ -84,11 +88,11 @@ BootSaysSo =
 
 pub record CompletenessLaws : Type 0 where
   pub accepts : AcceptsWhatMeets
-  pub update : UpdateCompletes
-  pub update_ends : UpdateEndsWell
+  pub update : Completes ReadyToUpdate Installs
+  pub update_ends : EndsWhole ReadyToUpdate Installs
   pub only_update : OnlyReadyUpdates
   pub update_says : UpdateSaysSo
-  pub boot : BootCompletes
-  pub boot_ends : BootEndsWell
+  pub boot : Completes ReadyToBoot BootsWhole
+  pub boot_ends : EndsWhole ReadyToBoot BootsWhole
   pub only_boot : OnlyReadyBoots
   pub boot_says : BootSaysSo

@@ -19,19 +19,12 @@ use Rattle.suit_cli.specs.declared.reply.Outcome.TheVariants as outcomes
 use Rattle.suit_cli.specs.declared.reply.Stop.{Stop}
 use Rattle.suit_cli.specs.declared.reply.Stop.TheVariants as stops
 use Rattle.suit_cli.specs.Outside.{Outside}
-use Rattle.suit_cli.specs.Replies.{Makes, stop_of}
+use Rattle.suit_cli.specs.Replies.{stop_of}
 use Rattle.suit_cli.specs.Stages.{Stage, Ending, Does, After, in_turn}
 use Rattle.suit_cli.specs.Inputs.{file}
-use Rattle.suit_cli.specs.Devices.{bad_json_line}
-use Rattle.suit_cli.specs.Authoring.{longest_named, IsNoText, IsNoDescription, TellsDescription, description_in, files_after, files_in, made_in, stores}
+use Rattle.suit_cli.specs.Authoring.{longest_named, IsNoDescription, TellsDescription, description_in, files_after, files_in, made_in, stores}
 
 -- ---- the description
-
--- it is no JSON, which was told unless memory ran out
-pub no_text_there : (bytes : List ℕ) (made : Result Reply AllocError) → (IsUtf8 bytes → read bytes ≡ None) → Makes made outcomes.Refused bad_json_line
-    → (here : Outside) → Does (description_in bytes) here here (Err (stop_of made))
-no_text_there bytes (Ok reply) none says here = (refl, IsNoText none says)
-no_text_there bytes (Err e) none says here = refl
 
 -- only a fault that has a line is told
 fault_stands : (d : Data) (fault : DescriptionFault) (reply : Reply) → IsFaultOf d fault → TellsDescription fault reply → RefusesDescription d fault

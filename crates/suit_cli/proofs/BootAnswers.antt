@@ -27,11 +27,7 @@ use Rattle.suit_cli.specs.Coming.{BootsBy, Comes, ByStages, ByBoot, ByUpdate, En
 starved_boot : (layout : List Entry) (key : Key) (l m : Launching) (b a : Outside) (refusal : Refusal) → IsBoot layout key l m b a (ends.BadBank refusal)
     → IsBoot layout key l m b a ends.NoMemory
 starved_boot layout key l m b a refusal boot = record {
-  told = boot.told;
-  files = boot.files;
-  flash_told = boot.flash_told;
-  size = boot.size;
-  launcher_told = boot.launcher_told;
+  alone = boot.alone;
   counts = boot.counts;
   answers = λ told. let found = boot.answers told in (found.0, found.1);
   unrefused = λ told sound. tt;
@@ -44,14 +40,7 @@ starved_boot layout key l m b a refusal boot = record {
 module _ (layout : List Entry) (key : Key) (l m : Launching) (b a : Outside) where
   of_starved : (end told : BootEnd) → IsStarved end told → IsBoot layout key l m b a end → IsBoot layout key l m b a told
   of_starved (ends.BadBank refusal) told is boot = subst (λ (e : BootEnd). IsBoot layout key l m b a e) (sym is) (starved_boot layout key l m b a refusal boot)
-  of_starved ends.Ended told is boot = absurd is
-  of_starved ends.NothingInstalled told is boot = absurd is
-  of_starved (ends.NotAuthentic lacking) told is boot = absurd is
-  of_starved (ends.UnknownComponent component) told is boot = absurd is
-  of_starved (ends.Condition place) told is boot = absurd is
-  of_starved (ends.Stopped place cause) told is boot = absurd is
-  of_starved ends.FlashFault told is boot = absurd is
-  of_starved ends.NoMemory told is boot = absurd is
+  of_starved _ told is boot = absurd is
 
   -- a boot whose end was told
   pub boots_told : (end : BootEnd) (ended : Ended) → IsTold end ended → IsBoot layout key l m b a end → BootsBy layout key l m b a ended

@@ -38,24 +38,12 @@ stages_without words word b a NoMemory answer seven = omega (arith, seven)
 -- ---- in the boot
 
 stopped_without : (place : ℕ) (cause : Cause) → NeverHost (ends.Stopped place cause) → cause_status cause ≡ 7 → ⊥
-stopped_without place causes.Missing never seven = omega (arith, seven)
-stopped_without place causes.SelfCopy never seven = omega (arith, seven)
-stopped_without place causes.TooLarge never seven = omega (arith, seven)
-stopped_without place causes.Absent never seven = omega (arith, seven)
 stopped_without place causes.HostFault never seven = never
-stopped_without place causes.FlashFault never seven = omega (arith, seven)
-stopped_without place causes.LaunchFault never seven = omega (arith, seven)
+stopped_without place _ never seven = omega (arith, seven)
 
 ends_without : (end : BootEnd) → NeverHost end → boot_status end ≡ 7 → ⊥
-ends_without ends.Ended never seven = omega (arith, seven)
-ends_without ends.NothingInstalled never seven = omega (arith, seven)
-ends_without (ends.BadBank refusal) never seven = omega (arith, seven)
-ends_without (ends.NotAuthentic lacking) never seven = omega (arith, seven)
-ends_without (ends.UnknownComponent component) never seven = omega (arith, seven)
-ends_without (ends.Condition place) never seven = omega (arith, seven)
 ends_without (ends.Stopped place cause) never seven = stopped_without place cause never seven
-ends_without ends.FlashFault never seven = omega (arith, seven)
-ends_without ends.NoMemory never seven = omega (arith, seven)
+ends_without _ never seven = omega (arith, seven)
 
 pub boots_without : (l m : Launching) (b a : Outside) (end : BootEnd) (lines : List ℕ) → Boots l m b a end lines → IsTrue b.told → IsTrue b.flash.told → IsTrue l.told
     → boot_status end ≡ 7 → ⊥

@@ -1,5 +1,5 @@
 -- The flash at each moment of a boot.
-use Rattle.std.proofs.Common.{◌≡◌, ◌⊎◌, inl, inr, ℕ, List, subst}
+use Rattle.std.proofs.Common.{◌≡◌, ◌⊎◌, inl, inr, ℕ, List, sym, subst}
 use Rattle.suit_edge.specs.Flash.{Flash, IsFlash, IsSame}
 use Rattle.suit_edge.specs.FlashLaws.{keeps_same, keeps_then, same_flash_then}
 use Rattle.flash_layout.specs.declared.frame.TheConstants.{VERSION_1}
@@ -11,32 +11,29 @@ use Rattle.invoke_proc.specs.declared.boot_end.BootEnd.{BootEnd}
 use Rattle.invoke_proc.specs.declared.boot_end.BootEnd.TheVariants as ends
 use Rattle.invoke_proc.specs.Booting.{KeepsBoot, KeptSo, Starts}
 use Rattle.suit_cli.specs.Outside.{Outside}
-use Rattle.suit_cli.specs.Booting.{BootKeeps, KeepsBy}
+use Rattle.suit_cli.specs.Booting.{KeepsBooted}
+use Rattle.suit_cli.specs.Coming.{Answered, Booted, BootedSo, BootKeeps, BootKeepsBy, Ended, IsTold, Updated}
 
 -- by how it ended
-pub kept_so : (Kept Same : Type 0) (end : BootEnd) → KeptSo Kept Same end → Same ⊎ Kept
-kept_so Kept Same ends.Ended kept = inr kept
-kept_so Kept Same (ends.Condition place) kept = inr kept
-kept_so Kept Same (ends.Stopped place cause) kept = inr kept
-kept_so Kept Same ends.FlashFault kept = kept
-kept_so Kept Same ends.NothingInstalled same = inl same
-kept_so Kept Same (ends.BadBank refusal) same = inl same
-kept_so Kept Same (ends.NotAuthentic lacking) same = inl same
-kept_so Kept Same (ends.UnknownComponent component) same = inl same
-kept_so Kept Same ends.NoMemory same = inl same
+kept_map : (K S L R : Type 0) → (K → L) → (S → R) → (end : BootEnd) → KeptSo K S end → KeptSo L R end
+kept_map K S L R k s ends.Ended kept = k kept
+kept_map K S L R k s (ends.Condition place) kept = k kept
+kept_map K S L R k s (ends.Stopped place cause) kept = k kept
+kept_map K S L R k s ends.FlashFault (inl same) = inl (s same)
+kept_map K S L R k s ends.FlashFault (inr kept) = inr (k kept)
+kept_map K S L R k s _ same = s same
 
 -- so the flash reads as before, where nothing was played
 pub reads_left : (Kept : Type 0) (a b : Flash) (end : BootEnd) → KeptSo Kept (IsSame a b) end → KeptSo (Unit {0}) (b.reads ≡ a.reads) end
-reads_left Kept a b ends.Ended kept = tt
-reads_left Kept a b (ends.Condition place) kept = tt
-reads_left Kept a b (ends.Stopped place cause) kept = tt
-reads_left Kept a b ends.FlashFault (inl same) = inl same.reads
-reads_left Kept a b ends.FlashFault (inr kept) = inr tt
-reads_left Kept a b ends.NothingInstalled same = same.reads
-reads_left Kept a b (ends.BadBank refusal) same = same.reads
-reads_left Kept a b (ends.NotAuthentic lacking) same = same.reads
-reads_left Kept a b (ends.UnknownComponent component) same = same.reads
-reads_left Kept a b ends.NoMemory same = same.reads
+reads_left Kept a b end kept = kept_map Kept (IsSame a b) (Unit {0}) (b.reads ≡ a.reads) (λ _. tt) (λ same. same.reads) end kept
+
+-- by the end that was told
+pub kept_told : (Kept Same : Type 0) (end : BootEnd) (ended : Ended) → IsTold end ended → KeptSo Kept Same end → BootedSo Kept Same ended
+kept_told Kept Same end (Booted told lines) (inl same, is) kept = subst (λ (e : BootEnd). KeptSo Kept Same e) (sym same) kept
+kept_told Kept Same (ends.BadBank refusal) (Booted told lines) (inr starved, is) kept = subst (λ (e : BootEnd). KeptSo Kept Same e) (sym starved) kept
+kept_told Kept Same _ (Booted told lines) (inr starved, is) kept = absurd starved
+kept_told Kept Same end (Answered ending) never kept = absurd never
+kept_told Kept Same end (Updated update lines) never kept = absurd never
 
 -- behind a look at the configuration
 module _ (before : Outside) (a b c : Flash) (size : ℕ) (law : IsFlash b size) (same : IsSame a b) (layout : List Entry) (key : Key)
@@ -53,6 +50,13 @@ module _ (before : Outside) (a b c : Flash) (size : ℕ) (law : IsFlash b size) 
     };
   }
 
-  pub boot_keeps : KeepsBy layout key b c → BootKeeps before a c
-  boot_keeps (inl still) = inl (same_flash_then a b c size law same still)
-  boot_keeps (inr kept) = inr (record { layout = layout; key = key; config = config; kept = boot_since kept })
+  same_since : IsSame b c → IsSame a c
+  same_since still = same_flash_then a b c size law same still
+
+  booted_since : KeepsBoot layout key b c → KeepsBooted before a c
+  booted_since kept = record { layout = layout; key = key; config = config; kept = boot_since kept }
+
+  pub boot_keeps : (ended : Ended) → BootKeepsBy layout key ended b c → BootKeeps before ended a c
+  boot_keeps (Booted end lines) kept = kept_map _ _ _ _ booted_since same_since end kept
+  boot_keeps (Answered ending) still = same_since still
+  boot_keeps (Updated end lines) still = same_since still

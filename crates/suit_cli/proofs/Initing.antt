@@ -22,19 +22,13 @@ use Rattle.suit_cli.specs.Formatting.{formatting, formats}
 use Rattle.suit_cli.specs.Inputs.{IsRead, IsKey}
 use Rattle.suit_cli.proofs.Chains.{stopped}
 use Rattle.suit_cli.proofs.SameFiles.{key_here}
-use Rattle.suit_cli.specs.Devices.{IsNoJson, IsNoLayout, TellsLayout, bad_json_line, device_in}
+use Rattle.suit_cli.specs.Devices.{IsNoLayout, TellsLayout, device_in}
 
 -- ---- a description
 
 module _ (size : ℕ) (x y : List ℕ) (same : x ≡ y) (result : Result (List Entry) Stop) where
   pub device_of : Finds (device_in size x) result → Finds (device_in size y) result
   device_of finds = subst (λ (b : List ℕ). Finds (device_in size b) result) same finds
-
--- it is no JSON, which was told unless memory ran out
-pub no_json_there : (size : ℕ) (bytes : List ℕ) (made : Result Reply AllocError) → (IsUtf8 bytes → read bytes ≡ None) → Makes made outcomes.Refused bad_json_line
-    → (here : Outside) → Does (device_in size bytes) here here (Err (stop_of made))
-no_json_there size bytes (Ok reply) none says here = (refl, IsNoJson none says)
-no_json_there size bytes (Err e) none says here = refl
 
 -- only a fault that has a line is told
 fault_stands : (size : ℕ) (d : Data) (fault : LayoutFault) (reply : Reply) → IsFaultOf size d fault → TellsLayout fault reply → RefusesLayout size d fault

@@ -7,8 +7,7 @@ use Rattle.flash_layout.specs.declared.frame.TheConstants.{VERSION_1}
 use Rattle.flash_layout.specs.declared.key.Key.{Key}
 use Rattle.flash_layout.specs.declared.layout.Entry.{Entry}
 use Rattle.flash_layout.specs.Formats.{IsBlankOrFormatted}
-use Rattle.suit_cli.specs.declared.words.Command.{Command}
-use Rattle.suit_cli.specs.Words.{Task, Make, Describe, Show, Check, RunInit, RunUpdate, RunBoot, RunStatus, task_said}
+use Rattle.suit_cli.specs.Words.{Task, Make, Describe, Show, Check, RunInit, RunUpdate, RunBoot, RunStatus}
 use Rattle.suit_cli.specs.Outside.{Outside, Flashed, with_flash}
 use Rattle.suit_cli.specs.Inputs.{longest_device, IsRead, IsKey}
 use Rattle.suit_cli.specs.Devices.{IsDevice, key_of}
@@ -25,20 +24,10 @@ still a = starts a (Now a) (λ image now. now)
 pub start_left : (task : Option Task) (before : Outside) (a : Flash) → Passes a a (MayBeLeft task before a)
 start_left task before a = weakens a a (Now a) (MayBeLeft task before a) (λ image now. of_task task image now) (still a) where
   of_task : (t : Option Task) (image : List ℕ) → Now a image → MayBeLeft t before a image
-  of_task None image now = now
-  of_task (Some (Make description key_name out)) image now = now
-  of_task (Some (Describe name)) image now = now
-  of_task (Some (Show name key_name)) image now = now
-  of_task (Some (Check name)) image now = now
   of_task (Some (RunInit device key_name)) image now = inl now
   of_task (Some (RunUpdate name uris)) image now = tt
   of_task (Some RunBoot) image now = tt
-  of_task (Some RunStatus) image now = now
-
--- of a command that is this one
-pub left_by : (command one : Command) → command ≡ one → (before : Outside) (a b : Flash) → Passes a b (MayBeLeft (Some (task_said one)) before a)
-    → Passes a b (MayBeLeft (Some (task_said command)) before a)
-left_by command one same before a b run = subst (λ (x : Command). Passes a b (MayBeLeft (Some (task_said x)) before a)) (sym same) run
+  of_task _ image now = now
 
 -- ---- `run init`
 

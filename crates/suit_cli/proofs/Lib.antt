@@ -2,6 +2,7 @@ pub mod BlockLoop
 pub mod Chains
 pub mod MemberTexts
 pub mod Bytes
+pub mod Opened
 pub mod OneStage
 pub mod Running
 pub mod StagesKeep
@@ -41,3 +42,4 @@ mod LifeLawProofs
 mod NoPayloads
 mod LaunchedLawProofs
 pub mod WordsLawProofs
+pub mod RunLawProofs

@@ -25,7 +25,7 @@ module _ (wrapper manifest : List ℕ) where
   unfolding trimmed
   no_payloads bytes payloads wrapper_fits manifest_fits spelled has =
       let valid : IsValid (trimmed_item wrapper manifest) =
-      made_valid parts (record { wrapper = wrapper_fits; manifest = manifest_fits; payload_fetch = tt; install = tt; text = tt; payloads = tt; count = lit< tt }) tt in
+      made_valid parts (record { required = (wrapper_fits, (manifest_fits, tt)); members = (tt, (tt, (tt, tt))); payloads = tt; count = lit< tt }) tt in
       let item : has.envelope.item ≡ trimmed_item wrapper manifest = (one_spelling 0 0 has.envelope.item (trimmed_item wrapper manifest) [] [] has.envelope.spells.valid valid
       (ap (λ (l : List ℕ). l ++ []) (sym has.envelope.spells.is ∙ spelled))).0 in
       let map : has.envelope.says_so.map ≡ map_of = same_Some _ _ (sym has.envelope.says_so.shape ∙ ap (λ (i : DataItem). envelope_map 0 i) item) in

@@ -222,7 +222,7 @@ one_members laws bytes said manifest is = one_judging _ _ one_value one_refusal 
   one_value x y g h = by_law law where
     by_law : HasOneAnswer said manifest ⊎ HasOneFault said manifest → y ≡ x
     by_law (inl j) = j.only y h ∙ sym (j.only x g)
-    by_law (inr j) = absurd (j.empty x g)
+    by_law (inr j) = absurd (j.sound x g)
 
   one_refusal : (r q : Reply) → IsLack said manifest r → IsLack said manifest q → q ≡ r
   one_refusal r q g h = by_law law where
@@ -236,7 +236,7 @@ one_members laws bytes said manifest is = one_judging _ _ one_value one_refusal 
   not_both x q g h = by_law law where
     by_law : HasOneAnswer said manifest ⊎ HasOneFault said manifest → ⊥
     by_law (inl j) = j.sound h.fault h.lacks
-    by_law (inr j) = j.empty x g
+    by_law (inr j) = j.sound x g
 
 -- ---- widths, and the words
 

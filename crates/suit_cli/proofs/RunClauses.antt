@@ -17,7 +17,7 @@ use Rattle.suit_cli.specs.Stages.{Ending, Says, FaultOf, NoMemory, Goes, Decline
 use Rattle.suit_cli.specs.Statuses.{status_of, ending_status, ending_text}
 use Rattle.suit_cli.specs.Judgement.{AreSafe, AreJudged, JudgedSafe, JudgedUnsafe}
 use Rattle.suit_cli.specs.Program.{answers, PutsText, IsPut, IsCut, EndsIn, ChecksProcedures, IsCheck, ChecksSafe, ChecksUnsafe, IsUsage, Judges}
-use Rattle.suit_cli.proofs.Running.{Declining, IsJudged, checked, judged_when, judged_safe, judged_unsafe, done_safe, unsafe_shows, shown_plain, showed, status_done, status_unsafe, status_usage, not_seven, not_eight, inited, begun, stated, plain_not, unsafe_refuted}
+use Rattle.suit_cli.proofs.Running.{Declining, IsJudged, checked, judged_when, judged_safe, judged_unsafe, done_safe, unsafe_shows, shown_plain, showed, status_done, status_unsafe, status_usage, not_seven, not_eight, not_ten_of, inited, begun, stated, plain_not, unsafe_refuted}
 use Rattle.suit_cli.proofs.Describing.{described}
 use Rattle.suit_cli.proofs.AcceptedFacts.{IsUnsafeFile, began}
 use Rattle.suit_cli.proofs.TaskAnswers.{ByCheck, ByUpdate, JudgesTask, does_of, judged_task}
@@ -194,22 +194,6 @@ module _ (words : List (List ℕ)) (b a : Outside) (sb sa : Sunk) (result : ℕ)
   flash_counts NoMemory c = (λ is. absurd (omega (arith, is)), λ never. c.flash)
 
 -- no answer in stages is a fault of the launcher
-not_ten_of : (o : Outcome) → status_of o ≡ 10 → ⊥
-not_ten_of outcomes.Done e = omega arith
-not_ten_of outcomes.Unsafe e = omega arith
-not_ten_of outcomes.Usage e = omega arith
-not_ten_of outcomes.Refused e = omega arith
-not_ten_of outcomes.NotAuthentic e = omega arith
-not_ten_of outcomes.TooWide e = omega arith
-not_ten_of outcomes.Unconfigured e = omega arith
-not_ten_of outcomes.NotBlank e = omega arith
-not_ten_of outcomes.NothingInstalled e = omega arith
-not_ten_of outcomes.Severed e = omega arith
-not_ten_of outcomes.Differs e = omega arith
-not_ten_of outcomes.UnknownComponent e = omega arith
-not_ten_of outcomes.Absent e = omega arith
-not_ten_of outcomes.TooLong e = omega arith
-
 pub not_ten : (e : Ending) → ending_status e ≡ 10 → ⊥
 not_ten (Says r) is = not_ten_of r.outcome is
 not_ten (FaultOf objects.Host) is = omega (arith, is)

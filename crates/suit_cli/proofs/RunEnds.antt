@@ -22,7 +22,7 @@ use Rattle.suit_cli.specs.Booting.{Boots, boot_status}
 use Rattle.suit_cli.specs.Coming.{Ended, Answered, Booted, Updated, ByStages, ByBoot, ByUpdate, ended_status}
 use Rattle.suit_cli.specs.Updating.{Updates, update_status}
 use Rattle.update_proc.specs.declared.update_end.UpdateEnd.{UpdateEnd}
-use Rattle.suit_cli.specs.Program.{ComesTo, Puts, PutsText, IsPut, IsCut, Performs, EndsIn, IsStatus, OfEnded, OfSinkFault, ChecksProcedures, IsCheck, ChecksSafe, ChecksUnsafe, IsUsage, IsCutOff, MayLaunch, AreCounted, AsFound, IsForUpdate, LeavesBy, LeavesFor, KeepsLauncher, most_pulled, stored_by}
+use Rattle.suit_cli.specs.Program.{ComesTo, Puts, PutsText, IsPut, IsCut, Performs, EndsIn, IsStatus, OfEnded, OfSinkFault, ChecksProcedures, IsCheck, ChecksSafe, ChecksUnsafe, IsUsage, IsCutOff, MayLaunch, AreCounted, AsFound, IsForUpdate, LeavesBy, KeepsLauncher, most_pulled, stored_by}
 use Rattle.suit_cli.proofs.Running as running
 use Rattle.suit_cli.proofs.RunClauses as staged
 use Rattle.suit_cli.proofs.RunClauses.{Staged}
@@ -43,26 +43,13 @@ data Way (words : List (List ℕ)) (l m : Launching) (b a : Outside) (sb sa : Su
 -- ---- the status of a boot
 
 boot_not_nine : (end : BootEnd) → boot_status end ≡ 9 → ⊥
-boot_not_nine ends.Ended is = omega arith
-boot_not_nine ends.NothingInstalled is = omega arith
-boot_not_nine (ends.BadBank refusal) is = omega arith
-boot_not_nine (ends.NotAuthentic lacking) is = omega arith
-boot_not_nine (ends.UnknownComponent component) is = omega arith
-boot_not_nine (ends.Condition place) is = omega arith
 boot_not_nine (ends.Stopped place cause) is = cause_not_nine cause is
-boot_not_nine ends.FlashFault is = omega arith
-boot_not_nine ends.NoMemory is = omega arith
+boot_not_nine _ is = omega (arith, is)
 
 boot_not : (end : BootEnd) (n : ℕ) → boot_status end ≡ n → n ≤ 2 → (n ≡ 0 → ⊥) → ⊥
 boot_not ends.Ended n is low some = some (sym is)
-boot_not ends.NothingInstalled n is low some = omega (arith, is, low)
-boot_not (ends.BadBank refusal) n is low some = omega (arith, is, low)
-boot_not (ends.NotAuthentic lacking) n is low some = omega (arith, is, low)
-boot_not (ends.UnknownComponent component) n is low some = omega (arith, is, low)
-boot_not (ends.Condition place) n is low some = omega (arith, is, low)
 boot_not (ends.Stopped place cause) n is low some = cause_not_low cause n is low
-boot_not ends.FlashFault n is low some = omega (arith, is, low)
-boot_not ends.NoMemory n is low some = omega (arith, is, low)
+boot_not _ n is low some = omega (arith, is, low)
 
 not_nine_ended : (ended : Ended) → ended_status ended ≡ 9 → ⊥
 not_nine_ended (Answered ending) is = running.not_nine_ending ending is
@@ -95,10 +82,10 @@ module _ (l m : Launching) (b a : Outside) (end : BootEnd) (lines : List ℕ) (b
   same_faults = ap (λ (o : Outside). o.faults) boots.held.0.beside
 
   boot_told : a.told ≡ b.told
-  boot_told = boots.boot.told ∙ same_told
+  boot_told = boots.boot.alone.told ∙ same_told
 
   boot_files : IsTrue b.told → a.files ≡ b.files
-  boot_files told = boots.boot.files (subst IsTrue (sym same_told) told) ∙ same_files
+  boot_files told = boots.boot.alone.files (subst IsTrue (sym same_told) told) ∙ same_files
 
   boot_counts : ByStatus (boot_status end) (counts_of b.faults b.flash.faults l.faults) (counts_of a.faults a.flash.faults m.faults)
   boot_counts = by_end end _ _ (subst (λ (n : ℕ). BootCounts end (counts_of b.faults n l.faults) (counts_of a.faults a.flash.faults m.faults)) boots.held.0.faults
@@ -113,15 +100,9 @@ gains_none : (launched now : List Launch) → now ≡ launched → GainsSafe lau
 gains_none launched now same = record { gained = []; added = same ∙ sym (append-nil launched); safe = tt }
 
 leaves_by : (task : Option Task) (b a : Outside) → Leaves (most_pulled task b.files) (stored_by task) b a → LeavesBy task b a
-leaves_by None b a left = left
-leaves_by (Some (Make description key out)) b a left = left
-leaves_by (Some (Describe name)) b a left = left
-leaves_by (Some (Show name key)) b a left = left
-leaves_by (Some (Check name)) b a left = left
-leaves_by (Some (RunInit device key)) b a left = left
 leaves_by (Some (RunUpdate name uris)) b a left = (left.told, left.files)
 leaves_by (Some RunBoot) b a left = (left.told, left.files)
-leaves_by (Some RunStatus) b a left = left
+leaves_by _ b a left = left
 
 -- ---- the clauses
 
@@ -184,9 +165,9 @@ module _ (words : List (List ℕ)) (l m : Launching) (b a : Outside) (sb sa : Su
     of_way (AsBoot end lines word boots puts) = let never : None ≡ Some RunBoot = sym none ∙ word in absurd cc
     of_way (AsUpdate name uris end lines word updates puts) = let never : None ≡ Some (RunUpdate name uris) = sym none ∙ word in absurd cc
 
-  pub stays : LeavesFor words b a
+  pub stays : LeavesBy (task_of words) b a
   stays = of_way way where
-    of_way : Way words l m b a sb sa result → LeavesFor words b a
+    of_way : Way words l m b a sb sa result → LeavesBy (task_of words) b a
     of_way (InStages run same) = leaves_by (task_of words) b a (answers_lets words b a run.ending run.answer).leaves
     of_way (AsBoot end lines word boots puts) = subst (λ (t : Option Task). LeavesBy t b a) (sym word) (boot_told l m b a end lines boots, boot_files l m b a end lines boots)
     of_way (AsUpdate name uris end lines word updates puts) =

@@ -377,17 +377,7 @@ low_outcome : (o : Outcome) → status_of o < 3 → outcome_at (status_of o) ≡
 low_outcome outcomes.Done low = refl
 low_outcome outcomes.Unsafe low = refl
 low_outcome outcomes.Usage low = refl
-low_outcome outcomes.Refused low = absurd (omega arith)
-low_outcome outcomes.NotAuthentic low = absurd (omega arith)
-low_outcome outcomes.TooWide low = absurd (omega arith)
-low_outcome outcomes.Unconfigured low = absurd (omega arith)
-low_outcome outcomes.NotBlank low = absurd (omega arith)
-low_outcome outcomes.NothingInstalled low = absurd (omega arith)
-low_outcome outcomes.Severed low = absurd (omega arith)
-low_outcome outcomes.Differs low = absurd (omega arith)
-low_outcome outcomes.UnknownComponent low = absurd (omega arith)
-low_outcome outcomes.Absent low = absurd (omega arith)
-low_outcome outcomes.TooLong low = absurd (omega arith)
+low_outcome _ low = absurd (omega (arith, low))
 
 outcome_is : (o : Outcome) (n : ℕ) → status_of o ≡ n → n < 3 → o ≡ outcome_at n
 outcome_is o n e low = sym (low_outcome o (omega (arith, e, low))) ∙ ap outcome_at e
@@ -401,37 +391,35 @@ status_unsafe o e = outcome_is o 1 e (omega arith)
 pub status_usage : (o : Outcome) → status_of o ≡ 2 → o ≡ outcomes.Usage
 status_usage o e = outcome_is o 2 e (omega arith)
 
--- no reply has the status of a fault
-reply_status : (o : Outcome) → (status_of o < 7) ⊎ (9 < status_of o)
+-- no reply has the status of a fault, or of want of memory
+reply_status : (o : Outcome) → (status_of o < 7) ⊎ (11 < status_of o)
 reply_status outcomes.Done = inl (omega arith)
 reply_status outcomes.Unsafe = inl (omega arith)
 reply_status outcomes.Usage = inl (omega arith)
 reply_status outcomes.Refused = inl (omega arith)
 reply_status outcomes.NotAuthentic = inl (omega arith)
-reply_status outcomes.TooWide = inr (omega arith)
-reply_status outcomes.Unconfigured = inr (omega arith)
-reply_status outcomes.NotBlank = inr (omega arith)
-reply_status outcomes.NothingInstalled = inr (omega arith)
-reply_status outcomes.Severed = inr (omega arith)
-reply_status outcomes.Differs = inr (omega arith)
-reply_status outcomes.UnknownComponent = inr (omega arith)
-reply_status outcomes.Absent = inr (omega arith)
-reply_status outcomes.TooLong = inr (omega arith)
+reply_status _ = inr (omega arith)
 
-no_fault_status : (o : Outcome) (n : ℕ) → status_of o ≡ n → 7 ≤ n → n ≤ 9 → ⊥
-no_fault_status o n e from to = of_status (reply_status o) where
-  of_status : (status_of o < 7) ⊎ (9 < status_of o) → ⊥
+no_reply_has : (o : Outcome) (n : ℕ) → status_of o ≡ n → 7 ≤ n → n ≤ 11 → ⊥
+no_reply_has o n e from to = of_status (reply_status o) where
+  of_status : (status_of o < 7) ⊎ (11 < status_of o) → ⊥
   of_status (inl below) = omega (arith, below, e, from)
   of_status (inr above) = omega (arith, above, e, to)
 
 pub not_seven : (o : Outcome) → status_of o ≡ 7 → ⊥
-not_seven o e = no_fault_status o 7 e (omega arith) (omega arith)
+not_seven o e = no_reply_has o 7 e (omega arith) (omega arith)
 
 pub not_eight : (o : Outcome) → status_of o ≡ 8 → ⊥
-not_eight o e = no_fault_status o 8 e (omega arith) (omega arith)
+not_eight o e = no_reply_has o 8 e (omega arith) (omega arith)
 
 not_nine : (o : Outcome) → status_of o ≡ 9 → ⊥
-not_nine o e = no_fault_status o 9 e (omega arith) (omega arith)
+not_nine o e = no_reply_has o 9 e (omega arith) (omega arith)
+
+pub not_ten_of : (o : Outcome) → status_of o ≡ 10 → ⊥
+not_ten_of o e = no_reply_has o 10 e (omega arith) (omega arith)
+
+pub not_eleven : (o : Outcome) → status_of o ≡ 11 → ⊥
+not_eleven o e = no_reply_has o 11 e (omega arith) (omega arith)
 
 pub not_nine_ending : (e : Ending) → ending_status e ≡ 9 → ⊥
 not_nine_ending (Says r) is = not_nine r.outcome is

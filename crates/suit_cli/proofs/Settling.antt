@@ -1,7 +1,7 @@
 -- When a command leaves the flash settled.
 use Rattle.std.proofs.Common.{◌≡◌, ◌⊎◌, ⊎_elim, ℕ, List, sym, subst}
 use Rattle.suit_edge.specs.Faults.{Faulted}
-use Rattle.suit_edge.specs.Flash.{Flash, IsFlash, IsSame, IsSettled, Passes}
+use Rattle.suit_edge.specs.Flash.{Flash, IsFlash, IsSame, IsSettled, Now, Passes}
 use Rattle.suit_edge.specs.FlashLaws.{each_read}
 use Rattle.path_model.specs.declared.cause.Cause.TheVariants as causes
 use Rattle.flash_layout.specs.declared.formatting.Formatted.{Formatted}
@@ -22,7 +22,8 @@ use Rattle.update_proc.specs.declared.update_end.UpdateEnd.{UpdateEnd}
 use Rattle.update_proc.specs.declared.update_end.UpdateEnd.TheVariants as updates
 use Rattle.update_proc.specs.Ends.{UpdateCounts}
 use Rattle.update_proc.specs.Ends as updating
-use Rattle.suit_cli.specs.Settling.{StaysSettled}
+use Rattle.suit_cli.specs.Settling.{StaysInOrder, StaysSettled}
+use Rattle.suit_cli.proofs.Sounding.{any_later, any_of, any_start, settled_later, stays_later, stays_now, stays_start}
 
 -- looks alone
 pub looked : (a b : Flash) (size before now : ℕ) → IsFlash b size → IsSame a b → StaysSettled a b before now
@@ -50,36 +51,35 @@ formats_settled laws size layout key Opened formatted.FlashFault a b before now 
 -- a boot by its answer
 pub boots_settled : (end : BootEnd) (before now : Counts) (a b : Flash) → BootCounts end before now → (Settled VERSION_1 a → IfUnfaulted end (Settled VERSION_1 b))
     → StaysSettled a b before.disk now.disk
-boots_settled ends.Ended before now a b counts is settled never = is settled
-boots_settled ends.NothingInstalled before now a b counts is settled never = is settled
-boots_settled (ends.BadBank refusal) before now a b counts is settled never = is settled
-boots_settled (ends.NotAuthentic lacking) before now a b counts is settled never = is settled
-boots_settled (ends.UnknownComponent component) before now a b counts is settled never = is settled
-boots_settled (ends.Condition place) before now a b counts is settled never = is settled
 boots_settled (ends.Stopped place causes.FlashFault) before now a b counts is settled never = absurd (never counts.1)
-boots_settled (ends.Stopped place causes.Missing) before now a b counts is settled never = is settled
-boots_settled (ends.Stopped place causes.SelfCopy) before now a b counts is settled never = is settled
-boots_settled (ends.Stopped place causes.TooLarge) before now a b counts is settled never = is settled
-boots_settled (ends.Stopped place causes.Absent) before now a b counts is settled never = is settled
-boots_settled (ends.Stopped place causes.HostFault) before now a b counts is settled never = is settled
-boots_settled (ends.Stopped place causes.LaunchFault) before now a b counts is settled never = is settled
 boots_settled ends.FlashFault before now a b counts is settled never = absurd (never counts.1)
-boots_settled ends.NoMemory before now a b counts is settled never = is settled
+boots_settled _ before now a b counts is settled never = is settled
 
 -- an update by its answer
 pub updates_settled : (end : UpdateEnd) (before now : Counts) (a b : Flash) (size : ℕ) → IsFlash b size → UpdateCounts end before now
     → (Settled VERSION_1 a → Passes a b (Sound VERSION_1)) → updating.IfUnfaulted end (IsSame a b ⊎ IsSettled b) → StaysSettled a b before.disk now.disk
-updates_settled (updates.Installed r) before now a b size law counts sound is = synced a b size before.disk now.disk law sound is
-updates_settled (updates.Lower recorded offered) before now a b size law counts sound is = synced a b size before.disk now.disk law sound is
-updates_settled (updates.OtherDigest recorded offered) before now a b size law counts sound is = synced a b size before.disk now.disk law sound is
-updates_settled updates.Worn before now a b size law counts sound is = synced a b size before.disk now.disk law sound is
-updates_settled (updates.Condition place) before now a b size law counts sound is = synced a b size before.disk now.disk law sound is
 updates_settled (updates.Stopped place causes.FlashFault) before now a b size law counts sound is = λ settled never. absurd (never counts.1)
-updates_settled (updates.Stopped place causes.Missing) before now a b size law counts sound is = synced a b size before.disk now.disk law sound is
-updates_settled (updates.Stopped place causes.SelfCopy) before now a b size law counts sound is = synced a b size before.disk now.disk law sound is
-updates_settled (updates.Stopped place causes.TooLarge) before now a b size law counts sound is = synced a b size before.disk now.disk law sound is
-updates_settled (updates.Stopped place causes.Absent) before now a b size law counts sound is = synced a b size before.disk now.disk law sound is
-updates_settled (updates.Stopped place causes.HostFault) before now a b size law counts sound is = synced a b size before.disk now.disk law sound is
-updates_settled (updates.Stopped place causes.LaunchFault) before now a b size law counts sound is = synced a b size before.disk now.disk law sound is
 updates_settled updates.FlashFault before now a b size law counts sound is = λ settled never. absurd (never counts.1)
-updates_settled updates.NoMemory before now a b size law counts sound is = synced a b size before.disk now.disk law sound is
+updates_settled _ before now a b size law counts sound is = synced a b size before.disk now.disk law sound is
+
+-- ---- at each moment and at the end
+
+module _ (laws : SoundLaws) (a : Flash) where
+  pub order_start : (n : ℕ) → StaysInOrder a a n n
+  order_start n = record { any_moment = any_start a; sound = λ settled. stays_start laws a settled; settled = λ settled never. settled }
+
+  module _ (b : Flash) (size : ℕ) (law : IsFlash b size) (same : IsSame a b) where
+    pub order_looked : (before now : ℕ) → StaysInOrder a b before now
+    order_looked before now = record {
+      any_moment = any_of a b (Now a) same.images;
+      sound = λ settled. stays_now laws a settled b same.images;
+      settled = looked a b size before now law same;
+    }
+
+    -- behind looks that counted no fault
+    pub order_then : (c : Flash) (before now later : ℕ) → now ≡ before → StaysInOrder b c now later → StaysInOrder a c before later
+    order_then c before now later counts next = record {
+      any_moment = any_later a b c same next.any_moment;
+      sound = λ settled. stays_later laws a settled b c same (next.sound (settled_later a b size law same settled));
+      settled = looked_then a b c size before now later law same counts next.settled;
+    }

@@ -1,5 +1,5 @@
 -- A settled flash stays sound.
-use Rattle.std.proofs.Common.{◌≡◌, ◌⊎◌, inl, inr, ℕ, List, length, Option, Some, None, refl, sym, subst, ◌∙◌, arith}
+use Rattle.std.proofs.Common.{◌≡◌, ◌⊎◌, inl, inr, ℕ, List, length, Option, Some, None, refl, sym, ap, subst, ◌∙◌, arith}
 use Rattle.std.specs.Prelude.{IsTrue}
 use Rattle.std.proofs.lemmas.List.Edits.{get_or-between}
 use Rattle.suit_edge.specs.Gate.{IsOpen}
@@ -19,14 +19,16 @@ use Rattle.rollback_record.specs.SettledLaws.{both, each_sound, settled_still}
 use Rattle.invoke_proc.specs.declared.boot_end.BootEnd.{BootEnd}
 use Rattle.invoke_proc.specs.declared.boot_end.BootEnd.TheVariants as ends
 use Rattle.invoke_proc.specs.Booting.{KeepsBoot, KeptSo}
-use Rattle.suit_cli.specs.Words.{Task, Make, Describe, Show, Check, RunInit, RunUpdate, RunBoot, RunStatus}
+use Rattle.suit_cli.specs.Words.{Task, Make, Describe, Show, Check, RunInit, RunUpdate, RunBoot, RunStatus, task_said}
+use Rattle.suit_cli.specs.declared.words.Command.{Command}
 use Rattle.suit_cli.specs.Outside.{Outside}
 use Rattle.suit_cli.specs.Devices.{key_of}
 use Rattle.suit_cli.specs.Formatting.{MayFormat, MayLeave}
 use Rattle.suit_cli.specs.Stages.{Ending}
 use Rattle.suit_cli.specs.Launching.{Launching}
 use Rattle.suit_cli.specs.Coming.{Answered, Ended, PassesAny, StaysSound}
-use Rattle.suit_cli.specs.Program.{IfBoots, IfLaunches, KeepsFor, MayBeLeft}
+use Rattle.suit_cli.specs.Program.{FlashPasses, IfBoots, IfLaunches, KeepsFor, MayBeLeft}
+use Rattle.suit_cli.proofs.Leaving.{start_left}
 
 -- the configuration is there after a read
 pub held_after : (layout : List Entry) (key : Key) (size later_size : ℕ) (reads later : List ℕ) → later_size ≡ size → later ≡ reads
@@ -101,15 +103,10 @@ module _ (laws : SoundLaws) (a : Flash) (settled : Settled VERSION_1 a) where
   -- by the words
   pub stays_by : (task : Option Task) (before : Outside) (b : Flash) → IsTrue before.flash.told → a.reads ≡ before.flash.reads → IsFlash b before.flash.size
       → IfLaunches task (Settled VERSION_1 a → StaysSound a b) → Passes a b (MayBeLeft task before a) → StaysSound a b
-  stays_by None before b told reads law boot run = stays_now b run
-  stays_by (Some (Make description key out)) before b told reads law boot run = stays_now b run
-  stays_by (Some (Describe name)) before b told reads law boot run = stays_now b run
-  stays_by (Some (Show name key)) before b told reads law boot run = stays_now b run
-  stays_by (Some (Check name)) before b told reads law boot run = stays_now b run
   stays_by (Some (RunInit device key)) before b told reads law boot run = stays_formatting device key before b told reads law run
   stays_by (Some (RunUpdate name uris)) before b told reads law boot run = boot settled
   stays_by (Some RunBoot) before b told reads law boot run = boot settled
-  stays_by (Some RunStatus) before b told reads law boot run = stays_now b run
+  stays_by _ before b told reads law boot run = stays_now b run
 
   -- behind looks at it
   pub stays_later : (b c : Flash) → IsSame a b → StaysSound b c → StaysSound a c
@@ -148,42 +145,22 @@ module _ (layout : List Entry) (key : Key) (a b : Flash) where
     of_either : (IsSame a b) ⊎ (KeepsBoot layout key a b) → PassesAny a b
     of_either (inl same) = of_same same
     of_either (inr k) = of_kept k
-  any_boot ends.NothingInstalled kept = of_same kept
-  any_boot (ends.BadBank refusal) kept = of_same kept
-  any_boot (ends.NotAuthentic lacking) kept = of_same kept
-  any_boot (ends.UnknownComponent component) kept = of_same kept
-  any_boot ends.NoMemory kept = of_same kept
+  any_boot _ kept = of_same kept
 
 -- ---- by the words
 
 pub if_launches : (task : Option Task) (P : Type 0) → P → IfLaunches task P
-if_launches None P p = tt
-if_launches (Some (Make description key out)) P p = tt
-if_launches (Some (Describe name)) P p = tt
-if_launches (Some (Show name key)) P p = tt
-if_launches (Some (Check name)) P p = tt
-if_launches (Some (RunInit device key)) P p = tt
 if_launches (Some (RunUpdate name uris)) P p = p
 if_launches (Some RunBoot) P p = p
-if_launches (Some RunStatus) P p = tt
+if_launches _ P p = tt
 
 -- where nothing was done
-pub if_unmoved : (laws : SoundLaws) (task : Option Task) (a : Flash) → IfLaunches task (Settled VERSION_1 a → StaysSound a a)
+if_unmoved : (laws : SoundLaws) (task : Option Task) (a : Flash) → IfLaunches task (Settled VERSION_1 a → StaysSound a a)
 if_unmoved laws task a = if_launches task (Settled VERSION_1 a → StaysSound a a) (λ settled. stays_start laws a settled)
 
-pub if_launches_by : (task t : Option Task) (P : Type 0) → task ≡ t → IfLaunches t P → IfLaunches task P
-if_launches_by task t P same p = subst (λ (u : Option Task). IfLaunches u P) (sym same) p
-
 pub if_boots : (task : Option Task) (P : Type 0) → P → IfBoots task P
-if_boots None P p = tt
-if_boots (Some (Make description key out)) P p = tt
-if_boots (Some (Describe name)) P p = tt
-if_boots (Some (Show name key)) P p = tt
-if_boots (Some (Check name)) P p = tt
-if_boots (Some (RunInit device key)) P p = tt
-if_boots (Some (RunUpdate name uris)) P p = tt
 if_boots (Some RunBoot) P p = p
-if_boots (Some RunStatus) P p = tt
+if_boots _ P p = tt
 
 pub if_boots_by : (task t : Option Task) (P : Type 0) → task ≡ t → IfBoots t P → IfBoots task P
 if_boots_by task t P same p = subst (λ (u : Option Task). IfBoots u P) (sym same) p
@@ -192,16 +169,27 @@ pub as_it_boots : (task : Option Task) (P : Type 0) → task ≡ Some RunBoot �
 as_it_boots task P boots p = subst (λ (u : Option Task). IfBoots u P) boots p
 
 -- where nothing was done
-pub keeps_unmoved : (task : Option Task) (l m : Launching) (before : Outside) (ending : Ending) (a : Flash) → KeepsFor task l m before (Answered ending) a a
-keeps_unmoved None l m before ending a = tt
-keeps_unmoved (Some (Make description key out)) l m before ending a = tt
-keeps_unmoved (Some (Describe name)) l m before ending a = tt
-keeps_unmoved (Some (Show name key)) l m before ending a = tt
-keeps_unmoved (Some (Check name)) l m before ending a = tt
-keeps_unmoved (Some (RunInit device key)) l m before ending a = tt
+keeps_unmoved : (task : Option Task) (l m : Launching) (before : Outside) (ending : Ending) (a : Flash) → KeepsFor task l m before (Answered ending) a a
 keeps_unmoved (Some (RunUpdate name uris)) l m before ending a = λ settled. same_flash a
-keeps_unmoved (Some RunBoot) l m before ending a = inl (same_flash a)
-keeps_unmoved (Some RunStatus) l m before ending a = tt
+keeps_unmoved (Some RunBoot) l m before ending a = same_flash a
+keeps_unmoved _ l m before ending a = tt
 
-pub keeps_by : (task t : Option Task) (l m : Launching) (before : Outside) (ended : Ended) (a b : Flash) → task ≡ t → KeepsFor t l m before ended a b → KeepsFor task l m before ended a b
-keeps_by task t l m before ended a b same kept = subst (λ (u : Option Task). KeepsFor u l m before ended a b) (sym same) kept
+-- ---- what becomes of the flash
+
+pub flash_by : (task t : Option Task) → task ≡ t → (l m : Launching) (b a : Outside) (ended : Ended) (old now : Flash)
+    → FlashPasses t l m b a ended old now → FlashPasses task l m b a ended old now
+flash_by task t same l m b a ended old now passes = subst (λ (u : Option Task). FlashPasses u l m b a ended old now) (sym same) passes
+
+-- by a command that is this one
+pub flash_as : (command one : Command) → command ≡ one → (l m : Launching) (b a : Outside) (ended : Ended) (old now : Flash)
+    → FlashPasses (Some (task_said one)) l m b a ended old now → FlashPasses (Some (task_said command)) l m b a ended old now
+flash_as command one same = flash_by _ _ (ap (λ (x : Command). Some (task_said x)) same)
+
+-- where nothing was done
+pub flash_unmoved : (laws : SoundLaws) (task : Option Task) (l m : Launching) (b : Outside) (ending : Ending) (a : Flash) → FlashPasses task l m b b (Answered ending) a a
+flash_unmoved laws task l m b ending a = record {
+  any_moment = start_left task b a;
+  sound = if_unmoved laws task a;
+  settled = λ settled never. settled;
+  keeps = keeps_unmoved task l m b ending a;
+}

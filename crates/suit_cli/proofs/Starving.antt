@@ -38,6 +38,7 @@ use Rattle.suit_cli.specs.Updating.{Updates, update_status}
 use Rattle.suit_cli.specs.Program.{AsFound, answers}
 use Rattle.suit_cli.proofs.AcceptedFacts.{facts}
 use Rattle.suit_cli.proofs.FlashLawProofs.{IsNear, near_looks, near_reads, near_same, near_then}
+use Rattle.suit_cli.proofs.Running.{not_eleven}
 use Rattle.suit_cli.proofs.UpdateEnds.{update_files}
 
 -- ---- stages that leave files and flash as they were, except after the last point where memory may run out
@@ -147,36 +148,15 @@ answers_starves words b a (Lacks l) = near_same b a l
 
 -- ---- status 11
 
-said_not_eleven : (o : Outcome) → status_of o ≡ 11 → ⊥
-said_not_eleven outcomes.Done e = omega (arith, e)
-said_not_eleven outcomes.Unsafe e = omega (arith, e)
-said_not_eleven outcomes.Usage e = omega (arith, e)
-said_not_eleven outcomes.Refused e = omega (arith, e)
-said_not_eleven outcomes.NotAuthentic e = omega (arith, e)
-said_not_eleven outcomes.TooWide e = omega (arith, e)
-said_not_eleven outcomes.Unconfigured e = omega (arith, e)
-said_not_eleven outcomes.NotBlank e = omega (arith, e)
-said_not_eleven outcomes.NothingInstalled e = omega (arith, e)
-said_not_eleven outcomes.Severed e = omega (arith, e)
-said_not_eleven outcomes.Differs e = omega (arith, e)
-said_not_eleven outcomes.UnknownComponent e = omega (arith, e)
-said_not_eleven outcomes.Absent e = omega (arith, e)
-said_not_eleven outcomes.TooLong e = omega (arith, e)
-
 pub starved_near : (words : List (List ℕ)) (b a : Outside) (e : Ending) → ending_status e ≡ 11 → answers words b a e → IsNear b a
-starved_near words b a (Says r) eleven answer = absurd (said_not_eleven r.outcome eleven)
+starved_near words b a (Says r) eleven answer = absurd (not_eleven r.outcome eleven)
 starved_near words b a (FaultOf objects.Host) eleven answer = absurd (omega (arith, eleven))
 starved_near words b a (FaultOf objects.Flash) eleven answer = absurd (omega (arith, eleven))
 starved_near words b a NoMemory eleven answer = answers_starves words b a answer
 
 cause_not_eleven : (cause : Cause) → cause_status cause ≡ 11 → ⊥
-cause_not_eleven causes.Missing e = omega (arith, e)
-cause_not_eleven causes.SelfCopy e = omega (arith, e)
-cause_not_eleven causes.TooLarge e = omega (arith, e)
-cause_not_eleven causes.Absent e = omega (arith, e)
 cause_not_eleven causes.HostFault e = omega (arith, e)
-cause_not_eleven causes.FlashFault e = omega (arith, e)
-cause_not_eleven causes.LaunchFault e = omega (arith, e)
+cause_not_eleven _ e = omega (arith, e)
 
 -- ---- a boot
 
@@ -184,18 +164,12 @@ module _ (layout : List Entry) (key : Key) (l m : Launching) (b mid a : Outside)
     (flash_told : mid.flash.told ≡ b.flash.told) (reads : IsTrue b.flash.told → mid.flash.reads ≡ b.flash.reads) where
   boot_found : (end : BootEnd) → boot_status end ≡ 11 → IsBoot layout key l m mid a end → AsFound l m b a
   boot_found boot_ends.NoMemory eleven u = record {
-    files = λ t. u.files (subst IsTrue (sym same_told) t) ∙ same_files;
+    files = λ t. u.alone.files (subst IsTrue (sym same_told) t) ∙ same_files;
     reads = λ t. u.left (subst IsTrue (sym flash_told) t) ∙ reads t;
     launches = λ host flash launcher. u.plays (subst IsTrue (sym same_told) host) (subst IsTrue (sym flash_told) flash) launcher;
   }
-  boot_found boot_ends.Ended eleven u = absurd (omega (arith, eleven))
-  boot_found boot_ends.NothingInstalled eleven u = absurd (omega (arith, eleven))
-  boot_found (boot_ends.BadBank refusal) eleven u = absurd (omega (arith, eleven))
-  boot_found (boot_ends.NotAuthentic lacking) eleven u = absurd (omega (arith, eleven))
-  boot_found (boot_ends.UnknownComponent component) eleven u = absurd (omega (arith, eleven))
-  boot_found (boot_ends.Condition place) eleven u = absurd (omega (arith, eleven))
   boot_found (boot_ends.Stopped place cause) eleven u = absurd (cause_not_eleven cause eleven)
-  boot_found boot_ends.FlashFault eleven u = absurd (omega (arith, eleven))
+  boot_found _ eleven u = absurd (omega (arith, eleven))
 
 pub boot_starved : (l m : Launching) (b a : Outside) (end : BootEnd) (lines : List ℕ) → Boots l m b a end lines → boot_status end ≡ 11 → AsFound l m b a
 boot_starved l m b a end lines u eleven =
@@ -237,10 +211,5 @@ module _ (name : List ℕ) (uris : List (List ℕ × List ℕ)) (l m : Launching
       → (IsTrue b.flash.told → b.flash.size ≡ length b.flash.reads) → (IsTrue b.flash.told → Sound VERSION_1 b.flash.reads) → AsFound l m b a
   update_starved configs update_ends.NoMemory lines u eleven size sound = update_found lines u (λ t. recorded_in configs u.layout u.key b.flash.reads
       (subst (λ (n : ℕ). ConfigOf VERSION_1 n (head_of VERSION_1 b.flash.reads) (Configured u.layout u.key)) (size t) (u.held.1 t)) (sound t))
-  update_starved configs (update_ends.Installed r) lines u eleven size sound = absurd (omega (arith, eleven))
-  update_starved configs (update_ends.Lower x o) lines u eleven size sound = absurd (omega (arith, eleven))
-  update_starved configs (update_ends.OtherDigest x o) lines u eleven size sound = absurd (omega (arith, eleven))
-  update_starved configs update_ends.Worn lines u eleven size sound = absurd (omega (arith, eleven))
-  update_starved configs (update_ends.Condition place) lines u eleven size sound = absurd (omega (arith, eleven))
   update_starved configs (update_ends.Stopped place cause) lines u eleven size sound = absurd (cause_not_eleven cause eleven)
-  update_starved configs update_ends.FlashFault lines u eleven size sound = absurd (omega (arith, eleven))
+  update_starved configs _ lines u eleven size sound = absurd (omega (arith, eleven))

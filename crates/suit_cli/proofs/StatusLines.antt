@@ -3,6 +3,8 @@ use Rattle.std.proofs.Common.{◌≡◌, ◌<◌, ◌+◌, ◌++◌, ◌∷◌, 
 use Rattle.std.specs.Prelude.{IsTrue, codes, slice_index}
 use Rattle.std.specs.Result.{IsErrAnd}
 use Rattle.std.specs.declared.alloc.AllocError.{AllocError}
+use Rattle.suit_edge.specs.Flash.{Flash, IsFlash, IsSame}
+use Rattle.suit_edge.specs.FlashLaws.{same_flash_then}
 use Rattle.flash_layout.specs.declared.frame.TheConstants.{VERSION_1}
 use Rattle.flash_layout.specs.declared.layout.Entry.{Entry}
 use Rattle.flash_layout.specs.declared.slot.Record.{Record}
@@ -61,3 +63,9 @@ module _ (layout : List Entry) (installed : Record) (before after : Outside) (be
       → Does (lines_in layout installed) before after result
   no_lines_there (Ok lines) stop is counts = absurd is
   no_lines_there (Err other) stop is counts = subst (λ (s : Stop). Does (lines_in layout installed) before after (Err s)) (sym is) (of_stop stop counts)
+
+-- ---- the flash
+
+-- looked at once more, behind two looks
+pub same_twice : (a b c d : Flash) (m n : ℕ) → IsFlash b m → IsFlash c n → IsSame a b → IsSame b c → IsSame c d → IsSame a d
+same_twice a b c d m n one two first second third = same_flash_then a c d n two (same_flash_then a b c m one first second) third

@@ -44,10 +44,6 @@ flash_failed before now faulted = record {
 }
 
 pub by_cause : (cause : Cause) (before now : Counts) → CountsFor cause before now → ByStatus (cause_status cause) before now
-by_cause causes.Missing before now c = unfaulted 6 before now (λ e. omega (arith, e)) (λ e. omega (arith, e)) (λ e. omega (arith, e)) c
-by_cause causes.SelfCopy before now c = unfaulted 6 before now (λ e. omega (arith, e)) (λ e. omega (arith, e)) (λ e. omega (arith, e)) c
-by_cause causes.TooLarge before now c = unfaulted 6 before now (λ e. omega (arith, e)) (λ e. omega (arith, e)) (λ e. omega (arith, e)) c
-by_cause causes.Absent before now c = unfaulted 6 before now (λ e. omega (arith, e)) (λ e. omega (arith, e)) (λ e. omega (arith, e)) c
 by_cause causes.HostFault before now c = record {
   host = λ is. c.0;
   only_host = λ one two. absurd (one refl);
@@ -65,46 +61,26 @@ by_cause causes.LaunchFault before now c = record {
   launcher = λ is. c.2;
   only_launcher = λ one two. absurd (one refl);
 }
+by_cause _ before now c = unfaulted 6 before now (λ e. omega (arith, e)) (λ e. omega (arith, e)) (λ e. omega (arith, e)) c
 
 -- ---- the status
 
 pub cause_not_nine : (cause : Cause) → cause_status cause ≡ 9 → ⊥
-cause_not_nine causes.Missing is = omega arith
-cause_not_nine causes.SelfCopy is = omega arith
-cause_not_nine causes.TooLarge is = omega arith
-cause_not_nine causes.Absent is = omega arith
-cause_not_nine causes.HostFault is = omega arith
-cause_not_nine causes.FlashFault is = omega arith
-cause_not_nine causes.LaunchFault is = omega arith
+cause_not_nine causes.HostFault is = omega (arith, is)
+cause_not_nine _ is = omega (arith, is)
 
 pub cause_not_low : (cause : Cause) (n : ℕ) → cause_status cause ≡ n → n ≤ 2 → ⊥
-cause_not_low causes.Missing n is low = omega (arith, is, low)
-cause_not_low causes.SelfCopy n is low = omega (arith, is, low)
-cause_not_low causes.TooLarge n is low = omega (arith, is, low)
-cause_not_low causes.Absent n is low = omega (arith, is, low)
 cause_not_low causes.HostFault n is low = omega (arith, is, low)
-cause_not_low causes.FlashFault n is low = omega (arith, is, low)
-cause_not_low causes.LaunchFault n is low = omega (arith, is, low)
+cause_not_low _ n is low = omega (arith, is, low)
 
 pub update_not_nine : (end : UpdateEnd) → update_status end ≡ 9 → ⊥
-update_not_nine (ends.Installed r) is = omega (arith, is)
-update_not_nine (ends.Lower m o) is = omega (arith, is)
-update_not_nine (ends.OtherDigest m o) is = omega (arith, is)
-update_not_nine ends.Worn is = omega (arith, is)
-update_not_nine (ends.Condition place) is = omega (arith, is)
-update_not_nine ends.FlashFault is = omega (arith, is)
-update_not_nine ends.NoMemory is = omega (arith, is)
 update_not_nine (ends.Stopped place cause) is = cause_not_nine cause is
+update_not_nine _ is = omega (arith, is)
 
 pub update_not : (end : UpdateEnd) (n : ℕ) → update_status end ≡ n → n ≤ 2 → (n ≡ 0 → ⊥) → ⊥
 update_not (ends.Installed r) n is low some = some (sym is)
-update_not (ends.Lower m o) n is low some = omega (arith, is, low)
-update_not (ends.OtherDigest m o) n is low some = omega (arith, is, low)
-update_not ends.Worn n is low some = omega (arith, is, low)
-update_not (ends.Condition place) n is low some = omega (arith, is, low)
-update_not ends.FlashFault n is low some = omega (arith, is, low)
-update_not ends.NoMemory n is low some = omega (arith, is, low)
 update_not (ends.Stopped place cause) n is low some = cause_not_low cause n is low
+update_not _ n is low some = omega (arith, is, low)
 
 by_update : (end : UpdateEnd) (before now : Counts) → UpdateCounts end before now → ByStatus (update_status end) before now
 by_update (ends.Installed r) before now c = unfaulted 0 before now (λ e. omega (arith, e)) (λ e. omega (arith, e)) (λ e. omega (arith, e)) c
@@ -132,12 +108,12 @@ module _ (name : List ℕ) (uris : List (List ℕ × List ℕ)) (l m : Launching
   same_flash_faults = ap (λ (f : Flashed). f.faults) u.read.0.flash ∙ u.held.0.faults
 
   pub update_told : a.told ≡ b.told
-  update_told = u.update.told ∙ same_told
+  update_told = u.update.alone.told ∙ same_told
 
   pub update_files : IsTrue b.told → a.files ≡ b.files
   update_files told =
       let configured : IsTrue u.configured.told = subst IsTrue (sym (ap (λ (o : Outside). o.told) u.held.0.beside)) told in
-      u.update.files (subst IsTrue (sym same_told) told) ∙ u.read.0.quiet.files configured ∙ ap (λ (o : Outside). o.files) u.held.0.beside
+      u.update.alone.files (subst IsTrue (sym same_told) told) ∙ u.read.0.quiet.files configured ∙ ap (λ (o : Outside). o.files) u.held.0.beside
 
   pub update_counts : ByStatus (update_status end) (counts_of b.faults b.flash.faults l.faults) (counts_of a.faults a.flash.faults m.faults)
   update_counts = by_update end _ _ (subst (λ (n : ℕ). UpdateCounts end (counts_of b.faults n l.faults) (counts_of a.faults a.flash.faults m.faults)) same_flash_faults

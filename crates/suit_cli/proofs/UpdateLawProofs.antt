@@ -67,18 +67,7 @@ same_line authenticities.Yes authenticities.Yes same = refl
 same_line authenticities.NoMac authenticities.NoMac same = refl
 same_line (authenticities.DigestDiffers s f) (authenticities.DigestDiffers t g) same = refl
 same_line (authenticities.MacDiffers e f) (authenticities.MacDiffers d g) same = refl
-same_line authenticities.Yes authenticities.NoMac same = absurd same
-same_line authenticities.Yes (authenticities.DigestDiffers t g) same = absurd same
-same_line authenticities.Yes (authenticities.MacDiffers d g) same = absurd same
-same_line authenticities.NoMac authenticities.Yes same = absurd same
-same_line authenticities.NoMac (authenticities.DigestDiffers t g) same = absurd same
-same_line authenticities.NoMac (authenticities.MacDiffers d g) same = absurd same
-same_line (authenticities.DigestDiffers s f) authenticities.Yes same = absurd same
-same_line (authenticities.DigestDiffers s f) authenticities.NoMac same = absurd same
-same_line (authenticities.DigestDiffers s f) (authenticities.MacDiffers d g) same = absurd same
-same_line (authenticities.MacDiffers e f) authenticities.Yes same = absurd same
-same_line (authenticities.MacDiffers e f) authenticities.NoMac same = absurd same
-same_line (authenticities.MacDiffers e f) (authenticities.DigestDiffers t g) same = absurd same
+same_line _ _ same = absurd same
 
 one_authentic : EnvelopeLaws → AuthenticityLaw → (bytes : List ℕ) (said : EnvelopeSays) → EnvelopeOf bytes said → (key : List ℕ) → IsOne (authentic_in said key)
 one_authentic envelopes law bytes said is key = one_judging _ _ (λ x y g h. refl) one_refusal (λ x q g h. h.lacking (h.authenticity.every_yes g)) where

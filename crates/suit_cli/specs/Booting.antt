@@ -1,6 +1,6 @@
 -- The result of `run boot`.
-use Rattle.std.specs.Prelude.{◌≡◌, ◌⊎◌, ℕ, IsTrue, List, codes}
-use Rattle.suit_edge.specs.Flash.{Flash, IsSame}
+use Rattle.std.specs.Prelude.{◌≡◌, ℕ, IsTrue, List, codes}
+use Rattle.suit_edge.specs.Flash.{Flash}
 use Rattle.flash_layout.specs.declared.frame.TheConstants.{VERSION_1}
 use Rattle.flash_layout.specs.declared.key.Key.{Key}
 use Rattle.flash_layout.specs.declared.layout.Entry.{Entry}
@@ -17,7 +17,7 @@ use Rattle.invoke_proc.specs.Booting as booting
 use Rattle.invoke_proc.specs.Counting.{BootCounts}
 use Rattle.invoke_proc.specs.Sound.{IsUnrefused}
 use Rattle.suit_cli.specs.Lines.{number_line}
-use Rattle.suit_cli.specs.Launching.{Launching, cause_status, cause_text, stopped_line}
+use Rattle.suit_cli.specs.Launching.{Launching, LeavesAlone, cause_status, cause_text, stopped_line}
 use Rattle.suit_cli.specs.Texts.{refusal_line, flash_fault_line, out_of_memory_line}
 use Rattle.suit_cli.specs.Outside.{Outside}
 use Rattle.suit_cli.specs.Installed.{config_in}
@@ -55,17 +55,12 @@ boot_status ends.NoMemory = 11
 
 -- ---- the boot
 
--- What is in the flash was started, by this layout and this key, and it ended so: what that says of the record and its
--- bank, how the procedure was played, and whose fault was counted. It never ends by a fault of the host, and where nothing
--- was started the flash reads as before. What is launched on a sound flash has its digest, and its size where one is in
--- force.
+-- A boot by this layout and this key, which ended so: how the end comes of the record and its bank, how the procedure was
+-- played, and whose fault was counted. It never ends by a fault of the host, and where nothing was started the flash reads as
+-- before. All that is launched on a sound flash has its digest, and its size where one is in force.
 pub record IsBoot (layout : List Entry) (key : Key) (launched now : Launching)
     (before after : Outside) (end : BootEnd) : Type 0 where
-  pub told : after.told ≡ before.told
-  pub files : IsTrue before.told → after.files ≡ before.files
-  pub flash_told : after.flash.told ≡ before.flash.told
-  pub size : after.flash.size ≡ before.flash.size
-  pub launcher_told : now.told ≡ launched.told
+  pub alone : LeavesAlone launched now before after
   pub counts :
       BootCounts end (counts_of before.faults before.flash.faults launched.faults)
       (counts_of after.faults after.flash.faults now.faults)
@@ -103,11 +98,3 @@ pub record KeepsBooted (before : Outside) (old now : Flash) : Type 0 where
   pub config :
       ConfigOf VERSION_1 before.flash.size (head_of VERSION_1 old.reads) (Configured layout key)
   pub kept : KeepsBoot layout key old now
-
--- or nothing changed
-abbrev pub BootKeeps : Outside → Flash → Flash → Type 0
-BootKeeps before old now = IsSame old now ⊎ KeepsBooted before old now
-
--- inside: the same by a configuration
-abbrev pub KeepsBy : List Entry → Key → Flash → Flash → Type 0
-KeepsBy layout key old now = IsSame old now ⊎ KeepsBoot layout key old now

@@ -7,6 +7,7 @@ use Rattle.flash_layout.specs.declared.layout.Entry.{Entry}
 use Rattle.rollback_record.specs.SoundFlash.{Follows, Settled, Sound}
 use Rattle.invoke_proc.specs.declared.boot_end.BootEnd.{BootEnd}
 use Rattle.invoke_proc.specs.declared.boot_end.BootEnd.TheVariants as ends
+use Rattle.invoke_proc.specs.Booting.{KeepsBoot, KeptSo}
 use Rattle.update_proc.specs.declared.update_end.UpdateEnd.{UpdateEnd}
 use Rattle.suit_cli.specs.declared.answer.Answer.{Answer}
 use Rattle.suit_cli.specs.declared.answer.Answer.TheVariants as said
@@ -15,7 +16,7 @@ use Rattle.suit_cli.specs.Outside.{Outside}
 use Rattle.suit_cli.specs.Stages.{Ending, NoMemory, Answers, ending_of}
 use Rattle.suit_cli.specs.Statuses.{ending_status, ending_text}
 use Rattle.suit_cli.specs.Launching.{Launching}
-use Rattle.suit_cli.specs.Booting.{IsBoot, Boots, boot_line, boot_status}
+use Rattle.suit_cli.specs.Booting.{IsBoot, Boots, KeepsBooted, boot_line, boot_status}
 use Rattle.suit_cli.specs.Acceptance.{Accepted}
 use Rattle.suit_cli.specs.Updating.{IsUpdate, KeepsFlash, KeepsOffer, Updates, update_line, update_status}
 
@@ -66,7 +67,20 @@ StaysOrKeeps name uris launched later before (Updated end lines) old now =
     KeepsFlash name uris launched later before end old now
 StaysOrKeeps name uris launched later before _ old now = IsSame old now
 
+-- by how it ended: what a boot that was begun leaves, or what stands where it was not begun
+abbrev pub BootedSo : Type 0 → Type 0 → Ended → Type 0
+BootedSo Kept Same (Booted end lines) = KeptSo Kept Same end
+BootedSo Kept Same _ = Same
+
+-- A boot that started a manifest changed no slot but those that its procedure may write, and every other one nothing.
+abbrev pub BootKeeps : Outside → Ended → Flash → Flash → Type 0
+BootKeeps before ended old now = BootedSo (KeepsBooted before old now) (IsSame old now) ended
+
 -- ---- inside
+
+-- the same by a configuration
+abbrev pub BootKeepsBy : List Entry → Key → Ended → Flash → Flash → Type 0
+BootKeepsBy layout key ended old now = BootedSo (KeepsBoot layout key old now) (IsSame old now) ended
 
 -- the same, once an envelope was accepted
 abbrev pub KeepsAccepted : List Entry → List ℕ → Accepted → List (List ℕ × List ℕ) → Launching

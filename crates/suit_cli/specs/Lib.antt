@@ -32,3 +32,5 @@ pub mod LifeLaws
 pub mod LaunchedLaws
 pub mod UpdateLaws
 pub mod Program
+pub mod RunLaws
+pub mod Opening

@@ -1,7 +1,7 @@
 -- The result of a run of the program.
 use Rattle.std.specs.Prelude.{◌≡◌, ◌≢◌, ◌⊎◌, ◌+◌, ℕ, IsTrue, List, ◌++◌, take, Option, Some, None}
 use Rattle.suit_edge.specs.Faults.{Faulted}
-use Rattle.suit_edge.specs.Flash.{Flash, Now}
+use Rattle.suit_edge.specs.Flash.{Flash, Now, Passes}
 use Rattle.suit_commands.specs.Tree.{PlanTree}
 use Rattle.flash_layout.specs.declared.frame.TheConstants.{VERSION_1}
 use Rattle.rollback_record.specs.SoundFlash.{Settled}
@@ -13,13 +13,13 @@ use Rattle.suit_cli.specs.Outside.{Outside, Files, Sunk, Leaves}
 use Rattle.suit_cli.specs.Stages.{Stage, judging, Ending, Answers, ◌>>=◌}
 use Rattle.suit_cli.specs.Statuses.{sink_fault_status}
 use Rattle.suit_cli.specs.Launching.{Launching}
-use Rattle.suit_cli.specs.Coming.{Ended, Comes, StaysOrKeeps, ended_status, ended_text}
+use Rattle.suit_cli.specs.Coming.{Ended, Comes, BootKeeps, KeepsSound, StaysOrKeeps, ended_status, ended_text}
 use Rattle.suit_cli.specs.Inputs.{longest_file, longest_device, longest_key}
 use Rattle.suit_cli.specs.Authoring.{longest_description, names_held, most_named}
 use Rattle.suit_cli.specs.Judgement.{AreSafe, ShowUnsafe}
 use Rattle.suit_cli.specs.Holding.{HasProcedures}
 use Rattle.suit_cli.specs.Formatting.{MayLeave}
-use Rattle.suit_cli.specs.Booting.{BootKeeps}
+use Rattle.suit_cli.specs.Settling.{StaysSettled}
 use Rattle.suit_cli.specs.Commands.{does}
 
 -- ---- the answer to the words
@@ -135,7 +135,6 @@ pub record IsCutOff (words : List (List ℕ)) (launched now : Launching) (before
 
 -- how much is pulled: of each file at most one byte more than its limit. `make` reads the files that its description names.
 abbrev pub most_pulled : Option Task → Files → ℕ
-most_pulled None files = 0
 most_pulled (Some (Make description key out)) files =
     (longest_description + 1) + ((longest_key + 1) + most_named (names_held (files description)))
 most_pulled (Some (Describe name)) files = longest_file + 1
@@ -143,20 +142,12 @@ most_pulled (Some (Show name key)) files = (longest_file + 1) + (longest_key + 1
 most_pulled (Some (Check name)) files = longest_file + 1
 most_pulled (Some (RunInit device key)) files = (longest_device + 1) + (longest_key + 1)
 most_pulled (Some (RunUpdate name uris)) files = longest_file + 1
-most_pulled (Some RunBoot) files = 0
-most_pulled (Some RunStatus) files = 0
+most_pulled _ files = 0
 
 -- the file that is stored
 abbrev pub stored_by : Option Task → Option (List ℕ)
-stored_by None = None
 stored_by (Some (Make description key out)) = Some out
-stored_by (Some (Describe name)) = None
-stored_by (Some (Show name key)) = None
-stored_by (Some (Check name)) = None
-stored_by (Some (RunInit device key)) = None
-stored_by (Some (RunUpdate name uris)) = None
-stored_by (Some RunBoot) = None
-stored_by (Some RunStatus) = None
+stored_by _ = None
 
 -- no file changes
 abbrev pub KeepsFiles : Outside → Outside → Type 0
@@ -168,9 +159,6 @@ abbrev pub LeavesBy : Option Task → Outside → Outside → Type 0
 LeavesBy (Some RunBoot) before after = KeepsFiles before after
 LeavesBy (Some (RunUpdate name uris)) before after = KeepsFiles before after
 LeavesBy task before after = Leaves (most_pulled task before.files) (stored_by task) before after
-
-abbrev pub LeavesFor : List (List ℕ) → Outside → Outside → Type 0
-LeavesFor words before after = LeavesBy (task_of words) before after
 
 -- ---- power losses
 
@@ -250,8 +238,16 @@ IfBoots _ P = Unit {0}
 abbrev pub KeepsFor : Option Task → Launching → Launching → Outside → Ended → Flash → Flash → Type 0
 KeepsFor (Some (RunUpdate name uris)) launched later before ended old now =
     Settled VERSION_1 old → StaysOrKeeps name uris launched later before ended old now
-KeepsFor (Some RunBoot) launched later before ended old now = BootKeeps before old now
+KeepsFor (Some RunBoot) launched later before ended old now = BootKeeps before ended old now
 KeepsFor _ launched later before ended old now = Unit {0}
+
+-- inside: what becomes of a flash that tells, at each moment and at the end
+pub record FlashPasses (task : Option Task) (launched later : Launching) (before after : Outside)
+    (ended : Ended) (old now : Flash) : Type 0 where
+  pub any_moment : Passes old now (MayBeLeft task before old)
+  pub sound : IfLaunches task (KeepsSound old now)
+  pub settled : StaysSettled old now before.flash.faults after.flash.faults
+  pub keeps : KeepsFor task launched later before ended old now
 
 -- the words had an answer that was put, and so the flash was kept with that very answer
 pub record KeepsAsTold (words : List (List ℕ)) (launched later : Launching) (before after : Outside)

@@ -4,8 +4,15 @@ use Rattle.suit_edge.specs.Faults.{Faulted}
 use Rattle.suit_edge.specs.Flash.{Flash}
 use Rattle.flash_layout.specs.declared.frame.TheConstants.{VERSION_1}
 use Rattle.rollback_record.specs.SoundFlash.{Settled}
+use Rattle.suit_cli.specs.Coming.{KeepsSound, PassesAny}
 
 -- a settled flash is settled again, unless it counted a fault
 abbrev pub StaysSettled : Flash → Flash → ℕ → ℕ → Type 0
 StaysSettled old new before now =
     Settled VERSION_1 old → (Faulted before now → ⊥) → Settled VERSION_1 new
+
+-- inside: how a run of calls leaves a flash, at each moment and at the end
+pub record StaysInOrder (old new : Flash) (before now : ℕ) : Type 0 where
+  pub any_moment : PassesAny old new
+  pub sound : KeepsSound old new
+  pub settled : StaysSettled old new before now

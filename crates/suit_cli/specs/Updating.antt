@@ -27,7 +27,7 @@ use Rattle.suit_cli.specs.Texts.{flash_fault_line, out_of_memory_line}
 use Rattle.suit_cli.specs.Outside.{Outside}
 use Rattle.suit_cli.specs.Inputs.{longest_file, IsRead, file}
 use Rattle.suit_cli.specs.Installed.{config_in}
-use Rattle.suit_cli.specs.Launching.{Launching, cause_status, cause_text, stopped_line}
+use Rattle.suit_cli.specs.Launching.{Launching, LeavesAlone, cause_status, cause_text, stopped_line}
 use Rattle.suit_cli.specs.Acceptance.{Accepted, IsAccepted}
 
 -- ---- the lines
@@ -80,11 +80,7 @@ pub record IsUpdate (layout : List Entry) (bytes : List ℕ) (a : Accepted)
     (uris : List (List ℕ × List ℕ)) (launched now : Launching) (before after : Outside)
     (end : UpdateEnd)
     : Type 0 where
-  pub told : after.told ≡ before.told
-  pub files : IsTrue before.told → after.files ≡ before.files
-  pub flash_told : after.flash.told ≡ before.flash.told
-  pub size : after.flash.size ≡ before.flash.size
-  pub launcher_told : now.told ≡ launched.told
+  pub alone : LeavesAlone launched now before after
   pub counts :
       UpdateCounts end (counts_of before.faults before.flash.faults launched.faults)
       (counts_of after.faults after.flash.faults now.faults)

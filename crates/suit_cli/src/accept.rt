@@ -6,6 +6,8 @@ ghost use Rattle.suit_envelope.specs.WrapperParts.{HasWrapper};
 ghost use Rattle.suit_envelope.specs.Places.{MembersEndBelow};
 ghost use Rattle.suit_cli.specs.Envelopes.{envelope_in, short, manifest_in, members_in};
 ghost use Rattle.suit_cli.specs.Accepting.{FindsEnvelope, TellsFault};
+ghost use Rattle.suit_cli.specs.Inputs.{longest_file};
+ghost use Rattle.suit_cli.specs.Opening.{Opens};
 ghost use Rattle.suit_cli.specs.Stages.{Finds};
 ghost use Rattle.suit_cli.specs.Texts.{name_text, differs_line};
 ghost use Rattle.suit_cli.specs.declared.reply.Outcome.TheVariants as outcomes;
@@ -14,7 +16,7 @@ ghost use Rattle.suit_cli.specs.Replies.{Makes};
 use crate::reply::{Outcome, Reply, Stop, declined};
 use det_cbor::Text;
 use std::alloc::{AllocError, Global};
-use suit_envelope::{Envelope, MemberName, decode_envelope, trimmed_length};
+use suit_envelope::{Envelope, MemberName, decode_envelope, envelope_laws, trimmed_length};
 use suit_manifest::{Manifest, MemberFault, Members, decode_manifest, members_of};
 use suit_params::Fault;
 
@@ -53,6 +55,27 @@ pub(crate) fn manifest_in(alloc: Global, envelope: &Envelope<'_>) -> Result<Mani
         Ok(manifest) => Ok(manifest),
         Err(Fault::Refused(refusal)) => Err(declined(Reply::refused(alloc, &refusal))),
         Err(Fault::NoMemory) => Err(Stop::NoMemory),
+    }
+}
+
+/// An envelope and its manifest.
+#[derive(Drop)]
+pub(crate) struct Opened<'a> {
+    pub(crate) envelope: Envelope<'a>,
+    pub(crate) manifest: Manifest,
+}
+
+/// The envelope that a file's bytes spell, which is short enough, and its manifest.
+pub(crate) fn opened_in(alloc: Global, bytes: &[u8]) -> Result<Opened<'_>, Stop>
+    requires { length bytes.now ≤ longest_file }
+    ensures { Opens bytes.now result }
+{
+    envelope_laws();
+    let envelope = envelope_in(alloc, bytes)?;
+    short(alloc, &envelope)?;
+    match manifest_in(alloc, &envelope) {
+        Ok(manifest) => Ok(Opened { envelope, manifest }),
+        Err(stop) => Err(stop),
     }
 }
 

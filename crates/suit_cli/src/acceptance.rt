@@ -25,6 +25,7 @@ use crate::show::authenticity_line;
 use crate::status::number_line;
 use det_cbor::Text;
 use flash_layout::{Key, Layout, Places, places};
+use invoke_proc::key_bytes;
 use std::alloc::{AllocError, Global};
 use suit_envelope::{Authenticity, Envelope, authentic, envelope_laws};
 use suit_manifest::{
@@ -39,14 +40,6 @@ pub(crate) struct Acceptable<'a> {
     pub(crate) manifest: Manifest,
     pub(crate) places: Places,
     pub(crate) members: Members,
-}
-
-// The bytes of the key.
-fn key_bytes(key: &Key) -> &[u8]
-    requires { IsKey key.now }
-    ensures { result.now ≡ key_bytes key.now }
-{
-    &key.bytes[..key.length as usize]
 }
 
 fn is_yes(answer: &Authenticity<'_>) -> bool

@@ -9,31 +9,26 @@ ghost use Rattle.suit_cli.specs.Inputs.{longest_file};
 ghost use Rattle.suit_cli.specs.Envelopes.{ManifestOf};
 ghost use Rattle.suit_cli.specs.Commands.{judges_manifest, judges_file, checks};
 
-use crate::accept::{envelope_in, manifest_in, members_in, short};
+use crate::accept::{Opened, members_in, opened_in};
 use crate::input::{LONGEST_FILE, read};
 use crate::judgement::{judge, narrow};
 use crate::outside::SeenHost;
 use crate::reply::{Reply, Stop};
 use std::alloc::Global;
 use suit_edge::Host;
-use suit_envelope::{Envelope, envelope_laws};
-use suit_manifest::{Manifest, invocation_plan, procedure_laws, update_plan};
+use suit_manifest::{invocation_plan, procedure_laws, update_plan};
 
 // Judges an envelope's manifest.
-fn judge_manifest(
-    alloc: Global,
-    envelope: &Envelope<'_>,
-    manifest: &Manifest,
-) -> Result<Reply, Stop>
-    requires places { MembersEndBelow (2 ^ 64) (said_by envelope.now) }
-    requires manifest { ManifestOf (said_by envelope.now) manifest.now }
-    ensures { Tells (judges_manifest (said_by envelope.now) manifest.now) result }
+fn judge_manifest(alloc: Global, file: &Opened<'_>) -> Result<Reply, Stop>
+    requires places { MembersEndBelow (2 ^ 64) (said_by file.now.envelope) }
+    requires manifest { ManifestOf (said_by file.now.envelope) file.now.manifest }
+    ensures { Tells (judges_manifest (said_by file.now.envelope) file.now.manifest) result }
 {
     procedure_laws();
-    let members = members_in(alloc, envelope, manifest)?;
-    let update = update_plan(manifest, &members);
+    let members = members_in(alloc, &file.envelope, &file.manifest)?;
+    let update = update_plan(&file.manifest, &members);
     narrow(alloc, &update)?;
-    let invocation = invocation_plan(manifest);
+    let invocation = invocation_plan(&file.manifest);
     narrow(alloc, &invocation)?;
     judge(alloc, &update, &invocation)
 }
@@ -43,11 +38,10 @@ fn judge_file(alloc: Global, bytes: &[u8]) -> Result<Reply, Stop>
     requires { length bytes.now ≤ longest_file }
     ensures { Tells (judges_file bytes.now) result }
 {
-    envelope_laws();
-    let envelope = envelope_in(alloc, bytes)?;
-    short(alloc, &envelope)?;
-    let manifest = manifest_in(alloc, &envelope)?;
-    judge_manifest(alloc, &envelope, &manifest)
+    match opened_in(alloc, bytes) {
+        Ok(file) => judge_manifest(alloc, &file),
+        Err(stop) => Err(stop),
+    }
 }
 
 /// The reply to `check NAME`.

@@ -1,5 +1,6 @@
-//! Laws of the answers of each command, however they are computed.
+//! Laws of the answers to the words and of each command, however they are computed.
 
+ghost use Rattle.suit_cli.specs.RunLaws.{RunLaws};
 ghost use Rattle.suit_cli.specs.CommandLaws.{CheckLaws, ShowLaws};
 ghost use Rattle.suit_cli.specs.DescribingLaws.{DescribingLaws};
 ghost use Rattle.suit_cli.specs.MakeLaws.{MakeLaws};
@@ -92,4 +93,14 @@ pub fn update_laws()
     authenticity_laws();
     manifest_laws();
     members_laws();
+}
+
+/// Does nothing. Its contract has the laws of every run, which follow from its answer and the put of it, as `run` has
+/// them: usage, exactly where the words are no command; which statuses there are; which part of the lines is put where the
+/// output failed; what stays where memory ran out; that `run boot` does not end with a fault of the host; and that no
+/// other command but `run update` launches anything.
+pub fn run_laws()
+    ensures { RunLaws }
+{
+    config_laws();
 }

@@ -83,7 +83,7 @@ fn read_files<H: Host>(alloc: Global, names: &Names, host: &mut H) -> Result<Fil
     let mut files = FileList::new(alloc);
     for name in names.as_slice() {
         let bytes = read(alloc, name.as_str(), LONGEST_NAMED, host)?;
-        files.push(Text::from_str(alloc, name.as_str())?, bytes)?;
+        files.push((Text::from_str(alloc, name.as_str())?, bytes))?;
     }
     Ok(files)
 }

@@ -1,6 +1,6 @@
 //! The top call: all that the program does.
 
-ghost use Rattle.std.specs.Prelude.{◌≡◌, ◌≤◌, IsTrue, List, ℕ, Some, None};
+ghost use Rattle.std.specs.Prelude.{◌≡◌, ◌≤◌, IsTrue, Some};
 ghost use Rattle.suit_edge.specs.Flash.{Passes};
 ghost use Rattle.flash_layout.specs.declared.frame.TheConstants.{VERSION_1};
 ghost use Rattle.suit_commands.specs.Tree.{PlanTree};
@@ -12,28 +12,21 @@ ghost use Rattle.suit_cli.specs.Program.{
   Puts,
   PutsText,
   Performs,
-  IsStatus,
   EndsIn,
   IsCheck,
   ChecksProcedures,
   ChecksSafe,
   ChecksUnsafe,
-  IsUsage,
-  IsCutOff,
   AreCounted,
-  AsFound,
-  IsForUpdate,
-  LeavesFor,
+  LeavesBy,
   MayBeLeft,
   ComesTo,
+  FlashPasses,
   IfBoots,
-  IfLaunches,
   KeepsAsTold,
-  KeepsFor,
-  KeepsLauncher,
 };
 ghost use Rattle.suit_cli.specs.Settling.{StaysSettled};
-ghost use Rattle.suit_cli.specs.Coming.{Answered, Comes, KeepsSound, StaysSound, ended_of};
+ghost use Rattle.suit_cli.specs.Coming.{Answered, Comes, StaysSound, ended_of};
 ghost use Rattle.invoke_proc.specs.Booting.{GainsSafe};
 ghost use Rattle.rollback_record.specs.SoundFlash.{Settled, Sound};
 
@@ -52,7 +45,6 @@ use crate::status::status;
 use crate::update_lines::update_status;
 use crate::words::{Command, command_of, lent};
 use det_cbor::Names;
-use flash_layout::config_laws;
 use rollback_record::sound_laws;
 use std::alloc::Global;
 use suit_edge::{Disk, Edge, Host, Launcher, Sink};
@@ -81,16 +73,10 @@ fn perform<H: Host, D: Disk, L: Launcher>(
         (⟦<H as SeenHost>⟧.seen host.new (⟦<D as SeenDisk>⟧.seen flash.new)) (ended_of result) }
     ensures unasked { IfBoots (Some (task_said command.entry)) (host.new ≡ host.old) }
     ensures extent { D.extent flash.new ≡ D.extent flash.old }
-    ensures any_moment { IsTrue D.told → Passes (D.flash flash.old) (D.flash flash.new)
-        (MayBeLeft (Some (task_said command.entry))
-        (⟦<H as SeenHost>⟧.seen host.old (⟦<D as SeenDisk>⟧.seen flash.old)) (D.flash flash.old)) }
-    ensures sound { IsTrue D.told → IfLaunches (Some (task_said command.entry))
-        (KeepsSound (D.flash flash.old) (D.flash flash.new)) }
-    ensures settled { IsTrue D.told → StaysSettled (D.flash flash.old) (D.flash flash.new)
-        (D.faults flash.old) (D.faults flash.new) }
-    ensures keeps { IsTrue D.told → KeepsFor (Some (task_said command.entry))
+    ensures flash { IsTrue D.told → FlashPasses (Some (task_said command.entry))
         (⟦<L as SeenLauncher>⟧.seen launcher.old) (⟦<L as SeenLauncher>⟧.seen launcher.new)
         (⟦<H as SeenHost>⟧.seen host.old (⟦<D as SeenDisk>⟧.seen flash.old))
+        (⟦<H as SeenHost>⟧.seen host.new (⟦<D as SeenDisk>⟧.seen flash.new))
         (ended_of result) (D.flash flash.old) (D.flash flash.new) }
 {
     match command {
@@ -122,16 +108,10 @@ fn answer<H: Host, D: Disk, L: Launcher>(
         (⟦<H as SeenHost>⟧.seen host.new (⟦<D as SeenDisk>⟧.seen flash.new)) (ended_of result) }
     ensures unasked { IfBoots (task_of words.now) (host.new ≡ host.old) }
     ensures extent { D.extent flash.new ≡ D.extent flash.old }
-    ensures any_moment { IsTrue D.told → Passes (D.flash flash.old) (D.flash flash.new)
-        (MayBeLeft (task_of words.now)
-        (⟦<H as SeenHost>⟧.seen host.old (⟦<D as SeenDisk>⟧.seen flash.old)) (D.flash flash.old)) }
-    ensures sound { IsTrue D.told → IfLaunches (task_of words.now)
-        (KeepsSound (D.flash flash.old) (D.flash flash.new)) }
-    ensures settled { IsTrue D.told → StaysSettled (D.flash flash.old) (D.flash flash.new)
-        (D.faults flash.old) (D.faults flash.new) }
-    ensures keeps { IsTrue D.told → KeepsFor (task_of words.now)
+    ensures flash { IsTrue D.told → FlashPasses (task_of words.now)
         (⟦<L as SeenLauncher>⟧.seen launcher.old) (⟦<L as SeenLauncher>⟧.seen launcher.new)
         (⟦<H as SeenHost>⟧.seen host.old (⟦<D as SeenDisk>⟧.seen flash.old))
+        (⟦<H as SeenHost>⟧.seen host.new (⟦<D as SeenDisk>⟧.seen flash.new))
         (ended_of result) (D.flash flash.old) (D.flash flash.new) }
 {
     sound_laws();
@@ -186,7 +166,7 @@ fn put<K: Sink>(out: &mut K, answer: Answer) -> Status
 }
 
 /// Runs the program. The words leave out its name. The flash must have at least 49,152 bytes, where the configuration, the
-/// records and the banks are.
+/// records and the banks are. `run_laws` has the laws of the answer.
 pub fn run<H: Host, D: Disk, L: Launcher, K: Sink>(
     alloc: Global,
     words: &Names,
@@ -219,13 +199,8 @@ pub fn run<H: Host, D: Disk, L: Launcher, K: Sink>(
         (⟦<H as SeenHost>⟧.seen host.old (⟦<D as SeenDisk>⟧.seen flash.old)) update invocation →
         (AreSafe update invocation → ⊥) → EndsIn 1 result.0 }
 
-    // Usage, exactly where the words are no command.
-    ensures usage { result.0 ≡ 2 →
-        IsUsage words.now (⟦<K as SeenSink>⟧.seen out.old) (⟦<K as SeenSink>⟧.seen out.new) }
-    ensures no_command_is_usage { task_of words.now ≡ None → EndsIn 2 result.0 }
-
     // No file changes but the one that `make` stores, and there is a limit to what is read.
-    ensures stays { LeavesFor words.now
+    ensures stays { LeavesBy (task_of words.now)
         (⟦<H as SeenHost>⟧.seen host.old (⟦<D as SeenDisk>⟧.seen flash.old))
         (⟦<H as SeenHost>⟧.seen host.new (⟦<D as SeenDisk>⟧.seen flash.new)) }
 
@@ -235,10 +210,7 @@ pub fn run<H: Host, D: Disk, L: Launcher, K: Sink>(
         (MayBeLeft (task_of words.now)
         (⟦<H as SeenHost>⟧.seen host.old (⟦<D as SeenDisk>⟧.seen flash.old)) (D.flash flash.old)) }
 
-    // Only `run boot` and `run update` launch. Each launch has its digest, and its size where one is in force; for `run
-    // boot` this holds on a sound flash.
-    ensures only_launching { KeepsLauncher words.now
-        (⟦<L as SeenLauncher>⟧.seen launcher.old) (⟦<L as SeenLauncher>⟧.seen launcher.new) }
+    // Each launch has its digest, and its size where one is in force; for `run boot` this holds on a sound flash.
     ensures launches { IsTrue H.told → IsTrue D.told → IsTrue L.told
         → (task_of words.now ≡ Some RunBoot → Sound VERSION_1 (D.flash flash.old).reads)
         → GainsSafe (L.launches launcher.old) (L.launches launcher.new) }
@@ -261,40 +233,20 @@ pub fn run<H: Host, D: Disk, L: Launcher, K: Sink>(
         (⟦<K as SeenSink>⟧.seen out.old) (⟦<K as SeenSink>⟧.seen out.new) result.0
         (D.flash flash.old) (D.flash flash.new) }
 
-    // Statuses and faults.
-    ensures status { IsStatus result.0 }
+    // Faults.
     ensures counts { AreCounted words.now
         (⟦<L as SeenLauncher>⟧.seen launcher.old) (⟦<L as SeenLauncher>⟧.seen launcher.new)
         (⟦<H as SeenHost>⟧.seen host.old (⟦<D as SeenDisk>⟧.seen flash.old))
         (⟦<H as SeenHost>⟧.seen host.new (⟦<D as SeenDisk>⟧.seen flash.new))
         (⟦<K as SeenSink>⟧.seen out.old) (⟦<K as SeenSink>⟧.seen out.new) result.0 }
 
-    // `run boot` leaves the host alone, and status 7 does not come of it.
+    // `run boot` leaves the host alone.
     ensures unasked { task_of words.now ≡ Some RunBoot → host.new ≡ host.old }
-    ensures no_host { IsTrue H.told → IsTrue D.told → IsTrue L.told
-        → task_of words.now ≡ Some RunBoot → result.0 ≡ 7 → ⊥ }
-
-    // Status 11: no file changed, the flash reads as it did, and nothing was launched; for `run update`, on a sound
-    // flash.
-    ensures starved { result.0 ≡ 11
-        → (IsTrue D.told → IsForUpdate (task_of words.now)
-        → Sound VERSION_1 (D.flash flash.old).reads)
-        → AsFound
-        (⟦<L as SeenLauncher>⟧.seen launcher.old) (⟦<L as SeenLauncher>⟧.seen launcher.new)
-        (⟦<H as SeenHost>⟧.seen host.old (⟦<D as SeenDisk>⟧.seen flash.old))
-        (⟦<H as SeenHost>⟧.seen host.new (⟦<D as SeenDisk>⟧.seen flash.new)) }
-
-    ensures cut_off { result.0 ≡ 9 → IsCutOff words.now
-        (⟦<L as SeenLauncher>⟧.seen launcher.old) (⟦<L as SeenLauncher>⟧.seen launcher.new)
-        (⟦<H as SeenHost>⟧.seen host.old (⟦<D as SeenDisk>⟧.seen flash.old))
-        (⟦<H as SeenHost>⟧.seen host.new (⟦<D as SeenDisk>⟧.seen flash.new))
-        (⟦<K as SeenSink>⟧.seen out.old) (⟦<K as SeenSink>⟧.seen out.new) }
 {
     envelope_laws();
     manifest_laws();
     members_laws();
     sound_laws();
-    config_laws();
     let answer = answer(alloc, words, host, flash, launcher);
     put(out, answer)
 }

@@ -6,10 +6,9 @@ ghost use Rattle.flash_layout.specs.declared.frame.TheConstants.{VERSION_1};
 ghost use Rattle.flash_layout.specs.Configs.{ConfigOf, Configured, IsAllowed};
 ghost use Rattle.flash_layout.specs.Frames.{head_of};
 ghost use Rattle.invoke_proc.specs.declared.boot_end.BootEnd.TheVariants as ends;
-ghost use Rattle.suit_cli.specs.Booting.{BootKeeps, KeepsBy};
-ghost use Rattle.suit_cli.specs.Coming.{BootsBy, Comes, IsTold, KeepsSound, PassesAny, ended_of};
+ghost use Rattle.suit_cli.specs.Coming.{BootKeeps, BootKeepsBy, BootsBy, Comes, IsTold, ended_of};
 ghost use Rattle.suit_cli.specs.Commands.{does};
-ghost use Rattle.suit_cli.specs.Settling.{StaysSettled};
+ghost use Rattle.suit_cli.specs.Settling.{StaysInOrder};
 ghost use Rattle.suit_cli.specs.Words.{RunBoot};
 
 use crate::answer::Answer;
@@ -79,14 +78,12 @@ fn boot_by<H: Host, D: Disk, L: Launcher>(
         (⟦<L as SeenLauncher>⟧.seen launcher.old) (⟦<L as SeenLauncher>⟧.seen launcher.new)
         (⟦<H as SeenHost>⟧.seen host.old (⟦<D as SeenDisk>⟧.seen flash.old))
         (⟦<H as SeenHost>⟧.seen host.new (⟦<D as SeenDisk>⟧.seen flash.new)) (ended_of result) }
+    ensures keeps { IsTrue D.told
+        → BootKeepsBy layout.now key.now (ended_of result) (D.flash flash.old) (D.flash flash.new) }
     ensures unasked { host.new ≡ host.old }
     ensures extent { D.extent flash.new ≡ D.extent flash.old }
-    ensures any_moment { IsTrue D.told → PassesAny (D.flash flash.old) (D.flash flash.new) }
-    ensures sound { IsTrue D.told → KeepsSound (D.flash flash.old) (D.flash flash.new) }
-    ensures settled { IsTrue D.told → StaysSettled (D.flash flash.old) (D.flash flash.new)
+    ensures flash { IsTrue D.told → StaysInOrder (D.flash flash.old) (D.flash flash.new)
         (D.faults flash.old) (D.faults flash.new) }
-    ensures keeps { IsTrue D.told
-        → KeepsBy layout.now key.now (D.flash flash.old) (D.flash flash.new) }
 {
     sound_laws();
     let mut line = String::new(alloc);
@@ -111,13 +108,11 @@ pub(crate) fn run_boot<H: Host, D: Disk, L: Launcher>(
         (⟦<H as SeenHost>⟧.seen host.new (⟦<D as SeenDisk>⟧.seen flash.new)) (ended_of result) }
     ensures unasked { host.new ≡ host.old }
     ensures extent { D.extent flash.new ≡ D.extent flash.old }
-    ensures any_moment { IsTrue D.told → PassesAny (D.flash flash.old) (D.flash flash.new) }
-    ensures sound { IsTrue D.told → KeepsSound (D.flash flash.old) (D.flash flash.new) }
-    ensures settled { IsTrue D.told → StaysSettled (D.flash flash.old) (D.flash flash.new)
+    ensures flash { IsTrue D.told → StaysInOrder (D.flash flash.old) (D.flash flash.new)
         (D.faults flash.old) (D.faults flash.new) }
     ensures keeps { IsTrue D.told → BootKeeps
         (⟦<H as SeenHost>⟧.seen host.old (⟦<D as SeenDisk>⟧.seen flash.old))
-        (D.flash flash.old) (D.flash flash.new) }
+        (ended_of result) (D.flash flash.old) (D.flash flash.new) }
 {
     sound_laws();
     match config_in(alloc, flash) {

@@ -11,14 +11,12 @@ ghost use Rattle.suit_cli.specs.Acceptance.{IsAccepted, accepted_by};
 ghost use Rattle.suit_cli.specs.Coming.{
   Comes,
   KeepsAccepted,
-  KeepsSound,
-  PassesAny,
   StaysOrKeeps,
   UpdatesBy,
   ended_of,
 };
 ghost use Rattle.suit_cli.specs.Commands.{does};
-ghost use Rattle.suit_cli.specs.Settling.{StaysSettled};
+ghost use Rattle.suit_cli.specs.Settling.{StaysInOrder};
 ghost use Rattle.suit_cli.specs.Words.{RunUpdate};
 
 use crate::acceptance::{Acceptable, accept};
@@ -62,17 +60,15 @@ fn update_by<H: Host, D: Disk, L: Launcher>(
         (⟦<L as SeenLauncher>⟧.seen launcher.old) (⟦<L as SeenLauncher>⟧.seen launcher.new)
         (⟦<H as SeenHost>⟧.seen host.old (⟦<D as SeenDisk>⟧.seen flash.old))
         (⟦<H as SeenHost>⟧.seen host.new (⟦<D as SeenDisk>⟧.seen flash.new)) (ended_of result) }
-    ensures extent { D.extent flash.new ≡ D.extent flash.old }
-    ensures any_moment { IsTrue D.told → PassesAny (D.flash flash.old) (D.flash flash.new) }
-    ensures sound { IsTrue D.told → KeepsSound (D.flash flash.old) (D.flash flash.new) }
-    ensures settled { IsTrue D.told → StaysSettled (D.flash flash.old) (D.flash flash.new)
-        (D.faults flash.old) (D.faults flash.new) }
     ensures keeps { IsTrue D.told → Settled VERSION_1 (D.flash flash.old)
         → KeepsAccepted
         layout.now accepted.now.envelope.whole.now (accepted_by accepted.now) uris.now
         (⟦<L as SeenLauncher>⟧.seen launcher.old) (⟦<L as SeenLauncher>⟧.seen launcher.new)
         (⟦<H as SeenHost>⟧.seen host.old (⟦<D as SeenDisk>⟧.seen flash.old))
         (ended_of result) (D.flash flash.old) (D.flash flash.new) }
+    ensures extent { D.extent flash.new ≡ D.extent flash.old }
+    ensures flash { IsTrue D.told → StaysInOrder (D.flash flash.old) (D.flash flash.new)
+        (D.faults flash.old) (D.faults flash.new) }
 {
     sound_laws();
     config_laws();
@@ -117,9 +113,7 @@ pub(crate) fn run_update<H: Host, D: Disk, L: Launcher>(
         (⟦<H as SeenHost>⟧.seen host.old (⟦<D as SeenDisk>⟧.seen flash.old))
         (⟦<H as SeenHost>⟧.seen host.new (⟦<D as SeenDisk>⟧.seen flash.new)) (ended_of result) }
     ensures extent { D.extent flash.new ≡ D.extent flash.old }
-    ensures any_moment { IsTrue D.told → PassesAny (D.flash flash.old) (D.flash flash.new) }
-    ensures sound { IsTrue D.told → KeepsSound (D.flash flash.old) (D.flash flash.new) }
-    ensures settled { IsTrue D.told → StaysSettled (D.flash flash.old) (D.flash flash.new)
+    ensures flash { IsTrue D.told → StaysInOrder (D.flash flash.old) (D.flash flash.new)
         (D.faults flash.old) (D.faults flash.new) }
     ensures keeps { IsTrue D.told → Settled VERSION_1 (D.flash flash.old)
         → StaysOrKeeps name.now uris.now

@@ -10,7 +10,7 @@ ghost use Rattle.suit_cli.specs.Stages.{ending_of};
 ghost use Rattle.suit_cli.specs.Inputs.{longest_file};
 ghost use Rattle.suit_cli.specs.Commands.{shows_manifest, shows_file, shows};
 
-use crate::accept::{envelope_in, manifest_in, short};
+use crate::accept::opened_in;
 use crate::input::{LONGEST_FILE, read, read_key};
 use crate::member_lines::push_members;
 use crate::outside::SeenHost;
@@ -19,7 +19,7 @@ use det_cbor::Text;
 use hmac_mac0::{MacVerdict, verify};
 use std::alloc::{AllocError, Global};
 use suit_edge::Host;
-use suit_envelope::{Authenticity, BlockWalk, Envelope, authentic, blocks, envelope_laws};
+use suit_envelope::{Authenticity, BlockWalk, Envelope, authentic, blocks};
 use suit_manifest::Manifest;
 
 fn tagged_line(tagged: bool) -> &'static str
@@ -140,11 +140,10 @@ fn show_file<H: Host>(
         (⟦<H as SeenHost>⟧.seen host.old flash) (⟦<H as SeenHost>⟧.seen host.new flash)
         (ending_of result) }
 {
-    envelope_laws();
-    let envelope = envelope_in(alloc, bytes)?;
-    short(alloc, &envelope)?;
-    let manifest = manifest_in(alloc, &envelope)?;
-    show_manifest(alloc, &envelope, &manifest, key_name, host)
+    match opened_in(alloc, bytes) {
+        Ok(file) => show_manifest(alloc, &file.envelope, &file.manifest, key_name, host),
+        Err(stop) => Err(stop),
+    }
 }
 
 /// The reply to `show NAME KEY`. The key is read after the manifest was accepted.

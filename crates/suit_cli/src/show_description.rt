@@ -13,7 +13,7 @@ ghost use Rattle.suit_cli.specs.Envelopes.{ManifestOf};
 ghost use Rattle.suit_cli.specs.Describing.{there_in, text_in, IsDescribed};
 ghost use Rattle.suit_cli.specs.Commands.{describes_manifest, describes_file, describes};
 
-use crate::accept::{differs, envelope_in, lack, manifest_in, short};
+use crate::accept::{Opened, differs, lack, opened_in};
 use crate::input::{LONGEST_FILE, read};
 use crate::outside::SeenHost;
 use crate::reply::{Outcome, Reply, Stop, declined};
@@ -21,7 +21,7 @@ use describe::{describe, describe_laws, members_there};
 use det_cbor::Text;
 use std::alloc::{AllocError, Global};
 use suit_edge::Host;
-use suit_envelope::{Envelope, MemberBytes, MemberName, envelope_laws, member};
+use suit_envelope::{Envelope, MemberBytes, MemberName, member};
 use suit_manifest::{Manifest, Members, TextMember};
 
 // The members that stand apart and are in the envelope.
@@ -87,19 +87,15 @@ fn described(
 }
 
 // Reads the members and the text, and describes the manifest.
-fn describe_manifest(
-    alloc: Global,
-    envelope: &Envelope<'_>,
-    manifest: &Manifest,
-) -> Result<Reply, Stop>
-    requires places { MembersEndBelow (2 ^ 64) (said_by envelope.now) }
-    requires manifest { ManifestOf (said_by envelope.now) manifest.now }
-    ensures { Tells
-        (describes_manifest envelope.now.whole.now (said_by envelope.now) manifest.now) result }
+fn describe_manifest(alloc: Global, file: &Opened<'_>) -> Result<Reply, Stop>
+    requires places { MembersEndBelow (2 ^ 64) (said_by file.now.envelope) }
+    requires manifest { ManifestOf (said_by file.now.envelope) file.now.manifest }
+    ensures { Tells (describes_manifest file.now.envelope.whole.now
+        (said_by file.now.envelope) file.now.manifest) result }
 {
-    let members = there_in(alloc, envelope, manifest)?;
-    text_in(alloc, envelope, manifest)?;
-    Ok(described(alloc, envelope, manifest, &members)?)
+    let members = there_in(alloc, &file.envelope, &file.manifest)?;
+    text_in(alloc, &file.envelope, &file.manifest)?;
+    Ok(described(alloc, &file.envelope, &file.manifest, &members)?)
 }
 
 // The description of the envelope in a file's bytes.
@@ -107,11 +103,10 @@ fn describe_file(alloc: Global, bytes: &[u8]) -> Result<Reply, Stop>
     requires { length bytes.now ≤ longest_file }
     ensures { Tells (describes_file bytes.now) result }
 {
-    envelope_laws();
-    let envelope = envelope_in(alloc, bytes)?;
-    short(alloc, &envelope)?;
-    let manifest = manifest_in(alloc, &envelope)?;
-    describe_manifest(alloc, &envelope, &manifest)
+    match opened_in(alloc, bytes) {
+        Ok(file) => describe_manifest(alloc, &file),
+        Err(stop) => Err(stop),
+    }
 }
 
 /// The reply to `show NAME`.

@@ -51,7 +51,7 @@ fn uris_of(alloc: Global, words: &[UriWord<'_>]) -> Result<Uris, AllocError>
     let mut uris = Uris::new(alloc);
     for word in words {
         let uri = Text::from_str(alloc, word.uri)?;
-        uris.push(uri, Text::from_str(alloc, word.name)?)?;
+        uris.push((uri, Text::from_str(alloc, word.name)?))?;
     }
     Ok(uris)
 }

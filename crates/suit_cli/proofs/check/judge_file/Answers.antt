@@ -1,34 +1,9 @@
-use Rattle.std.proofs.Common.{arith}
-use Rattle.suit_envelope.specs.Said.{said_by}
-use Rattle.suit_cli.specs.Stages.{Goes}
-use Rattle.suit_cli.proofs.Chains.{anywhere, ends_there}
+use Rattle.suit_cli.specs.Commands.{judges_manifest}
+use Rattle.suit_cli.proofs.Opened.{ends_before, goes_behind}
 use Rattle.suit_cli.proofs.check.judge_file.Goals as goal
 
-pub returns-in_err-envelope : goal.returns-in_err-envelope
-returns-in_err-envelope c here = ends_there _ _ here here c.from_residual.result c.in_err-envelope.field-0.0 c.from_residual.ensures.1 (c.in_err-envelope.ensures.finds here)
+pub returns-in-Err : goal.returns-in-Err
+returns-in-Err c here = ends_before c.args.bytes.now judges_manifest _ _ _ (c.in-Err.ensures _)
 
-pub returns-in_err-short : goal.returns-in_err-short
-returns-in_err-short c here =
-    Goes (said_by c.in_ok-envelope.envelope) here _ (c.in_ok-envelope.ensures.finds here)
-    (ends_there _ _ here here c.from_residual-in_err-short.result c.in_err-short.field-0.0 c.from_residual-in_err-short.ensures.1 (c.in_err-short.ensures here))
-
-pub manifest_in-requires : goal.manifest_in-requires
-manifest_in-requires c =
-    (c.envelope_laws.ensures.ends c.args.bytes.now (said_by c.in_ok-envelope.envelope) 18446744073709551616 (c.in_ok-envelope.ensures.finds anywhere).1.1 (omega (arith, c.requires))).manifest
-
-pub returns-in_err-manifest : goal.returns-in_err-manifest
-returns-in_err-manifest c here =
-    Goes (said_by c.in_ok-envelope.envelope) here _ (c.in_ok-envelope.ensures.finds here) (Goes tt here _ (c.in_ok-short.ensures here)
-    (ends_there _ _ here here c.from_residual-in_err-manifest.result c.in_err-manifest.field-0.0 c.from_residual-in_err-manifest.ensures.1 (c.in_err-manifest.ensures here)))
-
-pub judge_manifest-requires-clause-places : goal.judge_manifest-requires-clause-places
-judge_manifest-requires-clause-places c =
-    (c.envelope_laws.ensures.ends c.args.bytes.now (said_by c.in_ok-envelope.envelope) 18446744073709551616 (c.in_ok-envelope.ensures.finds anywhere).1.1 (omega (arith, c.requires))).members
-
-pub judge_manifest-requires-clause-manifest : goal.judge_manifest-requires-clause-manifest
-judge_manifest-requires-clause-manifest c = (c.in_ok-manifest.ensures anywhere).1
-
-pub returns : goal.returns
-returns c here =
-    Goes (said_by c.in_ok-envelope.envelope) here _ (c.in_ok-envelope.ensures.finds here) (Goes tt here _ (c.in_ok-short.ensures here)
-    (Goes c.in_ok-manifest.manifest here _ (c.in_ok-manifest.ensures here) (c.judge_manifest.ensures here)))
+pub returns-in-Ok : goal.returns-in-Ok
+returns-in-Ok c here = goes_behind c.args.bytes.now c.in-Ok.file c.in-Ok.ensures judges_manifest _ _ _ (c.judge_manifest.ensures here)

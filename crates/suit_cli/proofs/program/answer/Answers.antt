@@ -4,27 +4,14 @@ use Rattle.command_words.specs.Tasks.{texts}
 use Rattle.suit_cli.specs.Words.{task_of, task_said}
 use Rattle.suit_cli.specs.declared.words.Command.{Command}
 use Rattle.suit_cli.proofs.BootAnswers.{comes_starved, comes_usage, comes_task}
-use Rattle.suit_cli.proofs.Leaving.{start_left}
-use Rattle.suit_cli.proofs.Sounding.{if_boots, if_boots_by, if_launches_by, keeps_unmoved, if_unmoved, keeps_by}
+use Rattle.suit_cli.proofs.Sounding.{flash_by, flash_unmoved, if_boots, if_boots_by}
 use Rattle.suit_cli.proofs.program.answer.Goals as goal
 
 pub returns-in-Err-clause-answer : goal.returns-in-Err-clause-answer
 returns-in-Err-clause-answer g c = comes_starved c.args.words.now _ _
 
-pub returns-in-Err-clause-any_moment : goal.returns-in-Err-clause-any_moment
-returns-in-Err-clause-any_moment g c told = start_left _ _ _
-
-pub returns-in-Err-clause-sound : goal.returns-in-Err-clause-sound
-returns-in-Err-clause-sound g c told = if_unmoved c.sound_laws.ensures (task_of c.args.words.now) (g.D.Disk.flash c.args.flash.now)
-
 pub returns-clause-answer : goal.returns-clause-answer
 returns-clause-answer g c = comes_starved c.args.words.now _ _
-
-pub returns-clause-any_moment : goal.returns-clause-any_moment
-returns-clause-any_moment g c told = start_left _ _ _
-
-pub returns-clause-sound : goal.returns-clause-sound
-returns-clause-sound g c told = if_unmoved c.sound_laws.ensures (task_of c.args.words.now) (g.D.Disk.flash c.args.flash.now)
 
 pub returns-in-Ok-None-clause-answer : goal.returns-in-Ok-None-clause-answer
 returns-in-Ok-None-clause-answer g c =
@@ -32,41 +19,12 @@ returns-in-Ok-None-clause-answer g c =
     ∙ ap (λ (o : Option Command). option_map task_said o) c.in-Ok-None.field-0-is)
     c.fixed.ensures c.declined.ensures
 
-pub returns-in-Ok-None-clause-any_moment : goal.returns-in-Ok-None-clause-any_moment
-returns-in-Ok-None-clause-any_moment g c told = start_left _ _ _
-
-pub returns-in-Ok-None-clause-sound : goal.returns-in-Ok-None-clause-sound
-returns-in-Ok-None-clause-sound g c told = if_unmoved c.sound_laws.ensures (task_of c.args.words.now) (g.D.Disk.flash c.args.flash.now)
-
 pub returns-in-Ok-Some-clause-answer : goal.returns-in-Ok-Some-clause-answer
 returns-in-Ok-Some-clause-answer g c =
     comes_task c.args.words.now (task_said c.in-Ok-Some.command)
     (sym (ap task_of (ap texts c.as_slice.ensures.value ∙ c.in-Ok.ensures)) ∙ sym c.in-Ok-Some.ensures
     ∙ ap (λ (o : Option Command). option_map task_said o) c.in-Ok-Some.field-0-is)
     _ _ _ _ _ c.perform.ensures.answer
-
-pub returns-in-Ok-Some-clause-sound : goal.returns-in-Ok-Some-clause-sound
-returns-in-Ok-Some-clause-sound g c told =
-    if_launches_by _ _ _
-    (sym (ap task_of (ap texts c.as_slice.ensures.value ∙ c.in-Ok.ensures)) ∙ sym c.in-Ok-Some.ensures
-    ∙ ap (λ (o : Option Command). option_map task_said o) c.in-Ok-Some.field-0-is)
-    (c.perform.ensures.sound told)
-
-pub returns-in-Err-clause-keeps : goal.returns-in-Err-clause-keeps
-returns-in-Err-clause-keeps g c told = keeps_unmoved (task_of c.args.words.now) _ _ _ _ (g.D.Disk.flash c.args.flash.now)
-
-pub returns-clause-keeps : goal.returns-clause-keeps
-returns-clause-keeps g c told = keeps_unmoved (task_of c.args.words.now) _ _ _ _ (g.D.Disk.flash c.args.flash.now)
-
-pub returns-in-Ok-None-clause-keeps : goal.returns-in-Ok-None-clause-keeps
-returns-in-Ok-None-clause-keeps g c told = keeps_unmoved (task_of c.args.words.now) _ _ _ _ (g.D.Disk.flash c.args.flash.now)
-
-pub returns-in-Ok-Some-clause-keeps : goal.returns-in-Ok-Some-clause-keeps
-returns-in-Ok-Some-clause-keeps g c told =
-    keeps_by _ _ _ _ _ _ _ _
-    (sym (ap task_of (ap texts c.as_slice.ensures.value ∙ c.in-Ok.ensures)) ∙ sym c.in-Ok-Some.ensures
-    ∙ ap (λ (o : Option Command). option_map task_said o) c.in-Ok-Some.field-0-is)
-    (c.perform.ensures.keeps told)
 
 pub returns-in-Err-clause-unasked : goal.returns-in-Err-clause-unasked
 returns-in-Err-clause-unasked g c = if_boots (task_of c.args.words.now) _ refl
@@ -83,3 +41,19 @@ returns-in-Ok-Some-clause-unasked g c =
     (sym (ap task_of (ap texts c.as_slice.ensures.value ∙ c.in-Ok.ensures)) ∙ sym c.in-Ok-Some.ensures
     ∙ ap (λ (o : Option Command). option_map task_said o) c.in-Ok-Some.field-0-is)
     c.perform.ensures.unasked
+
+pub returns-in-Err-clause-flash : goal.returns-in-Err-clause-flash
+returns-in-Err-clause-flash g c told = flash_unmoved c.sound_laws.ensures (task_of c.args.words.now) _ _ _ _ (g.D.Disk.flash c.args.flash.now)
+
+pub returns-clause-flash : goal.returns-clause-flash
+returns-clause-flash g c told = flash_unmoved c.sound_laws.ensures (task_of c.args.words.now) _ _ _ _ (g.D.Disk.flash c.args.flash.now)
+
+pub returns-in-Ok-None-clause-flash : goal.returns-in-Ok-None-clause-flash
+returns-in-Ok-None-clause-flash g c told = flash_unmoved c.sound_laws.ensures (task_of c.args.words.now) _ _ _ _ (g.D.Disk.flash c.args.flash.now)
+
+pub returns-in-Ok-Some-clause-flash : goal.returns-in-Ok-Some-clause-flash
+returns-in-Ok-Some-clause-flash g c told =
+    flash_by _ _
+    (sym (ap task_of (ap texts c.as_slice.ensures.value ∙ c.in-Ok.ensures)) ∙ sym c.in-Ok-Some.ensures
+    ∙ ap (λ (o : Option Command). option_map task_said o) c.in-Ok-Some.field-0-is)
+    _ _ _ _ _ _ _ (c.perform.ensures.flash told)

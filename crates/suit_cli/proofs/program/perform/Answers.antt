@@ -1,11 +1,9 @@
-use Rattle.std.proofs.Common.{Some, ap}
+use Rattle.std.proofs.Common.{Some}
 use Rattle.suit_cli.specs.Words.{task_said}
 use Rattle.suit_cli.proofs.Chains.{anywhere, outside_at}
 use Rattle.suit_cli.proofs.BootAnswers.{comes_command, comes_same}
-use Rattle.suit_cli.proofs.Leaving.{left_by}
 use Rattle.suit_cli.proofs.Settling.{looked}
-use Rattle.suit_cli.specs.declared.words.Command.{Command}
-use Rattle.suit_cli.proofs.Sounding.{if_boots, if_launches, if_launches_by, keeps_by}
+use Rattle.suit_cli.proofs.Sounding.{flash_as, if_boots}
 use Rattle.suit_cli.proofs.program.perform.Goals as goal
 
 pub returns-in-Make-clause-answer : goal.returns-in-Make-clause-answer
@@ -32,32 +30,28 @@ returns-in-RunStatus-clause-answer g c =
 pub returns-in-RunBoot-clause-answer : goal.returns-in-RunBoot-clause-answer
 returns-in-RunBoot-clause-answer g c = comes_same c.args.command _ c.in-RunBoot.is _ _ _ _ _ c.run_boot.ensures.answer
 
-pub returns-in-RunStatus-clause-settled : goal.returns-in-RunStatus-clause-settled
-returns-in-RunStatus-clause-settled g c told = looked _ _ _ _ _ (g.met.D.Disk.obeys c.status.new.flash told) (c.status.ensures.same told)
-
-pub returns-in-RunBoot-clause-sound : goal.returns-in-RunBoot-clause-sound
-returns-in-RunBoot-clause-sound g c told = if_launches (Some (task_said c.args.command)) _ (c.run_boot.ensures.sound told)
-
 pub returns-in-RunBoot-clause-unasked : goal.returns-in-RunBoot-clause-unasked
 returns-in-RunBoot-clause-unasked g c = if_boots (Some (task_said c.args.command)) _ c.run_boot.ensures.unasked
 
 pub returns-in-RunUpdate-clause-answer : goal.returns-in-RunUpdate-clause-answer
 returns-in-RunUpdate-clause-answer g c = comes_same c.args.command _ c.in-RunUpdate.is _ _ _ _ _ c.run_update.ensures.answer
 
-pub returns-in-RunUpdate-clause-sound : goal.returns-in-RunUpdate-clause-sound
-returns-in-RunUpdate-clause-sound g c told = if_launches_by _ _ _ (ap (λ (x : Command). Some (task_said x)) c.in-RunUpdate.is) (c.run_update.ensures.sound told)
+pub returns-in-RunInit-clause-flash : goal.returns-in-RunInit-clause-flash
+returns-in-RunInit-clause-flash g c told =
+    flash_as c.args.command _ c.in-RunInit.is _ _ _ _ _ _ _
+    (record { any_moment = c.init.ensures.any_moment told; sound = tt; settled = c.init.ensures.settled told; keeps = tt })
 
-pub returns-in-RunUpdate-clause-keeps : goal.returns-in-RunUpdate-clause-keeps
-returns-in-RunUpdate-clause-keeps g c told = keeps_by _ _ _ _ _ _ _ _ (ap (λ (x : Command). Some (task_said x)) c.in-RunUpdate.is) (c.run_update.ensures.keeps told)
+pub returns-in-RunUpdate-clause-flash : goal.returns-in-RunUpdate-clause-flash
+returns-in-RunUpdate-clause-flash g c told =
+    flash_as c.args.command _ c.in-RunUpdate.is _ _ _ _ _ _ _
+    (record { any_moment = (c.run_update.ensures.flash told).any_moment; sound = (c.run_update.ensures.flash told).sound; settled = (c.run_update.ensures.flash told).settled; keeps = c.run_update.ensures.keeps told })
 
-pub returns-in-RunBoot-clause-keeps : goal.returns-in-RunBoot-clause-keeps
-returns-in-RunBoot-clause-keeps g c told = keeps_by _ _ _ _ _ _ _ _ (ap (λ (x : Command). Some (task_said x)) c.in-RunBoot.is) (c.run_boot.ensures.keeps told)
+pub returns-in-RunBoot-clause-flash : goal.returns-in-RunBoot-clause-flash
+returns-in-RunBoot-clause-flash g c told =
+    flash_as c.args.command _ c.in-RunBoot.is _ _ _ _ _ _ _
+    (record { any_moment = (c.run_boot.ensures.flash told).any_moment; sound = (c.run_boot.ensures.flash told).sound; settled = (c.run_boot.ensures.flash told).settled; keeps = c.run_boot.ensures.keeps told })
 
-pub returns-in-RunInit-clause-any_moment : goal.returns-in-RunInit-clause-any_moment
-returns-in-RunInit-clause-any_moment g c told = left_by c.args.command _ c.in-RunInit.is _ _ _ (c.init.ensures.any_moment told)
-
-pub returns-in-RunUpdate-clause-any_moment : goal.returns-in-RunUpdate-clause-any_moment
-returns-in-RunUpdate-clause-any_moment g c told = left_by c.args.command _ c.in-RunUpdate.is _ _ _ (c.run_update.ensures.any_moment told)
-
-pub returns-in-RunBoot-clause-any_moment : goal.returns-in-RunBoot-clause-any_moment
-returns-in-RunBoot-clause-any_moment g c told = left_by c.args.command _ c.in-RunBoot.is _ _ _ (c.run_boot.ensures.any_moment told)
+pub returns-in-RunStatus-clause-flash : goal.returns-in-RunStatus-clause-flash
+returns-in-RunStatus-clause-flash g c told =
+    flash_as c.args.command _ c.in-RunStatus.is _ _ _ _ _ _ _
+    (record { any_moment = (c.status.ensures.same told).images; sound = tt; settled = looked _ _ _ _ _ (g.met.D.Disk.obeys c.status.new.flash told) (c.status.ensures.same told); keeps = tt })

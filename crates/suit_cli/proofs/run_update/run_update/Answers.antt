@@ -7,9 +7,9 @@ use Rattle.suit_cli.specs.Coming.{ended_of}
 use Rattle.suit_cli.specs.Inputs.{longest_file}
 use Rattle.suit_cli.specs.Acceptance.{accepted_by}
 use Rattle.suit_cli.proofs.Chains.{anywhere, flash_at, outside_at}
-use Rattle.suit_cli.proofs.Sounding.{held_after, stays_now, stays_later, settled_later, any_of, any_later}
+use Rattle.suit_cli.proofs.Sounding.{held_after, settled_later}
 use Rattle.suit_cli.proofs.UpdateAnswers.{accepted_as, comes_updated, keeps_as, keeps_since, unaccepted_as, unaccepted_update, unconfigured_update, unread_update, updates_as}
-use Rattle.suit_cli.proofs.Settling.{looked, looked_then}
+use Rattle.suit_cli.proofs.Settling.{order_looked, order_then}
 use Rattle.suit_cli.proofs.run_update.run_update.Goals as goal
 
 pub returns-in-Err-clause-answer : goal.returns-in-Err-clause-answer
@@ -17,12 +17,6 @@ returns-in-Err-clause-answer g c =
     let h = g.H.Host in
     let here = outside_at h.told (h.file c.args.host.now) (h.pulled c.args.host.now) (h.asked c.args.host.now) (h.faults c.args.host.now) anywhere.flash in
     unconfigured_update c.args.name.now c.args.uris.now _ _ _ c.in-Err.stop (c.in-Err.ensures.finds here)
-
-pub returns-in-Err-clause-any_moment : goal.returns-in-Err-clause-any_moment
-returns-in-Err-clause-any_moment g c told = any_of _ _ _ (c.in-Err.ensures.same told).images
-
-pub returns-in-Err-clause-sound : goal.returns-in-Err-clause-sound
-returns-in-Err-clause-sound g c told settled = stays_now c.sound_laws.ensures _ settled _ (c.in-Err.ensures.same told).images
 
 pub returns-in-Err-clause-keeps : goal.returns-in-Err-clause-keeps
 returns-in-Err-clause-keeps g c told settled = c.in-Err.ensures.same told
@@ -33,12 +27,6 @@ returns-in-Err-read-clause-answer g c =
     let here = outside_at h.told (h.file c.args.host.now) (h.pulled c.args.host.now) (h.asked c.args.host.now) (h.faults c.args.host.now) anywhere.flash in
     unread_update c.args.name.now c.args.uris.now _ _ c.in-Ok.config.0 c.in-Ok.config.1 _ (c.in-Ok.ensures.finds here) _ c.in-Err-read.stop (c.in-Err-read.ensures _)
 
-pub returns-in-Err-read-clause-any_moment : goal.returns-in-Err-read-clause-any_moment
-returns-in-Err-read-clause-any_moment g c told = any_of _ _ _ (c.in-Ok.ensures.same told).images
-
-pub returns-in-Err-read-clause-sound : goal.returns-in-Err-read-clause-sound
-returns-in-Err-read-clause-sound g c told settled = stays_now c.sound_laws.ensures _ settled _ (c.in-Ok.ensures.same told).images
-
 pub returns-in-Err-read-clause-keeps : goal.returns-in-Err-read-clause-keeps
 returns-in-Err-read-clause-keeps g c told settled = c.in-Ok.ensures.same told
 
@@ -48,12 +36,6 @@ returns-in-Err-accept-clause-answer g c =
     let here = outside_at h.told (h.file c.args.host.now) (h.pulled c.args.host.now) (h.asked c.args.host.now) (h.faults c.args.host.now) anywhere.flash in
     unaccepted_update c.args.name.now c.args.uris.now _ _ c.in-Ok.config.0 c.in-Ok.config.1 _ (c.in-Ok.ensures.finds here) c.in-Ok-read.bytes _ (c.in-Ok-read.ensures _) c.in-Err-accept.stop
     (unaccepted_as c.in-Ok.config.0 c.in-Ok.config.1 _ _ c.as_slice.ensures c.in-Err-accept.stop c.in-Err-accept.ensures.finds _)
-
-pub returns-in-Err-accept-clause-any_moment : goal.returns-in-Err-accept-clause-any_moment
-returns-in-Err-accept-clause-any_moment g c told = any_of _ _ _ (c.in-Ok.ensures.same told).images
-
-pub returns-in-Err-accept-clause-sound : goal.returns-in-Err-accept-clause-sound
-returns-in-Err-accept-clause-sound g c told settled = stays_now c.sound_laws.ensures _ settled _ (c.in-Ok.ensures.same told).images
 
 pub returns-in-Err-accept-clause-keeps : goal.returns-in-Err-accept-clause-keeps
 returns-in-Err-accept-clause-keeps g c told settled = c.in-Ok.ensures.same told
@@ -92,15 +74,6 @@ returns-clause-answer g c =
     (accepted_as c.in-Ok.config.0 c.in-Ok.config.1 _ _ c.as_slice.ensures (accepted_by c.in-Ok-accept.accepted) c.in-Ok-accept.ensures.finds) _
     (updates_as c.in-Ok.config.0 _ _ (c.in-Ok-accept.ensures.whole ∙ c.as_slice.ensures) (accepted_by c.in-Ok-accept.accepted) c.args.uris.now _ _ _ _ _ c.update_by.ensures.answer)
 
-pub returns-clause-any_moment : goal.returns-clause-any_moment
-returns-clause-any_moment g c told = any_later _ _ _ (c.in-Ok.ensures.same told) (c.update_by.ensures.any_moment told)
-
-pub returns-clause-sound : goal.returns-clause-sound
-returns-clause-sound g c told settled =
-    let same = c.in-Ok.ensures.same told in
-    let law = subst (IsFlash (g.D.Disk.flash c.config_in.new.flash)) c.in-Ok.ensures.extent (g.met.D.Disk.obeys c.config_in.new.flash told) in
-    stays_later c.sound_laws.ensures _ settled _ _ same (c.update_by.ensures.sound told (settled_later _ _ _ law same settled))
-
 pub returns-clause-keeps : goal.returns-clause-keeps
 returns-clause-keeps g c told settled =
     let same = c.in-Ok.ensures.same told in
@@ -119,16 +92,16 @@ returns-clause-keeps g c told settled =
     (g.D.Disk.flash c.config_in.new.flash) (g.D.Disk.flash c.update_by.new.flash)
     (c.update_by.ensures.keeps told (settled_later _ _ _ law same settled)))
 
-pub returns-in-Err-clause-settled : goal.returns-in-Err-clause-settled
-returns-in-Err-clause-settled g c told = looked _ _ _ _ _ (g.met.D.Disk.obeys c.config_in.new.flash told) (c.in-Err.ensures.same told)
+pub returns-in-Err-clause-flash : goal.returns-in-Err-clause-flash
+returns-in-Err-clause-flash g c told = order_looked c.sound_laws.ensures _ _ _ (g.met.D.Disk.obeys c.config_in.new.flash told) (c.in-Err.ensures.same told) _ _
 
-pub returns-in-Err-read-clause-settled : goal.returns-in-Err-read-clause-settled
-returns-in-Err-read-clause-settled g c told = looked _ _ _ _ _ (g.met.D.Disk.obeys c.config_in.new.flash told) (c.in-Ok.ensures.same told)
+pub returns-in-Err-read-clause-flash : goal.returns-in-Err-read-clause-flash
+returns-in-Err-read-clause-flash g c told = order_looked c.sound_laws.ensures _ _ _ (g.met.D.Disk.obeys c.config_in.new.flash told) (c.in-Ok.ensures.same told) _ _
 
-pub returns-in-Err-accept-clause-settled : goal.returns-in-Err-accept-clause-settled
-returns-in-Err-accept-clause-settled g c told = looked _ _ _ _ _ (g.met.D.Disk.obeys c.config_in.new.flash told) (c.in-Ok.ensures.same told)
+pub returns-in-Err-accept-clause-flash : goal.returns-in-Err-accept-clause-flash
+returns-in-Err-accept-clause-flash g c told = order_looked c.sound_laws.ensures _ _ _ (g.met.D.Disk.obeys c.config_in.new.flash told) (c.in-Ok.ensures.same told) _ _
 
-pub returns-clause-settled : goal.returns-clause-settled
-returns-clause-settled g c told =
-    looked_then _ _ _ _ _ _ _ (g.met.D.Disk.obeys c.config_in.new.flash told) (c.in-Ok.ensures.same told) (c.in-Ok.ensures.finds anywhere).0.faults
-    (c.update_by.ensures.settled told)
+pub returns-clause-flash : goal.returns-clause-flash
+returns-clause-flash g c told =
+    order_then c.sound_laws.ensures _ _ _ (g.met.D.Disk.obeys c.config_in.new.flash told) (c.in-Ok.ensures.same told) _ _ _ _ (c.in-Ok.ensures.finds anywhere).0.faults
+    (c.update_by.ensures.flash told)

@@ -3,18 +3,12 @@ use Rattle.suit_edge.specs.FlashLaws.{same_flash}
 use Rattle.flash_layout.specs.declared.frame.TheConstants.{VERSION_1}
 use Rattle.flash_layout.specs.Configs.{ConfigOf, Configured}
 use Rattle.flash_layout.specs.Frames.{head_of}
+use Rattle.rollback_record.specs.SoundFlash.{Settled}
 use Rattle.suit_cli.specs.Acceptance.{accepted_by}
 use Rattle.suit_cli.proofs.AcceptedFacts.{facts}
-use Rattle.suit_cli.proofs.Sounding.{any_start, stays_start}
 use Rattle.suit_cli.proofs.UpdateSound.{distinct, gains_update, sound_update}
-use Rattle.suit_cli.proofs.Settling.{updates_settled}
+use Rattle.suit_cli.proofs.Settling.{order_start, updates_settled}
 use Rattle.suit_cli.proofs.run_update.update_by.Goals as goal
-
-pub returns-in-Err-clause-any_moment : goal.returns-in-Err-clause-any_moment
-returns-in-Err-clause-any_moment g c told = any_start _
-
-pub returns-in-Err-clause-sound : goal.returns-in-Err-clause-sound
-returns-in-Err-clause-sound g c told settled = stays_start c.sound_laws.ensures _ settled
 
 pub returns-in-Err-clause-keeps : goal.returns-in-Err-clause-keeps
 returns-in-Err-clause-keeps g c told settled = same_flash _
@@ -51,11 +45,7 @@ returns-clause-answer g c =
     let u = c.update-end.ensures in
     let f = facts c.args.layout.now c.args.key.now c.args.accepted.now.envelope.whole.now (accepted_by c.args.accepted.now) c.requires.accepted in (
       record {
-        told = refl;
-        files = u.files;
-        flash_told = refl;
-        size = u.size;
-        launcher_told = refl;
+        alone = record { told = refl; files = u.files; flash_told = refl; size = u.size; launcher_told = refl };
         counts = u.counts;
         judged = u.judged;
         plays = u.plays;
@@ -68,24 +58,20 @@ returns-clause-answer g c =
       c.update_line-text.ensures,
     )
 
-pub returns-clause-any_moment : goal.returns-clause-any_moment
-returns-clause-any_moment g c told = record { later = c.update-end.ensures.later told; each = λ image may. tt; before = λ t image le may. inr tt }
-
-pub returns-clause-sound : goal.returns-clause-sound
-returns-clause-sound g c told settled =
-    let a = g.D.Disk.flash c.args.flash.now in
-    let config = subst (λ (n : ℕ). ConfigOf VERSION_1 n (head_of VERSION_1 a.reads) (Configured c.args.layout.now c.args.key.now)) (sym (g.met.D.Disk.obeys c.args.flash.now told).fits) (c.requires.held told) in (
-      sound_update c.config_laws.ensures.answer c.args.layout.now c.args.key.now a.reads config c.installation_laws.ensures c.args.accepted.now.envelope.whole.now (accepted_by c.args.accepted.now) (facts c.args.layout.now c.args.key.now c.args.accepted.now.envelope.whole.now (accepted_by c.args.accepted.now) c.requires.accepted)
-          a (g.D.Disk.flash c.update-end.new.disk) settled.sound (c.update-end.ensures.sound told settled),
-      c.update-end.ensures.follows told settled,
-    )
-
 pub returns-clause-keeps : goal.returns-clause-keeps
 returns-clause-keeps g c told settled = c.update-end.ensures.keeps told settled
 
-pub returns-in-Err-clause-settled : goal.returns-in-Err-clause-settled
-returns-in-Err-clause-settled g c told settled never = settled
+pub returns-in-Err-clause-flash : goal.returns-in-Err-clause-flash
+returns-in-Err-clause-flash g c told = order_start c.sound_laws.ensures _ _
 
-pub returns-clause-settled : goal.returns-clause-settled
-returns-clause-settled g c told =
-    updates_settled c.update-end.result _ _ _ _ _ (g.met.D.Disk.obeys c.update-end.new.disk told) c.update-end.ensures.counts (λ settled. (returns-clause-sound g c told settled).0) (c.update-end.ensures.settled told)
+pub returns-clause-flash : goal.returns-clause-flash
+returns-clause-flash g c told =
+    let a = g.D.Disk.flash c.args.flash.now in
+    let config = subst (λ (n : ℕ). ConfigOf VERSION_1 n (head_of VERSION_1 a.reads) (Configured c.args.layout.now c.args.key.now)) (sym (g.met.D.Disk.obeys c.args.flash.now told).fits) (c.requires.held told) in
+    let sound = λ (settled : Settled VERSION_1 a). sound_update c.config_laws.ensures.answer c.args.layout.now c.args.key.now a.reads config c.installation_laws.ensures c.args.accepted.now.envelope.whole.now (accepted_by c.args.accepted.now) (facts c.args.layout.now c.args.key.now c.args.accepted.now.envelope.whole.now (accepted_by c.args.accepted.now) c.requires.accepted)
+    a (g.D.Disk.flash c.update-end.new.disk) settled.sound (c.update-end.ensures.sound told settled) in
+    record {
+      any_moment = record { later = c.update-end.ensures.later told; each = λ image may. tt; before = λ t image le may. inr tt };
+      sound = λ settled. (sound settled, c.update-end.ensures.follows told settled);
+      settled = updates_settled c.update-end.result _ _ _ _ _ (g.met.D.Disk.obeys c.update-end.new.disk told) c.update-end.ensures.counts sound (c.update-end.ensures.settled told);
+    }

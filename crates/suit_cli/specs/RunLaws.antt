@@ -1,0 +1,37 @@
+-- What follows from the answer to the words and its put, of whatever objects they are.
+use Rattle.std.specs.Prelude.{◌≡◌, ℕ, IsTrue, List, length, Some, None}
+use Rattle.flash_layout.specs.declared.frame.TheConstants.{VERSION_1}
+use Rattle.rollback_record.specs.SoundFlash.{Sound}
+use Rattle.suit_cli.specs.Words.{RunBoot, task_of}
+use Rattle.suit_cli.specs.Outside.{Outside, Sunk}
+use Rattle.suit_cli.specs.Launching.{Launching}
+use Rattle.suit_cli.specs.Program.{Performs, IsStatus, EndsIn, IsUsage, IsCutOff, IsForUpdate, KeepsLauncher, AsFound}
+
+-- of one run
+pub record HoldsOfRun (words : List (List ℕ)) (launched now : Launching) (before after : Outside)
+    (sunk_before sunk_after : Sunk) (result : ℕ) : Type 0 where
+  -- usage, only where the words are no command,
+  pub usage : result ≡ 2 → IsUsage words sunk_before sunk_after
+  -- and wherever they are none
+  pub no_command_is_usage : task_of words ≡ None → EndsIn 2 result
+  -- the status is one of those that there are
+  pub status : IsStatus result
+  -- of output that failed, the beginning of the answer's lines
+  pub cut_off : result ≡ 9 → IsCutOff words launched now before after sunk_before sunk_after
+  -- Status 11: no file changed, the flash reads as it did, and nothing was launched; for `run update`, on a sound flash. What reads
+  -- give is as long as the flash, as of each `Disk` that tells.
+  pub starved : result ≡ 11
+      → (IsTrue before.flash.told → before.flash.size ≡ length before.flash.reads)
+      → (IsTrue before.flash.told → IsForUpdate (task_of words) → Sound VERSION_1 before.flash.reads)
+      → AsFound launched now before after
+  -- status 7 does not come of `run boot`, where host, flash and launcher tell
+  pub no_host : IsTrue before.told → IsTrue before.flash.told → IsTrue launched.told
+      → task_of words ≡ Some RunBoot → result ≡ 7 → ⊥
+  -- only `run boot` and `run update` launch
+  pub only_launching : KeepsLauncher words launched now
+
+abbrev pub RunLaws : Type 0
+RunLaws = (words : List (List ℕ)) (launched now : Launching) (before after : Outside)
+    (sunk_before sunk_after : Sunk) (result : ℕ)
+    → Performs words launched now before after sunk_before sunk_after result
+    → HoldsOfRun words launched now before after sunk_before sunk_after result
