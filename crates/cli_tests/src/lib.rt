@@ -2,18 +2,14 @@
 //! crate that holds its own tests is proved twice.
 #![tactic(auto)]
 
+mod laws;
 mod runs;
 
+pub use laws::run_by_laws;
 pub use runs::{
     AUTHENTIC, DEVICE, KEY, STORED, answers, answers_by_files, answers_with, blank, bytes_of,
     names, status_of, status_with,
 };
 
 #[cfg(test)]
-mod check;
-#[cfg(test)]
-mod descriptions;
-#[cfg(test)]
-mod make;
-#[cfg(test)]
-mod show;
+mod tests;

@@ -2,9 +2,9 @@
 
 ghost use Rattle.std.specs.Prelude.{◌≡◌, ◌≤◌, IfOk, length};
 
+use crate::laws::run_by_laws;
 use det_cbor::{Names, Text};
 use std::alloc::{AllocError, Global};
-use suit_cli::run;
 use suit_edge::{Disk, Host, Launcher, MemoryDisk, MemoryLauncher, MemorySink, Sink};
 
 /// The stored envelope: 119 bytes, whose manifest matches the image `abc` and invokes it.
@@ -60,7 +60,7 @@ pub fn status_with<H: Host, D: Disk, L: Launcher, K: Sink>(
     ensures { D.extent flash.new ≡ D.extent flash.old }
 {
     let words = names(alloc, words)?;
-    Ok(run(alloc, &words, host, flash, launcher, sink).0)
+    Ok(run_by_laws(alloc, &words, host, flash, launcher, sink).0)
 }
 
 /// The status of a run on these words.

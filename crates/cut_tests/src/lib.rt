@@ -3,10 +3,4 @@
 #![tactic(auto)]
 
 #[cfg(test)]
-mod after;
-#[cfg(test)]
-mod cuts;
-#[cfg(test)]
-mod faults;
-#[cfg(test)]
-mod recorded;
+mod tests;

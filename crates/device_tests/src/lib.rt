@@ -3,12 +3,4 @@
 #![tactic(auto)]
 
 #[cfg(test)]
-mod boot;
-#[cfg(test)]
-mod configs;
-#[cfg(test)]
-mod init;
-#[cfg(test)]
-mod life;
-#[cfg(test)]
-mod status;
+mod tests;

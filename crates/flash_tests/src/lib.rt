@@ -3,8 +3,4 @@
 #![tactic(auto)]
 
 #[cfg(test)]
-mod edge;
-#[cfg(test)]
-mod records;
-#[cfg(test)]
-mod slots;
+mod tests;

@@ -2,10 +2,4 @@
 #![tactic(auto)]
 
 #[cfg(test)]
-mod describing;
-#[cfg(test)]
-mod devices;
-#[cfg(test)]
-mod formatting;
-#[cfg(test)]
-mod pages;
+mod tests;

@@ -2,7 +2,7 @@
 
 use crate::tests::describing;
 use crate::tests::making::one_file;
-use author::{DescriptionFault, FileList, manifest_of};
+use author::{DescriptionFault, FileList, has_files, manifest_of};
 use describe::describe;
 use std::alloc::{AllocError, Global};
 use suit_commands::Sequence;
@@ -16,7 +16,7 @@ fn manifest_with(
     files: &FileList,
 ) -> Result<Manifest, DescriptionFault> {
     let read = describing::described(alloc, json)?;
-    if !files.has_all(read.files()) {
+    if !has_files(files, read.files()) {
         return Err(DescriptionFault::NoMemory);
     }
     Ok(manifest_of(alloc, &read, files)?)

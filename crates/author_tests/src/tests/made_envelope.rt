@@ -2,7 +2,7 @@
 
 use crate::tests::describing::described;
 use crate::tests::making::one_file;
-use author::{MakeFault, make};
+use author::{MakeFault, has_files, make};
 use det_cbor::Bytes;
 use std::alloc::{AllocError, Global};
 use suit_envelope::{Authenticity, authentic, decode_envelope, trimmed_length};
@@ -17,7 +17,7 @@ fn made_with(alloc: Global, json: &str, name: &str, content: &[u8]) -> Made {
     let Ok(description) = described(alloc, json) else {
         return Err(MakeFault::NoMemory);
     };
-    if !files.has_all(description.files()) {
+    if !has_files(&files, description.files()) {
         return Err(MakeFault::NoMemory);
     }
     make(alloc, &description, &files, KEY)

@@ -1,7 +1,7 @@
 //! Manifests of descriptions, byte for byte. The expected bytes were computed by another program.
 
 use crate::tests::describing::described;
-use author::{FileList, manifest_of};
+use author::{FileList, has_files, manifest_of};
 use det_cbor::{Bytes, Text};
 use std::alloc::{AllocError, Global};
 use suit_manifest::encode_manifest;
@@ -11,7 +11,7 @@ pub(crate) fn one_file(alloc: Global, name: &str, bytes: &[u8]) -> Result<FileLi
     let name = Text::from_str(alloc, name)?;
     let bytes = Bytes::from_slice(alloc, bytes)?;
     let mut files = FileList::new(alloc);
-    files.push(name, bytes)?;
+    files.push((name, bytes))?;
     Ok(files)
 }
 
@@ -21,7 +21,7 @@ fn makes(alloc: Global, json: &str, wanted: &str) -> Result<bool, AllocError> {
     let Ok(description) = described(alloc, json) else {
         return Ok(false);
     };
-    if !files.has_all(description.files()) {
+    if !has_files(&files, description.files()) {
         return Ok(false);
     }
     let manifest = manifest_of(alloc, &description, &files)?;

@@ -164,7 +164,7 @@ pub(crate) fn keeper(alloc: Global, fails: &[u64]) -> Result<MemoryHost, AllocEr
 pub(crate) fn push(alloc: Global, uris: &mut Uris, row: (&str, &str)) -> Result<(), AllocError> {
     let uri = Text::from_str(alloc, row.0)?;
     let name = Text::from_str(alloc, row.1)?;
-    uris.push(uri, name)
+    uris.push((uri, name))
 }
 
 /// A URI for each of the files, and one for a file that is absent.

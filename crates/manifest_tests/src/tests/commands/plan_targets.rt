@@ -10,7 +10,8 @@ use suit_commands::{ActKind, Command, Plan, Selection, Sequence, Step, targets};
 use suit_params::{Param, ParamList};
 
 fn two(alloc: Global, first: Command, second: Command) -> Result<Sequence, AllocError>
-    ensures { IfOk result (λ s. s ≡ StepThen 0 (command_tree first) (StepThen 0 (command_tree second) NoSteps)) }
+    ensures { IfOk result
+        (λ s. s ≡ StepThen 0 (command_tree first) (StepThen 0 (command_tree second) NoSteps)) }
 {
     let mut sequence = Sequence::new(alloc);
     sequence.push(Step {

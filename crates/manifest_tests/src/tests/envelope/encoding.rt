@@ -90,7 +90,7 @@ fn payloads_are_put_in_the_order_of_their_keys(rt: HostRuntime) -> Result<(), Al
     put(rt.alloc(), &mut payloads, "aa", "1")?;
     put(rt.alloc(), &mut payloads, "a", "2")?;
     put(rt.alloc(), &mut payloads, "b", "3")?;
-    assert!(rt; payloads.len() == 3);
+    assert!(rt; payloads.as_slice().len() == 3);
     assert!(rt; has(&payloads, 0, "a", b"2"));
     assert!(rt; has(&payloads, 1, "b", b"3"));
     assert!(rt; has(&payloads, 2, "aa", b"1"));

@@ -1,5 +1,6 @@
 //! Manifests built of their parts, and written.
 
+use crate::tests::manifest::manifest_makers::manifest_of;
 use det_cbor::{Bytes, Text};
 use std::alloc::{AllocError, Global};
 use suit_commands::{ActKind, Command, Selection, Sequence, Step, TestKind};
@@ -28,18 +29,7 @@ fn identifier(alloc: Global, parts: &[u8]) -> Result<Identifier, AllocError> {
 
 // A manifest of its numbers and its components alone.
 fn plain(sequence: u64, components: Identifiers) -> Manifest {
-    Manifest {
-        sequence,
-        components,
-        shared: None,
-        reference: None,
-        validate: None,
-        load: None,
-        invoke: None,
-        payload_fetch: Member::Empty,
-        install: Member::Empty,
-        text: TextMember::Empty,
-    }
+    manifest_of(sequence, components, Member::Empty, Member::Empty)
 }
 
 fn is_written(alloc: Global, manifest: &Manifest, bytes: &[u8]) -> Result<bool, AllocError> {

@@ -17,17 +17,18 @@ fn one_component(alloc: Global) -> Result<Identifiers, AllocError>
     Ok(components)
 }
 
-/// A manifest of one component with these two members.
-pub(crate) fn manifest_with(
-    alloc: Global,
+/// A manifest of its number, its components and these two members.
+pub(crate) fn manifest_of(
+    sequence: u64,
+    components: Identifiers,
     payload_fetch: Member,
     install: Member,
-) -> Result<Manifest, AllocError>
-    ensures { IfOk result (λ m. length m.components ≡ 1) }
+) -> Manifest
+    ensures { result.components ≡ components }
 {
-    Ok(Manifest {
-        sequence: 1,
-        components: one_component(alloc)?,
+    Manifest {
+        sequence,
+        components,
         shared: None,
         reference: None,
         validate: None,
@@ -36,5 +37,17 @@ pub(crate) fn manifest_with(
         payload_fetch,
         install,
         text: TextMember::Empty,
-    })
+    }
+}
+
+/// A manifest of one component with these two members.
+pub(crate) fn manifest_with(
+    alloc: Global,
+    payload_fetch: Member,
+    install: Member,
+) -> Result<Manifest, AllocError>
+    ensures { IfOk result (λ m. length m.components ≡ 1) }
+{
+    let components = one_component(alloc)?;
+    Ok(manifest_of(1, components, payload_fetch, install))
 }

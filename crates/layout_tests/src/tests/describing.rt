@@ -46,18 +46,12 @@ fn names(answer: &str, fault: &LayoutFault) -> bool {
     }
 }
 
-fn is_answered(alloc: Global, json: &str, answer: &str) -> bool {
+// A row is a text of JSON and its answer.
+fn is_row(alloc: Global, row: &str) -> bool {
+    let (json, answer) = row.split_once(" -> ").unwrap_or((row, ""));
     match described(alloc, json) {
         Ok(_) => answer == "accepted",
         Err(fault) => names(answer, &fault),
-    }
-}
-
-// A row is a text of JSON and its answer.
-fn is_row(alloc: Global, row: &str) -> bool {
-    match row.split_once(" -> ") {
-        Some((json, answer)) => is_answered(alloc, json, answer),
-        None => false,
     }
 }
 

@@ -2,7 +2,7 @@
 
 ghost use Rattle.std.specs.Prelude.{◌≡◌, ◌≤◌};
 
-use crate::init::inits;
+use crate::tests::init::inits;
 use cli_tests::{AUTHENTIC, DEVICE, KEY, answers_with, blank, bytes_of};
 use std::alloc::{AllocError, Global};
 use suit_edge::{Disk, Edge, Launcher, Launches, MemoryHost, MemoryLauncher};

@@ -5,7 +5,7 @@ use Rattle.suit_edge.specs.Gate.{page_at}
 use Rattle.suit_edge.specs.MemoryDisk.{memory_flash}
 use Rattle.suit_edge.specs.Ranges.{InSome}
 use Rattle.suit_edge.specs.FlashLaws.{settled_firm}
-use Rattle.flash_tests.proofs.edge.disks.with_fuse.Goals as goal
+use Rattle.flash_tests.proofs.tests.edge.disks.with_fuse.Goals as goal
 
 pub returns-clause-firm : goal.returns-clause-firm
 returns-clause-firm c =

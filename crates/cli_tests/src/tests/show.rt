@@ -1,7 +1,7 @@
 //! Tests of `show FILE KEY` on objects in memory. The digest and the tags were computed by another program.
 
-use crate::descriptions::set;
 use crate::runs::{AUTHENTIC, KEY, STORED, answers_by_files, bytes_of};
+use crate::tests::descriptions::set;
 use std::alloc::{AllocError, Global};
 use suit_edge::MemoryHost;
 

@@ -2,7 +2,7 @@ use Rattle.std.proofs.Common.{List, ℕ, Some, None, sym, subst}
 use Rattle.flash_layout.specs.declared.frame.TheConstants.{VERSION_1}
 use Rattle.flash_layout.specs.Frames.{head_of}
 use Rattle.rollback_record.specs.HeadRecord.{RecordOf}
-use Rattle.flash_tests.proofs.records.renew.Goals as goal
+use Rattle.flash_tests.proofs.tests.records.renew.Goals as goal
 
 pub commit-requires-clause-held : goal.commit-requires-clause-held
 commit-requires-clause-held g c t =

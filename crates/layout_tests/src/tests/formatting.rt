@@ -2,7 +2,7 @@
 
 ghost use Rattle.std.specs.Prelude.{◌≡◌, ◌≤◌, ◌+◌, IfOk, length};
 
-use crate::devices::{SIZE, blank, device, formats};
+use crate::tests::devices::{SIZE, blank, device, formats};
 use flash_layout::{Formatted, Loaded, load_config};
 use std::alloc::{AllocError, Global};
 use suit_edge::{Disk, Edge, FuseDisk, MemoryDisk, OPEN};

@@ -2,8 +2,8 @@
 
 ghost use Rattle.std.specs.Prelude.{◌≡◌, ◌≤◌, IfOk, length};
 
-use crate::after::{Ending, Slots, end_of_run, goes_on};
-use crate::recorded::{ON_ONE, ON_TWO, Sessions, UPDATE, goes_unlaunched};
+use crate::tests::after::{Ending, Slots, end_of_run, goes_on};
+use crate::tests::recorded::{ON_ONE, ON_TWO, Sessions, UPDATE, goes_unlaunched};
 use cli_tests::blank;
 use std::alloc::{AllocError, Global};
 use suit_edge::{FuseDisk, Host, MemoryDisk};

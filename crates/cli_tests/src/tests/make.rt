@@ -5,8 +5,8 @@ mod field_rows;
 mod json_rows;
 mod limits;
 
-use crate::descriptions::STORED_SAYS;
 use crate::runs::{answers_by_files, bytes_of};
+use crate::tests::descriptions::STORED_SAYS;
 use argument_rows::{REFUSED_ARGUMENTS, REFUSED_PARAMETERS};
 use field_rows::{REFUSED_FIELDS, REFUSED_MEMBERS};
 use json_rows::REFUSED_JSON;

@@ -2,7 +2,7 @@
 
 ghost use Rattle.std.specs.Prelude.{◌≡◌, ◌≤◌};
 
-use crate::init::inits;
+use crate::tests::init::inits;
 use cli_tests::{DEVICE, KEY, answers, blank};
 use std::alloc::{AllocError, Global};
 use suit_edge::{Disk, Edge, MemoryHost};

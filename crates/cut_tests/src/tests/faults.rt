@@ -2,8 +2,8 @@
 
 ghost use Rattle.std.specs.Prelude.{◌≤◌};
 
-use crate::after::{Slots, goes_on};
-use crate::recorded::{AT_ONCE, UPDATE, goes_unlaunched};
+use crate::tests::after::{Slots, goes_on};
+use crate::tests::recorded::{AT_ONCE, UPDATE, goes_unlaunched};
 use cli_tests::blank;
 use std::alloc::{AllocError, Global};
 use suit_edge::{Disk, Host};

@@ -2,7 +2,7 @@
 
 ghost use Rattle.std.specs.Prelude.{◌≡◌, ◌≤◌};
 
-use crate::recorded::UPDATE;
+use crate::tests::recorded::UPDATE;
 use std::alloc::{AllocError, Global};
 use suit_edge::{Disk, Host, MemoryLauncher, MemorySink};
 use update_tests::{are_launched, status_of};

@@ -2,7 +2,7 @@
 
 ghost use Rattle.std.specs.Prelude.{◌≡◌, ◌≤◌, ◌+◌, IfOk, length};
 
-use crate::devices::{SIZE, blank, component, device, formats, identifier, layout_with};
+use crate::tests::devices::{SIZE, blank, component, device, formats, identifier, layout_with};
 use flash_layout::{
     Entry, Formatted, Layout, Loaded, Places, Unknown, is_key, is_layout, load_config, places,
 };

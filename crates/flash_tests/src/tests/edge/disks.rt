@@ -62,7 +62,8 @@ fn with_old_page(alloc: Global) -> Result<MemoryDisk, AllocError>
 // The same, whose power goes after so many calls.
 pub(super) fn with_fuse(alloc: Global, passes: u64) -> Result<FuseDisk, AllocError>
     ensures size { IfOk result (λ fuse. length fuse.disk.first ≡ SIZE) }
-    ensures firm { IfOk result (λ fuse. IsFirmOn (InSome (page_at 40 41 4)) (memory_flash fuse.disk)) }
+    ensures firm { IfOk result
+        (λ fuse. IsFirmOn (InSome (page_at 40 41 4)) (memory_flash fuse.disk)) }
 {
     let disk = with_old_page(alloc)?;
     Ok(FuseDisk::new(disk, passes))

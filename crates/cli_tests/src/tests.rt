@@ -1,0 +1,6 @@
+//! The tests.
+
+mod check;
+mod descriptions;
+mod make;
+mod show;

@@ -1,0 +1,6 @@
+//! The tests.
+
+mod after;
+mod cuts;
+mod faults;
+mod recorded;

@@ -1,0 +1,7 @@
+//! The tests.
+
+mod boot;
+mod configs;
+mod init;
+mod life;
+mod status;

@@ -1,0 +1,5 @@
+//! The tests.
+
+mod edge;
+mod records;
+mod slots;

@@ -1,0 +1,6 @@
+//! The tests.
+
+mod describing;
+mod devices;
+mod formatting;
+mod pages;
