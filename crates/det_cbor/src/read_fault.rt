@@ -1,5 +1,8 @@
 //! Why a reader that takes memory stopped.
 
+ghost use Rattle.std.specs.Prelude.{◌≡◌};
+ghost use Rattle.det_cbor.specs.declared.read_fault.ReadFault.TheVariants as faults;
+
 use crate::reason::Stop;
 use std::alloc::AllocError;
 
@@ -11,10 +14,7 @@ pub(crate) enum ReadFault {
 }
 
 impl From<Stop> for ReadFault {
-    ghost use Rattle.std.specs.Prelude.{◌≡◌};
-    ghost use Rattle.det_cbor.specs.declared.read_fault.ReadFault.TheVariants.{Stopped};
-
-    ghost from_gives = { λ s e. e ≡ Stopped s };
+    ghost from_gives = { λ s e. e ≡ faults.Stopped s };
 
     fn from(stop: Stop) -> ReadFault {
         ReadFault::Stopped(stop)
@@ -22,10 +22,7 @@ impl From<Stop> for ReadFault {
 }
 
 impl From<AllocError> for ReadFault {
-    ghost use Rattle.std.specs.Prelude.{◌≡◌};
-    ghost use Rattle.det_cbor.specs.declared.read_fault.ReadFault.TheVariants.{NoMemory};
-
-    ghost from_gives = { λ _ e. e ≡ NoMemory };
+    ghost from_gives = { λ _ e. e ≡ faults.NoMemory };
 
     fn from(_: AllocError) -> ReadFault {
         ReadFault::NoMemory

@@ -4,3 +4,4 @@ pub mod Answers
 pub mod Values
 pub mod Arrays
 pub mod Objects
+pub mod Telling

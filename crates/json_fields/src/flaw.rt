@@ -1,5 +1,8 @@
 //! Flaws of a value, and their places.
 
+ghost use Rattle.std.specs.Prelude.{◌≡◌};
+ghost use Rattle.json_fields.specs.declared.flaw.JsonFault.TheVariants as faults;
+
 use det_cbor::Text;
 use std::alloc::AllocError;
 
@@ -31,10 +34,7 @@ pub struct Flaw {
 }
 
 impl From<AllocError> for JsonFault {
-    ghost use Rattle.std.specs.Prelude.{◌≡◌};
-    ghost use Rattle.json_fields.specs.declared.flaw.JsonFault.TheVariants.{NoMemory};
-
-    ghost from_gives = { λ _ f. f ≡ NoMemory };
+    ghost from_gives = { λ _ f. f ≡ faults.NoMemory };
 
     fn from(_: AllocError) -> JsonFault {
         JsonFault::NoMemory

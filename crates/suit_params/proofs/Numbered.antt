@@ -1,4 +1,4 @@
--- What is found by number has the number.
+-- An entry that is found by its number has that number.
 use Rattle.std.proofs.Common.{◌≡◌, ℕ, eqb, List, [], ◌∷◌, Some, ap, ◌∙◌, inl, inr}
 use Rattle.std.proofs.lemmas.Bool.{eqb-true}
 use Rattle.det_cbor.specs.ResultLaws.{chosen}

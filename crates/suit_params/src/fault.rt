@@ -1,13 +1,13 @@
 //! How want of memory and refusals become faults.
 
+ghost use Rattle.std.specs.Prelude.{◌≡◌};
+ghost use Rattle.suit_params.specs.declared.refusal.Fault.TheVariants as faults;
+
 use crate::{Fault, Refusal};
 use std::alloc::AllocError;
 
 impl From<AllocError> for Fault {
-    ghost use Rattle.std.specs.Prelude.{◌≡◌};
-    ghost use Rattle.suit_params.specs.declared.refusal.Fault.TheVariants.{NoMemory};
-
-    ghost from_gives = { λ _ f. f ≡ NoMemory };
+    ghost from_gives = { λ _ f. f ≡ faults.NoMemory };
 
     fn from(_: AllocError) -> Fault {
         Fault::NoMemory
@@ -15,10 +15,7 @@ impl From<AllocError> for Fault {
 }
 
 impl From<Refusal> for Fault {
-    ghost use Rattle.std.specs.Prelude.{◌≡◌};
-    ghost use Rattle.suit_params.specs.declared.refusal.Fault.TheVariants.{Refused};
-
-    ghost from_gives = { λ r f. f ≡ Refused r };
+    ghost from_gives = { λ r f. f ≡ faults.Refused r };
 
     fn from(refusal: Refusal) -> Fault {
         Fault::Refused(refusal)
