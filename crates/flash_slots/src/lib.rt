@@ -2,6 +2,7 @@
 #![tactic(auto)]
 
 mod area;
+mod equal;
 mod law;
 mod overwriting;
 mod passing;
@@ -10,6 +11,7 @@ mod reading;
 mod writing;
 
 pub use area::TooLarge;
+pub use equal::is_equal;
 pub use law::ram_laws;
 pub use overwriting::{overwrite, set_length};
 pub use passing::{digest, same_content};

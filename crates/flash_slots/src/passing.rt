@@ -6,6 +6,7 @@ ghost use Rattle.sha2.specs.Sha256.{sha256};
 ghost use Rattle.std.specs.Prelude.{◌≡◌, ◌↔◌, ◌<◌, IfOk, IsTrue, length};
 ghost use Rattle.suit_edge.specs.Flash.{Grows, IsSame};
 
+use crate::equal::is_equal;
 use crate::reading::{length, read_some};
 use flash_layout::{FlashFault, Slot};
 use sha2::{Digest as _, Sha256};
@@ -37,13 +38,6 @@ pub fn digest<D: Disk>(disk: &mut D, slot: Slot, room: &mut [u8]) -> Result<[u8;
         from += count as u64;
     }
     Ok(hasher.finalize())
-}
-
-// Whether two pieces are the same.
-fn is_equal(a: &[u8], b: &[u8]) -> bool
-    ensures { IsTrue result ↔ (a.now ≡ b.now) }
-{
-    a == b
 }
 
 /// Whether the content equals these bytes. It is read through the room.

@@ -1,3 +1,4 @@
+pub mod Answered
 pub mod Fields
 pub mod Pages
 pub mod Loads

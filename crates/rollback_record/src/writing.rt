@@ -6,8 +6,9 @@ ghost use Rattle.rollback_record.specs.HeadRecord.{RecordOf, ResultCounts};
 ghost use Rattle.rollback_record.specs.RecordPage.{IsInRange, record_body};
 ghost use Rattle.rollback_record.specs.SoundFlash.{Follows, IsNoEarlier, Sound};
 ghost use Rattle.rollback_record.specs.SoundLaws.{IsInstalledFor};
-ghost use Rattle.std.specs.Prelude.{◌≡◌, ◌↔◌, ◌∷◌, ◌≤◌, ◌<◌, IfOk, IfSome, IsTrue, OnOk, Some, length, option_map};
+ghost use Rattle.std.specs.Prelude.{◌≡◌, ◌↔◌, ◌∷◌, ◌≤◌, ◌<◌, IfOk, IfSome, IsTrue, OnErr, OnOk, Some, length, option_map};
 ghost use Rattle.suit_edge.specs.Flash.{Grows, IsFirmOn, IsSame, IsSettled, Passes};
+ghost use Rattle.suit_edge.specs.declared.edge.Edge.TheVariants as edge;
 
 use crate::page::{RECORD_BYTES, is_page_of, spell};
 use crate::typing::typed;
@@ -62,6 +63,17 @@ fn find_spare<D: Disk>(disk: &mut D, held: Option<&Record>) -> Result<u64, Flash
     }
 }
 
+// A call on the flash that failed is a fault of it.
+fn result_of(answer: Edge) -> Result<(), FlashFault>
+    ensures ok { OnOk result (answer ≡ edge.Done) }
+    ensures err { OnErr result (answer ≡ edge.Failed) }
+{
+    match answer {
+        Edge::Failed => Err(FlashFault),
+        Edge::Done => Ok(()),
+    }
+}
+
 /// Records what is installed, on the record page that does not hold the record. A power loss now must leave the head as
 /// it reads. After a fault, and after a power loss at any moment, the flash holds the held record or the new one, and all
 /// else as it was.
@@ -107,8 +119,6 @@ pub fn commit<D: Disk>(disk: &mut D, held: Option<&Record>, new: &Record) -> Res
     };
     let gate = record_page(which);
     let page = spell(new);
-    match write_gated(disk, gate, gate + 1, page.behind_gate()) {
-        Edge::Failed => Err(FlashFault),
-        Edge::Done => Ok(()),
-    }
+    let answer = write_gated(disk, gate, gate + 1, page.behind_gate());
+    result_of(answer)
 }

@@ -2,6 +2,8 @@
 
 ghost use Rattle.std.specs.Prelude.{◌≡◌, IfOk};
 ghost use Rattle.std.specs.Bool.{OnTrue, OnFalse};
+ghost use Rattle.suit_edge.specs.Calls.{CallCounts, FailsByList, Succeeds, uncalled};
+ghost use Rattle.suit_edge.specs.Faults.{Faulted, counted};
 
 use std::alloc::{AllocError, Global};
 use std::marker::Model;
@@ -16,8 +18,6 @@ pub(crate) struct Calls {
 }
 
 impl Model for Calls {
-    ghost use Rattle.suit_edge.specs.Calls.{CallCounts};
-
     ghost Value = { CallCounts };
 
     ghost view = { λ c.
@@ -30,9 +30,6 @@ impl Model for Calls {
 }
 
 impl Calls {
-    ghost use Rattle.suit_edge.specs.Faults.{Faulted, counted};
-    ghost use Rattle.suit_edge.specs.Calls.{uncalled, IsListed, Succeeds, FailsByList, Starves};
-
     /// No call yet, and these to fail.
     pub(crate) fn new(alloc: Global, fails: &[u64]) -> Result<Calls, AllocError>
         ensures { IfOk result (λ calls. calls ≡ uncalled fails.now) }

@@ -13,14 +13,15 @@ use crate::{Disk, Edge, write_gated};
 /// How many bytes are written at once.
 const PIECE: usize = 16;
 
-// Writes the bytes in pieces.
-fn write_pieces<D: Disk>(disk: &mut D, place: u64, bytes: &[u8]) -> Edge
+// Writes the bytes in pieces, and makes sure of them.
+fn keep_pieces<D: Disk>(disk: &mut D, place: u64, bytes: &[u8]) -> Edge
     requires { place + length bytes.now ≤ D.extent disk.old }
     ensures size { D.extent disk.new ≡ D.extent disk.old }
     ensures counts { EdgeCounts result (D.faults disk.old) (D.faults disk.new) }
     ensures written { IsTrue D.told
         → IfDone result
         ((D.flash disk.new).reads ≡ written (D.flash disk.old).reads place bytes.now) }
+    ensures settled { IsTrue D.told → IfDone result (IsSettled (D.flash disk.new)) }
     ensures keeps { IsTrue D.told
         → Keeps (Outside place (length bytes.now)) (D.flash disk.old) (D.flash disk.new) }
 {
@@ -35,29 +36,7 @@ fn write_pieces<D: Disk>(disk: &mut D, place: u64, bytes: &[u8]) -> Edge
         }
         done = end;
     }
-    Edge::Done
-}
-
-// Writes the bytes in pieces, and makes sure of them.
-fn keep_pieces<D: Disk>(disk: &mut D, place: u64, bytes: &[u8]) -> Edge
-    requires { place + length bytes.now ≤ D.extent disk.old }
-    ensures size { D.extent disk.new ≡ D.extent disk.old }
-    ensures counts { EdgeCounts result (D.faults disk.old) (D.faults disk.new) }
-    ensures written { IsTrue D.told
-        → IfDone result
-        ((D.flash disk.new).reads ≡ written (D.flash disk.old).reads place bytes.now) }
-    ensures settled { IsTrue D.told → IfDone result (IsSettled (D.flash disk.new)) }
-    ensures keeps { IsTrue D.told
-        → Keeps (Outside place (length bytes.now)) (D.flash disk.old) (D.flash disk.new) }
-{
-    match write_pieces(disk, place, bytes) {
-        Edge::Done => {}
-        Edge::Failed => return Edge::Failed,
-    }
-    match disk.sync() {
-        Edge::Done => Edge::Done,
-        Edge::Failed => Edge::Failed,
-    }
+    disk.sync()
 }
 
 /// Writes the bytes in pieces, and then the page beside them. At any moment an open page is the old one, or the new

@@ -1,8 +1,10 @@
 //! A disk in a file.
 
-ghost use Rattle.std.specs.Prelude.{◌≡◌, OnErr, OnOk};
+ghost use Rattle.std.specs.Prelude.{◌≡◌, ℕ, OnErr, OnOk, false};
 ghost use Rattle.suit_edge.specs.Faults.{EdgeCounts};
+ghost use Rattle.suit_edge.specs.FileDisk.{untold};
 ghost use Rattle.suit_edge.specs.declared.edge.Edge.TheVariants as edge;
+ghost use Rattle.suit_edge.specs.declared.file_disk.TheConstants.{SIZE};
 
 use crate::{Disk, Edge};
 use std::fs::{File, OpenOptions};
@@ -28,8 +30,6 @@ pub struct FileDisk<R: Files<File = File> + Drop> {
 }
 
 impl<R: Files<File = File> + Drop> Model for FileDisk<R> {
-    ghost use Rattle.std.specs.Prelude.{ℕ};
-
     // the count of faults
     ghost Value = { ℕ };
 
@@ -118,14 +118,12 @@ fn counts(faults: &mut u64, done: io::Result<()>) -> Edge
 
 impl<R: Files<File = File> + Drop> Disk for FileDisk<R> {
     ghost use Rattle.std.proofs.Common.{rules};
-    ghost use Rattle.std.specs.Prelude.{false};
-    ghost use Rattle.suit_edge.specs.FileDisk.{untold};
 
     ghost told = { false };
 
     ghost flash = { λ _. untold };
 
-    ghost extent = { λ _. 4194304 };
+    ghost extent = { λ _. SIZE };
 
     ghost faults = { λ d. d };
 

@@ -1,6 +1,6 @@
 //! Real files.
 
-ghost use Rattle.std.specs.Prelude.{◌≡◌};
+ghost use Rattle.std.specs.Prelude.{◌≡◌, ℕ, false};
 
 use crate::{Edge, Host, Pulled, Started};
 use std::fs;
@@ -17,8 +17,6 @@ pub struct FileHost<R: Files + Drop> {
 }
 
 impl<R: Files + Drop> Model for FileHost<R> {
-    ghost use Rattle.std.specs.Prelude.{ℕ};
-
     // the count of faults
     ghost Value = { ℕ };
 
@@ -39,8 +37,6 @@ impl<R: Files + Drop> FileHost<R> {
 }
 
 impl<R: Files + Drop> Host for FileHost<R> {
-    ghost use Rattle.std.specs.Prelude.{false};
-
     ghost told = { false };
 
     ghost faults = { λ h. h };

@@ -1,6 +1,6 @@
 //! A launcher that writes images into files.
 
-ghost use Rattle.std.specs.Prelude.{◌≡◌, ◌+◌, ◌≤◌, IsTrue};
+ghost use Rattle.std.specs.Prelude.{◌≡◌, ◌+◌, ◌≤◌, [], ℕ, IsTrue, false};
 ghost use Rattle.suit_edge.specs.Flash.{Grows, IsSame};
 ghost use Rattle.suit_edge.specs.Launch.{LaunchCounts, LiesWithin};
 ghost use Rattle.suit_edge.specs.FileLauncher.{StepCounts};
@@ -26,8 +26,6 @@ pub struct FileLauncher<R: Files<File = File> + Drop> {
 }
 
 impl<R: Files<File = File> + Drop> Model for FileLauncher<R> {
-    ghost use Rattle.std.specs.Prelude.{ℕ};
-
     // the count of faults
     ghost Value = { ℕ };
 
@@ -106,8 +104,6 @@ fn write_image<D: Disk>(disk: &mut D, image: Image<'_>, file: &mut File) -> Laun
 }
 
 impl<R: Files<File = File> + Drop> Launcher for FileLauncher<R> {
-    ghost use Rattle.std.specs.Prelude.{false, []};
-
     ghost told = { false };
 
     ghost launches = { λ _. [] };

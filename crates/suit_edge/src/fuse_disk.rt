@@ -5,7 +5,7 @@ ghost use Rattle.std.specs.Prelude.{◌≡◌, ◌+◌, ◌≤◌, true, IsTrue,
 ghost use Rattle.suit_edge.specs.Edge.{IfDone};
 ghost use Rattle.suit_edge.specs.Faults.{EdgeCounts};
 ghost use Rattle.suit_edge.specs.Flash.{Grows, IsSame, IsSettled, Keeps};
-ghost use Rattle.suit_edge.specs.FuseDisk.{BurnsExactly, counts_answer};
+ghost use Rattle.suit_edge.specs.FuseDisk.{BurnsExactly, FuseState, counts_answer};
 ghost use Rattle.suit_edge.specs.MemoryDisk.{ReadsExactly, StepsExactly, memory_flash, write_of};
 ghost use Rattle.suit_edge.specs.MemoryLaws.{memory_obeys};
 ghost use Rattle.suit_edge.specs.Ranges.{Outside, written};
@@ -23,8 +23,6 @@ pub struct FuseDisk {
 }
 
 impl Model for FuseDisk {
-    ghost use Rattle.suit_edge.specs.FuseDisk.{FuseState};
-
     ghost Value = { FuseState };
 
     ghost view = { λ f. record { disk = f.disk; passes = f.passes; faults = f.faults } };

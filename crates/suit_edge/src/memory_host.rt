@@ -5,6 +5,7 @@ ghost use Rattle.suit_edge.specs.Faults.{EdgeCounts};
 ghost use Rattle.suit_edge.specs.Host.{StartAsks, StartCounts, Starts, PullCounts, Pulls, count_of, Stores};
 ghost use Rattle.suit_edge.specs.Calls.{Succeeds, CallFails};
 ghost use Rattle.suit_edge.specs.MemoryHost.{
+  HostState,
   file_in,
   with_file,
   empty_host,
@@ -34,8 +35,6 @@ pub struct MemoryHost {
 }
 
 impl Model for MemoryHost {
-    ghost use Rattle.suit_edge.specs.MemoryHost.{HostState};
-
     ghost Value = { HostState };
 
     ghost view = { λ h.
@@ -95,9 +94,6 @@ impl MemoryHost {
 }
 
 impl Host for MemoryHost {
-    ghost use Rattle.std.specs.Prelude.{true};
-    ghost use Rattle.suit_edge.specs.MemoryHost.{file_in};
-
     ghost told = { true };
 
     ghost file = { λ h name. file_in h.files name };

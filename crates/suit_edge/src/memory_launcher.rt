@@ -5,7 +5,7 @@ ghost use Rattle.std.specs.Option.{option_copied};
 ghost use Rattle.suit_edge.specs.Calls.{uncalled};
 ghost use Rattle.suit_edge.specs.Flash.{Grows, IsSame};
 ghost use Rattle.suit_edge.specs.Launch.{AddsLaunch, IsLaunch, LaunchCounts, LiesWithin};
-ghost use Rattle.suit_edge.specs.MemoryLauncher.{LaunchesExactly};
+ghost use Rattle.suit_edge.specs.MemoryLauncher.{LauncherState, LaunchesExactly};
 ghost use Rattle.suit_edge.specs.declared.launch.Launch.{Launch};
 ghost use Rattle.suit_edge.specs.TakenImage.{TakesImage, TakeCounts};
 
@@ -24,8 +24,6 @@ pub struct MemoryLauncher {
 }
 
 impl Model for MemoryLauncher {
-    ghost use Rattle.suit_edge.specs.MemoryLauncher.{LauncherState};
-
     ghost Value = { LauncherState };
 
     ghost view = { λ l. record { launches = l.launches; calls = l.calls } };

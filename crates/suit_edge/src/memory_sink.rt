@@ -4,7 +4,7 @@ ghost use Rattle.std.specs.Prelude.{◌≡◌, [], IfOk, IsTrue, true};
 ghost use Rattle.suit_edge.specs.Faults.{EdgeCounts};
 ghost use Rattle.suit_edge.specs.Sink.{Puts};
 ghost use Rattle.suit_edge.specs.Calls.{uncalled};
-ghost use Rattle.suit_edge.specs.MemorySink.{PutsExactly};
+ghost use Rattle.suit_edge.specs.MemorySink.{PutsExactly, SinkState};
 
 use crate::calls::Calls;
 use crate::{Edge, Sink};
@@ -20,8 +20,6 @@ pub struct MemorySink {
 }
 
 impl Model for MemorySink {
-    ghost use Rattle.suit_edge.specs.MemorySink.{SinkState};
-
     ghost Value = { SinkState };
 
     ghost view = { λ s. record { put = s.put; calls = s.calls } };
@@ -54,8 +52,6 @@ impl MemorySink {
 }
 
 impl Sink for MemorySink {
-    ghost use Rattle.std.specs.Prelude.{true};
-
     ghost told = { true };
 
     ghost put_bytes = { λ s. s.put };

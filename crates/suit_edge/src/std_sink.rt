@@ -1,6 +1,6 @@
 //! Standard output.
 
-ghost use Rattle.std.specs.Prelude.{◌≡◌};
+ghost use Rattle.std.specs.Prelude.{◌≡◌, [], ℕ, false};
 
 use crate::{Edge, Sink};
 use std::marker::Model;
@@ -13,8 +13,6 @@ pub struct StdSink<R: Print + Drop> {
 }
 
 impl<R: Print + Drop> Model for StdSink<R> {
-    ghost use Rattle.std.specs.Prelude.{ℕ};
-
     // the count of faults
     ghost Value = { ℕ };
 
@@ -31,8 +29,6 @@ impl<R: Print + Drop> StdSink<R> {
 }
 
 impl<R: Print + Drop> Sink for StdSink<R> {
-    ghost use Rattle.std.specs.Prelude.{false, []};
-
     ghost told = { false };
 
     ghost put_bytes = { λ _. [] };

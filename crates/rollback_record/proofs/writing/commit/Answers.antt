@@ -1,7 +1,9 @@
 use Rattle.std.proofs.Common.{ℕ, IsTrue, Option, Bor, option_map, refl, subst, ◌∙◌, ◌+◌, arith}
+use Rattle.suit_edge.specs.Faults.{EdgeCounts}
 use Rattle.suit_edge.specs.Flash.{IsFlash}
 use Rattle.suit_edge.specs.FlashLaws.{each_read}
 use Rattle.flash_layout.specs.declared.slot.Record.{Record}
+use Rattle.rollback_record.proofs.Answered.{both_done, counts_so, on_done}
 use Rattle.rollback_record.proofs.Commits.{Begins, all_moments, behind_gate, gate_of, keeps_beside, long_behind, only_read, page_firm, read_keeps, recorded}
 use Rattle.rollback_record.proofs.SoundSince.{follows_since, sound_since}
 use Rattle.rollback_record.proofs.writing.commit.Given as given
@@ -42,35 +44,33 @@ begins g c t = record {
   long = long_behind c.spell-page.result _ c.spell-page.ensures.long c.behind_gate.ensures;
 }
 
-pub write_gated-requires-clause-firm : goal.write_gated-requires-clause-firm
-write_gated-requires-clause-firm g c t = page_firm _ _ _ _ _ _ _ _ _ (begins g (goal.at.write_gated-requires-clause-firm g c).After-behind_gate t)
+pub write_gated-answer-requires-clause-firm : goal.write_gated-answer-requires-clause-firm
+write_gated-answer-requires-clause-firm g c t = page_firm _ _ _ _ _ _ _ _ _ (begins g (goal.at.write_gated-answer-requires-clause-firm g c).After-behind_gate t)
 
-pub returns-in-Failed-clause-any_moment : goal.returns-in-Failed-clause-any_moment
-returns-in-Failed-clause-any_moment g c t =
-    all_moments _ _ _ _ _ _ _ _ _ (begins g (goal.at.returns-in-Failed-clause-any_moment g c).After-behind_gate t) _ (c.write_gated.ensures.any_moment t)
+pub returns-clause-any_moment : goal.returns-clause-any_moment
+returns-clause-any_moment g c t =
+    all_moments _ _ _ _ _ _ _ _ _ (begins g (goal.at.returns-clause-any_moment g c).After-behind_gate t) _ (c.write_gated-answer.ensures.any_moment t)
 
-pub returns-in-Failed-clause-reads : goal.returns-in-Failed-clause-reads
-returns-in-Failed-clause-reads g c t = each_read _ _ _ _ (g.met.D.Disk.obeys c.write_gated.new.disk t) (returns-in-Failed-clause-any_moment g c t)
+pub returns-clause-reads : goal.returns-clause-reads
+returns-clause-reads g c t = each_read _ _ _ _ (g.met.D.Disk.obeys c.write_gated-answer.new.disk t) (returns-clause-any_moment g c t)
 
-pub returns-in-Failed-clause-keeps : goal.returns-in-Failed-clause-keeps
-returns-in-Failed-clause-keeps g c t =
-    keeps_beside _ _ _ _ _ _ _ _ _ (begins g (goal.at.returns-in-Failed-clause-keeps g c).After-behind_gate t) _ (c.write_gated.ensures.keeps t)
+pub returns-clause-keeps : goal.returns-clause-keeps
+returns-clause-keeps g c t =
+    keeps_beside _ _ _ _ _ _ _ _ _ (begins g (goal.at.returns-clause-keeps g c).After-behind_gate t) _ (c.write_gated-answer.ensures.keeps t)
 
-pub returns-in-Done-clause-any_moment : goal.returns-in-Done-clause-any_moment
-returns-in-Done-clause-any_moment g c t =
-    all_moments _ _ _ _ _ _ _ _ _ (begins g (goal.at.returns-in-Done-clause-any_moment g c).After-behind_gate t) _ (c.write_gated.ensures.any_moment t)
+pub returns-clause-counts : goal.returns-clause-counts
+returns-clause-counts g c =
+    counts_so c.result_of.result c.write_gated-answer.result _ _ c.result_of.ensures.ok c.result_of.ensures.err
+    (subst (λ (n : ℕ). EdgeCounts c.write_gated-answer.result n (g.D.Disk.faults c.write_gated-answer.new.disk)) c.in-Ok.ensures.counts c.write_gated-answer.ensures.counts)
 
-pub returns-in-Done-clause-reads : goal.returns-in-Done-clause-reads
-returns-in-Done-clause-reads g c t = each_read _ _ _ _ (g.met.D.Disk.obeys c.write_gated.new.disk t) (returns-in-Done-clause-any_moment g c t)
+pub returns-clause-settled : goal.returns-clause-settled
+returns-clause-settled g c t = on_done c.result_of.result _ _ c.result_of.ensures.ok (c.write_gated-answer.ensures.settled t)
 
-pub returns-in-Done-clause-keeps : goal.returns-in-Done-clause-keeps
-returns-in-Done-clause-keeps g c t =
-    keeps_beside _ _ _ _ _ _ _ _ _ (begins g (goal.at.returns-in-Done-clause-keeps g c).After-behind_gate t) _ (c.write_gated.ensures.keeps t)
-
-pub returns-in-Done-clause-ok : goal.returns-in-Done-clause-ok
-returns-in-Done-clause-ok g c t =
-    recorded _ _ _ _ _ _ _ _ _ (begins g (goal.at.returns-in-Done-clause-ok g c).After-behind_gate t) (g.D.Disk.flash c.write_gated.new.disk) (c.in-Done.ensures.page t)
-    (c.in-Done.ensures.opened t)
+pub returns-clause-ok : goal.returns-clause-ok
+returns-clause-ok g c t =
+    on_done c.result_of.result c.write_gated-answer.result _ c.result_of.ensures.ok
+    (both_done c.write_gated-answer.result _ _ _ (c.write_gated-answer.ensures.page t) (c.write_gated-answer.ensures.opened t)
+    (recorded _ _ _ _ _ _ _ _ _ (begins g (goal.at.returns-clause-ok g c).After-behind_gate t) (g.D.Disk.flash c.write_gated-answer.new.disk)))
 
 pub returns-in-Err-clause-sound : goal.returns-in-Err-clause-sound
 returns-in-Err-clause-sound g c t =
@@ -80,18 +80,10 @@ pub returns-in-Err-clause-follows : goal.returns-in-Err-clause-follows
 returns-in-Err-clause-follows g c t =
     follows_since _ _ _ _ _ (g.met.D.Disk.obeys c.args.disk.now t) c.requires.size (c.requires.held t) (c.requires.firm t) (returns-in-Err-clause-any_moment g c t) (returns-in-Err-clause-keeps g c t)
 
-pub returns-in-Failed-clause-sound : goal.returns-in-Failed-clause-sound
-returns-in-Failed-clause-sound g c t =
-    sound_since _ _ _ _ _ (g.met.D.Disk.obeys c.args.disk.now t) c.requires.size (c.requires.held t) (c.requires.firm t) (returns-in-Failed-clause-any_moment g c t) (returns-in-Failed-clause-keeps g c t) (c.requires.fields t)
+pub returns-clause-sound : goal.returns-clause-sound
+returns-clause-sound g c t =
+    sound_since _ _ _ _ _ (g.met.D.Disk.obeys c.args.disk.now t) c.requires.size (c.requires.held t) (c.requires.firm t) (returns-clause-any_moment g c t) (returns-clause-keeps g c t) (c.requires.fields t)
 
-pub returns-in-Failed-clause-follows : goal.returns-in-Failed-clause-follows
-returns-in-Failed-clause-follows g c t =
-    follows_since _ _ _ _ _ (g.met.D.Disk.obeys c.args.disk.now t) c.requires.size (c.requires.held t) (c.requires.firm t) (returns-in-Failed-clause-any_moment g c t) (returns-in-Failed-clause-keeps g c t)
-
-pub returns-in-Done-clause-sound : goal.returns-in-Done-clause-sound
-returns-in-Done-clause-sound g c t =
-    sound_since _ _ _ _ _ (g.met.D.Disk.obeys c.args.disk.now t) c.requires.size (c.requires.held t) (c.requires.firm t) (returns-in-Done-clause-any_moment g c t) (returns-in-Done-clause-keeps g c t) (c.requires.fields t)
-
-pub returns-in-Done-clause-follows : goal.returns-in-Done-clause-follows
-returns-in-Done-clause-follows g c t =
-    follows_since _ _ _ _ _ (g.met.D.Disk.obeys c.args.disk.now t) c.requires.size (c.requires.held t) (c.requires.firm t) (returns-in-Done-clause-any_moment g c t) (returns-in-Done-clause-keeps g c t)
+pub returns-clause-follows : goal.returns-clause-follows
+returns-clause-follows g c t =
+    follows_since _ _ _ _ _ (g.met.D.Disk.obeys c.args.disk.now t) c.requires.size (c.requires.held t) (c.requires.firm t) (returns-clause-any_moment g c t) (returns-clause-keeps g c t)

@@ -1,8 +1,8 @@
 use Rattle.std.proofs.Common.{sym, arith, rules}
 use Rattle.suit_edge.specs.PieceLaws.{piece_kept, piece_written}
-use Rattle.suit_edge.specs.FlashLaws.{keeps_start}
+use Rattle.suit_edge.specs.FlashLaws.{keeps_same, keeps_start, keeps_then}
 use Rattle.suit_edge.specs.RangeLaws.{written-none}
-use Rattle.suit_edge.proofs.client.write_pieces.Goals as goal
+use Rattle.suit_edge.proofs.client.keep_pieces.Goals as goal
 
 pub loop-done-init : goal.loop-done-init
 loop-done-init g c = record {
@@ -28,3 +28,6 @@ loop-done-preserved g c = record {
   keeps = λ t.
       piece_kept c.args.bytes.now c.args.place c.loop-done.done c.min.result (omega arith) _ _ _ _ (g.met.D.Disk.obeys c.loop-done.disk t) (c.loop-done.invariant.keeps t) (c.write_at.ensures.keeps t);
 }
+
+pub returns-clause-keeps : goal.returns-clause-keeps
+returns-clause-keeps g c t = keeps_then _ _ _ _ _ (g.met.D.Disk.obeys c.loop-done.disk t) (c.loop-done.invariant.keeps t) (keeps_same _ _ _ (c.sync.ensures.same t))

@@ -1,7 +1,7 @@
 use Rattle.std.proofs.Common.{◌≡◌, ◌≤◌, ◌-◌, IsTrue, length, take}
 use Rattle.suit_edge.specs.Flash.{Keeps}
 use Rattle.suit_edge.specs.Ranges.{Outside, written}
-use Rattle.suit_edge.proofs.client.write_pieces.Given as goal
+use Rattle.suit_edge.proofs.client.keep_pieces.Given as goal
 
 abbrev pub invariant-loop-done : goal.invariant-loop-done
 invariant-loop-done g l = record {
