@@ -52,13 +52,7 @@ fn known_code(place: u64, shared: bool, number: u64) -> Result<CommandCode, Refu
     ensures { result ≡ known_code place shared (numbered number) }
 {
     match numbered(number) {
-        Some(CommandCode::Act(kind)) => {
-            if shared {
-                refused(place, Why::Unsupported)
-            } else {
-                Ok(CommandCode::Act(kind))
-            }
-        }
+        Some(CommandCode::Act(_)) if shared => refused(place, Why::Unsupported),
         Some(code) => Ok(code),
         None => refused(place, Why::Unsupported),
     }

@@ -1,4 +1,4 @@
-//! What a sequence is read with.
+//! The scope of a sequence: its allocator, its levels, its components.
 
 use std::alloc::Global;
 

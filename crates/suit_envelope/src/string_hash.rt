@@ -29,7 +29,7 @@ fn add_head(hasher: &mut Sha256, length: u64)
 }
 
 /// The SHA-256 of the byte string of this content.
-pub(crate) fn string_digest(content: &[u8]) -> Digest
+pub fn string_digest(content: &[u8]) -> Digest
     ensures { result.bytes ≡ string_digest content.now }
 {
     let mut hasher = Sha256::new();

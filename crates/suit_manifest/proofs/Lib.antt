@@ -2,6 +2,7 @@ pub mod Taking
 pub mod OneMember
 pub mod BothMembers
 pub mod MapRows
+pub mod RowCounts
 pub mod ManifestSpelled
 pub mod ManifestValid
 pub mod ManifestSays

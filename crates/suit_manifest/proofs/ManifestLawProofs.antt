@@ -14,8 +14,8 @@ use Rattle.suit_manifest.proofs.KeyNumbers.{ordered}
 use Rattle.suit_manifest.proofs.ManifestMade.{manifest_made, manifest_placed, made_again, one_item}
 use Rattle.suit_manifest.proofs.ManifestJudging.{manifest_judges}
 
-reading_laws : (place : ℕ) (x : DataItem) → IsValid x → HasOneManifest place x ⊎ HasOneRefusal place x
-reading_laws place x valid = by_answer (judge_manifest place x) refl
+one_reading : (place : ℕ) (x : DataItem) → IsValid x → HasOneManifest place x ⊎ HasOneRefusal place x
+one_reading place x valid = by_answer (judge_manifest place x) refl
   where
     by_answer : (a : Result Manifest Refusal) → judge_manifest place x ≡ a → HasOneManifest place x ⊎ HasOneRefusal place x
     by_answer (Ok m) is = inl (record {
@@ -33,7 +33,7 @@ reading_laws place x valid = by_answer (judge_manifest place x) refl
 
 pub manifest_laws : SequenceLaws → ManifestLaws
 manifest_laws laws = record {
-  reading_laws = reading_laws;
+  one_reading = one_reading;
   grammatical = grammatical laws;
   whole = one_answer judge_manifest IsManifest RefusesManifest manifest_judges;
   made = manifest_made laws;

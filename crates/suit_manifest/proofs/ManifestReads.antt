@@ -4,7 +4,7 @@ use Rattle.std.specs.Prelude.{option_map}
 use Rattle.std.specs.List.{AllByRecursion}
 use Rattle.std.proofs.lemmas.List.{append-nil}
 use Rattle.det_cbor.specs.Heads.{head_bytes}
-use Rattle.det_cbor.specs.DataItem.{DataItem, UnsignedInteger, NegativeInteger, ByteString, TextString, ArrayOf, MapOf, TaggedItem, Boolean, NullItem, DataPairs, spell, IsValidWithin}
+use Rattle.det_cbor.specs.DataItem.{DataItem, ByteString, TextString, ArrayOf, MapOf, NullItem, DataPairs, spell, IsValidWithin}
 use Rattle.det_cbor.specs.HeadReading.{◌>>=◌}
 use Rattle.det_cbor.specs.Position.{Position}
 use Rattle.suit_params.specs.declared.refusal.Refusal.{Refusal}
@@ -136,20 +136,27 @@ also {A} {B} r s f g is same = ap (λ (t : Result A Refusal). t >>= f) is ∙ by
     by_answer (Ok a) = same a
     by_answer (Err e) = refl
 
--- the values under the numbers
-abbrev looked_later : List Entry → LaterValues
-looked_later es = record {
-  reference = option_map value_of (entry_under 4 es);
-  validate = option_map value_of (entry_under 7 es);
-  load = option_map value_of (entry_under 8 es);
-  invoke = option_map value_of (entry_under 9 es);
-  payload_fetch = option_map value_of (entry_under 16 es);
-  install = option_map value_of (entry_under 20 es);
-  text = option_map value_of (entry_under 23 es);
+-- the values of entries in the order of their numbers
+abbrev later_values : Option Entry → Option Entry → Option Entry → Option Entry → Option Entry → Option Entry → Option Entry → LaterValues
+later_values reference validate load invoke payload_fetch install text = record {
+  reference = option_map value_of reference;
+  validate = option_map value_of validate;
+  load = option_map value_of load;
+  invoke = option_map value_of invoke;
+  payload_fetch = option_map value_of payload_fetch;
+  install = option_map value_of install;
+  text = option_map value_of text;
 }
 
+abbrev all_values : Option Entry → Option Entry → Option Entry → LaterValues → ManifestValues
+all_values version sequence common later = record { version = option_map value_of version; sequence = option_map value_of sequence; common = option_map value_of common; later = later }
+
+-- the values under the numbers
+abbrev looked_later : List Entry → LaterValues
+looked_later es = later_values (entry_under 4 es) (entry_under 7 es) (entry_under 8 es) (entry_under 9 es) (entry_under 16 es) (entry_under 20 es) (entry_under 23 es)
+
 abbrev looked : List Entry → ManifestValues
-looked es = record { version = option_map value_of (entry_under 1 es); sequence = option_map value_of (entry_under 2 es); common = option_map value_of (entry_under 3 es); later = looked_later es }
+looked es = all_values (entry_under 1 es) (entry_under 2 es) (entry_under 3 es) (looked_later es)
 
 module _ (count levels place : ℕ) (pairs : DataPairs) (valid : IsValidWithin levels (MapOf pairs)) where
   all : AllByRecursion (Fits (levels + 1)) (entries_of place pairs)
@@ -259,32 +266,13 @@ found_read levels place pairs valid =
     let j = take_read 20 l from_install h.next h.left in
     let from_text = rest_after 20 from_install in
     let k = take_read 23 l from_text j.next j.left in
-    let later : LaterValues = record {
-      reference = option_map value_of (head_under 4 from_four);
-      validate = option_map value_of (head_under 7 from_seven);
-      load = option_map value_of (head_under 8 from_eight);
-      invoke = option_map value_of (head_under 9 from_nine);
-      payload_fetch = option_map value_of (head_under 16 from_fetch);
-      install = option_map value_of (head_under 20 from_install);
-      text = option_map value_of (head_under 23 from_text);
-    } in
-    let picked : ManifestValues = record { version = option_map value_of (head_under 1 es); sequence = option_map value_of (head_under 2 (rest_after 1 es)); common = option_map value_of (head_under 3 (rest_after 2 (rest_after 1 es))); later = later } in
+    let later = later_values (head_under 4 from_four) (head_under 7 from_seven) (head_under 8 from_eight) (head_under 9 from_nine) (head_under 16 from_fetch) (head_under 20 from_install) (head_under 23 from_text) in
+    let picked = all_values (head_under 1 es) (head_under 2 (rest_after 1 es)) (head_under 3 (rest_after 2 (rest_after 1 es))) later in
     let last = picked_is manifest_keys es picked (looked es)
     (omega arith, (omega arith, (omega arith, (omega arith, (omega arith, (omega arith, (omega arith, (omega arith, (omega arith, (omega arith, tt)))))))))) (ordered_within levels place pairs valid)
-    (λ all i. record {
-      version = option_map value_of (all.0 i);
-      sequence = option_map value_of (all.1.0 i);
-      common = option_map value_of (all.1.1.0 i);
-      later = record {
-        reference = option_map value_of (all.1.1.1.0 i);
-        validate = option_map value_of (all.1.1.1.1.0 i);
-        load = option_map value_of (all.1.1.1.1.1.0 i);
-        invoke = option_map value_of (all.1.1.1.1.1.1.0 i);
-        payload_fetch = option_map value_of (all.1.1.1.1.1.1.1.0 i);
-        install = option_map value_of (all.1.1.1.1.1.1.1.1.0 i);
-        text = option_map value_of (all.1.1.1.1.1.1.1.1.1.0 i);
-      };
-    }) in
+    (λ all i.
+    let later = later_values (all.1.1.1.0 i) (all.1.1.1.1.0 i) (all.1.1.1.1.1.0 i) (all.1.1.1.1.1.1.0 i) (all.1.1.1.1.1.1.1.0 i) (all.1.1.1.1.1.1.1.1.0 i) (all.1.1.1.1.1.1.1.1.1.0 i) in
+    all_values (all.0 i) (all.1.0 i) (all.1.1.0 i) later) in
     rw (a.is, b.is, c.is, d.is, e.is, f.is, g.is, h.is, j.is, k.is, end_read l (rest_after 23 from_text) k.next k.left)
     (with_later (ending (rest_after 23 from_text)) later picked.version picked.sequence picked.common ∙ last)
   where

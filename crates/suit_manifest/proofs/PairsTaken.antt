@@ -2,7 +2,7 @@
 use Rattle.std.proofs.Common.{◌≡◌, ℕ, ◌-◌, Bool, true, false, eqb, List, ◌++◌, Option, Some, Ok, refl, subst, ◌∙◌, append_assoc, arith}
 use Rattle.std.specs.Prelude.{option_map}
 use Rattle.std.proofs.lemmas.Bool.{ne_eqb}
-use Rattle.det_cbor.specs.DataItem.{DataItem, UnsignedInteger, NegativeInteger, ByteString, TextString, ArrayOf, MapOf, TaggedItem, Boolean, NullItem, DataPairs, NoPairs, PairThen, pair_count, spell, spell_pairs, IsValidWithin, ArePairsWithin}
+use Rattle.det_cbor.specs.DataItem.{DataItem, UnsignedInteger, DataPairs, NoPairs, PairThen, pair_count, spell, spell_pairs, IsValidWithin, ArePairsWithin}
 use Rattle.det_cbor.specs.HeadSpelling.{spelled}
 use Rattle.det_cbor.specs.ItemOrder.{spell_parts}
 use Rattle.det_cbor.specs.Position.{Position}

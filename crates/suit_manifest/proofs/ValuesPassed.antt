@@ -2,7 +2,7 @@
 use Rattle.std.proofs.Common.{◌≡◌, ℕ, ◌-◌, List, ◌++◌, length, Ok, refl, ap, arith}
 use Rattle.std.proofs.lemmas.List.{length-append}
 use Rattle.det_cbor.specs.Heads.{head_bytes}
-use Rattle.det_cbor.specs.DataItem.{DataItem, UnsignedInteger, NegativeInteger, ByteString, TextString, ArrayOf, MapOf, TaggedItem, Boolean, NullItem, spell, IsValidWithin}
+use Rattle.det_cbor.specs.DataItem.{DataItem, UnsignedInteger, ByteString, TextString, spell, IsValidWithin}
 use Rattle.det_cbor.specs.Position.{Position}
 use Rattle.suit_params.specs.Reading.{inside}
 use Rattle.suit_params.specs.HeadLaws.{item_head_read, bytes_again, after}

@@ -35,7 +35,7 @@ NumbersAscend (e ∷ es) =
 -- those of that item's spelling, and bytes that say it are that spelling. Manifests that are equal places apart are
 -- written alike. And the keys of a map are in order
 pub record ManifestLaws : Type 0 where
-  pub reading_laws : (place : ℕ) (x : DataItem) → IsValid x
+  pub one_reading : (place : ℕ) (x : DataItem) → IsValid x
       → HasOneManifest place x ⊎ HasOneRefusal place x
   pub grammatical : (place : ℕ) (x : DataItem) (m : Manifest) → IsManifest place x m
       → IsGrammatical m

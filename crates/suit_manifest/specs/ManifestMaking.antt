@@ -27,6 +27,11 @@ abbrev pub row_pairs : List Row → DataPairs
 row_pairs [] = NoPairs
 row_pairs (r ∷ rs) = pair_then r.0 r.1 (row_pairs rs)
 
+-- how many pairs a row has
+abbrev pub pairs_of : Option DataItem → ℕ
+pairs_of None = 0
+pairs_of (Some value) = 1
+
 -- where the next key is spelled
 abbrev pub after_row : ℕ → ℕ → Option DataItem → ℕ
 after_row place key None = place

@@ -8,7 +8,9 @@ use Rattle.suit_commands.specs.Allowed.{levels_allowed}
 use Rattle.suit_commands.specs.Sequences.{SaysSequence}
 use Rattle.suit_commands.specs.SequenceFaults.{RefusesSequence}
 use Rattle.suit_envelope.specs.Envelopes.{EnvelopeSays}
-use Rattle.suit_envelope.specs.Members.{string_digest}
+use Rattle.suit_envelope.specs.Members.{member_of, string_digest}
+use Rattle.suit_envelope.specs.Said.{said_by}
+use Rattle.suit_envelope.specs.declared.envelope.Envelope.{Envelope}
 use Rattle.suit_envelope.specs.declared.severed.MemberName.{MemberName}
 use Rattle.suit_envelope.specs.declared.severed.MemberName.TheVariants as names
 use Rattle.suit_manifest.specs.declared.manifest.Manifest.{Manifest}
@@ -20,6 +22,9 @@ use Rattle.suit_manifest.specs.declared.members.MemberFault.TheVariants.{Severed
 use Rattle.suit_manifest.specs.Manifests.{count_said}
 
 -- ---- one member: the content that the envelope holds for it, if any, and its place there
+
+abbrev pub held_in : Envelope → MemberName → Option (List ℕ)
+held_in envelope name = member_of (said_by envelope) name
 
 -- the member in the envelope has the stated digest, and is this sequence
 pub record IsTaken (count : ℕ) (held : Option (List ℕ)) (place : ℕ) (stated : Digest)

@@ -18,22 +18,24 @@ member_tree Empty apart = NoSteps
 member_tree (Here s) apart = s
 member_tree (Apart digest) apart = tree_or_empty apart
 
--- payload-fetch, install and validate, each behind the shared sequence
-abbrev pub update_tree : Manifest → Members → PlanTree
-update_tree manifest members = record {
+-- three members, each behind the manifest's shared sequence
+abbrev pub behind_shared : Manifest → SequenceTree → SequenceTree → SequenceTree → PlanTree
+behind_shared manifest first second third = record {
   shared = tree_or_empty manifest.shared;
-  first = member_tree manifest.payload_fetch members.payload_fetch;
-  second = member_tree manifest.install members.install;
-  third = tree_or_empty manifest.validate;
+  first = first;
+  second = second;
+  third = third;
   count = count_said manifest;
 }
 
--- validate, load and invoke, each behind the shared sequence
+-- payload-fetch, install and validate
+abbrev pub update_tree : Manifest → Members → PlanTree
+update_tree manifest members =
+    behind_shared manifest (member_tree manifest.payload_fetch members.payload_fetch)
+    (member_tree manifest.install members.install) (tree_or_empty manifest.validate)
+
+-- validate, load and invoke
 abbrev pub invocation_tree : Manifest → PlanTree
-invocation_tree manifest = record {
-  shared = tree_or_empty manifest.shared;
-  first = tree_or_empty manifest.validate;
-  second = tree_or_empty manifest.load;
-  third = tree_or_empty manifest.invoke;
-  count = count_said manifest;
-}
+invocation_tree manifest =
+    behind_shared manifest (tree_or_empty manifest.validate) (tree_or_empty manifest.load)
+    (tree_or_empty manifest.invoke)

@@ -24,24 +24,16 @@ pub fn encode_manifest(alloc: Global, manifest: &Manifest) -> Result<Bytes, Allo
     ensures fits { IfOk result (λ _. ManifestFits manifest.now) }
 {
     let mut out = Bytes::new(alloc);
-    push_manifest(alloc, &mut out, manifest)?;
+    push_map(&mut out, manifest_count(manifest))?;
+    push_start(alloc, &mut out, manifest)?;
+    push_reference(&mut out, 4, &manifest.reference)?;
+    push_held(alloc, &mut out, 7, &manifest.validate)?;
+    push_held(alloc, &mut out, 8, &manifest.load)?;
+    push_held(alloc, &mut out, 9, &manifest.invoke)?;
+    push_severed(alloc, &mut out, 16, &manifest.payload_fetch)?;
+    push_severed(alloc, &mut out, 20, &manifest.install)?;
+    push_text_member(&mut out, 23, &manifest.text)?;
     Ok(out)
-}
-
-fn push_manifest(alloc: Global, out: &mut Bytes, manifest: &Manifest) -> Result<(), AllocError>
-    ensures ok { OnOk result (out.new ≡ out.old ++ spell (manifest_item manifest.now)) }
-    ensures fits { OnOk result (ManifestFits manifest.now) }
-{
-    push_map(out, manifest_count(manifest))?;
-    push_start(alloc, out, manifest)?;
-    push_reference(out, 4, &manifest.reference)?;
-    push_held(alloc, out, 7, &manifest.validate)?;
-    push_held(alloc, out, 8, &manifest.load)?;
-    push_held(alloc, out, 9, &manifest.invoke)?;
-    push_severed(alloc, out, 16, &manifest.payload_fetch)?;
-    push_severed(alloc, out, 20, &manifest.install)?;
-    push_text_member(out, 23, &manifest.text)?;
-    Ok(())
 }
 
 // Adds the three pairs that each manifest has.

@@ -29,20 +29,13 @@ pub(crate) struct Later {
 pub(crate) fn read_later(alloc: Global, values: LaterValues<'_>, count: u32) -> Result<Later, Fault>
     ensures { Gives (λ l. l) result (later_from count values.entry) }
 {
-    let reference = read_reference(alloc, values.reference)?;
-    let validate = read_optional(alloc, values.validate, false, count)?;
-    let load = read_optional(alloc, values.load, false, count)?;
-    let invoke = read_optional(alloc, values.invoke, false, count)?;
-    let payload_fetch = read_member(alloc, values.payload_fetch, count)?;
-    let install = read_member(alloc, values.install, count)?;
-    let text = read_text_member(alloc, values.text)?;
     Ok(Later {
-        reference,
-        validate,
-        load,
-        invoke,
-        payload_fetch,
-        install,
-        text,
+        reference: read_reference(alloc, values.reference)?,
+        validate: read_optional(alloc, values.validate, false, count)?,
+        load: read_optional(alloc, values.load, false, count)?,
+        invoke: read_optional(alloc, values.invoke, false, count)?,
+        payload_fetch: read_member(alloc, values.payload_fetch, count)?,
+        install: read_member(alloc, values.install, count)?,
+        text: read_text_member(alloc, values.text)?,
     })
 }

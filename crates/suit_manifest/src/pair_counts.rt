@@ -1,8 +1,8 @@
 //! How many pairs a manifest's maps have.
 
-ghost use Rattle.std.specs.Prelude.{◌≡◌, ◌≤◌, ◌+◌, ℕ};
-ghost use Rattle.det_cbor.specs.DataItem.{DataPairs, pair_count};
-ghost use Rattle.suit_manifest.specs.ManifestMaking.{pair_then, row_pairs, text_item, held_item, severed_item, text_member_item, common_rows, manifest_rows};
+ghost use Rattle.std.specs.Prelude.{◌≡◌};
+ghost use Rattle.det_cbor.specs.DataItem.{pair_count};
+ghost use Rattle.suit_manifest.specs.ManifestMaking.{pairs_of, row_pairs, text_item, held_item, severed_item, text_member_item, common_rows, manifest_rows};
 
 use crate::{Manifest, Member, TextMember};
 use det_cbor::Text;
@@ -10,9 +10,7 @@ use suit_commands::Sequence;
 
 // 1 if there is a sequence, else 0. The next three do the same for their values.
 fn held_count(sequence: &Option<Sequence>) -> u64
-    ensures is { (key : ℕ) (others : DataPairs)
-        → pair_count (pair_then key (held_item sequence.now) others) ≡ pair_count others + result }
-    ensures small { result ≤ 1 }
+    ensures { result ≡ pairs_of (held_item sequence.now) }
 {
     match sequence {
         Some(_) => 1,
@@ -21,9 +19,7 @@ fn held_count(sequence: &Option<Sequence>) -> u64
 }
 
 fn reference_count(reference: &Option<Text>) -> u64
-    ensures is { (key : ℕ) (others : DataPairs)
-        → pair_count (pair_then key (text_item reference.now) others) ≡ pair_count others + result }
-    ensures small { result ≤ 1 }
+    ensures { result ≡ pairs_of (text_item reference.now) }
 {
     match reference {
         Some(_) => 1,
@@ -32,9 +28,7 @@ fn reference_count(reference: &Option<Text>) -> u64
 }
 
 fn severed_count(member: &Member) -> u64
-    ensures is { (key : ℕ) (others : DataPairs)
-        → pair_count (pair_then key (severed_item member.now) others) ≡ pair_count others + result }
-    ensures small { result ≤ 1 }
+    ensures { result ≡ pairs_of (severed_item member.now) }
 {
     match member {
         Member::Empty => 0,
@@ -43,10 +37,7 @@ fn severed_count(member: &Member) -> u64
 }
 
 fn text_count(text: &TextMember) -> u64
-    ensures is { (key : ℕ) (others : DataPairs)
-        → pair_count (pair_then key (text_member_item text.now) others)
-        ≡ pair_count others + result }
-    ensures small { result ≤ 1 }
+    ensures { result ≡ pairs_of (text_member_item text.now) }
 {
     match text {
         TextMember::Empty => 0,
@@ -55,6 +46,7 @@ fn text_count(text: &TextMember) -> u64
 }
 
 /// The pairs of the common part.
+#[tactic(auto, using(crate::proofs::RowCounts::row_counted, crate::proofs::RowCounts::few_pairs))]
 pub(crate) fn common_count(manifest: &Manifest) -> u64
     ensures { result ≡ pair_count (row_pairs (common_rows manifest.now)) }
 {
@@ -62,6 +54,7 @@ pub(crate) fn common_count(manifest: &Manifest) -> u64
 }
 
 /// The pairs of the manifest.
+#[tactic(auto, using(crate::proofs::RowCounts::row_counted, crate::proofs::RowCounts::few_pairs))]
 pub(crate) fn manifest_count(manifest: &Manifest) -> u64
     ensures { result ≡ pair_count (row_pairs (manifest_rows manifest.now)) }
 {

@@ -3,10 +3,8 @@
 ghost use Rattle.std.specs.Prelude.{◌<◌, ◌^◌, ◌+◌, false, length, IfOk, IfErr};
 ghost use Rattle.suit_params.specs.Refusing.{SaysWhole};
 ghost use Rattle.suit_commands.specs.Sequences.{SaysSequence};
-ghost use Rattle.suit_envelope.specs.Members.{member_of};
 ghost use Rattle.suit_envelope.specs.Places.{EndsBelow};
-ghost use Rattle.suit_envelope.specs.Said.{said_by};
-ghost use Rattle.suit_manifest.specs.MembersApart.{IsTaken, HasMember, LacksTaken, LacksMember, RefusesContent, IsLackBy};
+ghost use Rattle.suit_manifest.specs.MembersApart.{held_in, IsTaken, HasMember, LacksTaken, LacksMember, RefusesContent, IsLackBy};
 
 use crate::{Member, MemberFault};
 use std::alloc::Global;
@@ -37,12 +35,10 @@ fn taken(
     stated: &Digest,
     count: u32,
 ) -> Result<Sequence, MemberFault>
-    requires { EndsBelow (2 ^ 64) (member_of (said_by envelope.now) name) place }
-    ensures ok { IfOk result
-        (IsTaken count (member_of (said_by envelope.now) name) place stated.now) }
+    requires { EndsBelow (2 ^ 64) (held_in envelope.now name) place }
+    ensures ok { IfOk result (IsTaken count (held_in envelope.now name) place stated.now) }
     ensures refused { IfErr result
-        (IsLackBy
-        (LacksTaken name count (member_of (said_by envelope.now) name) place stated.now)) }
+        (IsLackBy (LacksTaken name count (held_in envelope.now name) place stated.now)) }
 {
     match member(envelope, name, stated) {
         MemberBytes::Got(content) => decoded(alloc, content, place, count),
@@ -64,12 +60,10 @@ pub(crate) fn apart(
     member: &Member,
     count: u32,
 ) -> Result<Option<Sequence>, MemberFault>
-    requires { EndsBelow (2 ^ 64) (member_of (said_by envelope.now) name) place }
-    ensures ok { IfOk result
-        (HasMember count (member_of (said_by envelope.now) name) place member.now) }
+    requires { EndsBelow (2 ^ 64) (held_in envelope.now name) place }
+    ensures ok { IfOk result (HasMember count (held_in envelope.now name) place member.now) }
     ensures refused { IfErr result
-        (IsLackBy
-        (LacksMember name count (member_of (said_by envelope.now) name) place member.now)) }
+        (IsLackBy (LacksMember name count (held_in envelope.now name) place member.now)) }
 {
     match member {
         Member::Empty => Ok(None),
