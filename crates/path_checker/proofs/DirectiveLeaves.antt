@@ -4,6 +4,7 @@ use Rattle.std.specs.Prelude.{◌⊎◌, is_some, IsTrue}
 use Rattle.std.proofs.lemmas.List.{append-nil}
 use Rattle.suit_params.specs.declared.digest.Digest.{Digest}
 use Rattle.suit_params.specs.declared.param.Param.{Param}
+use Rattle.suit_params.specs.declared.param.ParamKey.{ParamKey}
 use Rattle.suit_params.specs.declared.param.ParamKey.TheVariants as keys
 use Rattle.suit_params.specs.InForce.{Parameters, in_force, with_param, overridden, number_of, bytes_of, digest_in, size_in}
 use Rattle.suit_commands.specs.declared.kinds.ActKind.{ActKind}
@@ -58,25 +59,31 @@ Adds-ended course p k n same f = record {
   explores = Explores-same k (Only (Failed p ∷ []) (Directive p)) course [] [] same (Explores-ends k (Failed p ∷ []) p (tt, tt));
 }
 
+-- one that writes where bytes are in force under a key
+abbrev writes_bytes : ParamKey → ℕ → ℕ → Kept → Course
+writes_bytes key p c k ids s = Writes p (bytes_of (in_force k.state.parameters c key)) (λ bytes. Wrote c ∷ []) k.state
+
+Adds-bytes : (course : Course) (key : ParamKey) (p c : ℕ) (k : Kept) (ps : Parameters) (n n' : List Kept) → Same k (writes_bytes key p c k) course → ps ≡ k.state.parameters → is_some (bytes_of (in_force ps c key)) ≡ true → n' ≡ n ++ with_events k (Wrote c ∷ []) ∷ [] → (f : List Stopped) → Adds course (k ∷ []) n n' f f
+Adds-bytes course key p c k ps n n' is same some pushed =
+    let s = writes_at p k (bytes_of (in_force k.state.parameters c key)) (λ bytes. Wrote c ∷ []) (Wrote c ∷ []) (subst (λ (q : Parameters). is_some (bytes_of (in_force q c key)) ≡ true) same some) (λ a e. refl) in
+    Adds-writing course p k (Wrote c ∷ []) n n' (record { there = λ ids al es e r. is.there ids al es e (s.there ids al es e r); back = λ ids al es e r. s.back ids al es e (is.back ids al es e r) }) (tt, tt) (tt, (tt, tt)) pushed
+
+Adds-no_bytes : (course : Course) (key : ParamKey) (p c : ℕ) (k : Kept) (ps : Parameters) (n : List Kept) → Same k (writes_bytes key p c k) course → ps ≡ k.state.parameters → is_some (bytes_of (in_force ps c key)) ≡ false → (f : List Stopped) → Adds course (k ∷ []) n n f f
+Adds-no_bytes course key p c k ps n is same none =
+    let s = no_writes_at p k (bytes_of (in_force k.state.parameters c key)) (λ bytes. Wrote c ∷ []) (subst (λ (q : Parameters). is_some (bytes_of (in_force q c key)) ≡ false) same none) in
+    Adds-ended course p k n (record { there = λ ids al es e r. is.there ids al es e (s.there ids al es e r); back = λ ids al es e r. s.back ids al es e (is.back ids al es e r) })
+
 pub Adds-write : (p c : ℕ) (k : Kept) (ps : Parameters) (n n' : List Kept) → ps ≡ k.state.parameters → is_some (bytes_of (in_force ps c keys.Content)) ≡ true → n' ≡ n ++ with_events k (Wrote c ∷ []) ∷ [] → (f : List Stopped) → Adds (acts_course acts.Write p c) (k ∷ []) n n' f f
-Adds-write p c k ps n n' same some pushed =
-    let s = writes_at p k (bytes_of (in_force k.state.parameters c keys.Content)) (λ content. Wrote c ∷ []) (Wrote c ∷ []) (subst (λ (q : Parameters). is_some (bytes_of (in_force q c keys.Content)) ≡ true) same some) (λ a e. refl) in
-    Adds-writing (acts_course acts.Write p c) p k (Wrote c ∷ []) n n' (record { there = s.there; back = s.back }) (tt, tt) (tt, (tt, tt)) pushed
+Adds-write p c k ps n n' = Adds-bytes (acts_course acts.Write p c) keys.Content p c k ps n n' (record { there = λ ids al es e r. r; back = λ ids al es e r. r })
 
 pub Adds-no_write : (p c : ℕ) (k : Kept) (ps : Parameters) (n : List Kept) → ps ≡ k.state.parameters → is_some (bytes_of (in_force ps c keys.Content)) ≡ false → (f : List Stopped) → Adds (acts_course acts.Write p c) (k ∷ []) n n f f
-Adds-no_write p c k ps n same none =
-    let s = no_writes_at p k (bytes_of (in_force k.state.parameters c keys.Content)) (λ content. Wrote c ∷ []) (subst (λ (q : Parameters). is_some (bytes_of (in_force q c keys.Content)) ≡ false) same none) in
-    Adds-ended (acts_course acts.Write p c) p k n (record { there = s.there; back = s.back })
+Adds-no_write p c k ps n = Adds-no_bytes (acts_course acts.Write p c) keys.Content p c k ps n (record { there = λ ids al es e r. r; back = λ ids al es e r. r })
 
 pub Adds-fetch : (p c : ℕ) (k : Kept) (ps : Parameters) (n n' : List Kept) → ps ≡ k.state.parameters → is_some (bytes_of (in_force ps c keys.Uri)) ≡ true → n' ≡ n ++ with_events k (Wrote c ∷ []) ∷ [] → (f : List Stopped) → Adds (acts_course acts.Fetch p c) (k ∷ []) n n' f f
-Adds-fetch p c k ps n n' same some pushed =
-    let s = writes_at p k (bytes_of (in_force k.state.parameters c keys.Uri)) (λ uri. Wrote c ∷ []) (Wrote c ∷ []) (subst (λ (q : Parameters). is_some (bytes_of (in_force q c keys.Uri)) ≡ true) same some) (λ a e. refl) in
-    Adds-writing (acts_course acts.Fetch p c) p k (Wrote c ∷ []) n n' (record { there = s.there; back = s.back }) (tt, tt) (tt, (tt, tt)) pushed
+Adds-fetch p c k ps n n' = Adds-bytes (acts_course acts.Fetch p c) keys.Uri p c k ps n n' (record { there = λ ids al es e r. r; back = λ ids al es e r. r })
 
 pub Adds-no_fetch : (p c : ℕ) (k : Kept) (ps : Parameters) (n : List Kept) → ps ≡ k.state.parameters → is_some (bytes_of (in_force ps c keys.Uri)) ≡ false → (f : List Stopped) → Adds (acts_course acts.Fetch p c) (k ∷ []) n n f f
-Adds-no_fetch p c k ps n same none =
-    let s = no_writes_at p k (bytes_of (in_force k.state.parameters c keys.Uri)) (λ uri. Wrote c ∷ []) (subst (λ (q : Parameters). is_some (bytes_of (in_force q c keys.Uri)) ≡ false) same none) in
-    Adds-ended (acts_course acts.Fetch p c) p k n (record { there = s.there; back = s.back })
+Adds-no_fetch p c k ps n = Adds-no_bytes (acts_course acts.Fetch p c) keys.Uri p c k ps n (record { there = λ ids al es e r. r; back = λ ids al es e r. r })
 
 pub Adds-copy : (p c source : ℕ) (k : Kept) (ps : Parameters) (n n' : List Kept) → ps ≡ k.state.parameters → Some source ≡ number_of (in_force ps c keys.Source) → n' ≡ n ++ with_events k (Wrote c ∷ []) ∷ [] → (f : List Stopped) → Adds (acts_course acts.Copy p c) (k ∷ []) n n' f f
 Adds-copy p c source k ps n n' same some pushed =

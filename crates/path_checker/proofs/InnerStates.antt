@@ -1,5 +1,5 @@
 -- Which states inner sequences begin with, and which they leave.
-use Rattle.std.proofs.Common.{◌≡◌, ℕ, Bool, true, false, List, [], ◌∷◌, refl, ap, ◌∙◌, subst, inl, inr}
+use Rattle.std.proofs.Common.{◌≡◌, ℕ, Bool, true, false, List, [], ◌∷◌, ◌++◌, refl, sym, ap, subst, inl, inr}
 use Rattle.path_model.specs.Behaviour.{State}
 use Rattle.path_checker.specs.Exploring.{In, Kept, Stopped}
 use Rattle.path_checker.specs.Inner.{entered, all_entered, left, all_left, resumed, hardened, if_soft, if_hard, softly, hardly, restarted, all_restarted}
@@ -35,29 +35,35 @@ restarted-from to [] h = absurd h
 restarted-from to (x ∷ ks) (inl e) = (x, inl refl, e)
 restarted-from to (x ∷ ks) (inr h) = let y = restarted-from to ks h in (y.0, inr y.1, y.2)
 
--- ---- failures
+-- ---- failures, each of which gives some
+
+module _ {B : Type 0} (pick : Stopped → List B) (all : List Stopped → List B) (none : all [] ≡ []) (step : (x : Stopped) (fs : List Stopped) → all (x ∷ fs) ≡ pick x ++ all fs) (to : B) where
+  In-picked : (f : Stopped) → In to (pick f) → (fs : List Stopped) → In f fs → In to (all fs)
+  In-picked f here [] h = absurd h
+  In-picked f here (x ∷ fs) (inl p) = subst (In to) (sym (step x fs)) (In-left to (pick x) (all fs) (subst (λ (y : Stopped). In to (pick y)) (sym p) here))
+  In-picked f here (x ∷ fs) (inr h) = subst (In to) (sym (step x fs)) (In-right to (pick x) (all fs) (In-picked f here fs h))
+
+  picked-from : (fs : List Stopped) → In to (all fs) → (f : Stopped) × In f fs × In to (pick f)
+  picked-from [] h = absurd (subst (In to) none h)
+  picked-from (x ∷ fs) h =
+      elim (In-cases to (pick x) (all fs) (subst (In to) (step x fs) h)) [
+        | inl a ↦ (x, inl refl, a)
+        | inr b ↦ let y = picked-from fs b in (y.0, inr y.1, y.2)
+      ]
 
 if_soft-in : (s : State) (f : Stopped) (b : Bool) → b ≡ true → In (resumed s f) (if_soft s f b)
 if_soft-in s f true e = inl refl
 if_soft-in s f false e = absurd cc
 
 pub In-softly : (s : State) (f : Stopped) (fs : List Stopped) → In f fs → f.soft_failure ≡ true → In (resumed s f) (softly s fs)
-In-softly s f [] h e = absurd h
-In-softly s f (x ∷ fs) (inl p) e =
-    let here : In (resumed s x) (if_soft s x x.soft_failure) = if_soft-in s x x.soft_failure (ap (λ (y : Stopped). y.soft_failure) p ∙ e) in
-    In-left (resumed s f) (if_soft s x x.soft_failure) (softly s fs) (subst (λ (y : Stopped). In (resumed s y) (if_soft s x x.soft_failure)) p here)
-In-softly s f (x ∷ fs) (inr h) e = In-right (resumed s f) (if_soft s x x.soft_failure) (softly s fs) (In-softly s f fs h e)
+In-softly s f fs h e = In-picked (λ x. if_soft s x x.soft_failure) (softly s) refl (λ x xs. refl) (resumed s f) f (if_soft-in s f f.soft_failure e) fs h
 
 if_hard-in : (s : State) (f : Stopped) (b : Bool) → b ≡ false → In (hardened s f) (if_hard s f b)
 if_hard-in s f true e = absurd cc
 if_hard-in s f false e = inl refl
 
 pub In-hardly : (s : State) (f : Stopped) (fs : List Stopped) → In f fs → f.soft_failure ≡ false → In (hardened s f) (hardly s fs)
-In-hardly s f [] h e = absurd h
-In-hardly s f (x ∷ fs) (inl p) e =
-    let here : In (hardened s x) (if_hard s x x.soft_failure) = if_hard-in s x x.soft_failure (ap (λ (y : Stopped). y.soft_failure) p ∙ e) in
-    In-left (hardened s f) (if_hard s x x.soft_failure) (hardly s fs) (subst (λ (y : Stopped). In (hardened s y) (if_hard s x x.soft_failure)) p here)
-In-hardly s f (x ∷ fs) (inr h) e = In-right (hardened s f) (if_hard s x x.soft_failure) (hardly s fs) (In-hardly s f fs h e)
+In-hardly s f fs h e = In-picked (λ x. if_hard s x x.soft_failure) (hardly s) refl (λ x xs. refl) (hardened s f) f (if_hard-in s f f.soft_failure e) fs h
 
 if_soft-from : (s : State) (f : Stopped) (b : Bool) (to : Kept) → In to (if_soft s f b) → (b ≡ true) × (resumed s f ≡ to)
 if_soft-from s f true to (inl e) = (refl, e)
@@ -65,12 +71,9 @@ if_soft-from s f true to (inr n) = absurd n
 if_soft-from s f false to h = absurd h
 
 pub softly-from : (s : State) (fs : List Stopped) (to : Kept) → In to (softly s fs) → (f : Stopped) × In f fs × (f.soft_failure ≡ true) × (resumed s f ≡ to)
-softly-from s [] to h = absurd h
-softly-from s (x ∷ fs) to h =
-    elim (In-cases to (if_soft s x x.soft_failure) (softly s fs) h) [
-      | inl a ↦ let y = if_soft-from s x x.soft_failure to a in (x, inl refl, y.0, y.1)
-      | inr b ↦ let y = softly-from s fs to b in (y.0, inr y.1, y.2, y.3)
-    ]
+softly-from s fs to h =
+    let y = picked-from (λ x. if_soft s x x.soft_failure) (softly s) refl (λ x xs. refl) to fs h in
+    let z = if_soft-from s y.0 y.0.soft_failure to y.2 in (y.0, y.1, z.0, z.1)
 
 if_hard-from : (s : State) (f : Stopped) (b : Bool) (to : Stopped) → In to (if_hard s f b) → (b ≡ false) × (hardened s f ≡ to)
 if_hard-from s f true to h = absurd h
@@ -78,9 +81,6 @@ if_hard-from s f false to (inl e) = (refl, e)
 if_hard-from s f false to (inr n) = absurd n
 
 pub hardly-from : (s : State) (fs : List Stopped) (to : Stopped) → In to (hardly s fs) → (f : Stopped) × In f fs × (f.soft_failure ≡ false) × (hardened s f ≡ to)
-hardly-from s [] to h = absurd h
-hardly-from s (x ∷ fs) to h =
-    elim (In-cases to (if_hard s x x.soft_failure) (hardly s fs) h) [
-      | inl a ↦ let y = if_hard-from s x x.soft_failure to a in (x, inl refl, y.0, y.1)
-      | inr b ↦ let y = hardly-from s fs to b in (y.0, inr y.1, y.2, y.3)
-    ]
+hardly-from s fs to h =
+    let y = picked-from (λ x. if_hard s x x.soft_failure) (hardly s) refl (λ x xs. refl) to fs h in
+    let z = if_hard-from s y.0 y.0.soft_failure to y.2 in (y.0, y.1, z.0, z.1)

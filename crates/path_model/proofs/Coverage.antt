@@ -19,11 +19,7 @@ use Rattle.path_model.proofs.Refuting.{EndsUncovered-not_covered, IsBadPath-not_
 -- ---- events at indices
 
 the_event : (e f : Event) → Some e ≡ Some f → e ≡ f
-the_event e f same = λ i. or_else (same i)
-  where
-    or_else : Option Event → Event
-    or_else (Some found) = found
-    or_else _ = e
+the_event e f same = cc
 
 IsQuietAt : ℕ → List Event → Type 0
 IsQuietAt c events = (i : ℕ) → slice_get events i ≢ Some (Wrote c)

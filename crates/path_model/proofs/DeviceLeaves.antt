@@ -6,6 +6,7 @@ use lib.Pointwise.{bytes_decides}
 use Rattle.std.specs.Prelude.{slice_get}
 use Rattle.std.specs.Str.{bytes_eq}
 use Rattle.suit_params.specs.declared.digest.Digest.{Digest}
+use Rattle.suit_params.specs.declared.param.ParamKey.{ParamKey}
 use Rattle.suit_params.specs.declared.param.ParamKey.TheVariants as keys
 use Rattle.suit_params.specs.InForce.{in_force, identifier_of, number_of, bytes_of, digest_in, size_in}
 use Rattle.suit_commands.specs.declared.kinds.TestKind.{TestKind}
@@ -13,16 +14,17 @@ use Rattle.suit_commands.specs.declared.kinds.TestKind.TheVariants as tests
 use Rattle.suit_commands.specs.declared.kinds.ActKind.{ActKind}
 use Rattle.suit_commands.specs.declared.kinds.ActKind.TheVariants as acts
 use Rattle.suit_commands.specs.Tree.{PlanTree}
+use Rattle.path_model.specs.declared.identity.Identity.{Identity}
 use Rattle.path_model.specs.declared.event.Event.{Event}
 use Rattle.path_model.specs.declared.event.Event.TheVariants.{Tried, Matched, Missed, Wrote, Failed}
 use Rattle.path_model.specs.declared.cause.Cause.{Cause}
 use Rattle.path_model.specs.Behaviour.{State, Ending, Done, Directive, Behaviour}
-use Rattle.path_model.specs.Conditions.{IsMet, IsUnmet, IsAsWanted, Compares, vendor_of, class_of, device_of, slot_of, Matches, ChecksContent, Tests}
+use Rattle.path_model.specs.Conditions.{IsMet, IsUnmet, IsAsWanted, Compares, ComparesIdentifier, vendor_of, class_of, device_of, slot_of, Matches, ChecksContent, Tests}
 use Rattle.path_model.specs.Directives.{Writes, Invokes, Acts}
 use Rattle.path_model.specs.Path.{first_state, RunsPlan}
 use Rattle.path_model.specs.Settings.{Setting, payload_of}
 use Rattle.path_model.specs.Plays.{Outcome}
-use Rattle.path_model.specs.DevicePlays.{Device, content_at, tested, comparing, same_identifier, same_number, is_image, matched, matching, is_content, checking, condition_play, Change, Made, Refused, concluded, filled, fetched, copied, swapped, acted, ActIsCut, acting, WriteLeaves, FetchLeaves, SwapLeaves, invoking, directive_play, first_device, plan_play}
+use Rattle.path_model.specs.DevicePlays.{Device, content_at, tested, comparing, comparing_identifier, same_identifier, same_number, is_image, matched, matching, is_content, checking, condition_play, Change, Made, Refused, concluded, filled, fetched, copied, swapped, acted, ActIsCut, acting, WriteLeaves, FetchLeaves, SwapLeaves, invoking, directive_play, first_device, plan_play}
 use Rattle.path_model.specs.PlayLaws.{PlayRuns, FaultedIsPath}
 use Rattle.path_model.proofs.PlaysRun.{Begins, Follows, other_run, procedure_follows}
 
@@ -155,22 +157,17 @@ invoking_follows p c = record {
 -- ---- each of them
 
 module _ (setting : Setting) where
+  identifiers_follow : (kind : TestKind) (key : ParamKey) (own_of : Option Identity → Option (List ℕ)) (p c : ℕ) → Follows Device (ComparesIdentifier kind key own_of setting.identities p c) (comparing_identifier kind key own_of setting p c)
+  identifiers_follow kind key own_of p c =
+      let own = own_of (slice_get setting.identities c) in
+      let wanted : State → Option (List ℕ) = λ s. identifier_of (in_force s.parameters c key) in
+      other_run Device (λ s. Compares p kind c (wanted s) own s) (ComparesIdentifier kind key own_of setting.identities p c) (comparing_identifier kind key own_of setting p c) (λ s es e r. r)
+      (comparing_follows p kind c wanted own (λ s. same_identifier (wanted s) own) (λ s. identifier_is (wanted s) own) (λ s. is_identifier (wanted s) own))
+
   tests_follow : (kind : TestKind) (p c : ℕ) → Follows Device (Tests kind setting.identities p c) (condition_play setting kind p c)
-  tests_follow tests.Vendor p c =
-      let own = vendor_of (slice_get setting.identities c) in
-      let wanted : State → Option (List ℕ) = λ s. identifier_of (in_force s.parameters c keys.Vendor) in
-      other_run Device (λ s. Compares p tests.Vendor c (wanted s) own s) (Tests tests.Vendor setting.identities p c) (condition_play setting tests.Vendor p c) (λ s es e r. r)
-      (comparing_follows p tests.Vendor c wanted own (λ s. same_identifier (wanted s) own) (λ s. identifier_is (wanted s) own) (λ s. is_identifier (wanted s) own))
-  tests_follow tests.Class p c =
-      let own = class_of (slice_get setting.identities c) in
-      let wanted : State → Option (List ℕ) = λ s. identifier_of (in_force s.parameters c keys.Class) in
-      other_run Device (λ s. Compares p tests.Class c (wanted s) own s) (Tests tests.Class setting.identities p c) (condition_play setting tests.Class p c) (λ s es e r. r)
-      (comparing_follows p tests.Class c wanted own (λ s. same_identifier (wanted s) own) (λ s. identifier_is (wanted s) own) (λ s. is_identifier (wanted s) own))
-  tests_follow tests.Device p c =
-      let own = device_of (slice_get setting.identities c) in
-      let wanted : State → Option (List ℕ) = λ s. identifier_of (in_force s.parameters c keys.Device) in
-      other_run Device (λ s. Compares p tests.Device c (wanted s) own s) (Tests tests.Device setting.identities p c) (condition_play setting tests.Device p c) (λ s es e r. r)
-      (comparing_follows p tests.Device c wanted own (λ s. same_identifier (wanted s) own) (λ s. identifier_is (wanted s) own) (λ s. is_identifier (wanted s) own))
+  tests_follow tests.Vendor p c = identifiers_follow tests.Vendor keys.Vendor vendor_of p c
+  tests_follow tests.Class p c = identifiers_follow tests.Class keys.Class class_of p c
+  tests_follow tests.Device p c = identifiers_follow tests.Device keys.Device device_of p c
   tests_follow tests.Slot p c =
       let own = slot_of (slice_get setting.identities c) in
       let wanted : State → Option ℕ = λ s. number_of (in_force s.parameters c keys.Slot) in

@@ -80,11 +80,7 @@ paths_begin plan ids front rest path = record {
 -- ---- identities
 
 the_same : (identity other : Identity) → Some identity ≡ Some other → identity ≡ other
-the_same identity other same = λ i. or_else (same i)
-  where
-    or_else : Option Identity → Identity
-    or_else (Some found) = found
-    or_else _ = identity
+the_same identity other same = cc
 
 holds_at : (P : Identity → Type 0) (ids : List Identity) (c : ℕ) (identity : Identity) → AllByRecursion P ids → slice_get ids c ≡ Some identity → P identity
 holds_at P [] c identity all is = absurd cc

@@ -1,17 +1,16 @@
 -- How plays end: by themselves, and where a fault cut them by the fault.
-use Rattle.std.proofs.Common.{◌≡◌, ℕ, true, false, List, [], ◌∷◌, Option, refl, ap, ◌∙◌, inl, inr}
+use Rattle.std.proofs.Common.{◌≡◌, ℕ, true, false, List, Option, refl, ap, ◌∙◌, inl, inr}
 use Rattle.suit_commands.specs.declared.kinds.TestKind.{TestKind}
 use Rattle.suit_commands.specs.declared.kinds.ActKind.{ActKind}
-use Rattle.suit_commands.specs.Tree.{CommandTree, Test, Act, Index, Override, TryEach, RunSequence, SequenceTree, NoSteps, StepThen, BranchesTree, NoBranches, BranchThen, NullThen, PlanTree}
+use Rattle.suit_commands.specs.Tree.{PlanTree}
 use Rattle.path_model.specs.declared.event.Event.{Event}
 use Rattle.path_model.specs.declared.cause.Cause.{Cause}
 use Rattle.path_model.specs.Behaviour.{State, Ending, Done, Condition, Directive}
 use Rattle.path_model.specs.Runs.{entry_state, after_run}
-use Rattle.path_model.specs.Path.{start_state}
 use Rattle.path_model.specs.Settings.{Setting}
-use Rattle.path_model.specs.Plays.{Outcome, Play, going_on, NextIsCut, in_turn, each, each_selected, overriding, running_inner, after_trying, OtherIsCut, sequence_play, command_play, branches_play, starting, procedure}
+use Rattle.path_model.specs.Plays.{Outcome, Play, going_on, NextIsCut, in_turn, after_trying, OtherIsCut, procedure}
 use Rattle.path_model.specs.PlayLaws.{EndsSo, EndsByFault}
-use Rattle.path_model.proofs.Members.{by_members}
+use Rattle.path_model.proofs.Members.{OfParts, procedure_of}
 
 after_run_ends : (s : State) (e : Ending) (c : Option Cause) → EndsSo e c → EndsSo (after_run s e) c
 after_run_ends s (Done t) c h = h
@@ -61,59 +60,26 @@ module _ (World : Type 0) (setting : Setting) where
     ];
   }
 
-  each_ends : (at : ℕ → Play World) → ((c : ℕ) → Ends (at c)) → (cs : List ℕ) → Ends (each World at cs)
-  each_ends at f [] = record { whole = λ s w. refl; cut = λ s w o cut. absurd cut }
-  each_ends at f (c ∷ cs) = turn_ends (at c) (each World at cs) (f c) (each_ends at f cs)
-
-  selected_ends : (at : ℕ → Play World) → ((c : ℕ) → Ends (at c)) → Ends (each_selected World at)
-  selected_ends at f = record {
-    whole = λ s w. (each_ends at f s.selection).whole s w;
-    cut = λ s w o cut. (each_ends at f s.selection).cut s w o cut;
+  parts : OfParts World Ends
+  parts = record {
+    silent = λ next. record { whole = λ s w. refl; cut = λ s w o cut. absurd cut };
+    override = λ list c. record { whole = λ s w. refl; cut = λ s w o cut. absurd cut };
+    none_left = λ p. record { whole = λ s w. refl; cut = λ s w o cut. absurd cut };
+    turn = turn_ends;
+    moved = λ at from f. record { whole = λ s w. (f s).whole (from s) w; cut = λ s w o cut. (f s).cut (from s) w o cut };
+    inner = λ body f c. record {
+      whole = λ s w. let o = body.comes (entry_state s c false) w in after_run_ends s o.ending o.cause (f.whole (entry_state s c false) w);
+      cut = λ s w o cut. f.cut (entry_state s c false) w o cut;
+    };
+    branch = λ body others f g c. record {
+      whole = λ s w. let t = entry_state s c true in let o = body.comes t w in tries others g s o.events o.cause o.world o.ending (f.whole t w);
+      cut = λ s w o cut. let t = entry_state s c true in let a = body.comes t w in elim cut [
+        | inl now ↦ f.cut t w o now
+        | inr later ↦ tries_cut others g s a.events a.world a.ending o later
+      ];
+    };
   }
 
-  module _ (tests : TestKind → ℕ → ℕ → Play World) (acts : ActKind → ℕ → ℕ → Play World) (count : ℕ)
-      (tests_end : (kind : TestKind) (p c : ℕ) → Ends (tests kind p c)) (acts_end : (kind : ActKind) (p c : ℕ) → Ends (acts kind p c)) where
-    mutual
-      sequence_ends : (q : SequenceTree) → Ends (sequence_play World tests acts count q)
-      sequence_ends NoSteps = record { whole = λ s w. refl; cut = λ s w o cut. absurd cut }
-      sequence_ends (StepThen p command rest) =
-          turn_ends (command_play World tests acts count command p) (sequence_play World tests acts count rest) (command_ends command p) (sequence_ends rest)
-
-      command_ends : (command : CommandTree) (p : ℕ) → Ends (command_play World tests acts count command p)
-      command_ends (Test kind report) p = selected_ends (tests kind p) (tests_end kind p)
-      command_ends (Act kind report) p = selected_ends (acts kind p) (acts_end kind p)
-      command_ends (Index selection) p = record { whole = λ s w. refl; cut = λ s w o cut. absurd cut }
-      command_ends (Override list) p = selected_ends (overriding World list) (λ c. record { whole = λ s w. refl; cut = λ s w o cut. absurd cut })
-      command_ends (TryEach branches) p = selected_ends (branches_play World tests acts count branches p) (branches_end branches p)
-      command_ends (RunSequence inner) p =
-          let body : Play World = sequence_play World tests acts count inner in
-          let f = sequence_ends inner in
-          selected_ends (running_inner World body) (λ c. record {
-            whole = λ s w. let o = body.comes (entry_state s c false) w in after_run_ends s o.ending o.cause (f.whole (entry_state s c false) w);
-            cut = λ s w o cut. f.cut (entry_state s c false) w o cut;
-          })
-
-      branches_end : (branches : BranchesTree) (p c : ℕ) → Ends (branches_play World tests acts count branches p c)
-      branches_end NoBranches p c = record { whole = λ s w. refl; cut = λ s w o cut. absurd cut }
-      branches_end (NullThen rest) p c = record { whole = λ s w. refl; cut = λ s w o cut. absurd cut }
-      branches_end (BranchThen inner rest) p c =
-          let body : Play World = sequence_play World tests acts count inner in
-          let others : Play World = branches_play World tests acts count rest p c in
-          let f = sequence_ends inner in
-          let g = branches_end rest p c in
-          record {
-            whole = λ s w. let t = entry_state s c true in let o = body.comes t w in tries others g s o.events o.cause o.world o.ending (f.whole t w);
-            cut = λ s w o cut. let t = entry_state s c true in let a = body.comes t w in elim cut [
-              | inl now ↦ f.cut t w o now
-              | inr later ↦ tries_cut others g s a.events a.world a.ending o later
-            ];
-          }
-
-    starting_ends : (q : SequenceTree) → Ends (starting World tests acts count q)
-    starting_ends q = record {
-      whole = λ s w. (sequence_ends q).whole (start_state s) w;
-      cut = λ s w o cut. (sequence_ends q).cut (start_state s) w o cut;
-    }
-
-    pub procedure_ends : (plan : PlanTree) → Ends (procedure World tests acts count plan)
-    procedure_ends plan = by_members World tests acts count Ends starting_ends turn_ends plan
+  pub procedure_ends : (tests : TestKind → ℕ → ℕ → Play World) (acts : ActKind → ℕ → ℕ → Play World) (count : ℕ) → ((kind : TestKind) (p c : ℕ) → Ends (tests kind p c))
+      → ((kind : ActKind) (p c : ℕ) → Ends (acts kind p c)) → (plan : PlanTree) → Ends (procedure World tests acts count plan)
+  procedure_ends = procedure_of World Ends parts

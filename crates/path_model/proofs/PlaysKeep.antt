@@ -5,18 +5,17 @@ use Rattle.std.proofs.lemmas.List.{append-nil}
 use Rattle.suit_params.specs.declared.param.Param.{Param}
 use Rattle.suit_commands.specs.declared.kinds.TestKind.{TestKind}
 use Rattle.suit_commands.specs.declared.kinds.ActKind.{ActKind}
-use Rattle.suit_commands.specs.Tree.{CommandTree, Test, Act, Index, Override, TryEach, RunSequence, SequenceTree, NoSteps, StepThen, BranchesTree, NoBranches, BranchThen, NullThen, PlanTree}
+use Rattle.suit_commands.specs.Tree.{PlanTree}
 use Rattle.path_model.specs.declared.event.Event.{Event}
 use Rattle.path_model.specs.declared.event.Event.TheVariants.{Set}
 use Rattle.path_model.specs.declared.cause.Cause.{Cause}
 use Rattle.path_model.specs.Behaviour.{State, Ending, Done, Condition, Directive}
 use Rattle.path_model.specs.Directives.{set_events}
 use Rattle.path_model.specs.Runs.{entry_state}
-use Rattle.path_model.specs.Path.{start_state}
 use Rattle.path_model.specs.Following.{CoveredFrom}
-use Rattle.path_model.specs.Plays.{Outcome, Play, behind, going_on, NextIsCut, in_turn, each, each_selected, overriding, running_inner, after_trying, OtherIsCut, sequence_play, command_play, branches_play, starting, procedure}
+use Rattle.path_model.specs.Plays.{Outcome, Play, behind, going_on, NextIsCut, in_turn, after_trying, OtherIsCut, procedure}
 use Rattle.path_model.proofs.Coverage.{parts_covered}
-use Rattle.path_model.proofs.Members.{by_members}
+use Rattle.path_model.proofs.Members.{OfParts, procedure_of}
 
 module _ (World : Type 0) (Holds : List Event → World → Type 0) (sets : (past : List Event) (w : World) (c : ℕ) (p : Param) → Holds past w → Holds (past ++ Set c p ∷ []) w) where
   -- it still holds behind an outcome
@@ -74,65 +73,32 @@ module _ (World : Type 0) (Holds : List Event → World → Type 0) (sets : (pas
   silent : (past : List Event) (w : World) → Holds past w → Holds (past ++ []) w
   silent past w h = subst (λ (xs : List Event). Holds xs w) (sym (append-nil past)) h
 
-  each_keeps : (at : ℕ → Play World) → ((c : ℕ) → Keeps (at c)) → (cs : List ℕ) → Keeps (each World at cs)
-  each_keeps at f [] = record { whole = λ past s w h covered. silent past w h; cut = λ past s w o cut. absurd cut }
-  each_keeps at f (c ∷ cs) = turn_keeps (at c) (each World at cs) (f c) (each_keeps at f cs)
-
-  selected_keeps : (at : ℕ → Play World) → ((c : ℕ) → Keeps (at c)) → Keeps (each_selected World at)
-  selected_keeps at f = record {
-    whole = λ past s w. (each_keeps at f s.selection).whole past s w;
-    cut = λ past s w o cut. (each_keeps at f s.selection).cut past s w o cut;
-  }
-
   all_set : (past : List Event) (w : World) (c : ℕ) (list : List Param) → Holds past w → Holds (past ++ set_events c list) w
   all_set past w c [] h = silent past w h
   all_set past w c (p ∷ list) h =
       subst (λ (xs : List Event). Holds xs w) (append_assoc past (Set c p ∷ []) (set_events c list)) (all_set (past ++ Set c p ∷ []) w c list (sets past w c p h))
 
-  module _ (tests : TestKind → ℕ → ℕ → Play World) (acts : ActKind → ℕ → ℕ → Play World) (count : ℕ)
-      (tests_keep : (kind : TestKind) (p c : ℕ) → Keeps (tests kind p c)) (acts_keep : (kind : ActKind) (p c : ℕ) → Keeps (acts kind p c)) where
-    mutual
-      sequence_keeps : (q : SequenceTree) → Keeps (sequence_play World tests acts count q)
-      sequence_keeps NoSteps = record { whole = λ past s w h covered. silent past w h; cut = λ past s w o cut. absurd cut }
-      sequence_keeps (StepThen p command rest) =
-          turn_keeps (command_play World tests acts count command p) (sequence_play World tests acts count rest) (command_keeps command p) (sequence_keeps rest)
+  parts : OfParts World Keeps
+  parts = record {
+    silent = λ next. record { whole = λ past s w h covered. silent past w h; cut = λ past s w o cut. absurd cut };
+    override = λ list c. record { whole = λ past s w h covered. all_set past w c list h; cut = λ past s w o cut. absurd cut };
+    none_left = λ p. record { whole = λ past s w h covered. silent past w h; cut = λ past s w o cut. absurd cut };
+    turn = turn_keeps;
+    moved = λ at from f. record { whole = λ past s w. (f s).whole past (from s) w; cut = λ past s w o cut. (f s).cut past (from s) w o cut };
+    inner = λ body f c. record {
+      whole = λ past s w h. f.whole past (entry_state s c false) w h;
+      cut = λ past s w o cut h. f.cut past (entry_state s c false) w o cut h;
+    };
+    branch = λ body others f g c. record {
+      whole = λ past s w h. let t = entry_state s c true in let o = body.comes t w in
+          tries others g past s o.events o.cause o.world o.ending (f.whole past t w h);
+      cut = λ past s w o cut h. let t = entry_state s c true in let a = body.comes t w in elim cut [
+        | inl now ↦ f.cut past t w o now h
+        | inr later ↦ tries_cut others g past s a.events a.world a.ending o (f.whole past t w h) later
+      ];
+    };
+  }
 
-      command_keeps : (command : CommandTree) (p : ℕ) → Keeps (command_play World tests acts count command p)
-      command_keeps (Test kind report) p = selected_keeps (tests kind p) (tests_keep kind p)
-      command_keeps (Act kind report) p = selected_keeps (acts kind p) (acts_keep kind p)
-      command_keeps (Index selection) p = record { whole = λ past s w h covered. silent past w h; cut = λ past s w o cut. absurd cut }
-      command_keeps (Override list) p =
-          selected_keeps (overriding World list) (λ c. record { whole = λ past s w h covered. all_set past w c list h; cut = λ past s w o cut. absurd cut })
-      command_keeps (TryEach branches) p = selected_keeps (branches_play World tests acts count branches p) (branches_keep branches p)
-      command_keeps (RunSequence inner) p =
-          let f = sequence_keeps inner in
-          selected_keeps (running_inner World (sequence_play World tests acts count inner)) (λ c. record {
-            whole = λ past s w h. f.whole past (entry_state s c false) w h;
-            cut = λ past s w o cut h. f.cut past (entry_state s c false) w o cut h;
-          })
-
-      branches_keep : (branches : BranchesTree) (p c : ℕ) → Keeps (branches_play World tests acts count branches p c)
-      branches_keep NoBranches p c = record { whole = λ past s w h covered. silent past w h; cut = λ past s w o cut. absurd cut }
-      branches_keep (NullThen rest) p c = record { whole = λ past s w h covered. silent past w h; cut = λ past s w o cut. absurd cut }
-      branches_keep (BranchThen inner rest) p c =
-          let body : Play World = sequence_play World tests acts count inner in
-          let others : Play World = branches_play World tests acts count rest p c in
-          let f = sequence_keeps inner in
-          let g = branches_keep rest p c in
-          record {
-            whole = λ past s w h. let t = entry_state s c true in let o = body.comes t w in
-                tries others g past s o.events o.cause o.world o.ending (f.whole past t w h);
-            cut = λ past s w o cut h. let t = entry_state s c true in let a = body.comes t w in elim cut [
-              | inl now ↦ f.cut past t w o now h
-              | inr later ↦ tries_cut others g past s a.events a.world a.ending o (f.whole past t w h) later
-            ];
-          }
-
-    starting_keeps : (q : SequenceTree) → Keeps (starting World tests acts count q)
-    starting_keeps q = record {
-      whole = λ past s w h. (sequence_keeps q).whole past (start_state s) w h;
-      cut = λ past s w o cut h. (sequence_keeps q).cut past (start_state s) w o cut h;
-    }
-
-    pub procedure_keeps : (plan : PlanTree) → Keeps (procedure World tests acts count plan)
-    procedure_keeps plan = by_members World tests acts count Keeps starting_keeps turn_keeps plan
+  pub procedure_keeps : (tests : TestKind → ℕ → ℕ → Play World) (acts : ActKind → ℕ → ℕ → Play World) (count : ℕ) → ((kind : TestKind) (p c : ℕ) → Keeps (tests kind p c))
+      → ((kind : ActKind) (p c : ℕ) → Keeps (acts kind p c)) → (plan : PlanTree) → Keeps (procedure World tests acts count plan)
+  procedure_keeps = procedure_of World Keeps parts

@@ -296,23 +296,20 @@ launched past w c parameters covered v =
           (its_digest past w c (digest_in parameters c) (size_in parameters c) (bytes_of (in_force parameters c keys.Args)) covered v);
     }
 
+one_keeps : {A : Type 0} (p c : ℕ) (makes : A → Device → Change) (Leaves : A → Cause → Device → Device → Type 0) (wanted : State → Option A) → ((x : A) (w : Device) → Writes c w (makes x w))
+    → ((x : A) (cause : Cause) (w u : Device) → Leaves x cause w u → WrittenAt c w u) → KeepsIt (acting p wanted (λ x. Wrote c ∷ []) makes Leaves)
+unfolding Writes
+one_keeps p c makes Leaves wanted writes leaves =
+    acting_keeps p (λ x. Wrote c ∷ []) makes Leaves (λ past x w v. one_wrote past w (left_in (makes x w)) c (writes x w) v) (λ past x cause w u left v. one_wrote past w u c (leaves x cause w u left) v) wanted
+
 acts_keep : (setting : Setting) (kind : ActKind) (p c : ℕ) → KeepsIt (directive_play setting kind p c)
 unfolding Writes BothIn
 acts_keep setting acts.Write p c =
-    acting_keeps p (λ x. Wrote c ∷ []) (λ x. filled setting c x) (λ x. WriteLeaves setting c)
-    (λ past x w v. one_wrote past w (left_in (filled setting c x w)) c (filled_writes setting c x w) v)
-    (λ past x cause w u leaves v. one_wrote past w u c (write_leaves setting c cause w u leaves) v)
-    (λ s. bytes_of (in_force s.parameters c keys.Content))
+    one_keeps p c (λ x. filled setting c x) (λ x. WriteLeaves setting c) (λ s. bytes_of (in_force s.parameters c keys.Content)) (filled_writes setting c) (λ x. write_leaves setting c)
 acts_keep setting acts.Fetch p c =
-    acting_keeps p (λ x. Wrote c ∷ []) (λ x. fetched setting c (payload_of setting x)) (λ x. FetchLeaves setting x c)
-    (λ past x w v. one_wrote past w (left_in (fetched setting c (payload_of setting x) w)) c (fetched_writes setting c (payload_of setting x) w) v)
-    (λ past x cause w u leaves v. one_wrote past w u c (fetch_leaves setting x c cause w u leaves) v)
-    (λ s. bytes_of (in_force s.parameters c keys.Uri))
+    one_keeps p c (λ x. fetched setting c (payload_of setting x)) (λ x. FetchLeaves setting x c) (λ s. bytes_of (in_force s.parameters c keys.Uri)) (λ x. fetched_writes setting c (payload_of setting x)) (λ x. fetch_leaves setting x c)
 acts_keep setting acts.Copy p c =
-    acting_keeps p (λ x. Wrote c ∷ []) (λ x. copied setting c x) (λ x. WriteLeaves setting c)
-    (λ past x w v. one_wrote past w (left_in (copied setting c x w)) c (copied_writes setting c x w) v)
-    (λ past x cause w u leaves v. one_wrote past w u c (write_leaves setting c cause w u leaves) v)
-    (λ s. number_of (in_force s.parameters c keys.Source))
+    one_keeps p c (λ x. copied setting c x) (λ x. WriteLeaves setting c) (λ s. number_of (in_force s.parameters c keys.Source)) (copied_writes setting c) (λ x. write_leaves setting c)
 acts_keep setting acts.Swap p c =
     acting_keeps p (λ x. Wrote c ∷ Wrote x ∷ []) (λ x. swapped setting c x) (λ x. SwapLeaves setting c x)
     (λ past x w v. both_wrote past c x w (left_in (swapped setting c x w)) (swapped_writes setting c x w) v)

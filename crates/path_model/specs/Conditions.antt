@@ -4,6 +4,7 @@ use Rattle.suit_params.specs.declared.digest.Digest.{Digest}
 use Rattle.path_model.specs.declared.identity.Identity.{Identity}
 use Rattle.suit_commands.specs.declared.kinds.TestKind.{TestKind}
 use Rattle.suit_commands.specs.declared.kinds.TestKind.TheVariants as tests
+use Rattle.suit_params.specs.declared.param.ParamKey.{ParamKey}
 use Rattle.suit_params.specs.declared.param.ParamKey.TheVariants as keys
 use Rattle.path_model.specs.declared.event.Event.{Event}
 use Rattle.path_model.specs.declared.event.Event.TheVariants.{Tried, Matched, Missed, Failed}
@@ -47,6 +48,13 @@ abbrev pub slot_of : Option Identity → Option ℕ
 slot_of None = None
 slot_of (Some identity) = Some identity.slot
 
+-- an identifier of the identity, with the one in force under this key
+abbrev pub ComparesIdentifier : TestKind → ParamKey → (Option Identity → Option (List ℕ)) → List Identity → ℕ → ℕ
+    → Behaviour
+ComparesIdentifier kind key own_of identities place component state =
+    Compares place kind component (identifier_of (in_force state.parameters component key))
+    (own_of (slice_get identities component)) state
+
 -- ---- conditions on the content, which may end either way where their parameter is there
 
 -- under the digest and size in force
@@ -68,17 +76,11 @@ ChecksContent place component (Some content) state events ending =
 
 abbrev pub Tests : TestKind → List Identity → ℕ → ℕ → Behaviour
 Tests tests.Vendor identities place component state =
-    Compares place tests.Vendor component
-    (identifier_of (in_force state.parameters component keys.Vendor))
-    (vendor_of (slice_get identities component)) state
+    ComparesIdentifier tests.Vendor keys.Vendor vendor_of identities place component state
 Tests tests.Class identities place component state =
-    Compares place tests.Class component
-    (identifier_of (in_force state.parameters component keys.Class))
-    (class_of (slice_get identities component)) state
+    ComparesIdentifier tests.Class keys.Class class_of identities place component state
 Tests tests.Device identities place component state =
-    Compares place tests.Device component
-    (identifier_of (in_force state.parameters component keys.Device))
-    (device_of (slice_get identities component)) state
+    ComparesIdentifier tests.Device keys.Device device_of identities place component state
 Tests tests.Slot identities place component state =
     Compares place tests.Slot component
     (number_of (in_force state.parameters component keys.Slot))

@@ -79,6 +79,12 @@ MissingRule kind Lacks =
     (setting : Setting) (place component : ℕ) (state : State) (device : Device)
     → Lacks state component → FailsFor (acts_at setting kind place component state device) causes.Missing device
 
+-- a source that is the component itself
+abbrev pub ItselfRule : ActKind → Type 0
+ItselfRule kind =
+    (setting : Setting) (place component : ℕ) (state : State) (device : Device) → source_named state component ≡ Some component
+    → FailsFor (acts_at setting kind place component state device) causes.SelfCopy device
+
 pub record WriteRules : Type 0 where
   pub missing :
       MissingRule acts.Write (λ state component. content_named state component keys.Content ≡ None)
@@ -115,9 +121,7 @@ pub record FetchRules : Type 0 where
 
 pub record CopyRules : Type 0 where
   pub missing : MissingRule acts.Copy (λ state component. source_named state component ≡ None)
-  pub itself : (setting : Setting) (place component : ℕ) (state : State) (device : Device)
-      → source_named state component ≡ Some component
-      → FailsFor (acts_at setting acts.Copy place component state device) causes.SelfCopy device
+  pub itself : ItselfRule acts.Copy
   pub fits : (setting : Setting) (place component source : ℕ) (state : State) (device : Device)
       → source_named state component ≡ Some source → source ≢ component → length (content_at device source) ≤ capacity_of setting component
       → let outcome = acts_at setting acts.Copy place component state device in
@@ -143,9 +147,7 @@ NoRoom setting device component source =
 
 pub record SwapRules : Type 0 where
   pub missing : MissingRule acts.Swap (λ state component. source_named state component ≡ None)
-  pub itself : (setting : Setting) (place component : ℕ) (state : State) (device : Device)
-      → source_named state component ≡ Some component
-      → FailsFor (acts_at setting acts.Swap place component state device) causes.SelfCopy device
+  pub itself : ItselfRule acts.Swap
   pub fits : (setting : Setting) (place component source : ℕ) (state : State) (device : Device)
       → source_named state component ≡ Some source → source ≢ component
       → length (content_at device source) ≤ capacity_of setting component → length (content_at device component) ≤ capacity_of setting source

@@ -4,6 +4,7 @@ use Rattle.std.specs.Prelude.{◌≡◌, ◌≤◌, ℕ, ◌==◌, nat_le, if◌
 use Rattle.std.specs.Str.{bytes_eq}
 use Rattle.sha2.specs.Sha256.{sha256}
 use Rattle.suit_params.specs.declared.digest.Digest.{Digest}
+use Rattle.suit_params.specs.declared.param.ParamKey.{ParamKey}
 use Rattle.suit_params.specs.declared.param.ParamKey.TheVariants as keys
 use Rattle.suit_params.specs.InForce.{Parameters, in_force, identifier_of, number_of, bytes_of, digest_in, size_in}
 use Rattle.suit_commands.specs.declared.kinds.TestKind.{TestKind}
@@ -11,6 +12,7 @@ use Rattle.suit_commands.specs.declared.kinds.TestKind.TheVariants as tests
 use Rattle.suit_commands.specs.declared.kinds.ActKind.{ActKind}
 use Rattle.suit_commands.specs.declared.kinds.ActKind.TheVariants as acts
 use Rattle.suit_commands.specs.Tree.{PlanTree}
+use Rattle.path_model.specs.declared.identity.Identity.{Identity}
 use Rattle.path_model.specs.declared.event.Event.{Event}
 use Rattle.path_model.specs.declared.event.Event.TheVariants.{Tried, Matched, Missed, Wrote, Failed}
 use Rattle.path_model.specs.declared.cause.Cause.{Cause}
@@ -73,6 +75,14 @@ abbrev pub same_identifier : Option (List ℕ) → Option (List ℕ) → Bool
 same_identifier (Some wanted) (Some own) = bytes_eq own wanted
 same_identifier _ _ = false
 
+-- an identifier of the identity, with the one in force under this key
+abbrev pub comparing_identifier : TestKind → ParamKey → (Option Identity → Option (List ℕ)) → Setting → ℕ → ℕ
+    → Play Device
+comparing_identifier kind key own_of setting place component =
+    comparing place kind component (λ state. same_identifier
+    (identifier_of (in_force state.parameters component key))
+    (own_of (slice_get setting.identities component)))
+
 abbrev pub same_number : Option ℕ → Option ℕ → Bool
 same_number (Some wanted) (Some own) = own == wanted
 same_number _ _ = false
@@ -119,17 +129,11 @@ checking place component = record {
 
 abbrev pub condition_play : Setting → TestKind → ℕ → ℕ → Play Device
 condition_play setting tests.Vendor place component =
-    comparing place tests.Vendor component (λ state. same_identifier
-    (identifier_of (in_force state.parameters component keys.Vendor))
-    (vendor_of (slice_get setting.identities component)))
+    comparing_identifier tests.Vendor keys.Vendor vendor_of setting place component
 condition_play setting tests.Class place component =
-    comparing place tests.Class component (λ state. same_identifier
-    (identifier_of (in_force state.parameters component keys.Class))
-    (class_of (slice_get setting.identities component)))
+    comparing_identifier tests.Class keys.Class class_of setting place component
 condition_play setting tests.Device place component =
-    comparing place tests.Device component (λ state. same_identifier
-    (identifier_of (in_force state.parameters component keys.Device))
-    (device_of (slice_get setting.identities component)))
+    comparing_identifier tests.Device keys.Device device_of setting place component
 condition_play setting tests.Slot place component =
     comparing place tests.Slot component (λ state. same_number
     (number_of (in_force state.parameters component keys.Slot))
@@ -212,6 +216,12 @@ acting place wanted told makes Leaves = record {
   IsCut = λ state device outcome. ActIsCut place told Leaves state device outcome (wanted state);
 }
 
+-- it writes its component alone
+abbrev pub writing : {A : Type 0} → ℕ → ℕ → (State → Option A) → (A → Device → Change)
+    → (A → Cause → Device → Device → Type 0) → Play Device
+writing place component wanted makes Leaves =
+    acting place wanted (λ parameter. Wrote component ∷ []) makes Leaves
+
 -- ---- the effect of a fault
 
 -- any content of the component, up to its capacity
@@ -272,17 +282,15 @@ invoking place component = record {
 
 abbrev pub directive_play : Setting → ActKind → ℕ → ℕ → Play Device
 directive_play setting acts.Write place component =
-    acting place (λ state. bytes_of (in_force state.parameters component keys.Content))
-    (λ content. Wrote component ∷ []) (λ content. filled setting component content)
-    (λ content. WriteLeaves setting component)
+    writing place component (λ state. bytes_of (in_force state.parameters component keys.Content))
+    (λ content. filled setting component content) (λ content. WriteLeaves setting component)
 directive_play setting acts.Fetch place component =
-    acting place (λ state. bytes_of (in_force state.parameters component keys.Uri))
-    (λ uri. Wrote component ∷ []) (λ uri. fetched setting component (payload_of setting uri))
+    writing place component (λ state. bytes_of (in_force state.parameters component keys.Uri))
+    (λ uri. fetched setting component (payload_of setting uri))
     (λ uri. FetchLeaves setting uri component)
 directive_play setting acts.Copy place component =
-    acting place (λ state. number_of (in_force state.parameters component keys.Source))
-    (λ source. Wrote component ∷ []) (λ source. copied setting component source)
-    (λ source. WriteLeaves setting component)
+    writing place component (λ state. number_of (in_force state.parameters component keys.Source))
+    (λ source. copied setting component source) (λ source. WriteLeaves setting component)
 directive_play setting acts.Swap place component =
     acting place (λ state. number_of (in_force state.parameters component keys.Source))
     (λ source. Wrote component ∷ Wrote source ∷ []) (λ source. swapped setting component source)

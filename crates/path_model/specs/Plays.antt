@@ -43,15 +43,8 @@ module _ (World : Type 0) where
   abbrev pub going_on : (State → World → Outcome) → List Event → Option Cause → World → Ending
       → Outcome
   going_on next events cause world (Done state) = behind events (next state world)
-  going_on next events cause world (Condition place soft_failure) =
-      record {
-        events = events;
-        ending = Condition place soft_failure;
-        cause = cause;
-        world = world;
-      }
-  going_on next events cause world (Directive place) =
-      record { events = events; ending = Directive place; cause = cause; world = world }
+  going_on next events cause world ending =
+      record { events = events; ending = ending; cause = cause; world = world }
 
   -- a play came to this, and the next one was cut
   abbrev pub NextIsCut : (State → World → Outcome → Type 0) → List Event → World → Ending → Outcome
@@ -115,27 +108,8 @@ module _ (World : Type 0) where
       → Ending → Outcome
   after_trying state others events cause world (Condition place true) =
       behind events (others state world)
-  after_trying state others events cause world (Condition place false) =
-      record {
-        events = events;
-        ending = after_branch state (Condition place false);
-        cause = cause;
-        world = world;
-      }
-  after_trying state others events cause world (Done inner) =
-      record {
-        events = events;
-        ending = after_branch state (Done inner);
-        cause = cause;
-        world = world;
-      }
-  after_trying state others events cause world (Directive place) =
-      record {
-        events = events;
-        ending = after_branch state (Directive place);
-        cause = cause;
-        world = world;
-      }
+  after_trying state others events cause world ending =
+      record { events = events; ending = after_branch state ending; cause = cause; world = world }
 
   -- a branch came to this, and another one was cut
   abbrev pub OtherIsCut : State → (State → World → Outcome → Type 0) → List Event → World → Ending
