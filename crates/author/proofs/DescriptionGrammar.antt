@@ -115,11 +115,11 @@ AreRead count t =
     × IfSome t.invoke (Sequence false count) × IsRead count t.payload_fetch × IsRead count t.install × IsReadText t.text
 
 abbrev Kept : Fields → Type 0
-Kept t = AreRead t.source.count t
+Kept t = AreRead t.source.scope.count t
 
 -- until components are read, they are those of the members that are left
 abbrev Awaits : Members → Fields → Type 0
-Awaits ms t = IfNone t.components (t.source.count ≡ listed (get_member (codes "components") ms))
+Awaits ms t = IfNone t.components (t.source.scope.count ≡ listed (get_member (codes "components") ms))
 
 abbrev KeptWith : Members → Fields → Type 0
 KeptWith ms t = Kept t × Awaits ms t
@@ -174,17 +174,17 @@ other_holds t (Some names.Sever) d ms other h a = holds_then (KeptWith ms) _ _ (
 other_holds t (Some names.Payloads) d ms other h a = holds_then (KeptWith ms) _ _ (λ x. WasRead _ (h, a))
 other_holds t (Some names.Kid) d ms other h a = holds_then (KeptWith ms) _ _ (λ x. WasRead _ (h, a))
 other_holds t (Some names.Shared) d ms other h a =
-    holds_bind (Sequence true t.source.count) (KeptWith ms) _ _ (sequences (scope_of t true) levels_allowed d) (λ s g. WasRead _ ((h.0, g, h.2, h.3, h.4, h.5, h.6, h.7), a))
+    holds_bind (Sequence true t.source.scope.count) (KeptWith ms) _ _ (sequences (scope_of t true) levels_allowed d) (λ s g. WasRead _ ((h.0, g, h.2, h.3, h.4, h.5, h.6, h.7), a))
 other_holds t (Some names.Validate) d ms other h a =
-    holds_bind (Sequence false t.source.count) (KeptWith ms) _ _ (sequences (scope_of t false) levels_allowed d) (λ s g. WasRead _ ((h.0, h.1, g, h.3, h.4, h.5, h.6, h.7), a))
+    holds_bind (Sequence false t.source.scope.count) (KeptWith ms) _ _ (sequences (scope_of t false) levels_allowed d) (λ s g. WasRead _ ((h.0, h.1, g, h.3, h.4, h.5, h.6, h.7), a))
 other_holds t (Some names.Load) d ms other h a =
-    holds_bind (Sequence false t.source.count) (KeptWith ms) _ _ (sequences (scope_of t false) levels_allowed d) (λ s g. WasRead _ ((h.0, h.1, h.2, g, h.4, h.5, h.6, h.7), a))
+    holds_bind (Sequence false t.source.scope.count) (KeptWith ms) _ _ (sequences (scope_of t false) levels_allowed d) (λ s g. WasRead _ ((h.0, h.1, h.2, g, h.4, h.5, h.6, h.7), a))
 other_holds t (Some names.Invoke) d ms other h a =
-    holds_bind (Sequence false t.source.count) (KeptWith ms) _ _ (sequences (scope_of t false) levels_allowed d) (λ s g. WasRead _ ((h.0, h.1, h.2, h.3, g, h.5, h.6, h.7), a))
+    holds_bind (Sequence false t.source.scope.count) (KeptWith ms) _ _ (sequences (scope_of t false) levels_allowed d) (λ s g. WasRead _ ((h.0, h.1, h.2, h.3, g, h.5, h.6, h.7), a))
 other_holds t (Some names.PayloadFetch) d ms other h a =
-    holds_bind (IsRead t.source.count) (KeptWith ms) _ _ (member_holds (scope_of t false) d refl) (λ m g. WasRead _ ((h.0, h.1, h.2, h.3, h.4, g, h.6, h.7), a))
+    holds_bind (IsRead t.source.scope.count) (KeptWith ms) _ _ (member_holds (scope_of t false) d refl) (λ m g. WasRead _ ((h.0, h.1, h.2, h.3, h.4, g, h.6, h.7), a))
 other_holds t (Some names.Install) d ms other h a =
-    holds_bind (IsRead t.source.count) (KeptWith ms) _ _ (member_holds (scope_of t false) d refl) (λ m g. WasRead _ ((h.0, h.1, h.2, h.3, h.4, h.5, g, h.7), a))
+    holds_bind (IsRead t.source.scope.count) (KeptWith ms) _ _ (member_holds (scope_of t false) d refl) (λ m g. WasRead _ ((h.0, h.1, h.2, h.3, h.4, h.5, g, h.7), a))
 other_holds t (Some names.TextMember) d ms other h a =
     holds_bind IsReadText (KeptWith ms) _ _ (text_holds d) (λ m g. WasRead _ ((h.0, h.1, h.2, h.3, h.4, h.5, h.6, g), a))
 
@@ -196,7 +196,7 @@ first_read count None d found ids h a is g = (g.0, g.1, ap capped_count g.2 ∙ 
 components_hold : (t : Fields) (d : Data) (ms : Members) → KeptWith (member (codes "components") d ms) t → Holds (KeptWith ms) (takes_known t (Some names.Components) d)
 components_hold t d ms h =
     holds_bind (AreIdentifiers d) (KeptWith ms) _ _ (identifiers_hold d) (λ ids g.
-    let first = first_read t.source.count t.components d (get_member (codes "components") (member (codes "components") d ms)) ids h.0.0 h.1 (found_here (codes "components") d ms refl) g in
+    let first = first_read t.source.scope.count t.components d (get_member (codes "components") (member (codes "components") d ms)) ids h.0.0 h.1 (found_here (codes "components") d ms refl) g in
     WasRead _ ((first, h.0.1, h.0.2, h.0.3, h.0.4, h.0.5, h.0.6, h.0.7), tt))
 
 passed : (o : Option (List (List (List ℕ)))) (count : ℕ) (k : List ℕ) (d : Data) (ms : Members) → bytes_eq (codes "components") k ≡ false
@@ -215,7 +215,7 @@ step_holds : (b : Bool) (t : Fields) (k : List ℕ) (d : Data) (ms : Members) �
 step_holds true t k d ms e h =
     let is : codes "components" ≡ k = (bytes_eq-Decides (codes "components") k).0 e in
     subst (λ (l : List ℕ). Holds (KeptWith ms) (takes_field t l d)) is (components_hold t d ms (subst (λ (l : List ℕ). KeptWith (member l d ms) t) (sym is) h))
-step_holds false t k d ms e h = other_holds t (field_named k) d ms (others k (turned k e)) h.0 (passed t.components t.source.count k d ms e h.1)
+step_holds false t k d ms e h = other_holds t (field_named k) d ms (others k (turned k e)) h.0 (passed t.components t.source.scope.count k d ms e h.1)
 
 walk : (ms : Members) (t : Fields) → KeptWith ms t → Holds Kept (members_of takes_field t ms)
 walk no_members t h = WasRead t h.0
@@ -233,7 +233,7 @@ Stands p =
 
 stands : (t : Fields) (ids : List (List (List ℕ))) (n : ℕ) → Kept t → t.components ≡ Some ids → Stands (whole t ids n)
 stands t ids n h is =
-    let c = subst (λ (o : Option (List (List (List ℕ)))). IfSome o (AreListed t.source.count)) is h.0 in
+    let c = subst (λ (o : Option (List (List (List ℕ)))). IfSome o (AreListed t.source.scope.count)) is h.0 in
     let r = subst (λ (count : ℕ). AreRead count t) (sym c.2) h in
     (c.0, c.1, r.1, r.2, r.3, r.4, r.5, r.6, r.7)
 

@@ -9,12 +9,13 @@ use Rattle.json_fields.specs.declared.flaw.JsonFault.{JsonFault}
 use Rattle.json_fields.specs.declared.flaw.JsonFault.TheVariants.{Flawed}
 use Rattle.json_fields.specs.declared.flaw.JsonFault.TheVariants as faults
 use Rattle.json_fields.specs.Answers.{Gives}
+use Rattle.json_fields.specs.Telling.{by_kind}
 use Rattle.suit_manifest.specs.Components.{AreAlike}
 use Rattle.author.specs.declared.fields.Described.{Described}
 use Rattle.author.specs.declared.fault.DescriptionFault.{DescriptionFault}
 use Rattle.author.specs.declared.fault.DescriptionFault.TheVariants.{BadField, BadHex, BadUuid, TwoAlike, TooMany, NoMemory}
 use Rattle.author.specs.Descriptions.{described}
-use Rattle.author.specs.Faults.{fault_at, fault_of, fault_told, AreFewAndApart, RefusesComponents, Many, Alike, IsDescription, RefusesDescription, BadValue, BadComponents, IsFaultOf, IsRefusedFor}
+use Rattle.author.specs.Faults.{fault_of, fault_told, AreFewAndApart, RefusesComponents, Many, Alike, IsDescription, RefusesDescription, BadValue, BadComponents, IsFaultOf, IsRefusedFor}
 
 pub fault_of_components : (d : Data) (p : Described) (fault : DescriptionFault) → described [] d ≡ Ok p → RefusesComponents p.manifest.components fault → IsFaultOf d fault
 fault_of_components d p (BadField t) e r = BadComponents p (BadField t) e r
@@ -30,7 +31,7 @@ pub by_components : {A : Type 0} (d : Data) (p : Described) (r : Result A Descri
 by_components d p (Ok x) e h = record { said = p; reads = e; components = h }
 by_components d p (Err fault) e h = fault_of_components d p fault e h
 
-is_fault : (d : Data) (kind : FlawKind) (pointer : List ℕ) → RefusesDescription d (fault_at kind pointer) → IsFaultOf d (fault_at kind pointer)
+is_fault : (d : Data) (kind : FlawKind) (pointer : List ℕ) → RefusesDescription d (by_kind BadField BadHex BadUuid kind pointer) → IsFaultOf d (by_kind BadField BadHex BadUuid kind pointer)
 is_fault d kinds.Field pointer r = r
 is_fault d kinds.Hex pointer r = r
 is_fault d kinds.Uuid pointer r = r

@@ -41,7 +41,7 @@ known_keeps law t (Some names.PayloadFetch) d h = holds_then Kept _ _ (λ x. Was
 known_keeps law t (Some names.Install) d h = holds_then Kept _ _ (λ x. WasRead _ h)
 known_keeps law t (Some names.TextMember) d h = holds_then Kept _ _ (λ x. WasRead _ h)
 known_keeps law t (Some names.Sever) d h = holds_then Kept _ _ (λ x. WasRead _ h)
-known_keeps law t (Some names.Payloads) d h = holds_bind (AreAscending None) Kept _ _ (payloads_ascend law t.source.files d) (λ ps g. WasRead _ g)
+known_keeps law t (Some names.Payloads) d h = holds_bind (AreAscending None) Kept _ _ (payloads_ascend law t.source.scope.files d) (λ ps g. WasRead _ g)
 known_keeps law t (Some names.Kid) d h = holds_then Kept _ _ (λ x. WasRead _ h)
 
 described_ascend : PayloadOrderLaw → (files : Files) (d : Data) → Holds (λ (p : Described). AreAscending None p.payloads) (described files d)

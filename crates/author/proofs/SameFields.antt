@@ -13,7 +13,7 @@ use Rattle.author.specs.declared.field_name.FieldName.{FieldName}
 use Rattle.author.specs.declared.field_name.FieldName.TheVariants as names
 use Rattle.author.specs.declared.payload_fields.PayloadField.{PayloadField}
 use Rattle.author.specs.declared.severing.Severed.{Severed}
-use Rattle.author.specs.Scope.{Source}
+use Rattle.author.specs.declared.scope.Source.{Source}
 use Rattle.author.specs.Members.{described_member}
 use Rattle.author.specs.Payloads.{PayloadsSoFar, source_bytes, payload_of, takes_payload, payloads_of}
 use Rattle.author.specs.Severing.{given_in, severed_of}
@@ -53,7 +53,7 @@ module _ (f g : Files) where
 
   module _ (count : ℕ) (given : Severed) where
     abbrev source_with : Files → Source
-    source_with files = record { files = files; count = count; given = given }
+    source_with files = record { scope = record { files = files; shared = false; count = count }; given = given }
 
     abbrev FieldsLike : Fields → Fields → Type 0
     FieldsLike t u = (t.source ≡ source_with f) × (u.source ≡ source_with g) × (t.components ≡ u.components) × (t.sequence ≡ u.sequence)
@@ -76,7 +76,7 @@ module _ (f g : Files) where
         like_bind Any FieldsLike (described_member (scope_of t false) d) (described_member (scope_of u false) d) _ _ (rw (h.0, h.1) (like_member count d)) (λ x y e. BothRead _ _ h)
     like_known t u (Some names.TextMember) d h = like_then FieldsLike _ _ _ (λ m. BothRead _ _ h)
     like_known t u (Some names.Sever) d h = like_bind Any FieldsLike (severed_of t.source.given d) (severed_of u.source.given d) _ _ (rw (h.0, h.1) (like_any _)) (λ x y e. BothRead _ _ h)
-    like_known t u (Some names.Payloads) d h = like_bind Any FieldsLike (payloads_of t.source.files d) (payloads_of u.source.files d) _ _ (rw (h.0, h.1) (like_payloads d)) (λ x y e. BothRead _ _ h)
+    like_known t u (Some names.Payloads) d h = like_bind Any FieldsLike (payloads_of t.source.scope.files d) (payloads_of u.source.scope.files d) _ _ (rw (h.0, h.1) (like_payloads d)) (λ x y e. BothRead _ _ h)
     like_known t u (Some names.Kid) d h = like_then FieldsLike _ _ _ (λ kid. BothRead _ _ h)
 
 abbrev pub SameComponents : Described → Described → Type 0

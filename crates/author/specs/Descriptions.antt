@@ -40,7 +40,10 @@ count_in d = listed (get (codes "components") d)
 
 abbrev pub no_fields : List (List ℕ × List ℕ) → Data → Fields
 no_fields files d = record {
-  source = record { files = files; count = count_in d; given = given_in d };
+  source = record {
+    scope = record { files = files; shared = false; count = count_in d };
+    given = given_in d;
+  };
   sequence = None;
   components = None;
   shared = None;
@@ -57,7 +60,7 @@ no_fields files d = record {
 }
 
 abbrev pub scope_of : Fields → Bool → Scope
-scope_of t shared = record { files = t.source.files; shared = shared; count = t.source.count }
+scope_of t shared = record t.source.scope { shared = shared }
 
 abbrev pub field_sequence : Fields → Bool → Data → Result SequenceTree Flaw
 field_sequence t shared d = member_sequence (scope_of t shared) d
@@ -87,7 +90,7 @@ takes_known t (Some names.TextMember) d = text_member_of d >>= λ m. Ok (record 
 takes_known t (Some names.Sever) d =
     severed_of t.source.given d >>= λ s. Ok (record t { severed = s })
 takes_known t (Some names.Payloads) d =
-    payloads_of t.source.files d >>= λ ps. Ok (record t { payloads = ps })
+    payloads_of t.source.scope.files d >>= λ ps. Ok (record t { payloads = ps })
 takes_known t (Some names.Kid) d = hex_of d >>= λ kid. Ok (record t { kid = Some kid })
 
 abbrev pub takes_field : Takes Fields

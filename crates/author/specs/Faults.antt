@@ -1,30 +1,21 @@
 -- Why a description is refused: the first flaw of its fields; after all fields, too many components; and then two that
 -- are alike.
-use Rattle.std.specs.Prelude.{◌≡◌, ◌⊎◌, ◌<◌, ◌≤◌, ℕ, List, [], length, Result, Ok, Err}
+use Rattle.std.specs.Prelude.{◌≡◌, ◌<◌, ◌≤◌, ℕ, List, [], length, Result, Ok, Err}
 use Rattle.serde_json.specs.Data.{Data}
 use Rattle.json_fields.specs.declared.flaw.Flaw.{Flaw}
-use Rattle.json_fields.specs.declared.flaw.FlawKind.{FlawKind}
-use Rattle.json_fields.specs.declared.flaw.FlawKind.TheVariants as kinds
 use Rattle.json_fields.specs.declared.flaw.JsonFault.{JsonFault}
-use Rattle.json_fields.specs.declared.flaw.JsonFault.TheVariants.{Flawed}
-use Rattle.json_fields.specs.declared.flaw.JsonFault.TheVariants as faults
+use Rattle.json_fields.specs.Telling.{by_kind, told, IsAcceptedBut, IsRefusedBut}
 use Rattle.suit_manifest.specs.Components.{AreApart, AreAlike}
 use Rattle.author.specs.declared.fields.Described.{Described}
 use Rattle.author.specs.declared.fault.DescriptionFault.{DescriptionFault}
 use Rattle.author.specs.declared.fault.DescriptionFault.TheVariants.{BadField, BadHex, BadUuid, TwoAlike, TooMany, NoMemory}
 use Rattle.author.specs.Descriptions.{described}
 
-abbrev pub fault_at : FlawKind → List ℕ → DescriptionFault
-fault_at kinds.Field pointer = BadField pointer
-fault_at kinds.Hex pointer = BadHex pointer
-fault_at kinds.Uuid pointer = BadUuid pointer
-
 abbrev pub fault_of : Flaw → DescriptionFault
-fault_of f = fault_at f.kind f.pointer
+fault_of f = by_kind BadField BadHex BadUuid f.kind f.pointer
 
 abbrev pub fault_told : JsonFault → DescriptionFault
-fault_told (Flawed f) = fault_of f
-fault_told faults.NoMemory = NoMemory
+fault_told fault = told fault_of NoMemory fault
 
 -- at most eight components, no two alike
 pub record AreFewAndApart (ids : List (List (List ℕ))) : Type 0 where
@@ -55,10 +46,8 @@ IsFaultOf d fault = RefusesDescription d fault
 
 -- accepted, unless memory ran out
 abbrev pub IsAccepted : {A : Type 0} → Result A DescriptionFault → Type 0
-IsAccepted (Ok p) = Unit {0}
-IsAccepted (Err fault) = fault ≡ NoMemory
+IsAccepted result = IsAcceptedBut NoMemory result
 
 -- refused for this, unless memory ran out
 abbrev pub IsRefusedFor : {A : Type 0} → DescriptionFault → Result A DescriptionFault → Type 0
-IsRefusedFor fault (Ok p) = ⊥
-IsRefusedFor fault (Err other) = (other ≡ fault) ⊎ (other ≡ NoMemory)
+IsRefusedFor fault result = IsRefusedBut NoMemory fault result

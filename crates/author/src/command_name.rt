@@ -53,13 +53,7 @@ pub(crate) fn name(alloc: Global, value: &Value, shared: bool) -> Result<Command
         return flawed(alloc, FlawKind::Field);
     };
     match command_named(text) {
-        Some(CommandName::Act(kind)) => {
-            if shared {
-                flawed(alloc, FlawKind::Field)
-            } else {
-                Ok(CommandName::Act(kind))
-            }
-        }
+        Some(CommandName::Act(_)) if shared => flawed(alloc, FlawKind::Field),
         Some(name) => Ok(name),
         None => flawed(alloc, FlawKind::Field),
     }

@@ -1,10 +1,10 @@
 //! Commands of a description.
 
 ghost use Rattle.std.specs.Prelude.{◌≡◌};
-ghost use Rattle.serde_json.specs.View.{view, items_view};
+ghost use Rattle.serde_json.specs.View.{view};
 ghost use Rattle.json_fields.specs.Answers.{Gives};
 ghost use Rattle.suit_commands.specs.View.{command_tree};
-ghost use Rattle.author.specs.Commands.{argument, sequence_of, steps_from, command_of, command_named, tries_of, branches_from, branch_of};
+ghost use Rattle.author.specs.Commands.{argument, sequence_of, command_of, command_named, tries_of, branch_of};
 ghost use Rattle.json_fields.specs.Values.{number_up_to};
 
 use crate::command_name::{CommandName, name};
@@ -29,24 +29,11 @@ pub(crate) fn sequence(
 {
     let values = elements(value);
     if levels == 0 || values.is_empty() {
-        flawed(alloc, FlawKind::Field)
-    } else {
-        steps(alloc, values, scope, levels - 1)
+        return flawed(alloc, FlawKind::Field);
     }
-}
-
-#[cycle(commands)]
-fn steps(
-    alloc: Global,
-    values: &[Value],
-    scope: &Scope<'_>,
-    levels: u8,
-) -> Result<Sequence, JsonFault>
-    ensures { Gives (λ s. s) result (steps_from scope.now levels 0 (items_view values.now)) }
-{
     let mut sequence = Sequence::new(alloc);
     for (index, value) in values.iter().enumerate() {
-        match command(alloc, value, scope, levels) {
+        match command(alloc, value, scope, levels - 1) {
             Ok(command) => sequence.push(Step { place: 0, command })?,
             Err(fault) => return at_index(alloc, index, Err(fault)),
         }
@@ -119,28 +106,15 @@ fn report(alloc: Global, value: &Value) -> Result<u8, JsonFault>
     Ok(report as u8)
 }
 
+// The sequences of a try each.
 #[cycle(commands)]
 fn tries(alloc: Global, value: &Value, scope: &Scope<'_>, levels: u8) -> Result<Branches, JsonFault>
     ensures { Gives (λ b. b) result (tries_of scope.now levels (view value.now)) }
 {
     let values = elements(value);
     if values.len() < 2 {
-        flawed(alloc, FlawKind::Field)
-    } else {
-        branches(alloc, values, scope, levels)
+        return flawed(alloc, FlawKind::Field);
     }
-}
-
-// The sequences of a try each.
-#[cycle(commands)]
-fn branches(
-    alloc: Global,
-    values: &[Value],
-    scope: &Scope<'_>,
-    levels: u8,
-) -> Result<Branches, JsonFault>
-    ensures { Gives (λ b. b) result (branches_from scope.now levels 0 (items_view values.now)) }
-{
     let mut branches = Branches::new(alloc);
     for (index, value) in values.iter().enumerate() {
         let last = index + 1 == values.len();

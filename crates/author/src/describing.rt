@@ -8,7 +8,7 @@ ghost use Rattle.author.specs.Held.{IsDescriptionOf};
 
 use crate::alike::first_alike;
 use crate::fault::told;
-use crate::fields::read_fields;
+use crate::fields::Described;
 use crate::file_names::file_names;
 use crate::{Description, DescriptionFault, FileList};
 use serde_json::Value;
@@ -34,7 +34,7 @@ fn judged(alloc: Global, value: &Value) -> Result<(), DescriptionFault>
     ensures { MatchResult result (λ _. IsDescription (view value.now))
         (IsFaultOf (view value.now)) }
 {
-    match read_fields(alloc, value, &FileList::new(alloc)) {
+    match Described::read(alloc, value, &FileList::new(alloc)) {
         Ok(parts) => judge_components(&parts.manifest.components),
         Err(fault) => Err(told(fault)),
     }

@@ -1,6 +1,7 @@
 //! Why a value is no description.
 
 ghost use Rattle.std.specs.Prelude.{◌≡◌};
+ghost use Rattle.author.specs.declared.fault.DescriptionFault.TheVariants.{NoMemory};
 ghost use Rattle.author.specs.Faults.{fault_told};
 
 use det_cbor::Text;
@@ -45,9 +46,6 @@ pub(crate) fn told(fault: JsonFault) -> DescriptionFault
 }
 
 impl From<AllocError> for DescriptionFault {
-    ghost use Rattle.std.specs.Prelude.{◌≡◌};
-    ghost use Rattle.author.specs.declared.fault.DescriptionFault.TheVariants.{NoMemory};
-
     ghost from_gives = { λ _ f. f ≡ NoMemory };
 
     fn from(_: AllocError) -> DescriptionFault {

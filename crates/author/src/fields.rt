@@ -3,13 +3,14 @@
 ghost use Rattle.std.specs.Prelude.{◌≡◌};
 ghost use Rattle.serde_json.specs.View.{view};
 ghost use Rattle.json_fields.specs.Answers.{Gives};
-ghost use Rattle.author.specs.Descriptions.{count_in, no_fields, scope_of, field_sequence, described};
+ghost use Rattle.author.specs.Descriptions.{count_in, no_fields, scope_of, field_sequence, takes_field, described};
 
 use crate::FileList;
+use crate::commands::sequence;
 use crate::elements::elements;
 use crate::field_name::{FieldName, field_named};
 use crate::identifiers::identifiers;
-use crate::member_fields::{member, member_sequence, text_member};
+use crate::member_fields::{member, text_member};
 use crate::param_fields::whole;
 use crate::payload_fields::payloads;
 use crate::scope::{Scope, Source};
@@ -19,7 +20,7 @@ use json_fields::{Draft, FlawKind, JsonFault, flawed, hex, object, required, tex
 use serde_json::Value;
 use std::alloc::Global;
 use std::mem;
-use suit_commands::Sequence;
+use suit_commands::{MAX_LEVELS, Sequence};
 use suit_envelope::PayloadList;
 use suit_manifest::{Manifest, Member, TextMember};
 use suit_params::Identifiers;
@@ -49,22 +50,20 @@ impl<'a> Fields<'a> {
         ensures { result ≡ scope_of self.now shared }
     {
         Scope {
-            files: self.source.files,
+            files: self.source.scope.files,
             shared,
-            count: self.source.count,
+            count: self.source.scope.count,
         }
     }
 
     fn commands(&self, alloc: Global, value: &Value, shared: bool) -> Result<Sequence, JsonFault>
         ensures { Gives (λ s. s) result (field_sequence self.now shared (view value.now)) }
     {
-        member_sequence(alloc, value, &self.scope(shared))
+        sequence(alloc, value, &self.scope(shared), MAX_LEVELS)
     }
 }
 
 impl Draft for Fields<'_> {
-    ghost use Rattle.author.specs.Descriptions.{takes_field};
-
     ghost takes = { takes_field };
 
     fn take(&mut self, alloc: Global, key: &str, value: &Value) -> Result<(), JsonFault> {
@@ -90,7 +89,7 @@ impl Draft for Fields<'_> {
             FieldName::TextMember => self.text = text_member(alloc, value)?,
             FieldName::Sever => self.severed = severed_members(alloc, value, self.source.given)?,
             FieldName::Payloads => {
-                let list = payloads(alloc, value, self.source.files)?;
+                let list = payloads(alloc, value, self.source.scope.files)?;
                 let _none_yet = mem::replace(&mut self.payloads, list);
             }
             FieldName::Kid => self.kid = Some(hex(alloc, value)?),
@@ -135,8 +134,11 @@ fn no_fields<'a>(alloc: Global, description: &Value, files: &'a FileList) -> Fie
 {
     Fields {
         source: Source {
-            files,
-            count: count(description),
+            scope: Scope {
+                files,
+                shared: false,
+                count: count(description),
+            },
             given: given(description),
         },
         sequence: None,
@@ -155,33 +157,31 @@ fn no_fields<'a>(alloc: Global, description: &Value, files: &'a FileList) -> Fie
     }
 }
 
-/// Reads a description's parts, where its files have these bytes.
-pub(crate) fn read_fields<'a>(
-    alloc: Global,
-    description: &Value,
-    files: &'a FileList,
-) -> Result<Described<'a>, JsonFault>
-    ensures { Gives (λ p. p) result (described files.now (view description.now)) }
-{
-    let mut fields = no_fields(alloc, description, files);
-    object(alloc, description, &mut fields)?;
-    let components = required(alloc, "components", fields.components)?;
-    let sequence = required(alloc, "sequence", fields.sequence)?;
-    Ok(Described {
-        manifest: Manifest {
-            sequence,
-            components,
-            shared: fields.shared,
-            reference: fields.reference,
-            validate: fields.validate,
-            load: fields.load,
-            invoke: fields.invoke,
-            payload_fetch: fields.payload_fetch,
-            install: fields.install,
-            text: fields.text,
-        },
-        severed: fields.severed,
-        payloads: fields.payloads,
-        kid: fields.kid,
-    })
+impl<'a> Described<'a> {
+    /// Reads the parts, where the description's files have these bytes.
+    pub(crate) fn read(alloc: Global, value: &Value, files: &'a FileList) -> Result<Self, JsonFault>
+        ensures { Gives (λ p. p) result (described files.now (view value.now)) }
+    {
+        let mut fields = no_fields(alloc, value, files);
+        object(alloc, value, &mut fields)?;
+        let components = required(alloc, "components", fields.components)?;
+        let sequence = required(alloc, "sequence", fields.sequence)?;
+        Ok(Described {
+            manifest: Manifest {
+                sequence,
+                components,
+                shared: fields.shared,
+                reference: fields.reference,
+                validate: fields.validate,
+                load: fields.load,
+                invoke: fields.invoke,
+                payload_fetch: fields.payload_fetch,
+                install: fields.install,
+                text: fields.text,
+            },
+            severed: fields.severed,
+            payloads: fields.payloads,
+            kid: fields.kid,
+        })
+    }
 }

@@ -3,7 +3,7 @@
 ghost use Rattle.std.specs.Prelude.{◌≡◌};
 ghost use Rattle.serde_json.specs.View.{view};
 ghost use Rattle.json_fields.specs.Answers.{Gives};
-ghost use Rattle.author.specs.FileValues.{file_named, digest_of, size_of, content_of};
+ghost use Rattle.author.specs.FileValues.{takes_file, file_named, digest_of, size_of, content_of};
 
 use crate::FileList;
 use crate::file_list::bytes_of;
@@ -22,18 +22,7 @@ pub(crate) struct FileField {
     name: Option<Text>,
 }
 
-/// The name of `{"file": NAME}`.
-pub(crate) fn file_named(alloc: Global, value: &Value) -> Result<Text, JsonFault>
-    ensures { Gives (λ name. name) result (file_named (view value.now)) }
-{
-    let mut field = FileField { name: None };
-    object(alloc, value, &mut field)?;
-    required(alloc, "file", field.name)
-}
-
 impl Draft for FileField {
-    ghost use Rattle.author.specs.FileValues.{takes_file};
-
     ghost takes = { takes_file };
 
     fn take(&mut self, alloc: Global, key: &str, value: &Value) -> Result<(), JsonFault> {
@@ -44,6 +33,15 @@ impl Draft for FileField {
             flawed(alloc, FlawKind::Field)
         }
     }
+}
+
+/// The name of `{"file": NAME}`.
+pub(crate) fn file_named(alloc: Global, value: &Value) -> Result<Text, JsonFault>
+    ensures { Gives (λ name. name) result (file_named (view value.now)) }
+{
+    let mut field = FileField { name: None };
+    object(alloc, value, &mut field)?;
+    required(alloc, "file", field.name)
 }
 
 /// A SHA-256, or that of a file.

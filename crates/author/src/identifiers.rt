@@ -8,7 +8,7 @@ ghost use Rattle.json_fields.specs.Answers.{Gives};
 ghost use Rattle.suit_manifest.specs.Components.{identifier_item, string_items};
 ghost use Rattle.author.specs.Identifiers.{identifiers_of};
 
-use det_cbor::{Bytes, Head, HeadKind, push_head};
+use det_cbor::{Bytes, push_count, push_string};
 use json_fields::{FlawKind, Form, HexBytes, JsonFault, array, flawed};
 use serde_json::Value;
 use std::alloc::{AllocError, Global};
@@ -19,14 +19,7 @@ fn push_strings(out: &mut Bytes, parts: &[Bytes]) -> Result<(), AllocError>
     ensures { OnOk result (out.new ≡ out.old ++ spell_items (string_items parts.now)) }
 {
     for part in parts {
-        push_head(
-            out,
-            Head {
-                kind: HeadKind::Bytes,
-                value: part.len() as u64,
-            },
-        )?;
-        out.extend(part.as_slice())?;
+        push_string(out, part.as_slice())?;
     }
     Ok(())
 }
@@ -38,13 +31,7 @@ fn spelling(alloc: Global, identifier: &Identifier) -> Result<Bytes, AllocError>
 {
     let parts = identifier.as_slice();
     let mut out = Bytes::new(alloc);
-    push_head(
-        &mut out,
-        Head {
-            kind: HeadKind::Array,
-            value: parts.len() as u64,
-        },
-    )?;
+    push_count(&mut out, parts.len() as u64)?;
     push_strings(&mut out, parts)?;
     Ok(out)
 }

@@ -27,6 +27,7 @@ mod parts;
 mod payload_fields;
 mod scope;
 mod severing;
+mod short_envelope;
 
 pub use describing::description;
 pub use fault::DescriptionFault;

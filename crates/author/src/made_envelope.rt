@@ -1,30 +1,21 @@
 //! The envelope of a description.
 
-ghost use Rattle.std.specs.Prelude.{◌≡◌, ℕ, List, None, IfOk, IfErr, IsTrue};
-ghost use Rattle.suit_envelope.specs.Envelopes.{EnvelopeSays};
-ghost use Rattle.suit_envelope.specs.Making.{SaysParts};
-ghost use Rattle.suit_envelope.specs.PayloadOrder.{AreAscending};
-ghost use Rattle.suit_envelope.specs.Said.{EnvelopeOf};
-ghost use Rattle.suit_envelope.specs.WrapperParts.{HasWrapper};
+ghost use Rattle.std.specs.Prelude.{◌≡◌, ℕ, List, IfOk, IfErr, IsTrue};
 ghost use Rattle.suit_manifest.specs.ManifestWriting.{IsWrittenManifest, ManifestFits};
 ghost use Rattle.author.specs.FileNames.{file_names};
 ghost use Rattle.author.specs.Files.{has_files};
 ghost use Rattle.author.specs.Held.{value_of};
-ghost use Rattle.author.specs.MadeEnvelopes.{made_parts, AnswersShort, HasOneBlock, IsMadeOf, IsTooLong, IsMakeFaultOf, IsMadeAs, IsTooLongBy, IsAuthenticUnder, HoldsPartsOf, HoldsManifestOf};
+ghost use Rattle.author.specs.MadeEnvelopes.{made_parts, HasOneBlock, IsMadeOf, IsTooLong, IsMakeFaultOf, IsMadeAs, IsTooLongBy, IsAuthenticUnder, HoldsPartsOf, HoldsManifestOf};
 
 use crate::made_wrapper::made_wrapper;
-use crate::making::{Parted, part, string_digest};
+use crate::making::{Parted, part};
 use crate::parts::parts_of;
+use crate::short_envelope::encode_short;
 use crate::{Description, FileList, MakeFault, description_laws};
 use det_cbor::Bytes;
 use std::alloc::{AllocError, Global};
-use suit_envelope::{EnvelopeParts, decode_envelope, encode_envelope, trimmed_length};
+use suit_envelope::{EnvelopeParts, string_digest};
 use suit_manifest::encode_manifest;
-
-// The longest envelopes, in bytes.
-const MAX_TRIMMED: u64 = 16_384;
-
-const MAX_WHOLE: u64 = 1_048_576;
 
 // The parts of the envelope.
 fn made_parts<'a>(
@@ -39,7 +30,7 @@ fn made_parts<'a>(
     ensures fits { IfOk result (λ _. ManifestFits parted.entry.manifest) }
 {
     let manifest = encode_manifest(alloc, &parted.manifest)?;
-    let digest = string_digest(alloc, manifest.as_slice())?;
+    let digest = string_digest(manifest.as_slice());
     let kid = match &parted.kid {
         Some(kid) => Some(kid.as_slice()),
         None => None,
@@ -53,30 +44,6 @@ fn made_parts<'a>(
         text: parted.text,
         payloads: parted.payloads,
     })
-}
-
-// The envelope of its parts, if it is not too long. Its trimmed length is judged first.
-#[tactic(auto, using(crate::proofs::MadeAnswers::trimmed_same))]
-fn encode_short(alloc: Global, parts: &EnvelopeParts<'_>) -> Result<Bytes, MakeFault>
-    requires wrapper { HasWrapper parts.now.wrapper }
-    requires payloads { AreAscending None parts.now.payloads }
-    ensures answers { AnswersShort parts.now result }
-    ensures says { IfOk result
-        (λ bytes. (said : EnvelopeSays) × (EnvelopeOf bytes said × SaysParts parts.now said)) }
-{
-    let bytes = encode_envelope(alloc, parts)?;
-    match decode_envelope(bytes.as_slice()) {
-        Ok(envelope) => {
-            if trimmed_length(&envelope) > MAX_TRIMMED {
-                return Err(MakeFault::TooLong(MAX_TRIMMED));
-            }
-        }
-        Err(_) => unreachable!(),
-    }
-    if bytes.len() as u64 > MAX_WHOLE {
-        return Err(MakeFault::TooLong(MAX_WHOLE));
-    }
-    Ok(bytes)
 }
 
 /// The tagged envelope of a description, where its files have these bytes (draft-ietf-suit-manifest-25, section 8.2).

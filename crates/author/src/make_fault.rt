@@ -1,5 +1,8 @@
 //! Why no envelope is made.
 
+ghost use Rattle.std.specs.Prelude.{◌≡◌};
+ghost use Rattle.author.specs.declared.make_fault.MakeFault.TheVariants.{NoMemory};
+
 use std::alloc::AllocError;
 use thiserror::Error;
 
@@ -14,9 +17,6 @@ pub enum MakeFault {
 }
 
 impl From<AllocError> for MakeFault {
-    ghost use Rattle.std.specs.Prelude.{◌≡◌};
-    ghost use Rattle.author.specs.declared.make_fault.MakeFault.TheVariants.{NoMemory};
-
     ghost from_gives = { λ _ f. f ≡ NoMemory };
 
     fn from(_: AllocError) -> MakeFault {

@@ -3,7 +3,7 @@
 ghost use Rattle.std.specs.Prelude.{◌≡◌};
 ghost use Rattle.serde_json.specs.View.{view};
 ghost use Rattle.json_fields.specs.Answers.{Gives};
-ghost use Rattle.author.specs.Members.{member_sequence, left_out, described_member, is_one_item, text_member_of};
+ghost use Rattle.author.specs.Members.{left_out, described_member, is_one_item, text_member_of};
 
 use crate::commands::sequence;
 use crate::scope::Scope;
@@ -11,7 +11,7 @@ use det_cbor::Cursor;
 use json_fields::{Draft, FlawKind, JsonFault, flawed, hex, object, required, sized_hex};
 use serde_json::Value;
 use std::alloc::Global;
-use suit_commands::{MAX_LEVELS, Sequence};
+use suit_commands::MAX_LEVELS;
 use suit_manifest::{Member, TextMember};
 use suit_params::Digest;
 
@@ -47,17 +47,6 @@ fn left_out(alloc: Global, value: &Value) -> Result<Digest, JsonFault>
     Ok(digest)
 }
 
-/// The commands of a member.
-pub(crate) fn member_sequence(
-    alloc: Global,
-    value: &Value,
-    scope: &Scope<'_>,
-) -> Result<Sequence, JsonFault>
-    ensures { Gives (λ s. s) result (member_sequence scope.now (view value.now)) }
-{
-    sequence(alloc, value, scope, MAX_LEVELS)
-}
-
 /// The commands of a member, or the digest of one that is left out.
 pub(crate) fn member(alloc: Global, value: &Value, scope: &Scope<'_>) -> Result<Member, JsonFault>
     ensures { Gives (λ m. m) result (described_member scope.now (view value.now)) }
@@ -65,7 +54,7 @@ pub(crate) fn member(alloc: Global, value: &Value, scope: &Scope<'_>) -> Result<
     if value.is_object() {
         Ok(Member::Apart(left_out(alloc, value)?))
     } else {
-        Ok(Member::Here(member_sequence(alloc, value, scope)?))
+        Ok(Member::Here(sequence(alloc, value, scope, MAX_LEVELS)?))
     }
 }
 

@@ -4,7 +4,7 @@ ghost use Rattle.std.specs.Prelude.{◌≡◌, Ok, IfOk};
 ghost use Rattle.author.specs.Descriptions.{described};
 ghost use Rattle.author.specs.Held.{value_of};
 
-use crate::fields::{Described, read_fields};
+use crate::fields::Described;
 use crate::{Description, FileList};
 use json_fields::JsonFault;
 use std::alloc::{AllocError, Global};
@@ -17,7 +17,7 @@ pub(crate) fn parts_of<'a>(
 ) -> Result<Described<'a>, AllocError>
     ensures { IfOk result (λ p. described files.now (value_of description.now) ≡ Ok p) }
 {
-    match read_fields(alloc, &description.value, files) {
+    match Described::read(alloc, &description.value, files) {
         Ok(parts) => Ok(parts),
         Err(JsonFault::NoMemory) => Err(AllocError),
         Err(JsonFault::Flawed(_)) => unreachable!(),

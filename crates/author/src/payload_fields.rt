@@ -56,21 +56,6 @@ fn source<'a>(
     }
 }
 
-fn payload<'a>(
-    alloc: Global,
-    value: &Value,
-    files: &'a FileList,
-) -> Result<PayloadBytes<'a>, JsonFault>
-    ensures { Gives (λ b. b) result (payload_of files.now (view value.now)) }
-{
-    let mut field = PayloadField {
-        file: None,
-        bytes: None,
-    };
-    object(alloc, value, &mut field)?;
-    source(alloc, field, files)
-}
-
 /// The payloads that were read.
 #[derive(Drop)]
 struct PayloadFields<'a> {
@@ -86,13 +71,27 @@ impl<'a> Model for PayloadFields<'a> {
     ghost view = { λ a. record { files = a.files.now; list = a.list } };
 }
 
+impl<'a> PayloadFields<'a> {
+    // The payload that a value gives.
+    fn payload(&self, alloc: Global, value: &Value) -> Result<PayloadBytes<'a>, JsonFault>
+        ensures { Gives (λ b. b) result (payload_of self.now.files (view value.now)) }
+    {
+        let mut field = PayloadField {
+            file: None,
+            bytes: None,
+        };
+        object(alloc, value, &mut field)?;
+        source(alloc, field, self.files)
+    }
+}
+
 impl Draft for PayloadFields<'_> {
     ghost use Rattle.author.specs.Payloads.{takes_payload};
 
     ghost takes = { takes_payload };
 
     fn take(&mut self, alloc: Global, key: &str, value: &Value) -> Result<(), JsonFault> {
-        let bytes = payload(alloc, value, self.files)?;
+        let bytes = self.payload(alloc, value)?;
         let key = Text::from_str(alloc, key)?;
         self.list.put(key, bytes)?;
         Ok(())

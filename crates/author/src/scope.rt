@@ -20,19 +20,10 @@ impl<'a> Model for Scope<'a> {
     ghost view = { λ s. record { files = s.files.now; shared = s.shared; count = s.count } };
 }
 
-/// A description before its fields are read: its files, how many component identifiers it lists,
-/// and the members that it gives with their content.
+/// A description before its fields are read: the scope of its sequences but the shared one, with as many
+/// components as it lists identifiers; and the members that it gives with their content.
 #[derive(Drop)]
 pub(crate) struct Source<'a> {
-    pub(crate) files: &'a FileList,
-    pub(crate) count: u32,
+    pub(crate) scope: Scope<'a>,
     pub(crate) given: Severed,
-}
-
-impl<'a> Model for Source<'a> {
-    ghost use Rattle.author.specs.Scope as plain;
-
-    ghost Value = { plain.Source };
-
-    ghost view = { λ s. record { files = s.files.now; count = s.count; given = s.given } };
 }

@@ -1,15 +1,16 @@
 -- The words that the commands take, and their values.
-use Rattle.std.proofs.Common.{◌≡◌, ℕ, [], ◌∷◌, length, eqb, true, false, ◌&&◌, ◌≤◌, Option, Some, None, option_map, refl, codes, arith}
+use Rattle.std.proofs.Common.{◌≡◌, ℕ, [], ◌∷◌, length, eqb, true, false, ◌&&◌, ◌≤◌, ◌∙◌, List, Option, Some, None, option_map, refl, codes, Bor, arith}
 use Rattle.std.specs.List.{list_all}
 use Rattle.clap.specs.Lexer.{short_of}
 use Rattle.clap.specs.Takes.{takes}
 use Rattle.clap.proofs.OnLiterals.{clap_on_literals}
-use Rattle.command_words.specs.Tasks.{Word, Words, Task, Make, Describe, Show, Check, Init, Drill}
+use Rattle.command_words.specs.Tasks.{Word, Words, texts, Task, Make, Describe, Show, Check, Init, Drill}
 use Rattle.command_words.specs.Numbers.{number_of}
 use Rattle.command_words.specs.Words.{is_plain}
 use Rattle.command_words.specs.Table.{make_of, show_of, check_of, init_of, drill_of}
 use Rattle.command_words.specs.Arguments.{check_app, drill_app, show_app, init_app, make_app}
 use Rattle.command_words.proofs.Handed.{both, value_in}
+use Rattle.command_words.proofs.TextLists.{as_many}
 
 pub no_minus : (x : ℕ) (xs : Word) → is_plain (x ∷ xs) ≡ true → eqb x 45 ≡ false
 no_minus x xs h = grind arith
@@ -54,6 +55,9 @@ checks (n ∷ w ∷ []) many plain =
     let t = takes_check n w (first_plain w [] (rest_plain n (w ∷ []) plain)) in
     record { takes_them = t.0; file = w; has_file = t.1; table = refl }
 checks (n ∷ w ∷ x ∷ more) many plain = absurd (omega arith)
+
+pub checks_texts : (words : List (Bor Word)) → length words ≡ 2 → list_all is_plain (texts words) ≡ true → Checks (texts words)
+checks_texts words many plain = checks (texts words) (as_many words ∙ many) plain
 
 pub record Drills (words : Words) : Type 0 where
   pub takes_them : takes drill_app words ≡ true
@@ -100,6 +104,9 @@ inits (n ∷ v ∷ w ∷ []) many plain =
     let t = takes_init n v w (first_plain v (w ∷ []) behind) (first_plain w [] (rest_plain v (w ∷ []) behind)) in
     record { takes_them = t.0; device = v; key = w; has_device = t.1; has_key = t.2; table = refl }
 inits (n ∷ v ∷ w ∷ x ∷ more) many plain = absurd (omega arith)
+
+pub inits_texts : (words : List (Bor Word)) → length words ≡ 3 → list_all is_plain (texts words) ≡ true → Inits (texts words)
+inits_texts words many plain = inits (texts words) (as_many words ∙ many) plain
 
 -- ---- `show`
 
@@ -203,3 +210,6 @@ makes (n ∷ u ∷ v ∷ w ∷ []) many plain =
       table = refl;
     }
 makes (n ∷ u ∷ v ∷ w ∷ x ∷ more) many plain = absurd (omega arith)
+
+pub makes_texts : (words : List (Bor Word)) → length words ≡ 4 → list_all is_plain (texts words) ≡ true → Makes (texts words)
+makes_texts words many plain = makes (texts words) (as_many words ∙ many) plain

@@ -35,19 +35,11 @@ selection_read count (Listed (i ∷ is)) small h = rw (array_read (index_of coun
 
 test_read : (scope : Scope) (levels : ℕ) (kind : TestKind) (report : ℕ) → report ≤ 15 → command_of scope levels (command_data (Test kind report)) ≡ Ok (Test kind report)
 test_read scope levels tests.Vendor report h = rw (number_read 15 report h) refl
-test_read scope levels tests.Class report h = rw (number_read 15 report h) refl
-test_read scope levels tests.Device report h = rw (number_read 15 report h) refl
-test_read scope levels tests.Slot report h = rw (number_read 15 report h) refl
-test_read scope levels tests.ImageMatch report h = rw (number_read 15 report h) refl
-test_read scope levels tests.CheckContent report h = rw (number_read 15 report h) refl
-test_read scope levels tests.Abort report h = rw (number_read 15 report h) refl
+test_read scope levels _ report h = rw (number_read 15 report h) refl
 
 act_read : (scope : Scope) (levels : ℕ) (kind : ActKind) (report : ℕ) → scope.shared ≡ false → report ≤ 15 → command_of scope levels (command_data (Act kind report)) ≡ Ok (Act kind report)
 act_read scope levels acts.Write report own h = rw (own, number_read 15 report h) refl
-act_read scope levels acts.Fetch report own h = rw (own, number_read 15 report h) refl
-act_read scope levels acts.Copy report own h = rw (own, number_read 15 report h) refl
-act_read scope levels acts.Invoke report own h = rw (own, number_read 15 report h) refl
-act_read scope levels acts.Swap report own h = rw (own, number_read 15 report h) refl
+act_read scope levels _ report own h = rw (own, number_read 15 report h) refl
 
 -- ---- trees
 

@@ -107,13 +107,13 @@ module _ (said : EnvelopeSays) (payloads : List (List ℕ × List ℕ)) (m : Man
 
   -- ---- how many components there are
 
-  count : t0.source.count ≡ count_said m
+  count : t0.source.scope.count ≡ count_said m
   count = count_read said payloads m apart h.few
 
-  small : t0.source.count ≤ 2 ^ 64
-  small = let few : length m.components ≤ 8 = h.few in let e : t0.source.count ≡ length m.components = count in omega (arith, few, e)
+  small : t0.source.scope.count ≤ 2 ^ 64
+  small = let few : length m.components ≤ 8 = h.few in let e : t0.source.scope.count ≡ length m.components = count in omega (arith, few, e)
 
-  for_count : (P : ℕ → Type 0) → P (count_said m) → P t0.source.count
+  for_count : (P : ℕ → Type 0) → P (count_said m) → P t0.source.scope.count
   for_count P p = subst P (sym count) p
 
   given : AreGiven t0.source.given (severed_in said m apart)

@@ -4,6 +4,7 @@ use Rattle.std.specs.Prelude.{codes, IfSome}
 use Rattle.std.specs.List.{AllByRecursion}
 use Rattle.std.specs.Result.{result_ok}
 use Rattle.det_cbor.specs.DataItem.{IsByte}
+use Rattle.det_cbor.specs.HeadReading.{◌>>=◌}
 use Rattle.serde_json.specs.Data.{Data, string, Items, no_items, item}
 use Rattle.json_fields.specs.declared.flaw.Flaw.{Flaw}
 use Rattle.json_fields.specs.Objects.{members_of}
@@ -17,7 +18,7 @@ use Rattle.suit_manifest.specs.declared.manifest.TextMember.TheVariants as texts
 use Rattle.suit_manifest.specs.ManifestMaking.{unplaced_held}
 use Rattle.suit_manifest.specs.ManifestWriting.{IsDigestBytes}
 use Rattle.author.specs.Descriptions.{scope_of, field_sequence, takes_field}
-use Rattle.author.specs.Members.{is_one_item}
+use Rattle.author.specs.Members.{described_member, is_one_item}
 use Rattle.author.specs.Severing.{none_severed, severed_from}
 use Rattle.describe.specs.declared.severing.Severed.{Severed}
 use Rattle.describe.specs.ValueData.{number_data, identifiers_data}
@@ -71,30 +72,31 @@ reference_taken t (Some text) empty = refl
 
 -- a sequence of the grammar
 abbrev pub IsHeld : Bool → Fields → SequenceTree → Type 0
-IsHeld shared t s = IsSequence shared t.source.count levels_allowed s
+IsHeld shared t s = IsSequence shared t.source.scope.count levels_allowed s
 
-sequence_taken : (t : Fields) (shared : Bool) (s : SequenceTree) → t.source.count ≤ 2 ^ 64 → IsHeld shared t s → field_sequence t shared (sequence_data s) ≡ Ok (unplaced s)
+sequence_taken : (t : Fields) (shared : Bool) (s : SequenceTree) → t.source.scope.count ≤ 2 ^ 64 → IsHeld shared t s → field_sequence t shared (sequence_data s) ≡ Ok (unplaced s)
 sequence_taken t shared s small h = sequence_read (scope_of t shared) small levels_allowed s h
 
-pub shared_taken : (t : Fields) (s : Option SequenceTree) → t.shared ≡ None → t.source.count ≤ 2 ^ 64 → IfSome s (IsHeld true t)
-    → TakesIf t (codes "shared") (sequence_if s) (record t { shared = unplaced_held s })
-shared_taken t None empty small h = ap (λ x. record t { shared = x }) empty
-shared_taken t (Some s) empty small h = rw (sequence_taken t true s small h) refl
+-- a field that holds a sequence, by how it is set
+abbrev TakesHeld : Bool → List ℕ → (Fields → Option SequenceTree → Fields) → Type 0
+TakesHeld shared key set =
+    (t : Fields) (s : Option SequenceTree) → t ≡ set t None → t.source.scope.count ≤ 2 ^ 64 → IfSome s (IsHeld shared t) → TakesIf t key (sequence_if s) (set t (unplaced_held s))
 
-pub validate_taken : (t : Fields) (s : Option SequenceTree) → t.validate ≡ None → t.source.count ≤ 2 ^ 64 → IfSome s (IsHeld false t)
-    → TakesIf t (codes "validate") (sequence_if s) (record t { validate = unplaced_held s })
-validate_taken t None empty small h = ap (λ x. record t { validate = x }) empty
-validate_taken t (Some s) empty small h = rw (sequence_taken t false s small h) refl
+held_taken : (shared : Bool) (key : List ℕ) (set : Fields → Option SequenceTree → Fields) → ((t : Fields) (d : Data) → takes_field t key d ≡ (field_sequence t shared d >>= λ s. Ok (set t (Some s)))) → TakesHeld shared key set
+held_taken shared key set takes t None empty small h = empty
+held_taken shared key set takes t (Some s) empty small h = takes t (sequence_data s) ∙ rw (sequence_taken t shared s small h) refl
 
-pub load_taken : (t : Fields) (s : Option SequenceTree) → t.load ≡ None → t.source.count ≤ 2 ^ 64 → IfSome s (IsHeld false t)
-    → TakesIf t (codes "load") (sequence_if s) (record t { load = unplaced_held s })
-load_taken t None empty small h = ap (λ x. record t { load = x }) empty
-load_taken t (Some s) empty small h = rw (sequence_taken t false s small h) refl
+pub shared_taken : TakesHeld true (codes "shared") (λ t s. record t { shared = s })
+shared_taken = held_taken true (codes "shared") (λ t s. record t { shared = s }) (λ t d. refl)
 
-pub invoke_taken : (t : Fields) (s : Option SequenceTree) → t.invoke ≡ None → t.source.count ≤ 2 ^ 64 → IfSome s (IsHeld false t)
-    → TakesIf t (codes "invoke") (sequence_if s) (record t { invoke = unplaced_held s })
-invoke_taken t None empty small h = ap (λ x. record t { invoke = x }) empty
-invoke_taken t (Some s) empty small h = rw (sequence_taken t false s small h) refl
+pub validate_taken : TakesHeld false (codes "validate") (λ t s. record t { validate = s })
+validate_taken = held_taken false (codes "validate") (λ t s. record t { validate = s }) (λ t d. refl)
+
+pub load_taken : TakesHeld false (codes "load") (λ t s. record t { load = s })
+load_taken = held_taken false (codes "load") (λ t s. record t { load = s }) (λ t d. refl)
+
+pub invoke_taken : TakesHeld false (codes "invoke") (λ t s. record t { invoke = s })
+invoke_taken = held_taken false (codes "invoke") (λ t s. record t { invoke = s }) (λ t d. refl)
 
 -- ---- members that may stand apart
 
@@ -111,19 +113,22 @@ MemberReads count (members.Here s) apart = IsSequence false count levels_allowed
 MemberReads count (members.Apart digest) (Some s) = IsSequence false count levels_allowed s
 MemberReads count (members.Apart digest) None = IsDigestBytes digest.bytes
 
-pub install_taken : (t : Fields) (x : Member) (apart : Option SequenceTree) → t.install ≡ members.Empty → t.source.count ≤ 2 ^ 64 → MemberReads t.source.count x apart
-    → TakesIf t (codes "install") (member_data x apart) (record t { install = read_member x apart })
-install_taken t members.Empty apart empty small h = ap (λ x. record t { install = x }) empty
-install_taken t (members.Here s) apart empty small h = rw (here_read (scope_of t false) s small h) refl
-install_taken t (members.Apart digest) (Some s) empty small h = rw (here_read (scope_of t false) s small h) refl
-install_taken t (members.Apart digest) None empty small h = rw (apart_read (scope_of t false) digest.bytes h.0 h.1) refl
+-- a member's field, by how it is set
+abbrev TakesMember : List ℕ → (Fields → Member → Fields) → Type 0
+TakesMember key set =
+    (t : Fields) (x : Member) (apart : Option SequenceTree) → t ≡ set t members.Empty → t.source.scope.count ≤ 2 ^ 64 → MemberReads t.source.scope.count x apart → TakesIf t key (member_data x apart) (set t (read_member x apart))
 
-pub payload_fetch_taken : (t : Fields) (x : Member) (apart : Option SequenceTree) → t.payload_fetch ≡ members.Empty → t.source.count ≤ 2 ^ 64 → MemberReads t.source.count x apart
-    → TakesIf t (codes "payload-fetch") (member_data x apart) (record t { payload_fetch = read_member x apart })
-payload_fetch_taken t members.Empty apart empty small h = ap (λ x. record t { payload_fetch = x }) empty
-payload_fetch_taken t (members.Here s) apart empty small h = rw (here_read (scope_of t false) s small h) refl
-payload_fetch_taken t (members.Apart digest) (Some s) empty small h = rw (here_read (scope_of t false) s small h) refl
-payload_fetch_taken t (members.Apart digest) None empty small h = rw (apart_read (scope_of t false) digest.bytes h.0 h.1) refl
+member_taken : (key : List ℕ) (set : Fields → Member → Fields) → ((t : Fields) (d : Data) → takes_field t key d ≡ (described_member (scope_of t false) d >>= λ m. Ok (set t m))) → TakesMember key set
+member_taken key set takes t members.Empty apart empty small h = empty
+member_taken key set takes t (members.Here s) apart empty small h = takes t _ ∙ rw (here_read (scope_of t false) s small h) refl
+member_taken key set takes t (members.Apart digest) (Some s) empty small h = takes t _ ∙ rw (here_read (scope_of t false) s small h) refl
+member_taken key set takes t (members.Apart digest) None empty small h = takes t _ ∙ rw (apart_read (scope_of t false) digest.bytes h.0 h.1) refl
+
+pub install_taken : TakesMember (codes "install") (λ t m. record t { install = m })
+install_taken = member_taken (codes "install") (λ t m. record t { install = m }) (λ t d. refl)
+
+pub payload_fetch_taken : TakesMember (codes "payload-fetch") (λ t m. record t { payload_fetch = m })
+payload_fetch_taken = member_taken (codes "payload-fetch") (λ t m. record t { payload_fetch = m }) (λ t d. refl)
 
 abbrev pub read_text : TextMember → Option (List ℕ) → TextMember
 read_text texts.Empty apart = texts.Empty
@@ -167,5 +172,5 @@ pub payloads_taken : (t : Fields) (ps : List (List ℕ × List ℕ)) → t.paylo
     → (list : List (List ℕ × List ℕ)) × TakesIf t (codes "payloads") (payloads_data ps) (record t { payloads = list })
 payloads_taken t [] empty h = ([], ap (λ x. record t { payloads = x }) empty)
 payloads_taken t (p ∷ ps) empty h =
-    let read = payloads_read t.source.files (p ∷ ps) h in
+    let read = payloads_read t.source.scope.files (p ∷ ps) h in
     (read.0, rw read.1 refl)

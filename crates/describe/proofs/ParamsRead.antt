@@ -10,8 +10,6 @@ use Rattle.serde_json.specs.Data.{Members, no_members, member, put}
 use Rattle.json_fields.specs.Objects.{members_of}
 use Rattle.suit_params.specs.declared.param.Param.{Param}
 use Rattle.suit_params.specs.declared.param.Param.TheVariants as params
-use Rattle.suit_params.specs.declared.param.ParamKey.{ParamKey}
-use Rattle.suit_params.specs.declared.param.ParamKey.TheVariants as keys
 use Rattle.suit_params.specs.ParamKeys.{key_of, key_number}
 use Rattle.suit_params.specs.ParamLaws.{AreAbove, AreAscending}
 use Rattle.suit_params.specs.ParamMaking.{IsParam, IsBelow}
@@ -25,19 +23,9 @@ use Rattle.describe.proofs.ParamOrder.{number_of, all_placed, HaveOther, AreBelo
 
 -- ---- single ones
 
-pub name_read : (key : ParamKey) → param_named (param_name key) ≡ Some key
-name_read keys.Vendor = refl
-name_read keys.Class = refl
-name_read keys.Device = refl
-name_read keys.Digest = refl
-name_read keys.Slot = refl
-name_read keys.Strict = refl
-name_read keys.Soft = refl
-name_read keys.Size = refl
-name_read keys.Content = refl
-name_read keys.Uri = refl
-name_read keys.Source = refl
-name_read keys.Args = refl
+pub name_read : (p : Param) → param_named (param_name p) ≡ Some (key_of p)
+name_read (params.Vendor id) = refl
+name_read _ = refl
 
 pub index_read : (count i : ℕ) → i < count → i < 2 ^ 64 → index_of count (number_data i) ≡ Ok i
 index_read count i lt small = rw (number_read (2 ^ 64 - 1) i (omega arith)) (grind (arith, nat_tests))
@@ -60,26 +48,26 @@ value_read scope (params.Args bytes) h below = rw (hex_read bytes h.1) refl
 
 abbrev members_for : List Param → Members
 members_for [] = no_members
-members_for (q ∷ qs) = member (param_name (key_of q)) (value_data q) (members_for qs)
+members_for (q ∷ qs) = member (param_name q) (value_data q) (members_for qs)
 
 abbrev by_name : Param → List Param → List Param
 by_name p [] = p ∷ []
-by_name p (q ∷ qs) = match_ordering (slice_cmp nat_cmp (param_name (key_of p)) (param_name (key_of q))) (p ∷ q ∷ qs) (p ∷ q ∷ qs) (q ∷ by_name p qs)
+by_name p (q ∷ qs) = match_ordering (slice_cmp nat_cmp (param_name p) (param_name q)) (p ∷ q ∷ qs) (p ∷ q ∷ qs) (q ∷ by_name p qs)
 
 -- names are those of one parameter
-one_name : (p q : Param) → slice_cmp nat_cmp (param_name (key_of p)) (param_name (key_of q)) ≡ Equal → number_of p ≡ number_of q
+one_name : (p q : Param) → slice_cmp nat_cmp (param_name p) (param_name q) ≡ Equal → number_of p ≡ number_of q
 one_name p q e =
-    let same : param_name (key_of p) ≡ param_name (key_of q) = (bytes_eq-Decides (param_name (key_of p)) (param_name (key_of q))).0 (sym (is_eq-slice_cmp (param_name (key_of p)) (param_name (key_of q))) ∙ ap is_eq e) in
-    ap (λ k. key_number (unwrap_or k (key_of p))) (sym (name_read (key_of p)) ∙ ap param_named same ∙ name_read (key_of q))
+    let same : param_name p ≡ param_name q = (bytes_eq-Decides (param_name p) (param_name q)).0 (sym (is_eq-slice_cmp (param_name p) (param_name q)) ∙ ap is_eq e) in
+    ap (λ k. key_number (unwrap_or k (key_of p))) (sym (name_read p) ∙ ap param_named same ∙ name_read q)
 
-put_here : (o : Ordering) (p q : Param) (qs : List Param) → slice_cmp nat_cmp (param_name (key_of p)) (param_name (key_of q)) ≡ o → number_of p ≢ number_of q
-    → put (param_name (key_of p)) (value_data p) (members_for qs) ≡ members_for (by_name p qs)
-    → put (param_name (key_of p)) (value_data p) (members_for (q ∷ qs)) ≡ members_for (by_name p (q ∷ qs))
+put_here : (o : Ordering) (p q : Param) (qs : List Param) → slice_cmp nat_cmp (param_name p) (param_name q) ≡ o → number_of p ≢ number_of q
+    → put (param_name p) (value_data p) (members_for qs) ≡ members_for (by_name p qs)
+    → put (param_name p) (value_data p) (members_for (q ∷ qs)) ≡ members_for (by_name p (q ∷ qs))
 put_here Less p q qs e other later = rw e refl
 put_here Equal p q qs e other later = absurd (other (one_name p q e))
-put_here Greater p q qs e other later = rw e (ap (member (param_name (key_of q)) (value_data q)) later)
+put_here Greater p q qs e other later = rw e (ap (member (param_name q) (value_data q)) later)
 
-put_by_name : (p : Param) (qs : List Param) → HaveOther (number_of p) qs → put (param_name (key_of p)) (value_data p) (members_for qs) ≡ members_for (by_name p qs)
+put_by_name : (p : Param) (qs : List Param) → HaveOther (number_of p) qs → put (param_name p) (value_data p) (members_for qs) ≡ members_for (by_name p qs)
 put_by_name p [] other = refl
 put_by_name p (q ∷ qs) other = put_here _ p q qs refl other.0 (put_by_name p qs other.1)
 
@@ -92,7 +80,7 @@ kept_by P Greater p q qs rest h k hs ks = (k, ks)
 
 by_name_kept : (P : Param → Type 0) (p : Param) (qs : List Param) → P p → AllByRecursion P qs → AllByRecursion P (by_name p qs)
 by_name_kept P p [] h hs = (h, tt)
-by_name_kept P p (q ∷ qs) h hs = kept_by P (slice_cmp nat_cmp (param_name (key_of p)) (param_name (key_of q))) p q qs (by_name p qs) h hs.0 hs.1 (by_name_kept P p qs h hs.1)
+by_name_kept P p (q ∷ qs) h hs = kept_by P (slice_cmp nat_cmp (param_name p) (param_name q)) p q qs (by_name p qs) h hs.0 hs.1 (by_name_kept P p qs h hs.1)
 
 -- placed by its name or last, it stands at the same place
 placed_by : (o : Ordering) (p q : Param) (qs rest ps : List Param) → number_of p ≢ number_of q → HaveOther (number_of p) qs
@@ -105,7 +93,7 @@ placed_by Greater p q qs rest ps other others later = later
 placed_by_name : (p : Param) (qs ps : List Param) → HaveOther (number_of p) qs → all_placed (by_name p qs) ps ≡ placed_among p (all_placed qs ps)
 placed_by_name p [] ps other = refl
 placed_by_name p (q ∷ qs) ps other =
-    placed_by (slice_cmp nat_cmp (param_name (key_of p)) (param_name (key_of q))) p q qs (by_name p qs) ps other.0 other.1 (placed_by_name p qs (placed_among q ps) other.1)
+    placed_by (slice_cmp nat_cmp (param_name p) (param_name q)) p q qs (by_name p qs) ps other.0 other.1 (placed_by_name p qs (placed_among q ps) other.1)
 
 -- ---- reading
 
@@ -115,7 +103,7 @@ IsReadable scope p = IsParam p × IsBelow scope.count p
 members_read : (scope : Scope) (qs ps : List Param) → AllByRecursion (IsReadable scope) qs
     → members_of takes_param (record { scope = scope; list = ps }) (members_for qs) ≡ Ok (record { scope = scope; list = all_placed qs ps })
 members_read scope [] ps h = refl
-members_read scope (q ∷ qs) ps h = rw (name_read (key_of q), value_read scope q h.0.0 h.0.1) (members_read scope qs (placed_among q ps) h.1)
+members_read scope (q ∷ qs) ps h = rw (name_read q, value_read scope q h.0.0 h.0.1) (members_read scope qs (placed_among q ps) h.1)
 
 -- parameters that were put before, those that are put then, and how they are read
 other_above : (n : ℕ) (p : Param) (qs : List Param) → n < number_of p → AreBelow n qs → HaveOther (number_of p) qs

@@ -11,7 +11,6 @@ use Rattle.serde_json.specs.View.{items_of}
 use Rattle.serde_json.specs.Written.{has_float, items_have_float, members_have_float}
 use Rattle.suit_params.specs.declared.param.Param.{Param}
 use Rattle.suit_params.specs.declared.param.Param.TheVariants as params
-use Rattle.suit_params.specs.ParamKeys.{key_of}
 use Rattle.suit_commands.specs.declared.selection.Selection.{Selection}
 use Rattle.suit_commands.specs.declared.selection.Selection.TheVariants.{One, All, Listed}
 use Rattle.suit_commands.specs.Tree.{CommandTree, Test, Act, Index, Override, TryEach, RunSequence, SequenceTree, NoSteps, StepThen, BranchesTree, NoBranches, BranchThen, NullThen}
@@ -101,7 +100,7 @@ all_plain form h (x ∷ xs) = (h x, all_plain form h xs)
 
 -- ---- parameters and commands
 
-value_plain : (p : Param) → (name_under (param_name (key_of p)) (value_data p) ≡ None) × IsPlain (value_data p)
+value_plain : (p : Param) → (name_under (param_name p) (value_data p) ≡ None) × IsPlain (value_data p)
 value_plain (params.Slot n) = (refl, refl)
 value_plain (params.Size n) = (refl, refl)
 value_plain (params.Source i) = (refl, refl)
@@ -111,7 +110,7 @@ params_plain : (ps : List Param) (ms : Members) → HoldsPlain ms → HoldsPlain
 params_plain [] ms h = h
 params_plain (p ∷ ps) ms h =
     let v = value_plain p in
-    params_plain ps (put (param_name (key_of p)) (value_data p) ms) (put_plain (param_name (key_of p)) (value_data p) ms v.0 v.1 h)
+    params_plain ps (put (param_name p) (value_data p) ms) (put_plain (param_name p) (value_data p) ms v.0 v.1 h)
 
 selection_plain : (s : Selection) → IsPlain (selection_data s)
 selection_plain (One i) = refl

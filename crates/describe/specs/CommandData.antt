@@ -1,9 +1,7 @@
 -- Commands in a description: arrays of a name and an argument. Places are not written.
 use Rattle.std.specs.Prelude.{ℕ, true, List, codes, Option, Some, None, option_map}
 use Rattle.serde_json.specs.Data.{Data, null, boolean, string, array, Items, no_items, item}
-use Rattle.suit_commands.specs.declared.kinds.TestKind.{TestKind}
 use Rattle.suit_commands.specs.declared.kinds.TestKind.TheVariants as tests
-use Rattle.suit_commands.specs.declared.kinds.ActKind.{ActKind}
 use Rattle.suit_commands.specs.declared.kinds.ActKind.TheVariants as acts
 use Rattle.suit_commands.specs.declared.selection.Selection.{Selection}
 use Rattle.suit_commands.specs.declared.selection.Selection.TheVariants.{One, All, Listed}
@@ -11,21 +9,23 @@ use Rattle.suit_commands.specs.Tree.{CommandTree, Test, Act, Index, Override, Tr
 use Rattle.describe.specs.ValueData.{number_data, array_data}
 use Rattle.describe.specs.ParamData.{params_data}
 
-abbrev pub test_name : TestKind → List ℕ
-test_name tests.Vendor = codes "vendor"
-test_name tests.Class = codes "class"
-test_name tests.Device = codes "device"
-test_name tests.Slot = codes "slot"
-test_name tests.ImageMatch = codes "match"
-test_name tests.CheckContent = codes "content"
-test_name tests.Abort = codes "abort"
-
-abbrev pub act_name : ActKind → List ℕ
-act_name acts.Write = codes "write"
-act_name acts.Fetch = codes "fetch"
-act_name acts.Copy = codes "copy"
-act_name acts.Invoke = codes "invoke"
-act_name acts.Swap = codes "swap"
+abbrev pub command_name : CommandTree → List ℕ
+command_name (Test tests.Vendor report) = codes "vendor"
+command_name (Test tests.Class report) = codes "class"
+command_name (Test tests.Device report) = codes "device"
+command_name (Test tests.Slot report) = codes "slot"
+command_name (Test tests.ImageMatch report) = codes "match"
+command_name (Test tests.CheckContent report) = codes "content"
+command_name (Test tests.Abort report) = codes "abort"
+command_name (Act acts.Write report) = codes "write"
+command_name (Act acts.Fetch report) = codes "fetch"
+command_name (Act acts.Copy report) = codes "copy"
+command_name (Act acts.Invoke report) = codes "invoke"
+command_name (Act acts.Swap report) = codes "swap"
+command_name (Index selection) = codes "index"
+command_name (Override list) = codes "set"
+command_name (TryEach tries) = codes "try"
+command_name (RunSequence inner) = codes "run"
 
 -- an index, all components, or a list of indices
 abbrev pub selection_data : Selection → Data
@@ -43,12 +43,15 @@ abbrev mutual
   step_data (StepThen place command rest) = item (command_data command) (step_data rest)
 
   pub command_data : CommandTree → Data
-  command_data (Test kind report) = named (test_name kind) (number_data report)
-  command_data (Act kind report) = named (act_name kind) (number_data report)
-  command_data (Index selection) = named (codes "index") (selection_data selection)
-  command_data (Override list) = named (codes "set") (params_data list)
-  command_data (TryEach tries) = named (codes "try") (array (branch_data tries))
-  command_data (RunSequence inner) = named (codes "run") (array (step_data inner))
+  command_data (Test kind report) =
+      named (command_name (Test kind report)) (number_data report)
+  command_data (Act kind report) = named (command_name (Act kind report)) (number_data report)
+  command_data (Index selection) =
+      named (command_name (Index selection)) (selection_data selection)
+  command_data (Override list) = named (command_name (Override list)) (params_data list)
+  command_data (TryEach tries) = named (command_name (TryEach tries)) (array (branch_data tries))
+  command_data (RunSequence inner) =
+      named (command_name (RunSequence inner)) (array (step_data inner))
 
   pub branch_data : BranchesTree → Items
   branch_data NoBranches = no_items

@@ -15,15 +15,14 @@ if_held (Some content) (Apart stated) = Apart stated
 
 -- the manifest with those members alone: of these `members_of` tells, and of no other
 abbrev pub only_there : EnvelopeSays → Manifest → Manifest
-only_there said m = record {
-  sequence = m.sequence;
-  components = m.components;
-  shared = None;
-  reference = None;
-  validate = None;
-  load = None;
-  invoke = None;
-  payload_fetch = if_held said.payload_fetch m.payload_fetch;
-  install = if_held said.install m.install;
-  text = texts.Empty;
-}
+only_there said m =
+    record m {
+      shared = None;
+      reference = None;
+      validate = None;
+      load = None;
+      invoke = None;
+      payload_fetch = if_held said.payload_fetch m.payload_fetch;
+      install = if_held said.install m.install;
+      text = texts.Empty;
+    }

@@ -4,7 +4,7 @@ ghost use Rattle.std.specs.Prelude.{◌≡◌, IfOk};
 ghost use Rattle.serde_json.specs.Data.{array};
 ghost use Rattle.serde_json.specs.View.{view};
 ghost use Rattle.suit_commands.specs.View.{command_tree};
-ghost use Rattle.describe.specs.CommandData.{test_name, act_name, named, sequence_data, command_data, branch_data};
+ghost use Rattle.describe.specs.CommandData.{command_name, named, sequence_data, command_data, branch_data};
 
 use crate::params::params;
 use crate::selection::selection;
@@ -12,29 +12,62 @@ use serde_json::Value;
 use std::alloc::{AllocError, Global};
 use suit_commands::{ActKind, Branches, Command, Sequence, TestKind};
 
-fn test_name(kind: TestKind) -> &'static str
-    ensures { result.now ≡ test_name kind }
+fn command_name(command: &Command) -> &'static str
+    ensures { result.now ≡ command_name (command_tree command.now) }
 {
-    match kind {
-        TestKind::Vendor => "vendor",
-        TestKind::Class => "class",
-        TestKind::Device => "device",
-        TestKind::Slot => "slot",
-        TestKind::ImageMatch => "match",
-        TestKind::CheckContent => "content",
-        TestKind::Abort => "abort",
-    }
-}
-
-fn act_name(kind: ActKind) -> &'static str
-    ensures { result.now ≡ act_name kind }
-{
-    match kind {
-        ActKind::Write => "write",
-        ActKind::Fetch => "fetch",
-        ActKind::Copy => "copy",
-        ActKind::Invoke => "invoke",
-        ActKind::Swap => "swap",
+    match command {
+        Command::Test {
+            kind: TestKind::Vendor,
+            ..
+        } => "vendor",
+        Command::Test {
+            kind: TestKind::Class,
+            ..
+        } => "class",
+        Command::Test {
+            kind: TestKind::Device,
+            ..
+        } => "device",
+        Command::Test {
+            kind: TestKind::Slot,
+            ..
+        } => "slot",
+        Command::Test {
+            kind: TestKind::ImageMatch,
+            ..
+        } => "match",
+        Command::Test {
+            kind: TestKind::CheckContent,
+            ..
+        } => "content",
+        Command::Test {
+            kind: TestKind::Abort,
+            ..
+        } => "abort",
+        Command::Act {
+            kind: ActKind::Write,
+            ..
+        } => "write",
+        Command::Act {
+            kind: ActKind::Fetch,
+            ..
+        } => "fetch",
+        Command::Act {
+            kind: ActKind::Copy,
+            ..
+        } => "copy",
+        Command::Act {
+            kind: ActKind::Invoke,
+            ..
+        } => "invoke",
+        Command::Act {
+            kind: ActKind::Swap,
+            ..
+        } => "swap",
+        Command::Index(_) => "index",
+        Command::Override(_) => "set",
+        Command::TryEach(_) => "try",
+        Command::Run(_) => "run",
     }
 }
 
@@ -64,13 +97,14 @@ pub(crate) fn sequence(alloc: Global, sequence: &Sequence) -> Result<Value, Allo
 fn command(alloc: Global, command: &Command) -> Result<Value, AllocError>
     ensures { IfOk result (λ v. view v ≡ command_data (command_tree command.now)) }
 {
+    let name = command_name(command);
     match command {
-        Command::Test { kind, report } => named(alloc, test_name(*kind), Value::from(*report)),
-        Command::Act { kind, report } => named(alloc, act_name(*kind), Value::from(*report)),
-        Command::Index(chosen) => named(alloc, "index", selection(alloc, chosen)?),
-        Command::Override(list) => named(alloc, "set", params(alloc, list)?),
-        Command::TryEach(tries) => named(alloc, "try", branches(alloc, tries)?),
-        Command::Run(inner) => named(alloc, "run", sequence(alloc, inner)?),
+        Command::Test { report, .. } => named(alloc, name, Value::from(*report)),
+        Command::Act { report, .. } => named(alloc, name, Value::from(*report)),
+        Command::Index(chosen) => named(alloc, name, selection(alloc, chosen)?),
+        Command::Override(list) => named(alloc, name, params(alloc, list)?),
+        Command::TryEach(tries) => named(alloc, name, branches(alloc, tries)?),
+        Command::Run(inner) => named(alloc, name, sequence(alloc, inner)?),
     }
 }
 

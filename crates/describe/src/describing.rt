@@ -17,9 +17,11 @@ use std::alloc::{AllocError, Global};
 use suit_envelope::{Envelope, all_payloads};
 use suit_manifest::{Manifest, Members};
 
+type Object = Map<String, Value>;
+
 // Puts a field, if it is there.
 fn put_field(
-    object: &mut Map<String, Value>,
+    object: &mut Object,
     alloc: Global,
     key: &str,
     value: Option<Value>,
@@ -43,11 +45,7 @@ fn reference_value(alloc: Global, reference: &Option<Text>) -> Result<Option<Val
     }
 }
 
-fn put_heads(
-    object: &mut Map<String, Value>,
-    alloc: Global,
-    manifest: &Manifest,
-) -> Result<(), AllocError>
+fn put_heads(object: &mut Object, alloc: Global, manifest: &Manifest) -> Result<(), AllocError>
     ensures { OnOk result (members_view object.new.entries
         ≡ with_fields (head_fields manifest.now) (members_view object.old.entries)) }
 {
@@ -63,11 +61,7 @@ fn put_heads(
     put_field(object, alloc, "reference", reference)
 }
 
-fn put_sequences(
-    object: &mut Map<String, Value>,
-    alloc: Global,
-    manifest: &Manifest,
-) -> Result<(), AllocError>
+fn put_sequences(object: &mut Object, alloc: Global, manifest: &Manifest) -> Result<(), AllocError>
     ensures { OnOk result (members_view object.new.entries
         ≡ with_fields (sequence_fields manifest.now) (members_view object.old.entries)) }
 {
@@ -83,7 +77,7 @@ fn put_sequences(
 
 // Puts the members that may stand apart, and the names of those that do.
 fn put_severable(
-    object: &mut Map<String, Value>,
+    object: &mut Object,
     alloc: Global,
     envelope: &Envelope<'_>,
     manifest: &Manifest,
@@ -110,7 +104,7 @@ fn put_severable(
 }
 
 fn put_payloads(
-    object: &mut Map<String, Value>,
+    object: &mut Object,
     alloc: Global,
     envelope: &Envelope<'_>,
 ) -> Result<(), AllocError>

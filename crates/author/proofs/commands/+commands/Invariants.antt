@@ -1,4 +1,4 @@
-use Rattle.std.proofs.Common.{◌≡◌, ◌+◌, ◌*◌, drop}
+use Rattle.std.proofs.Common.{◌≡◌, ◌+◌, ◌-◌, ◌*◌, drop}
 use Rattle.serde_json.specs.View.{items_view}
 use Rattle.author.specs.Commands.{steps_from, branches_from}
 use Rattle.author.proofs.Growing.{after_steps, after_branches}
@@ -7,12 +7,9 @@ use Rattle.author.proofs.commands.+commands.Given as goal
 abbrev pub decreases-sequence : goal.decreases-sequence
 decreases-sequence l = 7 * l.levels
 
-abbrev pub decreases-steps : goal.decreases-steps
-decreases-steps l = 7 * l.levels + 6
-
-abbrev pub invariant-steps-loop-index : goal.invariant-steps-loop-index
-invariant-steps-loop-index l =
-    steps_from l.scope l.levels 0 (items_view l.values) ≡ after_steps l.sequence (steps_from l.scope l.levels l.index (items_view (drop l.index l.values)))
+abbrev pub invariant-sequence-loop-index : goal.invariant-sequence-loop-index
+invariant-sequence-loop-index l =
+    steps_from l.scope (l.levels - 1) 0 (items_view l.values) ≡ after_steps l.sequence (steps_from l.scope (l.levels - 1) l.index (items_view (drop l.index l.values)))
 
 abbrev pub decreases-command : goal.decreases-command
 decreases-command l = 7 * l.levels + 5
@@ -23,11 +20,8 @@ decreases-named l = 7 * l.levels + 4
 abbrev pub decreases-tries : goal.decreases-tries
 decreases-tries l = 7 * l.levels + 3
 
-abbrev pub decreases-branches : goal.decreases-branches
-decreases-branches l = 7 * l.levels + 2
-
-abbrev pub invariant-branches-loop-index : goal.invariant-branches-loop-index
-invariant-branches-loop-index l =
+abbrev pub invariant-tries-loop-index : goal.invariant-tries-loop-index
+invariant-tries-loop-index l =
     branches_from l.scope l.levels 0 (items_view l.values) ≡ after_branches l.branches (branches_from l.scope l.levels l.index (items_view (drop l.index l.values)))
 
 abbrev pub decreases-branch : goal.decreases-branch

@@ -2,34 +2,25 @@ use Rattle.std.proofs.Common.{◌∙◌, ap, sym, codes, arith, Some}
 use Rattle.command_words.specs.Tasks.{Word, texts, Make}
 use Rattle.command_words.specs.Arguments.{make_app}
 use Rattle.command_words.proofs.Handed.{taken, is_there, is_that}
-use Rattle.command_words.proofs.TextLists.{as_many}
-use Rattle.command_words.proofs.Taken.{makes}
+use Rattle.command_words.proofs.Taken.{makes_texts}
 use Rattle.command_words.proofs.rows.make.Goals as goal
 
 pub found-requires : goal.found-requires
-found-requires c =
-    let h = makes (texts c.args.words.now) (as_many c.args.words.now ∙ omega arith) c.requires in
-    taken make_app (texts c.args.words.now) c.in_ok-make_command.field-0 c.in_ok-make_command.ensures h.takes_them
+found-requires c = taken make_app (texts c.args.words.now) c.in_ok-make_command.field-0 c.in_ok-make_command.ensures (makes_texts c.args.words.now (omega arith) c.requires).takes_them
 
 pub value_of-description-requires : goal.value_of-description-requires
-value_of-description-requires c =
-    let h = makes (texts c.args.words.now) (as_many c.args.words.now ∙ omega arith) c.requires in
-    is_there make_app (texts c.args.words.now) c.in_ok-make_command.field-0 c.in_ok-make_command.ensures _ c.in_ok-matches.ensures (codes "DESCRIPTION") h.description h.has_description
+value_of-description-requires c = is_there make_app (texts c.args.words.now) c.in_ok-make_command.field-0 c.in_ok-make_command.ensures _ c.in_ok-matches.ensures (codes "DESCRIPTION") _ (makes_texts c.args.words.now (omega arith) c.requires).has_description
 
 pub value_of-key-requires : goal.value_of-key-requires
-value_of-key-requires c =
-    let h = makes (texts c.args.words.now) (as_many c.args.words.now ∙ omega arith) c.requires in
-    is_there make_app (texts c.args.words.now) c.in_ok-make_command.field-0 c.in_ok-make_command.ensures _ c.in_ok-matches.ensures (codes "KEY") h.key h.has_key
+value_of-key-requires c = is_there make_app (texts c.args.words.now) c.in_ok-make_command.field-0 c.in_ok-make_command.ensures _ c.in_ok-matches.ensures (codes "KEY") _ (makes_texts c.args.words.now (omega arith) c.requires).has_key
 
 pub value_of-out-requires : goal.value_of-out-requires
-value_of-out-requires c =
-    let h = makes (texts c.args.words.now) (as_many c.args.words.now ∙ omega arith) c.requires in
-    is_there make_app (texts c.args.words.now) c.in_ok-make_command.field-0 c.in_ok-make_command.ensures _ c.in_ok-matches.ensures (codes "OUT") h.out h.has_out
+value_of-out-requires c = is_there make_app (texts c.args.words.now) c.in_ok-make_command.field-0 c.in_ok-make_command.ensures _ c.in_ok-matches.ensures (codes "OUT") _ (makes_texts c.args.words.now (omega arith) c.requires).has_out
 
 pub returns : goal.returns
 returns c =
     let words = texts c.args.words.now in
-    let h = makes words (as_many c.args.words.now ∙ omega arith) c.requires in
+    let h = makes_texts c.args.words.now (omega arith) c.requires in
     let description = is_that make_app words c.in_ok-make_command.field-0 c.in_ok-make_command.ensures _ c.in_ok-matches.ensures (codes "DESCRIPTION") h.description _ h.has_description c.value_of-description.ensures in
     let key = is_that make_app words c.in_ok-make_command.field-0 c.in_ok-make_command.ensures _ c.in_ok-matches.ensures (codes "KEY") h.key _ h.has_key c.value_of-key.ensures in
     let out = is_that make_app words c.in_ok-make_command.field-0 c.in_ok-make_command.ensures _ c.in_ok-matches.ensures (codes "OUT") h.out _ h.has_out c.value_of-out.ensures in

@@ -1,6 +1,6 @@
 use Rattle.std.proofs.Common.{arith}
 use Rattle.author.proofs.MadeAnswers.{trimmed_long, whole_long, both_short, never_refused}
-use Rattle.author.proofs.made_envelope.encode_short.Goals as goal
+use Rattle.author.proofs.short_envelope.encode_short.Goals as goal
 
 pub returns-then-trimmed_length-gt-MAX_TRIMMED-clause-answers : goal.returns-then-trimmed_length-gt-MAX_TRIMMED-clause-answers
 returns-then-trimmed_length-gt-MAX_TRIMMED-clause-answers c =
