@@ -10,7 +10,7 @@ ghost use Rattle.step_machine.specs.Spots.{IsSpot, content_of, room_at};
 use crate::Spot;
 use crate::outside::Steps;
 use flash_layout::FlashFault;
-use flash_slots::{Ram, digest, length, same_content};
+use flash_slots::{Ram, digest, is_equal, length, same_content};
 use sha2::{Digest as _, Sha256};
 use suit_edge::Disk;
 
@@ -20,12 +20,6 @@ fn digest_of(bytes: &[u8]) -> [u8; 32]
     let mut hasher = Sha256::new();
     hasher.update(bytes);
     hasher.finalize()
-}
-
-fn is_equal(a: &[u8], b: &[u8]) -> bool
-    ensures { result ≡ bytes_eq a.now b.now }
-{
-    a == b
 }
 
 // The SHA-256 of a content.

@@ -92,10 +92,7 @@ fn copy_to_slot<D: Disk>(
         Ok(()) => {}
         Err(FlashFault) => return Err(FlashFault),
     }
-    match writing.finish(disk) {
-        Ok(()) => Ok(()),
-        Err(FlashFault) => Err(FlashFault),
-    }
+    writing.finish(disk)
 }
 
 // Copies the first bytes of a source to a component in working memory that has room for them.
@@ -162,14 +159,8 @@ fn copy_content<D: Disk>(
     ensures keeps { IsTrue D.told → Keeps (OutsideSpot spot) (D.flash disk.old) (D.flash disk.new) }
 {
     match spot {
-        Spot::Flash(slot) => match copy_to_slot(disk, ram, slot, source, size, room) {
-            Ok(()) => Ok(()),
-            Err(FlashFault) => Err(FlashFault),
-        },
-        Spot::Ram(component) => match copy_to_ram(disk, ram, component, source, size, room) {
-            Ok(()) => Ok(()),
-            Err(FlashFault) => Err(FlashFault),
-        },
+        Spot::Flash(slot) => copy_to_slot(disk, ram, slot, source, size, room),
+        Spot::Ram(component) => copy_to_ram(disk, ram, component, source, size, room),
     }
 }
 

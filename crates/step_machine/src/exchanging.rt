@@ -53,10 +53,7 @@ fn write_piece<D: Disk>(
     ensures keeps { IsTrue D.told → Keeps (OutsideSpot spot) (D.flash disk.old) (D.flash disk.new) }
 {
     match spot {
-        Spot::Flash(slot) => match overwrite(disk, slot, from, piece) {
-            Ok(()) => Ok(()),
-            Err(FlashFault) => Err(FlashFault),
-        },
+        Spot::Flash(slot) => overwrite(disk, slot, from, piece),
         Spot::Ram(component) => {
             ram.put(component, from as usize, piece);
             Ok(())
@@ -77,10 +74,7 @@ fn set_size<D: Disk>(disk: &mut D, ram: &mut Ram, spot: Spot, size: u64) -> Resu
     ensures keeps { IsTrue D.told → Keeps (OutsideSpot spot) (D.flash disk.old) (D.flash disk.new) }
 {
     match spot {
-        Spot::Flash(slot) => match set_length(disk, slot, size) {
-            Ok(()) => Ok(()),
-            Err(FlashFault) => Err(FlashFault),
-        },
+        Spot::Flash(slot) => set_length(disk, slot, size),
         Spot::Ram(component) => {
             ram.cut(component, size as usize);
             Ok(())

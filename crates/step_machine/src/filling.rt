@@ -72,10 +72,7 @@ pub(crate) fn fill<D: Disk>(
     ensures keeps { IsTrue D.told → Keeps (OutsideSpot spot) (D.flash disk.old) (D.flash disk.new) }
 {
     match spot {
-        Spot::Flash(slot) => match fill_slot(disk, slot, bytes) {
-            Ok(()) => Ok(()),
-            Err(FlashFault) => Err(FlashFault),
-        },
+        Spot::Flash(slot) => fill_slot(disk, slot, bytes),
         Spot::Ram(component) => {
             fill_ram(ram, component, bytes);
             Ok(())

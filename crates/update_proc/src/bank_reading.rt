@@ -7,15 +7,9 @@ ghost use Rattle.rollback_record.specs.SoundFlash.{recorded_bank};
 ghost use Rattle.std.specs.Prelude.{◌≡◌, ◌↔◌, ◌+◌, ◌<◌, ◌≤◌, IfOk, IsTrue, length, slice_range};
 
 use flash_layout::{FlashFault, Record, VERSION_1, bank};
+use flash_slots::is_equal;
 use step_machine::Steps;
 use suit_edge::{Disk, Edge};
-
-// Whether two pieces are the same.
-fn is_equal(a: &[u8], b: &[u8]) -> bool
-    ensures { IsTrue result ↔ (a.now ≡ b.now) }
-{
-    a == b
-}
 
 // Whether a piece stands at the place.
 fn has_piece<D: Disk>(

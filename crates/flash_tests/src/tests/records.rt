@@ -196,13 +196,11 @@ fn what_goes_back_is_refused(rt: HostRuntime) {
     assert!(rt; judge(None, 0, &digest(1)) == Judged::Accepted);
     assert!(rt; judged(&held, 7, 7) == Judged::Accepted);
     assert!(rt; judged(&held, 8, 1) == Judged::Accepted);
-    assert!(rt;
-        judged(&held, 6, 7)
-            == Judged::Lower {
-                recorded: 7,
-                offered: 6
-            }
-    );
+    let lower = Judged::Lower {
+        recorded: 7,
+        offered: 6,
+    };
+    assert!(rt; judged(&held, 6, 7) == lower);
     let other = Judged::OtherDigest {
         recorded: digest(7),
         offered: digest(8),
@@ -210,11 +208,5 @@ fn what_goes_back_is_refused(rt: HostRuntime) {
     assert!(rt; judged(&held, 7, 8) == other);
     let last = made(u64::MAX, 7);
     assert!(rt; judged(&last, 8, 8) == Judged::Worn);
-    assert!(rt;
-        judged(&last, 6, 8)
-            == Judged::Lower {
-                recorded: 7,
-                offered: 6
-            }
-    );
+    assert!(rt; judged(&last, 6, 8) == lower);
 }

@@ -4,6 +4,7 @@ use Rattle.flash_layout.specs.Slots.{slot_content}
 use Rattle.flash_slots.specs.Contents.{pieces_of}
 use Rattle.step_machine.specs.declared.spot.Spot.TheVariants as spots
 use Rattle.step_machine.specs.Spots.{IsSpot}
+use Rattle.step_machine.proofs.Outcomes.{on_ok}
 use Rattle.step_machine.proofs.Ranging.{length_put, pieces_put, slot_put}
 use Rattle.step_machine.proofs.Rooms.{kept_area}
 use Rattle.step_machine.proofs.copying.copy_to_slot.Goals as goal
@@ -15,8 +16,8 @@ pub returns-in-Err-put_pieces-clause-keeps : goal.returns-in-Err-put_pieces-clau
 returns-in-Err-put_pieces-clause-keeps g c t =
     pieces_put c.args.slot c.in-Ok.writing.slot _ _ _ _ c.in-Ok.ensures.slot (g.met.D.Disk.obeys c.begin.new.disk t) (c.begin.ensures.keeps t) (c.put_pieces.ensures.keeps t)
 
-pub returns-in-Ok-finish-clause-content : goal.returns-in-Ok-finish-clause-content
-returns-in-Ok-finish-clause-content g c t =
+pub returns-clause-content : goal.returns-clause-content
+returns-clause-content g c t =
     let slot = c.args.slot in
     let writing = c.put_pieces.new.writing in
     let first = g.D.Disk.flash c.args.disk.now in
@@ -26,16 +27,12 @@ returns-in-Ok-finish-clause-content g c t =
     let inside : IsSpot (length first.reads) c.args.ram.now c.args.source = subst (λ (n : ℕ). IsSpot n c.args.ram.now c.args.source) (sym (g.met.D.Disk.obeys c.args.disk.now t).fits) c.requires.source in
     let same = kept_area (spots.Flash slot) c.args.source c.args.ram.now c.args.ram.now first begun c.requires.clear inside refl
     (length_put slot first begun (c.begin.ensures.keeps t)) in
+    on_ok c.finish.result (c.finish.ensures.content t) (λ is.
     ap (λ (x : Slot). slot_content x (g.D.Disk.flash c.finish.new.disk).reads) (sym same_slot)
-    ∙ c.in-Ok-finish.ensures.content t ∙ ap (λ (n : ℕ). pieces_of writing.slot n put.reads) c.in-Ok-put_pieces.ensures.written
-    ∙ c.in-Ok-put_pieces.ensures.pieces t ∙ ap (take c.args.size) same
+    ∙ is ∙ ap (λ (n : ℕ). pieces_of writing.slot n put.reads) c.in-Ok-put_pieces.ensures.written
+    ∙ c.in-Ok-put_pieces.ensures.pieces t ∙ ap (take c.args.size) same)
 
-pub returns-in-Ok-finish-clause-keeps : goal.returns-in-Ok-finish-clause-keeps
-returns-in-Ok-finish-clause-keeps g c t =
-    slot_put c.args.slot c.in-Ok.writing.slot c.put_pieces.new.writing.slot _ _ _ _ _ _ c.in-Ok.ensures.slot (c.put_pieces.ensures.slot ∙ c.in-Ok.ensures.slot) (g.met.D.Disk.obeys c.begin.new.disk t) (g.met.D.Disk.obeys c.put_pieces.new.disk t)
-    (c.begin.ensures.keeps t) (c.put_pieces.ensures.keeps t) (c.finish.ensures.keeps t)
-
-pub returns-in-Err-finish-clause-keeps : goal.returns-in-Err-finish-clause-keeps
-returns-in-Err-finish-clause-keeps g c t =
+pub returns-clause-keeps : goal.returns-clause-keeps
+returns-clause-keeps g c t =
     slot_put c.args.slot c.in-Ok.writing.slot c.put_pieces.new.writing.slot _ _ _ _ _ _ c.in-Ok.ensures.slot (c.put_pieces.ensures.slot ∙ c.in-Ok.ensures.slot) (g.met.D.Disk.obeys c.begin.new.disk t) (g.met.D.Disk.obeys c.put_pieces.new.disk t)
     (c.begin.ensures.keeps t) (c.put_pieces.ensures.keeps t) (c.finish.ensures.keeps t)

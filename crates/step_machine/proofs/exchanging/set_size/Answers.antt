@@ -5,14 +5,8 @@ use Rattle.step_machine.specs.Spots.{OutsideSpot}
 use Rattle.step_machine.proofs.Ranging.{keeps_wider}
 use Rattle.step_machine.proofs.exchanging.set_size.Goals as goal
 
-pub returns-in-Ok-clause-keeps : goal.returns-in-Ok-clause-keeps
-returns-in-Ok-clause-keeps g c t =
-    let slot = c.in-Flash.slot in
-    subst (λ (x : Spot). Keeps (OutsideSpot x) (g.D.Disk.flash c.args.disk.now) (g.D.Disk.flash c.set_length.new.disk)) (sym c.in-Flash.is)
-    (keeps_wider slot.start (8 + slot.capacity) slot.start 8 (omega arith) (omega arith) _ _ (c.set_length.ensures.keeps t))
-
-pub returns-in-Err-clause-keeps : goal.returns-in-Err-clause-keeps
-returns-in-Err-clause-keeps g c t =
+pub returns-in-Flash-clause-keeps : goal.returns-in-Flash-clause-keeps
+returns-in-Flash-clause-keeps g c t =
     let slot = c.in-Flash.slot in
     subst (λ (x : Spot). Keeps (OutsideSpot x) (g.D.Disk.flash c.args.disk.now) (g.D.Disk.flash c.set_length.new.disk)) (sym c.in-Flash.is)
     (keeps_wider slot.start (8 + slot.capacity) slot.start 8 (omega arith) (omega arith) _ _ (c.set_length.ensures.keeps t))

@@ -9,11 +9,8 @@ use Rattle.step_machine.proofs.Memory.{held_holding}
 use Rattle.step_machine.proofs.Reading.{piece_kept}
 use Rattle.step_machine.proofs.exchanging.write_piece.Goals as goal
 
-pub returns-in-Ok-clause-keeps : goal.returns-in-Ok-clause-keeps
-returns-in-Ok-clause-keeps g c t = piece_kept c.args.spot c.in-Flash.slot c.args.ram.now _ _ c.args.from (length c.args.piece.now) c.in-Flash.is c.requires.within (c.overwrite.ensures.keeps t)
-
-pub returns-in-Err-clause-keeps : goal.returns-in-Err-clause-keeps
-returns-in-Err-clause-keeps g c t = piece_kept c.args.spot c.in-Flash.slot c.args.ram.now _ _ c.args.from (length c.args.piece.now) c.in-Flash.is c.requires.within (c.overwrite.ensures.keeps t)
+pub returns-in-Flash-clause-keeps : goal.returns-in-Flash-clause-keeps
+returns-in-Flash-clause-keeps g c t = piece_kept c.args.spot c.in-Flash.slot c.args.ram.now _ _ c.args.from (length c.args.piece.now) c.in-Flash.is c.requires.within (c.overwrite.ensures.keeps t)
 
 pub returns-in-Ram-clause-long : goal.returns-in-Ram-clause-long
 returns-in-Ram-clause-long g c =
