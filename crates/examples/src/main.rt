@@ -29,16 +29,9 @@ fn perform(rt: &HostRuntime, alloc: Global, step: Step, folder: &str) -> io::Res
         }
         Step::Memory => tell_memory(alloc, &mut FileHost::new(rt), &mut out),
         Step::Suit(words) => {
-            let mut flash = FileDisk::new(rt);
-            let mut launcher = FileLauncher::new(alloc, rt);
-            let Status(status) = run(
-                alloc,
-                &words,
-                &mut host,
-                &mut flash,
-                &mut launcher,
-                &mut out,
-            );
+            let disk = &mut FileDisk::new(rt);
+            let launcher = &mut FileLauncher::new(alloc, rt);
+            let Status(status) = run(alloc, &words, &mut host, disk, launcher, &mut out);
             if status != 0 {
                 println!(rt; "[status {status}]")?;
             }

@@ -1,6 +1,6 @@
 -- The results of the code of `make`, stage by stage.
 use Rattle.std.proofs.Common.{◌≡◌, ◌∙◌, ℕ, ◌<◌, ◌+◌, Bool, true, false, List, [], ◌∷◌, ◌++◌, length, drop, get_or, Option, Some, None, Result, Ok, Err, ◌⊎◌, inl, inr, refl, sym, ap, subst}
-use Rattle.std.specs.Prelude.{IfOk, IsTrue, ◌&&◌, ◌||◌}
+use Rattle.std.specs.Prelude.{◌≢◌, IfOk, IsTrue, ◌&&◌, ◌||◌}
 use Rattle.std.specs.Str.{IsUtf8, bytes_eq}
 use Rattle.std.specs.Result.{IsErrAnd}
 use Rattle.std.proofs.lemmas.Bool.{false≢true}
@@ -18,7 +18,7 @@ use Rattle.suit_cli.specs.declared.reply.Object.{Object}
 use Rattle.suit_cli.specs.declared.reply.Outcome.TheVariants as outcomes
 use Rattle.suit_cli.specs.declared.reply.Stop.{Stop}
 use Rattle.suit_cli.specs.declared.reply.Stop.TheVariants as stops
-use Rattle.suit_cli.specs.Outside.{Outside}
+use Rattle.suit_cli.specs.Outside.{Outside, LeavesOthers}
 use Rattle.suit_cli.specs.Replies.{stop_of}
 use Rattle.suit_cli.specs.Stages.{Stage, Ending, Does, After, in_turn}
 use Rattle.suit_cli.specs.Inputs.{file}
@@ -123,6 +123,19 @@ pub stops_with : {A : Type 0} (stage : Stage A) (b a : Outside) (result : Result
 stops_with stage b a (Ok x) stop is does = absurd is
 stops_with stage b a (Err other) stop is does = subst (λ (s : Stop). Does stage b a (Err s)) (sym is) does
 
+-- a file was not read
+pub stops_at : (read : Files) (name : List ℕ) (names : List (List ℕ)) (before after : Outside) (result : Result Files Stop) (stop : Stop) → IsErrAnd result (λ e. e ≡ stop)
+    → Does (file longest_named name) before after (Err stop) → Does (files_after read (name ∷ names)) before after result
+stops_at read name names before after result stop is does =
+    stops_with (files_after read (name ∷ names)) before after result stop is (file_stops read name names before after stop does)
+
+-- memory ran out behind one that was
+pub starves_behind : (read : Files) (name bytes : List ℕ) (names : List (List ℕ)) (before after : Outside) (result : Result Files Stop) → IsErrAnd result (λ e. e ≡ stops.NoMemory)
+    → Does (file longest_named name) before after (Ok bytes) → Does (files_after read (name ∷ names)) before after result
+starves_behind read name bytes names before after result is given =
+    stops_with (files_after read (name ∷ names)) before after result stops.NoMemory is
+    (file_then read name bytes names before after after (Err stops.NoMemory) given (files_starve (read ++ (name, bytes) ∷ []) names after))
+
 -- ---- the names that are left
 
 pub name_left : (read : Files) (items : List (List ℕ)) (i : ℕ) (item none lent : List ℕ) (b a : Outside) (result : Result Files Stop) → i < length items → item ≡ get_or items i none → lent ≡ item
@@ -130,3 +143,11 @@ pub name_left : (read : Files) (items : List (List ℕ)) (i : ℕ) (item none le
 name_left read items i item none lent b a result within is same does =
     subst (λ (names : List (List ℕ)). Does (files_after read names) b a result)
     (sym (drop_more items i none within ∙ ap (λ (x : List ℕ). x ∷ drop (i + 1) items) (sym is ∙ sym same))) does
+
+-- ---- the store
+
+-- all but the stored file is left
+pub beside_by : (name : List ℕ) (before after : Outside) → after.told ≡ before.told
+    → (IsTrue before.told → (other : List ℕ) → other ≢ name → after.files other ≡ before.files other)
+    → (IsTrue before.told → after.pulled ≡ before.pulled) → (IsTrue before.told → after.asked ≡ before.asked) → after.flash ≡ before.flash → LeavesOthers name before after
+beside_by name before after told others pulled asked flash = record { told = told; others = others; pulled = pulled; asked = asked; flash = flash }

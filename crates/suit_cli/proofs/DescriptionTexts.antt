@@ -1,6 +1,6 @@
 -- The text of a description that was written.
 use Rattle.std.proofs.Common.{◌≡◌, ◌∙◌, ℕ, List, false, Result, Ok, Err, ap}
-use Rattle.std.specs.Prelude.{IfOk}
+use Rattle.std.specs.Prelude.{IfOk, ◌++◌, codes}
 use Rattle.std.specs.declared.alloc.AllocError.{AllocError}
 use Rattle.serde_json.specs.Data.{Data}
 use Rattle.serde_json.specs.Written.{compact_text, has_float}
@@ -10,6 +10,10 @@ use Rattle.suit_manifest.specs.declared.manifest.Manifest.{Manifest}
 use Rattle.suit_manifest.specs.declared.manifest.Members.{Members}
 use Rattle.describe.specs.Again.{HasNoFloat}
 use Rattle.describe.specs.Describing.{described_by}
+use Rattle.suit_cli.specs.declared.reply.Outcome.TheVariants as outcomes
+use Rattle.suit_cli.specs.declared.reply.Reply.{Reply}
+use Rattle.suit_cli.specs.Describing.{IsDescribed, IsDescription}
+use Rattle.suit_cli.specs.Replies.{IsReply}
 
 pub description_said : {S : Type 0} (bytes_of : S → List ℕ) (r : Result S AllocError) (d : Data) (whole : List ℕ) (said : EnvelopeSays) (m : Manifest) (apart : Members) → HasNoFloat
     → ((payloads : List (List ℕ × List ℕ)) → HasPayloads whole payloads → d ≡ described_by said payloads m apart)
@@ -18,3 +22,10 @@ pub description_said : {S : Type 0} (bytes_of : S → List ℕ) (r : Result S Al
 description_said bytes_of (Ok s) d whole said m apart no_float is text =
     λ payloads has. text (ap has_float (is payloads has) ∙ no_float said payloads m apart) ∙ ap compact_text (is payloads has)
 description_said bytes_of (Err e) d whole said m apart no_float is text = tt
+
+-- as a line, it is the reply
+pub described_line : (whole : List ℕ) (said : EnvelopeSays) (m : Manifest) (apart : Members) (text : List ℕ) (reply : Reply) → IsDescription whole said m apart text
+    → IsReply reply outcomes.Done (text ++ codes "\n") → IsDescribed whole said m apart reply
+described_line whole said m apart text reply is line = record {
+  text = λ payloads has. record { outcome_is = line.outcome_is; text_is = line.text_is ∙ ap (λ (t : List ℕ). t ++ codes "\n") (is payloads has) };
+}

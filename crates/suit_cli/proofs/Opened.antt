@@ -5,6 +5,7 @@ use Rattle.suit_envelope.specs.Envelopes.{EnvelopeSays}
 use Rattle.suit_envelope.specs.Said.{said_by}
 use Rattle.suit_manifest.specs.declared.manifest.Manifest.{Manifest}
 use Rattle.suit_cli.specs.declared.accept.Opened.{Opened}
+use Rattle.suit_cli.specs.declared.reply.Reply.{Reply}
 use Rattle.suit_cli.specs.declared.reply.Stop.{Stop}
 use Rattle.suit_cli.specs.Outside.{Outside}
 use Rattle.suit_cli.specs.Stages.{Answers, Ending, Then, Goes, Declines, Faults, Lacks, ending_of}
@@ -36,6 +37,13 @@ ends_before bytes next before after ending (Goes said middle _ given rest) = Goe
   of_short m _ (Faults object f) = Faults object f
   of_short m _ (Lacks l) = Lacks l
   of_short m e (Goes u n _ g later) = Goes u n e g (of_manifest n e later)
+
+-- because a step of the code stopped it
+pub stops_before : (bytes : List ℕ) (next : EnvelopeSays → Manifest → Answers) (before after : Outside) (result : Result Reply Stop) (stop : Stop) → IsErrAnd result (λ e. e ≡ stop)
+    → in_file bytes never before after (ending_of (Err stop)) → in_file bytes next before after (ending_of result)
+stops_before bytes next before after (Ok reply) stop is stops = absurd is
+stops_before bytes next before after (Err other) stop is stops =
+    subst (λ (s : Stop). in_file bytes next before after (ending_of (Err s))) (sym is) (ends_before bytes next before after _ stops)
 
 -- it goes on with the manifest
 pub goes_behind : (bytes : List ℕ) (opened : Opened) → IsOpened bytes opened → (next : EnvelopeSays → Manifest → Answers) (before after : Outside) (ending : Ending)

@@ -8,7 +8,7 @@ use Rattle.suit_edge.specs.FlashLaws.{same_flash, starts, weakens, joined}
 use Rattle.flash_layout.specs.declared.frame.TheConstants.{VERSION_1}
 use Rattle.flash_layout.specs.declared.key.Key.{Key}
 use Rattle.flash_layout.specs.declared.layout.Entry.{Entry}
-use Rattle.flash_layout.specs.Configs.{ConfigOf, IsBlank, Blank, Configured}
+use Rattle.flash_layout.specs.Configs.{ConfigOf, IsAllowed, IsBlank, Blank, Configured}
 use Rattle.flash_layout.specs.Formats.{IsFormatted}
 use Rattle.flash_layout.specs.Frames.{head_of}
 use Rattle.flash_layout.specs.declared.slot.Record.{Record}
@@ -30,7 +30,11 @@ use Rattle.suit_cli.specs.Coming.{Answered, Ended, PassesAny, StaysSound}
 use Rattle.suit_cli.specs.Program.{FlashPasses, IfBoots, IfLaunches, KeepsFor, MayBeLeft}
 use Rattle.suit_cli.proofs.Leaving.{start_left}
 
--- the configuration is there after a read
+-- the configuration is allowed after a read
+pub allowed_after : (layout : List Entry) (key : Key) (size later_size : ℕ) → later_size ≡ size → IsAllowed VERSION_1 size layout key → IsAllowed VERSION_1 later_size layout key
+allowed_after layout key size later_size extent allowed = subst (λ (n : ℕ). IsAllowed VERSION_1 n layout key) (sym extent) allowed
+
+-- and is there
 pub held_after : (layout : List Entry) (key : Key) (size later_size : ℕ) (reads later : List ℕ) → later_size ≡ size → later ≡ reads
     → ConfigOf VERSION_1 size (head_of VERSION_1 reads) (Configured layout key) → ConfigOf VERSION_1 later_size (head_of VERSION_1 later) (Configured layout key)
 held_after layout key size later_size reads later extent same held =

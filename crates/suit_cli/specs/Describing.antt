@@ -37,7 +37,13 @@ abbrev pub text_in : EnvelopeSays → Manifest → Stage (Unit {0})
 text_in said manifest =
     judging (λ _. TextDiffers said manifest.text → ⊥) (IsOtherText said manifest)
 
--- the description's compact text, and a line feed
+-- the description's compact text
+abbrev pub IsDescription : List ℕ → EnvelopeSays → Manifest → Members → List ℕ → Type 0
+IsDescription bytes said manifest members text =
+    (payloads : List (List ℕ × List ℕ)) → HasPayloads bytes payloads
+    → text ≡ compact_text (described_by said payloads manifest members)
+
+-- it, and a line feed
 pub record IsDescribed (bytes : List ℕ) (said : EnvelopeSays) (manifest : Manifest)
     (members : Members) (reply : Reply) : Type 0 where
   pub text : (payloads : List (List ℕ × List ℕ)) → HasPayloads bytes payloads

@@ -1,4 +1,4 @@
--- What follows from the answer to the words and its put, of whatever objects they are.
+-- Consequences of the answer to the words and its put, whatever the objects are.
 use Rattle.std.specs.Prelude.{◌≡◌, ℕ, IsTrue, List, length, Some, None}
 use Rattle.flash_layout.specs.declared.frame.TheConstants.{VERSION_1}
 use Rattle.rollback_record.specs.SoundFlash.{Sound}

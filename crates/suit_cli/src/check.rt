@@ -38,10 +38,8 @@ fn judge_file(alloc: Global, bytes: &[u8]) -> Result<Reply, Stop>
     requires { length bytes.now ≤ longest_file }
     ensures { Tells (judges_file bytes.now) result }
 {
-    match opened_in(alloc, bytes) {
-        Ok(file) => judge_manifest(alloc, &file),
-        Err(stop) => Err(stop),
-    }
+    let file = opened_in(alloc, bytes)?;
+    judge_manifest(alloc, &file)
 }
 
 /// The reply to `check NAME`.

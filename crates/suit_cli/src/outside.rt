@@ -1,19 +1,18 @@
 //! The outside as contracts see it: a host beside a flash, a launcher, and a sink, each at a moment as one record.
 
+ghost use Rattle.suit_cli.specs.Launching.{Launching};
+ghost use Rattle.suit_cli.specs.Outside.{Outside, Flashed, Sunk};
+
 use suit_edge::{Disk, Host, Launcher, Sink};
 
 /// A host at a moment.
 pub trait SeenHost: Host {
-    ghost use Rattle.suit_cli.specs.Outside.{Outside, Flashed};
-
     /// Beside a flash: what it tells of its files, of the bytes pulled from them and of the names that were asked for,
     /// and its count of faults.
     ghost seen: { Self → Flashed → Outside };
 }
 
 impl<H: Host> SeenHost for H {
-    ghost use Rattle.suit_cli.specs.Outside.{Outside};
-
     ghost seen = { λ h f. record {
       told = H.told;
       files = H.file h;
@@ -26,15 +25,11 @@ impl<H: Host> SeenHost for H {
 
 /// A flash at a moment.
 pub trait SeenDisk: Disk {
-    ghost use Rattle.suit_cli.specs.Outside.{Flashed};
-
     /// Its size, its bytes as it tells them, and its count of faults.
     ghost seen: { Self → Flashed };
 }
 
 impl<D: Disk> SeenDisk for D {
-    ghost use Rattle.suit_cli.specs.Outside.{Flashed};
-
     ghost seen = { λ d. record {
       told = D.told;
       size = D.extent d;
@@ -45,28 +40,20 @@ impl<D: Disk> SeenDisk for D {
 
 /// A launcher at a moment.
 pub trait SeenLauncher: Launcher {
-    ghost use Rattle.suit_cli.specs.Launching.{Launching};
-
     /// The launches that it tells of, and its count of faults.
     ghost seen: { Self → Launching };
 }
 
 impl<L: Launcher> SeenLauncher for L {
-    ghost use Rattle.suit_cli.specs.Launching.{Launching};
-
     ghost seen = { λ l. record { told = L.told; launches = L.launches l; faults = L.faults l } };
 }
 
 /// A sink at a moment.
 pub trait SeenSink: Sink {
-    ghost use Rattle.suit_cli.specs.Outside.{Sunk};
-
     /// The bytes that it tells were put, and its count of faults.
     ghost seen: { Self → Sunk };
 }
 
 impl<K: Sink> SeenSink for K {
-    ghost use Rattle.suit_cli.specs.Outside.{Sunk};
-
     ghost seen = { λ k. record { told = K.told; put = K.put_bytes k; faults = K.faults k } };
 }

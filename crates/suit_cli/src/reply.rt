@@ -1,7 +1,8 @@
 //! Replies to the words, and their statuses.
 
-ghost use Rattle.std.specs.Prelude.{◌≡◌, ◌++◌, codes};
+ghost use Rattle.std.specs.Prelude.{◌≡◌, ◌++◌, codes, string_bytes};
 ghost use Rattle.suit_cli.specs.declared.reply.Outcome.TheVariants as outcomes;
+ghost use Rattle.suit_cli.specs.declared.reply.Stop.TheVariants as stops;
 ghost use Rattle.suit_cli.specs.Replies.{Makes, stop_of};
 ghost use Rattle.suit_cli.specs.Statuses.{status_of, fault_status, fault_line};
 ghost use Rattle.suit_cli.specs.Lines.{path_lines};
@@ -119,10 +120,7 @@ pub(crate) enum Stop {
 }
 
 impl From<AllocError> for Stop {
-    ghost use Rattle.std.specs.Prelude.{◌≡◌};
-    ghost use Rattle.suit_cli.specs.declared.reply.Stop.TheVariants.{NoMemory};
-
-    ghost from_gives = { λ e r. r ≡ NoMemory };
+    ghost from_gives = { λ e r. r ≡ stops.NoMemory };
 
     fn from(_error: AllocError) -> Stop {
         Stop::NoMemory
@@ -146,6 +144,18 @@ impl Reply {
     {
         let text = Text::from_str(alloc, lines)?;
         Ok(Reply { outcome, text })
+    }
+
+    /// A reply of a text, as a line.
+    pub(crate) fn line(text: String) -> Result<Reply, AllocError>
+        ensures { Makes result outcomes.Done (string_bytes text ++ codes "\n") }
+    {
+        let mut line = Text::from_string(text);
+        line.push_str("\n")?;
+        Ok(Reply {
+            outcome: Outcome::Done,
+            text: line,
+        })
     }
 
     /// A reply of one line that ends with a name.

@@ -1,24 +1,20 @@
 //! The command `show` without a key: the description of an envelope.
 
-ghost use Rattle.std.specs.Prelude.{◌≡◌, ◌<◌, ◌≤◌, ◌^◌, ◌+◌, ℕ, List, IfOk, length, string_bytes};
-ghost use Rattle.serde_json.specs.Written.{compact_text};
+ghost use Rattle.std.specs.Prelude.{◌<◌, ◌≤◌, ◌^◌, IfOk, length, string_bytes};
 ghost use Rattle.suit_envelope.specs.Said.{said_by};
-ghost use Rattle.suit_envelope.specs.Payloads.{HasPayloads};
 ghost use Rattle.suit_envelope.specs.Places.{MembersEndBelow};
-ghost use Rattle.describe.specs.Describing.{described_by};
 ghost use Rattle.suit_cli.specs.Outside.{Flashed};
 ghost use Rattle.suit_cli.specs.Stages.{Finds, Tells, ending_of};
 ghost use Rattle.suit_cli.specs.Inputs.{longest_file};
 ghost use Rattle.suit_cli.specs.Envelopes.{ManifestOf};
-ghost use Rattle.suit_cli.specs.Describing.{there_in, text_in, IsDescribed};
+ghost use Rattle.suit_cli.specs.Describing.{there_in, text_in, IsDescription};
 ghost use Rattle.suit_cli.specs.Commands.{describes_manifest, describes_file, describes};
 
 use crate::accept::{Opened, differs, lack, opened_in};
 use crate::input::{LONGEST_FILE, read};
 use crate::outside::SeenHost;
-use crate::reply::{Outcome, Reply, Stop, declined};
+use crate::reply::{Reply, Stop, declined};
 use describe::{describe, describe_laws, members_there};
-use det_cbor::Text;
 use std::alloc::{AllocError, Global};
 use suit_edge::Host;
 use suit_envelope::{Envelope, MemberBytes, MemberName, member};
@@ -58,32 +54,11 @@ fn description_text(
     manifest: &Manifest,
     members: &Members,
 ) -> Result<String, AllocError>
-    ensures { IfOk result
-        (λ text. (payloads : List (List ℕ × List ℕ)) → HasPayloads envelope.now.whole.now payloads
-        → string_bytes text
-        ≡ compact_text
-        (described_by (said_by envelope.now) payloads manifest.now members.now)) }
+    ensures { IfOk result (λ text. IsDescription
+        envelope.now.whole.now (said_by envelope.now) manifest.now members.now (string_bytes text)) }
 {
     describe_laws();
     describe(alloc, envelope, manifest, members)?.to_string(alloc)
-}
-
-// The description, as a line.
-fn described(
-    alloc: Global,
-    envelope: &Envelope<'_>,
-    manifest: &Manifest,
-    members: &Members,
-) -> Result<Reply, AllocError>
-    ensures { IfOk result
-        (IsDescribed envelope.now.whole.now (said_by envelope.now) manifest.now members.now) }
-{
-    let mut text = Text::from_string(description_text(alloc, envelope, manifest, members)?);
-    text.push_str("\n")?;
-    Ok(Reply {
-        outcome: Outcome::Done,
-        text,
-    })
 }
 
 // Reads the members and the text, and describes the manifest.
@@ -95,7 +70,8 @@ fn describe_manifest(alloc: Global, file: &Opened<'_>) -> Result<Reply, Stop>
 {
     let members = there_in(alloc, &file.envelope, &file.manifest)?;
     text_in(alloc, &file.envelope, &file.manifest)?;
-    Ok(described(alloc, &file.envelope, &file.manifest, &members)?)
+    let description = description_text(alloc, &file.envelope, &file.manifest, &members)?;
+    Ok(Reply::line(description)?)
 }
 
 // The description of the envelope in a file's bytes.
@@ -103,10 +79,8 @@ fn describe_file(alloc: Global, bytes: &[u8]) -> Result<Reply, Stop>
     requires { length bytes.now ≤ longest_file }
     ensures { Tells (describes_file bytes.now) result }
 {
-    match opened_in(alloc, bytes) {
-        Ok(file) => describe_manifest(alloc, &file),
-        Err(stop) => Err(stop),
-    }
+    let file = opened_in(alloc, bytes)?;
+    describe_manifest(alloc, &file)
 }
 
 /// The reply to `show NAME`.

@@ -16,23 +16,17 @@ returns-in_err-bytes-clause-any_moment g c told = not_yet _ _ _ (still _)
 
 pub returns-in_err-layout-clause-answer : goal.returns-in_err-layout-clause-answer
 returns-in_err-layout-clause-answer g c =
-    let h = g.H.Host in
-    let d = g.D.Disk in
-    let first = outside_at h.told (h.file c.read.new.host) (h.pulled c.read.new.host) (h.asked c.read.new.host) (h.faults c.read.new.host) (flash_at d.told (d.extent c.args.flash.now) (d.flash c.args.flash.now).reads (d.faults c.args.flash.now)) in
     Goes c.in_ok-bytes.bytes _ _ (c.in_ok-bytes.ensures _)
     (ends_there _ _ _ _ c.from_residual-in_err-layout.result c.in_err-layout.field-0.0 c.from_residual-in_err-layout.ensures.1
-    (device_of c.args.size _ _ c.as_slice.ensures (Err c.in_err-layout.field-0.0) c.in_err-layout.ensures.finds first))
+    (device_of c.args.size _ _ c.as_slice.ensures (Err c.in_err-layout.field-0.0) c.in_err-layout.ensures.finds _))
 
 pub returns-in_err-layout-clause-any_moment : goal.returns-in_err-layout-clause-any_moment
 returns-in_err-layout-clause-any_moment g c told = not_yet _ _ _ (still _)
 
 pub returns-in_err-key_bytes-clause-answer : goal.returns-in_err-key_bytes-clause-answer
 returns-in_err-key_bytes-clause-answer g c =
-    let h = g.H.Host in
-    let d = g.D.Disk in
-    let first = outside_at h.told (h.file c.read.new.host) (h.pulled c.read.new.host) (h.asked c.read.new.host) (h.faults c.read.new.host) (flash_at d.told (d.extent c.args.flash.now) (d.flash c.args.flash.now).reads (d.faults c.args.flash.now)) in
     Goes c.in_ok-bytes.bytes _ _ (c.in_ok-bytes.ensures _)
-    (Goes c.in_ok-layout.layout _ _ (device_of c.args.size _ _ c.as_slice.ensures (Ok c.in_ok-layout.layout) c.in_ok-layout.ensures.finds first)
+    (Goes c.in_ok-layout.layout _ _ (device_of c.args.size _ _ c.as_slice.ensures (Ok c.in_ok-layout.layout) c.in_ok-layout.ensures.finds _)
     (ends_there _ _ _ _ c.from_residual-in_err-key_bytes.result c.in_err-key_bytes.field-0.0 c.from_residual-in_err-key_bytes.ensures.1 (c.in_err-key_bytes.ensures _)))
 
 pub returns-in_err-key_bytes-clause-any_moment : goal.returns-in_err-key_bytes-clause-any_moment

@@ -1,50 +1,29 @@
-use Rattle.std.proofs.Common.{◌≡◌, ◌∙◌, ℕ, ◌+◌, ◌≤◌, List, [], ◌∷◌, ◌++◌, drop, length, Ok, Err, refl, sym, ap, subst, arith}
+use Rattle.std.proofs.Common.{◌≡◌, ◌∙◌, ℕ, ◌+◌, ◌≤◌, List, [], ◌∷◌, ◌++◌, drop, length, Ok, refl, sym, ap, subst, arith}
 use Rattle.std.proofs.lemmas.List.{drop_all}
-use Rattle.suit_cli.specs.declared.reply.Stop.TheVariants as stops
 use Rattle.suit_cli.specs.Outside.{Outside}
 use Rattle.suit_cli.specs.Stages.{Does}
 use Rattle.suit_cli.specs.Authoring.{files_after}
 use Rattle.suit_cli.proofs.Chains.{anywhere}
-use Rattle.suit_cli.proofs.Authoring.{Files, file_then, file_stops, files_starve, each_has, stops_with, name_left}
+use Rattle.suit_cli.proofs.Authoring.{Files, file_then, each_has, starves_behind, stops_at, name_left}
 use Rattle.suit_cli.proofs.make.read_files.Goals as goal
 
 pub returns-in_err-bytes-clause-does : goal.returns-in_err-bytes-clause-does
 returns-in_err-bytes-clause-does g c flash =
-    let h = g.H.Host in
-    let old : Outside = record { told = h.told; files = h.file c.loop-name.host; pulled = h.pulled c.loop-name.host; asked = h.asked c.loop-name.host; faults = h.faults c.loop-name.host; flash = flash } in
-    let new : Outside = record { told = h.told; files = h.file c.read.new.host; pulled = h.pulled c.read.new.host; asked = h.asked c.read.new.host; faults = h.faults c.read.new.host; flash = flash } in
-    let items : List (List ℕ) = c.as_slice-name-items.result.now in
-    let left : List (List ℕ) = drop (c.loop-name.name-index + 1) items in
-    c.loop-name.invariant flash c.from_residual.result new
-    (name_left c.loop-name.files items c.loop-name.name-index c.name-item.result _ c.as_str.result.now old new c.from_residual.result c.loop-name-test.true c.name-item.is c.as_str.ensures
-    (stops_with (files_after c.loop-name.files (c.as_str.result.now ∷ left)) old new c.from_residual.result c.in_err-bytes.field-0.0 c.from_residual.ensures.1
-    (file_stops c.loop-name.files c.as_str.result.now left old new c.in_err-bytes.field-0.0 (c.in_err-bytes.ensures flash))))
+    c.loop-name.invariant flash c.from_residual.result _
+    (name_left c.loop-name.files c.as_slice-name-items.result.now c.loop-name.name-index c.name-item.result _ c.as_str.result.now _ _ c.from_residual.result c.loop-name-test.true c.name-item.is c.as_str.ensures
+    (stops_at c.loop-name.files c.as_str.result.now _ _ _ c.from_residual.result c.in_err-bytes.field-0.0 c.from_residual.ensures.1 (c.in_err-bytes.ensures flash)))
 
 pub returns-in_err-from_str-clause-does : goal.returns-in_err-from_str-clause-does
 returns-in_err-from_str-clause-does g c flash =
-    let h = g.H.Host in
-    let old : Outside = record { told = h.told; files = h.file c.loop-name.host; pulled = h.pulled c.loop-name.host; asked = h.asked c.loop-name.host; faults = h.faults c.loop-name.host; flash = flash } in
-    let new : Outside = record { told = h.told; files = h.file c.read.new.host; pulled = h.pulled c.read.new.host; asked = h.asked c.read.new.host; faults = h.faults c.read.new.host; flash = flash } in
-    let items : List (List ℕ) = c.as_slice-name-items.result.now in
-    let left : List (List ℕ) = drop (c.loop-name.name-index + 1) items in
-    c.loop-name.invariant flash c.from_residual-in_err-from_str.result new
-    (name_left c.loop-name.files items c.loop-name.name-index c.name-item.result _ c.as_str.result.now old new c.from_residual-in_err-from_str.result c.loop-name-test.true c.name-item.is c.as_str.ensures
-    (stops_with (files_after c.loop-name.files (c.as_str.result.now ∷ left)) old new c.from_residual-in_err-from_str.result stops.NoMemory c.from_residual-in_err-from_str.ensures.1
-    (file_then c.loop-name.files c.as_str.result.now c.in_ok-bytes.bytes left old new new (Err stops.NoMemory) (c.in_ok-bytes.ensures flash)
-    (files_starve (c.loop-name.files ++ (c.as_str.result.now, c.in_ok-bytes.bytes) ∷ []) left new))))
+    c.loop-name.invariant flash c.from_residual-in_err-from_str.result _
+    (name_left c.loop-name.files c.as_slice-name-items.result.now c.loop-name.name-index c.name-item.result _ c.as_str.result.now _ _ c.from_residual-in_err-from_str.result c.loop-name-test.true c.name-item.is c.as_str.ensures
+    (starves_behind c.loop-name.files c.as_str.result.now c.in_ok-bytes.bytes _ _ _ c.from_residual-in_err-from_str.result c.from_residual-in_err-from_str.ensures.1 (c.in_ok-bytes.ensures flash)))
 
 pub returns-in_err-push-clause-does : goal.returns-in_err-push-clause-does
 returns-in_err-push-clause-does g c flash =
-    let h = g.H.Host in
-    let old : Outside = record { told = h.told; files = h.file c.loop-name.host; pulled = h.pulled c.loop-name.host; asked = h.asked c.loop-name.host; faults = h.faults c.loop-name.host; flash = flash } in
-    let new : Outside = record { told = h.told; files = h.file c.read.new.host; pulled = h.pulled c.read.new.host; asked = h.asked c.read.new.host; faults = h.faults c.read.new.host; flash = flash } in
-    let items : List (List ℕ) = c.as_slice-name-items.result.now in
-    let left : List (List ℕ) = drop (c.loop-name.name-index + 1) items in
-    c.loop-name.invariant flash c.from_residual-in_err-push.result new
-    (name_left c.loop-name.files items c.loop-name.name-index c.name-item.result _ c.as_str.result.now old new c.from_residual-in_err-push.result c.loop-name-test.true c.name-item.is c.as_str.ensures
-    (stops_with (files_after c.loop-name.files (c.as_str.result.now ∷ left)) old new c.from_residual-in_err-push.result stops.NoMemory c.from_residual-in_err-push.ensures.1
-    (file_then c.loop-name.files c.as_str.result.now c.in_ok-bytes.bytes left old new new (Err stops.NoMemory) (c.in_ok-bytes.ensures flash)
-    (files_starve (c.loop-name.files ++ (c.as_str.result.now, c.in_ok-bytes.bytes) ∷ []) left new))))
+    c.loop-name.invariant flash c.from_residual-in_err-push.result _
+    (name_left c.loop-name.files c.as_slice-name-items.result.now c.loop-name.name-index c.name-item.result _ c.as_str.result.now _ _ c.from_residual-in_err-push.result c.loop-name-test.true c.name-item.is c.as_str.ensures
+    (starves_behind c.loop-name.files c.as_str.result.now c.in_ok-bytes.bytes _ _ _ c.from_residual-in_err-push.result c.from_residual-in_err-push.ensures.1 (c.in_ok-bytes.ensures flash)))
 
 pub loop-name-preserved : goal.loop-name-preserved
 loop-name-preserved g c flash result after rest =

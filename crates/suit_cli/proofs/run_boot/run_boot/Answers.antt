@@ -1,9 +1,6 @@
-use Rattle.std.proofs.Common.{ℕ, List, sym, subst}
-use Rattle.flash_layout.specs.declared.frame.TheConstants.{VERSION_1}
-use Rattle.flash_layout.specs.Configs.{IsAllowed}
 use Rattle.suit_cli.proofs.Chains.{anywhere, outside_at}
 use Rattle.suit_cli.proofs.BootAnswers.{comes_by, unconfigured}
-use Rattle.suit_cli.proofs.Sounding.{held_after}
+use Rattle.suit_cli.proofs.Sounding.{allowed_after, held_after}
 use Rattle.suit_cli.proofs.Settling.{order_looked, order_then}
 use Rattle.suit_cli.proofs.BootKeeping.{boot_keeps}
 use Rattle.suit_cli.proofs.run_boot.run_boot.Goals as goal
@@ -21,8 +18,7 @@ returns-in-Ok-clause-answer g c =
     comes_by c.in-Ok.config.0 c.in-Ok.config.1 _ _ _ _ _ (c.in-Ok.ensures.finds here) _ c.boot_by.ensures.answer
 
 pub boot_by-requires-clause-allowed : goal.boot_by-requires-clause-allowed
-boot_by-requires-clause-allowed g c =
-    subst (λ (n : ℕ). IsAllowed VERSION_1 n c.in-Ok.config.0 c.in-Ok.config.1) (sym c.in-Ok.ensures.extent) c.in-Ok.ensures.allowed
+boot_by-requires-clause-allowed g c = allowed_after c.in-Ok.config.0 c.in-Ok.config.1 _ _ c.in-Ok.ensures.extent c.in-Ok.ensures.allowed
 
 pub boot_by-requires-clause-held : goal.boot_by-requires-clause-held
 boot_by-requires-clause-held g c told =

@@ -1,13 +1,11 @@
 use Rattle.std.proofs.Common.{ℕ, ◌≤◌, List, length, refl, sym, subst, ◌∙◌}
 use Rattle.suit_edge.specs.Flash.{IsFlash}
-use Rattle.flash_layout.specs.declared.frame.TheConstants.{VERSION_1}
-use Rattle.flash_layout.specs.Configs.{IsAllowed}
 use Rattle.suit_cli.specs.Launching.{Launching}
 use Rattle.suit_cli.specs.Coming.{ended_of}
 use Rattle.suit_cli.specs.Inputs.{longest_file}
 use Rattle.suit_cli.specs.Acceptance.{accepted_by}
 use Rattle.suit_cli.proofs.Chains.{anywhere, flash_at, outside_at}
-use Rattle.suit_cli.proofs.Sounding.{held_after, settled_later}
+use Rattle.suit_cli.proofs.Sounding.{allowed_after, held_after, settled_later}
 use Rattle.suit_cli.proofs.UpdateAnswers.{accepted_as, comes_updated, keeps_as, keeps_since, unaccepted_as, unaccepted_update, unconfigured_update, unread_update, updates_as}
 use Rattle.suit_cli.proofs.Settling.{order_looked, order_then}
 use Rattle.suit_cli.proofs.run_update.run_update.Goals as goal
@@ -50,8 +48,7 @@ pub accept-requires-clause-size : goal.accept-requires-clause-size
 accept-requires-clause-size g c = subst (λ (l : List ℕ). length l ≤ longest_file) (sym c.as_slice.ensures) (c.in-Ok-read.ensures anywhere.flash).1.fits
 
 pub update_by-requires-clause-allowed : goal.update_by-requires-clause-allowed
-update_by-requires-clause-allowed g c =
-    subst (λ (n : ℕ). IsAllowed VERSION_1 n c.in-Ok.config.0 c.in-Ok.config.1) (sym c.in-Ok.ensures.extent) c.in-Ok.ensures.allowed
+update_by-requires-clause-allowed g c = allowed_after c.in-Ok.config.0 c.in-Ok.config.1 _ _ c.in-Ok.ensures.extent c.in-Ok.ensures.allowed
 
 pub update_by-requires-clause-held : goal.update_by-requires-clause-held
 update_by-requires-clause-held g c told =

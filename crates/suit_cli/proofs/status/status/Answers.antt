@@ -4,10 +4,9 @@ use Rattle.std.specs.Prelude.{◌≤◌, length}
 use Rattle.suit_edge.specs.FlashLaws.{same_flash_then}
 use Rattle.flash_layout.specs.declared.layout.Entry.{Entry}
 use Rattle.flash_layout.specs.Layouts.{IsEntry}
-use Rattle.suit_cli.specs.Outside.{Outside, with_flash}
 use Rattle.suit_cli.specs.Stages.{Goes, Ends}
 use Rattle.suit_cli.specs.Installed.{IsStatus}
-use Rattle.suit_cli.proofs.Chains.{ends_there, flash_at, lacks_last}
+use Rattle.suit_cli.proofs.Chains.{ends_there, lacks_last}
 use Rattle.suit_cli.proofs.StatusLines.{lines_of, same_twice}
 use Rattle.suit_cli.proofs.status.status.Goals as goal
 
@@ -35,12 +34,9 @@ component_lines-requires-clause-each g c =
 
 pub returns-in_err-lines-clause-answer : goal.returns-in_err-lines-clause-answer
 returns-in_err-lines-clause-answer g c here =
-    let d = g.D.Disk in
-    let before : Outside = with_flash here (flash_at d.told (d.extent c.record_in.new.flash) (d.flash c.record_in.new.flash).reads (d.faults c.record_in.new.flash)) in
-    let after : Outside = with_flash here (flash_at d.told (d.extent c.component_lines.new.flash) (d.flash c.component_lines.new.flash).reads (d.faults c.component_lines.new.flash)) in
     Goes c.in_ok-config.config _ _ (c.in_ok-config.ensures.finds here) (Goes c.in_ok-installed.installed _ _ (c.in_ok-installed.ensures.finds here)
     (ends_there _ _ _ _ c.from_residual-in_err-lines.result c.in_err-lines.field-0.0 c.from_residual-in_err-lines.ensures.1
-    (lines_of _ _ c.as_slice.ensures c.in_ok-installed.installed (Err c.in_err-lines.field-0.0) before after (c.in_err-lines.ensures.finds here))))
+    (lines_of _ _ c.as_slice.ensures c.in_ok-installed.installed (Err c.in_err-lines.field-0.0) _ _ (c.in_err-lines.ensures.finds here))))
 
 pub returns-in_err-lines-clause-same : goal.returns-in_err-lines-clause-same
 returns-in_err-lines-clause-same g c t =
@@ -48,11 +44,8 @@ returns-in_err-lines-clause-same g c t =
 
 pub returns-in_err-status_lines-clause-answer : goal.returns-in_err-status_lines-clause-answer
 returns-in_err-status_lines-clause-answer g c here =
-    let d = g.D.Disk in
-    let before : Outside = with_flash here (flash_at d.told (d.extent c.record_in.new.flash) (d.flash c.record_in.new.flash).reads (d.faults c.record_in.new.flash)) in
-    let after : Outside = with_flash here (flash_at d.told (d.extent c.component_lines.new.flash) (d.flash c.component_lines.new.flash).reads (d.faults c.component_lines.new.flash)) in
     Goes c.in_ok-config.config _ _ (c.in_ok-config.ensures.finds here) (Goes c.in_ok-installed.installed _ _ (c.in_ok-installed.ensures.finds here)
-    (Goes c.in_ok-lines.lines _ _ (lines_of _ _ c.as_slice.ensures c.in_ok-installed.installed (Ok c.in_ok-lines.lines) before after (c.in_ok-lines.ensures.finds here))
+    (Goes c.in_ok-lines.lines _ _ (lines_of _ _ c.as_slice.ensures c.in_ok-installed.installed (Ok c.in_ok-lines.lines) _ _ (c.in_ok-lines.ensures.finds here))
     (lacks_last _ _ c.from_residual-in_err-status_lines.result c.from_residual-in_err-status_lines.ensures.1)))
 
 pub returns-in_err-status_lines-clause-same : goal.returns-in_err-status_lines-clause-same
@@ -61,11 +54,8 @@ returns-in_err-status_lines-clause-same g c t =
 
 pub returns-clause-answer : goal.returns-clause-answer
 returns-clause-answer g c here =
-    let d = g.D.Disk in
-    let before : Outside = with_flash here (flash_at d.told (d.extent c.record_in.new.flash) (d.flash c.record_in.new.flash).reads (d.faults c.record_in.new.flash)) in
-    let after : Outside = with_flash here (flash_at d.told (d.extent c.component_lines.new.flash) (d.flash c.component_lines.new.flash).reads (d.faults c.component_lines.new.flash)) in
     Goes c.in_ok-config.config _ _ (c.in_ok-config.ensures.finds here) (Goes c.in_ok-installed.installed _ _ (c.in_ok-installed.ensures.finds here)
-    (Goes c.in_ok-lines.lines _ _ (lines_of _ _ c.as_slice.ensures c.in_ok-installed.installed (Ok c.in_ok-lines.lines) before after (c.in_ok-lines.ensures.finds here))
+    (Goes c.in_ok-lines.lines _ _ (lines_of _ _ c.as_slice.ensures c.in_ok-installed.installed (Ok c.in_ok-lines.lines) _ _ (c.in_ok-lines.ensures.finds here))
     (Ends c.in_ok-status_lines.field-0 refl (subst (λ (l : List ℕ). IsStatus c.in_ok-installed.installed l c.in_ok-status_lines.field-0) c.as_str.ensures c.in_ok-status_lines.ensures))))
 
 pub returns-clause-same : goal.returns-clause-same
