@@ -43,6 +43,14 @@ Merges-keep {A} S xs kept x m self = record {
   ];
 }
 
+-- one that another stands for, found among those kept as they were read
+pub Merges-found : {A : Type 0} (S : A → A → Type 0) (xs kept read : List A) (x : A) → Merges S xs kept → read ≡ kept → ((y : A) × In y read × S y x) → Merges S (xs ++ x ∷ []) kept
+Merges-found S xs kept read x m same y = Merges-drop S xs kept x y.0 m (subst (In y.0) same y.1) y.2
+
+-- one that is put behind those kept
+pub Merges-pushed : {A : Type 0} (S : A → A → Type 0) (xs kept more : List A) (x : A) → Merges S xs kept → S x x → more ≡ kept ++ x ∷ [] → Merges S (xs ++ x ∷ []) more
+Merges-pushed {A} S xs kept more x m self pushed = subst (λ (ys : List A). Merges S (xs ++ x ∷ []) ys) (sym pushed) (Merges-keep S xs kept x m self)
+
 pub Merges-append : {A : Type 0} (S : A → A → Type 0) (xs kept more : List A) → ((x : A) → S x x) → Merges S xs kept → Merges S (xs ++ more) (kept ++ more)
 Merges-append {A} S xs kept more self m = record {
   part = λ z i. elim (In-cases z kept more i) [

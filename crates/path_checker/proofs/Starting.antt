@@ -79,20 +79,20 @@ abbrev pub from_first : PlanTree → Course
 from_first plan = then_course (part_course plan.first plan) (from_shared_second plan)
 
 module _ (plan : PlanTree) (from : List Kept) (failed0 : List Stopped) where
-  pub to_first : (now : List Kept) (failed : List Stopped) → Adds (part_course plan.shared plan) from [] now failed0 failed → Walks (RunsPlan plan) from failed0 (from_first plan) now failed
-  to_first now failed a = Walks-then (RunsPlan plan) (part_course plan.shared plan) (from_first plan) from from now failed0 failed0 failed (Walks-start (RunsPlan plan) from failed0) a
+  pub to_first : (k1 : List Kept) (f1 : List Stopped) → Adds (part_course plan.shared plan) from [] k1 failed0 f1 → Walks (RunsPlan plan) from failed0 (from_first plan) k1 f1
+  to_first k1 f1 a1 = Walks-then (RunsPlan plan) (part_course plan.shared plan) (from_first plan) from from k1 failed0 failed0 f1 (Walks-start (RunsPlan plan) from failed0) a1
 
-  pub to_shared_second : (now : List Kept) (failed : List Stopped) → Walks (RunsPlan plan) from failed0 (from_first plan) now failed → (next : List Kept) (failed' : List Stopped) → Adds (part_course plan.first plan) now [] next failed failed' → Walks (RunsPlan plan) from failed0 (from_shared_second plan) next failed'
-  to_shared_second now failed w next failed' a = Walks-then (RunsPlan plan) (part_course plan.first plan) (from_shared_second plan) from now next failed0 failed failed' w a
+  pub to_shared_second : (k1 : List Kept) (f1 : List Stopped) → Adds (part_course plan.shared plan) from [] k1 failed0 f1 → (k2 : List Kept) (f2 : List Stopped) → Adds (part_course plan.first plan) k1 [] k2 f1 f2 → Walks (RunsPlan plan) from failed0 (from_shared_second plan) k2 f2
+  to_shared_second k1 f1 a1 k2 f2 a2 = Walks-then (RunsPlan plan) (part_course plan.first plan) (from_shared_second plan) from k1 k2 failed0 f1 f2 (to_first k1 f1 a1) a2
 
-  pub to_second : (now : List Kept) (failed : List Stopped) → Walks (RunsPlan plan) from failed0 (from_shared_second plan) now failed → (next : List Kept) (failed' : List Stopped) → Adds (part_course plan.shared plan) now [] next failed failed' → Walks (RunsPlan plan) from failed0 (from_second plan) next failed'
-  to_second now failed w next failed' a = Walks-then (RunsPlan plan) (part_course plan.shared plan) (from_second plan) from now next failed0 failed failed' w a
+  pub to_second : (k1 : List Kept) (f1 : List Stopped) → Adds (part_course plan.shared plan) from [] k1 failed0 f1 → (k2 : List Kept) (f2 : List Stopped) → Adds (part_course plan.first plan) k1 [] k2 f1 f2 → (k3 : List Kept) (f3 : List Stopped) → Adds (part_course plan.shared plan) k2 [] k3 f2 f3 → Walks (RunsPlan plan) from failed0 (from_second plan) k3 f3
+  to_second k1 f1 a1 k2 f2 a2 k3 f3 a3 = Walks-then (RunsPlan plan) (part_course plan.shared plan) (from_second plan) from k2 k3 failed0 f2 f3 (to_shared_second k1 f1 a1 k2 f2 a2) a3
 
-  pub to_shared_third : (now : List Kept) (failed : List Stopped) → Walks (RunsPlan plan) from failed0 (from_second plan) now failed → (next : List Kept) (failed' : List Stopped) → Adds (part_course plan.second plan) now [] next failed failed' → Walks (RunsPlan plan) from failed0 (from_shared_third plan) next failed'
-  to_shared_third now failed w next failed' a = Walks-then (RunsPlan plan) (part_course plan.second plan) (from_shared_third plan) from now next failed0 failed failed' w a
+  pub to_shared_third : (k1 : List Kept) (f1 : List Stopped) → Adds (part_course plan.shared plan) from [] k1 failed0 f1 → (k2 : List Kept) (f2 : List Stopped) → Adds (part_course plan.first plan) k1 [] k2 f1 f2 → (k3 : List Kept) (f3 : List Stopped) → Adds (part_course plan.shared plan) k2 [] k3 f2 f3 → (k4 : List Kept) (f4 : List Stopped) → Adds (part_course plan.second plan) k3 [] k4 f3 f4 → Walks (RunsPlan plan) from failed0 (from_shared_third plan) k4 f4
+  to_shared_third k1 f1 a1 k2 f2 a2 k3 f3 a3 k4 f4 a4 = Walks-then (RunsPlan plan) (part_course plan.second plan) (from_shared_third plan) from k3 k4 failed0 f3 f4 (to_second k1 f1 a1 k2 f2 a2 k3 f3 a3) a4
 
-  pub to_third : (now : List Kept) (failed : List Stopped) → Walks (RunsPlan plan) from failed0 (from_shared_third plan) now failed → (next : List Kept) (failed' : List Stopped) → Adds (part_course plan.shared plan) now [] next failed failed' → Walks (RunsPlan plan) from failed0 (from_third plan) next failed'
-  to_third now failed w next failed' a = Walks-then (RunsPlan plan) (part_course plan.shared plan) (from_third plan) from now next failed0 failed failed' w a
+  pub to_third : (k1 : List Kept) (f1 : List Stopped) → Adds (part_course plan.shared plan) from [] k1 failed0 f1 → (k2 : List Kept) (f2 : List Stopped) → Adds (part_course plan.first plan) k1 [] k2 f1 f2 → (k3 : List Kept) (f3 : List Stopped) → Adds (part_course plan.shared plan) k2 [] k3 f2 f3 → (k4 : List Kept) (f4 : List Stopped) → Adds (part_course plan.second plan) k3 [] k4 f3 f4 → (k5 : List Kept) (f5 : List Stopped) → Adds (part_course plan.shared plan) k4 [] k5 f4 f5 → Walks (RunsPlan plan) from failed0 (from_third plan) k5 f5
+  to_third k1 f1 a1 k2 f2 a2 k3 f3 a3 k4 f4 a4 k5 f5 a5 = Walks-then (RunsPlan plan) (part_course plan.shared plan) (from_third plan) from k4 k5 failed0 f4 f5 (to_shared_third k1 f1 a1 k2 f2 a2 k3 f3 a3 k4 f4 a4) a5
 
 pub Walks-plan : (plan : PlanTree) (from : List Kept) (failed : List Stopped) → Walks (RunsPlan plan) from failed (then_course (part_course plan.shared plan) (from_first plan)) from failed
 Walks-plan plan from failed = Walks-start (RunsPlan plan) from failed
