@@ -1,9 +1,8 @@
 //! Booting.
 
 ghost use Rattle.flash_layout.specs.declared.frame.TheConstants.{VERSION_1};
-ghost use Rattle.flash_layout.specs.Configs.{ConfigOf, Configured, IsAllowed};
-ghost use Rattle.flash_layout.specs.Frames.{head_of};
-ghost use Rattle.invoke_proc.specs.Banks.{without_bank};
+ghost use Rattle.flash_layout.specs.Configs.{IsAllowed};
+ghost use Rattle.invoke_proc.specs.Banks.{config_in, without_bank};
 ghost use Rattle.invoke_proc.specs.Booting.{Answers, GainsSafe, IfUnfaulted, KeepsBoot, KeptSo, NeverHost, PlayedSo, PlaysBoot};
 ghost use Rattle.invoke_proc.specs.Counting.{BootCounts};
 ghost use Rattle.invoke_proc.specs.Sound.{IsUnrefused};
@@ -102,8 +101,7 @@ pub fn boot<H: Host, D: Disk, L: Launcher>(
 ) -> BootEnd
     requires allowed { IsAllowed VERSION_1 (D.extent disk.old) layout.now key.now }
     requires held { IsTrue D.told
-        → ConfigOf VERSION_1 (D.extent disk.old) (head_of VERSION_1 (D.flash disk.old).reads)
-        (Configured layout.now key.now) }
+        → config_in (D.extent disk.old) (D.flash disk.old).reads layout.now key.now }
     ensures size { D.extent disk.new ≡ D.extent disk.old }
     ensures counts { BootCounts result
         (counts_of (H.faults host.old) (D.faults disk.old) (L.faults launcher.old))

@@ -50,10 +50,7 @@ fn put_pieces<D: Disk>(
 {
     let mut from: u64 = 0;
     while from < size {
-        let count = match read_piece(disk, ram, source, size, from, room) {
-            Ok(count) => count,
-            Err(FlashFault) => return Err(FlashFault),
-        };
+        let count = read_piece(disk, ram, source, size, from, room)?;
         match writing.append(disk, &room[..count]) {
             Ok(()) => {}
             Err(_) => return Err(FlashFault),
@@ -84,14 +81,8 @@ fn copy_to_slot<D: Disk>(
     ensures keeps { IsTrue D.told
         → Keeps (Outside slot.start (extent_of slot)) (D.flash disk.old) (D.flash disk.new) }
 {
-    let mut writing = match begin(disk, slot) {
-        Ok(writing) => writing,
-        Err(FlashFault) => return Err(FlashFault),
-    };
-    match put_pieces(disk, ram, &mut writing, source, size, room) {
-        Ok(()) => {}
-        Err(FlashFault) => return Err(FlashFault),
-    }
+    let mut writing = begin(disk, slot)?;
+    put_pieces(disk, ram, &mut writing, source, size, room)?;
     writing.finish(disk)
 }
 
@@ -122,10 +113,7 @@ fn copy_to_ram<D: Disk>(
     ram.clear(component);
     let mut from: u64 = 0;
     while from < size {
-        let count = match read_piece(disk, ram, source, size, from, room) {
-            Ok(count) => count,
-            Err(FlashFault) => return Err(FlashFault),
-        };
+        let count = read_piece(disk, ram, source, size, from, room)?;
         match ram.append(component, &room[..count]) {
             Ok(()) => {}
             Err(_) => return Err(FlashFault),

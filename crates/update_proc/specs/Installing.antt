@@ -21,6 +21,11 @@ pub record IsFilled (held : Option Record) (new : Record) (bytes before made : L
   pub beside : SameOn (BesideBank held bytes) before made
   pub holds : recorded_bank VERSION_1 (head_of VERSION_1 made) new ≡ bytes
 
+-- a flash of this size that reads so has the layout, under some key
+abbrev pub HasLayout : ℕ → List ℕ → List Entry → Type 0
+HasLayout size image layout =
+    (key : Key) × ConfigOf VERSION_1 size (head_of VERSION_1 image) (Configured layout key)
+
 -- the places of the slots
 abbrev pub BehindHead : ℕ → Type 0
 BehindHead i = VERSION_1.size ≤ i

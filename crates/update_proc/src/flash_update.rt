@@ -1,9 +1,6 @@
 //! An update of a flash: the record is read, and then the envelope is judged, played and installed beside it.
 
-ghost use Rattle.flash_layout.specs.Configs.{ConfigOf, Configured};
-ghost use Rattle.flash_layout.specs.Frames.{head_of};
 ghost use Rattle.flash_layout.specs.Layouts.{IsLayout};
-ghost use Rattle.flash_layout.specs.declared.key.Key.{Key};
 ghost use Rattle.rollback_record.specs.SoundFlash.{Follows, Settled, Sound};
 ghost use Rattle.std.specs.Prelude.{◌≡◌, ◌≤◌, ◌⊎◌, ℕ, IsTrue, List, length};
 ghost use Rattle.step_machine.specs.PlanRuns.{counts_of};
@@ -16,7 +13,7 @@ ghost use Rattle.suit_envelope.specs.WrapperParts.{HasWrapper};
 ghost use Rattle.suit_manifest.specs.Procedures.{update_tree};
 ghost use Rattle.update_proc.specs.Choices.{AreChosen, active_slots};
 ghost use Rattle.update_proc.specs.Ends.{IfUnfaulted, JudgedSo, UpdateCounts};
-ghost use Rattle.update_proc.specs.Installing.{MayBeInstalled};
+ghost use Rattle.update_proc.specs.Installing.{HasLayout, MayBeInstalled};
 ghost use Rattle.update_proc.specs.Offered.{ForOffer};
 ghost use Rattle.update_proc.specs.Records.{new_record};
 ghost use Rattle.update_proc.specs.Updates.{KeepsUpdate, KeptSo, LaunchesBy, LeavesUpdate, PlayedSo, PlaysToEnd, PlaysUpdate};
@@ -53,9 +50,8 @@ pub fn update<H: Host, D: Disk, L: Launcher>(
     requires wrapper { HasWrapper envelope.now.wrapper.now }
     requires fits { length (trimmed envelope.now.wrapper.now envelope.now.manifest.now)
         ≤ VERSION_1.bank_size }
-    requires config { IsTrue D.told → (key : Key)
-        × ConfigOf VERSION_1 (D.extent disk.old) (head_of VERSION_1 (D.flash disk.old).reads)
-        (Configured layout.now key) }
+    requires config { IsTrue D.told
+        → HasLayout (D.extent disk.old) (D.flash disk.old).reads layout.now }
     ensures size { D.extent disk.new ≡ D.extent disk.old }
     ensures judged { IsTrue D.told → ForOffer (D.flash disk.old).reads envelope.now.wrapper.now
         (λ held digest. JudgedSo manifest.now.sequence digest held result) }

@@ -1,7 +1,5 @@
 //! Running the update procedure, and installing its envelope.
 
-ghost use Rattle.flash_layout.specs.declared.key.Key.{Key};
-ghost use Rattle.flash_layout.specs.Configs.{ConfigOf, Configured};
 ghost use Rattle.flash_layout.specs.Frames.{head_of};
 ghost use Rattle.flash_layout.specs.Layouts.{IsLayout};
 ghost use Rattle.rollback_record.specs.HeadRecord.{IsLoadable, RecordOf};
@@ -16,7 +14,7 @@ ghost use Rattle.suit_edge.specs.Flash.{Grows, IsSame, IsSettled, Passes};
 ghost use Rattle.suit_envelope.specs.Payloads.{HasPayloads};
 ghost use Rattle.update_proc.specs.Choices.{AreChosen, active_slots};
 ghost use Rattle.update_proc.specs.Ends.{IfUnfaulted, IsStartEnd, UpdateCounts};
-ghost use Rattle.update_proc.specs.Installing.{MayBeInstalled};
+ghost use Rattle.update_proc.specs.Installing.{HasLayout, MayBeInstalled};
 ghost use Rattle.update_proc.specs.Records.{new_record};
 ghost use Rattle.update_proc.specs.Updates.{KeepsUpdate, KeptSo, LeavesUpdate, PlayedSo, PlaysToEnd, PlaysUpdate};
 
@@ -57,9 +55,8 @@ pub(crate) fn start<H: Host, D: Disk, L: Launcher>(
 ) -> UpdateEnd
     requires size { VERSION_1.size ≤ D.extent disk.old }
     requires layout { IsLayout VERSION_1 (D.extent disk.old) layout.now }
-    requires config { IsTrue D.told → (key : Key)
-        × ConfigOf VERSION_1 (D.extent disk.old) (head_of VERSION_1 (D.flash disk.old).reads)
-        (Configured layout.now key) }
+    requires config { IsTrue D.told
+        → HasLayout (D.extent disk.old) (D.flash disk.old).reads layout.now }
     requires distinct { AreDistinct layout.now places.now }
     requires plan { IsPlan (plan_tree plan.now) }
     requires count { plan.now.count ≡ places.now.count }

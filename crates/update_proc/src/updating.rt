@@ -1,9 +1,7 @@
 //! An offered update is judged beside the record, and then its procedure is run.
 
-ghost use Rattle.flash_layout.specs.Configs.{ConfigOf, Configured};
 ghost use Rattle.flash_layout.specs.Frames.{head_of};
 ghost use Rattle.flash_layout.specs.Layouts.{IsLayout};
-ghost use Rattle.flash_layout.specs.declared.key.Key.{Key};
 ghost use Rattle.rollback_record.specs.HeadRecord.{IsLoadable, RecordOf};
 ghost use Rattle.rollback_record.specs.Judging.{IsAcceptable};
 ghost use Rattle.rollback_record.specs.SoundFlash.{Follows, Settled, Sound};
@@ -17,7 +15,7 @@ ghost use Rattle.suit_envelope.specs.Trimmed.{trimmed};
 ghost use Rattle.suit_manifest.specs.Procedures.{update_tree};
 ghost use Rattle.update_proc.specs.Choices.{AreChosen, active_slots};
 ghost use Rattle.update_proc.specs.Ends.{IfUnfaulted, IsRefusal, JudgedSo, UpdateCounts};
-ghost use Rattle.update_proc.specs.Installing.{MayBeInstalled};
+ghost use Rattle.update_proc.specs.Installing.{HasLayout, MayBeInstalled};
 ghost use Rattle.update_proc.specs.Records.{new_record};
 ghost use Rattle.update_proc.specs.Updates.{KeepsUpdate, KeptSo, LeavesUpdate, PlayedSo, PlaysToEnd, PlaysUpdate};
 
@@ -78,9 +76,8 @@ pub fn update_beside<H: Host, D: Disk, L: Launcher>(
     requires held { IsTrue D.told
         → RecordOf VERSION_1 (head_of VERSION_1 (D.flash disk.old).reads)
         (option_map (λ r. r.now) held) }
-    requires config { IsTrue D.told → (key : Key)
-        × ConfigOf VERSION_1 (D.extent disk.old) (head_of VERSION_1 (D.flash disk.old).reads)
-        (Configured layout.now key) }
+    requires config { IsTrue D.told
+        → HasLayout (D.extent disk.old) (D.flash disk.old).reads layout.now }
     ensures size { D.extent disk.new ≡ D.extent disk.old }
     ensures judged { JudgedSo manifest.now.sequence digest.now (option_map (λ r. r.now) held.entry)
         result }

@@ -9,12 +9,12 @@ use Rattle.step_machine.proofs.Ranging.{length_put, pieces_put, slot_put}
 use Rattle.step_machine.proofs.Rooms.{kept_area}
 use Rattle.step_machine.proofs.copying.copy_to_slot.Goals as goal
 
-pub returns-in-Err-clause-keeps : goal.returns-in-Err-clause-keeps
-returns-in-Err-clause-keeps g c t = length_put c.args.slot _ _ (c.begin.ensures.keeps t)
+pub returns-in_err-writing-clause-keeps : goal.returns-in_err-writing-clause-keeps
+returns-in_err-writing-clause-keeps g c t = length_put c.args.slot _ _ (c.begin.ensures.keeps t)
 
-pub returns-in-Err-put_pieces-clause-keeps : goal.returns-in-Err-put_pieces-clause-keeps
-returns-in-Err-put_pieces-clause-keeps g c t =
-    pieces_put c.args.slot c.in-Ok.writing.slot _ _ _ _ c.in-Ok.ensures.slot (g.met.D.Disk.obeys c.begin.new.disk t) (c.begin.ensures.keeps t) (c.put_pieces.ensures.keeps t)
+pub returns-in_err-put_pieces-clause-keeps : goal.returns-in_err-put_pieces-clause-keeps
+returns-in_err-put_pieces-clause-keeps g c t =
+    pieces_put c.args.slot c.in_ok-writing.writing.slot _ _ _ _ c.in_ok-writing.ensures.slot (g.met.D.Disk.obeys c.begin.new.disk t) (c.begin.ensures.keeps t) (c.put_pieces.ensures.keeps t)
 
 pub returns-clause-content : goal.returns-clause-content
 returns-clause-content g c t =
@@ -23,16 +23,16 @@ returns-clause-content g c t =
     let first = g.D.Disk.flash c.args.disk.now in
     let begun = g.D.Disk.flash c.begin.new.disk in
     let put = g.D.Disk.flash c.put_pieces.new.disk in
-    let same_slot : writing.slot ≡ slot = c.put_pieces.ensures.slot ∙ c.in-Ok.ensures.slot in
+    let same_slot : writing.slot ≡ slot = c.put_pieces.ensures.slot ∙ c.in_ok-writing.ensures.slot in
     let inside : IsSpot (length first.reads) c.args.ram.now c.args.source = subst (λ (n : ℕ). IsSpot n c.args.ram.now c.args.source) (sym (g.met.D.Disk.obeys c.args.disk.now t).fits) c.requires.source in
     let same = kept_area (spots.Flash slot) c.args.source c.args.ram.now c.args.ram.now first begun c.requires.clear inside refl
     (length_put slot first begun (c.begin.ensures.keeps t)) in
     on_ok c.finish.result (c.finish.ensures.content t) (λ is.
     ap (λ (x : Slot). slot_content x (g.D.Disk.flash c.finish.new.disk).reads) (sym same_slot)
-    ∙ is ∙ ap (λ (n : ℕ). pieces_of writing.slot n put.reads) c.in-Ok-put_pieces.ensures.written
-    ∙ c.in-Ok-put_pieces.ensures.pieces t ∙ ap (take c.args.size) same)
+    ∙ is ∙ ap (λ (n : ℕ). pieces_of writing.slot n put.reads) c.in_ok-put_pieces.ensures.written
+    ∙ c.in_ok-put_pieces.ensures.pieces t ∙ ap (take c.args.size) same)
 
 pub returns-clause-keeps : goal.returns-clause-keeps
 returns-clause-keeps g c t =
-    slot_put c.args.slot c.in-Ok.writing.slot c.put_pieces.new.writing.slot _ _ _ _ _ _ c.in-Ok.ensures.slot (c.put_pieces.ensures.slot ∙ c.in-Ok.ensures.slot) (g.met.D.Disk.obeys c.begin.new.disk t) (g.met.D.Disk.obeys c.put_pieces.new.disk t)
+    slot_put c.args.slot c.in_ok-writing.writing.slot c.put_pieces.new.writing.slot _ _ _ _ _ _ c.in_ok-writing.ensures.slot (c.put_pieces.ensures.slot ∙ c.in_ok-writing.ensures.slot) (g.met.D.Disk.obeys c.begin.new.disk t) (g.met.D.Disk.obeys c.put_pieces.new.disk t)
     (c.begin.ensures.keeps t) (c.put_pieces.ensures.keeps t) (c.finish.ensures.keeps t)

@@ -12,31 +12,31 @@ use Rattle.step_machine.proofs.Ranging.{read_and_put}
 use Rattle.step_machine.proofs.Rooms.{kept_area, more_put}
 use Rattle.step_machine.proofs.copying.put_pieces.Goals as goal
 
-pub returns-in-Err-clause-keeps : goal.returns-in-Err-clause-keeps
-returns-in-Err-clause-keeps g c t =
+pub returns-in_err-count-clause-keeps : goal.returns-in_err-count-clause-keeps
+returns-in_err-count-clause-keeps g c t =
     let outside : ℕ → Type 0 = Outside c.args.writing.now.slot.start (extent_of c.args.writing.now.slot) in
     keeps_then outside _ _ _ _ (g.met.D.Disk.obeys c.loop-from.disk t) (c.loop-from.invariant.keeps t) (keeps_same outside _ _ (c.read_piece.ensures.read.same t))
 
-pub returns-in-Err-append-clause-keeps : goal.returns-in-Err-append-clause-keeps
-returns-in-Err-append-clause-keeps g c t =
+pub returns-in-Err-clause-keeps : goal.returns-in-Err-clause-keeps
+returns-in-Err-clause-keeps g c t =
     let slot = c.args.writing.now.slot in
     let written = c.loop-from.invariant.written in
-    let few : c.in-Ok.count ≤ length c.read_piece.new.room = omega (arith, c.in-Ok.ensures.count, c.read_piece.auto.room) in
-    let count : length (take c.in-Ok.count c.read_piece.new.room) ≡ c.in-Ok.count = length-take-le c.in-Ok.count c.read_piece.new.room few in
-    let within : c.loop-from.from + c.in-Ok.count ≤ slot.capacity = omega (arith, c.in-Ok.ensures.count, c.loop-from-test.true, c.requires.fits) in
+    let few : c.in_ok-count.count ≤ length c.read_piece.new.room = omega (arith, c.in_ok-count.ensures.count, c.read_piece.auto.room) in
+    let count : length (take c.in_ok-count.count c.read_piece.new.room) ≡ c.in_ok-count.count = length-take-le c.in_ok-count.count c.read_piece.new.room few in
+    let within : c.loop-from.from + c.in_ok-count.count ≤ slot.capacity = omega (arith, c.in_ok-count.ensures.count, c.loop-from-test.true, c.requires.fits) in
     read_and_put slot c.loop-from.writing.slot _ _ _ _ _ _ _ _ c.loop-from.invariant.slot (omega (arith, written, count, within)) (g.met.D.Disk.obeys c.loop-from.disk t) (g.met.D.Disk.obeys c.read_piece.new.disk t) (c.loop-from.invariant.keeps t) (c.read_piece.ensures.read.same t) (c.append.ensures.keeps t)
 
 pub loop-from-preserved : goal.loop-from-preserved
 loop-from-preserved g c =
     let slot = c.args.writing.now.slot in
-    let few : c.in-Ok.count ≤ length c.read_piece.new.room = omega (arith, c.in-Ok.ensures.count, c.read_piece.auto.room) in
-    let count : length (take c.in-Ok.count c.read_piece.new.room) ≡ c.in-Ok.count = length-take-le c.in-Ok.count c.read_piece.new.room few in
-    let within : c.loop-from.from + c.in-Ok.count ≤ slot.capacity = omega (arith, c.in-Ok.ensures.count, c.loop-from-test.true, c.requires.fits) in
+    let few : c.in_ok-count.count ≤ length c.read_piece.new.room = omega (arith, c.in_ok-count.ensures.count, c.read_piece.auto.room) in
+    let count : length (take c.in_ok-count.count c.read_piece.new.room) ≡ c.in_ok-count.count = length-take-le c.in_ok-count.count c.read_piece.new.room few in
+    let within : c.loop-from.from + c.in_ok-count.count ≤ slot.capacity = omega (arith, c.in_ok-count.ensures.count, c.loop-from-test.true, c.requires.fits) in
     let written = c.loop-from.invariant.written in
-    let now : c.append.new.self.written ≡ c.loop-from.from + c.in-Ok.count = omega (arith, c.in-Ok-append.ensures.written, count, written) in
+    let now : c.append.new.self.written ≡ c.loop-from.from + c.in_ok-count.count = omega (arith, c.in-Ok.ensures.written, count, written) in
     let kept : c.append.new.self.slot ≡ slot = c.append.ensures.slot ∙ c.loop-from.invariant.slot in
     record {
-      within = omega (arith, c.in-Ok.ensures.count, c.loop-from-test.true);
+      within = omega (arith, c.in_ok-count.ensures.count, c.loop-from-test.true);
       room = search rules;
       slot = kept;
       written = now;
@@ -45,7 +45,7 @@ loop-from-preserved g c =
       pieces = λ t.
           let first = g.D.Disk.flash c.args.disk.now in
           let f = g.D.Disk.flash c.loop-from.disk in
-          let piece = take c.in-Ok.count c.read_piece.new.room in
+          let piece = take c.in_ok-count.count c.read_piece.new.room in
           let last = (g.D.Disk.flash c.append.new.disk).reads in
           let inside : IsSpot (length first.reads) c.args.ram.now c.args.source = subst (λ (n : ℕ). IsSpot n c.args.ram.now c.args.source) (sym (g.met.D.Disk.obeys c.args.disk.now t).fits) c.requires.source in
           let same = kept_area (spots.Flash slot) c.args.source c.args.ram.now c.args.ram.now first f c.requires.clear inside refl (c.loop-from.invariant.keeps t) in
@@ -54,8 +54,8 @@ loop-from-preserved g c =
           ∙ ap (λ (n : ℕ). pieces_of slot n (g.D.Disk.flash c.read_piece.new.disk).reads) written
           ∙ ap (pieces_of slot c.loop-from.from) (c.read_piece.ensures.read.same t).reads ∙ c.loop-from.invariant.pieces t in
           ap (λ (n : ℕ). pieces_of slot n last) (sym now) ∙ ap (λ (x : Slot). pieces_of x c.append.new.self.written last) (sym kept)
-          ∙ more_put (area_at c.args.source c.args.ram.now first.reads) _ _ piece c.loop-from.from c.in-Ok.count was
-          (c.in-Ok.ensures.bytes t ∙ ap (λ (l : List ℕ). take c.in-Ok.count (drop c.loop-from.from l)) same) (c.in-Ok-append.ensures.pieces t);
+          ∙ more_put (area_at c.args.source c.args.ram.now first.reads) _ _ piece c.loop-from.from c.in_ok-count.count was
+          (c.in_ok-count.ensures.bytes t ∙ ap (λ (l : List ℕ). take c.in_ok-count.count (drop c.loop-from.from l)) same) (c.in-Ok.ensures.pieces t);
       keeps = λ t. read_and_put slot c.loop-from.writing.slot _ _ _ _ _ _ _ _ c.loop-from.invariant.slot (omega (arith, written, count, within)) (g.met.D.Disk.obeys c.loop-from.disk t) (g.met.D.Disk.obeys c.read_piece.new.disk t) (c.loop-from.invariant.keeps t) (c.read_piece.ensures.read.same t) (c.append.ensures.keeps t);
       grows = λ t.
           let first = g.D.Disk.flash c.args.disk.now in
