@@ -19,9 +19,9 @@ module _ (app : App) (words : Words) where
   pub taken : (command : Command) → app_of command ≡ app → takes app words ≡ true → takes (app_of command) words ≡ true
   taken command is takes_them = ap (λ (a : App). takes a words) is ∙ takes_them
 
-  module _ (command : Command) (is : app_of command ≡ app) (rows : List Row) (are : rows ≡ matches_of (app_of command) words) where
+  module _ (rows : List Row) (are : rows ≡ matches_of app words) where
     pub found_in : (id : Word) → first_of id rows ≡ value_in app id words
-    found_in id = ap (first_of id) are ∙ ap (λ (a : App). value_in a id words) is
+    found_in id = ap (first_of id) are
 
     pub is_there : (id value : Word) → value_in app id words ≡ Some value → is_some (first_of id rows) ≡ true
     is_there id value has = ap is_some (found_in id ∙ has)

@@ -8,7 +8,8 @@ use Rattle.command_words.specs.Tasks.{Word, Words, texts, Task, Make, Describe, 
 use Rattle.command_words.specs.Numbers.{number_of}
 use Rattle.command_words.specs.Words.{is_plain}
 use Rattle.command_words.specs.Table.{make_of, show_of, check_of, init_of, drill_of}
-use Rattle.command_words.specs.Arguments.{check_app, drill_app, show_app, init_app, make_app}
+use Rattle.command_words.specs.Arguments.{app_for}
+use Rattle.command_words.specs.declared.arguments.Row.TheVariants as row
 use Rattle.command_words.proofs.Handed.{both, value_in}
 use Rattle.command_words.proofs.TextLists.{as_many}
 
@@ -29,23 +30,23 @@ rest_plain word more plain = (both (is_plain word) (list_all is_plain more) plai
 -- ---- `check` and `drill`
 
 takes_check : (n w : Word) → is_plain w ≡ true
-    → (takes check_app (n ∷ w ∷ []) ≡ true)
-    × (value_in check_app (codes "FILE") (n ∷ w ∷ []) ≡ Some w)
+    → (takes (app_for row.Check) (n ∷ w ∷ []) ≡ true)
+    × (value_in (app_for row.Check) (codes "FILE") (n ∷ w ∷ []) ≡ Some w)
 unfolding clap_on_literals
 takes_check n [] hw = (refl, refl)
 takes_check n (w ∷ ws) hw = let ew = no_minus w ws hw in rw (ew, no_short w ws ew) (refl, refl)
 
 takes_drill : (n w : Word) → is_plain w ≡ true
-    → (takes drill_app (n ∷ w ∷ []) ≡ true)
-    × (value_in drill_app (codes "NUMBER") (n ∷ w ∷ []) ≡ Some w)
+    → (takes (app_for row.Drill) (n ∷ w ∷ []) ≡ true)
+    × (value_in (app_for row.Drill) (codes "NUMBER") (n ∷ w ∷ []) ≡ Some w)
 unfolding clap_on_literals
 takes_drill n [] hw = (refl, refl)
 takes_drill n (w ∷ ws) hw = let ew = no_minus w ws hw in rw (ew, no_short w ws ew) (refl, refl)
 
 pub record Checks (words : Words) : Type 0 where
-  pub takes_them : takes check_app words ≡ true
+  pub takes_them : takes (app_for row.Check) words ≡ true
   pub file : Word
-  pub has_file : value_in check_app (codes "FILE") words ≡ Some file
+  pub has_file : value_in (app_for row.Check) (codes "FILE") words ≡ Some file
   pub table : check_of words ≡ Some (Check file)
 
 pub checks : (words : Words) → length words ≡ 2 → list_all is_plain words ≡ true → Checks words
@@ -60,9 +61,9 @@ pub checks_texts : (words : List (Bor Word)) → length words ≡ 2 → list_all
 checks_texts words many plain = checks (texts words) (as_many words ∙ many) plain
 
 pub record Drills (words : Words) : Type 0 where
-  pub takes_them : takes drill_app words ≡ true
+  pub takes_them : takes (app_for row.Drill) words ≡ true
   pub number : Word
-  pub has_number : value_in drill_app (codes "NUMBER") words ≡ Some number
+  pub has_number : value_in (app_for row.Drill) (codes "NUMBER") words ≡ Some number
   pub table : drill_of words ≡ option_map Drill (number_of number)
 
 pub drills : (words : Words) → length words ≡ 2 → list_all is_plain words ≡ true → Drills words
@@ -76,9 +77,9 @@ drills (n ∷ w ∷ x ∷ more) many plain = absurd (omega arith)
 -- ---- `run init`
 
 takes_init : (n v w : Word) → is_plain v ≡ true → is_plain w ≡ true
-    → (takes init_app (n ∷ v ∷ w ∷ []) ≡ true)
-    × (value_in init_app (codes "DEVICE") (n ∷ v ∷ w ∷ []) ≡ Some v)
-    × (value_in init_app (codes "KEY") (n ∷ v ∷ w ∷ []) ≡ Some w)
+    → (takes (app_for row.Init) (n ∷ v ∷ w ∷ []) ≡ true)
+    × (value_in (app_for row.Init) (codes "DEVICE") (n ∷ v ∷ w ∷ []) ≡ Some v)
+    × (value_in (app_for row.Init) (codes "KEY") (n ∷ v ∷ w ∷ []) ≡ Some w)
 unfolding clap_on_literals
 takes_init n [] [] hv hw = (refl, refl, refl)
 takes_init n [] (w ∷ ws) hv hw = let ew = no_minus w ws hw in rw (ew, no_short w ws ew) (refl, refl, refl)
@@ -88,11 +89,11 @@ takes_init n (v ∷ vs) (w ∷ ws) hv hw =
     rw (ev, no_short v vs ev, ew, no_short w ws ew) (refl, refl, refl)
 
 pub record Inits (words : Words) : Type 0 where
-  pub takes_them : takes init_app words ≡ true
+  pub takes_them : takes (app_for row.Init) words ≡ true
   pub device : Word
   pub key : Word
-  pub has_device : value_in init_app (codes "DEVICE") words ≡ Some device
-  pub has_key : value_in init_app (codes "KEY") words ≡ Some key
+  pub has_device : value_in (app_for row.Init) (codes "DEVICE") words ≡ Some device
+  pub has_key : value_in (app_for row.Init) (codes "KEY") words ≡ Some key
   pub table : init_of words ≡ Some (Init device key)
 
 pub inits : (words : Words) → length words ≡ 3 → list_all is_plain words ≡ true → Inits words
@@ -111,17 +112,17 @@ inits_texts words many plain = inits (texts words) (as_many words ∙ many) plai
 -- ---- `show`
 
 takes_describe : (n w : Word) → is_plain w ≡ true
-    → (takes show_app (n ∷ w ∷ []) ≡ true)
-    × (value_in show_app (codes "FILE") (n ∷ w ∷ []) ≡ Some w)
-    × (value_in show_app (codes "KEY") (n ∷ w ∷ []) ≡ None)
+    → (takes (app_for row.Show) (n ∷ w ∷ []) ≡ true)
+    × (value_in (app_for row.Show) (codes "FILE") (n ∷ w ∷ []) ≡ Some w)
+    × (value_in (app_for row.Show) (codes "KEY") (n ∷ w ∷ []) ≡ None)
 unfolding clap_on_literals
 takes_describe n [] hw = (refl, refl, refl)
 takes_describe n (w ∷ ws) hw = let ew = no_minus w ws hw in rw (ew, no_short w ws ew) (refl, refl, refl)
 
 takes_show : (n v w : Word) → is_plain v ≡ true → is_plain w ≡ true
-    → (takes show_app (n ∷ v ∷ w ∷ []) ≡ true)
-    × (value_in show_app (codes "FILE") (n ∷ v ∷ w ∷ []) ≡ Some v)
-    × (value_in show_app (codes "KEY") (n ∷ v ∷ w ∷ []) ≡ Some w)
+    → (takes (app_for row.Show) (n ∷ v ∷ w ∷ []) ≡ true)
+    × (value_in (app_for row.Show) (codes "FILE") (n ∷ v ∷ w ∷ []) ≡ Some v)
+    × (value_in (app_for row.Show) (codes "KEY") (n ∷ v ∷ w ∷ []) ≡ Some w)
 unfolding clap_on_literals
 takes_show n [] [] hv hw = (refl, refl, refl)
 takes_show n [] (w ∷ ws) hv hw = let ew = no_minus w ws hw in rw (ew, no_short w ws ew) (refl, refl, refl)
@@ -136,11 +137,11 @@ shown file None = Describe file
 shown file (Some key) = Show file key
 
 pub record Shows (words : Words) : Type 0 where
-  pub takes_them : takes show_app words ≡ true
+  pub takes_them : takes (app_for row.Show) words ≡ true
   pub file : Word
   pub key : Option Word
-  pub has_file : value_in show_app (codes "FILE") words ≡ Some file
-  pub has_key : value_in show_app (codes "KEY") words ≡ key
+  pub has_file : value_in (app_for row.Show) (codes "FILE") words ≡ Some file
+  pub has_key : value_in (app_for row.Show) (codes "KEY") words ≡ key
   pub table : show_of words ≡ Some (shown file key)
 
 pub shows : (words : Words) → 2 ≤ length words → length words ≤ 3 → list_all is_plain words ≡ true → Shows words
@@ -158,10 +159,10 @@ shows (n ∷ v ∷ w ∷ x ∷ more) some few plain = absurd (omega arith)
 -- ---- `make`
 
 takes_make : (n u v w : Word) → is_plain u ≡ true → is_plain v ≡ true → is_plain w ≡ true
-    → (takes make_app (n ∷ u ∷ v ∷ w ∷ []) ≡ true)
-    × (value_in make_app (codes "DESCRIPTION") (n ∷ u ∷ v ∷ w ∷ []) ≡ Some u)
-    × (value_in make_app (codes "KEY") (n ∷ u ∷ v ∷ w ∷ []) ≡ Some v)
-    × (value_in make_app (codes "OUT") (n ∷ u ∷ v ∷ w ∷ []) ≡ Some w)
+    → (takes (app_for row.Make) (n ∷ u ∷ v ∷ w ∷ []) ≡ true)
+    × (value_in (app_for row.Make) (codes "DESCRIPTION") (n ∷ u ∷ v ∷ w ∷ []) ≡ Some u)
+    × (value_in (app_for row.Make) (codes "KEY") (n ∷ u ∷ v ∷ w ∷ []) ≡ Some v)
+    × (value_in (app_for row.Make) (codes "OUT") (n ∷ u ∷ v ∷ w ∷ []) ≡ Some w)
 unfolding clap_on_literals
 takes_make n [] [] [] hu hv hw = (refl, refl, refl, refl)
 takes_make n [] [] (w ∷ ws) hu hv hw = let ew = no_minus w ws hw in rw (ew, no_short w ws ew) (refl, refl, refl, refl)
@@ -181,13 +182,13 @@ takes_make n (u ∷ us) (v ∷ vs) (w ∷ ws) hu hv hw =
     rw (eu, no_short u us eu, ev, no_short v vs ev, ew, no_short w ws ew) (refl, refl, refl, refl)
 
 pub record Makes (words : Words) : Type 0 where
-  pub takes_them : takes make_app words ≡ true
+  pub takes_them : takes (app_for row.Make) words ≡ true
   pub description : Word
   pub key : Word
   pub out : Word
-  pub has_description : value_in make_app (codes "DESCRIPTION") words ≡ Some description
-  pub has_key : value_in make_app (codes "KEY") words ≡ Some key
-  pub has_out : value_in make_app (codes "OUT") words ≡ Some out
+  pub has_description : value_in (app_for row.Make) (codes "DESCRIPTION") words ≡ Some description
+  pub has_key : value_in (app_for row.Make) (codes "KEY") words ≡ Some key
+  pub has_out : value_in (app_for row.Make) (codes "OUT") words ≡ Some out
   pub table : make_of words ≡ Some (Make description key out)
 
 pub makes : (words : Words) → length words ≡ 4 → list_all is_plain words ≡ true → Makes words

@@ -7,17 +7,18 @@ use Rattle.std.specs.Prelude.{fold, is_some, filter_map, unwrap_or, drop, take, 
 use Rattle.std.specs.List.{list_all}
 use Rattle.clap.specs.Lexer.{usize_max}
 use Rattle.clap.specs.Walk.{Rule, Row, Text, Held, Walk, walked, walk_from, nothing_held, pushed, settled_rows, after_step, finished, idle, positional, first_of, all_of, word_met, value}
-use Rattle.clap.specs.Simple.{App, app_of, Shape, built, entered, filled, with_index, matches_of}
+use Rattle.clap.specs.Simple.{Shape, built, entered, filled, with_index, matches_of}
 use Rattle.clap.specs.Takes.{takes, turn_passes, walk_passes, settle_passes, default_passes, is_valid, entered_passes, value_passes}
 use Rattle.clap.proofs.OnLiterals.{clap_on_literals}
 use Rattle.command_words.specs.Tasks.{Word, Words, Answer, Update, texts}
 use Rattle.command_words.specs.Table.{update_of}
 use Rattle.command_words.specs.UriWords.{uris_of, most_uris, are_answers, cut}
-use Rattle.clap.specs.declared.builder.command.Command.{Command}
 use Rattle.command_words.proofs.TextLists.{as_many, dropped}
 use Rattle.command_words.specs.Words.{is_plain}
-use Rattle.command_words.specs.Arguments.{update_app, values_rule}
-use Rattle.command_words.proofs.Handed.{both, value_in}
+use Rattle.command_words.specs.Arguments.{app_for, rule_for}
+use Rattle.command_words.specs.declared.arguments.Row.TheVariants as row
+use Rattle.command_words.specs.declared.arguments.Values.TheVariants as many
+use Rattle.command_words.proofs.Handed.{both, value_in, is_that}
 use Rattle.command_words.proofs.Taken.{first_plain, no_minus, no_short, rest_plain}
 
 abbrev file : Word
@@ -27,7 +28,7 @@ abbrev uris : Word
 uris = codes "URI=NAME"
 
 abbrev top : Shape
-top = (built update_app).top
+top = (built (app_for row.Update)).top
 
 abbrev rules : List Rule
 rules = top.rules
@@ -97,9 +98,9 @@ more_pass v acc (u ∷ us) h =
 -- ---- a file alone
 
 takes_alone : (n v : Text) → is_plain v ≡ true
-    → (takes update_app (n ∷ v ∷ []) ≡ true)
-    × (value_in update_app file (n ∷ v ∷ []) ≡ Some v)
-    × (all_of uris (matches_of update_app (n ∷ v ∷ [])) ≡ None)
+    → (takes (app_for row.Update) (n ∷ v ∷ []) ≡ true)
+    × (value_in (app_for row.Update) file (n ∷ v ∷ []) ≡ Some v)
+    × (all_of uris (matches_of (app_for row.Update) (n ∷ v ∷ [])) ≡ None)
 unfolding clap_on_literals
 takes_alone n [] h = (refl, refl, refl)
 takes_alone n (x ∷ xs) h = let e = no_minus x xs h in rw (e, no_short x xs e) (refl, refl, refl)
@@ -116,14 +117,14 @@ module _ (n v u : Text) (us : List Text) (hv : is_plain v ≡ true) (hu : is_pla
       ap₂ ◌&&◌ (turn_zero v hv) (ap (λ s. walk_passes top [] s (u ∷ us)) (step_zero v hv)
       ∙ ap₂ ◌&&◌ (turn_first v u hu) (ap (λ s. walk_passes top [] s us) (step_first v u hu) ∙ more_pass v (u ∷ []) us hs))
 
-values_fine : (us : List Text) → list_all (value_passes (with_index 2 (filled (values_rule uris)))) us ≡ true
+values_fine : (us : List Text) → list_all (value_passes (with_index 2 (filled (rule_for many.AnyNumber uris)))) us ≡ true
 values_fine [] = refl
 values_fine (u ∷ us) = values_fine us
 
 -- the condition on the end of the walk
 abbrev asked : Walk → Bool → Bool
-asked w p = entered_passes (built update_app) w.stopped
-    && (p && (settle_passes rules top.args_override_self w.held && (list_all default_passes rules && is_valid top (finished rules w.held) (is_some (entered (built update_app) w.stopped)))))
+asked w p = entered_passes (built (app_for row.Update)) w.stopped
+    && (p && (settle_passes rules top.args_override_self w.held && (list_all default_passes rules && is_valid top (finished rules w.held) (is_some (entered (built (app_for row.Update)) w.stopped)))))
 
 none_le : (n : ℕ) → nat_le 0 n ≡ true
 none_le n = grind arith
@@ -141,13 +142,13 @@ unfolding clap_on_literals
 uris_at_end v u us = refl
 
 module _ (n v u : Text) (us : List Text) (hv : is_plain v ≡ true) (hu : is_plain u ≡ true) (hs : list_all is_plain us ≡ true) where
-  takes_more : nat_le (length (u ∷ us)) usize_max ≡ true → takes update_app (n ∷ v ∷ u ∷ us) ≡ true
+  takes_more : nat_le (length (u ∷ us)) usize_max ≡ true → takes (app_for row.Update) (n ∷ v ∷ u ∷ us) ≡ true
   takes_more le = ap₂ asked (whole_walk n v u us hv hu hs) (all_pass n v u us hv hu hs) ∙ end_fine v u us le
 
-  file_of_more : value_in update_app file (n ∷ v ∷ u ∷ us) ≡ Some v
+  file_of_more : value_in (app_for row.Update) file (n ∷ v ∷ u ∷ us) ≡ Some v
   file_of_more = ap (λ (w : Walk). first_of file (finished rules w.held)) (whole_walk n v u us hv hu hs) ∙ file_at_end v u us
 
-  uris_of_more : all_of uris (matches_of update_app (n ∷ v ∷ u ∷ us)) ≡ Some (u ∷ us)
+  uris_of_more : all_of uris (matches_of (app_for row.Update) (n ∷ v ∷ u ∷ us)) ≡ Some (u ∷ us)
   uris_of_more = ap (λ (w : Walk). all_of uris (finished rules w.held)) (whole_walk n v u us hv hu hs) ∙ uris_at_end v u us
 
 -- ---- all that `run update` is given
@@ -158,11 +159,11 @@ some_words [] = None
 some_words (word ∷ words) = Some (word ∷ words)
 
 pub record Updates (words : Words) : Type 0 where
-  pub takes_them : takes update_app words ≡ true
+  pub takes_them : takes (app_for row.Update) words ≡ true
   pub first : Word
   pub answers : Words
-  pub has_file : value_in update_app (codes "FILE") words ≡ Some first
-  pub has_answers : all_of (codes "URI=NAME") (matches_of update_app words) ≡ some_words answers
+  pub has_file : value_in (app_for row.Update) (codes "FILE") words ≡ Some first
+  pub has_answers : all_of (codes "URI=NAME") (matches_of (app_for row.Update) words) ≡ some_words answers
   pub are : answers ≡ drop 2 words
   pub table : update_of words ≡ option_map (Update first) (uris_of answers)
 
@@ -207,10 +208,10 @@ updates_texts words some few plain =
     let rest : length (drop 2 (texts words)) ≡ length (behind words) = ap length (sym (dropped 2 words)) ∙ as_many (drop 2 words) ∙ ap length (sym (behind_is words)) in
     updates (texts words) (omega (arith, many, some)) (few_enough (length (drop 2 (texts words))) (omega (arith, rest, few))) plain
 
-pub answers_are : (words : List (Bor Word)) (h : Updates (texts words)) → h.answers ≡ texts (behind words)
+answers_are : (words : List (Bor Word)) (h : Updates (texts words)) → h.answers ≡ texts (behind words)
 answers_are words h = h.are ∙ sym (dropped 2 words) ∙ ap texts (sym (behind_is words))
 
-pub so_few : (words : List (Bor Word)) (h : Updates (texts words)) → length (behind words) ≤ 64 → length h.answers ≤ 64
+so_few : (words : List (Bor Word)) (h : Updates (texts words)) → length (behind words) ≤ 64 → length h.answers ≤ 64
 so_few words h few = let same : length h.answers ≡ length (behind words) = ap length (answers_are words h) ∙ as_many (behind words) in omega (arith, same, few)
 
 unwrapped : (words : Words) → unwrap_or (some_words words) [] ≡ words
@@ -218,7 +219,7 @@ unwrapped [] = refl
 unwrapped (word ∷ words) = refl
 
 -- an update of a file, with what was handed out of its words
-pub said_of : (words : Words) (h : Updates words) (file : Word) (got : Option Words) (said : List Answer) → length h.answers ≤ 64 → are_answers h.answers ≡ true → h.first ≡ file
+said_of : (words : Words) (h : Updates words) (file : Word) (got : Option Words) (said : List Answer) → length h.answers ≤ 64 → are_answers h.answers ≡ true → h.first ≡ file
     → got ≡ some_words h.answers → said ≡ filter_map cut (unwrap_or got []) → Some (Update file said) ≡ update_of words
 said_of words h file got said few all is_file is_got is_said =
     let is : said ≡ filter_map cut h.answers = is_said ∙ ap (λ (o : Option Words). filter_map cut (unwrap_or o [])) is_got ∙ ap (filter_map cut) (unwrapped h.answers) in
@@ -226,7 +227,11 @@ said_of words h file got said few all is_file is_got is_said =
     let read : uris_of h.answers ≡ Some (filter_map cut h.answers) = ap (λ (b : Bool). if b then Some (filter_map cut h.answers) else None) yes in
     sym (h.table ∙ ap (option_map (Update h.first)) read ∙ ap (λ (w : Word). Some (Update w (filter_map cut h.answers))) is_file ∙ ap (λ (s : List Answer). Some (Update file s)) (sym is))
 
--- the values that were handed out, by the rows
-pub answers_in_rows : (words : Words) (command : Command) → app_of command ≡ update_app → (rows : List Row) → rows ≡ matches_of (app_of command) words
-    → all_of (codes "URI=NAME") rows ≡ all_of (codes "URI=NAME") (matches_of update_app words)
-answers_in_rows words command is rows are = ap (all_of (codes "URI=NAME")) are ∙ ap (λ (a : App). all_of (codes "URI=NAME") (matches_of a words)) is
+-- an update, by the rows that were found of its words
+module _ (words : List (Bor Word)) (some : 2 ≤ length words) (few : length (behind words) ≤ 64) (plain : list_all is_plain (texts words) ≡ true) where
+  pub handed : (rows : List Row) → rows ≡ matches_of (app_for row.Update) (texts words) → are_answers (texts (behind words)) ≡ true → (file : Word) → first_of (codes "FILE") rows ≡ Some file
+      → (got : Option Words) → got ≡ all_of (codes "URI=NAME") rows → (said : List Answer) → said ≡ filter_map cut (unwrap_or got []) → Some (Update file said) ≡ update_of (texts words)
+  handed rows are all file is_file got is_got said is_said =
+      let h = updates_texts words some few plain in
+      let first = is_that (app_for row.Update) (texts words) rows are (codes "FILE") h.first file h.has_file is_file in
+      said_of (texts words) h file got said (so_few words h few) (ap are_answers (answers_are words h) ∙ all) first (is_got ∙ ap (all_of (codes "URI=NAME")) are ∙ h.has_answers) is_said

@@ -5,45 +5,34 @@ use Rattle.clap.specs.Walk.{Rule}
 use Rattle.clap.specs.Simple.{App, new_app, new_rule, with_rule}
 use Rattle.clap.specs.declared.builder.action.ArgAction.TheVariants.{Set}
 use Rattle.command_words.specs.Tasks.{Word}
+use Rattle.command_words.specs.declared.arguments.Values.{Values}
+use Rattle.command_words.specs.declared.arguments.Values.TheVariants as has
+use Rattle.command_words.specs.declared.arguments.Row.{Row}
+use Rattle.command_words.specs.declared.arguments.Row.TheVariants as row
 
--- one value, that must be there
-abbrev pub value_rule : Word → Rule
-value_rule id = record (new_rule id) { required = true; action = Some Set }
-
--- one value, that may be left out
-abbrev pub option_rule : Word → Rule
-option_rule id = record (new_rule id) { action = Some Set }
-
--- any number of values
-abbrev pub values_rule : Word → Rule
-values_rule id =
+-- an argument of so many values: one that must be there, one that may be left out, or any number of them
+abbrev pub rule_for : Values → Word → Rule
+rule_for has.One id = record (new_rule id) { required = true; action = Some Set }
+rule_for has.OneAtMost id = record (new_rule id) { action = Some Set }
+rule_for has.AnyNumber id =
     record (new_rule id)
     { range = Some (record { start_inclusive = 0; end_inclusive = usize_max }) }
 
-abbrev pub check_app : App
-check_app = with_rule (new_app (codes "check")) (value_rule (codes "FILE"))
-
-abbrev pub drill_app : App
-drill_app = with_rule (new_app (codes "drill")) (value_rule (codes "NUMBER"))
-
-abbrev pub show_app : App
-show_app =
-    with_rule (with_rule (new_app (codes "show")) (value_rule (codes "FILE")))
-    (option_rule (codes "KEY"))
-
-abbrev pub init_app : App
-init_app =
-    with_rule (with_rule (new_app (codes "init")) (value_rule (codes "DEVICE")))
-    (value_rule (codes "KEY"))
-
-abbrev pub make_app : App
-make_app =
+-- the command of each row, by its name and its arguments in order
+abbrev pub app_for : Row → App
+app_for row.Check = with_rule (new_app (codes "check")) (rule_for has.One (codes "FILE"))
+app_for row.Drill = with_rule (new_app (codes "drill")) (rule_for has.One (codes "NUMBER"))
+app_for row.Init =
+    with_rule (with_rule (new_app (codes "init")) (rule_for has.One (codes "DEVICE")))
+    (rule_for has.One (codes "KEY"))
+app_for row.Make =
     with_rule
-    (with_rule (with_rule (new_app (codes "make")) (value_rule (codes "DESCRIPTION")))
-    (value_rule (codes "KEY")))
-    (value_rule (codes "OUT"))
-
-abbrev pub update_app : App
-update_app =
-    with_rule (with_rule (new_app (codes "update")) (value_rule (codes "FILE")))
-    (values_rule (codes "URI=NAME"))
+    (with_rule (with_rule (new_app (codes "make")) (rule_for has.One (codes "DESCRIPTION")))
+    (rule_for has.One (codes "KEY")))
+    (rule_for has.One (codes "OUT"))
+app_for row.Show =
+    with_rule (with_rule (new_app (codes "show")) (rule_for has.One (codes "FILE")))
+    (rule_for has.OneAtMost (codes "KEY"))
+app_for row.Update =
+    with_rule (with_rule (new_app (codes "update")) (rule_for has.One (codes "FILE")))
+    (rule_for has.AnyNumber (codes "URI=NAME"))

@@ -6,104 +6,78 @@ ghost use Rattle.clap.specs.Walk.{all_of, first_of, rows_of};
 ghost use Rattle.clap.specs.Simple.{app_of, matches_of, with_rule};
 ghost use Rattle.clap.specs.Matches.{found_of};
 ghost use Rattle.command_words.specs.Tasks.{texts};
-ghost use Rattle.command_words.specs.Arguments.{
-  option_rule,
-  value_rule,
-  values_rule,
-  check_app,
-  drill_app,
-  init_app,
-  make_app,
-  show_app,
-  update_app,
-};
+ghost use Rattle.command_words.specs.Arguments.{app_for, rule_for};
 
 use clap::error::ErrorKind;
 use clap::{Arg, ArgAction, ArgMatches, Command};
 use std::alloc::{AllocError, Global};
 
-// With one more argument, of one value that must be there.
-fn with_value<'a>(
+/// How many values an argument has.
+#[derive(Clone, Copy)]
+pub(crate) enum Values {
+    One,
+    OneAtMost,
+    AnyNumber,
+}
+
+/// A row whose arguments `clap` hands out.
+#[derive(Clone, Copy)]
+pub(crate) enum Row {
+    Check,
+    Drill,
+    Init,
+    Make,
+    Show,
+    Update,
+}
+
+// With one more argument.
+fn with<'a>(
     alloc: Global,
     command: Command<'a>,
+    has: Values,
     id: &'a str,
 ) -> Result<Command<'a>, AllocError>
     ensures { IfOk result (λ c. app_of c
-        ≡ with_rule (app_of command.entry) (value_rule id.entry.now)) }
+        ≡ with_rule (app_of command.entry) (rule_for has id.entry.now)) }
 {
-    command.arg(Arg::new(alloc, id).required(true).action(ArgAction::Set))
+    match has {
+        Values::One => command.arg(Arg::new(alloc, id).required(true).action(ArgAction::Set)),
+        Values::OneAtMost => command.arg(Arg::new(alloc, id).action(ArgAction::Set)),
+        Values::AnyNumber => command.arg(Arg::new(alloc, id).num_args(0..)),
+    }
 }
 
-// With one more argument, of one value that may be left out.
-fn with_option<'a>(
-    alloc: Global,
-    command: Command<'a>,
-    id: &'a str,
-) -> Result<Command<'a>, AllocError>
-    ensures { IfOk result (λ c. app_of c
-        ≡ with_rule (app_of command.entry) (option_rule id.entry.now)) }
+// The command of a row. The first word of a row is the command's name.
+fn command_for<'a>(alloc: Global, row: Row) -> Result<Command<'a>, AllocError>
+    ensures { IfOk result (λ c. app_of c ≡ app_for row) }
 {
-    command.arg(Arg::new(alloc, id).action(ArgAction::Set))
+    match row {
+        Row::Check => with(alloc, Command::new(alloc, "check"), Values::One, "FILE"),
+        Row::Drill => with(alloc, Command::new(alloc, "drill"), Values::One, "NUMBER"),
+        Row::Init => {
+            let command = with(alloc, Command::new(alloc, "init"), Values::One, "DEVICE")?;
+            with(alloc, command, Values::One, "KEY")
+        }
+        Row::Make => {
+            let command = Command::new(alloc, "make");
+            let command = with(alloc, command, Values::One, "DESCRIPTION")?;
+            let command = with(alloc, command, Values::One, "KEY")?;
+            with(alloc, command, Values::One, "OUT")
+        }
+        Row::Show => {
+            let command = with(alloc, Command::new(alloc, "show"), Values::One, "FILE")?;
+            with(alloc, command, Values::OneAtMost, "KEY")
+        }
+        Row::Update => {
+            let command = with(alloc, Command::new(alloc, "update"), Values::One, "FILE")?;
+            with(alloc, command, Values::AnyNumber, "URI=NAME")
+        }
+    }
 }
 
-// With one more argument, of any number of values.
-fn with_values<'a>(
-    alloc: Global,
-    command: Command<'a>,
-    id: &'a str,
-) -> Result<Command<'a>, AllocError>
-    ensures { IfOk result (λ c. app_of c
-        ≡ with_rule (app_of command.entry) (values_rule id.entry.now)) }
-{
-    command.arg(Arg::new(alloc, id).num_args(0..))
-}
-
-pub(crate) fn check_command<'a>(alloc: Global) -> Result<Command<'a>, AllocError>
-    ensures { IfOk result (λ c. app_of c ≡ check_app) }
-{
-    with_value(alloc, Command::new(alloc, "check"), "FILE")
-}
-
-pub(crate) fn drill_command<'a>(alloc: Global) -> Result<Command<'a>, AllocError>
-    ensures { IfOk result (λ c. app_of c ≡ drill_app) }
-{
-    with_value(alloc, Command::new(alloc, "drill"), "NUMBER")
-}
-
-pub(crate) fn init_command<'a>(alloc: Global) -> Result<Command<'a>, AllocError>
-    ensures { IfOk result (λ c. app_of c ≡ init_app) }
-{
-    let command = with_value(alloc, Command::new(alloc, "init"), "DEVICE")?;
-    with_value(alloc, command, "KEY")
-}
-
-pub(crate) fn make_command<'a>(alloc: Global) -> Result<Command<'a>, AllocError>
-    ensures { IfOk result (λ c. app_of c ≡ make_app) }
-{
-    let command = with_value(alloc, Command::new(alloc, "make"), "DESCRIPTION")?;
-    let command = with_value(alloc, command, "KEY")?;
-    with_value(alloc, command, "OUT")
-}
-
-pub(crate) fn show_command<'a>(alloc: Global) -> Result<Command<'a>, AllocError>
-    ensures { IfOk result (λ c. app_of c ≡ show_app) }
-{
-    let command = with_value(alloc, Command::new(alloc, "show"), "FILE")?;
-    with_option(alloc, command, "KEY")
-}
-
-pub(crate) fn update_command<'a>(alloc: Global) -> Result<Command<'a>, AllocError>
-    ensures { IfOk result (λ c. app_of c ≡ update_app) }
-{
-    let command = with_value(alloc, Command::new(alloc, "update"), "FILE")?;
-    with_values(alloc, command, "URI=NAME")
-}
-
-/// Matches words that a command takes, which fails only where memory runs out. The first word is the command's name.
-pub(crate) fn found<'a>(
-    command: Command<'a>,
-    words: &'a [&'a str],
-) -> Result<ArgMatches<'a>, AllocError>
+// Matches words that a command takes, which fails only where memory runs out.
+fn matched<'a>(command: Command<'a>, words: &'a [&'a str]) -> Result<ArgMatches<'a>, AllocError>
     requires { takes (app_of command) (texts words.now) ≡ true }
     ensures { IfOk result (λ m. rows_of (found_of m)
         ≡ matches_of (app_of command.entry) (texts words.entry.now)) }
@@ -116,6 +90,19 @@ pub(crate) fn found<'a>(
             Err(AllocError)
         }
     }
+}
+
+/// Matches words that the command of a row takes, which fails only where memory runs out.
+pub(crate) fn found<'a>(
+    alloc: Global,
+    row: Row,
+    words: &'a [&'a str],
+) -> Result<ArgMatches<'a>, AllocError>
+    requires { takes (app_for row) (texts words.now) ≡ true }
+    ensures { IfOk result (λ m. rows_of (found_of m)
+        ≡ matches_of (app_for row) (texts words.entry.now)) }
+{
+    matched(command_for(alloc, row)?, words)
 }
 
 /// The value of an argument that stands in the words.

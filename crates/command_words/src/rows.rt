@@ -7,10 +7,7 @@ ghost use Rattle.command_words.specs.Words.{is_plain};
 ghost use Rattle.command_words.specs.Table.{alone_of, check_of, drill_of, init_of, make_of, run_of, show_of, update_of};
 ghost use Rattle.command_words.specs.Said.{said};
 
-use crate::arguments::{
-    check_command, drill_command, found, init_command, make_command, option_of, show_command,
-    update_command, value_of, values_of,
-};
+use crate::arguments::{Row, found, option_of, value_of, values_of};
 use crate::command::Command;
 use crate::number::number_of;
 use crate::uri_words::{UriWords, are_answers};
@@ -30,7 +27,7 @@ pub(crate) fn make<'a>(
     if words.len() != 4 {
         return Ok(None);
     }
-    let matches = found(make_command(alloc)?, words)?;
+    let matches = found(alloc, Row::Make, words)?;
     let description = value_of(&matches, "DESCRIPTION");
     let key = value_of(&matches, "KEY");
     let out = value_of(&matches, "OUT");
@@ -52,7 +49,7 @@ pub(crate) fn show<'a>(
     if words.len() < 2 || words.len() > 3 {
         return Ok(None);
     }
-    let matches = found(show_command(alloc)?, words)?;
+    let matches = found(alloc, Row::Show, words)?;
     let file = value_of(&matches, "FILE");
     match option_of(&matches, "KEY") {
         Some(key) => Ok(Some(Command::Show { file, key })),
@@ -71,7 +68,7 @@ pub(crate) fn check<'a>(
     if words.len() != 2 {
         return Ok(None);
     }
-    let matches = found(check_command(alloc)?, words)?;
+    let matches = found(alloc, Row::Check, words)?;
     let file = value_of(&matches, "FILE");
     Ok(Some(Command::Check { file }))
 }
@@ -87,7 +84,7 @@ pub(crate) fn drill<'a>(
     if words.len() != 2 || number_of(words[1]).is_none() {
         return Ok(None);
     }
-    let matches = found(drill_command(alloc)?, words)?;
+    let matches = found(alloc, Row::Drill, words)?;
     match number_of(value_of(&matches, "NUMBER")) {
         Some(number) => Ok(Some(Command::Drill { number })),
         None => Ok(None),
@@ -102,7 +99,7 @@ fn init<'a>(alloc: Global, words: &'a [&'a str]) -> Result<Option<Command<'a>>, 
     if words.len() != 3 {
         return Ok(None);
     }
-    let matches = found(init_command(alloc)?, words)?;
+    let matches = found(alloc, Row::Init, words)?;
     let device = value_of(&matches, "DEVICE");
     let key = value_of(&matches, "KEY");
     Ok(Some(Command::Init { device, key }))
@@ -120,7 +117,7 @@ fn update<'a>(alloc: Global, words: &'a [&'a str]) -> Result<Option<Command<'a>>
     if answers.len() > MOST_URIS || !are_answers(answers) {
         return Ok(None);
     }
-    let matches = found(update_command(alloc)?, words)?;
+    let matches = found(alloc, Row::Update, words)?;
     let file = value_of(&matches, "FILE");
     match values_of(&matches, "URI=NAME") {
         Some(answers) => {

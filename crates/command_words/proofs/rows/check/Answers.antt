@@ -1,18 +1,19 @@
 use Rattle.std.proofs.Common.{◌∙◌, ap, sym, codes, arith, Some}
 use Rattle.command_words.specs.Tasks.{Word, texts, Check}
-use Rattle.command_words.specs.Arguments.{check_app}
-use Rattle.command_words.proofs.Handed.{taken, is_there, is_that}
+use Rattle.command_words.specs.Arguments.{app_for}
+use Rattle.command_words.specs.declared.arguments.Row.TheVariants as row
+use Rattle.command_words.proofs.Handed.{is_there, is_that}
 use Rattle.command_words.proofs.Taken.{checks_texts}
 use Rattle.command_words.proofs.rows.check.Goals as goal
 
 pub found-requires : goal.found-requires
-found-requires c = taken check_app (texts c.args.words.now) c.in_ok-check_command.field-0 c.in_ok-check_command.ensures (checks_texts c.args.words.now (omega arith) c.requires).takes_them
+found-requires c = (checks_texts c.args.words.now (omega arith) c.requires).takes_them
 
 pub value_of-file-requires : goal.value_of-file-requires
-value_of-file-requires c = is_there check_app (texts c.args.words.now) c.in_ok-check_command.field-0 c.in_ok-check_command.ensures _ c.in_ok-matches.ensures (codes "FILE") _ (checks_texts c.args.words.now (omega arith) c.requires).has_file
+value_of-file-requires c = is_there (app_for row.Check) (texts c.args.words.now) _ c.in_ok-matches.ensures (codes "FILE") _ (checks_texts c.args.words.now (omega arith) c.requires).has_file
 
 pub returns : goal.returns
 returns c =
     let h = checks_texts c.args.words.now (omega arith) c.requires in
-    let file = is_that check_app (texts c.args.words.now) c.in_ok-check_command.field-0 c.in_ok-check_command.ensures _ c.in_ok-matches.ensures (codes "FILE") h.file _ h.has_file c.value_of-file.ensures in
+    let file = is_that (app_for row.Check) (texts c.args.words.now) _ c.in_ok-matches.ensures (codes "FILE") h.file _ h.has_file c.value_of-file.ensures in
     sym (h.table ∙ ap (λ (w : Word). Some (Check w)) file)

@@ -1,8 +1,9 @@
 use Rattle.std.proofs.Common.{◌∙◌, ap, sym, codes, arith, option_map}
 use Rattle.command_words.specs.Tasks.{Word, texts, Drill}
 use Rattle.command_words.specs.Numbers.{number_of}
-use Rattle.command_words.specs.Arguments.{drill_app}
-use Rattle.command_words.proofs.Handed.{taken, is_there, is_that}
+use Rattle.command_words.specs.Arguments.{app_for}
+use Rattle.command_words.specs.declared.arguments.Row.TheVariants as row
+use Rattle.command_words.proofs.Handed.{is_there, is_that}
 use Rattle.command_words.proofs.TextLists.{as_many}
 use Rattle.command_words.proofs.Taken.{drills}
 use Rattle.command_words.proofs.rows.drill.Goals as goal
@@ -10,23 +11,23 @@ use Rattle.command_words.proofs.rows.drill.Goals as goal
 pub found-requires : goal.found-requires
 found-requires c =
     let h = drills (texts c.args.words.now) (as_many c.args.words.now ∙ omega arith) c.requires in
-    taken drill_app (texts c.args.words.now) c.in_ok-drill_command.field-0 c.in_ok-drill_command.ensures h.takes_them
+    h.takes_them
 
 pub value_of-requires : goal.value_of-requires
 value_of-requires c =
     let h = drills (texts c.args.words.now) (as_many c.args.words.now ∙ omega arith) c.requires in
-    is_there drill_app (texts c.args.words.now) c.in_ok-drill_command.field-0 c.in_ok-drill_command.ensures _ c.in_ok-matches.ensures (codes "NUMBER") h.number h.has_number
+    is_there (app_for row.Drill) (texts c.args.words.now) _ c.in_ok-matches.ensures (codes "NUMBER") h.number h.has_number
 
 pub returns-in-Some : goal.returns-in-Some
 returns-in-Some c =
     let words = texts c.args.words.now in
     let h = drills words (as_many c.args.words.now ∙ omega arith) c.requires in
-    let number = is_that drill_app words c.in_ok-drill_command.field-0 c.in_ok-drill_command.ensures _ c.in_ok-matches.ensures (codes "NUMBER") h.number _ h.has_number c.value_of.ensures in
+    let number = is_that (app_for row.Drill) words _ c.in_ok-matches.ensures (codes "NUMBER") h.number _ h.has_number c.value_of.ensures in
     sym (h.table ∙ ap (λ (w : Word). option_map Drill (number_of w)) number ∙ ap (option_map Drill) (sym c.number_of-2.ensures ∙ c.in-Some.is))
 
 pub returns : goal.returns
 returns c =
     let words = texts c.args.words.now in
     let h = drills words (as_many c.args.words.now ∙ omega arith) c.requires in
-    let number = is_that drill_app words c.in_ok-drill_command.field-0 c.in_ok-drill_command.ensures _ c.in_ok-matches.ensures (codes "NUMBER") h.number _ h.has_number c.value_of.ensures in
+    let number = is_that (app_for row.Drill) words _ c.in_ok-matches.ensures (codes "NUMBER") h.number _ h.has_number c.value_of.ensures in
     sym (h.table ∙ ap (λ (w : Word). option_map Drill (number_of w)) number ∙ ap (option_map Drill) (sym c.number_of-2.ensures ∙ c.in-None.is))
