@@ -1,5 +1,6 @@
 -- How the code's steps accept an envelope.
 use Rattle.std.proofs.Common.{◌≡◌, ℕ, Bool, true, false, List, Result, Ok, Err, refl, sym, subst}
+use Rattle.std.specs.Result.{IsErrAnd}
 use Rattle.std.specs.declared.alloc.AllocError.{AllocError}
 use Rattle.suit_commands.specs.Tree.{PlanTree}
 use Rattle.suit_envelope.specs.Envelopes.{EnvelopeSays}
@@ -17,6 +18,7 @@ use Rattle.path_model.specs.Safe.{Safe}
 use Rattle.suit_cli.specs.declared.reply.Reply.{Reply}
 use Rattle.suit_cli.specs.declared.reply.Outcome.TheVariants as outcomes
 use Rattle.suit_cli.specs.declared.reply.Stop.{Stop}
+use Rattle.suit_cli.specs.declared.reply.Stop.TheVariants as stops
 use Rattle.suit_cli.specs.Replies.{Makes, stop_of}
 use Rattle.suit_cli.specs.Lines.{number_line, path_lines}
 use Rattle.std.specs.Prelude.{◌≢◌, ◌++◌, IsTrue, codes}
@@ -25,9 +27,9 @@ use Rattle.suit_envelope.specs.declared.authenticity.Authenticity.TheVariants as
 use Rattle.suit_cli.specs.Shown.{TellsAuthenticity}
 use Rattle.suit_cli.specs.Texts.{authenticity_line, invocation_unsafe_lines, update_unsafe_line}
 use Rattle.suit_cli.specs.Outside.{Outside}
-use Rattle.suit_cli.specs.Stages.{Stage, Does, Finds, in_turn, judging}
+use Rattle.suit_cli.specs.Stages.{Stage, Does, Finds, in_turn, judging, Last, Ends, EndsWithout, ending_of}
 use Rattle.suit_cli.specs.Envelopes.{envelope_in, short, manifest_in, members_in}
-use Rattle.suit_cli.specs.Judgement.{InvocationUnsafe, UpdateUnsafe, narrow}
+use Rattle.suit_cli.specs.Judgement.{AreJudged, InvocationUnsafe, JudgedUnsafe, UpdateUnsafe, narrow, safe}
 use Rattle.suit_cli.specs.Acceptance.{Accepted, accepts, accepts_manifest, authentic_in, judges, places_in, safe_in}
 use Rattle.suit_cli.proofs.Turns.{goes_on, stops_there}
 
@@ -154,24 +156,35 @@ unauthentic_stop said key answer made stop is tells lacking says here =
     subst (λ (s : Stop). Does (authentic_in said key) here here (Err s)) (sym is) (unauthentic_told said key answer made tells lacking says here)
 
 -- that a procedure is not safe
-module _ (u i : PlanTree) where
-  update_told : (bad : BadPath) (made : Result Reply AllocError) → IsBadPath u bad → Makes made outcomes.Unsafe (update_unsafe_line ++ path_lines bad) → (here : Outside)
-      → Does (safe_in u i) here here (Err (stop_of made))
-  update_told bad (Ok reply) is says here = (refl, record { outcome_is = says.outcome_is; shows_path = UpdateUnsafe bad is says.text_is })
-  update_told bad (Err e) is says here = refl
+pub unsafe_stop : (plan : PlanTree) (lines : List ℕ) (bad : BadPath) (made : Result Reply AllocError) (stop : Stop) → stop ≡ stop_of made → IsBadPath plan bad
+    → Makes made outcomes.Unsafe (lines ++ path_lines bad) → (here : Outside) → Does (safe plan lines) here here (Err stop)
+unsafe_stop plan lines bad made stop same is says here = subst (λ (s : Stop). Does (safe plan lines) here here (Err s)) (sym same) (of_made made says) where
+  of_made : (m : Result Reply AllocError) → Makes m outcomes.Unsafe (lines ++ path_lines bad) → Does (safe plan lines) here here (Err (stop_of m))
+  of_made (Ok reply) told = (refl, record { bad = bad; is_bad = is; says = told })
+  of_made (Err e) told = refl
 
-  pub update_unsafe : (bad : BadPath) (made : Result Reply AllocError) (stop : Stop) → stop ≡ stop_of made → IsBadPath u bad
-      → Makes made outcomes.Unsafe (update_unsafe_line ++ path_lines bad) → (here : Outside) → Does (safe_in u i) here here (Err stop)
-  update_unsafe bad made stop same is says here = subst (λ (s : Stop). Does (safe_in u i) here here (Err s)) (sym same) (update_told bad made is says here)
+module _ (u i : PlanTree) (here : Outside) where
+  -- the update
+  pub update_unsafe : (stop : Stop) → Does (safe u update_unsafe_line) here here (Err stop) → Does (safe_in u i) here here (Err stop)
+  update_unsafe (stops.Declined reply) d = (d.0, record { outcome_is = d.1.says.outcome_is; shows_path = UpdateUnsafe d.1.bad d.1.is_bad d.1.says.text_is })
+  update_unsafe (stops.Fault object) d = d
+  update_unsafe stops.NoMemory d = d
 
-  invocation_told : (bad : BadPath) (made : Result Reply AllocError) → Safe u → IsBadPath i bad → Makes made outcomes.Unsafe (invocation_unsafe_lines ++ path_lines bad) → (here : Outside)
-      → Does (safe_in u i) here here (Err (stop_of made))
-  invocation_told bad (Ok reply) first is says here = (refl, record { outcome_is = says.outcome_is; shows_path = InvocationUnsafe bad first is says.text_is })
-  invocation_told bad (Err e) first is says here = refl
+  -- or, behind a safe update, the invocation
+  pub behind_update : Safe u → (result : Result (Unit {0}) Stop) → Does (safe i invocation_unsafe_lines) here here result → Does (safe_in u i) here here result
+  behind_update first (Ok x) d = (d.0, record { update_safe = first; invocation_safe = d.1 })
+  behind_update first (Err (stops.Declined reply)) d = (d.0, record { outcome_is = d.1.says.outcome_is; shows_path = InvocationUnsafe d.1.bad first d.1.is_bad d.1.says.text_is })
+  behind_update first (Err (stops.Fault object)) d = d
+  behind_update first (Err stops.NoMemory) d = d
 
-  pub invocation_unsafe : (bad : BadPath) (made : Result Reply AllocError) (stop : Stop) → stop ≡ stop_of made → Safe u → IsBadPath i bad
-      → Makes made outcomes.Unsafe (invocation_unsafe_lines ++ path_lines bad) → (here : Outside) → Does (safe_in u i) here here (Err stop)
-  invocation_unsafe bad made stop same first is says here = subst (λ (s : Stop). Does (safe_in u i) here here (Err s)) (sym same) (invocation_told bad made first is says here)
+  judged_unsafe : (stop : Stop) → Does (safe_in u i) here here (Err stop) → Last (AreJudged u i) here here (ending_of (Err stop))
+  judged_unsafe (stops.Declined reply) d = Ends reply refl (JudgedUnsafe d.1.outcome_is d.1.shows_path)
+  judged_unsafe (stops.Fault object) d = absurd d
+  judged_unsafe stops.NoMemory d = EndsWithout refl
+
+  pub judges_unsafe : (result : Result Reply Stop) (stop : Stop) → IsErrAnd result (λ e. e ≡ stop) → Does (safe_in u i) here here (Err stop) → Last (AreJudged u i) here here (ending_of result)
+  judges_unsafe (Ok reply) stop is d = absurd is
+  judges_unsafe (Err other) stop is d = subst (λ (s : Stop). Last (AreJudged u i) here here (ending_of (Err s))) (sym is) (judged_unsafe stop d)
 
 -- ---- answers of tests
 

@@ -1,43 +1,63 @@
 -- The results of the code of `make`, stage by stage.
 use Rattle.std.proofs.Common.{◌≡◌, ◌∙◌, ℕ, ◌<◌, ◌+◌, Bool, true, false, List, [], ◌∷◌, ◌++◌, length, drop, get_or, Option, Some, None, Result, Ok, Err, ◌⊎◌, inl, inr, refl, sym, ap, subst}
-use Rattle.std.specs.Prelude.{◌≢◌, IfOk, IsTrue, ◌&&◌, ◌||◌}
+use Rattle.std.specs.Prelude.{◌≢◌, IfOk, IsTrue, String, string_bytes, ◌&&◌, ◌||◌}
 use Rattle.std.specs.Str.{IsUtf8, bytes_eq}
 use Rattle.std.specs.Result.{IsErrAnd}
 use Rattle.std.proofs.lemmas.Bool.{false≢true}
 use Rattle.std.proofs.lemmas.List.{drop_more}
 use Rattle.std.proofs.lemmas.Slice.Eq.{bytes_eq-Decides}
 use Rattle.std.specs.declared.alloc.AllocError.{AllocError}
+use Rattle.std.specs.declared.alloc.Global.{Global}
 use Rattle.serde_json.specs.Data.{Data}
 use Rattle.serde_json.specs.Read.{read}
 use Rattle.author.specs.declared.fault.DescriptionFault.{DescriptionFault}
 use Rattle.author.specs.declared.fault.DescriptionFault.TheVariants as faults
-use Rattle.author.specs.Faults.{RefusesDescription, IsFaultOf}
+use Rattle.author.specs.declared.held.Description.{Description}
+use Rattle.author.specs.Faults.{IsDescription, RefusesDescription, IsFaultOf}
+use Rattle.author.specs.Held.{IsDescriptionOf, value_of}
 use Rattle.author.specs.Files.{has_file, has_files}
-use Rattle.suit_cli.specs.declared.reply.Reply.{Reply}
 use Rattle.suit_cli.specs.declared.reply.Object.{Object}
 use Rattle.suit_cli.specs.declared.reply.Outcome.TheVariants as outcomes
 use Rattle.suit_cli.specs.declared.reply.Stop.{Stop}
 use Rattle.suit_cli.specs.declared.reply.Stop.TheVariants as stops
 use Rattle.suit_cli.specs.Outside.{Outside, LeavesOthers}
-use Rattle.suit_cli.specs.Replies.{stop_of}
+use Rattle.suit_cli.specs.Replies.{refused_by}
 use Rattle.suit_cli.specs.Stages.{Stage, Ending, Does, After, in_turn}
 use Rattle.suit_cli.specs.Inputs.{file}
-use Rattle.suit_cli.specs.Authoring.{longest_named, IsNoDescription, TellsDescription, description_in, files_after, files_in, made_in, stores}
+use Rattle.suit_cli.proofs.Chains.{stops_with}
+use Rattle.suit_cli.specs.Json.{json_in}
+use Rattle.suit_cli.specs.Authoring.{longest_named, IsNoDescription, IsNoText, value_or_stop, IsDescriptionLine, description_in, files_after, files_in, made_in, stores}
 
 -- ---- the description
 
 -- only a fault that has a line is told
-fault_stands : (d : Data) (fault : DescriptionFault) (reply : Reply) → IsFaultOf d fault → TellsDescription fault reply → RefusesDescription d fault
-fault_stands d (faults.BadField pointer) reply is tells = is
-fault_stands d (faults.BadHex pointer) reply is tells = is
-fault_stands d (faults.BadUuid pointer) reply is tells = is
-fault_stands d (faults.TwoAlike i j) reply is tells = is
-fault_stands d (faults.TooMany n) reply is tells = is
-fault_stands d faults.NoMemory reply is tells = absurd tells.line
+fault_stands : (d : Data) (fault : DescriptionFault) (line : List ℕ) → IsFaultOf d fault → IsDescriptionLine fault line → RefusesDescription d fault
+fault_stands d (faults.BadField pointer) line is tells = is
+fault_stands d (faults.BadHex pointer) line is tells = is
+fault_stands d (faults.BadUuid pointer) line is tells = is
+fault_stands d (faults.TwoAlike i j) line is tells = is
+fault_stands d (faults.TooMany n) line is tells = is
+fault_stands d faults.NoMemory line is tells = absurd tells
 
-pub no_description_there : (bytes : List ℕ) (d : Data) (fault : DescriptionFault) (made : Result Reply AllocError) → IsUtf8 bytes → read bytes ≡ Some d → IsFaultOf d fault
-    → IfOk made (TellsDescription fault) → (here : Outside) → Does (description_in bytes) here here (Err (stop_of made))
-no_description_there bytes d fault (Ok reply) utf8 reads is tells here = (refl, IsNoDescription d fault utf8 reads (fault_stands d fault reply is tells) tells)
+pub described_there : (bytes : List ℕ) (d : Data) (p : Description) → IsUtf8 bytes → read bytes ≡ Some d → IsDescriptionOf d p → (here : Outside)
+    → Does (description_in bytes) here here (Ok (value_of p))
+described_there bytes d p utf8 reads is here =
+    (refl, record { utf8 = utf8; reads = subst (λ (x : Data). read bytes ≡ Some x) (sym is.same) reads; describes = subst (λ (x : Data). IsDescription x) (sym is.same) is.accepted })
+
+-- it is no JSON
+no_text_there : (bytes : List ℕ) (here : Outside) (stop : Stop) → Does (json_in bytes) here here (Err stop) → Does (description_in bytes) here here (Err stop)
+no_text_there bytes here (stops.Declined reply) d = (d.0, IsNoText d.1.unread d.1.says)
+no_text_there bytes here (stops.Fault object) d = d
+no_text_there bytes here stops.NoMemory d = d
+
+pub no_authored_text : (bytes : List ℕ) (here : Outside) (result : Result Description Stop) (stop : Stop) → IsErrAnd result (λ e. e ≡ stop) → Does (json_in bytes) here here (Err stop)
+    → Does (description_in bytes) here here (value_or_stop result)
+no_authored_text bytes here (Ok description) stop is d = absurd is
+no_authored_text bytes here (Err other) stop is d = subst (λ (s : Stop). Does (description_in bytes) here here (Err s)) (sym is) (no_text_there bytes here stop d)
+
+pub no_description_there : (bytes : List ℕ) (d : Data) (fault : DescriptionFault) (line : Result (String Global) AllocError) → IsUtf8 bytes → read bytes ≡ Some d
+    → IsFaultOf d fault → IfOk line (λ t. IsDescriptionLine fault (string_bytes t)) → (here : Outside) → Does (description_in bytes) here here (Err (refused_by line))
+no_description_there bytes d fault (Ok line) utf8 reads is tells here = (refl, IsNoDescription d fault utf8 reads (fault_stands d fault (string_bytes line) is tells) (record { outcome_is = refl; line = tells }))
 no_description_there bytes d fault (Err e) utf8 reads is tells here = refl
 
 -- ---- the files, one after another
@@ -118,10 +138,6 @@ pub stores_by : (out x y : List ℕ) → x ≡ y → (b a : Outside) (e : Ending
 stores_by out x y same b a e stored = subst (λ (l : List ℕ). stores out l b a e) same stored
 
 -- ---- the result of a step
-
-pub stops_with : {A : Type 0} (stage : Stage A) (b a : Outside) (result : Result A Stop) (stop : Stop) → IsErrAnd result (λ e. e ≡ stop) → Does stage b a (Err stop) → Does stage b a result
-stops_with stage b a (Ok x) stop is does = absurd is
-stops_with stage b a (Err other) stop is does = subst (λ (s : Stop). Does stage b a (Err s)) (sym is) does
 
 -- a file was not read
 pub stops_at : (read : Files) (name : List ℕ) (names : List (List ℕ)) (before after : Outside) (result : Result Files Stop) (stop : Stop) → IsErrAnd result (λ e. e ≡ stop)

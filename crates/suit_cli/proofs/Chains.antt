@@ -1,7 +1,7 @@
 -- How the code's steps make a chain of stages.
 use Rattle.std.proofs.Common.{◌≡◌, ℕ, Bool, List, [], None, false, Result, Ok, Err, refl, sym, subst}
 use Rattle.std.specs.Result.{IsErrAnd}
-use Rattle.std.specs.Prelude.{OnOk}
+use Rattle.std.specs.Prelude.{IfErr, IfOk, OnOk}
 use Rattle.std.specs.declared.alloc.AllocError.{AllocError}
 use Rattle.suit_commands.specs.Tree.{PlanTree}
 use Rattle.suit_params.specs.declared.refusal.Refusal.{Refusal}
@@ -9,9 +9,10 @@ use Rattle.suit_envelope.specs.Envelopes.{EnvelopeSays}
 use Rattle.suit_envelope.specs.Said.{RefusesBytes}
 use Rattle.suit_cli.specs.declared.reply.Outcome.TheVariants as outcomes
 use Rattle.suit_manifest.specs.declared.manifest.Manifest.{Manifest}
+use Rattle.suit_manifest.specs.declared.manifest.Members.{Members}
 use Rattle.suit_manifest.specs.declared.members.MemberFault.{MemberFault}
 use Rattle.suit_manifest.specs.declared.members.MemberFault.TheVariants as faults
-use Rattle.suit_manifest.specs.MembersApart.{LacksMembers, IsLackBy}
+use Rattle.suit_manifest.specs.MembersApart.{HasMembers, LacksMembers, IsLackBy}
 use Rattle.suit_cli.specs.declared.reply.Reply.{Reply}
 use Rattle.suit_cli.specs.declared.reply.Stop.{Stop}
 use Rattle.suit_cli.specs.declared.reply.Stop.TheVariants as stops
@@ -23,7 +24,7 @@ use Rattle.suit_cli.specs.Words.{task_of, task_said}
 use Rattle.suit_cli.specs.declared.words.Command.{Command}
 use Rattle.suit_cli.specs.Program.{task_in, answers}
 use Rattle.suit_cli.specs.Envelopes.{AreBytes, envelope_in, members_in}
-use Rattle.suit_cli.specs.Accepting.{TellsFault}
+use Rattle.suit_cli.specs.Accepting.{IsTaken, TellsFault}
 use Rattle.suit_cli.specs.Commands.{shows_file, does}
 use Rattle.suit_cli.specs.Judgement.{narrow, AreJudged}
 
@@ -39,6 +40,11 @@ flash_at told size reads faults = record { told = told; size = size; reads = rea
 abbrev pub outside_at : Bool → Files → ℕ → List (List ℕ) → ℕ → Flashed → Outside
 outside_at told files pulled asked faults flash =
     record { told = told; files = files; pulled = pulled; asked = asked; faults = faults; flash = flash }
+
+-- a step ends as the stop tells
+pub stops_with : {A : Type 0} (stage : Stage A) (b a : Outside) (result : Result A Stop) (stop : Stop) → IsErrAnd result (λ e. e ≡ stop) → Does stage b a (Err stop) → Does stage b a result
+stops_with stage b a (Ok x) stop is does = absurd is
+stops_with stage b a (Err other) stop is does = subst (λ (s : Stop). Does stage b a (Err s)) (sym is) does
 
 module _ {A : Type 0} (stage : Stage A) (next : A → Answers) (before after : Outside) where
   pub stopped : (stop : Stop) → Does stage before after (Err stop) → Then stage next before after (ending_of (Err stop))
@@ -57,7 +63,7 @@ lacks_last says here (Ok reply) is = absurd is
 lacks_last says here (Err stop) is = subst (λ (s : Stop). Last says here here (ending_of (Err s))) (sym is) (EndsWithout refl)
 
 -- a member that is not taken is told
-pub member_told : (said : EnvelopeSays) (manifest : Manifest) (fault : MemberFault) (stop : Stop) → IsLackBy (LacksMembers said manifest) fault → TellsFault fault stop
+member_told : (said : EnvelopeSays) (manifest : Manifest) (fault : MemberFault) (stop : Stop) → IsLackBy (LacksMembers said manifest) fault → TellsFault fault stop
     → (here : Outside) → Does (members_in said manifest) here here (Err stop)
 member_told said manifest (faults.Severed name) (stops.Declined reply) lacks tells here = (refl, record { fault = faults.Severed name; lacks = lacks; says = tells })
 member_told said manifest (faults.Differs name stated found) (stops.Declined reply) lacks tells here = (refl, record { fault = faults.Differs name stated found; lacks = lacks; says = tells })
@@ -65,6 +71,14 @@ member_told said manifest (faults.Refused refusal) (stops.Declined reply) lacks 
 member_told said manifest faults.NoMemory (stops.Declined reply) lacks tells here = absurd tells
 member_told said manifest fault (stops.Fault object) lacks tells here = absurd tells
 member_told said manifest fault stops.NoMemory lacks tells here = refl
+
+-- the members that were taken, or not
+pub members_taken : (said : EnvelopeSays) (manifest : Manifest) (taken : Result Members MemberFault) (result : Result Members Stop) → IfOk taken (HasMembers said manifest)
+    → IfErr taken (IsLackBy (LacksMembers said manifest)) → IsTaken taken result → Finds (members_in said manifest) result
+members_taken said manifest (Ok members) (Ok given) has lacks is here = (refl, subst (λ (m : Members). HasMembers said manifest m) (sym is) has)
+members_taken said manifest (Err fault) (Err stop) has lacks is here = member_told said manifest fault stop lacks is here
+members_taken said manifest (Ok members) (Err stop) has lacks is here = absurd is
+members_taken said manifest (Err fault) (Ok given) has lacks is here = absurd is
 
 -- ---- procedures by their trees
 

@@ -1,28 +1,31 @@
 -- The state between the stages of `run init`.
 use Rattle.std.proofs.Common.{◌≡◌, ℕ, ◌≤◌, List, [], ◌∷◌, length, sym, subst, refl, arith, Result, Ok, Err}
-use Rattle.std.specs.Prelude.{◌≢◌, IfOk, IsTrue, Some, None, codes}
+use Rattle.std.specs.Prelude.{◌≢◌, IfOk, IsTrue, Some, None, String, codes, string_bytes}
 use Rattle.std.specs.Str.{IsUtf8}
 use Rattle.std.specs.declared.alloc.AllocError.{AllocError}
+use Rattle.std.specs.declared.alloc.Global.{Global}
 use Rattle.serde_json.specs.Data.{Data}
 use Rattle.serde_json.specs.Read.{read}
 use Rattle.flash_layout.specs.declared.layout.Entry.{Entry}
 use Rattle.flash_layout.specs.declared.layout_fault.LayoutFault.{LayoutFault}
 use Rattle.flash_layout.specs.declared.layout_fault.LayoutFault.TheVariants as faults
-use Rattle.flash_layout.specs.LayoutFaults.{IsFaultOf, RefusesLayout}
+use Rattle.flash_layout.specs.LayoutFaults.{IsFaultOf, IsLayoutOf, RefusesLayout}
 use Rattle.suit_cli.specs.declared.reply.Reply.{Reply}
 use Rattle.suit_cli.specs.declared.reply.Stop.{Stop}
+use Rattle.suit_cli.specs.declared.reply.Stop.TheVariants as stops
 use Rattle.suit_cli.specs.declared.reply.Outcome.TheVariants as outcomes
 use Rattle.suit_edge.specs.Gate.{IsOpen}
 use Rattle.flash_layout.specs.declared.frame.TheConstants.{CONFIG_GATE}
 use Rattle.flash_layout.specs.declared.key.Key.{Key}
 use Rattle.suit_cli.specs.Outside.{Outside, Flashed, Looks, with_flash}
-use Rattle.suit_cli.specs.Replies.{Makes, stop_of}
+use Rattle.suit_cli.specs.Replies.{Makes, refused_by, stop_of}
 use Rattle.suit_cli.specs.Stages.{Ending, Does, Finds, ending_of}
 use Rattle.suit_cli.specs.Formatting.{formatting, formats}
 use Rattle.suit_cli.specs.Inputs.{IsRead, IsKey}
 use Rattle.suit_cli.proofs.Chains.{stopped}
 use Rattle.suit_cli.proofs.SameFiles.{key_here}
-use Rattle.suit_cli.specs.Devices.{IsNoLayout, TellsLayout, device_in}
+use Rattle.suit_cli.specs.Json.{json_in}
+use Rattle.suit_cli.specs.Devices.{IsFaultLine, IsNoJson, IsNoLayout, device_in}
 
 -- ---- a description
 
@@ -31,19 +34,29 @@ module _ (size : ℕ) (x y : List ℕ) (same : x ≡ y) (result : Result (List E
   device_of finds = subst (λ (b : List ℕ). Finds (device_in size b) result) same finds
 
 -- only a fault that has a line is told
-fault_stands : (size : ℕ) (d : Data) (fault : LayoutFault) (reply : Reply) → IsFaultOf size d fault → TellsLayout fault reply → RefusesLayout size d fault
-fault_stands size d (faults.BadField pointer) reply is tells = is
-fault_stands size d (faults.BadHex pointer) reply is tells = is
-fault_stands size d (faults.BadUuid pointer) reply is tells = is
-fault_stands size d (faults.TooMany n) reply is tells = is
-fault_stands size d (faults.TwoAlike i j) reply is tells = is
-fault_stands size d (faults.Overlap i j) reply is tells = is
-fault_stands size d (faults.Outside i) reply is tells = is
-fault_stands size d faults.NoMemory reply is tells = absurd tells.line
+fault_stands : (size : ℕ) (d : Data) (fault : LayoutFault) (line : List ℕ) → IsFaultOf size d fault → IsFaultLine fault line → RefusesLayout size d fault
+fault_stands size d (faults.BadField pointer) line is tells = is
+fault_stands size d (faults.BadHex pointer) line is tells = is
+fault_stands size d (faults.BadUuid pointer) line is tells = is
+fault_stands size d (faults.TooMany n) line is tells = is
+fault_stands size d (faults.TwoAlike i j) line is tells = is
+fault_stands size d (faults.Overlap i j) line is tells = is
+fault_stands size d (faults.Outside i) line is tells = is
+fault_stands size d faults.NoMemory line is tells = absurd tells
 
-pub no_layout_there : (size : ℕ) (bytes : List ℕ) (d : Data) (fault : LayoutFault) (made : Result Reply AllocError) → IsUtf8 bytes → read bytes ≡ Some d → IsFaultOf size d fault
-    → IfOk made (TellsLayout fault) → (here : Outside) → Does (device_in size bytes) here here (Err (stop_of made))
-no_layout_there size bytes d fault (Ok reply) utf8 reads is tells here = (refl, IsNoLayout d fault utf8 reads (fault_stands size d fault reply is tells) tells)
+pub layout_there : (size : ℕ) (bytes : List ℕ) (d : Data) (layout : List Entry) → IsUtf8 bytes → read bytes ≡ Some d → IsLayoutOf size d layout → (here : Outside)
+    → Does (device_in size bytes) here here (Ok layout)
+layout_there size bytes d layout utf8 reads is here = (refl, record { utf8 = utf8; value = d; reads = reads; describes = is })
+
+-- it is no JSON
+pub no_device_text : (size : ℕ) (bytes : List ℕ) (here : Outside) (stop : Stop) → Does (json_in bytes) here here (Err stop) → Does (device_in size bytes) here here (Err stop)
+no_device_text size bytes here (stops.Declined reply) d = (d.0, IsNoJson d.1.unread d.1.says)
+no_device_text size bytes here (stops.Fault object) d = d
+no_device_text size bytes here stops.NoMemory d = d
+
+pub no_layout_there : (size : ℕ) (bytes : List ℕ) (d : Data) (fault : LayoutFault) (line : Result (String Global) AllocError) → IsUtf8 bytes → read bytes ≡ Some d
+    → IsFaultOf size d fault → IfOk line (λ t. IsFaultLine fault (string_bytes t)) → (here : Outside) → Does (device_in size bytes) here here (Err (refused_by line))
+no_layout_there size bytes d fault (Ok line) utf8 reads is tells here = (refl, IsNoLayout d fault utf8 reads (fault_stands size d fault (string_bytes line) is tells) (record { outcome_is = refl; line = tells }))
 no_layout_there size bytes d fault (Err e) utf8 reads is tells here = refl
 
 -- ---- a key

@@ -1,8 +1,9 @@
 -- The code's answers in the stages of envelopes.
-use Rattle.std.specs.Prelude.{List, ℕ, Result, Ok, Err}
+use Rattle.std.specs.Prelude.{◌≡◌, List, ℕ, Result, Ok, Err}
 use Rattle.suit_envelope.specs.Said.{said_by}
 use Rattle.suit_envelope.specs.declared.envelope.Envelope.{Envelope}
 use Rattle.suit_envelope.specs.Envelopes.{EnvelopeSays}
+use Rattle.suit_manifest.specs.declared.manifest.Members.{Members}
 use Rattle.suit_manifest.specs.declared.members.MemberFault.{MemberFault}
 use Rattle.suit_cli.specs.declared.reply.Stop.{Stop}
 use Rattle.suit_cli.specs.declared.reply.Stop.TheVariants as stops
@@ -22,3 +23,10 @@ abbrev pub TellsFault : MemberFault → Stop → Type 0
 TellsFault fault (stops.Declined reply) = TellsLack reply fault
 TellsFault fault (stops.Fault object) = ⊥
 TellsFault fault stops.NoMemory = Unit {0}
+
+-- members that were taken are given, and a fault is told
+abbrev pub IsTaken : Result Members MemberFault → Result Members Stop → Type 0
+IsTaken (Ok members) (Ok given) = given ≡ members
+IsTaken (Err fault) (Err stop) = TellsFault fault stop
+IsTaken (Ok members) (Err stop) = ⊥
+IsTaken (Err fault) (Ok given) = ⊥

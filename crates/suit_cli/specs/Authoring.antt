@@ -21,7 +21,8 @@ use Rattle.suit_cli.specs.Replies.{IsReply}
 use Rattle.suit_cli.specs.Outside.{Outside, Stores, StoresInVain}
 use Rattle.suit_cli.specs.Stages.{Stage, Answers, judging, at_host, in_turn, ◌>>=◌, Said}
 use Rattle.suit_cli.specs.Inputs.{file, key_in}
-use Rattle.suit_cli.specs.Devices.{bad_json_line, pointed_line, alike_line}
+use Rattle.suit_cli.specs.Json.{bad_json_line}
+use Rattle.suit_cli.specs.Devices.{pointed_line, alike_line}
 
 -- the longest description of an envelope, in bytes
 abbrev pub longest_description : ℕ

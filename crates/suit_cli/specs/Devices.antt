@@ -13,6 +13,7 @@ use Rattle.flash_layout.specs.LayoutFaults.{IsLayoutOf, RefusesLayout}
 use Rattle.suit_cli.specs.declared.reply.Reply.{Reply}
 use Rattle.suit_cli.specs.declared.reply.Outcome.TheVariants as outcomes
 use Rattle.suit_cli.specs.Lines.{joined}
+use Rattle.suit_cli.specs.Json.{bad_json_line}
 use Rattle.suit_cli.specs.Replies.{IsReply}
 use Rattle.suit_cli.specs.Stages.{Stage, judging}
 
@@ -24,9 +25,6 @@ pub record IsDevice (size : ℕ) (bytes : List ℕ) (layout : List Entry) : Type
   pub value : Data
   pub reads : read bytes ≡ Some value
   pub describes : IsLayoutOf size value layout
-
-abbrev pub bad_json_line : List ℕ
-bad_json_line = codes "bad json\n"
 
 -- a word, and the place of a value by its JSON Pointer
 abbrev pub pointed_line : List ℕ → List ℕ → List ℕ

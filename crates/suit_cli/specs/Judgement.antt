@@ -28,6 +28,15 @@ narrow plan = judging (λ _. IsNarrow plan) (IsWide plan)
 
 -- ---- the paths
 
+-- a path of one procedure on which an invoke is not covered, behind these lines
+pub record IsUnsafe (plan : PlanTree) (lines : List ℕ) (reply : Reply) : Type 0 where
+  pub bad : BadPath
+  pub is_bad : IsBadPath plan bad
+  pub says : IsReply reply outcomes.Unsafe (lines ++ path_lines bad)
+
+abbrev pub safe : PlanTree → List ℕ → Stage (Unit {0})
+safe plan lines = judging (λ _. Safe plan) (IsUnsafe plan lines)
+
 -- on every path of both procedures each invoke is covered
 pub record AreSafe (update invocation : PlanTree) : Type 0 where
   pub update_safe : Safe update

@@ -12,6 +12,7 @@ pub mod Accepting
 pub mod Judgement
 pub mod Shown
 pub mod Describing
+pub mod Json
 pub mod Devices
 pub mod Authoring
 pub mod Formatting

@@ -1,8 +1,10 @@
 -- Replies: an outcome, and the lines that are put for it.
-use Rattle.std.specs.Prelude.{◌≡◌, ℕ, List, Result, Ok, Err, IfOk}
+use Rattle.std.specs.Prelude.{◌≡◌, ℕ, List, Result, Ok, Err, IfOk, String, string_bytes}
 use Rattle.std.specs.declared.alloc.AllocError.{AllocError}
+use Rattle.std.specs.declared.alloc.Global.{Global}
 use Rattle.suit_cli.specs.declared.reply.Reply.{Reply}
 use Rattle.suit_cli.specs.declared.reply.Outcome.{Outcome}
+use Rattle.suit_cli.specs.declared.reply.Outcome.TheVariants.{Refused}
 use Rattle.suit_cli.specs.declared.reply.Stop.{Stop}
 use Rattle.suit_cli.specs.declared.reply.Stop.TheVariants.{Declined, NoMemory}
 
@@ -18,3 +20,8 @@ Makes result outcome text = IfOk result (λ reply. IsReply reply outcome text)
 abbrev pub stop_of : Result Reply AllocError → Stop
 stop_of (Ok reply) = Declined reply
 stop_of (Err e) = NoMemory
+
+-- it is refused by a line
+abbrev pub refused_by : Result (String Global) AllocError → Stop
+refused_by (Ok line) = Declined (record { outcome = Refused; text = string_bytes line })
+refused_by (Err e) = NoMemory

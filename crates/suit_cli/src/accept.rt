@@ -5,7 +5,7 @@ ghost use Rattle.suit_envelope.specs.Said.{said_by, EnvelopeOf};
 ghost use Rattle.suit_envelope.specs.WrapperParts.{HasWrapper};
 ghost use Rattle.suit_envelope.specs.Places.{MembersEndBelow};
 ghost use Rattle.suit_cli.specs.Envelopes.{envelope_in, short, manifest_in, members_in};
-ghost use Rattle.suit_cli.specs.Accepting.{FindsEnvelope, TellsFault};
+ghost use Rattle.suit_cli.specs.Accepting.{FindsEnvelope, IsTaken, TellsFault};
 ghost use Rattle.suit_cli.specs.Inputs.{longest_file};
 ghost use Rattle.suit_cli.specs.Opening.{Opens};
 ghost use Rattle.suit_cli.specs.Stages.{Finds};
@@ -101,8 +101,8 @@ pub(crate) fn differs(alloc: Global, name: MemberName) -> Result<Reply, AllocErr
     })
 }
 
-/// Why a member is not taken.
-pub(crate) fn lack(alloc: Global, fault: MemberFault) -> Stop
+// Why a member is not taken.
+fn lack(alloc: Global, fault: MemberFault) -> Stop
     ensures { TellsFault fault result }
 {
     match fault {
@@ -118,6 +118,16 @@ pub(crate) fn lack(alloc: Global, fault: MemberFault) -> Stop
     }
 }
 
+/// The members that were taken, or why they were not.
+pub(crate) fn taken(alloc: Global, members: Result<Members, MemberFault>) -> Result<Members, Stop>
+    ensures { IsTaken members result }
+{
+    match members {
+        Ok(members) => Ok(members),
+        Err(fault) => Err(lack(alloc, fault)),
+    }
+}
+
 /// The members that stand apart, payload-fetch judged whole before install.
 pub(crate) fn members_in(
     alloc: Global,
@@ -128,8 +138,5 @@ pub(crate) fn members_in(
     requires places { MembersEndBelow (2 ^ 64) (said_by envelope.now) }
     ensures { Finds (members_in (said_by envelope.now) manifest.now) result }
 {
-    match members_of(alloc, envelope, manifest) {
-        Ok(members) => Ok(members),
-        Err(fault) => Err(lack(alloc, fault)),
-    }
+    taken(alloc, members_of(alloc, envelope, manifest))
 }

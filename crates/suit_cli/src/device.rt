@@ -3,13 +3,12 @@
 ghost use Rattle.std.specs.Prelude.{◌≡◌, ◌≤◌, IfOk, length, string_bytes};
 ghost use Rattle.flash_layout.specs.declared.frame.TheConstants.{VERSION_1};
 ghost use Rattle.flash_layout.specs.Layouts.{IsKey, IsLayout};
-ghost use Rattle.suit_cli.specs.Devices.{device_in, key_of, IsFaultLine, TellsLayout, pointed_line};
+ghost use Rattle.suit_cli.specs.Devices.{device_in, key_of, IsFaultLine, pointed_line};
 ghost use Rattle.suit_cli.specs.Stages.{Finds};
 
-use crate::reply::{Outcome, Reply, Stop, declined};
-use det_cbor::Text;
+use crate::json::json_in;
+use crate::reply::{Stop, refused_by};
 use flash_layout::{Key, Layout, LayoutFault, layout_of};
-use serde_json::Value;
 use std::alloc::{AllocError, Global};
 
 /// A line of a word and the place of a value.
@@ -39,34 +38,15 @@ fn fault_line(alloc: Global, fault: LayoutFault) -> Result<String, AllocError>
     }
 }
 
-fn refused_layout(alloc: Global, fault: LayoutFault) -> Result<Reply, AllocError>
-    ensures { IfOk result (TellsLayout fault) }
-{
-    let line = fault_line(alloc, fault)?;
-    Ok(Reply {
-        outcome: Outcome::Refused,
-        text: Text::from_string(line),
-    })
-}
-
 /// The layout that a description gives for a flash of this size.
 pub(crate) fn device_in(alloc: Global, size: u64, bytes: &[u8]) -> Result<Layout, Stop>
     ensures finds { Finds (device_in size bytes.now) result }
     ensures allowed { IfOk result (IsLayout VERSION_1 size) }
 {
-    let value = match Value::from_slice(alloc, bytes) {
-        Ok(value) => value,
-        Err(error) => {
-            return if error.is_memory() {
-                Err(Stop::NoMemory)
-            } else {
-                Err(declined(Reply::fixed(alloc, Outcome::Refused, "bad json\n")))
-            };
-        }
-    };
+    let value = json_in(alloc, bytes)?;
     match layout_of(alloc, &value, size) {
         Ok(layout) => Ok(layout),
-        Err(fault) => Err(declined(refused_layout(alloc, fault))),
+        Err(fault) => Err(refused_by(fault_line(alloc, fault))),
     }
 }
 

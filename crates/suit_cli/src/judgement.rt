@@ -3,10 +3,9 @@
 ghost use Rattle.std.specs.Prelude.{◌≡◌, IfOk, string_bytes};
 ghost use Rattle.suit_commands.specs.Allowed.{IsPlan};
 ghost use Rattle.suit_commands.specs.Plans.{plan_tree};
-ghost use Rattle.path_model.specs.Safe.{Safe};
 ghost use Rattle.suit_cli.specs.Stages.{Finds, Tells, Last};
 ghost use Rattle.suit_cli.specs.Acceptance.{safe_in};
-ghost use Rattle.suit_cli.specs.Judgement.{narrow, IsNarrow, AreJudged};
+ghost use Rattle.suit_cli.specs.Judgement.{narrow, safe, IsNarrow, AreJudged};
 ghost use Rattle.suit_cli.specs.declared.reply.Outcome.TheVariants as outcomes;
 ghost use Rattle.suit_cli.specs.Replies.{Makes};
 ghost use Rattle.suit_cli.specs.Texts.{too_wide_line};
@@ -44,40 +43,15 @@ pub(crate) fn narrow(alloc: Global, plan: &Plan<'_>) -> Result<(), Stop>
     }
 }
 
-/// Judges both procedures, the update first.
-pub(crate) fn judge(alloc: Global, update: &Plan<'_>, invocation: &Plan<'_>) -> Result<Reply, Stop>
-    requires update_plan { IsPlan (plan_tree update.now) }
-    requires invocation_plan { IsPlan (plan_tree invocation.now) }
-    requires update_narrow { IsNarrow (plan_tree update.now) }
-    requires invocation_narrow { IsNarrow (plan_tree invocation.now) }
-    ensures { Tells (Last (AreJudged (plan_tree update.now) (plan_tree invocation.now))) result }
+// Checks that a procedure is safe. If it is not, these lines say so, and then a path is shown.
+fn safe(alloc: Global, plan: &Plan<'_>, lines: &str) -> Result<(), Stop>
+    requires plan { IsPlan (plan_tree plan.now) }
+    requires narrow { IsNarrow (plan_tree plan.now) }
+    ensures { Finds (safe (plan_tree plan.now) lines.now) result }
 {
-    match path_checker::check(alloc, update) {
-        CheckVerdict::Safe => judge_invocation(alloc, update, invocation),
-        CheckVerdict::Unsafe(path) => Ok(Reply::with_path(alloc, "update unsafe\n", &path)?),
-        CheckVerdict::TooWide(_) => unreachable!(),
-        CheckVerdict::NoMemory => Err(Stop::NoMemory),
-    }
-}
-
-// Judges the invocation, after a safe update.
-fn judge_invocation(alloc: Global, update: &Plan<'_>, invocation: &Plan<'_>) -> Result<Reply, Stop>
-    requires plan { IsPlan (plan_tree invocation.now) }
-    requires narrow { IsNarrow (plan_tree invocation.now) }
-    requires safe { Safe (plan_tree update.now) }
-    ensures { Tells (Last (AreJudged (plan_tree update.now) (plan_tree invocation.now))) result }
-{
-    match path_checker::check(alloc, invocation) {
-        CheckVerdict::Safe => Ok(Reply::fixed(
-            alloc,
-            Outcome::Done,
-            "update safe\ninvocation safe\n",
-        )?),
-        CheckVerdict::Unsafe(path) => Ok(Reply::with_path(
-            alloc,
-            "update safe\ninvocation unsafe\n",
-            &path,
-        )?),
+    match path_checker::check(alloc, plan) {
+        CheckVerdict::Safe => Ok(()),
+        CheckVerdict::Unsafe(path) => Err(declined(Reply::with_path(alloc, lines, &path))),
         CheckVerdict::TooWide(_) => unreachable!(),
         CheckVerdict::NoMemory => Err(Stop::NoMemory),
     }
@@ -95,33 +69,18 @@ pub(crate) fn judge_safe(
     requires invocation_narrow { IsNarrow (plan_tree invocation.now) }
     ensures { Finds (safe_in (plan_tree update.now) (plan_tree invocation.now)) result }
 {
-    match path_checker::check(alloc, update) {
-        CheckVerdict::Safe => safe_invocation(alloc, update, invocation),
-        CheckVerdict::Unsafe(path) => Err(declined(Reply::with_path(
-            alloc,
-            "update unsafe\n",
-            &path,
-        ))),
-        CheckVerdict::TooWide(_) => unreachable!(),
-        CheckVerdict::NoMemory => Err(Stop::NoMemory),
-    }
+    safe(alloc, update, "update unsafe\n")?;
+    safe(alloc, invocation, "update safe\ninvocation unsafe\n")
 }
 
-// Checks that the invocation is safe, after a safe update.
-fn safe_invocation(alloc: Global, update: &Plan<'_>, invocation: &Plan<'_>) -> Result<(), Stop>
-    requires plan { IsPlan (plan_tree invocation.now) }
-    requires narrow { IsNarrow (plan_tree invocation.now) }
-    requires safe { Safe (plan_tree update.now) }
-    ensures { Finds (safe_in (plan_tree update.now) (plan_tree invocation.now)) result }
+/// Judges both procedures, the update first.
+pub(crate) fn judge(alloc: Global, update: &Plan<'_>, invocation: &Plan<'_>) -> Result<Reply, Stop>
+    requires update_plan { IsPlan (plan_tree update.now) }
+    requires invocation_plan { IsPlan (plan_tree invocation.now) }
+    requires update_narrow { IsNarrow (plan_tree update.now) }
+    requires invocation_narrow { IsNarrow (plan_tree invocation.now) }
+    ensures { Tells (Last (AreJudged (plan_tree update.now) (plan_tree invocation.now))) result }
 {
-    match path_checker::check(alloc, invocation) {
-        CheckVerdict::Safe => Ok(()),
-        CheckVerdict::Unsafe(path) => Err(declined(Reply::with_path(
-            alloc,
-            "update safe\ninvocation unsafe\n",
-            &path,
-        ))),
-        CheckVerdict::TooWide(_) => unreachable!(),
-        CheckVerdict::NoMemory => Err(Stop::NoMemory),
-    }
+    judge_safe(alloc, update, invocation)?;
+    Ok(Reply::fixed(alloc, Outcome::Done, "update safe\ninvocation safe\n")?)
 }

@@ -10,6 +10,7 @@ mod components;
 mod device;
 mod init;
 mod input;
+mod json;
 mod judgement;
 mod law;
 mod life;

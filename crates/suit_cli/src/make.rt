@@ -8,17 +8,17 @@ ghost use Rattle.suit_cli.specs.declared.reply.Outcome.TheVariants as outcomes;
 ghost use Rattle.suit_cli.specs.Replies.{Makes};
 ghost use Rattle.suit_cli.specs.Outside.{Flashed};
 ghost use Rattle.suit_cli.specs.Stages.{Does, Finds, ending_of};
-ghost use Rattle.suit_cli.specs.Authoring.{IsDescriptionLine, TellsDescription, description_in, value_or_stop, files_in, made_in, made_line, stores, makes_described};
+ghost use Rattle.suit_cli.specs.Authoring.{IsDescriptionLine, description_in, value_or_stop, files_in, made_in, made_line, stores, makes_described};
 ghost use Rattle.suit_cli.specs.Commands.{makes};
 
 use crate::device::pointed_line;
 use crate::input::{read, read_key};
+use crate::json::json_in;
 use crate::lines::number_line;
 use crate::outside::SeenHost;
-use crate::reply::{Object, Outcome, Reply, Stop, declined};
+use crate::reply::{Object, Outcome, Reply, Stop, declined, refused_by};
 use author::{Description, DescriptionFault, FileList, MakeFault, description, make};
 use det_cbor::{Bytes, Names, Text};
-use serde_json::Value;
 use std::alloc::{AllocError, Global};
 use suit_edge::{Edge, Host};
 
@@ -44,33 +44,14 @@ fn fault_line(alloc: Global, fault: DescriptionFault) -> Result<String, AllocErr
     }
 }
 
-fn refused_description(alloc: Global, fault: DescriptionFault) -> Result<Reply, AllocError>
-    ensures { IfOk result (TellsDescription fault) }
-{
-    let line = fault_line(alloc, fault)?;
-    Ok(Reply {
-        outcome: Outcome::Refused,
-        text: Text::from_string(line),
-    })
-}
-
 // The description in a file's bytes.
 fn description_in(alloc: Global, bytes: &[u8]) -> Result<Description, Stop>
     ensures { Finds (description_in bytes.now) (value_or_stop result) }
 {
-    let value = match Value::from_slice(alloc, bytes) {
-        Ok(value) => value,
-        Err(error) => {
-            return if error.is_memory() {
-                Err(Stop::NoMemory)
-            } else {
-                Err(declined(Reply::fixed(alloc, Outcome::Refused, "bad json\n")))
-            };
-        }
-    };
+    let value = json_in(alloc, bytes)?;
     match description(alloc, &value) {
         Ok(description) => Ok(description),
-        Err(fault) => Err(declined(refused_description(alloc, fault))),
+        Err(fault) => Err(refused_by(fault_line(alloc, fault))),
     }
 }
 

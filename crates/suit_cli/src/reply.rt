@@ -3,7 +3,7 @@
 ghost use Rattle.std.specs.Prelude.{◌≡◌, ◌++◌, codes, string_bytes};
 ghost use Rattle.suit_cli.specs.declared.reply.Outcome.TheVariants as outcomes;
 ghost use Rattle.suit_cli.specs.declared.reply.Stop.TheVariants as stops;
-ghost use Rattle.suit_cli.specs.Replies.{Makes, stop_of};
+ghost use Rattle.suit_cli.specs.Replies.{Makes, refused_by, stop_of};
 ghost use Rattle.suit_cli.specs.Statuses.{status_of, fault_status, fault_line};
 ghost use Rattle.suit_cli.specs.Lines.{path_lines};
 ghost use Rattle.suit_cli.specs.Texts.{refusal_line};
@@ -133,6 +133,19 @@ pub(crate) fn declined(made: Result<Reply, AllocError>) -> Stop
 {
     match made {
         Ok(reply) => Stop::Declined(reply),
+        Err(_) => Stop::NoMemory,
+    }
+}
+
+/// The stop that refuses by a line.
+pub(crate) fn refused_by(line: Result<String, AllocError>) -> Stop
+    ensures { result ≡ refused_by line }
+{
+    match line {
+        Ok(line) => Stop::Declined(Reply {
+            outcome: Outcome::Refused,
+            text: Text::from_string(line),
+        }),
         Err(_) => Stop::NoMemory,
     }
 }

@@ -10,7 +10,7 @@ ghost use Rattle.suit_cli.specs.Envelopes.{ManifestOf};
 ghost use Rattle.suit_cli.specs.Describing.{there_in, text_in, IsDescription};
 ghost use Rattle.suit_cli.specs.Commands.{describes_manifest, describes_file, describes};
 
-use crate::accept::{Opened, differs, lack, opened_in};
+use crate::accept::{Opened, differs, opened_in, taken};
 use crate::input::{LONGEST_FILE, read};
 use crate::outside::SeenHost;
 use crate::reply::{Reply, Stop, declined};
@@ -26,10 +26,7 @@ fn there_in(alloc: Global, envelope: &Envelope<'_>, manifest: &Manifest) -> Resu
     requires places { MembersEndBelow (2 ^ 64) (said_by envelope.now) }
     ensures { Finds (there_in (said_by envelope.now) manifest.now) result }
 {
-    match members_there(alloc, envelope, manifest) {
-        Ok(members) => Ok(members),
-        Err(fault) => Err(lack(alloc, fault)),
-    }
+    taken(alloc, members_there(alloc, envelope, manifest))
 }
 
 // Whether the text is the one that the manifest states.

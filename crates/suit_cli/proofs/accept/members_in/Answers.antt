@@ -1,6 +1,6 @@
 use Rattle.suit_envelope.specs.Said.{said_by}
-use Rattle.suit_cli.proofs.Chains.{member_told}
+use Rattle.suit_cli.proofs.Chains.{members_taken}
 use Rattle.suit_cli.proofs.accept.members_in.Goals as goal
 
-pub returns-in-Err : goal.returns-in-Err
-returns-in-Err c = member_told (said_by c.args.envelope.now) c.args.manifest.now c.in-Err.fault c.lack.result c.in-Err.ensures.refused c.lack.ensures
+pub returns : goal.returns
+returns c = members_taken (said_by c.args.envelope.now) c.args.manifest.now c.members_of.result c.taken.result c.members_of.ensures.ok c.members_of.ensures.refused c.taken.ensures
