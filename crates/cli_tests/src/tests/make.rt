@@ -132,10 +132,8 @@ fn is_refused(alloc: Global, said: &str, frame: &str, part: &str) -> Result<bool
     refuses(alloc, description.as_str(), (3, line.as_str()))
 }
 
-// Whether each part of the group is: behind a line, and a frame, each in a line of its own.
-fn are_refused(alloc: Global, group: &str) -> Result<bool, AllocError> {
-    let (said, rest) = group.split_once('\n').unwrap_or((group, ""));
-    let (frame, parts) = rest.split_once('\n').unwrap_or((rest, ""));
+// Whether each part is refused with the line. Each stands in a line of its own.
+fn are_refused(alloc: Global, said: &str, frame: &str, parts: &str) -> Result<bool, AllocError> {
     for part in parts.split('\n') {
         if !is_refused(alloc, said, frame, part)? {
             return Ok(false);
@@ -144,19 +142,30 @@ fn are_refused(alloc: Global, group: &str) -> Result<bool, AllocError> {
     Ok(true)
 }
 
-const REFUSED: [&str; 5] = [
-    REFUSED_JSON,
-    REFUSED_FIELDS,
-    REFUSED_MEMBERS,
-    REFUSED_ARGUMENTS,
-    REFUSED_PARAMETERS,
-];
+// Tables of groups with a frame each, and tables with one frame for all their groups.
+const REFUSED: [&str; 3] = [REFUSED_JSON, REFUSED_FIELDS, REFUSED_ARGUMENTS];
+
+const REFUSED_IN_A_FRAME: [&str; 2] = [REFUSED_MEMBERS, REFUSED_PARAMETERS];
 
 #[test]
 fn each_field_and_each_command_has_its_faults(rt: HostRuntime) -> Result<(), AllocError> {
     for table in &REFUSED {
         for group in table.split("\n\n") {
-            assert!(rt; are_refused(rt.alloc(), group)?, "{group}");
+            let (said, rest) = group.split_once('\n').unwrap_or((group, ""));
+            let (frame, parts) = rest.split_once('\n').unwrap_or((rest, ""));
+            assert!(rt; are_refused(rt.alloc(), said, frame, parts)?, "{group}");
+        }
+    }
+    Ok(())
+}
+
+#[test]
+fn each_member_and_each_parameter_has_its_faults(rt: HostRuntime) -> Result<(), AllocError> {
+    for table in &REFUSED_IN_A_FRAME {
+        let (frame, groups) = table.split_once("\n\n").unwrap_or(("", ""));
+        for group in groups.split("\n\n") {
+            let (said, parts) = group.split_once('\n').unwrap_or((group, ""));
+            assert!(rt; are_refused(rt.alloc(), said, frame, parts)?, "{group}");
         }
     }
     Ok(())

@@ -164,15 +164,16 @@ bad field /validate/0/1/0/1/0/1/0/1/0/1/0/1/0/1/0/1/0
 {"components":[["00"]],"sequence":1,"validate":[["run",@]]}
 [["run",[["run",[["run",[["run",[["run",[["run",[["try",[[["match",0]],null]]]]]]]]]]]]]]]"#;
 
-/// Parameters.
-pub(crate) const REFUSED_PARAMETERS: &str = r#"bad field /shared/0/1/vendor
-{"components":[["00"]],"sequence":1,"shared":[["set",{@}]]}
+/// Parameters. Their one frame stands first, and each group is the line and what stands in it.
+pub(crate) const REFUSED_PARAMETERS: &str =
+    r#"{"components":[["00"]],"sequence":1,"shared":[["set",{@}]]}
+
+bad field /shared/0/1/vendor
 "vendor":7
 "vendor":null
 "vendor":{}
 
 bad uuid /shared/0/1/vendor
-{"components":[["00"]],"sequence":1,"shared":[["set",{@}]]}
 "vendor":""
 "vendor":"0"
 "vendor":"fa6b4a53-d5ad-5fdf-be9d-e663e4d41ff"
@@ -180,32 +181,26 @@ bad uuid /shared/0/1/vendor
 "vendor":"{fa6b4a53d5ad5fdfbe9de663e4d41ffe}"
 
 bad field /shared/0/1/class
-{"components":[["00"]],"sequence":1,"shared":[["set",{@}]]}
 "class":7
 "class":null
 
 bad uuid /shared/0/1/class
-{"components":[["00"]],"sequence":1,"shared":[["set",{@}]]}
 "class":"fa6b4a53-d5ad-5fdf-be9d-e663e4d41ffg"
 "class":"urn:uuid:fa6b4a53d5ad5fdfbe9de663e4d41ffe"
 
 bad field /shared/0/1/device
-{"components":[["00"]],"sequence":1,"shared":[["set",{@}]]}
 "device":false
 "device":[]
 
 bad uuid /shared/0/1/device
-{"components":[["00"]],"sequence":1,"shared":[["set",{@}]]}
 "device":"fa6b4a53-d5ad-5fdf-be9d-e663e4d41ffe "
 "device":"(fa6b4a53-d5ad-5fdf-be9d-e663e4d41ffe)"
 
 bad field /shared/0/1/digest
-{"components":[["00"]],"sequence":1,"shared":[["set",{@}]]}
 "digest":7
 "digest":null
 
 bad hex /shared/0/1/digest
-{"components":[["00"]],"sequence":1,"shared":[["set",{@}]]}
 "digest":""
 "digest":"00"
 "digest":"a7816bf8f01cfea414140de5dae2223b00361a396177a9cb410ff61f20015ad"
@@ -213,20 +208,16 @@ bad hex /shared/0/1/digest
 "digest":"za7816bf8f01cfea414140de5dae2223b00361a396177a9cb410ff61f20015ad"
 
 bad field /shared/0/1/digest/file
-{"components":[["00"]],"sequence":1,"shared":[["set",{@}]]}
 "digest":{}
 "digest":{"file":7}
 
 bad field /shared/0/1/digest/files
-{"components":[["00"]],"sequence":1,"shared":[["set",{@}]]}
 "digest":{"files":"f"}
 
 bad field /shared/0/1/digest/size
-{"components":[["00"]],"sequence":1,"shared":[["set",{@}]]}
 "digest":{"file":"abc.img","size":3}
 
 bad field /shared/0/1/slot
-{"components":[["00"]],"sequence":1,"shared":[["set",{@}]]}
 "slot":"0"
 "slot":null
 "slot":-1
@@ -235,7 +226,6 @@ bad field /shared/0/1/slot
 "slot":{"file":"abc.img"}
 
 bad field /shared/0/1/size
-{"components":[["00"]],"sequence":1,"shared":[["set",{@}]]}
 "size":"3"
 "size":null
 "size":-1
@@ -243,57 +233,46 @@ bad field /shared/0/1/size
 "size":18446744073709551616
 
 bad field /shared/0/1/size/file
-{"components":[["00"]],"sequence":1,"shared":[["set",{@}]]}
 "size":{}
 "size":{"file":3}
 
 bad field /shared/0/1/size/of
-{"components":[["00"]],"sequence":1,"shared":[["set",{@}]]}
 "size":{"file":"abc.img","of":0}
 
 bad field /shared/0/1/size
-{"components":[["00"]],"sequence":1,"shared":[["set",{@}]]}
 "size":[]
 
 bad field /shared/0/1/strict
-{"components":[["00"]],"sequence":1,"shared":[["set",{@}]]}
 "strict":1
 "strict":null
 "strict":"true"
 
 bad field /shared/0/1/soft
-{"components":[["00"]],"sequence":1,"shared":[["set",{@}]]}
 "soft":0
 "soft":null
 "soft":"false"
 
 bad field /shared/0/1/content
-{"components":[["00"]],"sequence":1,"shared":[["set",{@}]]}
 "content":7
 "content":null
 
 bad hex /shared/0/1/content
-{"components":[["00"]],"sequence":1,"shared":[["set",{@}]]}
 "content":"0"
 "content":"0g"
 
 bad field /shared/0/1/content/file
-{"components":[["00"]],"sequence":1,"shared":[["set",{@}]]}
 "content":{}
 "content":{"file":[]}
 
 bad field /shared/0/1/content/hex
-{"components":[["00"]],"sequence":1,"shared":[["set",{@}]]}
 "content":{"hex":"00"}
 
 bad field /shared/0/1/uri
-{"components":[["00"]],"sequence":1,"shared":[["set",{@}]]}
 "uri":7
 "uri":null
 "uri":{"file":"abc.img"}
 
 bad field /shared/0/1/source
-{"components":[["00"]],"sequence":1,"shared":[["set",{@}]]}
 "source":1
 "source":-1
 "source":"0"
@@ -304,23 +283,18 @@ bad field /shared/0/1/source
 "source":18446744073709551616
 
 bad field /shared/0/1/args
-{"components":[["00"]],"sequence":1,"shared":[["set",{@}]]}
 "args":7
 "args":null
 
 bad hex /shared/0/1/args
-{"components":[["00"]],"sequence":1,"shared":[["set",{@}]]}
 "args":"f"
 "args":"fg"
 
 bad field /shared/0/1/args
-{"components":[["00"]],"sequence":1,"shared":[["set",{@}]]}
 "args":{"file":"abc.img"}
 
 bad field /shared/0/1/size
-{"components":[["00"]],"sequence":1,"shared":[["set",{@}]]}
 "slot":"0","size":"0"
 
 bad field /shared/0/1/uri
-{"components":[["00"]],"sequence":1,"shared":[["set",{@}]]}
 "vendor":"0","uri":7"#;

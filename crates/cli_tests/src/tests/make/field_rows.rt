@@ -1,6 +1,6 @@
 //! Descriptions that are refused at a field, and the line that tells it. The lines were computed by another program.
 
-/// Whole values, and the fields up to the commands. Groups are those of `REFUSED_ARGUMENTS`.
+/// Whole values, the fields up to the commands, and which of two faults is told. Groups are those of `REFUSED_ARGUMENTS`.
 pub(crate) const REFUSED_FIELDS: &str = r##"bad field /components
 @
 {}
@@ -113,194 +113,7 @@ bad field /invoke
 
 bad field /shared
 {"components":[["00"]],"sequence":1,@}
-"shared":{"digest":"ba7816bf8f01cfea414140de5dae2223b00361a396177a9cb410ff61f20015ad"}"##;
-
-/// Members that may stand apart, payloads, the key's name, other fields, and which of two faults is told.
-pub(crate) const REFUSED_MEMBERS: &str = r##"bad field /payload-fetch
-{"components":[["00"]],"sequence":1,@}
-"payload-fetch":7
-"payload-fetch":null
-"payload-fetch":"ba7816bf8f01cfea414140de5dae2223b00361a396177a9cb410ff61f20015ad"
-"payload-fetch":[]
-
-bad field /payload-fetch/digest
-{"components":[["00"]],"sequence":1,@}
-"payload-fetch":{}
-"payload-fetch":{"digest":7}
-
-bad hex /payload-fetch/digest
-{"components":[["00"]],"sequence":1,@}
-"payload-fetch":{"digest":"0g"}
-"payload-fetch":{"digest":"7816bf8f01cfea414140de5dae2223b00361a396177a9cb410ff61f20015ad"}
-"payload-fetch":{"digest":"ba7816bf8f01cfea414140de5dae2223b00361a396177a9cb410ff61f20015ad00"}
-
-bad field /payload-fetch/digests
-{"components":[["00"]],"sequence":1,@}
-"payload-fetch":{"digest":"ba7816bf8f01cfea414140de5dae2223b00361a396177a9cb410ff61f20015ad","digests":"00"}
-
-bad field /payload-fetch/algorithm
-{"components":[["00"]],"sequence":1,@}
-"payload-fetch":{"algorithm":"sha256","digest":7}
-
-bad field /install
-{"components":[["00"]],"sequence":1,@}
-"install":7
-"install":null
-"install":"ba7816bf8f01cfea414140de5dae2223b00361a396177a9cb410ff61f20015ad"
-"install":[]
-
-bad field /install/digest
-{"components":[["00"]],"sequence":1,@}
-"install":{}
-"install":{"digest":7}
-
-bad hex /install/digest
-{"components":[["00"]],"sequence":1,@}
-"install":{"digest":"0g"}
-"install":{"digest":"7816bf8f01cfea414140de5dae2223b00361a396177a9cb410ff61f20015ad"}
-"install":{"digest":"ba7816bf8f01cfea414140de5dae2223b00361a396177a9cb410ff61f20015ad00"}
-
-bad field /install/digests
-{"components":[["00"]],"sequence":1,@}
-"install":{"digest":"ba7816bf8f01cfea414140de5dae2223b00361a396177a9cb410ff61f20015ad","digests":"00"}
-
-bad field /install/algorithm
-{"components":[["00"]],"sequence":1,@}
-"install":{"algorithm":"sha256","digest":7}
-
-bad field /text
-{"components":[["00"]],"sequence":1,@}
-"text":7
-"text":null
-"text":[]
-"text":""
-
-bad hex /text
-{"components":[["00"]],"sequence":1,@}
-"text":"0"
-"text":"zz"
-
-bad field /text
-{"components":[["00"]],"sequence":1,@}
-"text":"a0a0"
-"text":"1817"
-"text":"81"
-
-bad field /text/digest
-{"components":[["00"]],"sequence":1,@}
-"text":{}
-"text":{"digest":7}
-
-bad hex /text/digest
-{"components":[["00"]],"sequence":1,@}
-"text":{"digest":"zz"}
-"text":{"digest":"00"}
-
-bad field /text/bytes
-{"components":[["00"]],"sequence":1,@}
-"text":{"bytes":"a0"}
-
-bad field /sever
-{"components":[["00"]],"sequence":1,@}
-"sever":7
-"sever":null
-"sever":{}
-
-bad field /sever/0
-{"components":[["00"]],"sequence":1,@}
-"sever":[7]
-"sever":["install"]
-"sever":["payload-fetch"]
-"sever":["text"]
-"install":[["match",0]],"sever":["validate","install"]
-"sever":["validate"],"validate":[["match",0]]
-"install":{"digest":"ba7816bf8f01cfea414140de5dae2223b00361a396177a9cb410ff61f20015ad"},"sever":["install"]
-"sever":["text"],"text":{"digest":"ba7816bf8f01cfea414140de5dae2223b00361a396177a9cb410ff61f20015ad"}
-
-bad field /sever/1
-{"components":[["00"]],"sequence":1,@}
-"install":[["match",0]],"sever":["install","install"]
-"sever":["text","text"],"text":"a0"
-
-bad hex /text
-{"components":[["00"]],"sequence":1,@}
-"sever":["text"],"text":"zz"
-
-bad field /text
-{"components":[["00"]],"sequence":1,@}
-"sever":["text"],"text":5
-
-bad field /sever/0
-{"components":[["00"]],"sequence":1,@}
-"sever":[["text"]],"text":"a0"
-
-bad field /payloads
-{"components":[["00"]],"sequence":1,@}
-"payloads":7
-"payloads":null
-"payloads":[]
-
-bad field /payloads/#a
-{"components":[["00"]],"sequence":1,@}
-"payloads":{"#a":7}
-"payloads":{"#a":"00"}
-"payloads":{"#a":{}}
-"payloads":{"#a":{"file":"f","hex":"00"}}
-
-bad field /payloads/#a/file
-{"components":[["00"]],"sequence":1,@}
-"payloads":{"#a":{"file":7}}
-
-bad field /payloads/#a/hex
-{"components":[["00"]],"sequence":1,@}
-"payloads":{"#a":{"hex":7}}
-
-bad hex /payloads/#a/hex
-{"components":[["00"]],"sequence":1,@}
-"payloads":{"#a":{"hex":"0"}}
-"payloads":{"#a":{"hex":"0g","file":"f"}}
-
-bad field /payloads/#a/name
-{"components":[["00"]],"sequence":1,@}
-"payloads":{"#a":{"name":"f"}}
-
-bad field /payloads/#a/size
-{"components":[["00"]],"sequence":1,@}
-"payloads":{"#a":{"hex":"00","size":1}}
-
-bad hex /payloads/a~1b~0c/hex
-{"components":[["00"]],"sequence":1,@}
-"payloads":{"#a":{"hex":"00"},"a/b~c":{"hex":"x"}}
-
-bad field /payloads//file
-{"components":[["00"]],"sequence":1,@}
-"payloads":{"":{"file":null}}
-
-bad field /kid
-{"components":[["00"]],"sequence":1,@}
-"kid":7
-"kid":null
-
-bad hex /kid
-{"components":[["00"]],"sequence":1,@}
-"kid":"0"
-"kid":"kk"
-
-bad field /number
-{"components":[["00"]],"sequence":1,@}
-"number":1
-
-bad field /a~1b~0
-{"components":[["00"]],"sequence":1,@}
-"a/b~":1
-
-bad field /Shared
-{"components":[["00"]],"sequence":1,@}
-"Shared":[["match",15]]
-
-bad field /
-{"components":[["00"]],"sequence":1,@}
-"":1
+"shared":{"digest":"ba7816bf8f01cfea414140de5dae2223b00361a396177a9cb410ff61f20015ad"}
 
 bad field /sequence
 @
@@ -317,3 +130,156 @@ bad field /install
 bad field /components
 @
 {"kid":"00"}"##;
+
+/// Members that may stand apart, payloads, the key's name, and other fields.
+/// Their frame is as in `REFUSED_PARAMETERS`.
+pub(crate) const REFUSED_MEMBERS: &str = r##"{"components":[["00"]],"sequence":1,@}
+
+bad field /payload-fetch
+"payload-fetch":7
+"payload-fetch":null
+"payload-fetch":"ba7816bf8f01cfea414140de5dae2223b00361a396177a9cb410ff61f20015ad"
+"payload-fetch":[]
+
+bad field /payload-fetch/digest
+"payload-fetch":{}
+"payload-fetch":{"digest":7}
+
+bad hex /payload-fetch/digest
+"payload-fetch":{"digest":"0g"}
+"payload-fetch":{"digest":"7816bf8f01cfea414140de5dae2223b00361a396177a9cb410ff61f20015ad"}
+"payload-fetch":{"digest":"ba7816bf8f01cfea414140de5dae2223b00361a396177a9cb410ff61f20015ad00"}
+
+bad field /payload-fetch/digests
+"payload-fetch":{"digest":"ba7816bf8f01cfea414140de5dae2223b00361a396177a9cb410ff61f20015ad","digests":"00"}
+
+bad field /payload-fetch/algorithm
+"payload-fetch":{"algorithm":"sha256","digest":7}
+
+bad field /install
+"install":7
+"install":null
+"install":"ba7816bf8f01cfea414140de5dae2223b00361a396177a9cb410ff61f20015ad"
+"install":[]
+
+bad field /install/digest
+"install":{}
+"install":{"digest":7}
+
+bad hex /install/digest
+"install":{"digest":"0g"}
+"install":{"digest":"7816bf8f01cfea414140de5dae2223b00361a396177a9cb410ff61f20015ad"}
+"install":{"digest":"ba7816bf8f01cfea414140de5dae2223b00361a396177a9cb410ff61f20015ad00"}
+
+bad field /install/digests
+"install":{"digest":"ba7816bf8f01cfea414140de5dae2223b00361a396177a9cb410ff61f20015ad","digests":"00"}
+
+bad field /install/algorithm
+"install":{"algorithm":"sha256","digest":7}
+
+bad field /text
+"text":7
+"text":null
+"text":[]
+"text":""
+
+bad hex /text
+"text":"0"
+"text":"zz"
+
+bad field /text
+"text":"a0a0"
+"text":"1817"
+"text":"81"
+
+bad field /text/digest
+"text":{}
+"text":{"digest":7}
+
+bad hex /text/digest
+"text":{"digest":"zz"}
+"text":{"digest":"00"}
+
+bad field /text/bytes
+"text":{"bytes":"a0"}
+
+bad field /sever
+"sever":7
+"sever":null
+"sever":{}
+
+bad field /sever/0
+"sever":[7]
+"sever":["install"]
+"sever":["payload-fetch"]
+"sever":["text"]
+"install":[["match",0]],"sever":["validate","install"]
+"sever":["validate"],"validate":[["match",0]]
+"install":{"digest":"ba7816bf8f01cfea414140de5dae2223b00361a396177a9cb410ff61f20015ad"},"sever":["install"]
+"sever":["text"],"text":{"digest":"ba7816bf8f01cfea414140de5dae2223b00361a396177a9cb410ff61f20015ad"}
+
+bad field /sever/1
+"install":[["match",0]],"sever":["install","install"]
+"sever":["text","text"],"text":"a0"
+
+bad hex /text
+"sever":["text"],"text":"zz"
+
+bad field /text
+"sever":["text"],"text":5
+
+bad field /sever/0
+"sever":[["text"]],"text":"a0"
+
+bad field /payloads
+"payloads":7
+"payloads":null
+"payloads":[]
+
+bad field /payloads/#a
+"payloads":{"#a":7}
+"payloads":{"#a":"00"}
+"payloads":{"#a":{}}
+"payloads":{"#a":{"file":"f","hex":"00"}}
+
+bad field /payloads/#a/file
+"payloads":{"#a":{"file":7}}
+
+bad field /payloads/#a/hex
+"payloads":{"#a":{"hex":7}}
+
+bad hex /payloads/#a/hex
+"payloads":{"#a":{"hex":"0"}}
+"payloads":{"#a":{"hex":"0g","file":"f"}}
+
+bad field /payloads/#a/name
+"payloads":{"#a":{"name":"f"}}
+
+bad field /payloads/#a/size
+"payloads":{"#a":{"hex":"00","size":1}}
+
+bad hex /payloads/a~1b~0c/hex
+"payloads":{"#a":{"hex":"00"},"a/b~c":{"hex":"x"}}
+
+bad field /payloads//file
+"payloads":{"":{"file":null}}
+
+bad field /kid
+"kid":7
+"kid":null
+
+bad hex /kid
+"kid":"0"
+"kid":"kk"
+
+bad field /number
+"number":1
+
+bad field /a~1b~0
+"a/b~":1
+
+bad field /Shared
+"Shared":[["match",15]]
+
+bad field /
+"":1"##;
