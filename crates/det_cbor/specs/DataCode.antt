@@ -3,7 +3,9 @@ use Rattle.std.specs.Prelude.{◌≡◌, ℕ, List, refl}
 use Rattle.std.proofs.Common.{ap}
 use Rattle.std.specs.Coded.{Coded, coded_list, coded_ℕ, coded_bool, coded×}
 use base.Stored.{Gv, gnil, gnum, gcons}
-use Rattle.det_cbor.specs.DataItem.{DataItem, UnsignedInteger, NegativeInteger, ByteString, TextString, ArrayOf, MapOf, TaggedItem, Boolean, NullItem, DataItems, NoItems, ItemThen, DataPairs, NoPairs, PairThen}
+pub use Rattle.det_cbor.specs.DataItem.{DataItem}
+pub use Rattle.det_cbor.specs.DataLists.{item_size, list_size, pair_list_size}
+use Rattle.det_cbor.specs.DataItem.{UnsignedInteger, NegativeInteger, ByteString, TextString, ArrayOf, MapOf, TaggedItem, Boolean, NullItem, DataItems, NoItems, ItemThen, DataPairs, NoPairs, PairThen}
 
 abbrev string_code : Coded (List ℕ)
 string_code = coded_list coded_ℕ

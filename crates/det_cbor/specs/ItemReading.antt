@@ -115,9 +115,13 @@ body_with parts bytes value rest kinds.Tag = tagged_item parts bytes value rest
 body_with parts bytes value rest kinds.Bool = Ok (Boolean (value == 1), rest)
 body_with parts bytes value rest kinds.Null = Ok (NullItem, rest)
 
+-- a head, and then what its kind and its value tell
+abbrev pub head_then :
+    {A : Type 0} → List ℕ → (ℕ → List ℕ → HeadKind → Result A Stop) → Result A Stop
+head_then bytes body = stopped bytes (head_at bytes) >>= λ h. body h.0.value h.1 h.0.kind
+
 abbrev pub item_with : Option Reader → Reader
-item_with parts bytes =
-    stopped bytes (head_at bytes) >>= λ h. body_with parts bytes h.0.value h.1 h.0.kind
+item_with parts bytes = head_then bytes (body_with parts bytes)
 
 -- an item with at most so many levels
 unfoldable pub item_at : ℕ → Reader

@@ -4,8 +4,8 @@ use Rattle.det_cbor.specs.declared.head.HeadKind.{HeadKind}
 use Rattle.det_cbor.specs.declared.head.HeadKind.TheVariants as kinds
 use Rattle.det_cbor.specs.declared.reason.CborRefusal.{CborRefusal}
 use Rattle.det_cbor.specs.declared.reason.Stop.{Stop}
-use Rattle.det_cbor.specs.HeadReading.{◌>>=◌, map_ok, head_at}
-use Rattle.det_cbor.specs.ItemReading.{Read, stopped, string_at, text_at, read_of, in_order, nested, level_below}
+use Rattle.det_cbor.specs.HeadReading.{◌>>=◌, map_ok}
+use Rattle.det_cbor.specs.ItemReading.{Read, stopped, string_at, text_at, read_of, in_order, nested, head_then, level_below}
 
 abbrev pub Skipper : Type 0
 Skipper = List ℕ → Result (List ℕ) Stop
@@ -50,8 +50,7 @@ skip_body parts bytes value rest kinds.Bool = Ok rest
 skip_body parts bytes value rest kinds.Null = Ok rest
 
 abbrev pub skip_with : Option Skipper → Skipper
-skip_with parts bytes =
-    stopped bytes (head_at bytes) >>= λ h. skip_body parts bytes h.0.value h.1 h.0.kind
+skip_with parts bytes = head_then bytes (skip_body parts bytes)
 
 -- an item with at most so many levels
 unfoldable pub skip_at : ℕ → Skipper

@@ -30,19 +30,15 @@ pub struct Inner {
 }
 
 impl Model for Inner {
-    ghost use Rattle.det_cbor.specs.DataItem.{DataItem};
+    ghost use Rattle.det_cbor.specs.DataCode.{DataItem, coded_item, item_size};
 
     ghost Value = { DataItem };
-
-    ghost use Rattle.det_cbor.specs.DataCode.{coded_item};
 
     ghost coded = { coded_item };
 
     ghost use Rattle.det_cbor.specs.ItemTree.{tree_of};
 
     ghost view = { λ a. tree_of a.held.value };
-
-    ghost use Rattle.det_cbor.specs.DataLists.{item_size};
 
     ghost size = { item_size };
 

@@ -1,6 +1,6 @@
 //! Lists of data items.
 
-ghost use Rattle.std.specs.Prelude.{◌≡◌, [], ◌∷◌, ◌++◌, length, OnOk, OnErr, IsTrue, ◌↔◌, option_map, slice_get};
+ghost use Rattle.std.specs.Prelude.{◌≡◌, [], ◌∷◌, ◌++◌, length, OnOk, OnErr};
 ghost use Rattle.det_cbor.specs.ItemTree.{tree_of, trees_of};
 
 use crate::Item;
@@ -16,19 +16,15 @@ pub struct Items {
 
 impl Model for Items {
     ghost use Rattle.std.specs.Prelude.{List};
-    ghost use Rattle.det_cbor.specs.DataItem.{DataItem};
+    ghost use Rattle.det_cbor.specs.DataCode.{DataItem, coded_items, list_size};
 
     ghost Value = { List DataItem };
-
-    ghost use Rattle.det_cbor.specs.DataCode.{coded_items};
 
     ghost coded = { coded_items };
 
     ghost use Rattle.det_cbor.specs.ItemTree.{trees_of};
 
     ghost view = { λ a. trees_of a.held.items };
-
-    ghost use Rattle.det_cbor.specs.DataLists.{list_size};
 
     ghost size = { list_size };
 
@@ -74,20 +70,6 @@ impl Items {
         ensures { result ≡ length self.now }
     {
         self.held.len()
-    }
-
-    /// Whether there are no items.
-    pub fn is_empty(&self) -> bool
-        ensures { IsTrue result ↔ (self.now ≡ []) }
-    {
-        self.held.is_empty()
-    }
-
-    /// The item at an index, or `None` past the end.
-    pub fn get(&self, index: usize) -> Option<&Item>
-        ensures { option_map (λ item. tree_of item.now) result ≡ slice_get self.now index }
-    {
-        self.held.get(index)
     }
 
     /// The items, lent.

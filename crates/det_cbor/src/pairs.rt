@@ -1,7 +1,7 @@
 //! Lists of pairs of data items.
 
-ghost use Rattle.std.specs.Prelude.{◌≡◌, [], ◌∷◌, ◌++◌, length, OnOk, OnErr, IsTrue, ◌↔◌, option_map, slice_get};
-ghost use Rattle.det_cbor.specs.ItemTree.{tree_of, pair_of, pair_trees_of};
+ghost use Rattle.std.specs.Prelude.{◌≡◌, [], ◌∷◌, ◌++◌, length, OnOk, OnErr};
+ghost use Rattle.det_cbor.specs.ItemTree.{tree_of, pair_trees_of};
 
 use crate::Item;
 use std::alloc::{AllocError, Global};
@@ -16,19 +16,15 @@ pub struct Pairs {
 
 impl Model for Pairs {
     ghost use Rattle.std.specs.Prelude.{List};
-    ghost use Rattle.det_cbor.specs.DataItem.{DataItem};
+    ghost use Rattle.det_cbor.specs.DataCode.{DataItem, coded_pairs, pair_list_size};
 
     ghost Value = { List (DataItem × DataItem) };
-
-    ghost use Rattle.det_cbor.specs.DataCode.{coded_pairs};
 
     ghost coded = { coded_pairs };
 
     ghost use Rattle.det_cbor.specs.ItemTree.{pair_trees_of};
 
     ghost view = { λ a. pair_trees_of a.held.items };
-
-    ghost use Rattle.det_cbor.specs.DataLists.{pair_list_size};
 
     ghost size = { pair_list_size };
 
@@ -74,20 +70,6 @@ impl Pairs {
         ensures { result ≡ length self.now }
     {
         self.held.len()
-    }
-
-    /// Whether there are no pairs.
-    pub fn is_empty(&self) -> bool
-        ensures { IsTrue result ↔ (self.now ≡ []) }
-    {
-        self.held.is_empty()
-    }
-
-    /// The pair at an index, or `None` past the end.
-    pub fn get(&self, index: usize) -> Option<&(Item, Item)>
-        ensures { option_map (λ pair. pair_of pair.now) result ≡ slice_get self.now index }
-    {
-        self.held.get(index)
     }
 
     /// The pairs of a key and its value, lent.

@@ -1,6 +1,6 @@
 //! A text.
 
-ghost use Rattle.std.specs.Prelude.{◌≡◌, [], ◌++◌, length, IfOk, OnOk, OnErr, IsTrue, ◌↔◌, string_bytes};
+ghost use Rattle.std.specs.Prelude.{◌≡◌, [], ◌++◌, length, IfOk, OnOk, OnErr, string_bytes};
 
 use std::alloc::{AllocError, Global};
 use std::marker::Model;
@@ -65,13 +65,6 @@ impl Text {
         ensures { result ≡ length self.now }
     {
         self.held.len()
-    }
-
-    /// Whether there are no bytes.
-    pub fn is_empty(&self) -> bool
-        ensures { IsTrue result ↔ (self.now ≡ []) }
-    {
-        self.held.is_empty()
     }
 
     /// The text, lent.
