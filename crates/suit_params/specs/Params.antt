@@ -83,20 +83,18 @@ abbrev pub IsText : DataItem → Type 0
 IsText (TextString text) = Unit {0}
 IsText _ = ⊥
 
--- the kind that values have under a key
+-- the kind that values have under a key: a byte string under a digest, a content and arguments
 abbrev pub IsOfKind : ParamKey → DataItem → Type 0
 IsOfKind keys.Vendor x = IsIdentifier x
 IsOfKind keys.Class x = IsIdentifier x
 IsOfKind keys.Device x = IsIdentifier x
-IsOfKind keys.Digest x = IsByteString x
 IsOfKind keys.Slot x = IsUnsigned x
 IsOfKind keys.Strict x = IsBoolean x
 IsOfKind keys.Soft x = IsBoolean x
 IsOfKind keys.Size x = IsUnsigned x
-IsOfKind keys.Content x = IsByteString x
 IsOfKind keys.Uri x = IsText x
 IsOfKind keys.Source x = IsUnsigned x
-IsOfKind keys.Args x = IsByteString x
+IsOfKind _ x = IsByteString x
 
 pub data RefusesValue (count place : ℕ) : ParamKey → DataItem → Refusal → Type 0 where
   OtherKind : (key : ParamKey) (x : DataItem) → (IsOfKind key x → ⊥)

@@ -13,6 +13,7 @@ mod param_writing;
 mod params;
 mod reading;
 mod refusal;
+mod value_in_force;
 
 pub use digest::{Digest, digest_of, read_digest};
 pub use identifier::{Identifier, Identifiers};
@@ -28,3 +29,4 @@ pub use reading::{
     read_head, read_item, read_kind, read_map, same_place,
 };
 pub use refusal::{Fault, Refusal, Why, refused};
+pub use value_in_force::{identifier_of, number_of};
