@@ -66,3 +66,12 @@ plus_is x y n a b x_is y_is n_is = rw (n_is, x_is, y_is) (capped_plus a b)
 
 pub times_is : (x y n a b : ℕ) → x ≡ capped a → y ≡ capped b → n ≡ capped (x * y) → n ≡ capped (a * b)
 times_is x y n a b x_is y_is n_is = rw (n_is, x_is, y_is) (capped_times a b)
+
+-- of three members, each after the one that they share
+pub three_is :
+    (op : ℕ → ℕ → ℕ) → ((x y n a b : ℕ) → x ≡ capped a → y ≡ capped b → n ≡ capped (op x y) → n ≡ capped (op a b))
+    → (a b c d : ℕ) → {w x y z f g h k n : ℕ} → w ≡ capped a → x ≡ capped b → y ≡ capped c → z ≡ capped d
+    → f ≡ capped (op w x) → g ≡ capped (op w y) → h ≡ capped (op w z) → k ≡ capped (op f g) → n ≡ capped (op k h)
+    → n ≡ capped (op (op (op a b) (op a c)) (op a d))
+three_is op is a b c d w_is x_is y_is z_is f_is g_is h_is k_is n_is =
+    is _ _ _ _ _ (is _ _ _ _ _ (is _ _ _ _ _ w_is x_is f_is) (is _ _ _ _ _ w_is y_is g_is) k_is) (is _ _ _ _ _ w_is z_is h_is) n_is

@@ -12,6 +12,14 @@ use Rattle.suit_commands.proofs.Capping.{capped_small, capped_plus}
 use Rattle.suit_commands.proofs.Steps.{step_there, branch_there, no_step, no_branch_left}
 use Rattle.suit_commands.proofs.WaysLaws.{ways_same, then_assoc, else_assoc, then_start, start_then, none_else, else_none, capped_ways_twice, then_capped_left, then_capped_right, else_capped_left, else_capped_right}
 
+-- the list is the whole, and the ways counted and those left are all
+abbrev pub IsWalked : Type 0 → Ways → Ways → Ways → Type 0
+IsWalked whole ways left all = record {
+  whole : whole;
+  fits : capped_ways ways ≡ ways;
+  ways : capped_ways left ≡ capped_ways all;
+}
+
 -- ---- a command so many times comes after the ways so far
 
 times_then : (n : ℕ) (step : Ways → Ways) (a w : Ways) → ((x : Ways) → step x ≡ ways_then x a) → times n step w ≡ ways_then w (ways_repeated n a)
@@ -143,19 +151,21 @@ other_ways (commands.Run s) count w is a b d = absurd (d s refl)
 
 -- ---- before the first
 
-pub start_fits : (ways : Ways) → ways ≡ start_ways → capped_ways ways ≡ ways
-start_fits ways is = rw is start_capped
-
-pub none_fits : (ways : Ways) → ways ≡ no_branch → capped_ways ways ≡ ways
-none_fits ways is = rw is none_capped
-
 pub steps_begin : (s whole : SequenceTree) (count : ℕ) (ways : Ways) → ways ≡ start_ways → s ≡ whole
-    → capped_ways (ways_then ways (ways_of s count 1 start_ways)) ≡ capped_ways (ways_of whole count 1 start_ways)
-steps_begin s whole count ways is of = rw (is, of) (ap capped_ways (start_then (ways_of whole count 1 start_ways)))
+    → IsWalked (s ≡ whole) ways (ways_then ways (ways_of s count 1 start_ways)) (ways_of whole count 1 start_ways)
+steps_begin s whole count ways is of = record {
+  whole = of;
+  fits = rw is start_capped;
+  ways = rw (is, of) (ap capped_ways (start_then (ways_of whole count 1 start_ways)));
+}
 
 pub branches_begin : (bs whole : BranchesTree) (count : ℕ) (ways : Ways) → ways ≡ no_branch → bs ≡ whole
-    → capped_ways (ways_else ways (tried_ways bs count)) ≡ capped_ways (tried_ways whole count)
-branches_begin bs whole count ways is of = rw (is, of) (ap capped_ways (none_else (tried_ways whole count)))
+    → IsWalked (bs ≡ whole) ways (ways_else ways (tried_ways bs count)) (tried_ways whole count)
+branches_begin bs whole count ways is of = record {
+  whole = of;
+  fits = rw is none_capped;
+  ways = rw (is, of) (ap capped_ways (none_else (tried_ways whole count)));
+}
 
 pub some_ways : (b : Option SequenceTree) (inner : SequenceTree) (count : ℕ) (ways : Ways) → b ≡ Some inner → ways ≡ capped_ways (ways_of inner count 1 start_ways) → ways ≡ capped_ways (there_ways b count)
 some_ways b inner count ways is made = rw is made

@@ -3,7 +3,7 @@
 ghost use Rattle.std.specs.Prelude.{◌≡◌, ◌++◌, ◌<◌, IfOk, OnOk};
 ghost use Rattle.det_cbor.specs.DataItem.{ArrayOf, NullItem, spell, spell_items};
 ghost use Rattle.suit_commands.specs.SequenceMaking.{code_of, step_items, argument_item, branch_items, sequence_item, inner_item};
-ghost use Rattle.suit_commands.specs.SequenceWriting.{StepsFit, CommandFits, BranchesFit, SequenceFits, InnerFits, IsWrittenSequence};
+ghost use Rattle.suit_commands.specs.SequenceWriting.{StepsFit, CommandFits, SequenceFits, InnerFits, IsWrittenSequence};
 ghost use Rattle.suit_commands.specs.Tree.{TryEach};
 ghost use Rattle.suit_commands.specs.View.{command_tree};
 
@@ -97,16 +97,7 @@ fn push_tries(alloc: Global, out: &mut Bytes, branches: &Branches) -> Result<(),
     ensures ok { OnOk result (out.new ≡ out.old ++ spell (ArrayOf (branch_items branches.now))) }
     ensures fit { OnOk result (CommandFits (TryEach branches.now)) }
 {
-    push_count(out, branches.as_slice().len() as u64)?;
-    push_branches(alloc, out, branches)?;
-    Ok(())
-}
-
-#[cycle(push)]
-fn push_branches(alloc: Global, out: &mut Bytes, branches: &Branches) -> Result<(), AllocError>
-    ensures ok { OnOk result (out.new ≡ out.old ++ spell_items (branch_items branches.now)) }
-    ensures fit { OnOk result (BranchesFit branches.now) }
-{
+    push_count(out, branches.held.len() as u64)?;
     for branch in &branches.held {
         match branch {
             Some(inner) => push_inner(alloc, out, inner)?,

@@ -12,6 +12,7 @@ mod encode;
 mod index_list;
 mod kinds;
 mod law;
+mod measure;
 mod numbers;
 mod plan;
 mod plan_targets;

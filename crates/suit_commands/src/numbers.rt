@@ -3,13 +3,24 @@
 ghost use Rattle.std.specs.Prelude.{◌≡◌};
 ghost use Rattle.suit_commands.specs.Capped.{capped};
 ghost use Rattle.suit_commands.specs.NumberLaws.{NumberLaws};
-ghost use Rattle.suit_commands.specs.Numbers.{work_of, ways_of, start_ways, work_number, spread_number, width_number};
-ghost use Rattle.suit_commands.specs.Plans.{lent_tree, plan_tree};
+ghost use Rattle.suit_commands.specs.Numbers.{work_number, spread_number, width_number};
+ghost use Rattle.suit_commands.specs.Plans.{plan_tree};
 
-use crate::capped::{plus, product};
-use crate::ways_walk::sequence_ways;
-use crate::work_walk::sequence_work;
-use crate::{Plan, Sequence};
+use crate::Plan;
+use crate::capped::product;
+use crate::measure::Measure;
+
+// The work and the spread of a procedure.
+fn measured(plan: &Plan<'_>) -> Measure
+    ensures work { result.work ≡ capped (work_number (plan_tree plan.now)) }
+    ensures on { result.on ≡ capped (spread_number (plan_tree plan.now)) }
+{
+    let shared = Measure::of(plan.shared, plan.count);
+    let first = shared.then(Measure::of(plan.first, plan.count));
+    let second = shared.then(Measure::of(plan.second, plan.count));
+    let third = shared.then(Measure::of(plan.third, plan.count));
+    first.then(second).then(third)
+}
 
 /// The work of a procedure: the most commands that it does, where each is done once for each selected component and a
 /// set component index once. A run sequence or a try each counts itself and what is inside, a try each all its
@@ -17,11 +28,7 @@ use crate::{Plan, Sequence};
 pub fn work(plan: &Plan<'_>) -> u64
     ensures { result ≡ capped (work_number (plan_tree plan.now)) }
 {
-    let shared = lent_work(plan.shared, plan.count);
-    let first = plus(shared, lent_work(plan.first, plan.count));
-    let second = plus(shared, lent_work(plan.second, plan.count));
-    let third = plus(shared, lent_work(plan.third, plan.count));
-    plus(plus(first, second), third)
+    measured(plan).work
 }
 
 /// The spread of a procedure: the most ways in which it completes, since a condition may succeed or fail and a sequence
@@ -30,36 +37,15 @@ pub fn work(plan: &Plan<'_>) -> u64
 pub fn spread(plan: &Plan<'_>) -> u64
     ensures { result ≡ capped (spread_number (plan_tree plan.now)) }
 {
-    let shared = lent_on(plan.shared, plan.count);
-    let first = product(shared, lent_on(plan.first, plan.count));
-    let second = product(shared, lent_on(plan.second, plan.count));
-    let third = product(shared, lent_on(plan.third, plan.count));
-    product(product(first, second), third)
+    measured(plan).on
 }
 
 /// The width of a procedure: its work times its spread. Saturates at 64 bits.
 pub fn width(plan: &Plan<'_>) -> u64
     ensures { result ≡ capped (width_number (plan_tree plan.now)) }
 {
-    product(work(plan), spread(plan))
-}
-
-fn lent_work(sequence: Option<&Sequence>, count: u32) -> u64
-    ensures { result ≡ capped (work_of (lent_tree sequence.entry) count 1) }
-{
-    match sequence {
-        Some(sequence) => sequence_work(sequence, count),
-        None => 0,
-    }
-}
-
-fn lent_on(sequence: Option<&Sequence>, count: u32) -> u64
-    ensures { result ≡ capped ((ways_of (lent_tree sequence.entry) count 1 start_ways).on) }
-{
-    match sequence {
-        Some(sequence) => sequence_ways(sequence, count).on,
-        None => 1,
-    }
+    let measure = measured(plan);
+    product(measure.work, measure.on)
 }
 
 /// Does nothing. Its contract has the laws. Each sequence of a procedure completes in at least one way, so the spread

@@ -1,7 +1,7 @@
 use Rattle.std.proofs.Common.{◌≡◌, ◌∙◌, ap, arith}
 use Rattle.suit_commands.specs.WaysOnce.{counted, capped_ways}
 use Rattle.suit_commands.specs.Smaller.{step_smaller, branch_inside}
-use Rattle.suit_commands.proofs.WaysSteps.{made_fits, step_ways, steps_ways, branch_ways, branches_ways, there_ways, test_capped, inner_made, other_ways, start_fits, none_fits, steps_begin, branches_begin, some_ways, null_ways}
+use Rattle.suit_commands.proofs.WaysSteps.{made_fits, step_ways, steps_ways, branch_ways, branches_ways, there_ways, test_capped, inner_made, other_ways, steps_begin, branches_begin, some_ways, null_ways}
 use Rattle.suit_commands.proofs.ways_walk.+ways.Goals as goal
 use Rattle.suit_commands.proofs.ways_walk.+ways.Goals.{branches_ways-in-Some, branches_ways-in-None}
 
@@ -15,11 +15,7 @@ pub command_ways-returns-in_default : goal.command_ways-returns-in_default
 command_ways-returns-in_default t c = other_ways c.args.command.now c.args.count _ c.start.ensures c.in_default.not-Test c.in_default.not-TryEach c.in_default.not-Run
 
 pub branches_ways-loop-branch-init : goal.branches_ways-loop-branch-init
-branches_ways-loop-branch-init t c = record {
-  whole = c.as_slice-branch-items.ensures;
-  fits = none_fits _ c.none_done-tried.ensures;
-  ways = branches_begin _ _ c.args.count _ c.none_done-tried.ensures c.as_slice-branch-items.ensures;
-}
+branches_ways-loop-branch-init t c = branches_begin _ _ c.args.count _ c.none_done-tried.ensures c.as_slice-branch-items.ensures
 
 pub branches_ways-sequence_ways-ways-requires : goal.branches_ways-sequence_ways-ways-requires
 branches_ways-sequence_ways-ways-requires t c = (omega (arith, branch_inside c.as_slice-branch-items.result.now c.loop-branch.branch-index c.branch-item.result c.branch-item.result c.in-Some.inner c.args.branches.now c.loop-branch-test.true c.branch-item.is c.in-Some.is c.loop-branch.invariant.whole, c.decreases), tt)
@@ -40,11 +36,7 @@ pub branches_ways-returns : goal.branches_ways-returns
 branches_ways-returns t c = branches_ways c.as_slice-branch-items.result.now c.loop-branch.branch-index c.args.count _ _ c.loop-branch-test.false c.loop-branch.invariant.fits c.loop-branch.invariant.ways
 
 pub sequence_ways-loop-step-init : goal.sequence_ways-loop-step-init
-sequence_ways-loop-step-init t c = record {
-  whole = c.as_slice-step-items.ensures;
-  fits = start_fits _ c.start-ways.ensures;
-  ways = steps_begin _ _ c.args.count _ c.start-ways.ensures c.as_slice-step-items.ensures;
-}
+sequence_ways-loop-step-init t c = steps_begin _ _ c.args.count _ c.start-ways.ensures c.as_slice-step-items.ensures
 
 pub sequence_ways-command_ways-once-requires : goal.sequence_ways-command_ways-once-requires
 sequence_ways-command_ways-once-requires t c = (omega (arith, step_smaller c.as_slice-step-items.result.now c.loop-step.step-index c.step-item.result c.step-item.result c.args.sequence.now c.loop-step-test.true c.step-item.is c.loop-step.invariant.whole, c.decreases), tt)

@@ -1,6 +1,0 @@
-use Rattle.std.proofs.Common.{sym, arith}
-use Rattle.suit_commands.proofs.Capping.{capped_small}
-use Rattle.suit_commands.proofs.numbers.lent_work.Goals as goal
-
-pub returns-in-None : goal.returns-in-None
-returns-in-None c = rw c.in-None.is (sym (capped_small 0 (omega arith)))
