@@ -4,6 +4,7 @@ use Rattle.std.specs.Result.{result_ok}
 use Rattle.std.proofs.lemmas.List.{append-nil}
 use Rattle.det_cbor.specs.Heads.{head_bytes}
 use Rattle.det_cbor.specs.DataItem.{DataItem, ByteString, MapOf, TaggedItem, NullItem, DataPairs, NoPairs, PairThen, pair_count, spell, spell_pairs, IsValidWithin}
+use Rattle.det_cbor.specs.declared.head.HeadKind.TheVariants as kinds
 use Rattle.det_cbor.specs.HeadReading.{◌>>=◌}
 use Rattle.det_cbor.specs.HeadSpelling.{spelled}
 use Rattle.det_cbor.specs.ItemOrder.{spell_parts}
@@ -12,14 +13,14 @@ use Rattle.suit_params.specs.declared.refusal.Refusal.{Refusal}
 use Rattle.suit_params.specs.declared.refusal.Why.TheVariants.{Shape}
 use Rattle.suit_params.specs.Refusing.{refused, content_place}
 use Rattle.suit_params.specs.Judging.{judge_string, judge_each}
-use Rattle.suit_params.specs.Reading.{only_from}
+use Rattle.suit_params.specs.Reading.{kind_after, only_from}
 use Rattle.det_cbor.specs.ItemHeads.{item_kind, item_value, item_head}
 use Rattle.suit_params.specs.HeadLaws.{item_head_read, after}
 use Rattle.suit_params.specs.HeldLaws.{ReadsAs, by_string, content_read, with_rest, content_is}
 use Rattle.suit_envelope.specs.Envelopes.{Entry, EnvelopeSays, entries, key_of, as_map, says_nothing, put_value, put_all}
 use Rattle.suit_envelope.specs.Judging.{known_key, judge_key, judge_content, judge_value, judge_wrapper, judge_map, judge_shape, judge_envelope}
 use Rattle.suit_envelope.specs.WrapperReading.{wrapper_at}
-use Rattle.suit_envelope.specs.EnvelopeReading.{PairsSay, see, all_seen, value_from, first_refusal, wrapper_held, content_judged, value_judged, put_content, pair_more, pairs_from, no_pairs, map_from, tagged_after, behind_tag, item_after, envelope_at}
+use Rattle.suit_envelope.specs.EnvelopeReading.{PairsSay, see, all_seen, value_from, first_refusal, wrapper_held, content_judged, value_judged, put_content, pair_more, pairs_from, no_pairs, map_from, behind_tag, item_after, envelope_at}
 use Rattle.suit_envelope.specs.declared.key.Key.{Key}
 use Rattle.suit_envelope.specs.declared.key.Key.TheVariants.{Wrapper, Manifest, PayloadFetch, Install, Text, Payload, Unknown}
 use Rattle.suit_envelope.proofs.KeyLaws.{inner_read, key_read, see_all, lacks_is}
@@ -147,19 +148,19 @@ map_read levels p ps tagged rest valid =
 -- ---- the whole item
 
 record OtherThanMap (x : DataItem) : Type 0 where
-  tagged_read : (place : ℕ) (p : Position) → tagged_after place (item_value x) p (item_kind x) ≡ Err (refused place Shape)
+  read : (place : ℕ) (p : Position) → kind_after kinds.Map Shape place (item_value x) p (item_kind x) ≡ Err (refused place Shape)
   no_map : (tagged : Bool) (place : ℕ) → as_map tagged place x ≡ None
 
 by_map : (P : DataItem → Type 0) → ((ps : DataPairs) → P (MapOf ps)) → ((x : DataItem) → OtherThanMap x → P x) → (x : DataItem) → P x
 by_map P map other (MapOf ps) = map ps
-by_map P map other x = other x (record { tagged_read = λ place p. refl; no_map = λ t place. refl })
+by_map P map other x = other x (record { read = λ place p. refl; no_map = λ t place. refl })
 
 behind_read : (levels : ℕ) (p : Position) (x : DataItem) (rest : List ℕ) → IsValidWithin levels x → p.left ≡ spell x ++ rest → behind_tag p ≡ judge_shape p.place (as_map true p.place x)
 unfolding behind_tag
 behind_read levels p x rest valid is =
     by_map (λ (y : DataItem). IsValidWithin levels y → p.left ≡ spell y ++ rest → behind_tag p ≡ judge_shape p.place (as_map true p.place y))
     (λ ps v i. rw (item_head_read levels p (MapOf ps) rest v i) (map_read levels p ps true rest v))
-    (λ y other v i. rw (item_head_read levels p y rest v i, other.tagged_read p.place (after p _ _), other.no_map true p.place) refl)
+    (λ y other v i. rw (item_head_read levels p y rest v i, other.read p.place (after p _ _), other.no_map true p.place) refl)
     x valid is
 
 -- an item that is neither a map nor tagged

@@ -7,7 +7,7 @@ use Rattle.det_cbor.specs.Position.{Position}
 use Rattle.suit_params.specs.declared.refusal.Refusal.{Refusal}
 use Rattle.suit_params.specs.declared.refusal.Why.TheVariants.{Shape, Missing}
 use Rattle.suit_params.specs.Refusing.{refused}
-use Rattle.suit_params.specs.Reading.{head_from, bytes_from, inner_from, only_from, content_from}
+use Rattle.suit_params.specs.Reading.{head_from, kind_from, bytes_from, inner_from, only_from, content_from}
 use Rattle.suit_envelope.specs.Envelopes.{EnvelopeSays, numbered_key, says_nothing, put}
 use Rattle.suit_envelope.specs.Judging.{known_key}
 use Rattle.suit_envelope.specs.WrapperReading.{wrapper_at}
@@ -107,13 +107,10 @@ abbrev pub map_from : ℕ → ℕ → Position → EnvelopeSays → Result Envel
 map_from n place p s =
     pairs_from n p (no_pairs s) >>= λ f. all_seen place f.seen >>= λ _. f.judged >>= λ _. Ok f.said
 
-abbrev pub tagged_after : ℕ → ℕ → Position → HeadKind → Result EnvelopeSays Refusal
-tagged_after place n p kinds.Map = map_from n place p (says_nothing true)
-tagged_after place n p _ = Err (refused place Shape)
-
 -- the item that stands behind tag 107
 unfoldable pub behind_tag : Position → Result EnvelopeSays Refusal
-behind_tag p = head_from p >>= λ h. tagged_after p.place h.0.value h.1 h.0.kind
+behind_tag p =
+    kind_from kinds.Map Shape p >>= λ n. map_from n.0 p.place n.1 (says_nothing true)
 
 abbrev pub item_after : ℕ → ℕ → Position → HeadKind → Result EnvelopeSays Refusal
 item_after place n p kinds.Map = map_from n place p (says_nothing false)

@@ -10,7 +10,7 @@ use crate::Envelope;
 use crate::key::require;
 use crate::pairs::pairs;
 use det_cbor::{Cursor, HeadKind};
-use suit_params::{Refusal, Why, read_head, refused};
+use suit_params::{Refusal, Why, read_head, read_kind, refused};
 
 // An envelope of these bytes that says nothing yet.
 fn nothing(whole: &[u8], tagged: bool) -> Envelope<'_>
@@ -56,11 +56,8 @@ fn behind_tag<'a>(mut item: Cursor<'a>, whole: &'a [u8]) -> Result<Envelope<'a>,
     ensures whole { IfOk result (λ e. e.whole.now ≡ whole.now) }
 {
     let place = item.place();
-    let head = read_head(&mut item)?;
-    match head.kind {
-        HeadKind::Map => map(item, head.value, place, nothing(whole, true)),
-        _ => refused(place, Why::Shape),
-    }
+    let count = read_kind(&mut item, HeadKind::Map, Why::Shape)?;
+    map(item, count, place, nothing(whole, true))
 }
 
 /// Reads a whole item, judged as one before, as an envelope of these bytes.

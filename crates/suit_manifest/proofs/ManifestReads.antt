@@ -39,8 +39,8 @@ use Rattle.suit_manifest.proofs.Arrays.{at}
 use Rattle.suit_manifest.proofs.KeyedMaps.{pairs_fit, all_pairs, keyed_read}
 use Rattle.suit_manifest.proofs.CommonReads.{held_sequence_reads, all_left, given, picked_is, common_read}
 use Rattle.suit_manifest.proofs.KeyNumbers.{ordered_within}
-use Rattle.suit_manifest.proofs.PairsTaken.{take_read, end_read}
-use Rattle.suit_manifest.proofs.Picked.{head_under, rest_after, ending}
+use Rattle.suit_manifest.proofs.PairsTaken.{take_read, then_read, found, others, end_read}
+use Rattle.suit_manifest.proofs.Picked.{ending}
 use Rattle.suit_manifest.proofs.MapLaws.{Fits, under_fits, may_read, held_reads}
 use Rattle.suit_manifest.proofs.ValueJudging.{by_kind}
 
@@ -248,33 +248,25 @@ found_read : (levels place : ℕ) (pairs : DataPairs) → IsValidWithin levels (
     → manifest_found (all_pairs place pairs) ≡ (judge_each (judge_entry manifest_keys) (entries_of place pairs) >>= λ _. Ok (looked (entries_of place pairs)))
 found_read levels place pairs valid =
     let es = entries_of place pairs in
-    let l = levels + 1 in
-    let a = take_read 1 l es (all_pairs place pairs) (all_left levels place pairs valid) in
-    let b = take_read 2 l (rest_after 1 es) a.next a.left in
-    let c = take_read 3 l (rest_after 2 (rest_after 1 es)) b.next b.left in
-    let from_four = rest_after 3 (rest_after 2 (rest_after 1 es)) in
-    let d = take_read 4 l from_four c.next c.left in
-    let from_seven = rest_after 4 from_four in
-    let e = take_read 7 l from_seven d.next d.left in
-    let from_eight = rest_after 7 from_seven in
-    let f = take_read 8 l from_eight e.next e.left in
-    let from_nine = rest_after 8 from_eight in
-    let g = take_read 9 l from_nine f.next f.left in
-    let from_fetch = rest_after 9 from_nine in
-    let h = take_read 16 l from_fetch g.next g.left in
-    let from_install = rest_after 16 from_fetch in
-    let j = take_read 20 l from_install h.next h.left in
-    let from_text = rest_after 20 from_install in
-    let k = take_read 23 l from_text j.next j.left in
-    let later = later_values (head_under 4 from_four) (head_under 7 from_seven) (head_under 8 from_eight) (head_under 9 from_nine) (head_under 16 from_fetch) (head_under 20 from_install) (head_under 23 from_text) in
-    let picked = all_values (head_under 1 es) (head_under 2 (rest_after 1 es)) (head_under 3 (rest_after 2 (rest_after 1 es))) later in
+    let a = take_read 1 (levels + 1) es (all_pairs place pairs) (all_left levels place pairs valid) in
+    let b = then_read 2 a in
+    let c = then_read 3 b in
+    let d = then_read 4 c in
+    let e = then_read 7 d in
+    let f = then_read 8 e in
+    let g = then_read 9 f in
+    let h = then_read 16 g in
+    let j = then_read 20 h in
+    let k = then_read 23 j in
+    let later = later_values (found d) (found e) (found f) (found g) (found h) (found j) (found k) in
+    let picked = all_values (found a) (found b) (found c) later in
     let last = picked_is manifest_keys es picked (looked es)
     (omega arith, (omega arith, (omega arith, (omega arith, (omega arith, (omega arith, (omega arith, (omega arith, (omega arith, (omega arith, tt)))))))))) (ordered_within levels place pairs valid)
     (λ all i.
     let later = later_values (all.1.1.1.0 i) (all.1.1.1.1.0 i) (all.1.1.1.1.1.0 i) (all.1.1.1.1.1.1.0 i) (all.1.1.1.1.1.1.1.0 i) (all.1.1.1.1.1.1.1.1.0 i) (all.1.1.1.1.1.1.1.1.1.0 i) in
     all_values (all.0 i) (all.1.0 i) (all.1.1.0 i) later) in
-    rw (a.is, b.is, c.is, d.is, e.is, f.is, g.is, h.is, j.is, k.is, end_read l (rest_after 23 from_text) k.next k.left)
-    (with_later (ending (rest_after 23 from_text)) later picked.version picked.sequence picked.common ∙ last)
+    rw (a.is, b.is, c.is, d.is, e.is, f.is, g.is, h.is, j.is, k.is, end_read (levels + 1) (others k) k.next k.left)
+    (with_later (ending (others k)) later picked.version picked.sequence picked.common ∙ last)
   where
     with_later : (r : Result Unit Refusal) (later : LaterValues) (version sequence common : Option Position) → ((r >>= λ _. given later) >>= all_of version sequence common) ≡ (r >>= λ _. all_of version sequence common later)
     with_later (Ok done) later version sequence common = refl

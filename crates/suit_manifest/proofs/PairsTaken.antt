@@ -79,6 +79,17 @@ take_pairs n levels before (PairThen key value ps) rest s valid is count = by_te
 pub take_read : (n levels : ℕ) (es : List Entry) (s : Pairs) → AreLeft levels es s → Took n levels es s
 take_read n levels es s left = subst (λ (l : List Entry). Took n levels l s) left.are (take_pairs n levels left.before left.pairs left.rest s left.valid left.bytes left.count)
 
+-- the next number, behind one that was looked for
+pub then_read : (n : ℕ) {m levels : ℕ} {es : List Entry} {s : Pairs} (took : Took m levels es s) → Took n levels (rest_after m es) took.next
+then_read n {m} {levels} {es} took = take_read n levels (rest_after m es) took.next took.left
+
+-- the entry that was found, and those that are left
+abbrev pub found : {n levels : ℕ} {es : List Entry} {s : Pairs} → Took n levels es s → Option Entry
+found {n} {levels} {es} took = head_under n es
+
+abbrev pub others : {n levels : ℕ} {es : List Entry} {s : Pairs} → Took n levels es s → List Entry
+others {n} {levels} {es} took = rest_after n es
+
 pub end_read : (levels : ℕ) (es : List Entry) (s : Pairs) → AreLeft levels es s → end_from s ≡ ending es
 end_read levels es s left = subst (λ (l : List Entry). end_from s ≡ ending l) left.are (by_pairs left.pairs left.count)
   where

@@ -1,5 +1,5 @@
 -- The members that stand apart from a manifest, in its envelope (draft-ietf-suit-manifest-25, sections 8.4 and 8.5).
-use Rattle.std.specs.Prelude.{◌≡◌, ◌≢◌, ◌⊎◌, ℕ, false, List, Option, Some, None, Result, MatchResult, IsErrAnd}
+use Rattle.std.specs.Prelude.{◌≡◌, ◌≢◌, ◌<◌, ◌⊎◌, ◌^◌, ℕ, false, length, List, Option, Some, None, Result, MatchResult, IsErrAnd}
 use Rattle.suit_params.specs.declared.refusal.Refusal.{Refusal}
 use Rattle.suit_params.specs.declared.digest.Digest.{Digest}
 use Rattle.suit_params.specs.Refusing.{SaysWhole, RefusesWhole}
@@ -8,6 +8,7 @@ use Rattle.suit_commands.specs.Allowed.{levels_allowed}
 use Rattle.suit_commands.specs.Sequences.{SaysSequence}
 use Rattle.suit_commands.specs.SequenceFaults.{RefusesSequence}
 use Rattle.suit_envelope.specs.Envelopes.{EnvelopeSays}
+use Rattle.suit_envelope.specs.Places.{MembersEndBelow}
 use Rattle.suit_envelope.specs.Members.{member_of, string_digest}
 use Rattle.suit_envelope.specs.Said.{said_by}
 use Rattle.suit_envelope.specs.declared.envelope.Envelope.{Envelope}
@@ -81,6 +82,11 @@ LacksInstall said manifest fault =
     fault
 
 -- ---- both members
+
+-- the manifest's number of components fits 32 bits, and each place in the envelope's members fits 64
+abbrev pub CanTakeMembers : EnvelopeSays → Manifest → Type 0
+CanTakeMembers said manifest =
+    (length manifest.components < 2 ^ 32) × MembersEndBelow (2 ^ 64) said
 
 pub record HasMembers (said : EnvelopeSays) (manifest : Manifest) (members : Members) : Type 0 where
   pub payload_fetch : HasPayloadFetch said manifest members.payload_fetch

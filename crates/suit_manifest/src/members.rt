@@ -1,11 +1,10 @@
 //! The members that stand apart from their manifest, taken from its envelope.
 
-ghost use Rattle.std.specs.Prelude.{◌<◌, ◌^◌, length, IfOk, IfErr};
-ghost use Rattle.suit_envelope.specs.Places.{MembersEndBelow};
+ghost use Rattle.std.specs.Prelude.{IfOk, IfErr};
 ghost use Rattle.suit_envelope.specs.Said.{said_by};
 ghost use Rattle.suit_manifest.specs.declared.manifest.Members.{Members};
 ghost use Rattle.suit_manifest.specs.declared.members.MemberFault.{MemberFault};
-ghost use Rattle.suit_manifest.specs.MembersApart.{HasMembers, LacksMembers, IsLackBy, IsTakenAs, IsLackedAs};
+ghost use Rattle.suit_manifest.specs.MembersApart.{CanTakeMembers, HasMembers, LacksMembers, IsLackBy, IsTakenAs, IsLackedAs};
 
 use crate::plans::component_count;
 use crate::severable::apart;
@@ -35,8 +34,7 @@ pub enum MemberFault {
 // See `members_of`.
 #[tactic(auto, using(crate::proofs::BothMembers::fetch_lacks))]
 fn both(alloc: Global, envelope: &Envelope<'_>, manifest: &Manifest) -> Result<Members, MemberFault>
-    requires few { length manifest.now.components < 2 ^ 32 }
-    requires places { MembersEndBelow (2 ^ 64) (said_by envelope.now) }
+    requires { CanTakeMembers (said_by envelope.now) manifest.now }
     ensures ok { IfOk result (HasMembers (said_by envelope.now) manifest.now) }
     ensures refused { IfErr result (IsLackBy (LacksMembers (said_by envelope.now) manifest.now)) }
 {
@@ -70,8 +68,7 @@ pub fn members_of(
     envelope: &Envelope<'_>,
     manifest: &Manifest,
 ) -> Result<Members, MemberFault>
-    requires few { length manifest.now.components < 2 ^ 32 }
-    requires places { MembersEndBelow (2 ^ 64) (said_by envelope.now) }
+    requires { CanTakeMembers (said_by envelope.now) manifest.now }
     ensures ok { IfOk result (HasMembers (said_by envelope.now) manifest.now) }
     ensures refused { IfErr result (IsLackBy (LacksMembers (said_by envelope.now) manifest.now)) }
     ensures every_members { (members : Members)

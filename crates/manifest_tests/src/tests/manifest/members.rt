@@ -2,35 +2,21 @@
 
 use crate::tests::manifest::manifest_makers::manifest_with;
 use crate::tests::steps::{is_act, is_test, only};
-use std::alloc::Global;
+use det_cbor::Bytes;
+use std::alloc::{AllocError, Global};
 use suit_commands::{ActKind, Command, Sequence, TestKind, decode_sequence};
 use suit_envelope::{MemberName, decode_envelope};
 use suit_manifest::{Member, MemberFault, Members, members_laws, members_of};
 use suit_params::{Digest, Fault, Refusal, Why};
 
-/// No member.
-const NONE: &[u8] =
-    b"\xd8\x6b\xa2\x02\x58\x27\x81\x58\x24\x82\x2f\x58\x20\x00\x00\x00\x00\x00\x00\x00\x00\x00\x00\x00\x00\x00\x00\x00\x00\x00\x00\x00\x00\x00\x00\x00\x00\x00\x00\x00\x00\x00\x00\x00\x00\x03\x41\xa0";
+/// A wrapper whose digest is all zeros, and an empty map as the manifest.
+const WRAPPER_AND_MANIFEST: &[u8] =
+    b"\x02\x58\x27\x81\x58\x24\x82\x2f\x58\x20\x00\x00\x00\x00\x00\x00\x00\x00\x00\x00\x00\x00\x00\x00\x00\x00\x00\x00\x00\x00\x00\x00\x00\x00\x00\x00\x00\x00\x00\x00\x00\x00\x03\x41\xa0";
 
-/// Install is an image match, whose code stands at 51.
-const INSTALL: &[u8] =
-    b"\xd8\x6b\xa3\x02\x58\x27\x81\x58\x24\x82\x2f\x58\x20\x00\x00\x00\x00\x00\x00\x00\x00\x00\x00\x00\x00\x00\x00\x00\x00\x00\x00\x00\x00\x00\x00\x00\x00\x00\x00\x00\x00\x00\x00\x00\x00\x03\x41\xa0\x14\x43\x82\x03\x0f";
+/// The keys of the two members.
+const PAYLOAD_FETCH: u8 = 0x10;
 
-/// The same, with another reporting policy.
-const CHANGED: &[u8] =
-    b"\xd8\x6b\xa3\x02\x58\x27\x81\x58\x24\x82\x2f\x58\x20\x00\x00\x00\x00\x00\x00\x00\x00\x00\x00\x00\x00\x00\x00\x00\x00\x00\x00\x00\x00\x00\x00\x00\x00\x00\x00\x00\x00\x00\x00\x00\x00\x03\x41\xa0\x14\x43\x82\x03\x0e";
-
-/// Install names component 1, at 52.
-const INDEXED: &[u8] =
-    b"\xd8\x6b\xa3\x02\x58\x27\x81\x58\x24\x82\x2f\x58\x20\x00\x00\x00\x00\x00\x00\x00\x00\x00\x00\x00\x00\x00\x00\x00\x00\x00\x00\x00\x00\x00\x00\x00\x00\x00\x00\x00\x00\x00\x00\x00\x00\x03\x41\xa0\x14\x43\x82\x0c\x01";
-
-/// Payload-fetch is a fetch, whose code stands at 51; the code of install stands at 56.
-const BOTH: &[u8] =
-    b"\xd8\x6b\xa4\x02\x58\x27\x81\x58\x24\x82\x2f\x58\x20\x00\x00\x00\x00\x00\x00\x00\x00\x00\x00\x00\x00\x00\x00\x00\x00\x00\x00\x00\x00\x00\x00\x00\x00\x00\x00\x00\x00\x00\x00\x00\x00\x03\x41\xa0\x10\x43\x82\x15\x0f\x14\x43\x82\x03\x0f";
-
-/// Payload-fetch is a try each whose argument, at 52, is a number; install is as before.
-const BAD_FETCH: &[u8] =
-    b"\xd8\x6b\xa4\x02\x58\x27\x81\x58\x24\x82\x2f\x58\x20\x00\x00\x00\x00\x00\x00\x00\x00\x00\x00\x00\x00\x00\x00\x00\x00\x00\x00\x00\x00\x00\x00\x00\x00\x00\x00\x00\x00\x00\x00\x00\x00\x03\x41\xa0\x10\x43\x82\x0f\x0f\x14\x43\x82\x03\x0f";
+const INSTALL: u8 = 0x14;
 
 /// The digest of the byte string of the image match.
 const MATCH: [u8; 32] =
@@ -56,10 +42,46 @@ fn apart(bytes: [u8; 32]) -> Member {
     Member::Apart(Digest { bytes })
 }
 
-// The members that the envelope has for a manifest of one component with these two.
+// A member of one command, by its key, the command's code and its argument. The code of the first member stands at 51 in
+// the envelope, and that of the second one at 56.
+fn held(key: u8, code: u8, argument: u8) -> [u8; 5] {
+    [key, 0x43, 0x82, code, argument]
+}
+
+// An install that is an image match with this reporting policy.
+fn image_match(policy: u8) -> [u8; 5] {
+    held(INSTALL, 3, policy)
+}
+
+// An install that names component 1.
+fn indexed() -> [u8; 5] {
+    held(INSTALL, 12, 1)
+}
+
+// A payload-fetch that is a try each whose argument is a number, and an install that is an image match.
+fn bad_fetch() -> [[u8; 5]; 2] {
+    [held(PAYLOAD_FETCH, 15, 15), image_match(15)]
+}
+
+// An envelope with these members, of which there are at most two.
+fn enveloped(alloc: Global, members: &[[u8; 5]]) -> Result<Bytes, AllocError> {
+    let pairs = match members.len() {
+        0 => 0xa2,
+        1 => 0xa3,
+        _ => 0xa4,
+    };
+    let mut bytes = Bytes::from_slice(alloc, &[0xd8, 0x6b, pairs])?;
+    bytes.extend(WRAPPER_AND_MANIFEST)?;
+    for member in members {
+        bytes.extend(member)?;
+    }
+    Ok(bytes)
+}
+
+// The members that such an envelope has for a manifest of one component with these two.
 fn judged(
     alloc: Global,
-    bytes: &[u8],
+    members: &[[u8; 5]],
     payload_fetch: Member,
     install: Member,
 ) -> Result<Members, MemberFault> {
@@ -67,7 +89,10 @@ fn judged(
     let Ok(manifest) = manifest_with(alloc, payload_fetch, install) else {
         return Err(MemberFault::NoMemory);
     };
-    match decode_envelope(bytes) {
+    let Ok(bytes) = enveloped(alloc, members) else {
+        return Err(MemberFault::NoMemory);
+    };
+    match decode_envelope(bytes.as_slice()) {
         Ok(envelope) => members_of(alloc, &envelope, &manifest),
         Err(_) => Err(MemberFault::NoMemory),
     }
@@ -98,12 +123,12 @@ fn has_none(members: &Members) -> bool {
 // Whether this is the fault.
 fn lacks(
     alloc: Global,
-    bytes: &[u8],
+    members: &[[u8; 5]],
     payload_fetch: Member,
     install: Member,
     wanted: MemberFault,
 ) -> bool {
-    match judged(alloc, bytes, payload_fetch, install) {
+    match judged(alloc, members, payload_fetch, install) {
         Ok(_) => false,
         Err(fault) => fault == wanted,
     }
@@ -113,14 +138,15 @@ fn lacks(
 fn an_install_that_matches_its_digest_is_taken_at_its_place(
     rt: HostRuntime,
 ) -> Result<(), MemberFault> {
-    let members = judged(rt.alloc(), INSTALL, Member::Empty, apart(MATCH))?;
+    let members = judged(rt.alloc(), &[image_match(15)], Member::Empty, apart(MATCH))?;
     assert!(rt; has_match(&members, false, 51));
     Ok(())
 }
 
 #[test]
 fn both_members_are_taken_at_their_places(rt: HostRuntime) -> Result<(), MemberFault> {
-    let members = judged(rt.alloc(), BOTH, apart(FETCH), apart(MATCH))?;
+    let both = [held(PAYLOAD_FETCH, 21, 15), image_match(15)];
+    let members = judged(rt.alloc(), &both, apart(FETCH), apart(MATCH))?;
     assert!(rt; has_fetch(&members));
     assert!(rt; has_match(&members, true, 56));
     Ok(())
@@ -129,10 +155,11 @@ fn both_members_are_taken_at_their_places(rt: HostRuntime) -> Result<(), MemberF
 #[test]
 fn a_member_that_is_not_there_is_severed(rt: HostRuntime) {
     let install = MemberFault::Severed(MemberName::Install);
-    assert!(rt; lacks(rt.alloc(), NONE, Member::Empty, apart(MATCH), install));
+    assert!(rt; lacks(rt.alloc(), &[], Member::Empty, apart(MATCH), install));
     let fetch = MemberFault::Severed(MemberName::PayloadFetch);
-    assert!(rt; lacks(rt.alloc(), NONE, apart(FETCH), Member::Empty, fetch));
-    assert!(rt; lacks(rt.alloc(), INSTALL, apart(FETCH), apart(MATCH), fetch));
+    assert!(rt; lacks(rt.alloc(), &[], apart(FETCH), Member::Empty, fetch));
+    let alone = [image_match(15)];
+    assert!(rt; lacks(rt.alloc(), &alone, apart(FETCH), apart(MATCH), fetch));
 }
 
 #[test]
@@ -144,7 +171,8 @@ fn a_changed_byte_is_told_by_both_digests(rt: HostRuntime) {
             bytes: CHANGED_MATCH,
         },
     };
-    assert!(rt; lacks(rt.alloc(), CHANGED, Member::Empty, apart(MATCH), wanted));
+    let changed = [image_match(14)];
+    assert!(rt; lacks(rt.alloc(), &changed, Member::Empty, apart(MATCH), wanted));
 }
 
 #[test]
@@ -153,7 +181,15 @@ fn a_matching_member_is_refused_at_its_place_in_the_envelope(rt: HostRuntime) {
         place: 52,
         why: Why::BadIndex(1, 1),
     });
-    assert!(rt; lacks(rt.alloc(), INDEXED, Member::Empty, apart(INDEX), wanted));
+    assert!(rt;
+        lacks(
+            rt.alloc(),
+            &[indexed()],
+            Member::Empty,
+            apart(INDEX),
+            wanted
+        )
+    );
 }
 
 #[test]
@@ -162,19 +198,20 @@ fn payload_fetch_is_judged_before_install(rt: HostRuntime) {
         place: 52,
         why: Why::BadArgument,
     });
-    assert!(rt; lacks(rt.alloc(), BAD_FETCH, apart(BAD_TRY), apart(FETCH), wanted));
+    let members = bad_fetch();
+    assert!(rt; lacks(rt.alloc(), &members, apart(BAD_TRY), apart(FETCH), wanted));
 }
 
 #[test]
 fn a_member_without_a_stated_digest_is_passed_over(rt: HostRuntime) -> Result<(), MemberFault> {
-    let members = judged(rt.alloc(), BAD_FETCH, Member::Empty, Member::Empty)?;
+    let members = judged(rt.alloc(), &bad_fetch(), Member::Empty, Member::Empty)?;
     assert!(rt; has_none(&members));
     Ok(())
 }
 
 // Whether no member is taken where an install stands in the manifest.
 fn takes_none(alloc: Global, install: Sequence) -> bool {
-    match judged(alloc, INDEXED, Member::Empty, Member::Here(install)) {
+    match judged(alloc, &[indexed()], Member::Empty, Member::Here(install)) {
         Ok(members) => has_none(&members),
         Err(_) => false,
     }
