@@ -5,7 +5,7 @@ ghost use Rattle.suit_edge.specs.Flash.{Grows, IsSame};
 ghost use Rattle.suit_edge.specs.Launch.{LaunchCounts, LiesWithin};
 ghost use Rattle.suit_edge.specs.FileLauncher.{StepCounts};
 
-use crate::{Disk, Edge, Image, Launched, Launcher};
+use crate::{Disk, Edge, Image, Label, Launched, Launcher};
 use std::alloc::Global;
 use std::fs::File;
 use std::io::Write;
@@ -110,16 +110,8 @@ impl<R: Files<File = File> + Drop> Launcher for FileLauncher<R> {
 
     ghost faults = { λ l. l };
 
-    fn launch<D: Disk>(
-        &mut self,
-        disk: &mut D,
-        image: Image<'_>,
-        component: u32,
-        _digest: Option<&[u8]>,
-        _size: Option<u64>,
-        _args: Option<&[u8]>,
-    ) -> Launched {
-        let Ok(mut file) = create(self.alloc, &self.rt, component) else {
+    fn launch<D: Disk>(&mut self, disk: &mut D, image: Image<'_>, label: Label<'_>) -> Launched {
+        let Ok(mut file) = create(self.alloc, &self.rt, label.component) else {
             self.faults = self.faults.saturating_add(1);
             return Launched::Failed;
         };

@@ -17,6 +17,19 @@ pub enum Image<'a> {
     Ram(&'a [u8]),
 }
 
+/// The label of a launched image: its component, and the digest, size and arguments that its parameters name.
+#[derive(Clone, Copy, Debug)]
+pub struct Label<'a> {
+    /// The index of the component in the manifest.
+    pub component: u32,
+    /// The digest that the parameters name, if any.
+    pub digest: Option<&'a [u8]>,
+    /// The size that they name, if any.
+    pub size: Option<u64>,
+    /// The arguments that they name, if any.
+    pub args: Option<&'a [u8]>,
+}
+
 /// The outcome of a launch.
 #[derive(Clone, Copy, Debug, PartialEq, Eq)]
 pub enum Launched {
@@ -39,24 +52,16 @@ pub trait Launcher {
     /// How often a call has failed.
     ghost faults: { Self → ℕ };
 
-    /// Launches the image for a component, with what its parameters name.
-    fn launch<D: Disk>(
-        &mut self,
-        disk: &mut D,
-        image: Image<'_>,
-        component: u32,
-        digest: Option<&[u8]>,
-        size: Option<u64>,
-        args: Option<&[u8]>,
-    ) -> Launched
+    /// Launches the image under its label.
+    fn launch<D: Disk>(&mut self, disk: &mut D, image: Image<'_>, label: Label<'_>) -> Launched
         requires { LiesWithin (D.extent disk.old) image }
         ensures size { D.extent disk.new ≡ D.extent disk.old }
         ensures counts { LaunchCounts result (faults self.old) (faults self.new) (D.faults disk.old)
             (D.faults disk.new) }
         ensures launches { IsTrue told
             → AddsLaunch result (launches self.old) (launches self.new)
-            (IsLaunch image.entry D.told (D.flash disk.old).reads component
-            (option_copied digest.entry) size (option_copied args.entry)) }
+            (IsLaunch image.entry D.told (D.flash disk.old).reads label.entry.component
+            (option_copied label.entry.digest) label.entry.size (option_copied label.entry.args)) }
         ensures same { IsTrue D.told → IsSame (D.flash disk.old) (D.flash disk.new) }
         ensures grows { IsTrue D.told → Grows (D.flash disk.old) (D.flash disk.new) };
 }

@@ -34,7 +34,7 @@ pub use file_launcher::FileLauncher;
 pub use fuse_disk::FuseDisk;
 pub use host::{Host, Pulled, Started};
 pub use launch::{Launch, Launches};
-pub use launcher::{Image, Launched, Launcher};
+pub use launcher::{Image, Label, Launched, Launcher};
 pub use law::{disk_laws, fault_laws, host_laws, launch_laws, loss_laws, sink_laws};
 pub use memory_disk::MemoryDisk;
 pub use memory_host::MemoryHost;

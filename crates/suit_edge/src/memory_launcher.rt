@@ -10,7 +10,7 @@ ghost use Rattle.suit_edge.specs.declared.launch.Launch.{Launch};
 ghost use Rattle.suit_edge.specs.TakenImage.{TakesImage, TakeCounts};
 
 use crate::calls::Calls;
-use crate::{Disk, Edge, Image, Launch, Launched, Launcher, Launches};
+use crate::{Disk, Edge, Image, Label, Launch, Launched, Launcher, Launches};
 use det_cbor::Bytes;
 use std::alloc::{AllocError, Global};
 use std::marker::Model;
@@ -101,31 +101,24 @@ fn copied(alloc: Global, bytes: Option<&[u8]>) -> Result<Option<Bytes>, AllocErr
 }
 
 // The launch of these bytes.
-fn launch_of(
-    alloc: Global,
-    bytes: Bytes,
-    component: u32,
-    digest: Option<&[u8]>,
-    size: Option<u64>,
-    args: Option<&[u8]>,
-) -> Result<Launch, AllocError>
+fn launch_of(alloc: Global, bytes: Bytes, label: Label<'_>) -> Result<Launch, AllocError>
     ensures { IfOk result
         (λ launch. launch
         ≡
         record {
-          component = component;
+          component = label.entry.component;
           bytes = bytes;
-          digest = option_copied digest.entry;
-          size = size;
-          args = option_copied args.entry;
+          digest = option_copied label.entry.digest;
+          size = label.entry.size;
+          args = option_copied label.entry.args;
         }) }
 {
     Ok(Launch {
-        component,
+        component: label.component,
         bytes,
-        digest: copied(alloc, digest)?,
-        size,
-        args: copied(alloc, args)?,
+        digest: copied(alloc, label.digest)?,
+        size: label.size,
+        args: copied(alloc, label.args)?,
     })
 }
 
@@ -145,23 +138,15 @@ impl Launcher for MemoryLauncher {
 
     ghost faults = { λ l. l.calls.faults };
 
-    fn launch<D: Disk>(
-        &mut self,
-        disk: &mut D,
-        image: Image<'_>,
-        component: u32,
-        digest: Option<&[u8]>,
-        size: Option<u64>,
-        args: Option<&[u8]>,
-    ) -> Launched
+    fn launch<D: Disk>(&mut self, disk: &mut D, image: Image<'_>, label: Label<'_>) -> Launched
         requires { LiesWithin (D.extent disk.old) image }
         ensures size { D.extent disk.new ≡ D.extent disk.old }
         ensures counts { LaunchCounts result self.old.calls.faults self.new.calls.faults
             (D.faults disk.old) (D.faults disk.new) }
         ensures launches { IsTrue true
             → AddsLaunch result self.old.launches self.new.launches
-            (IsLaunch image.entry D.told (D.flash disk.old).reads component
-            (option_copied digest.entry) size (option_copied args.entry)) }
+            (IsLaunch image.entry D.told (D.flash disk.old).reads label.entry.component
+            (option_copied label.entry.digest) label.entry.size (option_copied label.entry.args)) }
         ensures same { IsTrue D.told → IsSame (D.flash disk.old) (D.flash disk.new) }
         ensures grows { IsTrue D.told → Grows (D.flash disk.old) (D.flash disk.new) }
         ensures exact { LaunchesExactly result self.old self.new (D.faults disk.old)
@@ -178,7 +163,7 @@ impl Launcher for MemoryLauncher {
                 return Launched::Failed;
             }
         };
-        let launch = launch_of(self.alloc, bytes, component, digest, size, args);
+        let launch = launch_of(self.alloc, bytes, label);
         match note(&mut self.launches, launch) {
             Ok(()) => Launched::Done,
             Err(_) => {

@@ -4,14 +4,24 @@ use det_cbor::Bytes;
 use std::alloc::{AllocError, Global};
 use std::fs;
 use suit_edge::{
-    Disk, Edge, FileLauncher, FuseDisk, Image, Launch, Launched, Launcher, MemoryDisk,
+    Disk, Edge, FileLauncher, FuseDisk, Image, Label, Launch, Launched, Launcher, MemoryDisk,
     MemoryLauncher,
 };
 
+// The label of a component whose parameters name nothing.
+fn plain(component: u32) -> Label<'static> {
+    Label {
+        component,
+        digest: None,
+        size: None,
+        args: None,
+    }
+}
+
 // Whether a launcher launches twice, but for the call of that number.
 fn launches(launcher: &mut MemoryLauncher, disk: &mut MemoryDisk, failing: u64) -> bool {
-    let first = launcher.launch(disk, Image::Ram(b"ab"), 1, None, None, None);
-    let second = launcher.launch(disk, Image::Ram(b"ab"), 2, None, None, None);
+    let first = launcher.launch(disk, Image::Ram(b"ab"), plain(1));
+    let second = launcher.launch(disk, Image::Ram(b"ab"), plain(2));
     (first == Launched::Failed) == (failing == 0)
         && (second == Launched::Failed) == (failing == 1)
         && (launcher.launches().len() == 2) == (failing == 2)
@@ -53,7 +63,13 @@ fn a_launch_is_remembered_whole(rt: HostRuntime) -> Result<(), AllocError> {
         place: 2,
         length: 3,
     };
-    let done = launcher.launch(&mut disk, image, 1, Some(b"digest"), Some(3), Some(b"args"));
+    let label = Label {
+        component: 1,
+        digest: Some(b"digest"),
+        size: Some(3),
+        args: Some(b"args"),
+    };
+    let done = launcher.launch(&mut disk, image, label);
     assert!(rt; done == Launched::Done);
     for launch in launcher.launches().as_slice() {
         assert!(rt; is_whole(launch));
@@ -69,7 +85,7 @@ fn a_disk_that_fails_is_told_apart(rt: HostRuntime) -> Result<(), AllocError> {
         place: 0,
         length: 8,
     };
-    let edge = launcher.launch(&mut disk, image, 0, None, None, None);
+    let edge = launcher.launch(&mut disk, image, plain(0));
     assert!(rt; edge == Launched::DiskFailed);
     assert!(rt; launcher.launches().is_empty());
     Ok(())
@@ -93,14 +109,14 @@ fn a_real_launcher_writes_images(rt: HostRuntime) -> Result<(), AllocError> {
         place: 900,
         length: 5000,
     };
-    let flash = launcher.launch(&mut disk, image, 3, None, None, None);
+    let flash = launcher.launch(&mut disk, image, plain(3));
     assert!(rt; flash == Launched::Done);
     assert!(rt; file_holds(&rt, "boot-3.img", &bytes));
-    let ram = launcher.launch(&mut disk, Image::Ram(b"xy"), 12, None, None, None);
+    let ram = launcher.launch(&mut disk, Image::Ram(b"xy"), plain(12));
     assert!(rt; ram == Launched::Done);
     assert!(rt; file_holds(&rt, "boot-12.img", b"xy"));
     assert!(rt; fs::create_dir(&rt, "boot-4.img").is_ok());
-    let failed = launcher.launch(&mut disk, image, 4, None, None, None);
+    let failed = launcher.launch(&mut disk, image, plain(4));
     assert!(rt; failed == Launched::Failed, "a folder");
     assert!(rt; fs::remove_dir(&rt, "boot-4.img").is_ok());
     assert!(rt; fs::remove_file(&rt, "boot-3.img").is_ok());
