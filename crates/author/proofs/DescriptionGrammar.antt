@@ -1,5 +1,5 @@
 -- The manifest of a description is one that the grammar allows, where it fits the types of the code.
-use Rattle.std.proofs.Common.{◌≡◌, ◌≤◌, ℕ, suc, Bool, true, false, List, [], ◌∷◌, length, Option, Some, None, Ok, Ordering, Less, Equal, Greater, is_eq, true≢false, cond, refl, sym, ap, subst, ◌∙◌, arith}
+use Rattle.std.proofs.Common.{◌≡◌, ◌≤◌, ℕ, suc, Bool, true, false, List, [], ◌∷◌, length, Option, Some, None, Ok, Ordering, Less, Equal, Greater, is_eq, true≢false, refl, sym, ap, subst, ◌∙◌, arith}
 use Rattle.std.specs.Prelude.{IfSome, IfNone, codes, nat_le, is_some, unwrap_or}
 use Rattle.std.specs.List.{AllByRecursion}
 use Rattle.std.specs.Str.{bytes_eq}
@@ -28,15 +28,12 @@ use Rattle.suit_manifest.specs.Components.{IsShort, identifier_item}
 use Rattle.suit_manifest.specs.ManifestWriting.{HeldFits, SeveredFits, TextFits, ManifestFits, IsHeldSequence, IsSevered, IsTextMember, IsGrammatical}
 use Rattle.author.specs.declared.fields.Described.{Described}
 use Rattle.author.specs.declared.fields.Fields.{Fields}
-use Rattle.author.specs.declared.field_name.FieldName.{FieldName}
-use Rattle.author.specs.declared.field_name.FieldName.TheVariants as names
 use Rattle.author.specs.Scope.{Scope}
 use Rattle.author.specs.Elements.{items_in}
-use Rattle.author.specs.FieldNames.{field_named}
 use Rattle.author.specs.Identifiers.{identifier_of, identifiers_of}
 use Rattle.author.specs.Making.{apart_member, apart_text, made_manifest}
 use Rattle.author.specs.Members.{is_one_item, text_member_of, described_member}
-use Rattle.author.specs.Descriptions.{capped_count, listed, no_fields, scope_of, takes_known, takes_field, whole, described}
+use Rattle.author.specs.Descriptions.{capped_count, listed, no_fields, scope_of, takes_field, whole, described}
 use Rattle.author.specs.Faults.{AreFewAndApart}
 use Rattle.author.proofs.Counts.{capped_small}
 use Rattle.author.proofs.Grammar.{sequences}
@@ -142,58 +139,31 @@ found_here k d ms e = take_it (slice_cmp nat_cmp (codes "components") k) (get_me
 found_later : (k : List ℕ) (d : Data) (ms : Members) → bytes_eq (codes "components") k ≡ false → get_member (codes "components") (member k d ms) ≡ get_member (codes "components") ms
 found_later k d ms e = pass_by (slice_cmp nat_cmp (codes "components") k) (get_member (codes "components") ms) (Some d) (is_eq-slice_cmp (codes "components") k ∙ e)
 
--- another field, or none
-abbrev IsOther : Option FieldName → Type 0
-IsOther None = Unit {0}
-IsOther (Some names.Components) = ⊥
-IsOther (Some _) = Unit {0}
-
-other_if : (b : Bool) (x y : Option FieldName) → IsOther x → IsOther y → IsOther (cond b x y)
-other_if true x y h k = h
-other_if false x y h k = k
-
-other_than : (b : Bool) (x y : Option FieldName) → b ≡ false → IsOther y → IsOther (cond b x y)
-other_than true x y e k = absurd (true≢false e)
-other_than false x y e k = k
-
-others : (k : List ℕ) → bytes_eq k (codes "components") ≡ false → IsOther (field_named k)
-others k e =
-    other_if (bytes_eq k (codes "sequence")) _ _ tt (other_than (bytes_eq k (codes "components")) _ _ e (other_if (bytes_eq k (codes "reference")) _ _ tt (other_if (bytes_eq k (codes "shared")) _ _ tt
-    (other_if (bytes_eq k (codes "validate")) _ _ tt (other_if (bytes_eq k (codes "load")) _ _ tt (other_if (bytes_eq k (codes "invoke")) _ _ tt (other_if (bytes_eq k (codes "payload-fetch")) _ _ tt
-    (other_if (bytes_eq k (codes "install")) _ _ tt (other_if (bytes_eq k (codes "text")) _ _ tt (other_if (bytes_eq k (codes "sever")) _ _ tt (other_if (bytes_eq k (codes "payloads")) _ _ tt
-    (other_if (bytes_eq k (codes "kid")) _ _ tt tt))))))))))))
-
 -- ---- one more member
 
-other_holds : (t : Fields) (name : Option FieldName) (d : Data) (ms : Members) → IsOther name → Kept t → Awaits ms t → Holds (KeptWith ms) (takes_known t name d)
-other_holds t None d ms other h a = WasFlawed _
-other_holds t (Some names.Components) d ms other h a = absurd other
-other_holds t (Some names.SequenceNumber) d ms other h a = holds_then (KeptWith ms) _ _ (λ x. WasRead _ (h, a))
-other_holds t (Some names.Reference) d ms other h a = holds_then (KeptWith ms) _ _ (λ x. WasRead _ (h, a))
-other_holds t (Some names.Sever) d ms other h a = holds_then (KeptWith ms) _ _ (λ x. WasRead _ (h, a))
-other_holds t (Some names.Payloads) d ms other h a = holds_then (KeptWith ms) _ _ (λ x. WasRead _ (h, a))
-other_holds t (Some names.Kid) d ms other h a = holds_then (KeptWith ms) _ _ (λ x. WasRead _ (h, a))
-other_holds t (Some names.Shared) d ms other h a =
-    holds_bind (Sequence true t.source.scope.count) (KeptWith ms) _ _ (sequences (scope_of t true) levels_allowed d) (λ s g. WasRead _ ((h.0, g, h.2, h.3, h.4, h.5, h.6, h.7), a))
-other_holds t (Some names.Validate) d ms other h a =
-    holds_bind (Sequence false t.source.scope.count) (KeptWith ms) _ _ (sequences (scope_of t false) levels_allowed d) (λ s g. WasRead _ ((h.0, h.1, g, h.3, h.4, h.5, h.6, h.7), a))
-other_holds t (Some names.Load) d ms other h a =
-    holds_bind (Sequence false t.source.scope.count) (KeptWith ms) _ _ (sequences (scope_of t false) levels_allowed d) (λ s g. WasRead _ ((h.0, h.1, h.2, g, h.4, h.5, h.6, h.7), a))
-other_holds t (Some names.Invoke) d ms other h a =
-    holds_bind (Sequence false t.source.scope.count) (KeptWith ms) _ _ (sequences (scope_of t false) levels_allowed d) (λ s g. WasRead _ ((h.0, h.1, h.2, h.3, g, h.5, h.6, h.7), a))
-other_holds t (Some names.PayloadFetch) d ms other h a =
-    holds_bind (IsRead t.source.scope.count) (KeptWith ms) _ _ (member_holds (scope_of t false) d refl) (λ m g. WasRead _ ((h.0, h.1, h.2, h.3, h.4, g, h.6, h.7), a))
-other_holds t (Some names.Install) d ms other h a =
-    holds_bind (IsRead t.source.scope.count) (KeptWith ms) _ _ (member_holds (scope_of t false) d refl) (λ m g. WasRead _ ((h.0, h.1, h.2, h.3, h.4, h.5, g, h.7), a))
-other_holds t (Some names.TextMember) d ms other h a =
-    holds_bind IsReadText (KeptWith ms) _ _ (text_holds d) (λ m g. WasRead _ ((h.0, h.1, h.2, h.3, h.4, h.5, h.6, g), a))
+-- any but `components`
+other_holds : (t : Fields) (k : List ℕ) (d : Data) (ms : Members) → bytes_eq k (codes "components") ≡ false → Kept t → Awaits ms t → Holds (KeptWith ms) (takes_field t k d)
+other_holds t k d ms other h a =
+    holds_choice (KeptWith ms) (bytes_eq k (codes "sequence")) _ _ (λ _. holds_then (KeptWith ms) _ _ (λ x. WasRead _ (h, a))) (λ _.
+    holds_choice (KeptWith ms) (bytes_eq k (codes "components")) _ _ (λ is. absurd (true≢false (sym is ∙ other))) (λ _.
+    holds_choice (KeptWith ms) (bytes_eq k (codes "reference")) _ _ (λ _. holds_then (KeptWith ms) _ _ (λ x. WasRead _ (h, a))) (λ _.
+    holds_choice (KeptWith ms) (bytes_eq k (codes "shared")) _ _ (λ _. holds_bind (Sequence true t.source.scope.count) (KeptWith ms) _ _ (sequences (scope_of t true) levels_allowed d) (λ s g. WasRead _ ((h.0, g, h.2, h.3, h.4, h.5, h.6, h.7), a))) (λ _.
+    holds_choice (KeptWith ms) (bytes_eq k (codes "validate")) _ _ (λ _. holds_bind (Sequence false t.source.scope.count) (KeptWith ms) _ _ (sequences (scope_of t false) levels_allowed d) (λ s g. WasRead _ ((h.0, h.1, g, h.3, h.4, h.5, h.6, h.7), a))) (λ _.
+    holds_choice (KeptWith ms) (bytes_eq k (codes "load")) _ _ (λ _. holds_bind (Sequence false t.source.scope.count) (KeptWith ms) _ _ (sequences (scope_of t false) levels_allowed d) (λ s g. WasRead _ ((h.0, h.1, h.2, g, h.4, h.5, h.6, h.7), a))) (λ _.
+    holds_choice (KeptWith ms) (bytes_eq k (codes "invoke")) _ _ (λ _. holds_bind (Sequence false t.source.scope.count) (KeptWith ms) _ _ (sequences (scope_of t false) levels_allowed d) (λ s g. WasRead _ ((h.0, h.1, h.2, h.3, g, h.5, h.6, h.7), a))) (λ _.
+    holds_choice (KeptWith ms) (bytes_eq k (codes "payload-fetch")) _ _ (λ _. holds_bind (IsRead t.source.scope.count) (KeptWith ms) _ _ (member_holds (scope_of t false) d refl) (λ m g. WasRead _ ((h.0, h.1, h.2, h.3, h.4, g, h.6, h.7), a))) (λ _.
+    holds_choice (KeptWith ms) (bytes_eq k (codes "install")) _ _ (λ _. holds_bind (IsRead t.source.scope.count) (KeptWith ms) _ _ (member_holds (scope_of t false) d refl) (λ m g. WasRead _ ((h.0, h.1, h.2, h.3, h.4, h.5, g, h.7), a))) (λ _.
+    holds_choice (KeptWith ms) (bytes_eq k (codes "text")) _ _ (λ _. holds_bind IsReadText (KeptWith ms) _ _ (text_holds d) (λ m g. WasRead _ ((h.0, h.1, h.2, h.3, h.4, h.5, h.6, g), a))) (λ _.
+    holds_choice (KeptWith ms) (bytes_eq k (codes "sever")) _ _ (λ _. holds_then (KeptWith ms) _ _ (λ x. WasRead _ (h, a))) (λ _.
+    holds_choice (KeptWith ms) (bytes_eq k (codes "payloads")) _ _ (λ _. holds_then (KeptWith ms) _ _ (λ x. WasRead _ (h, a))) (λ _.
+    holds_choice (KeptWith ms) (bytes_eq k (codes "kid")) _ _ (λ _. holds_then (KeptWith ms) _ _ (λ x. WasRead _ (h, a))) (λ _. WasFlawed _)))))))))))))
 
 first_read : (count : ℕ) (o : Option (List (List (List ℕ)))) (d : Data) (found : Option Data) (ids : List (List (List ℕ))) → IfSome o (AreListed count) → IfNone o (count ≡ listed found)
     → found ≡ Some d → AreIdentifiers d ids → AreListed count (unwrap_or o ids)
 first_read count (Some old) d found ids h a is g = h
 first_read count None d found ids h a is g = (g.0, g.1, ap capped_count g.2 ∙ sym (a ∙ ap listed is))
 
-components_hold : (t : Fields) (d : Data) (ms : Members) → KeptWith (member (codes "components") d ms) t → Holds (KeptWith ms) (takes_known t (Some names.Components) d)
+components_hold : (t : Fields) (d : Data) (ms : Members) → KeptWith (member (codes "components") d ms) t → Holds (KeptWith ms) (takes_field t (codes "components") d)
 components_hold t d ms h =
     holds_bind (AreIdentifiers d) (KeptWith ms) _ _ (identifiers_hold d) (λ ids g.
     let first = first_read t.source.scope.count t.components d (get_member (codes "components") (member (codes "components") d ms)) ids h.0.0 h.1 (found_here (codes "components") d ms refl) g in
@@ -215,7 +185,7 @@ step_holds : (b : Bool) (t : Fields) (k : List ℕ) (d : Data) (ms : Members) �
 step_holds true t k d ms e h =
     let is : codes "components" ≡ k = (bytes_eq-Decides (codes "components") k).0 e in
     subst (λ (l : List ℕ). Holds (KeptWith ms) (takes_field t l d)) is (components_hold t d ms (subst (λ (l : List ℕ). KeptWith (member l d ms) t) (sym is) h))
-step_holds false t k d ms e h = other_holds t (field_named k) d ms (others k (turned k e)) h.0 (passed t.components t.source.scope.count k d ms e h.1)
+step_holds false t k d ms e h = other_holds t k d ms (turned k e) h.0 (passed t.components t.source.scope.count k d ms e h.1)
 
 walk : (ms : Members) (t : Fields) → KeptWith ms t → Holds Kept (members_of takes_field t ms)
 walk no_members t h = WasRead t h.0

@@ -1,6 +1,7 @@
 -- The flaws of a description, and its components, do not depend on its files.
 use Rattle.std.proofs.Common.{◌≡◌, ℕ, List, [], Bool, false, true, Option, Some, None, Result, Ok, Err, refl, ap, arith}
 use Rattle.std.specs.Prelude.{is_some, unwrap_or, codes}
+use Rattle.std.specs.Str.{bytes_eq}
 use mathlib.Core.Logic.{∥∥₁_elim}
 use Rattle.serde_json.specs.Data.{Data}
 use Rattle.serde_json.specs.Find.{as_object}
@@ -9,17 +10,14 @@ use Rattle.json_fields.specs.Objects.{required}
 use Rattle.suit_commands.specs.Allowed.{levels_allowed}
 use Rattle.author.specs.declared.fields.Fields.{Fields}
 use Rattle.author.specs.declared.fields.Described.{Described}
-use Rattle.author.specs.declared.field_name.FieldName.{FieldName}
-use Rattle.author.specs.declared.field_name.FieldName.TheVariants as names
 use Rattle.author.specs.declared.payload_fields.PayloadField.{PayloadField}
 use Rattle.author.specs.declared.severing.Severed.{Severed}
 use Rattle.author.specs.declared.scope.Source.{Source}
 use Rattle.author.specs.Members.{described_member}
 use Rattle.author.specs.Payloads.{PayloadsSoFar, source_bytes, payload_of, takes_payload, payloads_of}
 use Rattle.author.specs.Severing.{given_in, severed_of}
-use Rattle.author.specs.FieldNames.{field_named}
 use Rattle.author.specs.Faults.{IsDescription}
-use Rattle.author.specs.Descriptions.{count_in, no_fields, scope_of, field_sequence, takes_known, takes_field, described}
+use Rattle.author.specs.Descriptions.{count_in, no_fields, scope_of, field_sequence, takes_field, described}
 use Rattle.author.proofs.Likes.{Like, BothRead, BothFlawed, Any, like_same, like_any, like_bind, like_then, like_if, like_object}
 use Rattle.author.proofs.SameFlaws.{Files, scope_with}
 use Rattle.author.proofs.SameSequences.{like_sequence}
@@ -61,23 +59,21 @@ module _ (f g : Files) where
     like_commands : (t u : Fields) (shared : Bool) (d : Data) → FieldsLike t u → Like Any (field_sequence t shared d) (field_sequence u shared d)
     like_commands t u shared d h = rw (h.0, h.1) (like_sequence f g shared count levels_allowed d)
 
-    like_known : (t u : Fields) (name : Option FieldName) (d : Data) → FieldsLike t u → Like FieldsLike (takes_known t name d) (takes_known u name d)
-    like_known t u None d h = BothFlawed _
-    like_known t u (Some names.SequenceNumber) d h = like_then FieldsLike _ _ _ (λ n. BothRead _ _ (h.0, h.1, h.2, refl))
-    like_known t u (Some names.Components) d h = like_then FieldsLike _ _ _ (λ ids. BothRead _ _ (h.0, h.1, ap (λ (o : Option (List (List (List ℕ)))). Some (unwrap_or o ids)) h.2, h.3))
-    like_known t u (Some names.Reference) d h = like_then FieldsLike _ _ _ (λ text. BothRead _ _ h)
-    like_known t u (Some names.Shared) d h = like_bind Any FieldsLike _ _ _ _ (like_commands t u true d h) (λ x y e. BothRead _ _ h)
-    like_known t u (Some names.Validate) d h = like_bind Any FieldsLike _ _ _ _ (like_commands t u false d h) (λ x y e. BothRead _ _ h)
-    like_known t u (Some names.Load) d h = like_bind Any FieldsLike _ _ _ _ (like_commands t u false d h) (λ x y e. BothRead _ _ h)
-    like_known t u (Some names.Invoke) d h = like_bind Any FieldsLike _ _ _ _ (like_commands t u false d h) (λ x y e. BothRead _ _ h)
-    like_known t u (Some names.PayloadFetch) d h =
-        like_bind Any FieldsLike (described_member (scope_of t false) d) (described_member (scope_of u false) d) _ _ (rw (h.0, h.1) (like_member count d)) (λ x y e. BothRead _ _ h)
-    like_known t u (Some names.Install) d h =
-        like_bind Any FieldsLike (described_member (scope_of t false) d) (described_member (scope_of u false) d) _ _ (rw (h.0, h.1) (like_member count d)) (λ x y e. BothRead _ _ h)
-    like_known t u (Some names.TextMember) d h = like_then FieldsLike _ _ _ (λ m. BothRead _ _ h)
-    like_known t u (Some names.Sever) d h = like_bind Any FieldsLike (severed_of t.source.given d) (severed_of u.source.given d) _ _ (rw (h.0, h.1) (like_any _)) (λ x y e. BothRead _ _ h)
-    like_known t u (Some names.Payloads) d h = like_bind Any FieldsLike (payloads_of t.source.scope.files d) (payloads_of u.source.scope.files d) _ _ (rw (h.0, h.1) (like_payloads d)) (λ x y e. BothRead _ _ h)
-    like_known t u (Some names.Kid) d h = like_then FieldsLike _ _ _ (λ kid. BothRead _ _ h)
+    like_field : (t u : Fields) (k : List ℕ) (d : Data) → FieldsLike t u → Like FieldsLike (takes_field t k d) (takes_field u k d)
+    like_field t u k d h =
+        like_if FieldsLike (bytes_eq k (codes "sequence")) _ _ _ _ (like_then FieldsLike _ _ _ (λ n. BothRead _ _ (h.0, h.1, h.2, refl))) (
+        like_if FieldsLike (bytes_eq k (codes "components")) _ _ _ _ (like_then FieldsLike _ _ _ (λ ids. BothRead _ _ (h.0, h.1, ap (λ (o : Option (List (List (List ℕ)))). Some (unwrap_or o ids)) h.2, h.3))) (
+        like_if FieldsLike (bytes_eq k (codes "reference")) _ _ _ _ (like_then FieldsLike _ _ _ (λ text. BothRead _ _ h)) (
+        like_if FieldsLike (bytes_eq k (codes "shared")) _ _ _ _ (like_bind Any FieldsLike _ _ _ _ (like_commands t u true d h) (λ x y e. BothRead _ _ h)) (
+        like_if FieldsLike (bytes_eq k (codes "validate")) _ _ _ _ (like_bind Any FieldsLike _ _ _ _ (like_commands t u false d h) (λ x y e. BothRead _ _ h)) (
+        like_if FieldsLike (bytes_eq k (codes "load")) _ _ _ _ (like_bind Any FieldsLike _ _ _ _ (like_commands t u false d h) (λ x y e. BothRead _ _ h)) (
+        like_if FieldsLike (bytes_eq k (codes "invoke")) _ _ _ _ (like_bind Any FieldsLike _ _ _ _ (like_commands t u false d h) (λ x y e. BothRead _ _ h)) (
+        like_if FieldsLike (bytes_eq k (codes "payload-fetch")) _ _ _ _ (like_bind Any FieldsLike (described_member (scope_of t false) d) (described_member (scope_of u false) d) _ _ (rw (h.0, h.1) (like_member count d)) (λ x y e. BothRead _ _ h)) (
+        like_if FieldsLike (bytes_eq k (codes "install")) _ _ _ _ (like_bind Any FieldsLike (described_member (scope_of t false) d) (described_member (scope_of u false) d) _ _ (rw (h.0, h.1) (like_member count d)) (λ x y e. BothRead _ _ h)) (
+        like_if FieldsLike (bytes_eq k (codes "text")) _ _ _ _ (like_then FieldsLike _ _ _ (λ m. BothRead _ _ h)) (
+        like_if FieldsLike (bytes_eq k (codes "sever")) _ _ _ _ (like_bind Any FieldsLike (severed_of t.source.given d) (severed_of u.source.given d) _ _ (rw (h.0, h.1) (like_any _)) (λ x y e. BothRead _ _ h)) (
+        like_if FieldsLike (bytes_eq k (codes "payloads")) _ _ _ _ (like_bind Any FieldsLike (payloads_of t.source.scope.files d) (payloads_of u.source.scope.files d) _ _ (rw (h.0, h.1) (like_payloads d)) (λ x y e. BothRead _ _ h)) (
+        like_if FieldsLike (bytes_eq k (codes "kid")) _ _ _ _ (like_then FieldsLike _ _ _ (λ kid. BothRead _ _ h)) (BothFlawed _)))))))))))))
 
 abbrev pub SameComponents : Described → Described → Type 0
 SameComponents p q = p.manifest.components ≡ q.manifest.components
@@ -86,7 +82,7 @@ pub like_described : (f g : Files) (d : Data) → Like SameComponents (described
 like_described f g d =
     let R : Fields → Fields → Type 0 = FieldsLike f g (count_in d) (given_in d) in
     like_bind R SameComponents _ _ _ _
-    (like_object R takes_field takes_field (λ t u k x h. like_known f g (count_in d) (given_in d) t u (field_named k) x h) d (no_fields f d) (no_fields g d) (refl, refl, refl, refl))
+    (like_object R takes_field takes_field (λ t u k x h. like_field f g (count_in d) (given_in d) t u k x h) d (no_fields f d) (no_fields g d) (refl, refl, refl, refl))
     (λ t u h.
     like_bind (λ x y. x ≡ y) SameComponents (required (codes "components") t.components) (required (codes "components") u.components) _ _
     (rw h.2 (like_same (λ x y. x ≡ y) (λ x. refl) _))

@@ -1,5 +1,6 @@
 -- A description's parts, where its files have these bytes; or the first flaw of its fields.
 use Rattle.std.specs.Prelude.{ℕ, ◌^◌, ◌-◌, nat_lt, Bool, true, false, if◌then◌else◌, List, [], codes, Option, Some, None, unwrap_or, Result, Ok}
+use Rattle.std.specs.Str.{bytes_eq}
 use Rattle.det_cbor.specs.HeadReading.{◌>>=◌}
 use Rattle.serde_json.specs.Data.{Data}
 use Rattle.serde_json.specs.Events.{items_len}
@@ -14,8 +15,6 @@ use Rattle.suit_manifest.specs.declared.manifest.Member.TheVariants as members
 use Rattle.suit_manifest.specs.declared.manifest.TextMember.TheVariants as texts
 use Rattle.author.specs.declared.fields.Described.{Described}
 use Rattle.author.specs.declared.fields.Fields.{Fields}
-use Rattle.author.specs.declared.field_name.FieldName.{FieldName}
-use Rattle.author.specs.declared.field_name.FieldName.TheVariants as names
 use Rattle.author.specs.Scope.{Scope}
 use Rattle.author.specs.Elements.{items_in}
 use Rattle.author.specs.ParamValues.{number_of}
@@ -23,7 +22,6 @@ use Rattle.author.specs.Identifiers.{identifiers_of}
 use Rattle.author.specs.Members.{member_sequence, described_member, text_member_of}
 use Rattle.author.specs.Severing.{none_severed, given_in, severed_of}
 use Rattle.author.specs.Payloads.{payloads_of}
-use Rattle.author.specs.FieldNames.{field_named}
 
 -- how many identifiers are listed. An index has 32 bits.
 abbrev pub capped_count : ℕ → ℕ
@@ -66,35 +64,35 @@ abbrev pub field_sequence : Fields → Bool → Data → Result SequenceTree Fla
 field_sequence t shared d = member_sequence (scope_of t shared) d
 
 -- an object has each key once; of components that stand twice the first would count, as they do above
-abbrev pub takes_known : Fields → Option FieldName → Data → Result Fields Flaw
-takes_known t None d = flawed Field
-takes_known t (Some names.SequenceNumber) d =
-    number_of d >>= λ n. Ok (record t { sequence = Some n })
-takes_known t (Some names.Components) d =
-    identifiers_of d >>= λ ids. Ok (record t { components = Some (unwrap_or t.components ids) })
-takes_known t (Some names.Reference) d =
-    text_of d >>= λ text. Ok (record t { reference = Some text })
-takes_known t (Some names.Shared) d =
-    field_sequence t true d >>= λ s. Ok (record t { shared = Some s })
-takes_known t (Some names.Validate) d =
-    field_sequence t false d >>= λ s. Ok (record t { validate = Some s })
-takes_known t (Some names.Load) d =
-    field_sequence t false d >>= λ s. Ok (record t { load = Some s })
-takes_known t (Some names.Invoke) d =
-    field_sequence t false d >>= λ s. Ok (record t { invoke = Some s })
-takes_known t (Some names.PayloadFetch) d =
-    described_member (scope_of t false) d >>= λ m. Ok (record t { payload_fetch = m })
-takes_known t (Some names.Install) d =
-    described_member (scope_of t false) d >>= λ m. Ok (record t { install = m })
-takes_known t (Some names.TextMember) d = text_member_of d >>= λ m. Ok (record t { text = m })
-takes_known t (Some names.Sever) d =
-    severed_of t.source.given d >>= λ s. Ok (record t { severed = s })
-takes_known t (Some names.Payloads) d =
-    payloads_of t.source.scope.files d >>= λ ps. Ok (record t { payloads = ps })
-takes_known t (Some names.Kid) d = hex_of d >>= λ kid. Ok (record t { kid = Some kid })
-
 abbrev pub takes_field : Takes Fields
-takes_field t key d = takes_known t (field_named key) d
+takes_field t key d =
+    if bytes_eq key (codes "sequence")
+    then (number_of d >>= λ n. Ok (record t { sequence = Some n }))
+    else if bytes_eq key (codes "components")
+    then
+    (identifiers_of d
+    >>= λ ids. Ok (record t { components = Some (unwrap_or t.components ids) }))
+    else if bytes_eq key (codes "reference")
+    then (text_of d >>= λ text. Ok (record t { reference = Some text }))
+    else if bytes_eq key (codes "shared")
+    then (field_sequence t true d >>= λ s. Ok (record t { shared = Some s }))
+    else if bytes_eq key (codes "validate")
+    then (field_sequence t false d >>= λ s. Ok (record t { validate = Some s }))
+    else if bytes_eq key (codes "load")
+    then (field_sequence t false d >>= λ s. Ok (record t { load = Some s }))
+    else if bytes_eq key (codes "invoke")
+    then (field_sequence t false d >>= λ s. Ok (record t { invoke = Some s }))
+    else if bytes_eq key (codes "payload-fetch")
+    then (described_member (scope_of t false) d >>= λ m. Ok (record t { payload_fetch = m }))
+    else if bytes_eq key (codes "install")
+    then (described_member (scope_of t false) d >>= λ m. Ok (record t { install = m }))
+    else if bytes_eq key (codes "text") then (text_member_of d >>= λ m. Ok (record t { text = m }))
+    else if bytes_eq key (codes "sever")
+    then (severed_of t.source.given d >>= λ s. Ok (record t { severed = s }))
+    else if bytes_eq key (codes "payloads")
+    then (payloads_of t.source.scope.files d >>= λ ps. Ok (record t { payloads = ps }))
+    else if bytes_eq key (codes "kid") then (hex_of d >>= λ kid. Ok (record t { kid = Some kid }))
+    else flawed Field
 
 abbrev pub whole : Fields → List (List (List ℕ)) → ℕ → Described
 whole t ids n = record {

@@ -11,7 +11,6 @@ pub mod Identifiers
 pub mod Members
 pub mod Severing
 pub mod Payloads
-pub mod FieldNames
 pub mod Descriptions
 pub mod Alike
 pub mod FileNames

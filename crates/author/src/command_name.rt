@@ -24,25 +24,26 @@ pub(crate) enum CommandName {
 fn command_named(name: &str) -> Option<CommandName>
     ensures { result ≡ command_named name.now }
 {
-    match name {
-        "vendor" => Some(CommandName::Test(TestKind::Vendor)),
-        "class" => Some(CommandName::Test(TestKind::Class)),
-        "match" => Some(CommandName::Test(TestKind::ImageMatch)),
-        "slot" => Some(CommandName::Test(TestKind::Slot)),
-        "content" => Some(CommandName::Test(TestKind::CheckContent)),
-        "abort" => Some(CommandName::Test(TestKind::Abort)),
-        "device" => Some(CommandName::Test(TestKind::Device)),
-        "write" => Some(CommandName::Act(ActKind::Write)),
-        "fetch" => Some(CommandName::Act(ActKind::Fetch)),
-        "copy" => Some(CommandName::Act(ActKind::Copy)),
-        "invoke" => Some(CommandName::Act(ActKind::Invoke)),
-        "swap" => Some(CommandName::Act(ActKind::Swap)),
-        "index" => Some(CommandName::Index),
-        "set" => Some(CommandName::Set),
-        "try" => Some(CommandName::Try),
-        "run" => Some(CommandName::Run),
-        _ => None,
-    }
+    let command = match name {
+        "vendor" => CommandName::Test(TestKind::Vendor),
+        "class" => CommandName::Test(TestKind::Class),
+        "match" => CommandName::Test(TestKind::ImageMatch),
+        "slot" => CommandName::Test(TestKind::Slot),
+        "content" => CommandName::Test(TestKind::CheckContent),
+        "abort" => CommandName::Test(TestKind::Abort),
+        "device" => CommandName::Test(TestKind::Device),
+        "write" => CommandName::Act(ActKind::Write),
+        "fetch" => CommandName::Act(ActKind::Fetch),
+        "copy" => CommandName::Act(ActKind::Copy),
+        "invoke" => CommandName::Act(ActKind::Invoke),
+        "swap" => CommandName::Act(ActKind::Swap),
+        "index" => CommandName::Index,
+        "set" => CommandName::Set,
+        "try" => CommandName::Try,
+        "run" => CommandName::Run,
+        _ => return None,
+    };
+    Some(command)
 }
 
 /// The command that a value names, in the shared sequence or another one.

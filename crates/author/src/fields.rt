@@ -8,7 +8,6 @@ ghost use Rattle.author.specs.Descriptions.{count_in, no_fields, scope_of, field
 use crate::FileList;
 use crate::commands::sequence;
 use crate::elements::elements;
-use crate::field_name::{FieldName, field_named};
 use crate::identifiers::identifiers;
 use crate::member_fields::{member, text_member};
 use crate::param_fields::whole;
@@ -67,32 +66,26 @@ impl Draft for Fields<'_> {
     ghost takes = { takes_field };
 
     fn take(&mut self, alloc: Global, key: &str, value: &Value) -> Result<(), JsonFault> {
-        let Some(name) = field_named(key) else {
-            return flawed(alloc, FlawKind::Field);
-        };
-        match name {
-            FieldName::SequenceNumber => self.sequence = Some(whole(alloc, value)?),
-            FieldName::Components => {
+        match key {
+            "sequence" => self.sequence = Some(whole(alloc, value)?),
+            "components" => {
                 self.components.get_or_insert(identifiers(alloc, value)?);
             }
-            FieldName::Reference => self.reference = Some(text(alloc, value)?),
-            FieldName::Shared => self.shared = Some(self.commands(alloc, value, true)?),
-            FieldName::Validate => self.validate = Some(self.commands(alloc, value, false)?),
-            FieldName::Load => self.load = Some(self.commands(alloc, value, false)?),
-            FieldName::Invoke => self.invoke = Some(self.commands(alloc, value, false)?),
-            FieldName::PayloadFetch => self.payload_fetch = member(
-                alloc,
-                value,
-                &self.scope(false),
-            )?,
-            FieldName::Install => self.install = member(alloc, value, &self.scope(false))?,
-            FieldName::TextMember => self.text = text_member(alloc, value)?,
-            FieldName::Sever => self.severed = severed_members(alloc, value, self.source.given)?,
-            FieldName::Payloads => {
+            "reference" => self.reference = Some(text(alloc, value)?),
+            "shared" => self.shared = Some(self.commands(alloc, value, true)?),
+            "validate" => self.validate = Some(self.commands(alloc, value, false)?),
+            "load" => self.load = Some(self.commands(alloc, value, false)?),
+            "invoke" => self.invoke = Some(self.commands(alloc, value, false)?),
+            "payload-fetch" => self.payload_fetch = member(alloc, value, &self.scope(false))?,
+            "install" => self.install = member(alloc, value, &self.scope(false))?,
+            "text" => self.text = text_member(alloc, value)?,
+            "sever" => self.severed = severed_members(alloc, value, self.source.given)?,
+            "payloads" => {
                 let list = payloads(alloc, value, self.source.scope.files)?;
                 let _none_yet = mem::replace(&mut self.payloads, list);
             }
-            FieldName::Kid => self.kid = Some(hex(alloc, value)?),
+            "kid" => self.kid = Some(hex(alloc, value)?),
+            _ => return flawed(alloc, FlawKind::Field),
         }
         Ok(())
     }

@@ -7,7 +7,6 @@ mod commands;
 mod describing;
 mod elements;
 mod fault;
-mod field_name;
 mod fields;
 mod file_list;
 mod file_names;

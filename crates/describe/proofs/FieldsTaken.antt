@@ -23,7 +23,7 @@ use Rattle.author.specs.Severing.{none_severed, severed_from}
 use Rattle.describe.specs.declared.severing.Severed.{Severed}
 use Rattle.describe.specs.ValueData.{number_data, identifiers_data}
 use Rattle.describe.specs.CommandData.{sequence_data, sequence_if}
-use Rattle.describe.specs.MemberData.{member_data, text_data}
+use Rattle.describe.specs.MemberData.{digest_data, member_data, text_data}
 use Rattle.describe.specs.SeverData.{severed_names, sever_data}
 use Rattle.describe.specs.PayloadData.{payloads_data}
 use Rattle.describe.specs.Describing.{Field}
@@ -120,9 +120,9 @@ TakesMember key set =
 
 member_taken : (key : List ℕ) (set : Fields → Member → Fields) → ((t : Fields) (d : Data) → takes_field t key d ≡ (described_member (scope_of t false) d >>= λ m. Ok (set t m))) → TakesMember key set
 member_taken key set takes t members.Empty apart empty small h = empty
-member_taken key set takes t (members.Here s) apart empty small h = takes t _ ∙ rw (here_read (scope_of t false) s small h) refl
-member_taken key set takes t (members.Apart digest) (Some s) empty small h = takes t _ ∙ rw (here_read (scope_of t false) s small h) refl
-member_taken key set takes t (members.Apart digest) None empty small h = takes t _ ∙ rw (apart_read (scope_of t false) digest.bytes h.0 h.1) refl
+member_taken key set takes t (members.Here s) apart empty small h = takes t (sequence_data s) ∙ rw (here_read (scope_of t false) s small h) refl
+member_taken key set takes t (members.Apart digest) (Some s) empty small h = takes t (sequence_data s) ∙ rw (here_read (scope_of t false) s small h) refl
+member_taken key set takes t (members.Apart digest) None empty small h = takes t (digest_data digest.bytes) ∙ rw (apart_read (scope_of t false) digest.bytes h.0 h.1) refl
 
 pub install_taken : TakesMember (codes "install") (λ t m. record t { install = m })
 install_taken = member_taken (codes "install") (λ t m. record t { install = m }) (λ t d. refl)

@@ -16,54 +16,22 @@ fn command_name(command: &Command) -> &'static str
     ensures { result.now ≡ command_name (command_tree command.now) }
 {
     match command {
-        Command::Test {
-            kind: TestKind::Vendor,
-            ..
-        } => "vendor",
-        Command::Test {
-            kind: TestKind::Class,
-            ..
-        } => "class",
-        Command::Test {
-            kind: TestKind::Device,
-            ..
-        } => "device",
-        Command::Test {
-            kind: TestKind::Slot,
-            ..
-        } => "slot",
-        Command::Test {
-            kind: TestKind::ImageMatch,
-            ..
-        } => "match",
-        Command::Test {
-            kind: TestKind::CheckContent,
-            ..
-        } => "content",
-        Command::Test {
-            kind: TestKind::Abort,
-            ..
-        } => "abort",
-        Command::Act {
-            kind: ActKind::Write,
-            ..
-        } => "write",
-        Command::Act {
-            kind: ActKind::Fetch,
-            ..
-        } => "fetch",
-        Command::Act {
-            kind: ActKind::Copy,
-            ..
-        } => "copy",
-        Command::Act {
-            kind: ActKind::Invoke,
-            ..
-        } => "invoke",
-        Command::Act {
-            kind: ActKind::Swap,
-            ..
-        } => "swap",
+        Command::Test { kind, .. } => match kind {
+            TestKind::Vendor => "vendor",
+            TestKind::Class => "class",
+            TestKind::Device => "device",
+            TestKind::Slot => "slot",
+            TestKind::ImageMatch => "match",
+            TestKind::CheckContent => "content",
+            TestKind::Abort => "abort",
+        },
+        Command::Act { kind, .. } => match kind {
+            ActKind::Write => "write",
+            ActKind::Fetch => "fetch",
+            ActKind::Copy => "copy",
+            ActKind::Invoke => "invoke",
+            ActKind::Swap => "swap",
+        },
         Command::Index(_) => "index",
         Command::Override(_) => "set",
         Command::TryEach(_) => "try",

@@ -1,11 +1,10 @@
 //! The members that stand apart from their manifest and are in its envelope.
 
-ghost use Rattle.std.specs.Prelude.{◌≡◌, ◌<◌, ◌^◌, length, IfOk, IfErr, option_map};
-ghost use Rattle.suit_envelope.specs.Places.{MembersEndBelow};
+ghost use Rattle.std.specs.Prelude.{◌≡◌, IfOk, IfErr, option_map};
 ghost use Rattle.suit_envelope.specs.Said.{said_by};
 ghost use Rattle.suit_manifest.specs.declared.manifest.Members.{Members};
 ghost use Rattle.suit_manifest.specs.declared.members.MemberFault.{MemberFault};
-ghost use Rattle.suit_manifest.specs.MembersApart.{HasMembers, LacksMembers, IsLackBy, IsTakenAs, IsLackedAs};
+ghost use Rattle.suit_manifest.specs.MembersApart.{CanTakeMembers, HasMembers, LacksMembers, IsLackBy, IsTakenAs, IsLackedAs};
 ghost use Rattle.describe.specs.Again.{AreThere};
 ghost use Rattle.describe.specs.MembersThere.{if_held, only_there};
 
@@ -59,8 +58,7 @@ pub fn members_there(
     envelope: &Envelope<'_>,
     manifest: &Manifest,
 ) -> Result<Members, MemberFault>
-    requires few { length manifest.now.components < 2 ^ 32 }
-    requires places { MembersEndBelow (2 ^ 64) (said_by envelope.now) }
+    requires { CanTakeMembers (said_by envelope.now) manifest.now }
     ensures ok { IfOk result
         (HasMembers (said_by envelope.now) (only_there (said_by envelope.now) manifest.now)) }
     ensures refused { IfErr result (IsLackBy

@@ -17,14 +17,12 @@ use Rattle.flash_layout.specs.declared.frame.TheConstants.{VERSION_1}
 use Rattle.flash_layout.specs.declared.layout.Entry.{Entry}
 use Rattle.flash_layout.specs.declared.layout.Memory.{Memory}
 use Rattle.flash_layout.specs.declared.layout.Memory.TheVariants as memory
-use Rattle.flash_layout.specs.declared.component_name.ComponentName.{ComponentName}
-use Rattle.flash_layout.specs.declared.component_name.ComponentName.TheVariants as names
 use Rattle.flash_layout.specs.declared.component_fields.ComponentFields.{ComponentFields}
 use Rattle.flash_layout.specs.declared.device_fields.DeviceFields.{DeviceFields}
 use Rattle.flash_layout.specs.declared.starts.Starts.{Starts}
 use Rattle.suit_params.specs.Identifiers.{spelled_id}
 use Rattle.flash_layout.specs.Layouts.{IsInRam, IsOfMemory, IsLayout}
-use Rattle.flash_layout.specs.ComponentFields.{component_named, short_id, id_of, capacity_limit, some_capacity, capacity_of, no_starts, one_or_two, flash_starts, starts_of, no_component, memory_said, takes_known, takes_component, starts_in, entry_with, whole, component_of}
+use Rattle.flash_layout.specs.ComponentFields.{short_id, id_of, capacity_limit, some_capacity, capacity_of, no_starts, one_or_two, flash_starts, starts_of, no_component, memory_said, takes_component, starts_in, entry_with, whole, component_of}
 use Rattle.flash_layout.specs.Devices.{some_components, components_of, takes_device, described_layout}
 use Rattle.flash_layout.specs.Overlaps.{IsClearItself, LiesInside}
 use Rattle.flash_layout.specs.LayoutFaults.{AreHeld}
@@ -98,37 +96,46 @@ starts_is (Some memory.Ram) d s e = absurd (err_not_ok _ s e)
 
 -- ---- the fields so far
 
-pub record AreSound (said : Option Memory) (t : ComponentFields) : Type 0 where
-  pub same : t.memory ≡ said
-  pub capacity : IfSome t.capacity (IsCapacity said)
-  pub id : IfSome t.id IsShortId
-  pub slots : IfSome t.slots AreStarts
+pub record AreParts (said has : Option Memory) (most : Option ℕ) (names : Option (List (List ℕ))) (starts : Option Starts) : Type 0 where
+  pub same : has ≡ said
+  pub capacity : IfSome most (IsCapacity said)
+  pub id : IfSome names IsShortId
+  pub slots : IfSome starts AreStarts
 
-module _ (said : Option Memory) where
-  known_kept : (t u : ComponentFields) (name : Option ComponentName) (d : Data) → AreSound said t → takes_known t name d ≡ Ok u → AreSound said u
-  known_kept t u None d h e = absurd (err_not_ok _ u e)
-  known_kept t u (Some names.Capacity) d h e =
-      let p = bind_ok (capacity_of t.memory d) (λ n. Ok (record t { capacity = Some n })) u e in
-      let is : IsCapacity said p.0 = capacity_is said d p.0 (subst (λ m. capacity_of m d ≡ Ok p.0) h.same p.1) in
-      subst (AreSound said) (ok_same (record t { capacity = Some p.0 }) u p.2) (record { same = h.same; capacity = is; id = h.id; slots = h.slots })
-  known_kept t u (Some names.Class) d h e =
-      let p = bind_ok (uuid_of d) (λ id. Ok (record t { class = Some id })) u e in
-      subst (AreSound said) (ok_same (record t { class = Some p.0 }) u p.2) (record { same = h.same; capacity = h.capacity; id = h.id; slots = h.slots })
-  known_kept t u (Some names.Device) d h e =
-      let p = bind_ok (uuid_of d) (λ id. Ok (record t { device = Some id })) u e in
-      subst (AreSound said) (ok_same (record t { device = Some p.0 }) u p.2) (record { same = h.same; capacity = h.capacity; id = h.id; slots = h.slots })
-  known_kept t u (Some names.Id) d h e =
-      let p = bind_ok (id_of d) (λ id. Ok (record t { id = Some id })) u e in
-      subst (AreSound said) (ok_same (record t { id = Some p.0 }) u p.2) (record { same = h.same; capacity = h.capacity; id = id_is d p.0 p.1; slots = h.slots })
-  known_kept t u (Some names.Kind) d h e =
-      let p = bind_ok (found_or Field t.memory) (λ kind. Ok t) u e in
-      subst (AreSound said) (ok_same t u p.2) h
-  known_kept t u (Some names.Slots) d h e =
-      let p = bind_ok (starts_of t.memory d) (λ starts. Ok (record t { slots = Some starts })) u e in
-      subst (AreSound said) (ok_same (record t { slots = Some p.0 }) u p.2) (record { same = h.same; capacity = h.capacity; id = h.id; slots = starts_is t.memory d p.0 p.1 })
-  known_kept t u (Some names.Vendor) d h e =
-      let p = bind_ok (uuid_of d) (λ id. Ok (record t { vendor = Some id })) u e in
-      subst (AreSound said) (ok_same (record t { vendor = Some p.0 }) u p.2) (record { same = h.same; capacity = h.capacity; id = h.id; slots = h.slots })
+abbrev pub AreSound : Option Memory → ComponentFields → Type 0
+AreSound said t = AreParts said t.memory t.capacity t.id t.slots
+
+-- one of two ways to read
+either_kept : {A : Type 0} (P : A → Type 0) (b : Bool) (read other : Result A Flaw) → ((u : A) → read ≡ Ok u → P u) → ((u : A) → other ≡ Ok u → P u) → (u : A) → (if b then read else other) ≡ Ok u → P u
+either_kept P true read other one two u e = one u e
+either_kept P false read other one two u e = two u e
+
+-- a value that is read and then set
+set_kept : {A D : Type 0} (P : D → Type 0) (read : Result A Flaw) (set : A → D) → ((x : A) → read ≡ Ok x → P (set x)) → (u : D) → (read >>= λ x. Ok (set x)) ≡ Ok u → P u
+set_kept P read set each u e =
+    let p = bind_ok read (λ x. Ok (set x)) u e in
+    subst P (ok_same (set p.0) u p.2) (each p.0 p.1)
+
+none_kept : {A : Type 0} (P : A → Type 0) (u : A) → flawed_at ≡ Ok u → P u
+none_kept P u e = absurd (err_not_ok _ u e)
+
+component_kept : (said : Option Memory) (t u : ComponentFields) (key : List ℕ) (d : Data) → AreSound said t → takes_component t key d ≡ Ok u → AreSound said u
+component_kept said t u key d h e =
+    let P : ComponentFields → Type 0 = AreSound said in
+    let by_uuid : (set : List ℕ → ComponentFields) → ((x : List ℕ) → P (set x)) → (v : ComponentFields) → (uuid_of d >>= λ x. Ok (set x)) ≡ Ok v → P v =
+    λ set each. set_kept P (uuid_of d) set (λ x _. each x) in
+    either_kept P (bytes_eq key (codes "capacity")) _ _
+    (set_kept P (capacity_of t.memory d) (λ n. record t { capacity = Some n })
+    (λ n is. record { same = h.same; capacity = capacity_is said d n (subst (λ m. capacity_of m d ≡ Ok n) h.same is); id = h.id; slots = h.slots }))
+    (either_kept P (bytes_eq key (codes "class")) _ _ (by_uuid (λ x. record t { class = Some x }) (λ x. h))
+    (either_kept P (bytes_eq key (codes "device")) _ _ (by_uuid (λ x. record t { device = Some x }) (λ x. h))
+    (either_kept P (bytes_eq key (codes "id")) _ _
+    (set_kept P (id_of d) (λ id. record t { id = Some id }) (λ id is. record { same = h.same; capacity = h.capacity; id = id_is d id is; slots = h.slots }))
+    (either_kept P (bytes_eq key (codes "kind")) _ _ (set_kept P (found_or Field t.memory) (λ kind. t) (λ kind is. h))
+    (either_kept P (bytes_eq key (codes "slots")) _ _
+    (set_kept P (starts_of t.memory d) (λ s. record t { slots = Some s }) (λ s is. record { same = h.same; capacity = h.capacity; id = h.id; slots = starts_is t.memory d s is }))
+    (either_kept P (bytes_eq key (codes "vendor")) _ _ (by_uuid (λ x. record t { vendor = Some x }) (λ x. h)) (none_kept P)))))))
+    u e
 
 -- ---- components
 
@@ -182,7 +189,7 @@ component_is d e is =
     let said = memory_said d in
     let p = bind_ok (object_of takes_component (no_component said) d) (λ t. whole t) e is in
     let start : AreSound said (no_component said) = record { same = refl; capacity = tt; id = tt; slots = tt } in
-    let sound = object_kept (AreSound said) takes_component (λ t u key x. known_kept said t u (component_named key) x) d (no_component said) p.0 start p.1 in
+    let sound = object_kept (AreSound said) takes_component (λ t u key x. component_kept said t u key x) d (no_component said) p.0 start p.1 in
     whole_is said p.0 e sound p.2
 
 -- ---- devices
@@ -200,16 +207,15 @@ components_are d layout e =
 abbrev AreRead : DeviceFields → Type 0
 AreRead t = IfSome t.components AreWhole
 
-takes_kept : (t u : DeviceFields) (b : Bool) (d : Data) → (if b then (components_of d >>= λ entries. Ok (record t { components = Some entries })) else flawed_at) ≡ Ok u → AreRead u
-takes_kept t u true d e =
-    let p = bind_ok (components_of d) (λ entries. Ok (record t { components = Some entries })) u e in
-    subst AreRead (ok_same (record t { components = Some p.0 }) u p.2) (components_are d p.0 p.1)
-takes_kept t u false d e = absurd (err_not_ok _ u e)
+takes_kept : (t u : DeviceFields) (key : List ℕ) (d : Data) → AreRead t → takes_device t key d ≡ Ok u → AreRead u
+takes_kept t u key d h e =
+    either_kept AreRead (bytes_eq key (codes "components")) _ _
+    (set_kept AreRead (components_of d) (λ entries. record t { components = Some entries }) (λ entries is. components_are d entries is)) (none_kept AreRead) u e
 
 pub described_whole : (d : Data) (layout : List Entry) → described_layout d ≡ Ok layout → AreWhole layout
 described_whole d layout e =
     let p = bind_ok (object_of takes_device (record { components = None }) d) (λ t. required (codes "components") t.components) layout e in
-    let read = object_kept AreRead takes_device (λ t u key x h is. takes_kept t u (bytes_eq key (codes "components")) x is) d (record { components = None }) p.0 tt p.1 in
+    let read = object_kept AreRead takes_device takes_kept d (record { components = None }) p.0 tt p.1 in
     if_some AreWhole p.0.components layout (required_ok (codes "components") p.0.components layout p.2) read
 
 formed_few : (e : Entry) (m : Memory) → IsFormed e m → e.slots ≤ 2

@@ -58,18 +58,18 @@ slot_kept a b c size starts k law lt so_far kept =
 
 -- ---- one component more
 
-pub entry_kept : (a b c : Flash) (size : ℕ) (entries : List Entry) (starts : List ℕ) (k : ℕ) (e d : Entry) → IsFlash b size → k < length entries → e ≡ get_or entries k d → starts ≡ slot_starts e
-    → Keeps (OutsideAllLengths entries) a b → Keeps (OutsideLengths starts) b c → Keeps (OutsideAllLengths entries) a c
-entry_kept a b c size entries starts k e d law lt is there so_far kept =
+pub entry_kept : (a b c : Flash) (size : ℕ) (entries : List Entry) (k : ℕ) (e d : Entry) → IsFlash b size → k < length entries → e ≡ get_or entries k d
+    → Keeps (OutsideAllLengths entries) a b → Keeps (OutsideLengths (slot_starts e)) b c → Keeps (OutsideAllLengths entries) a c
+entry_kept a b c size entries k e d law lt is so_far kept =
     keeps_then (OutsideAllLengths entries) a b c size law so_far
-    (keeps_fewer (OutsideAllLengths entries) (OutsideLengths starts)
-    (λ i out. subst (λ (l : List ℕ). OutsideLengths l i) (sym there) (subst (λ (x : Entry). OutsideLengths (slot_starts x) i) (sym is) (All-get_or (λ (x : Entry). OutsideLengths (slot_starts x) i) entries k d lt out))) b c kept)
+    (keeps_fewer (OutsideAllLengths entries) (OutsideLengths (slot_starts e))
+    (λ i out. subst (λ (x : Entry). OutsideLengths (slot_starts x) i) (sym is) (All-get_or (λ (x : Entry). OutsideLengths (slot_starts x) i) entries k d lt out)) b c kept)
 
-pub entry_clear : (old new : List ℕ) (entries : List Entry) (starts : List ℕ) (k : ℕ) (e d : Entry) → k < length entries → e ≡ get_or entries k d → starts ≡ slot_starts e
-    → KeepsZeros old new → All (IsClearAt new) starts → ((j : ℕ) (x : Entry) → j < k → All (IsClearAt old) (slot_starts (get_or entries j x)))
+pub entry_clear : (old new : List ℕ) (entries : List Entry) (k : ℕ) (e d : Entry) → k < length entries → e ≡ get_or entries k d
+    → KeepsZeros old new → All (IsClearAt new) (slot_starts e) → ((j : ℕ) (x : Entry) → j < k → All (IsClearAt old) (slot_starts (get_or entries j x)))
     → (j : ℕ) (x : Entry) → j < k + 1 → All (IsClearAt new) (slot_starts (get_or entries j x))
-entry_clear old new entries starts k e d lt is there zeros last before j x below =
+entry_clear old new entries k e d lt is zeros last before j x below =
     below_more (λ (m : ℕ). All (IsClearAt new) (slot_starts (get_or entries m x))) k
     (λ m early. All-weaker (IsClearAt old) (IsClearAt new) (λ p. clear_keeps old new p zeros) (slot_starts (get_or entries m x)) (before m x early))
-    (subst (λ (y : Entry). All (IsClearAt new) (slot_starts y)) (is ∙ other_default entries k d x lt) (subst (All (IsClearAt new)) there last))
+    (subst (λ (y : Entry). All (IsClearAt new) (slot_starts y)) (is ∙ other_default entries k d x lt) last)
     j below

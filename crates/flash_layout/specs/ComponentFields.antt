@@ -14,24 +14,11 @@ use Rattle.flash_layout.specs.declared.rules.TheConstants.{MAX_RAM}
 use Rattle.flash_layout.specs.declared.layout.Entry.{Entry}
 use Rattle.flash_layout.specs.declared.layout.Memory.{Memory}
 use Rattle.flash_layout.specs.declared.layout.Memory.TheVariants as memory
-use Rattle.flash_layout.specs.declared.component_name.ComponentName.{ComponentName}
-use Rattle.flash_layout.specs.declared.component_name.ComponentName.TheVariants as names
 use Rattle.flash_layout.specs.declared.component_fields.ComponentFields.{ComponentFields}
 use Rattle.flash_layout.specs.declared.starts.Starts.{Starts}
 use Rattle.suit_params.specs.Identifiers.{spelled_id}
 
 -- ---- names
-
-abbrev pub component_named : List ℕ → Option ComponentName
-component_named name =
-    if bytes_eq name (codes "capacity") then Some names.Capacity
-    else if bytes_eq name (codes "class") then Some names.Class
-    else if bytes_eq name (codes "device") then Some names.Device
-    else if bytes_eq name (codes "id") then Some names.Id
-    else if bytes_eq name (codes "kind") then Some names.Kind
-    else if bytes_eq name (codes "slots") then Some names.Slots
-    else if bytes_eq name (codes "vendor") then Some names.Vendor
-    else None
 
 abbrev pub memory_named : List ℕ → Option Memory
 memory_named name =
@@ -97,20 +84,22 @@ no_component said = record {
   vendor = None;
 }
 
-abbrev pub takes_known : ComponentFields → Option ComponentName → Data → Result ComponentFields Flaw
-takes_known t None d = flawed Field
-takes_known t (Some names.Capacity) d =
-    capacity_of t.memory d >>= λ n. Ok (record t { capacity = Some n })
-takes_known t (Some names.Class) d = uuid_of d >>= λ id. Ok (record t { class = Some id })
-takes_known t (Some names.Device) d = uuid_of d >>= λ id. Ok (record t { device = Some id })
-takes_known t (Some names.Id) d = id_of d >>= λ id. Ok (record t { id = Some id })
-takes_known t (Some names.Kind) d = found_or Field t.memory >>= λ said. Ok t
-takes_known t (Some names.Slots) d =
-    starts_of t.memory d >>= λ starts. Ok (record t { slots = Some starts })
-takes_known t (Some names.Vendor) d = uuid_of d >>= λ id. Ok (record t { vendor = Some id })
-
+-- a member by its key
 abbrev pub takes_component : Takes ComponentFields
-takes_component t key d = takes_known t (component_named key) d
+takes_component t key d =
+    if bytes_eq key (codes "capacity")
+    then (capacity_of t.memory d >>= λ n. Ok (record t { capacity = Some n }))
+    else if bytes_eq key (codes "class")
+    then (uuid_of d >>= λ id. Ok (record t { class = Some id }))
+    else if bytes_eq key (codes "device")
+    then (uuid_of d >>= λ id. Ok (record t { device = Some id }))
+    else if bytes_eq key (codes "id") then (id_of d >>= λ id. Ok (record t { id = Some id }))
+    else if bytes_eq key (codes "kind") then (found_or Field t.memory >>= λ said. Ok t)
+    else if bytes_eq key (codes "slots")
+    then (starts_of t.memory d >>= λ starts. Ok (record t { slots = Some starts }))
+    else if bytes_eq key (codes "vendor")
+    then (uuid_of d >>= λ id. Ok (record t { vendor = Some id }))
+    else flawed Field
 
 -- flash has to have slots
 abbrev pub starts_in : Memory → Option Starts → Result Starts Flaw

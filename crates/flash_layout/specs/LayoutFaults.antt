@@ -1,13 +1,11 @@
 -- Refusals of a device's description: the first flaw of its fields; and after all fields too many components,
 -- two that are alike, two that share a byte, and one outside the flash.
-use Rattle.std.specs.Prelude.{◌≡◌, ◌⊎◌, ◌<◌, ◌≤◌, ℕ, List, length, Result, Ok, Err}
+use Rattle.std.specs.Prelude.{◌≡◌, ◌<◌, ◌≤◌, ℕ, List, length, Result, Ok, Err}
 use Rattle.serde_json.specs.Data.{Data}
 use Rattle.json_fields.specs.declared.flaw.Flaw.{Flaw}
 use Rattle.json_fields.specs.declared.flaw.FlawKind.{FlawKind}
-use Rattle.json_fields.specs.declared.flaw.FlawKind.TheVariants as kinds
 use Rattle.json_fields.specs.declared.flaw.JsonFault.{JsonFault}
-use Rattle.json_fields.specs.declared.flaw.JsonFault.TheVariants.{Flawed}
-use Rattle.json_fields.specs.declared.flaw.JsonFault.TheVariants as faults
+use Rattle.json_fields.specs.Telling.{by_kind, told, IsAcceptedBut, IsRefusedBut}
 use Rattle.flash_layout.specs.declared.layout.Entry.{Entry}
 use Rattle.flash_layout.specs.declared.layout_fault.LayoutFault.{LayoutFault}
 use Rattle.flash_layout.specs.declared.layout_fault.LayoutFault.TheVariants.{BadField, BadHex, BadUuid, TooMany, TwoAlike, Overlap, Outside, NoMemory}
@@ -15,16 +13,13 @@ use Rattle.flash_layout.specs.Devices.{described_layout}
 use Rattle.flash_layout.specs.Overlaps.{IsFirstAlike, HaveNoneAlike, IsFirstOverlap, HaveNoOverlap, IsFirstOutside, AreInside}
 
 abbrev pub fault_at : FlawKind → List ℕ → LayoutFault
-fault_at kinds.Field pointer = BadField pointer
-fault_at kinds.Hex pointer = BadHex pointer
-fault_at kinds.Uuid pointer = BadUuid pointer
+fault_at kind pointer = by_kind BadField BadHex BadUuid kind pointer
 
 abbrev pub fault_of : Flaw → LayoutFault
 fault_of f = fault_at f.kind f.pointer
 
 abbrev pub fault_told : JsonFault → LayoutFault
-fault_told (Flawed f) = fault_of f
-fault_told faults.NoMemory = NoMemory
+fault_told fault = told fault_of NoMemory fault
 
 -- at most eight components, no two alike, no byte shared, each within a flash of this size
 pub record AreHeld (size : ℕ) (layout : List Entry) : Type 0 where
@@ -61,10 +56,8 @@ IsFaultOf size d fault = RefusesLayout size d fault
 
 -- accepted, unless memory ran out
 abbrev pub IsAccepted : {A : Type 0} → Result A LayoutFault → Type 0
-IsAccepted (Ok layout) = Unit {0}
-IsAccepted (Err fault) = fault ≡ NoMemory
+IsAccepted result = IsAcceptedBut NoMemory result
 
 -- refused for this, unless memory ran out
 abbrev pub IsRefusedFor : {A : Type 0} → LayoutFault → Result A LayoutFault → Type 0
-IsRefusedFor fault (Ok layout) = ⊥
-IsRefusedFor fault (Err other) = (other ≡ fault) ⊎ (other ≡ NoMemory)
+IsRefusedFor fault result = IsRefusedBut NoMemory fault result

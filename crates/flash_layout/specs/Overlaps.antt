@@ -1,5 +1,5 @@
 -- Which components of a layout have the same identifier, share a byte, or lie outside the flash. Places are whole numbers.
-use Rattle.std.specs.Prelude.{◌≡◌, ◌≢◌, ◌<◌, ◌≤◌, ℕ, List, length, slice_index, slice_index_or, All}
+use Rattle.std.specs.Prelude.{◌≡◌, ◌≢◌, ◌<◌, ◌≤◌, ℕ, List, length, slice_index, slice_index_or, All, Option, MatchOption}
 use Rattle.flash_layout.specs.declared.layout.Entry.{Entry}
 use Rattle.flash_layout.specs.Layouts.{slot_starts, slot_size, AreClear, AreAllClear, IsBehindHead}
 
@@ -31,6 +31,11 @@ pub record IsFirstAlike (layout : List Entry) (i j : ℕ) : Type 0 where
 
 abbrev pub HaveNoneAlike : List Entry → Type 0
 HaveNoneAlike layout = (i j : ℕ) → i < j → j < length layout → HaveOtherIds layout i j
+
+-- the answer of a search for two that are alike
+abbrev pub TellsAlike : List Entry → Option (ℕ × ℕ) → Type 0
+TellsAlike layout answer =
+    MatchOption answer (HaveNoneAlike layout) (λ p. IsFirstAlike layout p.0 p.1)
 
 -- ---- slots
 
@@ -67,6 +72,11 @@ pub record IsFirstOverlap (layout : List Entry) (i j : ℕ) : Type 0 where
 
 abbrev pub HaveNoOverlap : List Entry → Type 0
 HaveNoOverlap layout = (i : ℕ) → i < length layout → SharesNone layout i
+
+-- the answer of a search for two that share a byte
+abbrev pub TellsOverlap : List Entry → Option (ℕ × ℕ) → Type 0
+TellsOverlap layout answer =
+    MatchOption answer (HaveNoOverlap layout) (λ p. IsFirstOverlap layout p.0 p.1)
 
 -- ---- the flash
 

@@ -3,9 +3,8 @@
 ghost use Rattle.std.specs.Prelude.{◌≡◌};
 ghost use Rattle.serde_json.specs.View.{view};
 ghost use Rattle.json_fields.specs.Answers.{Gives};
-ghost use Rattle.flash_layout.specs.ComponentFields.{memory_said, capacity_limit, capacity_of, no_component, starts_in, whole};
+ghost use Rattle.flash_layout.specs.ComponentFields.{memory_named, memory_said, capacity_limit, capacity_of, no_component, starts_in, whole};
 
-use crate::component_name::{ComponentName, component_named, memory_named};
 use crate::id_text::id;
 use crate::rules::MAX_RAM;
 use crate::starts::{Starts, starts_of};
@@ -26,6 +25,17 @@ pub(crate) struct ComponentFields {
     id: Option<Identifier>,
     slots: Option<Starts>,
     vendor: Option<[u8; 16]>,
+}
+
+// The memory that a kind names.
+fn memory_named(name: &str) -> Option<Memory>
+    ensures { result ≡ memory_named name.now }
+{
+    match name {
+        "flash" => Some(Memory::Flash),
+        "ram" => Some(Memory::Ram),
+        _ => None,
+    }
 }
 
 // The memory that the kind of a component names.
@@ -69,21 +79,19 @@ impl Draft for ComponentFields {
     ghost takes = { takes_component };
 
     fn take(&mut self, alloc: Global, key: &str, value: &Value) -> Result<(), JsonFault> {
-        let Some(name) = component_named(key) else {
-            return flawed(alloc, FlawKind::Field);
-        };
-        match name {
-            ComponentName::Capacity => self.capacity = Some(capacity(alloc, value, self.memory)?),
-            ComponentName::Class => self.class = Some(uuid(alloc, value)?),
-            ComponentName::Device => self.device = Some(uuid(alloc, value)?),
-            ComponentName::Id => self.id = Some(id(alloc, value)?),
-            ComponentName::Kind => {
+        match key {
+            "capacity" => self.capacity = Some(capacity(alloc, value, self.memory)?),
+            "class" => self.class = Some(uuid(alloc, value)?),
+            "device" => self.device = Some(uuid(alloc, value)?),
+            "id" => self.id = Some(id(alloc, value)?),
+            "kind" => {
                 if self.memory.is_none() {
                     return flawed(alloc, FlawKind::Field);
                 }
             }
-            ComponentName::Slots => self.slots = Some(starts_of(alloc, value, self.memory)?),
-            ComponentName::Vendor => self.vendor = Some(uuid(alloc, value)?),
+            "slots" => self.slots = Some(starts_of(alloc, value, self.memory)?),
+            "vendor" => self.vendor = Some(uuid(alloc, value)?),
+            _ => return flawed(alloc, FlawKind::Field),
         }
         Ok(())
     }

@@ -1,7 +1,7 @@
 //! The first components that may not stand in one layout.
 
 ghost use Rattle.std.specs.Prelude.{◌≤◌, ◌<◌, ◌↔◌, All, IsTrue, length, MatchOption};
-ghost use Rattle.flash_layout.specs.Overlaps.{HasNoLike, IsFirstLike, IsFirstAlike, HaveNoneAlike, IsClearItself, ShareNone, SharesNone, IsFirstShared, IsFirstOverlap, HaveNoOverlap, IsFirstOutside, AreInside};
+ghost use Rattle.flash_layout.specs.Overlaps.{HasNoLike, IsFirstLike, TellsAlike, IsClearItself, ShareNone, SharesNone, IsFirstShared, TellsOverlap, IsFirstOutside, AreInside};
 
 use crate::Entry;
 use crate::rules::{all_clear, clear, slots_of, starts_behind};
@@ -23,8 +23,7 @@ fn first_like(entries: &[Entry], last: usize) -> Option<usize>
 /// least first one.
 pub(crate) fn first_alike(entries: &[Entry]) -> Option<(u32, u32)>
     requires { length entries.now ≤ 8 }
-    ensures { MatchOption result (HaveNoneAlike entries.now)
-        (λ p. IsFirstAlike entries.now p.0 p.1) }
+    ensures { TellsAlike entries.now result }
 {
     for last in 0..entries.len() {
         if let Some(first) = first_like(entries, last) {
@@ -83,8 +82,7 @@ fn first_shared(entries: &[Entry], i: usize) -> Option<usize>
 pub(crate) fn first_overlap(entries: &[Entry]) -> Option<(u32, u32)>
     requires few { length entries.now ≤ 8 }
     requires slots { All (λ e. e.slots ≤ 2) entries.now }
-    ensures { MatchOption result (HaveNoOverlap entries.now)
-        (λ p. IsFirstOverlap entries.now p.0 p.1) }
+    ensures { TellsOverlap entries.now result }
 {
     for first in 0..entries.len() {
         if let Some(second) = first_shared(entries, first) {

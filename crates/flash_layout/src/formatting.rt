@@ -5,8 +5,8 @@ ghost use Rattle.suit_edge.specs.Edge.{IfDone};
 ghost use Rattle.suit_edge.specs.Faults.{EdgeCounts};
 ghost use Rattle.suit_edge.specs.Flash.{Grows, IsSame, IsSettled, Keeps, Passes};
 ghost use Rattle.suit_edge.specs.Gate.{IsOpen};
-ghost use Rattle.flash_layout.specs.Layouts.{IsKey, IsLayout};
-ghost use Rattle.flash_layout.specs.Formats.{AreAllClearAt, AreClosed, FormatCounts, HasLength, HaveLengths, IfFormatted, IfNotBlank, IsBlankOrFormatted, IsClearAt, IsFormatted, IsPrepared, KeepsZeros, OutsideAllLengths, OutsideFormat, OutsideLengths, OutsidePrepared, OutsideRecordGates};
+ghost use Rattle.flash_layout.specs.Layouts.{IsKey, IsLayout, slot_starts};
+ghost use Rattle.flash_layout.specs.Formats.{AreAllClearAt, AreClosed, FormatCounts, HaveLengths, IfFormatted, IfNotBlank, IsBlankOrFormatted, IsClearAt, IsFormatted, IsPrepared, KeepsZeros, OutsideAllLengths, OutsideFormat, OutsideLengths, OutsidePrepared, OutsideRecordGates};
 
 use crate::frame::{CONFIG_GATE, LENGTH_SIZE, VERSION_1, record_page};
 use crate::page_writing::write_page;
@@ -46,19 +46,20 @@ fn close_records<D: Disk>(disk: &mut D) -> Edge
     }
 }
 
-// Sets the length of the slots that start there to 0.
-fn empty_slots<D: Disk>(disk: &mut D, starts: &[u64]) -> Edge
-    requires { All (HasLength (D.extent disk.old)) starts.now }
+// Sets the length of each slot of a component to 0.
+fn empty_slots<D: Disk>(disk: &mut D, entry: &Entry) -> Edge
+    requires { HaveLengths (D.extent disk.old) entry.now }
     ensures size { D.extent disk.new ≡ D.extent disk.old }
     ensures counts { EdgeCounts result (D.faults disk.old) (D.faults disk.new) }
     ensures clear { IsTrue D.told
-        → IfDone result (All (IsClearAt (D.flash disk.new).reads) starts.now) }
+        → IfDone result (All (IsClearAt (D.flash disk.new).reads) (slot_starts entry.now)) }
     ensures zeros { IsTrue D.told
         → IfDone result (KeepsZeros (D.flash disk.old).reads (D.flash disk.new).reads) }
     ensures keeps { IsTrue D.told
-        → Keeps (OutsideLengths starts.now) (D.flash disk.old) (D.flash disk.new) }
+        → Keeps (OutsideLengths (slot_starts entry.now)) (D.flash disk.old) (D.flash disk.new) }
     ensures grows { IsTrue D.told → Grows (D.flash disk.old) (D.flash disk.new) }
 {
+    let starts = slots_of(entry);
     for start in starts {
         match disk.write_at(*start, &[0; LENGTH_SIZE as usize]) {
             Edge::Failed => return Edge::Failed,
@@ -82,7 +83,7 @@ fn empty_each<D: Disk>(disk: &mut D, entries: &[Entry]) -> Edge
     ensures grows { IsTrue D.told → Grows (D.flash disk.old) (D.flash disk.new) }
 {
     for entry in entries {
-        match empty_slots(disk, slots_of(entry)) {
+        match empty_slots(disk, entry) {
             Edge::Failed => return Edge::Failed,
             Edge::Done => {}
         }

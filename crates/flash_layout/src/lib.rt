@@ -2,7 +2,6 @@
 #![tactic(auto)]
 
 mod component_fields;
-mod component_name;
 mod describing;
 mod device_fields;
 mod first_faults;

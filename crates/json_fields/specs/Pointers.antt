@@ -1,5 +1,7 @@
 -- JSON Pointer (RFC 6901, section 3): a token for each step, `~0` for `~` and `~1` for `/` in a name.
 use Rattle.std.specs.Prelude.{ℕ, ◌==◌, if◌then◌else◌, List, [], ◌∷◌, ◌++◌, decimal}
+use Rattle.json_fields.specs.declared.pointer.Step.{Step}
+use Rattle.json_fields.specs.declared.pointer.Step.TheVariants as steps
 
 abbrev pub escaped : ℕ → List ℕ
 escaped c = if c == 126 then 126 ∷ 48 ∷ [] else (if c == 47 then 126 ∷ 49 ∷ [] else c ∷ [])
@@ -13,3 +15,7 @@ key_token key = 47 ∷ escape key
 
 abbrev pub index_token : ℕ → List ℕ
 index_token i = 47 ∷ decimal i
+
+abbrev pub step_token : Step → List ℕ
+step_token (steps.Key key) = key_token key.now
+step_token (steps.Index i) = index_token i

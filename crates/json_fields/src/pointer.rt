@@ -4,7 +4,7 @@ ghost use Rattle.std.specs.Prelude.{◌≡◌, ◌++◌, Result, IfOk, string_by
 ghost use Rattle.json_fields.specs.declared.flaw.Flaw.{Flaw};
 ghost use Rattle.json_fields.specs.Answers.{Gives};
 ghost use Rattle.json_fields.specs.Flaws.{under};
-ghost use Rattle.json_fields.specs.Pointers.{escape, key_token, index_token};
+ghost use Rattle.json_fields.specs.Pointers.{escape, key_token, index_token, step_token};
 
 use crate::{Flaw, JsonFault};
 use det_cbor::Text;
@@ -28,19 +28,43 @@ fn escaped(alloc: Global, key: &str) -> Result<String, AllocError>
     }
 }
 
-fn key_below(alloc: Global, key: &str, pointer: &Text) -> Result<Text, AllocError>
-    ensures { IfOk result (λ p. p ≡ key_token key.now ++ pointer.now) }
-{
-    let name = escaped(alloc, key)?;
-    let below = pointer.as_str();
-    Ok(Text::from_string(format!(in alloc; "/{name}{below}")?))
+// A step from a value to a part of it.
+#[derive(Clone, Copy)]
+enum Step<'a> {
+    Key(&'a str),
+    Index(usize),
 }
 
-fn index_below(alloc: Global, index: usize, pointer: &Text) -> Result<Text, AllocError>
-    ensures { IfOk result (λ p. p ≡ index_token index ++ pointer.now) }
+// A place, counted from where the step begins.
+fn step_below(alloc: Global, step: Step<'_>, pointer: &Text) -> Result<Text, AllocError>
+    ensures { IfOk result (λ p. p ≡ step_token step.entry ++ pointer.now) }
 {
     let below = pointer.as_str();
-    Ok(Text::from_string(format!(in alloc; "/{index}{below}")?))
+    match step {
+        Step::Key(key) => {
+            let name = escaped(alloc, key)?;
+            Ok(Text::from_string(format!(in alloc; "/{name}{below}")?))
+        }
+        Step::Index(index) => Ok(Text::from_string(format!(in alloc; "/{index}{below}")?)),
+    }
+}
+
+// The reading of a part, with the flaw's place counted from the whole.
+fn at_step<T>(alloc: Global, step: Step<'_>, read: Result<T, JsonFault>) -> Result<T, JsonFault>
+    ensures { (said : Result T Flaw) → Gives (λ x. x) read said
+        → Gives (λ x. x) result (under (step_token step.entry) said) }
+{
+    match read {
+        Ok(x) => Ok(x),
+        Err(JsonFault::NoMemory) => Err(JsonFault::NoMemory),
+        Err(JsonFault::Flawed(flaw)) => match step_below(alloc, step, &flaw.pointer) {
+            Ok(pointer) => Err(JsonFault::Flawed(Flaw {
+                kind: flaw.kind,
+                pointer,
+            })),
+            Err(_) => Err(JsonFault::NoMemory),
+        },
+    }
 }
 
 /// The reading of a member's value, with the flaw's place counted from the object.
@@ -48,17 +72,7 @@ pub fn at_key<T>(alloc: Global, key: &str, read: Result<T, JsonFault>) -> Result
     ensures { (said : Result T Flaw) → Gives (λ x. x) read said
         → Gives (λ x. x) result (under (key_token key.now) said) }
 {
-    match read {
-        Ok(x) => Ok(x),
-        Err(JsonFault::NoMemory) => Err(JsonFault::NoMemory),
-        Err(JsonFault::Flawed(flaw)) => match key_below(alloc, key, &flaw.pointer) {
-            Ok(pointer) => Err(JsonFault::Flawed(Flaw {
-                kind: flaw.kind,
-                pointer,
-            })),
-            Err(_) => Err(JsonFault::NoMemory),
-        },
-    }
+    at_step(alloc, Step::Key(key), read)
 }
 
 /// The reading of an element, with the flaw's place counted from the array.
@@ -66,15 +80,5 @@ pub fn at_index<T>(alloc: Global, index: usize, read: Result<T, JsonFault>) -> R
     ensures { (said : Result T Flaw) → Gives (λ x. x) read said
         → Gives (λ x. x) result (under (index_token index) said) }
 {
-    match read {
-        Ok(x) => Ok(x),
-        Err(JsonFault::NoMemory) => Err(JsonFault::NoMemory),
-        Err(JsonFault::Flawed(flaw)) => match index_below(alloc, index, &flaw.pointer) {
-            Ok(pointer) => Err(JsonFault::Flawed(Flaw {
-                kind: flaw.kind,
-                pointer,
-            })),
-            Err(_) => Err(JsonFault::NoMemory),
-        },
-    }
+    at_step(alloc, Step::Index(index), read)
 }

@@ -2,7 +2,7 @@
 
 use flash_layout::{Entry, Layout, LayoutFault, Memory, layout_of};
 use serde_json::Value;
-use std::alloc::Global;
+use std::alloc::{AllocError, Global};
 
 const SIZE: u64 = 65536;
 
@@ -14,44 +14,26 @@ fn described(alloc: Global, json: &str) -> Result<Layout, LayoutFault> {
     }
 }
 
-fn is_number(digits: &str, number: u32) -> bool {
-    match digits.parse::<u32>() {
-        Ok(found) => found == number,
-        Err(_) => false,
-    }
-}
-
-fn is_pair(numbers: &str, first: u32, second: u32) -> bool {
-    match numbers.split_once(' ') {
-        Some((one, other)) => is_number(one, first) && is_number(other, second),
-        None => false,
-    }
-}
-
-// Whether the answer names the kind of this fault, and its place or its components.
-fn names(answer: &str, fault: &LayoutFault) -> bool {
-    let (kind, rest) = answer.split_once(' ').unwrap_or((answer, ""));
+// A fault by its kind, and by its place or its numbers.
+fn told(alloc: Global, fault: &LayoutFault) -> Result<String, AllocError> {
     match fault {
-        LayoutFault::BadField(pointer) => kind == "field" && rest == pointer.as_str(),
-        LayoutFault::BadHex(pointer) => kind == "hex" && rest == pointer.as_str(),
-        LayoutFault::BadUuid(pointer) => kind == "uuid" && rest == pointer.as_str(),
-        LayoutFault::TwoAlike { first, second } => {
-            kind == "alike" && is_pair(rest, *first, *second)
-        }
-        LayoutFault::Overlap { first, second } => {
-            kind == "overlap" && is_pair(rest, *first, *second)
-        }
-        LayoutFault::Outside(component) => kind == "outside" && is_number(rest, *component),
-        LayoutFault::TooMany(_) | LayoutFault::NoMemory => false,
+        LayoutFault::BadField(pointer) => format!(in alloc; "field {}", pointer.as_str()),
+        LayoutFault::BadHex(pointer) => format!(in alloc; "hex {}", pointer.as_str()),
+        LayoutFault::BadUuid(pointer) => format!(in alloc; "uuid {}", pointer.as_str()),
+        LayoutFault::TooMany(count) => format!(in alloc; "many {count}"),
+        LayoutFault::TwoAlike { first, second } => format!(in alloc; "alike {first} {second}"),
+        LayoutFault::Overlap { first, second } => format!(in alloc; "overlap {first} {second}"),
+        LayoutFault::Outside(component) => format!(in alloc; "outside {component}"),
+        LayoutFault::NoMemory => Err(AllocError),
     }
 }
 
-// A row is a text of JSON and its answer.
-fn is_row(alloc: Global, row: &str) -> bool {
+// A row is a text of JSON and its answer. The value itself has no place.
+fn is_row(alloc: Global, row: &str) -> Result<bool, AllocError> {
     let (json, answer) = row.split_once(" -> ").unwrap_or((row, ""));
     match described(alloc, json) {
-        Ok(_) => answer == "accepted",
-        Err(fault) => names(answer, &fault),
+        Ok(_) => Ok(answer == "accepted"),
+        Err(fault) => Ok(told(alloc, &fault)?.as_str().trim() == answer),
     }
 }
 
@@ -119,6 +101,7 @@ const TOGETHER: &str = r#"
 {"components":[{"capacity":1024,"id":["00"],"kind":"flash","slots":[0]},{"capacity":1024,"id":["01"],"kind":"flash","slots":[64505]}]} -> outside 0
 {"components":[{"capacity":1024,"id":["00"],"kind":"flash","slots":[0]},{"capacity":1024,"id":["01"],"kind":"flash","slots":[0]}]} -> overlap 0 1
 {"components":[{"capacity":1024,"id":["00"],"kind":"flash","slots":[0]},{"capacity":1024,"id":["00"],"kind":"flash","slots":[0]}]} -> alike 0 1
+{"components":[{"capacity":1,"id":[],"kind":"ram"},{"capacity":1,"id":[],"kind":"ram"},{"capacity":1,"id":[],"kind":"ram"},{"capacity":1,"id":[],"kind":"ram"},{"capacity":1,"id":[],"kind":"ram"},{"capacity":1,"id":[],"kind":"ram"},{"capacity":1,"id":[],"kind":"ram"},{"capacity":1,"id":[],"kind":"ram"},{"capacity":1,"id":[],"kind":"ram"}]} -> many 9
 "#;
 
 const FIELDS: &str = r#"
@@ -147,19 +130,11 @@ const FIELDS: &str = r#"
 "#;
 
 #[test]
-fn descriptions_are_judged(rt: HostRuntime) {
+fn descriptions_are_judged(rt: HostRuntime) -> Result<(), AllocError> {
     for table in [SLOTS, TOGETHER, FIELDS] {
         for row in table.trim().lines() {
-            assert!(rt; is_row(rt.alloc(), row), "{row}");
+            assert!(rt; is_row(rt.alloc(), row)?, "{row}");
         }
     }
-}
-
-const NINE: &str =
-    r#"{"components":[{"capacity":1,"id":[],"kind":"ram"},{"capacity":1,"id":[],"kind":"ram"},{"capacity":1,"id":[],"kind":"ram"},{"capacity":1,"id":[],"kind":"ram"},{"capacity":1,"id":[],"kind":"ram"},{"capacity":1,"id":[],"kind":"ram"},{"capacity":1,"id":[],"kind":"ram"},{"capacity":1,"id":[],"kind":"ram"},{"capacity":1,"id":[],"kind":"ram"}]}"#;
-
-#[test]
-fn there_are_at_most_eight_components(rt: HostRuntime) {
-    let nine = described(rt.alloc(), NINE);
-    assert!(rt; matches!(&nine, Err(LayoutFault::TooMany(9))));
+    Ok(())
 }
