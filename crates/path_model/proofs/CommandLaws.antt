@@ -1,6 +1,6 @@
 -- The laws of one condition or directive.
-use Rattle.std.proofs.Common.{◌≡◌, ◌≢◌, ℕ, Bool, true, false, List, [], ◌∷◌, Option, Some, None, refl, sym, ap, subst, ◌∙◌, arith, inl, inr, ◌⊎◌}
-use Rattle.std.specs.Prelude.{◌↔◌, ◌==◌, if◌then◌else◌, option_map, slice_get}
+use Rattle.std.proofs.Common.{◌≡◌, ◌≢◌, ℕ, Bool, true, false, List, [], ◌∷◌, Option, Some, None, refl, sym, ap, subst, ◌∙◌, inl, inr, ◌⊎◌}
+use Rattle.std.specs.Prelude.{◌↔◌, option_map, slice_get}
 use Rattle.suit_params.specs.declared.digest.Digest.{Digest}
 use Rattle.path_model.specs.declared.identity.Identity.{Identity}
 use Rattle.suit_params.specs.declared.param.Param.{Param}
@@ -9,10 +9,11 @@ use Rattle.suit_params.specs.declared.param.ParamKey.{ParamKey}
 use Rattle.suit_params.specs.declared.param.ParamKey.TheVariants as keys
 use Rattle.suit_commands.specs.declared.kinds.TestKind.{TestKind}
 use Rattle.suit_commands.specs.declared.kinds.TestKind.TheVariants as tests
+use Rattle.suit_commands.specs.declared.kinds.ActKind.{ActKind}
 use Rattle.suit_commands.specs.declared.kinds.ActKind.TheVariants as acts
 use Rattle.path_model.specs.declared.event.Event.{Event}
 use Rattle.path_model.specs.declared.event.Event.TheVariants.{Tried, Matched, Missed, Wrote, Invoked, Failed}
-use Rattle.suit_params.specs.ParamKeys.{key_of, key_number}
+use Rattle.suit_params.specs.ParamKeys.{key_of, key_number, numbered}
 use Rattle.suit_params.specs.InForce.{in_force, identifier_of, number_of, digest_of, bytes_of, digest_in, size_in}
 use Rattle.path_model.specs.Behaviour.{State, Ending, Done, Condition, Directive}
 use Rattle.path_model.specs.Conditions.{Tests, Compares, Matches, ChecksContent, IsUnmet, vendor_of, class_of, device_of, slot_of}
@@ -21,38 +22,15 @@ use Rattle.path_model.specs.CommandLaws.{PassedBy, FailedAt, MatchTold, PassTold
 
 -- ---- keys by their numbers
 
-key_named : ℕ → ParamKey
-key_named number =
-    if number == 1 then keys.Vendor
-    else if number == 2 then keys.Class
-    else if number == 3 then keys.Digest
-    else if number == 5 then keys.Slot
-    else if number == 12 then keys.Strict
-    else if number == 13 then keys.Soft
-    else if number == 14 then keys.Size
-    else if number == 18 then keys.Content
-    else if number == 21 then keys.Uri
-    else if number == 22 then keys.Source
-    else if number == 23 then keys.Args
-    else keys.Device
+numbered_again : (key : ParamKey) → numbered (key_number key) ≡ Some key
+numbered_again keys.Vendor = refl
+numbered_again _ = refl
 
-key_named-key_number : (key : ParamKey) → key_named (key_number key) ≡ key
-unfolding key_named
-key_named-key_number keys.Vendor = refl
-key_named-key_number keys.Class = refl
-key_named-key_number keys.Device = refl
-key_named-key_number keys.Digest = refl
-key_named-key_number keys.Slot = refl
-key_named-key_number keys.Strict = refl
-key_named-key_number keys.Soft = refl
-key_named-key_number keys.Size = refl
-key_named-key_number keys.Content = refl
-key_named-key_number keys.Uri = refl
-key_named-key_number keys.Source = refl
-key_named-key_number keys.Args = refl
+same_some : (key other : ParamKey) → Some key ≡ Some other → key ≡ other
+same_some key other same = cc
 
 same_key : (key other : ParamKey) → key_number key ≡ key_number other → key ≡ other
-same_key key other same = sym (key_named-key_number key) ∙ ap key_named same ∙ key_named-key_number other
+same_key key other same = same_some key other (sym (numbered_again key) ∙ ap numbered same ∙ numbered_again other)
 
 -- the parameter in force under the key of a number
 at_key : (s : State) (c : ℕ) (key other : ParamKey) (held : Option Param) → key_number key ≡ key_number other → in_force s.parameters c key ≡ held → in_force s.parameters c other ≡ held
@@ -188,33 +166,28 @@ compares_known {A} kind p c wanted own value held s es e w-is o-is = (
 
 -- ---- a parameter by its number
 
-vendor_param : (param : Param) → key_number (key_of param) ≡ 1 → (id : List ℕ) × (param ≡ params.Vendor id)
-vendor_param (params.Vendor id) number = (id, refl)
-vendor_param _ number = absurd (omega arith)
+abbrev Made : ParamKey → Param → Type 0
+Made keys.Vendor param = (id : List ℕ) × (param ≡ params.Vendor id)
+Made keys.Class param = (id : List ℕ) × (param ≡ params.Class id)
+Made keys.Device param = (id : List ℕ) × (param ≡ params.Device id)
+Made keys.Slot param = (slot : ℕ) × (param ≡ params.Slot slot)
+Made keys.Content param = (content : List ℕ) × (param ≡ params.Content content)
+Made keys.Uri param = (uri : List ℕ) × (param ≡ params.Uri uri)
+Made keys.Source param = (source : ℕ) × (param ≡ params.Source source)
+Made _ param = Unit {0}
 
-class_param : (param : Param) → key_number (key_of param) ≡ 2 → (id : List ℕ) × (param ≡ params.Class id)
-class_param (params.Class id) number = (id, refl)
-class_param _ number = absurd (omega arith)
+made : (param : Param) → Made (key_of param) param
+made (params.Vendor id) = (id, refl)
+made (params.Class id) = (id, refl)
+made (params.Device id) = (id, refl)
+made (params.Slot slot) = (slot, refl)
+made (params.Content content) = (content, refl)
+made (params.Uri uri) = (uri, refl)
+made (params.Source source) = (source, refl)
+made _ = tt
 
-device_param : (param : Param) → key_number (key_of param) ≡ 24 → (id : List ℕ) × (param ≡ params.Device id)
-device_param (params.Device id) number = (id, refl)
-device_param _ number = absurd (omega arith)
-
-slot_param : (param : Param) → key_number (key_of param) ≡ 5 → (slot : ℕ) × (param ≡ params.Slot slot)
-slot_param (params.Slot slot) number = (slot, refl)
-slot_param _ number = absurd (omega arith)
-
-content_param : (param : Param) → key_number (key_of param) ≡ 18 → (content : List ℕ) × (param ≡ params.Content content)
-content_param (params.Content content) number = (content, refl)
-content_param _ number = absurd (omega arith)
-
-uri_param : (param : Param) → key_number (key_of param) ≡ 21 → (uri : List ℕ) × (param ≡ params.Uri uri)
-uri_param (params.Uri uri) number = (uri, refl)
-uri_param _ number = absurd (omega arith)
-
-source_param : (param : Param) → key_number (key_of param) ≡ 22 → (source : ℕ) × (param ≡ params.Source source)
-source_param (params.Source source) number = (source, refl)
-source_param _ number = absurd (omega arith)
+made_as : (key : ParamKey) (param : Param) → key_number (key_of param) ≡ key_number key → Made key param
+made_as key param number = subst (λ (k : ParamKey). Made k param) (same_key (key_of param) key number) (made param)
 
 -- the parameter in force under the key of a known one
 held_as : (s : State) (c : ℕ) (param known : Param) → param ≡ known → in_force s.parameters c (key_of param) ≡ Some param → in_force s.parameters c (key_of known) ≡ Some known
@@ -255,23 +228,24 @@ slot_followed ids identity slot p c s es e there held =
       ]),
     )
 
+-- the parameter in force is made of a value, which the condition asks for
+followed_as : {A : Type 0} (kind : TestKind) (make : A → Param) (ids : List Identity) (identity : Identity) (param : Param) (p c : ℕ) (s : State) (es : List Event) (e : Ending)
+    → ((value : A) → in_force s.parameters c (key_of (make value)) ≡ Some (make value) → Tests kind ids p c s es e ↔ Follows (HasValue identity (make value)) p kind c s es e)
+    → (value : A) × (param ≡ make value) → in_force s.parameters c (key_of param) ≡ Some param
+    → Tests kind ids p c s es e ↔ Follows (HasValue identity param) p kind c s es e
+followed_as kind make ids identity param p c s es e each v held =
+    subst (λ (q : Param). Tests kind ids p c s es e ↔ Follows (HasValue identity q) p kind c s es e) (sym v.1)
+    (each v.0 (held_as s c param (make v.0) v.1 held))
+
 pub identity_followed : IdentityFollowed
 identity_followed tests.Vendor ids identity param p c s es e on number there held =
-    let v = vendor_param param number in
-    subst (λ (q : Param). Tests tests.Vendor ids p c s es e ↔ Follows (HasValue identity q) p tests.Vendor c s es e) (sym v.1)
-    (vendor_followed ids identity v.0 p c s es e there (held_as s c param (params.Vendor v.0) v.1 held))
+    followed_as tests.Vendor params.Vendor ids identity param p c s es e (λ id. vendor_followed ids identity id p c s es e there) (made_as keys.Vendor param number) held
 identity_followed tests.Class ids identity param p c s es e on number there held =
-    let v = class_param param number in
-    subst (λ (q : Param). Tests tests.Class ids p c s es e ↔ Follows (HasValue identity q) p tests.Class c s es e) (sym v.1)
-    (class_followed ids identity v.0 p c s es e there (held_as s c param (params.Class v.0) v.1 held))
+    followed_as tests.Class params.Class ids identity param p c s es e (λ id. class_followed ids identity id p c s es e there) (made_as keys.Class param number) held
 identity_followed tests.Device ids identity param p c s es e on number there held =
-    let v = device_param param number in
-    subst (λ (q : Param). Tests tests.Device ids p c s es e ↔ Follows (HasValue identity q) p tests.Device c s es e) (sym v.1)
-    (device_followed ids identity v.0 p c s es e there (held_as s c param (params.Device v.0) v.1 held))
+    followed_as tests.Device params.Device ids identity param p c s es e (λ id. device_followed ids identity id p c s es e there) (made_as keys.Device param number) held
 identity_followed tests.Slot ids identity param p c s es e on number there held =
-    let v = slot_param param number in
-    subst (λ (q : Param). Tests tests.Slot ids p c s es e ↔ Follows (HasValue identity q) p tests.Slot c s es e) (sym v.1)
-    (slot_followed ids identity v.0 p c s es e there (held_as s c param (params.Slot v.0) v.1 held))
+    followed_as tests.Slot params.Slot ids identity param p c s es e (λ slot. slot_followed ids identity slot p c s es e there) (made_as keys.Slot param number) held
 identity_followed tests.ImageMatch ids identity param p c s es e on number there held = absurd on
 identity_followed tests.CheckContent ids identity param p c s es e on number there held = absurd on
 identity_followed tests.Abort ids identity param p c s es e on number there held = absurd on
@@ -315,23 +289,24 @@ writes_nothing {A} p held w s es e is = (
   λ ends. subst (λ (o : Option A). Writes p o w s es e) (sym is) ends,
 )
 
+-- the parameter in force is made of a value, of which the directive writes
+written_as : {A : Type 0} (kind : ActKind) (make : A → Param) (param : Param) (p c : ℕ) (s : State) (es : List Event) (e : Ending)
+    → ((value : A) → in_force s.parameters c (key_of (make value)) ≡ Some (make value) → Acts kind p c s es e ↔ EndsEitherWay (written kind c (make value)) p s es e)
+    → (value : A) × (param ≡ make value) → in_force s.parameters c (key_of param) ≡ Some param
+    → Acts kind p c s es e ↔ EndsEitherWay (written kind c param) p s es e
+written_as kind make param p c s es e each v held =
+    subst (λ (q : Param). Acts kind p c s es e ↔ EndsEitherWay (written kind c q) p s es e) (sym v.1)
+    (each v.0 (held_as s c param (make v.0) v.1 held))
+
 pub directives_write : DirectivesWrite
 directives_write acts.Write param p c s es e other number held =
-    let v = content_param param number in
-    subst (λ (q : Param). Acts acts.Write p c s es e ↔ EndsEitherWay (written acts.Write c q) p s es e) (sym v.1)
-    (writes_either p (bytes_of (in_force s.parameters c keys.Content)) v.0 (λ content. Wrote c ∷ []) s es e (ap bytes_of (held_as s c param (params.Content v.0) v.1 held)))
+    written_as acts.Write params.Content param p c s es e (λ content is. writes_either p (bytes_of (in_force s.parameters c keys.Content)) content (λ content. Wrote c ∷ []) s es e (ap bytes_of is)) (made_as keys.Content param number) held
 directives_write acts.Fetch param p c s es e other number held =
-    let v = uri_param param number in
-    subst (λ (q : Param). Acts acts.Fetch p c s es e ↔ EndsEitherWay (written acts.Fetch c q) p s es e) (sym v.1)
-    (writes_either p (bytes_of (in_force s.parameters c keys.Uri)) v.0 (λ uri. Wrote c ∷ []) s es e (ap bytes_of (held_as s c param (params.Uri v.0) v.1 held)))
+    written_as acts.Fetch params.Uri param p c s es e (λ uri is. writes_either p (bytes_of (in_force s.parameters c keys.Uri)) uri (λ uri. Wrote c ∷ []) s es e (ap bytes_of is)) (made_as keys.Uri param number) held
 directives_write acts.Copy param p c s es e other number held =
-    let v = source_param param number in
-    subst (λ (q : Param). Acts acts.Copy p c s es e ↔ EndsEitherWay (written acts.Copy c q) p s es e) (sym v.1)
-    (writes_either p (number_of (in_force s.parameters c keys.Source)) v.0 (λ source. Wrote c ∷ []) s es e (ap number_of (held_as s c param (params.Source v.0) v.1 held)))
+    written_as acts.Copy params.Source param p c s es e (λ source is. writes_either p (number_of (in_force s.parameters c keys.Source)) source (λ source. Wrote c ∷ []) s es e (ap number_of is)) (made_as keys.Source param number) held
 directives_write acts.Swap param p c s es e other number held =
-    let v = source_param param number in
-    subst (λ (q : Param). Acts acts.Swap p c s es e ↔ EndsEitherWay (written acts.Swap c q) p s es e) (sym v.1)
-    (writes_either p (number_of (in_force s.parameters c keys.Source)) v.0 (λ source. Wrote c ∷ Wrote source ∷ []) s es e (ap number_of (held_as s c param (params.Source v.0) v.1 held)))
+    written_as acts.Swap params.Source param p c s es e (λ source is. writes_either p (number_of (in_force s.parameters c keys.Source)) source (λ source. Wrote c ∷ Wrote source ∷ []) s es e (ap number_of is)) (made_as keys.Source param number) held
 directives_write acts.Invoke param p c s es e other number held = absurd (other refl)
 
 pub directives_need : DirectivesNeed

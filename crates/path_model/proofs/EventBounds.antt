@@ -1,16 +1,13 @@
 -- The events of a path are at most three times the work.
 use Rattle.std.proofs.Common.{◌≡◌, ℕ, suc, ◌+◌, ◌*◌, ◌≤◌, true, false, List, [], ◌∷◌, ◌++◌, length, Option, Some, None, refl, ap, subst, ◌∙◌, arith, inl, inr}
-use Rattle.std.specs.Prelude.{slice_get}
 use Rattle.std.proofs.lemmas.List.FromFn.{length-range_with_len}
-use Rattle.suit_params.specs.declared.digest.Digest.{Digest}
 use Rattle.suit_params.specs.declared.param.Param.{Param}
 use Rattle.suit_params.specs.declared.param.ParamKey.TheVariants as keys
-use Rattle.suit_params.specs.InForce.{in_force, identifier_of, number_of, bytes_of, digest_in, size_in}
+use Rattle.suit_params.specs.InForce.{in_force, number_of, bytes_of, digest_in, size_in}
 use Rattle.path_model.specs.declared.identity.Identity.{Identity}
 use Rattle.path_model.specs.declared.event.Event.{Event}
-use Rattle.path_model.specs.declared.event.Event.TheVariants.{Set, Tried, Matched, Missed, Wrote, Invoked, Failed}
+use Rattle.path_model.specs.declared.event.Event.TheVariants.{Set, Wrote, Invoked, Failed}
 use Rattle.suit_commands.specs.declared.kinds.TestKind.{TestKind}
-use Rattle.suit_commands.specs.declared.kinds.TestKind.TheVariants as tests
 use Rattle.suit_commands.specs.declared.kinds.ActKind.{ActKind}
 use Rattle.suit_commands.specs.declared.kinds.ActKind.TheVariants as acts
 use Rattle.suit_commands.specs.declared.selection.Selection.TheVariants.{One, All, Listed}
@@ -18,59 +15,36 @@ use Rattle.suit_commands.specs.Selections.{selected_after}
 use Rattle.suit_commands.specs.Tree.{CommandTree, Test, Act, Index, Override, TryEach, RunSequence, SequenceTree, NoSteps, StepThen, BranchesTree, NoBranches, BranchThen, NullThen, PlanTree}
 use Rattle.suit_commands.specs.Numbers.{count_after, work_of, command_work, branches_work, work_number}
 use Rattle.path_model.specs.Behaviour.{State, Ending, Done, Behaviour, Then, Each}
-use Rattle.path_model.specs.Conditions.{Compares, Matches, ChecksContent, Tests, vendor_of, class_of, device_of, slot_of}
+use Rattle.path_model.specs.Conditions.{Tests}
 use Rattle.path_model.specs.Directives.{set_events, Overrides, Writes, Acts}
 use Rattle.path_model.specs.Runs.{entry_state, RunsInner, Runs, Does, Tries}
 use Rattle.path_model.specs.Path.{start_state, Starts, RunsPlan, first_state}
 use Rattle.path_model.specs.EventBounds.{told_number, PathsBounded}
+use Rattle.path_model.specs.CommandLaws.{failure_event}
+use Rattle.path_model.proofs.CommandLaws.{conditions_end}
 use Rattle.path_model.proofs.SelectionLaws.{selection_kept}
 
 told-append : (a b : List Event) → told_number (a ++ b) ≡ told_number a + told_number b
 told-append [] b = omega arith
 told-append (Set c param ∷ a) b = told-append a b
-told-append (Tried c kind passed ∷ a) b = omega (arith, told-append a b)
-told-append (Matched c digest size ∷ a) b = omega (arith, told-append a b)
-told-append (Missed c ∷ a) b = omega (arith, told-append a b)
-told-append (Wrote c ∷ a) b = omega (arith, told-append a b)
-told-append (Invoked c digest size passed ∷ a) b = omega (arith, told-append a b)
-told-append (Failed place ∷ a) b = omega (arith, told-append a b)
+told-append (_ ∷ a) b = omega (arith, told-append a b)
+
+told-one : (event : Event) → told_number (event ∷ []) ≤ 1
+told-one (Set c param) = omega arith
+told-one _ = omega arith
 
 told_as : (es known : List Event) → es ≡ known → told_number es ≡ told_number known
 told_as es known is = ap told_number is
 
 -- ---- one condition or directive
 
-compares_told : {A : Type 0} (p : ℕ) (kind : TestKind) (c : ℕ) (wanted own : Option A) (s : State) (es : List Event) (e : Ending) → Compares p kind c wanted own s es e → told_number es ≤ 3
-compares_told p kind c wanted own s es e run =
-    elim run [
-      | inl (same, (is, done)) ↦ omega (arith, told_as es (Tried c kind true ∷ []) is)
-      | inr (differs, (is, failed)) ↦ omega (arith, told_as es (Tried c kind false ∷ Failed p ∷ []) is)
-    ]
-
-matches_told : (p c : ℕ) (digest : Option Digest) (size : Option ℕ) (s : State) (es : List Event) (e : Ending) → Matches p c digest size s es e → told_number es ≤ 3
-matches_told p c None size s es e (is, failed) = omega (arith, told_as es (Missed c ∷ Failed p ∷ []) is)
-matches_told p c (Some digest) size s es e run =
-    elim run [
-      | inl (is, done) ↦ omega (arith, told_as es (Matched c digest size ∷ []) is)
-      | inr (is, failed) ↦ omega (arith, told_as es (Missed c ∷ Failed p ∷ []) is)
-    ]
-
-content_told : (p c : ℕ) (content : Option (List ℕ)) (s : State) (es : List Event) (e : Ending) → ChecksContent p c content s es e → told_number es ≤ 3
-content_told p c None s es e (is, failed) = omega (arith, told_as es (Tried c tests.CheckContent false ∷ Failed p ∷ []) is)
-content_told p c (Some content) s es e run =
-    elim run [
-      | inl (is, done) ↦ omega (arith, told_as es (Tried c tests.CheckContent true ∷ []) is)
-      | inr (is, failed) ↦ omega (arith, told_as es (Tried c tests.CheckContent false ∷ Failed p ∷ []) is)
-    ]
-
 tests_told : (kind : TestKind) (ids : List Identity) (p c : ℕ) (s : State) (es : List Event) (e : Ending) → Tests kind ids p c s es e → told_number es ≤ 3
-tests_told tests.Vendor ids p c s es e run = compares_told p tests.Vendor c (identifier_of (in_force s.parameters c keys.Vendor)) (vendor_of (slice_get ids c)) s es e run
-tests_told tests.Class ids p c s es e run = compares_told p tests.Class c (identifier_of (in_force s.parameters c keys.Class)) (class_of (slice_get ids c)) s es e run
-tests_told tests.Device ids p c s es e run = compares_told p tests.Device c (identifier_of (in_force s.parameters c keys.Device)) (device_of (slice_get ids c)) s es e run
-tests_told tests.Slot ids p c s es e run = compares_told p tests.Slot c (number_of (in_force s.parameters c keys.Slot)) (slot_of (slice_get ids c)) s es e run
-tests_told tests.ImageMatch ids p c s es e run = matches_told p c (digest_in s.parameters c) (size_in s.parameters c) s es e run
-tests_told tests.CheckContent ids p c s es e run = content_told p c (bytes_of (in_force s.parameters c keys.Content)) s es e run
-tests_told tests.Abort ids p c s es e (is, failed) = omega (arith, told_as es (Tried c tests.Abort false ∷ Failed p ∷ []) is)
+tests_told kind ids p c s es e run =
+    let failure : Event = failure_event kind c in
+    elim (conditions_end kind ids p c s es e run) [
+      | inl end ↦ omega (arith, told_as es (end.event ∷ []) end.passed.0, told-one end.event)
+      | inr (is, failed) ↦ omega (arith, told_as es (failure ∷ Failed p ∷ []) is, told-append (failure ∷ []) (Failed p ∷ []), told-one failure)
+    ]
 
 writes_told : {A : Type 0} (p : ℕ) (held : Option A) (w : A → List Event) → ((value : A) → told_number (w value) ≤ 2) → (s : State) (es : List Event) (e : Ending) → Writes p held w s es e → told_number es ≤ 3
 writes_told p None w few s es e (is, ended) = omega (arith, told_as es (Failed p ∷ []) is)

@@ -36,17 +36,7 @@ record IsPlaced (key : ParamKey) : Type 0 where
 placed : (key : ParamKey) → IsPlaced key
 unfolding key_at
 placed keys.Vendor = record { small = omega arith; back = refl }
-placed keys.Class = record { small = omega arith; back = refl }
-placed keys.Digest = record { small = omega arith; back = refl }
-placed keys.Slot = record { small = omega arith; back = refl }
-placed keys.Strict = record { small = omega arith; back = refl }
-placed keys.Soft = record { small = omega arith; back = refl }
-placed keys.Size = record { small = omega arith; back = refl }
-placed keys.Content = record { small = omega arith; back = refl }
-placed keys.Uri = record { small = omega arith; back = refl }
-placed keys.Source = record { small = omega arith; back = refl }
-placed keys.Args = record { small = omega arith; back = refl }
-placed keys.Device = record { small = omega arith; back = refl }
+placed _ = record { small = omega arith; back = refl }
 
 rank-key_at : (n : ℕ) → n < 12 → rank (key_at n) ≡ n
 unfolding key_at

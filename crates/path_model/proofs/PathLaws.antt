@@ -1,6 +1,6 @@
 -- The laws of inner sequences, paths and identities.
 use Rattle.std.proofs.Common.{◌≡◌, ◌<◌, ℕ, zero, suc, true, false, List, [], ◌∷◌, ◌++◌, get_or, Option, Some, None, refl, sym, subst, ◌∙◌, append_assoc, arith, inl, inr}
-use Rattle.std.specs.Prelude.{IfSome, slice_get}
+use Rattle.std.specs.Prelude.{◌↔◌, IfSome, slice_get}
 use Rattle.std.specs.List.{AllByRecursion}
 use Rattle.path_model.specs.declared.identity.Identity.{Identity}
 use Rattle.path_model.specs.declared.event.Event.{Event}
@@ -79,12 +79,12 @@ paths_begin plan ids front rest path = record {
 
 -- ---- identities
 
-the_same : (identity other : Identity) → Some identity ≡ Some other → identity ≡ other
-the_same identity other same = cc
+same_some : {A : Type 0} (a b : A) → ◌≡◌ {A = Option A} (Some a) (Some b) → a ≡ b
+same_some a b same = cc
 
 holds_at : (P : Identity → Type 0) (ids : List Identity) (c : ℕ) (identity : Identity) → AllByRecursion P ids → slice_get ids c ≡ Some identity → P identity
 holds_at P [] c identity all is = absurd cc
-holds_at P (first ∷ ids) zero identity all is = subst P (the_same first identity is) all.0
+holds_at P (first ∷ ids) zero identity all is = subst P (same_some first identity is) all.0
 holds_at P (first ∷ ids) (suc c) identity all is = holds_at P ids c identity all.1 is
 
 holds_for_all : (P : Identity → Type 0) (ids : List Identity) → ((c : ℕ) (identity : Identity) → slice_get ids c ≡ Some identity → P identity) → AllByRecursion P ids
@@ -100,33 +100,24 @@ all_below : (bytes : List ℕ) → ((i : ℕ) → get_or bytes i 0 < 256) → Al
 all_below [] below = tt
 all_below (b ∷ bytes) below = (below 0, all_below bytes (λ i. below (suc i)))
 
-identifier_is : (held : Option (List ℕ)) → IfSome held IsIdentifier → (id : List ℕ) → held ≡ Some id → IsSixteenBytes id
-identifier_is held has id is =
-    let known : IsIdentifier id = subst (λ (o : Option (List ℕ)). IfSome o IsIdentifier) is has in
-    (known.0, below_at id known.1)
+identifier_bounds : (held : Option (List ℕ)) → IfSome held IsIdentifier ↔ ((id : List ℕ) → held ≡ Some id → IsSixteenBytes id)
+identifier_bounds None = (λ has id is. absurd cc, λ each. tt)
+identifier_bounds (Some id) = (
+  λ has other is. subst IsSixteenBytes (same_some id other is) (has.0, below_at id has.1),
+  λ each. let known = each id refl in (known.0, all_below id known.1),
+)
 
-is_identifier : (held : Option (List ℕ)) → ((id : List ℕ) → held ≡ Some id → IsSixteenBytes id) → IfSome held IsIdentifier
-is_identifier None each = tt
-is_identifier (Some id) each = let known = each id refl in (known.0, all_below id known.1)
-
-bounded : (identity : Identity) → IsIdentity identity → IsBounded identity
-bounded identity is = record {
-  slot = is.slot;
-  vendor = identifier_is identity.vendor is.vendor;
-  class = identifier_is identity.class is.class;
-  device = identifier_is identity.device is.device;
-}
-
-is_identity : (identity : Identity) → IsBounded identity → IsIdentity identity
-is_identity identity is = record {
-  slot = is.slot;
-  vendor = is_identifier identity.vendor is.vendor;
-  class = is_identifier identity.class is.class;
-  device = is_identifier identity.device is.device;
-}
+bounds : (identity : Identity) → IsIdentity identity ↔ IsBounded identity
+bounds identity =
+    let vendor = identifier_bounds identity.vendor in
+    let class = identifier_bounds identity.class in
+    let device = identifier_bounds identity.device in (
+      λ is. record { slot = is.slot; vendor = vendor.0 is.vendor; class = class.0 is.class; device = device.0 is.device },
+      λ is. record { slot = is.slot; vendor = vendor.1 is.vendor; class = class.1 is.class; device = device.1 is.device },
+    )
 
 pub identities_bounded : IdentitiesBounded
 identities_bounded plan ids = (
-  λ are. record { count = are.count; each = λ c identity is. bounded identity (holds_at IsIdentity ids c identity are.each is) },
-  λ are. record { count = are.count; each = holds_for_all IsIdentity ids (λ c identity is. is_identity identity (are.each c identity is)) },
+  λ are. record { count = are.count; each = λ c identity is. (bounds identity).0 (holds_at IsIdentity ids c identity are.each is) },
+  λ are. record { count = are.count; each = holds_for_all IsIdentity ids (λ c identity is. (bounds identity).1 (are.each c identity is)) },
 )

@@ -22,6 +22,7 @@ use Rattle.path_model.specs.Directives.{soft_after, after_override, Overrides, W
 use Rattle.path_model.specs.Runs.{after_run, after_branch, RunsInner, Runs, Tries}
 use Rattle.path_model.specs.Turns.{Course, InTurn, with_selected, putting_back}
 use Rattle.path_model.specs.SelectionLaws.{Selections, IndexSelects, SelectionKept, OneSelected, NoneSelected, MoreSelected}
+use Rattle.path_model.proofs.CommandLaws.{conditions_end}
 use Rattle.path_model.proofs.Turns.{of_then, to_then}
 use Rattle.path_model.proofs.RunLaws.{once, of_once, at_sole, of_sole}
 
@@ -71,27 +72,12 @@ compares_blind p kind c wanted own s cs es e run =
       | inr (differs, failed) ↦ inr (differs, fails_blind p (Tried c kind false) s cs es e failed)
     ]
 
-compares_keeps : {A : Type 0} (p : ℕ) (kind : TestKind) (c : ℕ) (wanted own : Option A) (s : State) (es : List Event) (e : Ending) → Compares p kind c wanted own s es e → putting_back s.selection e ≡ e
-compares_keeps p kind c wanted own s es e run =
-    elim run [
-      | inl (same, (is, done)) ↦ back_done s e done
-      | inr (differs, (is, failed)) ↦ back_failed s.selection p s.soft_failure e failed
-    ]
-
 matches_blind : (p c : ℕ) (digest : Option Digest) (size : Option ℕ) (s : State) (cs : List ℕ) (es : List Event) (e : Ending) → Matches p c digest size s es e → Matches p c digest size (with_selected s cs) es (putting_back cs e)
 matches_blind p c None size s cs es e (is, failed) = (is, ap (putting_back cs) failed)
 matches_blind p c (Some digest) size s cs es e run =
     elim run [
       | inl (is, done) ↦ inl (is, ap (putting_back cs) done)
       | inr (is, failed) ↦ inr (is, ap (putting_back cs) failed)
-    ]
-
-matches_keeps : (p c : ℕ) (digest : Option Digest) (size : Option ℕ) (s : State) (es : List Event) (e : Ending) → Matches p c digest size s es e → putting_back s.selection e ≡ e
-matches_keeps p c None size s es e (is, failed) = back_failed s.selection p s.soft_failure e failed
-matches_keeps p c (Some digest) size s es e run =
-    elim run [
-      | inl (is, done) ↦ back_done s e done
-      | inr (is, failed) ↦ back_failed s.selection p s.soft_failure e failed
     ]
 
 content_blind : (p c : ℕ) (content : Option (List ℕ)) (s : State) (cs : List ℕ) (es : List Event) (e : Ending) → ChecksContent p c content s es e → ChecksContent p c content (with_selected s cs) es (putting_back cs e)
@@ -102,22 +88,12 @@ content_blind p c (Some content) s cs es e run =
       | inr (is, failed) ↦ inr (is, ap (putting_back cs) failed)
     ]
 
-content_keeps : (p c : ℕ) (content : Option (List ℕ)) (s : State) (es : List Event) (e : Ending) → ChecksContent p c content s es e → putting_back s.selection e ≡ e
-content_keeps p c None s es e (is, failed) = back_failed s.selection p s.soft_failure e failed
-content_keeps p c (Some content) s es e run =
-    elim run [
-      | inl (is, done) ↦ back_done s e done
+tests_keep : (kind : TestKind) (ids : List Identity) (p c : ℕ) (s : State) (es : List Event) (e : Ending) → Tests kind ids p c s es e → putting_back s.selection e ≡ e
+tests_keep kind ids p c s es e run =
+    elim (conditions_end kind ids p c s es e run) [
+      | inl end ↦ back_done s e end.passed.1
       | inr (is, failed) ↦ back_failed s.selection p s.soft_failure e failed
     ]
-
-tests_keep : (kind : TestKind) (ids : List Identity) (p c : ℕ) (s : State) (es : List Event) (e : Ending) → Tests kind ids p c s es e → putting_back s.selection e ≡ e
-tests_keep tests.Vendor ids p c s es e run = compares_keeps p tests.Vendor c (identifier_of (in_force s.parameters c keys.Vendor)) (vendor_of (slice_get ids c)) s es e run
-tests_keep tests.Class ids p c s es e run = compares_keeps p tests.Class c (identifier_of (in_force s.parameters c keys.Class)) (class_of (slice_get ids c)) s es e run
-tests_keep tests.Device ids p c s es e run = compares_keeps p tests.Device c (identifier_of (in_force s.parameters c keys.Device)) (device_of (slice_get ids c)) s es e run
-tests_keep tests.Slot ids p c s es e run = compares_keeps p tests.Slot c (number_of (in_force s.parameters c keys.Slot)) (slot_of (slice_get ids c)) s es e run
-tests_keep tests.ImageMatch ids p c s es e run = matches_keeps p c (digest_in s.parameters c) (size_in s.parameters c) s es e run
-tests_keep tests.CheckContent ids p c s es e run = content_keeps p c (bytes_of (in_force s.parameters c keys.Content)) s es e run
-tests_keep tests.Abort ids p c s es e (is, failed) = back_failed s.selection p s.soft_failure e failed
 
 tests_blind : (kind : TestKind) (ids : List Identity) (p c : ℕ) (s : State) (cs : List ℕ) (es : List Event) (e : Ending) → Tests kind ids p c s es e → Tests kind ids p c (with_selected s cs) es (putting_back cs e)
 tests_blind tests.Vendor ids p c s cs es e run = compares_blind p tests.Vendor c (identifier_of (in_force s.parameters c keys.Vendor)) (vendor_of (slice_get ids c)) s cs es e run
