@@ -13,6 +13,7 @@ pub mod Merging
 pub mod Branching
 pub mod Outside
 pub mod Narrowing
+pub mod Telling
 pub mod ConditionLeaves
 pub mod DirectiveLeaves
 pub mod InnerSteps
@@ -23,7 +24,6 @@ pub mod Starting
 pub mod PlanSmall
 pub mod PlanJudging
 pub mod OwnTests
-pub mod Deciding
 pub mod Among
 pub mod Choices
 pub mod Counting

@@ -68,6 +68,13 @@ in_list [] i d lt = absurd (omega arith)
 in_list (x ∷ xs) zero d lt = inl refl
 in_list (x ∷ xs) (suc i) d lt = inr (in_list xs i d (omega arith))
 
+-- two lists of one length, up to an index
+abbrev pub SameSoFar : {A : Type 0} → ℕ → List A → List A → Type 0
+SameSoFar index xs ys = record {
+  lengths : length ys ≡ length xs;
+  same : take index xs ≡ take index ys;
+}
+
 pub take_next : {A : Type 0} (xs ys : List A) (i : ℕ) (d : A) → i < length xs → length ys ≡ length xs → get_or xs i d ≡ get_or ys i d → take i xs ≡ take i ys → take (i + 1) xs ≡ take (i + 1) ys
 take_next {A} xs ys i d lt same here so_far =
     take_more xs i d lt ∙ ap (λ (zs : List A). zs ++ get_or xs i d ∷ []) so_far ∙ ap (λ (z : A). take i ys ++ z ∷ []) here ∙ sym (take_more ys i d (omega (arith, lt, same)))

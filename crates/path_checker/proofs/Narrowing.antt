@@ -24,9 +24,7 @@ decided_at facts c d known fact lt is decides = identity_at facts c d fact lt (s
 
 pub past_last : (facts : List Knowledge) (c : ℕ) (own : Own) → length facts ≤ c → (ids : List Identity) → Allows facts ids → Has c own ids → ⊥
 past_last [] c (owns.Vendor id) le [] al h = absurd cc
-past_last [] c (owns.Class id) le [] al h = absurd cc
-past_last [] c (owns.Device id) le [] al h = absurd cc
-past_last [] c (owns.Slot n) le [] al h = absurd cc
+past_last [] c _ le [] al h = absurd cc
 past_last [] c own le (i ∷ ids) al h = al
 past_last (k ∷ facts) c own le [] al h = al
 past_last (k ∷ facts) zero own le (i ∷ ids) al h = absurd (omega arith)

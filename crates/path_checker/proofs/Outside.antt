@@ -1,11 +1,11 @@
 -- Values that are none of a list, and the least number that is none.
-use Rattle.std.proofs.Common.{◌≡◌, ◌≢◌, ◌+◌, ◌<◌, ◌≤◌, ℕ, zero, suc, List, [], ◌∷◌, ◌++◌, length, Option, Some, None, sym, ap, ◌∙◌, subst, arith, inl, inr, ⊎_elim}
-use Rattle.std.specs.Prelude.{◌==◌, if◌then◌else◌}
+use Rattle.std.proofs.Common.{◌≡◌, ◌≢◌, ◌+◌, ◌<◌, ◌≤◌, ℕ, zero, suc, List, [], ◌∷◌, ◌++◌, length, Option, Some, None, sym, ◌∙◌, subst, arith, inl, inr, ⊎_elim}
+use Rattle.std.specs.Prelude.{◌↔◌, ◌==◌, if◌then◌else◌, false}
 use Rattle.std.specs.List.{AllByRecursion}
 use Rattle.std.proofs.lemmas.Bool.Decides.{eqb_tells}
 use Rattle.path_checker.specs.Exploring.{In}
-use Rattle.path_checker.specs.Knowing.{IsNone}
-use Rattle.path_checker.specs.Forking.{Decides, Narrows}
+use Rattle.path_checker.specs.Knowing.{Known, IsNone, AgreesWith}
+use Rattle.path_checker.specs.Forking.{Narrows, IsOpen, Tells, leaving_out}
 
 -- none of these is it
 abbrev pub IsApart : {A : Type 0} → A → List A → Type 0
@@ -26,37 +26,34 @@ none_before own (x ∷ others) value all = let y = none_before own others value 
 same_some : {A : Type 0} (a b : A) → ◌≡◌ {A = Option A} (Some a) (Some b) → a ≡ b
 same_some a b e = cc
 
-apart_none : {A : Type 0} (value : A) (others : List A) → IsApart value others → IsNone (Some value) others
-apart_none value [] all = tt
-apart_none value (x ∷ others) all = ((λ e. all.0 (sym (same_some value x e))), apart_none value others all.1)
-
--- ---- narrowing what is known
-
-pub narrows_has : {A : Type 0} (others : List A) (value : A) → IsApart value others → Narrows (None, others) (Some value, []) (λ own. own ≡ Some value)
-narrows_has {A} others value apart own = (λ e. (subst (λ (o : Option A). IsNone o others) (sym e) (apart_none value others apart), e), λ h. h.1)
-
-pub narrows_has_not : {A : Type 0} (others : List A) (value : A) → Narrows (None, others) (None, others ++ value ∷ []) (λ own. own ≢ Some value)
-narrows_has_not others value own = (λ h. none_before own others value h, λ h. none_after own others value h.0 h.1)
-
-pub decides_has : {A : Type 0} (held wanted : A) (others : List A) → held ≡ wanted → Decides (Some held, others) (λ own. own ≡ Some wanted)
-decides_has held wanted others same own e = e ∙ ap Some same
-
-pub decides_has_not : {A : Type 0} (held wanted : A) (others : List A) → held ≢ wanted → Decides (Some held, others) (λ own. own ≢ Some wanted)
-decides_has_not held wanted others other own e is = other (same_some held wanted (sym e ∙ is))
+pub outside_none : {A : Type 0} (value : A) (others : List A) → (In value others → ⊥) → IsNone (Some value) others
+outside_none value [] out = tt
+outside_none value (x ∷ others) out = ((λ e. out (inl (sym (same_some value x e)))), outside_none value others (λ h. out (inr h)))
 
 in_none : {A : Type 0} (own : Option A) (others : List A) (value : A) → IsNone own others → In value others → own ≢ Some value
 in_none {A} own (x ∷ others) value all (inl e) = subst (λ (y : A). own ≢ Some y) e all.0
 in_none own (x ∷ others) value all (inr h) = in_none own others value all.1 h
 in_none own [] value all h = absurd h
 
-pub decides_other : {A : Type 0} (wanted : A) (others : List A) → In wanted others → Decides (None, others) (λ own. own ≢ Some wanted)
-decides_other wanted others h own all = in_none own others wanted all h
+-- ---- narrowing what is known
+
+pub narrows_has : {A : Type 0} (known : Known A) (value : A) → IsOpen known value → Narrows known (Some value, []) (λ own. own ≡ Some value)
+narrows_has {A} known value free own = (
+  λ e. (subst (λ (v : Option A). AgreesWith v known.1 own) (sym free.0) (subst (λ (o : Option A). IsNone o known.1) (sym e) (outside_none value known.1 free.1)), e),
+  λ h. h.1,
+)
+
+pub narrows_has_not : {A : Type 0} (known : Known A) (value : A) → IsOpen known value → Narrows known (leaving_out known value) (λ own. own ≢ Some value)
+narrows_has_not {A} known value free own =
+    subst (λ (v : Option A). AgreesWith v (known.1 ++ value ∷ []) own ↔ (AgreesWith v known.1 own × (own ≢ Some value))) (sym free.0)
+    (λ h. none_before own known.1 value h, λ h. none_after own known.1 value h.0 h.1)
+
+-- ---- what is known tells
+
+pub tells_other : {A : Type 0} (others : List A) (wanted : A) → In wanted others → Tells (None, others) wanted (Some false)
+tells_other others wanted h own all = in_none own others wanted all h
 
 -- ---- the least number outside
-
-pub outside_none : (number : ℕ) (others : List ℕ) → (In number others → ⊥) → IsNone (Some number) others
-outside_none number [] out = tt
-outside_none number (x ∷ others) out = ((λ e. out (inl (sym (same_some number x e)))), outside_none number others (λ h. out (inr h)))
 
 without : ℕ → List ℕ → List ℕ
 without n [] = []

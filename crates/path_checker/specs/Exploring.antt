@@ -1,5 +1,6 @@
 -- When the states that are kept stand for all runs from other ones.
 use Rattle.std.specs.Prelude.{◌≡◌, ◌⊎◌, ℕ, Bool, List, [], ◌∷◌, ◌++◌, length}
+use Rattle.suit_params.specs.InForce.{Parameters}
 use Rattle.path_model.specs.declared.identity.Identity.{Identity}
 use Rattle.path_model.specs.declared.event.Event.{Event}
 use Rattle.path_model.specs.declared.event.Event.TheVariants.{Failed}
@@ -22,6 +23,12 @@ pub record Kept : Type 0 where
   pub facts : List Knowledge
   pub events : List Event
   pub state : State
+
+abbrev pub state_of : Parameters → List ℕ → Bool → State
+state_of parameters selection soft_failure = record { parameters = parameters; selection = selection; soft_failure = soft_failure }
+
+abbrev pub kept_of : List Knowledge → List Event → State → Kept
+kept_of facts events state = record { facts = facts; events = events; state = state }
 
 -- a failed condition at a place, with the soft failure that its sequence held
 pub record Stopped : Type 0 where

@@ -1,16 +1,12 @@
 -- Whether a component has something of its own, as far as the facts tell.
-use Rattle.std.specs.Prelude.{◌≡◌, ◌≢◌, ◌↔◌, ℕ, List, Option, Some, slice_get}
+use Rattle.std.specs.Prelude.{◌≡◌, ◌≢◌, ◌↔◌, ◌++◌, ℕ, Bool, true, false, List, [], ◌∷◌, Option, Some, None, slice_get}
 use Rattle.path_model.specs.declared.identity.Identity.{Identity}
 use Rattle.path_checker.specs.declared.judge_plan.facts.Own.{Own}
+use Rattle.path_checker.specs.declared.judge_plan.facts.Own.TheVariants as owns
 use Rattle.path_checker.specs.declared.judge_plan.facts.Knowledge.{Knowledge}
 use Rattle.path_checker.specs.declared.judge_plan.facts.Fork.{Fork}
 use Rattle.path_checker.specs.declared.judge_plan.facts.Fork.TheVariants as forks
-use Rattle.path_checker.specs.declared.judge_plan.facts.KnowledgeFork.{KnowledgeFork}
-use Rattle.path_checker.specs.declared.judge_plan.facts.KnowledgeFork.TheVariants as ones
-use Rattle.path_checker.specs.declared.judge_plan.known.IdentifierFork.{IdentifierFork}
-use Rattle.path_checker.specs.declared.judge_plan.known.IdentifierFork.TheVariants as identifiers
-use Rattle.path_checker.specs.declared.judge_plan.known.SlotFork.{SlotFork}
-use Rattle.path_checker.specs.declared.judge_plan.known.SlotFork.TheVariants as slots
+use Rattle.path_checker.specs.Exploring.{In}
 use Rattle.path_checker.specs.Knowing.{Known, Agrees, AllowsOne, Allows, HasOwn, Learns}
 
 -- knowledge is narrowed to this
@@ -20,17 +16,15 @@ Narrows {A} known narrowed fact = (own : Option A) → Agrees narrowed own ↔ (
 abbrev pub Decides : {A : Type 0} → Known A → (Option A → Type 0) → Type 0
 Decides {A} known fact = (own : Option A) → Agrees known own → fact own
 
-abbrev pub ForksIdentifier : Known (List ℕ) → List ℕ → IdentifierFork → Type 0
-ForksIdentifier known wanted identifiers.Has = Decides known (λ own. own ≡ Some wanted)
-ForksIdentifier known wanted identifiers.HasNot = Decides known (λ own. own ≢ Some wanted)
-ForksIdentifier known wanted (identifiers.Either has has_not) =
-    Narrows known has (λ own. own ≡ Some wanted) × Narrows known has_not (λ own. own ≢ Some wanted)
+-- neither this value nor another is known, and this one is not left out
+abbrev pub IsOpen : {A : Type 0} → Known A → A → Type 0
+IsOpen known value = (known.0 ≡ None) × (In value known.1 → ⊥)
 
-abbrev pub ForksSlot : Known ℕ → ℕ → SlotFork → Type 0
-ForksSlot known wanted slots.Has = Decides known (λ own. own ≡ Some wanted)
-ForksSlot known wanted slots.HasNot = Decides known (λ own. own ≢ Some wanted)
-ForksSlot known wanted (slots.Either has has_not) =
-    Narrows known has (λ own. own ≡ Some wanted) × Narrows known has_not (λ own. own ≢ Some wanted)
+-- whether it is this value, where that is known
+abbrev pub Tells : {A : Type 0} → Known A → A → Option Bool → Type 0
+Tells known wanted (Some true) = Decides known (λ own. own ≡ Some wanted)
+Tells known wanted (Some false) = Decides known (λ own. own ≢ Some wanted)
+Tells known wanted None = IsOpen known wanted
 
 -- ---- of one component
 
@@ -46,10 +40,28 @@ HasOne own identity = HasOwn identity own
 abbrev pub HasNoneOf : Own → Option Identity → Type 0
 HasNoneOf own identity = HasOwn identity own → ⊥
 
-abbrev pub ForksOne : Knowledge → Own → KnowledgeFork → Type 0
-ForksOne known own ones.Has = DecidesOne known (HasOne own)
-ForksOne known own ones.HasNot = DecidesOne known (HasNoneOf own)
-ForksOne known own (ones.Either has has_not) = NarrowsOne known has (HasOne own) × NarrowsOne known has_not (HasNoneOf own)
+abbrev pub TellsOne : Knowledge → Own → Option Bool → Type 0
+TellsOne known (owns.Vendor id) told = Tells known.vendor id told
+TellsOne known (owns.Class id) told = Tells known.class id told
+TellsOne known (owns.Device id) told = Tells known.device id told
+TellsOne known (owns.Slot number) told = Tells known.slot number told
+
+-- it has this
+abbrev pub learnt : Knowledge → Own → Knowledge
+learnt known (owns.Vendor id) = record known { vendor = (Some id, []) }
+learnt known (owns.Class id) = record known { class = (Some id, []) }
+learnt known (owns.Device id) = record known { device = (Some id, []) }
+learnt known (owns.Slot number) = record known { slot = (Some number, []) }
+
+-- it has it not
+abbrev pub leaving_out : {A : Type 0} → Known A → A → Known A
+leaving_out known value = (known.0, known.1 ++ value ∷ [])
+
+abbrev pub excluded : Knowledge → Own → Knowledge
+excluded known (owns.Vendor id) = record known { vendor = leaving_out known.vendor id }
+excluded known (owns.Class id) = record known { class = leaving_out known.class id }
+excluded known (owns.Device id) = record known { device = leaving_out known.device id }
+excluded known (owns.Slot number) = record known { slot = leaving_out known.slot number }
 
 -- ---- of all
 

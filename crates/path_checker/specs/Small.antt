@@ -3,7 +3,7 @@ use Rattle.std.specs.Prelude.{◌<◌, ◌≤◌, ℕ, List}
 use Rattle.std.specs.List.{AllByRecursion}
 use Rattle.suit_commands.specs.declared.selection.Selection.{Selection}
 use Rattle.suit_commands.specs.declared.selection.Selection.TheVariants.{One, All, Listed}
-use Rattle.suit_commands.specs.Tree.{CommandTree, Test, Act, Index, Override, TryEach, RunSequence, SequenceTree, NoSteps, StepThen, BranchesTree, NoBranches, BranchThen, NullThen}
+use Rattle.suit_commands.specs.Tree.{CommandTree, Index, TryEach, RunSequence, SequenceTree, NoSteps, StepThen, BranchesTree, NoBranches, BranchThen, NullThen}
 
 abbrev pub AreSmall : List ℕ → Type 0
 AreSmall components = AllByRecursion (λ component. component < 8) components
@@ -19,12 +19,10 @@ abbrev mutual
   IsSmallSequence count (StepThen place command rest) = IsSmallCommand count command × IsSmallSequence count rest
 
   pub IsSmallCommand : ℕ → CommandTree → Type 0
-  IsSmallCommand count (Test kind report) = Unit {0}
-  IsSmallCommand count (Act kind report) = Unit {0}
   IsSmallCommand count (Index selection) = SelectsSmall count selection
-  IsSmallCommand count (Override list) = Unit {0}
   IsSmallCommand count (TryEach branches) = AreSmallBranches count branches
   IsSmallCommand count (RunSequence inner) = IsSmallSequence count inner
+  IsSmallCommand count _ = Unit {0}
 
   pub AreSmallBranches : ℕ → BranchesTree → Type 0
   AreSmallBranches count NoBranches = Unit {0}

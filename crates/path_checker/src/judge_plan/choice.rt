@@ -1,33 +1,21 @@
 //! The identities that are reported with a path.
 
-ghost use Rattle.std.specs.Prelude.{◌≡◌, ◌↔◌, ◌≤◌, IsTrue, IfSome, IfOk, Some, length};
+ghost use Rattle.std.specs.Prelude.{◌≡◌, ◌≤◌, IfSome, IfOk, Some, length};
 ghost use Rattle.path_model.specs.Path.{IsIdentifier, IsIdentity};
-ghost use Rattle.path_checker.specs.Exploring.{In};
 ghost use Rattle.path_checker.specs.Knowing.{Agrees, AllowsOne};
 ghost use Rattle.path_checker.specs.Choosing.{IsLeastOutside, IsChosen};
 
 use crate::judge_plan::facts::{Facts, Knowledge};
-use crate::judge_plan::known::{KnownIdentifier, KnownSlot};
+use crate::judge_plan::known::{Known, is_among};
 use path_model::{Identities, Identity};
 use std::alloc::{AllocError, Global};
-
-fn is_among(numbers: &[u64], number: u64) -> bool
-    ensures { IsTrue result ↔ In number numbers.now }
-{
-    for other in numbers {
-        if *other == number {
-            return true;
-        }
-    }
-    false
-}
 
 // The least number that is none of these. It is at most their count.
 pub(crate) fn least_outside(numbers: &[u64]) -> u64
     ensures { IsLeastOutside numbers.now result }
 {
     let mut number: u64 = 0;
-    while is_among(numbers, number) {
+    while is_among(numbers, &number) {
         number += 1;
     }
     number
@@ -39,11 +27,11 @@ fn identifier_bounds(id: &[u8])
     ensures { IsIdentifier id.now }
 {}
 
-fn chosen_identifier(known: &KnownIdentifier) -> Option<[u8; 16]>
+fn chosen_identifier(known: &Known<[u8; 16]>) -> Option<[u8; 16]>
     ensures agrees { Agrees known.now result }
     ensures bounds { IfSome result IsIdentifier }
 {
-    let chosen = known.chosen();
+    let chosen = known.identifier();
     if let Some(id) = &chosen {
         identifier_bounds(&id[..]);
     }
@@ -60,7 +48,7 @@ fn chosen_one(known: &Knowledge) -> Identity
         vendor: chosen_identifier(&known.vendor),
         class: chosen_identifier(&known.class),
         device: chosen_identifier(&known.device),
-        slot: known.slot.chosen(),
+        slot: known.slot.slot(),
     }
 }
 

@@ -1,12 +1,11 @@
 //! Knowledge of the identities of all components.
 
 ghost use Rattle.std.specs.Prelude.{◌≡◌, ◌<◌, length, slice_set, IsTrue, IfOk};
-ghost use Rattle.path_checker.specs.declared.judge_plan.facts.Own.TheVariants.{Vendor, Class, Device, Slot};
 ghost use Rattle.path_checker.specs.Knowing.{nothing, nothing_known};
-ghost use Rattle.path_checker.specs.Forking.{Forks, ForksOne};
+ghost use Rattle.path_checker.specs.Forking.{Forks, TellsOne, learnt, excluded};
 
 use crate::judge_plan::fingerprint::mixed;
-use crate::judge_plan::known::{IdentifierFork, KnownIdentifier, KnownSlot, SlotFork};
+use crate::judge_plan::known::Known;
 use std::alloc::{AllocError, Global};
 use std::marker::Model;
 use std::rc::Rc;
@@ -23,10 +22,10 @@ pub(crate) enum Own {
 /// Knowledge of one component's identity.
 #[derive(Debug, Drop)]
 pub(crate) struct Knowledge {
-    pub vendor: KnownIdentifier,
-    pub class: KnownIdentifier,
-    pub device: KnownIdentifier,
-    pub slot: KnownSlot,
+    pub vendor: Known<[u8; 16]>,
+    pub class: Known<[u8; 16]>,
+    pub device: Known<[u8; 16]>,
+    pub slot: Known<u64>,
 }
 
 /// Knowledge of the identity of each component, from the first on. Copies share it.
@@ -52,24 +51,16 @@ pub(crate) enum Fork {
     Either(Facts, Facts),
 }
 
-/// The same for one component.
-#[derive(Drop)]
-pub(crate) enum KnowledgeFork {
-    Has,
-    HasNot,
-    Either(Knowledge, Knowledge),
-}
-
 impl Knowledge {
     // Nothing is known. Takes no memory.
     fn new(alloc: Global) -> Knowledge
         ensures { result ≡ nothing }
     {
         Knowledge {
-            vendor: KnownIdentifier::new(alloc),
-            class: KnownIdentifier::new(alloc),
-            device: KnownIdentifier::new(alloc),
-            slot: KnownSlot::new(alloc),
+            vendor: Known::new(alloc),
+            class: Known::new(alloc),
+            device: Known::new(alloc),
+            slot: Known::new(alloc),
         }
     }
 
@@ -102,99 +93,44 @@ impl Knowledge {
         )
     }
 
-    fn with_vendor(&self, alloc: Global, vendor: KnownIdentifier) -> Result<Knowledge, AllocError>
-        ensures { IfOk result (λ other. other ≡ record self.now { vendor = vendor }) }
-    {
-        let mut other = self.copy(alloc)?;
-        other.vendor = vendor;
-        Ok(other)
-    }
-
-    fn with_class(&self, alloc: Global, class: KnownIdentifier) -> Result<Knowledge, AllocError>
-        ensures { IfOk result (λ other. other ≡ record self.now { class = class }) }
-    {
-        let mut other = self.copy(alloc)?;
-        other.class = class;
-        Ok(other)
-    }
-
-    fn with_device(&self, alloc: Global, device: KnownIdentifier) -> Result<Knowledge, AllocError>
-        ensures { IfOk result (λ other. other ≡ record self.now { device = device }) }
-    {
-        let mut other = self.copy(alloc)?;
-        other.device = device;
-        Ok(other)
-    }
-
-    fn with_slot(&self, alloc: Global, slot: KnownSlot) -> Result<Knowledge, AllocError>
-        ensures { IfOk result (λ other. other ≡ record self.now { slot = slot }) }
-    {
-        let mut other = self.copy(alloc)?;
-        other.slot = slot;
-        Ok(other)
-    }
-
-    fn fork_vendor(&self, alloc: Global, id: &[u8; 16]) -> Result<KnowledgeFork, AllocError>
-        ensures { IfOk result (ForksOne self.now (Vendor id.now)) }
-    {
-        match self.vendor.fork(alloc, id)? {
-            IdentifierFork::Has => Ok(KnowledgeFork::Has),
-            IdentifierFork::HasNot => Ok(KnowledgeFork::HasNot),
-            IdentifierFork::Either(has, has_not) => Ok(KnowledgeFork::Either(
-                self.with_vendor(alloc, has)?,
-                self.with_vendor(alloc, has_not)?,
-            )),
-        }
-    }
-
-    fn fork_class(&self, alloc: Global, id: &[u8; 16]) -> Result<KnowledgeFork, AllocError>
-        ensures { IfOk result (ForksOne self.now (Class id.now)) }
-    {
-        match self.class.fork(alloc, id)? {
-            IdentifierFork::Has => Ok(KnowledgeFork::Has),
-            IdentifierFork::HasNot => Ok(KnowledgeFork::HasNot),
-            IdentifierFork::Either(has, has_not) => Ok(KnowledgeFork::Either(
-                self.with_class(alloc, has)?,
-                self.with_class(alloc, has_not)?,
-            )),
-        }
-    }
-
-    fn fork_device(&self, alloc: Global, id: &[u8; 16]) -> Result<KnowledgeFork, AllocError>
-        ensures { IfOk result (ForksOne self.now (Device id.now)) }
-    {
-        match self.device.fork(alloc, id)? {
-            IdentifierFork::Has => Ok(KnowledgeFork::Has),
-            IdentifierFork::HasNot => Ok(KnowledgeFork::HasNot),
-            IdentifierFork::Either(has, has_not) => Ok(KnowledgeFork::Either(
-                self.with_device(alloc, has)?,
-                self.with_device(alloc, has_not)?,
-            )),
-        }
-    }
-
-    fn fork_slot(&self, alloc: Global, number: u64) -> Result<KnowledgeFork, AllocError>
-        ensures { IfOk result (ForksOne self.now (Slot number)) }
-    {
-        match self.slot.fork(alloc, number)? {
-            SlotFork::Has => Ok(KnowledgeFork::Has),
-            SlotFork::HasNot => Ok(KnowledgeFork::HasNot),
-            SlotFork::Either(has, has_not) => Ok(KnowledgeFork::Either(
-                self.with_slot(alloc, has)?,
-                self.with_slot(alloc, has_not)?,
-            )),
-        }
-    }
-
-    fn fork(&self, alloc: Global, own: &Own) -> Result<KnowledgeFork, AllocError>
-        ensures { IfOk result (ForksOne self.now own.now) }
+    // Whether it has this, where that is known.
+    fn tells(&self, own: &Own) -> Option<bool>
+        ensures { TellsOne self.now own.now result }
     {
         match own {
-            Own::Vendor(id) => self.fork_vendor(alloc, id),
-            Own::Class(id) => self.fork_class(alloc, id),
-            Own::Device(id) => self.fork_device(alloc, id),
-            Own::Slot(number) => self.fork_slot(alloc, *number),
+            Own::Vendor(id) => self.vendor.tells(id),
+            Own::Class(id) => self.class.tells(id),
+            Own::Device(id) => self.device.tells(id),
+            Own::Slot(number) => self.slot.tells(number),
         }
+    }
+
+    // A copy that has this.
+    fn with(&self, alloc: Global, own: &Own) -> Result<Knowledge, AllocError>
+        ensures { IfOk result (λ other. other ≡ learnt self.now own.now) }
+    {
+        let mut other = self.copy(alloc)?;
+        match own {
+            Own::Vendor(id) => other.vendor = Known::of(alloc, *id),
+            Own::Class(id) => other.class = Known::of(alloc, *id),
+            Own::Device(id) => other.device = Known::of(alloc, *id),
+            Own::Slot(number) => other.slot = Known::of(alloc, *number),
+        }
+        Ok(other)
+    }
+
+    // A copy that has it not.
+    fn without(&self, alloc: Global, own: &Own) -> Result<Knowledge, AllocError>
+        ensures { IfOk result (λ other. other ≡ excluded self.now own.now) }
+    {
+        let mut other = self.copy(alloc)?;
+        match own {
+            Own::Vendor(id) => other.vendor.exclude(*id)?,
+            Own::Class(id) => other.class.exclude(*id)?,
+            Own::Device(id) => other.device.exclude(*id)?,
+            Own::Slot(number) => other.slot.exclude(*number)?,
+        }
+        Ok(other)
     }
 }
 
@@ -286,12 +222,12 @@ impl Facts {
         if index >= held.len() {
             return Ok(Fork::HasNot);
         }
-        match held[index].fork(alloc, own)? {
-            KnowledgeFork::Has => Ok(Fork::Has),
-            KnowledgeFork::HasNot => Ok(Fork::HasNot),
-            KnowledgeFork::Either(has, has_not) => {
-                let has = self.with(alloc, index, has)?;
-                let has_not = self.with(alloc, index, has_not)?;
+        let known = &held[index];
+        match known.tells(own) {
+            Some(has) => { if has { Ok(Fork::Has) } else { Ok(Fork::HasNot) } }
+            None => {
+                let has = self.with(alloc, index, known.with(alloc, own)?)?;
+                let has_not = self.with(alloc, index, known.without(alloc, own)?)?;
                 Ok(Fork::Either(has, has_not))
             }
         }

@@ -16,7 +16,9 @@ use std::alloc::{AllocError, Global};
 use std::marker::Model;
 use std::rc::Rc;
 use suit_commands::TestKind;
-use suit_params::{Digest, Param, ParamKey, ParamList, Params, in_force_laws};
+use suit_params::{
+    Digest, Param, ParamKey, ParamList, Params, identifier_of, in_force_laws, number_of,
+};
 
 /// The parameters in force, each under its own key. Copies share them until one is overridden.
 #[derive(Drop)]
@@ -35,28 +37,6 @@ impl<'a> Model for InForce<'a> {
     ghost use Rattle.path_checker.specs.Keyed.{IsKeyed};
 
     ghost invariant = { λ a. IsKeyed a.params.value };
-}
-
-fn identifier_of(param: Option<&Param>) -> Option<[u8; 16]>
-    ensures { result ≡ identifier_of (option_copied param.entry) }
-{
-    match param {
-        Some(Param::Vendor(id)) => Some(*id),
-        Some(Param::Class(id)) => Some(*id),
-        Some(Param::Device(id)) => Some(*id),
-        _ => None,
-    }
-}
-
-fn number_of(param: Option<&Param>) -> Option<u64>
-    ensures { result ≡ number_of (option_copied param.entry) }
-{
-    match param {
-        Some(Param::Slot(number)) => Some(*number),
-        Some(Param::Size(size)) => Some(*size),
-        Some(Param::Source(component)) => Some(*component as u64),
-        _ => None,
-    }
 }
 
 fn has_bytes(param: Option<&Param>) -> bool

@@ -19,14 +19,11 @@ pub(crate) struct Outer<'a> {
 
 impl<'a> Model for Outer<'a> {
     ghost use Rattle.path_model.specs.Behaviour.{State};
+    ghost use Rattle.path_checker.specs.Exploring.{state_of};
 
     ghost Value = { State };
 
-    ghost view = { λ a. record {
-      parameters = a.params;
-      selection = a.selection;
-      soft_failure = a.soft_failure;
-    } };
+    ghost view = { λ a. state_of a.params a.selection a.soft_failure };
 }
 
 pub(crate) fn outer_of<'a>(k: &Kept<'a>) -> Result<Outer<'a>, AllocError>

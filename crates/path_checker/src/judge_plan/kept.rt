@@ -1,6 +1,7 @@
 //! The states that a judgement keeps.
 
 ghost use Rattle.std.specs.Prelude.{◌≡◌, [], ◌∷◌, ◌++◌, IsTrue, IfOk, OnOk};
+ghost use Rattle.path_checker.specs.Exploring.{Kept as TheKept, Stopped as TheStopped, kept_of, state_of};
 ghost use Rattle.path_checker.specs.Happening.{event_of};
 ghost use Rattle.path_checker.specs.Merging.{SameState, SameStop};
 ghost use Rattle.path_checker.specs.Steps.{with_events, knowing, stopped_by};
@@ -27,19 +28,9 @@ pub(crate) struct Kept<'a> {
 }
 
 impl<'a> Model for Kept<'a> {
-    ghost use Rattle.path_checker.specs.Exploring.{Kept as TheKept};
-
     ghost Value = { TheKept };
 
-    ghost view = { λ a. record {
-      facts = a.facts;
-      events = a.history;
-      state = record {
-        parameters = a.params;
-        selection = a.selection;
-        soft_failure = a.soft_failure;
-      };
-    } };
+    ghost view = { λ a. kept_of a.facts a.history (state_of a.params a.selection a.soft_failure) };
 }
 
 /// A failed condition at a place, with the soft failure that its sequence held.
@@ -52,8 +43,6 @@ pub(crate) struct Stopped<'a> {
 }
 
 impl<'a> Model for Stopped<'a> {
-    ghost use Rattle.path_checker.specs.Exploring.{Stopped as TheStopped};
-
     ghost Value = { TheStopped };
 
     ghost view = { λ a. record {
@@ -64,18 +53,28 @@ impl<'a> Model for Stopped<'a> {
     } };
 }
 
-impl<'a> Stopped<'a> {
+/// A state or a failure, of which one may stand for another.
+pub(crate) trait Standing: Drop {
+    ghost same: { Self → Self → Type 0 };
+
     /// Whether they are the same, except for the place and how they were reached.
-    pub(crate) fn is_same(&self, other: &Stopped<'_>) -> bool
-        ensures { IsTrue result → SameStop self.now other.now }
-    {
+    fn is_same(&self, other: &Self) -> bool
+        ensures { IsTrue result → same self.now other.now };
+
+    /// A fingerprint: equal where they are the same.
+    fn fingerprint(&self) -> u64;
+}
+
+impl<'a> Standing for Stopped<'a> {
+    ghost same = { SameStop };
+
+    fn is_same(&self, other: &Stopped<'a>) -> bool {
         self.soft_failure == other.soft_failure
             && self.facts.is_same(&other.facts)
             && self.history.same_matches(&other.history)
     }
 
-    /// A fingerprint: equal where they are the same.
-    pub(crate) fn fingerprint(&self) -> u64 {
+    fn fingerprint(&self) -> u64 {
         mixed(
             mixed(self.soft_failure as u64, self.facts.fingerprint()),
             self.history.fingerprint(),
@@ -83,11 +82,10 @@ impl<'a> Stopped<'a> {
     }
 }
 
-impl<'a> Kept<'a> {
-    /// Whether they are the same, except for how they were reached.
-    pub(crate) fn is_same(&self, other: &Kept<'_>) -> bool
-        ensures { IsTrue result → SameState self.now other.now }
-    {
+impl<'a> Standing for Kept<'a> {
+    ghost same = { SameState };
+
+    fn is_same(&self, other: &Kept<'a>) -> bool {
         self.soft_failure == other.soft_failure
             && self.selection.is_same(&other.selection)
             && self.facts.is_same(&other.facts)
@@ -95,8 +93,7 @@ impl<'a> Kept<'a> {
             && self.history.same_matches(&other.history)
     }
 
-    /// A fingerprint: equal where they are the same.
-    pub(crate) fn fingerprint(&self) -> u64 {
+    fn fingerprint(&self) -> u64 {
         let count = self.facts.as_slice().len();
         let known = mixed(self.facts.fingerprint(), self.params.fingerprint(count));
         mixed(
@@ -104,7 +101,9 @@ impl<'a> Kept<'a> {
             self.history.fingerprint(),
         )
     }
+}
 
+impl<'a> Kept<'a> {
     /// The same. Takes no memory.
     pub(crate) fn copy(&self) -> Result<Kept<'a>, AllocError>
         ensures { IfOk result (λ k. k ≡ self.now) }

@@ -1,61 +1,83 @@
-//! Knowledge of one identifier or slot number.
+//! Knowledge of one value: an identifier or a slot number.
 
-ghost use Rattle.std.specs.Prelude.{◌≡◌, ◌↔◌, IsTrue, IfOk, Some, None, []};
+ghost use Rattle.std.specs.Prelude.{◌≡◌, ◌↔◌, IsTrue, IfOk, OnOk, Some, None, []};
+ghost use Rattle.path_checker.specs.Exploring.{In};
 ghost use Rattle.path_checker.specs.Knowing.{Agrees};
-ghost use Rattle.path_checker.specs.Forking.{ForksIdentifier, ForksSlot};
+ghost use Rattle.path_checker.specs.Forking.{Tells, leaving_out};
 
 use crate::judge_plan::choice::least_outside;
-use crate::judge_plan::fingerprint::{mixed, of_bytes, of_number};
+use crate::judge_plan::fingerprint::{mixed, of_bytes};
 use std::alloc::{AllocError, Global};
 use std::marker::Model;
 
-/// An identifier, which may be absent: the value that it is, if that is known, or those that it is not.
-#[derive(Debug, Drop)]
-pub(crate) struct KnownIdentifier {
-    value: Option<[u8; 16]>,
-    others: Vec<[u8; 16]>,
+/// A value that may be known: an identifier or a slot number.
+pub(crate) trait Fact: Copy {
+    /// Whether it is the other.
+    fn is(&self, other: &Self) -> bool
+        ensures { IsTrue result ↔ self.now ≡ other.now };
+
+    /// A fingerprint: equal where they are the same.
+    fn fingerprint(&self) -> u64;
 }
 
-impl Model for KnownIdentifier {
-    ghost use Rattle.std.specs.Prelude.{List, ℕ, Option};
+impl Fact for [u8; 16] {
+    fn is(&self, other: &[u8; 16]) -> bool {
+        *self == *other
+    }
 
-    ghost Value = { Option (List ℕ) × List (List ℕ) };
+    fn fingerprint(&self) -> u64 {
+        of_bytes(&self[..])
+    }
+}
+
+impl Fact for u64 {
+    fn is(&self, other: &u64) -> bool {
+        *self == *other
+    }
+
+    fn fingerprint(&self) -> u64 {
+        mixed(2, *self)
+    }
+}
+
+/// A value, which may be absent: the one that it is, if that is known, or those that it is not.
+#[derive(Debug, Drop)]
+pub(crate) struct Known<T> {
+    value: Option<T>,
+    others: Vec<T>,
+}
+
+impl<T> Model for Known<T> {
+    ghost use Rattle.std.specs.Prelude.{List, Option};
+
+    ghost Value = { Option T × List T };
 
     ghost view = { λ a. (a.value, a.others.items) };
 }
 
-/// A slot number, likewise. It is never absent.
-#[derive(Debug, Drop)]
-pub(crate) struct KnownSlot {
-    value: Option<u64>,
-    others: Vec<u64>,
+/// Whether a value is one of these.
+pub(crate) fn is_among<T: Fact>(values: &[T], value: &T) -> bool
+    ensures { IsTrue result ↔ In value.now values.now }
+{
+    for other in values {
+        if other.is(value) {
+            return true;
+        }
+    }
+    false
 }
 
-impl Model for KnownSlot {
-    ghost use Rattle.std.specs.Prelude.{List, ℕ, Option};
-
-    ghost Value = { Option ℕ × List ℕ };
-
-    ghost view = { λ a. (a.value, a.others.items) };
+fn same_value<T: Fact>(one: &Option<T>, other: &Option<T>) -> bool
+    ensures { IsTrue result → one.now ≡ other.now }
+{
+    match (one, other) {
+        (Some(one), Some(other)) => one.is(other),
+        (None, None) => true,
+        _ => false,
+    }
 }
 
-/// Whether an identifier is one, or what is known where it is and where it is not.
-#[derive(Drop)]
-pub(crate) enum IdentifierFork {
-    Has,
-    HasNot,
-    Either(KnownIdentifier, KnownIdentifier),
-}
-
-/// The same for a slot number.
-#[derive(Drop)]
-pub(crate) enum SlotFork {
-    Has,
-    HasNot,
-    Either(KnownSlot, KnownSlot),
-}
-
-fn same_identifiers(ones: &[[u8; 16]], others: &[[u8; 16]]) -> bool
+fn same_values<T: Fact>(ones: &[T], others: &[T]) -> bool
     ensures { IsTrue result → ones.now ≡ others.now }
 {
     if ones.len() != others.len() {
@@ -63,7 +85,7 @@ fn same_identifiers(ones: &[[u8; 16]], others: &[[u8; 16]]) -> bool
     }
     let mut index = 0;
     while index < ones.len() {
-        if ones[index] != others[index] {
+        if !ones[index].is(&others[index]) {
             return false;
         }
         index += 1;
@@ -71,132 +93,89 @@ fn same_identifiers(ones: &[[u8; 16]], others: &[[u8; 16]]) -> bool
     true
 }
 
-impl KnownIdentifier {
+impl<T: Fact> Known<T> {
     /// Nothing is known. Takes no memory.
-    pub(crate) fn new(alloc: Global) -> KnownIdentifier
+    pub(crate) fn new(alloc: Global) -> Known<T>
         ensures { result ≡ (None, []) }
     {
-        KnownIdentifier {
+        Known {
             value: None,
             others: Vec::new(alloc),
         }
     }
 
+    /// It is this one. Takes no memory.
+    pub(crate) fn of(alloc: Global, value: T) -> Known<T>
+        ensures { result ≡ (Some value, []) }
+    {
+        Known {
+            value: Some(value),
+            others: Vec::new(alloc),
+        }
+    }
+
+    /// It is not this one either.
+    pub(crate) fn exclude(&mut self, other: T) -> Result<(), AllocError>
+        ensures { OnOk result (self.new ≡ leaving_out self.old other) }
+    {
+        self.others.push(other)?;
+        Ok(())
+    }
+
     /// A copy in memory of its own.
-    pub(crate) fn copy(&self, alloc: Global) -> Result<KnownIdentifier, AllocError>
+    pub(crate) fn copy(&self, alloc: Global) -> Result<Known<T>, AllocError>
         ensures { IfOk result (λ other. other ≡ self.now) }
     {
-        Ok(KnownIdentifier {
+        Ok(Known {
             value: self.value,
             others: Vec::from_slice(alloc, &self.others)?,
         })
     }
 
     /// Whether the same is known.
-    pub(crate) fn is_same(&self, other: &KnownIdentifier) -> bool
+    pub(crate) fn is_same(&self, other: &Known<T>) -> bool
         ensures { IsTrue result → self.now ≡ other.now }
     {
-        self.value == other.value && same_identifiers(&self.others, &other.others)
+        same_value(&self.value, &other.value) && same_values(&self.others, &other.others)
     }
 
     /// A fingerprint: equal where the same is known.
     pub(crate) fn fingerprint(&self) -> u64 {
         match &self.value {
-            Some(value) => of_bytes(&value[..]),
+            Some(value) => value.fingerprint(),
             None => self.others.len() as u64,
         }
     }
 
+    /// Whether it is this one, where that is known.
+    pub(crate) fn tells(&self, wanted: &T) -> Option<bool>
+        ensures { Tells self.now wanted.now result }
+    {
+        match &self.value {
+            Some(value) => Some(value.is(wanted)),
+            None => {
+                if is_among(&self.others, wanted) {
+                    Some(false)
+                } else {
+                    None
+                }
+            }
+        }
+    }
+}
+
+impl Known<[u8; 16]> {
     /// The identifier, where it is known, and otherwise none.
-    pub(crate) fn chosen(&self) -> Option<[u8; 16]>
+    pub(crate) fn identifier(&self) -> Option<[u8; 16]>
         ensures { Agrees self.now result }
     {
         self.value
     }
-
-    /// Whether it is this identifier.
-    pub(crate) fn fork(
-        &self,
-        alloc: Global,
-        wanted: &[u8; 16],
-    ) -> Result<IdentifierFork, AllocError>
-        ensures { IfOk result (ForksIdentifier self.now wanted.now) }
-    {
-        match self.value {
-            Some(value) => {
-                if value == *wanted {
-                    Ok(IdentifierFork::Has)
-                } else {
-                    Ok(IdentifierFork::HasNot)
-                }
-            }
-            None => fork_identifier(alloc, &self.others, wanted),
-        }
-    }
 }
 
-// An identifier that is not one of these.
-fn fork_identifier(
-    alloc: Global,
-    others: &[[u8; 16]],
-    wanted: &[u8; 16],
-) -> Result<IdentifierFork, AllocError>
-    ensures { IfOk result (ForksIdentifier (None, others.now) wanted.now) }
-{
-    for other in others {
-        if *other == *wanted {
-            return Ok(IdentifierFork::HasNot);
-        }
-    }
-    let mut more = Vec::from_slice(alloc, others)?;
-    more.push(*wanted)?;
-    Ok(IdentifierFork::Either(
-        KnownIdentifier {
-            value: Some(*wanted),
-            others: Vec::new(alloc),
-        },
-        KnownIdentifier {
-            value: None,
-            others: more,
-        },
-    ))
-}
-
-impl KnownSlot {
-    /// Nothing is known. Takes no memory.
-    pub(crate) fn new(alloc: Global) -> KnownSlot
-        ensures { result ≡ (None, []) }
-    {
-        KnownSlot {
-            value: None,
-            others: Vec::new(alloc),
-        }
-    }
-
-    /// A copy in memory of its own.
-    pub(crate) fn copy(&self, alloc: Global) -> Result<KnownSlot, AllocError>
-        ensures { IfOk result (λ other. other ≡ self.now) }
-    {
-        Ok(KnownSlot {
-            value: self.value,
-            others: Vec::from_slice(alloc, &self.others)?,
-        })
-    }
-
-    /// Whether the same is known.
-    pub(crate) fn is_same(&self, other: &KnownSlot) -> bool
-        ensures { IsTrue result → self.now ≡ other.now }
-    {
-        self.value == other.value && self.others == other.others
-    }
-
-    /// A fingerprint: equal where the same is known.
-    pub(crate) fn fingerprint(&self) -> u64 {
-        mixed(of_number(self.value), self.others.len() as u64)
-    }
-
-    /// The slot, where it is known, and otherwise the least number that it may be.
-    pub(crate) fn chosen(&self) -> u64
+impl Known<u64> {
+    /// The slot, where it is known, and otherwise the least number that it may be. It is never absent.
+    pub(crate) fn slot(&self) -> u64
         ensures { Agrees self.now (Some result) }
     {
         match self.value {
@@ -204,43 +183,4 @@ impl KnownSlot {
             None => least_outside(&self.others),
         }
     }
-
-    /// Whether it is this slot.
-    pub(crate) fn fork(&self, alloc: Global, wanted: u64) -> Result<SlotFork, AllocError>
-        ensures { IfOk result (ForksSlot self.now wanted) }
-    {
-        match self.value {
-            Some(value) => {
-                if value == wanted {
-                    Ok(SlotFork::Has)
-                } else {
-                    Ok(SlotFork::HasNot)
-                }
-            }
-            None => fork_slot(alloc, &self.others, wanted),
-        }
-    }
-}
-
-// A slot that is not one of these.
-fn fork_slot(alloc: Global, others: &[u64], wanted: u64) -> Result<SlotFork, AllocError>
-    ensures { IfOk result (ForksSlot (None, others.now) wanted) }
-{
-    for other in others {
-        if *other == wanted {
-            return Ok(SlotFork::HasNot);
-        }
-    }
-    let mut more = Vec::from_slice(alloc, others)?;
-    more.push(wanted)?;
-    Ok(SlotFork::Either(
-        KnownSlot {
-            value: Some(wanted),
-            others: Vec::new(alloc),
-        },
-        KnownSlot {
-            value: None,
-            others: more,
-        },
-    ))
 }

@@ -1,24 +1,42 @@
 //! Some states stand for all: those that differ only in how they were reached are kept once.
 
 ghost use Rattle.std.specs.Prelude.{◌≡◌, IsTrue, IfOk};
-ghost use Rattle.path_checker.specs.Exploring.{In, Kept as TheKept, Stopped as TheStopped};
+ghost use Rattle.path_checker.specs.Exploring.{In};
 ghost use Rattle.path_checker.specs.Merging.{Merges, SameState, SameStop};
 
-use crate::judge_plan::kept::{Kept, Stopped};
+use crate::judge_plan::kept::{Kept, Standing, Stopped};
 use std::alloc::{AllocError, Global};
 use std::collections::HashMap;
 
 // The smallest number of failures that are searched for equal ones.
 const FEW: usize = 32;
 
-// Whether the state at an index stands for this one.
-fn stands_for(kept: &[Kept<'_>], index: Option<&usize>, k: &Kept<'_>) -> bool
-    ensures { IsTrue result → (other : TheKept) × In other kept.now × SameState other k.now }
+// Whether the one at an index stands for this one.
+fn stands_for<T: Standing>(kept: &[T], index: Option<&usize>, one: &T) -> bool
+    ensures { IsTrue result → (other : T) × In other kept.now × T.same other one.now }
 {
     match index {
-        Some(index) => *index < kept.len() && kept[*index].is_same(k),
+        Some(index) => *index < kept.len() && kept[*index].is_same(one),
         None => false,
     }
+}
+
+// Some of these, which stand for all.
+fn merged<T: Standing>(alloc: Global, from: Vec<T>) -> Result<Vec<T>, AllocError>
+    requires { (one : T) → T.same one one }
+    ensures { IfOk result (λ v. Merges T.same from.items v.items) }
+{
+    let mut seen = HashMap::new(alloc);
+    let mut kept = Vec::new(alloc);
+    for one in from {
+        let print = one.fingerprint();
+        if stands_for(&kept, seen.get(&print), &one) {
+            continue;
+        }
+        seen.insert(print, kept.len())?;
+        kept.push(one)?;
+    }
+    Ok(kept)
 }
 
 /// Some of the states, which stand for all.
@@ -31,44 +49,7 @@ pub(crate) fn merged_states<'a>(
     if from.len() < 2 {
         return Ok(from);
     }
-    let mut seen = HashMap::new(alloc);
-    let mut kept = Vec::new(alloc);
-    for k in from {
-        let print = k.fingerprint();
-        if stands_for(&kept, seen.get(&print), &k) {
-            continue;
-        }
-        seen.insert(print, kept.len())?;
-        kept.push(k)?;
-    }
-    Ok(kept)
-}
-
-// Whether the failure at an index stands for this one.
-fn stop_stands_for(kept: &[Stopped<'_>], index: Option<&usize>, stop: &Stopped<'_>) -> bool
-    ensures { IsTrue result → (other : TheStopped) × In other kept.now × SameStop other stop.now }
-{
-    match index {
-        Some(index) => *index < kept.len() && kept[*index].is_same(stop),
-        None => false,
-    }
-}
-
-// Some of the failures, which stand for all.
-fn merged_stops<'a>(alloc: Global, from: Vec<Stopped<'a>>) -> Result<Vec<Stopped<'a>>, AllocError>
-    ensures { IfOk result (λ v. Merges SameStop from.entry.items v.items) }
-{
-    let mut seen = HashMap::new(alloc);
-    let mut kept = Vec::new(alloc);
-    for stop in from {
-        let print = stop.fingerprint();
-        if stop_stands_for(&kept, seen.get(&print), &stop) {
-            continue;
-        }
-        seen.insert(print, kept.len())?;
-        kept.push(stop)?;
-    }
-    Ok(kept)
+    merged(alloc, from)
 }
 
 /// The failures, or some that stand for all once they are twice as many as were left the last time.
@@ -82,7 +63,7 @@ pub(crate) fn settled<'a>(
     if from.len() / 2 < *left || from.len() < FEW {
         return Ok(from);
     }
-    let kept = merged_stops(alloc, from)?;
+    let kept = merged(alloc, from)?;
     *left = kept.len();
     Ok(kept)
 }

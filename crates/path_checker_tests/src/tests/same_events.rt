@@ -1,7 +1,9 @@
 //! Whether two events are the same.
 
+use crate::tests::worked_plans::telling;
 use path_model::Event;
-use suit_params::Param;
+use suit_commands::TestKind;
+use suit_params::{Digest, Param};
 
 fn is_same_param(one: &Param, other: &Param) -> bool {
     match one {
@@ -35,46 +37,25 @@ fn is_same_set(of: u32, param: &Param, other: &Event) -> bool {
     }
 }
 
+// The kind of condition, the digest, the size and the success that an event tells.
+fn details(event: &Event) -> (Option<TestKind>, Option<Digest>, Option<u64>, bool) {
+    match event {
+        Event::Tried { kind, passed, .. } => (Some(*kind), None, None, *passed),
+        Event::Matched { digest, size, .. } => (None, Some(*digest), *size, true),
+        Event::Invoked {
+            digest,
+            size,
+            passed,
+            ..
+        } => (None, *digest, *size, *passed),
+        _ => (None, None, None, true),
+    }
+}
+
 /// Whether both are the same event.
 pub(crate) fn is_same_event(one: &Event, other: &Event) -> bool {
     match one {
         Event::Set { component, param } => is_same_set(*component, param, other),
-        Event::Tried {
-            component,
-            kind,
-            passed,
-        } => {
-            matches!(other, Event::Tried { component: of, kind: found, passed: was_passed }
-                if of == component && found == kind && was_passed == passed)
-        }
-        Event::Matched {
-            component,
-            digest,
-            size,
-        } => {
-            matches!(other, Event::Matched { component: of, digest: found, size: found_size }
-                if of == component && found == digest && found_size == size)
-        }
-        Event::Missed { component } => {
-            matches!(other, Event::Missed { component: of } if of == component)
-        }
-        Event::Wrote { component } => {
-            matches!(other, Event::Wrote { component: of } if of == component)
-        }
-        Event::Invoked {
-            component,
-            digest,
-            size,
-            passed,
-        } => {
-            matches!(other, Event::Invoked { component: of, digest: found, size: found_size, passed: was_passed }
-                if of == component
-                    && found == digest
-                    && found_size == size
-                    && was_passed == passed)
-        }
-        Event::Failed { place } => {
-            matches!(other, Event::Failed { place: found } if found == place)
-        }
+        _ => telling(one) == telling(other) && details(one) == details(other),
     }
 }

@@ -1,12 +1,12 @@
 //! The judgement of small procedures that are drawn, beside all their runs.
 
-ghost use Rattle.std.specs.Prelude.{◌<◌, IfOk, IfSome};
-ghost use Rattle.suit_commands.specs.Allowed.{IsMember, IsPlan, IsShared};
+ghost use Rattle.std.specs.Prelude.{◌<◌, IfOk, IfSome, true, false};
+ghost use Rattle.suit_commands.specs.Allowed.{IsMember, IsPlan, IsSequence, IsShared, levels_allowed};
 ghost use Rattle.suit_commands.specs.Plans.{lent_tree, plan_tree};
 
 use crate::tests::all_runs::all_runs;
 use crate::tests::same_events::is_same_event;
-use crate::tests::worked_plans::{lend_member, lend_shared, member_part, shared_part};
+use crate::tests::worked_plans::{lend_member, lend_shared, part};
 use path_checker::{CheckVerdict, check};
 use path_model::{BadPath, Event, Identity, first_uncovered};
 use std::alloc::{AllocError, Global};
@@ -235,18 +235,18 @@ fn compared(alloc: Global, plan: &Plan<'_>) -> Result<Found, AllocError>
 }
 
 fn drawn_shared(draws: &mut Draws) -> Result<Option<Sequence>, AllocError>
-    ensures { IfOk result (λ part. IfSome part (IsShared 2)) }
+    ensures { IfOk result (λ part. IfSome part (IsSequence true 2 levels_allowed)) }
 {
     let bytes = drawn(draws, 1, true, SETS_DIGEST, b"")?;
-    shared_part(draws.alloc, bytes.as_slice(), 2)
+    part(draws.alloc, bytes.as_slice(), true, 2)
 }
 
 // A member, which ends with this command.
 fn drawn_member(draws: &mut Draws, last: &[u8]) -> Result<Option<Sequence>, AllocError>
-    ensures { IfOk result (λ part. IfSome part (IsMember 2)) }
+    ensures { IfOk result (λ part. IfSome part (IsSequence false 2 levels_allowed)) }
 {
     let bytes = drawn(draws, 2, false, b"", last)?;
-    member_part(draws.alloc, bytes.as_slice(), 2)
+    part(draws.alloc, bytes.as_slice(), false, 2)
 }
 
 fn with_first(

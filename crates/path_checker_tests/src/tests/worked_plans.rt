@@ -1,7 +1,7 @@
 //! Verdicts on worked procedures.
 
-ghost use Rattle.std.specs.Prelude.{◌≡◌, ◌≤◌, IfOk, IfSome};
-ghost use Rattle.suit_commands.specs.Allowed.{IsPlan, IsShared, IsMember};
+ghost use Rattle.std.specs.Prelude.{◌≡◌, ◌≤◌, IfOk, IfSome, true, false};
+ghost use Rattle.suit_commands.specs.Allowed.{IsPlan, IsSequence, IsShared, IsMember, levels_allowed};
 ghost use Rattle.suit_commands.specs.Plans.{lent_tree, plan_tree};
 
 use path_checker::{CheckVerdict, check};
@@ -28,58 +28,41 @@ const MATCH: &[u8] = b"\x82\x03\x0f";
 
 const INVOKE: &[u8] = b"\x82\x17\x0f";
 
-/// The shared sequence that the bytes spell. Others end a test as running out of memory does.
-pub(crate) fn shared_part(
+/// The shared sequence or the member that the bytes spell. Others end a test as running out of memory does.
+pub(crate) fn part(
     alloc: Global,
     bytes: &[u8],
+    shared: bool,
     count: u32,
 ) -> Result<Option<Sequence>, AllocError>
-    ensures { IfOk result (λ part. IfSome part (IsShared count)) }
+    ensures { IfOk result (λ part. IfSome part (IsSequence shared count levels_allowed)) }
 {
     sequence_laws();
     if bytes.is_empty() {
         return Ok(None);
     }
-    match decode_sequence(alloc, bytes, 100, true, count) {
-        Ok(sequence) => Ok(Some(sequence)),
-        Err(_) => Err(AllocError),
-    }
-}
-
-/// The member that the bytes spell, likewise.
-pub(crate) fn member_part(
-    alloc: Global,
-    bytes: &[u8],
-    count: u32,
-) -> Result<Option<Sequence>, AllocError>
-    ensures { IfOk result (λ part. IfSome part (IsMember count)) }
-{
-    sequence_laws();
-    if bytes.is_empty() {
-        return Ok(None);
-    }
-    match decode_sequence(alloc, bytes, 100, false, count) {
+    match decode_sequence(alloc, bytes, 100, shared, count) {
         Ok(sequence) => Ok(Some(sequence)),
         Err(_) => Err(AllocError),
     }
 }
 
 pub(crate) fn lend_shared(part: &Option<Sequence>, count: u32) -> Option<&Sequence>
-    requires { IfSome part.now (IsShared count) }
+    requires { IfSome part.now (IsSequence true count levels_allowed) }
     ensures { IsShared count (lent_tree result) }
 {
     part.as_ref()
 }
 
 pub(crate) fn lend_member(part: &Option<Sequence>, count: u32) -> Option<&Sequence>
-    requires { IfSome part.now (IsMember count) }
+    requires { IfSome part.now (IsSequence false count levels_allowed) }
     ensures { IsMember count (lent_tree result) }
 {
     part.as_ref()
 }
 
-// The line of an event: a word, and the component or the place. None for a parameter that is set.
-fn telling(event: &Event) -> Option<(&'static str, u64)> {
+/// The line of an event: a word, and the component or the place. None for a parameter that is set.
+pub(crate) fn telling(event: &Event) -> Option<(&'static str, u64)> {
     match event {
         Event::Set { .. } => None,
         Event::Tried { component, .. } => Some(("tried", *component as u64)),
@@ -154,7 +137,7 @@ fn with_members(
     requires first { IsMember worked.now.count (lent_tree first) }
     requires second { IsMember worked.now.count (lent_tree second) }
 {
-    let third = member_part(alloc, worked.third, worked.count)?;
+    let third = part(alloc, worked.third, false, worked.count)?;
     let plan = Plan {
         shared,
         first,
@@ -177,7 +160,7 @@ fn with_member(
     requires shared { IsShared worked.now.count (lent_tree shared) }
     requires first { IsMember worked.now.count (lent_tree first) }
 {
-    let second = member_part(alloc, worked.second, worked.count)?;
+    let second = part(alloc, worked.second, false, worked.count)?;
     let second = lend_member(&second, worked.count);
     with_members(alloc, worked, shared, first, second, told)
 }
@@ -192,7 +175,7 @@ fn with_shared(
     requires few { worked.now.count ≤ 8 }
     requires shared { IsShared worked.now.count (lent_tree shared) }
 {
-    let first = member_part(alloc, worked.first, worked.count)?;
+    let first = part(alloc, worked.first, false, worked.count)?;
     let first = lend_member(&first, worked.count);
     with_member(alloc, worked, told, shared, first)
 }
@@ -202,7 +185,7 @@ fn is_judged(alloc: Global, worked: &Worked<'_>, told: &str) -> Result<bool, All
     requires some { 1 ≤ worked.now.count }
     requires few { worked.now.count ≤ 8 }
 {
-    let shared = shared_part(alloc, worked.shared, worked.count)?;
+    let shared = part(alloc, worked.shared, true, worked.count)?;
     let shared = lend_shared(&shared, worked.count);
     with_shared(alloc, told, worked, shared)
 }

@@ -2,7 +2,7 @@ use Rattle.std.proofs.Common.{ℕ, List, Option, Some, sym, subst}
 use Rattle.path_checker.specs.Exploring.{In}
 use Rattle.path_checker.specs.Knowing.{Known, Agrees, AgreesWith}
 use Rattle.path_checker.proofs.Outside.{outside_none}
-use Rattle.path_checker.proofs.judge_plan.known.KnownSlot.chosen.Goals as goal
+use Rattle.path_checker.proofs.judge_plan.known.Known+u64.slot.Goals as goal
 
 pub returns-in-None : goal.returns-in-None
 returns-in-None c =
