@@ -15,7 +15,7 @@ use Rattle.step_machine.specs.declared.machine.Machine.{Machine}
 use Rattle.step_machine.specs.Comes.{Comes}
 use Rattle.step_machine.specs.Invoking.{launched_as}
 use Rattle.step_machine.specs.PlanRuns.{Counts, OutsideTargets}
-use Rattle.step_machine.specs.Running.{Moment, Stays, StopCounts, Fits, Part, RunsPart, AreSources, counts_at, device_at}
+use Rattle.step_machine.specs.Running.{Moment, Stays, StopCounts, Fits, Gained, Part, RunsPart, AreSources, counts_at, device_at}
 use Rattle.step_machine.specs.Parts.{nothing_part, then_part}
 use Rattle.step_machine.proofs.Composing.{then_comes, first_stops}
 
@@ -133,6 +133,33 @@ joined prior one other =
     append_assoc prior (map launched_as one) (map launched_as other)
     ∙ ap (λ (l : List Launched). prior ++ l) (sym (map-append launched_as one other))
 
+module _ (machine : Machine) (whole rest : Play Device) (s0 : State) (m0 : Moment) (s : State) (m : Moment) (prior : List Launched) (led : Led machine whole rest s0 m0 s m prior) where
+  since : (n : Moment) (more : List Launch) → n.launcher.launches ≡ m.launcher.launches ++ more → n.launcher.launches ≡ m0.launcher.launches ++ (led.gained ++ more)
+  since n more added = added ∙ ap (λ (l : List Launch). l ++ more) led.added ∙ append_assoc m0.launcher.launches led.gained more
+
+  -- the rest goes to its end, and so does the whole
+  led_last : (r : Result (Unit {0}) Stop) (t : State) (n : Moment) → Gained machine rest s m r t n (prior ++ map launched_as led.gained) → Gained machine whole s0 m0 r t n prior
+  led_last r t n more = record {
+    gained = led.gained ++ more.gained;
+    added = since n more.gained more.added;
+    comes = led.leads r t (device_at machine n (prior ++ map launched_as (led.gained ++ more.gained)))
+        (subst (λ (l : List Launched). Comes rest s (device_at machine m (prior ++ map launched_as led.gained)) r t (device_at machine n l)) (joined prior led.gained more.gained) more.comes);
+  }
+
+  -- a part of it goes to its end, and the second is left
+  led_then : (first second : Play Device) (z y : State) (r : Result (Unit {0}) Stop) (t : State) (n : Moment) (more : Gained machine first z m r t n (prior ++ map launched_as led.gained))
+      → (Comes first z (device_at machine m (prior ++ map launched_as led.gained)) r t (device_at machine n ((prior ++ map launched_as led.gained) ++ map launched_as more.gained))
+      → (q : Result (Unit {0}) Stop) (x : State) (after : Device) → Comes second y (device_at machine n ((prior ++ map launched_as led.gained) ++ map launched_as more.gained)) q x after
+      → Comes rest s (device_at machine m (prior ++ map launched_as led.gained)) q x after)
+      → Led machine whole second s0 m0 y n prior
+  led_then first second z y r t n more comes = record {
+    gained = led.gained ++ more.gained;
+    added = since n more.gained more.added;
+    leads = λ q x after rest_comes.
+        led.leads q x after (comes more.comes q x after
+        (subst (λ (l : List Launched). Comes second y (device_at machine n l) q x after) (sym (joined prior led.gained more.gained)) rest_comes));
+  }
+
 module _ (machine : Machine) (whole rest : Part) (s0 : State) (m0 : Moment) (s : State) (m : Moment) (law : Obeys m) (b : Begun machine whole rest s0 m0 s m) where
   -- the rest runs, and so does the whole
   pub runs_last : (r : Result (Unit {0}) Stop) (t : State) (n : Moment) → RunsPart machine rest s m r t n → RunsPart machine whole s0 m0 r t n
@@ -142,13 +169,7 @@ module _ (machine : Machine) (whole rest : Part) (s0 : State) (m0 : Moment) (s :
     sources = last.sources;
     goes = λ setting fits prior.
         let led = b.leads setting fits prior in
-        let more = last.goes setting (fits_then machine m0 m setting b.stays fits) (prior ++ map launched_as led.gained) in
-        record {
-          gained = led.gained ++ more.gained;
-          added = more.added ∙ ap (λ (l : List Launch). l ++ more.gained) led.added ∙ append_assoc m0.launcher.launches led.gained more.gained;
-          comes = led.leads r t (device_at machine n (prior ++ map launched_as (led.gained ++ more.gained)))
-              (subst (λ (l : List Launched). Comes (rest setting) s (device_at machine m (prior ++ map launched_as led.gained)) r t (device_at machine n l)) (joined prior led.gained more.gained) more.comes);
-        };
+        led_last machine (whole setting) (rest setting) s0 m0 s m prior led r t n (last.goes setting (fits_then machine m0 m setting b.stays fits) (prior ++ map launched_as led.gained));
   }
 
 -- a part runs, and then others are left
@@ -162,14 +183,8 @@ begun_after machine whole first rest second s0 m0 s m law b z r t y n one counts
   sources = sources;
   leads = λ setting fits prior.
       let led = b.leads setting fits prior in
-      let more = one.goes setting (fits_then machine m0 m setting b.stays fits) (prior ++ map launched_as led.gained) in
-      record {
-        gained = led.gained ++ more.gained;
-        added = more.added ∙ ap (λ (l : List Launch). l ++ more.gained) led.added ∙ append_assoc m0.launcher.launches led.gained more.gained;
-        leads = λ q x after rest_comes.
-            led.leads q x after (comes setting _ _ more.comes q x after
-            (subst (λ (l : List Launched). Comes (second setting) y (device_at machine n l) q x after) (sym (joined prior led.gained more.gained)) rest_comes));
-      };
+      led_then machine (whole setting) (rest setting) s0 m0 s m prior led (first setting) (second setting) z y r t n
+      (one.goes setting (fits_then machine m0 m setting b.stays fits) (prior ++ map launched_as led.gained)) (comes setting _ _);
 }
 
 module _ (machine : Machine) (whole first second : Part) (s0 : State) (m0 : Moment) (s : State) (m : Moment) (law : Obeys m) (b : Begun machine whole (then_part first second) s0 m0 s m) where

@@ -31,3 +31,4 @@ pub mod Turns
 pub mod Directing
 pub mod Reading
 pub mod Counting
+mod Leaving

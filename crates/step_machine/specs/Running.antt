@@ -18,6 +18,7 @@ use Rattle.step_machine.specs.declared.stop.Stop.{Stop}
 use Rattle.step_machine.specs.declared.stop.Stop.TheVariants as stops
 use Rattle.step_machine.specs.declared.spot.Standing.{Standing}
 use Rattle.step_machine.specs.declared.machine.Machine.{Machine}
+use Rattle.step_machine.specs.declared.machine.Work.{Work}
 use Rattle.step_machine.specs.declared.progress.Progress.{Progress}
 use Rattle.step_machine.specs.declared.progress.Selected.{Selected}
 use Rattle.step_machine.specs.declared.progress.Selected.TheVariants as selected
@@ -90,6 +91,15 @@ pub record IsUnderWay (machine : Machine) (state : State) : Type 0 where
 pub record IsReady (machine : Machine) (size : ℕ) (ram : List Held) : Type 0 where
   pub standings : AreStandings size ram machine.standings.now
   pub count : machine.plan.now.count ≡ length machine.standings.now
+
+-- the references are those that were lent, and a host is left alone where no name of a file is known
+pub record LeavesWork {H D L : Type 0} (machine : Machine) (before after : Work H D L) : Type 0 where
+  pub unasked : machine.uris.now ≡ [] → after.host.now ≡ before.host.now
+  pub host : after.host.ghost_name ≡ before.host.ghost_name
+  pub disk : after.disk.ghost_name ≡ before.disk.ghost_name
+  pub launcher : after.launcher.ghost_name ≡ before.launcher.ghost_name
+  pub ram : after.ram.ghost_name ≡ before.ram.ghost_name
+  pub pieces : after.pieces.ghost_name ≡ before.pieces.ghost_name
 
 -- ---- from a moment to a later one
 

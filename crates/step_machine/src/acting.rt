@@ -1,19 +1,18 @@
 //! Conditions and directives of a running procedure, at one component.
 
-ghost use Rattle.std.specs.Prelude.{◌≡◌, ◌<◌, ◌⊎◌, [], Some, length};
+ghost use Rattle.std.specs.Prelude.{◌≡◌, ◌<◌, ◌⊎◌, Some, length};
 ghost use Rattle.step_machine.specs.Allowing.{MaySwap, MayWrite};
 ghost use Rattle.step_machine.specs.Parts.{act_part, test_part};
-ghost use Rattle.step_machine.specs.Running.{IsReady, IsUnderWay, RunsPart, state_of, stopped};
+ghost use Rattle.step_machine.specs.Running.{IsReady, IsUnderWay, LeavesWork, RunsPart, state_of, stopped};
 ghost use Rattle.suit_commands.specs.Targets.{IsWriting};
 ghost use Rattle.suit_commands.specs.declared.kinds.ActKind.TheVariants as acts;
 
-use crate::machine::{Machine, Pieces};
+use crate::machine::{Machine, Work};
 use crate::outside::Moments;
 use crate::params_in_force::number;
 use crate::progress::Progress;
 use crate::{Stop, copy, fetch, invoke, passes, swap, write};
 use flash_layout::FlashFault;
-use flash_slots::Ram;
 use path_model::Cause;
 use suit_commands::{ActKind, TestKind};
 use suit_edge::{Disk, Host, Launcher};
@@ -22,29 +21,26 @@ use suit_params::ParamKey;
 /// Tests a condition.
 pub(crate) fn test<H: Host, D: Disk, L: Launcher>(
     machine: &Machine<'_>,
-    host: &mut H,
-    disk: &mut D,
-    launcher: &mut L,
-    ram: &mut Ram,
-    pieces: &mut Pieces,
+    work: &mut Work<'_, H, D, L>,
     kind: TestKind,
     place: u64,
     component: u32,
     state: &Progress<'_>,
 ) -> Result<(), Stop>
-    requires ready { IsReady machine.now (D.extent disk.old) ram.old }
+    requires ready { IsReady machine.now (D.extent work.old.disk.now) work.old.ram.now }
     requires inside { component < length machine.now.standings.now }
     requires under_way { IsUnderWay machine.now (state_of state.now) }
     ensures runs { RunsPart machine.now (test_part kind place component) (state_of state.now)
-        (⟦<D as Moments<H, L>>⟧.at host.old disk.old launcher.old ram.old)
+        (⟦<D as Moments<H, L>>⟧.of_work work.old)
         result (state_of state.now)
-        (⟦<D as Moments<H, L>>⟧.at host.new disk.new launcher.new ram.new) }
-    ensures unasked { machine.now.uris.now ≡ [] → host.new ≡ host.old }
+        (⟦<D as Moments<H, L>>⟧.of_work work.new) }
+    ensures leaves { LeavesWork machine.now work.old work.new }
 {
     let standing = &machine.standings[component as usize];
+    let pieces = &mut *work.pieces;
     match passes(
-        disk,
-        ram,
+        work.disk,
+        work.ram,
         standing,
         &state.params,
         kind,
@@ -75,27 +71,23 @@ fn stopped(place: u64, came: Result<(), Cause>) -> Result<(), Stop>
 // A copy or a swap, from the component that is named in force.
 fn act_from_source<H: Host, D: Disk, L: Launcher>(
     machine: &Machine<'_>,
-    host: &mut H,
-    disk: &mut D,
-    launcher: &mut L,
-    ram: &mut Ram,
-    pieces: &mut Pieces,
+    work: &mut Work<'_, H, D, L>,
     kind: ActKind,
     place: u64,
     component: u32,
     state: &Progress<'_>,
 ) -> Result<(), Stop>
-    requires ready { IsReady machine.now (D.extent disk.old) ram.old }
+    requires ready { IsReady machine.now (D.extent work.old.disk.now) work.old.ram.now }
     requires inside { component < length machine.now.standings.now }
     requires under_way { IsUnderWay machine.now (state_of state.now) }
     requires from { (kind ≡ acts.Copy) ⊎ (kind ≡ acts.Swap) }
     requires target { MayWrite machine.now component }
     requires swaps { kind ≡ acts.Swap → MaySwap machine.now }
     ensures runs { RunsPart machine.now (act_part kind place component) (state_of state.now)
-        (⟦<D as Moments<H, L>>⟧.at host.old disk.old launcher.old ram.old)
+        (⟦<D as Moments<H, L>>⟧.of_work work.old)
         result (state_of state.now)
-        (⟦<D as Moments<H, L>>⟧.at host.new disk.new launcher.new ram.new) }
-    ensures unasked { machine.now.uris.now ≡ [] → host.new ≡ host.old }
+        (⟦<D as Moments<H, L>>⟧.of_work work.new) }
+    ensures leaves { LeavesWork machine.now work.old work.new }
 {
     let standing = &machine.standings[component as usize];
     match number(state.params.get(component, ParamKey::Source)) {
@@ -105,11 +97,12 @@ fn act_from_source<H: Host, D: Disk, L: Launcher>(
         }),
         Some(source) => {
             let other = &machine.standings[source as usize];
+            let pieces = &mut *work.pieces;
             match kind {
                 ActKind::Swap => {
                     let swapped = swap(
-                        disk,
-                        ram,
+                        work.disk,
+                        work.ram,
                         standing,
                         other,
                         &mut pieces.one[..],
@@ -117,7 +110,10 @@ fn act_from_source<H: Host, D: Disk, L: Launcher>(
                     );
                     stopped(place, swapped)
                 }
-                _ => stopped(place, copy(disk, ram, standing, other, &mut pieces.one[..])),
+                _ => {
+                    let room = &mut pieces.one[..];
+                    stopped(place, copy(work.disk, work.ram, standing, other, room))
+                }
             }
         }
     }
@@ -126,35 +122,32 @@ fn act_from_source<H: Host, D: Disk, L: Launcher>(
 /// Runs a directive.
 pub(crate) fn act<H: Host, D: Disk, L: Launcher>(
     machine: &Machine<'_>,
-    host: &mut H,
-    disk: &mut D,
-    launcher: &mut L,
-    ram: &mut Ram,
-    pieces: &mut Pieces,
+    work: &mut Work<'_, H, D, L>,
     kind: ActKind,
     place: u64,
     component: u32,
     state: &Progress<'_>,
 ) -> Result<(), Stop>
-    requires ready { IsReady machine.now (D.extent disk.old) ram.old }
+    requires ready { IsReady machine.now (D.extent work.old.disk.now) work.old.ram.now }
     requires inside { component < length machine.now.standings.now }
     requires under_way { IsUnderWay machine.now (state_of state.now) }
     requires target { IsWriting kind → MayWrite machine.now component }
     requires swaps { kind ≡ acts.Swap → MaySwap machine.now }
     ensures runs { RunsPart machine.now (act_part kind place component) (state_of state.now)
-        (⟦<D as Moments<H, L>>⟧.at host.old disk.old launcher.old ram.old)
+        (⟦<D as Moments<H, L>>⟧.of_work work.old)
         result (state_of state.now)
-        (⟦<D as Moments<H, L>>⟧.at host.new disk.new launcher.new ram.new) }
-    ensures unasked { machine.now.uris.now ≡ [] → host.new ≡ host.old }
+        (⟦<D as Moments<H, L>>⟧.of_work work.new) }
+    ensures leaves { LeavesWork machine.now work.old work.new }
 {
     let standing = &machine.standings[component as usize];
     match kind {
-        ActKind::Write => stopped(place, write(disk, ram, standing, &state.params)),
+        ActKind::Write => stopped(place, write(work.disk, work.ram, standing, &state.params)),
         ActKind::Fetch => {
+            let pieces = &mut *work.pieces;
             let fetched = fetch(
-                host,
-                disk,
-                ram,
+                work.host,
+                work.disk,
+                work.ram,
                 machine.envelope,
                 machine.uris,
                 standing,
@@ -163,9 +156,12 @@ pub(crate) fn act<H: Host, D: Disk, L: Launcher>(
             );
             stopped(place, fetched)
         }
-        ActKind::Invoke => stopped(place, invoke(disk, launcher, ram, standing, &state.params)),
+        ActKind::Invoke => stopped(
+            place,
+            invoke(work.disk, work.launcher, work.ram, standing, &state.params),
+        ),
         ActKind::Copy | ActKind::Swap => act_from_source(
-            machine, host, disk, launcher, ram, pieces, kind, place, component, state,
+            machine, work, kind, place, component, state,
         ),
     }
 }

@@ -17,7 +17,7 @@ use crate::{Spot, Standing};
 use flash_layout::{FlashFault, LENGTH_SIZE, Slot};
 use flash_slots::{Ram, length};
 use path_model::Cause;
-use suit_edge::{Disk, Image, Launched, Launcher};
+use suit_edge::{Disk, Image, Label, Launched, Launcher};
 use suit_params::{ParamKey, Params};
 
 // ---- the image
@@ -124,6 +124,12 @@ pub fn invoke<D: Disk, L: Launcher>(
     let digest = digest_for(params, component);
     let size = size_for(params, component);
     let args = args_for(params, component);
-    let launched = launcher.launch(disk, image, component, digest, size, args);
+    let label = Label {
+        component,
+        digest,
+        size,
+        args,
+    };
+    let launched = launcher.launch(disk, image, label);
     outcome_of(launched)
 }

@@ -1,6 +1,7 @@
 //! The parts of a running procedure that do not change.
 
 use crate::{Standing, Uris};
+use flash_slots::Ram;
 use suit_commands::Plan;
 use suit_envelope::Envelope;
 
@@ -18,4 +19,14 @@ pub(crate) struct Machine<'m> {
 pub(crate) struct Pieces {
     pub one: [u8; 4096],
     pub other: [u8; 4096],
+}
+
+/// The objects that a running procedure works with: host, flash, launcher, working memory, and room for pieces.
+#[derive(Drop)]
+pub(crate) struct Work<'w, H, D, L> {
+    pub host: &'w mut H,
+    pub disk: &'w mut D,
+    pub launcher: &'w mut L,
+    pub ram: &'w mut Ram,
+    pub pieces: &'w mut Pieces,
 }

@@ -7,9 +7,13 @@ pub(crate) trait Moments<H: Host, L: Launcher>: Disk {
     ghost use Rattle.flash_slots.specs.RamContents.{Held};
     ghost use Rattle.std.specs.Prelude.{List};
     ghost use Rattle.step_machine.specs.Running.{Moment};
+    ghost use Rattle.step_machine.specs.declared.machine.Work.{Work};
 
     /// The files, the contents and the launches that are told of, and the counts of faults, with this in working memory.
     ghost at: { H → Self → L → List Held → Moment };
+
+    /// The same of the objects that a running procedure works with.
+    ghost of_work: { Work H Self L → Moment };
 }
 
 impl<H: Host, D: Disk, L: Launcher> Moments<H, L> for D {
@@ -20,6 +24,15 @@ impl<H: Host, D: Disk, L: Launcher> Moments<H, L> for D {
         (record { told = H.told; files = H.file h; faults = H.faults h })
         (disk_at D.told (D.extent d) (D.flash d) (D.faults d))
         (record { told = L.told; launches = L.launches l; faults = L.faults l }) ram };
+
+    ghost of_work = { λ work. moment
+        (record { told = H.told; files = H.file work.host.now; faults = H.faults work.host.now })
+        (disk_at D.told (D.extent work.disk.now) (D.flash work.disk.now) (D.faults work.disk.now))
+        (record {
+          told = L.told;
+          launches = L.launches work.launcher.now;
+          faults = L.faults work.launcher.now;
+        }) work.ram.now };
 }
 
 /// Calls of a flash, from before to behind.

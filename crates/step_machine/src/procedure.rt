@@ -8,14 +8,14 @@ ghost use Rattle.step_machine.specs.Allowing.{AllowsSequence};
 ghost use Rattle.step_machine.specs.Devices.{contents_of};
 ghost use Rattle.step_machine.specs.Parts.{plan_part, starting_part};
 ghost use Rattle.step_machine.specs.PlanRuns.{EndCounts, OutsideTargets, PlaysPlan, counts_of, end_of, setting_of};
-ghost use Rattle.step_machine.specs.Running.{AreSources, IsReady, RunsPart, state_of};
+ghost use Rattle.step_machine.specs.Running.{AreSources, IsReady, LeavesWork, RunsPart, state_of};
 ghost use Rattle.step_machine.specs.Worlds.{AreStandings};
 ghost use Rattle.suit_commands.specs.Allowed.{IsPlan};
 ghost use Rattle.suit_commands.specs.Plans.{lent_tree, plan_tree};
 ghost use Rattle.suit_edge.specs.Flash.{Grows, Keeps};
 ghost use Rattle.suit_envelope.specs.Payloads.{HasPayloads};
 
-use crate::machine::{Machine, Pieces};
+use crate::machine::{Machine, Pieces, Work};
 use crate::outside::Moments;
 use crate::progress::{Progress, Selected};
 use crate::running::sequence;
@@ -28,29 +28,25 @@ use suit_params::Params;
 // Runs a member or the shared sequence, where there is one. It begins with component 0 selected and soft failure false.
 fn part<'p, H: Host, D: Disk, L: Launcher>(
     machine: &Machine<'_>,
-    host: &mut H,
-    disk: &mut D,
-    launcher: &mut L,
-    ram: &mut Ram,
-    pieces: &mut Pieces,
+    work: &mut Work<'_, H, D, L>,
     lent: Option<&'p Sequence>,
     state: &mut Progress<'p>,
 ) -> Result<(), Stop>
-    requires ready { IsReady machine.now (D.extent disk.old) ram.old }
+    requires ready { IsReady machine.now (D.extent work.old.disk.now) work.old.ram.now }
     requires some { 0 < length machine.now.standings.now }
     requires allowed { AllowsSequence machine.now (lent_tree lent) (0 ∷ []) }
     requires sources { AreSources machine.now state.old.params }
     ensures runs { RunsPart machine.now
         (starting_part (lent_tree lent.entry) machine.now.plan.now.count) (state_of state.old)
-        (⟦<D as Moments<H, L>>⟧.at host.old disk.old launcher.old ram.old)
+        (⟦<D as Moments<H, L>>⟧.of_work work.old)
         result (state_of state.new)
-        (⟦<D as Moments<H, L>>⟧.at host.new disk.new launcher.new ram.new) }
-    ensures unasked { machine.now.uris.now ≡ [] → host.new ≡ host.old }
+        (⟦<D as Moments<H, L>>⟧.of_work work.new) }
+    ensures leaves { LeavesWork machine.now work.old work.new }
 {
     state.selected = Selected::One(0);
     state.soft_failure = false;
     match lent {
-        Some(inner) => sequence(machine, host, disk, launcher, ram, pieces, inner, state),
+        Some(inner) => sequence(machine, work, inner, state),
         None => Ok(()),
     }
 }
@@ -58,49 +54,89 @@ fn part<'p, H: Host, D: Disk, L: Launcher>(
 // Runs the shared sequence before each of the three members.
 fn procedure<'p, H: Host, D: Disk, L: Launcher>(
     machine: &Machine<'p>,
-    host: &mut H,
-    disk: &mut D,
-    launcher: &mut L,
-    ram: &mut Ram,
-    pieces: &mut Pieces,
+    work: &mut Work<'_, H, D, L>,
     state: &mut Progress<'p>,
 ) -> Result<(), Stop>
-    requires ready { IsReady machine.now (D.extent disk.old) ram.old }
+    requires ready { IsReady machine.now (D.extent work.old.disk.now) work.old.ram.now }
     requires plan { IsPlan (plan_tree machine.now.plan.now) }
     requires sources { AreSources machine.now state.old.params }
     ensures runs { RunsPart machine.now (plan_part (plan_tree machine.now.plan.now))
         (state_of state.old)
-        (⟦<D as Moments<H, L>>⟧.at host.old disk.old launcher.old ram.old)
+        (⟦<D as Moments<H, L>>⟧.of_work work.old)
         result (state_of state.new)
-        (⟦<D as Moments<H, L>>⟧.at host.new disk.new launcher.new ram.new) }
-    ensures unasked { machine.now.uris.now ≡ [] → host.new ≡ host.old }
+        (⟦<D as Moments<H, L>>⟧.of_work work.new) }
+    ensures leaves { LeavesWork machine.now work.old work.new }
 {
     let plan = machine.plan;
     let (shared, second) = (plan.shared, plan.second);
-    if let Err(stop) = part(machine, host, disk, launcher, ram, pieces, shared, state) {
+    if let Err(stop) = part(machine, work, shared, state) {
         return Err(stop);
     }
-    if let Err(stop) = part(
-        machine, host, disk, launcher, ram, pieces, plan.first, state,
-    ) {
+    if let Err(stop) = part(machine, work, plan.first, state) {
         return Err(stop);
     }
-    if let Err(stop) = part(machine, host, disk, launcher, ram, pieces, shared, state) {
+    if let Err(stop) = part(machine, work, shared, state) {
         return Err(stop);
     }
-    if let Err(stop) = part(machine, host, disk, launcher, ram, pieces, second, state) {
+    if let Err(stop) = part(machine, work, second, state) {
         return Err(stop);
     }
-    if let Err(stop) = part(machine, host, disk, launcher, ram, pieces, shared, state) {
+    if let Err(stop) = part(machine, work, shared, state) {
         return Err(stop);
     }
-    part(
-        machine, host, disk, launcher, ram, pieces, plan.third, state,
-    )
+    part(machine, work, plan.third, state)
 }
 
 // Runs the procedure from its first state.
 fn started<H: Host, D: Disk, L: Launcher>(
+    machine: &Machine<'_>,
+    work: &mut Work<'_, H, D, L>,
+) -> Result<(), Stop>
+    requires ready { IsReady machine.now (D.extent work.old.disk.now) work.old.ram.now }
+    requires plan { IsPlan (plan_tree machine.now.plan.now) }
+    ensures runs { (next : State)
+        × RunsPart machine.now (plan_part (plan_tree machine.now.plan.now)) first_state
+        (⟦<D as Moments<H, L>>⟧.of_work work.old)
+        result next
+        (⟦<D as Moments<H, L>>⟧.of_work work.new) }
+    ensures leaves { LeavesWork machine.now work.old work.new }
+{
+    let params = Params::new();
+    let mut state = Progress {
+        params,
+        selected: Selected::One(0),
+        soft_failure: false,
+    };
+    procedure(machine, work, &mut state)
+}
+
+// Lends a running procedure the objects that it works with.
+fn lent<'w, H: Host, D: Disk, L: Launcher>(
+    host: &'w mut H,
+    disk: &'w mut D,
+    launcher: &'w mut L,
+    ram: &'w mut Ram,
+    pieces: &'w mut Pieces,
+) -> Work<'w, H, D, L>
+    ensures { result ≡ record {
+      host = host.entry;
+      disk = disk.entry;
+      launcher = launcher.entry;
+      ram = ram.entry;
+      pieces = pieces.entry;
+    } }
+{
+    Work {
+        host,
+        disk,
+        launcher,
+        ram,
+        pieces,
+    }
+}
+
+// Runs the procedure with these objects.
+fn run_lent<H: Host, D: Disk, L: Launcher>(
     machine: &Machine<'_>,
     host: &mut H,
     disk: &mut D,
@@ -117,13 +153,8 @@ fn started<H: Host, D: Disk, L: Launcher>(
         (⟦<D as Moments<H, L>>⟧.at host.new disk.new launcher.new ram.new) }
     ensures unasked { machine.now.uris.now ≡ [] → host.new ≡ host.old }
 {
-    let params = Params::new();
-    let mut state = Progress {
-        params,
-        selected: Selected::One(0),
-        soft_failure: false,
-    };
-    procedure(machine, host, disk, launcher, ram, pieces, &mut state)
+    let mut work = lent(host, disk, launcher, ram, pieces);
+    started(machine, &mut work)
 }
 
 fn end_of(ended: Result<(), Stop>) -> PlanEnd
@@ -182,6 +213,6 @@ pub fn run_plan<H: Host, D: Disk, L: Launcher>(
         one: [0; 4096],
         other: [0; 4096],
     };
-    let ended = started(&machine, host, disk, launcher, &mut world.ram, &mut pieces);
+    let ended = run_lent(&machine, host, disk, launcher, &mut world.ram, &mut pieces);
     end_of(ended)
 }

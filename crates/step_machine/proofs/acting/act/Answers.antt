@@ -13,10 +13,10 @@ returns-in-Write g c =
     let may = writes_as c.args.machine.now c.args.kind acts.Write c.args.component c.in-Write.is tt r.target in
     record {
       runs = act_as c.args.machine.now c.args.kind acts.Write c.args.place c.args.component c.in-Write.is _ _ _ _ _
-          (write_runs c.args.machine.now _ _ (state_of c.args.state.now) c.args.place c.args.component r.inside r.ready r.under_way (λ t. g.met.D.Disk.obeys c.args.disk.now t) c.write.result _ c.stopped.ensures
+          (write_runs c.args.machine.now _ _ (state_of c.args.state.now) c.args.place c.args.component r.inside r.ready r.under_way (λ t. g.met.D.Disk.obeys c.args.work.now.disk.now t) c.write.result _ c.stopped.ensures
           (one_stays c.args.machine.now _ _ c.args.component no_standing r.inside r.ready w.ram refl refl refl w.size (λ t. refl) may w.keeps w.grows) refl
           (cause_counts c.write.result c.args.place _ _ _ _ w.counts) w.ram w.keeps w.writes);
-      unasked = λ none. refl;
+      leaves = record { unasked = λ none. refl; host = refl; disk = refl; launcher = refl; ram = refl; pieces = refl };
     }
 
 pub returns-in-Fetch : goal.returns-in-Fetch
@@ -26,10 +26,10 @@ returns-in-Fetch g c =
     let may = writes_as c.args.machine.now c.args.kind acts.Fetch c.args.component c.in-Fetch.is tt r.target in
     record {
       runs = act_as c.args.machine.now c.args.kind acts.Fetch c.args.place c.args.component c.in-Fetch.is _ _ _ _ _
-          (fetch_runs c.args.machine.now _ _ (state_of c.args.state.now) c.args.place c.args.component r.inside r.ready r.under_way (λ t. g.met.D.Disk.obeys c.args.disk.now t) c.fetch-fetched.result _ c.stopped-in-Fetch.ensures
+          (fetch_runs c.args.machine.now _ _ (state_of c.args.state.now) c.args.place c.args.component r.inside r.ready r.under_way (λ t. g.met.D.Disk.obeys c.args.work.now.disk.now t) c.fetch-fetched.result _ c.stopped-in-Fetch.ensures
           (one_stays c.args.machine.now _ _ c.args.component no_standing r.inside r.ready w.ram refl refl refl w.size w.files may w.keeps w.grows) refl
           (fetch_counts c.fetch-fetched.result c.args.place _ _ _ _ _ w.counts) w.ram w.keeps w.fetches);
-      unasked = w.unasked;
+      leaves = record { unasked = w.unasked; host = refl; disk = refl; launcher = refl; ram = refl; pieces = refl };
     }
 
 pub returns-in-Invoke : goal.returns-in-Invoke
@@ -40,5 +40,5 @@ returns-in-Invoke g c =
       runs = act_as c.args.machine.now c.args.kind acts.Invoke c.args.place c.args.component c.in-Invoke.is _ _ _ _ _
           (invoke_runs c.args.machine.now _ _ (state_of c.args.state.now) c.args.place c.args.component r.inside r.ready r.under_way c.invoke.result _ c.stopped-in-Invoke.ensures
           (looked c.args.machine.now _ _ refl refl refl w.size refl (λ t. refl) w.same w.grows) refl w.same (invoke_counts c.invoke.result c.args.place _ _ _ _ _ w.counts) w.invokes);
-      unasked = λ none. refl;
+      leaves = record { unasked = λ none. refl; host = refl; disk = refl; launcher = refl; ram = refl; pieces = refl };
     }

@@ -13,8 +13,8 @@ procedure-requires-clause-sources g c = subst (λ (ps : Parameters). AreSources 
 pub returns : goal.returns
 returns g c =
     let machine = c.args.machine.now in
-    let start : Moment = moment (record { told = g.H.Host.told; files = g.H.Host.file c.args.host.now; faults = g.H.Host.faults c.args.host.now }) (record { told = g.D.Disk.told; size = g.D.Disk.extent c.args.disk.now; flash = g.D.Disk.flash c.args.disk.now; faults = g.D.Disk.faults c.args.disk.now }) (record { told = g.L.Launcher.told; launches = g.L.Launcher.launches c.args.launcher.now; faults = g.L.Launcher.faults c.args.launcher.now }) c.args.ram.now in
-    let n : Moment = moment (record { told = g.H.Host.told; files = g.H.Host.file c.procedure.new.host; faults = g.H.Host.faults c.procedure.new.host }) (record { told = g.D.Disk.told; size = g.D.Disk.extent c.procedure.new.disk; flash = g.D.Disk.flash c.procedure.new.disk; faults = g.D.Disk.faults c.procedure.new.disk }) (record { told = g.L.Launcher.told; launches = g.L.Launcher.launches c.procedure.new.launcher; faults = g.L.Launcher.faults c.procedure.new.launcher }) c.procedure.new.ram in
+    let start : Moment = moment (record { told = g.H.Host.told; files = g.H.Host.file c.args.work.now.host.now; faults = g.H.Host.faults c.args.work.now.host.now }) (record { told = g.D.Disk.told; size = g.D.Disk.extent c.args.work.now.disk.now; flash = g.D.Disk.flash c.args.work.now.disk.now; faults = g.D.Disk.faults c.args.work.now.disk.now }) (record { told = g.L.Launcher.told; launches = g.L.Launcher.launches c.args.work.now.launcher.now; faults = g.L.Launcher.faults c.args.work.now.launcher.now }) c.args.work.now.ram.now in
+    let n : Moment = moment (record { told = g.H.Host.told; files = g.H.Host.file c.procedure.new.work.host.now; faults = g.H.Host.faults c.procedure.new.work.host.now }) (record { told = g.D.Disk.told; size = g.D.Disk.extent c.procedure.new.work.disk.now; flash = g.D.Disk.flash c.procedure.new.work.disk.now; faults = g.D.Disk.faults c.procedure.new.work.disk.now }) (record { told = g.L.Launcher.told; launches = g.L.Launcher.launches c.procedure.new.work.launcher.now; faults = g.L.Launcher.faults c.procedure.new.work.launcher.now }) c.procedure.new.work.ram.now in
     let t : State = state_of c.procedure.new.state in
     record {
       runs = (
@@ -22,5 +22,5 @@ returns g c =
         subst (λ (ps : Parameters). RunsPart machine (plan_part (plan_tree machine.plan.now)) (record { parameters = ps; selection = 0 ∷ []; soft_failure = false }) start c.procedure.result t n)
             c.new-params.ensures c.procedure.ensures.runs,
       );
-      unasked = c.procedure.ensures.unasked;
+      leaves = c.procedure.ensures.leaves;
     }

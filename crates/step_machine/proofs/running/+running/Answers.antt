@@ -13,6 +13,7 @@ use Rattle.step_machine.specs.Allowing.{AllowsBranches, AllowsSequence}
 use Rattle.step_machine.specs.Running.{IsUnderWay, selected_list, state_of}
 use Rattle.step_machine.proofs.Allowed.{allows_branch, allows_others, ready_after}
 use Rattle.step_machine.proofs.Beginning.{begun}
+use Rattle.step_machine.proofs.Leaving.{leaves_start, leaves_then}
 use Rattle.step_machine.proofs.Parting.{runs_nothing, runs_override}
 use Rattle.step_machine.proofs.Sourcing.{sources_overridden}
 use Rattle.step_machine.proofs.Turns.{at_as, branches_begun, steps_begun, command_as, step_allowed, later_allowed, step_done, step_stopped, step_selects, steps_done, one_below, one_allowed, one_done, one_stopped, each_done, none_left, null_done, try_done, try_stopped, try_next, inner_ran, inner_softly, inner_out}
@@ -48,7 +49,7 @@ command-returns-in-Run-clause-runs g t c = command_as c.args.machine.now c.args.
 
 pub each-loop-position-init : goal.each-loop-position-init
 each-loop-position-init g t c =
-    record { ready = c.requires.ready; under_way = c.requires.under_way; same = refl; begun = begun c.args.machine.now _ _ _ c.requires.under_way.sources; unasked = λ none. refl }
+    record { ready = c.requires.ready; under_way = c.requires.under_way; same = refl; begun = begun c.args.machine.now _ _ _ c.requires.under_way.sources; leaves = leaves_start _ _ }
 
 pub each-at-requires : goal.each-at-requires
 each-at-requires g t c κs within =
@@ -67,20 +68,17 @@ each-loop-position-preserved g t c =
         selection = subst (λ (x : Selected). AllByRecursion (λ k. k < length c.args.machine.now.standings.now) (selected_list x)) (sym done.selected) c.loop-position.invariant.under_way.selection;
       };
       same = done.selected ∙ c.loop-position.invariant.same;
-      begun = one_done c.args.machine.now (command_tree c.args.step.now.command) c.args.step.now.place (selected_list c.args.state.now.selected) c.loop-position.position (omega (arith, c.loop-position-test.true, c.len-position-end.ensures)) _ c.at-component.ensures _ _ _ _ _ c.loop-position.invariant.begun (λ told. g.met.D.Disk.obeys c.loop-position.disk told) _ _ c.in_default.field-0 done.runs;
-      unasked = λ none. done.unasked none ∙ c.loop-position.invariant.unasked none;
+      begun = one_done c.args.machine.now (command_tree c.args.step.now.command) c.args.step.now.place (selected_list c.args.state.now.selected) c.loop-position.position (omega (arith, c.loop-position-test.true, c.len-position-end.ensures)) _ c.at-component.ensures _ _ _ _ _ c.loop-position.invariant.begun (λ told. g.met.D.Disk.obeys c.loop-position.work.disk.now told) _ _ c.in_default.field-0 done.runs;
+      leaves = leaves_then c.loop-position.invariant.leaves done.leaves;
     }
 
 pub each-returns-in-Err-clause-runs : goal.each-returns-in-Err-clause-runs
 each-returns-in-Err-clause-runs g t c =
-    one_stopped c.args.machine.now (command_tree c.args.step.now.command) c.args.step.now.place (selected_list c.args.state.now.selected) c.loop-position.position (omega (arith, c.loop-position-test.true, c.len-position-end.ensures)) _ c.at-component.ensures _ _ _ _ _ c.loop-position.invariant.begun (λ told. g.met.D.Disk.obeys c.loop-position.disk told) _ _ c.in-Err.stop c.in-Err.ensures.runs
+    one_stopped c.args.machine.now (command_tree c.args.step.now.command) c.args.step.now.place (selected_list c.args.state.now.selected) c.loop-position.position (omega (arith, c.loop-position-test.true, c.len-position-end.ensures)) _ c.at-component.ensures _ _ _ _ _ c.loop-position.invariant.begun (λ told. g.met.D.Disk.obeys c.loop-position.work.disk.now told) _ _ c.in-Err.stop c.in-Err.ensures.runs
 
 pub each-returns-clause-runs : goal.each-returns-clause-runs
 each-returns-clause-runs g t c =
-    each_done c.args.machine.now (command_tree c.args.step.now.command) c.args.step.now.place (selected_list c.args.state.now.selected) c.loop-position.position _ _ _ _ _ (omega (arith, c.loop-position-test.false, c.len-position-end.ensures)) (λ told. g.met.D.Disk.obeys c.loop-position.disk told) c.loop-position.invariant.begun
-
-pub each-returns-in-Err-clause-unasked : goal.each-returns-in-Err-clause-unasked
-each-returns-in-Err-clause-unasked g t c none = c.in-Err.ensures.unasked none ∙ c.loop-position.invariant.unasked none
+    each_done c.args.machine.now (command_tree c.args.step.now.command) c.args.step.now.place (selected_list c.args.state.now.selected) c.loop-position.position _ _ _ _ _ (omega (arith, c.loop-position-test.false, c.len-position-end.ensures)) (λ told. g.met.D.Disk.obeys c.loop-position.work.disk.now told) c.loop-position.invariant.begun
 
 pub sequence-loop-step-init : goal.sequence-loop-step-init
 sequence-loop-step-init g t c =
@@ -90,7 +88,7 @@ sequence-loop-step-init g t c =
       under_way = c.requires.under_way;
       allowed = subst (λ (x : SequenceTree). AllowsSequence c.args.machine.now x (selected_list c.args.state.now.selected)) (sym c.as_slice-step-items.ensures) c.requires.allowed;
       begun = steps_begun c.args.machine.now _ _ (state_of c.args.state.now) _ c.as_slice-step-items.ensures c.requires.under_way.sources;
-      unasked = λ none. refl;
+      leaves = leaves_start _ _;
     }
 
 pub sequence-command-requires : goal.sequence-command-requires
@@ -114,17 +112,17 @@ sequence-loop-step-preserved g t c =
         selection = step_selects c.args.machine.now (command_tree c.step-item.result.command) before after inv.ready.count (step_allowed c.args.machine.now c.as_slice-step-items.result.now c.loop-step.step-index c.step-item.result c.step-item.result c.loop-step-test.true c.step-item.is before inv.allowed) done.selected inv.under_way.selection;
       };
       allowed = later_allowed c.args.machine.now c.as_slice-step-items.result.now c.loop-step.step-index c.step-item.result c.step-item.result c.loop-step-test.true c.step-item.is before after inv.allowed done.selected;
-      begun = step_done c.args.machine.now c.as_slice-step-items.result.now c.loop-step.step-index c.step-item.result c.step-item.result c.loop-step-test.true c.step-item.is _ _ _ _ _ inv.begun (λ told. g.met.D.Disk.obeys c.loop-step.disk told) _ _ c.in_default.field-0 done.runs;
-      unasked = λ none. done.unasked none ∙ inv.unasked none;
+      begun = step_done c.args.machine.now c.as_slice-step-items.result.now c.loop-step.step-index c.step-item.result c.step-item.result c.loop-step-test.true c.step-item.is _ _ _ _ _ inv.begun (λ told. g.met.D.Disk.obeys c.loop-step.work.disk.now told) _ _ c.in_default.field-0 done.runs;
+      leaves = leaves_then inv.leaves done.leaves;
     }
 
 pub sequence-returns-in-Err : goal.sequence-returns-in-Err
 sequence-returns-in-Err g t c =
-    record { runs = step_stopped c.args.machine.now c.as_slice-step-items.result.now c.loop-step.step-index c.step-item.result c.step-item.result c.loop-step-test.true c.step-item.is _ _ _ _ _ c.loop-step.invariant.begun (λ told. g.met.D.Disk.obeys c.loop-step.disk told) _ _ c.in-Err.stop c.in-Err.ensures.runs; unasked = λ none. c.in-Err.ensures.unasked none ∙ c.loop-step.invariant.unasked none }
+    record { runs = step_stopped c.args.machine.now c.as_slice-step-items.result.now c.loop-step.step-index c.step-item.result c.step-item.result c.loop-step-test.true c.step-item.is _ _ _ _ _ c.loop-step.invariant.begun (λ told. g.met.D.Disk.obeys c.loop-step.work.disk.now told) _ _ c.in-Err.stop c.in-Err.ensures.runs; leaves = leaves_then c.loop-step.invariant.leaves c.in-Err.ensures.leaves }
 
 pub sequence-returns : goal.sequence-returns
 sequence-returns g t c =
-    record { runs = steps_done c.args.machine.now c.as_slice-step-items.result.now c.loop-step.step-index _ _ _ _ _ c.loop-step-test.false (λ told. g.met.D.Disk.obeys c.loop-step.disk told) c.loop-step.invariant.begun; unasked = c.loop-step.invariant.unasked }
+    record { runs = steps_done c.args.machine.now c.as_slice-step-items.result.now c.loop-step.step-index _ _ _ _ _ c.loop-step-test.false (λ told. g.met.D.Disk.obeys c.loop-step.work.disk.now told) c.loop-step.invariant.begun; leaves = c.loop-step.invariant.leaves }
 
 pub run_inner-sequence-requires : goal.run_inner-sequence-requires
 run_inner-sequence-requires g t c κs within =
@@ -152,12 +150,12 @@ try_each-loop-branch-init g t c = record {
   same = refl;
   allowed = subst (λ (x : BranchesTree). AllowsBranches c.args.machine.now x c.args.component) (sym c.as_slice-branch-items.ensures) c.requires.allowed;
   begun = branches_begun c.args.machine.now _ _ c.args.place c.args.component (state_of c.args.state.now) _ c.as_slice-branch-items.ensures c.requires.under_way.sources;
-  unasked = λ none. refl;
+  leaves = leaves_start _ _;
 }
 
 pub try_each-returns-in-None-clause-runs : goal.try_each-returns-in-None-clause-runs
 try_each-returns-in-None-clause-runs g t c =
-    null_done c.args.machine.now c.as_slice-branch-items.result.now c.loop-branch.branch-index c.args.place c.args.component c.branch-item.result c.branch-item.result _ c.args.state.now _ c.loop-branch.state _ c.loop-branch.invariant.begun (λ told. g.met.D.Disk.obeys c.loop-branch.disk told) c.loop-branch.invariant.same c.loop-branch-test.true c.branch-item.is c.in-None.is
+    null_done c.args.machine.now c.as_slice-branch-items.result.now c.loop-branch.branch-index c.args.place c.args.component c.branch-item.result c.branch-item.result _ c.args.state.now _ c.loop-branch.state _ c.loop-branch.invariant.begun (λ told. g.met.D.Disk.obeys c.loop-branch.work.disk.now told) c.loop-branch.invariant.same c.loop-branch-test.true c.branch-item.is c.in-None.is
 
 pub try_each-returns-in-None-clause-selected : goal.try_each-returns-in-None-clause-selected
 try_each-returns-in-None-clause-selected g t c =
@@ -183,24 +181,45 @@ try_each-loop-branch-preserved g t c =
       ready = ready_after c.args.machine.now _ _ c.in-Err.ensures.runs.stays inv.ready;
       same = inv.same;
       allowed = allows_others c.args.machine.now c.as_slice-branch-items.result.now c.loop-branch.branch-index c.args.component c.branch-item.result c.in-Some.inner c.loop-branch-test.true (sym c.branch-item.is ∙ c.in-Some.is) inv.allowed;
-      begun = try_next c.args.machine.now c.as_slice-branch-items.result.now c.loop-branch.branch-index c.args.place c.args.component c.branch-item.result c.branch-item.result _ c.args.state.now _ c.loop-branch.state _ c.loop-branch.invariant.begun (λ told. g.met.D.Disk.obeys c.loop-branch.disk told) c.loop-branch.invariant.same c.in-Some.inner c.loop-branch-test.true c.branch-item.is c.in-Some.is (state_of c.entered-inside.result) c.entered-inside.ensures (state_of c.sequence.new.state) _ c.in-Err.stop (sym c.passed_on.ensures ∙ c.in_default.is) c.in-Err.ensures.runs;
-      unasked = λ none. c.in-Err.ensures.unasked none ∙ inv.unasked none;
+      begun = try_next c.args.machine.now c.as_slice-branch-items.result.now c.loop-branch.branch-index c.args.place c.args.component c.branch-item.result c.branch-item.result _ c.args.state.now _ c.loop-branch.state _ c.loop-branch.invariant.begun (λ told. g.met.D.Disk.obeys c.loop-branch.work.disk.now told) c.loop-branch.invariant.same c.in-Some.inner c.loop-branch-test.true c.branch-item.is c.in-Some.is (state_of c.entered-inside.result) c.entered-inside.ensures (state_of c.sequence.new.state) _ c.in-Err.stop (sym c.passed_on.ensures ∙ c.in_default.is) c.in-Err.ensures.runs;
+      leaves = leaves_then inv.leaves c.in-Err.ensures.leaves;
     }
 
 pub try_each-returns-clause-runs : goal.try_each-returns-clause-runs
 try_each-returns-clause-runs g t c =
-    none_left c.args.machine.now c.as_slice-branch-items.result.now c.loop-branch.branch-index c.args.place c.args.component None None _ c.args.state.now _ c.loop-branch.state _ c.loop-branch.invariant.begun (λ told. g.met.D.Disk.obeys c.loop-branch.disk told) c.loop-branch.invariant.same c.loop-branch-test.false
+    none_left c.args.machine.now c.as_slice-branch-items.result.now c.loop-branch.branch-index c.args.place c.args.component None None _ c.args.state.now _ c.loop-branch.state _ c.loop-branch.invariant.begun (λ told. g.met.D.Disk.obeys c.loop-branch.work.disk.now told) c.loop-branch.invariant.same c.loop-branch-test.false
 
 pub try_each-returns-in-Ok-clause-runs : goal.try_each-returns-in-Ok-clause-runs
 try_each-returns-in-Ok-clause-runs g t c =
-    try_done c.args.machine.now c.as_slice-branch-items.result.now c.loop-branch.branch-index c.args.place c.args.component c.branch-item.result c.branch-item.result _ c.args.state.now _ c.loop-branch.state _ c.loop-branch.invariant.begun (λ told. g.met.D.Disk.obeys c.loop-branch.disk told) c.loop-branch.invariant.same c.in-Some.inner c.loop-branch-test.true c.branch-item.is c.in-Some.is (state_of c.entered-inside.result) c.entered-inside.ensures (state_of c.sequence.new.state) _ _ c.copy-state.ensures c.in-Ok.ensures.runs
+    try_done c.args.machine.now c.as_slice-branch-items.result.now c.loop-branch.branch-index c.args.place c.args.component c.branch-item.result c.branch-item.result _ c.args.state.now _ c.loop-branch.state _ c.loop-branch.invariant.begun (λ told. g.met.D.Disk.obeys c.loop-branch.work.disk.now told) c.loop-branch.invariant.same c.in-Some.inner c.loop-branch-test.true c.branch-item.is c.in-Some.is (state_of c.entered-inside.result) c.entered-inside.ensures (state_of c.sequence.new.state) _ _ c.copy-state.ensures c.in-Ok.ensures.runs
 
 pub try_each-returns-in-Some-passed_on-clause-runs : goal.try_each-returns-in-Some-passed_on-clause-runs
 try_each-returns-in-Some-passed_on-clause-runs g t c =
-    try_stopped c.args.machine.now c.as_slice-branch-items.result.now c.loop-branch.branch-index c.args.place c.args.component c.branch-item.result c.branch-item.result _ c.args.state.now _ c.loop-branch.state _ c.loop-branch.invariant.begun (λ told. g.met.D.Disk.obeys c.loop-branch.disk told) c.loop-branch.invariant.same c.in-Some.inner c.loop-branch-test.true c.branch-item.is c.in-Some.is (state_of c.entered-inside.result) c.entered-inside.ensures (state_of c.sequence.new.state) _ c.in-Err.stop c.in-Some-passed_on.stop (sym c.passed_on.ensures ∙ c.in-Some-passed_on.is) c.in-Err.ensures.runs
+    try_stopped c.args.machine.now c.as_slice-branch-items.result.now c.loop-branch.branch-index c.args.place c.args.component c.branch-item.result c.branch-item.result _ c.args.state.now _ c.loop-branch.state _ c.loop-branch.invariant.begun (λ told. g.met.D.Disk.obeys c.loop-branch.work.disk.now told) c.loop-branch.invariant.same c.in-Some.inner c.loop-branch-test.true c.branch-item.is c.in-Some.is (state_of c.entered-inside.result) c.entered-inside.ensures (state_of c.sequence.new.state) _ c.in-Err.stop c.in-Some-passed_on.stop (sym c.passed_on.ensures ∙ c.in-Some-passed_on.is) c.in-Err.ensures.runs
 
-pub try_each-returns-in-Ok-clause-unasked : goal.try_each-returns-in-Ok-clause-unasked
-try_each-returns-in-Ok-clause-unasked g t c none = c.in-Ok.ensures.unasked none ∙ c.loop-branch.invariant.unasked none
+pub at-returns-in-Index-clause-leaves : goal.at-returns-in-Index-clause-leaves
+at-returns-in-Index-clause-leaves g t c = leaves_start _ _
 
-pub try_each-returns-in-Some-passed_on-clause-unasked : goal.try_each-returns-in-Some-passed_on-clause-unasked
-try_each-returns-in-Some-passed_on-clause-unasked g t c none = c.in-Err.ensures.unasked none ∙ c.loop-branch.invariant.unasked none
+pub at-returns-in-Override-clause-leaves : goal.at-returns-in-Override-clause-leaves
+at-returns-in-Override-clause-leaves g t c = leaves_start _ _
+
+pub command-returns-in-Index-clause-leaves : goal.command-returns-in-Index-clause-leaves
+command-returns-in-Index-clause-leaves g t c = leaves_start _ _
+
+pub each-returns-in-Err-clause-leaves : goal.each-returns-in-Err-clause-leaves
+each-returns-in-Err-clause-leaves g t c = leaves_then c.loop-position.invariant.leaves c.in-Err.ensures.leaves
+
+pub each-returns-clause-leaves : goal.each-returns-clause-leaves
+each-returns-clause-leaves g t c = c.loop-position.invariant.leaves
+
+pub try_each-returns-in-None-clause-leaves : goal.try_each-returns-in-None-clause-leaves
+try_each-returns-in-None-clause-leaves g t c = c.loop-branch.invariant.leaves
+
+pub try_each-returns-clause-leaves : goal.try_each-returns-clause-leaves
+try_each-returns-clause-leaves g t c = c.loop-branch.invariant.leaves
+
+pub try_each-returns-in-Ok-clause-leaves : goal.try_each-returns-in-Ok-clause-leaves
+try_each-returns-in-Ok-clause-leaves g t c = leaves_then c.loop-branch.invariant.leaves c.in-Ok.ensures.leaves
+
+pub try_each-returns-in-Some-passed_on-clause-leaves : goal.try_each-returns-in-Some-passed_on-clause-leaves
+try_each-returns-in-Some-passed_on-clause-leaves g t c = leaves_then c.loop-branch.invariant.leaves c.in-Err.ensures.leaves
