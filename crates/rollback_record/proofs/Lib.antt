@@ -7,5 +7,5 @@ pub mod OneAnswers
 mod Sounds
 mod SoundSince
 mod Installed
-mod StillSound
+pub mod StillSound
 pub mod HeadSince

@@ -51,6 +51,10 @@ module _ (held : Option Record) (a c : List ℕ) (large : 49152 ≤ length a) (w
     highest = λ other is. h.highest other (counted_before (1 - h.which) other (omega arith) is);
   }
 
+  -- the record that was held stands still
+  pub still_held : RecordOf VERSION_1 (head_of VERSION_1 c) held
+  still_held = recorded held was
+
   configured : (layout : List Entry) (key : Key) → ConfigOf VERSION_1 (length a) (head_of VERSION_1 a) (Configured layout key) → ConfigOf VERSION_1 (length c) (head_of VERSION_1 c) (Configured layout key)
   configured = same_config a c large same.size page_same gate_same
 
@@ -85,4 +89,4 @@ module _ (held : Option Record) (a c : List ℕ) (large : 49152 ≤ length a) (w
   follows_of (SoundInstalled layout key r config is installed) = goes_on layout key config
 
   pub still_sound : Sound VERSION_1 a → IsStillSound held a c
-  still_sound sound = record { sound = sound_of sound; held_is = recorded held was; follows = follows_of sound }
+  still_sound sound = record { sound = sound_of sound; held_is = still_held; follows = follows_of sound }

@@ -30,11 +30,11 @@ use Rattle.flash_slots.specs.RamContents.{Held, empty_ram}
 use Rattle.update_proc.specs.Choices.{AreChosen, active_slots}
 use Rattle.update_proc.specs.declared.update_end.UpdateEnd.{UpdateEnd}
 use Rattle.update_proc.specs.declared.update_end.UpdateEnd.TheVariants as ends
-use Rattle.update_proc.specs.Ends.{FinishedSo, IfInstalled, IfStopped, IfTold, IfUnfaulted, IsEnd, IsRefusal, IsStartEnd, JudgedSo, UpdateCounts}
+use Rattle.update_proc.specs.Ends.{FinishedSo, IfInstalled, IfStopped, IfTold, IfUnfaulted, IsEnd, IsRefusal, IsStartEnd, IsUnbegun, JudgedSo, UpdateCounts}
 use Rattle.update_proc.specs.Installing.{BehindHead, IsNotWorn}
 use Rattle.update_proc.specs.Moments.{HasContentsOf}
 use Rattle.update_proc.specs.Records.{next_generation}
-use Rattle.update_proc.specs.Updates.{KeptSo, LaunchesBy, PlayedSo, PlaysUpdate}
+use Rattle.update_proc.specs.Updates.{KeptSo, LaunchesBy, PlayedSo, PlaysUpdate, sources}
 
 -- ---- acceptance
 
@@ -157,7 +157,7 @@ pub plays_update : (layout : List Entry) (places : Places) (tree : PlanTree) (he
     (before made : List ℕ) (launched now : List Launch) (end : PlanEnd) (numbers : List ℕ) (standings : List Standing) (ram left : List Held)
     → AreChosen layout places tree (active_slots held) numbers → IsChoice layout (record { number = numbers }) → StandAs layout places (record { number = numbers }) standings → ram ≡ empty_ram layout → words ≡ uris
     → PlaysPlan tree (setting_of standings payloads words files) end (contents_of standings ram before) (contents_of standings left made) launched now
-    → PlaysUpdate layout places tree held payloads uris files before made launched now end
+    → PlaysUpdate layout places tree held (sources payloads uris files) before made launched now end
 plays_update layout places tree held payloads words uris files before made launched now end numbers standings ram left chosen choice stand none same played = record {
   numbers = numbers;
   chosen = chosen;
@@ -170,47 +170,57 @@ plays_update layout places tree held payloads words uris files before made launc
       (subst (λ (u : List (List ℕ × List ℕ)). PlaysPlan tree (setting_of standings payloads u files) end (contents_of standings ram before) (contents_of standings left made) launched now) same played);
 }
 
--- ---- refusals
+-- ---- before anything was launched or written
 
-pub refused_counts : (answer : UpdateEnd) (a : Counts) → IsRefusal answer → UpdateCounts answer a a
-refused_counts (ends.Lower m n) a is = refl
-refused_counts (ends.OtherDigest m n) a is = refl
-refused_counts ends.Worn a is = refl
-refused_counts (ends.Installed r) a is = elim is [ ]
-refused_counts (ends.Condition place) a is = elim is [ ]
-refused_counts (ends.Stopped place cause) a is = elim is [ ]
-refused_counts ends.FlashFault a is = elim is [ ]
-refused_counts ends.NoMemory a is = elim is [ ]
+pub refused_unbegun : (answer : UpdateEnd) → IsRefusal answer → IsUnbegun answer
+refused_unbegun (ends.Lower m n) is = tt
+refused_unbegun (ends.OtherDigest m n) is = tt
+refused_unbegun ends.Worn is = tt
+refused_unbegun (ends.Installed r) is = elim is [ ]
+refused_unbegun (ends.Condition place) is = elim is [ ]
+refused_unbegun (ends.Stopped place cause) is = elim is [ ]
+refused_unbegun ends.FlashFault is = elim is [ ]
+refused_unbegun ends.NoMemory is = elim is [ ]
 
-pub refused_kept : (Kept Same : Type 0) (answer : UpdateEnd) → IsRefusal answer → Same → KeptSo Kept Same answer
-refused_kept Kept Same (ends.Lower m n) is same = same
-refused_kept Kept Same (ends.OtherDigest m n) is same = same
-refused_kept Kept Same ends.Worn is same = same
-refused_kept Kept Same (ends.Installed r) is same = elim is [ ]
-refused_kept Kept Same (ends.Condition place) is same = elim is [ ]
-refused_kept Kept Same (ends.Stopped place cause) is same = elim is [ ]
-refused_kept Kept Same ends.FlashFault is same = elim is [ ]
-refused_kept Kept Same ends.NoMemory is same = elim is [ ]
+pub unbegun_counts : (answer : UpdateEnd) (a : Counts) → IsUnbegun answer → UpdateCounts answer a a
+unbegun_counts (ends.Lower m n) a is = refl
+unbegun_counts (ends.OtherDigest m n) a is = refl
+unbegun_counts ends.Worn a is = refl
+unbegun_counts (ends.Installed r) a is = elim is [ ]
+unbegun_counts (ends.Condition place) a is = elim is [ ]
+unbegun_counts (ends.Stopped place cause) a is = elim is [ ]
+unbegun_counts ends.FlashFault a is = elim is [ ]
+unbegun_counts ends.NoMemory a is = refl
 
-pub refused_played : (Plays : List ℕ → PlanEnd → Type 0) (layout : List Entry) (image : List ℕ) (launched : List Launch) (answer : UpdateEnd) → IsRefusal answer → PlayedSo Plays layout image launched launched answer
-refused_played Plays layout image launched (ends.Lower m n) is = refl
-refused_played Plays layout image launched (ends.OtherDigest m n) is = refl
-refused_played Plays layout image launched ends.Worn is = refl
-refused_played Plays layout image launched (ends.Installed r) is = elim is [ ]
-refused_played Plays layout image launched (ends.Condition place) is = elim is [ ]
-refused_played Plays layout image launched (ends.Stopped place cause) is = elim is [ ]
-refused_played Plays layout image launched ends.FlashFault is = elim is [ ]
-refused_played Plays layout image launched ends.NoMemory is = elim is [ ]
+pub unbegun_kept : (Kept Same : Type 0) (answer : UpdateEnd) → IsUnbegun answer → Same → KeptSo Kept Same answer
+unbegun_kept Kept Same (ends.Lower m n) is same = same
+unbegun_kept Kept Same (ends.OtherDigest m n) is same = same
+unbegun_kept Kept Same ends.Worn is same = same
+unbegun_kept Kept Same (ends.Installed r) is same = elim is [ ]
+unbegun_kept Kept Same (ends.Condition place) is same = elim is [ ]
+unbegun_kept Kept Same (ends.Stopped place cause) is same = elim is [ ]
+unbegun_kept Kept Same ends.FlashFault is same = elim is [ ]
+unbegun_kept Kept Same ends.NoMemory is same = same
 
-pub refused_settled : (P : Type 0) (answer : UpdateEnd) → IsRefusal answer → P → IfUnfaulted answer P
-refused_settled P (ends.Lower m n) is p = p
-refused_settled P (ends.OtherDigest m n) is p = p
-refused_settled P ends.Worn is p = p
-refused_settled P (ends.Installed r) is p = elim is [ ]
-refused_settled P (ends.Condition place) is p = elim is [ ]
-refused_settled P (ends.Stopped place cause) is p = elim is [ ]
-refused_settled P ends.FlashFault is p = elim is [ ]
-refused_settled P ends.NoMemory is p = elim is [ ]
+pub unbegun_played : (Plays : List ℕ → PlanEnd → Type 0) (layout : List Entry) (image : List ℕ) (launched : List Launch) (answer : UpdateEnd) → IsUnbegun answer → PlayedSo Plays layout image launched launched answer
+unbegun_played Plays layout image launched (ends.Lower m n) is = refl
+unbegun_played Plays layout image launched (ends.OtherDigest m n) is = refl
+unbegun_played Plays layout image launched ends.Worn is = refl
+unbegun_played Plays layout image launched (ends.Installed r) is = elim is [ ]
+unbegun_played Plays layout image launched (ends.Condition place) is = elim is [ ]
+unbegun_played Plays layout image launched (ends.Stopped place cause) is = elim is [ ]
+unbegun_played Plays layout image launched ends.FlashFault is = elim is [ ]
+unbegun_played Plays layout image launched ends.NoMemory is = refl
+
+pub unbegun_settled : (P : Type 0) (answer : UpdateEnd) → IsUnbegun answer → P → IfUnfaulted answer P
+unbegun_settled P (ends.Lower m n) is p = p
+unbegun_settled P (ends.OtherDigest m n) is p = p
+unbegun_settled P ends.Worn is p = p
+unbegun_settled P (ends.Installed r) is p = elim is [ ]
+unbegun_settled P (ends.Condition place) is p = elim is [ ]
+unbegun_settled P (ends.Stopped place cause) is p = elim is [ ]
+unbegun_settled P ends.FlashFault is p = elim is [ ]
+unbegun_settled P ends.NoMemory is p = p
 
 pub accepted_judged : (sequence : ℕ) (digest : Digest) (held : Option Record) (answer : UpdateEnd) → IsStartEnd answer → IsAcceptable sequence digest held → JudgedSo sequence digest held answer
 accepted_judged sequence digest held (ends.Installed r) is so = so

@@ -1,5 +1,5 @@
 -- The flash while an envelope is written to a bank and recorded: it is sound, and goes on from what stood before.
-use Rattle.std.proofs.Common.{◌≡◌, inl, inr, ⊎_elim, ◌<◌, ◌≤◌, ℕ, ◌+◌, ◌-◌, ◌*◌, Bool, true, false, if◌then◌else◌, List, length, get_or, Option, Some, None, IfSome, sym, ◌∙◌, subst, arith}
+use Rattle.std.proofs.Common.{◌≡◌, inl, inr, ⊎_elim, ◌<◌, ◌≤◌, ℕ, ◌+◌, ◌-◌, Bool, true, false, if◌then◌else◌, List, length, get_or, Option, Some, None, IfSome, sym, ◌∙◌, subst, arith}
 use Rattle.std.proofs.lemmas.Bool.{cases_eq}
 use Rattle.suit_edge.specs.Flash.{Flash, ImageOn, IsFirmOn, IsSettled, Keeps, Passes}
 use Rattle.suit_edge.specs.FlashLaws.{joined, settled_firm, weakens}
@@ -15,12 +15,13 @@ use Rattle.flash_layout.specs.Configs.{ConfigOf, Configured}
 use Rattle.flash_layout.specs.Frames.{bank_place, config_page_of, head_of, record_place}
 use Rattle.rollback_record.specs.declared.page.TheConstants.{RECORD_BYTES}
 use Rattle.rollback_record.specs.Committing.{HasHeldOrNew, InHead, IsNext, IsSpare, KeepsBesideSpare}
-use Rattle.rollback_record.specs.HeadRecord.{Counts, IsLoadable, RecordOf, record_bytes}
+use Rattle.rollback_record.specs.HeadRecord.{IsLoadable, RecordOf}
 use Rattle.rollback_record.specs.RecordPage.{IsActiveSlot, IsInRange}
 use Rattle.rollback_record.specs.SettledLaws.{both}
 use Rattle.rollback_record.specs.SoundFlash.{Follows, IsInstalled, IsNoEarlier, Sound, recorded_bank}
 use Rattle.rollback_record.specs.SoundLaws.{IsCommitted, IsStillSound, SaysRecorded, SoundLaws}
-use Rattle.rollback_record.proofs.Pages.{bytes_in, config_in, counts_of, head_long}
+use Rattle.rollback_record.proofs.Pages.{config_in, head_long}
+use Rattle.rollback_record.proofs.StillSound as recorded
 use Rattle.update_proc.specs.Banks.{BesideBank, bank_for, is_kept}
 use Rattle.update_proc.specs.Records.{new_record, next_generation}
 use Rattle.update_proc.specs.Installing.{BehindHead, Filling, HasActiveSlots, IsFilled, IsInstalling, IsRecording, MayBeInstalled, Recording}
@@ -41,12 +42,7 @@ says_beside (Some r) bytes fits few i says = ⊎_elim
     second : (r.bank ≡ 0 → ⊥) → bank_place VERSION_1 r.bank ≤ i → bank_place VERSION_1 (1 - r.bank) + length bytes ≤ i
     second other low = omega (arith, other, few.bank, low, fits)
 
--- the pages before the banks say so
-front_says : (held : Option Record) (i : ℕ) → i < 12288 → SaysRecorded held i
-front_says None i low = low
-front_says (Some r) i low = inl low
-
--- and in the head
+-- they lie in the head
 says_head : (held : Option Record) → IfSome held (IsLoadable VERSION_1) → (i : ℕ) → SaysRecorded held i → i < 49152
 says_head None few i says = omega (arith, says)
 says_head (Some r) few i says = ⊎_elim (λ front. omega (arith, front)) (λ bank. omega (arith, bank.1, few.size, few.bank)) says
@@ -63,10 +59,13 @@ config_beside (Some r) bytes few i low = inl (omega (arith, low))
 
 -- ---- lists that agree beside the bank
 
+says_same : (held : Option Record) (bytes a c : List ℕ) → IfSome held (IsLoadable VERSION_1) → length bytes ≤ 16384 → SameOn (BesideBank held bytes) a c → SameOn (SaysRecorded held) a c
+says_same held bytes a c few fits same = record { size = same.size; same = λ i says. same.same i (says_beside held bytes fits few i says) }
+
 module _ (laws : SoundLaws) (held : Option Record) (bytes a c : List ℕ) (large : 49152 ≤ length a) (few : IfSome held (IsLoadable VERSION_1)) (fits : length bytes ≤ 16384)
     (was : RecordOf VERSION_1 (head_of VERSION_1 a) held) (sound : Sound VERSION_1 a) (same : SameOn (BesideBank held bytes) a c) where
   pub still : IsStillSound held a c
-  still = laws.kept held a c large was (record { size = same.size; same = λ i says. same.same i (says_beside held bytes fits few i says) }) sound
+  still = laws.kept held a c large was (says_same held bytes a c few fits same) sound
 
 module _ (held : Option Record) (bytes a c : List ℕ) (large : 49152 ≤ length a) (few : IfSome held (IsLoadable VERSION_1)) (same : SameOn (BesideBank held bytes) a c) where
   pub config_same : config_page_of VERSION_1 (head_of VERSION_1 c) ≡ config_page_of VERSION_1 (head_of VERSION_1 a)
@@ -91,33 +90,8 @@ module _ (held : Option Record) (bytes a c : List ℕ) (large : 49152 ≤ length
 -- the record that was held stands still
 module _ (held : Option Record) (bytes a c : List ℕ) (large : 49152 ≤ length a) (few : IfSome held (IsLoadable VERSION_1)) (fits : length bytes ≤ 16384)
     (was : RecordOf VERSION_1 (head_of VERSION_1 a) held) (same : SameOn (BesideBank held bytes) a c) where
-  front : (i : ℕ) → i < 12288 → get_or c i 0 ≡ get_or a i 0
-  front i low = same.same i (says_beside held bytes fits few i (front_says held i low))
-
-  large_c : 49152 ≤ length c
-  large_c = omega (arith, same.size, large)
-
-  page_same : config_page_of VERSION_1 (head_of VERSION_1 a) ≡ config_page_of VERSION_1 (head_of VERSION_1 c)
-  page_same = config_in a ∙ sym (same_range c a 0 1204 same.size (omega (arith, large_c)) (λ i low high. front i (omega (arith, high)))) ∙ sym (config_in c)
-
-  bytes_same : (v : ℕ) → v < 2 → record_bytes VERSION_1 (head_of VERSION_1 a) v ≡ record_bytes VERSION_1 (head_of VERSION_1 c) v
-  bytes_same v two =
-      bytes_in a v two ∙ sym (same_range c a (4096 + v * 4096) (4096 + v * 4096 + 99) same.size (omega (arith, large_c, two)) (λ i low high. front i (omega (arith, high, two)))) ∙ sym (bytes_in c v two)
-
-  counted_before : (v : ℕ) (r : Record) → v < 2 → Counts VERSION_1 (head_of VERSION_1 c) v r → Counts VERSION_1 (head_of VERSION_1 a) v r
-  counted_before v r two is = counts_of c a v r large (sym page_same) (sym (bytes_same v two)) is
-
-  recorded : (o : Option Record) → RecordOf VERSION_1 (head_of VERSION_1 a) o → RecordOf VERSION_1 (head_of VERSION_1 c) o
-  recorded None none = λ v r two is. none v r two (counted_before v r two is)
-  recorded (Some r) h = record {
-    which = h.which;
-    inside = h.inside;
-    counts = counts_of a c h.which r large_c page_same (bytes_same h.which h.inside) h.counts;
-    highest = λ other is. h.highest other (counted_before (1 - h.which) other (omega arith) is);
-  }
-
   pub still_held : RecordOf VERSION_1 (head_of VERSION_1 c) held
-  still_held = recorded held was
+  still_held = recorded.still_held held a c large was (says_same held bytes a c few fits same)
 
 -- ---- the new record
 

@@ -32,6 +32,14 @@ IsRefusal (ends.OtherDigest recorded offered) = Unit {0}
 IsRefusal ends.Worn = Unit {0}
 IsRefusal _ = ⊥
 
+-- an end before anything was launched or written
+abbrev pub IsUnbegun : UpdateEnd → Type 0
+IsUnbegun (ends.Lower recorded offered) = Unit {0}
+IsUnbegun (ends.OtherDigest recorded offered) = Unit {0}
+IsUnbegun ends.Worn = Unit {0}
+IsUnbegun ends.NoMemory = Unit {0}
+IsUnbegun _ = ⊥
+
 -- ---- once it was accepted
 
 -- the procedure ended so, and what came behind it did not fail

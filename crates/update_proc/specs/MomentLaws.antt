@@ -17,7 +17,7 @@ use Rattle.update_proc.specs.Banks.{BesideBank}
 use Rattle.update_proc.specs.Choices.{AreChosen, HaveTwoSlots, active_slots}
 use Rattle.update_proc.specs.Installing.{IsRecording}
 use Rattle.update_proc.specs.Moments.{HasContentsOf, HasInUse, HasPlayed, IsNew, IsOld, KeepsContents, OutsideTouched}
-use Rattle.update_proc.specs.Updates.{PlaysUpdate}
+use Rattle.update_proc.specs.Updates.{PlaysUpdate, sources}
 
 -- on a flash of that size with that layout
 pub record MomentLaws (size : ℕ) (layout : List Entry) : Type 0 where
@@ -46,7 +46,7 @@ pub record MomentLaws (size : ℕ) (layout : List Entry) : Type 0 where
       (places : Places) (tree : PlanTree) (held : Option Record)
       (payloads words : List (List ℕ × List ℕ)) (files : List ℕ → Option (List ℕ))
       (before made image : List ℕ) (launched now : List Launch) (r : Record) → AreChosen layout places tree (active_slots held) r.active
-      → (play : PlaysUpdate layout places tree held payloads words files before made launched now plays.Done) → IsNew layout r made image
+      → (play : PlaysUpdate layout places tree held (sources payloads words files) before made launched now plays.Done) → IsNew layout r made image
       → HasPlayed layout places r.active
       (played tree (setting_of play.standings payloads words files) (contents_of play.standings (empty_ram layout) before)).world.contents image
 

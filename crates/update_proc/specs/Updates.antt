@@ -25,11 +25,20 @@ use Rattle.update_proc.specs.Moments.{HasContentsOf, IsNew, IsOld, KeepsContents
 
 -- ---- the play
 
--- The procedure is played on the chosen slots, with working memory empty, these payloads, these names of files and these
--- files. It ends so, and leaves these contents and launches.
+-- what a procedure fetches from: payloads, names of files for URIs, and files by their names
+pub record Sources : Type 0 where
+  pub payloads : List (List ℕ × List ℕ)
+  pub words : List (List ℕ × List ℕ)
+  pub files : List ℕ → Option (List ℕ)
+
+abbrev pub sources : List (List ℕ × List ℕ) → List (List ℕ × List ℕ)
+    → (List ℕ → Option (List ℕ)) → Sources
+sources payloads words files = record { payloads = payloads; words = words; files = files }
+
+-- The procedure is played on the chosen slots, with working memory empty, from these sources. It ends so, and leaves these
+-- contents and launches.
 pub record PlaysUpdate (layout : List Entry) (places : Places) (tree : PlanTree)
-    (held : Option Record) (payloads words : List (List ℕ × List ℕ))
-    (files : List ℕ → Option (List ℕ)) (before made : List ℕ) (launched now : List Launch)
+    (held : Option Record) (from : Sources) (before made : List ℕ) (launched now : List Launch)
     (end : PlanEnd) : Type 0 where
   pub numbers : List ℕ
   pub chosen : AreChosen layout places tree (active_slots held) numbers
@@ -37,7 +46,7 @@ pub record PlaysUpdate (layout : List Entry) (places : Places) (tree : PlanTree)
   pub standings : List Standing
   pub stand : StandAs layout places (record { number = numbers }) standings
   pub ram : List Held
-  pub plays : PlaysPlan tree (setting_of standings payloads words files) end
+  pub plays : PlaysPlan tree (setting_of standings from.payloads from.words from.files) end
       (contents_of standings (empty_ram layout) before) (contents_of standings ram made) launched
       now
 
@@ -77,7 +86,8 @@ abbrev pub PlaysToEnd : List Entry → Places → PlanTree → Option Record →
     → (List ℕ → Option (List ℕ)) → List ℕ → List Launch → List Launch → List ℕ → Type 0
 PlaysToEnd layout places tree held bytes uris files before launched now made =
     (payloads : List (List ℕ × List ℕ)) → HasPayloads bytes payloads
-    → PlaysUpdate layout places tree held payloads uris files before made launched now plays.Done
+    → PlaysUpdate layout places tree held (sources payloads uris files) before made launched now
+    plays.Done
 
 -- ---- what is left
 

@@ -16,16 +16,18 @@ ghost use Rattle.update_proc.specs.Ends.{IfUnfaulted, JudgedSo, UpdateCounts};
 ghost use Rattle.update_proc.specs.Installing.{HasLayout, MayBeInstalled};
 ghost use Rattle.update_proc.specs.Offered.{ForOffer};
 ghost use Rattle.update_proc.specs.Records.{new_record};
-ghost use Rattle.update_proc.specs.Updates.{KeepsUpdate, KeptSo, LaunchesBy, LeavesUpdate, PlayedSo, PlaysToEnd, PlaysUpdate};
+ghost use Rattle.update_proc.specs.Updates.{KeepsUpdate, KeptSo, LaunchesBy, LeavesUpdate, PlayedSo, PlaysToEnd, PlaysUpdate, sources};
 
-use crate::{UpdateEnd, update_beside};
+use crate::UpdateEnd;
+use crate::accepting::installable;
+use crate::starting::{Accepted, start};
 use flash_layout::{FlashFault, Layout, Places, VERSION_1};
 use rollback_record::{load_record, record_laws, sound_laws};
 use std::alloc::Global;
 use step_machine::Uris;
 use suit_edge::{Disk, Host, Launcher};
 use suit_envelope::{Envelope, stated_digest};
-use suit_manifest::{Manifest, Members};
+use suit_manifest::{Manifest, Members, update_plan};
 
 /// Updates a flash (draft-ietf-suit-manifest-25, section 6): the manifest is judged beside the record that the flash
 /// holds, its update procedure is run on the chosen slots, and where that is done the trimmed envelope is written to a bank
@@ -63,17 +65,17 @@ pub fn update<H: Host, D: Disk, L: Launcher>(
         → ForOffer (D.flash disk.old).reads envelope.now.wrapper.now (λ held digest.
         (payloads : List (List ℕ × List ℕ)) → HasPayloads envelope.now.whole.now payloads
         → PlayedSo (λ made end. PlaysUpdate layout.now places.now
-        (update_tree manifest.now members.now) held payloads uris.now
-        (H.file host.old) (D.flash disk.old).reads made (L.launches launcher.old)
-        (L.launches launcher.new) end)
+        (update_tree manifest.now members.now) held
+        (sources payloads uris.now (H.file host.old)) (D.flash disk.old).reads made
+        (L.launches launcher.old) (L.launches launcher.new) end)
         layout.now (D.flash disk.new).reads (L.launches launcher.old) (L.launches launcher.new)
         result) }
     ensures launches { IsTrue H.told → IsTrue D.told → IsTrue L.told
         → (payloads : List (List ℕ × List ℕ)) → HasPayloads envelope.now.whole.now payloads
         → LaunchesBy (λ held made end. PlaysUpdate layout.now places.now
-        (update_tree manifest.now members.now) held payloads uris.now
-        (H.file host.old) (D.flash disk.old).reads made (L.launches launcher.old)
-        (L.launches launcher.new) end)
+        (update_tree manifest.now members.now) held
+        (sources payloads uris.now (H.file host.old)) (D.flash disk.old).reads made
+        (L.launches launcher.old) (L.launches launcher.new) end)
         (D.flash disk.old).reads (L.launches launcher.old) (L.launches launcher.new) }
     ensures keeps { IsTrue D.told → Settled VERSION_1 (D.flash disk.old)
         → let start = D.flash disk.old in
@@ -111,23 +113,24 @@ pub fn update<H: Host, D: Disk, L: Launcher>(
 {
     record_laws();
     sound_laws();
-    let held = match load_record(disk) {
+    let loaded = match load_record(disk) {
         Ok(held) => held,
         Err(FlashFault) => return UpdateEnd::FlashFault,
     };
+    let held = loaded.as_ref();
     let digest = stated_digest(envelope);
-    update_beside(
-        alloc,
-        host,
-        disk,
-        launcher,
-        layout,
-        places,
-        envelope,
-        manifest,
-        members,
-        uris,
-        held.as_ref(),
-        &digest,
+    let bytes = match installable(alloc, envelope, manifest.sequence, held, &digest) {
+        Ok(bytes) => bytes,
+        Err(end) => return end,
+    };
+    let plan = update_plan(manifest, members);
+    let whole = bytes.as_slice();
+    let accepted = Accepted {
+        bytes: whole,
+        sequence: manifest.sequence,
+        digest,
+    };
+    start(
+        alloc, host, disk, launcher, &accepted, held, layout, places, envelope, &plan, uris,
     )
 }

@@ -1,6 +1,7 @@
 //! Updates: a procedure that runs, the bank that the envelope is written to, and the record that is committed.
 #![tactic(auto)]
 
+mod accepting;
 mod bank;
 mod bank_reading;
 mod choosing;
@@ -12,7 +13,6 @@ mod law;
 mod offer;
 mod starting;
 mod update_end;
-mod updating;
 
 pub use bank::write_bank;
 pub use choosing::{choice_laws, choose};
@@ -21,4 +21,3 @@ pub use installing::install;
 pub use law::moment_laws;
 pub use offer::Offer;
 pub use update_end::UpdateEnd;
-pub use updating::update_beside;

@@ -16,7 +16,7 @@ ghost use Rattle.update_proc.specs.Choices.{AreChosen, active_slots};
 ghost use Rattle.update_proc.specs.Ends.{IfUnfaulted, IsStartEnd, UpdateCounts};
 ghost use Rattle.update_proc.specs.Installing.{HasLayout, MayBeInstalled};
 ghost use Rattle.update_proc.specs.Records.{new_record};
-ghost use Rattle.update_proc.specs.Updates.{KeepsUpdate, KeptSo, LeavesUpdate, PlayedSo, PlaysToEnd, PlaysUpdate};
+ghost use Rattle.update_proc.specs.Updates.{KeepsUpdate, KeptSo, LeavesUpdate, PlayedSo, PlaysToEnd, PlaysUpdate, sources};
 
 use crate::finishing::finish;
 use crate::in_use::choose_slots;
@@ -79,8 +79,8 @@ pub(crate) fn start<H: Host, D: Disk, L: Launcher>(
     ensures plays { IsTrue H.told → IsTrue D.told → IsTrue L.told
         → let held = option_map (λ r. r.now) held.entry in
         (payloads : List (List ℕ × List ℕ)) → HasPayloads envelope.now.whole.now payloads
-        → PlayedSo (λ made end. PlaysUpdate layout.now places.now (plan_tree plan.now) held payloads
-        uris.now (H.file host.old)
+        → PlayedSo (λ made end. PlaysUpdate layout.now places.now (plan_tree plan.now) held
+        (sources payloads uris.now (H.file host.old))
         (D.flash disk.old).reads made (L.launches launcher.old) (L.launches launcher.new) end)
         layout.now (D.flash disk.new).reads (L.launches launcher.old) (L.launches launcher.new)
         result }

@@ -1,0 +1,58 @@
+//! An offered update is judged beside the record, and its envelope is trimmed.
+
+ghost use Rattle.rollback_record.specs.Judging.{IsAcceptable};
+ghost use Rattle.std.specs.Prelude.{◌≡◌, IfErr, IfNone, IfOk, IfSome, OnOk, option_map};
+ghost use Rattle.suit_envelope.specs.Trimmed.{trimmed};
+ghost use Rattle.update_proc.specs.Ends.{IsRefusal, IsUnbegun, JudgedSo};
+
+use crate::UpdateEnd;
+use det_cbor::Bytes;
+use flash_layout::Record;
+use rollback_record::{Judged, judge};
+use std::alloc::{AllocError, Global};
+use suit_envelope::{Envelope, trim};
+use suit_params::Digest;
+
+// Why a manifest may not be recorded; none if it may.
+fn refusal(held: Option<&Record>, sequence: u64, digest: &Digest) -> Option<UpdateEnd>
+    ensures refused { IfSome result (λ end. IsRefusal end) }
+    ensures judged { IfSome result
+        (λ end. JudgedSo sequence digest.now (option_map (λ r. r.now) held.entry) end) }
+    ensures accepted { IfNone result
+        (IsAcceptable sequence digest.now (option_map (λ r. r.now) held.entry)) }
+{
+    match judge(held, sequence, digest) {
+        Judged::Accepted => None,
+        Judged::Lower { recorded, offered } => Some(UpdateEnd::Lower { recorded, offered }),
+        Judged::OtherDigest { recorded, offered } => {
+            Some(UpdateEnd::OtherDigest { recorded, offered })
+        }
+        Judged::Worn => Some(UpdateEnd::Worn),
+    }
+}
+
+// The bytes that are installed, where a manifest with this number and digest may be recorded beside the record.
+pub(crate) fn installable(
+    alloc: Global,
+    envelope: &Envelope<'_>,
+    sequence: u64,
+    held: Option<&Record>,
+    digest: &Digest,
+) -> Result<Bytes, UpdateEnd>
+    ensures spelling { IfOk result
+        (λ bytes. bytes ≡ trimmed envelope.now.wrapper.now envelope.now.manifest.now) }
+    ensures accepted { OnOk result
+        (IsAcceptable sequence digest.now (option_map (λ r. r.now) held.entry)) }
+    ensures unbegun { IfErr result (λ end. IsUnbegun end) }
+    ensures judged { IfErr result
+        (λ end. JudgedSo sequence digest.now (option_map (λ r. r.now) held.entry) end) }
+{
+    match refusal(held, sequence, digest) {
+        Some(end) => return Err(end),
+        None => {}
+    }
+    match trim(alloc, envelope) {
+        Ok(bytes) => Ok(bytes),
+        Err(AllocError) => Err(UpdateEnd::NoMemory),
+    }
+}
