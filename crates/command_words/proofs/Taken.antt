@@ -1,14 +1,14 @@
 -- The words that the commands take, and their values.
-use Rattle.std.proofs.Common.{◌≡◌, ℕ, [], ◌∷◌, length, eqb, true, false, ◌&&◌, ◌≤◌, ◌∙◌, List, Option, Some, None, option_map, refl, codes, Bor, arith}
+use Rattle.std.proofs.Common.{◌≡◌, ℕ, [], ◌∷◌, length, eqb, true, false, ◌&&◌, ◌≤◌, ◌∙◌, List, Option, Some, None, refl, codes, Bor, arith}
 use Rattle.std.specs.List.{list_all}
 use Rattle.clap.specs.Lexer.{short_of}
 use Rattle.clap.specs.Takes.{takes}
 use Rattle.clap.proofs.OnLiterals.{clap_on_literals}
-use Rattle.command_words.specs.Tasks.{Word, Words, texts, Task, Make, Describe, Show, Check, Init, Drill}
-use Rattle.command_words.specs.Numbers.{number_of}
+use Rattle.command_words.specs.Tasks.{Word, Words, texts, Task, Make, Describe, Show, Init}
 use Rattle.command_words.specs.Words.{is_plain}
-use Rattle.command_words.specs.Table.{make_of, show_of, check_of, init_of, drill_of}
+use Rattle.command_words.specs.Table.{make_of, show_of, init_of}
 use Rattle.command_words.specs.Arguments.{app_for}
+use Rattle.command_words.specs.declared.arguments.Row.{Row}
 use Rattle.command_words.specs.declared.arguments.Row.TheVariants as row
 use Rattle.command_words.proofs.Handed.{both, value_in}
 use Rattle.command_words.proofs.TextLists.{as_many}
@@ -29,64 +29,70 @@ rest_plain word more plain = (both (is_plain word) (list_all is_plain more) plai
 
 -- ---- `check` and `drill`
 
-takes_check : (n w : Word) → is_plain w ≡ true
-    → (takes (app_for row.Check) (n ∷ w ∷ []) ≡ true)
-    × (value_in (app_for row.Check) (codes "FILE") (n ∷ w ∷ []) ≡ Some w)
+-- a row takes each plain word behind its name as this argument
+abbrev TakesOne : Row → Word → Type 0
+TakesOne r id = (n w : Word) → is_plain w ≡ true → (takes (app_for r) (n ∷ w ∷ []) ≡ true) × (value_in (app_for r) id (n ∷ w ∷ []) ≡ Some w)
+
+takes_check : TakesOne row.Check (codes "FILE")
 unfolding clap_on_literals
 takes_check n [] hw = (refl, refl)
 takes_check n (w ∷ ws) hw = let ew = no_minus w ws hw in rw (ew, no_short w ws ew) (refl, refl)
 
-takes_drill : (n w : Word) → is_plain w ≡ true
-    → (takes (app_for row.Drill) (n ∷ w ∷ []) ≡ true)
-    × (value_in (app_for row.Drill) (codes "NUMBER") (n ∷ w ∷ []) ≡ Some w)
+takes_drill : TakesOne row.Drill (codes "NUMBER")
 unfolding clap_on_literals
 takes_drill n [] hw = (refl, refl)
 takes_drill n (w ∷ ws) hw = let ew = no_minus w ws hw in rw (ew, no_short w ws ew) (refl, refl)
 
-pub record Checks (words : Words) : Type 0 where
-  pub takes_them : takes (app_for row.Check) words ≡ true
-  pub file : Word
-  pub has_file : value_in (app_for row.Check) (codes "FILE") words ≡ Some file
-  pub table : check_of words ≡ Some (Check file)
+-- two words, of which a row takes the second as this argument
+pub record Ones (r : Row) (id : Word) (words : Words) : Type 0 where
+  pub takes_them : takes (app_for r) words ≡ true
+  pub name : Word
+  pub value : Word
+  pub are : words ≡ name ∷ value ∷ []
+  pub has_value : value_in (app_for r) id words ≡ Some value
 
-pub checks : (words : Words) → length words ≡ 2 → list_all is_plain words ≡ true → Checks words
-checks [] many plain = absurd (omega arith)
-checks (n ∷ []) many plain = absurd (omega arith)
-checks (n ∷ w ∷ []) many plain =
-    let t = takes_check n w (first_plain w [] (rest_plain n (w ∷ []) plain)) in
-    record { takes_them = t.0; file = w; has_file = t.1; table = refl }
-checks (n ∷ w ∷ x ∷ more) many plain = absurd (omega arith)
+ones : (r : Row) (id : Word) → TakesOne r id → (words : Words) → length words ≡ 2 → list_all is_plain words ≡ true → Ones r id words
+ones r id takes_one [] many plain = absurd (omega arith)
+ones r id takes_one (n ∷ []) many plain = absurd (omega arith)
+ones r id takes_one (n ∷ w ∷ []) many plain =
+    let t = takes_one n w (first_plain w [] (rest_plain n (w ∷ []) plain)) in
+    record { takes_them = t.0; name = n; value = w; are = refl; has_value = t.1 }
+ones r id takes_one (n ∷ w ∷ x ∷ more) many plain = absurd (omega arith)
 
-pub checks_texts : (words : List (Bor Word)) → length words ≡ 2 → list_all is_plain (texts words) ≡ true → Checks (texts words)
-checks_texts words many plain = checks (texts words) (as_many words ∙ many) plain
+pub checks_texts : (words : List (Bor Word)) → length words ≡ 2 → list_all is_plain (texts words) ≡ true → Ones row.Check (codes "FILE") (texts words)
+checks_texts words many plain = ones row.Check (codes "FILE") takes_check (texts words) (as_many words ∙ many) plain
 
-pub record Drills (words : Words) : Type 0 where
-  pub takes_them : takes (app_for row.Drill) words ≡ true
-  pub number : Word
-  pub has_number : value_in (app_for row.Drill) (codes "NUMBER") words ≡ Some number
-  pub table : drill_of words ≡ option_map Drill (number_of number)
-
-pub drills : (words : Words) → length words ≡ 2 → list_all is_plain words ≡ true → Drills words
-drills [] many plain = absurd (omega arith)
-drills (n ∷ []) many plain = absurd (omega arith)
-drills (n ∷ w ∷ []) many plain =
-    let t = takes_drill n w (first_plain w [] (rest_plain n (w ∷ []) plain)) in
-    record { takes_them = t.0; number = w; has_number = t.1; table = refl }
-drills (n ∷ w ∷ x ∷ more) many plain = absurd (omega arith)
+pub drills_texts : (words : List (Bor Word)) → length words ≡ 2 → list_all is_plain (texts words) ≡ true → Ones row.Drill (codes "NUMBER") (texts words)
+drills_texts words many plain = ones row.Drill (codes "NUMBER") takes_drill (texts words) (as_many words ∙ many) plain
 
 -- ---- `run init`
 
-takes_init : (n v w : Word) → is_plain v ≡ true → is_plain w ≡ true
-    → (takes (app_for row.Init) (n ∷ v ∷ w ∷ []) ≡ true)
-    × (value_in (app_for row.Init) (codes "DEVICE") (n ∷ v ∷ w ∷ []) ≡ Some v)
-    × (value_in (app_for row.Init) (codes "KEY") (n ∷ v ∷ w ∷ []) ≡ Some w)
-unfolding clap_on_literals
-takes_init n [] [] hv hw = (refl, refl, refl)
-takes_init n [] (w ∷ ws) hv hw = let ew = no_minus w ws hw in rw (ew, no_short w ws ew) (refl, refl, refl)
-takes_init n (v ∷ vs) [] hv hw = let ev = no_minus v vs hv in rw (ev, no_short v vs ev) (refl, refl, refl)
-takes_init n (v ∷ vs) (w ∷ ws) hv hw =
+-- a row takes two words behind its name as these arguments
+abbrev AreTaken : Row → Word → Word → Word → Word → Word → Type 0
+AreTaken r first second n v w =
+    (takes (app_for r) (n ∷ v ∷ w ∷ []) ≡ true)
+    × (value_in (app_for r) first (n ∷ v ∷ w ∷ []) ≡ Some v)
+    × (value_in (app_for r) second (n ∷ v ∷ w ∷ []) ≡ Some w)
+
+-- two plain words, each empty or begun by no dash
+two_plain : (P : Word → Word → Type 0) → P [] []
+    → ((w : ℕ) (ws : Word) → eqb w 45 ≡ false → short_of (w ∷ ws) ≡ None → P [] (w ∷ ws))
+    → ((v : ℕ) (vs : Word) → eqb v 45 ≡ false → short_of (v ∷ vs) ≡ None → P (v ∷ vs) [])
+    → ((v : ℕ) (vs : Word) → eqb v 45 ≡ false → short_of (v ∷ vs) ≡ None
+    → (w : ℕ) (ws : Word) → eqb w 45 ≡ false → short_of (w ∷ ws) ≡ None → P (v ∷ vs) (w ∷ ws))
+    → (v w : Word) → is_plain v ≡ true → is_plain w ≡ true → P v w
+two_plain P none second first both [] [] hv hw = none
+two_plain P none second first both [] (w ∷ ws) hv hw = let ew = no_minus w ws hw in second w ws ew (no_short w ws ew)
+two_plain P none second first both (v ∷ vs) [] hv hw = let ev = no_minus v vs hv in first v vs ev (no_short v vs ev)
+two_plain P none second first both (v ∷ vs) (w ∷ ws) hv hw =
     let ev = no_minus v vs hv in let ew = no_minus w ws hw in
-    rw (ev, no_short v vs ev, ew, no_short w ws ew) (refl, refl, refl)
+    both v vs ev (no_short v vs ev) w ws ew (no_short w ws ew)
+
+takes_init : (n v w : Word) → is_plain v ≡ true → is_plain w ≡ true → AreTaken row.Init (codes "DEVICE") (codes "KEY") n v w
+unfolding clap_on_literals
+takes_init n =
+    two_plain (AreTaken row.Init (codes "DEVICE") (codes "KEY") n) (refl, refl, refl) (λ w ws e s. rw (e, s) (refl, refl, refl)) (λ v vs e s. rw (e, s) (refl, refl, refl))
+    (λ v vs ev sv w ws ew sw. rw (ev, sv, ew, sw) (refl, refl, refl))
 
 pub record Inits (words : Words) : Type 0 where
   pub takes_them : takes (app_for row.Init) words ≡ true
@@ -119,17 +125,11 @@ unfolding clap_on_literals
 takes_describe n [] hw = (refl, refl, refl)
 takes_describe n (w ∷ ws) hw = let ew = no_minus w ws hw in rw (ew, no_short w ws ew) (refl, refl, refl)
 
-takes_show : (n v w : Word) → is_plain v ≡ true → is_plain w ≡ true
-    → (takes (app_for row.Show) (n ∷ v ∷ w ∷ []) ≡ true)
-    × (value_in (app_for row.Show) (codes "FILE") (n ∷ v ∷ w ∷ []) ≡ Some v)
-    × (value_in (app_for row.Show) (codes "KEY") (n ∷ v ∷ w ∷ []) ≡ Some w)
+takes_show : (n v w : Word) → is_plain v ≡ true → is_plain w ≡ true → AreTaken row.Show (codes "FILE") (codes "KEY") n v w
 unfolding clap_on_literals
-takes_show n [] [] hv hw = (refl, refl, refl)
-takes_show n [] (w ∷ ws) hv hw = let ew = no_minus w ws hw in rw (ew, no_short w ws ew) (refl, refl, refl)
-takes_show n (v ∷ vs) [] hv hw = let ev = no_minus v vs hv in rw (ev, no_short v vs ev) (refl, refl, refl)
-takes_show n (v ∷ vs) (w ∷ ws) hv hw =
-    let ev = no_minus v vs hv in let ew = no_minus w ws hw in
-    rw (ev, no_short v vs ev, ew, no_short w ws ew) (refl, refl, refl)
+takes_show n =
+    two_plain (AreTaken row.Show (codes "FILE") (codes "KEY") n) (refl, refl, refl) (λ w ws e s. rw (e, s) (refl, refl, refl)) (λ v vs e s. rw (e, s) (refl, refl, refl))
+    (λ v vs ev sv w ws ew sw. rw (ev, sv, ew, sw) (refl, refl, refl))
 
 -- to show a file, under a key if there is one
 abbrev pub shown : Word → Option Word → Task

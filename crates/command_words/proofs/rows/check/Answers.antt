@@ -1,5 +1,6 @@
 use Rattle.std.proofs.Common.{◌∙◌, ap, sym, codes, arith, Some}
 use Rattle.command_words.specs.Tasks.{Word, texts, Check}
+use Rattle.command_words.specs.Table.{check_of}
 use Rattle.command_words.specs.Arguments.{app_for}
 use Rattle.command_words.specs.declared.arguments.Row.TheVariants as row
 use Rattle.command_words.proofs.Handed.{is_there, is_that}
@@ -10,10 +11,10 @@ pub found-requires : goal.found-requires
 found-requires c = (checks_texts c.args.words.now (omega arith) c.requires).takes_them
 
 pub value_of-file-requires : goal.value_of-file-requires
-value_of-file-requires c = is_there (app_for row.Check) (texts c.args.words.now) _ c.in_ok-matches.ensures (codes "FILE") _ (checks_texts c.args.words.now (omega arith) c.requires).has_file
+value_of-file-requires c = is_there (app_for row.Check) (texts c.args.words.now) _ c.in_ok-matches.ensures (codes "FILE") _ (checks_texts c.args.words.now (omega arith) c.requires).has_value
 
 pub returns : goal.returns
 returns c =
     let h = checks_texts c.args.words.now (omega arith) c.requires in
-    let file = is_that (app_for row.Check) (texts c.args.words.now) _ c.in_ok-matches.ensures (codes "FILE") h.file _ h.has_file c.value_of-file.ensures in
-    sym (h.table ∙ ap (λ (w : Word). Some (Check w)) file)
+    let file = is_that (app_for row.Check) (texts c.args.words.now) _ c.in_ok-matches.ensures (codes "FILE") h.value _ h.has_value c.value_of-file.ensures in
+    sym (ap check_of h.are ∙ ap (λ (w : Word). Some (Check w)) file)

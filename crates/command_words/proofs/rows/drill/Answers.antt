@@ -1,33 +1,33 @@
 use Rattle.std.proofs.Common.{◌∙◌, ap, sym, codes, arith, option_map}
 use Rattle.command_words.specs.Tasks.{Word, texts, Drill}
 use Rattle.command_words.specs.Numbers.{number_of}
+use Rattle.command_words.specs.Table.{drill_of}
 use Rattle.command_words.specs.Arguments.{app_for}
 use Rattle.command_words.specs.declared.arguments.Row.TheVariants as row
 use Rattle.command_words.proofs.Handed.{is_there, is_that}
-use Rattle.command_words.proofs.TextLists.{as_many}
-use Rattle.command_words.proofs.Taken.{drills}
+use Rattle.command_words.proofs.Taken.{drills_texts}
 use Rattle.command_words.proofs.rows.drill.Goals as goal
 
 pub found-requires : goal.found-requires
 found-requires c =
-    let h = drills (texts c.args.words.now) (as_many c.args.words.now ∙ omega arith) c.requires in
+    let h = drills_texts c.args.words.now (omega arith) c.requires in
     h.takes_them
 
 pub value_of-requires : goal.value_of-requires
 value_of-requires c =
-    let h = drills (texts c.args.words.now) (as_many c.args.words.now ∙ omega arith) c.requires in
-    is_there (app_for row.Drill) (texts c.args.words.now) _ c.in_ok-matches.ensures (codes "NUMBER") h.number h.has_number
+    let h = drills_texts c.args.words.now (omega arith) c.requires in
+    is_there (app_for row.Drill) (texts c.args.words.now) _ c.in_ok-matches.ensures (codes "NUMBER") h.value h.has_value
 
 pub returns-in-Some : goal.returns-in-Some
 returns-in-Some c =
     let words = texts c.args.words.now in
-    let h = drills words (as_many c.args.words.now ∙ omega arith) c.requires in
-    let number = is_that (app_for row.Drill) words _ c.in_ok-matches.ensures (codes "NUMBER") h.number _ h.has_number c.value_of.ensures in
-    sym (h.table ∙ ap (λ (w : Word). option_map Drill (number_of w)) number ∙ ap (option_map Drill) (sym c.number_of-2.ensures ∙ c.in-Some.is))
+    let h = drills_texts c.args.words.now (omega arith) c.requires in
+    let number = is_that (app_for row.Drill) words _ c.in_ok-matches.ensures (codes "NUMBER") h.value _ h.has_value c.value_of.ensures in
+    sym (ap drill_of h.are ∙ ap (λ (w : Word). option_map Drill (number_of w)) number ∙ ap (option_map Drill) (sym c.number_of-2.ensures ∙ c.in-Some.is))
 
 pub returns : goal.returns
 returns c =
     let words = texts c.args.words.now in
-    let h = drills words (as_many c.args.words.now ∙ omega arith) c.requires in
-    let number = is_that (app_for row.Drill) words _ c.in_ok-matches.ensures (codes "NUMBER") h.number _ h.has_number c.value_of.ensures in
-    sym (h.table ∙ ap (λ (w : Word). option_map Drill (number_of w)) number ∙ ap (option_map Drill) (sym c.number_of-2.ensures ∙ c.in-None.is))
+    let h = drills_texts c.args.words.now (omega arith) c.requires in
+    let number = is_that (app_for row.Drill) words _ c.in_ok-matches.ensures (codes "NUMBER") h.value _ h.has_value c.value_of.ensures in
+    sym (ap drill_of h.are ∙ ap (λ (w : Word). option_map Drill (number_of w)) number ∙ ap (option_map Drill) (sym c.number_of-2.ensures ∙ c.in-None.is))
