@@ -30,11 +30,11 @@ use Rattle.update_proc.specs.declared.update_end.UpdateEnd.{UpdateEnd}
 use Rattle.update_proc.specs.declared.update_end.UpdateEnd.TheVariants as ends
 use Rattle.update_proc.specs.Choices.{active_slots}
 use Rattle.update_proc.specs.Moments.{KeepsContents}
-use Rattle.update_proc.specs.Updates.{PlaysUpdate}
+use Rattle.update_proc.specs.Updates.{PlaysUpdate, sources}
 use Rattle.suit_cli.specs.Acceptance.{Accepted}
 use Rattle.suit_cli.specs.Launching.{Launching}
 use Rattle.suit_cli.specs.Outside.{Outside}
-use Rattle.suit_cli.specs.Updating.{IsUpdate}
+use Rattle.suit_cli.specs.Updating.{IsUpdate, offer}
 use Rattle.completeness.specs.Outcomes.{AreTold, IsFaultless}
 use Rattle.completeness.specs.Plays.{Completes, LeavesPlay}
 use Rattle.completeness.specs.Updates.{Sets, digest_of, play_of, record_for}
@@ -106,7 +106,7 @@ module _ (layout : List Entry) (bytes : List ℕ) (s : EnvelopeSays) (m : Manife
     chosen_once : (numbers : List ℕ) → Rattle.update_proc.specs.Choices.AreChosen layout q Tree (active_slots held) numbers → numbers ≡ sets.numbers
     chosen_once numbers chosen = one_choice layout p Tree (active_slots held) sets.numbers numbers sets.chosen (chosen_there layout q p (turned p q same) Tree (active_slots held) numbers chosen)
 
-    replayed : (made : List ℕ) (play : PlanEnd) → PlaysUpdate layout q Tree held sets.payloads uris mid.files mid.flash.reads made l.launches n.launches play → Replayed made play
+    replayed : (made : List ℕ) (play : PlanEnd) → PlaysUpdate layout q Tree held (sources sets.payloads uris mid.files) mid.flash.reads made l.launches n.launches play → Replayed made play
     replayed made play u =
         let numbers = chosen_once u.numbers u.chosen in
         let standings : u.standings ≡ sets.standings = one_standing layout p (record { number = sets.numbers }) (record { number = u.numbers }) sets.standings u.standings
@@ -132,7 +132,7 @@ module _ (layout : List Entry) (bytes : List ℕ) (s : EnvelopeSays) (m : Manife
       pub left : LeavesPlay sets.standings (play_of layout bytes Offered held sets uris b) l.launches n.launches a.flash.reads
       pub others : KeepsContents layout p Tree sets.numbers b.flash.reads a.flash.reads
 
-    pub installed_so : (r : Record) → IsUpdate layout bytes Found uris l n mid a (ends.Installed r) → InstalledSo (ends.Installed r)
+    pub installed_so : (r : Record) → IsUpdate (offer layout bytes Found uris) l n mid a (ends.Installed r) → InstalledSo (ends.Installed r)
     installed_so r u =
         let played = u.plays mid_told mid_flash_told told.launcher held (digest_of Offered) authentic.blocks mid_recorded states sets.payloads sets.has in
         let again = replayed played.made plays.Done played.plays in
@@ -164,7 +164,7 @@ module _ (layout : List Entry) (bytes : List ℕ) (s : EnvelopeSays) (m : Manife
       -- a play that was stopped by itself is no play that completes
       module _ (place : ℕ) (cause : Cause) where
         abbrev Stopped : Type 0
-        Stopped = (made : List ℕ) × PlaysUpdate layout q Tree held sets.payloads uris mid.files mid.flash.reads made l.launches n.launches (plays.DirectiveFailed place cause)
+        Stopped = (made : List ℕ) × PlaysUpdate layout q Tree held (sources sets.payloads uris mid.files) mid.flash.reads made l.launches n.launches (plays.DirectiveFailed place cause)
 
       never_by_itself : (place : ℕ) (cause : Cause) → Stopped place cause → CountsFor cause (counts_of mid.faults mid.flash.faults l.faults) (counts_of a.faults a.flash.faults n.faults) → ⊥
       never_by_itself place causes.Missing st c = never_stops _ place causes.Missing _ done (replayed st.0 (plays.DirectiveFailed place causes.Missing) st.1).plays_so.ends
@@ -175,7 +175,7 @@ module _ (layout : List Entry) (bytes : List ℕ) (s : EnvelopeSays) (m : Manife
       never_by_itself place causes.FlashFault st c = faultless.flash (subst (λ (z : ℕ). Faulted z a.flash.faults) sees.flash_faults c.1)
       never_by_itself place causes.LaunchFault st c = faultless.launcher c.2
 
-      pub way : (end : UpdateEnd) → IsUpdate layout bytes Found uris l n mid a end → InstalledSo end ⊎ StarvedSo end
+      pub way : (end : UpdateEnd) → IsUpdate (offer layout bytes Found uris) l n mid a end → InstalledSo end ⊎ StarvedSo end
       way (ends.Installed r) u = inl (installed_so r u)
       way ends.NoMemory u = inr (record {
         is = refl;

@@ -17,7 +17,7 @@ use Rattle.suit_cli.specs.declared.reply.Reply.{Reply}
 use Rattle.suit_cli.specs.declared.reply.Stop.{Stop}
 use Rattle.suit_cli.specs.declared.reply.Stop.TheVariants as stops
 use Rattle.suit_cli.specs.Outside.{Files, Flashed, Outside}
-use Rattle.suit_cli.specs.Stages.{Ending, Answers, Stage, Then, Declines, Faults, Lacks, Last, EndsWithout, Does, Finds, Tells, ending_of}
+use Rattle.suit_cli.specs.Stages.{Ending, Answers, Stage, Then, Goes, Declines, Faults, Lacks, Last, EndsWithout, Does, Finds, Tells, ending_of}
 use Rattle.suit_cli.specs.Replies.{Makes, stop_of}
 use Rattle.suit_cli.specs.Texts.{refusal_line, usage_line}
 use Rattle.suit_cli.specs.Words.{task_of, task_said}
@@ -56,6 +56,12 @@ module _ {A : Type 0} (stage : Stage A) (next : A → Answers) (before after : O
   pub ends_there : (result : Result Reply Stop) (stop : Stop) → IsErrAnd result (λ e. e ≡ stop) → Does stage before after (Err stop) → Then stage next before after (ending_of result)
   ends_there (Ok reply) stop is does = absurd is
   ends_there (Err other) stop is does = subst (λ (s : Stop). Then stage next before after (ending_of (Err s))) (sym is) (stopped stop does)
+
+-- the first stage goes on, and the answer ends at the second
+pub ends_second : {A B : Type 0} (stage : Stage A) (behind : A → Stage B) (next : A → B → Answers) (before middle after : Outside) (a : A) → stage.gives before middle a
+    → (result : Result Reply Stop) (stop : Stop) → IsErrAnd result (λ e. e ≡ stop) → Does (behind a) middle after (Err stop) → Then stage (λ x. Then (behind x) (next x)) before after (ending_of result)
+ends_second stage behind next before middle after a gives result stop is does =
+    Goes a middle (ending_of result) gives (ends_there (behind a) (next a) middle after result stop is does)
 
 -- because memory ran out, at the last one
 pub lacks_last : (says : Reply → Type 0) (here : Outside) (result : Result Reply Stop) → IsErrAnd result (λ e. e ≡ stops.NoMemory) → Last says here here (ending_of result)

@@ -31,7 +31,7 @@ use Rattle.suit_cli.specs.Statuses.{ending_status, status_of}
 use Rattle.suit_cli.specs.Authoring.{files_after, stores}
 use Rattle.suit_cli.specs.Acceptance.{accepts}
 use Rattle.suit_cli.specs.Formatting.{formats}
-use Rattle.suit_cli.specs.Commands.{begins_boot, begins_update, checks, describes, does, inits, makes, shows, tells_status}
+use Rattle.suit_cli.specs.Commands.{does}
 use Rattle.suit_cli.specs.Launching.{Launching, cause_status}
 use Rattle.suit_cli.specs.Booting.{Boots, IsBoot, boot_status}
 use Rattle.suit_cli.specs.Updating.{Updates, update_status}
@@ -85,35 +85,9 @@ stores_starves : (out envelope : List ℕ) → Starves (stores out envelope)
 stores_starves out envelope b a (Lacks l) = near_same b a l
 stores_starves out envelope b a (Goes u m _ s rest) = elim rest [ ]
 
-makes_starves : (description key_name out : List ℕ) → Starves (makes description key_name out)
-makes_starves description key_name out =
-    then_starves _ _ (reading_nears _ _ _ _) (λ bytes. then_starves _ _ (judging_nears _ _) (λ value. then_starves _ _ (reading_nears _ _ _ _) (λ key.
-    then_starves _ _ (files_nears [] _) (λ files. then_starves _ _ (judging_nears _ _) (λ envelope. stores_starves out envelope)))))
-
-checks_starves : (name : List ℕ) → Starves (checks name)
-checks_starves name =
-    then_starves _ _ (reading_nears _ _ _ _) (λ bytes. then_starves _ _ (judging_nears _ _) (λ said. then_starves _ _ (judging_nears _ _) (λ u.
-    then_starves _ _ (judging_nears _ _) (λ manifest. then_starves _ _ (judging_nears _ _) (λ members. then_starves _ _ (judging_nears _ _) (λ v.
-    then_starves _ _ (judging_nears _ _) (λ w. last_starves _)))))))
-
-describes_starves : (name : List ℕ) → Starves (describes name)
-describes_starves name =
-    then_starves _ _ (reading_nears _ _ _ _) (λ bytes. then_starves _ _ (judging_nears _ _) (λ said. then_starves _ _ (judging_nears _ _) (λ u.
-    then_starves _ _ (judging_nears _ _) (λ manifest. then_starves _ _ (judging_nears _ _) (λ members. then_starves _ _ (judging_nears _ _) (λ v. last_starves _))))))
-
-shows_starves : (name key_name : List ℕ) → Starves (shows name key_name)
-shows_starves name key_name =
-    then_starves _ _ (reading_nears _ _ _ _) (λ bytes. then_starves _ _ (judging_nears _ _) (λ said. then_starves _ _ (judging_nears _ _) (λ u.
-    then_starves _ _ (judging_nears _ _) (λ manifest. then_starves _ _ (reading_nears _ _ _ _) (λ key. last_starves _)))))
-
 formats_starves : (layout : List Entry) (key : Key) → Starves (formats layout key)
 formats_starves layout key b a (Lacks l) = near_looks b a l
 formats_starves layout key b a (Goes u m _ g rest) = elim rest [ ]
-
-inits_starves : (device key_name : List ℕ) → Starves (inits device key_name)
-inits_starves device key_name =
-    then_starves _ _ (looking_nears _ _) (λ size. then_starves _ _ (reading_nears _ _ _ _) (λ bytes. then_starves _ _ (judging_nears _ _) (λ layout.
-    then_starves _ _ (reading_nears _ _ _ _) (λ key. formats_starves layout _))))
 
 accepts_nears : (layout : List Entry) (key : Key) (bytes : List ℕ) → Nears (accepts layout key bytes)
 accepts_nears layout key bytes =
@@ -121,26 +95,28 @@ accepts_nears layout key bytes =
     turn_nears _ _ (judging_nears _ _) (λ manifest. turn_nears _ _ (judging_nears _ _) (λ places. turn_nears _ _ (judging_nears _ _) (λ members.
     turn_nears _ _ (turn_nears _ _ (judging_nears _ _) (λ w. turn_nears _ _ (judging_nears _ _) (λ x. judging_nears _ _))) (λ y. judging_nears _ _)))))))
 
-updates_starves : (name : List ℕ) → Starves (begins_update name)
-updates_starves name =
+does_starves : (task : Task) → Starves (does task)
+does_starves (Make description key_name out) =
+    then_starves _ _ (reading_nears _ _ _ _) (λ bytes. then_starves _ _ (judging_nears _ _) (λ value. then_starves _ _ (reading_nears _ _ _ _) (λ key.
+    then_starves _ _ (files_nears [] _) (λ files. then_starves _ _ (judging_nears _ _) (λ envelope. stores_starves out envelope)))))
+does_starves (Describe name) =
+    then_starves _ _ (reading_nears _ _ _ _) (λ bytes. then_starves _ _ (judging_nears _ _) (λ said. then_starves _ _ (judging_nears _ _) (λ u.
+    then_starves _ _ (judging_nears _ _) (λ manifest. then_starves _ _ (judging_nears _ _) (λ members. then_starves _ _ (judging_nears _ _) (λ v. last_starves _))))))
+does_starves (Show name key_name) =
+    then_starves _ _ (reading_nears _ _ _ _) (λ bytes. then_starves _ _ (judging_nears _ _) (λ said. then_starves _ _ (judging_nears _ _) (λ u.
+    then_starves _ _ (judging_nears _ _) (λ manifest. then_starves _ _ (reading_nears _ _ _ _) (λ key. last_starves _)))))
+does_starves (Check name) =
+    then_starves _ _ (reading_nears _ _ _ _) (λ bytes. then_starves _ _ (judging_nears _ _) (λ said. then_starves _ _ (judging_nears _ _) (λ u.
+    then_starves _ _ (judging_nears _ _) (λ manifest. then_starves _ _ (judging_nears _ _) (λ members. then_starves _ _ (judging_nears _ _) (λ v.
+    then_starves _ _ (judging_nears _ _) (λ w. last_starves _)))))))
+does_starves (RunInit device key_name) =
+    then_starves _ _ (looking_nears _ _) (λ size. then_starves _ _ (reading_nears _ _ _ _) (λ bytes. then_starves _ _ (judging_nears _ _) (λ layout.
+    then_starves _ _ (reading_nears _ _ _ _) (λ key. formats_starves layout _))))
+does_starves (RunUpdate name uris) =
     then_starves _ _ (looking_nears _ _) (λ config. then_starves _ _ (reading_nears _ _ _ _) (λ bytes.
     then_starves _ _ (accepts_nears config.0 config.1 bytes) (λ accepted. last_starves _)))
-
-boots_starves : Starves begins_boot
-boots_starves = then_starves _ _ (looking_nears _ _) (λ config. last_starves _)
-
-tells_starves : Starves tells_status
-tells_starves = then_starves _ _ (looking_nears _ _) (λ config. then_starves _ _ (looking_nears _ _) (λ installed. then_starves _ _ (looking_nears _ _) (λ lines. last_starves _)))
-
-does_starves : (task : Task) → Starves (does task)
-does_starves (Make description key_name out) = makes_starves description key_name out
-does_starves (Describe name) = describes_starves name
-does_starves (Show name key_name) = shows_starves name key_name
-does_starves (Check name) = checks_starves name
-does_starves (RunInit device key_name) = inits_starves device key_name
-does_starves (RunUpdate name uris) = updates_starves name
-does_starves RunBoot = boots_starves
-does_starves RunStatus = tells_starves
+does_starves RunBoot = then_starves _ _ (looking_nears _ _) (λ config. last_starves _)
+does_starves RunStatus = then_starves _ _ (looking_nears _ _) (λ config. then_starves _ _ (looking_nears _ _) (λ installed. then_starves _ _ (looking_nears _ _) (λ lines. last_starves _)))
 
 answers_starves : (words : List (List ℕ)) → Starves (answers words)
 answers_starves words b a (Goes task c _ g rest) = near_then b c a (near_same b c g.0) (does_starves task c a rest)

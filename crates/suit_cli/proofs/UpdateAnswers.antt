@@ -28,7 +28,7 @@ use Rattle.suit_cli.specs.Launching.{Launching}
 use Rattle.suit_cli.specs.Acceptance.{Accepted, IsAccepted, accepts}
 use Rattle.suit_cli.specs.Commands.{does}
 use Rattle.suit_cli.specs.Coming.{Comes, ByStages, ByUpdate, Ended, Answered, Booted, KeepsAccepted, StaysOrKeeps, Updated, UpdatesBy}
-use Rattle.suit_cli.specs.Updating.{IsDone, KeepsOffer}
+use Rattle.suit_cli.specs.Updating.{IsDone, KeepsOffer, offer}
 use Rattle.suit_cli.proofs.AcceptedFacts.{facts}
 use Rattle.suit_cli.proofs.Chains.{stopped}
 use Rattle.suit_cli.proofs.UpdateSound.{has_offer}
@@ -63,7 +63,7 @@ module _ (name : List ℕ) (uris : List (List ℕ × List ℕ)) (l : Launching) 
 
       -- and behind that
       pub comes_updated : (m : Launching) (a : Outside) (accepted : Accepted) → IsAccepted layout key bytes accepted → (ended : Ended)
-          → UpdatesBy layout bytes accepted uris l m d a ended → Comes_to m a ended
+          → UpdatesBy (offer layout bytes accepted uris) l m d a ended → Comes_to m a ended
       comes_updated m a accepted is (Answered ending) by =
           ByStages ending (Goes (layout, key) c ending held (Goes bytes d ending read (Goes accepted d ending (is d)
           (subst (λ (e : Ending). Last (λ (reply : Reply). ⊥) d a e) (sym by.0) (EndsWithout by.1))))) by.2
@@ -91,14 +91,14 @@ pub unaccepted_as : (layout : List Entry) (key : Key) (x y : List ℕ) → x ≡
 unaccepted_as layout key x y same stop found = subst (λ (bytes : List ℕ). (here : Outside) → Does (accepts layout key bytes) here here (Err stop)) same found
 
 pub updates_as : (layout : List Entry) (x y : List ℕ) → x ≡ y → (a : Accepted) (uris : List (List ℕ × List ℕ)) (l m : Launching) (before after : Outside) (ended : Ended)
-    → UpdatesBy layout x a uris l m before after ended → UpdatesBy layout y a uris l m before after ended
-updates_as layout x y same a uris l m before after ended by = subst (λ (bytes : List ℕ). UpdatesBy layout bytes a uris l m before after ended) same by
+    → UpdatesBy (offer layout x a uris) l m before after ended → UpdatesBy (offer layout y a uris) l m before after ended
+updates_as layout x y same a uris l m before after ended by = subst (λ (bytes : List ℕ). UpdatesBy (offer layout bytes a uris) l m before after ended) same by
 
 -- ---- at each moment
 
 pub keeps_as : (layout : List Entry) (x y : List ℕ) → x ≡ y → (a : Accepted) (uris : List (List ℕ × List ℕ)) (l m : Launching) (before : Outside) (ended : Ended) (old now : Flash)
-    → KeepsAccepted layout x a uris l m before ended old now → KeepsAccepted layout y a uris l m before ended old now
-keeps_as layout x y same a uris l m before ended old now kept = subst (λ (bytes : List ℕ). KeepsAccepted layout bytes a uris l m before ended old now) same kept
+    → KeepsAccepted (offer layout x a uris) l m before ended old now → KeepsAccepted (offer layout y a uris) l m before ended old now
+keeps_as layout x y same a uris l m before ended old now kept = subst (λ (bytes : List ℕ). KeepsAccepted (offer layout bytes a uris) l m before ended old now) same kept
 
 -- behind the looks at the configuration and at the file
 
@@ -106,13 +106,13 @@ module _ (name : List ℕ) (uris : List (List ℕ × List ℕ)) (l m : Launching
     (size : ℕ) (is_size : before.flash.size ≡ size) (a b c : Flash) (law_a : IsFlash a size) (law_b : IsFlash b size) (same : IsSame a b)
     (layout : List Entry) (key : Key) (allowed : IsAllowed VERSION_1 size layout key) (config : ConfigOf VERSION_1 size (head_of VERSION_1 a.reads) (Configured layout key))
     (settled : Settled VERSION_1 a) (bytes : List ℕ) (read : IsRead longest_file name before bytes) (x : Accepted) (is : IsAccepted layout key bytes x) (configs : OneAnswer) where
-  done_since : (held : Option Record) (made : List ℕ) → IsDone layout bytes x uris l m middle held b.reads made → IsDone layout bytes x uris l m before held a.reads made
+  done_since : (held : Option Record) (made : List ℕ) → IsDone (offer layout bytes x uris) l m middle held b.reads made → IsDone (offer layout bytes x uris) l m before held a.reads made
   done_since held made did host launcher =
       subst (λ (r : List ℕ). PlaysToEnd layout x.places (update_tree x.manifest x.members) held bytes uris before.files r l.launches m.launches made) same.reads
       (subst (λ (f : Files). PlaysToEnd layout x.places (update_tree x.manifest x.members) held bytes uris f b.reads l.launches m.launches made) (files_are host)
       (did (subst IsTrue (sym told_is) host) launcher))
 
-  kept_since : (end : UpdateEnd) → KeepsOffer layout bytes x uris l m middle end b c → KeepsOffer layout bytes x uris l m before end a c
+  kept_since : (end : UpdateEnd) → KeepsOffer (offer layout bytes x uris) l m middle end b c → KeepsOffer (offer layout bytes x uris) l m before end a c
   kept_since end kept held digest blocks there said =
       kept_from _ _ _ _
       (keeps_from a b c same size law_a layout allowed.layout_is x.places (update_tree x.manifest x.members) held key config settled there
@@ -120,7 +120,7 @@ module _ (name : List ℕ) (uris : List (List ℕ × List ℕ)) (l m : Launching
       (same_flash_then a b c size law_b same) end
       (kept held digest blocks (subst (λ (l : List ℕ). RecordOf VERSION_1 (head_of VERSION_1 l) held) (sym same.reads) there) said)
 
-  pub keeps_since : (ended : Ended) → KeepsAccepted layout bytes x uris l m middle ended b c → StaysOrKeeps name uris l m before ended a c
+  pub keeps_since : (ended : Ended) → KeepsAccepted (offer layout bytes x uris) l m middle ended b c → StaysOrKeeps name uris l m before ended a c
   keeps_since (Answered ending) still = same_flash_then a b c size law_b same still
   keeps_since (Booted end lines) still = same_flash_then a b c size law_b same still
   keeps_since (Updated end lines) kept = record {

@@ -34,7 +34,7 @@ use Rattle.invoke_proc.proofs.SoundBoot.{have_digests}
 use Rattle.update_proc.specs.Choices.{AreChosen, active_slots}
 use Rattle.update_proc.specs.Installing.{MayBeInstalled}
 use Rattle.update_proc.specs.Offered.{ForOffer}
-use Rattle.update_proc.specs.Updates.{LaunchesBy, PlaysUpdate}
+use Rattle.update_proc.specs.Updates.{LaunchesBy, PlaysUpdate, sources}
 use Rattle.place_laws.specs.Installing.{InstalledAnywhere}
 use Rattle.suit_cli.specs.Acceptance.{Accepted, Meets}
 use Rattle.suit_cli.specs.Updating.{HasOffer, new_of}
@@ -114,7 +114,7 @@ module _ (safe : SafeLaunches) (faulted : FaultedSafeLaunches) (manifests : Mani
   has_payloads = record { said = a.said; envelope = f.envelope; are = refl }
 
   abbrev Plays : Option Record → List ℕ → PlanEnd → Type 0
-  Plays held made end = PlaysUpdate layout a.places (update_tree a.manifest a.members) held payloads uris files before made launched now end
+  Plays held made end = PlaysUpdate layout a.places (update_tree a.manifest a.members) held (sources payloads uris files) before made launched now end
 
   gains_played : (held : Option Record) (made : List ℕ) (end : PlanEnd) → Plays held made end → GainsSafe launched now
   gains_played held made end p = record {
@@ -133,6 +133,6 @@ module _ (safe : SafeLaunches) (faulted : FaultedSafeLaunches) (manifests : Mani
 
   -- whatever payloads it is said of
   pub gains_update : ((p : List (List ℕ × List ℕ)) → HasPayloads bytes p
-      → LaunchesBy (λ held made end. PlaysUpdate layout a.places (update_tree a.manifest a.members) held p uris files before made launched now end) before launched now)
+      → LaunchesBy (λ held made end. PlaysUpdate layout a.places (update_tree a.manifest a.members) held (sources p uris files) before made launched now end) before launched now)
       → GainsSafe launched now
   gains_update launches = of_launches (launches payloads has_payloads)

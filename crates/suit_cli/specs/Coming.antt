@@ -17,8 +17,7 @@ use Rattle.suit_cli.specs.Stages.{Ending, NoMemory, Answers, ending_of}
 use Rattle.suit_cli.specs.Statuses.{ending_status, ending_text}
 use Rattle.suit_cli.specs.Launching.{Launching}
 use Rattle.suit_cli.specs.Booting.{IsBoot, Boots, KeepsBooted, boot_line, boot_status}
-use Rattle.suit_cli.specs.Acceptance.{Accepted}
-use Rattle.suit_cli.specs.Updating.{IsUpdate, KeepsFlash, KeepsOffer, Updates, update_line, update_status}
+use Rattle.suit_cli.specs.Updating.{IsUpdate, KeepsFlash, KeepsOffer, Offer, Updates, update_line, update_status}
 
 -- the ending of an answer in stages, of a boot, or of an update
 pub data Ended : Type 0 where
@@ -83,12 +82,10 @@ abbrev pub BootKeepsBy : List Entry → Key → Ended → Flash → Flash → Ty
 BootKeepsBy layout key ended old now = BootedSo (KeepsBoot layout key old now) (IsSame old now) ended
 
 -- the same, once an envelope was accepted
-abbrev pub KeepsAccepted : List Entry → List ℕ → Accepted → List (List ℕ × List ℕ) → Launching
-    → Launching → Outside → Ended
-    → Flash → Flash → Type 0
-KeepsAccepted layout bytes a uris launched later before (Updated end lines) old now =
-    KeepsOffer layout bytes a uris launched later before end old now
-KeepsAccepted layout bytes a uris launched later before _ old now = IsSame old now
+abbrev pub KeepsAccepted : Offer → Launching → Launching → Outside → Ended → Flash → Flash → Type 0
+KeepsAccepted o launched later before (Updated end lines) old now =
+    KeepsOffer o launched later before end old now
+KeepsAccepted o launched later before _ old now = IsSame old now
 
 -- of a run of calls, no more than that
 abbrev pub PassesAny : Flash → Flash → Type 0
@@ -118,11 +115,10 @@ BootsBy layout key launched now before after (Booted end lines) =
 BootsBy layout key launched now before after (Updated end lines) = ⊥
 
 -- from what was accepted on: memory runs out for the lines; or it is an update
-abbrev pub UpdatesBy : List Entry → List ℕ → Accepted → List (List ℕ × List ℕ) → Launching
-    → Launching → Outside → Outside → Ended → Type 0
-UpdatesBy layout bytes a uris launched now before after (Answered ending) =
+abbrev pub UpdatesBy : Offer → Launching → Launching → Outside → Outside → Ended → Type 0
+UpdatesBy o launched now before after (Answered ending) =
     IsUndone launched now before after ending
-UpdatesBy layout bytes a uris launched now before after (Booted end lines) = ⊥
-UpdatesBy layout bytes a uris launched now before after (Updated end lines) =
-    IsUpdate layout bytes a uris launched now before after end
-    × (lines ≡ update_line a.manifest.sequence end)
+UpdatesBy o launched now before after (Booted end lines) = ⊥
+UpdatesBy o launched now before after (Updated end lines) =
+    IsUpdate o launched now before after end
+    × (lines ≡ update_line o.accepted.manifest.sequence end)

@@ -1,5 +1,5 @@
 -- The stages that judge the two procedures of a manifest.
-use Rattle.std.specs.Prelude.{◌≡◌, ◌<◌, ◌≤◌, ℕ, List, ◌++◌}
+use Rattle.std.specs.Prelude.{◌≡◌, ◌<◌, ◌≤◌, ℕ, List, ◌++◌, codes}
 use Rattle.suit_commands.specs.Tree.{PlanTree}
 use Rattle.suit_commands.specs.Capped.{capped}
 use Rattle.suit_commands.specs.Numbers.{width_number}
@@ -10,7 +10,7 @@ use Rattle.path_checker.specs.PlanVerdicts.{widest}
 use Rattle.suit_cli.specs.declared.reply.Reply.{Reply}
 use Rattle.suit_cli.specs.declared.reply.Outcome.TheVariants as outcomes
 use Rattle.suit_cli.specs.Lines.{path_lines}
-use Rattle.suit_cli.specs.Texts.{too_wide_line, safe_lines, update_unsafe_line, invocation_unsafe_lines}
+use Rattle.suit_cli.specs.Texts.{too_wide_line, update_unsafe_line, invocation_unsafe_lines}
 use Rattle.suit_cli.specs.Replies.{IsReply}
 use Rattle.suit_cli.specs.Stages.{Stage, judging}
 
@@ -51,7 +51,8 @@ pub data ShowUnsafe (update invocation : PlanTree) (text : List ℕ) : Type 0 wh
       → ShowUnsafe update invocation text
 
 pub data AreJudged (update invocation : PlanTree) (reply : Reply) : Type 0 where
-  JudgedSafe : AreSafe update invocation → IsReply reply outcomes.Done safe_lines
+  JudgedSafe : AreSafe update invocation
+      → IsReply reply outcomes.Done (codes "update safe\ninvocation safe\n")
       → AreJudged update invocation reply
   JudgedUnsafe : reply.outcome ≡ outcomes.Unsafe → ShowUnsafe update invocation reply.text
       → AreJudged update invocation reply

@@ -1,11 +1,11 @@
 -- The statuses that the program ends with.
-use Rattle.std.specs.Prelude.{ℕ, List}
+use Rattle.std.specs.Prelude.{ℕ, List, codes}
 use Rattle.suit_cli.specs.declared.reply.Object.{Object}
 use Rattle.suit_cli.specs.declared.reply.Object.TheVariants as objects
 use Rattle.suit_cli.specs.declared.reply.Outcome.{Outcome}
 use Rattle.suit_cli.specs.declared.reply.Outcome.TheVariants as outcomes
 use Rattle.suit_cli.specs.Stages.{Ending, Says, FaultOf, NoMemory}
-use Rattle.suit_cli.specs.Texts.{host_fault_line, flash_fault_line, out_of_memory_line}
+use Rattle.suit_cli.specs.Texts.{flash_fault_line, out_of_memory_line}
 
 abbrev pub status_of : Outcome → ℕ
 status_of outcomes.Done = 0
@@ -28,7 +28,7 @@ fault_status objects.Host = 7
 fault_status objects.Flash = 8
 
 abbrev pub fault_line : Object → List ℕ
-fault_line objects.Host = host_fault_line
+fault_line objects.Host = codes "host fault\n"
 fault_line objects.Flash = flash_fault_line
 
 -- a fault and running out of memory have their own; so has a fault of the sink, whatever the answer was

@@ -1,7 +1,6 @@
 -- The lines of the program's answers.
 use Rattle.std.specs.Prelude.{ℕ, Bool, true, false, List, [], ◌∷◌, ◌++◌, codes}
 use Rattle.std.specs.Fmt.{decimal}
-use Rattle.det_cbor.specs.declared.reason.Reason.{Reason}
 use Rattle.det_cbor.specs.declared.reason.Reason.TheVariants as reasons
 use Rattle.suit_params.specs.declared.refusal.Refusal.{Refusal}
 use Rattle.suit_params.specs.declared.refusal.Why.{Why}
@@ -22,16 +21,6 @@ abbrev pub refused_line : ℕ → List ℕ → List ℕ
 refused_line place why =
     joined (codes "refused at " ∷ decimal place ∷ codes ": " ∷ why ∷ codes "\n" ∷ [])
 
-abbrev pub reason_text : Reason → List ℕ
-reason_text reasons.Truncated = codes "truncated"
-reason_text reasons.Indefinite = codes "indefinite"
-reason_text reasons.Kind = codes "kind"
-reason_text reasons.NotShortest = codes "not shortest"
-reason_text reasons.TooDeep = codes "too deep"
-reason_text reasons.BadText = codes "bad text"
-reason_text reasons.Repeated = codes "repeated"
-reason_text reasons.Order = codes "order"
-
 -- a word and a number
 abbrev pub numbered : List ℕ → ℕ → List ℕ
 numbered word n = joined (word ∷ codes " " ∷ decimal n ∷ [])
@@ -40,7 +29,14 @@ abbrev pub index_text : ℕ → ℕ → List ℕ
 index_text index count = joined (codes "index " ∷ decimal index ∷ codes " of " ∷ decimal count ∷ [])
 
 abbrev pub why_text : Why → List ℕ
-why_text (whys.Cbor reason) = reason_text reason
+why_text (whys.Cbor reasons.Truncated) = codes "truncated"
+why_text (whys.Cbor reasons.Indefinite) = codes "indefinite"
+why_text (whys.Cbor reasons.Kind) = codes "kind"
+why_text (whys.Cbor reasons.NotShortest) = codes "not shortest"
+why_text (whys.Cbor reasons.TooDeep) = codes "too deep"
+why_text (whys.Cbor reasons.BadText) = codes "bad text"
+why_text (whys.Cbor reasons.Repeated) = codes "repeated"
+why_text (whys.Cbor reasons.Order) = codes "order"
 why_text whys.Trailing = codes "trailing"
 why_text whys.Shape = codes "shape"
 why_text whys.UnknownKey = codes "unknown key"
@@ -81,17 +77,11 @@ differs_line name = joined (codes "member " ∷ name_text name ∷ codes " diffe
 abbrev pub too_wide_line : ℕ → List ℕ
 too_wide_line width = joined (codes "too wide: " ∷ decimal width ∷ codes "\n" ∷ [])
 
-abbrev pub safe_lines : List ℕ
-safe_lines = codes "update safe\ninvocation safe\n"
-
 abbrev pub update_unsafe_line : List ℕ
 update_unsafe_line = codes "update unsafe\n"
 
 abbrev pub invocation_unsafe_lines : List ℕ
 invocation_unsafe_lines = codes "update safe\ninvocation unsafe\n"
-
-abbrev pub host_fault_line : List ℕ
-host_fault_line = codes "host fault\n"
 
 abbrev pub flash_fault_line : List ℕ
 flash_fault_line = codes "flash fault\n"
@@ -113,18 +103,15 @@ abbrev pub block_line : ℕ → List ℕ → List ℕ
 block_line number kind =
     joined (codes "block " ∷ decimal number ∷ codes " " ∷ kind ∷ codes "\n" ∷ [])
 
-abbrev pub state_text : MemberState → List ℕ
-state_text states.Here = codes "here"
-state_text states.Absent = codes "none"
-state_text states.Apart = codes "apart"
-state_text states.Differs = codes "differs"
-state_text states.Severed = codes "severed"
-
 abbrev pub member_texts : List ℕ → List ℕ → List ℕ
 member_texts name state = joined (codes "member " ∷ name ∷ codes " " ∷ state ∷ codes "\n" ∷ [])
 
 abbrev pub member_line : List ℕ → MemberState → List ℕ
-member_line name state = member_texts name (state_text state)
+member_line name states.Here = member_texts name (codes "here")
+member_line name states.Absent = member_texts name (codes "none")
+member_line name states.Apart = member_texts name (codes "apart")
+member_line name states.Differs = member_texts name (codes "differs")
+member_line name states.Severed = member_texts name (codes "severed")
 
 abbrev pub authenticity_line : Authenticity → List ℕ
 authenticity_line authenticities.Yes = codes "authentic\n"

@@ -5,6 +5,7 @@ use Rattle.suit_edge.specs.Flash.{Flash, IsSame}
 use Rattle.suit_envelope.specs.Payloads.{HasPayloads}
 use Rattle.suit_envelope.specs.Trimmed.{trimmed}
 use Rattle.suit_envelope.specs.WrapperParts.{WrapperSays}
+use Rattle.suit_commands.specs.Tree.{PlanTree}
 use Rattle.suit_manifest.specs.Procedures.{update_tree}
 use Rattle.suit_params.specs.declared.digest.Digest.{Digest}
 use Rattle.flash_layout.specs.declared.frame.TheConstants.{VERSION_1}
@@ -21,7 +22,7 @@ use Rattle.update_proc.specs.declared.update_end.UpdateEnd.TheVariants as ends
 use Rattle.update_proc.specs.Ends.{JudgedSo, UpdateCounts}
 use Rattle.update_proc.specs.Offered.{ForOffer}
 use Rattle.update_proc.specs.Records.{new_record}
-use Rattle.update_proc.specs.Updates.{KeepsUpdate, KeptSo, LeavesUpdate, PlayedSo, PlaysToEnd, PlaysUpdate}
+use Rattle.update_proc.specs.Updates.{KeepsUpdate, KeptSo, LeavesUpdate, PlayedSo, PlaysToEnd, PlaysUpdate, sources}
 use Rattle.suit_cli.specs.Lines.{joined, number_line}
 use Rattle.suit_cli.specs.Texts.{flash_fault_line, out_of_memory_line}
 use Rattle.suit_cli.specs.Outside.{Outside}
@@ -73,31 +74,49 @@ new_of a held image digest numbers =
     new_record held image (trimmed a.said.wrapper a.said.manifest) a.manifest.sequence digest
     numbers
 
--- The envelope that these bytes spell was accepted, and installed so, with these names of files for URIs: how it was
--- judged beside the record, how the procedure was played, what the flash is left with, and whose fault was counted.
--- Each launch has its digest, and its size where one is in force.
-pub record IsUpdate (layout : List Entry) (bytes : List ℕ) (a : Accepted)
-    (uris : List (List ℕ × List ℕ)) (launched now : Launching) (before after : Outside)
-    (end : UpdateEnd)
-    : Type 0 where
+abbrev pub tree_of : Accepted → PlanTree
+tree_of a = update_tree a.manifest a.members
+
+-- what is offered to a flash of a layout: the bytes of a file, the envelope in them, which was accepted, and names of files
+-- for URIs.
+pub record Offer : Type 0 where
+  pub layout : List Entry
+  pub bytes : List ℕ
+  pub accepted : Accepted
+  pub uris : List (List ℕ × List ℕ)
+
+abbrev pub offer : List Entry → List ℕ → Accepted → List (List ℕ × List ℕ) → Offer
+offer layout bytes accepted uris = record {
+  layout = layout;
+  bytes = bytes;
+  accepted = accepted;
+  uris = uris;
+}
+
+-- The envelope was accepted, and installed so: how it was judged beside the record, how the procedure was played, what the
+-- flash is left with, and whose fault was counted. Each launch has its digest, and its size where one is in force.
+pub record IsUpdate (o : Offer) (launched now : Launching) (before after : Outside)
+    (end : UpdateEnd) : Type 0 where
   pub alone : LeavesAlone launched now before after
   pub counts :
       UpdateCounts end (counts_of before.faults before.flash.faults launched.faults)
       (counts_of after.faults after.flash.faults now.faults)
   pub judged : IsTrue before.flash.told
-      → ForOffer before.flash.reads a.said.wrapper
-      (λ held digest. JudgedSo a.manifest.sequence digest held end)
+      → ForOffer before.flash.reads o.accepted.said.wrapper
+      (λ held digest. JudgedSo o.accepted.manifest.sequence digest held end)
   pub plays : IsTrue before.told → IsTrue before.flash.told → IsTrue launched.told
-      → ForOffer before.flash.reads a.said.wrapper (λ held digest.
-      (payloads : List (List ℕ × List ℕ)) → HasPayloads bytes payloads
+      → ForOffer before.flash.reads o.accepted.said.wrapper (λ held digest.
+      (payloads : List (List ℕ × List ℕ)) → HasPayloads o.bytes payloads
       → PlayedSo
-      (λ made play. PlaysUpdate layout a.places (update_tree a.manifest a.members) held payloads
-      uris before.files before.flash.reads made launched.launches now.launches play)
-      layout after.flash.reads launched.launches now.launches end)
-  pub left : IsTrue before.flash.told → ForOffer before.flash.reads a.said.wrapper (λ held digest.
+      (λ made play. PlaysUpdate o.layout o.accepted.places (tree_of o.accepted) held
+      (sources payloads o.uris before.files) before.flash.reads made launched.launches
+      now.launches play)
+      o.layout after.flash.reads launched.launches now.launches end)
+  pub left : IsTrue before.flash.told
+      → ForOffer before.flash.reads o.accepted.said.wrapper (λ held digest.
       KeptSo
-      (LeavesUpdate layout a.places (update_tree a.manifest a.members) held
-      (new_of a held before.flash.reads digest) before.flash.reads after.flash.reads end)
+      (LeavesUpdate o.layout o.accepted.places (tree_of o.accepted) held
+      (new_of o.accepted held before.flash.reads digest) before.flash.reads after.flash.reads end)
       (after.flash.reads ≡ before.flash.reads) end)
   pub safe : IsTrue before.told → IsTrue before.flash.told → IsTrue launched.told
       → GainsSafe launched.launches now.launches
@@ -116,32 +135,31 @@ pub record Updates (name : List ℕ) (uris : List (List ℕ × List ℕ)) (launc
   pub read : (file longest_file name).gives configured middle bytes
   pub accepted : Accepted
   pub is_accepted : IsAccepted layout key bytes accepted
-  pub update : IsUpdate layout bytes accepted uris launched now middle after end
+  pub update : IsUpdate (offer layout bytes accepted uris) launched now middle after end
   pub lines_are : lines ≡ update_line accepted.manifest.sequence end
 
 -- ---- at each moment
 
 -- Where the host and the launcher tell, the update procedure of what was accepted is played to its end, and makes those
 -- contents.
-abbrev pub IsDone : List Entry → List ℕ → Accepted → List (List ℕ × List ℕ) → Launching → Launching
-    → Outside → Option Record
-    → List ℕ → List ℕ → Type 0
-IsDone layout bytes a uris launched later before held reads made =
+abbrev pub IsDone : Offer → Launching → Launching → Outside → Option Record → List ℕ → List ℕ
+    → Type 0
+IsDone o launched later before held reads made =
     IsTrue before.told → IsTrue launched.told
-    → PlaysToEnd layout a.places (update_tree a.manifest a.members) held bytes uris before.files
+    → PlaysToEnd o.layout o.accepted.places (tree_of o.accepted) held o.bytes o.uris before.files
     reads launched.launches later.launches made
 
 -- At each moment of an update that ended so, the flash had the old record, and no content changed but those of slots that
 -- may be written; or it had the new record, and the contents that its procedure made, which was done. Where it was not done
 -- the old record stood at each moment, and where it was not run nothing changed.
-abbrev pub KeepsOffer : List Entry → List ℕ → Accepted → List (List ℕ × List ℕ) → Launching
-    → Launching → Outside → UpdateEnd → Flash → Flash → Type 0
-KeepsOffer layout bytes a uris launched later before end old now =
-    ForOffer old.reads a.said.wrapper (λ held digest.
+abbrev pub KeepsOffer : Offer → Launching → Launching → Outside → UpdateEnd → Flash → Flash
+    → Type 0
+KeepsOffer o launched later before end old now =
+    ForOffer old.reads o.accepted.said.wrapper (λ held digest.
     KeptSo
-    (KeepsUpdate layout a.places (update_tree a.manifest a.members)
-    (IsDone layout bytes a uris launched later before held old.reads) held
-    (new_of a held old.reads digest) old now end)
+    (KeepsUpdate o.layout o.accepted.places (tree_of o.accepted)
+    (IsDone o launched later before held old.reads) held
+    (new_of o.accepted held old.reads digest) old now end)
     (IsSame old now) end)
 
 -- the flash holds a record, or none, and the wrapper states a digest
@@ -164,4 +182,4 @@ pub record KeepsFlash (name : List ℕ) (uris : List (List ℕ × List ℕ)) (la
   pub accepted : Accepted
   pub is_accepted : IsAccepted layout key bytes accepted
   pub offered : HasOffer old.reads accepted.said.wrapper
-  pub kept : KeepsOffer layout bytes accepted uris launched later before end old now
+  pub kept : KeepsOffer (offer layout bytes accepted uris) launched later before end old now

@@ -129,14 +129,10 @@ pub(crate) fn taken(alloc: Global, members: Result<Members, MemberFault>) -> Res
 }
 
 /// The members that stand apart, payload-fetch judged whole before install.
-pub(crate) fn members_in(
-    alloc: Global,
-    envelope: &Envelope<'_>,
-    manifest: &Manifest,
-) -> Result<Members, Stop>
-    requires few { length manifest.now.components < 2 ^ 32 }
-    requires places { MembersEndBelow (2 ^ 64) (said_by envelope.now) }
-    ensures { Finds (members_in (said_by envelope.now) manifest.now) result }
+pub(crate) fn members_in(alloc: Global, file: &Opened<'_>) -> Result<Members, Stop>
+    requires few { length file.now.manifest.components < 2 ^ 32 }
+    requires places { MembersEndBelow (2 ^ 64) (said_by file.now.envelope) }
+    ensures { Finds (members_in (said_by file.now.envelope) file.now.manifest) result }
 {
-    taken(alloc, members_of(alloc, envelope, manifest))
+    taken(alloc, members_of(alloc, &file.envelope, &file.manifest))
 }

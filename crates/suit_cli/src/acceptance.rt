@@ -18,7 +18,7 @@ ghost use Rattle.suit_cli.specs.Lines.{number_line};
 ghost use Rattle.suit_cli.specs.Replies.{Makes};
 ghost use Rattle.suit_cli.specs.Stages.{Finds};
 
-use crate::accept::{envelope_in, manifest_in, members_in, short};
+use crate::accept::{Opened, envelope_in, manifest_in, members_in, short};
 use crate::judgement::{judge_safe, narrow};
 use crate::reply::{Outcome, Reply, Stop, declined};
 use crate::show::authenticity_line;
@@ -119,33 +119,33 @@ fn judged(alloc: Global, manifest: &Manifest, members: &Members) -> Result<(), S
 fn accept_manifest<'a>(
     alloc: Global,
     layout: &Layout,
-    envelope: &Envelope<'a>,
-    manifest: Manifest,
+    file: Opened<'a>,
 ) -> Result<Acceptable<'a>, Stop>
     requires entries { length layout.now ≤ 8 }
-    requires components { length manifest.components ≤ 8 }
-    requires places { MembersEndBelow (2 ^ 64) (said_by envelope.now) }
-    requires manifest { ManifestOf (said_by envelope.now) manifest }
-    ensures finds { FindsAccepted (accepts_manifest layout.now (said_by envelope.now) manifest)
-        result }
-    ensures envelope { IfOk result (λ a. a.envelope ≡ envelope.now) }
+    requires components { length file.manifest.components ≤ 8 }
+    requires places { MembersEndBelow (2 ^ 64) (said_by file.envelope) }
+    requires manifest { ManifestOf (said_by file.envelope) file.manifest }
+    ensures finds { FindsAccepted
+        (accepts_manifest layout.now (said_by file.entry.envelope) file.entry.manifest) result }
+    ensures envelope { IfOk result (λ a. a.envelope ≡ file.entry.envelope) }
     ensures other { IfOk result (λ a. HaveOtherPlaces a.manifest.components a.places) }
 {
     procedure_laws();
-    let places = match places_in(alloc, layout, &manifest) {
+    let places = match places_in(alloc, layout, &file.manifest) {
         Ok(places) => places,
         Err(stop) => return Err(stop),
     };
-    let members = match members_in(alloc, envelope, &manifest) {
+    let members = match members_in(alloc, &file) {
         Ok(members) => members,
         Err(stop) => return Err(stop),
     };
-    match judged(alloc, &manifest, &members) {
+    match judged(alloc, &file.manifest, &members) {
         Ok(()) => {}
         Err(stop) => return Err(stop),
     }
+    let Opened { envelope, manifest } = file;
     Ok(Acceptable {
-        envelope: *envelope,
+        envelope,
         manifest,
         places,
         members,
@@ -185,7 +185,7 @@ pub(crate) fn accept<'a>(
         Ok(manifest) => manifest,
         Err(stop) => return Err(stop),
     };
-    match accept_manifest(alloc, layout, &envelope, manifest) {
+    match accept_manifest(alloc, layout, Opened { envelope, manifest }) {
         Ok(acceptable) => Ok(acceptable),
         Err(stop) => Err(stop),
     }

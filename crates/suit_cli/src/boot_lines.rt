@@ -2,12 +2,12 @@
 
 ghost use Rattle.std.specs.Prelude.{◌≡◌, ◌≤◌, ◌+◌, ◌++◌, length, string_bytes};
 ghost use Rattle.std.specs.String.{string_capacity, string_len};
-ghost use Rattle.suit_cli.specs.Booting.{boot_status, lacking_line};
+ghost use Rattle.suit_cli.specs.Booting.{boot_status};
 ghost use Rattle.suit_cli.specs.Launching.{cause_status, cause_text, stopped_line};
 ghost use Rattle.suit_cli.specs.Lines.{number_line};
 
 use det_cbor::Text;
-use invoke_proc::{BootEnd, Lacking};
+use invoke_proc::BootEnd;
 use itoa::Buffer;
 use path_model::Cause;
 
@@ -67,18 +67,6 @@ pub(crate) fn stopped(mut line: String, place: u64, why: &str) -> Text
     push(&mut line, why);
     push(&mut line, "\n");
     Text::from_string(line)
-}
-
-/// The line that tells why an envelope is not authentic.
-pub(crate) fn lacking_line(lacking: Lacking) -> &'static str
-    ensures text { result.now ≡ lacking_line lacking }
-    ensures fits { length result.now ≤ 64 }
-{
-    match lacking {
-        Lacking::DigestDiffers => "not authentic: digest differs\n",
-        Lacking::NoMac => "not authentic: no mac\n",
-        Lacking::MacDiffers => "not authentic: mac differs\n",
-    }
 }
 
 /// Why a directive failed.

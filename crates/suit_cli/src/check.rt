@@ -25,7 +25,7 @@ fn judge_manifest(alloc: Global, file: &Opened<'_>) -> Result<Reply, Stop>
     ensures { Tells (judges_manifest (said_by file.now.envelope) file.now.manifest) result }
 {
     procedure_laws();
-    let members = members_in(alloc, &file.envelope, &file.manifest)?;
+    let members = members_in(alloc, file)?;
     let update = update_plan(&file.manifest, &members);
     narrow(alloc, &update)?;
     let invocation = invocation_plan(&file.manifest);

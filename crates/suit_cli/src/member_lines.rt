@@ -4,7 +4,7 @@ ghost use Rattle.std.specs.Prelude.{◌≡◌, ◌++◌, IfOk, OnOk, string_byte
 ghost use Rattle.suit_envelope.specs.Members.{member_of};
 ghost use Rattle.suit_envelope.specs.Said.{said_by};
 ghost use Rattle.suit_envelope.specs.declared.severed.MemberName.TheVariants as names;
-ghost use Rattle.suit_cli.specs.Texts.{state_text, member_texts, member_line};
+ghost use Rattle.suit_cli.specs.Texts.{member_texts, member_line};
 ghost use Rattle.suit_cli.specs.Shown.{state_of, StandsApart, HasState, TextHasState, AddsMembers};
 
 use det_cbor::Text;
@@ -27,18 +27,6 @@ pub(crate) enum MemberState {
     Differs,
     /// The envelope does not hold it.
     Severed,
-}
-
-fn state_text(state: MemberState) -> &'static str
-    ensures { result.now ≡ state_text state }
-{
-    match state {
-        MemberState::Here => "here",
-        MemberState::Absent => "none",
-        MemberState::Apart => "apart",
-        MemberState::Differs => "differs",
-        MemberState::Severed => "severed",
-    }
 }
 
 fn state_of(sequence: &Option<Sequence>) -> MemberState
@@ -81,10 +69,22 @@ fn text_state(envelope: &Envelope<'_>, member: &TextMember) -> MemberState
     }
 }
 
-fn member_line(alloc: Global, name: &str, state: &str) -> Result<String, AllocError>
+fn member_texts(alloc: Global, name: &str, state: &str) -> Result<String, AllocError>
     ensures { IfOk result (λ t. string_bytes t ≡ member_texts name.now state.now) }
 {
     format!(in alloc; "member {name} {state}\n")
+}
+
+fn member_line(alloc: Global, name: &str, state: MemberState) -> Result<String, AllocError>
+    ensures { IfOk result (λ t. string_bytes t ≡ member_line name.now state) }
+{
+    match state {
+        MemberState::Here => member_texts(alloc, name, "here"),
+        MemberState::Absent => member_texts(alloc, name, "none"),
+        MemberState::Apart => member_texts(alloc, name, "apart"),
+        MemberState::Differs => member_texts(alloc, name, "differs"),
+        MemberState::Severed => member_texts(alloc, name, "severed"),
+    }
 }
 
 // Adds the line of a member.
@@ -96,7 +96,7 @@ fn push_member(
 ) -> Result<(), AllocError>
     ensures { OnOk result (text.new ≡ text.old ++ member_line name.now state) }
 {
-    let line = member_line(alloc, name, state_text(state))?;
+    let line = member_line(alloc, name, state)?;
     text.push_str(line.as_str())
 }
 

@@ -108,48 +108,6 @@ pub(crate) struct Reply {
     pub(crate) text: Text,
 }
 
-/// Why a command stops.
-#[derive(Debug, Drop)]
-pub(crate) enum Stop {
-    /// A stage failed, as this reply says.
-    Declined(Reply),
-    /// A call of this object failed, and its count of faults rose.
-    Fault(Object),
-    /// Memory ran out.
-    NoMemory,
-}
-
-impl From<AllocError> for Stop {
-    ghost from_gives = { λ e r. r ≡ stops.NoMemory };
-
-    fn from(_error: AllocError) -> Stop {
-        Stop::NoMemory
-    }
-}
-
-/// The stop that a reply tells.
-pub(crate) fn declined(made: Result<Reply, AllocError>) -> Stop
-    ensures { result ≡ stop_of made }
-{
-    match made {
-        Ok(reply) => Stop::Declined(reply),
-        Err(_) => Stop::NoMemory,
-    }
-}
-
-/// The stop that refuses by a line.
-pub(crate) fn refused_by(line: Result<String, AllocError>) -> Stop
-    ensures { result ≡ refused_by line }
-{
-    match line {
-        Ok(line) => Stop::Declined(Reply {
-            outcome: Outcome::Refused,
-            text: Text::from_string(line),
-        }),
-        Err(_) => Stop::NoMemory,
-    }
-}
-
 impl Reply {
     /// A reply of these lines.
     pub(crate) fn fixed(alloc: Global, outcome: Outcome, lines: &str) -> Result<Reply, AllocError>
@@ -208,5 +166,47 @@ impl Reply {
             outcome: Outcome::Unsafe,
             text,
         })
+    }
+}
+
+/// Why a command stops.
+#[derive(Debug, Drop)]
+pub(crate) enum Stop {
+    /// A stage failed, as this reply says.
+    Declined(Reply),
+    /// A call of this object failed, and its count of faults rose.
+    Fault(Object),
+    /// Memory ran out.
+    NoMemory,
+}
+
+impl From<AllocError> for Stop {
+    ghost from_gives = { λ e r. r ≡ stops.NoMemory };
+
+    fn from(_error: AllocError) -> Stop {
+        Stop::NoMemory
+    }
+}
+
+/// The stop that a reply tells.
+pub(crate) fn declined(made: Result<Reply, AllocError>) -> Stop
+    ensures { result ≡ stop_of made }
+{
+    match made {
+        Ok(reply) => Stop::Declined(reply),
+        Err(_) => Stop::NoMemory,
+    }
+}
+
+/// The stop that refuses by a line.
+pub(crate) fn refused_by(line: Result<String, AllocError>) -> Stop
+    ensures { result ≡ refused_by line }
+{
+    match line {
+        Ok(line) => Stop::Declined(Reply {
+            outcome: Outcome::Refused,
+            text: Text::from_string(line),
+        }),
+        Err(_) => Stop::NoMemory,
     }
 }

@@ -3,8 +3,8 @@
 ghost use Rattle.std.specs.Prelude.{◌≡◌, ◌≤◌, IsTrue};
 ghost use Rattle.std.specs.String.{string_capacity, string_len};
 ghost use Rattle.flash_layout.specs.declared.frame.TheConstants.{VERSION_1};
-ghost use Rattle.flash_layout.specs.Configs.{ConfigOf, Configured, IsAllowed};
-ghost use Rattle.flash_layout.specs.Frames.{head_of};
+ghost use Rattle.flash_layout.specs.Configs.{IsAllowed};
+ghost use Rattle.invoke_proc.specs.Banks.{config_in};
 ghost use Rattle.invoke_proc.specs.declared.boot_end.BootEnd.TheVariants as ends;
 ghost use Rattle.suit_cli.specs.Coming.{BootKeeps, BootKeepsBy, BootsBy, Comes, IsTold, ended_of};
 ghost use Rattle.suit_cli.specs.Commands.{does};
@@ -12,12 +12,11 @@ ghost use Rattle.suit_cli.specs.Settling.{StaysInOrder};
 ghost use Rattle.suit_cli.specs.Words.{RunBoot};
 
 use crate::answer::Answer;
-use crate::boot_lines::{ROOM, cause_text, lacking_line, numbered, plain, stopped};
+use crate::boot_lines::{ROOM, cause_text, numbered, plain, stopped};
 use crate::outside::{SeenDisk, SeenHost, SeenLauncher};
 use crate::reply::{Reply, Stop};
-use crate::status::config_in;
-use flash_layout::{Key, Layout};
-use invoke_proc::{BootEnd, boot};
+use crate::status::{Config, config_in};
+use invoke_proc::{BootEnd, Lacking, boot};
 use rollback_record::sound_laws;
 use std::alloc::Global;
 use suit_edge::{Disk, Host, Launcher};
@@ -45,7 +44,15 @@ fn told(alloc: Global, end: BootEnd, line: String) -> Answer
         BootEnd::Ended => Answer::Booted(end, plain(line, "ended\n")),
         BootEnd::NothingInstalled => Answer::Booted(end, plain(line, "nothing installed\n")),
         BootEnd::BadBank(refusal) => refused(alloc, refusal, line),
-        BootEnd::NotAuthentic(lacking) => Answer::Booted(end, plain(line, lacking_line(lacking))),
+        BootEnd::NotAuthentic(Lacking::DigestDiffers) => {
+            Answer::Booted(end, plain(line, "not authentic: digest differs\n"))
+        }
+        BootEnd::NotAuthentic(Lacking::NoMac) => {
+            Answer::Booted(end, plain(line, "not authentic: no mac\n"))
+        }
+        BootEnd::NotAuthentic(Lacking::MacDiffers) => {
+            Answer::Booted(end, plain(line, "not authentic: mac differs\n"))
+        }
         BootEnd::UnknownComponent(component) => Answer::Booted(
             end,
             numbered(line, "unknown component", u64::from(component)),
@@ -67,19 +74,18 @@ fn boot_by<H: Host, D: Disk, L: Launcher>(
     host: &mut H,
     flash: &mut D,
     launcher: &mut L,
-    layout: &Layout,
-    key: &Key,
+    config: &Config,
 ) -> Answer
-    requires allowed { IsAllowed VERSION_1 (D.extent flash.old) layout.now key.now }
+    requires allowed { IsAllowed VERSION_1 (D.extent flash.old) config.now.0 config.now.1 }
     requires held { IsTrue D.told
-        → ConfigOf VERSION_1 (D.extent flash.old) (head_of VERSION_1 (D.flash flash.old).reads)
-        (Configured layout.now key.now) }
-    ensures answer { BootsBy layout.now key.now
+        → config_in (D.extent flash.old) (D.flash flash.old).reads config.now.0 config.now.1 }
+    ensures answer { BootsBy config.now.0 config.now.1
         (⟦<L as SeenLauncher>⟧.seen launcher.old) (⟦<L as SeenLauncher>⟧.seen launcher.new)
         (⟦<H as SeenHost>⟧.seen host.old (⟦<D as SeenDisk>⟧.seen flash.old))
         (⟦<H as SeenHost>⟧.seen host.new (⟦<D as SeenDisk>⟧.seen flash.new)) (ended_of result) }
     ensures keeps { IsTrue D.told
-        → BootKeepsBy layout.now key.now (ended_of result) (D.flash flash.old) (D.flash flash.new) }
+        → BootKeepsBy config.now.0 config.now.1 (ended_of result)
+        (D.flash flash.old) (D.flash flash.new) }
     ensures unasked { host.new ≡ host.old }
     ensures extent { D.extent flash.new ≡ D.extent flash.old }
     ensures flash { IsTrue D.told → StaysInOrder (D.flash flash.old) (D.flash flash.new)
@@ -91,7 +97,7 @@ fn boot_by<H: Host, D: Disk, L: Launcher>(
         Ok(()) => {}
         Err(_) => return Answer::Said(Err(Stop::NoMemory)),
     }
-    let end = boot(alloc, host, flash, launcher, layout, key);
+    let end = boot(alloc, host, flash, launcher, &config.0, &config.1);
     told(alloc, end, line)
 }
 
@@ -116,7 +122,7 @@ pub(crate) fn run_boot<H: Host, D: Disk, L: Launcher>(
 {
     sound_laws();
     match config_in(alloc, flash) {
-        Ok(config) => boot_by(alloc, host, flash, launcher, &config.0, &config.1),
+        Ok(config) => boot_by(alloc, host, flash, launcher, &config),
         Err(stop) => Answer::Said(Err(stop)),
     }
 }

@@ -2,9 +2,9 @@
 
 ghost use Rattle.std.specs.Prelude.{◌≡◌, IsTrue};
 ghost use Rattle.flash_layout.specs.declared.frame.TheConstants.{VERSION_1};
-ghost use Rattle.flash_layout.specs.Configs.{ConfigOf, Configured, IsAllowed};
-ghost use Rattle.flash_layout.specs.Frames.{head_of};
+ghost use Rattle.flash_layout.specs.Configs.{IsAllowed};
 ghost use Rattle.flash_layout.specs.Placement.{HaveOtherPlaces};
+ghost use Rattle.invoke_proc.specs.Banks.{config_in};
 ghost use Rattle.rollback_record.specs.SoundFlash.{Settled};
 ghost use Rattle.suit_envelope.specs.WrapperParts.{HasWrapper};
 ghost use Rattle.suit_cli.specs.Acceptance.{IsAccepted, accepted_by};
@@ -17,6 +17,7 @@ ghost use Rattle.suit_cli.specs.Coming.{
 };
 ghost use Rattle.suit_cli.specs.Commands.{does};
 ghost use Rattle.suit_cli.specs.Settling.{StaysInOrder};
+ghost use Rattle.suit_cli.specs.Updating.{offer};
 ghost use Rattle.suit_cli.specs.Words.{RunUpdate};
 
 use crate::acceptance::{Acceptable, accept};
@@ -24,9 +25,9 @@ use crate::answer::Answer;
 use crate::input::{LONGEST_FILE, read};
 use crate::outside::{SeenDisk, SeenHost, SeenLauncher};
 use crate::reply::Stop;
-use crate::status::config_in;
+use crate::status::{Config, config_in};
 use crate::update_lines::{UPDATE_ROOM, update_line};
-use flash_layout::{Key, Layout, config_laws};
+use flash_layout::config_laws;
 use path_model::play_laws;
 use place_laws::installation_laws;
 use rollback_record::sound_laws;
@@ -42,27 +43,25 @@ fn update_by<H: Host, D: Disk, L: Launcher>(
     host: &mut H,
     flash: &mut D,
     launcher: &mut L,
-    layout: &Layout,
-    key: &Key,
+    config: &Config,
     accepted: &Acceptable<'_>,
     uris: &Uris,
 ) -> Answer
-    requires allowed { IsAllowed VERSION_1 (D.extent flash.old) layout.now key.now }
+    requires allowed { IsAllowed VERSION_1 (D.extent flash.old) config.now.0 config.now.1 }
     requires held { IsTrue D.told
-        → ConfigOf VERSION_1 (D.extent flash.old) (head_of VERSION_1 (D.flash flash.old).reads)
-        (Configured layout.now key.now) }
-    requires accepted { IsAccepted layout.now key.now accepted.now.envelope.whole.now
+        → config_in (D.extent flash.old) (D.flash flash.old).reads config.now.0 config.now.1 }
+    requires accepted { IsAccepted config.now.0 config.now.1 accepted.now.envelope.whole.now
         (accepted_by accepted.now) }
     requires wrapper { HasWrapper accepted.now.envelope.wrapper.now }
     requires other { HaveOtherPlaces accepted.now.manifest.components accepted.now.places }
-    ensures answer { UpdatesBy layout.now accepted.now.envelope.whole.now (accepted_by accepted.now)
-        uris.now
+    ensures answer { UpdatesBy (offer config.now.0 accepted.now.envelope.whole.now
+        (accepted_by accepted.now) uris.now)
         (⟦<L as SeenLauncher>⟧.seen launcher.old) (⟦<L as SeenLauncher>⟧.seen launcher.new)
         (⟦<H as SeenHost>⟧.seen host.old (⟦<D as SeenDisk>⟧.seen flash.old))
         (⟦<H as SeenHost>⟧.seen host.new (⟦<D as SeenDisk>⟧.seen flash.new)) (ended_of result) }
     ensures keeps { IsTrue D.told → Settled VERSION_1 (D.flash flash.old)
         → KeepsAccepted
-        layout.now accepted.now.envelope.whole.now (accepted_by accepted.now) uris.now
+        (offer config.now.0 accepted.now.envelope.whole.now (accepted_by accepted.now) uris.now)
         (⟦<L as SeenLauncher>⟧.seen launcher.old) (⟦<L as SeenLauncher>⟧.seen launcher.new)
         (⟦<H as SeenHost>⟧.seen host.old (⟦<D as SeenDisk>⟧.seen flash.old))
         (ended_of result) (D.flash flash.old) (D.flash flash.new) }
@@ -76,7 +75,7 @@ fn update_by<H: Host, D: Disk, L: Launcher>(
     manifest_laws();
     procedure_laws();
     installation_laws();
-    has_identifiers(layout);
+    has_identifiers(&config.0);
     let mut line = String::new(alloc);
     match line.reserve(UPDATE_ROOM) {
         Ok(()) => {}
@@ -87,7 +86,7 @@ fn update_by<H: Host, D: Disk, L: Launcher>(
         host,
         flash,
         launcher,
-        layout,
+        &config.0,
         &accepted.places,
         &accepted.envelope,
         &accepted.manifest,
@@ -135,7 +134,5 @@ pub(crate) fn run_update<H: Host, D: Disk, L: Launcher>(
         Ok(accepted) => accepted,
         Err(stop) => return Answer::Said(Err(stop)),
     };
-    update_by(
-        alloc, host, flash, launcher, &config.0, &config.1, &accepted, uris,
-    )
+    update_by(alloc, host, flash, launcher, &config, &accepted, uris)
 }

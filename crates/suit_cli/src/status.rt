@@ -22,8 +22,11 @@ use std::alloc::{AllocError, Global};
 use suit_edge::Disk;
 use suit_params::Digest;
 
+/// The configuration of a flash: its layout and its key.
+pub(crate) type Config = (Layout, Key);
+
 /// The configuration of a flash that has one.
-pub(crate) fn config_in<D: Disk>(alloc: Global, flash: &mut D) -> Result<(Layout, Key), Stop>
+pub(crate) fn config_in<D: Disk>(alloc: Global, flash: &mut D) -> Result<Config, Stop>
     ensures finds { (here : Outside) → Does config_in
         (with_flash here (⟦<D as SeenDisk>⟧.seen flash.old))
         (with_flash here (⟦<D as SeenDisk>⟧.seen flash.new)) result }

@@ -1,7 +1,7 @@
 //! Why input is refused, in a line.
 
 ghost use Rattle.std.specs.Prelude.{◌≡◌, IfOk, string_bytes};
-ghost use Rattle.suit_cli.specs.Texts.{refused_line, reason_text, numbered, index_text, why_text};
+ghost use Rattle.suit_cli.specs.Texts.{refused_line, numbered, index_text, why_text};
 
 use det_cbor::Reason;
 use std::alloc::{AllocError, Global};
@@ -12,21 +12,6 @@ pub(crate) fn refused_line(alloc: Global, place: u64, why: &str) -> Result<Strin
     ensures { IfOk result (λ t. string_bytes t ≡ refused_line place why.now) }
 {
     format!(in alloc; "refused at {place}: {why}\n")
-}
-
-fn reason_text(reason: Reason) -> &'static str
-    ensures { result.now ≡ reason_text reason }
-{
-    match reason {
-        Reason::Truncated => "truncated",
-        Reason::Indefinite => "indefinite",
-        Reason::Kind => "kind",
-        Reason::NotShortest => "not shortest",
-        Reason::TooDeep => "too deep",
-        Reason::BadText => "bad text",
-        Reason::Repeated => "repeated",
-        Reason::Order => "order",
-    }
 }
 
 fn numbered(alloc: Global, word: &str, number: u64) -> Result<String, AllocError>
@@ -46,7 +31,14 @@ pub(crate) fn why_text(alloc: Global, why: Why) -> Result<String, AllocError>
     ensures { IfOk result (λ t. string_bytes t ≡ why_text why) }
 {
     match why {
-        Why::Cbor(reason) => String::from_str(alloc, reason_text(reason)),
+        Why::Cbor(Reason::Truncated) => String::from_str(alloc, "truncated"),
+        Why::Cbor(Reason::Indefinite) => String::from_str(alloc, "indefinite"),
+        Why::Cbor(Reason::Kind) => String::from_str(alloc, "kind"),
+        Why::Cbor(Reason::NotShortest) => String::from_str(alloc, "not shortest"),
+        Why::Cbor(Reason::TooDeep) => String::from_str(alloc, "too deep"),
+        Why::Cbor(Reason::BadText) => String::from_str(alloc, "bad text"),
+        Why::Cbor(Reason::Repeated) => String::from_str(alloc, "repeated"),
+        Why::Cbor(Reason::Order) => String::from_str(alloc, "order"),
         Why::Trailing => String::from_str(alloc, "trailing"),
         Why::Shape => String::from_str(alloc, "shape"),
         Why::UnknownKey => String::from_str(alloc, "unknown key"),

@@ -8,7 +8,7 @@ use Rattle.suit_cli.proofs.run_boot.boot_by.Goals as goal
 
 pub returns-clause-answer : goal.returns-clause-answer
 returns-clause-answer g c =
-    boots_told c.args.layout.now c.args.key.now _ _ _ _ c.boot-end.result _ c.told.ensures
+    boots_told c.args.config.now.0 c.args.config.now.1 _ _ _ _ c.boot-end.result _ c.told.ensures
     (record {
       alone = record { told = refl; files = c.boot-end.ensures.files; flash_told = refl; size = c.boot-end.ensures.size; launcher_told = refl };
       counts = c.boot-end.ensures.counts;
@@ -31,7 +31,7 @@ returns-in-Err-clause-flash g c told = order_start c.sound_laws.ensures _ _
 
 pub returns-clause-flash : goal.returns-clause-flash
 returns-clause-flash g c told = record {
-  any_moment = any_boot c.args.layout.now c.args.key.now _ _ c.boot-end.result (c.boot-end.ensures.keeps told);
+  any_moment = any_boot c.args.config.now.0 c.args.config.now.1 _ _ c.boot-end.result (c.boot-end.ensures.keeps told);
   sound = λ settled. (c.boot-end.ensures.sound told settled, c.boot-end.ensures.follows told settled);
   settled = boots_settled c.boot-end.result _ _ _ _ c.boot-end.ensures.counts (c.boot-end.ensures.settled told);
 }
