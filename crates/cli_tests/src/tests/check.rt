@@ -68,9 +68,9 @@ fn line_of(alloc: Global, text: &str) -> Result<String, AllocError> {
     Ok(line)
 }
 
-// Whether the file of the row is answered by just its lines.
-fn is_answered(alloc: Global, row: Row<'_>) -> Result<bool, AllocError> {
-    let file = bytes_of(alloc, row.file)?;
+// Whether the file is answered by just the lines of the row.
+fn is_answered(alloc: Global, file: &str, row: Row<'_>) -> Result<bool, AllocError> {
+    let file = bytes_of(alloc, file)?;
     let lines = line_of(alloc, row.lines)?;
     checks(alloc, file.as_slice(), (row.status, lines.as_str()))
 }
@@ -94,18 +94,32 @@ fn tells_path<H: Host>(alloc: Global, host: &mut H, row: Row<'_>) -> Result<bool
     Ok(is_path(row, status, sink.bytes()))
 }
 
-// The same for the file of the row.
-fn is_told(alloc: Global, row: Row<'_>) -> Result<bool, AllocError> {
-    let file = bytes_of(alloc, row.file)?;
+// The same for the file.
+fn is_told(alloc: Global, file: &str, row: Row<'_>) -> Result<bool, AllocError> {
+    let file = bytes_of(alloc, file)?;
     let mut host = with_file(alloc, file.as_slice(), &[])?;
     tells_path(alloc, &mut host, row)
 }
 
-// Whether the row of this text is answered so: by the last lines of a path, or by its whole lines.
-fn is_row(alloc: Global, text: &str, is_path: bool) -> Result<bool, AllocError> {
+// Whether each file of the row is answered so: by the last lines of a path, or by its whole lines.
+fn are_answered(alloc: Global, row: Row<'_>, by_path: bool) -> Result<bool, AllocError> {
+    for file in row.files.split(' ') {
+        let is_so = if by_path {
+            is_told(alloc, file, row)?
+        } else {
+            is_answered(alloc, file, row)?
+        };
+        if !is_so {
+            return Ok(false);
+        }
+    }
+    Ok(true)
+}
+
+// Whether the files of the row of this text are answered so.
+fn is_row(alloc: Global, text: &str, by_path: bool) -> Result<bool, AllocError> {
     match row_of(text) {
-        Some(row) if is_path => is_told(alloc, row),
-        Some(row) => is_answered(alloc, row),
+        Some(row) => are_answered(alloc, row, by_path),
         None => Ok(false),
     }
 }
@@ -114,7 +128,6 @@ fn is_row(alloc: Global, text: &str, is_path: bool) -> Result<bool, AllocError> 
 fn manifests_are_judged(rt: HostRuntime) -> Result<(), AllocError> {
     for table in [
         WHOLE,
-        REFUSED_ITEMS,
         REFUSED_ENVELOPES,
         REFUSED_MANIFESTS,
         REFUSED_COMMANDS,
@@ -132,6 +145,44 @@ fn manifests_are_judged(rt: HostRuntime) -> Result<(), AllocError> {
 fn unsafe_paths_are_told(rt: HostRuntime) -> Result<(), AllocError> {
     for row in LAST_LINES.split("\n\n") {
         assert!(rt; is_row(rt.alloc(), row, true)?, "{row}");
+    }
+    Ok(())
+}
+
+// The line that tells the fault at this place.
+fn refused_at(alloc: Global, place: &str, fault: &str) -> Result<String, AllocError> {
+    let mut line = String::from_str(alloc, "refused at ")?;
+    line.push_str(place)?;
+    line.push_str(": ")?;
+    line.push_str(fault)?;
+    line.push_str("\n")?;
+    Ok(line)
+}
+
+// Whether the file is refused for the fault, at the place that stands before it.
+fn is_refused(alloc: Global, placed: &str, fault: &str) -> Result<bool, AllocError> {
+    let (place, file) = placed.split_once(' ').unwrap_or((placed, ""));
+    let file = bytes_of(alloc, file)?;
+    let line = refused_at(alloc, place, fault)?;
+    checks(alloc, file.as_slice(), (3, line.as_str()))
+}
+
+// Whether each file of the group is refused for its fault.
+fn are_refused(alloc: Global, group: &str) -> Result<bool, AllocError> {
+    let (_item, rest) = group.split_once('\n').unwrap_or((group, ""));
+    let (fault, files) = rest.split_once('\n').unwrap_or((rest, ""));
+    for placed in files.split('\n') {
+        if !is_refused(alloc, placed, fault)? {
+            return Ok(false);
+        }
+    }
+    Ok(true)
+}
+
+#[test]
+fn items_are_refused(rt: HostRuntime) -> Result<(), AllocError> {
+    for group in REFUSED_ITEMS.split("\n\n") {
+        assert!(rt; are_refused(rt.alloc(), group)?, "{group}");
     }
     Ok(())
 }
@@ -179,18 +230,10 @@ fn a_procedure_may_be_too_wide(rt: HostRuntime) -> Result<(), AllocError> {
 
 // ---- envelopes
 
-// The line that tells what ends there as truncated.
-fn truncated_at(alloc: Global, length: usize) -> Result<String, AllocError> {
-    let mut buffer = Buffer::new();
-    let mut line = String::from_str(alloc, "refused at ")?;
-    line.push_str(buffer.format(length))?;
-    line.push_str(": truncated\n")?;
-    Ok(line)
-}
-
 // Whether these first bytes of an envelope are told as truncated.
 fn is_truncated(alloc: Global, prefix: &[u8]) -> Result<bool, AllocError> {
-    let line = truncated_at(alloc, prefix.len())?;
+    let mut buffer = Buffer::new();
+    let line = refused_at(alloc, buffer.format(prefix.len()), "truncated")?;
     checks(alloc, prefix, (3, line.as_str()))
 }
 

@@ -121,12 +121,18 @@ fn nothing_is_stored_where_it_is_refused(rt: HostRuntime) -> Result<(), AllocErr
     Ok(())
 }
 
+// The text with the part in the place of this mark.
+fn filled(alloc: Global, text: &str, mark: char, part: &str) -> Result<String, AllocError> {
+    let (before, after) = text.split_once(mark).unwrap_or((text, ""));
+    let mut filled = String::from_str(alloc, before)?;
+    filled.push_str(part)?;
+    filled.push_str(after)?;
+    Ok(filled)
+}
+
 // Whether the description, which is the frame with the part in the place of its @, is refused with the line.
 fn is_refused(alloc: Global, said: &str, frame: &str, part: &str) -> Result<bool, AllocError> {
-    let (before, after) = frame.split_once('@').unwrap_or((frame, ""));
-    let mut description = String::from_str(alloc, before)?;
-    description.push_str(part)?;
-    description.push_str(after)?;
+    let description = filled(alloc, frame, '@', part)?;
     let mut line = String::from_str(alloc, said)?;
     line.push_str("\n")?;
     refuses(alloc, description.as_str(), (3, line.as_str()))
@@ -142,10 +148,24 @@ fn are_refused(alloc: Global, said: &str, frame: &str, parts: &str) -> Result<bo
     Ok(true)
 }
 
+// Whether the values in the group are refused with its line, each under each name: the line, the names, and the values.
+fn are_refused_by_name(alloc: Global, frame: &str, group: &str) -> Result<bool, AllocError> {
+    let (said, rest) = group.split_once('\n').unwrap_or((group, ""));
+    let (names, values) = rest.split_once('\n').unwrap_or((rest, ""));
+    for name in names.split(' ') {
+        let said = filled(alloc, said, '$', name)?;
+        let frame = filled(alloc, frame, '$', name)?;
+        if !are_refused(alloc, said.as_str(), frame.as_str(), values)? {
+            return Ok(false);
+        }
+    }
+    Ok(true)
+}
+
 // Tables of groups with a frame each, and tables with one frame for all their groups.
 const REFUSED: [&str; 3] = [REFUSED_JSON, REFUSED_FIELDS, REFUSED_ARGUMENTS];
 
-const REFUSED_IN_A_FRAME: [&str; 2] = [REFUSED_MEMBERS, REFUSED_PARAMETERS];
+const REFUSED_BY_NAME: [&str; 2] = [REFUSED_MEMBERS, REFUSED_PARAMETERS];
 
 #[test]
 fn each_field_and_each_command_has_its_faults(rt: HostRuntime) -> Result<(), AllocError> {
@@ -161,11 +181,10 @@ fn each_field_and_each_command_has_its_faults(rt: HostRuntime) -> Result<(), All
 
 #[test]
 fn each_member_and_each_parameter_has_its_faults(rt: HostRuntime) -> Result<(), AllocError> {
-    for table in &REFUSED_IN_A_FRAME {
+    for table in &REFUSED_BY_NAME {
         let (frame, groups) = table.split_once("\n\n").unwrap_or(("", ""));
         for group in groups.split("\n\n") {
-            let (said, parts) = group.split_once('\n').unwrap_or((group, ""));
-            assert!(rt; are_refused(rt.alloc(), said, frame, parts)?, "{group}");
+            assert!(rt; are_refused_by_name(rt.alloc(), frame, group)?, "{group}");
         }
     }
     Ok(())

@@ -3,21 +3,21 @@
 /// A row of a table, whose rows stand apart by an empty line.
 #[derive(Clone, Copy)]
 pub(crate) struct Row<'a> {
-    /// The file in hexadecimal.
-    pub(crate) file: &'a str,
+    /// The files in hexadecimal, one or more between spaces.
+    pub(crate) files: &'a str,
     pub(crate) status: u8,
     /// The lines that are put, without the end of the last one.
     pub(crate) lines: &'a str,
 }
 
-/// The row of this text: a line on what it shows, then the file, the status, and what is put.
+/// The row of this text: a line on what it shows, then the files, the status, and what is put for each.
 pub(crate) fn row_of(text: &str) -> Option<Row<'_>> {
     let (_shows, rest) = text.split_once('\n')?;
-    let (file, rest) = rest.split_once('\n')?;
+    let (files, rest) = rest.split_once('\n')?;
     let (status, lines) = rest.split_once('\n')?;
     let status = status.parse::<u8>().ok()?;
     Some(Row {
-        file,
+        files,
         status,
         lines,
     })

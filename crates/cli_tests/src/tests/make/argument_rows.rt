@@ -105,6 +105,14 @@ bad field /shared/0/1/sizes
 "sizes":1
 "size":1,"sizes":1,"slots":1
 
+bad field /shared/0/1/size
+{"components":[["00"]],"sequence":1,"shared":[["set",{@}]]}
+"slot":"0","size":"0"
+
+bad field /shared/0/1/uri
+{"components":[["00"]],"sequence":1,"shared":[["set",{@}]]}
+"vendor":"0","uri":7
+
 bad field /validate/0/1
 {"components":[["00"]],"sequence":1,"validate":[["try",@]]}
 7
@@ -164,137 +172,135 @@ bad field /validate/0/1/0/1/0/1/0/1/0/1/0/1/0/1/0/1/0
 {"components":[["00"]],"sequence":1,"validate":[["run",@]]}
 [["run",[["run",[["run",[["run",[["run",[["run",[["try",[[["match",0]],null]]]]]]]]]]]]]]]"#;
 
-/// Parameters. Their one frame stands first, and each group is the line and what stands in it.
+/// Parameters. Their one frame stands first. Each group is the line, the names of which one at a time stands in the place of
+/// the $ in line and frame, and the values of each.
 pub(crate) const REFUSED_PARAMETERS: &str =
-    r#"{"components":[["00"]],"sequence":1,"shared":[["set",{@}]]}
+    r#"{"components":[["00"]],"sequence":1,"shared":[["set",{"$":@}]]}
 
-bad field /shared/0/1/vendor
-"vendor":7
-"vendor":null
-"vendor":{}
+bad field /shared/0/1/$
+vendor class device
+7
+null
+false
+{}
+[]
 
-bad uuid /shared/0/1/vendor
-"vendor":""
-"vendor":"0"
-"vendor":"fa6b4a53-d5ad-5fdf-be9d-e663e4d41ff"
-"vendor":"fa6b4a53d5ad-5fdf-be9d-e663e4d41ffe"
-"vendor":"{fa6b4a53d5ad5fdfbe9de663e4d41ffe}"
+bad uuid /shared/0/1/$
+vendor class device
+""
+"0"
+"fa6b4a53-d5ad-5fdf-be9d-e663e4d41ff"
+"fa6b4a53-d5ad-5fdf-be9d-e663e4d41ffg"
+"fa6b4a53-d5ad-5fdf-be9d-e663e4d41ffe "
+"fa6b4a53d5ad-5fdf-be9d-e663e4d41ffe"
+"{fa6b4a53d5ad5fdfbe9de663e4d41ffe}"
+"(fa6b4a53-d5ad-5fdf-be9d-e663e4d41ffe)"
+"urn:uuid:fa6b4a53d5ad5fdfbe9de663e4d41ffe"
 
-bad field /shared/0/1/class
-"class":7
-"class":null
+bad field /shared/0/1/$
+digest content args
+7
+null
 
-bad uuid /shared/0/1/class
-"class":"fa6b4a53-d5ad-5fdf-be9d-e663e4d41ffg"
-"class":"urn:uuid:fa6b4a53d5ad5fdfbe9de663e4d41ffe"
+bad hex /shared/0/1/$
+digest
+""
+"00"
+"a7816bf8f01cfea414140de5dae2223b00361a396177a9cb410ff61f20015ad"
+"ba7816bf8f01cfea414140de5dae2223b00361a396177a9cb410ff61f20015ad00"
+"za7816bf8f01cfea414140de5dae2223b00361a396177a9cb410ff61f20015ad"
 
-bad field /shared/0/1/device
-"device":false
-"device":[]
+bad field /shared/0/1/$/file
+digest
+{}
+{"file":7}
 
-bad uuid /shared/0/1/device
-"device":"fa6b4a53-d5ad-5fdf-be9d-e663e4d41ffe "
-"device":"(fa6b4a53-d5ad-5fdf-be9d-e663e4d41ffe)"
+bad field /shared/0/1/$/files
+digest
+{"files":"f"}
 
-bad field /shared/0/1/digest
-"digest":7
-"digest":null
+bad field /shared/0/1/$/size
+digest
+{"file":"abc.img","size":3}
 
-bad hex /shared/0/1/digest
-"digest":""
-"digest":"00"
-"digest":"a7816bf8f01cfea414140de5dae2223b00361a396177a9cb410ff61f20015ad"
-"digest":"ba7816bf8f01cfea414140de5dae2223b00361a396177a9cb410ff61f20015ad00"
-"digest":"za7816bf8f01cfea414140de5dae2223b00361a396177a9cb410ff61f20015ad"
+bad field /shared/0/1/$
+slot
+"0"
+null
+-1
+1.5
+18446744073709551616
+{"file":"abc.img"}
 
-bad field /shared/0/1/digest/file
-"digest":{}
-"digest":{"file":7}
+bad field /shared/0/1/$
+size
+"3"
+null
+-1
+3.0
+18446744073709551616
 
-bad field /shared/0/1/digest/files
-"digest":{"files":"f"}
+bad field /shared/0/1/$/file
+size
+{}
+{"file":3}
 
-bad field /shared/0/1/digest/size
-"digest":{"file":"abc.img","size":3}
+bad field /shared/0/1/$/of
+size
+{"file":"abc.img","of":0}
 
-bad field /shared/0/1/slot
-"slot":"0"
-"slot":null
-"slot":-1
-"slot":1.5
-"slot":18446744073709551616
-"slot":{"file":"abc.img"}
+bad field /shared/0/1/$
+size
+[]
 
-bad field /shared/0/1/size
-"size":"3"
-"size":null
-"size":-1
-"size":3.0
-"size":18446744073709551616
+bad field /shared/0/1/$
+strict
+1
+null
+"true"
 
-bad field /shared/0/1/size/file
-"size":{}
-"size":{"file":3}
+bad field /shared/0/1/$
+soft
+0
+null
+"false"
 
-bad field /shared/0/1/size/of
-"size":{"file":"abc.img","of":0}
+bad hex /shared/0/1/$
+content
+"0"
+"0g"
 
-bad field /shared/0/1/size
-"size":[]
+bad field /shared/0/1/$/file
+content
+{}
+{"file":[]}
 
-bad field /shared/0/1/strict
-"strict":1
-"strict":null
-"strict":"true"
+bad field /shared/0/1/$/hex
+content
+{"hex":"00"}
 
-bad field /shared/0/1/soft
-"soft":0
-"soft":null
-"soft":"false"
+bad field /shared/0/1/$
+uri
+7
+null
+{"file":"abc.img"}
 
-bad field /shared/0/1/content
-"content":7
-"content":null
+bad field /shared/0/1/$
+source
+1
+-1
+"0"
+true
+[0]
+4294967296
+18446744073709551615
+18446744073709551616
 
-bad hex /shared/0/1/content
-"content":"0"
-"content":"0g"
+bad hex /shared/0/1/$
+args
+"f"
+"fg"
 
-bad field /shared/0/1/content/file
-"content":{}
-"content":{"file":[]}
-
-bad field /shared/0/1/content/hex
-"content":{"hex":"00"}
-
-bad field /shared/0/1/uri
-"uri":7
-"uri":null
-"uri":{"file":"abc.img"}
-
-bad field /shared/0/1/source
-"source":1
-"source":-1
-"source":"0"
-"source":true
-"source":[0]
-"source":4294967296
-"source":18446744073709551615
-"source":18446744073709551616
-
-bad field /shared/0/1/args
-"args":7
-"args":null
-
-bad hex /shared/0/1/args
-"args":"f"
-"args":"fg"
-
-bad field /shared/0/1/args
-"args":{"file":"abc.img"}
-
-bad field /shared/0/1/size
-"slot":"0","size":"0"
-
-bad field /shared/0/1/uri
-"vendor":"0","uri":7"#;
+bad field /shared/0/1/$
+args
+{"file":"abc.img"}"#;
