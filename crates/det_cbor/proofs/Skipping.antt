@@ -1,5 +1,5 @@
 -- Passing over an item, level by level.
-use Rattle.std.proofs.Common.{◌≡◌, ℕ, zero, suc, ◌+◌, ◌-◌, ◌<◌, List, Option, Some, None, Result, Ok, refl, sym, ◌∙◌, arith}
+use Rattle.std.proofs.Common.{◌≡◌, ℕ, zero, suc, ◌+◌, ◌-◌, ◌<◌, List, Option, Some, Result, Ok, refl, sym, ◌∙◌, arith}
 use Rattle.det_cbor.specs.declared.reason.Stop.{Stop}
 use Rattle.det_cbor.specs.ItemReading.{stopped, read_of, in_order}
 use Rattle.det_cbor.specs.ItemSkipping.{Skipper, skips_by, pair_skips_by, skip_with, skip_at, parts_at}

@@ -62,11 +62,4 @@ impl Inner {
     {
         &self.held
     }
-
-    /// The item, taken out of its memory. Takes no memory.
-    pub fn into_item(self) -> Item
-        ensures { tree_of result ≡ self }
-    {
-        Box::into_inner(self.held)
-    }
 }

@@ -1,10 +1,10 @@
 -- A block is laid out in one way.
-use Rattle.std.proofs.Common.{◌≡◌, ℕ, List, [], ◌∷◌, ◌++◌, true, false, refl, sym, ap, subst, ◌∙◌, arith, lit<}
+use Rattle.std.proofs.Common.{◌≡◌, ℕ, List, [], ◌∷◌, ◌++◌, refl, sym, ap, subst, ◌∙◌, arith, lit<}
 use Rattle.std.proofs.lemmas.List.{append-nil}
 use Rattle.det_cbor.specs.declared.head.Head.{Head}
 use Rattle.det_cbor.specs.declared.head.HeadKind.TheVariants as kinds
 use Rattle.det_cbor.specs.Heads.{head_bytes}
-use Rattle.det_cbor.specs.DataItem.{DataItem, UnsignedInteger, NegativeInteger, ByteString, TextString, ArrayOf, MapOf, TaggedItem, Boolean, NullItem, DataItems, NoItems, ItemThen, DataPairs, item_count, spell, spell_items, IsString, IsValid, IsValidWithin, AreValidWithin, Spells}
+use Rattle.det_cbor.specs.DataItem.{DataItem, ByteString, ArrayOf, MapOf, TaggedItem, NullItem, DataItems, NoItems, ItemThen, DataPairs, item_count, spell, spell_items, IsString, IsValid, IsValidWithin, AreValidWithin, Spells}
 use Rattle.det_cbor.specs.ItemOrder.{spell_parts}
 use Rattle.det_cbor.specs.OneReading.{IsItem}
 use Rattle.det_cbor.specs.ArgumentLaws.{IsBytes, IsBytes-rest}

@@ -1,5 +1,5 @@
 -- Bytes begin with one string, one map and one head at most.
-use Rattle.std.proofs.Common.{◌≡◌, ℕ, ◌+◌, ◌<◌, ◌^◌, List, [], ◌∷◌, ◌++◌, length, take, drop, Option, Some, None, Result, Ok, Err, Bool, true, false, refl, sym, ap, subst, ◌∙◌, append_assoc, arith, lit<, Bor}
+use Rattle.std.proofs.Common.{◌≡◌, ℕ, ◌+◌, ◌<◌, ◌^◌, List, [], ◌∷◌, ◌++◌, length, take, drop, Option, Some, None, Result, Ok, Err, Bool, true, refl, sym, ap, subst, ◌∙◌, append_assoc, arith, lit<, Bor}
 use Rattle.std.proofs.lemmas.List.{append-nil, take_at, drop_at, length-append}
 use Rattle.std.specs.Prelude.{IfOk, IfErr, IfSome, IfNone, IsTrue}
 use Rattle.std.specs.Option.{is_some}
@@ -11,10 +11,9 @@ use Rattle.det_cbor.specs.declared.head.HeadKind.TheVariants as kinds
 use Rattle.det_cbor.specs.contracts.head.HeadKind.{the_type}
 use Rattle.det_cbor.specs.declared.reason.CborRefusal.{CborRefusal}
 use Rattle.det_cbor.specs.Heads.{head_bytes}
-use Rattle.det_cbor.specs.HeadSpelling.{BeginsWith, IsValueOf, spelled}
+use Rattle.det_cbor.specs.HeadSpelling.{BeginsWith}
 use Rattle.det_cbor.specs.Position.{Position, Takes}
-use Rattle.det_cbor.specs.DataItem.{DataItem, UnsignedInteger, NegativeInteger, ByteString, TextString, ArrayOf, MapOf, TaggedItem, Boolean, NullItem, DataPairs, item_count, pair_count, spell, spell_pairs, IsValid, IsValidWithin}
-use Rattle.det_cbor.specs.ItemOrder.{major_type, head_argument, spell_parts}
+use Rattle.det_cbor.specs.DataItem.{DataItem, ByteString, MapOf, DataPairs, pair_count, spell, spell_pairs, IsValid}
 use Rattle.det_cbor.specs.OneReading.{IsItem, StartsWithItem}
 use Rattle.det_cbor.proofs.BadHeads.{begun}
 use Rattle.det_cbor.specs.ItemHeads.{item_head, item_begins}

@@ -11,7 +11,7 @@ use Rattle.hmac_mac0.specs.declared.verdict.MacVerdict.TheVariants as verdict
 use Rattle.suit_params.specs.declared.refusal.Refusal.{Refusal}
 use Rattle.suit_params.specs.Reading.{content_from}
 use Rattle.suit_envelope.specs.declared.macs.Difference.{Difference}
-use Rattle.suit_envelope.specs.Macs.{IsOther, FailsToVerify, SomeVerifies, ThisVerifies, ALaterVerifies, ThisDiffers, ALaterDiffers, BlocksSay, contents_from, kept, last_answer}
+use Rattle.suit_envelope.specs.Macs.{FailsToVerify, SomeVerifies, ThisVerifies, ALaterVerifies, ThisDiffers, ALaterDiffers, BlocksSay, contents_from, kept, last_answer}
 
 -- the answer on the blocks that are left, after the first difference so far
 abbrev pub Ends : List ℕ → List ℕ → Option Difference → List (List ℕ) → MacVerdict → Type 0
@@ -25,9 +25,6 @@ pub record Left (key payload : List ℕ) (total : List (List ℕ)) (n : ℕ) (p 
   pub rest : List (List ℕ)
   pub read : contents_from n p ≡ Ok rest
   pub answers : (answer : MacVerdict) → Ends key payload first rest answer → BlocksSay key payload total answer
-
-other_fails : (key payload block : List ℕ) → IsOther block → FailsToVerify key payload block
-other_fails key payload block other v = other v.protected v.tag v.is_block
 
 pub next_first : Option Difference → MacVerdict → Option Difference
 next_first (Some d) v = Some d

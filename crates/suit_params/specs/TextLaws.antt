@@ -1,10 +1,7 @@
 -- Whether bytes are a text, as a test.
-use Rattle.std.proofs.Common.{◌≡◌, ℕ, true, false, List}
+use Rattle.std.proofs.Common.{◌≡◌, ℕ, true, List}
 use Rattle.std.specs.Str.{IsUtf8, is_utf8}
-use Rattle.det_cbor.proofs.Utf8.{good_utf8, bad_utf8}
+use Rattle.det_cbor.proofs.Utf8.{good_utf8}
 
 pub good_text : (bytes : List ℕ) → IsUtf8 bytes → is_utf8 bytes ≡ true
 good_text bytes text = good_utf8 bytes text
-
-pub bad_text : (bytes : List ℕ) → ¬ (IsUtf8 bytes) → is_utf8 bytes ≡ false
-bad_text bytes other = bad_utf8 bytes other
