@@ -1,0 +1,6 @@
+//! The tests.
+
+mod growing;
+mod large;
+mod refused;
+mod rows;
