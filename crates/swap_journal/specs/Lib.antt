@@ -1,0 +1,3 @@
+pub mod Exchanges
+pub mod CopyLaws
+pub mod Progress
