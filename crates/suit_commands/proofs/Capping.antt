@@ -21,10 +21,6 @@ pub capped_plus_right : (a b : ℕ) → capped (a + capped b) ≡ capped (a + b)
 unfolding capped
 capped_plus_right a b = omega arith
 
-pub capped_plus_left : (a b : ℕ) → capped (capped a + b) ≡ capped (a + b)
-unfolding capped
-capped_plus_left a b = omega arith
-
 -- one more of a sum of three
 pub capped_three : (a b c : ℕ) → capped (capped (a + capped b) + c) ≡ capped (a + (b + c))
 unfolding capped

@@ -9,6 +9,9 @@ pub mod SourceLaws
 pub mod Steps
 pub mod TargetLaws
 pub mod TargetLawProofs
+pub mod TouchedSteps
+pub mod TouchedLaws
+pub mod KnownPlan
 pub mod WaysLaws
 pub mod WaysSteps
 pub mod WorkSteps

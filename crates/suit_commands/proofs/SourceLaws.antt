@@ -45,7 +45,7 @@ list_from (params.Content x ∷ list) bits c h = list_from list bits c h
 list_from (params.Uri x ∷ list) bits c h = list_from list bits c h
 list_from (params.Args x ∷ list) bits c h = list_from list bits c h
 
-none_left : {A : Type 0} → (c : ℕ) → HasBit 0 c ⊎ A → A
+pub none_left : {A : Type 0} → (c : ℕ) → HasBit 0 c ⊎ A → A
 none_left c (inl h) = absurd (no_bit c h)
 none_left c (inr h) = h
 

@@ -16,10 +16,10 @@ use Rattle.suit_commands.proofs.BitLaws.{range_from}
 use Rattle.suit_commands.proofs.IndexedSteps.{member_indexed, shared_indexed}
 
 -- those of a list are components
-abbrev AreBelow : ℕ → List ℕ → Type 0
+abbrev pub AreBelow : ℕ → List ℕ → Type 0
 AreBelow count selected = (i : ℕ) → Among i selected → i < count
 
-below_one : (count i : ℕ) → i < count → AreBelow count (i ∷ [])
+pub below_one : (count i : ℕ) → i < count → AreBelow count (i ∷ [])
 below_one count i lt j (inl e) = omega arith
 below_one count i lt j (inr h) = absurd h
 
@@ -33,7 +33,7 @@ selection_below count (One component) h = below_one count component h
 selection_below count All h = λ i w. let r = range_from count 0 i w in omega (arith, r.1)
 selection_below count (Listed is) h = listed_below count is h.1
 
-after_below : (count : ℕ) (command : CommandTree) (selected : List ℕ) → IsIndexed count command → AreBelow count selected → AreBelow count (selected_after command count selected)
+pub after_below : (count : ℕ) (command : CommandTree) (selected : List ℕ) → IsIndexed count command → AreBelow count selected → AreBelow count (selected_after command count selected)
 after_below count (Test kind report) selected h below = below
 after_below count (Act kind report) selected h below = below
 after_below count (Index selection) selected h below = selection_below count selection h
@@ -78,7 +78,7 @@ source_below (params.Uri x ∷ list) count c all h = source_below list count c a
 source_below (params.Args x ∷ list) count c all h = source_below list count c all.1 h
 
 mutual
-  sources_below : (s : SequenceTree) (count c : ℕ) → AreIndexed count s → Sources s c → c < count
+  pub sources_below : (s : SequenceTree) (count c : ℕ) → AreIndexed count s → Sources s c → c < count
   sources_below NoSteps count c indexed h = absurd h
   sources_below (StepThen place command rest) count c indexed (inl h) = command_sources_below command count c indexed.0 h
   sources_below (StepThen place command rest) count c indexed (inr h) = sources_below rest count c indexed.1 h
@@ -98,7 +98,7 @@ mutual
   branches_sources_below (NullThen rest) count c indexed h = branches_sources_below rest count c indexed h
 
 -- a property that holds wherever some sequence of the plan has it
-in_some : (plan : PlanTree) (has : SequenceTree → Type 0) (A : Type 0) → IsPlan plan → ((s : SequenceTree) → AreIndexed plan.count s → has s → A) → InSome plan has → A
+pub in_some : (plan : PlanTree) (has : SequenceTree → Type 0) (A : Type 0) → IsPlan plan → ((s : SequenceTree) → AreIndexed plan.count s → has s → A) → InSome plan has → A
 in_some plan has A allowed each (inl h) = each plan.shared (shared_indexed plan.count plan.shared allowed.shared) h
 in_some plan has A allowed each (inr (inl h)) = each plan.first (member_indexed plan.count plan.first allowed.first) h
 in_some plan has A allowed each (inr (inr (inl h))) = each plan.second (member_indexed plan.count plan.second allowed.second) h

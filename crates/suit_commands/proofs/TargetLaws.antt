@@ -51,7 +51,7 @@ named_sources o s bits is made c = (
 
 -- ---- of a procedure
 
-or_two : (x y c : ℕ) {A B : Type 0} → HasBit x c ↔ A → HasBit y c ↔ B → HasBit (bit_or x y) c ↔ (A ⊎ B)
+pub or_two : (x y c : ℕ) {A B : Type 0} → HasBit x c ↔ A → HasBit y c ↔ B → HasBit (bit_or x y) c ↔ (A ⊎ B)
 or_two x y c p q = (
   λ h. elim (or_cases x y c h) [ inl w ↦ inl (p.0 w) | inr w ↦ inr (q.0 w) ],
   λ h. elim h [ inl w ↦ or_left x y c (p.1 w) | inr w ↦ or_right x y c (q.1 w) ],

@@ -6,6 +6,7 @@ pub mod CommandCodes
 pub mod Falls
 pub mod Indexed
 pub mod Kinds
+pub mod KnownPlan
 pub mod NumberLaws
 pub mod Numbers
 pub mod Plans
@@ -23,6 +24,8 @@ pub mod Size
 pub mod Smaller
 pub mod Sources
 pub mod Targets
+pub mod TouchedBits
+pub mod Touches
 pub mod Tree
 pub mod View
 pub mod WaysOnce

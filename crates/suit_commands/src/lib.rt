@@ -2,6 +2,7 @@
 //! components they may write.
 #![tactic(auto)]
 
+mod act_walk;
 mod argument;
 mod capped;
 mod command;
@@ -11,11 +12,13 @@ mod decode;
 mod encode;
 mod index_list;
 mod kinds;
+mod known;
 mod law;
 mod measure;
 mod numbers;
 mod plan;
 mod plan_targets;
+mod plan_touched;
 mod reach;
 mod reach_walk;
 mod scope;
@@ -23,6 +26,7 @@ mod selection;
 mod sequence_reading;
 mod source_walk;
 mod swap_walk;
+mod touched_walk;
 mod ways;
 mod ways_walk;
 mod work_walk;
@@ -34,8 +38,10 @@ pub use decode::{MAX_LEVELS, decode_sequence};
 pub use encode::encode_sequence;
 pub use index_list::IndexList;
 pub use kinds::{ActKind, TestKind};
+pub use known::known_laws;
 pub use law::sequence_laws;
 pub use numbers::{number_laws, spread, width, work};
 pub use plan::Plan;
 pub use plan_targets::{target_laws, targets};
+pub use plan_touched::{invokes, touched, touched_laws};
 pub use selection::Selection;

@@ -55,7 +55,7 @@ fn swaps_in(plan: &Plan<'_>) -> bool
 }
 
 #[tactic(auto, using(crate::proofs::IndexedSteps::member_indexed, crate::proofs::IndexedSteps::shared_indexed))]
-fn sources_in(plan: &Plan<'_>) -> u32
+pub(crate) fn sources_in(plan: &Plan<'_>) -> u32
     requires { IsPlan (plan_tree plan.now) }
     ensures { (component : ℕ)
         → HasBit result component ↔ InSome (plan_tree plan.now) (λ s. Sources s component) }
