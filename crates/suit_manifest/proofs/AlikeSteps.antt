@@ -1,5 +1,5 @@
 -- Identifiers that are alike, and the least number that passes a test.
-use Rattle.std.proofs.Common.{◌≡◌, ℕ, zero, suc, ◌+◌, ◌-◌, ◌<◌, ◌≤◌, Bool, true, false, List, [], ◌∷◌, length, get_or, Option, Some, None, refl, sym, ap, subst, ◌∙◌, arith}
+use Rattle.std.proofs.Common.{◌≡◌, ℕ, zero, suc, ◌+◌, ◌-◌, ◌<◌, Bool, true, false, List, [], ◌∷◌, length, get_or, Option, Some, refl, sym, ap, subst, ◌∙◌, arith}
 use Rattle.std.specs.Prelude.{◌&&◌, ◌↔◌, IsTrue}
 use Rattle.std.specs.Str.{bytes_eq}
 use Rattle.std.proofs.lemmas.Slice.Eq.{bytes_eq-Decides}
@@ -56,10 +56,4 @@ pub least_here : (test : ℕ → Bool) (n i : ℕ) (total : Option ℕ) → i < 
 least_here test n i total lt passes so_far =
     let one : n - i ≡ suc (n - (i + 1)) = omega arith in
     let step : least test (n - i) i ≡ Some i = rw (one, passes) refl in
-    sym step ∙ so_far
-
-pub least_done : (test : ℕ → Bool) (n i : ℕ) (total : Option ℕ) → n ≤ i → least test (n - i) i ≡ total → None ≡ total
-least_done test n i total le so_far =
-    let none : n - i ≡ 0 = omega arith in
-    let step : least test (n - i) i ≡ None = rw none refl in
     sym step ∙ so_far

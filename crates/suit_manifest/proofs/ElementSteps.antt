@@ -1,6 +1,5 @@
 -- Reading elements, one by one.
-use Rattle.std.proofs.Common.{◌≡◌, ℕ, suc, ◌+◌, ◌-◌, ◌<◌, ◌≤◌, List, [], ◌∷◌, ◌++◌, None, Result, Ok, Err, refl, sym, ap, ◌∙◌, append_assoc, arith}
-use Rattle.std.proofs.lemmas.List.{append-nil}
+use Rattle.std.proofs.Common.{◌≡◌, ℕ, suc, ◌+◌, ◌-◌, ◌<◌, List, [], ◌∷◌, ◌++◌, None, Result, Ok, Err, refl, sym, ap, ◌∙◌, append_assoc, arith}
 use Rattle.det_cbor.specs.HeadReading.{◌>>=◌}
 use Rattle.det_cbor.specs.Position.{Position}
 use Rattle.suit_params.specs.declared.refusal.Refusal.{Refusal}
@@ -25,28 +24,6 @@ all_step read front count done at next inner a total lt item is so_far =
     let step : with_front front (all_from read (count - done) at) ≡ with_front (front ++ a ∷ []) (all_from read (count - (done + 1)) next) =
     rw (one, ← item, is) (one_more front a (all_from read (count - (done + 1)) next)) in
     sym step ∙ so_far
-
-pub all_done : {A : Type 0} (read : Position → Result A Refusal) (front : List A) (count done : ℕ) (at : Position) (total : Result (List A) Refusal)
-    → count ≤ done → with_front front (all_from read (count - done) at) ≡ total → total ≡ Ok front
-all_done {A} read front count done at total le so_far =
-    let none : count - done ≡ 0 = omega arith in
-    let last : with_front front (all_from read (count - done) at) ≡ Ok front = rw none (ap (λ (l : List A). Ok l) (append-nil front)) in
-    sym so_far ∙ last
-
--- an item that is refused
-pub all_item_bad : {A : Type 0} (read : Position → Result A Refusal) (front : List A) (count done : ℕ) (at : Position) (r : Refusal) (total : Result (List A) Refusal)
-    → done < count → Err r ≡ inner_from at → with_front front (all_from read (count - done) at) ≡ total → total ≡ Err r
-all_item_bad read front count done at r total lt bad so_far =
-    let one : count - done ≡ suc (count - (done + 1)) = omega arith in
-    let step : with_front front (all_from read (count - done) at) ≡ Err r = rw (one, ← bad) refl in
-    sym so_far ∙ step
-
-pub all_read_bad : {A : Type 0} (read : Position → Result A Refusal) (front : List A) (count done : ℕ) (at next inner : Position) (r : Refusal) (total : Result (List A) Refusal)
-    → done < count → Ok (inner, next) ≡ inner_from at → read inner ≡ Err r → with_front front (all_from read (count - done) at) ≡ total → total ≡ Err r
-all_read_bad read front count done at next inner r total lt item bad so_far =
-    let one : count - done ≡ suc (count - (done + 1)) = omega arith in
-    let step : with_front front (all_from read (count - done) at) ≡ Err r = rw (one, ← item, bad) refl in
-    sym so_far ∙ step
 
 -- ---- identifiers that are alike
 

@@ -15,7 +15,7 @@ use Rattle.suit_manifest.specs.Common.{SaysShared}
 use Rattle.suit_manifest.specs.Manifests.{IsManifest, SaysMember, SaysSevered, SaysHere, SaysApart, SeveredUnder, count_said}
 use Rattle.suit_manifest.specs.Maps.{entries_of, MaySayUnder}
 use Rattle.suit_manifest.specs.MembersApart.{HasMember, HasMembers}
-use Rattle.suit_manifest.specs.ProcedureLaws.{ProcedureLaws}
+use Rattle.suit_manifest.specs.ProcedureLaws.{StandsFor, StandsForMember, ProcedureLaws}
 use Rattle.suit_manifest.specs.Procedures.{tree_or_empty, member_tree, update_tree, invocation_tree}
 
 whole_allowed : SequenceLaws → (shared : Bool) (count place : ℕ) (content : List ℕ) (s : SequenceTree) → SaysWhole (SaysSequence shared count 8) place content s → IsSequence shared count 8 s
@@ -85,5 +85,33 @@ invocation laws place x manifest is =
     let es = entries_of place is.map.pairs in
     parts laws place x manifest is _ _ _ (member_allowed laws 7 count es manifest.validate is.validate) (member_allowed laws 8 count es manifest.load is.load) (member_allowed laws 9 count es manifest.invoke is.invoke)
 
+-- ---- the order of the members
+
+stands : (held : Option SequenceTree) → StandsFor held (tree_or_empty held)
+stands None = record { there = λ t is. absurd cc; absent = λ is. refl }
+stands (Some s) = record { there = λ t is. cc; absent = λ is. absurd cc }
+
+member_stands : (member : Member) (apart : Option SequenceTree) → StandsForMember member apart (member_tree member apart)
+member_stands Empty apart = record { here = λ t is. absurd cc; elsewhere = λ digest is. absurd cc; absent = λ is. refl }
+member_stands (Here s) apart = record { here = λ t is. cc; elsewhere = λ digest is. absurd cc; absent = λ is. absurd cc }
+member_stands (Apart stated) apart = record { here = λ t is. absurd cc; elsewhere = λ digest is. stands apart; absent = λ is. absurd cc }
+
 pub procedure_laws : SequenceLaws → ProcedureLaws
-procedure_laws laws = record { update = update laws; invocation = invocation laws }
+procedure_laws laws = record {
+  update = update laws;
+  invocation = invocation laws;
+  update_order = λ manifest members. record {
+    shared = stands manifest.shared;
+    first = member_stands manifest.payload_fetch members.payload_fetch;
+    second = member_stands manifest.install members.install;
+    third = stands manifest.validate;
+    count = refl;
+  };
+  invocation_order = λ manifest. record {
+    shared = stands manifest.shared;
+    first = stands manifest.validate;
+    second = stands manifest.load;
+    third = stands manifest.invoke;
+    count = refl;
+  };
+}

@@ -5,6 +5,7 @@ ghost use Rattle.suit_params.specs.Answering.{Gives};
 ghost use Rattle.suit_manifest.specs.Elements.{held_at};
 ghost use Rattle.suit_manifest.specs.MapReading.{may};
 ghost use Rattle.suit_manifest.specs.CommonReading.{shared_at, common_found, common_values_from, common_pairs_from, common_at};
+ghost use Rattle.suit_commands.specs.Allowed.{levels_inside};
 ghost use Rattle.suit_commands.specs.SequenceReading.{whole_sequence};
 
 use crate::components::read_components;
@@ -28,7 +29,8 @@ pub(crate) fn read_sequence(
     shared: bool,
     count: u32,
 ) -> Result<Sequence, Fault>
-    ensures { Gives (λ s. s) result (held_at (whole_sequence shared count 7) item.entry) }
+    ensures { Gives (λ s. s) result
+        (held_at (whole_sequence shared count levels_inside) item.entry) }
 {
     let content = read_content(&mut item)?;
     let place = content.place();
@@ -42,7 +44,8 @@ pub(crate) fn read_optional(
     shared: bool,
     count: u32,
 ) -> Result<Option<Sequence>, Fault>
-    ensures { Gives (λ s. s) result (may (held_at (whole_sequence shared count 7)) item.entry) }
+    ensures { Gives (λ s. s) result
+        (may (held_at (whole_sequence shared count levels_inside)) item.entry) }
 {
     match item {
         Some(item) => Ok(Some(read_sequence(alloc, item, shared, count)?)),

@@ -2,6 +2,7 @@
 
 ghost use Rattle.std.specs.Prelude.{◌<◌, ◌^◌, ◌+◌, false, length, IfOk, IfErr};
 ghost use Rattle.suit_params.specs.Refusing.{SaysWhole};
+ghost use Rattle.suit_commands.specs.Allowed.{levels_allowed};
 ghost use Rattle.suit_commands.specs.Sequences.{SaysSequence};
 ghost use Rattle.suit_envelope.specs.Places.{EndsBelow};
 ghost use Rattle.suit_manifest.specs.MembersApart.{held_in, IsTaken, HasMember, LacksTaken, LacksMember, RefusesContent, IsLackBy};
@@ -15,7 +16,8 @@ use suit_params::{Digest, Fault};
 // The sequence that a member's content spells.
 fn decoded(alloc: Global, content: &[u8], place: u64, count: u32) -> Result<Sequence, MemberFault>
     requires { place + length content.now < 2 ^ 64 }
-    ensures ok { IfOk result (λ s. SaysWhole (SaysSequence false count 8) place content.now s) }
+    ensures ok { IfOk result
+        (λ s. SaysWhole (SaysSequence false count levels_allowed) place content.now s) }
     ensures refused { IfErr result (RefusesContent count place content.now) }
 {
     match decode_sequence(alloc, content, place, false, count) {
