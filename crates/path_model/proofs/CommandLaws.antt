@@ -1,5 +1,5 @@
 -- The laws of one condition or directive.
-use Rattle.std.proofs.Common.{◌≡◌, ◌≢◌, ℕ, Bool, true, false, List, [], ◌∷◌, Option, Some, None, refl, sym, ap, subst, ◌∙◌, inl, inr, ◌⊎◌}
+use Rattle.std.proofs.Common.{◌≡◌, ◌≢◌, ℕ, true, false, List, [], ◌∷◌, Option, Some, None, refl, sym, ap, subst, ◌∙◌, inl, inr, ◌⊎◌}
 use Rattle.std.specs.Prelude.{◌↔◌, option_map, slice_get}
 use Rattle.suit_params.specs.declared.digest.Digest.{Digest}
 use Rattle.path_model.specs.declared.identity.Identity.{Identity}
@@ -35,11 +35,6 @@ same_key key other same = same_some key other (sym (numbered_again key) ∙ ap n
 -- the parameter in force under the key of a number
 at_key : (s : State) (c : ℕ) (key other : ParamKey) (held : Option Param) → key_number key ≡ key_number other → in_force s.parameters c key ≡ held → in_force s.parameters c other ≡ held
 at_key s c key other held same is = subst (λ (k : ParamKey). in_force s.parameters c k ≡ held) (same_key key other same) is
-
--- ---- endings are one of three
-
-done_not_failed : {P : Type 0} (s : State) (place : ℕ) (soft : Bool) → Done s ≡ Condition place soft → P
-done_not_failed s place soft same = absurd cc
 
 -- ---- how conditions end
 

@@ -45,17 +45,3 @@ HasMatched-append events more c d s quiet h = record {
   is = ap (λ (es : List Event). es ++ more) h.is ∙ append_assoc h.before (Matched c d s ∷ h.since) more;
   unwritten = all_append (λ event. WritesTo c event → ⊥) h.since more h.unwritten quiet;
 }
-
-abbrev pub IsMatch : Event → Type 0
-IsMatch (Matched c d s) = Unit {0}
-IsMatch _ = ⊥
-
-in_middle : {A : Type 0} (P : A → Type 0) (before since : List A) (x : A) → AllByRecursion P (before ++ x ∷ since) → P x
-in_middle P [] since x h = h.0
-in_middle P (b ∷ before) since x h = in_middle P before since x h.1
-
--- among events without a match nothing has matched
-pub unmatched : (events : List Event) (c : ℕ) (d : Digest) (s : Option ℕ) → AllByRecursion (λ event. IsMatch event → ⊥) events → HasMatched events c d s → ⊥
-unmatched events c d s none h =
-    in_middle (λ event. IsMatch event → ⊥) h.before h.since (Matched c d s)
-    (subst (λ (es : List Event). AllByRecursion (λ event. IsMatch event → ⊥) es) h.is none) tt

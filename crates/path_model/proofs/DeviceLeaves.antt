@@ -93,7 +93,7 @@ checked_runs p c content s w (Some wanted) =
     either_tested p (Tried c tests.CheckContent true) (Tried c tests.CheckContent false) s w (bytes_eq content wanted)
 
 -- where nothing was told, any run begins so
-begins_all : (run : Behaviour) (s : State) (es fs : List Event) (e : Ending) → run s fs e → es ≡ [] → Begins run s es
+pub begins_all : (run : Behaviour) (s : State) (es fs : List Event) (e : Ending) → run s fs e → es ≡ [] → Begins run s es
 begins_all run s es fs e one none = record { rest = fs; ending = e; is = subst (λ (xs : List Event). run s (xs ++ fs) e) (sym none) one }
 
 matching_follows : (p c : ℕ) → Follows Device (λ s. Matches p c (digest_in s.parameters c) (size_in s.parameters c) s) (matching p c)
@@ -164,7 +164,7 @@ module _ (setting : Setting) where
       other_run Device (λ s. Compares p kind c (wanted s) own s) (ComparesIdentifier kind key own_of setting.identities p c) (comparing_identifier kind key own_of setting p c) (λ s es e r. r)
       (comparing_follows p kind c wanted own (λ s. same_identifier (wanted s) own) (λ s. identifier_is (wanted s) own) (λ s. is_identifier (wanted s) own))
 
-  tests_follow : (kind : TestKind) (p c : ℕ) → Follows Device (Tests kind setting.identities p c) (condition_play setting kind p c)
+  pub tests_follow : (kind : TestKind) (p c : ℕ) → Follows Device (Tests kind setting.identities p c) (condition_play setting kind p c)
   tests_follow tests.Vendor p c = identifiers_follow tests.Vendor keys.Vendor vendor_of p c
   tests_follow tests.Class p c = identifiers_follow tests.Class keys.Class class_of p c
   tests_follow tests.Device p c = identifiers_follow tests.Device keys.Device device_of p c
@@ -180,7 +180,7 @@ module _ (setting : Setting) where
   tests_follow tests.Abort p c =
       other_run Device (IsUnmet p (Tried c tests.Abort false)) (Tests tests.Abort setting.identities p c) (comparing p tests.Abort c (λ s. false)) (λ s es e r. r) (abort_follows p c)
 
-  acts_follow : (kind : ActKind) (p c : ℕ) → Follows Device (Acts kind p c) (directive_play setting kind p c)
+  pub acts_follow : (kind : ActKind) (p c : ℕ) → Follows Device (Acts kind p c) (directive_play setting kind p c)
   acts_follow acts.Write p c =
       let wanted : State → Option (List ℕ) = λ s. bytes_of (in_force s.parameters c keys.Content) in
       other_run Device (λ s. Writes p (wanted s) (λ x. Wrote c ∷ []) s) (Acts acts.Write p c) (directive_play setting acts.Write p c) (λ s es e r. r)

@@ -1,5 +1,5 @@
 -- The events of a path are at most three times the work.
-use Rattle.std.proofs.Common.{◌≡◌, ℕ, suc, ◌+◌, ◌*◌, ◌≤◌, true, false, List, [], ◌∷◌, ◌++◌, length, Option, Some, None, refl, ap, subst, ◌∙◌, arith, inl, inr}
+use Rattle.std.proofs.Common.{◌≡◌, ◌≢◌, ℕ, suc, ◌+◌, ◌*◌, ◌≤◌, true, false, List, [], ◌∷◌, ◌++◌, length, Option, Some, None, refl, ap, subst, ◌∙◌, arith, inl, inr}
 use Rattle.std.proofs.lemmas.List.FromFn.{length-range_with_len}
 use Rattle.suit_params.specs.declared.param.Param.{Param}
 use Rattle.suit_params.specs.declared.param.ParamKey.TheVariants as keys
@@ -19,7 +19,7 @@ use Rattle.path_model.specs.Conditions.{Tests}
 use Rattle.path_model.specs.Directives.{set_events, Overrides, Writes, Acts}
 use Rattle.path_model.specs.Runs.{entry_state, RunsInner, Runs, Does, Tries}
 use Rattle.path_model.specs.Path.{start_state, Starts, RunsPlan, first_state}
-use Rattle.path_model.specs.EventBounds.{told_number, PathsBounded}
+use Rattle.path_model.specs.EventBounds.{told_number, CountsEvents, PathsBounded}
 use Rattle.path_model.specs.CommandLaws.{failure_event}
 use Rattle.path_model.proofs.CommandLaws.{conditions_end}
 use Rattle.path_model.proofs.SelectionLaws.{selection_kept}
@@ -32,6 +32,13 @@ told-append (_ ∷ a) b = omega (arith, told-append a b)
 told-one : (event : Event) → told_number (event ∷ []) ≤ 1
 told-one (Set c param) = omega arith
 told-one _ = omega arith
+
+told-other : (event : Event) → ((c : ℕ) (param : Param) → event ≢ Set c param) → told_number (event ∷ []) ≡ 1
+told-other (Set c param) differs = absurd (differs c param refl)
+told-other _ differs = refl
+
+pub counts_events : CountsEvents
+counts_events = record { parts = told-append; setting = λ c param. refl; other = told-other }
 
 told_as : (es known : List Event) → es ≡ known → told_number es ≡ told_number known
 told_as es known is = ap told_number is
@@ -74,7 +81,7 @@ sets_told c (param ∷ list) = sets_told c list
 abbrev IsWithin : ℕ → (ℕ → Behaviour) → Type 0
 IsWithin work at = (c : ℕ) (s : State) (es : List Event) (e : Ending) → at c s es e → told_number es ≤ 3 * work
 
-one_more : (n work : ℕ) → suc n * work ≡ work + n * work
+pub one_more : (n work : ℕ) → suc n * work ≡ work + n * work
 one_more n work = grind arith
 
 each_told : (work : ℕ) (at : ℕ → Behaviour) → IsWithin work at → (cs : List ℕ) (s : State) (es : List Event) (e : Ending) → Each at cs s es e → told_number es ≤ 3 * (length cs * work)
@@ -86,10 +93,10 @@ each_told work at few (c ∷ cs) s es e run =
           omega (arith, told_as es (b ++ a) is, told-append b a, few c s b (Done m) one, each_told work at few cs m a e others, one_more (length cs) work)
     ]
 
-by_one : (n : ℕ) → n * 1 ≡ n
+pub by_one : (n : ℕ) → n * 1 ≡ n
 by_one n = omega arith
 
-length_after : (command : CommandTree) (count : ℕ) (selected : List ℕ) → length (selected_after command count selected) ≡ count_after command count (length selected)
+pub length_after : (command : CommandTree) (count : ℕ) (selected : List ℕ) → length (selected_after command count selected) ≡ count_after command count (length selected)
 length_after (Test kind report) count selected = refl
 length_after (Act kind report) count selected = refl
 length_after (Index (One c)) count selected = refl

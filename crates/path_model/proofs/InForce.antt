@@ -1,11 +1,10 @@
 -- The parameters in force after an override.
 use Rattle.std.proofs.Common.{◌≡◌, ℕ, ◌<◌, List, length, Option, Some, None, arith, length-set, get_or-set_same, get_or-set_other, ◌≢◌, ◌∙◌, ap}
 use Rattle.std.specs.Prelude.{slice_get, slice_set}
-use Rattle.suit_params.specs.declared.digest.Digest.{Digest}
 use Rattle.suit_params.specs.declared.param.Param.{Param}
 use Rattle.suit_params.specs.declared.param.Param.TheVariants as params
 use Rattle.suit_params.specs.ParamKeys.{key_of}
-use Rattle.suit_params.specs.InForce.{Parameters, cell, none_in_force, with_param, held_at, digest_of, number_of, digest_in, size_in}
+use Rattle.suit_params.specs.InForce.{Parameters, cell, none_in_force, with_param}
 use Rattle.std.proofs.lemmas.List.{length-replicate}
 use Rattle.std.proofs.lemmas.Option.{slice_get-get_or, get_or_from_slice_get}
 
@@ -24,31 +23,6 @@ slice_get-set_other xs i j x y other within is =
 
 pub length-with_param : (parameters : Parameters) (component : ℕ) (param : Param) → length (with_param parameters component param) ≡ length parameters
 length-with_param parameters component param = length-set parameters (cell component (key_of param)) (Some param)
-
-abbrev pub both_set : Parameters → Digest → ℕ → Parameters
-both_set parameters digest size = with_param (with_param parameters 0 (params.Digest digest)) 0 (params.Size size)
-
-pub length-both_set : (parameters : Parameters) (digest : Digest) (size : ℕ) → length (both_set parameters digest size) ≡ length parameters
-length-both_set parameters digest size =
-    length-with_param (with_param parameters 0 (params.Digest digest)) 0 (params.Size size) ∙ length-with_param parameters 0 (params.Digest digest)
-
-pub digest_in-both_set : (parameters : Parameters) (digest : Digest) (size : ℕ) → length parameters ≡ 96 → digest_in (both_set parameters digest size) 0 ≡ Some digest
-digest_in-both_set parameters digest size full =
-    let before : Parameters = with_param parameters 0 (params.Digest digest) in
-    let room : 2 < length parameters = omega arith in
-    let more : 2 < length before = omega (arith, length-with_param parameters 0 (params.Digest digest)) in
-    let apart : 2 ≢ 6 = omega arith in
-    let there : slice_get (slice_set before 6 (Some (params.Size size))) 2 ≡ Some (Some (params.Digest digest)) =
-    slice_get-set_other before 6 2 (Some (params.Size size)) (Some (params.Digest digest)) apart more
-    (slice_get-set_same parameters 2 (Some (params.Digest digest)) room)
-    in
-    ap (λ (o : Option (Option Param)). digest_of (held_at o)) there
-
-pub size_in-both_set : (parameters : Parameters) (digest : Digest) (size : ℕ) → length parameters ≡ 96 → size_in (both_set parameters digest size) 0 ≡ Some size
-size_in-both_set parameters digest size full =
-    let before : Parameters = with_param parameters 0 (params.Digest digest) in
-    let more : 6 < length before = omega (arith, length-with_param parameters 0 (params.Digest digest)) in
-    ap (λ (o : Option (Option Param)). number_of (held_at o)) (slice_get-set_same before 6 (Some (params.Size size)) more)
 
 pub length-none_in_force : length none_in_force ≡ 96
 unfolding none_in_force

@@ -28,3 +28,10 @@ pub mod Vouching
 pub mod DeviceLaws
 pub mod PlaysEnd
 pub mod DeviceEnds
+pub mod MembersOfTwo
+pub mod Resuming
+pub mod StepsResume
+pub mod Unrecalled
+pub mod RecalledRuns
+pub mod KeptFew
+pub mod ResumeLaws

@@ -135,7 +135,7 @@ module _ (World : Type 0) where
           other_run (Then (Does command ids count p) (Runs rest ids count)) (Runs (StepThen p command rest) ids count) (in_turn World one next) (λ s es e r. r)
           (turn_follows (Does command ids count p) (Runs rest ids count) one next (command_follows command p) (sequence_follows rest))
 
-      command_follows : (command : CommandTree) (p : ℕ) → Follows (Does command ids count p) (command_play World tests acts count command p)
+      pub command_follows : (command : CommandTree) (p : ℕ) → Follows (Does command ids count p) (command_play World tests acts count command p)
       command_follows (Test kind report) p =
           other_run (EachSelected (Tests kind ids p)) (Does (Test kind report) ids count p) (each_selected World (tests kind p)) (λ s es e r. r)
           (selected_follows (Tests kind ids p) (tests kind p) (tests_follow kind p))

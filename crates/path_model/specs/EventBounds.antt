@@ -1,5 +1,6 @@
 -- How many events a path has (this project's own bound).
-use Rattle.std.specs.Prelude.{◌≤◌, ◌*◌, ℕ, suc, List, [], ◌∷◌}
+use Rattle.std.specs.Prelude.{◌≡◌, ◌≢◌, ◌≤◌, ◌+◌, ◌*◌, ℕ, suc, List, [], ◌∷◌, ◌++◌}
+use Rattle.suit_params.specs.declared.param.Param.{Param}
 use Rattle.path_model.specs.declared.identity.Identity.{Identity}
 use Rattle.path_model.specs.declared.event.Event.{Event}
 use Rattle.path_model.specs.declared.event.Event.TheVariants.{Set}
@@ -12,6 +13,14 @@ abbrev pub told_number : List Event → ℕ
 told_number [] = 0
 told_number (Set component param ∷ events) = told_number events
 told_number (_ ∷ events) = suc (told_number events)
+
+-- the number is a count: of parts together it is their sum, of one event 1, and 0 of one that sets a parameter
+pub record CountsEvents : Type 0 where
+  pub parts : (front rest : List Event)
+      → told_number (front ++ rest) ≡ told_number front + told_number rest
+  pub setting : (component : ℕ) (param : Param) → told_number (Set component param ∷ []) ≡ 0
+  pub other : (event : Event) → ((component : ℕ) (param : Param) → event ≢ Set component param)
+      → told_number (event ∷ []) ≡ 1
 
 -- on a path they are at most three times the work of the procedure
 abbrev pub PathsBounded : Type 0

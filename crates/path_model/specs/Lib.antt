@@ -23,3 +23,5 @@ pub mod Settings
 pub mod DevicePlays
 pub mod PlayLaws
 pub mod DeviceLaws
+pub mod RecalledPlays
+pub mod ResumeLaws

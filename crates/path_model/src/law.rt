@@ -6,7 +6,7 @@ ghost use Rattle.path_model.specs.SelectionLaws.{Selections, IndexSelects, Selec
 ghost use Rattle.path_model.specs.RunLaws.{OverridesNothing, OverridesStep, SequenceRules, RunSequenceRules, BranchesRules, LastBranchRules};
 ghost use Rattle.path_model.specs.ProcedureLaws.{PlanRuns, PathRules};
 ghost use Rattle.path_model.specs.PathLaws.{InnerGoesBack, PathsBegin, IdentitiesBounded};
-ghost use Rattle.path_model.specs.EventBounds.{PathsBounded};
+ghost use Rattle.path_model.specs.EventBounds.{CountsEvents, PathsBounded};
 ghost use Rattle.path_model.specs.OneRun.{OneRun};
 ghost use Rattle.path_model.specs.TwoComponents.{TwoComponentsRun, TwoComponentsUnsafe};
 ghost use Rattle.path_model.specs.CoverLaws.{NothingMatched, MatchStands, WriteEnds, OthersLeave, InvokeCovered, AbsentUncovered, MatchByIndices, CoveredByIndices, AllAreCovered, CoveredByStanding, EndsAtFirst, FirstIsOne, SameFollows, PartsCovered, SafetyIs, BadPathIs, BadPathRefutes};
@@ -76,9 +76,11 @@ pub fn procedure_laws()
     ensures begin { PathsBegin }
 {}
 
-/// The events of a path that are not Set are at most three times the work of the procedure.
+/// The events of a path that are not Set are counted one by one, and they are at most three times the work of the
+/// procedure.
 pub fn event_bound_laws()
-    ensures { PathsBounded }
+    ensures counted { CountsEvents }
+    ensures bounded { PathsBounded }
 {}
 
 /// A match stands until its component is written, and an invoke is covered where the match of its component

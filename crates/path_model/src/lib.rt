@@ -9,6 +9,7 @@ mod identity;
 mod law;
 mod play_law;
 mod procedure;
+mod resume_law;
 
 pub use bad_path::BadPath;
 pub use cause::Cause;
@@ -22,3 +23,4 @@ pub use law::{
 };
 pub use play_law::{device_laws, play_laws};
 pub use procedure::Procedure;
+pub use resume_law::resume_laws;
