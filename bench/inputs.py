@@ -63,9 +63,10 @@ IMAGE = bytes.fromhex("8214a2035824822f5820ba7816bf8f01cfea414140de5dae2223b0036
 MATCH = bytes.fromhex("82030f")
 
 
-def judged(stored, members):
-    """An envelope whose manifest has one component, the image of the stored one, and these members behind common."""
-    common = head(5, 2) + b"\x02\x81\x81\x41\x00\x04" + byte_string(IMAGE)
+def judged(stored, members, count=1):
+    """An envelope whose manifest has so many components, the first the image of the stored one, and these members behind common."""
+    components = head(4, count) + b"".join(b"\x81\x41" + bytes([number]) for number in range(count))
+    common = head(5, 2) + b"\x02" + components + b"\x04" + byte_string(IMAGE)
     pairs = [b"\x01\x01", b"\x02\x01", b"\x03" + byte_string(common)] + members
     manifest = head(5, len(pairs)) + b"".join(pairs)
     return bytes.fromhex("d86b") + head(5, 2) + parts_of(stored)[0] + b"\x03" + byte_string(manifest)
@@ -94,3 +95,51 @@ def distinct_states(stored, count):
         branch = head(4, 4) + b"\x14\xa1\x0e" + head(0, 100 + number) + b"\x03\x0f"
         tries += b"\x0f\x82" + byte_string(branch) + b"\xf6"
     return judged(stored, [b"\x09" + byte_string(head(4, 2 * count + 6) + tries + b"\x14\xa1\x0e\x03\x03\x0f\x17\x0f")])
+
+
+# ---- envelopes of a few kilobytes that took minutes or gigabytes before they were judged as they are now
+
+ALL = b"\x0c\xf5"
+COVERED = b"\x0c\x00\x03\x0f\x17\x0f"
+OVERRIDE = bytes.fromhex(
+    "14ac0150" + "00" * 16 + "0250" + "00" * 16 + "035824822f5820" + "ba7816bf8f01cfea414140de5dae2223b00361a396177a9cb410ff61f20015ad"
+    "0500" "0cf5" "0df4" "0e03" "1241aa" "156175" "1600" "1741aa" "181850" + "00" * 16
+)
+
+
+def size_of(number):
+    return b"\x14\xa1\x0e" + head(0, number)
+
+
+def invoked(stored, items, commands, count=1):
+    """An envelope whose invocation does these, of so many items, and then matches the image and invokes it."""
+    return judged(stored, [b"\x09" + byte_string(head(4, items + 6) + commands + COVERED)], count)
+
+
+def many_overrides(stored, times):
+    """An override of twelve parameters, done so many times the square: a list of so many indices round another."""
+    listed = b"\x0c" + head(4, times) + b"\x00" * times
+    inner = byte_string(head(4, 4) + listed + OVERRIDE)
+    return invoked(stored, 4, listed + b"\x18\x20" + inner)
+
+
+def many_facts(stored, count):
+    """So many tries, each of which doubles the states, and then a condition on the identity of each of eight components."""
+    tries = b"".join(b"\x0f\x82" + byte_string(head(4, 4) + size_of(number) + MATCH[1:]) + b"\xf6" for number in range(count))
+    ids = b"\x14\xa3\x01\x50" + b"\x00" * 16 + b"\x02\x50" + b"\x00" * 16 + b"\x18\x18\x50" + b"\x00" * 16
+    conditions = ALL + ids + b"\x01\x0f\x02\x0f\x18\x18\x0f" + size_of(3)
+    return invoked(stored, 2 * count + 12, tries + conditions, 8)
+
+
+def many_matches(stored, count, states=0):
+    """So many matches of each of eight components, each of another size, in so many states doubled."""
+    tries = b"".join(b"\x0f\x82" + byte_string(head(4, 4) + size_of(9000 + number) + MATCH[1:]) + b"\xf6" for number in range(states))
+    matches = b"".join(size_of(number) + b"\x03\x0f" for number in range(count))
+    return invoked(stored, 2 * states + 4 * count + 6, tries + ALL + IMAGE[1:] + matches + size_of(3), 8)
+
+
+def many_overrides_told(stored, times):
+    """The same as many overrides, but for the match: the invoke is not covered."""
+    listed = b"\x0c" + head(4, times) + b"\x00" * times
+    inner = byte_string(head(4, 4) + listed + OVERRIDE)
+    return judged(stored, [b"\x09" + byte_string(head(4, 6) + listed + b"\x18\x20" + inner + b"\x17\x0f")])

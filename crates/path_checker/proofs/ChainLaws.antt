@@ -1,11 +1,12 @@
 -- Matches that are left out of a list, one event after another, and lists in the order in which things happened.
 use Rattle.std.proofs.Common.{◌≡◌, ℕ, List, [], ◌∷◌, ◌++◌, refl, sym, ap, subst, ◌∙◌, append_assoc, inl, inr}
 use Rattle.std.specs.Prelude.{◌⊎◌, map}
+use Rattle.std.proofs.lemmas.List.{append-nil}
 use Rattle.path_model.specs.declared.event.Event.{Event}
-use Rattle.path_checker.specs.declared.judge_plan.happened.Happened.{Happened}
-use Rattle.path_checker.specs.Happening.{event_of}
+use Rattle.path_checker.specs.declared.judge_plan.trace.Told.{Told}
+use Rattle.path_checker.specs.Happening.{told_by}
 use Rattle.path_checker.specs.Exploring.{In}
-use Rattle.path_checker.specs.Standing.{in_order, IsMatchOf, Unless, LeavesOut}
+use Rattle.path_checker.specs.Standing.{all_in_order, IsMatchOf, Unless, LeavesOut}
 
 -- each event looked at is left, or left out, and the rest follows
 pub record Sifts (component : ℕ) (events left rest : List Event) : Type 0 where
@@ -59,24 +60,24 @@ none_left_out c events none e = (λ h. (h, none e h), λ h. h.0)
 
 -- ---- in the order in which they happened
 
-pub in_order-last : (es : List Event) (e : Event) → in_order (es ++ e ∷ []) ≡ e ∷ in_order es
-in_order-last [] e = refl
-in_order-last (x ∷ es) e = ap (λ (ys : List Event). ys ++ x ∷ []) (in_order-last es e)
+all_in_order-last : (ps : List (List Event)) (p : List Event) → all_in_order (ps ++ p ∷ []) ≡ p ++ all_in_order ps
+all_in_order-last [] p = sym (append-nil p)
+all_in_order-last (x ∷ ps) p = ap (λ (ys : List Event). ys ++ x) (all_in_order-last ps p) ∙ append_assoc p (all_in_order ps) x
 
-pub map-last : (hs : List Happened) (h : Happened) → map event_of (hs ++ h ∷ []) ≡ map event_of hs ++ event_of h ∷ []
+map-last : (hs : List Told) (h : Told) → map told_by (hs ++ h ∷ []) ≡ map told_by hs ++ told_by h ∷ []
 map-last [] h = refl
-map-last (x ∷ hs) h = ap (λ (ys : List Event). event_of x ∷ ys) (map-last hs h)
+map-last (x ∷ hs) h = ap (λ (ys : List (List Event)). told_by x ∷ ys) (map-last hs h)
 
-pub told_more : (events events' whole : List Event) (hs hs' : List Happened) (h : Happened) (e : Event) → events ++ in_order (map event_of hs) ≡ whole → hs ≡ hs' ++ h ∷ [] → e ≡ event_of h → events' ≡ events ++ e ∷ [] → events' ++ in_order (map event_of hs') ≡ whole
-told_more events events' whole hs hs' h e so_far popped is pushed =
-    let order : in_order (map event_of hs) ≡ e ∷ in_order (map event_of hs') =
-    ap (λ (xs : List Happened). in_order (map event_of xs)) popped ∙ ap in_order (map-last hs' h) ∙ in_order-last (map event_of hs') (event_of h) ∙ ap (λ (x : Event). x ∷ in_order (map event_of hs')) (sym is)
+pub told_more : (events events' whole : List Event) (hs hs' : List Told) (h : Told) → events ++ all_in_order (map told_by hs) ≡ whole → hs ≡ hs' ++ h ∷ [] → events' ≡ events ++ told_by h → events' ++ all_in_order (map told_by hs') ≡ whole
+told_more events events' whole hs hs' h so_far popped pushed =
+    let order : all_in_order (map told_by hs) ≡ told_by h ++ all_in_order (map told_by hs') =
+    ap (λ (xs : List Told). all_in_order (map told_by xs)) popped ∙ ap all_in_order (map-last hs' h) ∙ all_in_order-last (map told_by hs') (told_by h)
     in
-    ap (λ (xs : List Event). xs ++ in_order (map event_of hs')) pushed ∙ append_assoc events (e ∷ []) (in_order (map event_of hs')) ∙ ap (λ (xs : List Event). events ++ xs) (sym order) ∙ so_far
+    ap (λ (xs : List Event). xs ++ all_in_order (map told_by hs')) pushed ∙ append_assoc events (told_by h) (all_in_order (map told_by hs')) ∙ ap (λ (xs : List Event). events ++ xs) (sym order) ∙ so_far
 
-pub happened_more : (whole rest : List Event) (hs hs' : List Happened) (h : Happened) → map event_of hs ++ (event_of h ∷ rest) ≡ whole → hs' ≡ hs ++ h ∷ [] → map event_of hs' ++ rest ≡ whole
-happened_more whole rest hs hs' h so_far pushed =
-    ap (λ (xs : List Happened). map event_of xs ++ rest) pushed ∙ ap (λ (xs : List Event). xs ++ rest) (map-last hs h) ∙ append_assoc (map event_of hs) (event_of h ∷ []) rest ∙ so_far
+pub parts_more : (whole rest : List (List Event)) (hs hs' : List Told) (h : Told) → map told_by hs ++ (told_by h ∷ rest) ≡ whole → hs' ≡ hs ++ h ∷ [] → map told_by hs' ++ rest ≡ whole
+parts_more whole rest hs hs' h so_far pushed =
+    ap (λ (xs : List Told). map told_by xs ++ rest) pushed ∙ ap (λ (xs : List (List Event)). xs ++ rest) (map-last hs h) ∙ append_assoc (map told_by hs) (told_by h ∷ []) rest ∙ so_far
 
 -- ---- each is among the others, or is still to be looked at
 

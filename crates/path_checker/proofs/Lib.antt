@@ -1,6 +1,7 @@
 pub mod Membership
 pub mod ChainLaws
 pub mod Exploring
+pub mod Quiet
 pub mod InnerStates
 pub mod InnerSequences
 pub mod OneBranch

@@ -15,7 +15,8 @@ use Rattle.path_model.proofs.Covering.{CoveredFrom-AllCovered, CoveredFrom-front
 use Rattle.path_checker.specs.declared.judge_plan.facts.Knowledge.{Knowledge}
 use Rattle.path_checker.specs.Knowing.{nothing_known, Allows}
 use Rattle.path_checker.specs.Choosing.{IsChosen}
-use Rattle.path_checker.specs.Exploring.{Kept, Stopped, Explores, Uncovered, Uncovers, Adds}
+use Rattle.path_checker.specs.Exploring.{Kept, Uncovered, Uncovers}
+use Rattle.path_checker.specs.Invoking.{Covers}
 use Rattle.path_checker.specs.Procedures.{first_kept}
 use Rattle.path_checker.specs.declared.judge_plan.CheckVerdict.{CheckVerdict}
 use Rattle.path_checker.specs.declared.judge_plan.CheckVerdict.TheVariants as verdicts
@@ -37,13 +38,12 @@ allows-length [] (i ∷ ids) al = absurd al
 allows-length (k ∷ facts) [] al = absurd al
 allows-length (k ∷ facts) (i ∷ ids) al = ap suc (allows-length facts ids al.1)
 
-pub is_safe : (plan : PlanTree) (from v : List Kept) (f f' : List Stopped) → from ≡ first_kept plan.count ∷ [] → Adds (RunsPlan plan) from [] v f f' → Safe plan
-is_safe plan from v f f' is a =
-    let x : Explores (RunsPlan plan) (first_kept plan.count ∷ []) a.done a.failed = subst (λ (y : List Kept). Explores (RunsPlan plan) y a.done a.failed) is a.explores in
+pub is_safe : (plan : PlanTree) (from : List Kept) → from ≡ first_kept plan.count ∷ [] → Covers (RunsPlan plan) from → Safe plan
+is_safe plan from is covers =
+    let covered : Covers (RunsPlan plan) (first_kept plan.count ∷ []) = subst (Covers (RunsPlan plan)) is covers in
     record {
       covered = λ ids events are path.
-          let c = x.complete (first_kept plan.count) (inl refl) ids (nothing-allows plan.count ids are.count) (events ++ path.rest) path.ending path.run in
-          CoveredFrom-AllCovered events (CoveredFrom-front [] events path.rest c.0);
+          CoveredFrom-AllCovered events (CoveredFrom-front [] events path.rest (covered (first_kept plan.count) (inl refl) ids (nothing-allows plan.count ids are.count) (events ++ path.rest) path.ending path.run));
     }
 
 pub is_bad_path : (plan : PlanTree) (from : List Kept) (facts : List Knowledge) (events : List Event) (bad : BadPath) → from ≡ first_kept plan.count ∷ [] → Uncovers (RunsPlan plan) from facts events → IsChosen facts bad.identities → bad.events ≡ events → IsBadPath plan bad

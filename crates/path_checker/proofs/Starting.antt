@@ -1,21 +1,26 @@
 -- Walks of whole procedures: from where a member or the shared sequence begins.
-use Rattle.std.proofs.Common.{◌≡◌, ℕ, List, [], refl, sym, subst}
+use Rattle.std.proofs.Common.{◌≡◌, ℕ, List, [], ◌++◌, refl, sym, subst, inl, inr}
 use Rattle.suit_commands.specs.Tree.{SequenceTree, NoSteps, PlanTree}
 use Rattle.path_model.specs.declared.identity.Identity.{Identity}
 use Rattle.path_model.specs.declared.event.Event.{Event}
-use Rattle.path_model.specs.Behaviour.{Ending, Done, Condition, Directive}
-use Rattle.path_model.specs.Path.{RunsPlan}
+use Rattle.path_model.specs.Behaviour.{State, Ending, Done, Condition, Directive}
+use Rattle.path_model.specs.Path.{start_state, RunsPlan}
+use Rattle.path_model.specs.Following.{CoveredFrom}
+use Rattle.path_model.proofs.Covering.{CoveredFrom-append}
+use Rattle.path_model.proofs.Following.{CoveredFrom-same}
 use Rattle.path_checker.specs.declared.judge_plan.facts.Knowledge.{Knowledge}
 use Rattle.path_checker.specs.declared.judge_plan.halt.Halt.{Halt}
-use Rattle.path_checker.specs.Exploring.{Course, Kept, Stopped, Found, Reaches, Leads, Explores, Uncovered, Uncovers, Adds}
+use Rattle.path_checker.specs.Exploring.{Course, Kept, Stopped, Found, Reaches, Leads, Explores, Passes, Uncovered, Uncovers}
+use Rattle.path_checker.specs.Invoking.{Invokes, Covers}
 use Rattle.path_checker.specs.Inner.{restarted, all_restarted}
-use Rattle.path_checker.specs.Procedures.{FromStart}
+use Rattle.path_checker.specs.Procedures.{FromStart, FromThird, FromSecond, ThirdInvokes, SecondInvokes, FirstInvokes}
 use Rattle.path_checker.specs.Halting.{Halts}
 use Rattle.path_checker.proofs.Exploring.{then_course}
-use Rattle.path_checker.proofs.Carrying.{nothing_course}
+use Rattle.path_checker.proofs.Carrying.{nothing_course, Explores-nothing}
 use Rattle.path_checker.proofs.InnerStates.{In-restarted, restarted-from}
-use Rattle.path_checker.proofs.Uncovering.{Uncovered-lift}
-use Rattle.path_checker.proofs.Walking.{Halts-lift, runs_course, Walks, Walks-start, Walks-then, Walks-end}
+use Rattle.path_checker.proofs.Quiet.{IsSilent, runs_quiet, silent-then, Covers-silent}
+use Rattle.path_checker.proofs.Uncovering.{Uncovered-lift, Uncovers-first, Uncovers-second}
+use Rattle.path_checker.proofs.Walking.{Halts-lift, runs_course, Walks, Walks-end}
 
 Found-started : (k : Kept) (ids : List Identity) (es : List Event) (done : List Kept) (failed : List Stopped) (e : Ending) → Found (restarted k) ids es done failed e → Found k ids es done failed e
 Found-started k ids es done failed (Done t) h = h
@@ -41,58 +46,68 @@ Uncovers-started s count from facts events (kin, i, u) =
     let at : Uncovered (runs_course s count) (restarted y.0) facts events = subst (λ (k : Kept). Uncovered (runs_course s count) k facts events) (sym y.2) u in
     (y.0, y.1, Uncovered-lift (runs_course s count) (FromStart s count) (restarted y.0) y.0 facts events refl refl (λ ids al es place r. r) at)
 
-pub Adds-started : (s : SequenceTree) (count : ℕ) (from started v : List Kept) (f f' : List Stopped) → started ≡ all_restarted from → Adds (runs_course s count) started [] v f f' → Adds (FromStart s count) from [] v f f'
-Adds-started s count from started v f f' is a = record {
-  done = a.done;
-  failed = a.failed;
-  next_is = a.next_is;
-  failed_is = a.failed_is;
-  explores = Explores-started s count from a.done a.failed (subst (λ (x : List Kept). Explores (runs_course s count) x a.done a.failed) is a.explores);
-}
+pub Passes-started : (s : SequenceTree) (count : ℕ) (from started v : List Kept) → started ≡ all_restarted from → Passes (runs_course s count) started v → Passes (FromStart s count) from v
+Passes-started s count from started v is (f, x) = (f, Explores-started s count from v f (subst (λ (y : List Kept). Explores (runs_course s count) y v f) is x))
 
 pub Halts-started : (s : SequenceTree) (count : ℕ) (from started : List Kept) → started ≡ all_restarted from → (h : Halt) → Halts (runs_course s count) started h → Halts (FromStart s count) from h
 Halts-started s count from started is h u =
     Halts-lift (runs_course s count) (FromStart s count) started from (λ facts events x. Uncovers-started s count from facts events (subst (λ (y : List Kept). Uncovers (runs_course s count) y facts events) is x)) h u
 
 -- an absent member
-pub Adds-absent : (count : ℕ) (from started : List Kept) (f : List Stopped) → started ≡ all_restarted from → Adds (FromStart NoSteps count) from [] started f f
-Adds-absent count from started f is = Adds-started NoSteps count from started started f f is (Walks-end nothing_course started started f f (Walks-start nothing_course started f))
+pub Passes-absent : (count : ℕ) (from started : List Kept) → started ≡ all_restarted from → Passes (FromStart NoSteps count) from started
+Passes-absent count from started is = Passes-started NoSteps count from started started is ([], Explores-nothing started)
 
--- ---- the rest of a procedure after its first parts
+-- ---- one command after another
+
+pub Passes-end : (whole : Course) (from now : List Kept) (f : List Stopped) → Walks whole from [] nothing_course now f → Passes whole from now
+Passes-end whole from now f w = let a = Walks-end whole from now [] f w in (a.failed, subst (λ (n : List Kept). Explores whole from n a.failed) (sym a.next_is) a.explores)
+
+-- ---- one part after another
 
 abbrev pub part_course : SequenceTree → PlanTree → Course
 part_course sequence plan = FromStart sequence plan.count
 
-abbrev pub from_third : PlanTree → Course
-from_third plan = part_course plan.third plan
+pub Covers-last : (course : Course) (from v : List Kept) → Passes course from v → Covers course from
+Covers-last course from v (f, x) k i ids al es e run = (x.complete k i ids al es e run).0
 
-abbrev pub from_shared_third : PlanTree → Course
-from_shared_third plan = then_course (part_course plan.shared plan) (from_third plan)
+pub Covers-then : (first second : Course) (from mid : List Kept) → Passes first from mid → Covers second mid → Covers (then_course first second) from
+Covers-then first second from mid (f, a) later k i ids al es e (inl r) = (a.complete k i ids al es e r.1).0
+Covers-then first second from mid (f, a) later k i ids al es e (inr r) =
+    let x = a.complete k i ids al r.1 (Done r.0) r.4 in
+    let to = x.1.0 in
+    let y : CoveredFrom to.events r.2 = later to x.1.1 ids x.1.2 r.2 e (subst (λ (s : State). second ids s r.2 e) (sym x.1.3) r.5) in
+    subst (CoveredFrom k.events) (sym r.3) (CoveredFrom-append k.events r.1 r.2 x.0 (CoveredFrom-same to.events (k.events ++ r.1) r.2 x.1.4 y))
 
-abbrev pub from_second : PlanTree → Course
-from_second plan = then_course (part_course plan.second plan) (from_shared_third plan)
+pub Halts-first : (first second : Course) (from : List Kept) (h : Halt) → Halts first from h → Halts (then_course first second) from h
+Halts-first first second from h u = Halts-lift first (then_course first second) from from (λ facts events x. Uncovers-first first second from facts events x) h u
 
-abbrev pub from_shared_second : PlanTree → Course
-from_shared_second plan = then_course (part_course plan.shared plan) (from_second plan)
+pub Halts-then : (first second : Course) (from mid : List Kept) → Passes first from mid → (h : Halt) → Halts second mid h → Halts (then_course first second) from h
+Halts-then first second from mid (f, a) h u =
+    Halts-lift second (then_course first second) mid from (λ facts events x. Uncovers-second first second from mid f facts events a x) h u
 
-abbrev pub from_first : PlanTree → Course
-from_first plan = then_course (part_course plan.first plan) (from_shared_second plan)
+-- ---- parts in which no invoke stands
 
-module _ (plan : PlanTree) (from : List Kept) (failed0 : List Stopped) where
-  pub to_first : (k1 : List Kept) (f1 : List Stopped) → Adds (part_course plan.shared plan) from [] k1 failed0 f1 → Walks (RunsPlan plan) from failed0 (from_first plan) k1 f1
-  to_first k1 f1 a1 = Walks-then (RunsPlan plan) (part_course plan.shared plan) (from_first plan) from from k1 failed0 failed0 f1 (Walks-start (RunsPlan plan) from failed0) a1
+part_silent : (sequence : SequenceTree) (plan : PlanTree) → (Invokes sequence → ⊥) → IsSilent (part_course sequence plan)
+part_silent sequence plan never ids s = runs_quiet sequence ids plan.count never (start_state s)
 
-  pub to_shared_second : (k1 : List Kept) (f1 : List Stopped) → Adds (part_course plan.shared plan) from [] k1 failed0 f1 → (k2 : List Kept) (f2 : List Stopped) → Adds (part_course plan.first plan) k1 [] k2 f1 f2 → Walks (RunsPlan plan) from failed0 (from_shared_second plan) k2 f2
-  to_shared_second k1 f1 a1 k2 f2 a2 = Walks-then (RunsPlan plan) (part_course plan.first plan) (from_shared_second plan) from k1 k2 failed0 f1 f2 (to_first k1 f1 a1) a2
+third_silent : (plan : PlanTree) → (ThirdInvokes plan → ⊥) → IsSilent (FromThird plan)
+third_silent plan never = silent-then (part_course plan.shared plan) (part_course plan.third plan) (part_silent plan.shared plan (λ i. never (inl i))) (part_silent plan.third plan (λ i. never (inr i)))
 
-  pub to_second : (k1 : List Kept) (f1 : List Stopped) → Adds (part_course plan.shared plan) from [] k1 failed0 f1 → (k2 : List Kept) (f2 : List Stopped) → Adds (part_course plan.first plan) k1 [] k2 f1 f2 → (k3 : List Kept) (f3 : List Stopped) → Adds (part_course plan.shared plan) k2 [] k3 f2 f3 → Walks (RunsPlan plan) from failed0 (from_second plan) k3 f3
-  to_second k1 f1 a1 k2 f2 a2 k3 f3 a3 = Walks-then (RunsPlan plan) (part_course plan.shared plan) (from_second plan) from k2 k3 failed0 f2 f3 (to_shared_second k1 f1 a1 k2 f2 a2) a3
+second_silent : (plan : PlanTree) → (SecondInvokes plan → ⊥) → IsSilent (FromSecond plan)
+second_silent plan never =
+    silent-then (part_course plan.shared plan) (then_course (part_course plan.second plan) (FromThird plan)) (part_silent plan.shared plan (λ i. never (inr (inl i))))
+    (silent-then (part_course plan.second plan) (FromThird plan) (part_silent plan.second plan (λ i. never (inl i))) (third_silent plan (λ i. never (inr i))))
 
-  pub to_shared_third : (k1 : List Kept) (f1 : List Stopped) → Adds (part_course plan.shared plan) from [] k1 failed0 f1 → (k2 : List Kept) (f2 : List Stopped) → Adds (part_course plan.first plan) k1 [] k2 f1 f2 → (k3 : List Kept) (f3 : List Stopped) → Adds (part_course plan.shared plan) k2 [] k3 f2 f3 → (k4 : List Kept) (f4 : List Stopped) → Adds (part_course plan.second plan) k3 [] k4 f3 f4 → Walks (RunsPlan plan) from failed0 (from_shared_third plan) k4 f4
-  to_shared_third k1 f1 a1 k2 f2 a2 k3 f3 a3 k4 f4 a4 = Walks-then (RunsPlan plan) (part_course plan.second plan) (from_shared_third plan) from k3 k4 failed0 f3 f4 (to_second k1 f1 a1 k2 f2 a2 k3 f3 a3) a4
+first_silent : (plan : PlanTree) → (FirstInvokes plan → ⊥) → IsSilent (RunsPlan plan)
+first_silent plan never =
+    silent-then (part_course plan.shared plan) (then_course (part_course plan.first plan) (FromSecond plan)) (part_silent plan.shared plan (λ i. never (inr (inr (inl i)))))
+    (silent-then (part_course plan.first plan) (FromSecond plan) (part_silent plan.first plan (λ i. never (inl i))) (second_silent plan (λ i. never (inr i))))
 
-  pub to_third : (k1 : List Kept) (f1 : List Stopped) → Adds (part_course plan.shared plan) from [] k1 failed0 f1 → (k2 : List Kept) (f2 : List Stopped) → Adds (part_course plan.first plan) k1 [] k2 f1 f2 → (k3 : List Kept) (f3 : List Stopped) → Adds (part_course plan.shared plan) k2 [] k3 f2 f3 → (k4 : List Kept) (f4 : List Stopped) → Adds (part_course plan.second plan) k3 [] k4 f3 f4 → (k5 : List Kept) (f5 : List Stopped) → Adds (part_course plan.shared plan) k4 [] k5 f4 f5 → Walks (RunsPlan plan) from failed0 (from_third plan) k5 f5
-  to_third k1 f1 a1 k2 f2 a2 k3 f3 a3 k4 f4 a4 k5 f5 a5 = Walks-then (RunsPlan plan) (part_course plan.shared plan) (from_third plan) from k4 k5 failed0 f4 f5 (to_shared_third k1 f1 a1 k2 f2 a2 k3 f3 a3 k4 f4 a4) a5
+pub third_covers : (plan : PlanTree) (from : List Kept) → (ThirdInvokes plan → ⊥) → Covers (FromThird plan) from
+third_covers plan from never = Covers-silent (FromThird plan) from (third_silent plan never)
 
-pub Walks-plan : (plan : PlanTree) (from : List Kept) (failed : List Stopped) → Walks (RunsPlan plan) from failed (then_course (part_course plan.shared plan) (from_first plan)) from failed
-Walks-plan plan from failed = Walks-start (RunsPlan plan) from failed
+pub second_covers : (plan : PlanTree) (from : List Kept) → (SecondInvokes plan → ⊥) → Covers (FromSecond plan) from
+second_covers plan from never = Covers-silent (FromSecond plan) from (second_silent plan never)
+
+pub first_covers : (plan : PlanTree) (from : List Kept) → (FirstInvokes plan → ⊥) → Covers (RunsPlan plan) from
+first_covers plan from never = Covers-silent (RunsPlan plan) from (first_silent plan never)

@@ -53,22 +53,9 @@ Walks-then whole first second from now mid failed0 failed failed' w a =
 pub Walks-end : (whole : Course) (from now : List Kept) (failed0 failed : List Stopped) → Walks whole from failed0 nothing_course now failed → Adds whole from [] now failed0 failed
 Walks-end whole from now failed0 failed w = record { done = now; failed = w.added; next_is = refl; failed_is = w.failed_is; explores = Carries-end whole from now [] w.added w.carries }
 
--- the last part
-pub Walks-last : (whole last : Course) (from now mid : List Kept) (failed0 failed failed' : List Stopped) → Walks whole from failed0 last now failed → Adds last now [] mid failed failed' → Adds whole from [] mid failed0 failed'
-Walks-last whole last from now mid failed0 failed failed' w a = record {
-  done = a.done;
-  failed = w.added ++ a.failed;
-  next_is = a.next_is;
-  failed_is = a.failed_is ∙ ap (λ (x : List Stopped). x ++ a.failed) w.failed_is ∙ append_assoc failed0 w.added a.failed;
-  explores = w.carries.explores a.done a.failed a.explores;
-}
-
 pub Walks-halt : (whole first second : Course) (from now : List Kept) (failed0 failed : List Stopped) → Walks whole from failed0 (then_course first second) now failed → (h : Halt) → Halts first now h → Halts whole from h
 Walks-halt whole first second from now failed0 failed w h u =
     Halts-lift first whole now from (λ facts events x. w.carries.uncovers facts events (Uncovers-first first second now facts events x)) h u
-
-pub Walks-last_halt : (whole last : Course) (from now : List Kept) (failed0 failed : List Stopped) → Walks whole from failed0 last now failed → (h : Halt) → Halts last now h → Halts whole from h
-Walks-last_halt whole last from now failed0 failed w h u = Halts-lift last whole now from w.carries.uncovers h u
 
 module _ (steps : List Step) (i count : ℕ) (d : Step) (lt : i < length steps) (whole : Course) (from now : List Kept) (failed0 failed : List Stopped) (w : Walks whole from failed0 (runs_course (sequence_tree (drop i steps)) count) now failed) where
   at_step : Walks whole from failed0 (then_course (does_course (command_tree (get_or steps i d).command) count (get_or steps i d).place) (runs_course (sequence_tree (drop (i + 1) steps)) count)) now failed

@@ -88,3 +88,7 @@ pub record Adds (course : Course) (from old_next new_next : List Kept) (old_fail
   pub next_is : new_next ≡ old_next ++ done
   pub failed_is : new_failed ≡ old_failed ++ failed
   pub explores : Explores course from done failed
+
+-- the same where failed conditions are not kept
+abbrev pub Passes : Course → List Kept → List Kept → Type 0
+Passes course from done = (failed : List Stopped) × Explores course from done failed

@@ -1,15 +1,30 @@
--- The event that a lent one is.
+-- The events that lent ones are.
+use Rattle.std.specs.Prelude.{ℕ, false, List, [], ◌∷◌, ◌++◌}
 use Rattle.std.specs.Option.{option_copied}
 use Rattle.path_model.specs.declared.event.Event.{Event}
 use Rattle.path_model.specs.declared.event.Event.TheVariants as events
+use Rattle.path_model.specs.Directives.{set_events}
 use Rattle.path_checker.specs.declared.judge_plan.happened.Happened.{Happened}
 use Rattle.path_checker.specs.declared.judge_plan.happened.Happened.TheVariants as lent
+use Rattle.path_checker.specs.declared.judge_plan.happened.Ended.{Ended}
+use Rattle.path_checker.specs.declared.judge_plan.happened.Ended.TheVariants as ends
+use Rattle.path_checker.specs.declared.judge_plan.trace.Told.{Told}
+use Rattle.path_checker.specs.declared.judge_plan.trace.Told.TheVariants.{One, Sets}
 
 abbrev pub event_of : Happened → Event
-event_of (lent.Set component param) = events.Set component param.now
 event_of (lent.Tried component kind passed) = events.Tried component kind passed
 event_of (lent.Matched component digest size) = events.Matched component digest.now size
 event_of (lent.Missed component) = events.Missed component
 event_of (lent.Wrote component) = events.Wrote component
 event_of (lent.Invoked component digest size passed) = events.Invoked component (option_copied digest) size passed
 event_of (lent.Failed place) = events.Failed place
+
+abbrev pub told_by : Told → List Event
+told_by (One happened) = event_of happened ∷ []
+told_by (Sets component list) = set_events component list.now
+
+-- the events up to a failed condition at a place
+abbrev pub after_end : List Event → Ended → ℕ → List Event
+after_end past (ends.Tried component kind) place = past ++ events.Tried component kind false ∷ events.Failed place ∷ []
+after_end past (ends.Missed component) place = past ++ events.Missed component ∷ events.Failed place ∷ []
+after_end past ends.Exhausted place = past

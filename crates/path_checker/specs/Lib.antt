@@ -4,6 +4,7 @@ pub mod Chains
 pub mod Forking
 pub mod Choosing
 pub mod Exploring
+pub mod Invoking
 pub mod Standing
 pub mod Merging
 pub mod Inner

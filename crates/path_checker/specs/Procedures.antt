@@ -1,9 +1,11 @@
 -- Walks through whole procedures.
-use Rattle.std.specs.Prelude.{ℕ, []}
+use Rattle.std.specs.Prelude.{◌⊎◌, ℕ, []}
 use Rattle.suit_commands.specs.Tree.{SequenceTree, PlanTree}
+use Rattle.path_model.specs.Behaviour.{Then}
 use Rattle.path_model.specs.Path.{start_state, first_state}
 use Rattle.path_model.specs.Runs.{Runs}
 use Rattle.path_checker.specs.Exploring.{Course, Kept}
+use Rattle.path_checker.specs.Invoking.{Invokes}
 use Rattle.path_checker.specs.Knowing.{nothing_known}
 use Rattle.path_checker.specs.Small.{IsSmallSequence}
 
@@ -20,3 +22,25 @@ pub record ArePlan (plan : PlanTree) : Type 0 where
   pub first : IsSmallSequence plan.count plan.first
   pub second : IsSmallSequence plan.count plan.second
   pub third : IsSmallSequence plan.count plan.third
+
+-- ---- from the shared sequence before the second or the third member on
+
+abbrev pub FromThird : PlanTree → Course
+FromThird plan identities =
+    Then (FromStart plan.shared plan.count identities) (FromStart plan.third plan.count identities)
+
+abbrev pub FromSecond : PlanTree → Course
+FromSecond plan identities =
+    Then (FromStart plan.shared plan.count identities)
+    (Then (FromStart plan.second plan.count identities) (FromThird plan identities))
+
+-- ---- whether an invoke stands there
+
+abbrev pub ThirdInvokes : PlanTree → Type 0
+ThirdInvokes plan = Invokes plan.shared ⊎ Invokes plan.third
+
+abbrev pub SecondInvokes : PlanTree → Type 0
+SecondInvokes plan = Invokes plan.second ⊎ ThirdInvokes plan
+
+abbrev pub FirstInvokes : PlanTree → Type 0
+FirstInvokes plan = Invokes plan.first ⊎ SecondInvokes plan

@@ -6,10 +6,10 @@ use Rattle.path_model.specs.declared.event.Event.TheVariants.{Matched}
 use Rattle.path_model.specs.Safe.{HasMatched}
 use Rattle.path_checker.specs.Exploring.{In}
 
--- events of which the last comes first, in the order in which they happened
-abbrev pub in_order : List Event → List Event
-in_order [] = []
-in_order (event ∷ events) = in_order events ++ event ∷ []
+-- parts of which the last comes first, in the order in which they happened
+abbrev pub all_in_order : List (List Event) → List Event
+all_in_order [] = []
+all_in_order (part ∷ parts) = all_in_order parts ++ part
 
 -- these matches stand after those events, and no others
 abbrev pub Stands : List Event → List Event → Type 0

@@ -7,6 +7,8 @@ use Rattle.path_model.specs.Conditions.{Tests}
 use Rattle.path_model.specs.Directives.{Acts, Overrides, soft_after}
 use Rattle.path_model.specs.Runs.{Runs, RunsInner, Tries}
 use Rattle.path_checker.specs.declared.judge_plan.facts.Knowledge.{Knowledge}
+use Rattle.path_checker.specs.declared.judge_plan.happened.Ended.{Ended}
+use Rattle.path_checker.specs.Happening.{after_end}
 use Rattle.path_checker.specs.Exploring.{Course, Kept, Stopped}
 
 -- ---- states
@@ -19,6 +21,9 @@ knowing k facts = record { facts = facts; events = k.events; state = k.state }
 
 abbrev pub stopped_by : Kept → List Event → ℕ → Stopped
 stopped_by k events place = record { facts = k.facts; events = k.events ++ events; place = place; soft_failure = k.state.soft_failure }
+
+abbrev pub stopped_after : Kept → Ended → ℕ → Stopped
+stopped_after k ended place = record { facts = k.facts; events = after_end k.events ended place; place = place; soft_failure = k.state.soft_failure }
 
 -- soft failure after an override
 abbrev pub soft_after_all : Bool → List Param → Bool

@@ -17,6 +17,7 @@ mod happened;
 mod history;
 mod in_force;
 mod inner;
+mod invoking;
 mod kept;
 mod known;
 mod memory;
@@ -24,6 +25,7 @@ mod merged;
 mod procedure_walk;
 mod same_param;
 mod selected;
+mod trace;
 mod walk;
 
 use bumpalo::Bump;
@@ -74,8 +76,7 @@ fn judge_in<'a>(alloc: Global, events: &'a Bump, plan: Plan<'a>) -> CheckVerdict
     let Ok(from) = first(memory.alloc, plan.count) else {
         return CheckVerdict::NoMemory;
     };
-    let mut failed = Vec::new(memory.alloc);
-    match procedure(memory, &plan, from, &mut failed) {
+    match procedure(memory, &plan, from) {
         Ok(_) => CheckVerdict::Safe,
         Err(Halt::NoMemory) => CheckVerdict::NoMemory,
         Err(Halt::Uncovered(k)) => told(memory.alloc, k),

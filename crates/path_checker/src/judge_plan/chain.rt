@@ -1,17 +1,16 @@
-//! Lists of events that share their beginnings.
+//! Lists of matches that share their beginnings.
 
-ghost use Rattle.std.specs.Prelude.{◌≡◌, ◌↔◌, [], ◌∷◌, List, map, IsTrue, IfOk};
+ghost use Rattle.std.specs.Prelude.{◌≡◌, ◌↔◌, [], ◌∷◌, List, IsTrue, IfOk};
 ghost use Rattle.path_model.specs.declared.event.Event.{Event as TheEvent};
 ghost use Rattle.path_model.specs.declared.event.Event.TheVariants.{Matched};
 ghost use Rattle.path_checker.specs.Happening.{event_of};
 ghost use Rattle.path_checker.specs.Exploring.{In};
-ghost use Rattle.path_checker.specs.Standing.{in_order, IsMatchOf, Unless, LeavesOut};
+ghost use Rattle.path_checker.specs.Standing.{IsMatchOf, Unless, LeavesOut};
 
 use crate::judge_plan::fingerprint::{mixed, of_bytes, of_number};
 use crate::judge_plan::happened::Happened;
 use bumpalo::Bump;
-use path_model::Events;
-use std::alloc::{AllocError, Global};
+use std::alloc::AllocError;
 use std::marker::Model;
 use suit_params::Digest;
 
@@ -21,6 +20,9 @@ use suit_params::Digest;
 pub(crate) struct Link<'a> {
     event: Happened<'a>,
     before: Chain<'a>,
+    // The event's fingerprint, and those of all events up to here, added up.
+    own: u64,
+    print: u64,
 }
 
 /// Events, the last one first. Chains made from one chain share its events.
@@ -60,16 +62,20 @@ fn is_match(event: &Happened<'_>, component: u32, digest: &Digest, size: Option<
     }
 }
 
+fn print_of(component: u32, digest: &Digest, size: Option<u64>) -> u64 {
+    mixed(
+        mixed(component as u64, of_number(size)),
+        of_bytes(&digest.bytes[..]),
+    )
+}
+
 fn of_match(event: &Happened<'_>) -> u64 {
     match event {
         Happened::Matched {
             component,
             digest,
             size,
-        } => mixed(
-            mixed(*component as u64, of_number(*size)),
-            of_bytes(&digest.bytes[..]),
-        ),
+        } => print_of(*component, digest, *size),
         _ => 0,
     }
 }
@@ -106,16 +112,42 @@ impl<'a> Chain<'a> {
         ensures { IfOk result (λ chain. chain ≡ event_of event.entry ∷ self.now) }
     {
         let before = self.copy();
-        match bump.try_alloc(Link { event, before }) {
+        let own = of_match(&event);
+        let print = self.fingerprint().wrapping_add(own);
+        let link = Link {
+            event,
+            before,
+            own,
+            print,
+        };
+        match bump.try_alloc(link) {
             Ok(link) => Ok(Chain { last: Some(link) }),
             Err(_) => Err(AllocError),
         }
+    }
+
+    /// Whether this match is found among them by its fingerprint, which spares a look at most of the others.
+    pub(crate) fn finds(&self, component: u32, digest: &Digest, size: Option<u64>) -> bool
+        ensures { IsTrue result → In (Matched component digest.now size) self.now }
+    {
+        let print = print_of(component, digest, size);
+        let mut at = self.last;
+        while let Some(link) = at {
+            if link.own == print && is_match(&link.event, component, digest, size) {
+                return true;
+            }
+            at = link.before.last;
+        }
+        false
     }
 
     /// Whether this match is among them.
     pub(crate) fn has_match(&self, component: u32, digest: &Digest, size: Option<u64>) -> bool
         ensures { IsTrue result ↔ In (Matched component digest.now size) self.now }
     {
+        if self.finds(component, digest, size) {
+            return true;
+        }
         let mut at = self.last;
         while let Some(link) = at {
             if is_match(&link.event, component, digest, size) {
@@ -181,7 +213,7 @@ impl<'a> Chain<'a> {
                 component,
                 digest,
                 size,
-            } => self.has_match(*component, digest, *size),
+            } => self.finds(*component, digest, *size),
             _ => false,
         }
     }
@@ -202,37 +234,9 @@ impl<'a> Chain<'a> {
 
     /// A fingerprint: equal where the same matches are among them, in any order.
     pub(crate) fn fingerprint(&self) -> u64 {
-        let mut print: u64 = 0;
-        let mut at = self.last;
-        while let Some(link) = at {
-            print = print.wrapping_add(of_match(&link.event));
-            at = link.before.last;
+        match self.last {
+            Some(link) => link.print,
+            None => 0,
         }
-        print
-    }
-
-    // The events, the last one first.
-    fn happened(&self, alloc: Global) -> Result<Vec<Happened<'a>>, AllocError>
-        ensures { IfOk result (λ held. map event_of held.items ≡ self.now) }
-    {
-        let mut held = Vec::new(alloc);
-        let mut at = self.last;
-        while let Some(link) = at {
-            held.push(link.event)?;
-            at = link.before.last;
-        }
-        Ok(held)
-    }
-
-    /// The events in the order in which they happened, in memory of their own.
-    pub(crate) fn told(&self, alloc: Global) -> Result<Events, AllocError>
-        ensures { IfOk result (λ events. events ≡ in_order self.now) }
-    {
-        let mut left = self.happened(alloc)?;
-        let mut events = Events::new(alloc);
-        while let Some(event) = left.pop() {
-            events.push(event.told(alloc)?)?;
-        }
-        Ok(events)
     }
 }

@@ -58,7 +58,7 @@ pub(crate) fn chosen_identities(alloc: Global, facts: &Facts) -> Result<Identiti
 {
     let mut identities = Identities::new(alloc);
     for known in facts.as_slice() {
-        identities.push(chosen_one(known))?;
+        identities.push(chosen_one(known.known()))?;
     }
     Ok(identities)
 }

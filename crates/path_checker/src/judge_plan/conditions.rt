@@ -8,7 +8,7 @@ ghost use Rattle.path_checker.specs.Wanting.{TestsOwn};
 ghost use Rattle.path_checker.specs.Steps.{knowing};
 
 use crate::judge_plan::facts::{Facts, Fork, Own};
-use crate::judge_plan::happened::Happened;
+use crate::judge_plan::happened::{Ended, Happened};
 use crate::judge_plan::kept::{Kept, Stopped, pass, stop};
 use crate::judge_plan::memory::Memory;
 use std::alloc::AllocError;
@@ -43,24 +43,20 @@ fn own_test<'a>(
         kind,
         passed: true,
     };
-    let missed = Happened::Tried {
-        component,
-        kind,
-        passed: false,
-    };
+    let missed = Ended::Tried { component, kind };
     match k.facts.fork(memory.alloc, component, own)? {
         Fork::Has => {
             pass(memory, k, passed, next)?;
             Ok(())
         }
         Fork::HasNot => {
-            stop(memory, k, place, missed, failed)?;
+            stop(k, place, missed, failed)?;
             Ok(())
         }
         Fork::Either(has, has_not) => {
             let other = k.copy_with(has_not)?;
             pass(memory, under(k, has), passed, next)?;
-            stop(memory, other, place, missed, failed)?;
+            stop(other, place, missed, failed)?;
             Ok(())
         }
     }
@@ -88,12 +84,7 @@ fn identity_test<'a>(
             Ok(())
         }
         None => {
-            let missed = Happened::Tried {
-                component,
-                kind,
-                passed: false,
-            };
-            stop(memory, k, place, missed, failed)?;
+            stop(k, place, Ended::Tried { component, kind }, failed)?;
             Ok(())
         }
     }
@@ -115,7 +106,7 @@ fn image_match<'a>(
 {
     match k.params.digest(component) {
         None => {
-            stop(memory, k, place, Happened::Missed { component }, failed)?;
+            stop(k, place, Ended::Missed { component }, failed)?;
             Ok(())
         }
         Some(digest) => {
@@ -126,7 +117,7 @@ fn image_match<'a>(
                 size,
             };
             pass(memory, k.copy()?, matched, next)?;
-            stop(memory, k, place, Happened::Missed { component }, failed)?;
+            stop(k, place, Ended::Missed { component }, failed)?;
             Ok(())
         }
     }
@@ -145,10 +136,9 @@ fn check_content<'a>(
         (Adds (λ identities. Tests TestKind.CheckContent identities place component) (k.entry ∷ [])
         next.old.items next.new.items failed.old.items failed.new.items) }
 {
-    let missed = Happened::Tried {
+    let missed = Ended::Tried {
         component,
         kind: TestKind::CheckContent,
-        passed: false,
     };
     if k.params.has_content(component) {
         let passed = Happened::Tried {
@@ -157,15 +147,14 @@ fn check_content<'a>(
             passed: true,
         };
         pass(memory, k.copy()?, passed, next)?;
-        stop(memory, k, place, missed, failed)?;
+        stop(k, place, missed, failed)?;
         return Ok(());
     }
-    stop(memory, k, place, missed, failed)?;
+    stop(k, place, missed, failed)?;
     Ok(())
 }
 
 fn abort<'a>(
-    memory: Memory<'a>,
     place: u64,
     component: u32,
     k: Kept<'a>,
@@ -176,12 +165,11 @@ fn abort<'a>(
         → Adds (λ identities. Tests TestKind.Abort identities place component) (k.entry ∷ []) n
         n failed.old.items failed.new.items) }
 {
-    let missed = Happened::Tried {
+    let missed = Ended::Tried {
         component,
         kind: TestKind::Abort,
-        passed: false,
     };
-    stop(memory, k, place, missed, failed)?;
+    stop(k, place, missed, failed)?;
     Ok(())
 }
 
@@ -207,6 +195,6 @@ pub(crate) fn test<'a>(
         TestKind::Slot => identity_test(memory, place, kind, component, k, next, failed),
         TestKind::ImageMatch => image_match(memory, place, component, k, next, failed),
         TestKind::CheckContent => check_content(memory, place, component, k, next, failed),
-        TestKind::Abort => abort(memory, place, component, k, failed),
+        TestKind::Abort => abort(place, component, k, failed),
     }
 }

@@ -1,14 +1,13 @@
 //! Directives at one component.
 
 ghost use Rattle.std.specs.Prelude.{◌≡◌, ◌<◌, List, [], ◌∷◌, ◌++◌, OnOk, IfOk, IfErr};
-ghost use Rattle.path_model.specs.Directives.{Acts, Overrides, set_events, soft_after};
+ghost use Rattle.path_model.specs.Directives.{Acts, Overrides, soft_after};
 ghost use Rattle.path_checker.specs.Exploring.{Adds, Stopped as TheStopped};
 ghost use Rattle.path_checker.specs.Steps.{soft_after_all};
 ghost use Rattle.path_checker.specs.Halting.{Halts};
 
 use crate::judge_plan::halt::Halt;
 use crate::judge_plan::happened::Happened;
-use crate::judge_plan::history::History;
 use crate::judge_plan::kept::{Kept, pass, went};
 use crate::judge_plan::memory::Memory;
 use std::alloc::AllocError;
@@ -172,20 +171,6 @@ pub(crate) fn act<'a>(
 
 // ---- override parameters
 
-fn push_sets<'a>(
-    memory: Memory<'a>,
-    history: &mut History<'a>,
-    component: u32,
-    list: &'a ParamList,
-) -> Result<(), AllocError>
-    ensures { OnOk result (history.new ≡ history.old ++ set_events component list.now) }
-{
-    for param in list.as_slice() {
-        history.push(memory.events, Happened::Set { component, param })?;
-    }
-    Ok(())
-}
-
 fn soft_after(soft_failure: bool, param: &Param) -> bool
     ensures { result ≡ soft_after soft_failure param.now }
 {
@@ -220,7 +205,7 @@ pub(crate) fn overrides<'a>(
         next.new.items f f) }
 {
     let mut k = k;
-    push_sets(memory, &mut k.history, component, list)?;
+    k.history.push_sets(memory.events, component, list)?;
     k.params.override_with(memory.alloc, component, list)?;
     k.soft_failure = soft_after_all(k.soft_failure, list);
     next.push(k)?;

@@ -28,10 +28,26 @@ pub(crate) struct Knowledge {
     pub slot: Known<u64>,
 }
 
-/// Knowledge of the identity of each component, from the first on. Copies share it.
+/// Knowledge of one component's identity, and its fingerprint. Copies share it.
+#[derive(Drop)]
+pub(crate) struct Shared {
+    held: Rc<Knowledge>,
+    print: u64,
+}
+
+impl Model for Shared {
+    ghost use Rattle.path_checker.specs.declared.judge_plan.facts.Knowledge.{Knowledge};
+
+    ghost Value = { Knowledge };
+
+    ghost view = { λ a. a.held.value };
+}
+
+/// Knowledge of the identity of each component, from the first on. Copies share it, and where one component's differs,
+/// that of the others.
 #[derive(Drop)]
 pub(crate) struct Facts {
-    held: Rc<Vec<Knowledge>>,
+    held: Rc<Vec<Shared>>,
 }
 
 impl Model for Facts {
@@ -134,6 +150,71 @@ impl Knowledge {
     }
 }
 
+impl Shared {
+    // Nothing is known.
+    fn unknown(alloc: Global) -> Result<Shared, AllocError>
+        ensures { IfOk result (λ shared. shared ≡ nothing) }
+    {
+        Shared::new(alloc, Knowledge::new(alloc))
+    }
+
+    fn new(alloc: Global, known: Knowledge) -> Result<Shared, AllocError>
+        ensures { IfOk result (λ shared. shared ≡ known) }
+    {
+        let print = known.fingerprint();
+        let held = Rc::new(alloc, known)?;
+        Ok(Shared { held, print })
+    }
+
+    /// The knowledge.
+    pub(crate) fn known(&self) -> &Knowledge
+        ensures { result.now ≡ self.now }
+    {
+        &self.held
+    }
+
+    // The same, shared.
+    fn copy(&self) -> Result<Shared, AllocError>
+        ensures { IfOk result (λ other. other ≡ self.now) }
+    {
+        let held = self.held.clone()?;
+        Ok(Shared {
+            held,
+            print: self.print,
+        })
+    }
+
+    // Whether the same is known.
+    fn is_same(&self, other: &Shared) -> bool
+        ensures { IsTrue result → self.now ≡ other.now }
+    {
+        self.held.is_same(&other.held)
+    }
+
+    // Whether it has this, where that is known.
+    fn tells(&self, own: &Own) -> Option<bool>
+        ensures { TellsOne self.now own.now result }
+    {
+        self.held.tells(own)
+    }
+
+    // One that has this.
+    fn with(&self, alloc: Global, own: &Own) -> Result<Shared, AllocError>
+        ensures { IfOk result (λ other. other ≡ learnt self.now own.now) }
+    {
+        let known = self.held.with(alloc, own)?;
+        Shared::new(alloc, known)
+    }
+
+    // One that has it not.
+    fn without(&self, alloc: Global, own: &Own) -> Result<Shared, AllocError>
+        ensures { IfOk result (λ other. other ≡ excluded self.now own.now) }
+    {
+        let known = self.held.without(alloc, own)?;
+        Shared::new(alloc, known)
+    }
+}
+
 impl Facts {
     /// Nothing is known of so many components.
     pub(crate) fn unknown(alloc: Global, count: u32) -> Result<Facts, AllocError>
@@ -141,7 +222,8 @@ impl Facts {
     {
         let mut held = Vec::new(alloc);
         for _ in 0..count {
-            held.push(Knowledge::new(alloc))?;
+            let known = Shared::unknown(alloc)?;
+            held.push(known)?;
         }
         Ok(Facts {
             held: Rc::new(alloc, held)?,
@@ -156,13 +238,13 @@ impl Facts {
         Ok(Facts { held })
     }
 
-    // A copy of the knowledge of each component, in memory of its own.
-    fn copied(&self, alloc: Global) -> Result<Vec<Knowledge>, AllocError>
+    // The knowledge of each component, in a list of its own.
+    fn copied(&self, alloc: Global) -> Result<Vec<Shared>, AllocError>
         ensures { IfOk result (λ other. other.items ≡ self.now) }
     {
         let mut held = Vec::new(alloc);
         for known in self.as_slice() {
-            held.push(known.copy(alloc)?)?;
+            held.push(known.copy()?)?;
         }
         Ok(held)
     }
@@ -189,20 +271,20 @@ impl Facts {
     pub(crate) fn fingerprint(&self) -> u64 {
         let mut print = 0;
         for known in self.as_slice() {
-            print = mixed(print, known.fingerprint());
+            print = mixed(print, known.print);
         }
         print
     }
 
     /// The knowledge of each component, lent.
-    pub(crate) fn as_slice(&self) -> &[Knowledge]
+    pub(crate) fn as_slice(&self) -> &[Shared]
         ensures { result.now ≡ self.now }
     {
         self.held.as_slice()
     }
 
     // A copy that differs at one component.
-    fn with(&self, alloc: Global, component: usize, known: Knowledge) -> Result<Facts, AllocError>
+    fn with(&self, alloc: Global, component: usize, known: Shared) -> Result<Facts, AllocError>
         requires { component < length self.now }
         ensures { IfOk result (λ other. other ≡ slice_set self.now component known) }
     {

@@ -7,15 +7,11 @@ ghost use Rattle.path_checker.specs.Happening.{event_of};
 use path_model::Event;
 use std::alloc::{AllocError, Global};
 use suit_commands::TestKind;
-use suit_params::{Digest, Param};
+use suit_params::Digest;
 
-/// An event of a path, whose parameter or digest is that of the procedure.
+/// An event of a path, whose digest is that of the procedure. An override is told apart.
 #[derive(Clone, Copy)]
 pub(crate) enum Happened<'a> {
-    Set {
-        component: u32,
-        param: &'a Param,
-    },
     Tried {
         component: u32,
         kind: TestKind,
@@ -43,6 +39,14 @@ pub(crate) enum Happened<'a> {
     },
 }
 
+/// How a failed condition ended a sequence: by an event, or as a try each of which each branch had failed before.
+#[derive(Clone, Copy)]
+pub(crate) enum Ended {
+    Tried { component: u32, kind: TestKind },
+    Missed { component: u32 },
+    Exhausted,
+}
+
 fn copied(digest: Option<&Digest>) -> Option<Digest>
     ensures { result ≡ option_copied digest.entry }
 {
@@ -58,10 +62,6 @@ impl<'a> Happened<'a> {
         ensures { IfOk result (λ event. event ≡ event_of self.now) }
     {
         Ok(match *self {
-            Happened::Set { component, param } => Event::Set {
-                component,
-                param: param.copy(alloc)?,
-            },
             Happened::Tried {
                 component,
                 kind,

@@ -1,23 +1,25 @@
 //! The history of a state.
 
 ghost use Rattle.std.specs.Prelude.{◌≡◌, ◌↔◌, [], ◌∷◌, ◌++◌, IsTrue, IfOk, OnOk};
+ghost use Rattle.path_model.specs.Directives.{set_events};
 ghost use Rattle.path_model.specs.Safe.{HasMatched};
 ghost use Rattle.path_model.specs.Following.{SameMatches};
-ghost use Rattle.path_checker.specs.Happening.{event_of};
+ghost use Rattle.path_checker.specs.Happening.{event_of, after_end};
 ghost use Rattle.path_checker.specs.Standing.{StandsAfter};
 
 use crate::judge_plan::chain::Chain;
-use crate::judge_plan::happened::Happened;
+use crate::judge_plan::happened::{Ended, Happened};
+use crate::judge_plan::trace::{Told, Trace};
 use bumpalo::Bump;
 use path_model::Events;
 use std::alloc::{AllocError, Global};
 use std::marker::Model;
-use suit_params::Digest;
+use suit_params::{Digest, ParamList};
 
 /// The events that led to a state, and the matches that stand after them. Copying takes no memory.
 #[derive(Drop)]
 pub(crate) struct History<'a> {
-    all: Chain<'a>,
+    all: Trace<'a>,
     standing: Chain<'a>,
 }
 
@@ -27,11 +29,11 @@ impl<'a> Model for History<'a> {
 
     ghost Value = { List Event };
 
-    ghost use Rattle.path_checker.specs.Standing.{in_order, Stands};
+    ghost use Rattle.path_checker.specs.Standing.{all_in_order, Stands};
 
-    ghost view = { λ a. in_order a.all };
+    ghost view = { λ a. all_in_order a.all };
 
-    ghost invariant = { λ a. Stands a.standing (in_order a.all) };
+    ghost invariant = { λ a. Stands a.standing (all_in_order a.all) };
 }
 
 // The matches that stand after one more event.
@@ -48,7 +50,7 @@ fn standing_after<'a>(
             digest,
             size,
         } => {
-            if standing.has_match(component, digest, size) {
+            if standing.finds(component, digest, size) {
                 Ok(standing.copy())
             } else {
                 standing.with(bump, event)
@@ -65,7 +67,7 @@ impl<'a> History<'a> {
         ensures { result ≡ [] }
     {
         History {
-            all: Chain::new(),
+            all: Trace::new(),
             standing: Chain::new(),
         }
     }
@@ -84,10 +86,48 @@ impl<'a> History<'a> {
         ensures { OnOk result (self.new ≡ self.old ++ event_of event.entry ∷ []) }
     {
         let standing = standing_after(bump, &self.standing, event)?;
-        let all = self.all.with(bump, event)?;
+        let all = self.all.with(bump, Told::One(event))?;
         self.all = all;
         self.standing = standing;
         Ok(())
+    }
+
+    /// Adds the events of an override at a component. They end no match.
+    pub(crate) fn push_sets(
+        &mut self,
+        bump: &'a Bump,
+        component: u32,
+        list: &'a ParamList,
+    ) -> Result<(), AllocError>
+        ensures { OnOk result (self.new ≡ self.old ++ set_events component list.now) }
+    {
+        let all = self.all.with(bump, Told::Sets { component, list })?;
+        self.all = all;
+        Ok(())
+    }
+
+    /// Adds the events of a failed condition at a place.
+    pub(crate) fn push_end(
+        &mut self,
+        bump: &'a Bump,
+        ended: Ended,
+        place: u64,
+    ) -> Result<(), AllocError>
+        ensures { OnOk result (self.new ≡ after_end self.old ended place) }
+    {
+        match ended {
+            Ended::Tried { component, kind } => self.push(
+                bump,
+                Happened::Tried {
+                    component,
+                    kind,
+                    passed: false,
+                },
+            )?,
+            Ended::Missed { component } => self.push(bump, Happened::Missed { component })?,
+            Ended::Exhausted => return Ok(()),
+        }
+        self.push(bump, Happened::Failed { place })
     }
 
     /// Whether a component stands as matched under a digest and a size.

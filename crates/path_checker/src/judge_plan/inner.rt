@@ -3,8 +3,10 @@
 ghost use Rattle.std.specs.Prelude.{◌≡◌, ◌<◌, true, [], ◌∷◌, ◌++◌, OnOk, IfOk};
 ghost use Rattle.path_checker.specs.Inner.{entered, all_entered, all_left, resumed, softly, hardly, exhausted, all_restarted};
 
+use crate::judge_plan::happened::Ended;
 use crate::judge_plan::in_force::InForce;
 use crate::judge_plan::kept::{Kept, Stopped};
+use crate::judge_plan::memory::Memory;
 use crate::judge_plan::selected::Selected;
 use std::alloc::{AllocError, Global};
 use std::marker::Model;
@@ -90,13 +92,19 @@ pub(crate) fn leave_all<'a>(
 }
 
 // Leaves one that failed softly: everything is as it was.
-fn resume<'a>(outer: &Outer<'a>, stop: Stopped<'a>) -> Result<Kept<'a>, AllocError>
+fn resume<'a>(
+    memory: Memory<'a>,
+    outer: &Outer<'a>,
+    stop: Stopped<'a>,
+) -> Result<Kept<'a>, AllocError>
     ensures { IfOk result (λ k. k ≡ resumed outer.now stop.entry) }
 {
     let params = outer.params.copy()?;
+    let mut history = stop.history;
+    history.push_end(memory.events, stop.ended, stop.place)?;
     Ok(Kept {
         facts: stop.facts,
-        history: stop.history,
+        history,
         params,
         selection: outer.selection.copy(),
         soft_failure: outer.soft_failure,
@@ -105,6 +113,7 @@ fn resume<'a>(outer: &Outer<'a>, stop: Stopped<'a>) -> Result<Kept<'a>, AllocErr
 
 /// The failures of an inner sequence: soft ones go on, and the others are those of the outer one.
 pub(crate) fn split<'a>(
+    memory: Memory<'a>,
     outer: &Outer<'a>,
     stops: Vec<Stopped<'a>>,
     next: &mut Vec<Kept<'a>>,
@@ -117,7 +126,7 @@ pub(crate) fn split<'a>(
 {
     for stop in stops {
         if stop.soft_failure {
-            next.push(resume(outer, stop)?)?;
+            next.push(resume(memory, outer, stop)?)?;
         } else {
             let mut stop = stop;
             stop.soft_failure = outer.soft_failure;
@@ -141,6 +150,7 @@ pub(crate) fn exhaust<'a>(
         failed.push(Stopped {
             facts: k.facts,
             history: k.history,
+            ended: Ended::Exhausted,
             place,
             soft_failure: outer.soft_failure,
         })?;

@@ -1,15 +1,15 @@
 //! The states that a judgement keeps.
 
 ghost use Rattle.std.specs.Prelude.{◌≡◌, [], ◌∷◌, ◌++◌, IsTrue, IfOk, OnOk};
+ghost use Rattle.path_model.specs.Following.{SameMatches};
 ghost use Rattle.path_checker.specs.Exploring.{Kept as TheKept, Stopped as TheStopped, kept_of, state_of};
-ghost use Rattle.path_checker.specs.Happening.{event_of};
+ghost use Rattle.path_checker.specs.Happening.{event_of, after_end};
 ghost use Rattle.path_checker.specs.Merging.{SameState, SameStop};
-ghost use Rattle.path_checker.specs.Steps.{with_events, knowing, stopped_by};
-ghost use Rattle.path_model.specs.declared.event.Event.TheVariants.{Failed};
+ghost use Rattle.path_checker.specs.Steps.{with_events, knowing, stopped_after};
 
 use crate::judge_plan::facts::Facts;
 use crate::judge_plan::fingerprint::mixed;
-use crate::judge_plan::happened::Happened;
+use crate::judge_plan::happened::{Ended, Happened};
 use crate::judge_plan::history::History;
 use crate::judge_plan::in_force::InForce;
 use crate::judge_plan::memory::Memory;
@@ -33,11 +33,12 @@ impl<'a> Model for Kept<'a> {
     ghost view = { λ a. kept_of a.facts a.history (state_of a.params a.selection a.soft_failure) };
 }
 
-/// A failed condition at a place, with the soft failure that its sequence held.
+/// A failed condition at a place, with the history before its end, and the soft failure that its sequence held.
 #[derive(Drop)]
 pub(crate) struct Stopped<'a> {
     pub facts: Facts,
     pub history: History<'a>,
+    pub ended: Ended,
     pub place: u64,
     pub soft_failure: bool,
 }
@@ -47,7 +48,7 @@ impl<'a> Model for Stopped<'a> {
 
     ghost view = { λ a. record {
       facts = a.facts;
-      events = a.history;
+      events = after_end a.history a.ended a.place;
       place = a.place;
       soft_failure = a.soft_failure;
     } };
@@ -65,13 +66,22 @@ pub(crate) trait Standing: Drop {
     fn fingerprint(&self) -> u64;
 }
 
+impl<'a> Stopped<'a> {
+    // Whether the same matches stand.
+    fn same_matches(&self, other: &Stopped<'a>) -> bool
+        ensures { IsTrue result → SameMatches self.now.events other.now.events }
+    {
+        self.history.same_matches(&other.history)
+    }
+}
+
 impl<'a> Standing for Stopped<'a> {
     ghost same = { SameStop };
 
     fn is_same(&self, other: &Stopped<'a>) -> bool {
         self.soft_failure == other.soft_failure
             && self.facts.is_same(&other.facts)
-            && self.history.same_matches(&other.history)
+            && self.same_matches(other)
     }
 
     fn fingerprint(&self) -> u64 {
@@ -140,27 +150,6 @@ pub(crate) fn went<'a>(
     Ok(k)
 }
 
-/// The end by a failed condition, which an event tells.
-pub(crate) fn fail<'a>(
-    memory: Memory<'a>,
-    k: Kept<'a>,
-    place: u64,
-    event: Happened<'a>,
-) -> Result<Stopped<'a>, AllocError>
-    ensures { IfOk result
-        (λ to. to ≡ stopped_by k.entry (event_of event.entry ∷ Failed place ∷ []) place) }
-{
-    let mut k = k;
-    k.history.push(memory.events, event)?;
-    k.history.push(memory.events, Happened::Failed { place })?;
-    Ok(Stopped {
-        facts: k.facts,
-        history: k.history,
-        place,
-        soft_failure: k.soft_failure,
-    })
-}
-
 /// Keeps the state after one more event.
 pub(crate) fn pass<'a>(
     memory: Memory<'a>,
@@ -176,20 +165,22 @@ pub(crate) fn pass<'a>(
     Ok(())
 }
 
-/// Keeps the end by a failed condition, which an event tells.
+/// Keeps the end by a failed condition.
 pub(crate) fn stop<'a>(
-    memory: Memory<'a>,
     k: Kept<'a>,
     place: u64,
-    event: Happened<'a>,
+    ended: Ended,
     failed: &mut Vec<Stopped<'a>>,
 ) -> Result<(), AllocError>
     ensures { OnOk result
-        (failed.new.items
-        ≡ failed.old.items
-        ++ stopped_by k.entry (event_of event.entry ∷ Failed place ∷ []) place ∷ []) }
+        (failed.new.items ≡ failed.old.items ++ stopped_after k.entry ended place ∷ []) }
 {
-    let to = fail(memory, k, place, event)?;
-    failed.push(to)?;
+    failed.push(Stopped {
+        facts: k.facts,
+        history: k.history,
+        ended,
+        place,
+        soft_failure: k.soft_failure,
+    })?;
     Ok(())
 }

@@ -7,18 +7,36 @@ ghost use Rattle.path_checker.specs.Merging.{Merges, SameState, SameStop};
 use crate::judge_plan::kept::{Kept, Standing, Stopped};
 use std::alloc::{AllocError, Global};
 use std::collections::HashMap;
+use suit_commands::Command;
 
 // The smallest number of failures that are searched for equal ones.
 const FEW: usize = 32;
 
-// Whether the one at an index stands for this one.
-fn stands_for<T: Standing>(kept: &[T], index: Option<&usize>, one: &T) -> bool
+// Whether the one at an index stands for this one, or an earlier one of the same fingerprint.
+fn stands_for<T: Standing>(
+    kept: &[T],
+    earlier: &[Option<usize>],
+    last: Option<&usize>,
+    one: &T,
+) -> bool
     ensures { IsTrue result → (other : T) × In other kept.now × T.same other one.now }
 {
-    match index {
-        Some(index) => *index < kept.len() && kept[*index].is_same(one),
-        None => false,
+    let mut left = kept.len();
+    let mut at = last.copied();
+    while let Some(index) = at {
+        if index >= left {
+            return false;
+        }
+        if kept[index].is_same(one) {
+            return true;
+        }
+        at = match earlier.get(index) {
+            Some(before) => *before,
+            None => None,
+        };
+        left = index;
     }
+    false
 }
 
 // Some of these, which stand for all.
@@ -28,25 +46,38 @@ fn merged<T: Standing>(alloc: Global, from: Vec<T>) -> Result<Vec<T>, AllocError
 {
     let mut seen = HashMap::new(alloc);
     let mut kept = Vec::new(alloc);
+    // Of each that is kept, the index of the one before it with its fingerprint.
+    let mut earlier = Vec::new(alloc);
     for one in from {
         let print = one.fingerprint();
-        if stands_for(&kept, seen.get(&print), &one) {
+        if stands_for(&kept, &earlier, seen.get(&print), &one) {
             continue;
         }
-        seen.insert(print, kept.len())?;
+        let before = seen.insert(print, kept.len())?;
         kept.push(one)?;
+        earlier.push(before)?;
     }
     Ok(kept)
 }
 
-/// Some of the states, which stand for all.
+// Whether a command runs other sequences: where none is run, a state is followed by one state at most.
+fn has_inner(command: &Command) -> bool {
+    match command {
+        Command::TryEach(_) => true,
+        Command::Run(_) => true,
+        _ => false,
+    }
+}
+
+/// The states, or some of them, which stand for all, where a command may have added to them.
 pub(crate) fn merged_states<'a>(
     alloc: Global,
+    command: &Command,
     from: Vec<Kept<'a>>,
 ) -> Result<Vec<Kept<'a>>, AllocError>
     ensures { IfOk result (λ v. Merges SameState from.entry.items v.items) }
 {
-    if from.len() < 2 {
+    if from.len() < 2 || !has_inner(command) {
         return Ok(from);
     }
     merged(alloc, from)

@@ -1,13 +1,14 @@
 //! The walk through a procedure: the shared sequence before each of the three members.
 
-ghost use Rattle.std.specs.Prelude.{◌≡◌, ◌≤◌, [], ◌∷◌, IfOk, IfErr};
+ghost use Rattle.std.specs.Prelude.{◌≡◌, ◌↔◌, ◌≤◌, [], ◌∷◌, IsTrue, IfOk, IfErr, OnOk};
 ghost use Rattle.suit_commands.specs.Plans.{lent_tree, plan_tree};
 ghost use Rattle.suit_commands.specs.Allowed.{IsPlan};
-ghost use Rattle.path_model.specs.Path.{RunsPlan, start_state, first_state};
+ghost use Rattle.path_model.specs.Path.{RunsPlan};
 ghost use Rattle.path_model.specs.Runs.{Runs};
-ghost use Rattle.path_checker.specs.Exploring.{Adds};
+ghost use Rattle.path_checker.specs.Exploring.{Passes};
 ghost use Rattle.path_checker.specs.Small.{IsSmallSequence};
-ghost use Rattle.path_checker.specs.Procedures.{FromStart, ArePlan, first_kept};
+ghost use Rattle.path_checker.specs.Invoking.{Covers};
+ghost use Rattle.path_checker.specs.Procedures.{FromStart, FromThird, FromSecond, ThirdInvokes, SecondInvokes, FirstInvokes, ArePlan, first_kept};
 ghost use Rattle.path_checker.specs.Halting.{Halts};
 
 use crate::judge_plan::facts::Facts;
@@ -15,10 +16,11 @@ use crate::judge_plan::halt::Halt;
 use crate::judge_plan::history::History;
 use crate::judge_plan::in_force::InForce;
 use crate::judge_plan::inner::restart_all;
-use crate::judge_plan::kept::{Kept, Stopped};
+use crate::judge_plan::invoking::lent_invokes;
+use crate::judge_plan::kept::Kept;
 use crate::judge_plan::memory::Memory;
 use crate::judge_plan::selected::Selected;
-use crate::judge_plan::walk::sequence;
+use crate::judge_plan::walk::command;
 use std::alloc::{AllocError, Global};
 use suit_commands::{Plan, Sequence};
 
@@ -39,45 +41,111 @@ pub(crate) fn first<'a>(alloc: Global, count: u32) -> Result<Vec<Kept<'a>>, Allo
     Ok(from)
 }
 
+// Runs the commands of a member or of the shared sequence. A failure there ends the procedure, so none is kept.
+fn commands<'a>(
+    memory: Memory<'a>,
+    count: u32,
+    sequence: &'a Sequence,
+    from: Vec<Kept<'a>>,
+) -> Result<Vec<Kept<'a>>, Halt<'a>>
+    requires small { IsSmallSequence count sequence.now }
+    ensures ok { IfOk result
+        (λ v. Passes (λ identities. Runs sequence.now identities count) from.entry.items v.items) }
+    ensures err { IfErr result
+        (λ h. Halts (λ identities. Runs sequence.now identities count) from.entry.items h) }
+{
+    let mut now = from;
+    for step in sequence.as_slice() {
+        let mut ended = Vec::new(memory.alloc);
+        now = command(memory, count, step, now, &mut ended)?;
+    }
+    Ok(now)
+}
+
 // Runs a member or the shared sequence from each of the states.
 fn part<'a>(
     memory: Memory<'a>,
     count: u32,
     lent: Option<&'a Sequence>,
     from: Vec<Kept<'a>>,
-    failed: &mut Vec<Stopped<'a>>,
 ) -> Result<Vec<Kept<'a>>, Halt<'a>>
     requires small { IsSmallSequence count (lent_tree lent) }
     ensures ok { IfOk result
-        (λ v. Adds (FromStart (lent_tree lent.entry) count) from.entry.items [] v.items
-        failed.old.items failed.new.items) }
+        (λ v. Passes (FromStart (lent_tree lent.entry) count) from.entry.items v.items) }
     ensures err { IfErr result
         (λ h. Halts (FromStart (lent_tree lent.entry) count) from.entry.items h) }
 {
     let started = restart_all(from);
     match lent {
-        Some(inner) => sequence(memory, count, inner, started, failed),
+        Some(inner) => commands(memory, count, inner, started),
         None => Ok(started),
     }
 }
 
-/// Runs a procedure from each of the states.
+// ---- whether an invoke stands in the rest of a procedure
+
+fn third_invokes(plan: &Plan<'_>) -> bool
+    ensures { IsTrue result ↔ ThirdInvokes (plan_tree plan.now) }
+{
+    lent_invokes(plan.shared) || lent_invokes(plan.third)
+}
+
+fn second_invokes(plan: &Plan<'_>) -> bool
+    ensures { IsTrue result ↔ SecondInvokes (plan_tree plan.now) }
+{
+    lent_invokes(plan.second) || third_invokes(plan)
+}
+
+fn first_invokes(plan: &Plan<'_>) -> bool
+    ensures { IsTrue result ↔ FirstInvokes (plan_tree plan.now) }
+{
+    lent_invokes(plan.first) || second_invokes(plan)
+}
+
+// ---- where none stands, nothing is run
+
+// Runs the shared sequence and the third member.
+fn from_third<'a>(memory: Memory<'a>, plan: &Plan<'a>, from: Vec<Kept<'a>>) -> Result<(), Halt<'a>>
+    requires { ArePlan (plan_tree plan.now) }
+    ensures ok { OnOk result (Covers (FromThird (plan_tree plan.now)) from.entry.items) }
+    ensures err { IfErr result (λ h. Halts (FromThird (plan_tree plan.now)) from.entry.items h) }
+{
+    if !third_invokes(plan) {
+        return Ok(());
+    }
+    let before_third = part(memory, plan.count, plan.shared, from)?;
+    part(memory, plan.count, plan.third, before_third)?;
+    Ok(())
+}
+
+// Runs the shared sequence and the second member, and then the rest.
+fn from_second<'a>(memory: Memory<'a>, plan: &Plan<'a>, from: Vec<Kept<'a>>) -> Result<(), Halt<'a>>
+    requires { ArePlan (plan_tree plan.now) }
+    ensures ok { OnOk result (Covers (FromSecond (plan_tree plan.now)) from.entry.items) }
+    ensures err { IfErr result (λ h. Halts (FromSecond (plan_tree plan.now)) from.entry.items h) }
+{
+    if !second_invokes(plan) {
+        return Ok(());
+    }
+    let before_second = part(memory, plan.count, plan.shared, from)?;
+    let after_second = part(memory, plan.count, plan.second, before_second)?;
+    from_third(memory, plan, after_second)
+}
+
+/// Runs a procedure from each of the states, up to the last of its parts in which an invoke stands.
 pub(crate) fn procedure<'a>(
     memory: Memory<'a>,
     plan: &Plan<'a>,
     from: Vec<Kept<'a>>,
-    failed: &mut Vec<Stopped<'a>>,
-) -> Result<Vec<Kept<'a>>, Halt<'a>>
+) -> Result<(), Halt<'a>>
     requires { ArePlan (plan_tree plan.now) }
-    ensures ok { IfOk result
-        (λ v. Adds (RunsPlan (plan_tree plan.now)) from.entry.items [] v.items failed.old.items
-        failed.new.items) }
+    ensures ok { OnOk result (Covers (RunsPlan (plan_tree plan.now)) from.entry.items) }
     ensures err { IfErr result (λ h. Halts (RunsPlan (plan_tree plan.now)) from.entry.items h) }
 {
-    let after_shared = part(memory, plan.count, plan.shared, from, failed)?;
-    let after_first = part(memory, plan.count, plan.first, after_shared, failed)?;
-    let before_second = part(memory, plan.count, plan.shared, after_first, failed)?;
-    let after_second = part(memory, plan.count, plan.second, before_second, failed)?;
-    let before_third = part(memory, plan.count, plan.shared, after_second, failed)?;
-    part(memory, plan.count, plan.third, before_third, failed)
+    if !first_invokes(plan) {
+        return Ok(());
+    }
+    let after_shared = part(memory, plan.count, plan.shared, from)?;
+    let after_first = part(memory, plan.count, plan.first, after_shared)?;
+    from_second(memory, plan, after_first)
 }

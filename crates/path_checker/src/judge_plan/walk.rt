@@ -73,9 +73,9 @@ fn reuse<'a>(now: &mut Vec<Kept<'a>>, next: &mut Vec<Kept<'a>>)
     }
 }
 
-// Does a command in each of the states.
+/// Does a command in each of the states.
 #[cycle(walk)]
-fn command<'a>(
+pub(crate) fn command<'a>(
     memory: Memory<'a>,
     count: u32,
     step: &'a Step,
@@ -101,7 +101,7 @@ fn command<'a>(
             _ => each(memory, count, step, k, &mut next, failed)?,
         }
     }
-    let merged = merged_states(memory.alloc, next)?;
+    let merged = merged_states(memory.alloc, &step.command, next)?;
     Ok(merged)
 }
 
@@ -241,7 +241,7 @@ fn run<'a>(
     let mut stops = Vec::new(memory.alloc);
     let done = sequence(memory, count, inner, from, &mut stops)?;
     leave_all(&outer, done, next)?;
-    Ok(split(&outer, stops, next, failed)?)
+    Ok(split(memory, &outer, stops, next, failed)?)
 }
 
 // Tries the branches in order.
@@ -310,6 +310,6 @@ fn one_branch<'a>(
     let done = sequence(memory, count, inner, inside, &mut stops)?;
     leave_all(outer, done, next)?;
     let mut rest = Vec::new(memory.alloc);
-    split(outer, stops, &mut rest, failed)?;
+    split(memory, outer, stops, &mut rest, failed)?;
     Ok(rest)
 }

@@ -7,7 +7,7 @@ use Rattle.path_checker.proofs.PlanJudging.{is_safe, told_judges}
 use Rattle.path_checker.proofs.judge_plan.judge_in.Goals as goal
 
 pub returns-in-Ok-procedure : goal.returns-in-Ok-procedure
-returns-in-Ok-procedure c = is_safe (plan_tree c.args.plan) c.in-Ok.from.items c.in-Ok-procedure.field-0.items c.new-failed.result.items c.procedure.new.failed.items c.in-Ok.ensures c.in-Ok-procedure.ensures.ok
+returns-in-Ok-procedure c = is_safe (plan_tree c.args.plan) c.in-Ok.from.items c.in-Ok.ensures c.in-Ok-procedure.ensures.ok
 
-pub returns : goal.returns
-returns c = told_judges (plan_tree c.args.plan) c.in-Ok.from.items c.in-Err-Uncovered.k c.told.result c.in-Ok.ensures (subst (λ (h : Halt). Halts (RunsPlan (plan_tree c.args.plan)) c.in-Ok.from.items h) c.in-Err-Uncovered.field-0-is c.in-Err-Uncovered.ensures.err) c.told.ensures
+pub returns-in-Err-Uncovered : goal.returns-in-Err-Uncovered
+returns-in-Err-Uncovered c = told_judges (plan_tree c.args.plan) c.in-Ok.from.items c.in-Err-Uncovered.k c.told.result c.in-Ok.ensures (subst (λ (h : Halt). Halts (RunsPlan (plan_tree c.args.plan)) c.in-Ok.from.items h) c.in-Err-Uncovered.field-0-is c.in-Err-Uncovered.ensures.err) c.told.ensures

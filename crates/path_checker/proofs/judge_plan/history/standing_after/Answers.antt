@@ -7,13 +7,13 @@ use Rattle.path_checker.specs.Standing.{StandsAfter, LeavesOut}
 use Rattle.path_checker.proofs.StandingLaws.{after_again, after_match, after_write, after_other}
 use Rattle.path_checker.proofs.judge_plan.history.standing_after.Goals as goal
 
-pub returns-then-has_match : goal.returns-then-has_match
-returns-then-has_match c =
+pub returns-then-finds : goal.returns-then-finds
+returns-then-finds c =
     subst (λ (after : List Event). StandsAfter c.args.standing.now (event_of c.args.event) after) (sym c.copy.ensures)
-    (subst (λ (h : Happened). StandsAfter c.args.standing.now (event_of h) c.args.standing.now) (sym c.in-Matched.is) (after_again c.args.standing.now c.in-Matched.component c.in-Matched.digest.now c.in-Matched.size (c.if-has_match.ensures.0 (search rules))))
+    (subst (λ (h : Happened). StandsAfter c.args.standing.now (event_of h) c.args.standing.now) (sym c.in-Matched.is) (after_again c.args.standing.now c.in-Matched.component c.in-Matched.digest.now c.in-Matched.size (c.if-finds.ensures (search rules))))
 
-pub returns-else-has_match : goal.returns-else-has_match
-returns-else-has_match c =
+pub returns-else-finds : goal.returns-else-finds
+returns-else-finds c =
     IfOk-weaker c.with.result (λ after. after ≡ event_of c.args.event ∷ c.args.standing.now) (StandsAfter c.args.standing.now (event_of c.args.event))
     (λ after is. subst (StandsAfter c.args.standing.now (event_of c.args.event)) (sym is) (subst (λ (h : Happened). StandsAfter c.args.standing.now (event_of h) (event_of h ∷ c.args.standing.now)) (sym c.in-Matched.is) (after_match c.args.standing.now c.in-Matched.component c.in-Matched.digest.now c.in-Matched.size))) c.with.ensures
 

@@ -1,29 +1,29 @@
-use Rattle.std.proofs.Common.{sym, subst, []}
+use Rattle.std.proofs.Common.{sym, subst}
 use Rattle.std.proofs.lemmas.Result.{IfOk-weaker, IfErr-weaker}
 use Rattle.std.specs.Prelude.{Option, IfOk, IfErr}
 use Rattle.std.specs.Borrow.{Bor}
 use Rattle.suit_commands.specs.Tree.{SequenceTree}
 use Rattle.suit_commands.specs.Plans.{lent_tree}
-use Rattle.path_checker.specs.Exploring.{Adds}
+use Rattle.path_checker.specs.Exploring.{Passes}
 use Rattle.path_checker.specs.Procedures.{FromStart}
 use Rattle.path_checker.specs.Halting.{Halts}
 use Rattle.path_checker.proofs.Walking.{runs_course}
-use Rattle.path_checker.proofs.Starting.{Adds-started, Halts-started, Adds-absent}
+use Rattle.path_checker.proofs.Starting.{Passes-started, Halts-started, Passes-absent}
 use Rattle.path_checker.proofs.judge_plan.procedure_walk.part.Goals as goal
 
 pub returns-in-Some-clause-ok : goal.returns-in-Some-clause-ok
 returns-in-Some-clause-ok c =
-    subst (λ (o : Option (Bor SequenceTree)). IfOk c.sequence.result (λ v. Adds (FromStart (lent_tree o) c.args.count) c.args.from.items [] v.items c.args.failed.now.items c.sequence.new.failed.items)) (sym c.in-Some.is)
-    (IfOk-weaker c.sequence.result (λ v. Adds (runs_course c.in-Some.inner.now c.args.count) c.restart_all-started.result.items [] v.items c.args.failed.now.items c.sequence.new.failed.items) (λ v. Adds (FromStart c.in-Some.inner.now c.args.count) c.args.from.items [] v.items c.args.failed.now.items c.sequence.new.failed.items)
-    (λ v a. Adds-started c.in-Some.inner.now c.args.count c.args.from.items c.restart_all-started.result.items v.items c.args.failed.now.items c.sequence.new.failed.items c.restart_all-started.ensures a) c.sequence.ensures.ok)
+    subst (λ (o : Option (Bor SequenceTree)). IfOk c.commands.result (λ v. Passes (FromStart (lent_tree o) c.args.count) c.args.from.items v.items)) (sym c.in-Some.is)
+    (IfOk-weaker c.commands.result (λ v. Passes (runs_course c.in-Some.inner.now c.args.count) c.restart_all-started.result.items v.items) (λ v. Passes (FromStart c.in-Some.inner.now c.args.count) c.args.from.items v.items)
+    (λ v a. Passes-started c.in-Some.inner.now c.args.count c.args.from.items c.restart_all-started.result.items v.items c.restart_all-started.ensures a) c.commands.ensures.ok)
 
 pub returns-in-Some-clause-err : goal.returns-in-Some-clause-err
 returns-in-Some-clause-err c =
-    subst (λ (o : Option (Bor SequenceTree)). IfErr c.sequence.result (λ h. Halts (FromStart (lent_tree o) c.args.count) c.args.from.items h)) (sym c.in-Some.is)
-    (IfErr-weaker c.sequence.result (λ h. Halts (runs_course c.in-Some.inner.now c.args.count) c.restart_all-started.result.items h) (λ h. Halts (FromStart c.in-Some.inner.now c.args.count) c.args.from.items h)
-    (λ h u. Halts-started c.in-Some.inner.now c.args.count c.args.from.items c.restart_all-started.result.items c.restart_all-started.ensures h u) c.sequence.ensures.err)
+    subst (λ (o : Option (Bor SequenceTree)). IfErr c.commands.result (λ h. Halts (FromStart (lent_tree o) c.args.count) c.args.from.items h)) (sym c.in-Some.is)
+    (IfErr-weaker c.commands.result (λ h. Halts (runs_course c.in-Some.inner.now c.args.count) c.restart_all-started.result.items h) (λ h. Halts (FromStart c.in-Some.inner.now c.args.count) c.args.from.items h)
+    (λ h u. Halts-started c.in-Some.inner.now c.args.count c.args.from.items c.restart_all-started.result.items c.restart_all-started.ensures h u) c.commands.ensures.err)
 
 pub returns-in-None-clause-ok : goal.returns-in-None-clause-ok
 returns-in-None-clause-ok c =
-    subst (λ (o : Option (Bor SequenceTree)). Adds (FromStart (lent_tree o) c.args.count) c.args.from.items [] c.restart_all-started.result.items c.args.failed.now.items c.args.failed.now.items) (sym c.in-None.is)
-    (Adds-absent c.args.count c.args.from.items c.restart_all-started.result.items c.args.failed.now.items c.restart_all-started.ensures)
+    subst (λ (o : Option (Bor SequenceTree)). Passes (FromStart (lent_tree o) c.args.count) c.args.from.items c.restart_all-started.result.items) (sym c.in-None.is)
+    (Passes-absent c.args.count c.args.from.items c.restart_all-started.result.items c.restart_all-started.ensures)

@@ -1,0 +1,135 @@
+//! The events of a path. Paths that begin alike share their beginning.
+
+ghost use Rattle.std.specs.Prelude.{◌≡◌, [], ◌∷◌, ◌++◌, map, IfOk, OnOk};
+ghost use Rattle.path_model.specs.Directives.{set_events};
+ghost use Rattle.path_checker.specs.Happening.{told_by};
+ghost use Rattle.path_checker.specs.Standing.{all_in_order};
+
+use crate::judge_plan::happened::Happened;
+use bumpalo::Bump;
+use path_model::{Event, Events};
+use std::alloc::{AllocError, Global};
+use std::marker::Model;
+use suit_params::ParamList;
+
+/// Events that follow one another: one alone, or all of an override at a component.
+#[derive(Clone, Copy)]
+pub(crate) enum Told<'a> {
+    One(Happened<'a>),
+    Sets { component: u32, list: &'a ParamList },
+}
+
+// Events, and those before them.
+#[cycle(trace)]
+#[derive(Drop)]
+pub(crate) struct Part<'a> {
+    told: Told<'a>,
+    before: Trace<'a>,
+}
+
+/// Parts of a path, the last one first. Traces made from one trace share its parts.
+#[cycle(trace)]
+#[derive(Drop)]
+pub(crate) struct Trace<'a> {
+    last: Option<&'a Part<'a>>,
+}
+
+impl<'a> Model for Trace<'a> {
+    ghost use Rattle.std.specs.Prelude.{List, length};
+    ghost use Rattle.path_model.specs.declared.event.Event.{Event};
+
+    ghost Value = { List (List Event) };
+
+    ghost use Rattle.path_checker.specs.Chains.{parts_from};
+
+    ghost view = { λ a. parts_from a.last };
+
+    ghost size = { length };
+
+    ghost use Rattle.std.proofs.Common.{arith};
+
+    ghost size_decreases = { λ a h. Prim.grind (arith) };
+}
+
+// Adds the events of an override, in memory of their own.
+fn tell_sets(
+    alloc: Global,
+    component: u32,
+    list: &ParamList,
+    events: &mut Events,
+) -> Result<(), AllocError>
+    ensures { OnOk result (events.new ≡ events.old ++ set_events component list.now) }
+{
+    for param in list.as_slice() {
+        let param = param.copy(alloc)?;
+        events.push(Event::Set { component, param })?;
+    }
+    Ok(())
+}
+
+impl<'a> Told<'a> {
+    // Adds the events, in memory of their own.
+    fn tell(&self, alloc: Global, events: &mut Events) -> Result<(), AllocError>
+        ensures { OnOk result (events.new ≡ events.old ++ told_by self.now) }
+    {
+        match *self {
+            Told::One(happened) => {
+                events.push(happened.told(alloc)?)?;
+                Ok(())
+            }
+            Told::Sets { component, list } => tell_sets(alloc, component, list, events),
+        }
+    }
+}
+
+impl<'a> Trace<'a> {
+    /// No events.
+    pub(crate) fn new() -> Trace<'a>
+        ensures { result ≡ [] }
+    {
+        Trace { last: None }
+    }
+
+    /// The same events. Takes no memory.
+    pub(crate) fn copy(&self) -> Trace<'a>
+        ensures { result ≡ self.now }
+    {
+        Trace { last: self.last }
+    }
+
+    /// With more events.
+    pub(crate) fn with(&self, bump: &'a Bump, told: Told<'a>) -> Result<Trace<'a>, AllocError>
+        ensures { IfOk result (λ trace. trace ≡ told_by told.entry ∷ self.now) }
+    {
+        let before = self.copy();
+        match bump.try_alloc(Part { told, before }) {
+            Ok(part) => Ok(Trace { last: Some(part) }),
+            Err(_) => Err(AllocError),
+        }
+    }
+
+    // The parts, the last one first.
+    fn parts(&self, alloc: Global) -> Result<Vec<Told<'a>>, AllocError>
+        ensures { IfOk result (λ held. map told_by held.items ≡ self.now) }
+    {
+        let mut held = Vec::new(alloc);
+        let mut at = self.last;
+        while let Some(part) = at {
+            held.push(part.told)?;
+            at = part.before.last;
+        }
+        Ok(held)
+    }
+
+    /// The events in the order in which they happened, in memory of their own.
+    pub(crate) fn told(&self, alloc: Global) -> Result<Events, AllocError>
+        ensures { IfOk result (λ events. events ≡ all_in_order self.now) }
+    {
+        let mut left = self.parts(alloc)?;
+        let mut events = Events::new(alloc);
+        while let Some(told) = left.pop() {
+            told.tell(alloc, &mut events)?;
+        }
+        Ok(events)
+    }
+}
