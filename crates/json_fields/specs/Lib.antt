@@ -5,3 +5,4 @@ pub mod Values
 pub mod Arrays
 pub mod Objects
 pub mod Telling
+pub mod PointerLaws

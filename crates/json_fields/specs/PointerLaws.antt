@@ -1,0 +1,42 @@
+-- The place of a flaw, by what a JSON Pointer finds in a value (RFC 6901, as `serde_json` reads it).
+use Rattle.std.specs.Prelude.{◌≡◌, ◌^◌, ◌<◌, ℕ, List, [], ◌∷◌, Option, Some, None, option_and_then, Result, Ok, Err}
+use Rattle.serde_json.specs.Data.{Data, array, object, Items, Members, put}
+use Rattle.serde_json.specs.Find.{pointer, get_item, get_member}
+use Rattle.json_fields.specs.declared.flaw.Flaw.{Flaw}
+use Rattle.json_fields.specs.declared.flaw.FlawKind.{FlawKind}
+use Rattle.json_fields.specs.Flaws.{flawed, under}
+use Rattle.json_fields.specs.Pointers.{key_token, index_token}
+use Rattle.json_fields.specs.Objects.{required}
+
+-- the part of the value that a flaw is told at
+abbrev pub told_at : Data → Result (Unit {0}) Flaw → Option Data
+told_at d (Ok x) = None
+told_at d (Err f) = pointer f.pointer d
+
+-- empty, or a slash and more
+abbrev pub IsPointer : List ℕ → Type 0
+IsPointer [] = Unit {0}
+IsPointer (c ∷ rest) = c ≡ 47
+
+-- told by a pointer
+abbrev pub IsTold : Result (Unit {0}) Flaw → Type 0
+IsTold (Ok x) = Unit {0}
+IsTold (Err f) = IsPointer f.pointer
+
+pub record PointerLaws : Type 0 where
+  -- a flaw of the value itself is told at the value
+  pub itself : (kind : FlawKind) (d : Data) → told_at d (flawed kind) ≡ Some d
+  -- that of a member's value at the part of the member's value, whatever characters its name has
+  pub member : (key : List ℕ) (f : Flaw) (ms : Members) → IsPointer f.pointer
+      → told_at (object ms) (under (key_token key) (Err f))
+      ≡ option_and_then (pointer f.pointer) (get_member key ms)
+  -- that of an element at the part of the element
+  pub element : (i : ℕ) (f : Flaw) (ds : Items) → i < 2 ^ 64 → IsPointer f.pointer
+      → told_at (array ds) (under (index_token i) (Err f))
+      ≡ option_and_then (pointer f.pointer) (get_item i ds)
+  -- a missing field is told where it would be
+  pub missing : (key : List ℕ) (d : Data) (ms : Members)
+      → told_at (object (put key d ms)) (required key None) ≡ Some d
+  -- each is told by a pointer
+  pub members_pointer : (key : List ℕ) (f : Flaw) → IsTold (under (key_token key) (Err f))
+  pub elements_pointer : (i : ℕ) (f : Flaw) → IsTold (under (index_token i) (Err f))

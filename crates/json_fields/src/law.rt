@@ -1,0 +1,8 @@
+//! Laws of the places of flaws. The call here does nothing: its contract is the law.
+
+ghost use Rattle.json_fields.specs.PointerLaws.{PointerLaws};
+
+/// A flaw is told at the part of the value that it is of, and a missing field where it would be (RFC 6901).
+pub fn pointer_laws()
+    ensures { PointerLaws }
+{}
