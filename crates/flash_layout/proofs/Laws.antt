@@ -114,18 +114,19 @@ same_entry a b p q r s t u v w = λ i. record { identifier = p i; memory = q i; 
 
 -- the fields of a component's bytes
 module _ (m s n : ℕ) (spelling zeros vendor class device capacity first second : List ℕ) where
-  abbrev whole : List ℕ
+  abbrev pub whole : List ℕ
   whole = m ∷ s ∷ ((n ∷ (spelling ++ zeros)) ++ ((vendor ++ (class ++ device)) ++ (capacity ++ (first ++ second))))
 
-  record HasFields : Type 0 where
-    name : slice_range whole 3 (3 + n) ≡ spelling
-    one : slice_range whole 67 84 ≡ vendor
-    two : slice_range whole 84 101 ≡ class
-    three : slice_range whole 101 118 ≡ device
-    size : slice_range whole 118 126 ≡ capacity
-    start : slice_range whole 126 134 ≡ first
-    other : slice_range whole 134 142 ≡ second
-    long : length whole ≡ 142
+  pub record HasFields : Type 0 where
+    pub name : slice_range whole 3 (3 + n) ≡ spelling
+    pub padded : slice_range whole 3 67 ≡ spelling ++ zeros
+    pub one : slice_range whole 67 84 ≡ vendor
+    pub two : slice_range whole 84 101 ≡ class
+    pub three : slice_range whole 101 118 ≡ device
+    pub size : slice_range whole 118 126 ≡ capacity
+    pub start : slice_range whole 126 134 ≡ first
+    pub other : slice_range whole 134 142 ≡ second
+    pub long : length whole ≡ 142
 
   has_fields : length spelling ≡ n → length spelling + length zeros ≡ 64 → length vendor ≡ 17 → length class ≡ 17 → length device ≡ 17 → length capacity ≡ 8 → length first ≡ 8 → length second ≡ 8 → HasFields
   has_fields short padding v c d k f g =
@@ -146,6 +147,7 @@ module _ (m s n : ℕ) (spelling zeros vendor class device capacity first second
       let to : length spelling ≡ 3 + n - 3 = omega (arith, short) in
       record {
         name = field (m ∷ s ∷ n ∷ []) spelling (zeros ++ ((vendor ++ (class ++ device)) ++ (capacity ++ (first ++ second)))) whole 3 (3 + n) (simp append_assoc) refl to;
+        padded = field (m ∷ s ∷ n ∷ []) (spelling ++ zeros) ((vendor ++ (class ++ device)) ++ (capacity ++ (first ++ second))) whole 3 67 refl refl (omega (arith, l1, padding));
         one = field h1 vendor ((class ++ device) ++ (capacity ++ (first ++ second))) whole 67 84 (simp append_assoc) n1 v;
         two = field h2 class (device ++ (capacity ++ (first ++ second))) whole 84 101 (simp append_assoc) n2 c;
         three = field h3 device (capacity ++ (first ++ second)) whole 101 118 (simp append_assoc) n3 d;
@@ -157,7 +159,7 @@ module _ (m s n : ℕ) (spelling zeros vendor class device capacity first second
 
 -- ---- components
 
-entry_fields : (e : Entry) → IsTypedEntry e → length (spelled_id e.identifier) ≤ 64
+pub entry_fields : (e : Entry) → IsTypedEntry e → length (spelled_id e.identifier) ≤ 64
     → HasFields (memory_byte e.memory) e.slots (length (spelled_id e.identifier)) (spelled_id e.identifier) (replicate (64 - length (spelled_id e.identifier)) 0)
     (optional_id e.vendor) (optional_id e.class) (optional_id e.device) (number_bytes e.capacity) (number_bytes (get_or e.starts 0 0)) (number_bytes (get_or e.starts 1 0))
 entry_fields e typed short =
@@ -177,11 +179,11 @@ entry_read e typed short =
     (ap number_at f.size ∙ number_read e.capacity typed.capacity)
     (ap id_at f.one ∙ id_read e.vendor typed.vendor) (ap id_at f.two ∙ id_read e.class typed.class) (ap id_at f.three ∙ id_read e.device typed.device)))
 
-entry_long : (e : Entry) → IsTypedEntry e → length (spelled_id e.identifier) ≤ 64 → length (entry_bytes e) ≡ 142
+pub entry_long : (e : Entry) → IsTypedEntry e → length (spelled_id e.identifier) ≤ 64 → length (entry_bytes e) ≡ 142
 unfolding entry_bytes
 entry_long e typed short = (entry_fields e typed short).long
 
-abbrev IsShort : Entry → Type 0
+abbrev pub IsShort : Entry → Type 0
 IsShort e = length (spelled_id e.identifier) ≤ 64
 
 entries_read : (es : List Entry) (zeros : List ℕ) → All IsTypedEntry es → All IsShort es → entries_at (length es) (entries_bytes es ++ zeros) ≡ Ok es
@@ -197,14 +199,14 @@ entries_read (e ∷ es) zeros typed short =
     ∙ entries_read es zeros (All-tail IsTypedEntry e es typed) (All-tail IsShort e es short) in
     rw (first, rest) refl
 
-entries_long : (es : List Entry) → All IsTypedEntry es → All IsShort es → length (entries_bytes es) ≡ 142 * length es
+pub entries_long : (es : List Entry) → All IsTypedEntry es → All IsShort es → length (entries_bytes es) ≡ 142 * length es
 entries_long [] typed short = refl
 entries_long (e ∷ es) typed short =
     omega (arith, length-append (entry_bytes e) (entries_bytes es), entry_long e (All-head IsTypedEntry e es typed) (All-head IsShort e es short), entries_long es (All-tail IsTypedEntry e es typed) (All-tail IsShort e es short))
 
 -- ---- the page
 
-short_of : (frame : Frame) (size : ℕ) (layout : List Entry) → IsLayout frame size layout → All IsShort layout
+pub short_of : (frame : Frame) (size : ℕ) (layout : List Entry) → IsLayout frame size layout → All IsShort layout
 short_of frame size layout allowed = All-weaker (IsEntry size) IsShort (λ e is. is.short) layout allowed.each
 
 page_fields : (frame : Frame) (layout : List Entry) (key : Key) → AreTyped layout key → All IsShort layout → length layout ≤ frame.most → page_at frame (config_page frame layout key) ≡ Ok (layout, key)

@@ -1,5 +1,6 @@
 mod Allowing
 mod BlankKept
+mod FieldPlaces
 mod Found
 mod Gating
 mod Judged

@@ -1,7 +1,7 @@
 -- Reading so many, one by one.
-use Rattle.std.proofs.Common.{◌≡◌, ℕ, suc, ◌+◌, ◌-◌, ◌*◌, ◌<◌, ◌≤◌, List, [], ◌∷◌, ◌++◌, take, drop, Result, Ok, Err, refl, sym, ap, ◌∙◌, append_assoc, arith}
+use Rattle.std.proofs.Common.{◌≡◌, ℕ, suc, ◌+◌, ◌-◌, ◌*◌, ◌<◌, List, [], ◌∷◌, ◌++◌, take, drop, Result, Ok, Err, refl, sym, ap, ◌∙◌, append_assoc, arith}
 use Rattle.std.specs.List.{slice_range}
-use Rattle.std.proofs.lemmas.List.{append-nil, drop-drop}
+use Rattle.std.proofs.lemmas.List.{drop-drop}
 use Rattle.det_cbor.specs.HeadReading.{◌>>=◌}
 use Rattle.det_cbor.specs.Position.{Position}
 use Rattle.suit_params.specs.declared.refusal.Refusal.{Refusal}
@@ -32,20 +32,6 @@ parts_step front count done at next inner a total lt content is so_far =
     rw (one, ← content, is) (one_more front inner.left (parts_from (count - (done + 1)) next)) in
     sym step ∙ so_far
 
-pub parts_done : (front : List (List ℕ)) (count done : ℕ) (at : Position) (total : Result (List (List ℕ)) Refusal)
-    → count ≤ done → with_front front (parts_from (count - done) at) ≡ total → total ≡ Ok front
-parts_done front count done at total le so_far =
-    let none : count - done ≡ 0 = omega arith in
-    let last : with_front front (parts_from (count - done) at) ≡ Ok front = rw none (ap (λ (l : List (List ℕ)). Ok l) (append-nil front)) in
-    sym so_far ∙ last
-
-pub parts_bad : (front : List (List ℕ)) (count done : ℕ) (at : Position) (r : Refusal) (total : Result (List (List ℕ)) Refusal)
-    → done < count → Err r ≡ content_from at → with_front front (parts_from (count - done) at) ≡ total → total ≡ Err r
-parts_bad front count done at r total lt bad so_far =
-    let one : count - done ≡ suc (count - (done + 1)) = omega arith in
-    let step : with_front front (parts_from (count - done) at) ≡ Err r = rw (one, ← bad) refl in
-    sym so_far ∙ step
-
 -- ---- components
 
 pub entries_step : (front : List Entry) (count done : ℕ) (at next : List ℕ) (e : Entry) (total : Result (List Entry) Refusal)
@@ -56,13 +42,6 @@ entries_step front count done at next e total lt is rest so_far =
     let step : with_front front (entries_at (count - done) at) ≡ with_front (front ++ e ∷ []) (entries_at (count - (done + 1)) next) =
     rw (one, is, rest) (one_more front e (entries_at (count - (done + 1)) (drop 142 at))) in
     sym step ∙ so_far
-
-pub entries_done : (front : List Entry) (count done : ℕ) (at : List ℕ) (total : Result (List Entry) Refusal)
-    → count ≤ done → with_front front (entries_at (count - done) at) ≡ total → total ≡ Ok front
-entries_done front count done at total le so_far =
-    let none : count - done ≡ 0 = omega arith in
-    let last : with_front front (entries_at (count - done) at) ≡ Ok front = rw none (ap (λ (l : List Entry). Ok l) (append-nil front)) in
-    sym so_far ∙ last
 
 pub entries_bad : (front : List Entry) (count done : ℕ) (at : List ℕ) (r : Refusal) (total : Result (List Entry) Refusal)
     → done < count → entry_at (take 142 at) ≡ Err r → with_front front (entries_at (count - done) at) ≡ total → total ≡ Err r

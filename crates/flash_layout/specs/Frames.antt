@@ -30,11 +30,7 @@ record_from frame which = frame.config_size + which * frame.record_size
 abbrev pub record_place : Frame → ℕ → ℕ
 record_place frame which = frame.base + record_from frame which
 
-abbrev pub record_page_of : Frame → List ℕ → ℕ → List ℕ
-record_page_of frame head which =
-    slice_range head (record_from frame which) (record_from frame which + frame.record_size)
-
--- its first byte is its gate
+-- the first byte of a record page is its gate
 abbrev pub HasOpenRecord : Frame → List ℕ → ℕ → Type 0
 HasOpenRecord frame head which = IsOpen head (record_from frame which)
 

@@ -4,6 +4,7 @@ pub mod Layouts
 pub mod Slots
 pub mod ConfigPage
 pub mod PageReading
+pub mod PagePlaces
 pub mod ConfigLaws
 pub mod Configs
 pub mod LoadLaws

@@ -2,7 +2,6 @@
 use Rattle.std.specs.Prelude.{◌≡◌, ◌≤◌, ◌+◌, ℕ, nat_le, cond, List, [], All, map, take, drop, slice_range}
 use Rattle.std.specs.Int.{w64, from_be_bytes}
 use Rattle.std.specs.List.{flat_map}
-use Rattle.suit_edge.specs.Ranges.{Range}
 use Rattle.flash_layout.specs.declared.layout.Entry.{Entry}
 use Rattle.flash_layout.specs.declared.slot.Slot.{Slot}
 use Rattle.flash_layout.specs.declared.frame.TheConstants.{LENGTH_SIZE}
@@ -11,9 +10,6 @@ use Rattle.flash_layout.specs.Layouts.{slot_starts}
 -- how many bytes a slot takes
 abbrev pub extent_of : Slot → ℕ
 extent_of slot = LENGTH_SIZE + slot.capacity
-
-abbrev pub range_of : Slot → Range
-range_of slot = record { place = slot.start; size = extent_of slot }
 
 abbrev pub LiesWithin : ℕ → Slot → Type 0
 LiesWithin size slot = slot.start + extent_of slot ≤ size

@@ -3,11 +3,17 @@
 ghost use Rattle.flash_layout.specs.ConfigLaws.{OneAnswer, OneConfig};
 ghost use Rattle.flash_layout.specs.FrameLaws.{FrameLaws};
 ghost use Rattle.flash_layout.specs.LoadLaws.{LoadLaws};
+ghost use Rattle.flash_layout.specs.PagePlaces.{PagePlaces};
 ghost use Rattle.flash_layout.specs.SlotLaws.{SlotLaws};
 
 /// Where the parts of a flash of layout version 1 stand.
 pub fn frame_laws()
     ensures { FrameLaws }
+{}
+
+/// Where the fields of a configuration page stand.
+pub fn page_laws()
+    ensures { PagePlaces }
 {}
 
 /// At most one layout and key stand on a page, and the head of an image says one configuration at most.

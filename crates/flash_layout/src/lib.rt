@@ -32,7 +32,7 @@ pub use frame::{
     VERSION_1, bank, record_page,
 };
 pub use key::{Key, is_key};
-pub use law::{config_laws, frame_laws, load_laws, slot_laws};
+pub use law::{config_laws, frame_laws, load_laws, page_laws, slot_laws};
 pub use layout::{Entry, Layout, Memory};
 pub use layout_fault::LayoutFault;
 pub use load::{Loaded, load_config};

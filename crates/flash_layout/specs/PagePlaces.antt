@@ -1,0 +1,64 @@
+-- Where the fields of the configuration page stand, by their places in it. All numbers are big-endian.
+use Rattle.std.specs.Prelude.{◌≡◌, ◌<◌, ◌+◌, ◌-◌, ◌*◌, ℕ, List, ◌∷◌, length, replicate, slice_index, slice_index_or, slice_range, Option, Some, None}
+use Rattle.std.specs.Int.{w64, from_be_bytes}
+use Rattle.flash_layout.specs.declared.frame.TheConstants.{VERSION_1}
+use Rattle.flash_layout.specs.declared.layout.Entry.{Entry}
+use Rattle.flash_layout.specs.declared.layout.Memory.{Memory}
+use Rattle.flash_layout.specs.declared.layout.Memory.TheVariants as memory
+use Rattle.flash_layout.specs.declared.key.Key.{Key}
+use Rattle.flash_layout.specs.Layouts.{AreTyped}
+use Rattle.flash_layout.specs.ConfigPage.{IsConfigPage}
+use Rattle.suit_params.specs.Identifiers.{spelled_id}
+
+abbrev pub IsMemoryByte : Memory → ℕ → Type 0
+IsMemoryByte memory.Flash byte = byte ≡ 0
+IsMemoryByte memory.Ram byte = byte ≡ 1
+
+-- 17 zeros where there is no UUID, and else 1 and its 16 bytes
+abbrev pub IsIdField : Option (List ℕ) → List ℕ → Type 0
+IsIdField None bytes = bytes ≡ replicate 17 0
+IsIdField (Some id) bytes = bytes ≡ 1 ∷ id
+
+abbrev pub IsNumberField : ℕ → List ℕ → Type 0
+IsNumberField n bytes = from_be_bytes w64 bytes ≡ n
+
+-- an identifier of so many bytes in the shortest form of CBOR, at the front of 64 bytes
+abbrev pub IsIdentifierField : ℕ → List (List ℕ) → List ℕ → Type 0
+IsIdentifierField size id bytes =
+    (size ≡ length (spelled_id id)) × (slice_range bytes 0 size ≡ spelled_id id)
+    × (slice_range bytes size 64 ≡ replicate (64 - size) 0)
+
+-- the 142 bytes of a component
+pub record HasEntryPlaces (e : Entry) (bytes : List ℕ) : Type 0 where
+  pub memory : IsMemoryByte e.memory (slice_index bytes 0)
+  pub slots : slice_index bytes 1 ≡ e.slots
+  pub identifier : IsIdentifierField (slice_index bytes 2) e.identifier (slice_range bytes 3 67)
+  pub vendor : IsIdField e.vendor (slice_range bytes 67 84)
+  pub class : IsIdField e.class (slice_range bytes 84 101)
+  pub device : IsIdField e.device (slice_range bytes 101 118)
+  pub capacity : IsNumberField e.capacity (slice_range bytes 118 126)
+  pub first : IsNumberField (slice_index e.starts 0) (slice_range bytes 126 134)
+  pub second : IsNumberField (slice_index e.starts 1) (slice_range bytes 134 142)
+
+-- where a component of the page starts
+abbrev pub entry_place : ℕ → ℕ
+entry_place i = 68 + 142 * i
+
+pub record HasPagePlaces (layout : List Entry) (key : Key) (page : List ℕ) : Type 0 where
+  pub long : length page ≡ 1204
+  pub gate : slice_index page 0 ≡ 0xA5
+  pub version : slice_index page 1 ≡ 1
+  pub key_size : slice_index page 2 ≡ key.length
+  pub count : slice_index page 3 ≡ length layout
+  pub key_bytes : slice_range page 4 68 ≡ key.bytes
+  pub each : (i : ℕ) (d : Entry) → i < length layout
+      → HasEntryPlaces (slice_index_or layout i d)
+      (slice_range page (entry_place i) (entry_place (i + 1)))
+  pub rest : slice_range page (entry_place (length layout)) 1204
+      ≡ replicate (1204 - entry_place (length layout)) 0
+
+-- each configuration page of layout version 1 has its fields there
+abbrev pub PagePlaces : Type 0
+PagePlaces =
+    (size : ℕ) (page : List ℕ) (layout : List Entry) (key : Key) → AreTyped layout key
+    → IsConfigPage VERSION_1 size page layout key → HasPagePlaces layout key page
