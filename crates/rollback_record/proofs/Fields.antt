@@ -15,18 +15,21 @@ same_record a b p q r s t u = λ i. record { generation = p i; sequence = q i; b
 
 -- the fields of a page's bytes
 module _ (gate bank size : ℕ) (generation sequence long digest zeros active : List ℕ) where
-  abbrev whole : List ℕ
+  abbrev pub whole : List ℕ
   whole = gate ∷ ((generation ++ sequence) ++ (bank ∷ (long ++ (size ∷ ((digest ++ zeros) ++ active)))))
 
-  record HasFields : Type 0 where
-    generation_is : slice_range whole 1 9 ≡ generation
-    sequence_is : slice_range whole 9 17 ≡ sequence
-    bank_is : slice_range whole 17 18 ≡ bank ∷ []
-    length_is : slice_range whole 18 26 ≡ long
-    digest_is : slice_range whole 27 59 ≡ digest
-    active_is : slice_range whole 91 99 ≡ active
+  pub record HasFields : Type 0 where
+    pub generation_is : slice_range whole 1 9 ≡ generation
+    pub sequence_is : slice_range whole 9 17 ≡ sequence
+    pub bank_is : slice_range whole 17 18 ≡ bank ∷ []
+    pub length_is : slice_range whole 18 26 ≡ long
+    pub size_is : slice_range whole 26 27 ≡ size ∷ []
+    pub digest_is : slice_range whole 27 59 ≡ digest
+    pub zeros_is : slice_range whole 59 91 ≡ zeros
+    pub active_is : slice_range whole 91 99 ≡ active
+    pub whole_long : length whole ≡ 99
 
-  has_fields : length generation ≡ 8 → length sequence ≡ 8 → length long ≡ 8 → length digest ≡ 32 → length zeros ≡ 32 → length active ≡ 8 → HasFields
+  pub has_fields : length generation ≡ 8 → length sequence ≡ 8 → length long ≡ 8 → length digest ≡ 32 → length zeros ≡ 32 → length active ≡ 8 → HasFields
   has_fields g s l d z a =
       let h1 : List ℕ = gate ∷ [] in
       let h2 = h1 ++ generation in
@@ -49,22 +52,35 @@ module _ (gate bank size : ℕ) (generation sequence long digest zeros active : 
         sequence_is = field h2 sequence (bank ∷ (long ++ (size ∷ ((digest ++ zeros) ++ active)))) whole 9 17 (ap (λ (l : List ℕ). gate ∷ l) (append_assoc generation sequence (bank ∷ (long ++ (size ∷ ((digest ++ zeros) ++ active)))))) n2 s;
         bank_is = field h3 (bank ∷ []) (long ++ (size ∷ ((digest ++ zeros) ++ active))) whole 17 18 refl n3 refl;
         length_is = field h4 long (size ∷ ((digest ++ zeros) ++ active)) whole 18 26 (ap (λ (l : List ℕ). gate ∷ l) (sym (append_assoc (generation ++ sequence) (bank ∷ []) (long ++ (size ∷ ((digest ++ zeros) ++ active)))))) n4 l;
+        size_is = field h5 (size ∷ []) ((digest ++ zeros) ++ active) whole 26 27 (ap (λ (l : List ℕ). gate ∷ l) (sym (append_assoc ((generation ++ sequence) ++ bank ∷ []) long (size ∷ ((digest ++ zeros) ++ active)) ∙ append_assoc (generation ++ sequence) (bank ∷ []) (long ++ (size ∷ ((digest ++ zeros) ++ active)))))) n5 refl;
         digest_is = field h6 digest (zeros ++ active) whole 27 59 (simp append_assoc) n6 d;
+        zeros_is = field h7 zeros active whole 59 91 (simp append_assoc) n7 z;
         active_is = field h8 active [] whole 91 99 (all ∙ ap (λ (l : List ℕ). h8 ++ l) (sym (append-nil active))) n8 a;
+        whole_long = ap length all ∙ omega (arith, n8, a, length-append h8 active);
       }
 
-  bank_at : HasFields → get_or whole 17 0 ≡ bank
+  pub bank_at : HasFields → get_or whole 17 0 ≡ bank
   bank_at f = sym (get_or-between whole 17 18 0 0 (omega arith)) ∙ ap (λ (l : List ℕ). get_or l 0 0) f.bank_is
 
+  pub size_at : HasFields → get_or whole 26 0 ≡ size
+  size_at f = sym (get_or-between whole 26 27 0 0 (omega arith)) ∙ ap (λ (l : List ℕ). get_or l 0 0) f.size_is
+
 -- ---- the record
+
+-- the fields of a record's page
+pub record_fields : (r : Record) → IsTypedRecord r
+    → HasFields 0xA5 r.bank 32 (number_bytes r.generation) (number_bytes r.sequence) (number_bytes r.length) r.digest.bytes (replicate (64 - length r.digest.bytes) 0) r.active
+record_fields r typed =
+    let zeros : List ℕ = replicate (64 - length r.digest.bytes) 0 in
+    let z : length zeros ≡ 32 = omega (arith, typed.digest, length-replicate {A = ℕ} (64 - length r.digest.bytes) 0) in
+    has_fields 0xA5 r.bank 32 (number_bytes r.generation) (number_bytes r.sequence) (number_bytes r.length) r.digest.bytes zeros r.active
+    (number_long r.generation) (number_long r.sequence) (number_long r.length) typed.digest z typed.active
 
 body_read : (r : Record) → IsTypedRecord r → fields_at (0xA5 ∷ record_body r) ≡ r
 unfolding record_body
 body_read r typed =
     let zeros : List ℕ = replicate (64 - length r.digest.bytes) 0 in
-    let z : length zeros ≡ 32 = omega (arith, typed.digest, length-replicate {A = ℕ} (64 - length r.digest.bytes) 0) in
-    let f = has_fields 0xA5 r.bank 32 (number_bytes r.generation) (number_bytes r.sequence) (number_bytes r.length) r.digest.bytes zeros r.active
-    (number_long r.generation) (number_long r.sequence) (number_long r.length) typed.digest z typed.active in
+    let f = record_fields r typed in
     same_record _ r
     (ap number_at f.generation_is ∙ number_read r.generation typed.generation)
     (ap number_at f.sequence_is ∙ number_read r.sequence typed.sequence)

@@ -1,5 +1,6 @@
 pub mod Answered
 pub mod Fields
+mod FieldPlaces
 pub mod Pages
 pub mod Loads
 pub mod Commits

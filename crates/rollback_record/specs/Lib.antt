@@ -2,6 +2,7 @@ pub mod RecordPage
 pub mod HeadRecord
 pub mod Judging
 pub mod Committing
+pub mod RecordPlaces
 pub mod RecordLaws
 pub mod SoundFlash
 pub mod SoundLaws

@@ -1,3 +1,4 @@
+use Rattle.rollback_record.proofs.FieldPlaces.{record_places}
 use Rattle.rollback_record.proofs.Fields.{one_record}
 use Rattle.rollback_record.proofs.OneAnswers.{one_answer}
 use Rattle.rollback_record.proofs.law.record_laws.Goals as goal
@@ -7,3 +8,6 @@ returns-clause-page c = one_record
 
 pub returns-clause-answer : goal.returns-clause-answer
 returns-clause-answer c = one_answer
+
+pub returns-clause-places : goal.returns-clause-places
+returns-clause-places c = record_places

@@ -1,0 +1,24 @@
+-- Where the fields of a record page stand, by their places in it. All numbers are big-endian.
+use Rattle.std.specs.Prelude.{◌≡◌, ℕ, List, length, replicate, slice_index, slice_range}
+use Rattle.flash_layout.specs.declared.frame.Frame.{Frame}
+use Rattle.flash_layout.specs.declared.slot.Record.{Record}
+use Rattle.flash_layout.specs.PagePlaces.{IsNumberField}
+use Rattle.rollback_record.specs.RecordPage.{IsRecordPage}
+
+pub record HasRecordPlaces (r : Record) (page : List ℕ) : Type 0 where
+  pub long : length page ≡ 99
+  pub gate : slice_index page 0 ≡ 0xA5
+  pub generation : IsNumberField r.generation (slice_range page 1 9)
+  pub sequence : IsNumberField r.sequence (slice_range page 9 17)
+  pub bank : slice_index page 17 ≡ r.bank
+  pub size : IsNumberField r.length (slice_range page 18 26)
+  pub digest_size : slice_index page 26 ≡ 32
+  pub digest : slice_range page 27 59 ≡ r.digest.bytes
+  pub rest : slice_range page 59 91 ≡ replicate 32 0
+  pub active : slice_range page 91 99 ≡ r.active
+
+-- each record page has its fields there
+abbrev pub RecordPlaces : Type 0
+RecordPlaces =
+    (frame : Frame) (config page : List ℕ) (r : Record) → IsRecordPage frame config page r
+    → HasRecordPlaces r page
