@@ -31,6 +31,7 @@ use Rattle.author.specs.declared.fields.Fields.{Fields}
 use Rattle.author.specs.Scope.{Scope}
 use Rattle.author.specs.Elements.{items_in}
 use Rattle.author.specs.Identifiers.{identifier_of, identifiers_of}
+use Rattle.author.specs.MadeMembers.{IsAllowedMember}
 use Rattle.author.specs.Making.{apart_member, apart_text, made_manifest}
 use Rattle.author.specs.Members.{is_one_item, text_member_of, described_member}
 use Rattle.author.specs.Descriptions.{capped_count, listed, no_fields, scope_of, takes_field, whole, described}
@@ -262,3 +263,20 @@ grammatical law d files p components is fits =
       install = severed_holds n p.severed.install p.manifest.install (subst (λ (k : ℕ). IsRead k p.manifest.install) counted h.7) fits.install;
       text = text_is law p.severed.text p.manifest.text h.8 fits.text;
     }
+
+-- ---- the members that may be severed
+
+member_allowed : (count : ℕ) (m : Member) → IsRead count m → IsAllowedMember count m
+member_allowed count members.Empty h = tt
+member_allowed count (members.Here s) h = λ fits. h fits.1
+member_allowed count (members.Apart digest) h = tt
+
+pub members_allowed : (d : Data) (files : Files) (p : Described) → AreFewAndApart p.manifest.components → described files d ≡ Ok p
+    → IsAllowedMember (length p.manifest.components) p.manifest.payload_fetch × IsAllowedMember (length p.manifest.components) p.manifest.install
+members_allowed d files p components is =
+    let h : Stands p = held Stands (described files d) p (described_stands files d) is in
+    let few : length p.manifest.components ≤ 8 = components.few in
+    let counted : capped_count (length p.manifest.components) ≡ length p.manifest.components = capped_small (length p.manifest.components) (omega (arith, few)) in (
+      member_allowed (length p.manifest.components) p.manifest.payload_fetch (subst (λ (k : ℕ). IsRead k p.manifest.payload_fetch) counted h.6),
+      member_allowed (length p.manifest.components) p.manifest.install (subst (λ (k : ℕ). IsRead k p.manifest.install) counted h.7),
+    )

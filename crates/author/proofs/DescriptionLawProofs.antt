@@ -10,7 +10,7 @@ use Rattle.author.specs.declared.fields.Described.{Described}
 use Rattle.author.specs.Descriptions.{described}
 use Rattle.author.specs.DescriptionLaws.{DescriptionLaws}
 use Rattle.author.specs.Faults.{AreFewAndApart, IsDescription}
-use Rattle.author.proofs.DescriptionGrammar.{grammatical}
+use Rattle.author.proofs.DescriptionGrammar.{grammatical, members_allowed}
 use Rattle.author.proofs.Likes.{Like, BothRead, BothFlawed}
 use Rattle.author.proofs.PayloadsAscend.{ascend}
 use Rattle.author.proofs.SameFields.{SameComponents, like_described, never_flawed}
@@ -70,5 +70,6 @@ pub laws : ItemSplitting → PayloadOrderLaw → DescriptionLaws
 laws items payloads = record {
   some = λ d files h. some_said d files h (described files d) refl;
   grammatical = λ d files p h is. grammatical items d files p (few_apart d files p ∣ h ∣₁ is) is;
+  members = λ d files p h is. members_allowed d files p (few_apart d files p ∣ h ∣₁ is) is;
   payloads = ascend payloads;
 }

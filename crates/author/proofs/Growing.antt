@@ -94,11 +94,6 @@ pub sequence_of-listed : (scope : Scope) (levels n : ℕ) (d : Data) (vs : List 
 sequence_of-listed scope levels n d [] e h is = absurd (omega arith)
 sequence_of-listed scope levels n d (v ∷ vs) e h is = rw e (sequence_of-items scope n d ∙ ap (sequence_in scope n) (sym is))
 
-pub sequence_of-none : (scope : Scope) (levels : ℕ) (d : Data) (vs : List Value) → length vs ≡ 0 → items_view vs ≡ items_in d → sequence_of scope levels d ≡ flawed Field
-sequence_of-none scope zero d vs h is = refl
-sequence_of-none scope (suc n) d [] h is = sequence_of-items scope n d ∙ ap (sequence_in scope n) (sym is)
-sequence_of-none scope (suc n) d (v ∷ vs) h is = absurd (omega arith)
-
 abbrev pub command_in : Scope → ℕ → Option (Data × Data) → Result CommandTree Flaw
 command_in scope levels (Some p) = under (index_token 0) (name_of scope.shared p.0) >>= λ n. command_named scope levels n p.1
 command_in scope levels None = flawed Field

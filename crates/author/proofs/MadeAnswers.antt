@@ -1,5 +1,5 @@
 -- The answer to a description that is made into an envelope.
-use Rattle.std.proofs.Common.{◌≡◌, ℕ, ◌<◌, ◌≤◌, ◌^◌, ◌-◌, length, min, List, [], ◌∷◌, Result, Ok, Err, refl, sym, ap, subst, ◌∙◌, arith, inl, inr}
+use Rattle.std.proofs.Common.{◌≡◌, ℕ, Bool, true, false, Option, ◌<◌, ◌≤◌, ◌^◌, ◌-◌, length, min, List, [], ◌∷◌, Result, Ok, Err, refl, sym, ap, subst, ◌∙◌, arith, inl, inr}
 use Rattle.std.specs.Prelude.{IfOk, IfErr}
 use Rattle.serde_json.specs.Data.{Data}
 use Rattle.json_fields.specs.declared.flaw.Flaw.{Flaw}
@@ -15,6 +15,12 @@ use Rattle.suit_params.specs.Refusing.{SaysWhole}
 use Rattle.suit_manifest.specs.ManifestMaking.{placed_manifest}
 use Rattle.suit_manifest.specs.ManifestWriting.{ManifestFits, IsWrittenManifest, IsGrammatical}
 use Rattle.suit_manifest.specs.Manifests.{IsManifest}
+use Rattle.suit_manifest.specs.declared.manifest.Member.{Member}
+use Rattle.suit_manifest.specs.declared.manifest.Member.TheVariants as members
+use Rattle.suit_manifest.specs.declared.manifest.TextMember.{TextMember}
+use Rattle.suit_manifest.specs.declared.manifest.TextMember.TheVariants as texts
+use Rattle.suit_commands.specs.SequenceMaking.{sequence_item}
+use Rattle.det_cbor.specs.DataItem.{spell}
 use Rattle.suit_params.specs.declared.refusal.Refusal.{Refusal}
 use Rattle.suit_envelope.specs.declared.parts.EnvelopeParts.{EnvelopeParts}
 use Rattle.author.specs.declared.fields.Described.{Described}
@@ -24,9 +30,10 @@ use Rattle.author.specs.declared.make_fault.MakeFault.TheVariants.{TooLong, NoMe
 use Rattle.author.specs.Descriptions.{described}
 use Rattle.author.specs.DescriptionLaws.{DescriptionLaws}
 use Rattle.author.specs.Faults.{IsDescription}
-use Rattle.author.specs.Making.{made_manifest}
-use Rattle.author.specs.Severances.{parted}
+use Rattle.author.specs.Making.{apart_member, apart_text, made_manifest}
+use Rattle.author.specs.Severances.{parted, severed_content, severed_text}
 use Rattle.author.specs.MadeEnvelopes.{made_parts, made_bytes, trimmed_bytes, IsShort, ExceedsLimit, Trimmed, Whole, AnswersShort, IsMadeOf, IsTooLong, IsMakeFaultOf, IsMadeAs, IsTooLongBy, HasOneBlock, IsAuthenticUnder, HoldsPartsOf, HoldsManifestOf}
+use Rattle.author.specs.MadeMembers.{HoldsSevered, HoldsText, HoldsMembersOf, IsAllowedMember, IsWrittenApart, AreWrittenApart}
 use Rattle.author.proofs.DescriptionLawProofs.{is_description}
 
 -- ---- lengths
@@ -169,4 +176,45 @@ holds_manifest law d files bytes described_as p q said accepted reads e fits wri
       manifest = q.manifest;
       is = record { said = described_as; reads = reads; is = ap (λ (x : Parted). x.manifest) e };
       says_so = subst (λ (b : List ℕ). SaysWhole IsManifest place b (placed_manifest place q.manifest)) (sym says.manifest) held;
+    }
+
+-- ---- the severed members are those of the description
+
+holds_severed : (count : ℕ) (held : Option (List ℕ)) (place : ℕ) (b : Bool) (m : Member) → IsAllowedMember count m → IsWrittenApart b m → held ≡ severed_content b m
+    → HoldsSevered count held place b m (apart_member b m)
+holds_severed count held place true members.Empty allowed written is = is
+holds_severed count held place true (members.Here s) allowed written is = record {
+  content = spell (sequence_item s);
+  there = is;
+  matches = refl;
+  says_so = written.0.says false count place (allowed written.1);
+}
+holds_severed count held place true (members.Apart digest) allowed written is = is
+holds_severed count held place false m allowed written is = is
+
+holds_text : (held : Option (List ℕ)) (b : Bool) (t : TextMember) → held ≡ severed_text b t → HoldsText held b t (apart_text b t)
+holds_text held true texts.Empty is = is
+holds_text held true (texts.Here content) is = (is, refl)
+holds_text held true (texts.Apart digest) is = is
+holds_text held false t is = is
+
+pub holds_members : DescriptionLaws → (d : Data) (files : List (List ℕ × List ℕ)) (key bytes : List ℕ) (described_as : Described) (p : EnvelopeParts) (q : Parted) (said : EnvelopeSays)
+    → ∥ IsDescription d ∥₁ → described files d ≡ Ok described_as → q ≡ parted described_as → p ≡ made_parts key q → AreWrittenApart described_as → EnvelopeOf bytes said → SaysParts p said
+    → HoldsMembersOf d files bytes
+holds_members law d files key bytes described_as p q said accepted reads e k written envelope says =
+    let same : p ≡ made_parts key (parted described_as) = k ∙ ap (made_parts key) e in
+    let allowed = law.members d files described_as (is_description d accepted) reads in
+    let n : ℕ = length described_as.manifest.components in
+    record {
+      described_as = described_as;
+      reads = reads;
+      said = said;
+      envelope = envelope;
+      members = record {
+        payload_fetch = holds_severed n said.payload_fetch said.payload_fetch_place described_as.severed.payload_fetch described_as.manifest.payload_fetch allowed.0 written.0
+            (says.payload_fetch ∙ ap (λ (x : EnvelopeParts). x.payload_fetch) same);
+        install = holds_severed n said.install said.install_place described_as.severed.install described_as.manifest.install allowed.1 written.1
+            (says.install ∙ ap (λ (x : EnvelopeParts). x.install) same);
+        text = holds_text said.text described_as.severed.text described_as.manifest.text (says.text ∙ ap (λ (x : EnvelopeParts). x.text) same);
+      };
     }

@@ -19,4 +19,5 @@ pub mod Held
 pub mod Making
 pub mod Severances
 pub mod MadeEnvelopes
+pub mod MadeMembers
 pub mod DescriptionLaws

@@ -6,7 +6,7 @@ use det_cbor::splitting_laws;
 use suit_envelope::payload_order_laws;
 
 /// Does nothing. Its contract has the laws. A description has its parts, whatever bytes its files have; its manifest is
-/// one that the grammar allows; and the keys of its payloads ascend in the order of their spellings.
+/// one that the grammar allows, and so is each member that may be severed; and the keys of its payloads ascend in the order of their spellings.
 pub fn description_laws()
     ensures { DescriptionLaws }
 {

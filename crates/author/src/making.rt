@@ -4,6 +4,7 @@ ghost use Rattle.std.specs.Prelude.{◌≡◌, IfOk, IsTrue};
 ghost use Rattle.author.specs.FileNames.{file_names};
 ghost use Rattle.author.specs.Files.{has_files};
 ghost use Rattle.author.specs.Held.{value_of};
+ghost use Rattle.author.specs.MadeMembers.{AreWrittenApart, IsWrittenApart};
 ghost use Rattle.author.specs.Making.{apart_member, apart_text, IsManifestOf};
 ghost use Rattle.author.specs.Severances.{severed_content, severed_text, parted};
 
@@ -39,6 +40,7 @@ fn part_member(
 ) -> Result<(Member, Option<Bytes>), AllocError>
     ensures member { IfOk result (λ m. m.0 ≡ apart_member severed member) }
     ensures content { IfOk result (λ m. m.1 ≡ severed_content severed member) }
+    ensures written { IfOk result (λ _. IsWrittenApart severed member) }
 {
     match member {
         Member::Here(sequence) if severed => {
@@ -65,7 +67,8 @@ fn part_text(severed: bool, text: TextMember) -> (TextMember, Option<Bytes>)
 
 /// Puts the severed members of a description beside its manifest.
 pub(crate) fn part<'a>(alloc: Global, parts: Described<'a>) -> Result<Parted<'a>, AllocError>
-    ensures { IfOk result (λ p. p ≡ parted parts.entry) }
+    ensures is { IfOk result (λ p. p ≡ parted parts.entry) }
+    ensures written { IfOk result (λ _. AreWrittenApart parts.entry) }
 {
     let severed = parts.severed;
     let mut manifest = parts.manifest;

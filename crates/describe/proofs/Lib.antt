@@ -1,5 +1,4 @@
 pub mod Joining
-pub mod Texts
 pub mod ReadTypes
 pub mod ValuesRead
 pub mod ParamOrder
@@ -17,4 +16,3 @@ pub mod PayloadFacts
 pub mod DescriptionReads
 pub mod DescribedAgain
 pub mod Plain
-pub mod ThereFacts

@@ -1,27 +1,28 @@
 use Rattle.std.proofs.lemmas.Result.{IfOk-weaker}
 use Rattle.author.specs.Held.{value_of}
 use Rattle.author.specs.MadeEnvelopes.{IsAuthenticUnder, HoldsPartsOf, HoldsManifestOf}
-use Rattle.author.proofs.MadeAnswers.{made_ok, made_refused, made_envelope, made_limit, authentic_made, holds_parts, holds_manifest}
+use Rattle.author.specs.MadeMembers.{HoldsMembersOf}
+use Rattle.author.proofs.MadeAnswers.{made_ok, made_refused, made_envelope, made_limit, authentic_made, holds_parts, holds_manifest, holds_members}
 use Rattle.author.proofs.made_envelope.make.Goals as goal
 
 pub returns-clause-ok : goal.returns-clause-ok
-returns-clause-ok c = made_ok (value_of c.args.description.now) c.args.files.now c.args.key.now c.in_ok-said.said c.in_ok-said.ensures c.in_ok-parts.parts c.in_ok-parted.parted c.encode_short.result c.in_ok-parted.ensures c.in_ok-parts.ensures.is c.encode_short.ensures.answers
+returns-clause-ok c = made_ok (value_of c.args.description.now) c.args.files.now c.args.key.now c.in_ok-said.said c.in_ok-said.ensures c.in_ok-parts.parts c.in_ok-parted.parted c.encode_short.result c.in_ok-parted.ensures.is c.in_ok-parts.ensures.is c.encode_short.ensures.answers
 
 pub returns-clause-refused : goal.returns-clause-refused
-returns-clause-refused c = made_refused (value_of c.args.description.now) c.args.files.now c.args.key.now c.in_ok-said.said c.in_ok-said.ensures c.in_ok-parts.parts c.in_ok-parted.parted c.encode_short.result c.in_ok-parted.ensures c.in_ok-parts.ensures.is c.encode_short.ensures.answers
+returns-clause-refused c = made_refused (value_of c.args.description.now) c.args.files.now c.args.key.now c.in_ok-said.said c.in_ok-said.ensures c.in_ok-parts.parts c.in_ok-parted.parted c.encode_short.result c.in_ok-parted.ensures.is c.in_ok-parts.ensures.is c.encode_short.ensures.answers
 
 pub returns-clause-every_envelope : goal.returns-clause-every_envelope
-returns-clause-every_envelope c = made_envelope (value_of c.args.description.now) c.args.files.now c.args.key.now c.in_ok-said.said c.in_ok-said.ensures c.in_ok-parts.parts c.in_ok-parted.parted c.encode_short.result c.in_ok-parted.ensures c.in_ok-parts.ensures.is c.encode_short.ensures.answers
+returns-clause-every_envelope c = made_envelope (value_of c.args.description.now) c.args.files.now c.args.key.now c.in_ok-said.said c.in_ok-said.ensures c.in_ok-parts.parts c.in_ok-parted.parted c.encode_short.result c.in_ok-parted.ensures.is c.in_ok-parts.ensures.is c.encode_short.ensures.answers
 
 pub returns-clause-every_limit : goal.returns-clause-every_limit
 returns-clause-every_limit c =
-    made_limit (value_of c.args.description.now) c.args.files.now c.args.key.now c.in_ok-said.said c.in_ok-said.ensures c.in_ok-parts.parts c.in_ok-parted.parted c.encode_short.result c.in_ok-parted.ensures c.in_ok-parts.ensures.is c.encode_short.ensures.answers
+    made_limit (value_of c.args.description.now) c.args.files.now c.args.key.now c.in_ok-said.said c.in_ok-said.ensures c.in_ok-parts.parts c.in_ok-parted.parted c.encode_short.result c.in_ok-parted.ensures.is c.in_ok-parts.ensures.is c.encode_short.ensures.answers
 
 pub returns-clause-parts : goal.returns-clause-parts
 returns-clause-parts c =
     let d = value_of c.args.description.now in
     IfOk-weaker c.encode_short.result _ (HoldsPartsOf d c.args.files.now c.args.key.now)
-    (λ bytes e. holds_parts d c.args.files.now c.args.key.now bytes c.in_ok-said.said c.in_ok-parts.parts c.in_ok-parted.parted e.0 c.in_ok-said.ensures c.in_ok-parted.ensures c.in_ok-parts.ensures.is e.1.0 e.1.1) c.encode_short.ensures.says
+    (λ bytes e. holds_parts d c.args.files.now c.args.key.now bytes c.in_ok-said.said c.in_ok-parts.parts c.in_ok-parted.parted e.0 c.in_ok-said.ensures c.in_ok-parted.ensures.is c.in_ok-parts.ensures.is e.1.0 e.1.1) c.encode_short.ensures.says
 
 pub returns-clause-authentic : goal.returns-clause-authentic
 returns-clause-authentic c =
@@ -32,5 +33,12 @@ pub returns-clause-manifest : goal.returns-clause-manifest
 returns-clause-manifest c =
     let d = value_of c.args.description.now in
     IfOk-weaker c.encode_short.result _ (HoldsManifestOf d c.args.files.now)
-    (λ bytes e. holds_manifest c.description_laws.ensures d c.args.files.now bytes c.in_ok-said.said c.in_ok-parts.parts c.in_ok-parted.parted e.0 c.args.description.now.accepted c.in_ok-said.ensures c.in_ok-parted.ensures
+    (λ bytes e. holds_manifest c.description_laws.ensures d c.args.files.now bytes c.in_ok-said.said c.in_ok-parts.parts c.in_ok-parted.parted e.0 c.args.description.now.accepted c.in_ok-said.ensures c.in_ok-parted.ensures.is
     c.in_ok-parts.ensures.fits c.in_ok-parts.ensures.written e.1.0 e.1.1) c.encode_short.ensures.says
+
+pub returns-clause-members : goal.returns-clause-members
+returns-clause-members c =
+    let d = value_of c.args.description.now in
+    IfOk-weaker c.encode_short.result _ (HoldsMembersOf d c.args.files.now)
+    (λ bytes e. holds_members c.description_laws.ensures d c.args.files.now c.args.key.now bytes c.in_ok-said.said c.in_ok-parts.parts c.in_ok-parted.parted e.0 c.args.description.now.accepted c.in_ok-said.ensures c.in_ok-parted.ensures.is
+    c.in_ok-parts.ensures.is c.in_ok-parted.ensures.written e.1.0 e.1.1) c.encode_short.ensures.says

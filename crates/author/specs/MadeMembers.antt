@@ -1,0 +1,78 @@
+-- The severed members of a made envelope: it holds them, with the digests that its manifest states.
+use Rattle.std.specs.Prelude.{◌≡◌, ℕ, Bool, true, false, List, Option, Some, None, length, Ok}
+use Rattle.det_cbor.specs.DataItem.{spell}
+use Rattle.serde_json.specs.Data.{Data}
+use Rattle.suit_commands.specs.Allowed.{IsSequence, levels_allowed}
+use Rattle.suit_commands.specs.SequenceMaking.{sequence_item, step_items, placed}
+use Rattle.suit_commands.specs.SequenceWriting.{IsWrittenSequence, SequenceFits}
+use Rattle.suit_commands.specs.Sequences.{elements_place}
+use Rattle.suit_envelope.specs.Envelopes.{EnvelopeSays}
+use Rattle.suit_envelope.specs.Members.{string_digest}
+use Rattle.suit_envelope.specs.Said.{EnvelopeOf}
+use Rattle.suit_manifest.specs.declared.manifest.Member.{Member}
+use Rattle.suit_manifest.specs.declared.manifest.Member.TheVariants as members
+use Rattle.suit_manifest.specs.declared.manifest.TextMember.{TextMember}
+use Rattle.suit_manifest.specs.declared.manifest.TextMember.TheVariants as texts
+use Rattle.suit_manifest.specs.MembersApart.{HasMember}
+use Rattle.author.specs.declared.fields.Described.{Described}
+use Rattle.author.specs.Descriptions.{described}
+use Rattle.author.specs.Making.{made_manifest}
+
+-- ---- of a made envelope
+
+-- The envelope holds a severed member that is given with its content: with the digest that the manifest states, and it
+-- says the given sequence in its places. No other is in the envelope.
+abbrev pub HoldsSevered : ℕ → Option (List ℕ) → ℕ → Bool → Member → Member → Type 0
+HoldsSevered count held place true (members.Here s) stated =
+    HasMember count held place stated (Some (placed (elements_place place (step_items s)) s))
+HoldsSevered count held place true members.Empty stated = held ≡ None
+HoldsSevered count held place true (members.Apart digest) stated = held ≡ None
+HoldsSevered count held place false given stated = held ≡ None
+
+abbrev pub HoldsText : Option (List ℕ) → Bool → TextMember → TextMember → Type 0
+HoldsText held true (texts.Here content) stated =
+    (held ≡ Some content) × (stated ≡ texts.Apart (record { bytes = string_digest content }))
+HoldsText held true texts.Empty stated = held ≡ None
+HoldsText held true (texts.Apart digest) stated = held ≡ None
+HoldsText held false given stated = held ≡ None
+
+-- the members of what a description says, in an envelope
+pub record HoldsSeveredOf (p : Described) (said : EnvelopeSays) : Type 0 where
+  pub payload_fetch :
+      HoldsSevered (length p.manifest.components) said.payload_fetch said.payload_fetch_place
+      p.severed.payload_fetch p.manifest.payload_fetch (made_manifest p).payload_fetch
+  pub install :
+      HoldsSevered (length p.manifest.components) said.install said.install_place
+      p.severed.install p.manifest.install (made_manifest p).install
+  pub text : HoldsText said.text p.severed.text p.manifest.text (made_manifest p).text
+
+-- an envelope that holds the severed members of the description
+pub record HoldsMembersOf (d : Data) (files : List (List ℕ × List ℕ)) (bytes : List ℕ)
+    : Type 0 where
+  pub described_as : Described
+  pub reads : described files d ≡ Ok described_as
+  pub said : EnvelopeSays
+  pub envelope : EnvelopeOf bytes said
+  pub members : HoldsSeveredOf described_as said
+
+-- ---- inside
+
+-- a member that the grammar allows for so many components, where it fits the types of the code
+abbrev pub IsAllowedMember : ℕ → Member → Type 0
+IsAllowedMember count members.Empty = Unit {0}
+IsAllowedMember count (members.Here s) =
+    SequenceFits s → IsSequence false count levels_allowed s
+IsAllowedMember count (members.Apart digest) = Unit {0}
+
+-- a severed member was written
+abbrev pub IsWrittenApart : Bool → Member → Type 0
+IsWrittenApart true (members.Here s) =
+    IsWrittenSequence s (spell (sequence_item s)) × SequenceFits s
+IsWrittenApart true members.Empty = Unit {0}
+IsWrittenApart true (members.Apart digest) = Unit {0}
+IsWrittenApart false given = Unit {0}
+
+abbrev pub AreWrittenApart : Described → Type 0
+AreWrittenApart p =
+    IsWrittenApart p.severed.payload_fetch p.manifest.payload_fetch
+    × IsWrittenApart p.severed.install p.manifest.install
