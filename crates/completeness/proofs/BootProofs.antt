@@ -181,9 +181,9 @@ module _ (configs : OneConfigAnswer) (records : OneAnswer) (laws : BootLaws) whe
 
       way : (end : BootEnd) → IsBoot R.layout R.key l n mid a end → Way end
       way ends.Ended u =
-          let p = plays_there plays.Done (u.plays (subst IsTrue (sym sees.told) ready.told.host) mid_flash_told ready.told.launcher) in
+          let p = plays_there plays.Done (u.plays mid_flash_told ready.told.launcher) in
           Whole (leaves (invocation_tree R.is.said) _ _ _ _ _ ready.on.standings p.ram a.flash.reads refl p.plays_so)
-      way ends.NoMemory u = Starved (u.plays (subst IsTrue (sym sees.told) ready.told.host) mid_flash_told ready.told.launcher) (u.left mid_flash_told ∙ sees.reads)
+      way ends.NoMemory u = Starved (u.plays mid_flash_told ready.told.launcher) (u.left mid_flash_told ∙ sees.reads)
       way ends.NothingInstalled u =
           let never = records VERSION_1 (head_of VERSION_1 b.flash.reads) None (Some R.installed) (recorded_there None (u.answers mid_flash_told)) R.recorded in absurd cc
       way (ends.BadBank refusal) u = let x = u.answers mid_flash_told in let never = declined_there x.0 x.1 (ends.BadBank refusal) x.2 in absurd cc
@@ -191,8 +191,8 @@ module _ (configs : OneConfigAnswer) (records : OneAnswer) (laws : BootLaws) whe
       way (ends.UnknownComponent component) u = let x = u.answers mid_flash_told in let never = declined_there x.0 x.1 (ends.UnknownComponent component) x.2 in absurd cc
       way (ends.Condition place) u =
           absurd (never_condition (invocation_tree R.is.said) _ _ _ _ _ place ready.completes
-          (plays_there (plays.ConditionFailed place) (u.plays (subst IsTrue (sym sees.told) ready.told.host) mid_flash_told ready.told.launcher)).plays_so)
-      way (ends.Stopped place cause) u = absurd (never_stopped place cause (u.plays (subst IsTrue (sym sees.told) ready.told.host) mid_flash_told ready.told.launcher) u.counts)
+          (plays_there (plays.ConditionFailed place) (u.plays mid_flash_told ready.told.launcher)).plays_so)
+      way (ends.Stopped place cause) u = absurd (never_stopped place cause (u.plays mid_flash_told ready.told.launcher) u.counts)
       way ends.FlashFault u = absurd (faultless.flash (subst (λ (z : ℕ). Faulted z a.flash.faults) sees.flash_faults u.counts.1))
 
     of_way : (end : BootEnd) (lines : List ℕ) (u : Boots l n b a end lines) (faultless : IsFaultless l n b a) → Way u.middle (boot_sees l n b a end lines u ready.told) faultless end
@@ -234,7 +234,7 @@ module _ (configs : OneConfigAnswer) (records : OneAnswer) (laws : BootLaws) whe
       play =
           subst (λ (z : List ℕ → Option (List ℕ)). PlaysBoot u.layout u.key z b.flash.reads a.flash.reads l.launches n.launches plays.Done) seen.files
           (subst (λ (z : List ℕ). PlaysBoot u.layout u.key u.middle.files z a.flash.reads l.launches n.launches plays.Done) seen.reads
-          (u.boot.plays (subst IsTrue (sym seen.told) told.host) (subst IsTrue (sym seen.flash_told) told.flash) told.launcher))
+          (u.boot.plays (subst IsTrue (sym seen.flash_told) told.flash) told.launcher))
 
       has_recorded : HasRecorded VERSION_1 u.layout u.key play.installed b.flash.reads
       has_recorded = record {

@@ -2,7 +2,6 @@
 #![tactic(auto)]
 
 mod area;
-mod equal;
 mod law;
 mod overwriting;
 mod passing;
@@ -11,7 +10,6 @@ mod reading;
 mod writing;
 
 pub use area::TooLarge;
-pub use equal::is_equal;
 pub use law::ram_laws;
 pub use overwriting::{overwrite, set_length};
 pub use passing::{digest, same_content};

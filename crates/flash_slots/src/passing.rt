@@ -6,9 +6,9 @@ ghost use Rattle.sha2.specs.Sha256.{sha256};
 ghost use Rattle.std.specs.Prelude.{◌≡◌, ◌↔◌, ◌<◌, IfOk, IsTrue, length};
 ghost use Rattle.suit_edge.specs.Flash.{Grows, IsSame};
 
-use crate::equal::is_equal;
 use crate::reading::{length, read_some};
 use flash_layout::{FlashFault, Slot};
+use lane_bytes::same;
 use sha2::{Digest as _, Sha256};
 use suit_edge::Disk;
 
@@ -70,7 +70,7 @@ pub fn same_content<D: Disk>(
             Ok(count) => count,
             Err(FlashFault) => return Err(FlashFault),
         };
-        if !is_equal(&room[..count], &bytes[from..from + count]) {
+        if !same(&room[..count], &bytes[from..from + count]) {
             return Ok(false);
         }
         from += count;

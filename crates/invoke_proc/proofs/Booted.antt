@@ -63,7 +63,7 @@ played_as P Q launched now (ends.NotAuthentic l) to p = p
 played_as P Q launched now (ends.UnknownComponent i) to p = p
 played_as P Q launched now (ends.Condition place) to p = to (plays.ConditionFailed place) p
 played_as P Q launched now (ends.Stopped place cause) to p = to (plays.DirectiveFailed place cause) p
-played_as P Q launched now ends.FlashFault to p = ⊎_elim (λ same. inl same) (λ some. inr (some.0, to some.0 some.1)) p
+played_as P Q launched now ends.FlashFault to p = ⊎_elim (λ same. inl same) (λ some. inr (some.0, to some.0 some.1, some.2)) p
 played_as P Q launched now ends.NoMemory to p = p
 
 pub kept_as : (P Q R S : Type 0) (answer : BootEnd) → (P → Q) → (R → S) → KeptSo P R answer → KeptSo Q S answer

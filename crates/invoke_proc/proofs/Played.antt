@@ -34,8 +34,8 @@ module _ (end : PlanEnd) (answer : BootEnd) (d e : ℕ) (settled : SettledSo end
   counts_after h b l i m is =
       ⊎_elim (λ same. subst (λ (a : BootEnd). BootCounts a (counts_of h b l) (counts_of i e m)) (sym same.0)
       (boot_counts end (counts_of h b l) (counts_of i e m) (subst (λ (n : ℕ). EndCounts end (counts_of h b l) (counts_of i n m)) (sym same.1) is)))
-      (λ fault. subst (λ (a : BootEnd). BootCounts a (counts_of h b l) (counts_of i e m)) (sym fault.0)
-      (failed_behind h b l i d m e (not_fallen end (counts_of h b l) (counts_of i d m) is) fault.1))
+      (λ fault. subst (λ (a : BootEnd). BootCounts a (counts_of h b l) (counts_of i e m)) (sym fault.1)
+      (failed_behind h b l i d m e (not_fallen end (counts_of h b l) (counts_of i d m) is) fault.2))
       settled
 
   start_end : (end : PlanEnd) → IsStartEnd (end_of end)
@@ -44,7 +44,7 @@ module _ (end : PlanEnd) (answer : BootEnd) (d e : ℕ) (settled : SettledSo end
   start_end (plays.DirectiveFailed place cause) = tt
 
   pub starts_after : IsStartEnd answer
-  starts_after = ⊎_elim (λ same. subst IsStartEnd (sym same.0) (start_end end)) (λ fault. subst IsStartEnd (sym fault.0) tt) settled
+  starts_after = ⊎_elim (λ same. subst IsStartEnd (sym same.0) (start_end end)) (λ fault. subst IsStartEnd (sym fault.1) tt) settled
 
   played_end : (P : PlanEnd → Type 0) (launched now : List Launch) (end : PlanEnd) → P end → PlayedSo P launched now (end_of end)
   played_end P launched now plays.Done p = p
@@ -53,7 +53,7 @@ module _ (end : PlanEnd) (answer : BootEnd) (d e : ℕ) (settled : SettledSo end
 
   pub plays_after : (P : PlanEnd → Type 0) (launched now : List Launch) → P end → PlayedSo P launched now answer
   plays_after P launched now p =
-      ⊎_elim (λ same. subst (PlayedSo P launched now) (sym same.0) (played_end P launched now end p)) (λ fault. subst (PlayedSo P launched now) (sym fault.0) (inr (end, p))) settled
+      ⊎_elim (λ same. subst (PlayedSo P launched now) (sym same.0) (played_end P launched now end p)) (λ fault. subst (PlayedSo P launched now) (sym fault.1) (inr (end, p, fault.0))) settled
 
   kept_end : (Kept Same : Type 0) (end : PlanEnd) → Kept → KeptSo Kept Same (end_of end)
   kept_end Kept Same plays.Done k = k
@@ -62,7 +62,7 @@ module _ (end : PlanEnd) (answer : BootEnd) (d e : ℕ) (settled : SettledSo end
 
   pub kept_after : (Kept Same : Type 0) → Kept → KeptSo Kept Same answer
   kept_after Kept Same k =
-      ⊎_elim (λ same. subst (KeptSo Kept Same) (sym same.0) (kept_end Kept Same end k)) (λ fault. subst (KeptSo Kept Same) (sym fault.0) (inr k)) settled
+      ⊎_elim (λ same. subst (KeptSo Kept Same) (sym same.0) (kept_end Kept Same end k)) (λ fault. subst (KeptSo Kept Same) (sym fault.1) (inr k)) settled
 
 -- a property without a fault of the flash is weakened
 pub unfaulted : (P Q : Type 0) (answer : BootEnd) → (P → Q) → IfUnfaulted answer P → IfUnfaulted answer Q

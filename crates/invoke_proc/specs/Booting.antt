@@ -96,13 +96,19 @@ pub record PlaysBoot (layout : List Entry) (key : Key) (files : List ℕ → Opt
   pub has : HasPayloads (bank_in before installed) payloads
   pub on : PlaysOn layout manifest installed.active payloads files before after launched now end
 
+-- no directive of the procedure was stopped by a fault of the flash
+abbrev pub IsUnfaulted : PlanEnd → Type 0
+IsUnfaulted (plays.DirectiveFailed place causes.FlashFault) = ⊥
+IsUnfaulted _ = Unit {0}
+
 -- The procedure was played and ended so; or nothing was launched. A fault of the flash that no command met came before
--- the procedure, or behind it.
+-- the procedure, or behind it: one that a directive met is told with its place.
 abbrev pub PlayedSo : (PlanEnd → Type 0) → List Launch → List Launch → BootEnd → Type 0
 PlayedSo P launched now ends.Ended = P plays.Done
 PlayedSo P launched now (ends.Condition place) = P (plays.ConditionFailed place)
 PlayedSo P launched now (ends.Stopped place cause) = P (plays.DirectiveFailed place cause)
-PlayedSo P launched now ends.FlashFault = (now ≡ launched) ⊎ ((end : PlanEnd) × P end)
+PlayedSo P launched now ends.FlashFault =
+    (now ≡ launched) ⊎ ((end : PlanEnd) × P end × IsUnfaulted end)
 PlayedSo P launched now _ = now ≡ launched
 
 -- a procedure that has no names of files is not stopped by a fault of the host
@@ -164,4 +170,5 @@ IsStartEnd _ = Unit {0}
 -- a procedure that ended so is answered so, or the flash failed behind it
 abbrev pub SettledSo : PlanEnd → BootEnd → ℕ → ℕ → Type 0
 SettledSo end answer before now =
-    ((answer ≡ end_of end) × (now ≡ before)) ⊎ ((answer ≡ ends.FlashFault) × Faulted before now)
+    ((answer ≡ end_of end) × (now ≡ before))
+    ⊎ (IsUnfaulted end × (answer ≡ ends.FlashFault) × Faulted before now)

@@ -53,7 +53,7 @@ fn start_installed<H: Host, D: Disk, L: Launcher>(
         (counts_of (H.faults host.old) (D.faults disk.old) (L.faults launcher.old))
         (counts_of (H.faults host.new) (D.faults disk.new) (L.faults launcher.new)) }
     ensures files { IsTrue H.told → H.file host.new ≡ H.file host.old }
-    ensures plays { IsTrue H.told → IsTrue D.told → IsTrue L.told
+    ensures plays { IsTrue D.told → IsTrue L.told
         → PlayedSo (PlaysBoot layout.now key.now (H.file host.old) (D.flash disk.old).reads
         (D.flash disk.new).reads
         (L.launches launcher.old) (L.launches launcher.new)) (L.launches launcher.old)
@@ -111,13 +111,13 @@ pub fn boot<H: Host, D: Disk, L: Launcher>(
     ensures answers { IsTrue D.told → Answers layout.now key.now (D.flash disk.old).reads result }
     ensures unrefused { IsTrue D.told → Sound VERSION_1 (D.flash disk.old).reads
         → IsUnrefused result }
-    ensures plays { IsTrue H.told → IsTrue D.told → IsTrue L.told
+    ensures plays { IsTrue D.told → IsTrue L.told
         → PlayedSo (PlaysBoot layout.now key.now (H.file host.old) (D.flash disk.old).reads
         (D.flash disk.new).reads
         (L.launches launcher.old) (L.launches launcher.new)) (L.launches launcher.old)
         (L.launches launcher.new) result }
-    ensures host { IsTrue H.told → IsTrue D.told → IsTrue L.told → NeverHost result }
-    ensures safe { IsTrue H.told → IsTrue D.told → IsTrue L.told
+    ensures host { IsTrue D.told → IsTrue L.told → NeverHost result }
+    ensures safe { IsTrue D.told → IsTrue L.told
         → Sound VERSION_1 (D.flash disk.old).reads
         → GainsSafe (L.launches launcher.old) (L.launches launcher.new) }
     ensures keeps { IsTrue D.told

@@ -75,7 +75,7 @@ pub(crate) fn start<H: Host, D: Disk, L: Launcher>(
         (counts_of (H.faults host.new) (D.faults disk.new) (L.faults launcher.new)) }
     ensures files { IsTrue H.told → H.file host.new ≡ H.file host.old }
     ensures unasked { host.new ≡ host.old }
-    ensures plays { IsTrue H.told → IsTrue D.told → IsTrue L.told
+    ensures plays { IsTrue D.told → IsTrue L.told
         → (payloads : List (List ℕ × List ℕ))
         → HasPayloads startable.now.envelope.whole.now payloads
         → PlayedSo

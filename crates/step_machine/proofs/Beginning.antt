@@ -1,5 +1,5 @@
 -- A procedure that has come so far, and goes on or stops there.
-use Rattle.std.proofs.Common.{◌≡◌, List, [], ◌∷◌, ◌++◌, Result, Ok, Err, map, refl, sym, ap, subst, ◌∙◌, append_assoc}
+use Rattle.std.proofs.Common.{◌≡◌, inl, inr, ⊎_elim, List, [], ◌∷◌, ◌++◌, Result, Ok, Err, map, refl, sym, ap, subst, ◌∙◌, append_assoc}
 use Rattle.std.specs.Prelude.{IsTrue}
 use Rattle.std.proofs.lemmas.List.{append-nil}
 use Rattle.suit_edge.specs.declared.launch.Launch.{Launch}
@@ -15,11 +15,15 @@ use Rattle.step_machine.specs.declared.machine.Machine.{Machine}
 use Rattle.step_machine.specs.Comes.{Comes}
 use Rattle.step_machine.specs.Invoking.{launched_as}
 use Rattle.step_machine.specs.PlanRuns.{Counts, OutsideTargets}
-use Rattle.step_machine.specs.Running.{Moment, Stays, StopCounts, Fits, Gained, Part, RunsPart, AreSources, counts_at, device_at}
+use Rattle.step_machine.specs.Running.{Moment, Stays, StopCounts, Fits, Gained, Part, RunsPart, AreFilesKnown, AreSources, counts_at, device_at}
 use Rattle.step_machine.specs.Parts.{nothing_part, then_part}
 use Rattle.step_machine.proofs.Composing.{then_comes, first_stops}
 
 -- ---- what stays
+
+-- they are known later, too
+pub known_then : (machine : Machine) (a b : Moment) → b.host.told ≡ a.host.told → AreFilesKnown machine a → AreFilesKnown machine b
+known_then machine a b same = ⊎_elim (λ told. inl (subst IsTrue (sym same) told)) (λ none. inr none)
 
 pub stays_start : (machine : Machine) (m : Moment) → Stays machine m m
 stays_start machine m = record {
@@ -43,7 +47,7 @@ stays_then machine a b c law first second = record {
   launcher = second.launcher ∙ first.launcher;
   size = second.size ∙ first.size;
   rooms = second.rooms ∙ first.rooms;
-  files = λ t. second.files (subst IsTrue (sym first.host) t) ∙ first.files t;
+  files = λ known. second.files (known_then machine a b first.host known) ∙ first.files known;
   keeps = λ t.
       let u = subst IsTrue (sym first.disk) t in
       keeps_then (OutsideTargets (plan_tree machine.plan.now) machine.standings.now) a.disk.flash b.disk.flash c.disk.flash b.disk.size (law u) (first.keeps t) (second.keeps u);
@@ -54,7 +58,7 @@ stays_then machine a b c law first second = record {
 
 pub fits_then : (machine : Machine) (a b : Moment) (setting : Setting) → Stays machine a b → Fits machine a setting → Fits machine b setting
 fits_then machine a b setting stays fits = record {
-  host = subst IsTrue (sym stays.host) fits.host;
+  host = known_then machine a b stays.host fits.host;
   disk = subst IsTrue (sym stays.disk) fits.disk;
   launcher = subst IsTrue (sym stays.launcher) fits.launcher;
   identities = fits.identities;

@@ -24,7 +24,7 @@ use Rattle.step_machine.specs.Copying.{IsRamButBoth, OutsideBoth}
 use Rattle.step_machine.specs.Devices.{AreSpotsClear, IsApart}
 use Rattle.step_machine.specs.PlanRuns.{OutsideTargets}
 use Rattle.step_machine.specs.Parts.{act_part}
-use Rattle.step_machine.specs.Running.{Moment, Stays, RunsPart, IsReady, AreSources, device_at}
+use Rattle.step_machine.specs.Running.{AreFilesKnown, Moment, Stays, RunsPart, IsReady, AreSources, device_at}
 use Rattle.step_machine.specs.Spots.{content_of, IsSpot, OutsideSpot, IsRamBut}
 use Rattle.step_machine.proofs.Leaves.{no_standing, same_rooms}
 use Rattle.step_machine.proofs.Lifting.{clear_outside, kept_slot, map_same, map_but}
@@ -91,7 +91,7 @@ module _ (machine : Machine) (m n : Moment) (i j : ℕ) (d : Standing) (lt : i <
       (clear_of i k e lt under one) (clear_of j k e below under other)
       (subst (λ (x : ℕ). IsSpot x m.ram (get_or machine.standings.now k e).spot) (sym size) (ready.standings.each k e under).spot) but keeps)))
 
-  pub two_stay : n.host.told ≡ m.host.told → n.disk.told ≡ m.disk.told → n.launcher.told ≡ m.launcher.told → n.disk.size ≡ m.disk.size → (IsTrue m.host.told → n.host.files ≡ m.host.files) → MayWrite machine i → MayWrite machine j
+  pub two_stay : n.host.told ≡ m.host.told → n.disk.told ≡ m.disk.told → n.launcher.told ≡ m.launcher.told → n.disk.size ≡ m.disk.size → (AreFilesKnown machine m → n.host.files ≡ m.host.files) → MayWrite machine i → MayWrite machine j
       → (IsTrue m.disk.told → Keeps (OutsideBoth (get_or machine.standings.now i d).spot (get_or machine.standings.now j d).spot) m.disk.flash n.disk.flash) → (IsTrue m.disk.told → Grows m.disk.flash n.disk.flash) → Stays machine m n
   two_stay host disk launcher size files may other keeps grows = record {
     host = host;

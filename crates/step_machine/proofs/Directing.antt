@@ -24,7 +24,7 @@ use Rattle.step_machine.specs.Directives.{ActsSo, WritesAs}
 use Rattle.step_machine.specs.Fetching.{FetchesAs}
 use Rattle.step_machine.specs.Invoking.{InvokesAs}
 use Rattle.step_machine.specs.Parts.{act_part}
-use Rattle.step_machine.specs.Running.{Moment, Stays, StopCounts, Fits, Part, RunsPart, IsReady, IsUnderWay, counts_at, device_at, stopped}
+use Rattle.step_machine.specs.Running.{AreFilesKnown, Moment, Stays, StopCounts, Fits, Part, RunsPart, IsReady, IsUnderWay, counts_at, device_at, stopped}
 use Rattle.step_machine.specs.Spots.{IsRamBut, IsSpot, OutsideSpot, content_of}
 use Rattle.step_machine.proofs.Beginning.{Obeys}
 use Rattle.step_machine.proofs.Copied.{apart_here, two_device}
@@ -96,7 +96,7 @@ module _ (machine : Machine) (m n : Moment) (s : State) (place c : ℕ) (lt : c 
         subst (λ (k : ℕ). WritesAs acts.Write k (stands_at machine c).capacity s.parameters (holds_at machine c m) (holds_at machine c n) r) component_is (writes fits.disk)
         setting place s _ refl (capacity_here machine m c no_standing lt setting fits prior) (content_here machine m c no_standing lt setting fits prior) (within_here machine m c no_standing lt setting fits prior))
 
-    pub fetch_runs : (IsTrue m.disk.told → IsTrue m.host.told → (payloads : List (List ℕ × List ℕ)) → HasPayloads machine.envelope.now.whole.now payloads
+    pub fetch_runs : (IsTrue m.disk.told → AreFilesKnown machine m → (payloads : List (List ℕ × List ℕ)) → HasPayloads machine.envelope.now.whole.now payloads
         → FetchesAs (stands_at machine c).component (stands_at machine c).capacity s.parameters payloads machine.uris.now m.host.files (holds_at machine c m) (holds_at machine c n) r)
         → RunsPart machine (act_part acts.Fetch place c) s m result s n
     fetch_runs fetches =

@@ -22,7 +22,7 @@ use Rattle.step_machine.specs.Comes.{Comes}
 use Rattle.step_machine.specs.Directives.{ActsSo, CauseCounts}
 use Rattle.step_machine.specs.Fetching.{FetchCounts}
 use Rattle.step_machine.specs.PlanRuns.{counts_of, OutsideTargets}
-use Rattle.step_machine.specs.Running.{Moment, Stays, StopCounts, Fits, Part, RunsPart, IsReady, AreSources, counts_at, device_at, stopped}
+use Rattle.step_machine.specs.Running.{AreFilesKnown, Moment, Stays, StopCounts, Fits, Part, RunsPart, IsReady, AreSources, counts_at, device_at, stopped}
 use Rattle.step_machine.specs.Spots.{IsRamBut, IsSpot, OutsideSpot, content_of}
 use Rattle.step_machine.proofs.Beginning.{runs_quietly}
 use Rattle.step_machine.proofs.Lifting.{one_changed}
@@ -100,7 +100,7 @@ module _ (machine : Machine) (m : Moment) (c : ℕ) (d : Standing) (lt : c < len
 
 module _ (machine : Machine) (m n : Moment) (c : ℕ) (d : Standing) (lt : c < length machine.standings.now) (ready : IsReady machine m.disk.size m.ram)
     (but : IsRamBut (get_or machine.standings.now c d).spot m.ram n.ram) where
-  pub one_stays : n.host.told ≡ m.host.told → n.disk.told ≡ m.disk.told → n.launcher.told ≡ m.launcher.told → n.disk.size ≡ m.disk.size → (IsTrue m.host.told → n.host.files ≡ m.host.files) → MayWrite machine c
+  pub one_stays : n.host.told ≡ m.host.told → n.disk.told ≡ m.disk.told → n.launcher.told ≡ m.launcher.told → n.disk.size ≡ m.disk.size → (AreFilesKnown machine m → n.host.files ≡ m.host.files) → MayWrite machine c
       → (IsTrue m.disk.told → Keeps (OutsideSpot (get_or machine.standings.now c d).spot) m.disk.flash n.disk.flash) → (IsTrue m.disk.told → Grows m.disk.flash n.disk.flash) → Stays machine m n
   one_stays host disk launcher size files may keeps grows = record {
     host = host;

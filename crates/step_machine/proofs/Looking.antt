@@ -29,7 +29,7 @@ use Rattle.step_machine.specs.Devices.{contents_of}
 use Rattle.step_machine.specs.Directives.{StopsSo}
 use Rattle.step_machine.specs.Invoking.{InvokesAs, InvokeCounts, launched_as}
 use Rattle.step_machine.specs.PlanRuns.{counts_of, OutsideTargets}
-use Rattle.step_machine.specs.Running.{Moment, Stays, StopCounts, Fits, Gained, RunsPart, AreSources, counts_at, device_at, stopped}
+use Rattle.step_machine.specs.Running.{AreFilesKnown, Moment, Stays, StopCounts, Fits, Gained, RunsPart, AreSources, counts_at, device_at, stopped}
 use Rattle.step_machine.specs.Parts.{test_part, act_part}
 use Rattle.step_machine.specs.Spots.{content_of}
 use Rattle.step_machine.proofs.Beginning.{runs_quietly}
@@ -74,7 +74,7 @@ condition_cut setting kind p c s w cut = record { outcome = unread p w; cut = cu
 -- ---- nothing is written
 
 pub looked : (machine : Machine) (m n : Moment) → n.host.told ≡ m.host.told → n.disk.told ≡ m.disk.told → n.launcher.told ≡ m.launcher.told → n.disk.size ≡ m.disk.size → n.ram ≡ m.ram
-    → (IsTrue m.host.told → n.host.files ≡ m.host.files) → (IsTrue m.disk.told → IsSame m.disk.flash n.disk.flash) → (IsTrue m.disk.told → Grows m.disk.flash n.disk.flash) → Stays machine m n
+    → (AreFilesKnown machine m → n.host.files ≡ m.host.files) → (IsTrue m.disk.told → IsSame m.disk.flash n.disk.flash) → (IsTrue m.disk.told → Grows m.disk.flash n.disk.flash) → Stays machine m n
 looked machine m n host disk launcher size ram files same grows = record {
   host = host;
   disk = disk;

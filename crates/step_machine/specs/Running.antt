@@ -1,5 +1,5 @@
 -- The effect of a part of a procedure on a device, from a moment to a later one.
-use Rattle.std.specs.Prelude.{◌≡◌, ◌<◌, ℕ, Bool, IsTrue, List, [], ◌∷◌, ◌++◌, Option, Some, Result, Ok, Err, length, map}
+use Rattle.std.specs.Prelude.{◌≡◌, ◌⊎◌, ◌<◌, ℕ, Bool, IsTrue, List, [], ◌∷◌, ◌++◌, Option, Some, Result, Ok, Err, length, map}
 use Rattle.std.specs.List.{AllByRecursion, range_with_len}
 use Rattle.suit_edge.specs.Flash.{Grows, Keeps}
 use Rattle.suit_edge.specs.declared.launch.Launch.{Launch}
@@ -103,6 +103,10 @@ pub record LeavesWork {H D L : Type 0} (machine : Machine) (before after : Work 
 
 -- ---- from a moment to a later one
 
+-- the files are known: the host tells of them, or no name of a file is, and it is left alone
+abbrev pub AreFilesKnown : Machine → Moment → Type 0
+AreFilesKnown machine at = IsTrue at.host.told ⊎ (machine.uris.now ≡ [])
+
 -- the properties that hold however it ends
 pub record Stays (machine : Machine) (before after : Moment) : Type 0 where
   pub host : after.host.told ≡ before.host.told
@@ -112,7 +116,7 @@ pub record Stays (machine : Machine) (before after : Moment) : Type 0 where
   pub rooms :
       map (λ (held : Held). held.capacity) after.ram
       ≡ map (λ (held : Held). held.capacity) before.ram
-  pub files : IsTrue before.host.told → after.host.files ≡ before.host.files
+  pub files : AreFilesKnown machine before → after.host.files ≡ before.host.files
   pub keeps : IsTrue before.disk.told
       → Keeps (OutsideTargets (plan_tree machine.plan.now) machine.standings.now) before.disk.flash
       after.disk.flash
@@ -124,9 +128,9 @@ StopCounts (Ok _) before now = now ≡ before
 StopCounts (Err (stops.Condition place soft_failure)) before now = now ≡ before
 StopCounts (Err (stops.Directive place cause)) before now = CountsFor cause before now
 
--- all tells, and the setting is that of the machine
+-- flash and launcher tell, the files are known, and the setting is that of the machine
 pub record Fits (machine : Machine) (at : Moment) (setting : Setting) : Type 0 where
-  pub host : IsTrue at.host.told
+  pub host : AreFilesKnown machine at
   pub disk : IsTrue at.disk.told
   pub launcher : IsTrue at.launcher.told
   pub identities : setting.identities ≡ map (λ (s : Standing). s.identity) machine.standings.now

@@ -10,7 +10,8 @@ ghost use Rattle.step_machine.specs.Spots.{IsSpot, content_of, room_at};
 use crate::Spot;
 use crate::outside::Steps;
 use flash_layout::FlashFault;
-use flash_slots::{Ram, digest, is_equal, length, same_content};
+use flash_slots::{Ram, digest, length, same_content};
+use lane_bytes::same;
 use sha2::{Digest as _, Sha256};
 use suit_edge::Disk;
 
@@ -82,7 +83,7 @@ pub(crate) fn same_at<D: Disk>(
             Ok(same) => Ok(same),
             Err(FlashFault) => Err(FlashFault),
         },
-        Spot::Ram(component) => Ok(is_equal(ram.content(component), bytes)),
+        Spot::Ram(component) => Ok(same(ram.content(component), bytes)),
     }
 }
 

@@ -2,7 +2,7 @@
 
 ghost use Rattle.path_model.specs.declared.cause.Cause.TheVariants as causes;
 ghost use Rattle.path_model.specs.Settings.{found_under};
-ghost use Rattle.std.specs.Prelude.{[], ◌≡◌, ◌<◌, ◌≤◌, ◌+◌, ◌==◌, ℕ, Err, IsTrue, List, Some, get_or, length, option_map};
+ghost use Rattle.std.specs.Prelude.{[], ◌≡◌, ◌⊎◌, ◌<◌, ◌≤◌, ◌+◌, ◌==◌, ℕ, Err, IsTrue, List, Some, get_or, length, option_map};
 ghost use Rattle.std.specs.Option.{option_and_then};
 ghost use Rattle.step_machine.specs.Fetching.{FetchCounts, FetchesAs, TakesNamed};
 ghost use Rattle.step_machine.specs.Spots.{IsPlaced, IsRamBut, IsSpot, OutsideSpot, content_of, room_at};
@@ -105,7 +105,7 @@ fn fetch_file<H: Host, D: Disk>(
         (FetchCounts result (H.faults host.old) (H.faults host.new)) disk.old disk.new }
     ensures pulls { ⟦<H as Pulls>⟧.pulls standing.now.capacity host.old host.new }
     ensures ram { IsRamBut standing.now.spot ram.old ram.new }
-    ensures takes { IsTrue D.told → IsTrue H.told
+    ensures takes { IsTrue D.told → IsTrue H.told ⊎ (uris.now ≡ [])
         → TakesNamed result standing.now.capacity
         (option_and_then (H.file host.old) (found_under uris.now uri.now))
         (content_of standing.now.spot ram.old (D.flash disk.old).reads)
@@ -147,7 +147,7 @@ pub fn fetch<H: Host, D: Disk>(
     ensures pulled { IsTrue H.told
         → H.pulled host.new ≤ H.pulled host.old + (standing.now.capacity + 1) }
     ensures ram { IsRamBut standing.now.spot ram.old ram.new }
-    ensures fetches { IsTrue D.told → IsTrue H.told
+    ensures fetches { IsTrue D.told → IsTrue H.told ⊎ (uris.now ≡ [])
         → (payloads : List (List ℕ × List ℕ)) → HasPayloads envelope.now.whole.now payloads
         → FetchesAs standing.now.component standing.now.capacity params.now payloads uris.now
         (H.file host.old)

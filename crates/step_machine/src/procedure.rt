@@ -3,7 +3,7 @@
 ghost use Rattle.flash_slots.specs.RamContents.{Held};
 ghost use Rattle.path_model.specs.Behaviour.{State};
 ghost use Rattle.path_model.specs.Path.{first_state};
-ghost use Rattle.std.specs.Prelude.{◌≡◌, ◌<◌, ◌∷◌, [], ℕ, IsTrue, List, length, map};
+ghost use Rattle.std.specs.Prelude.{◌≡◌, ◌⊎◌, ◌<◌, ◌∷◌, [], ℕ, IsTrue, List, length, map};
 ghost use Rattle.step_machine.specs.Allowing.{AllowsSequence};
 ghost use Rattle.step_machine.specs.Devices.{contents_of};
 ghost use Rattle.step_machine.specs.Parts.{plan_part, starting_part};
@@ -169,7 +169,8 @@ fn end_of(ended: Result<(), Stop>) -> PlanEnd
 
 /// Runs a procedure on a device (draft-ietf-suit-manifest-25, section 6.4). It ends as its play on the contents does, and
 /// leaves the contents and makes the launches that its play has. Where a fault comes it ends there, as a play that the
-/// fault cut short. The host is called only where a URI names a file. Takes no memory.
+/// fault cut short. The host is called only where a URI names a file; where none does, it need not tell what it holds. Takes
+/// no memory.
 pub fn run_plan<H: Host, D: Disk, L: Launcher>(
     host: &mut H,
     disk: &mut D,
@@ -189,7 +190,7 @@ pub fn run_plan<H: Host, D: Disk, L: Launcher>(
         (counts_of (H.faults host.new) (D.faults disk.new) (L.faults launcher.new)) }
     ensures files { IsTrue H.told → H.file host.new ≡ H.file host.old }
     ensures unasked { world.old.uris.now ≡ [] → host.new ≡ host.old }
-    ensures plays { IsTrue H.told → IsTrue D.told → IsTrue L.told
+    ensures plays { IsTrue H.told ⊎ (world.old.uris.now ≡ []) → IsTrue D.told → IsTrue L.told
         → (payloads : List (List ℕ × List ℕ))
         → HasPayloads world.old.envelope.now.whole.now payloads
         → PlaysPlan (plan_tree plan.now)

@@ -31,7 +31,7 @@ starved_boot layout key l m b a refusal boot = record {
   counts = boot.counts;
   answers = λ told. let found = boot.answers told in (found.0, found.1);
   unrefused = λ told sound. tt;
-  no_host = λ told flash_told launcher_told. tt;
+  no_host = λ flash_told launcher_told. tt;
   left = boot.left;
   plays = boot.plays;
   safe = boot.safe;

@@ -45,7 +45,7 @@ ends_without : (end : BootEnd) → NeverHost end → boot_status end ≡ 7 → �
 ends_without (ends.Stopped place cause) never seven = stopped_without place cause never seven
 ends_without _ never seven = omega (arith, seven)
 
-pub boots_without : (l m : Launching) (b a : Outside) (end : BootEnd) (lines : List ℕ) → Boots l m b a end lines → IsTrue b.told → IsTrue b.flash.told → IsTrue l.told
+pub boots_without : (l m : Launching) (b a : Outside) (end : BootEnd) (lines : List ℕ) → Boots l m b a end lines → IsTrue b.flash.told → IsTrue l.told
     → boot_status end ≡ 7 → ⊥
-boots_without l m b a end lines u told flash_told launcher_told seven =
-    ends_without end (u.boot.no_host (subst IsTrue (sym (ap (λ (o : Outside). o.told) u.held.0.beside)) told) (subst IsTrue (sym u.held.0.still.told) flash_told) launcher_told) seven
+boots_without l m b a end lines u flash_told launcher_told seven =
+    ends_without end (u.boot.no_host (subst IsTrue (sym u.held.0.still.told) flash_told) launcher_told) seven

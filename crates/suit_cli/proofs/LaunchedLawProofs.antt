@@ -71,17 +71,16 @@ module _ (configs : OneConfigAnswer) (records : OneAnswer) (laws : BootLaws) (en
   boots_recorded : (image : List ℕ) → Sound VERSION_1 image → BootsRecorded image
   boots_recorded image sound launched now before after end lines holds boots =
       let looks = boots.held.0 in
-      let told : IsTrue boots.middle.told = subst IsTrue (sym (ap (λ (o : Outside). o.told) looks.beside)) holds.host in
       let flash_told : IsTrue boots.middle.flash.told = subst IsTrue (sym looks.still.told) holds.flash in
       let files : boots.middle.files ≡ before.files = ap (λ (o : Outside). o.files) looks.beside in
       let reads : boots.middle.flash.reads ≡ image = looks.still.reads holds.flash ∙ holds.reads in
       let config : ConfigOf VERSION_1 (length image) (head_of VERSION_1 image) (Configured boots.layout boots.key) =
       subst (λ (n : ℕ). ConfigOf VERSION_1 n (head_of VERSION_1 image) (Configured boots.layout boots.key)) holds.size
       (subst (λ (l : List ℕ). ConfigOf VERSION_1 before.flash.size (head_of VERSION_1 l) (Configured boots.layout boots.key)) holds.reads (boots.held.1 holds.flash)) in
-      let gains = boots.boot.safe told flash_told holds.launcher (subst (Sound VERSION_1) (sym reads) sound) in
+      let gains = boots.boot.safe flash_told holds.launcher (subst (Sound VERSION_1) (sym reads) sound) in
       let played = subst (λ (f : List ℕ → Option (List ℕ)). PlayedSo (λ e. PlaysBoot boots.layout boots.key f image after.flash.reads launched.launches now.launches e) launched.launches now.launches end) files
       (subst (λ (l : List ℕ). PlayedSo (λ e. PlaysBoot boots.layout boots.key boots.middle.files l after.flash.reads launched.launches now.launches e) launched.launches now.launches end) reads
-      (boots.boot.plays told flash_told holds.launcher)) in
+      (boots.boot.plays flash_told holds.launcher)) in
       ⊎_elim (λ same. inl same) (λ some. inr (boots.layout, boots.key, some))
       (of_end boots.layout boots.key before.files image after.flash.reads launched.launches now.launches sound config gains end played)
 

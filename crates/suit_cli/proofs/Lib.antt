@@ -14,6 +14,7 @@ pub mod Initing
 pub mod KeyReading
 pub mod KeyBytes
 pub mod StatusLines
+pub mod StatusNumbers
 pub mod OneFlaw
 pub mod OneAnswers
 pub mod FlashLawProofs

@@ -22,12 +22,13 @@ use Rattle.suit_cli.specs.Booting.{Boots, boot_status}
 use Rattle.suit_cli.specs.Coming.{Ended, Answered, Booted, Updated, ByStages, ByBoot, ByUpdate, ended_status}
 use Rattle.suit_cli.specs.Updating.{Updates, update_status}
 use Rattle.update_proc.specs.declared.update_end.UpdateEnd.{UpdateEnd}
-use Rattle.suit_cli.specs.Program.{ComesTo, Puts, PutsText, IsPut, IsCut, Performs, EndsIn, IsStatus, OfEnded, OfSinkFault, ChecksProcedures, IsCheck, ChecksSafe, ChecksUnsafe, IsUsage, IsCutOff, MayLaunch, AreCounted, AsFound, IsForUpdate, LeavesBy, KeepsLauncher, most_pulled, stored_by}
+use Rattle.suit_cli.specs.Program.{ComesTo, Puts, PutsText, IsPut, IsCut, Performs, EndsIn, IsStatus, ChecksProcedures, IsCheck, ChecksSafe, ChecksUnsafe, IsUsage, IsCutOff, MayLaunch, AreCounted, AsFound, IsForUpdate, LeavesBy, KeepsLauncher, most_pulled, stored_by}
 use Rattle.suit_cli.proofs.Running as running
 use Rattle.suit_cli.proofs.RunClauses as staged
 use Rattle.suit_cli.proofs.RunClauses.{Staged}
 use Rattle.suit_cli.proofs.StagesLet.{answers_lets}
 use Rattle.suit_cli.proofs.BootHosts.{boots_without, stages_without}
+use Rattle.suit_cli.proofs.StatusNumbers.{of_ended}
 use Rattle.suit_cli.proofs.Starving.{boot_starved, starved_near, update_starved}
 use Rattle.suit_cli.proofs.UpdateEnds.{ByStatus, by_cause, cause_not_low, cause_not_nine, flash_failed, unfaulted, update_counts, update_files, update_not, update_not_nine, update_safe, update_told}
 
@@ -91,9 +92,9 @@ module _ (l m : Launching) (b a : Outside) (end : BootEnd) (lines : List ℕ) (b
   boot_counts = by_end end _ _ (subst (λ (n : ℕ). BootCounts end (counts_of b.faults n l.faults) (counts_of a.faults a.flash.faults m.faults)) boots.held.0.faults
       (subst (λ (n : ℕ). BootCounts end (counts_of n boots.middle.flash.faults l.faults) (counts_of a.faults a.flash.faults m.faults)) same_faults boots.boot.counts))
 
-  boot_safe : IsTrue b.told → IsTrue b.flash.told → IsTrue l.told → Sound VERSION_1 b.flash.reads → GainsSafe l.launches m.launches
-  boot_safe told flash_told launcher_told sound =
-      boots.boot.safe (subst IsTrue (sym same_told) told) (subst IsTrue (sym boots.held.0.still.told) flash_told) launcher_told
+  boot_safe : IsTrue b.flash.told → IsTrue l.told → Sound VERSION_1 b.flash.reads → GainsSafe l.launches m.launches
+  boot_safe flash_told launcher_told sound =
+      boots.boot.safe (subst IsTrue (sym boots.held.0.still.told) flash_told) launcher_told
       (subst (Sound VERSION_1) (sym (boots.held.0.still.reads flash_told)) sound)
 
 gains_none : (launched now : List Launch) → now ≡ launched → GainsSafe launched now
@@ -180,18 +181,18 @@ module _ (words : List (List ℕ)) (l m : Launching) (b a : Outside) (sb sa : Su
     of_way (AsBoot end lines word boots puts) = absurd (never (subst MayLaunch (sym word) tt))
     of_way (AsUpdate name uris end lines word updates puts) = absurd (never (subst MayLaunch (sym word) tt))
 
-  pub launches : IsTrue b.told → IsTrue b.flash.told → IsTrue l.told → (task_of words ≡ Some RunBoot → Sound VERSION_1 b.flash.reads) → GainsSafe l.launches m.launches
-  launches told flash_told launcher_told sound = of_way way where
+  pub launches : IsTrue b.flash.told → IsTrue l.told → (IsForUpdate (task_of words) → IsTrue b.told) → (task_of words ≡ Some RunBoot → Sound VERSION_1 b.flash.reads) → GainsSafe l.launches m.launches
+  launches flash_told launcher_told told sound = of_way way where
     of_way : Way words l m b a sb sa result → GainsSafe l.launches m.launches
     of_way (InStages run same) = gains_none l.launches m.launches (ap (λ (x : Launching). x.launches) same)
-    of_way (AsBoot end lines word boots puts) = boot_safe l m b a end lines boots told flash_told launcher_told (sound word)
-    of_way (AsUpdate name uris end lines word updates puts) = update_safe name uris l m b a end lines updates told flash_told launcher_told
+    of_way (AsBoot end lines word boots puts) = boot_safe l m b a end lines boots flash_told launcher_told (sound word)
+    of_way (AsUpdate name uris end lines word updates puts) = update_safe name uris l m b a end lines updates (told (subst IsForUpdate (sym word) tt)) flash_told launcher_told
 
   pub is_status : IsStatus result
   is_status = of_puts runs.puts where
     of_puts : Puts sb sa runs.ended result → IsStatus result
-    of_puts (IsPut is still puts) = OfEnded runs.ended is
-    of_puts (IsCut is faulted puts) = OfSinkFault is
+    of_puts (IsPut is still puts) = omega (arith, is, of_ended runs.ended)
+    of_puts (IsCut is faulted puts) = omega (arith, is)
 
   -- the count of an object, where the status was put
   put_status : (n : ℕ) (text : List ℕ) → PutsText sb sa n text result → result ≢ 9 → result ≡ n
@@ -239,12 +240,12 @@ module _ (words : List (List ℕ)) (l m : Launching) (b a : Outside) (sb sa : Su
     of_way (AsUpdate name uris end lines word updates puts) =
         counted_by _ _ (subst MayLaunch (sym word) tt) puts (update_counts name uris l m b a end lines updates)
 
-  pub no_host : IsTrue b.told → IsTrue b.flash.told → IsTrue l.told → task_of words ≡ Some RunBoot → result ≡ 7 → ⊥
-  no_host told flash_told launcher_told is_boot seven = of_way way where
+  pub no_host : IsTrue b.flash.told → IsTrue l.told → task_of words ≡ Some RunBoot → result ≡ 7 → ⊥
+  no_host flash_told launcher_told is_boot seven = of_way way where
     of_way : Way words l m b a sb sa result → ⊥
     of_way (InStages run same) = stages_without words is_boot b a run.ending run.answer (sym (put_status _ _ run.puts (λ nine. omega (arith, seven, nine))) ∙ seven)
     of_way (AsBoot end lines word boots puts) =
-        boots_without l m b a end lines boots told flash_told launcher_told (sym (put_status _ _ puts (λ nine. omega (arith, seven, nine))) ∙ seven)
+        boots_without l m b a end lines boots flash_told launcher_told (sym (put_status _ _ puts (λ nine. omega (arith, seven, nine))) ∙ seven)
     of_way (AsUpdate name uris end lines word updates puts) = let never : Some (RunUpdate name uris) ≡ Some RunBoot = sym word ∙ is_boot in absurd cc
 
   pub starved : OneAnswer → (IsTrue b.flash.told → b.flash.size ≡ length b.flash.reads) → result ≡ 11

@@ -142,7 +142,7 @@ module _ (layout : List Entry) (key : Key) (l m : Launching) (b mid a : Outside)
   boot_found boot_ends.NoMemory eleven u = record {
     files = λ t. u.alone.files (subst IsTrue (sym same_told) t) ∙ same_files;
     reads = λ t. u.left (subst IsTrue (sym flash_told) t) ∙ reads t;
-    launches = λ host flash launcher. u.plays (subst IsTrue (sym same_told) host) (subst IsTrue (sym flash_told) flash) launcher;
+    launches = λ host flash launcher. u.plays (subst IsTrue (sym flash_told) flash) launcher;
   }
   boot_found (boot_ends.Stopped place cause) eleven u = absurd (cause_not_eleven cause eleven)
   boot_found _ eleven u = absurd (omega (arith, eleven))

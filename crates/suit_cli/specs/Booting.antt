@@ -66,15 +66,15 @@ pub record IsBoot (layout : List Entry) (key : Key) (launched now : Launching)
       (counts_of after.faults after.flash.faults now.faults)
   pub answers : IsTrue before.flash.told → booting.Answers layout key before.flash.reads end
   pub unrefused : IsTrue before.flash.told → Sound VERSION_1 before.flash.reads → IsUnrefused end
-  pub no_host : IsTrue before.told → IsTrue before.flash.told → IsTrue launched.told → NeverHost end
+  pub no_host : IsTrue before.flash.told → IsTrue launched.told → NeverHost end
   pub left : IsTrue before.flash.told
       → booting.KeptSo (Unit {0}) (after.flash.reads ≡ before.flash.reads) end
-  pub plays : IsTrue before.told → IsTrue before.flash.told → IsTrue launched.told
+  pub plays : IsTrue before.flash.told → IsTrue launched.told
       → PlayedSo
       (PlaysBoot layout key before.files before.flash.reads after.flash.reads launched.launches
       now.launches)
       launched.launches now.launches end
-  pub safe : IsTrue before.told → IsTrue before.flash.told → IsTrue launched.told
+  pub safe : IsTrue before.flash.told → IsTrue launched.told
       → Sound VERSION_1 before.flash.reads
       → GainsSafe launched.launches now.launches
 

@@ -29,9 +29,8 @@ pub record LaunchesRecorded (layout : List Entry) (key : Key) (files : List ℕ 
   pub plays : PlaysOn layout is.said installed.active [] files image after launched now end
   pub gains : GainsSafe launched now
 
--- host, flash and launcher tell what they hold, and the flash reads the image
+-- flash and launcher tell what they hold, and the flash reads the image
 pub record Holds (image : List ℕ) (launched : Launching) (before : Outside) : Type 0 where
-  pub host : IsTrue before.told
   pub flash : IsTrue before.flash.told
   pub launcher : IsTrue launched.told
   pub size : before.flash.size ≡ length image

@@ -1,5 +1,5 @@
 -- The result of a run of the program.
-use Rattle.std.specs.Prelude.{◌≡◌, ◌≢◌, ◌⊎◌, ◌+◌, ℕ, IsTrue, List, ◌++◌, take, Option, Some, None}
+use Rattle.std.specs.Prelude.{◌≡◌, ◌≢◌, ◌⊎◌, ◌≤◌, ◌+◌, ℕ, IsTrue, List, ◌++◌, take, Option, Some, None}
 use Rattle.suit_edge.specs.Faults.{Faulted}
 use Rattle.suit_edge.specs.Flash.{Flash, Now, Passes}
 use Rattle.suit_commands.specs.Tree.{PlanTree}
@@ -68,11 +68,10 @@ IsExcuse result = (result ≡ 7) ⊎ (result ≡ 8) ⊎ (result ≡ 9) ⊎ (resu
 abbrev pub EndsIn : ℕ → ℕ → Type 0
 EndsIn status result = (result ≡ status) ⊎ IsExcuse result
 
--- those of an answer, a boot or an update, of a fault of the host, flash, launcher or sink, and of running out of
--- memory
-pub data IsStatus (result : ℕ) : Type 0 where
-  OfEnded : (ended : Ended) → result ≡ ended_status ended → IsStatus result
-  OfSinkFault : result ≡ sink_fault_status → IsStatus result
+-- Each status has its number, 0 to 21: 9 is that of a fault of the sink, and the others are those of an answer, a boot or
+-- an update.
+abbrev pub IsStatus : ℕ → Type 0
+IsStatus result = result ≤ 21
 
 -- ---- the headline
 

@@ -14,7 +14,7 @@ pub record HoldsOfRun (words : List (List ℕ)) (launched now : Launching) (befo
   pub usage : result ≡ 2 → IsUsage words sunk_before sunk_after
   -- and wherever they are none
   pub no_command_is_usage : task_of words ≡ None → EndsIn 2 result
-  -- the status is one of those that there are
+  -- the status is one of those that there are, 0 to 21
   pub status : IsStatus result
   -- of output that failed, the beginning of the answer's lines
   pub cut_off : result ≡ 9 → IsCutOff words launched now before after sunk_before sunk_after
@@ -24,9 +24,9 @@ pub record HoldsOfRun (words : List (List ℕ)) (launched now : Launching) (befo
       → (IsTrue before.flash.told → before.flash.size ≡ length before.flash.reads)
       → (IsTrue before.flash.told → IsForUpdate (task_of words) → Sound VERSION_1 before.flash.reads)
       → AsFound launched now before after
-  -- status 7 does not come of `run boot`, where host, flash and launcher tell
-  pub no_host : IsTrue before.told → IsTrue before.flash.told → IsTrue launched.told
-      → task_of words ≡ Some RunBoot → result ≡ 7 → ⊥
+  -- status 7 does not come of `run boot`, where flash and launcher tell
+  pub no_host : IsTrue before.flash.told → IsTrue launched.told → task_of words ≡ Some RunBoot
+      → result ≡ 7 → ⊥
   -- only `run boot` and `run update` launch
   pub only_launching : KeepsLauncher words launched now
 

@@ -30,7 +30,7 @@ use Rattle.flash_slots.specs.RamContents.{Held, empty_ram}
 use Rattle.update_proc.specs.Choices.{AreChosen, active_slots}
 use Rattle.update_proc.specs.declared.update_end.UpdateEnd.{UpdateEnd}
 use Rattle.update_proc.specs.declared.update_end.UpdateEnd.TheVariants as ends
-use Rattle.update_proc.specs.Ends.{FinishedSo, IfInstalled, IfStopped, IfTold, IfUnfaulted, IsEnd, IsRefusal, IsStartEnd, IsUnbegun, JudgedSo, UpdateCounts}
+use Rattle.update_proc.specs.Ends.{FinishedSo, IfInstalled, IfStopped, IfTold, IfUnfaulted, IsEnd, IsUnfaulted, IsRefusal, IsStartEnd, IsUnbegun, JudgedSo, SettledSo, StoppedSo, UpdateCounts}
 use Rattle.update_proc.specs.Installing.{BehindHead, IsNotWorn}
 use Rattle.update_proc.specs.Moments.{HasContentsOf}
 use Rattle.update_proc.specs.Records.{next_generation}
@@ -76,6 +76,21 @@ start_end plays.Done answer (r, same) = subst IsStartEnd (sym same) tt
 start_end (plays.ConditionFailed place) answer same = subst IsStartEnd (sym same) tt
 start_end (plays.DirectiveFailed place cause) answer same = subst IsStartEnd (sym same) tt
 
+-- what a procedure left was synced, in which the flash did not fail
+pub settled_so : (end : PlanEnd) (stop answer : UpdateEnd) (d e : ℕ) → IsEnd end stop → IsUnfaulted end → SettledSo stop answer d e → FinishedSo end answer d e
+settled_so end stop answer d e is unfaulted settled =
+    ⊎_elim (λ same. inl (subst (IsEnd end) (sym same.0) is, same.1)) (λ fault. inr (unfaulted, fault.0, fault.1)) settled
+
+-- a directive that failed, where what it left was synced
+pub stopped_so : (place : ℕ) (cause : Cause) (answer : UpdateEnd) (d e : ℕ) → StoppedSo place cause answer d e → FinishedSo (plays.DirectiveFailed place cause) answer d e
+stopped_so place causes.FlashFault answer d e is = inl is
+stopped_so place causes.Missing answer d e is = settled_so (plays.DirectiveFailed place causes.Missing) (ends.Stopped place causes.Missing) answer d e refl tt is
+stopped_so place causes.SelfCopy answer d e is = settled_so (plays.DirectiveFailed place causes.SelfCopy) (ends.Stopped place causes.SelfCopy) answer d e refl tt is
+stopped_so place causes.TooLarge answer d e is = settled_so (plays.DirectiveFailed place causes.TooLarge) (ends.Stopped place causes.TooLarge) answer d e refl tt is
+stopped_so place causes.Absent answer d e is = settled_so (plays.DirectiveFailed place causes.Absent) (ends.Stopped place causes.Absent) answer d e refl tt is
+stopped_so place causes.HostFault answer d e is = settled_so (plays.DirectiveFailed place causes.HostFault) (ends.Stopped place causes.HostFault) answer d e refl tt is
+stopped_so place causes.LaunchFault answer d e is = settled_so (plays.DirectiveFailed place causes.LaunchFault) (ends.Stopped place causes.LaunchFault) answer d e refl tt is
+
 -- ---- consequences of an end
 
 -- some end has P, where the procedure's has
@@ -90,18 +105,18 @@ module _ (end : PlanEnd) (answer : UpdateEnd) (d e : ℕ) (finished : FinishedSo
   pub counts_after : (h b l i m : ℕ) → EndCounts end (counts_of h b l) (counts_of i d m) → UpdateCounts answer (counts_of h b l) (counts_of i e m)
   counts_after h b l i m is = ⊎_elim
       (λ so. end_counts end answer (counts_of h b l) (counts_of i e m) so.0 (subst (λ (n : ℕ). EndCounts end (counts_of h b l) (counts_of i n m)) (sym so.1) is))
-      (λ fault. subst (λ (a : UpdateEnd). UpdateCounts a (counts_of h b l) (counts_of i e m)) (sym fault.0)
-      (failed_behind h b l i d m e (not_fallen end (counts_of h b l) (counts_of i d m) is) fault.1))
+      (λ fault. subst (λ (a : UpdateEnd). UpdateCounts a (counts_of h b l) (counts_of i e m)) (sym fault.1)
+      (failed_behind h b l i d m e (not_fallen end (counts_of h b l) (counts_of i d m) is) fault.2))
       finished
 
   pub starts_after : IsStartEnd answer
-  starts_after = ⊎_elim (λ so. start_end end answer so.0) (λ fault. subst IsStartEnd (sym fault.0) tt) finished
+  starts_after = ⊎_elim (λ so. start_end end answer so.0) (λ fault. subst IsStartEnd (sym fault.1) tt) finished
 
   -- P holds of the answer, where it does of each that may come
   pub after : (P : UpdateEnd → Type 0) → ((r : Record) → answer ≡ ends.Installed r → end ≡ plays.Done → P (ends.Installed r))
       → ((place : ℕ) → answer ≡ ends.Condition place → end ≡ plays.ConditionFailed place → P (ends.Condition place))
-      → ((place : ℕ) (cause : Cause) → answer ≡ ends.Stopped place cause → end ≡ plays.DirectiveFailed place cause → P (ends.Stopped place cause)) → P ends.FlashFault → P answer
-  after P done condition stopped fault_is = ⊎_elim (λ so. left_end P end answer done condition stopped so.0) (λ fault. subst P (sym fault.0) fault_is) finished
+      → ((place : ℕ) (cause : Cause) → answer ≡ ends.Stopped place cause → end ≡ plays.DirectiveFailed place cause → P (ends.Stopped place cause)) → (IsUnfaulted end → P ends.FlashFault) → P answer
+  after P done condition stopped fault_is = ⊎_elim (λ so. left_end P end answer done condition stopped so.0) (λ fault. subst P (sym fault.1) (fault_is fault.0)) finished
 
 -- a property without a fault of the flash is weakened
 pub unfaulted : (P Q : Type 0) (answer : UpdateEnd) → (P → Q) → IfUnfaulted answer P → IfUnfaulted answer Q
@@ -250,7 +265,7 @@ pub some_play : (Plays : List ℕ → PlanEnd → Type 0) (layout : List Entry) 
 some_play Plays layout after launched now (ends.Installed r) is = inr (is.made, plays.Done, is.plays)
 some_play Plays layout after launched now (ends.Condition place) is = inr (is.made, plays.ConditionFailed place, is.plays)
 some_play Plays layout after launched now (ends.Stopped place cause) is = inr (is.made, plays.DirectiveFailed place cause, is.plays)
-some_play Plays layout after launched now ends.FlashFault is = is
+some_play Plays layout after launched now ends.FlashFault is = ⊎_elim (λ same. inl same) (λ play. inr (play.0, play.1, play.2)) is
 some_play Plays layout after launched now (ends.Lower m n) is = inl is
 some_play Plays layout after launched now (ends.OtherDigest m n) is = inl is
 some_play Plays layout after launched now ends.Worn is = inl is

@@ -3,6 +3,7 @@ use Rattle.std.specs.Prelude.{◌≡◌, ◌⊎◌, ℕ, List, Option}
 use Rattle.suit_edge.specs.Faults.{Faulted}
 use Rattle.suit_edge.specs.Flash.{Flash, Now}
 use Rattle.suit_params.specs.declared.digest.Digest.{Digest}
+use Rattle.path_model.specs.declared.cause.Cause.{Cause}
 use Rattle.path_model.specs.declared.cause.Cause.TheVariants as causes
 use Rattle.flash_layout.specs.declared.slot.Record.{Record}
 use Rattle.rollback_record.specs.Judging.{IsAcceptable, IsJudged}
@@ -42,21 +43,33 @@ IsUnbegun _ = ⊥
 
 -- ---- once it was accepted
 
+-- no directive of the procedure was stopped by a fault of the flash
+abbrev pub IsUnfaulted : PlanEnd → Type 0
+IsUnfaulted (plays.DirectiveFailed place causes.FlashFault) = ⊥
+IsUnfaulted _ = Unit {0}
+
 -- the procedure ended so, and what came behind it did not fail
 abbrev pub IsEnd : PlanEnd → UpdateEnd → Type 0
 IsEnd plays.Done answer = (r : Record) × (answer ≡ ends.Installed r)
 IsEnd (plays.ConditionFailed place) answer = answer ≡ ends.Condition place
 IsEnd (plays.DirectiveFailed place cause) answer = answer ≡ ends.Stopped place cause
 
--- or the flash failed behind it
+-- or the flash failed behind it, and not in it
 abbrev pub FinishedSo : PlanEnd → UpdateEnd → ℕ → ℕ → Type 0
 FinishedSo end answer before now =
-    (IsEnd end answer × (now ≡ before)) ⊎ ((answer ≡ ends.FlashFault) × Faulted before now)
+    (IsEnd end answer × (now ≡ before))
+    ⊎ (IsUnfaulted end × (answer ≡ ends.FlashFault) × Faulted before now)
 
 -- all was made sure of with this answer, or the flash failed
 abbrev pub SettledSo : UpdateEnd → UpdateEnd → ℕ → ℕ → Type 0
 SettledSo end answer before now =
     ((answer ≡ end) × (now ≡ before)) ⊎ ((answer ≡ ends.FlashFault) × Faulted before now)
+
+-- the same of a failed directive; where the flash failed there, that is the answer
+abbrev pub StoppedSo : ℕ → Cause → UpdateEnd → ℕ → ℕ → Type 0
+StoppedSo place causes.FlashFault answer before now =
+    (answer ≡ ends.Stopped place causes.FlashFault) × (now ≡ before)
+StoppedSo place cause answer before now = SettledSo (ends.Stopped place cause) answer before now
 
 -- an image that a power loss then may have left, or one with P
 abbrev pub NowOr : (List ℕ → Type 0) → Flash → List ℕ → Type 0

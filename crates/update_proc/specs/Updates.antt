@@ -21,6 +21,7 @@ use Rattle.step_machine.specs.Worlds.{IsChoice, StandAs}
 use Rattle.update_proc.specs.declared.update_end.UpdateEnd.{UpdateEnd}
 use Rattle.update_proc.specs.declared.update_end.UpdateEnd.TheVariants as ends
 use Rattle.update_proc.specs.Choices.{AreChosen, active_slots}
+use Rattle.update_proc.specs.Ends.{IsUnfaulted}
 use Rattle.update_proc.specs.Moments.{HasContentsOf, IsNew, IsOld, KeepsContents}
 
 -- ---- the play
@@ -58,7 +59,7 @@ pub record PlaysAndLeaves (Plays : List ℕ → PlanEnd → Type 0) (layout : Li
   pub left : HasContentsOf layout made after
 
 -- The procedure was played and ended so; or nothing was launched. A fault of the flash that no command met came before
--- the procedure, or behind it.
+-- the procedure, or behind it: one that a directive met is told with its place.
 abbrev pub PlayedSo : (List ℕ → PlanEnd → Type 0) → List Entry → List ℕ → List Launch → List Launch
     → UpdateEnd → Type 0
 PlayedSo Plays layout after launched now (ends.Installed r) =
@@ -68,7 +69,7 @@ PlayedSo Plays layout after launched now (ends.Condition place) =
 PlayedSo Plays layout after launched now (ends.Stopped place cause) =
     PlaysAndLeaves Plays layout after (plays.DirectiveFailed place cause)
 PlayedSo Plays layout after launched now ends.FlashFault =
-    (now ≡ launched) ⊎ ((made : List ℕ) × (end : PlanEnd) × Plays made end)
+    (now ≡ launched) ⊎ ((made : List ℕ) × (end : PlanEnd) × Plays made end × IsUnfaulted end)
 PlayedSo Plays layout after launched now _ = now ≡ launched
 
 -- Whatever was answered, nothing was launched, or the procedure was played beside the record that this image has.

@@ -7,7 +7,7 @@ ghost use Rattle.rollback_record.specs.SoundFlash.{recorded_bank};
 ghost use Rattle.std.specs.Prelude.{◌≡◌, ◌↔◌, ◌+◌, ◌<◌, ◌≤◌, IfOk, IsTrue, length, slice_range};
 
 use flash_layout::{FlashFault, Record, VERSION_1, bank};
-use flash_slots::is_equal;
+use lane_bytes::same;
 use step_machine::Steps;
 use suit_edge::{Disk, Edge};
 
@@ -27,7 +27,7 @@ fn has_piece<D: Disk>(
     let count = piece.len();
     match disk.read_at(place, &mut room[..count]) {
         Edge::Failed => Err(FlashFault),
-        Edge::Done => Ok(is_equal(&room[..count], piece)),
+        Edge::Done => Ok(same(&room[..count], piece)),
     }
 }
 

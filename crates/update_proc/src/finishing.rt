@@ -7,10 +7,9 @@ ghost use Rattle.rollback_record.specs.SoundFlash.{Follows, IsNoEarlier, Sound};
 ghost use Rattle.std.specs.Prelude.{◌≡◌, ◌<◌, ◌≤◌, IfSome, IsTrue, Some, length, option_map};
 ghost use Rattle.suit_edge.specs.Ranges.{SameOn};
 ghost use Rattle.suit_edge.specs.Flash.{Grows, IsFirmOn, IsSettled, Now, Passes};
-ghost use Rattle.update_proc.specs.Ends.{FinishedSo, IfInstalled, IfStopped, IfTold, IfUnfaulted, NowOr, SettledSo};
+ghost use Rattle.update_proc.specs.Ends.{FinishedSo, IfInstalled, IfStopped, IfTold, IfUnfaulted, NowOr, SettledSo, StoppedSo};
 ghost use Rattle.update_proc.specs.Installing.{BehindHead, HasActiveSlots, IsInstalling, MayBeInstalled, MayInstall};
 ghost use Rattle.update_proc.specs.Records.{new_record};
-ghost use Rattle.update_proc.specs.declared.update_end.UpdateEnd.TheVariants as ends;
 
 use crate::{Offer, UpdateEnd, install};
 use flash_layout::{FlashFault, Record, VERSION_1};
@@ -32,8 +31,7 @@ fn settle<D: Disk>(disk: &mut D, end: UpdateEnd) -> UpdateEnd
 // Syncs what a failed directive left, unless the flash failed there.
 fn stop<D: Disk>(disk: &mut D, place: u64, cause: Cause) -> UpdateEnd
     ensures settled { IsTrue D.told → IfUnfaulted result (IsSettled (D.flash disk.new)) }
-    ensures read { ⟦<D as Steps>⟧.only_reads (SettledSo (ends.Stopped place cause) result)
-        disk.old disk.new }
+    ensures read { ⟦<D as Steps>⟧.only_reads (StoppedSo place cause result) disk.old disk.new }
 {
     match cause {
         Cause::FlashFault => UpdateEnd::Stopped { place, cause },

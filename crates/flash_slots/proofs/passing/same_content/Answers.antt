@@ -3,8 +3,8 @@ use Rattle.suit_edge.specs.FlashLaws.{grows_then, same_flash_then}
 use Rattle.flash_slots.proofs.Whole.{all_same, more_same, other_part}
 use Rattle.flash_slots.proofs.passing.same_content.Goals as goal
 
-pub returns-then-not-is_equal-clause-exact : goal.returns-then-not-is_equal-clause-exact
-returns-then-not-is_equal-clause-exact g c t =
+pub returns-then-not-same-clause-exact : goal.returns-then-not-same-clause-exact
+returns-then-not-same-clause-exact g c t =
     let image = (g.D.Disk.flash c.args.disk.now).reads in
     let inside : c.args.slot.start + (8 + c.args.slot.capacity) ≤ length image = omega (arith, (g.met.D.Disk.obeys c.args.disk.now t).fits, c.requires.slot) in
     let long : c.in-Ok.size ≡ length c.args.bytes.now = omega (arith, c.if-size-bytes.false) in
@@ -12,7 +12,7 @@ returns-then-not-is_equal-clause-exact g c t =
     let some : c.loop-from.from < c.in-Ok.size = omega (arith, long, c.loop-from-test.true) in (
       λ no. absurd cc,
       λ equal. absurd (other_part c.args.slot image c.in-Ok.size (c.in-Ok.ensures.exact t) c.in-Ok.ensures.few inside (g.D.Disk.flash c.loop-from.disk).reads c.loop-from.room c.read_some.new.room c.loop-from.from c.in-Ok-read_some.count (c.loop-from.invariant.same t).reads within (c.in-Ok-read_some.ensures.bytes t) c.args.bytes.now some
-          (λ e. let yes = c.is_equal.ensures.same.1 e in absurd cc) equal),
+          (λ e. let yes = c.same.ensures.same.1 e in absurd cc) equal),
     )
 
 pub loop-from-preserved : goal.loop-from-preserved
@@ -26,7 +26,7 @@ loop-from-preserved g c = record {
       let inside : c.args.slot.start + (8 + c.args.slot.capacity) ≤ length image = omega (arith, (g.met.D.Disk.obeys c.args.disk.now t).fits, c.requires.slot) in
       let long : c.in-Ok.size ≡ length c.args.bytes.now = omega (arith, c.if-size-bytes.false) in
       let within : c.loop-from.from + c.in-Ok-read_some.count ≤ c.in-Ok.size = omega (arith, c.in-Ok-read_some.ensures.count, c.loop-from-test.true, c.loop-from.invariant.within, long) in
-      more_same c.args.slot image c.in-Ok.size (c.in-Ok.ensures.exact t) c.in-Ok.ensures.few inside (g.D.Disk.flash c.loop-from.disk).reads c.loop-from.room c.read_some.new.room c.loop-from.from c.in-Ok-read_some.count (c.loop-from.invariant.same t).reads within (c.in-Ok-read_some.ensures.bytes t) c.args.bytes.now (c.loop-from.invariant.passed t) (c.is_equal.ensures.same.0 c.if-not-is_equal.false);
+      more_same c.args.slot image c.in-Ok.size (c.in-Ok.ensures.exact t) c.in-Ok.ensures.few inside (g.D.Disk.flash c.loop-from.disk).reads c.loop-from.room c.read_some.new.room c.loop-from.from c.in-Ok-read_some.count (c.loop-from.invariant.same t).reads within (c.in-Ok-read_some.ensures.bytes t) c.args.bytes.now (c.loop-from.invariant.passed t) (c.same.ensures.same.0 c.if-not-same.false);
   same = λ t.
       same_flash_then _ _ _ _ (g.met.D.Disk.obeys c.loop-from.disk t) (c.loop-from.invariant.same t) (c.read_some.ensures.same t);
   grows = λ t. grows_then (g.D.Disk.flash c.args.disk.now) (g.D.Disk.flash c.loop-from.disk) (g.D.Disk.flash c.read_some.new.disk) (c.loop-from.invariant.same t).images.later (c.loop-from.invariant.grows t) (c.read_some.ensures.grows t);

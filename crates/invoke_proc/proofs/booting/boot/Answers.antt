@@ -19,13 +19,13 @@ returns-clause-unrefused g c t sound =
     (c.start_installed.ensures.answers t)
 
 pub returns-clause-host : goal.returns-clause-host
-returns-clause-host g c th td tl =
+returns-clause-host g c td tl =
     never_host c.play_laws.ensures.faulted_ends c.args.layout.now c.args.key.now (g.H.Host.file c.args.host.now) (g.D.Disk.flash c.args.disk.now).reads
     (g.D.Disk.flash c.start_installed.new.disk).reads (g.L.Launcher.launches c.args.launcher.now) (g.L.Launcher.launches c.start_installed.new.launcher) c.start_installed.result
-    (c.start_installed.ensures.plays th td tl)
+    (c.start_installed.ensures.plays td tl)
 
 pub returns-clause-safe : goal.returns-clause-safe
-returns-clause-safe g c th td tl sound =
+returns-clause-safe g c td tl sound =
     let layout = c.args.layout.now in
     let key = c.args.key.now in
     let d = g.D.Disk in
@@ -40,7 +40,7 @@ returns-clause-safe g c th td tl sound =
     (PlaysBoot layout key files reads after launched now) c.start_installed.result
     (λ end p. gains c.play_laws.ensures.safe c.play_laws.ensures.faulted_safe c.manifest_laws.ensures size layout c.requires.allowed.layout_is c.has_identifiers.ensures key files reads after launched now end p
     (safe_start c.config_laws.ensures.answer c.record_laws.ensures.answer c.boot_laws.ensures layout key reads config p.installed p.manifest sound p.starts))
-    (c.start_installed.ensures.plays th td tl)
+    (c.start_installed.ensures.plays td tl)
 
 pub returns-clause-sound : goal.returns-clause-sound
 returns-clause-sound g c t settled =

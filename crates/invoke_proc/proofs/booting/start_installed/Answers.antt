@@ -38,7 +38,7 @@ returns-clause-answers g c t =
     c.start.result c.start.ensures.starts
 
 pub returns-clause-plays : goal.returns-clause-plays
-returns-clause-plays g c th td tl =
+returns-clause-plays g c td tl =
     let d = g.D.Disk in
     let reads = (d.flash c.args.disk.now).reads in
     let before = (d.flash c.find_bank.new.disk).reads in
@@ -56,7 +56,7 @@ returns-clause-plays g c th td tl =
     booted.played_as (PlaysOn c.args.layout.now m r.active found.0 files before after launched now) (PlaysBoot c.args.layout.now c.args.key.now files reads after launched now)
     launched now c.start.result
     (booted.plays_boot c.args.layout.now c.args.key.now files reads before after bytes launched now r m found.0 starts same found.1 (c.in-Ok.ensures.same td).reads)
-    (c.start.ensures.plays th td tl found.0 (subst (λ (l : List ℕ). HasPayloads l found.0) (sym c.in-Ok-judge.ensures.whole) found.1))
+    (c.start.ensures.plays td tl found.0 (subst (λ (l : List ℕ). HasPayloads l found.0) (sym c.in-Ok-judge.ensures.whole) found.1))
 
 pub returns-clause-keeps : goal.returns-clause-keeps
 returns-clause-keeps g c t =

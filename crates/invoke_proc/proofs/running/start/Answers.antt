@@ -1,4 +1,4 @@
-use Rattle.std.proofs.Common.{sym, subst, ap, ◌∙◌}
+use Rattle.std.proofs.Common.{inr, sym, subst, ap, ◌∙◌}
 use Rattle.suit_commands.specs.Allowed.{IsPlan}
 use Rattle.suit_commands.specs.Tree.{PlanTree}
 use Rattle.suit_edge.specs.Flash.{IsSame}
@@ -24,7 +24,7 @@ pub returns-clause-counts : goal.returns-clause-counts
 returns-clause-counts g c = counts_after c.run_plan-end.result c.settle.result _ _ c.settle.ensures.read.counts _ _ _ _ _ c.run_plan-end.ensures.counts
 
 pub returns-clause-plays : goal.returns-clause-plays
-returns-clause-plays g c th td tl payloads has =
+returns-clause-plays g c td tl payloads has =
     let d = g.D.Disk in
     let w = c.in-Ok.world in
     let before = (d.flash c.args.disk.now).reads in
@@ -37,7 +37,7 @@ returns-clause-plays g c th td tl payloads has =
     (PlaysOn c.args.layout.now c.args.startable.now.manifest c.args.installed.now.active payloads files before after launched now) launched now
     (plays_on c.args.layout.now c.args.startable.now.manifest c.args.installed.now.active payloads w.uris.now files before between after launched now c.run_plan-end.result
     w.standings.items w.ram c.run_plan-end.new.world.ram c.in-Ok.ensures.stand c.in-Ok.ensures.ram (c.in-Ok.ensures.uris ∙ c.new-uris.ensures) (c.settle.ensures.read.same td).reads _ c.invocation_plan-plan.ensures
-    (c.run_plan-end.ensures.plays th td tl payloads (subst (λ (e : Envelope). HasPayloads e.whole.now payloads) (sym c.in-Ok.ensures.envelope) has)))
+    (c.run_plan-end.ensures.plays (inr (c.in-Ok.ensures.uris ∙ c.new-uris.ensures)) td tl payloads (subst (λ (e : Envelope). HasPayloads e.whole.now payloads) (sym c.in-Ok.ensures.envelope) has)))
 
 pub returns-clause-keeps : goal.returns-clause-keeps
 returns-clause-keeps g c td =

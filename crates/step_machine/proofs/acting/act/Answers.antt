@@ -1,4 +1,4 @@
-use Rattle.std.proofs.Common.{refl}
+use Rattle.std.proofs.Common.{⊎_elim, ap, refl}
 use Rattle.suit_commands.specs.declared.kinds.ActKind.TheVariants as acts
 use Rattle.step_machine.specs.Running.{state_of}
 use Rattle.step_machine.proofs.Directing.{act_as, writes_as, write_runs, fetch_runs, invoke_runs}
@@ -27,7 +27,7 @@ returns-in-Fetch g c =
     record {
       runs = act_as c.args.machine.now c.args.kind acts.Fetch c.args.place c.args.component c.in-Fetch.is _ _ _ _ _
           (fetch_runs c.args.machine.now _ _ (state_of c.args.state.now) c.args.place c.args.component r.inside r.ready r.under_way (λ t. g.met.D.Disk.obeys c.args.work.now.disk.now t) c.fetch-fetched.result _ c.stopped-in-Fetch.ensures
-          (one_stays c.args.machine.now _ _ c.args.component no_standing r.inside r.ready w.ram refl refl refl w.size w.files may w.keeps w.grows) refl
+          (one_stays c.args.machine.now _ _ c.args.component no_standing r.inside r.ready w.ram refl refl refl w.size (⊎_elim w.files (λ none. ap g.H.Host.file (w.unasked none))) may w.keeps w.grows) refl
           (fetch_counts c.fetch-fetched.result c.args.place _ _ _ _ _ w.counts) w.ram w.keeps w.fetches);
       leaves = record { unasked = w.unasked; host = refl; disk = refl; launcher = refl; ram = refl; pieces = refl };
     }

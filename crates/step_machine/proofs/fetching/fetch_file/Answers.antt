@@ -1,4 +1,4 @@
-use Rattle.std.proofs.Common.{ℕ, List, Option, refl, sym, ap, subst}
+use Rattle.std.proofs.Common.{⊎_elim, ℕ, List, Option, refl, sym, ap, subst}
 use Rattle.std.specs.Option.{option_and_then}
 use Rattle.step_machine.specs.Fetching.{TakesNamed}
 use Rattle.step_machine.specs.Spots.{content_of}
@@ -12,7 +12,8 @@ returns-in-Some-clause-takes g c t u =
     let before = content_of standing.spot c.args.ram.now (g.D.Disk.flash c.args.disk.now).reads in
     let after = content_of standing.spot c.fetch_named.new.ram (g.D.Disk.flash c.fetch_named.new.disk).reads in
     subst (λ (o : Option (List ℕ)). TakesNamed c.fetch_named.result standing.capacity (option_and_then (g.H.Host.file c.args.host.now) o) before after)
-    c.in-Some.ensures (c.fetch_named.ensures.takes t u)
+    c.in-Some.ensures
+    (c.fetch_named.ensures.takes t (⊎_elim (λ told. told) (λ none. absurd (none_under c.args.uris.now c.args.uri.now _ none c.in-Some.ensures)) u))
 
 pub returns-in-None-clause-takes : goal.returns-in-None-clause-takes
 returns-in-None-clause-takes g c t u = (ap (option_and_then (g.H.Host.file c.args.host.now)) (sym c.in-None.ensures), refl)

@@ -1,4 +1,4 @@
-use Rattle.std.proofs.Common.{◌∙◌, length, refl, sym, ap, subst, rules}
+use Rattle.std.proofs.Common.{inl, ◌∙◌, length, refl, sym, ap, subst, rules}
 use Rattle.std.specs.Prelude.{List}
 use Rattle.suit_edge.specs.Flash.{Keeps}
 use Rattle.step_machine.specs.declared.machine.Machine.{Machine}
@@ -31,7 +31,7 @@ returns g c =
       size = runs.stays.size;
       counts = subst (λ (x : PlanEnd). EndCounts x (counts_of (g.H.Host.faults c.args.host.now) (g.D.Disk.faults c.args.disk.now) (g.L.Launcher.faults c.args.launcher.now)) (counts_of (g.H.Host.faults c.run_lent-ended.new.host) (g.D.Disk.faults c.run_lent-ended.new.disk) (g.L.Launcher.faults c.run_lent-ended.new.launcher))) (sym c.end_of.ensures)
           (end_counts c.run_lent-ended.result _ _ runs.counts);
-      files = runs.stays.files;
+      files = λ told. runs.stays.files (inl told);
       unasked = c.run_lent-ended.ensures.unasked;
       plays = λ host_told disk_told launcher_told payloads are.
           let items = c.args.world.now.standings.items in

@@ -1,6 +1,10 @@
-use Rattle.std.proofs.Common.{inr}
+use Rattle.std.proofs.Common.{inr, refl, sym, subst}
+use Rattle.step_machine.specs.declared.plan_end.PlanEnd.{PlanEnd}
+use Rattle.step_machine.specs.declared.plan_end.PlanEnd.TheVariants as plays
+use Rattle.update_proc.specs.declared.update_end.UpdateEnd.TheVariants as ends
+use Rattle.update_proc.specs.Ends.{FinishedSo}
 use Rattle.suit_edge.specs.FlashLaws.{weakens}
-use Rattle.update_proc.proofs.Finished.{any_stopped, any_told, as_held, as_read}
+use Rattle.update_proc.proofs.Finished.{any_stopped, any_told, as_held, as_read, settled_so, stopped_so}
 use Rattle.update_proc.proofs.finishing.finish.Goals as goal
 
 pub returns-in-Ok-clause-any_moment : goal.returns-in-Ok-clause-any_moment
@@ -44,3 +48,13 @@ returns-in-ConditionFailed-clause-still g c t = any_stopped c.args.end _ (c.sett
 
 pub returns-in-DirectiveFailed-clause-still : goal.returns-in-DirectiveFailed-clause-still
 returns-in-DirectiveFailed-clause-still g c t = any_stopped c.args.end _ (c.stop.ensures.read.same t).images
+
+pub returns-in-ConditionFailed-clause-answer : goal.returns-in-ConditionFailed-clause-answer
+returns-in-ConditionFailed-clause-answer g c =
+    subst (λ (end : PlanEnd). FinishedSo end c.settle.result (g.D.Disk.faults c.args.disk.now) (g.D.Disk.faults c.settle.new.disk)) (sym c.in-ConditionFailed.is)
+    (settled_so (plays.ConditionFailed c.in-ConditionFailed.place) (ends.Condition c.in-ConditionFailed.place) c.settle.result _ _ refl tt c.settle.ensures.read.counts)
+
+pub returns-in-DirectiveFailed-clause-answer : goal.returns-in-DirectiveFailed-clause-answer
+returns-in-DirectiveFailed-clause-answer g c =
+    subst (λ (end : PlanEnd). FinishedSo end c.stop.result (g.D.Disk.faults c.args.disk.now) (g.D.Disk.faults c.stop.new.disk)) (sym c.in-DirectiveFailed.is)
+    (stopped_so c.in-DirectiveFailed.place c.in-DirectiveFailed.cause c.stop.result _ _ c.stop.ensures.read.counts)

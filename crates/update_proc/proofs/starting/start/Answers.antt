@@ -159,7 +159,7 @@ returns-clause-keeps g c t settled =
     let did : c.run_plan-end.result ≡ plays.Done → Done b.reads = λ ended th tl payloads has.
     subst (λ (end : PlanEnd). PlaysUpdate c.args.layout.now c.args.places.now (plan_tree c.args.plan.now) (held_of c.args.held) (sources payloads c.args.uris.now (g.H.Host.file c.args.host.now)) (g.D.Disk.flash c.args.disk.now).reads b.reads (g.L.Launcher.launches c.args.launcher.now) (g.L.Launcher.launches c.run_plan-end.new.launcher) end) ended
     (plays_update c.args.layout.now c.args.places.now (plan_tree c.args.plan.now) (held_of c.args.held) payloads c.in-Ok.world.uris.now c.args.uris.now (g.H.Host.file c.args.host.now) (g.D.Disk.flash c.args.disk.now).reads (g.D.Disk.flash c.run_plan-end.new.disk).reads (g.L.Launcher.launches c.args.launcher.now) (g.L.Launcher.launches c.run_plan-end.new.launcher) c.run_plan-end.result c.choose_slots-slots.result.number c.in-Ok.world.standings.items c.in-Ok.world.ram c.run_plan-end.new.world.ram chosen c.choose_slots-slots.ensures.choice c.in-Ok.ensures.stand c.in-Ok.ensures.ram c.in-Ok.ensures.uris
-    (c.run_plan-end.ensures.plays th t tl payloads (subst (λ (e : Envelope). HasPayloads e.whole.now payloads) (sym c.in-Ok.ensures.envelope) has))) in
+    (c.run_plan-end.ensures.plays (inl th) t tl payloads (subst (λ (e : Envelope). HasPayloads e.whole.now payloads) (sym c.in-Ok.ensures.envelope) has))) in
     let others = contents_made c.sound_laws.ensures c.moment_laws.ensures c.choice_laws.ensures (g.D.Disk.extent c.args.disk.now) c.requires.size c.args.layout.now c.requires.layout c.args.places.now (plan_tree c.args.plan.now) (held_of c.args.held) c.requires.loadable c.choose_slots-slots.result.number c.in-Ok.world.standings.items c.requires.distinct c.choose_slots-slots.ensures.choice c.in-Ok.ensures.stand chosen (g.D.Disk.flash c.args.disk.now) (g.D.Disk.flash c.run_plan-end.new.disk) (g.met.D.Disk.obeys c.args.disk.now t) law_b (c.requires.config t).0 (c.requires.config t).1 (c.requires.held t) (c.run_plan-end.ensures.keeps t) in
     let stays = old_all c.sound_laws.ensures c.moment_laws.ensures c.choice_laws.ensures (g.D.Disk.extent c.args.disk.now) c.requires.size c.args.layout.now c.requires.layout c.args.places.now (plan_tree c.args.plan.now) (held_of c.args.held) c.requires.loadable c.choose_slots-slots.result.number c.in-Ok.world.standings.items c.requires.distinct c.choose_slots-slots.ensures.choice c.in-Ok.ensures.stand chosen (g.D.Disk.flash c.args.disk.now) (g.D.Disk.flash c.run_plan-end.new.disk) (g.met.D.Disk.obeys c.args.disk.now t) law_b (c.requires.config t).0 (c.requires.config t).1 (c.requires.held t) (c.run_plan-end.ensures.keeps t) settled c.args.accepted.now.bytes.now c.args.accepted.now.sequence c.args.accepted.now.digest c.requires.fits (g.D.Disk.flash c.finish.new.disk) law_d in
     let old_left = old_at_end c.sound_laws.ensures c.moment_laws.ensures c.choice_laws.ensures (g.D.Disk.extent c.args.disk.now) c.requires.size c.args.layout.now c.requires.layout c.args.places.now (plan_tree c.args.plan.now) (held_of c.args.held) c.requires.loadable c.choose_slots-slots.result.number c.in-Ok.world.standings.items c.requires.distinct c.choose_slots-slots.ensures.choice c.in-Ok.ensures.stand chosen (g.D.Disk.flash c.args.disk.now) (g.D.Disk.flash c.run_plan-end.new.disk) (g.met.D.Disk.obeys c.args.disk.now t) law_b (c.requires.config t).0 (c.requires.config t).1 (c.requires.held t) (c.run_plan-end.ensures.keeps t) settled c.args.accepted.now.bytes.now c.args.accepted.now.sequence c.args.accepted.now.digest c.requires.fits (g.D.Disk.flash c.finish.new.disk) law_d in
@@ -170,7 +170,7 @@ returns-clause-keeps g c t settled =
     record { numbers = c.choose_slots-slots.result.number; chosen = chosen; accepted = c.requires.judged; made = b.reads; others = others; any_moment = moments; whole = stays still; left = old_left (told_at c.finish.result place (d.reads ≡ b.reads) (c.finish.ensures.stays t) told) })
     (λ place cause told ended. let still = stopped_by c.run_plan-end.result place cause (Passes b d (Now b)) (c.finish.ensures.still t) ended in
     record { numbers = c.choose_slots-slots.result.number; chosen = chosen; accepted = c.requires.judged; made = b.reads; others = others; any_moment = moments; whole = stays still; left = old_left (told_by c.finish.result place cause (d.reads ≡ b.reads) (c.finish.ensures.stays t) told) })
-    (inr (record {
+    (λ unfaulted. inr (record {
       numbers = c.choose_slots-slots.result.number;
       chosen = chosen;
       accepted = c.requires.judged;
@@ -199,7 +199,7 @@ returns-clause-left g c t =
     record { numbers = numbers; chosen = chosen; accepted = c.requires.judged; contents = contents; left = (is, subst (λ (n : Record). RecordOf VERSION_1 (head_of VERSION_1 (g.D.Disk.flash c.finish.new.disk).reads) (Some n)) is (installed_as c.finish.result r (λ r. RecordOf VERSION_1 (head_of VERSION_1 (g.D.Disk.flash c.finish.new.disk).reads) (Some r)) (c.finish.ensures.recorded t) same)) })
     (λ place told ended. record { numbers = numbers; chosen = chosen; accepted = c.requires.judged; contents = contents; left = held_as (held_of c.args.held) _ _ (told_at c.finish.result place ((g.D.Disk.flash c.finish.new.disk).reads ≡ (g.D.Disk.flash c.run_plan-end.new.disk).reads) (c.finish.ensures.stays t) told) held_at })
     (λ place cause told ended. record { numbers = numbers; chosen = chosen; accepted = c.requires.judged; contents = contents; left = held_as (held_of c.args.held) _ _ (told_by c.finish.result place cause ((g.D.Disk.flash c.finish.new.disk).reads ≡ (g.D.Disk.flash c.run_plan-end.new.disk).reads) (c.finish.ensures.stays t) told) held_at })
-    (inr (record { numbers = numbers; chosen = chosen; accepted = c.requires.judged; contents = contents; left = held_or_same (held_of c.args.held) _ _ (g.D.Disk.flash c.finish.new.disk).reads same_new (c.finish.ensures.reads t) }))
+    (λ unfaulted. inr (record { numbers = numbers; chosen = chosen; accepted = c.requires.judged; contents = contents; left = held_or_same (held_of c.args.held) _ _ (g.D.Disk.flash c.finish.new.disk).reads same_new (c.finish.ensures.reads t) }))
 
 pub returns-clause-plays : goal.returns-clause-plays
 returns-clause-plays g c th t tl payloads has =
@@ -208,10 +208,10 @@ returns-clause-plays g c th t tl payloads has =
     let law_d = (subst (λ (n : ℕ). IsFlash (g.D.Disk.flash c.finish.new.disk) n) (c.finish.ensures.size ∙ c.run_plan-end.ensures.size) (g.met.D.Disk.obeys c.finish.new.disk t)) in
     let Plays : List ℕ → PlanEnd → Type 0 = λ made end. PlaysUpdate c.args.layout.now c.args.places.now (plan_tree c.args.plan.now) (held_of c.args.held) (sources payloads c.args.uris.now (g.H.Host.file c.args.host.now)) (g.D.Disk.flash c.args.disk.now).reads made (g.L.Launcher.launches c.args.launcher.now) (g.L.Launcher.launches c.run_plan-end.new.launcher) end in
     let play : Plays (g.D.Disk.flash c.run_plan-end.new.disk).reads c.run_plan-end.result = plays_update c.args.layout.now c.args.places.now (plan_tree c.args.plan.now) (held_of c.args.held) payloads c.in-Ok.world.uris.now c.args.uris.now (g.H.Host.file c.args.host.now) (g.D.Disk.flash c.args.disk.now).reads (g.D.Disk.flash c.run_plan-end.new.disk).reads (g.L.Launcher.launches c.args.launcher.now) (g.L.Launcher.launches c.run_plan-end.new.launcher) c.run_plan-end.result c.choose_slots-slots.result.number c.in-Ok.world.standings.items c.in-Ok.world.ram c.run_plan-end.new.world.ram chosen c.choose_slots-slots.ensures.choice c.in-Ok.ensures.stand c.in-Ok.ensures.ram c.in-Ok.ensures.uris
-    (c.run_plan-end.ensures.plays th t tl payloads (subst (λ (e : Envelope). HasPayloads e.whole.now payloads) (sym c.in-Ok.ensures.envelope) has)) in
+    (c.run_plan-end.ensures.plays (inl th) t tl payloads (subst (λ (e : Envelope). HasPayloads e.whole.now payloads) (sym c.in-Ok.ensures.envelope) has)) in
     after c.run_plan-end.result c.finish.result _ _ c.finish.ensures.answer
     (λ answer. PlayedSo Plays c.args.layout.now (g.D.Disk.flash c.finish.new.disk).reads (g.L.Launcher.launches c.args.launcher.now) (g.L.Launcher.launches c.run_plan-end.new.launcher) answer)
     (λ r same ended. record { made = (g.D.Disk.flash c.run_plan-end.new.disk).reads; plays = subst (Plays (g.D.Disk.flash c.run_plan-end.new.disk).reads) ended play; left = behind (g.D.Disk.extent c.args.disk.now) c.args.layout.now c.requires.layout (c.requires.config t).1.typed.entries (g.D.Disk.flash c.run_plan-end.new.disk).reads (g.D.Disk.flash c.finish.new.disk).reads law_b.fits (c.finish.ensures.behind t) })
     (λ place told ended. record { made = (g.D.Disk.flash c.run_plan-end.new.disk).reads; plays = subst (Plays (g.D.Disk.flash c.run_plan-end.new.disk).reads) ended play; left = reads_same c.args.layout.now (g.D.Disk.flash c.run_plan-end.new.disk).reads (g.D.Disk.flash c.finish.new.disk).reads (told_at c.finish.result place ((g.D.Disk.flash c.finish.new.disk).reads ≡ (g.D.Disk.flash c.run_plan-end.new.disk).reads) (c.finish.ensures.stays t) told) })
     (λ place cause told ended. record { made = (g.D.Disk.flash c.run_plan-end.new.disk).reads; plays = subst (Plays (g.D.Disk.flash c.run_plan-end.new.disk).reads) ended play; left = reads_same c.args.layout.now (g.D.Disk.flash c.run_plan-end.new.disk).reads (g.D.Disk.flash c.finish.new.disk).reads (told_by c.finish.result place cause ((g.D.Disk.flash c.finish.new.disk).reads ≡ (g.D.Disk.flash c.run_plan-end.new.disk).reads) (c.finish.ensures.stays t) told) })
-    (inr ((g.D.Disk.flash c.run_plan-end.new.disk).reads, c.run_plan-end.result, play))
+    (λ unfaulted. inr ((g.D.Disk.flash c.run_plan-end.new.disk).reads, c.run_plan-end.result, play, unfaulted))
