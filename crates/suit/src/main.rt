@@ -3,26 +3,25 @@
 #![tactic(auto)]
 
 mod source;
+mod starving;
 mod words;
 
 use source::Started;
+use starving::out_of_memory;
 use std::process::ExitCode;
 use suit_cli::{Status, run};
 use suit_edge::{FileDisk, FileHost, FileLauncher, StdSink};
 use words::command_line;
 
-/// The status where memory ran out for the words.
-const OUT_OF_MEMORY: u8 = 11;
-
 fn main(rt: HostRuntime) -> ExitCode {
     let alloc = rt.alloc();
+    let mut out = StdSink::new(&rt);
     let Ok(words) = command_line(&Started::new(&rt), alloc) else {
-        return ExitCode::from(OUT_OF_MEMORY);
+        return ExitCode::from(out_of_memory(&mut out));
     };
     let mut host = FileHost::new(&rt);
     let mut flash = FileDisk::new(&rt);
     let mut launcher = FileLauncher::new(alloc, &rt);
-    let mut out = StdSink::new(&rt);
     let Status(code) = run(
         alloc,
         &words,
