@@ -20,7 +20,7 @@ use suit_cli::{SeenDisk, SeenHost, SeenLauncher, SeenSink, Status, run, run_laws
 use suit_edge::{Disk, Host, Launcher, Sink};
 
 /// Runs the program. What `run_laws` says of its answer holds of the objects.
-pub fn run_by_laws<H: Host, D: Disk, L: Launcher, K: Sink>(
+pub(crate) fn run_by_laws<H: Host, D: Disk, L: Launcher, K: Sink>(
     alloc: Global,
     words: &Names,
     host: &mut H,
@@ -36,8 +36,8 @@ pub fn run_by_laws<H: Host, D: Disk, L: Launcher, K: Sink>(
     ensures status { IsStatus result.0 }
     ensures only_launching { KeepsLauncher words.now
         (⟦<L as SeenLauncher>⟧.seen launcher.old) (⟦<L as SeenLauncher>⟧.seen launcher.new) }
-    ensures no_host { IsTrue H.told → IsTrue D.told → IsTrue L.told
-        → task_of words.now ≡ Some RunBoot → result.0 ≡ 7 → ⊥ }
+    ensures no_host { IsTrue D.told → IsTrue L.told → task_of words.now ≡ Some RunBoot
+        → result.0 ≡ 7 → ⊥ }
     ensures starved { result.0 ≡ 11
         → (IsTrue D.told → IsForUpdate (task_of words.now)
         → Sound VERSION_1 (D.flash flash.old).reads)

@@ -1,15 +1,20 @@
-//! Tests of the commands on files, through the program's top call on objects in memory. They stand apart from `suit_cli`: a
-//! crate that holds its own tests is proved twice.
+//! Tests of the program: sessions of commands, through its top call on objects in memory, and the real objects. They stand apart
+//! from `suit_cli`: a crate that holds its own tests is proved twice.
 #![tactic(auto)]
 
+#[cfg(test)]
+mod bytes;
+#[cfg(test)]
+mod fails;
+#[cfg(test)]
+mod faults;
+#[cfg(test)]
+mod files;
+#[cfg(test)]
 mod laws;
-mod runs;
-
-pub use laws::run_by_laws;
-pub use runs::{
-    AUTHENTIC, DEVICE, KEY, STORED, answers, answers_by_files, answers_with, blank, bytes_of,
-    names, status_of, status_with,
-};
-
+#[cfg(test)]
+mod session;
+#[cfg(test)]
+mod steps;
 #[cfg(test)]
 mod tests;

@@ -1,6 +1,15 @@
 //! The tests.
 
+mod accepted;
 mod check;
-mod descriptions;
+mod cut;
+mod device;
+mod failing;
+mod goes;
+mod installed;
 mod make;
+mod procedures;
+mod real_files;
+mod refused;
 mod show;
+mod stopped;

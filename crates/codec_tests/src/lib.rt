@@ -1,5 +1,5 @@
-//! Tests of `det_cbor`, `suit_params`, `json_fields` and `command_words`, over their public calls alone: a crate that holds
-//! its own tests is proved twice.
+//! Tests of `det_cbor`, `suit_params` and `hmac_mac0` by the examples of their standards, over public calls alone: a crate that
+//! holds its own tests is proved twice.
 #![tactic(auto)]
 
 #[cfg(test)]

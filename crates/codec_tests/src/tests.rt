@@ -1,7 +1,6 @@
 //! The tests.
 
 mod cbor;
-mod json;
+mod macs;
 mod params;
 mod rows;
-mod words;

@@ -1,387 +1,696 @@
-//! Tests of `check`, and of the words of all commands.
+//! Sessions of `check`, and words that are no command. Another program wrote the envelopes and computed their digests; what is
+//! said of each was worked out from the format.
 
-mod command_rows;
-mod item_rows;
-mod path_rows;
-mod refusal_rows;
-mod rows;
-mod turn_rows;
+use crate::session::BEGUN;
+use crate::tests::goes::both_go;
+use std::alloc::AllocError;
 
-use crate::runs::{STORED, answers_by_files, blank, bytes_of, status_of};
-use command_rows::REFUSED_COMMANDS;
-use item_rows::REFUSED_ITEMS;
-use itoa::Buffer;
-use path_rows::UNSAFE;
-use refusal_rows::{REFUSED_ENVELOPES, REFUSED_MANIFESTS};
-use rows::{LAST_LINES, Row, WHOLE, row_of};
-use std::alloc::{AllocError, Global};
-use suit_edge::{Host, MemoryHost, MemorySink, Sink};
-use turn_rows::REFUSED_IN_TURN;
+/// The stored envelope, and others that come close to a fault.
+const ACCEPTED: &str = "file e.suit
+d86ba2025827815824822f5820 00*32 035847a501010201035835a2028181410004582c8214a2035824822f5820ba7816bf8f01cfea414140de5dae2223b00361a396177a9cb410ff61f20015ad0e03074382030f094382170f
 
-/// An envelope whose invocation selects component 0, and then 2,047 times at each of 2,047 runs of a sequence: what
-/// stands before the first list of zeros, between both, and behind.
-const TOO_WIDE_START: &str =
-    "d86ba2025827815824822f5820000000000000000000000000000000000000000000000000000000000000000003591022a4010102010346a1028181410009591011860c000c9907ff";
+check e.suit
+0
+update safe
+invocation safe
 
-/// The same without the first selection.
-const WIDEST_START: &str =
-    "d86ba2025827815824822f5820000000000000000000000000000000000000000000000000000000000000000003591020a4010102010346a102818141000959100f840c9907ff";
+change no-tag e.suit
+0 2
 
-const WIDE_MIDDLE: &str = "1820590806840c9907ff";
+check no-tag
+0
+update safe
+invocation safe
 
-const WIDE_END: &str = "14a0";
+change two-slots-image-each e.suit
+119 0 144382150f
+109 0 15616158358614a10501050f14a3035824822f5820a52d159f262b2c6ddb724a61840befc36eb30c88877a4030b65cbe86298449c90e03156162
+64 4 9b8814a20150fa6b4a53d5ad5fdfbe9de663e4d41ffe02501492af1425695e48bf429b2d51f2ab45010f020f0f8258358614a10500050f14a3
+55 1 a4
+47 2 bba6
 
-const USAGE: &str =
-    "usage: suit make DESCRIPTION KEY OUT | show FILE [KEY] | check FILE | run init DEVICE KEY | run update FILE [URI=NAME]... | run boot | run status | drill NUMBER\n";
+check two-slots-image-each
+0
+update safe
+invocation safe
 
-const CHECK: [&str; 2] = ["check", "e1.suit"];
+change two-components-matched e.suit
+115 2 45840cf5
+110 2 47840c820001
+62 4 81410104582e840cf5
+55 4 3aa20282
+47 1 52
 
-// A host with one file, of which these calls fail.
-fn with_file(alloc: Global, file: &[u8], fails: &[u64]) -> Result<MemoryHost, AllocError> {
-    let mut host = MemoryHost::new(alloc, fails)?;
-    host.add("e1.suit", file)?;
-    Ok(host)
-}
+check two-components-matched
+0
+update safe
+invocation safe
 
-// Whether `check` of the file answers so.
-fn checks(alloc: Global, file: &[u8], says: (u8, &str)) -> Result<bool, AllocError> {
-    let mut host = with_file(alloc, file, &[])?;
-    answers_by_files(alloc, &CHECK, &mut host, says)
-}
+change match-whose-failure-not-passed-over e.suit
+110 2 4b821820478414a10df4
+47 1 4f
 
-// The status of `check` of the host's file, whose lines go into the sink.
-fn check_into<H: Host, K: Sink>(
-    alloc: Global,
-    host: &mut H,
-    sink: &mut K,
-) -> Result<u8, AllocError> {
-    let mut flash = blank(alloc, &[])?;
-    status_of(alloc, host, &mut flash, sink, &CHECK)
-}
+check match-whose-failure-not-passed-over
+0
+update safe
+invocation safe
 
-// ---- manifests
+change install-apart e.suit
+119 0 14822f58208cec887aebc30d8879f0a5cdf13265bec7d50e98670afe09827264786de89233144a8414a11563696d67150f
+47 2 6ca6
+2 1 a3
 
-// The text as a line.
-fn line_of(alloc: Global, text: &str) -> Result<String, AllocError> {
-    let mut line = String::from_str(alloc, text)?;
-    line.push_str("\n")?;
-    Ok(line)
-}
+check install-apart
+0
+update safe
+invocation safe
 
-// Whether the file is answered by just the lines of the row.
-fn is_answered(alloc: Global, file: &str, row: Row<'_>) -> Result<bool, AllocError> {
-    let file = bytes_of(alloc, file)?;
-    let lines = line_of(alloc, row.lines)?;
-    checks(alloc, file.as_slice(), (row.status, lines.as_str()))
-}
+change abort-place-invoke e.suit
+117 1 0e
 
-// Whether it is the status of the row, and the text a path that ends with its lines.
-fn is_path(row: Row<'_>, status: u8, text: &[u8]) -> bool {
-    match text.strip_suffix(b"\n") {
-        Some(text) => {
-            status == row.status
-                && text.starts_with(b"update safe\ninvocation unsafe\nidentity 0 vendor none")
-                && text.ends_with(row.lines.as_bytes())
-        }
-        None => false,
-    }
-}
+check abort-place-invoke
+0
+update safe
+invocation safe
 
-// Whether `check` of the host's file tells a path that ends with the lines of the row.
-fn tells_path<H: Host>(alloc: Global, host: &mut H, row: Row<'_>) -> Result<bool, AllocError> {
-    let mut sink = MemorySink::new(alloc, &[])?;
-    let status = check_into(alloc, host, &mut sink)?;
-    Ok(is_path(row, status, sink.bytes()))
-}
+change block-no-cbor-passed-over e.suit
+52 67 000344a1028180
+45 4 41ff034ba3
+5 2 2982
 
-// The same for the file.
-fn is_told(alloc: Global, file: &str, row: Row<'_>) -> Result<bool, AllocError> {
-    let file = bytes_of(alloc, file)?;
-    let mut host = with_file(alloc, file.as_slice(), &[])?;
-    tells_path(alloc, &mut host, row)
-}
+check block-no-cbor-passed-over
+0
+update safe
+invocation safe
 
-// Whether each file of the row is answered so: by the last lines of a path, or by its whole lines.
-fn are_answered(alloc: Global, row: Row<'_>, by_path: bool) -> Result<bool, AllocError> {
-    for file in row.files.split(' ') {
-        let is_so = if by_path {
-            is_told(alloc, file, row)?
-        } else {
-            is_answered(alloc, file, row)?
-        };
-        if !is_so {
-            return Ok(false);
-        }
-    }
-    Ok(true)
-}
+change install-both-envelope-no-cbor e.suit
+52 67 000344a10281801443820e001441ff
+46 3 50a4
+2 1 a3
 
-// Whether the files of the row of this text are answered so.
-fn is_row(alloc: Global, text: &str, by_path: bool) -> Result<bool, AllocError> {
-    match row_of(text) {
-        Some(row) => are_answered(alloc, row, by_path),
-        None => Ok(false),
-    }
-}
+check install-both-envelope-no-cbor
+0
+update safe
+invocation safe
 
-#[test]
-fn manifests_are_judged(rt: HostRuntime) -> Result<(), AllocError> {
-    for table in [
-        WHOLE,
-        REFUSED_ENVELOPES,
-        REFUSED_MANIFESTS,
-        REFUSED_COMMANDS,
-        UNSAFE,
-        REFUSED_IN_TURN,
-    ] {
-        for row in table.split("\n\n") {
-            assert!(rt; is_row(rt.alloc(), row, false)?, "{row}");
-        }
-    }
-    Ok(())
-}
+change text-changed e.suit
+75 44 00*32 1741ff
+52 19 000344a102818017
+47 2 30a4
+2 1 a3
 
-#[test]
-fn unsafe_paths_are_told(rt: HostRuntime) -> Result<(), AllocError> {
-    for row in LAST_LINES.split("\n\n") {
-        assert!(rt; is_row(rt.alloc(), row, true)?, "{row}");
-    }
-    Ok(())
-}
+check text-changed
+0
+update safe
+invocation safe
 
-// The line that tells the fault at this place.
-fn refused_at(alloc: Global, place: &str, fault: &str) -> Result<String, AllocError> {
-    let mut line = String::from_str(alloc, "refused at ")?;
-    line.push_str(place)?;
-    line.push_str(": ")?;
-    line.push_str(fault)?;
-    line.push_str("\n")?;
-    Ok(line)
-}
+change identifier-64-bytes e.suit
+60 59 583d 00*61
+52 5 00035843a1
+47 2 4ba3
 
-// Whether the file is refused for the fault, at the place that stands before it.
-fn is_refused(alloc: Global, placed: &str, fault: &str) -> Result<bool, AllocError> {
-    let (place, file) = placed.split_once(' ').unwrap_or((placed, ""));
-    let file = bytes_of(alloc, file)?;
-    let line = refused_at(alloc, place, fault)?;
-    checks(alloc, file.as_slice(), (3, line.as_str()))
-}
+check identifier-64-bytes
+0
+update safe
+invocation safe
 
-// Whether each file of the group is refused for its fault.
-fn are_refused(alloc: Global, group: &str) -> Result<bool, AllocError> {
-    let (_item, rest) = group.split_once('\n').unwrap_or((group, ""));
-    let (fault, files) = rest.split_once('\n').unwrap_or((rest, ""));
-    for placed in files.split('\n') {
-        if !is_refused(alloc, placed, fault)? {
-            return Ok(false);
-        }
-    }
-    Ok(true)
-}
+change branch-null e.suit
+52 67 000344a10281800748820f8243820e00f6
+46 3 55a4
 
-#[test]
-fn items_are_refused(rt: HostRuntime) -> Result<(), AllocError> {
-    for group in REFUSED_ITEMS.split("\n\n") {
-        assert!(rt; are_refused(rt.alloc(), group)?, "{group}");
-    }
-    Ok(())
-}
+check branch-null
+0
+update safe
+invocation safe
 
-fn push_zeros(bytes: &mut Vec<u8>, count: u16) -> Result<(), AllocError> {
-    bytes.resize(bytes.len() + usize::from(count), 0)?;
-    Ok(())
-}
+change sequence-at-level-8 e.suit
+52 67 000344a1028180075820821820581b82182057821820538218204f8218204b8218204782182043820e00
+47 2 2ea4
 
-fn push_digits(alloc: Global, bytes: &mut Vec<u8>, digits: &str) -> Result<(), AllocError> {
-    let more = bytes_of(alloc, digits)?;
-    bytes.extend_from_slice(more.as_slice())?;
-    Ok(())
-}
+check sequence-at-level-8
+0
+update safe
+invocation safe
 
-// The envelope that begins so.
-fn wide(alloc: Global, start: &str) -> Result<Vec<u8>, AllocError> {
-    let mut bytes = bytes_of(alloc, start)?;
-    push_zeros(&mut bytes, 2_047)?;
-    push_digits(alloc, &mut bytes, WIDE_MIDDLE)?;
-    push_zeros(&mut bytes, 2_047)?;
-    push_digits(alloc, &mut bytes, WIDE_END)?;
-    Ok(bytes)
-}
+change override-no-parameters e.suit
+112 7 14a0
+52 57 000344a1028180
+46 3 50a4
 
-// Whether the envelope that begins so is answered so.
-fn checks_wide(alloc: Global, start: &str, says: (u8, &str)) -> Result<bool, AllocError> {
-    let file = wide(alloc, start)?;
-    checks(alloc, file.as_slice(), says)
-}
+check override-no-parameters
+0
+update safe
+invocation safe";
 
-#[test]
-fn a_procedure_of_the_greatest_width_is_judged(rt: HostRuntime) -> Result<(), AllocError> {
-    let safe = (0, "update safe\ninvocation safe\n");
-    assert!(rt; checks_wide(rt.alloc(), WIDEST_START, safe)?);
-    Ok(())
-}
+/// Procedures that are not safe, by their whole paths.
+const UNSAFE: &str = "file e.suit
+d86ba2025827815824822f5820 00*32 035847a501010201035835a2028181410004582c8214a2035824822f5820ba7816bf8f01cfea414140de5dae2223b00361a396177a9cb410ff61f20015ad0e03074382030f094382170f
 
-#[test]
-fn a_procedure_may_be_too_wide(rt: HostRuntime) -> Result<(), AllocError> {
-    let too_wide = (12, "too wide: 4194305\n");
-    assert!(rt; checks_wide(rt.alloc(), TOO_WIDE_START, too_wide)?);
-    Ok(())
-}
+check e.suit
+0
+update safe
+invocation safe
 
-// ---- envelopes
+change no-validate e.suit
+109 5
+47 2 42a4
 
-// Whether these first bytes of an envelope are told as truncated.
-fn is_truncated(alloc: Global, prefix: &[u8]) -> Result<bool, AllocError> {
-    let mut buffer = Buffer::new();
-    let line = refused_at(alloc, buffer.format(prefix.len()), "truncated")?;
-    checks(alloc, prefix, (3, line.as_str()))
-}
+check no-validate
+1
+update safe
+invocation unsafe
+identity 0 vendor none class none device none slot 0
+set 0 3
+set 0 14
+set 0 3
+set 0 14
+set 0 3
+set 0 14
+invoked 0 ba7816bf8f01cfea414140de5dae2223b00361a396177a9cb410ff61f20015ad 3
 
-#[test]
-fn a_prefix_of_an_envelope_is_truncated(rt: HostRuntime) -> Result<(), AllocError> {
-    let stored = bytes_of(rt.alloc(), STORED)?;
-    assert!(rt; stored.len() == 119);
-    for length in 0..stored.len() {
-        assert!(rt;
-            is_truncated(rt.alloc(), &stored[..length])?,
-            "length {length}"
-        );
-    }
-    Ok(())
-}
+change update-invokes e.suit
+109 6 14
+47 2 42a4
 
-// The start of the stored envelope, with a manifest of so many zeros.
-fn of_zeros(alloc: Global, zeros: u16) -> Result<Vec<u8>, AllocError> {
-    let mut bytes = bytes_of(alloc, &STORED[..90])?;
-    bytes.extend_from_slice(&[0x03, 0x59])?;
-    bytes.extend_from_slice(&u16::to_be_bytes(zeros))?;
-    push_zeros(&mut bytes, zeros)?;
-    Ok(bytes)
-}
+check update-invokes
+1
+update unsafe
+identity 0 vendor none class none device none slot 0
+set 0 3
+set 0 14
+set 0 3
+set 0 14
+invoked 0 ba7816bf8f01cfea414140de5dae2223b00361a396177a9cb410ff61f20015ad 3
 
-fn checks_manifest(alloc: Global, zeros: u16, says: (u8, &str)) -> Result<bool, AllocError> {
-    let file = of_zeros(alloc, zeros)?;
-    checks(alloc, file.as_slice(), says)
-}
+change write-branch-fails e.suit
+115 2 4c840f824584120f0e0ff6
+109 0 1243616263
+64 4 318214a3
+55 1 3a
+47 1 55
 
-// The same with one more byte behind it.
-fn checks_followed(alloc: Global, zeros: u16, says: (u8, &str)) -> Result<bool, AllocError> {
-    let mut file = of_zeros(alloc, zeros)?;
-    file.push(0)?;
-    checks(alloc, file.as_slice(), says)
-}
+check write-branch-fails
+1
+update safe
+invocation unsafe
+identity 0 vendor none class none device none slot 0
+set 0 3
+set 0 14
+set 0 18
+matched 0 ba7816bf8f01cfea414140de5dae2223b00361a396177a9cb410ff61f20015ad 3
+set 0 3
+set 0 14
+set 0 18
+set 0 3
+set 0 14
+set 0 18
+wrote 0
+tried 0 14 fail
+failed 128
+invoked 0 ba7816bf8f01cfea414140de5dae2223b00361a396177a9cb410ff61f20015ad 3
 
-#[test]
-fn an_envelope_without_its_other_members_has_16384_bytes(
-    rt: HostRuntime,
-) -> Result<(), AllocError> {
-    assert!(rt; checks_manifest(rt.alloc(), 16_335, (3, "refused at 50: trailing\n"))?);
-    assert!(rt; checks_manifest(rt.alloc(), 16_336, (21, "too long envelope\n"))?);
-    assert!(rt; checks_followed(rt.alloc(), 16_336, (3, "refused at 16385: trailing\n"))?);
-    Ok(())
-}
+change match-may-be-left-out e.suit
+114 0 f6
+110 0 48820f82
+47 1 4c
 
-// ---- words and files
+check match-may-be-left-out
+1
+update safe
+invocation unsafe
+identity 0 vendor none class none device none slot 0
+set 0 3
+set 0 14
+missed 0
+failed 116
+set 0 3
+set 0 14
+set 0 3
+set 0 14
+invoked 0 ba7816bf8f01cfea414140de5dae2223b00361a396177a9cb410ff61f20015ad 3
 
-// Whether the words between spaces are usage.
-fn is_usage(alloc: Global, line: &str) -> Result<bool, AllocError> {
-    let mut words = Vec::new(alloc);
-    for word in line.split_whitespace() {
-        words.push(word)?;
-    }
-    let mut host = MemoryHost::new(alloc, &[])?;
-    answers_by_files(alloc, words.as_slice(), &mut host, (2, USAGE))
-}
+change match-whose-failure-passed-over e.suit
+110 2 4b821820478414a10df5
+47 1 4f
 
-// No words, and then others.
-const OTHER_WORDS: &str = "
-check
-check a b
+check match-whose-failure-passed-over
+1
+update safe
+invocation unsafe
+identity 0 vendor none class none device none slot 0
+set 0 3
+set 0 14
+set 0 13
+missed 0
+failed 120
+set 0 3
+set 0 14
+set 0 3
+set 0 14
+invoked 0 ba7816bf8f01cfea414140de5dae2223b00361a396177a9cb410ff61f20015ad 3";
+
+/// A rule broken, of the envelope, the manifest, its commands or parameters.
+const REFUSED: &str = "file e.suit
+d86ba2025827815824822f5820 00*32 035847a501010201035835a2028181410004582c8214a2035824822f5820ba7816bf8f01cfea414140de5dae2223b00361a396177a9cb410ff61f20015ad0e03074382030f094382170f
+
+check e.suit
+0
+update safe
+invocation safe
+
+change tag-two-more-bytes e.suit
+0 1 d9
+
+check tag-two-more-bytes
+3
+refused at 4: trailing
+
+change tag-106 e.suit
+1 1 6a
+
+check tag-106
+3
+refused at 0: shape
+
+change third-pair-not-there e.suit
+2 1 a3
+
+check third-pair-not-there
+3
+refused at 119: truncated
+
+change four-pairs-stated-five-there e.suit
+48 1 a4
+
+check four-pairs-stated-five-there
+3
+refused at 114: trailing
+
+change unknown-key e.suit
+119 0 0400
+2 1 a3
+
+check unknown-key
+3
+refused at 119: unknown key
+
+file neither
+d86ba0
+
+check neither
+3
+refused at 2: missing 2
+
+change another-algorithm-envelope-digest e.suit
+5 6 2881582582382b
+
+check another-algorithm-envelope-digest
+3
+refused at 9: algorithm
+
+change version-2 e.suit
+50 1 02
+
+check version-2
+3
+refused at 50: version 2
+
+change reporting-policy-16 e.suit
+118 1 10
+
+check reporting-policy-16
+3
+refused at 118: bad argument
+
+change long-head e.suit
+117 1 18
+
+check long-head
+3
+refused at 117: not shortest
+
+change byte-behind e.suit
+119 0 00
+
+check byte-behind
+3
+refused at 119: trailing
+
+change version-2-no-common e.suit
+46 73 45a201020200
+
+check version-2-no-common
+3
+refused at 47: missing 3
+
+change nine-components-first-them-number e.suit
+52 67 00034ca10289008080808080808080
+46 3 53a3
+
+check nine-components-first-them-number
+3
+refused at 56: 9 components
+
+change identifier-65-bytes e.suit
+60 59 583e 00*62
+52 5 00035844a1
+47 2 4ca3
+
+check identifier-65-bytes
+3
+refused at 59: long identifier
+
+change two-pairs-components-alike e.suit
+62 57 81410080
+52 7 00034ba1028480
+46 3 52a3
+
+check two-pairs-components-alike
+3
+refused at 61: components 1 and 2 are alike
+
+change invoke-shared-sequence e.suit
+118 1 10
+59 56 8004
+52 4 000349
+46 3 50a3
+
+check invoke-shared-sequence
+3
+refused at 61: unsupported
+
+change highest-source e.suit
+52 67 000344a1028180074d8214a1161bffffffffffffffff
+47 2 1aa4
+
+check highest-source
+3
+refused at 65: index 18446744073709551615 of 1
+
+change null-branch e.suit
+52 67 000344a10281800748820f82f643820e00
+46 3 55a4
+
+check null-branch
+3
+refused at 63: bad argument
+
+change sequence-at-level-9-no-cbor e.suit
+52 67 000344a1028180075822821820581d821820581882182054821820508218204c821820488218204482182040
+47 2 30a4
+
+check sequence-at-level-9-no-cbor
+3
+refused at 95: nested
+
+change parameter-240-arguments-fetch e.suit
+52 67 000344a102818007468214a118f040
+46 3 53a4
+
+check parameter-240-arguments-fetch
+3
+refused at 63: unknown parameter
+
+change vendor-15-bytes e.suit
+52 67 000344a102818007548214a1014f 00*15
+47 2 21a4
+
+check vendor-15-bytes
+3
+refused at 65: bad parameter
+
+change byte-after-parameter-digest e.suit
+75 44 00*33
+52 19 000344a102818007582b8214a1035825
+47 2 39a4
+
+check byte-after-parameter-digest
+3
+refused at 104: trailing";
+
+/// Members before widths, widths before paths, and the update before the invocation.
+const IN_TURN: &str = "file e.suit
+d86ba2025827815824822f5820 00*32 035847a501010201035835a2028181410004582c8214a2035824822f5820ba7816bf8f01cfea414140de5dae2223b00361a396177a9cb410ff61f20015ad0e03074382030f094382170f
+
+check e.suit
+0
+update safe
+invocation safe
+
+change install-severed e.suit
+119 0 14822f58208cec887aebc30d8879f0a5cdf13265bec7d50e98670afe09827264786de89233
+47 2 6ca6
+
+check install-severed
+16
+severed install
+
+change install-changed e.suit
+119 0 14822f58208cec887aebc30d8879f0a5cdf13265bec7d50e98670afe09827264786de89233144a8414a11563696d67150e
+47 2 6ca6
+2 1 a3
+
+check install-changed
+17
+member install differs
+
+change install-no-sequence e.suit
+119 0 14822f5820341b437fbac7e1af5299f4010409ff661a621f332125ad6c134ea3c7fec8c4ab14428115
+47 2 6ca6
+2 1 a3
+
+check install-no-sequence
+3
+refused at 158: shape
+
+change payload-fetch-changed-install-severed e.suit
+119 0 10822f58208cec887aebc30d8879f0a5cdf13265bec7d50e98670afe09827264786de8923314822f58208cec887aebc30d8879f0a5cdf13265bec7d50e98670afe09827264786de89233104a8414a11563696d67150e
+47 2 91a7
+2 1 a3
+
+check payload-fetch-changed-install-severed
+17
+member payload-fetch differs
+
+change version-2-install-severed e.suit
+75 44 00*32
+47 24 30a4010202000344a102818014
+
+check version-2-install-severed
+3
+refused at 50: version 2
+
+change update-invokes-invocation-too-wide e.suit
+62 53 0958799822 0f824382010ff6*17 14
+54 3 46a1
+47 1 8e
+
+check update-invokes-invocation-too-wide
+12
+too wide: 4456448
+
+change install-severed-invocation-too-wide e.suit
+107 12
+62 9 0958799822 0f824382010ff6*17 14
+54 3 46a1
+47 1 ae
+
+check install-severed-invocation-too-wide
+16
+severed install
+
+file seventeen-optional-conditions
+d86ba2025827815824822f5820 00*32 035889a4010102010346a102818141000958799822 0f824382010ff6*17 
+
+check seventeen-optional-conditions
+12
+too wide: 4456448
+
+file widest
+d86ba2025827815824822f5820 00*32 03591020a4010102010346a102818141000959100f840c9907ff 00*2047 1820590806840c9907ff 00*2047 14a0
+
+check widest
+0
+update safe
+invocation safe
+
+file wider
+d86ba2025827815824822f5820 00*32 03591022a4010102010346a1028181410009591011860c000c9907ff 00*2047 1820590806840c9907ff 00*2047 14a0
+
+check wider
+12
+too wide: 4194305";
+
+/// Items that are no deterministic CBOR (RFC 8949, section 4.2.1): the first in each byte string that holds items.
+const ITEMS: &str = "file truncated-in-wrapper
+d86ba2024181034ba3010102000344a1028180
+
+check truncated-in-wrapper
+3
+refused at 6: truncated
+
+file truncated-in-manifest
+d86ba2025827815824822f5820 00*32 034181
+
+check truncated-in-manifest
+3
+refused at 48: truncated
+
+file truncated-in-common
+d86ba2025827815824822f5820 00*32 0348a301010200034181
+
+check truncated-in-common
+3
+refused at 55: truncated
+
+file truncated-in-validate
+d86ba2025827815824822f5820 00*32 034ea4010102000344a1028180074181
+
+check truncated-in-validate
+3
+refused at 61: truncated
+
+file truncated-in-digest
+d86ba2025827815824822f5820 00*32 0353a4010102000344a102818007468214a1034181
+
+check truncated-in-digest
+3
+refused at 66: truncated
+
+file indefinite
+1f
+
+check indefinite
+3
+refused at 0: indefinite
+
+file float
+fb
+
+check float
+3
+refused at 0: kind
+
+file number
+1817
+
+check number
+3
+refused at 0: not shortest
+
+file text
+61ff
+
+check text
+3
+refused at 0: bad text
+
+file keys
+a203010201
+
+check keys
+3
+refused at 3: order
+
+file twice
+a203010301
+
+check twice
+3
+refused at 3: repeated
+
+file deepest
+81*15 80
+
+check deepest
+3
+refused at 0: shape
+
+file deeper
+81*16 80
+
+check deeper
+3
+refused at 16: too deep";
+
+/// Files and manifests at their longest, and one byte beyond.
+const LIMITS: &str = "file manifest.suit
+d86ba2025827815824822f5820 00*32 03593fcf 00*16335
+
+check manifest.suit
+3
+refused at 50: trailing
+
+file long.suit
+d86ba2025827815824822f5820 00*32 03593fd0 00*16336
+
+check long.suit
+21
+too long envelope
+
+change longer.suit long.suit
+16385 0 00
+
+check longer.suit
+3
+refused at 16385: trailing
+
+file long
+00*1048576
+
+check long
+3
+refused at 1: trailing
+
+file longer
+00*1048577
+
+check longer
+21
+too long longer
+
+check absent
+20
+absent absent";
+
+/// No command.
+const OTHER_WORDS: &str = "check
+2
+USAGE
+
+check e.suit e.suit
+2
+USAGE
+
 check -v
-check -
+2
+USAGE
+
 help
-e1.suit check
+2
+USAGE
+
 run stat
-run init d -k
+2
+USAGE
+
 run update f x
-run-update f
-drill 01
+2
+USAGE
+
 show
-make d k
-make d k o p
-show -e k
-show e.suit -k
-show e.suit k k";
+2
+USAGE
+
+drill 01
+2
+USAGE";
 
 #[test]
-fn other_words_are_usage(rt: HostRuntime) -> Result<(), AllocError> {
-    for line in OTHER_WORDS.split('\n') {
-        assert!(rt; is_usage(rt.alloc(), line)?, "{line}");
-    }
-    Ok(())
-}
-
-// Whether `check` of a file that is not there answers so.
-fn checks_none(alloc: Global, says: (u8, &str)) -> Result<bool, AllocError> {
-    let mut host = MemoryHost::new(alloc, &[])?;
-    answers_by_files(alloc, &CHECK, &mut host, says)
-}
-
-// Whether `check` of a file of so many zeros answers so.
-fn checks_zeros(alloc: Global, count: usize, says: (u8, &str)) -> Result<bool, AllocError> {
-    let file = vec![in alloc; 0u8; count]?;
-    checks(alloc, file.as_slice(), says)
-}
-
-#[test]
-fn a_file_is_absent_or_too_long(rt: HostRuntime) -> Result<(), AllocError> {
-    assert!(rt; checks_none(rt.alloc(), (20, "absent e1.suit\n"))?);
-    assert!(rt; checks_zeros(rt.alloc(), 1_048_577, (21, "too long e1.suit\n"))?);
-    assert!(rt; checks_zeros(rt.alloc(), 1_048_576, (3, "refused at 1: trailing\n"))?);
-    Ok(())
-}
-
-// Whether `check` of the stored envelope answers so, where a call of the host fails.
-fn checks_with_fault(alloc: Global, call: u64, says: (u8, &str)) -> Result<bool, AllocError> {
-    let stored = bytes_of(alloc, STORED)?;
-    let mut host = with_file(alloc, stored.as_slice(), &[call])?;
-    answers_by_files(alloc, &CHECK, &mut host, says)
-}
-
-#[test]
-fn each_call_of_the_host_may_fail(rt: HostRuntime) -> Result<(), AllocError> {
-    for call in 0..3u64 {
-        assert!(rt;
-            checks_with_fault(rt.alloc(), call, (7, "host fault\n"))?,
-            "call {call}"
-        );
-    }
-    assert!(rt; !checks_with_fault(rt.alloc(), 3, (7, "host fault\n"))?);
-    Ok(())
-}
-
-// Whether `check` of the host's file has this status and puts so many bytes, where these puts fail.
-fn puts_of<H: Host>(
-    alloc: Global,
-    host: &mut H,
-    fails: &[u64],
-    wanted: (u8, usize),
-) -> Result<bool, AllocError> {
-    let mut sink = MemorySink::new(alloc, fails)?;
-    let status = check_into(alloc, host, &mut sink)?;
-    Ok(status == wanted.0 && sink.bytes().len() == wanted.1)
-}
-
-// The same for the stored envelope.
-fn puts(alloc: Global, fails: &[u64], wanted: (u8, usize)) -> Result<bool, AllocError> {
-    let stored = bytes_of(alloc, STORED)?;
-    let mut host = with_file(alloc, stored.as_slice(), &[])?;
-    puts_of(alloc, &mut host, fails, wanted)
-}
-
-#[test]
-fn the_sink_may_fail(rt: HostRuntime) -> Result<(), AllocError> {
-    assert!(rt; puts(rt.alloc(), &[0], (9, 0))?);
-    assert!(rt; puts(rt.alloc(), &[1], (0, 28))?);
+fn envelopes_are_judged(rt: HostRuntime) -> Result<(), AllocError> {
+    assert!(rt; both_go(rt.alloc(), (ACCEPTED, UNSAFE))?);
+    assert!(rt; both_go(rt.alloc(), (REFUSED, IN_TURN))?);
+    assert!(rt; both_go(rt.alloc(), (ITEMS, LIMITS))?);
+    assert!(rt; both_go(rt.alloc(), (BEGUN, OTHER_WORDS))?);
     Ok(())
 }

@@ -1,213 +1,432 @@
-//! Tests of `make` on objects in memory. The expected bytes were computed by another program.
+//! Sessions of `make`. The expected bytes and lines were computed by another program.
 
-mod argument_rows;
-mod field_rows;
-mod json_rows;
-mod limits;
+use crate::session::BEGUN;
+use crate::tests::goes::both_go;
+use std::alloc::AllocError;
 
-use crate::runs::{answers_by_files, bytes_of};
-use crate::tests::descriptions::STORED_SAYS;
-use argument_rows::{REFUSED_ARGUMENTS, REFUSED_PARAMETERS};
-use field_rows::{REFUSED_FIELDS, REFUSED_MEMBERS};
-use json_rows::REFUSED_JSON;
-use std::alloc::{AllocError, Global};
-use suit_edge::{Host, MemoryHost, Started};
+/// Envelopes; the second with its install apart, made again of what `show` puts of it.
+const MADE: &str = r#"text d.json
+{"sequence":1,"components":[["00"]],"shared":[["set",{"digest":{"file":"abc.img"},"size":{"file":"abc.img"}}]],"validate":[["match",15]],"invoke":[["invoke",15]]}
 
-const DESCRIPTION: &str =
-    "{\"sequence\":1,\"components\":[[\"00\"]],\"shared\":[[\"set\",{\"digest\":{\"file\":\"abc.img\"},\"size\":{\"file\":\"abc.img\"}}]],\"validate\":[[\"match\",15]],\"invoke\":[[\"invoke\",15]]}";
+make d.json k o.suit
+0
+made 163
 
-const WITH_INSTALL: &str =
-    "{\"sequence\":1,\"components\":[[\"00\"]],\"shared\":[[\"set\",{\"digest\":{\"file\":\"abc.img\"},\"size\":{\"file\":\"abc.img\"}}]],\"validate\":[[\"match\",15]],\"invoke\":[[\"invoke\",15]],\"install\":[[\"set\",{\"uri\":\"img\"}],[\"fetch\",15]]}";
+holds o.suit
+d86ba2025853825824822f58201a9560565e58d0ad019dae827e1def7755aad759c564dcc11446bb8629c035b1582ad18443a10105a0f6582020d07a0b6d6e8c35313524a9e71b4f7857551ac0e818340d4076635db40631b3035847a501010201035835a2028181410004582c8214a2035824822f5820ba7816bf8f01cfea414140de5dae2223b00361a396177a9cb410ff61f20015ad0e03074382030f094382170f
 
-const MAKE: [&str; 4] = ["make", "d.json", "k", "o.suit"];
+text apart.json
+{"sequence":1,"components":[["00"]],"shared":[["set",{"digest":{"file":"abc.img"},"size":{"file":"abc.img"}}]],"validate":[["match",15]],"invoke":[["invoke",15]],"install":[["set",{"uri":"img"}],["fetch",15]],"sever":["install"]}
 
-const ENVELOPE: &str =
-    "d86ba2025853825824822f58201a9560565e58d0ad019dae827e1def7755aad759c564dcc11446bb8629c035b1582ad18443a10105a0f6582020d07a0b6d6e8c35313524a9e71b4f7857551ac0e818340d4076635db40631b3035847a501010201035835a2028181410004582c8214a2035824822f5820ba7816bf8f01cfea414140de5dae2223b00361a396177a9cb410ff61f20015ad0e03074382030f094382170f";
+make apart.json k apart
+0
+made 212
 
-// The second description with its install apart, and its envelope.
-const WITH_SEVERED: &str =
-    "{\"sequence\":1,\"components\":[[\"00\"]],\"shared\":[[\"set\",{\"digest\":{\"file\":\"abc.img\"},\"size\":{\"file\":\"abc.img\"}}]],\"validate\":[[\"match\",15]],\"invoke\":[[\"invoke\",15]],\"install\":[[\"set\",{\"uri\":\"img\"}],[\"fetch\",15]],\"sever\":[\"install\"]}";
+show apart
+0
+{"components":[["00"]],"install":[["set",{"uri":"img"}],["fetch",15]],"invoke":[["invoke",15]],"sequence":1,"sever":["install"],"shared":[["set",{"digest":"ba7816bf8f01cfea414140de5dae2223b00361a396177a9cb410ff61f20015ad","size":3}]],"validate":[["match",15]]}
 
-const FAULT: (u8, &str) = (7, "host fault\n");
+text again.json
+{"components":[["00"]],"install":[["set",{"uri":"img"}],["fetch",15]],"invoke":[["invoke",15]],"sequence":1,"sever":["install"],"shared":[["set",{"digest":"ba7816bf8f01cfea414140de5dae2223b00361a396177a9cb410ff61f20015ad","size":3}]],"validate":[["match",15]]}
 
-const SEVERED: &str =
-    "d86ba3025853825824822f5820f7da94cc0c65d8e7f6fa7db8ae3289288138a0b64066032a5650208bbad40033582ad18443a10105a0f65820dfe11ba524c51b8c224afc07979afbe8972fb5aed5391e88f9d7f8c02248961103586ca601010201035835a2028181410004582c8214a2035824822f5820ba7816bf8f01cfea414140de5dae2223b00361a396177a9cb410ff61f20015ad0e03074382030f094382170f14822f58208cec887aebc30d8879f0a5cdf13265bec7d50e98670afe09827264786de89233144a8414a11563696d67150f";
+make again.json k again
+0
+made 212
 
-// The output of `show` for that one.
-const SHOWN_SEVERED: &str =
-    "{\"components\":[[\"00\"]],\"install\":[[\"set\",{\"uri\":\"img\"}],[\"fetch\",15]],\"invoke\":[[\"invoke\",15]],\"sequence\":1,\"sever\":[\"install\"],\"shared\":[[\"set\",{\"digest\":\"ba7816bf8f01cfea414140de5dae2223b00361a396177a9cb410ff61f20015ad\",\"size\":3}]],\"validate\":[[\"match\",15]]}\n";
+holds again
+d86ba3025853825824822f5820f7da94cc0c65d8e7f6fa7db8ae3289288138a0b64066032a5650208bbad40033582ad18443a10105a0f65820dfe11ba524c51b8c224afc07979afbe8972fb5aed5391e88f9d7f8c02248961103586ca601010201035835a2028181410004582c8214a2035824822f5820ba7816bf8f01cfea414140de5dae2223b00361a396177a9cb410ff61f20015ad0e03074382030f094382170f14822f58208cec887aebc30d8879f0a5cdf13265bec7d50e98670afe09827264786de89233144a8414a11563696d67150f"#;
 
-// A host with a description, a key and an image, of which these calls fail.
-fn with_files(alloc: Global, description: &str, fails: &[u64]) -> Result<MemoryHost, AllocError> {
-    let mut host = MemoryHost::new(alloc, fails)?;
-    host.add("d.json", description.as_bytes())?;
-    host.add("k", b"a key")?;
-    host.add("abc.img", b"abc")?;
-    Ok(host)
-}
+/// The first flaw of a description, and of files the one whose field comes first. Nothing is stored.
+const REFUSED: &str = r##"text r.json
+{
 
-// Whether the host has a file with just these bytes.
-fn holds<H: Host>(host: &mut H, name: &str, wanted: &[u8]) -> bool {
-    let mut room = [0u8; 300];
-    if host.start(name) != Started::Done {
-        return false;
-    }
-    let _pulled = host.pull(&mut room);
-    room.starts_with(wanted)
-}
+make r.json k r.suit
+3
+bad json
 
-// Whether the envelope of the description is made so, and stands as these bytes.
-fn makes(alloc: Global, description: &str, says: &str, wanted: &[u8]) -> Result<bool, AllocError> {
-    let mut host = with_files(alloc, description, &[])?;
-    let made = answers_by_files(alloc, &MAKE, &mut host, (0, says))?;
-    Ok(made && holds(&mut host, "o.suit", wanted))
-}
+text r.json
+{"components":[["00"]],"sequence":01}
+
+make r.json k r.suit
+3
+bad json
+
+text r.json
+[]
+
+make r.json k r.suit
+3
+bad field 
+
+text r.json
+{"components":[["00"]],"sequence":1,"sequence":"1"}
+
+make r.json k r.suit
+3
+bad field /sequence
+
+text r.json
+{"components":[["00"]]}
+
+make r.json k r.suit
+3
+bad field /sequence
+
+text r.json
+{"components":[],"sequence":1}
+
+make r.json k r.suit
+3
+bad field /components
+
+text r.json
+{"components":[["00"],["01"],["02"],["03"],["04"],["05"],["06"],["07"],["08"]],"sequence":1}
+
+make r.json k r.suit
+3
+9 components
+
+text r.json
+{"components":[["00"],["01"],["01"],["00"]],"sequence":1}
+
+make r.json k r.suit
+3
+components 1 and 2 are alike
+
+text r.json
+{"components":[["00","zz"]],"sequence":1}
+
+make r.json k r.suit
+3
+bad hex /components/0/1
+
+text r.json
+{"components":[["00"]],"sequence":1,"a/b~":1}
+
+make r.json k r.suit
+3
+bad field /a~1b~0
+
+text r.json
+{"components":[["00"]],"sequence":1,"validate":[["match",16]]}
+
+make r.json k r.suit
+3
+bad field /validate/0/1
+
+text r.json
+{"components":[["00"]],"sequence":1,"validate":[["index",[0,1]]]}
+
+make r.json k r.suit
+3
+bad field /validate/0/1/1
+
+text r.json
+{"components":[["00"]],"sequence":1,"shared":[["abort",0],["write",0]]}
+
+make r.json k r.suit
+3
+bad field /shared/1/0
+
+text r.json
+{"components":[["00"]],"sequence":1,"validate":[["try",[null,[["match",0]]]]]}
+
+make r.json k r.suit
+3
+bad field /validate/0/1/0
+
+text r.json
+{"components":[["00"]],"sequence":1,"shared":[["set",{"sizes":1}]]}
+
+make r.json k r.suit
+3
+bad field /shared/0/1/sizes
+
+text r.json
+{"components":[["00"]],"sequence":1,"shared":[["set",{"vendor":"fa6b4a53d5ad-5fdf-be9d-e663e4d41ffe"}]]}
+
+make r.json k r.suit
+3
+bad uuid /shared/0/1/vendor
+
+text r.json
+{"components":[["00"]],"sequence":1,"shared":[["set",{"digest":"00"}]]}
+
+make r.json k r.suit
+3
+bad hex /shared/0/1/digest
+
+text r.json
+{"components":[["00"]],"sequence":1,"install":{"digest":"0g"}}
+
+make r.json k r.suit
+3
+bad hex /install/digest
+
+text r.json
+{"components":[["00"]],"sequence":1,"sever":["text"],"text":"a0a0"}
+
+make r.json k r.suit
+3
+bad field /text
+
+text r.json
+{"components":[["00"]],"sequence":1,"sever":["validate"],"validate":[["match",0]]}
+
+make r.json k r.suit
+3
+bad field /sever/0
+
+text r.json
+{"components":[["00"]],"sequence":1,"payloads":{"#a":{"hex":"0"}}}
+
+make r.json k r.suit
+3
+bad hex /payloads/#a/hex
+
+text r.json
+{"components":[["00"]],"sequence":1,"kid":"kk"}
+
+make r.json k r.suit
+3
+bad hex /kid
+
+text r.json
+{"components":[["00"]],"sequence":1,"payloads":{"#a":{"file":"b"}}}
+
+make r.json k r.suit
+20
+absent b
+
+text r.json
+{"components":[["00"]],"sequence":1,"shared":[["set",{"size":{"file":"q"},"digest":{"file":"r"}}]]}
+
+make r.json k r.suit
+20
+absent r
+
+lacks r.suit"##;
+
+/// Keys, descriptions, images and envelopes at their longest, and one byte beyond. A size is spelled in one byte, or in five.
+const LIMITS: &str = r#"text d.json
+{"sequence":1,"components":[["00"]],"shared":[["set",{"digest":{"file":"abc.img"},"size":{"file":"abc.img"}}]],"validate":[["match",15]],"invoke":[["invoke",15]]}
+
+text empty
+
+make d.json empty o
+3
+empty key
+
+file one
+01
+
+make d.json one o
+0
+made 163
+
+file longest
+01*64
+
+make d.json longest o
+0
+made 163
+
+file longer
+01*65
+
+make d.json longer o
+21
+too long longer
+
+change long.json d.json
+162 0 20*65374
+
+make long.json k o
+0
+made 163
+
+change longer.json d.json
+162 0 20*65375
+
+make longer.json k o
+21
+too long longer.json
+
+file abc.img
+00*4194304
+
+make d.json k o
+0
+made 167
+
+file abc.img
+00*4194305
+
+make d.json k o
+21
+too long abc.img
+
+text carries.json
+{"components":[["00"]],"sequence":1,"payloads":{"a":{"file":"p"}}}
+
+file p
+00*1048465
+
+make carries.json k o
+0
+made 1048576
+
+file p
+00*1048466
+
+make carries.json k o
+21
+too long envelope
+
+text refers.json
+{"sequence":1,"components":[["00"]],"reference":""}
+
+change long-name.json refers.json
+49 0 61*16274
+
+make long-name.json k o
+0
+made 16384
+
+change longer-name.json refers.json
+49 0 61*16275
+
+make longer-name.json k o
+21
+too long envelope"#;
+
+/// Descriptions as they are written: without optional fields, then conditions, directives, selections, parameters, an empty
+/// override, sequences inside, the other members, members that are left out, and identifiers. Last one with all that
+/// stands beside the manifest.
+const WRITTEN: &str = r##"text 0.json
+{"components":[["00"]],"sequence":18446744073709551615}
+
+make 0.json k 0
+0
+made 112
+
+show 0
+0
+{"components":[["00"]],"sequence":18446744073709551615}
+
+text 1.json
+{"components":[["00"]],"sequence":0,"validate":[["vendor",15],["class",0],["match",1],["slot",2],["content",3],["abort",4],["device",5]]}
+
+make 1.json k 1
+0
+made 123
+
+show 1
+0
+{"components":[["00"]],"sequence":0,"validate":[["vendor",15],["class",0],["match",1],["slot",2],["content",3],["abort",4],["device",5]]}
+
+text 2.json
+{"components":[["00"]],"install":[["write",0],["fetch",1],["copy",2],["invoke",14],["swap",15]],"sequence":1}
+
+make 2.json k 2
+0
+made 119
+
+show 2
+0
+{"components":[["00"]],"install":[["write",0],["fetch",1],["copy",2],["invoke",14],["swap",15]],"sequence":1}
+
+text 3.json
+{"components":[["00"],["01"]],"sequence":1,"shared":[["index",1],["index",true],["index",[1,0,1]]]}
+
+make 3.json k 3
+0
+made 120
+
+show 3
+0
+{"components":[["00"],["01"]],"sequence":1,"shared":[["index",1],["index",true],["index",[1,0,1]]]}
+
+text 4.json
+{"components":[["00"]],"load":[["set",{"args":"00ff","class":"00112233-4455-6677-8899-aabbccddeeff","content":"0102","device":"ffffffff-ffff-ffff-ffff-fffffffffffe","digest":"ba7816bf8f01cfea414140de5dae2223b00361a396177a9cb410ff61f20015ad","size":18446744073709551615,"slot":0,"soft":false,"source":0,"strict":true,"uri":"#é","vendor":"00000000-0000-0000-0000-000000000000"}]],"sequence":1}
+
+make 4.json k 4
+0
+made 236
+
+show 4
+0
+{"components":[["00"]],"load":[["set",{"args":"00ff","class":"00112233-4455-6677-8899-aabbccddeeff","content":"0102","device":"ffffffff-ffff-ffff-ffff-fffffffffffe","digest":"ba7816bf8f01cfea414140de5dae2223b00361a396177a9cb410ff61f20015ad","size":18446744073709551615,"slot":0,"soft":false,"source":0,"strict":true,"uri":"#é","vendor":"00000000-0000-0000-0000-000000000000"}]],"sequence":1}
+
+text 5.json
+{"components":[["00"]],"sequence":1,"shared":[["set",{}]]}
+
+make 5.json k 5
+0
+made 109
+
+show 5
+0
+{"components":[["00"]],"sequence":1,"shared":[["set",{}]]}
+
+text 6.json
+{"components":[["00"]],"sequence":1,"validate":[["try",[[["match",15]],[["run",[["try",[[["abort",15]],null]]]]]]]]}
+
+make 6.json k 6
+0
+made 127
+
+show 6
+0
+{"components":[["00"]],"sequence":1,"validate":[["try",[[["match",15]],[["run",[["try",[[["abort",15]],null]]]]]]]]}
+
+text 7.json
+{"components":[["00"]],"invoke":[["invoke",15]],"payload-fetch":[["fetch",15]],"reference":"http://a","sequence":1,"text":"a0"}
+
+make 7.json k 7
+0
+made 128
+
+show 7
+0
+{"components":[["00"]],"invoke":[["invoke",15]],"payload-fetch":[["fetch",15]],"reference":"http://a","sequence":1,"text":"a0"}
+
+text 8.json
+{"components":[["00"]],"install":{"digest":"ba7816bf8f01cfea414140de5dae2223b00361a396177a9cb410ff61f20015ad"},"payload-fetch":{"digest":"e3b0c44298fc1c149afbf4c8996fb92427ae41e4649b934ca495991b7852b855"},"sequence":1,"text":{"digest":"0000000000000000000000000000000000000000000000000000000000000001"}}
+
+make 8.json k 8
+0
+made 216
+
+show 8
+0
+{"components":[["00"]],"install":{"digest":"ba7816bf8f01cfea414140de5dae2223b00361a396177a9cb410ff61f20015ad"},"payload-fetch":{"digest":"e3b0c44298fc1c149afbf4c8996fb92427ae41e4649b934ca495991b7852b855"},"sequence":1,"text":{"digest":"0000000000000000000000000000000000000000000000000000000000000001"}}
+
+text 9.json
+{"components":[[],["00","ff"],[""]],"sequence":1}
+
+make 9.json k 9
+0
+made 109
+
+show 9
+0
+{"components":[[],["00","ff"],[""]],"sequence":1}
+
+text severed.json
+{"sequence":1,"components":[["00"]],"text":"a0","sever":["text"],"kid":"01","payloads":{"a":{"hex":"00"},"aa":{"file":"abc.img"},"b":{"hex":""}}}
+
+make severed.json k severed
+0
+made 162
+
+holds severed
+d86ba6025856825824822f58202bd8d18e7852bc3ce814b10229ee8975de4c48fde4291b7eb49d45ed01889cbb582dd18443a10105a1044101f658203f1f91e48381e5f3e3f5714753bf5ef16ad309394d11a8dc4c661c00a2e6a343035832a4010102010346a1028181410017822f5820ba59ea8f4f88a2fcd9aaf9a83d236bb75f1f528637b999a25866124a877ffb151741a06161410061624062616143616263"##;
 
 #[test]
-fn an_envelope_is_made_and_stored(rt: HostRuntime) -> Result<(), AllocError> {
-    let envelope = bytes_of(rt.alloc(), ENVELOPE)?;
-    assert!(rt; makes(rt.alloc(), DESCRIPTION, "made 163\n", envelope.as_slice())?);
-    Ok(())
-}
-
-#[test]
-fn a_member_more_is_made(rt: HostRuntime) -> Result<(), AllocError> {
-    assert!(rt; makes(rt.alloc(), WITH_INSTALL, "made 175\n", b"")?);
-    Ok(())
-}
-
-#[test]
-fn a_member_apart_is_made(rt: HostRuntime) -> Result<(), AllocError> {
-    let envelope = bytes_of(rt.alloc(), SEVERED)?;
-    assert!(rt; makes(rt.alloc(), WITH_SEVERED, "made 212\n", envelope.as_slice())?);
-    Ok(())
-}
-
-// Whether what `show` puts of an envelope makes that envelope, of which `show` puts the same again.
-fn makes_again(alloc: Global, shown: &str, says: &str, wanted: &[u8]) -> Result<bool, AllocError> {
-    let mut host = with_files(alloc, shown, &[])?;
-    let made = answers_by_files(alloc, &MAKE, &mut host, (0, says))?;
-    let told = answers_by_files(alloc, &["show", "o.suit"], &mut host, (0, shown))?;
-    Ok(made && told && holds(&mut host, "o.suit", wanted))
-}
-
-#[test]
-fn what_is_shown_makes_the_same_envelope(rt: HostRuntime) -> Result<(), AllocError> {
-    let envelope = bytes_of(rt.alloc(), ENVELOPE)?;
-    assert!(rt; makes_again(rt.alloc(), STORED_SAYS, "made 163\n", envelope.as_slice())?);
-    let severed = bytes_of(rt.alloc(), SEVERED)?;
-    assert!(rt; makes_again(rt.alloc(), SHOWN_SEVERED, "made 212\n", severed.as_slice())?);
-    Ok(())
-}
-
-// Whether the description is refused so, and nothing is stored.
-fn refuses(alloc: Global, description: &str, says: (u8, &str)) -> Result<bool, AllocError> {
-    let mut host = with_files(alloc, description, &[])?;
-    let refused = answers_by_files(alloc, &MAKE, &mut host, says)?;
-    Ok(refused && host.start("o.suit") == Started::Absent)
-}
-
-const ALIKE: &str = "{\"sequence\":1,\"components\":[[\"00\"],[\"00\"]]}";
-
-const NAMES_NONE: &str =
-    "{\"sequence\":1,\"components\":[[\"00\"]],\"payloads\":{\"#a\":{\"file\":\"b\"}}}";
-
-#[test]
-fn nothing_is_stored_where_it_is_refused(rt: HostRuntime) -> Result<(), AllocError> {
-    assert!(rt; refuses(rt.alloc(), "{", (3, "bad json\n"))?);
-    assert!(rt; refuses(rt.alloc(), "[]", (3, "bad field \n"))?);
-    assert!(rt; refuses(rt.alloc(), ALIKE, (3, "components 0 and 1 are alike\n"))?);
-    assert!(rt; refuses(rt.alloc(), NAMES_NONE, (20, "absent b\n"))?);
-    Ok(())
-}
-
-// The text with the part in the place of this mark.
-fn filled(alloc: Global, text: &str, mark: char, part: &str) -> Result<String, AllocError> {
-    let (before, after) = text.split_once(mark).unwrap_or((text, ""));
-    let mut filled = String::from_str(alloc, before)?;
-    filled.push_str(part)?;
-    filled.push_str(after)?;
-    Ok(filled)
-}
-
-// Whether the description, which is the frame with the part in the place of its @, is refused with the line.
-fn is_refused(alloc: Global, said: &str, frame: &str, part: &str) -> Result<bool, AllocError> {
-    let description = filled(alloc, frame, '@', part)?;
-    let mut line = String::from_str(alloc, said)?;
-    line.push_str("\n")?;
-    refuses(alloc, description.as_str(), (3, line.as_str()))
-}
-
-// Whether each part is refused with the line. Each stands in a line of its own.
-fn are_refused(alloc: Global, said: &str, frame: &str, parts: &str) -> Result<bool, AllocError> {
-    for part in parts.split('\n') {
-        if !is_refused(alloc, said, frame, part)? {
-            return Ok(false);
-        }
-    }
-    Ok(true)
-}
-
-// Whether the values in the group are refused with its line, each under each name: the line, the names, and the values.
-fn are_refused_by_name(alloc: Global, frame: &str, group: &str) -> Result<bool, AllocError> {
-    let (said, rest) = group.split_once('\n').unwrap_or((group, ""));
-    let (names, values) = rest.split_once('\n').unwrap_or((rest, ""));
-    for name in names.split(' ') {
-        let said = filled(alloc, said, '$', name)?;
-        let frame = filled(alloc, frame, '$', name)?;
-        if !are_refused(alloc, said.as_str(), frame.as_str(), values)? {
-            return Ok(false);
-        }
-    }
-    Ok(true)
-}
-
-// Tables of groups with a frame each, and tables with one frame for all their groups.
-const REFUSED: [&str; 3] = [REFUSED_JSON, REFUSED_FIELDS, REFUSED_ARGUMENTS];
-
-const REFUSED_BY_NAME: [&str; 2] = [REFUSED_MEMBERS, REFUSED_PARAMETERS];
-
-#[test]
-fn each_field_and_each_command_has_its_faults(rt: HostRuntime) -> Result<(), AllocError> {
-    for table in &REFUSED {
-        for group in table.split("\n\n") {
-            let (said, rest) = group.split_once('\n').unwrap_or((group, ""));
-            let (frame, parts) = rest.split_once('\n').unwrap_or((rest, ""));
-            assert!(rt; are_refused(rt.alloc(), said, frame, parts)?, "{group}");
-        }
-    }
-    Ok(())
-}
-
-#[test]
-fn each_member_and_each_parameter_has_its_faults(rt: HostRuntime) -> Result<(), AllocError> {
-    for table in &REFUSED_BY_NAME {
-        let (frame, groups) = table.split_once("\n\n").unwrap_or(("", ""));
-        for group in groups.split("\n\n") {
-            assert!(rt; are_refused_by_name(rt.alloc(), frame, group)?, "{group}");
-        }
-    }
-    Ok(())
-}
-
-// Whether a call of the host that fails is told, and nothing is stored.
-fn tells_fault(alloc: Global, call: u64) -> Result<bool, AllocError> {
-    let mut host = with_files(alloc, DESCRIPTION, &[call])?;
-    let told = answers_by_files(alloc, &MAKE, &mut host, FAULT)?;
-    Ok(told && !holds(&mut host, "o.suit", b""))
-}
-
-// Whether the envelope is made where this call of the host fails.
-fn is_made(alloc: Global, call: u64) -> Result<bool, AllocError> {
-    let mut host = with_files(alloc, DESCRIPTION, &[call])?;
-    answers_by_files(alloc, &MAKE, &mut host, (0, "made 163\n"))
-}
-
-#[test]
-fn each_call_of_the_host_may_fail(rt: HostRuntime) -> Result<(), AllocError> {
-    for call in 0..10u64 {
-        assert!(rt; tells_fault(rt.alloc(), call)?, "call {call}");
-    }
-    assert!(rt; is_made(rt.alloc(), 10)?);
+fn envelopes_are_made(rt: HostRuntime) -> Result<(), AllocError> {
+    assert!(rt; both_go(rt.alloc(), (MADE, REFUSED))?);
+    assert!(rt; both_go(rt.alloc(), (BEGUN, LIMITS))?);
+    assert!(rt; both_go(rt.alloc(), (BEGUN, WRITTEN))?);
     Ok(())
 }

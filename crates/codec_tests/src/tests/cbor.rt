@@ -1,9 +1,4 @@
-//! Tests of data items.
+//! Tests of items.
 
-mod appendix_a;
-mod decoding;
-mod encoding;
-mod lists;
-mod notation;
-
-pub(crate) use notation::{write_bytes, write_number, write_separator};
+mod reading;
+mod writing;

@@ -11,11 +11,6 @@ pub(crate) fn bytes_of(alloc: Global, text: &str) -> Result<Vec<u8>, AllocError>
     }
 }
 
-/// Whether these are the digits of the number.
-pub(crate) fn is_number(digits: &str, number: u64) -> bool {
-    digits.parse::<u64>().is_ok_and(|found| found == number)
-}
-
 /// The name of a reason in a row.
 pub(crate) fn name_of(reason: Reason) -> &'static str {
     match reason {

@@ -1,0 +1,76 @@
+//! Bytes in hexadecimal.
+
+use std::alloc::{AllocError, Global};
+
+// The bytes of digits. Digits that are none end a test as running out of memory does.
+fn bytes_of(alloc: Global, digits: &str) -> Result<Vec<u8>, AllocError> {
+    match hex::decode(alloc, digits) {
+        Ok(bytes) => Ok(bytes),
+        Err(_) => Err(AllocError),
+    }
+}
+
+// Adds a piece so many times.
+fn push_times(bytes: &mut Vec<u8>, piece: &[u8], times: u32) -> Result<(), AllocError> {
+    if let [byte] = piece {
+        return bytes.resize(bytes.len() + times as usize, *byte);
+    }
+    for _ in 0..times {
+        bytes.extend_from_slice(piece)?;
+    }
+    Ok(())
+}
+
+// Adds a piece, behind which may stand how often it is repeated.
+fn push_piece(alloc: Global, bytes: &mut Vec<u8>, piece: &str) -> Result<(), AllocError> {
+    let (digits, times) = piece.split_once('*').unwrap_or((piece, "1"));
+    let once = bytes_of(alloc, digits)?;
+    match times.parse::<u32>() {
+        Ok(times) => push_times(bytes, once.as_slice(), times),
+        Err(_) => Err(AllocError),
+    }
+}
+
+/// The bytes of pieces between blanks, as `d86b 00*16 a0`: a piece may be repeated.
+pub(crate) fn pieces_of(alloc: Global, pieces: &str) -> Result<Vec<u8>, AllocError> {
+    let mut bytes = Vec::new(alloc);
+    for piece in pieces.split(' ') {
+        push_piece(alloc, &mut bytes, piece)?;
+    }
+    Ok(bytes)
+}
+
+// The bytes with these pieces in the place of so many bytes.
+fn replaced(
+    alloc: Global,
+    bytes: &[u8],
+    place: usize,
+    count: usize,
+    pieces: &str,
+) -> Result<Vec<u8>, AllocError> {
+    let middle = pieces_of(alloc, pieces)?;
+    let back = bytes.get(place.saturating_add(count)..).unwrap_or(b"");
+    let mut changed = bytes.get(..place).unwrap_or(b"").to_vec(alloc)?;
+    changed.extend_from_slice(middle.as_slice())?;
+    changed.extend_from_slice(back)?;
+    Ok(changed)
+}
+
+// The bytes after a change: its place, how many bytes are taken out, and the pieces that come there.
+fn changed_once(alloc: Global, bytes: &[u8], change: &str) -> Result<Vec<u8>, AllocError> {
+    let (place, rest) = change.split_once(' ').unwrap_or((change, ""));
+    let (count, pieces) = rest.split_once(' ').unwrap_or((rest, ""));
+    match (place.parse::<usize>(), count.parse::<usize>()) {
+        (Ok(place), Ok(count)) => replaced(alloc, bytes, place, count, pieces),
+        _ => Err(AllocError),
+    }
+}
+
+/// The bytes after changes, each in a line, as `50 1 02`. They are done in turn.
+pub(crate) fn changed(alloc: Global, bytes: &[u8], changes: &str) -> Result<Vec<u8>, AllocError> {
+    let mut changed = bytes.to_vec(alloc)?;
+    for change in changes.lines() {
+        changed = changed_once(alloc, changed.as_slice(), change)?;
+    }
+    Ok(changed)
+}

@@ -1,0 +1,162 @@
+//! The flash after a second update that was cut off.
+
+ghost use Rattle.std.specs.Prelude.{◌≡◌, ◌≤◌};
+
+use crate::session::{are_launched, status_of};
+use crate::tests::cut::recorded::UPDATE;
+use std::alloc::{AllocError, Global};
+use suit_edge::{Disk, Host, MemoryLauncher, MemorySink};
+
+/// How a command ends.
+#[derive(Clone, Copy, PartialEq, Eq)]
+pub(crate) enum Ending {
+    Booted,
+    Installed,
+    /// The first update is recorded, or the second.
+    First,
+    Second,
+    ConditionFailed,
+    FlashFault,
+    Other,
+}
+
+// How it ends with this status and these lines.
+fn ending_of(status: u8, lines: &[u8]) -> Ending {
+    match status {
+        0 => done_of(lines),
+        6 if lines.starts_with(b"stopped at ") && lines.ends_with(b": condition failed\n") => {
+            Ending::ConditionFailed
+        }
+        8 => Ending::FlashFault,
+        _ => Ending::Other,
+    }
+}
+
+// How a run with these lines ended.
+fn done_of(lines: &[u8]) -> Ending {
+    if lines == b"ended\n".as_slice() {
+        Ending::Booted
+    } else if lines == b"installed 2\n".as_slice() {
+        Ending::Installed
+    } else if lines.starts_with(b"sequence 1\n") {
+        Ending::First
+    } else if lines.starts_with(b"sequence 2\n") {
+        Ending::Second
+    } else {
+        Ending::Other
+    }
+}
+
+// How a command ends with this launcher.
+fn ended<H: Host, D: Disk>(
+    alloc: Global,
+    host: &mut H,
+    flash: &mut D,
+    launcher: &mut MemoryLauncher,
+    command: &'static str,
+) -> Result<Ending, AllocError>
+    requires { 49152 ≤ D.extent flash.old }
+    ensures { D.extent flash.new ≡ D.extent flash.old }
+{
+    let mut sink = MemorySink::new(alloc, &[])?;
+    let status = status_of(alloc, host, flash, launcher, command, &mut sink)?;
+    Ok(ending_of(status, sink.bytes()))
+}
+
+/// How a command ends.
+pub(crate) fn end_of_run<H: Host, D: Disk>(
+    alloc: Global,
+    command: &'static str,
+    host: &mut H,
+    flash: &mut D,
+) -> Result<Ending, AllocError>
+    requires { 49152 ≤ D.extent flash.old }
+    ensures { D.extent flash.new ≡ D.extent flash.old }
+{
+    let mut launcher = MemoryLauncher::new(alloc, &[])?;
+    ended(alloc, host, flash, &mut launcher, command)
+}
+
+// Whether a boot starts this image alone.
+fn is_started(ending: Ending, launcher: &MemoryLauncher, image: &[u8]) -> bool {
+    ending == Ending::Booted && are_launched(launcher.launches(), &[image])
+}
+
+// Whether a boot is stopped at a condition and starts nothing.
+fn is_stopped(ending: Ending, launcher: &MemoryLauncher) -> bool {
+    ending == Ending::ConditionFailed && launcher.launches().is_empty()
+}
+
+/// How many slots the device has.
+#[derive(Clone, Copy, PartialEq, Eq)]
+pub(crate) enum Slots {
+    One,
+    Two,
+}
+
+// Whether a boot starts the image that is recorded; or, where the only slot was written over, is stopped.
+fn boots<H: Host, D: Disk>(
+    alloc: Global,
+    host: &mut H,
+    flash: &mut D,
+    image: &[u8],
+    slots: Slots,
+) -> Result<bool, AllocError>
+    requires { 49152 ≤ D.extent flash.old }
+    ensures { D.extent flash.new ≡ D.extent flash.old }
+{
+    let mut launcher = MemoryLauncher::new(alloc, &[])?;
+    let ending = ended(alloc, host, flash, &mut launcher, "run boot")?;
+    let stops = slots == Slots::One && is_stopped(ending, &launcher);
+    Ok(stops || is_started(ending, &launcher, image))
+}
+
+fn boots_recorded<H: Host, D: Disk>(
+    alloc: Global,
+    host: &mut H,
+    flash: &mut D,
+    slots: Slots,
+) -> Result<bool, AllocError>
+    requires { 49152 ≤ D.extent flash.old }
+    ensures { D.extent flash.new ≡ D.extent flash.old }
+{
+    match end_of_run(alloc, "run status", host, flash)? {
+        Ending::First => boots(alloc, host, flash, b"abc", slots),
+        Ending::Second => boots(alloc, host, flash, b"abd", slots),
+        _ => Ok(false),
+    }
+}
+
+// Whether the update is installed now, and launches these images itself.
+fn installs<H: Host, D: Disk>(
+    alloc: Global,
+    host: &mut H,
+    flash: &mut D,
+    at_once: &[&[u8]],
+) -> Result<bool, AllocError>
+    requires { 49152 ≤ D.extent flash.old }
+    ensures { D.extent flash.new ≡ D.extent flash.old }
+{
+    let mut launcher = MemoryLauncher::new(alloc, &[])?;
+    let ending = ended(alloc, host, flash, &mut launcher, UPDATE)?;
+    Ok(ending == Ending::Installed && are_launched(launcher.launches(), at_once))
+}
+
+/// Whether a boot does as is recorded; the update given again is installed, and launches these images itself; and a boot
+/// then starts its image.
+pub(crate) fn goes_on<H: Host, D: Disk>(
+    alloc: Global,
+    host: &mut H,
+    flash: &mut D,
+    slots: Slots,
+    at_once: &[&[u8]],
+) -> Result<bool, AllocError>
+    requires { 49152 ≤ D.extent flash.old }
+    ensures { D.extent flash.new ≡ D.extent flash.old }
+{
+    Ok(
+        boots_recorded(alloc, host, flash, slots)?
+            && installs(alloc, host, flash, at_once)?
+            && boots(alloc, host, flash, b"abd", Slots::Two)?,
+    )
+}

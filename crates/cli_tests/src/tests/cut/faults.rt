@@ -1,0 +1,89 @@
+//! A call of the host, the flash, the launcher or the sink fails in the second update.
+
+ghost use Rattle.std.specs.Prelude.{◌≤◌};
+
+use crate::fails::{Fails, Object};
+use crate::faults::fault_with;
+use crate::files::{blank, with_files};
+use crate::tests::cut::after::{Slots, goes_on};
+use crate::tests::cut::recorded::{AT_ONCE, UPDATE, goes_unlaunched};
+use std::alloc::{AllocError, Global};
+use suit_edge::{Disk, Host};
+
+/// How the second update ended.
+#[derive(Clone, Copy, PartialEq, Eq)]
+enum Ended {
+    /// It was not begun: what stands before it failed.
+    Before,
+    /// With this status, and all goes on after it.
+    Told(u8),
+    Done,
+    Wrong,
+}
+
+// How the second update ends where these calls of the launcher and the sink fail.
+fn update_ended<H: Host, D: Disk>(
+    alloc: Global,
+    host: &mut H,
+    flash: &mut D,
+    fails: &Fails<'_>,
+) -> Result<Ended, AllocError>
+    requires { 49152 ≤ D.extent flash.old }
+{
+    if !goes_unlaunched(alloc, host, AT_ONCE, flash)? {
+        return Ok(Ended::Before);
+    }
+    let status = fault_with(alloc, UPDATE, fails, host, flash)?;
+    if status == 0 {
+        return Ok(Ended::Done);
+    }
+    if goes_on(alloc, host, flash, Slots::Two, &[b"abd"])? {
+        Ok(Ended::Told(status))
+    } else {
+        Ok(Ended::Wrong)
+    }
+}
+
+// How it ends where these calls fail.
+fn update_end(alloc: Global, fails: &Fails<'_>) -> Result<Ended, AllocError> {
+    let mut host = with_files(alloc, fails.host)?;
+    end_by(alloc, fails, &mut host)
+}
+
+fn end_by<H: Host>(alloc: Global, fails: &Fails<'_>, host: &mut H) -> Result<Ended, AllocError> {
+    let mut flash = blank(alloc, fails.flash)?;
+    update_ended(alloc, host, &mut flash, fails)
+}
+
+// How many calls of the object fail in the second update, each with this status, and all goes on after it; 0 where one does
+// not.
+fn faults(alloc: Global, object: Object, status: u8) -> Result<u64, AllocError> {
+    let mut told = 0u64;
+    for call in 0..1_000u64 {
+        match update_end(alloc, &Fails::of(object, &[call]))? {
+            Ended::Before => {}
+            Ended::Told(found) if found == status => told = told.saturating_add(1),
+            Ended::Done => return Ok(told),
+            _ => return Ok(0),
+        }
+    }
+    Ok(0)
+}
+
+// Whether the first call of the object in the update ends it with this status, and a second call does not come.
+fn fails_once(alloc: Global, object: Object, status: u8) -> Result<bool, AllocError> {
+    let first = update_end(alloc, &Fails::of(object, &[0]))?;
+    let second = update_end(alloc, &Fails::of(object, &[1]))?;
+    Ok(first == Ended::Told(status) && second == Ended::Done)
+}
+
+// The update pulls two files, each in a piece and its end.
+#[test]
+fn each_call_may_fail(rt: HostRuntime) -> Result<(), AllocError> {
+    let alloc = rt.alloc();
+    assert!(rt; faults(alloc, Object::Host, 7)? == 6);
+    assert!(rt; faults(alloc, Object::Flash, 8)? > 20);
+    assert!(rt; fails_once(alloc, Object::Launcher, 10)?);
+    assert!(rt; fails_once(alloc, Object::Sink, 9)?);
+    Ok(())
+}

@@ -1,0 +1,62 @@
+//! Sessions on the files and a blank flash.
+
+use crate::fails::{Fails, Object};
+use crate::files::{blank, with_files};
+use crate::session::{BEGUN, are_launched, goes_after};
+use std::alloc::{AllocError, Global};
+use suit_edge::{Host, Launcher, MemoryLauncher};
+
+/// Whether two sessions go so, one after the other, on a blank flash, of which these calls fail.
+pub(crate) fn goes_on_blank<H: Host, L: Launcher>(
+    alloc: Global,
+    sessions: (&str, &str),
+    fails: &[u64],
+    host: &mut H,
+    launcher: &mut L,
+) -> Result<bool, AllocError> {
+    let mut flash = blank(alloc, fails)?;
+    goes_after(alloc, host, &mut flash, launcher, sessions)
+}
+
+// Whether they do with the files, where these calls fail.
+fn goes_with_files<L: Launcher>(
+    alloc: Global,
+    sessions: (&str, &str),
+    fails: Fails<'_>,
+    launcher: &mut L,
+) -> Result<bool, AllocError> {
+    let mut host = with_files(alloc, fails.host)?;
+    goes_on_blank(alloc, sessions, fails.flash, &mut host, launcher)
+}
+
+/// Whether they do where these calls of the host, the flash and the launcher fail, and launch these images.
+pub(crate) fn both_launch(
+    alloc: Global,
+    sessions: (&str, &str),
+    fails: Fails<'_>,
+    images: &[&[u8]],
+) -> Result<bool, AllocError> {
+    let mut launcher = MemoryLauncher::new(alloc, fails.launcher)?;
+    let goes = goes_with_files(alloc, sessions, fails, &mut launcher)?;
+    Ok(goes && are_launched(launcher.launches(), images))
+}
+
+/// The same where no call fails and nothing is launched.
+pub(crate) fn both_go(alloc: Global, sessions: (&str, &str)) -> Result<bool, AllocError> {
+    both_launch(alloc, sessions, Fails::of(Object::Host, &[]), &[])
+}
+
+/// The same of one session after what begins.
+pub(crate) fn launches_past(
+    alloc: Global,
+    session: &str,
+    fails: Fails<'_>,
+    images: &[&[u8]],
+) -> Result<bool, AllocError> {
+    both_launch(alloc, (BEGUN, session), fails, images)
+}
+
+/// The same where no call fails.
+pub(crate) fn launches(alloc: Global, session: &str, images: &[&[u8]]) -> Result<bool, AllocError> {
+    launches_past(alloc, session, Fails::of(Object::Host, &[]), images)
+}

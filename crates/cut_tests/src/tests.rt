@@ -1,6 +1,0 @@
-//! The tests.
-
-mod after;
-mod cuts;
-mod faults;
-mod recorded;

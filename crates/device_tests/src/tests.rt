@@ -1,7 +1,0 @@
-//! The tests.
-
-mod boot;
-mod configs;
-mod init;
-mod life;
-mod status;

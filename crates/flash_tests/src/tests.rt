@@ -1,5 +1,0 @@
-//! The tests.
-
-mod edge;
-mod records;
-mod slots;

@@ -1,6 +1,0 @@
-//! Tests of the outside.
-
-mod disks;
-mod files;
-mod launches;
-mod pages;

@@ -1,4 +1,0 @@
-//! Tests of contents.
-
-mod contents;
-mod memory;

@@ -1,6 +1,0 @@
-//! The tests.
-
-mod describing;
-mod devices;
-mod formatting;
-mod pages;

@@ -1,5 +1,0 @@
-//! Tests of envelopes.
-
-mod decoding;
-mod encoding;
-mod payloads;

@@ -1,4 +1,0 @@
-//! Tests of Mac0 blocks.
-
-mod blocks;
-mod pieces;

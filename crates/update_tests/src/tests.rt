@@ -1,8 +1,0 @@
-//! The tests.
-
-mod accepted;
-mod failing;
-mod goes;
-mod installed;
-mod refused;
-mod stopped;
