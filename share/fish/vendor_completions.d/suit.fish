@@ -1,0 +1,15 @@
+# Completion of suit(1) for fish.
+
+complete -c suit -f
+complete -c suit -n __fish_use_subcommand -a make -d 'Make an envelope from a description'
+complete -c suit -n __fish_use_subcommand -a show -d 'Print a description, or whether an envelope is authentic'
+complete -c suit -n __fish_use_subcommand -a check -d 'Say whether a manifest is safe'
+complete -c suit -n __fish_use_subcommand -a run -d 'Work with a flash'
+complete -c suit -n __fish_use_subcommand -a drill -d 'Not built yet'
+
+set -l commands init update boot status
+complete -c suit -n "__fish_seen_subcommand_from run; and not __fish_seen_subcommand_from $commands" -a init -d 'Format a blank flash for a device'
+complete -c suit -n "__fish_seen_subcommand_from run; and not __fish_seen_subcommand_from $commands" -a update -d 'Install an envelope'
+complete -c suit -n "__fish_seen_subcommand_from run; and not __fish_seen_subcommand_from $commands" -a boot -d 'Start what is installed'
+complete -c suit -n "__fish_seen_subcommand_from run; and not __fish_seen_subcommand_from $commands" -a status -d 'Print what is installed'
+complete -c suit -n '__fish_seen_subcommand_from make show check init update' -F
