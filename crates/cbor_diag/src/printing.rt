@@ -30,14 +30,16 @@ fn push_number(out: &mut String, number: u128) -> Result<(), AllocError>
 
 // The integer -1 - number.
 fn push_negative(out: &mut String, number: u64) -> Result<(), AllocError>
-    ensures { OnOk result (string_bytes out.new ≡ string_bytes out.old ++ 45 ∷ decimal (suc number)) }
+    ensures { OnOk result
+        (string_bytes out.new ≡ string_bytes out.old ++ 45 ∷ decimal (suc number)) }
 {
     out.push_str("-")?;
     push_number(out, u128::from(number) + 1)
 }
 
 fn push_bytes(alloc: Global, out: &mut String, bytes: &[u8]) -> Result<(), AllocError>
-    ensures { OnOk result (string_bytes out.new ≡ string_bytes out.old ++ bytes_notation bytes.now) }
+    ensures { OnOk result
+        (string_bytes out.new ≡ string_bytes out.old ++ bytes_notation bytes.now) }
 {
     let digits = hex::encode(alloc, bytes)?;
     out.push_str("h'")?;
