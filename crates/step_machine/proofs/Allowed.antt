@@ -15,7 +15,7 @@ use Rattle.suit_commands.specs.View.{sequence_tree, command_tree, branches_tree}
 use Rattle.step_machine.specs.declared.machine.Machine.{Machine}
 use Rattle.step_machine.specs.declared.spot.Spot.{Spot}
 use Rattle.step_machine.specs.declared.spot.Spot.TheVariants as spots
-use Rattle.step_machine.specs.Allowing.{AllowsSequence, AllowsCommand, AllowsBranches, MayWrite, MaySwap}
+use Rattle.step_machine.specs.Allowing.{AllowsSequence, AllowsCommand, AllowsBranches, MayFetch, MayWrite, MaySwap}
 use Rattle.step_machine.specs.Running.{Moment, Stays, IsReady}
 use Rattle.step_machine.specs.Spots.{IsSpot, room_at}
 
@@ -26,7 +26,9 @@ first_step machine p command rest selection a = record {
   indexed = a.indexed.0;
   writes = λ c w. a.writes c (inl w);
   swaps = λ w. a.swaps (inl w);
+  fetches = λ w. a.fetches (inl w);
   sources = λ c w. a.sources c (inl w);
+  uris = λ u w. a.uris u (inl w);
 }
 
 later_steps : (machine : Machine) (p : ℕ) (command : CommandTree) (rest : SequenceTree) (selection : List ℕ) → AllowsSequence machine (StepThen p command rest) selection → AllowsSequence machine rest (selected_after command machine.plan.now.count selection)
@@ -34,7 +36,9 @@ later_steps machine p command rest selection a = record {
   indexed = a.indexed.1;
   writes = λ c w. a.writes c (inr w);
   swaps = λ w. a.swaps (inr w);
+  fetches = λ w. a.fetches (inr w);
   sources = λ c w. a.sources c (inr w);
+  uris = λ u w. a.uris u (inr w);
 }
 
 module _ (machine : Machine) (steps : List Step) (i : ℕ) (d : Step) (lt : i < length steps) (selection : List ℕ) (a : AllowsSequence machine (sequence_tree (drop i steps)) selection) where
@@ -72,7 +76,9 @@ allows_at machine command selection k among a = record {
   indexed = a.indexed;
   writes = λ c w. a.writes c (narrow command machine.plan.now.count selection k c among w);
   swaps = a.swaps;
+  fetches = a.fetches;
   sources = a.sources;
+  uris = a.uris;
 }
 
 pub may_write : (machine : Machine) (kind : ActKind) (report k : ℕ) → AllowsCommand machine (Act kind report) (k ∷ []) → IsWriting kind → MayWrite machine k
@@ -81,12 +87,17 @@ may_write machine kind report k a w = a.writes k (w, inl refl)
 pub may_swap : (machine : Machine) (kind : ActKind) (report k : ℕ) → AllowsCommand machine (Act kind report) (k ∷ []) → kind ≡ acts.Swap → MaySwap machine
 may_swap machine kind report k a e = a.swaps e
 
+pub may_fetch : (machine : Machine) (kind : ActKind) (report k : ℕ) → AllowsCommand machine (Act kind report) (k ∷ []) → kind ≡ acts.Fetch → MayFetch machine
+may_fetch machine kind report k a e = a.fetches e
+
 pub allows_inner : (machine : Machine) (inner : SequenceTree) (k : ℕ) → AllowsCommand machine (RunSequence inner) (k ∷ []) → AllowsSequence machine inner (k ∷ [])
 allows_inner machine inner k a = record {
   indexed = a.indexed;
   writes = λ c w. a.writes c (k, inl refl, w);
   swaps = a.swaps;
+  fetches = a.fetches;
   sources = a.sources;
+  uris = a.uris;
 }
 
 pub allows_branches : (machine : Machine) (branches : BranchesTree) (k : ℕ) → AllowsCommand machine (TryEach branches) (k ∷ []) → AllowsBranches machine branches k
@@ -94,7 +105,9 @@ allows_branches machine branches k a = record {
   indexed = a.indexed;
   writes = λ c w. a.writes c (k, inl refl, w);
   swaps = a.swaps;
+  fetches = a.fetches;
   sources = a.sources;
+  uris = a.uris;
 }
 
 -- ---- branches
@@ -111,7 +124,9 @@ module _ (machine : Machine) (branches : List (Option SequenceTree)) (i k : ℕ)
     indexed = these.indexed.0;
     writes = λ c w. these.writes c (inl w);
     swaps = λ w. these.swaps (inl w);
+    fetches = λ w. these.fetches (inl w);
     sources = λ c w. these.sources c (inl w);
+    uris = λ u w. these.uris u (inl w);
   }
 
   pub allows_others : AllowsBranches machine (branches_tree (drop (i + 1) branches)) k
@@ -119,7 +134,9 @@ module _ (machine : Machine) (branches : List (Option SequenceTree)) (i k : ℕ)
     indexed = these.indexed.1;
     writes = λ c w. these.writes c (inr w);
     swaps = λ w. these.swaps (inr w);
+    fetches = λ w. these.fetches (inr w);
     sources = λ c w. these.sources c (inr w);
+    uris = λ u w. these.uris u (inr w);
   }
 
 -- ---- selections stay within the components

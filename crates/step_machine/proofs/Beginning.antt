@@ -17,6 +17,7 @@ use Rattle.step_machine.specs.Invoking.{launched_as}
 use Rattle.step_machine.specs.PlanRuns.{Counts, OutsideTargets}
 use Rattle.step_machine.specs.Running.{Moment, Stays, StopCounts, Fits, Gained, Part, RunsPart, AreFilesKnown, AreSources, counts_at, device_at}
 use Rattle.step_machine.specs.Parts.{nothing_part, then_part}
+use Rattle.step_machine.proofs.Asking.{asks_none, asks_then}
 use Rattle.step_machine.proofs.Composing.{then_comes, first_stops}
 
 -- ---- what stays
@@ -33,6 +34,7 @@ stays_start machine m = record {
   size = refl;
   rooms = refl;
   files = λ t. refl;
+  asks = λ t room rooms. asks_none (plan_tree machine.plan.now) machine.uris.now room m.host.asked;
   keeps = λ t. keeps_start (OutsideTargets (plan_tree machine.plan.now) machine.standings.now) m.disk.flash;
   grows = λ t. grows_start m.disk.flash;
 }
@@ -48,6 +50,7 @@ stays_then machine a b c law first second = record {
   size = second.size ∙ first.size;
   rooms = second.rooms ∙ first.rooms;
   files = λ known. second.files (known_then machine a b first.host known) ∙ first.files known;
+  asks = λ t room rooms. asks_then (plan_tree machine.plan.now) machine.uris.now room a.host.asked b.host.asked c.host.asked (first.asks t room rooms) (second.asks (subst IsTrue (sym first.host) t) room rooms);
   keeps = λ t.
       let u = subst IsTrue (sym first.disk) t in
       keeps_then (OutsideTargets (plan_tree machine.plan.now) machine.standings.now) a.disk.flash b.disk.flash c.disk.flash b.disk.size (law u) (first.keeps t) (second.keeps u);

@@ -26,6 +26,7 @@ use Rattle.step_machine.specs.PlanRuns.{OutsideTargets}
 use Rattle.step_machine.specs.Parts.{act_part}
 use Rattle.step_machine.specs.Running.{AreFilesKnown, Moment, Stays, RunsPart, IsReady, AreSources, device_at}
 use Rattle.step_machine.specs.Spots.{content_of, IsSpot, OutsideSpot, IsRamBut}
+use Rattle.step_machine.proofs.Asking.{asks_same}
 use Rattle.step_machine.proofs.Leaves.{no_standing, same_rooms}
 use Rattle.step_machine.proofs.Lifting.{clear_outside, kept_slot, map_same, map_but}
 use Rattle.step_machine.proofs.Beginning.{runs_at_once}
@@ -91,15 +92,16 @@ module _ (machine : Machine) (m n : Moment) (i j : ℕ) (d : Standing) (lt : i <
       (clear_of i k e lt under one) (clear_of j k e below under other)
       (subst (λ (x : ℕ). IsSpot x m.ram (get_or machine.standings.now k e).spot) (sym size) (ready.standings.each k e under).spot) but keeps)))
 
-  pub two_stay : n.host.told ≡ m.host.told → n.disk.told ≡ m.disk.told → n.launcher.told ≡ m.launcher.told → n.disk.size ≡ m.disk.size → (AreFilesKnown machine m → n.host.files ≡ m.host.files) → MayWrite machine i → MayWrite machine j
+  pub two_stay : n.host.told ≡ m.host.told → n.disk.told ≡ m.disk.told → n.launcher.told ≡ m.launcher.told → n.disk.size ≡ m.disk.size → (AreFilesKnown machine m → n.host.files ≡ m.host.files) → n.host.asked ≡ m.host.asked → MayWrite machine i → MayWrite machine j
       → (IsTrue m.disk.told → Keeps (OutsideBoth (get_or machine.standings.now i d).spot (get_or machine.standings.now j d).spot) m.disk.flash n.disk.flash) → (IsTrue m.disk.told → Grows m.disk.flash n.disk.flash) → Stays machine m n
-  two_stay host disk launcher size files may other keeps grows = record {
+  two_stay host disk launcher size files asked may other keeps grows = record {
     host = host;
     disk = disk;
     launcher = launcher;
     size = size;
     rooms = same_rooms (get_or machine.standings.now j d).spot but.0 n.ram but.2 ∙ same_rooms (get_or machine.standings.now i d).spot m.ram but.0 but.1;
     files = files;
+    asks = λ t room rooms. asks_same (plan_tree machine.plan.now) machine.uris.now room m.host.asked n.host.asked asked;
     keeps = λ t. keeps_fewer (OutsideTargets (plan_tree machine.plan.now) machine.standings.now) (OutsideBoth (get_or machine.standings.now i d).spot (get_or machine.standings.now j d).spot) (λ x out. (out i d lt may, out j d below other)) m.disk.flash n.disk.flash (keeps t);
     grows = grows;
   }

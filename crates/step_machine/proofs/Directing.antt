@@ -60,7 +60,7 @@ named_in state c o n r got is e = sym (ap number_of got) ∙ sym is ∙ e
 module _ (machine : Machine) (size : ℕ) (ram : List Held) (s : State) (c source : ℕ) (lt : c < length machine.standings.now) (ready : IsReady machine size ram) (under : IsUnderWay machine s)
     (named : number_of (in_force s.parameters c keys.Source) ≡ Some source) where
   source_is : (source < length machine.standings.now) × MayName machine source
-  source_is = under.sources c source (omega (arith, lt, ready.standings.few)) named
+  source_is = under.sources.components c source (omega (arith, lt, ready.standings.few)) named
 
   pub source_below : source < length machine.standings.now
   source_below = source_is.0

@@ -16,7 +16,7 @@ use Rattle.step_machine.specs.declared.spot.Standing.{Standing}
 use Rattle.step_machine.specs.declared.world.SlotChoice.{SlotChoice}
 use Rattle.step_machine.specs.Devices.{AreSpotsClear}
 use Rattle.step_machine.specs.Spots.{IsSpot, room_at}
-use Rattle.step_machine.specs.Worlds.{AreDistinct, AreStandings, HaveTwo, IsChoice, IsStandingAt, StandAs, spot_of, standing_of}
+use Rattle.step_machine.specs.Worlds.{AreDistinct, AreStandings, HaveAtMost, HaveTwo, IsChoice, IsStandingAt, StandAs, StandAtMost, spot_of, standing_of}
 
 no_entry : Entry
 no_entry = record {
@@ -135,3 +135,12 @@ module _ (frame : Frame) (size : ℕ) (layout : List Entry) (is : IsLayout frame
         apart_back (get_or list y d).spot (get_or list x d).spot (pair_clear (slice_index places.layout_index y) (slice_index places.layout_index x) iy ix lt y x d ay ax refl refl))
         (cases_lt (slice_index places.layout_index x) (slice_index places.layout_index y));
   }
+
+-- none has more room than the components of its layout
+pub stand_at_most : (layout : List Entry) (places : Places) → AreDistinct layout places → (slots : SlotChoice) (standings : List Standing) → StandAs layout places slots standings
+    → (room : ℕ) → HaveAtMost layout room → StandAtMost standings room
+stand_at_most layout places distinct slots standings stand room rooms k d lt =
+    let index = slice_index places.layout_index k in
+    let below : k < places.count = omega (arith, lt, stand.count) in
+    let fits : (get_or layout index no_entry).capacity ≤ room = rooms index no_entry (distinct.inside k below) in
+    subst (λ (s : Standing). s.capacity ≤ room) (sym (stand.each k d no_entry below)) fits

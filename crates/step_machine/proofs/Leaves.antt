@@ -22,6 +22,8 @@ use Rattle.step_machine.specs.Comes.{Comes}
 use Rattle.step_machine.specs.Directives.{ActsSo, CauseCounts}
 use Rattle.step_machine.specs.Fetching.{FetchCounts}
 use Rattle.step_machine.specs.PlanRuns.{counts_of, OutsideTargets}
+use Rattle.step_machine.specs.Fetching.{AsksAmong}
+use Rattle.step_machine.specs.Worlds.{StandAtMost}
 use Rattle.step_machine.specs.Running.{AreFilesKnown, Moment, Stays, StopCounts, Fits, Part, RunsPart, IsReady, AreSources, counts_at, device_at, stopped}
 use Rattle.step_machine.specs.Spots.{IsRamBut, IsSpot, OutsideSpot, content_of}
 use Rattle.step_machine.proofs.Beginning.{runs_quietly}
@@ -100,15 +102,16 @@ module _ (machine : Machine) (m : Moment) (c : ℕ) (d : Standing) (lt : c < len
 
 module _ (machine : Machine) (m n : Moment) (c : ℕ) (d : Standing) (lt : c < length machine.standings.now) (ready : IsReady machine m.disk.size m.ram)
     (but : IsRamBut (get_or machine.standings.now c d).spot m.ram n.ram) where
-  pub one_stays : n.host.told ≡ m.host.told → n.disk.told ≡ m.disk.told → n.launcher.told ≡ m.launcher.told → n.disk.size ≡ m.disk.size → (AreFilesKnown machine m → n.host.files ≡ m.host.files) → MayWrite machine c
+  pub one_stays : n.host.told ≡ m.host.told → n.disk.told ≡ m.disk.told → n.launcher.told ≡ m.launcher.told → n.disk.size ≡ m.disk.size → (AreFilesKnown machine m → n.host.files ≡ m.host.files) → (IsTrue m.host.told → (room : ℕ) → StandAtMost machine.standings.now room → AsksAmong (plan_tree machine.plan.now) machine.uris.now room m.host.asked n.host.asked) → MayWrite machine c
       → (IsTrue m.disk.told → Keeps (OutsideSpot (get_or machine.standings.now c d).spot) m.disk.flash n.disk.flash) → (IsTrue m.disk.told → Grows m.disk.flash n.disk.flash) → Stays machine m n
-  one_stays host disk launcher size files may keeps grows = record {
+  one_stays host disk launcher size files asks may keeps grows = record {
     host = host;
     disk = disk;
     launcher = launcher;
     size = size;
     rooms = same_rooms (get_or machine.standings.now c d).spot m.ram n.ram but;
     files = files;
+    asks = asks;
     keeps = λ t. keeps_fewer (OutsideTargets (plan_tree machine.plan.now) machine.standings.now) (OutsideSpot (get_or machine.standings.now c d).spot) (λ i out. out c d lt may) m.disk.flash n.disk.flash (keeps t);
     grows = grows;
   }

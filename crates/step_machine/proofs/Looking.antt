@@ -32,6 +32,7 @@ use Rattle.step_machine.specs.PlanRuns.{counts_of, OutsideTargets}
 use Rattle.step_machine.specs.Running.{AreFilesKnown, Moment, Stays, StopCounts, Fits, Gained, RunsPart, AreSources, counts_at, device_at, stopped}
 use Rattle.step_machine.specs.Parts.{test_part, act_part}
 use Rattle.step_machine.specs.Spots.{content_of}
+use Rattle.step_machine.proofs.Asking.{asks_same}
 use Rattle.step_machine.proofs.Beginning.{runs_quietly}
 use Rattle.step_machine.proofs.Leaves.{content_here}
 
@@ -74,14 +75,15 @@ condition_cut setting kind p c s w cut = record { outcome = unread p w; cut = cu
 -- ---- nothing is written
 
 pub looked : (machine : Machine) (m n : Moment) → n.host.told ≡ m.host.told → n.disk.told ≡ m.disk.told → n.launcher.told ≡ m.launcher.told → n.disk.size ≡ m.disk.size → n.ram ≡ m.ram
-    → (AreFilesKnown machine m → n.host.files ≡ m.host.files) → (IsTrue m.disk.told → IsSame m.disk.flash n.disk.flash) → (IsTrue m.disk.told → Grows m.disk.flash n.disk.flash) → Stays machine m n
-looked machine m n host disk launcher size ram files same grows = record {
+    → (AreFilesKnown machine m → n.host.files ≡ m.host.files) → n.host.asked ≡ m.host.asked → (IsTrue m.disk.told → IsSame m.disk.flash n.disk.flash) → (IsTrue m.disk.told → Grows m.disk.flash n.disk.flash) → Stays machine m n
+looked machine m n host disk launcher size ram files asked same grows = record {
   host = host;
   disk = disk;
   launcher = launcher;
   size = size;
   rooms = ap (λ r. map (λ held. held.capacity) r) ram;
   files = files;
+  asks = λ t room rooms. asks_same (plan_tree machine.plan.now) machine.uris.now room m.host.asked n.host.asked asked;
   keeps = λ t. keeps_same (OutsideTargets (plan_tree machine.plan.now) machine.standings.now) m.disk.flash n.disk.flash (same t);
   grows = grows;
 }

@@ -3,12 +3,14 @@ use Rattle.std.proofs.Common.{◌≡◌, ℕ, zero, suc, [], ◌∷◌, Option, 
 use Rattle.std.specs.Prelude.{slice_get}
 use Rattle.suit_params.specs.declared.param.Param.{Param}
 use Rattle.suit_params.specs.declared.param.ParamKey.TheVariants as keys
-use Rattle.suit_params.specs.InForce.{in_force, number_of, none_in_force, held_at, cell}
+use Rattle.suit_params.specs.InForce.{bytes_of, in_force, number_of, none_in_force, held_at, cell}
 use Rattle.suit_commands.specs.Allowed.{IsPlan}
 use Rattle.std.specs.Borrow.{Bor}
 use Rattle.suit_commands.specs.Plans.{lent_tree, plan_tree}
 use Rattle.suit_commands.specs.Indexed.{AreIndexed}
 use Rattle.suit_commands.specs.Targets.{InSome, Sources, Swaps, Writes}
+use Rattle.suit_commands.specs.Touches.{HasAct}
+use Rattle.suit_commands.specs.declared.kinds.ActKind.TheVariants as acts
 use Rattle.suit_commands.specs.Tree.{SequenceTree, NoSteps}
 use Rattle.suit_commands.proofs.IndexedSteps.{member_indexed, shared_indexed}
 use Rattle.path_model.specs.Behaviour.{State}
@@ -18,6 +20,7 @@ use Rattle.step_machine.specs.declared.machine.Machine.{Machine}
 use Rattle.step_machine.specs.declared.stop.Stop.{Stop}
 use Rattle.step_machine.specs.declared.stop.Stop.TheVariants as stops
 use Rattle.step_machine.specs.Allowing.{AllowsSequence}
+use Rattle.step_machine.specs.UrisSet.{Sets}
 use Rattle.step_machine.specs.Devices.{contents_of}
 use Rattle.step_machine.specs.Parts.{sequence_part, starting_part, then_part, plan_part}
 use Rattle.step_machine.specs.PlanRuns.{Counts, EndCounts, PlaysPlan, end_of}
@@ -32,7 +35,9 @@ allows_placed machine sequence indexed place = record {
   indexed = indexed;
   writes = λ c w. inl (place (λ s. Writes s machine.plan.now.count (0 ∷ []) c) w);
   swaps = λ w. place Swaps w;
+  fetches = λ w. place (HasAct acts.Fetch) w;
   sources = λ c w. place (λ s. Sources s c) w;
+  uris = λ u w. place (λ s. Sets s u) w;
 }
 
 module _ (machine : Machine) (is : IsPlan (plan_tree machine.plan.now)) where
@@ -98,10 +103,16 @@ nothing_held (suc n) (suc i) = nothing_held n i
 
 pub no_sources : (machine : Machine) → AreSources machine none_in_force
 unfolding none_in_force
-no_sources machine component source few named =
-    let none : in_force none_in_force component keys.Source ≡ None = nothing_held 96 (cell component keys.Source) in
-    let wrong : None ≡ Some source = sym (ap number_of none) ∙ named in
-    absurd cc
+no_sources machine = record {
+  components = λ component source few named.
+      let none : in_force none_in_force component keys.Source ≡ None = nothing_held 96 (cell component keys.Source) in
+      let wrong : None ≡ Some source = sym (ap number_of none) ∙ named in
+      absurd cc;
+  uris = λ component uri few named.
+      let none : in_force none_in_force component keys.Uri ≡ None = nothing_held 96 (cell component keys.Uri) in
+      let wrong : None ≡ Some uri = sym (ap bytes_of none) ∙ named in
+      absurd cc;
+}
 
 -- ---- its end
 

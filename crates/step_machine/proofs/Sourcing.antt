@@ -1,11 +1,11 @@
--- Sources in force, after an override.
+-- Sources and URIs in force, after an override.
 use Rattle.std.proofs.Common.{◌≡◌, ◌<◌, ℕ, Bool, true, false, if◌then◌else◌, List, [], ◌∷◌, Option, Some, length, refl, sym, ap, ◌∙◌, subst, arith, inl, inr, ◌⊎◌, ⊎_elim}
 use Rattle.std.specs.Prelude.{◌==◌}
 use Rattle.std.specs.List.{AllByRecursion}
 use Rattle.suit_params.specs.declared.param.Param.{Param}
 use Rattle.suit_params.specs.declared.param.Param.TheVariants as params
 use Rattle.suit_params.specs.declared.param.ParamKey.TheVariants as keys
-use Rattle.suit_params.specs.InForce.{Parameters, in_force, number_of, last_of, rank, with_param, overridden, IsOverridden}
+use Rattle.suit_params.specs.InForce.{Parameters, bytes_of, in_force, number_of, last_of, rank, with_param, overridden, IsOverridden}
 use Rattle.suit_params.specs.ParamKeys.{key_of}
 use Rattle.suit_params.specs.ParamMaking.{IsBelow}
 use Rattle.suit_commands.specs.declared.command.Command.{Command}
@@ -19,6 +19,7 @@ use Rattle.step_machine.specs.declared.machine.Machine.{Machine}
 use Rattle.step_machine.specs.Allowing.{AllowsCommand}
 use Rattle.step_machine.specs.Overriding.{soft_after_list}
 use Rattle.step_machine.specs.Running.{AreSources, IsReady}
+use Rattle.step_machine.specs.UrisSet.{NamesUri}
 
 -- a list names the source, or it was in force before
 Named : List Param → ℕ → Option Param → Type 0
@@ -48,18 +49,42 @@ chosen : {A : Type 0} (b : Bool) (x y z : A) → z ≡ (if b then x else y) → 
 chosen true x y z e = inl e
 chosen false x y z e = inr e
 
+-- the same of URIs
+later_uri : (p : Param) (list : List Param) (uri : List ℕ) → NamesUri list uri → NamesUri (p ∷ list) uri
+later_uri (params.Uri x) list uri h = inr h
+later_uri _ list uri h = h
+
+first_uri : (p : Param) (list : List Param) (uri : List ℕ) (before : Option Param) → bytes_of (if rank (key_of p) == 8 then Some p else before) ≡ Some uri → NamesUri (p ∷ list) uri ⊎ (bytes_of before ≡ Some uri)
+first_uri (params.Uri x) list uri before e = let same : uri ≡ x = cc in inl (inl same)
+first_uri _ list uri before e = inr e
+
+named_uri : (list : List Param) (uri : List ℕ) (before : Option Param) → bytes_of (last_of list keys.Uri before) ≡ Some uri → NamesUri list uri ⊎ (bytes_of before ≡ Some uri)
+named_uri [] uri before e = inr e
+named_uri (p ∷ list) uri before e =
+    ⊎_elim (λ h. inl (later_uri p list uri h)) (λ h. first_uri p list uri before h)
+    (named_uri list uri (if rank (key_of p) == 8 then Some p else before) e)
+
 pub sources_after : (machine : Machine) (old new : Parameters) (component : ℕ) (list : List Param) (k : ℕ) → component < 8 → machine.plan.now.count ≡ length machine.standings.now
     → AllowsCommand machine (Override list) (k ∷ []) → IsOverridden old new component list → AreSources machine old → AreSources machine new
-sources_after machine old new component list k few count allowed is sources other source lt e =
-    ⊎_elim
-    (λ here.
-    ⊎_elim
-    (λ h. let b : source < machine.plan.now.count = below list machine.plan.now.count source allowed.indexed h in
-    (omega (arith, b, count), allowed.sources source h))
-    (λ h. sources component source few h)
-    (named list source (in_force old component keys.Source) (sym (ap number_of here) ∙ e)))
-    (λ there. sources other source lt (sym (ap number_of there) ∙ e))
-    (chosen (other == component) (last_of list keys.Source (in_force old component keys.Source)) (in_force old other keys.Source) (in_force new other keys.Source) (is other keys.Source lt))
+sources_after machine old new component list k few count allowed is sources = record {
+  components = λ other source lt e.
+      ⊎_elim
+      (λ here.
+      ⊎_elim
+      (λ h. let b : source < machine.plan.now.count = below list machine.plan.now.count source allowed.indexed h in
+      (omega (arith, b, count), allowed.sources source h))
+      (λ h. sources.components component source few h)
+      (named list source (in_force old component keys.Source) (sym (ap number_of here) ∙ e)))
+      (λ there. sources.components other source lt (sym (ap number_of there) ∙ e))
+      (chosen (other == component) (last_of list keys.Source (in_force old component keys.Source)) (in_force old other keys.Source) (in_force new other keys.Source) (is other keys.Source lt));
+  uris = λ other uri lt e.
+      ⊎_elim
+      (λ here.
+      ⊎_elim (λ h. allowed.uris uri h) (λ h. sources.uris component uri few h)
+      (named_uri list uri (in_force old component keys.Uri) (sym (ap bytes_of here) ∙ e)))
+      (λ there. sources.uris other uri lt (sym (ap bytes_of there) ∙ e))
+      (chosen (other == component) (last_of list keys.Uri (in_force old component keys.Uri)) (in_force old other keys.Uri) (in_force new other keys.Uri) (is other keys.Uri lt));
+}
 
 pub sources_overridden : (machine : Machine) (old new : Parameters) (component : ℕ) (list : List Param) (size : ℕ) (ram : List Held) → component < length machine.standings.now → IsReady machine size ram → (command : Command) → command ≡ commands.Override list
     → AllowsCommand machine (command_tree command) (component ∷ []) → IsOverridden old new component list → AreSources machine old → AreSources machine new

@@ -1,42 +1,55 @@
--- The parts of a procedure write only its targets, and name only its sources as sources.
+-- The parts of a procedure write only its targets, name only its sources as sources, set only its URIs, and swap and fetch
+-- only where it does.
 use Rattle.std.specs.Prelude.{ℕ, List}
 use Rattle.suit_commands.specs.Tree.{CommandTree, SequenceTree, BranchesTree}
 use Rattle.suit_commands.specs.Indexed.{AreIndexed, IsIndexed, BranchesIndexed}
 use Rattle.suit_commands.specs.Plans.{plan_tree}
 use Rattle.suit_commands.specs.Targets.{InSome, IsTarget, Writes, CommandWrites, BranchesWrite, Swaps, CommandSwaps, BranchesSwap, Sources, CommandSources, BranchesSource}
+use Rattle.suit_commands.specs.Touches.{HasAct, CommandHasAct, BranchesHaveAct}
+use Rattle.suit_commands.specs.declared.kinds.ActKind.TheVariants as acts
 use Rattle.step_machine.specs.declared.machine.Machine.{Machine}
+use Rattle.step_machine.specs.UrisSet.{BranchesSet, CommandSets, HasFetch, Sets, SetsUri}
 
 abbrev pub MaySwap : Machine → Type 0
 MaySwap machine = InSome (plan_tree machine.plan.now) Swaps
 
+abbrev pub MayFetch : Machine → Type 0
+MayFetch machine = HasFetch (plan_tree machine.plan.now)
+
 abbrev pub MayName : Machine → ℕ → Type 0
 MayName machine source = InSome (plan_tree machine.plan.now) (λ s. Sources s source)
+
+abbrev pub MaySet : Machine → List ℕ → Type 0
+MaySet machine uri = SetsUri (plan_tree machine.plan.now) uri
 
 abbrev pub MayWrite : Machine → ℕ → Type 0
 MayWrite machine component = IsTarget (plan_tree machine.plan.now) component
 
 -- a part with this alone
 pub record Allows (machine : Machine) (IsRight : Type 0) (WritesTo : ℕ → Type 0) (HasSwap : Type 0)
-    (HasSource : ℕ → Type 0) : Type 0 where
+    (Fetches : Type 0) (HasSource : ℕ → Type 0) (HasUri : List ℕ → Type 0) : Type 0 where
   pub indexed : IsRight
   pub writes : (component : ℕ) → WritesTo component → MayWrite machine component
   pub swaps : HasSwap → MaySwap machine
+  pub fetches : Fetches → MayFetch machine
   pub sources : (source : ℕ) → HasSource source → MayName machine source
+  pub uris : (uri : List ℕ) → HasUri uri → MaySet machine uri
 
 abbrev pub AllowsSequence : Machine → SequenceTree → List ℕ → Type 0
 AllowsSequence machine sequence selection =
     Allows machine (AreIndexed machine.plan.now.count sequence)
-    (Writes sequence machine.plan.now.count selection) (Swaps sequence) (Sources sequence)
+    (Writes sequence machine.plan.now.count selection) (Swaps sequence)
+    (HasAct acts.Fetch sequence) (Sources sequence) (Sets sequence)
 
 abbrev pub AllowsCommand : Machine → CommandTree → List ℕ → Type 0
 AllowsCommand machine command selection =
     Allows machine (IsIndexed machine.plan.now.count command)
     (CommandWrites command machine.plan.now.count selection) (CommandSwaps command)
-    (CommandSources command)
+    (CommandHasAct acts.Fetch command) (CommandSources command) (CommandSets command)
 
 -- for one of the selected components
 abbrev pub AllowsBranches : Machine → BranchesTree → ℕ → Type 0
 AllowsBranches machine branches outer =
     Allows machine (BranchesIndexed machine.plan.now.count branches)
     (BranchesWrite branches machine.plan.now.count outer) (BranchesSwap branches)
-    (BranchesSource branches)
+    (BranchesHaveAct acts.Fetch branches) (BranchesSource branches) (BranchesSet branches)

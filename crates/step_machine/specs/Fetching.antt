@@ -1,15 +1,20 @@
 -- The result of a fetch for a component, as plays have it, and of taking a file piece by piece.
-use Rattle.std.specs.Prelude.{◌≡◌, ◌⊎◌, ◌<◌, ◌≤◌, ◌+◌, ◌==◌, ℕ, Bool, IsTrue, if◌then◌else◌, List, [], ◌++◌, Option, Some, None, Result, Ok, Err, get_or, length, take}
+use Rattle.std.specs.Prelude.{◌≡◌, ◌⊎◌, ◌<◌, ◌≤◌, ◌+◌, ◌*◌, ◌==◌, ℕ, Bool, IsTrue, if◌then◌else◌, List, [], ◌++◌, Option, Some, None, Result, Ok, Err, get_or, length, take}
+use Rattle.std.specs.List.{AllByRecursion}
 use Rattle.std.specs.Option.{option_and_then}
 use Rattle.suit_edge.specs.Faults.{Faulted}
-use Rattle.suit_params.specs.InForce.{Parameters}
+use Rattle.suit_edge.specs.Host.{AsksFor}
+use Rattle.suit_params.specs.declared.param.ParamKey.TheVariants as keys
+use Rattle.suit_params.specs.InForce.{Parameters, bytes_of, in_force}
 use Rattle.suit_commands.specs.declared.kinds.ActKind.TheVariants as acts
+use Rattle.suit_commands.specs.Tree.{PlanTree}
 use Rattle.path_model.specs.declared.cause.Cause.{Cause}
 use Rattle.path_model.specs.declared.cause.Cause.TheVariants as causes
 use Rattle.path_model.specs.Behaviour.{State}
 use Rattle.path_model.specs.Settings.{Setting, capacity_of, found_under}
 use Rattle.path_model.specs.DevicePlays.{Device, content_at, with_content, directive_play}
 use Rattle.step_machine.specs.Directives.{ActsSo}
+use Rattle.step_machine.specs.UrisSet.{SetsUri}
 
 -- ---- one piece
 
@@ -90,6 +95,42 @@ FetchesAs component capacity parameters payloads words files before after result
     → content_at device component ≡ before → component < length device.contents
     → ActsSo (directive_play setting acts.Fetch place component) place state device result
     (with_content device component after)
+
+-- ---- calls of the host
+
+-- the name of the file that the URI in force for the component names, by these names of files
+abbrev pub file_named : ℕ → Parameters → List (List ℕ × List ℕ) → Option (List ℕ)
+file_named component parameters words =
+    option_and_then (found_under words) (bytes_of (in_force parameters component keys.Uri))
+
+-- the names that a host was asked for, and how many bytes were pulled from it
+pub record Asked : Type 0 where
+  pub names : List (List ℕ)
+  pub pulled : ℕ
+
+abbrev pub asked_at : List (List ℕ) → ℕ → Asked
+asked_at names pulled = record { names = names; pulled = pulled }
+
+-- at most the named file was asked for, and that once, and at most so many bytes were pulled from it
+abbrev pub AsksAtMost : Option (List ℕ) → ℕ → Asked → Asked → Type 0
+AsksAtMost named most before now =
+    ((now.names ≡ before.names) × (now.pulled ≡ before.pulled))
+    ⊎ ((name : List ℕ) × (named ≡ Some name) × AsksFor name before.names now.names
+    × (now.pulled ≤ before.pulled + most))
+
+-- a URI that the procedure sets names this file
+abbrev pub IsFileOf : PlanTree → List (List ℕ × List ℕ) → List ℕ → Type 0
+IsFileOf plan words name =
+    (uri : List ℕ) × SetsUri plan uri × (found_under words uri ≡ Some name)
+
+-- only files that URIs of the procedure name were asked for, one after another, and of each at most one byte more was
+-- pulled than there is room for
+pub record AsksAmong (plan : PlanTree) (words : List (List ℕ × List ℕ)) (room : ℕ)
+    (before now : Asked) : Type 0 where
+  pub more : List (List ℕ)
+  pub names : now.names ≡ before.names ++ more
+  pub among : AllByRecursion (IsFileOf plan words) more
+  pub pulled : now.pulled ≤ before.pulled + length more * (room + 1)
 
 -- its files stay, and at most one byte more than these was pulled
 pub record PullsUpTo (told : Bool) (most : ℕ) (earlier later : List ℕ → Option (List ℕ))

@@ -6,6 +6,7 @@ pub mod Directives
 pub mod Comes
 pub mod Devices
 pub mod Invoking
+pub mod UrisSet
 pub mod Fetching
 pub mod Copying
 pub mod Worlds

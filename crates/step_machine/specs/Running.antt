@@ -3,7 +3,7 @@ use Rattle.std.specs.Prelude.{◌≡◌, ◌⊎◌, ◌<◌, ℕ, Bool, IsTrue, 
 use Rattle.std.specs.List.{AllByRecursion, range_with_len}
 use Rattle.suit_edge.specs.Flash.{Grows, Keeps}
 use Rattle.suit_edge.specs.declared.launch.Launch.{Launch}
-use Rattle.suit_params.specs.InForce.{Parameters, in_force, number_of}
+use Rattle.suit_params.specs.InForce.{Parameters, bytes_of, in_force, number_of}
 use Rattle.suit_params.specs.declared.param.ParamKey.TheVariants as keys
 use Rattle.suit_envelope.specs.Payloads.{HasPayloads}
 use Rattle.suit_commands.specs.Plans.{plan_tree}
@@ -22,18 +22,21 @@ use Rattle.step_machine.specs.declared.machine.Work.{Work}
 use Rattle.step_machine.specs.declared.progress.Progress.{Progress}
 use Rattle.step_machine.specs.declared.progress.Selected.{Selected}
 use Rattle.step_machine.specs.declared.progress.Selected.TheVariants as selected
+use Rattle.step_machine.specs.Allowing.{MayFetch, MaySet}
 use Rattle.step_machine.specs.Comes.{Comes}
 use Rattle.step_machine.specs.Devices.{contents_of}
 use Rattle.step_machine.specs.Invoking.{launched_as}
 use Rattle.step_machine.specs.PlanRuns.{Counts, counts_of, CountsFor, OutsideTargets}
 use Rattle.step_machine.specs.Steps.{DiskAt}
-use Rattle.step_machine.specs.Worlds.{AreStandings}
+use Rattle.step_machine.specs.Fetching.{Asked, AsksAmong}
+use Rattle.step_machine.specs.Worlds.{AreStandings, StandAtMost}
 
 -- ---- a moment
 
 pub record HostAt : Type 0 where
   pub told : Bool
   pub files : List ℕ → Option (List ℕ)
+  pub asked : Asked
   pub faults : ℕ
 
 pub record LauncherAt : Type 0 where
@@ -75,13 +78,15 @@ state_of progress = record {
   soft_failure = progress.soft_failure;
 }
 
--- a source in force is one of the components, and the procedure names it as one
-abbrev pub AreSources : Machine → Parameters → Type 0
-AreSources machine parameters =
-    (component source : ℕ) → component < 8
-    → number_of (in_force parameters component keys.Source) ≡ Some source
-    → (source < length machine.standings.now)
-    × InSome (plan_tree machine.plan.now) (λ s. Sources s source)
+-- A source in force is one of the components, and the procedure names it as one. A URI in force is one that it sets.
+pub record AreSources (machine : Machine) (parameters : Parameters) : Type 0 where
+  pub components : (component source : ℕ) → component < 8
+      → number_of (in_force parameters component keys.Source) ≡ Some source
+      → (source < length machine.standings.now)
+      × InSome (plan_tree machine.plan.now) (λ s. Sources s source)
+  pub uris : (component : ℕ) (uri : List ℕ) → component < 8
+      → bytes_of (in_force parameters component keys.Uri) ≡ Some uri
+      → MaySet machine uri
 
 pub record IsUnderWay (machine : Machine) (state : State) : Type 0 where
   pub sources : AreSources machine state.parameters
@@ -92,9 +97,11 @@ pub record IsReady (machine : Machine) (size : ℕ) (ram : List Held) : Type 0 w
   pub standings : AreStandings size ram machine.standings.now
   pub count : machine.plan.now.count ≡ length machine.standings.now
 
--- the references are those that were lent, and a host is left alone where no name of a file is known
+-- the references are those that were lent, and a host is left alone where no name of a file is known, or no fetch stands in
+-- the procedure
 pub record LeavesWork {H D L : Type 0} (machine : Machine) (before after : Work H D L) : Type 0 where
   pub unasked : machine.uris.now ≡ [] → after.host.now ≡ before.host.now
+  pub unfetched : (MayFetch machine → ⊥) → after.host.now ≡ before.host.now
   pub host : after.host.ghost_name ≡ before.host.ghost_name
   pub disk : after.disk.ghost_name ≡ before.disk.ghost_name
   pub launcher : after.launcher.ghost_name ≡ before.launcher.ghost_name
@@ -117,6 +124,9 @@ pub record Stays (machine : Machine) (before after : Moment) : Type 0 where
       map (λ (held : Held). held.capacity) after.ram
       ≡ map (λ (held : Held). held.capacity) before.ram
   pub files : AreFilesKnown machine before → after.host.files ≡ before.host.files
+  pub asks : IsTrue before.host.told → (room : ℕ) → StandAtMost machine.standings.now room
+      → AsksAmong (plan_tree machine.plan.now) machine.uris.now room before.host.asked
+      after.host.asked
   pub keeps : IsTrue before.disk.told
       → Keeps (OutsideTargets (plan_tree machine.plan.now) machine.standings.now) before.disk.flash
       after.disk.flash

@@ -71,6 +71,16 @@ pub record IsStandingAt (size : ℕ) (ram : List Held) (index : ℕ) (standing :
   pub spot : IsSpot size ram standing.spot
   pub room : room_at standing.spot ram ≡ standing.capacity
 
+-- no component has room for more
+abbrev pub HaveAtMost : List Entry → ℕ → Type 0
+HaveAtMost layout room =
+    (i : ℕ) (e : Entry) → i < length layout → (get_or layout i e).capacity ≤ room
+
+-- nor any of these
+abbrev pub StandAtMost : List Standing → ℕ → Type 0
+StandAtMost standings room =
+    (k : ℕ) (d : Standing) → k < length standings → (get_or standings k d).capacity ≤ room
+
 -- at most eight components, whose contents share no byte
 pub record AreStandings (size : ℕ) (ram : List Held) (standings : List Standing) : Type 0 where
   pub few : length standings ≤ 8

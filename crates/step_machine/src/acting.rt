@@ -1,7 +1,7 @@
 //! Conditions and directives of a running procedure, at one component.
 
 ghost use Rattle.std.specs.Prelude.{◌≡◌, ◌<◌, ◌⊎◌, Some, length};
-ghost use Rattle.step_machine.specs.Allowing.{MaySwap, MayWrite};
+ghost use Rattle.step_machine.specs.Allowing.{MayFetch, MaySwap, MayWrite};
 ghost use Rattle.step_machine.specs.Parts.{act_part, test_part};
 ghost use Rattle.step_machine.specs.Running.{IsReady, IsUnderWay, LeavesWork, RunsPart, state_of, stopped};
 ghost use Rattle.suit_commands.specs.Targets.{IsWriting};
@@ -133,6 +133,7 @@ pub(crate) fn act<H: Host, D: Disk, L: Launcher>(
     requires under_way { IsUnderWay machine.now (state_of state.now) }
     requires target { IsWriting kind → MayWrite machine.now component }
     requires swaps { kind ≡ acts.Swap → MaySwap machine.now }
+    requires fetches { kind ≡ acts.Fetch → MayFetch machine.now }
     ensures runs { RunsPart machine.now (act_part kind place component) (state_of state.now)
         (⟦<D as Moments<H, L>>⟧.of_work work.old)
         result (state_of state.now)

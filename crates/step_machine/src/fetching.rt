@@ -4,7 +4,7 @@ ghost use Rattle.path_model.specs.declared.cause.Cause.TheVariants as causes;
 ghost use Rattle.path_model.specs.Settings.{found_under};
 ghost use Rattle.std.specs.Prelude.{[], ◌≡◌, ◌⊎◌, ◌<◌, ◌≤◌, ◌+◌, ◌==◌, ℕ, Err, IsTrue, List, Some, get_or, length, option_map};
 ghost use Rattle.std.specs.Option.{option_and_then};
-ghost use Rattle.step_machine.specs.Fetching.{FetchCounts, FetchesAs, TakesNamed};
+ghost use Rattle.step_machine.specs.Fetching.{AsksAtMost, FetchCounts, FetchesAs, TakesNamed, asked_at, file_named};
 ghost use Rattle.step_machine.specs.Spots.{IsPlaced, IsRamBut, IsSpot, OutsideSpot, content_of, room_at};
 ghost use Rattle.suit_edge.specs.Flash.{Grows, Keeps};
 ghost use Rattle.suit_envelope.specs.Payloads.{HasPayloads};
@@ -80,6 +80,10 @@ fn fetch_named<H: Host, D: Disk>(
     ensures goes { ⟦<D as Steps>⟧.goes_on
         (FetchCounts result (H.faults host.old) (H.faults host.new)) disk.old disk.new }
     ensures pulls { ⟦<H as Pulls>⟧.pulls standing.now.capacity host.old host.new }
+    ensures asked { IsTrue H.told
+        → AsksAtMost (Some name.now) (standing.now.capacity + 1)
+        (asked_at (H.asked host.old) (H.pulled host.old))
+        (asked_at (H.asked host.new) (H.pulled host.new)) }
 {
     match host.start(name) {
         Started::Done => take_into(host, disk, ram, standing, room),
@@ -110,6 +114,10 @@ fn fetch_file<H: Host, D: Disk>(
         (option_and_then (H.file host.old) (found_under uris.now uri.now))
         (content_of standing.now.spot ram.old (D.flash disk.old).reads)
         (content_of standing.now.spot ram.new (D.flash disk.new).reads) }
+    ensures asked { IsTrue H.told
+        → AsksAtMost (found_under uris.now uri.now) (standing.now.capacity + 1)
+        (asked_at (H.asked host.old) (H.pulled host.old))
+        (asked_at (H.asked host.new) (H.pulled host.new)) }
     ensures named { result ≡ Err causes.HostFault
         → (name : List ℕ) × (found_under uris.now uri.now ≡ Some name) }
     ensures keeps { IsTrue D.told
@@ -124,7 +132,8 @@ fn fetch_file<H: Host, D: Disk>(
 /// Fetch: the content becomes what the URI in force names (draft-ietf-suit-manifest-25, section 8.4.10): a payload of the
 /// envelope where it begins with `#`, and otherwise the file that answers it. Where there is none nothing changes. One that
 /// is too large leaves the content empty, a fault of the host leaves the old content or none, and one of the flash any. At
-/// most one byte more is pulled than there is room for. Where there are no names of files the host is not called.
+/// most one byte more is pulled than there is room for, and no file is asked for but that one. Where there are no names of
+/// files the host is not called.
 pub fn fetch<H: Host, D: Disk>(
     host: &mut H,
     disk: &mut D,
@@ -144,6 +153,10 @@ pub fn fetch<H: Host, D: Disk>(
         (D.faults disk.new) }
     ensures files { IsTrue H.told → H.file host.new ≡ H.file host.old }
     ensures unasked { uris.now ≡ [] → host.new ≡ host.old }
+    ensures asked { IsTrue H.told
+        → AsksAtMost (file_named standing.now.component params.now uris.now)
+        (standing.now.capacity + 1) (asked_at (H.asked host.old) (H.pulled host.old))
+        (asked_at (H.asked host.new) (H.pulled host.new)) }
     ensures pulled { IsTrue H.told
         → H.pulled host.new ≤ H.pulled host.old + (standing.now.capacity + 1) }
     ensures ram { IsRamBut standing.now.spot ram.old ram.new }

@@ -9,7 +9,8 @@ pub(crate) trait Moments<H: Host, L: Launcher>: Disk {
     ghost use Rattle.step_machine.specs.Running.{Moment};
     ghost use Rattle.step_machine.specs.declared.machine.Work.{Work};
 
-    /// The files, the contents and the launches that are told of, and the counts of faults, with this in working memory.
+    /// The files, what was asked of them, the contents and the launches that are told of, and the counts of faults, with
+    /// this in working memory.
     ghost at: { H → Self → L → List Held → Moment };
 
     /// The same of the objects that a running procedure works with.
@@ -17,16 +18,27 @@ pub(crate) trait Moments<H: Host, L: Launcher>: Disk {
 }
 
 impl<H: Host, D: Disk, L: Launcher> Moments<H, L> for D {
+    ghost use Rattle.step_machine.specs.Fetching.{asked_at};
     ghost use Rattle.step_machine.specs.Running.{moment};
     ghost use Rattle.step_machine.specs.Steps.{disk_at};
 
     ghost at = { λ h d l ram. moment
-        (record { told = H.told; files = H.file h; faults = H.faults h })
+        (record {
+          told = H.told;
+          files = H.file h;
+          asked = asked_at (H.asked h) (H.pulled h);
+          faults = H.faults h;
+        })
         (disk_at D.told (D.extent d) (D.flash d) (D.faults d))
         (record { told = L.told; launches = L.launches l; faults = L.faults l }) ram };
 
     ghost of_work = { λ work. moment
-        (record { told = H.told; files = H.file work.host.now; faults = H.faults work.host.now })
+        (record {
+          told = H.told;
+          files = H.file work.host.now;
+          asked = asked_at (H.asked work.host.now) (H.pulled work.host.now);
+          faults = H.faults work.host.now;
+        })
         (disk_at D.told (D.extent work.disk.now) (D.flash work.disk.now) (D.faults work.disk.now))
         (record {
           told = L.told;

@@ -4,12 +4,14 @@ ghost use Rattle.flash_slots.specs.RamContents.{Held};
 ghost use Rattle.path_model.specs.Behaviour.{State};
 ghost use Rattle.path_model.specs.Path.{first_state};
 ghost use Rattle.std.specs.Prelude.{◌≡◌, ◌⊎◌, ◌<◌, ◌∷◌, [], ℕ, IsTrue, List, length, map};
-ghost use Rattle.step_machine.specs.Allowing.{AllowsSequence};
+ghost use Rattle.step_machine.specs.Allowing.{AllowsSequence, MayFetch};
 ghost use Rattle.step_machine.specs.Devices.{contents_of};
 ghost use Rattle.step_machine.specs.Parts.{plan_part, starting_part};
 ghost use Rattle.step_machine.specs.PlanRuns.{EndCounts, OutsideTargets, PlaysPlan, counts_of, end_of, setting_of};
 ghost use Rattle.step_machine.specs.Running.{AreSources, IsReady, LeavesWork, RunsPart, state_of};
-ghost use Rattle.step_machine.specs.Worlds.{AreStandings};
+ghost use Rattle.step_machine.specs.Fetching.{AsksAmong, asked_at};
+ghost use Rattle.step_machine.specs.UrisSet.{HasFetch};
+ghost use Rattle.step_machine.specs.Worlds.{AreStandings, StandAtMost};
 ghost use Rattle.suit_commands.specs.Allowed.{IsPlan};
 ghost use Rattle.suit_commands.specs.Plans.{lent_tree, plan_tree};
 ghost use Rattle.suit_edge.specs.Flash.{Grows, Keeps};
@@ -69,21 +71,11 @@ fn procedure<'p, H: Host, D: Disk, L: Launcher>(
 {
     let plan = machine.plan;
     let (shared, second) = (plan.shared, plan.second);
-    if let Err(stop) = part(machine, work, shared, state) {
-        return Err(stop);
-    }
-    if let Err(stop) = part(machine, work, plan.first, state) {
-        return Err(stop);
-    }
-    if let Err(stop) = part(machine, work, shared, state) {
-        return Err(stop);
-    }
-    if let Err(stop) = part(machine, work, second, state) {
-        return Err(stop);
-    }
-    if let Err(stop) = part(machine, work, shared, state) {
-        return Err(stop);
-    }
+    part(machine, work, shared, state)?;
+    part(machine, work, plan.first, state)?;
+    part(machine, work, shared, state)?;
+    part(machine, work, second, state)?;
+    part(machine, work, shared, state)?;
     part(machine, work, plan.third, state)
 }
 
@@ -152,6 +144,7 @@ fn run_lent<H: Host, D: Disk, L: Launcher>(
         result next
         (⟦<D as Moments<H, L>>⟧.at host.new disk.new launcher.new ram.new) }
     ensures unasked { machine.now.uris.now ≡ [] → host.new ≡ host.old }
+    ensures unfetched { (MayFetch machine.now → ⊥) → host.new ≡ host.old }
 {
     let mut work = lent(host, disk, launcher, ram, pieces);
     started(machine, &mut work)
@@ -169,8 +162,8 @@ fn end_of(ended: Result<(), Stop>) -> PlanEnd
 
 /// Runs a procedure on a device (draft-ietf-suit-manifest-25, section 6.4). It ends as its play on the contents does, and
 /// leaves the contents and makes the launches that its play has. Where a fault comes it ends there, as a play that the
-/// fault cut short. The host is called only where a URI names a file; where none does, it need not tell what it holds. Takes
-/// no memory.
+/// fault cut short. The host is called only where a fetch stands in the procedure and a URI names a file, and is asked for no
+/// other files; where no URI does, it need not tell what it holds. Takes no memory.
 pub fn run_plan<H: Host, D: Disk, L: Launcher>(
     host: &mut H,
     disk: &mut D,
@@ -190,6 +183,11 @@ pub fn run_plan<H: Host, D: Disk, L: Launcher>(
         (counts_of (H.faults host.new) (D.faults disk.new) (L.faults launcher.new)) }
     ensures files { IsTrue H.told → H.file host.new ≡ H.file host.old }
     ensures unasked { world.old.uris.now ≡ [] → host.new ≡ host.old }
+    ensures unfetched { (HasFetch (plan_tree plan.now) → ⊥) → host.new ≡ host.old }
+    ensures asked { IsTrue H.told → (room : ℕ) → StandAtMost world.old.standings.items room
+        → AsksAmong (plan_tree plan.now) world.old.uris.now room
+        (asked_at (H.asked host.old) (H.pulled host.old))
+        (asked_at (H.asked host.new) (H.pulled host.new)) }
     ensures plays { IsTrue H.told ⊎ (world.old.uris.now ≡ []) → IsTrue D.told → IsTrue L.told
         → (payloads : List (List ℕ × List ℕ))
         → HasPayloads world.old.envelope.now.whole.now payloads

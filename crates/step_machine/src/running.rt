@@ -55,9 +55,7 @@ pub(crate) fn sequence<'p, H: Host, D: Disk, L: Launcher>(
     ensures leaves { LeavesWork machine.now work.old work.new }
 {
     for step in sequence.as_slice() {
-        if let Err(stop) = command(machine, work, step, state) {
-            return Err(stop);
-        }
+        command(machine, work, step, state)?;
     }
     Ok(())
 }
@@ -123,9 +121,7 @@ fn each<'p, H: Host, D: Disk, L: Launcher>(
     let selected = state.selected;
     for position in 0..selected.len() {
         let component = selected.at(position);
-        if let Err(stop) = at(machine, work, step, component, state) {
-            return Err(stop);
-        }
+        at(machine, work, step, component, state)?;
     }
     Ok(())
 }

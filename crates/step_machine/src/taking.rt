@@ -34,6 +34,7 @@ fn append_file<H: Host, D: Disk>(
     ensures goes { ⟦<D as Steps>⟧.goes_on
         (FetchCounts result (H.faults host.old) (H.faults host.new)) disk.old disk.new }
     ensures pulls { ⟦<H as Pulls>⟧.pulls capacity host.old host.new }
+    ensures asked { IsTrue H.told → H.asked host.new ≡ H.asked host.old }
     ensures slot { writing.new.slot ≡ writing.old.slot }
     ensures within { writing.new.written ≤ capacity }
     ensures puts { IsTrue D.told → IsTrue H.told → PutsIn result capacity (H.rest host.old)
@@ -75,6 +76,7 @@ fn take_into_slot<H: Host, D: Disk>(
     ensures goes { ⟦<D as Steps>⟧.goes_on
         (FetchCounts result (H.faults host.old) (H.faults host.new)) disk.old disk.new }
     ensures pulls { ⟦<H as Pulls>⟧.pulls slot.capacity host.old host.new }
+    ensures asked { IsTrue H.told → H.asked host.new ≡ H.asked host.old }
 {
     let mut writing = match begin(disk, slot) {
         Ok(writing) => writing,
@@ -104,6 +106,7 @@ fn append_file_in_ram<H: Host>(
     ensures counts { (flash : ℕ)
         → FetchCounts result (H.faults host.old) (H.faults host.new) flash flash }
     ensures pulls { ⟦<H as Pulls>⟧.pulls capacity host.old host.new }
+    ensures asked { IsTrue H.told → H.asked host.new ≡ H.asked host.old }
     ensures ram { ram.new ≡ holding ram.old component (held_by ram.new component).content }
     ensures puts { IsTrue H.told
         → PutsIn result capacity (H.rest host.old) (held_by ram.new component).content }
@@ -138,6 +141,7 @@ fn take_into_ram<H: Host>(
     ensures counts { (flash : ℕ)
         → FetchCounts result (H.faults host.old) (H.faults host.new) flash flash }
     ensures pulls { ⟦<H as Pulls>⟧.pulls capacity host.old host.new }
+    ensures asked { IsTrue H.told → H.asked host.new ≡ H.asked host.old }
 {
     ram.clear(component);
     match append_file_in_ram(host, ram, component, capacity, room) {
@@ -164,6 +168,7 @@ pub(crate) fn take_into<H: Host, D: Disk>(
     ensures goes { ⟦<D as Steps>⟧.goes_on
         (FetchCounts result (H.faults host.old) (H.faults host.new)) disk.old disk.new }
     ensures pulls { ⟦<H as Pulls>⟧.pulls standing.now.capacity host.old host.new }
+    ensures asked { IsTrue H.told → H.asked host.new ≡ H.asked host.old }
     ensures ram { IsRamBut standing.now.spot ram.old ram.new }
     ensures takes { IsTrue D.told → IsTrue H.told
         → TakesIn result standing.now.capacity (H.rest host.old)

@@ -4,7 +4,7 @@ ghost use Rattle.flash_layout.specs.declared.frame.Frame.{Frame};
 ghost use Rattle.flash_layout.specs.Layouts.{IsLayout};
 ghost use Rattle.flash_slots.specs.RamContents.{empty_ram};
 ghost use Rattle.std.specs.Prelude.{◌≡◌, ◌<◌, ℕ, IfOk, length};
-ghost use Rattle.step_machine.specs.Worlds.{AreDistinct, AreStandings, HaveTwo, IsChoice, StandAs, spot_of, standing_of};
+ghost use Rattle.step_machine.specs.Worlds.{AreDistinct, AreStandings, HaveAtMost, HaveTwo, IsChoice, StandAs, StandAtMost, spot_of, standing_of};
 
 use crate::{Spot, Standing, Uris};
 use flash_layout::{Entry, Layout, Memory, Places, Slot};
@@ -111,6 +111,9 @@ impl<'a> World<'a> {
         ensures fit { IfOk result
             (λ world. (frame : Frame) (size : ℕ) → IsLayout frame size layout.now
             → AreStandings size world.ram world.standings.items) }
+        ensures rooms { IfOk result
+            (λ world. (room : ℕ) → HaveAtMost layout.now room
+            → StandAtMost world.standings.items room) }
     {
         let ram = Ram::new(alloc, layout)?;
         let standings = stand(alloc, layout, places, slots)?;

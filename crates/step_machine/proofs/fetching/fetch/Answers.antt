@@ -1,4 +1,4 @@
-use Rattle.std.proofs.Common.{◌≡◌, ◌≢◌, ◌<◌, ℕ, false, Err, sym, ap, subst, ◌∙◌, arith}
+use Rattle.std.proofs.Common.{inl, ◌+◌, refl, List, Option, ◌≡◌, ◌≢◌, ◌<◌, ℕ, false, Err, sym, ap, subst, ◌∙◌, arith}
 use Rattle.std.specs.Prelude.{◌==◌, Result, get_or}
 use Rattle.std.proofs.lemmas.Bool.{eqb-false}
 use Rattle.std.specs.Option.{option_and_then}
@@ -6,7 +6,7 @@ use Rattle.suit_params.specs.InForce.{bytes_of}
 use Rattle.path_model.specs.declared.cause.Cause.{Cause}
 use Rattle.path_model.specs.declared.cause.Cause.TheVariants as causes
 use Rattle.path_model.specs.Settings.{found_under}
-use Rattle.step_machine.specs.Fetching.{FetchCounts}
+use Rattle.step_machine.specs.Fetching.{AsksAtMost, FetchCounts, asked_at}
 use Rattle.step_machine.proofs.FetchPlays.{fetch_named}
 use Rattle.step_machine.proofs.Memory.{ram_same}
 use Rattle.step_machine.proofs.Writing.{when_false, when_true}
@@ -35,3 +35,14 @@ returns-else-is_key-clause-fetches g c t u payloads has =
     let by = when_false (get_or c.in-Some.uri.now 0 0 == 35) (found_under payloads c.in-Some.uri.now) (option_and_then (g.H.Host.file c.args.host.now) (found_under c.args.uris.now c.in-Some.uri.now)) (sym c.is_key.ensures ∙ c.if-is_key.false) in
     fetch_named c.args.standing.now.component c.args.standing.now.capacity c.args.params.now payloads c.args.uris.now (g.H.Host.file c.args.host.now) c.in-Some.uri.now (sym (ap bytes_of c.get.ensures) ∙ sym c.in-Some.ensures) c.fetch_file.result (option_and_then (g.H.Host.file c.args.host.now) (found_under c.args.uris.now c.in-Some.uri.now)) _ _ by
     (λ e. let found = c.fetch_file.ensures.named e in (other_than (get_or c.in-Some.uri.now 0 0) 35 (sym c.is_key.ensures ∙ c.if-is_key.false), found.0, found.1)) (c.fetch_file.ensures.takes t u)
+
+pub returns-in-None-clause-asked : goal.returns-in-None-clause-asked
+returns-in-None-clause-asked g c t = inl (refl, refl)
+
+pub returns-then-is_key-clause-asked : goal.returns-then-is_key-clause-asked
+returns-then-is_key-clause-asked g c t = inl (refl, refl)
+
+pub returns-else-is_key-clause-asked : goal.returns-else-is_key-clause-asked
+returns-else-is_key-clause-asked g c t =
+    subst (λ (o : Option (List ℕ)). AsksAtMost (option_and_then (found_under c.args.uris.now) o) (c.args.standing.now.capacity + 1) (asked_at (g.H.Host.asked c.args.host.now) (g.H.Host.pulled c.args.host.now)) (asked_at (g.H.Host.asked c.fetch_file.new.host) (g.H.Host.pulled c.fetch_file.new.host)))
+    (c.in-Some.ensures ∙ ap bytes_of c.get.ensures) (c.fetch_file.ensures.asked t)

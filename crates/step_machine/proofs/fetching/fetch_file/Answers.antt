@@ -1,6 +1,6 @@
-use Rattle.std.proofs.Common.{⊎_elim, ℕ, List, Option, refl, sym, ap, subst}
+use Rattle.std.proofs.Common.{inl, ◌+◌, ⊎_elim, ℕ, List, Option, refl, sym, ap, subst}
 use Rattle.std.specs.Option.{option_and_then}
-use Rattle.step_machine.specs.Fetching.{TakesNamed}
+use Rattle.step_machine.specs.Fetching.{AsksAtMost, TakesNamed, asked_at}
 use Rattle.step_machine.specs.Spots.{content_of}
 use Rattle.step_machine.proofs.FetchPlays.{none_under}
 use Rattle.step_machine.proofs.Memory.{ram_same}
@@ -23,3 +23,10 @@ returns-in-None-clause-ram g c = ram_same c.args.standing.now.spot c.args.ram.no
 
 pub returns-in-Some-clause-unasked : goal.returns-in-Some-clause-unasked
 returns-in-Some-clause-unasked g c none = absurd (none_under c.args.uris.now c.args.uri.now _ none c.in-Some.ensures)
+
+pub returns-in-Some-clause-asked : goal.returns-in-Some-clause-asked
+returns-in-Some-clause-asked g c t =
+    subst (λ (o : Option (List ℕ)). AsksAtMost o (c.args.standing.now.capacity + 1) (asked_at (g.H.Host.asked c.args.host.now) (g.H.Host.pulled c.args.host.now)) (asked_at (g.H.Host.asked c.fetch_named.new.host) (g.H.Host.pulled c.fetch_named.new.host))) c.in-Some.ensures (c.fetch_named.ensures.asked t)
+
+pub returns-in-None-clause-asked : goal.returns-in-None-clause-asked
+returns-in-None-clause-asked g c t = inl (refl, refl)

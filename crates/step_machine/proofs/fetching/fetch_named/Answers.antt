@@ -1,4 +1,4 @@
-use Rattle.std.proofs.Common.{refl, inl}
+use Rattle.std.proofs.Common.{refl, inl, inr, ⊎_elim, ◌∙◌, arith}
 use Rattle.step_machine.specs.Spots.{content_of}
 use Rattle.step_machine.proofs.Memory.{ram_same}
 use Rattle.step_machine.proofs.TakenFiles.{found_takes}
@@ -14,6 +14,15 @@ returns-in-Absent-clause-takes g c t u = ((c.in-Absent.ensures.starts u).0, refl
 
 pub returns-in-Absent-clause-ram : goal.returns-in-Absent-clause-ram
 returns-in-Absent-clause-ram g c = ram_same c.args.standing.now.spot c.args.ram.now
+
+pub returns-in-Done-clause-asked : goal.returns-in-Done-clause-asked
+returns-in-Done-clause-asked g c t = inr (c.args.name.now, refl, c.take_into.ensures.asked t ∙ c.in-Done.ensures.asked t, omega (arith, c.take_into.ensures.pulls.pulled t, c.start.ensures.pulled t))
+
+pub returns-in-Absent-clause-asked : goal.returns-in-Absent-clause-asked
+returns-in-Absent-clause-asked g c t = inr (c.args.name.now, refl, c.in-Absent.ensures.asked t, omega (arith, c.start.ensures.pulled t))
+
+pub returns-in-Failed-clause-asked : goal.returns-in-Failed-clause-asked
+returns-in-Failed-clause-asked g c t = ⊎_elim (λ same. inl (same, c.start.ensures.pulled t)) (λ asks. inr (c.args.name.now, refl, asks, omega (arith, c.start.ensures.pulled t))) (c.in-Failed.ensures.asked t)
 
 pub returns-in-Failed-clause-takes : goal.returns-in-Failed-clause-takes
 returns-in-Failed-clause-takes g c t u = inl refl

@@ -1,5 +1,6 @@
 use Rattle.std.proofs.Common.{◌≡◌, ◌<◌, ◌≤◌, ◌+◌, ◌∙◌, None, length, refl, sym, ap, subst, true, arith}
 use Rattle.std.specs.List.{AllByRecursion}
+use Rattle.std.proofs.lemmas.Result.{err_from_is_err_and}
 use Rattle.suit_commands.specs.Size.{sequence_size, branches_size}
 use Rattle.suit_commands.specs.Smaller.{step_smaller, branch_smaller}
 use Rattle.suit_commands.specs.Tree.{SequenceTree, BranchesTree}
@@ -60,7 +61,7 @@ each-at-requires g t c κs within =
 
 pub each-loop-position-preserved : goal.each-loop-position-preserved
 each-loop-position-preserved g t c =
-    let done = c.in_default.ensures in
+    let done = c.in_ok-at.ensures in
     record {
       ready = ready_after c.args.machine.now _ _ done.runs.stays c.loop-position.invariant.ready;
       under_way = record {
@@ -68,13 +69,14 @@ each-loop-position-preserved g t c =
         selection = subst (λ (x : Selected). AllByRecursion (λ k. k < length c.args.machine.now.standings.now) (selected_list x)) (sym done.selected) c.loop-position.invariant.under_way.selection;
       };
       same = done.selected ∙ c.loop-position.invariant.same;
-      begun = one_done c.args.machine.now (command_tree c.args.step.now.command) c.args.step.now.place (selected_list c.args.state.now.selected) c.loop-position.position (omega (arith, c.loop-position-test.true, c.len-position-end.ensures)) _ c.at-component.ensures _ _ _ _ _ c.loop-position.invariant.begun (λ told. g.met.D.Disk.obeys c.loop-position.work.disk.now told) _ _ c.in_default.field-0 done.runs;
+      begun = one_done c.args.machine.now (command_tree c.args.step.now.command) c.args.step.now.place (selected_list c.args.state.now.selected) c.loop-position.position (omega (arith, c.loop-position-test.true, c.len-position-end.ensures)) _ c.at-component.ensures _ _ _ _ _ c.loop-position.invariant.begun (λ told. g.met.D.Disk.obeys c.loop-position.work.disk.now told) _ _ c.in_ok-at.field-0 done.runs;
       leaves = leaves_then c.loop-position.invariant.leaves done.leaves;
     }
 
-pub each-returns-in-Err-clause-runs : goal.each-returns-in-Err-clause-runs
-each-returns-in-Err-clause-runs g t c =
-    one_stopped c.args.machine.now (command_tree c.args.step.now.command) c.args.step.now.place (selected_list c.args.state.now.selected) c.loop-position.position (omega (arith, c.loop-position-test.true, c.len-position-end.ensures)) _ c.at-component.ensures _ _ _ _ _ c.loop-position.invariant.begun (λ told. g.met.D.Disk.obeys c.loop-position.work.disk.now told) _ _ c.in-Err.stop c.in-Err.ensures.runs
+pub each-returns-in_err-at-clause-runs : goal.each-returns-in_err-at-clause-runs
+each-returns-in_err-at-clause-runs g t c =
+    let p = err_from_is_err_and c.from_residual.result c.from_residual.ensures.1 in
+    rw (p.1, p.2) (one_stopped c.args.machine.now (command_tree c.args.step.now.command) c.args.step.now.place (selected_list c.args.state.now.selected) c.loop-position.position (omega (arith, c.loop-position-test.true, c.len-position-end.ensures)) _ c.at-component.ensures _ _ _ _ _ c.loop-position.invariant.begun (λ told. g.met.D.Disk.obeys c.loop-position.work.disk.now told) _ _ c.in_err-at.field-0.0 c.in_err-at.ensures.runs)
 
 pub each-returns-clause-runs : goal.each-returns-clause-runs
 each-returns-clause-runs g t c =
@@ -101,7 +103,7 @@ sequence-command-requires g t c κs within =
 pub sequence-loop-step-preserved : goal.sequence-loop-step-preserved
 sequence-loop-step-preserved g t c =
     let inv = c.loop-step.invariant in
-    let done = c.in_default.ensures in
+    let done = c.in_ok-command.ensures in
     let before = selected_list c.loop-step.state.selected in
     let after = selected_list c.command.new.state.selected in
     record {
@@ -112,13 +114,14 @@ sequence-loop-step-preserved g t c =
         selection = step_selects c.args.machine.now (command_tree c.step-item.result.command) before after inv.ready.count (step_allowed c.args.machine.now c.as_slice-step-items.result.now c.loop-step.step-index c.step-item.result c.step-item.result c.loop-step-test.true c.step-item.is before inv.allowed) done.selected inv.under_way.selection;
       };
       allowed = later_allowed c.args.machine.now c.as_slice-step-items.result.now c.loop-step.step-index c.step-item.result c.step-item.result c.loop-step-test.true c.step-item.is before after inv.allowed done.selected;
-      begun = step_done c.args.machine.now c.as_slice-step-items.result.now c.loop-step.step-index c.step-item.result c.step-item.result c.loop-step-test.true c.step-item.is _ _ _ _ _ inv.begun (λ told. g.met.D.Disk.obeys c.loop-step.work.disk.now told) _ _ c.in_default.field-0 done.runs;
+      begun = step_done c.args.machine.now c.as_slice-step-items.result.now c.loop-step.step-index c.step-item.result c.step-item.result c.loop-step-test.true c.step-item.is _ _ _ _ _ inv.begun (λ told. g.met.D.Disk.obeys c.loop-step.work.disk.now told) _ _ c.in_ok-command.field-0 done.runs;
       leaves = leaves_then inv.leaves done.leaves;
     }
 
-pub sequence-returns-in-Err : goal.sequence-returns-in-Err
-sequence-returns-in-Err g t c =
-    record { runs = step_stopped c.args.machine.now c.as_slice-step-items.result.now c.loop-step.step-index c.step-item.result c.step-item.result c.loop-step-test.true c.step-item.is _ _ _ _ _ c.loop-step.invariant.begun (λ told. g.met.D.Disk.obeys c.loop-step.work.disk.now told) _ _ c.in-Err.stop c.in-Err.ensures.runs; leaves = leaves_then c.loop-step.invariant.leaves c.in-Err.ensures.leaves }
+pub sequence-returns-in_err-command : goal.sequence-returns-in_err-command
+sequence-returns-in_err-command g t c =
+    let p = err_from_is_err_and c.from_residual.result c.from_residual.ensures.1 in
+    rw (p.1, p.2) (record { runs = step_stopped c.args.machine.now c.as_slice-step-items.result.now c.loop-step.step-index c.step-item.result c.step-item.result c.loop-step-test.true c.step-item.is _ _ _ _ _ c.loop-step.invariant.begun (λ told. g.met.D.Disk.obeys c.loop-step.work.disk.now told) _ _ c.in_err-command.field-0.0 c.in_err-command.ensures.runs; leaves = leaves_then c.loop-step.invariant.leaves c.in_err-command.ensures.leaves })
 
 pub sequence-returns : goal.sequence-returns
 sequence-returns g t c =
@@ -206,8 +209,8 @@ at-returns-in-Override-clause-leaves g t c = leaves_start _ _
 pub command-returns-in-Index-clause-leaves : goal.command-returns-in-Index-clause-leaves
 command-returns-in-Index-clause-leaves g t c = leaves_start _ _
 
-pub each-returns-in-Err-clause-leaves : goal.each-returns-in-Err-clause-leaves
-each-returns-in-Err-clause-leaves g t c = leaves_then c.loop-position.invariant.leaves c.in-Err.ensures.leaves
+pub each-returns-in_err-at-clause-leaves : goal.each-returns-in_err-at-clause-leaves
+each-returns-in_err-at-clause-leaves g t c = leaves_then c.loop-position.invariant.leaves c.in_err-at.ensures.leaves
 
 pub each-returns-clause-leaves : goal.each-returns-clause-leaves
 each-returns-clause-leaves g t c = c.loop-position.invariant.leaves

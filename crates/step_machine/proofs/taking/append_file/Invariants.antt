@@ -19,6 +19,7 @@ invariant-loop-count g l =
       slot : l.writing.slot ≡ own;
       all : l.writing.written + l.left ≡ l.capacity;
       files : IsTrue h.told → h.file l.host ≡ h.file l.fn.host;
+      asked : IsTrue h.told → h.asked l.host ≡ h.asked l.fn.host;
       pulled : IsTrue h.told → h.pulled l.host ≡ h.pulled l.fn.host + l.writing.written;
       taken : IsTrue h.told → length (h.rest l.fn.host) ≡ l.writing.written + length (h.rest l.host);
       parts : IsTrue d.told → IsTrue h.told → h.rest l.fn.host ≡ pieces_of own l.writing.written (d.flash l.disk).reads ++ h.rest l.host;

@@ -28,6 +28,7 @@ loop-count-preserved g c =
       ram = holding_twice first middle new at held.content more c.requires.component c.loop-count.invariant.ram put ∙ ap (holding first at) (sym content);
       all = omega (arith, one, both, c.in_ok-count.ensures.few, c.loop-count.invariant.all);
       files = λ t. c.next_piece.ensures.files t ∙ c.loop-count.invariant.files t;
+      asked = λ t. c.next_piece.ensures.asked t ∙ c.loop-count.invariant.asked t;
       pulled = λ t. omega (arith, one, both, c.in_ok-count.ensures.pulled t, c.loop-count.invariant.pulled t);
       parts = λ t.
           piece_put (g.H.Host.rest c.args.host.now) (g.H.Host.rest c.loop-count.host) (g.H.Host.rest c.next_piece.new.host) room held.content count (c.in_ok-count.ensures.piece t)

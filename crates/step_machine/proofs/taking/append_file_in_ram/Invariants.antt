@@ -15,6 +15,7 @@ invariant-loop-count g l =
       ram : l.ram ≡ holding l.fn.ram l.component held.content;
       all : length held.content + l.left ≡ l.capacity;
       files : IsTrue h.told → h.file l.host ≡ h.file l.fn.host;
+      asked : IsTrue h.told → h.asked l.host ≡ h.asked l.fn.host;
       pulled : IsTrue h.told → h.pulled l.host ≡ h.pulled l.fn.host + length held.content;
       parts : IsTrue h.told → h.rest l.fn.host ≡ held.content ++ h.rest l.host;
     }
