@@ -2,9 +2,11 @@
 
 ghost use Rattle.flash_layout.specs.Layouts.{IsLayout};
 ghost use Rattle.rollback_record.specs.SoundFlash.{Follows, Settled, Sound};
-ghost use Rattle.std.specs.Prelude.{◌≡◌, ◌≤◌, ◌⊎◌, ℕ, IsTrue, List, length};
+ghost use Rattle.std.specs.Prelude.{◌≡◌, ◌≤◌, ◌⊎◌, [], ℕ, IsTrue, List, length};
+ghost use Rattle.step_machine.specs.Fetching.{AsksAmong, asked_at};
 ghost use Rattle.step_machine.specs.PlanRuns.{counts_of};
-ghost use Rattle.step_machine.specs.Worlds.{AreDistinct};
+ghost use Rattle.step_machine.specs.UrisSet.{HasFetch};
+ghost use Rattle.step_machine.specs.Worlds.{AreDistinct, HaveAtMost};
 ghost use Rattle.suit_commands.specs.Allowed.{IsPlan};
 ghost use Rattle.suit_edge.specs.Flash.{Grows, IsSame, IsSettled, Passes};
 ghost use Rattle.suit_envelope.specs.Payloads.{HasPayloads};
@@ -12,7 +14,7 @@ ghost use Rattle.suit_envelope.specs.Trimmed.{trimmed};
 ghost use Rattle.suit_envelope.specs.WrapperParts.{HasWrapper};
 ghost use Rattle.suit_manifest.specs.Procedures.{update_tree};
 ghost use Rattle.update_proc.specs.Choices.{AreChosen, active_slots};
-ghost use Rattle.update_proc.specs.Ends.{IfUnfaulted, JudgedSo, UpdateCounts};
+ghost use Rattle.update_proc.specs.Ends.{IfUnfaulted, IsUnbegun, JudgedSo, UpdateCounts};
 ghost use Rattle.update_proc.specs.Installing.{HasLayout, MayBeInstalled};
 ghost use Rattle.update_proc.specs.Offered.{ForOffer};
 ghost use Rattle.update_proc.specs.Records.{new_record};
@@ -31,7 +33,8 @@ use suit_manifest::{Manifest, Members, update_plan};
 
 /// Updates a flash (draft-ietf-suit-manifest-25, section 6): the manifest is judged beside the record that the flash
 /// holds, its update procedure is run on the chosen slots, and where that is done the trimmed envelope is written to a bank
-/// and recorded. All memory is taken before anything is launched or written.
+/// and recorded. All memory is taken before anything is launched or written. The host is asked only for files that URIs
+/// name, one for each fetch, and for none where the procedure is not begun.
 pub fn update<H: Host, D: Disk, L: Launcher>(
     alloc: Global,
     host: &mut H,
@@ -61,6 +64,13 @@ pub fn update<H: Host, D: Disk, L: Launcher>(
         (counts_of (H.faults host.old) (D.faults disk.old) (L.faults launcher.old))
         (counts_of (H.faults host.new) (D.faults disk.new) (L.faults launcher.new)) }
     ensures files { IsTrue H.told → H.file host.new ≡ H.file host.old }
+    ensures asked { IsTrue H.told → (room : ℕ) → HaveAtMost layout.now room
+        → AsksAmong (update_tree manifest.now members.now) uris.now room
+        (asked_at (H.asked host.old) (H.pulled host.old))
+        (asked_at (H.asked host.new) (H.pulled host.new)) }
+    ensures unfetched { (HasFetch (update_tree manifest.now members.now) → ⊥)
+        → host.new ≡ host.old }
+    ensures unbegun { IsUnbegun result → host.new ≡ host.old }
     ensures plays { IsTrue H.told → IsTrue D.told → IsTrue L.told
         → ForOffer (D.flash disk.old).reads envelope.now.wrapper.now (λ held digest.
         (payloads : List (List ℕ × List ℕ)) → HasPayloads envelope.now.whole.now payloads
@@ -70,7 +80,7 @@ pub fn update<H: Host, D: Disk, L: Launcher>(
         (L.launches launcher.old) (L.launches launcher.new) end)
         layout.now (D.flash disk.new).reads (L.launches launcher.old) (L.launches launcher.new)
         result) }
-    ensures launches { IsTrue H.told → IsTrue D.told → IsTrue L.told
+    ensures launches { IsTrue H.told ⊎ (uris.now ≡ []) → IsTrue D.told → IsTrue L.told
         → (payloads : List (List ℕ × List ℕ)) → HasPayloads envelope.now.whole.now payloads
         → LaunchesBy (λ held made end. PlaysUpdate layout.now places.now
         (update_tree manifest.now members.now) held

@@ -5,15 +5,17 @@ ghost use Rattle.flash_layout.specs.Layouts.{IsLayout};
 ghost use Rattle.rollback_record.specs.HeadRecord.{IsLoadable, RecordOf};
 ghost use Rattle.rollback_record.specs.Judging.{IsAcceptable};
 ghost use Rattle.rollback_record.specs.SoundFlash.{Follows, Settled, Sound};
-ghost use Rattle.std.specs.Prelude.{◌≡◌, ◌≤◌, ◌⊎◌, ℕ, IfSome, IsTrue, List, length, option_map};
+ghost use Rattle.std.specs.Prelude.{◌≡◌, ◌≤◌, ◌⊎◌, [], ℕ, IfSome, IsTrue, List, length, option_map};
+ghost use Rattle.step_machine.specs.Fetching.{AsksAmong, asked_at};
 ghost use Rattle.step_machine.specs.PlanRuns.{counts_of};
-ghost use Rattle.step_machine.specs.Worlds.{AreDistinct};
+ghost use Rattle.step_machine.specs.UrisSet.{HasFetch};
+ghost use Rattle.step_machine.specs.Worlds.{AreDistinct, HaveAtMost};
 ghost use Rattle.suit_commands.specs.Allowed.{IsPlan};
 ghost use Rattle.suit_commands.specs.Plans.{plan_tree};
 ghost use Rattle.suit_edge.specs.Flash.{Grows, IsSame, IsSettled, Passes};
 ghost use Rattle.suit_envelope.specs.Payloads.{HasPayloads};
 ghost use Rattle.update_proc.specs.Choices.{AreChosen, active_slots};
-ghost use Rattle.update_proc.specs.Ends.{IfUnfaulted, IsStartEnd, UpdateCounts};
+ghost use Rattle.update_proc.specs.Ends.{IfUnfaulted, IsStartEnd, IsUnbegun, UpdateCounts};
 ghost use Rattle.update_proc.specs.Installing.{HasLayout, MayBeInstalled};
 ghost use Rattle.update_proc.specs.Records.{new_record};
 ghost use Rattle.update_proc.specs.Updates.{KeepsUpdate, KeptSo, LeavesUpdate, PlayedSo, PlaysToEnd, PlaysUpdate, sources};
@@ -74,9 +76,15 @@ pub(crate) fn start<H: Host, D: Disk, L: Launcher>(
         (counts_of (H.faults host.old) (D.faults disk.old) (L.faults launcher.old))
         (counts_of (H.faults host.new) (D.faults disk.new) (L.faults launcher.new)) }
     ensures files { IsTrue H.told → H.file host.new ≡ H.file host.old }
+    ensures asked { IsTrue H.told → (room : ℕ) → HaveAtMost layout.now room
+        → AsksAmong (plan_tree plan.now) uris.now room
+        (asked_at (H.asked host.old) (H.pulled host.old))
+        (asked_at (H.asked host.new) (H.pulled host.new)) }
+    ensures unfetched { (HasFetch (plan_tree plan.now) → ⊥) → host.new ≡ host.old }
+    ensures unbegun { IsUnbegun result → host.new ≡ host.old }
     ensures settled { IsTrue D.told → IfUnfaulted result
         (IsSame (D.flash disk.old) (D.flash disk.new) ⊎ IsSettled (D.flash disk.new)) }
-    ensures plays { IsTrue H.told → IsTrue D.told → IsTrue L.told
+    ensures plays { IsTrue H.told ⊎ (uris.now ≡ []) → IsTrue D.told → IsTrue L.told
         → let held = option_map (λ r. r.now) held.entry in
         (payloads : List (List ℕ × List ℕ)) → HasPayloads envelope.now.whole.now payloads
         → PlayedSo (λ made end. PlaysUpdate layout.now places.now (plan_tree plan.now) held

@@ -21,6 +21,9 @@ use Rattle.update_proc.specs.Ends.{JudgedSo, UpdateCounts}
 use Rattle.update_proc.specs.Installing.{MayBeInstalled}
 use Rattle.update_proc.specs.Records.{new_record}
 use Rattle.update_proc.specs.Updates.{KeepsUpdate, KeptSo, LeavesUpdate, PlayedSo, PlaysToEnd, PlaysUpdate, sources}
+use Rattle.step_machine.specs.Fetching.{AsksAmong, asked_at}
+use Rattle.step_machine.specs.UrisSet.{HasFetch}
+use Rattle.step_machine.proofs.Asking.{asks_none}
 use Rattle.update_proc.proofs.Finished.{accepted_judged, launched_by, unbegun_counts, unbegun_kept, unbegun_played, unbegun_settled, unfaulted}
 use Rattle.update_proc.proofs.Reread.{follows_from, for_offer, keeps_from, kept_from, recorded_as, settled_from, sound_from}
 use Rattle.rollback_record.proofs.HeadSince.{follows_now}
@@ -53,7 +56,35 @@ returns-clause-plays g c th t tl =
     for_offer c.record_laws.ensures.answer (g.D.Disk.flash c.args.disk.now).reads c.args.envelope.now.wrapper.now
     (λ held digest. (payloads : List (List ℕ × List ℕ)) → HasPayloads c.args.envelope.now.whole.now payloads → PlayedSo (λ made end. PlaysUpdate c.args.layout.now c.args.places.now (update_tree c.args.manifest.now c.args.members.now) held (sources payloads c.args.uris.now (g.H.Host.file c.args.host.now)) (g.D.Disk.flash c.args.disk.now).reads made (g.L.Launcher.launches c.args.launcher.now) (g.L.Launcher.launches c.start.new.launcher) end) c.args.layout.now (g.D.Disk.flash c.start.new.disk).reads (g.L.Launcher.launches c.args.launcher.now) (g.L.Launcher.launches c.start.new.launcher) c.start.result)
     (held_of c.as_ref-held.result) c.stated_digest-digest.result (recorded_as (head_of VERSION_1 (g.D.Disk.flash c.args.disk.now).reads) c.as_ref-held.result c.in-Ok.held c.as_ref-held.ensures.value (c.in-Ok.ensures.exact t)) c.stated_digest-digest.ensures
-    (λ payloads has. subst (λ (l : List ℕ). PlayedSo (λ made end. PlaysUpdate c.args.layout.now c.args.places.now (update_tree c.args.manifest.now c.args.members.now) (held_of c.as_ref-held.result) (sources payloads c.args.uris.now (g.H.Host.file c.args.host.now)) l made (g.L.Launcher.launches c.args.launcher.now) (g.L.Launcher.launches c.start.new.launcher) end) c.args.layout.now (g.D.Disk.flash c.start.new.disk).reads (g.L.Launcher.launches c.args.launcher.now) (g.L.Launcher.launches c.start.new.launcher) c.start.result) (c.in-Ok.ensures.same t).reads (subst (λ (tree : PlanTree). PlayedSo (λ made end. PlaysUpdate c.args.layout.now c.args.places.now tree (held_of c.as_ref-held.result) (sources payloads c.args.uris.now (g.H.Host.file c.args.host.now)) (g.D.Disk.flash c.load_record.new.disk).reads made (g.L.Launcher.launches c.args.launcher.now) (g.L.Launcher.launches c.start.new.launcher) end) c.args.layout.now (g.D.Disk.flash c.start.new.disk).reads (g.L.Launcher.launches c.args.launcher.now) (g.L.Launcher.launches c.start.new.launcher) c.start.result) c.update_plan-plan.ensures (c.start.ensures.plays th t tl payloads has)))
+    (λ payloads has. subst (λ (l : List ℕ). PlayedSo (λ made end. PlaysUpdate c.args.layout.now c.args.places.now (update_tree c.args.manifest.now c.args.members.now) (held_of c.as_ref-held.result) (sources payloads c.args.uris.now (g.H.Host.file c.args.host.now)) l made (g.L.Launcher.launches c.args.launcher.now) (g.L.Launcher.launches c.start.new.launcher) end) c.args.layout.now (g.D.Disk.flash c.start.new.disk).reads (g.L.Launcher.launches c.args.launcher.now) (g.L.Launcher.launches c.start.new.launcher) c.start.result) (c.in-Ok.ensures.same t).reads (subst (λ (tree : PlanTree). PlayedSo (λ made end. PlaysUpdate c.args.layout.now c.args.places.now tree (held_of c.as_ref-held.result) (sources payloads c.args.uris.now (g.H.Host.file c.args.host.now)) (g.D.Disk.flash c.load_record.new.disk).reads made (g.L.Launcher.launches c.args.launcher.now) (g.L.Launcher.launches c.start.new.launcher) end) c.args.layout.now (g.D.Disk.flash c.start.new.disk).reads (g.L.Launcher.launches c.args.launcher.now) (g.L.Launcher.launches c.start.new.launcher) c.start.result) c.update_plan-plan.ensures (c.start.ensures.plays (inl th) t tl payloads has)))
+
+pub returns-in-Err-clause-asked : goal.returns-in-Err-clause-asked
+returns-in-Err-clause-asked g c t room rooms = asks_none (update_tree c.args.manifest.now c.args.members.now) c.args.uris.now room _
+
+pub returns-in-Err-installable-clause-asked : goal.returns-in-Err-installable-clause-asked
+returns-in-Err-installable-clause-asked g c t room rooms = asks_none (update_tree c.args.manifest.now c.args.members.now) c.args.uris.now room _
+
+pub returns-clause-asked : goal.returns-clause-asked
+returns-clause-asked g c t room rooms =
+    let h = g.H.Host in
+    subst (λ (tree : PlanTree). AsksAmong tree c.args.uris.now room (asked_at (h.asked c.args.host.now) (h.pulled c.args.host.now)) (asked_at (h.asked c.start.new.host) (h.pulled c.start.new.host))) c.update_plan-plan.ensures
+    (c.start.ensures.asked t room rooms)
+
+pub returns-in-Err-clause-unfetched : goal.returns-in-Err-clause-unfetched
+returns-in-Err-clause-unfetched g c none = refl
+
+pub returns-in-Err-installable-clause-unfetched : goal.returns-in-Err-installable-clause-unfetched
+returns-in-Err-installable-clause-unfetched g c none = refl
+
+pub returns-clause-unfetched : goal.returns-clause-unfetched
+returns-clause-unfetched g c none =
+    c.start.ensures.unfetched (subst (λ (tree : PlanTree). HasFetch tree → ⊥) (sym c.update_plan-plan.ensures) none)
+
+pub returns-in-Err-clause-unbegun : goal.returns-in-Err-clause-unbegun
+returns-in-Err-clause-unbegun g c is = refl
+
+pub returns-in-Err-installable-clause-unbegun : goal.returns-in-Err-installable-clause-unbegun
+returns-in-Err-installable-clause-unbegun g c is = refl
 
 pub returns-in-Err-clause-launches : goal.returns-in-Err-clause-launches
 returns-in-Err-clause-launches g c th t tl payloads has = inl refl

@@ -1,5 +1,5 @@
 use Rattle.std.specs.Prelude.{IsTrue}
-use Rattle.std.proofs.Common.{◌≡◌, ◌≤◌, ℕ, List, Bor, Option, Some, inl, inr, option_map, refl, sym, ◌∙◌, subst, arith}
+use Rattle.std.proofs.Common.{◌≡◌, ◌≤◌, ℕ, List, Bor, Option, Some, inl, inr, ⊎_elim, option_map, refl, sym, ◌∙◌, subst, arith}
 use Rattle.suit_commands.specs.Plans.{plan_tree}
 use Rattle.suit_edge.specs.Flash.{IsFlash, IsSame, IsSettled, Now, Passes}
 use Rattle.suit_edge.specs.FlashLaws.{grows_start, grows_then, same_flash, starts}
@@ -11,12 +11,15 @@ use Rattle.flash_layout.specs.Frames.{head_of}
 use Rattle.rollback_record.specs.HeadRecord.{RecordOf}
 use Rattle.rollback_record.specs.SettledLaws.{each_sound}
 use Rattle.rollback_record.specs.SoundFlash.{Follows, Sound}
+use Rattle.step_machine.specs.Fetching.{AsksAmong, asked_at}
 use Rattle.step_machine.specs.declared.plan_end.PlanEnd.{PlanEnd}
 use Rattle.step_machine.specs.declared.plan_end.PlanEnd.TheVariants as plays
 use Rattle.update_proc.specs.declared.update_end.UpdateEnd.{UpdateEnd}
 use Rattle.update_proc.specs.Choices.{active_slots}
+use Rattle.update_proc.specs.Ends.{IsUnbegun}
 use Rattle.update_proc.specs.Records.{new_record}
 use Rattle.update_proc.specs.Updates.{KeepsUpdate, KeptSo, LeavesUpdate, PlayedSo, PlaysToEnd, PlaysUpdate, sources}
+use Rattle.step_machine.proofs.Asking.{asks_none}
 use Rattle.update_proc.proofs.Finished.{after, counts_after, held_as, installed_as, no_earlier, not_worn, plays_update, reads_same, starts_after, stopped_at, stopped_by, stopped_or_done, told_at, told_by, unfaulted}
 use Rattle.update_proc.proofs.InUseSlots.{chosen_as, in_use_as_held}
 use Rattle.update_proc.proofs.Installs.{held_or_same}
@@ -51,6 +54,29 @@ returns-in-Err-clause-counts g c = refl
 
 pub returns-in-Err-clause-files : goal.returns-in-Err-clause-files
 returns-in-Err-clause-files g c t = refl
+
+pub returns-in-Err-clause-asked : goal.returns-in-Err-clause-asked
+returns-in-Err-clause-asked g c t room rooms = asks_none (plan_tree c.args.plan.now) c.args.uris.now room _
+
+pub returns-clause-asked : goal.returns-clause-asked
+returns-clause-asked g c t room rooms =
+    let h = g.H.Host in
+    subst (λ (words : List (List ℕ × List ℕ)). AsksAmong (plan_tree c.args.plan.now) words room (asked_at (h.asked c.args.host.now) (h.pulled c.args.host.now)) (asked_at (h.asked c.run_plan-end.new.host) (h.pulled c.run_plan-end.new.host)))
+    c.in-Ok.ensures.uris (c.run_plan-end.ensures.asked t room (c.in-Ok.ensures.rooms room rooms))
+
+pub returns-in-Err-clause-unfetched : goal.returns-in-Err-clause-unfetched
+returns-in-Err-clause-unfetched g c none = refl
+
+pub returns-clause-unfetched : goal.returns-clause-unfetched
+returns-clause-unfetched g c none = c.run_plan-end.ensures.unfetched none
+
+pub returns-in-Err-clause-unbegun : goal.returns-in-Err-clause-unbegun
+returns-in-Err-clause-unbegun g c is = refl
+
+pub returns-clause-unbegun : goal.returns-clause-unbegun
+returns-clause-unbegun g c =
+    after c.run_plan-end.result c.finish.result _ _ c.finish.ensures.answer (λ answer. IsUnbegun answer → c.run_plan-end.new.host ≡ c.args.host.now)
+    (λ r same ended never. absurd never) (λ place same ended never. absurd never) (λ place cause same ended never. absurd never) (λ whole never. absurd never)
 
 pub returns-in-Err-clause-plays : goal.returns-in-Err-clause-plays
 returns-in-Err-clause-plays g c th td tl payloads has = refl
@@ -208,7 +234,7 @@ returns-clause-plays g c th t tl payloads has =
     let law_d = (subst (λ (n : ℕ). IsFlash (g.D.Disk.flash c.finish.new.disk) n) (c.finish.ensures.size ∙ c.run_plan-end.ensures.size) (g.met.D.Disk.obeys c.finish.new.disk t)) in
     let Plays : List ℕ → PlanEnd → Type 0 = λ made end. PlaysUpdate c.args.layout.now c.args.places.now (plan_tree c.args.plan.now) (held_of c.args.held) (sources payloads c.args.uris.now (g.H.Host.file c.args.host.now)) (g.D.Disk.flash c.args.disk.now).reads made (g.L.Launcher.launches c.args.launcher.now) (g.L.Launcher.launches c.run_plan-end.new.launcher) end in
     let play : Plays (g.D.Disk.flash c.run_plan-end.new.disk).reads c.run_plan-end.result = plays_update c.args.layout.now c.args.places.now (plan_tree c.args.plan.now) (held_of c.args.held) payloads c.in-Ok.world.uris.now c.args.uris.now (g.H.Host.file c.args.host.now) (g.D.Disk.flash c.args.disk.now).reads (g.D.Disk.flash c.run_plan-end.new.disk).reads (g.L.Launcher.launches c.args.launcher.now) (g.L.Launcher.launches c.run_plan-end.new.launcher) c.run_plan-end.result c.choose_slots-slots.result.number c.in-Ok.world.standings.items c.in-Ok.world.ram c.run_plan-end.new.world.ram chosen c.choose_slots-slots.ensures.choice c.in-Ok.ensures.stand c.in-Ok.ensures.ram c.in-Ok.ensures.uris
-    (c.run_plan-end.ensures.plays (inl th) t tl payloads (subst (λ (e : Envelope). HasPayloads e.whole.now payloads) (sym c.in-Ok.ensures.envelope) has)) in
+    (c.run_plan-end.ensures.plays (⊎_elim (λ told. inl told) (λ none. inr (c.in-Ok.ensures.uris ∙ none)) th) t tl payloads (subst (λ (e : Envelope). HasPayloads e.whole.now payloads) (sym c.in-Ok.ensures.envelope) has)) in
     after c.run_plan-end.result c.finish.result _ _ c.finish.ensures.answer
     (λ answer. PlayedSo Plays c.args.layout.now (g.D.Disk.flash c.finish.new.disk).reads (g.L.Launcher.launches c.args.launcher.now) (g.L.Launcher.launches c.run_plan-end.new.launcher) answer)
     (λ r same ended. record { made = (g.D.Disk.flash c.run_plan-end.new.disk).reads; plays = subst (Plays (g.D.Disk.flash c.run_plan-end.new.disk).reads) ended play; left = behind (g.D.Disk.extent c.args.disk.now) c.args.layout.now c.requires.layout (c.requires.config t).1.typed.entries (g.D.Disk.flash c.run_plan-end.new.disk).reads (g.D.Disk.flash c.finish.new.disk).reads law_b.fits (c.finish.ensures.behind t) })
