@@ -135,9 +135,9 @@ finished slot n old image fits few inside wrote =
     content_at slot image n (number_at_start image slot.start n old fits (omega (arith, inside)) wrote) few
     ∙ same_range image old (slot.start + 8) (slot.start + 8 + n) size (omega (arith, size, inside, few)) (λ i low high. ap (λ (l : List ℕ). get_or l i 0) wrote ∙ same.same i (inr low))
 
--- the content stays where neither the length nor what it tells of changes: an empty slot stays empty while pieces are put
-pub still_empty : (slot : Slot) (old image : List ℕ) (m n : ℕ) → LiesWithin (length old) slot → SameOn (Outside (slot.start + 8 + m) n) old image → slot_content slot old ≡ [] → slot_content slot image ≡ []
-still_empty slot old image m n inside same empty =
+-- an empty slot stays empty where its length stays
+pub empty_stays : (slot : Slot) (old image : List ℕ) → LiesWithin (length old) slot → length image ≡ length old → ((i : ℕ) → i < slot.start + 8 → slot.start ≤ i → get_or image i 0 ≡ get_or old i 0) → slot_content slot old ≡ [] → slot_content slot image ≡ []
+empty_stays slot old image inside size same empty =
     ⊎_elim
     (λ large. content_none slot image stored is large)
     (λ fits. content_at slot image stored is fits ∙ ap (λ (k : ℕ). slice_range image (slot.start + 8) (slot.start + 8 + k)) (zero_of fits) ∙ ap (λ (k : ℕ). take k (drop (slot.start + 8) image)) none)
@@ -150,11 +150,16 @@ still_empty slot old image m n inside same empty =
     none = omega arith
 
     is : stored ≡ from_be_bytes w64 (slice_range image slot.start (slot.start + 8))
-    is = ap (from_be_bytes w64) (sym (same_range image old slot.start (slot.start + 8) same.size (omega (arith, same.size, inside)) (λ i low high. same.same i (inl (omega (arith, high))))))
+    is = ap (from_be_bytes w64) (sym (same_range image old slot.start (slot.start + 8) size (omega (arith, size, inside)) (λ i low high. same i high low)))
 
     zero_of : stored ≤ slot.capacity → stored ≡ 0
     zero_of fits =
         omega (arith, ap length (content_at slot old stored refl fits), ap length empty, length-between old (slot.start + 8) (slot.start + 8 + stored) (omega (arith, inside, fits)))
+
+-- while pieces are put
+pub still_empty : (slot : Slot) (old image : List ℕ) (m n : ℕ) → LiesWithin (length old) slot → SameOn (Outside (slot.start + 8 + m) n) old image → slot_content slot old ≡ [] → slot_content slot image ≡ []
+still_empty slot old image m n inside same empty =
+    empty_stays slot old image inside same.size (λ i high low. same.same i (inl (omega (arith, high)))) empty
 
 -- a piece behind those before it
 pub put_piece : (slot : Slot) (m : ℕ) (piece old image : List ℕ) → slot.start + 8 + m + length piece ≤ length old → image ≡ written old (slot.start + 8 + m) piece → pieces_of slot (m + length piece) image ≡ pieces_of slot m old ++ piece

@@ -1,9 +1,8 @@
 -- Reading a slot's content, and the content after a write.
-use Rattle.std.specs.Prelude.{◌≡◌, ◌⊎◌, ◌<◌, ◌≤◌, ◌+◌, ◌-◌, ℕ, min, List, [], ◌++◌, length, take, drop, slice_range, Result, Ok, Err, MatchResult}
+use Rattle.std.specs.Prelude.{◌≡◌, ◌⊎◌, ◌<◌, ◌≤◌, ◌+◌, ◌-◌, ℕ, min, List, [], ◌++◌, length, take, drop, slice_range, Result, Ok, Err}
 use Rattle.suit_edge.specs.Faults.{Faulted}
 use Rattle.suit_edge.specs.Flash.{Flash, Now}
 use Rattle.flash_layout.specs.declared.frame.TheConstants.{LENGTH_SIZE}
-use Rattle.flash_layout.specs.declared.slot.FlashFault.{FlashFault}
 pub use Rattle.flash_layout.specs.FaultCounts.{ResultCounts}
 use Rattle.flash_layout.specs.declared.slot.Slot.{Slot}
 use Rattle.flash_layout.specs.Slots.{slot_content}

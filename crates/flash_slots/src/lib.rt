@@ -11,8 +11,8 @@ mod writing;
 
 pub use area::TooLarge;
 pub use law::ram_laws;
-pub use overwriting::{overwrite, set_length};
-pub use passing::{digest, same_content};
+pub use overwriting::{overwrite, put_length};
+pub use passing::{digest_some, same_content};
 pub use ram::Ram;
 pub use reading::{length, read, read_some};
 pub use writing::{AppendFault, Writing, begin};

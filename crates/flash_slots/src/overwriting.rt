@@ -1,17 +1,16 @@
-//! Changing a content in place: pieces over the room for it, and then its length.
+//! Changing a content in place: pieces over the room for it, and its length.
 
 ghost use Rattle.flash_layout.specs.Slots.{LiesWithin, slot_content};
 ghost use Rattle.flash_slots.specs.Contents.{ResultCounts, area_of, pieces_of};
 ghost use Rattle.std.specs.Prelude.{◌≡◌, ◌≤◌, ◌+◌, OnOk, IsTrue, length};
-ghost use Rattle.suit_edge.specs.Flash.{Grows, IsSettled, Keeps};
+ghost use Rattle.suit_edge.specs.Flash.{Grows, Keeps};
 ghost use Rattle.suit_edge.specs.Ranges.{Outside, written};
 
-use crate::Writing;
 use flash_layout::{FlashFault, LENGTH_SIZE, Slot};
 use suit_edge::{Disk, Edge};
 
 /// Writes a piece over the room for the content, from one of its bytes on, whatever the content's length. It is durable
-/// only after `set_length`. If it fails, the piece's bytes are any.
+/// only after a sync. If it fails, the piece's bytes are any.
 pub fn overwrite<D: Disk>(
     disk: &mut D,
     slot: Slot,
@@ -39,9 +38,9 @@ pub fn overwrite<D: Disk>(
     }
 }
 
-/// Syncs all pieces, and then makes the first bytes of the room the content, and syncs it. If it fails, the slot holds
-/// any content.
-pub fn set_length<D: Disk>(disk: &mut D, slot: Slot, size: u64) -> Result<(), FlashFault>
+/// Stores a length, which makes the first bytes of the room the content. It is durable only after a sync. If it fails,
+/// the slot holds any content.
+pub fn put_length<D: Disk>(disk: &mut D, slot: Slot, size: u64) -> Result<(), FlashFault>
     requires slot { LiesWithin (D.extent disk.old) slot }
     requires within { size ≤ slot.capacity }
     ensures size { D.extent disk.new ≡ D.extent disk.old }
@@ -50,11 +49,12 @@ pub fn set_length<D: Disk>(disk: &mut D, slot: Slot, size: u64) -> Result<(), Fl
         → OnOk result
         (slot_content slot (D.flash disk.new).reads
         ≡ pieces_of slot size (D.flash disk.old).reads) }
-    ensures settled { IsTrue D.told → OnOk result (IsSettled (D.flash disk.new)) }
     ensures keeps { IsTrue D.told
         → Keeps (Outside slot.start LENGTH_SIZE) (D.flash disk.old) (D.flash disk.new) }
     ensures grows { IsTrue D.told → Grows (D.flash disk.old) (D.flash disk.new) }
 {
-    let writing = Writing::of(slot, size);
-    writing.finish(disk)
+    match disk.write_at(slot.start, &size.to_be_bytes()) {
+        Edge::Failed => Err(FlashFault),
+        Edge::Done => Ok(()),
+    }
 }

@@ -1,9 +1,9 @@
 //! Passing over a slot's content in parts.
 
 ghost use Rattle.flash_layout.specs.Slots.{LiesWithin, slot_content};
-ghost use Rattle.flash_slots.specs.Contents.{ResultCounts};
+ghost use Rattle.flash_slots.specs.Contents.{ResultCounts, pieces_of};
 ghost use Rattle.sha2.specs.Sha256.{sha256};
-ghost use Rattle.std.specs.Prelude.{◌≡◌, ◌↔◌, ◌<◌, IfOk, IsTrue, length};
+ghost use Rattle.std.specs.Prelude.{◌≡◌, ◌↔◌, ◌<◌, ◌≤◌, IfOk, IsTrue, length};
 ghost use Rattle.suit_edge.specs.Flash.{Grows, IsSame};
 
 use crate::reading::{length, read_some};
@@ -12,28 +12,27 @@ use lane_bytes::same;
 use sha2::{Digest as _, Sha256};
 use suit_edge::Disk;
 
-/// The SHA-256 of the content, which is read through the room.
-pub fn digest<D: Disk>(disk: &mut D, slot: Slot, room: &mut [u8]) -> Result<[u8; 32], FlashFault>
+/// The SHA-256 of so many of the first bytes of the room for the content, which are read through the other room.
+pub fn digest_some<D: Disk>(
+    disk: &mut D,
+    slot: Slot,
+    size: u64,
+    room: &mut [u8],
+) -> Result<[u8; 32], FlashFault>
     requires slot { LiesWithin (D.extent disk.old) slot }
+    requires few { size ≤ slot.capacity }
     requires room { 0 < length room.old }
     ensures size { D.extent disk.new ≡ D.extent disk.old }
     ensures counts { ResultCounts result (D.faults disk.old) (D.faults disk.new) }
     ensures exact { IsTrue D.told
-        → IfOk result (λ d. d ≡ sha256 (slot_content slot (D.flash disk.old).reads)) }
+        → IfOk result (λ d. d ≡ sha256 (pieces_of slot size (D.flash disk.old).reads)) }
     ensures same { IsTrue D.told → IsSame (D.flash disk.old) (D.flash disk.new) }
     ensures grows { IsTrue D.told → Grows (D.flash disk.old) (D.flash disk.new) }
 {
-    let size = match length(disk, slot) {
-        Ok(size) => size,
-        Err(FlashFault) => return Err(FlashFault),
-    };
     let mut hasher = Sha256::new();
     let mut from: u64 = 0;
     while from < size {
-        let count = match read_some(disk, slot, size, from, room) {
-            Ok(count) => count,
-            Err(FlashFault) => return Err(FlashFault),
-        };
+        let count = read_some(disk, slot, size, from, room)?;
         hasher.update(&room[..count]);
         from += count as u64;
     }
@@ -57,19 +56,13 @@ pub fn same_content<D: Disk>(
     ensures same { IsTrue D.told → IsSame (D.flash disk.old) (D.flash disk.new) }
     ensures grows { IsTrue D.told → Grows (D.flash disk.old) (D.flash disk.new) }
 {
-    let size = match length(disk, slot) {
-        Ok(size) => size,
-        Err(FlashFault) => return Err(FlashFault),
-    };
+    let size = length(disk, slot)?;
     if size != bytes.len() as u64 {
         return Ok(false);
     }
     let mut from: usize = 0;
     while from < bytes.len() {
-        let count = match read_some(disk, slot, size, from as u64, room) {
-            Ok(count) => count,
-            Err(FlashFault) => return Err(FlashFault),
-        };
+        let count = read_some(disk, slot, size, from as u64, room)?;
         if !same(&room[..count], &bytes[from..from + count]) {
             return Ok(false);
         }

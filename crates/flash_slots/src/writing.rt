@@ -45,14 +45,6 @@ pub fn begin<D: Disk>(disk: &mut D, slot: Slot) -> Result<Writing, FlashFault>
 }
 
 impl Writing {
-    // A slot whose first bytes of the room for its content are put.
-    pub(crate) fn of(slot: Slot, written: u64) -> Writing
-        ensures slot { result.slot ≡ slot }
-        ensures written { result.written ≡ written }
-    {
-        Writing { slot, written }
-    }
-
     /// Appends a piece. It is durable only after `finish`.
     pub fn append<D: Disk>(&mut self, disk: &mut D, piece: &[u8]) -> Result<(), AppendFault>
         requires slot { LiesWithin (D.extent disk.old) self.old.slot }

@@ -31,5 +31,6 @@ pub mod Standings
 pub mod Turns
 pub mod Directing
 pub mod Reading
+pub mod Replaced
 pub mod Counting
 mod Leaving

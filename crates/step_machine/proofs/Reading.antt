@@ -1,5 +1,5 @@
 -- Flash after reads, and after writes at one or two components.
-use Rattle.std.proofs.Common.{◌≡◌, ◌≢◌, ◌≤◌, ◌<◌, ◌⊎◌, ◌∙◌, ◌+◌, ℕ, List, Err, length, refl, ap, sym, subst}
+use Rattle.std.proofs.Common.{◌≡◌, ◌≢◌, ◌≤◌, ◌<◌, ◌⊎◌, ◌∙◌, ◌+◌, ℕ, List, Err, length, ap, sym, subst, arith}
 use Rattle.suit_edge.specs.Flash.{Flash, IsFlash, IsSame, Keeps}
 use Rattle.suit_edge.specs.FlashLaws.{keeps_fewer, keeps_same, keeps_then}
 use Rattle.suit_edge.specs.Ranges.{Outside}
@@ -8,12 +8,12 @@ use Rattle.flash_slots.specs.RamContents.{Held}
 use Rattle.path_model.specs.declared.cause.Cause.TheVariants as causes
 use Rattle.step_machine.specs.declared.spot.Spot.{Spot}
 use Rattle.step_machine.specs.declared.spot.Spot.TheVariants as spots
-use Rattle.step_machine.specs.Areas.{size_at}
+use Rattle.step_machine.specs.Areas.{OutsideRoom, size_at}
 use Rattle.step_machine.specs.declared.spot.Standing.{Standing}
-use Rattle.step_machine.specs.Copying.{CopiesAs, OutsideBoth, SwapsAs, side_of}
+use Rattle.step_machine.specs.Copying.{CopiesAs, SwapsAs, side_of}
 use Rattle.step_machine.specs.Spots.{IsRamBut, IsSpot, OutsideSpot, content_of}
 use Rattle.step_machine.specs.Devices.{AreSpotsClear}
-use Rattle.step_machine.proofs.Ranging.{piece_put_there}
+use Rattle.step_machine.proofs.Ranging.{keeps_wider}
 use Rattle.step_machine.proofs.Lifting.{kept_content}
 use Rattle.step_machine.proofs.CopyPlays.{copy_cut}
 use Rattle.step_machine.proofs.SwapPlays.{swap_cut, swap_large}
@@ -29,23 +29,25 @@ two_reads K a b c n law one other = read_then K a b c n law one (keeps_same K b 
 pub two_reads_then : (K : ℕ → Type 0) (a b c d : Flash) (m n : ℕ) → IsFlash b m → IsFlash c n → IsSame a b → IsSame b c → Keeps K c d → Keeps K a d
 two_reads_then K a b c d m n law other_law one other kept = read_then K a b d m law one (read_then K b c d n other_law other kept)
 
-module _ (one other : Spot) (a b c : Flash) (n : ℕ) (law : IsFlash b n) (before : Keeps (OutsideBoth one other) a b) where
-  pub first_written : Keeps (OutsideSpot one) b c → Keeps (OutsideBoth one other) a c
+-- two parts were written, one after the other
+module _ (K L : ℕ → Type 0) (a b c : Flash) (n : ℕ) (law : IsFlash b n) (before : Keeps (λ i. K i × L i) a b) where
+  pub first_written : Keeps K b c → Keeps (λ i. K i × L i) a c
   first_written kept =
-      keeps_then (OutsideBoth one other) a b c n law before (keeps_fewer (OutsideBoth one other) (OutsideSpot one) (λ i k. k.0) b c kept)
+      keeps_then (λ i. K i × L i) a b c n law before (keeps_fewer (λ i. K i × L i) K (λ i k. k.0) b c kept)
 
-  pub second_written : Keeps (OutsideSpot other) b c → Keeps (OutsideBoth one other) a c
+  pub second_written : Keeps L b c → Keeps (λ i. K i × L i) a c
   second_written kept =
-      keeps_then (OutsideBoth one other) a b c n law before (keeps_fewer (OutsideBoth one other) (OutsideSpot other) (λ i k. k.1) b c kept)
+      keeps_then (λ i. K i × L i) a b c n law before (keeps_fewer (λ i. K i × L i) L (λ i k. k.1) b c kept)
 
-pub both_written : (one other : Spot) (a b c d : Flash) (m n : ℕ) → IsFlash b m → IsFlash c n → Keeps (OutsideBoth one other) a b → Keeps (OutsideSpot one) b c → Keeps (OutsideSpot other) c d → Keeps (OutsideBoth one other) a d
-both_written one other a b c d m n law other_law before first second =
-    second_written one other a c d n other_law (first_written one other a b c m law before first) second
+pub both_written : (K L : ℕ → Type 0) (a b c d : Flash) (m n : ℕ) → IsFlash b m → IsFlash c n → Keeps (λ i. K i × L i) a b → Keeps K b c → Keeps L c d → Keeps (λ i. K i × L i) a d
+both_written K L a b c d m n law other_law before first second =
+    second_written K L a c d n other_law (first_written K L a b c m law before first) second
 
 -- a piece of a slot was written
-pub piece_kept : (spot : Spot) (slot : Slot) (ram : List Held) (f g : Flash) (from n : ℕ) → spot ≡ spots.Flash slot → from + n ≤ size_at spot ram → Keeps (Outside (slot.start + 8 + from) n) f g → Keeps (OutsideSpot spot) f g
+pub piece_kept : (spot : Spot) (slot : Slot) (ram : List Held) (f g : Flash) (from n : ℕ) → spot ≡ spots.Flash slot → from + n ≤ size_at spot ram → Keeps (Outside (slot.start + 8 + from) n) f g → Keeps (OutsideRoom spot) f g
 piece_kept spot slot ram f g from n is within kept =
-    subst (λ (x : Spot). Keeps (OutsideSpot x) f g) (sym is) (piece_put_there slot slot f g from n refl (subst (λ (x : Spot). from + n ≤ size_at x ram) is within) kept)
+    let few : from + n ≤ slot.capacity = subst (λ (x : Spot). from + n ≤ size_at x ram) is within in
+    subst (λ (x : Spot). Keeps (OutsideRoom x) f g) (sym is) (keeps_wider (slot.start + 8) slot.capacity (slot.start + 8 + from) n (omega arith) (omega (arith, few)) f g kept)
 
 -- a read, and then another content changes
 pub source_stays : (standing source : Spot) (ram after : List Held) (first : List ℕ) (f g : Flash) (size : ℕ) → AreSpotsClear standing source → IsSpot size ram source → f.reads ≡ first → length f.reads ≡ size → IsRamBut standing ram after → Keeps (OutsideSpot standing) f g

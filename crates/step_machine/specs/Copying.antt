@@ -9,6 +9,7 @@ use Rattle.path_model.specs.Settings.{Setting, capacity_of}
 use Rattle.path_model.specs.DevicePlays.{Device, content_at, with_content, directive_play}
 use Rattle.flash_slots.specs.RamContents.{Held}
 use Rattle.step_machine.specs.declared.spot.Spot.{Spot}
+use Rattle.step_machine.specs.Areas.{OutsideLength, OutsideRoom}
 use Rattle.step_machine.specs.Spots.{IsRamBut, IsSpot, OutsideSpot}
 use Rattle.step_machine.specs.Devices.{AreSpotsClear}
 use Rattle.step_machine.specs.Directives.{ActsSo}
@@ -68,6 +69,14 @@ pub record IsPair (size : ℕ) (ram : List Held) (a b : Spot) : Type 0 where
 -- all of the flash but two slots
 abbrev pub OutsideBoth : Spot → Spot → ℕ → Type 0
 OutsideBoth one other i = OutsideSpot one i × OutsideSpot other i
+
+-- all of the flash but two rooms
+abbrev pub OutsideRooms : Spot → Spot → ℕ → Type 0
+OutsideRooms one other i = OutsideRoom one i × OutsideRoom other i
+
+-- all of the flash but two stored lengths
+abbrev pub OutsideLengths : Spot → Spot → ℕ → Type 0
+OutsideLengths one other i = OutsideLength one i × OutsideLength other i
 
 -- all of the memory but two components
 abbrev pub IsRamButBoth : Spot → Spot → List Held → List Held → Type 0

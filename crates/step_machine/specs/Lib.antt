@@ -18,3 +18,4 @@ pub mod Parts
 pub mod Overriding
 pub mod Areas
 pub mod InUse
+pub mod Replacing

@@ -2,7 +2,7 @@
 
 ghost use Rattle.flash_slots.specs.Contents.{ResultCounts};
 ghost use Rattle.path_model.specs.DevicePlays.{fits_size, is_image, same_identifier, same_number};
-ghost use Rattle.std.specs.Prelude.{◌≡◌, ◌<◌, IfErr, IfOk, IsTrue, Some, length};
+ghost use Rattle.std.specs.Prelude.{◌≡◌, ◌<◌, ℕ, IfErr, IfOk, IsTrue, List, Some, length};
 ghost use Rattle.std.specs.Str.{bytes_eq};
 ghost use Rattle.step_machine.specs.Conditions.{CutsPlay, PassesAs};
 ghost use Rattle.step_machine.specs.Holding.{Looks, holds};
@@ -46,7 +46,17 @@ fn is_digest(found: &[u8; 32], digest: &Digest) -> bool
     *found == digest.bytes
 }
 
-// Whether the content has the digest, and the size where there is one.
+// Whether a content of so many bytes has the size, where there is one.
+fn has_size(count: u64, size: Option<u64>) -> bool
+    ensures { (content : List ℕ) → count ≡ length content → result ≡ fits_size size content }
+{
+    match size {
+        None => true,
+        Some(size) => count == size,
+    }
+}
+
+// Whether the content has the size, where there is one, and the digest. A content of another size is not read.
 fn has_image<D: Disk>(
     disk: &mut D,
     ram: &Ram,
@@ -62,20 +72,12 @@ fn has_image<D: Disk>(
         → IfOk result
         (λ has. has ≡ is_image digest size (content_of spot ram.now (D.flash disk.old).reads)) }
 {
-    let found = match digest_at(disk, ram, spot, room) {
-        Ok(found) => found,
-        Err(FlashFault) => return Err(FlashFault),
-    };
-    if !is_digest(&found, &digest) {
+    let count = length_at(disk, ram, spot)?;
+    if !has_size(count, size) {
         return Ok(false);
     }
-    match size {
-        None => Ok(true),
-        Some(size) => match length_at(disk, ram, spot) {
-            Ok(length) => Ok(length == size),
-            Err(FlashFault) => Err(FlashFault),
-        },
-    }
+    let found = digest_at(disk, ram, spot, count, room)?;
+    Ok(is_digest(&found, &digest))
 }
 
 // Whether the condition holds. The content is read through the room, if at all.
@@ -116,18 +118,12 @@ fn holds_at<D: Disk>(
             None => Ok(false),
             Some(digest) => {
                 let size = number(params.get(component, ParamKey::Size));
-                match has_image(disk, ram, standing.spot, digest, size, room) {
-                    Ok(has) => Ok(has),
-                    Err(FlashFault) => Err(FlashFault),
-                }
+                has_image(disk, ram, standing.spot, digest, size, room)
             }
         },
         TestKind::CheckContent => match bytes(params.get(component, ParamKey::Content)) {
             None => Ok(false),
-            Some(wanted) => match same_at(disk, ram, standing.spot, wanted, room) {
-                Ok(same) => Ok(same),
-                Err(FlashFault) => Err(FlashFault),
-            },
+            Some(wanted) => same_at(disk, ram, standing.spot, wanted, room),
         },
         TestKind::Abort => Ok(false),
     }
@@ -156,8 +152,5 @@ pub fn passes<D: Disk>(
     ensures same { IsTrue D.told → IsSame (D.flash disk.old) (D.flash disk.new) }
     ensures grows { IsTrue D.told → Grows (D.flash disk.old) (D.flash disk.new) }
 {
-    match holds_at(disk, ram, kind, standing, params, room) {
-        Ok(holds) => Ok(holds),
-        Err(FlashFault) => Err(FlashFault),
-    }
+    holds_at(disk, ram, kind, standing, params, room)
 }

@@ -2,15 +2,15 @@
 
 ghost use Rattle.flash_slots.specs.Contents.{ResultCounts};
 ghost use Rattle.sha2.specs.Sha256.{sha256};
-ghost use Rattle.std.specs.Prelude.{◌≡◌, ◌<◌, ◌≤◌, IfOk, IsTrue, length};
+ghost use Rattle.std.specs.Prelude.{◌≡◌, ◌<◌, ◌≤◌, IfOk, IsTrue, length, take};
 ghost use Rattle.std.specs.Str.{bytes_eq};
-ghost use Rattle.step_machine.specs.Areas.{size_at};
+ghost use Rattle.step_machine.specs.Areas.{area_at, size_at};
 ghost use Rattle.step_machine.specs.Spots.{IsSpot, content_of, room_at};
 
 use crate::Spot;
 use crate::outside::Steps;
 use flash_layout::FlashFault;
-use flash_slots::{Ram, digest, length, same_content};
+use flash_slots::{Ram, digest_some, length, same_content};
 use lane_bytes::same;
 use sha2::{Digest as _, Sha256};
 use suit_edge::Disk;
@@ -23,25 +23,27 @@ fn digest_of(bytes: &[u8]) -> [u8; 32]
     hasher.finalize()
 }
 
-// The SHA-256 of a content.
+// The SHA-256 of so many of the first bytes of a room.
 pub(crate) fn digest_at<D: Disk>(
     disk: &mut D,
     ram: &Ram,
     spot: Spot,
+    size: u64,
     room: &mut [u8],
 ) -> Result<[u8; 32], FlashFault>
     requires spot { IsSpot (D.extent disk.old) ram.now spot }
+    requires area { size ≤ size_at spot ram.now }
     requires room { 0 < length room.old }
     ensures read { ⟦<D as Steps>⟧.only_reads (ResultCounts result) disk.old disk.new }
-    ensures exact { IsTrue D.told
-        → IfOk result (λ d. d ≡ sha256 (content_of spot ram.now (D.flash disk.old).reads)) }
+    ensures exact { IsTrue D.told → IfOk result
+        (λ d. d ≡ sha256 (take size (area_at spot ram.now (D.flash disk.old).reads))) }
 {
     match spot {
-        Spot::Flash(slot) => match digest(disk, slot, room) {
-            Ok(found) => Ok(found),
-            Err(FlashFault) => Err(FlashFault),
-        },
-        Spot::Ram(component) => Ok(digest_of(ram.content(component))),
+        Spot::Flash(slot) => digest_some(disk, slot, size, room),
+        Spot::Ram(component) => {
+            let content = ram.content(component);
+            Ok(digest_of(&content[..size as usize]))
+        }
     }
 }
 
@@ -55,10 +57,7 @@ pub(crate) fn length_at<D: Disk>(disk: &mut D, ram: &Ram, spot: Spot) -> Result<
         → IfOk result (λ n. n ≡ length (content_of spot ram.now (D.flash disk.old).reads)) }
 {
     match spot {
-        Spot::Flash(slot) => match length(disk, slot) {
-            Ok(found) => Ok(found),
-            Err(FlashFault) => Err(FlashFault),
-        },
+        Spot::Flash(slot) => length(disk, slot),
         Spot::Ram(component) => Ok(ram.content(component).len() as u64),
     }
 }
@@ -79,10 +78,7 @@ pub(crate) fn same_at<D: Disk>(
     ensures read { ⟦<D as Steps>⟧.only_reads (ResultCounts result) disk.old disk.new }
 {
     match spot {
-        Spot::Flash(slot) => match same_content(disk, slot, bytes, room) {
-            Ok(same) => Ok(same),
-            Err(FlashFault) => Err(FlashFault),
-        },
+        Spot::Flash(slot) => same_content(disk, slot, bytes, room),
         Spot::Ram(component) => Ok(same(ram.content(component), bytes)),
     }
 }

@@ -1,16 +1,17 @@
 //! Copy: the content of a component becomes that of another.
 
 ghost use Rattle.flash_layout.specs.Slots.{LiesWithin, extent_of, slot_content};
-ghost use Rattle.flash_slots.specs.Contents.{ResultCounts, pieces_of};
+ghost use Rattle.flash_slots.specs.Contents.{IsEmptyInEach, IsEmptySlot, ResultCounts, pieces_of};
 ghost use Rattle.flash_slots.specs.RamContents.{held_by};
 ghost use Rattle.std.specs.Prelude.{◌≡◌, ◌<◌, ◌≤◌, IsTrue, OnOk, length, take};
 ghost use Rattle.step_machine.specs.Areas.{area_at, size_at};
 ghost use Rattle.step_machine.specs.Copying.{AreApart, CopiesAs};
 ghost use Rattle.step_machine.specs.Devices.{AreSpotsClear};
 ghost use Rattle.step_machine.specs.Directives.{CauseCounts};
+ghost use Rattle.step_machine.specs.Replacing.{IsEmptyOrWholeAt};
 ghost use Rattle.step_machine.specs.Spots.{IsRamBut, IsSpot, OutsideSpot, content_of, room_at};
 ghost use Rattle.step_machine.specs.declared.spot.Spot.TheVariants as spots;
-ghost use Rattle.suit_edge.specs.Flash.{Grows, Keeps};
+ghost use Rattle.suit_edge.specs.Flash.{Grows, Keeps, Passes};
 ghost use Rattle.suit_edge.specs.Ranges.{Outside};
 
 use crate::areas::read_piece;
@@ -44,6 +45,8 @@ fn put_pieces<D: Disk>(
     ensures pieces { IsTrue D.told
         → OnOk result (pieces_of writing.new.slot size (D.flash disk.new).reads
         ≡ take size (area_at source ram.now (D.flash disk.old).reads)) }
+    ensures still_empty { IsTrue D.told → IsEmptyInEach writing.old.slot (D.flash disk.old)
+        → Passes (D.flash disk.old) (D.flash disk.new) (IsEmptySlot writing.old.slot) }
     ensures keeps { IsTrue D.told
         → Keeps (Outside writing.old.slot.start (extent_of writing.old.slot)) (D.flash disk.old)
         (D.flash disk.new) }
@@ -78,6 +81,9 @@ fn copy_to_slot<D: Disk>(
     ensures goes { ⟦<D as Steps>⟧.goes_on (ResultCounts result) disk.old disk.new }
     ensures content { IsTrue D.told → OnOk result (slot_content slot (D.flash disk.new).reads
         ≡ take size (area_at source ram.now (D.flash disk.old).reads)) }
+    ensures any_moment { IsTrue D.told → Passes (D.flash disk.old) (D.flash disk.new)
+        (IsEmptyOrWholeAt (spots.Flash slot)
+        (take size (area_at source ram.now (D.flash disk.old).reads)) (D.flash disk.old)) }
     ensures keeps { IsTrue D.told
         → Keeps (Outside slot.start (extent_of slot)) (D.flash disk.old) (D.flash disk.new) }
 {
@@ -144,6 +150,9 @@ fn copy_content<D: Disk>(
     ensures short { IsTrue D.told
         → length (content_of spot ram.new (D.flash disk.new).reads) ≤ room_at spot ram.old }
     ensures ram { IsRamBut spot ram.old ram.new }
+    ensures any_moment { IsTrue D.told → Passes (D.flash disk.old) (D.flash disk.new)
+        (IsEmptyOrWholeAt spot (take size (area_at source ram.old (D.flash disk.old).reads))
+        (D.flash disk.old)) }
     ensures keeps { IsTrue D.told → Keeps (OutsideSpot spot) (D.flash disk.old) (D.flash disk.new) }
 {
     match spot {
@@ -154,7 +163,7 @@ fn copy_content<D: Disk>(
 
 /// Copy: the content becomes that of the source, which is read through the room (draft-ietf-suit-manifest-25, section
 /// 8.4.10). Where it is refused nothing changes, and after a fault of the flash the component holds any content. The
-/// source stays.
+/// source stays. A power loss on the way leaves the slot empty, or its room as it was or whole.
 pub fn copy<D: Disk>(
     disk: &mut D,
     ram: &mut Ram,
@@ -179,6 +188,9 @@ pub fn copy<D: Disk>(
     ensures source { IsTrue D.told
         → content_of source.now.spot ram.new (D.flash disk.new).reads
         ≡ content_of source.now.spot ram.old (D.flash disk.old).reads }
+    ensures any_moment { IsTrue D.told → Passes (D.flash disk.old) (D.flash disk.new)
+        (IsEmptyOrWholeAt standing.now.spot
+        (content_of source.now.spot ram.old (D.flash disk.old).reads) (D.flash disk.old)) }
     ensures keeps { IsTrue D.told
         → Keeps (OutsideSpot standing.now.spot) (D.flash disk.old) (D.flash disk.new) }
     ensures grows { IsTrue D.told → Grows (D.flash disk.old) (D.flash disk.new) }

@@ -1,10 +1,13 @@
 //! Directives that act on contents, at one component.
 
-ghost use Rattle.std.specs.Prelude.{◌≡◌, ◌<◌, IsTrue, length};
+ghost use Rattle.std.specs.Prelude.{◌≡◌, ◌<◌, ℕ, IsTrue, List, Some, length};
 ghost use Rattle.step_machine.specs.Directives.{CauseCounts, WritesAs};
+ghost use Rattle.step_machine.specs.Replacing.{IsEmptyOrWholeAt};
 ghost use Rattle.step_machine.specs.Spots.{IsRamBut, IsSpot, OutsideSpot, content_of, room_at};
 ghost use Rattle.suit_commands.specs.declared.kinds.ActKind.TheVariants as acts;
-ghost use Rattle.suit_edge.specs.Flash.{Grows, Keeps};
+ghost use Rattle.suit_edge.specs.Flash.{Grows, Keeps, Passes};
+ghost use Rattle.suit_params.specs.InForce.{bytes_of, in_force};
+ghost use Rattle.suit_params.specs.declared.param.ParamKey.TheVariants as keys;
 
 use crate::Standing;
 use crate::filling::fill;
@@ -16,7 +19,8 @@ use suit_edge::Disk;
 use suit_params::{ParamKey, Params};
 
 /// Write: the content becomes the parameter (draft-ietf-suit-manifest-25, section 8.4.10). Where it is refused nothing
-/// changes, and after a fault of the flash the component holds any content.
+/// changes, and after a fault of the flash the component holds any content. A power loss on the way leaves the slot empty,
+/// or its room as it was or whole.
 pub fn write<D: Disk>(
     disk: &mut D,
     ram: &mut Ram,
@@ -32,6 +36,10 @@ pub fn write<D: Disk>(
     ensures keeps { IsTrue D.told
         → Keeps (OutsideSpot standing.now.spot) (D.flash disk.old) (D.flash disk.new) }
     ensures grows { IsTrue D.told → Grows (D.flash disk.old) (D.flash disk.new) }
+    ensures any_moment { IsTrue D.told → (content : List ℕ)
+        → bytes_of (in_force params.now standing.now.component keys.Content) ≡ Some content
+        → Passes (D.flash disk.old) (D.flash disk.new)
+        (IsEmptyOrWholeAt standing.now.spot content (D.flash disk.old)) }
     ensures writes { IsTrue D.told
         → WritesAs acts.Write standing.now.component standing.now.capacity params.now
         (content_of standing.now.spot ram.old (D.flash disk.old).reads)

@@ -2,17 +2,19 @@
 
 ghost use Rattle.flash_slots.specs.Contents.{ResultCounts};
 ghost use Rattle.std.specs.Prelude.{◌≡◌, ◌<◌, ◌≤◌, ◌+◌, ◌++◌, IsTrue, OnOk, drop, length, take};
-ghost use Rattle.step_machine.specs.Areas.{IsHeld, KeepsFront, area_at, size_at};
-ghost use Rattle.step_machine.specs.Copying.{IsPair, IsRamButBoth, OutsideBoth};
-ghost use Rattle.step_machine.specs.Spots.{IsRamBut, IsSpot, OutsideSpot, content_of, room_at};
-ghost use Rattle.suit_edge.specs.Flash.{Keeps};
+ghost use Rattle.step_machine.specs.Areas.{IsHeld, KeepsFront, OutsideRoom, area_at, size_at};
+ghost use Rattle.step_machine.specs.Copying.{IsPair, IsRamButBoth, OutsideBoth, OutsideRooms};
+ghost use Rattle.step_machine.specs.Replacing.{IsEmptyOrWholeAt, IsSettledAt};
+ghost use Rattle.step_machine.specs.Spots.{IsRamBut, IsSpot, content_of, room_at};
+ghost use Rattle.suit_edge.specs.Flash.{Keeps, Passes};
 ghost use Rattle.suit_edge.specs.Ranges.{written};
 
 use crate::Spot;
 use crate::areas::read_piece;
 use crate::outside::Steps;
+use crate::sizing::{empty_slots, set_sizes, sync_slots};
 use flash_layout::FlashFault;
-use flash_slots::{Ram, overwrite, set_length};
+use flash_slots::{Ram, overwrite};
 use suit_edge::Disk;
 
 // Extends a content in working memory to at least so many bytes: those behind its own are any.
@@ -50,33 +52,12 @@ fn write_piece<D: Disk>(
         ≡ written (area_at spot ram.old (D.flash disk.old).reads) from piece.now) }
     ensures long { size_at spot ram.new ≡ size_at spot ram.old }
     ensures ram { IsRamBut spot ram.old ram.new }
-    ensures keeps { IsTrue D.told → Keeps (OutsideSpot spot) (D.flash disk.old) (D.flash disk.new) }
+    ensures keeps { IsTrue D.told → Keeps (OutsideRoom spot) (D.flash disk.old) (D.flash disk.new) }
 {
     match spot {
         Spot::Flash(slot) => overwrite(disk, slot, from, piece),
         Spot::Ram(component) => {
             ram.put(component, from as usize, piece);
-            Ok(())
-        }
-    }
-}
-
-// Makes the first bytes of a room its content.
-fn set_size<D: Disk>(disk: &mut D, ram: &mut Ram, spot: Spot, size: u64) -> Result<(), FlashFault>
-    requires spot { IsSpot (D.extent disk.old) ram.old spot }
-    requires within { size ≤ size_at spot ram.old }
-    ensures goes { ⟦<D as Steps>⟧.goes_on (ResultCounts result) disk.old disk.new }
-    ensures content { IsTrue D.told
-        → OnOk result
-        (content_of spot ram.new (D.flash disk.new).reads
-        ≡ take size (area_at spot ram.old (D.flash disk.old).reads)) }
-    ensures ram { IsRamBut spot ram.old ram.new }
-    ensures keeps { IsTrue D.told → Keeps (OutsideSpot spot) (D.flash disk.old) (D.flash disk.new) }
-{
-    match spot {
-        Spot::Flash(slot) => set_length(disk, slot, size),
-        Spot::Ram(component) => {
-            ram.cut(component, size as usize);
             Ok(())
         }
     }
@@ -109,27 +90,15 @@ fn exchange_piece<D: Disk>(
     ensures other_long { size_at other ram.new ≡ size_at other ram.old }
     ensures ram { IsRamButBoth one other ram.old ram.new }
     ensures keeps { IsTrue D.told
-        → Keeps (OutsideBoth one other) (D.flash disk.old) (D.flash disk.new) }
+        → Keeps (OutsideRooms one other) (D.flash disk.old) (D.flash disk.new) }
 {
-    match read_piece(disk, ram, one, size, from, room) {
-        Ok(_) => {}
-        Err(FlashFault) => return Err(FlashFault),
-    }
-    match read_piece(disk, ram, other, size, from, spare) {
-        Ok(_) => {}
-        Err(FlashFault) => return Err(FlashFault),
-    }
-    match write_piece(disk, ram, one, from, spare) {
-        Ok(()) => {}
-        Err(FlashFault) => return Err(FlashFault),
-    }
-    match write_piece(disk, ram, other, from, room) {
-        Ok(()) => Ok(()),
-        Err(FlashFault) => Err(FlashFault),
-    }
+    read_piece(disk, ram, one, size, from, room)?;
+    read_piece(disk, ram, other, size, from, spare)?;
+    write_piece(disk, ram, one, from, spare)?;
+    write_piece(disk, ram, other, from, room)
 }
 
-// Exchanges the first bytes of two rooms.
+// Exchanges the first bytes of two rooms, and syncs them.
 fn exchange_pieces<D: Disk>(
     disk: &mut D,
     ram: &mut Ram,
@@ -156,14 +125,16 @@ fn exchange_pieces<D: Disk>(
     ensures long { size_at one ram.new ≡ size_at one ram.old }
     ensures other_long { size_at other ram.new ≡ size_at other ram.old }
     ensures ram { IsRamButBoth one other ram.old ram.new }
+    ensures settled { IsTrue D.told → OnOk result (IsSettledAt one (D.flash disk.new)) }
+    ensures other_settled { IsTrue D.told → OnOk result (IsSettledAt other (D.flash disk.new)) }
     ensures keeps { IsTrue D.told
-        → Keeps (OutsideBoth one other) (D.flash disk.old) (D.flash disk.new) }
+        → Keeps (OutsideRooms one other) (D.flash disk.old) (D.flash disk.new) }
 {
     let limit = room.len().min(spare.len()) as u64;
     let mut from: u64 = 0;
     while from < size {
         let count = limit.min(size - from) as usize;
-        match exchange_piece(
+        exchange_piece(
             disk,
             ram,
             one,
@@ -172,16 +143,14 @@ fn exchange_pieces<D: Disk>(
             &mut spare[..count],
             from,
             size,
-        ) {
-            Ok(()) => {}
-            Err(FlashFault) => return Err(FlashFault),
-        }
+        )?;
         from += count as u64;
     }
-    Ok(())
+    sync_slots(disk, one, other)
 }
 
-// Exchanges two contents of these sizes, where there is room for each.
+// Exchanges two contents of these sizes, where there is room for each. Both slots are empty until both contents stand in
+// them: a power loss on the way leaves no slot with some bytes of each.
 pub(crate) fn exchange<D: Disk>(
     disk: &mut D,
     ram: &mut Ram,
@@ -210,22 +179,19 @@ pub(crate) fn exchange<D: Disk>(
         (content_of other ram.new (D.flash disk.new).reads
         ≡ take sizes.0 (area_at one ram.old (D.flash disk.old).reads)) }
     ensures ram { IsRamButBoth one other ram.old ram.new }
+    ensures any_moment { IsTrue D.told → Passes (D.flash disk.old) (D.flash disk.new)
+        (IsEmptyOrWholeAt one (take sizes.1 (area_at other ram.old (D.flash disk.old).reads))
+        (D.flash disk.old)) }
+    ensures other_moment { IsTrue D.told → Passes (D.flash disk.old) (D.flash disk.new)
+        (IsEmptyOrWholeAt other (take sizes.0 (area_at one ram.old (D.flash disk.old).reads))
+        (D.flash disk.old)) }
     ensures keeps { IsTrue D.told
         → Keeps (OutsideBoth one other) (D.flash disk.old) (D.flash disk.new) }
 {
     let size = sizes.0.max(sizes.1);
     stretch(ram, one, size);
     stretch(ram, other, size);
-    match exchange_pieces(disk, ram, one, other, size, room, spare) {
-        Ok(()) => {}
-        Err(FlashFault) => return Err(FlashFault),
-    }
-    match set_size(disk, ram, one, sizes.1) {
-        Ok(()) => {}
-        Err(FlashFault) => return Err(FlashFault),
-    }
-    match set_size(disk, ram, other, sizes.0) {
-        Ok(()) => Ok(()),
-        Err(FlashFault) => Err(FlashFault),
-    }
+    empty_slots(disk, one, other)?;
+    exchange_pieces(disk, ram, one, other, size, room, spare)?;
+    set_sizes(disk, ram, one, other, (sizes.1, sizes.0))
 }

@@ -4,14 +4,16 @@ ghost use Rattle.flash_layout.specs.Slots.{LiesWithin, extent_of, slot_content};
 ghost use Rattle.flash_slots.specs.Contents.{ResultCounts};
 ghost use Rattle.flash_slots.specs.RamContents.{held_by, holding};
 ghost use Rattle.std.specs.Prelude.{◌≡◌, ◌<◌, ◌≤◌, IsTrue, OnErr, OnOk, length};
+ghost use Rattle.step_machine.specs.Replacing.{IsEmptyOrWholeAt};
 ghost use Rattle.step_machine.specs.Spots.{IsRamBut, IsSpot, OutsideSpot, content_of, room_at};
-ghost use Rattle.suit_edge.specs.Flash.{Keeps};
+ghost use Rattle.step_machine.specs.declared.spot.Spot.TheVariants as spots;
+ghost use Rattle.suit_edge.specs.Flash.{Keeps, Passes};
 ghost use Rattle.suit_edge.specs.Ranges.{Outside};
 
 use crate::Spot;
 use crate::outside::Steps;
 use flash_layout::{FlashFault, Slot};
-use flash_slots::{AppendFault, Ram, TooLarge, begin};
+use flash_slots::{Ram, TooLarge, begin};
 use suit_edge::Disk;
 
 // Writes bytes to a slot that has room for them.
@@ -21,22 +23,17 @@ pub(crate) fn fill_slot<D: Disk>(disk: &mut D, slot: Slot, bytes: &[u8]) -> Resu
     ensures goes { ⟦<D as Steps>⟧.goes_on (ResultCounts result) disk.old disk.new }
     ensures content { IsTrue D.told
         → OnOk result (slot_content slot (D.flash disk.new).reads ≡ bytes.now) }
+    ensures any_moment { IsTrue D.told → Passes (D.flash disk.old) (D.flash disk.new)
+        (IsEmptyOrWholeAt (spots.Flash slot) bytes.now (D.flash disk.old)) }
     ensures keeps { IsTrue D.told
         → Keeps (Outside slot.start (extent_of slot)) (D.flash disk.old) (D.flash disk.new) }
 {
-    let mut writing = match begin(disk, slot) {
-        Ok(writing) => writing,
-        Err(FlashFault) => return Err(FlashFault),
-    };
+    let mut writing = begin(disk, slot)?;
     match writing.append(disk, bytes) {
         Ok(()) => {}
-        Err(AppendFault::TooLarge(_)) => return Err(FlashFault),
-        Err(AppendFault::FlashFault) => return Err(FlashFault),
+        Err(_) => return Err(FlashFault),
     }
-    match writing.finish(disk) {
-        Ok(()) => Ok(()),
-        Err(FlashFault) => Err(FlashFault),
-    }
+    writing.finish(disk)
 }
 
 // Writes bytes to a component in working memory that has room for them.
@@ -69,6 +66,8 @@ pub(crate) fn fill<D: Disk>(
         → OnErr result
         (length (content_of spot ram.new (D.flash disk.new).reads) ≤ room_at spot ram.old) }
     ensures ram { IsRamBut spot ram.old ram.new }
+    ensures any_moment { IsTrue D.told → Passes (D.flash disk.old) (D.flash disk.new)
+        (IsEmptyOrWholeAt spot bytes.now (D.flash disk.old)) }
     ensures keeps { IsTrue D.told → Keeps (OutsideSpot spot) (D.flash disk.old) (D.flash disk.new) }
 {
     match spot {

@@ -22,6 +22,7 @@ mod plan_end;
 mod procedure;
 mod progress;
 mod running;
+mod sizing;
 mod spot;
 mod stop;
 mod swapping;

@@ -3,8 +3,9 @@
 ghost use Rattle.std.specs.Prelude.{◌≡◌, ◌<◌, IsTrue, length};
 ghost use Rattle.step_machine.specs.Copying.{AreApart, IsRamButBoth, OutsideBoth, SwapsAs, side_of};
 ghost use Rattle.step_machine.specs.Directives.{CauseCounts};
+ghost use Rattle.step_machine.specs.Replacing.{IsEmptyOrWholeAt};
 ghost use Rattle.step_machine.specs.Spots.{IsSpot, content_of, room_at};
-ghost use Rattle.suit_edge.specs.Flash.{Grows, Keeps};
+ghost use Rattle.suit_edge.specs.Flash.{Grows, Keeps, Passes};
 
 use crate::Standing;
 use crate::contents::{content_fits, length_at};
@@ -16,7 +17,8 @@ use suit_edge::Disk;
 
 /// Swap: the contents of the component and of the source are exchanged in place, through two rooms
 /// (draft-ietf-suit-manifest-25, section 8.4.10). Where it is refused nothing changes, and after a fault of the flash both
-/// hold any content.
+/// hold any content. A power loss on the way leaves each slot empty, or its room as it was or whole: no slot has a length
+/// and some bytes of each content.
 pub fn swap<D: Disk>(
     disk: &mut D,
     ram: &mut Ram,
@@ -44,6 +46,12 @@ pub fn swap<D: Disk>(
         (content_of source.now.spot ram.old (D.flash disk.old).reads)
         (content_of source.now.spot ram.new (D.flash disk.new).reads))
         result }
+    ensures any_moment { IsTrue D.told → Passes (D.flash disk.old) (D.flash disk.new)
+        (IsEmptyOrWholeAt standing.now.spot
+        (content_of source.now.spot ram.old (D.flash disk.old).reads) (D.flash disk.old)) }
+    ensures source_moment { IsTrue D.told → Passes (D.flash disk.old) (D.flash disk.new)
+        (IsEmptyOrWholeAt source.now.spot
+        (content_of standing.now.spot ram.old (D.flash disk.old).reads) (D.flash disk.old)) }
     ensures keeps { IsTrue D.told
         → Keeps (OutsideBoth standing.now.spot source.now.spot) (D.flash disk.old)
         (D.flash disk.new) }

@@ -3,6 +3,7 @@ use Rattle.step_machine.specs.Areas.{area_at}
 use Rattle.step_machine.specs.Spots.{IsSpot, OutsideSpot, content_of}
 use Rattle.step_machine.proofs.CopyPlays.{copy_cut, copy_done}
 use Rattle.step_machine.proofs.Reading.{copy_unread, read_then, source_stays}
+use Rattle.step_machine.proofs.Replaced.{only_read, read_first, untouched}
 use Rattle.step_machine.proofs.Memory.{ram_same}
 use Rattle.step_machine.proofs.Rooms.{content_front}
 use Rattle.step_machine.proofs.copying.copy.Goals as goal
@@ -57,3 +58,30 @@ returns-in-Ok-copy_content-clause-keeps g c t =
 pub returns-in-Err-copy_content-clause-keeps : goal.returns-in-Err-copy_content-clause-keeps
 returns-in-Err-copy_content-clause-keeps g c t =
     read_then (OutsideSpot c.args.standing.now.spot) _ _ _ _ (g.met.D.Disk.obeys c.length_at.new.disk t) (c.length_at.ensures.read.same t) (c.copy_content.ensures.keeps t)
+
+pub returns-then-source-standing-clause-any_moment :
+    goal.returns-then-source-standing-clause-any_moment
+returns-then-source-standing-clause-any_moment g c t = untouched c.args.standing.now.spot _ (g.D.Disk.flash c.args.disk.now)
+
+pub returns-in-Err-clause-any_moment : goal.returns-in-Err-clause-any_moment
+returns-in-Err-clause-any_moment g c t = only_read c.args.standing.now.spot _ _ _ (c.length_at.ensures.read.same t)
+
+pub returns-then-standing-size-clause-any_moment : goal.returns-then-standing-size-clause-any_moment
+returns-then-standing-size-clause-any_moment g c t = only_read c.args.standing.now.spot _ _ _ (c.length_at.ensures.read.same t)
+
+pub returns-in-Ok-copy_content-clause-any_moment : goal.returns-in-Ok-copy_content-clause-any_moment
+returns-in-Ok-copy_content-clause-any_moment g c t =
+    let reads = (g.D.Disk.flash c.args.disk.now).reads in
+    let inside : IsSpot (length reads) c.args.ram.now c.args.source.now.spot = subst (λ (n : ℕ). IsSpot n c.args.ram.now c.args.source.now.spot) (sym (g.met.D.Disk.obeys c.args.disk.now t).fits) c.requires.source in
+    let is = ap (λ (l : List ℕ). take c.in-Ok.size (area_at c.args.source.now.spot c.args.ram.now l)) (c.length_at.ensures.read.same t).reads
+    ∙ sym (content_front c.args.source.now.spot c.args.ram.now reads c.in-Ok.size inside (c.in-Ok.ensures.exact t)) in
+    read_first c.args.standing.now.spot _ _ _ _ _ _ (g.met.D.Disk.obeys c.length_at.new.disk t) (c.length_at.ensures.read.same t) is (c.copy_content.ensures.any_moment t)
+
+pub returns-in-Err-copy_content-clause-any_moment :
+    goal.returns-in-Err-copy_content-clause-any_moment
+returns-in-Err-copy_content-clause-any_moment g c t =
+    let reads = (g.D.Disk.flash c.args.disk.now).reads in
+    let inside : IsSpot (length reads) c.args.ram.now c.args.source.now.spot = subst (λ (n : ℕ). IsSpot n c.args.ram.now c.args.source.now.spot) (sym (g.met.D.Disk.obeys c.args.disk.now t).fits) c.requires.source in
+    let is = ap (λ (l : List ℕ). take c.in-Ok.size (area_at c.args.source.now.spot c.args.ram.now l)) (c.length_at.ensures.read.same t).reads
+    ∙ sym (content_front c.args.source.now.spot c.args.ram.now reads c.in-Ok.size inside (c.in-Ok.ensures.exact t)) in
+    read_first c.args.standing.now.spot _ _ _ _ _ _ (g.met.D.Disk.obeys c.length_at.new.disk t) (c.length_at.ensures.read.same t) is (c.copy_content.ensures.any_moment t)

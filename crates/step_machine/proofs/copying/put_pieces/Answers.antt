@@ -1,14 +1,15 @@
 use Rattle.std.proofs.Common.{◌≡◌, ◌≤◌, ◌+◌, ◌∙◌, List, ℕ, length, take, drop, refl, sym, ap, subst, arith, rules}
 use Rattle.std.proofs.lemmas.List.{length-take-le}
-use Rattle.suit_edge.specs.FlashLaws.{grows_then, keeps_same, keeps_then}
+use Rattle.suit_edge.specs.FlashLaws.{grows_then, keeps_same, keeps_then, then_same}
 use Rattle.suit_edge.specs.Ranges.{Outside}
 use Rattle.flash_layout.specs.declared.slot.Slot.{Slot}
 use Rattle.flash_layout.specs.Slots.{extent_of}
-use Rattle.flash_slots.specs.Contents.{pieces_of}
+use Rattle.flash_slots.specs.Contents.{IsEmptySlot, pieces_of}
 use Rattle.step_machine.specs.declared.spot.Spot.TheVariants as spots
 use Rattle.step_machine.specs.Areas.{area_at}
 use Rattle.step_machine.specs.Spots.{IsSpot}
 use Rattle.step_machine.proofs.Ranging.{read_and_put}
+use Rattle.step_machine.proofs.Replaced.{moment_more}
 use Rattle.step_machine.proofs.Rooms.{kept_area, more_put}
 use Rattle.step_machine.proofs.copying.put_pieces.Goals as goal
 
@@ -57,6 +58,8 @@ loop-from-preserved g c =
           ∙ more_put (area_at c.args.source c.args.ram.now first.reads) _ _ piece c.loop-from.from c.in_ok-count.count was
           (c.in_ok-count.ensures.bytes t ∙ ap (λ (l : List ℕ). take c.in_ok-count.count (drop c.loop-from.from l)) same) (c.in-Ok.ensures.pieces t);
       keeps = λ t. read_and_put slot c.loop-from.writing.slot _ _ _ _ _ _ _ _ c.loop-from.invariant.slot (omega (arith, written, count, within)) (g.met.D.Disk.obeys c.loop-from.disk t) (g.met.D.Disk.obeys c.read_piece.new.disk t) (c.loop-from.invariant.keeps t) (c.read_piece.ensures.read.same t) (c.append.ensures.keeps t);
+      still_empty = λ t empty. moment_more slot c.loop-from.writing.slot c.loop-from.invariant.slot (g.D.Disk.flash c.args.disk.now) (g.D.Disk.flash c.loop-from.disk) (g.D.Disk.flash c.read_piece.new.disk) (g.D.Disk.flash c.append.new.disk) _ _ (g.met.D.Disk.obeys c.loop-from.disk t) (g.met.D.Disk.obeys c.read_piece.new.disk t)
+          (c.loop-from.invariant.still_empty t empty) (c.read_piece.ensures.read.same t) (c.append.ensures.still_empty t);
       grows = λ t.
           let first = g.D.Disk.flash c.args.disk.now in
           let f = g.D.Disk.flash c.loop-from.disk in
@@ -66,3 +69,12 @@ loop-from-preserved g c =
           grows_then first h (g.D.Disk.flash c.append.new.disk) (omega (arith, one, two))
           (grows_then first f h one (c.loop-from.invariant.grows t) (c.read_piece.ensures.read.grows t)) (c.append.ensures.grows t);
     }
+
+pub returns-in_err-count-clause-still_empty : goal.returns-in_err-count-clause-still_empty
+returns-in_err-count-clause-still_empty g c t empty =
+    then_same _ _ _ _ (IsEmptySlot c.args.writing.now.slot) (g.met.D.Disk.obeys c.loop-from.disk t) (c.loop-from.invariant.still_empty t empty) (c.read_piece.ensures.read.same t)
+
+pub returns-in-Err-clause-still_empty : goal.returns-in-Err-clause-still_empty
+returns-in-Err-clause-still_empty g c t empty =
+    moment_more c.args.writing.now.slot c.loop-from.writing.slot c.loop-from.invariant.slot (g.D.Disk.flash c.args.disk.now) (g.D.Disk.flash c.loop-from.disk) (g.D.Disk.flash c.read_piece.new.disk) (g.D.Disk.flash c.append.new.disk) _ _ (g.met.D.Disk.obeys c.loop-from.disk t) (g.met.D.Disk.obeys c.read_piece.new.disk t)
+    (c.loop-from.invariant.still_empty t empty) (c.read_piece.ensures.read.same t) (c.append.ensures.still_empty t)

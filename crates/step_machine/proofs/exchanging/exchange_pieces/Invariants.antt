@@ -1,7 +1,7 @@
 use Rattle.std.proofs.Common.{◌≡◌, ◌≤◌, ◌-◌, ◌++◌, IsTrue, length, take, drop}
 use Rattle.suit_edge.specs.Flash.{Grows, Keeps}
 use Rattle.step_machine.specs.Areas.{area_at, size_at}
-use Rattle.step_machine.specs.Copying.{IsRamButBoth, OutsideBoth}
+use Rattle.step_machine.specs.Copying.{IsRamButBoth, OutsideRooms}
 use Rattle.step_machine.proofs.exchanging.exchange_pieces.Given as goal
 
 abbrev pub invariant-loop-from : goal.invariant-loop-from
@@ -18,7 +18,7 @@ invariant-loop-from g l = record {
       ≡ take l.from (area_at l.other l.fn.ram (g.D.Disk.flash l.fn.disk).reads) ++ drop l.from (area_at l.one l.fn.ram (g.D.Disk.flash l.fn.disk).reads);
   other : IsTrue g.D.Disk.told → area_at l.other l.ram (g.D.Disk.flash l.disk).reads
       ≡ take l.from (area_at l.one l.fn.ram (g.D.Disk.flash l.fn.disk).reads) ++ drop l.from (area_at l.other l.fn.ram (g.D.Disk.flash l.fn.disk).reads);
-  keeps : IsTrue g.D.Disk.told → Keeps (OutsideBoth l.one l.other) (g.D.Disk.flash l.fn.disk) (g.D.Disk.flash l.disk);
+  keeps : IsTrue g.D.Disk.told → Keeps (OutsideRooms l.one l.other) (g.D.Disk.flash l.fn.disk) (g.D.Disk.flash l.disk);
   grows : IsTrue g.D.Disk.told → Grows (g.D.Disk.flash l.fn.disk) (g.D.Disk.flash l.disk);
 }
 

@@ -1,4 +1,4 @@
-use Rattle.std.proofs.Common.{◌≡◌, ◌≤◌, ◌∙◌, List, ℕ, ap, sym, length, take, arith, rules}
+use Rattle.std.proofs.Common.{◌≡◌, ◌∙◌, ℕ, ap, sym, length, take, arith, rules}
 use Rattle.std.proofs.lemmas.List.{length-take-le, take-take}
 use Rattle.flash_slots.specs.RamContents.{Held}
 use Rattle.flash_slots.proofs.area.Area.stretch.Goals as goal

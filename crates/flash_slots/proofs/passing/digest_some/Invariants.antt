@@ -2,7 +2,7 @@ use Rattle.std.proofs.Common.{◌≡◌, ◌≤◌, ◌-◌, IsTrue, length}
 use Rattle.sha2.specs.Hashers.{Holds256}
 use Rattle.suit_edge.specs.Flash.{Grows, IsSame}
 use Rattle.flash_slots.specs.Contents.{pieces_of}
-use Rattle.flash_slots.proofs.passing.digest.Given as goal
+use Rattle.flash_slots.proofs.passing.digest_some.Given as goal
 
 abbrev pub invariant-loop-from : goal.invariant-loop-from
 invariant-loop-from g l = record {
