@@ -38,6 +38,7 @@ pub mod UpdateSound
 pub mod UpdateLawProofs
 pub mod Starving
 pub mod BootHosts
+pub mod FilesAsked
 pub mod RunEnds
 mod LifeLawProofs
 mod NoPayloads

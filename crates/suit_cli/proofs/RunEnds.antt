@@ -1,5 +1,5 @@
 -- How a run ends: in stages, by a boot or by an update.
-use Rattle.std.proofs.Common.{◌≡◌, ℕ, List, [], length, append-nil, Option, Some, None, sym, ap, subst, ◌∙◌, ◌≤◌, arith}
+use Rattle.std.proofs.Common.{◌≡◌, ◌⊎◌, inl, inr, refl, ℕ, List, [], ◌∷◌, length, append-nil, Option, Some, None, sym, ap, subst, ◌∙◌, ◌≤◌, arith}
 use Rattle.std.specs.Prelude.{IsTrue, ◌≢◌}
 use Rattle.suit_edge.specs.declared.launch.Launch.{Launch}
 use Rattle.suit_commands.specs.Tree.{PlanTree}
@@ -22,11 +22,12 @@ use Rattle.suit_cli.specs.Booting.{Boots, boot_status}
 use Rattle.suit_cli.specs.Coming.{Ended, Answered, Booted, Updated, ByStages, ByBoot, ByUpdate, ended_status}
 use Rattle.suit_cli.specs.Updating.{Updates, update_status}
 use Rattle.update_proc.specs.declared.update_end.UpdateEnd.{UpdateEnd}
-use Rattle.suit_cli.specs.Program.{ComesTo, Puts, PutsText, IsPut, IsCut, Performs, EndsIn, IsStatus, ChecksProcedures, IsCheck, ChecksSafe, ChecksUnsafe, IsUsage, IsCutOff, MayLaunch, AreCounted, AsFound, IsForUpdate, LeavesBy, KeepsLauncher, most_pulled, stored_by}
+use Rattle.suit_cli.specs.Program.{ComesTo, Puts, PutsText, IsPut, IsCut, Performs, EndsIn, IsStatus, ChecksProcedures, IsCheck, ChecksSafe, ChecksUnsafe, IsUsage, IsCutOff, MayLaunch, AreCounted, AsFound, AsksForUpdate, IsForUpdate, LeavesBy, NamesFiles, KeepsLauncher, most_pulled, stored_by}
 use Rattle.suit_cli.proofs.Running as running
 use Rattle.suit_cli.proofs.RunClauses as staged
 use Rattle.suit_cli.proofs.RunClauses.{Staged}
 use Rattle.suit_cli.proofs.StagesLet.{answers_lets}
+use Rattle.suit_cli.proofs.FilesAsked.{stages_ask, update_asks}
 use Rattle.suit_cli.proofs.BootHosts.{boots_without, stages_without}
 use Rattle.suit_cli.proofs.StatusNumbers.{of_ended}
 use Rattle.suit_cli.proofs.Starving.{boot_starved, starved_near, update_starved}
@@ -174,6 +175,20 @@ module _ (words : List (List ℕ)) (l m : Launching) (b a : Outside) (sb sa : Su
     of_way (AsUpdate name uris end lines word updates puts) =
         subst (λ (t : Option Task). LeavesBy t b a) (sym word) (update_told name uris l m b a end lines updates, update_files name uris l m b a end lines updates)
 
+  pub asks : (name : List ℕ) (uris : List (List ℕ × List ℕ)) → task_of words ≡ Some (RunUpdate name uris) → IsTrue b.told → AsksForUpdate name uris b a
+  asks name uris is told = of_way way where
+    same_words : (other : List ℕ) (others : List (List ℕ × List ℕ)) → task_of words ≡ Some (RunUpdate other others) → AsksForUpdate other others b a → AsksForUpdate name uris b a
+    same_words other others word by =
+        let both : Some (RunUpdate other others) ≡ Some (RunUpdate name uris) = sym word ∙ is in
+        let one : other ≡ name = cc in
+        let all : others ≡ uris = cc in
+        subst (λ (n : List ℕ). AsksForUpdate n uris b a) one (subst (λ (u : List (List ℕ × List ℕ)). AsksForUpdate other u b a) all by)
+
+    of_way : Way words l m b a sb sa result → AsksForUpdate name uris b a
+    of_way (InStages run same) = stages_ask words name uris is b a run.ending run.answer told
+    of_way (AsBoot end lines word boots puts) = let never : Some RunBoot ≡ Some (RunUpdate name uris) = sym word ∙ is in absurd cc
+    of_way (AsUpdate other others end lines word updates puts) = same_words other others word (update_asks other others l m b a end lines updates told)
+
   pub only_launching : KeepsLauncher words l m
   only_launching never = of_way way where
     of_way : Way words l m b a sb sa result → m ≡ l
@@ -181,12 +196,19 @@ module _ (words : List (List ℕ)) (l m : Launching) (b a : Outside) (sb sa : Su
     of_way (AsBoot end lines word boots puts) = absurd (never (subst MayLaunch (sym word) tt))
     of_way (AsUpdate name uris end lines word updates puts) = absurd (never (subst MayLaunch (sym word) tt))
 
-  pub launches : IsTrue b.flash.told → IsTrue l.told → (IsForUpdate (task_of words) → IsTrue b.told) → (task_of words ≡ Some RunBoot → Sound VERSION_1 b.flash.reads) → GainsSafe l.launches m.launches
+  -- the host tells, or no URI names a file
+  files_known : (name : List ℕ) (uris : List (List ℕ × List ℕ)) → task_of words ≡ Some (RunUpdate name uris) → (NamesFiles (task_of words) → IsTrue b.told) → IsTrue b.told ⊎ (uris ≡ [])
+  files_known name [] word told = inr refl
+  files_known name (pair ∷ uris) word told =
+      let some : NamesFiles (Some (RunUpdate name (pair ∷ uris))) = λ none. absurd cc in
+      inl (told (subst NamesFiles (sym word) some))
+
+  pub launches : IsTrue b.flash.told → IsTrue l.told → (NamesFiles (task_of words) → IsTrue b.told) → (task_of words ≡ Some RunBoot → Sound VERSION_1 b.flash.reads) → GainsSafe l.launches m.launches
   launches flash_told launcher_told told sound = of_way way where
     of_way : Way words l m b a sb sa result → GainsSafe l.launches m.launches
     of_way (InStages run same) = gains_none l.launches m.launches (ap (λ (x : Launching). x.launches) same)
     of_way (AsBoot end lines word boots puts) = boot_safe l m b a end lines boots flash_told launcher_told (sound word)
-    of_way (AsUpdate name uris end lines word updates puts) = update_safe name uris l m b a end lines updates (told (subst IsForUpdate (sym word) tt)) flash_told launcher_told
+    of_way (AsUpdate name uris end lines word updates puts) = update_safe name uris l m b a end lines updates (files_known name uris word told) flash_told launcher_told
 
   pub is_status : IsStatus result
   is_status = of_puts runs.puts where

@@ -1,10 +1,12 @@
 -- The result of a run of the program.
-use Rattle.std.specs.Prelude.{◌≡◌, ◌≢◌, ◌⊎◌, ◌≤◌, ◌+◌, ℕ, IsTrue, List, ◌++◌, take, Option, Some, None}
+use Rattle.std.specs.Prelude.{◌≡◌, ◌≢◌, ◌⊎◌, ◌≤◌, ◌+◌, ◌*◌, ℕ, IsTrue, List, [], ◌∷◌, ◌++◌, length, take, Option, Some, None}
+use Rattle.std.specs.List.{AllByRecursion}
 use Rattle.suit_edge.specs.Faults.{Faulted}
 use Rattle.suit_edge.specs.Flash.{Flash, Now, Passes}
 use Rattle.suit_commands.specs.Tree.{PlanTree}
 use Rattle.flash_layout.specs.declared.frame.TheConstants.{VERSION_1}
 use Rattle.rollback_record.specs.SoundFlash.{Settled}
+use Rattle.path_model.specs.Settings.{found_under}
 use Rattle.suit_cli.specs.declared.reply.Outcome.TheVariants as outcomes
 use Rattle.suit_cli.specs.Texts.{usage_line}
 use Rattle.suit_cli.specs.Words.{Task, Make, Describe, Show, Check, RunInit, RunUpdate, RunBoot, RunStatus, task_of}
@@ -13,6 +15,7 @@ use Rattle.suit_cli.specs.Outside.{Outside, Files, Sunk, Leaves}
 use Rattle.suit_cli.specs.Stages.{Stage, judging, Ending, Answers, ◌>>=◌}
 use Rattle.suit_cli.specs.Statuses.{sink_fault_status}
 use Rattle.suit_cli.specs.Launching.{Launching}
+use Rattle.suit_cli.specs.Updating.{most_room}
 use Rattle.suit_cli.specs.Coming.{Ended, Comes, BootKeeps, KeepsSound, StaysOrKeeps, ended_status, ended_text}
 use Rattle.suit_cli.specs.Inputs.{longest_file, longest_device, longest_key}
 use Rattle.suit_cli.specs.Authoring.{longest_description, names_held, most_named}
@@ -148,6 +151,24 @@ abbrev pub stored_by : Option Task → Option (List ℕ)
 stored_by (Some (Make description key out)) = Some out
 stored_by _ = None
 
+-- a file that some URI of the words names
+abbrev pub IsNamed : List (List ℕ × List ℕ) → List ℕ → Type 0
+IsNamed uris name = (uri : List ℕ) × (found_under uris uri ≡ Some name)
+
+-- FILE is asked for, and after it only files that these URIs name, one for each fetch that found one. Of FILE at most one
+-- byte more than its limit is pulled, and of each other one at most one byte more than a component has room for. Where a
+-- fault comes first, nothing is asked for.
+pub data AsksForUpdate (name : List ℕ) (uris : List (List ℕ × List ℕ)) (before after : Outside)
+    : Type 0 where
+  AsksNothing : after.asked ≡ before.asked
+      → after.pulled ≤ before.pulled + most_pulled (Some (RunUpdate name uris)) before.files
+      → AsksForUpdate name uris before after
+  AsksFile : (fetched : List (List ℕ)) → after.asked ≡ before.asked ++ name ∷ fetched
+      → AllByRecursion (IsNamed uris) fetched
+      → after.pulled ≤ before.pulled + most_pulled (Some (RunUpdate name uris)) before.files
+      + length fetched * (most_room before.flash.size + 1)
+      → AsksForUpdate name uris before after
+
 -- no file changes
 abbrev pub KeepsFiles : Outside → Outside → Type 0
 KeepsFiles before after =
@@ -215,6 +236,11 @@ IsForUpdate _ = ⊥
 -- only `run boot` and `run update` launch, or fail at the launcher
 abbrev pub KeepsLauncher : List (List ℕ) → Launching → Launching → Type 0
 KeepsLauncher words launched now = (MayLaunch (task_of words) → ⊥) → now ≡ launched
+
+-- an update of which some URI names a file, that a fetch may ask the host for
+abbrev pub NamesFiles : Option Task → Type 0
+NamesFiles (Some (RunUpdate name uris)) = uris ≢ []
+NamesFiles _ = ⊥
 
 -- ---- soundness
 

@@ -1,5 +1,5 @@
 -- The result of `run update`.
-use Rattle.std.specs.Prelude.{◌≡◌, ℕ, ◌∷◌, [], IsTrue, List, Option, codes}
+use Rattle.std.specs.Prelude.{◌≡◌, ◌⊎◌, ℕ, max, ◌∷◌, [], IsTrue, List, Option, codes}
 use Rattle.std.specs.Fmt.{decimal}
 use Rattle.suit_edge.specs.Flash.{Flash, IsSame}
 use Rattle.suit_envelope.specs.Payloads.{HasPayloads}
@@ -15,11 +15,13 @@ use Rattle.flash_layout.specs.declared.slot.Record.{Record}
 use Rattle.flash_layout.specs.Configs.{ConfigOf, Configured}
 use Rattle.flash_layout.specs.Frames.{head_of}
 use Rattle.rollback_record.specs.HeadRecord.{RecordOf}
+use Rattle.step_machine.specs.Fetching.{AsksAmong, asked_at}
 use Rattle.step_machine.specs.PlanRuns.{counts_of}
+use Rattle.step_machine.specs.UrisSet.{HasFetch}
 use Rattle.invoke_proc.specs.Booting.{GainsSafe}
 use Rattle.update_proc.specs.declared.update_end.UpdateEnd.{UpdateEnd}
 use Rattle.update_proc.specs.declared.update_end.UpdateEnd.TheVariants as ends
-use Rattle.update_proc.specs.Ends.{JudgedSo, UpdateCounts}
+use Rattle.update_proc.specs.Ends.{IsUnbegun, JudgedSo, UpdateCounts}
 use Rattle.update_proc.specs.Offered.{ForOffer}
 use Rattle.update_proc.specs.Records.{new_record}
 use Rattle.update_proc.specs.Updates.{KeepsUpdate, KeptSo, LeavesUpdate, PlayedSo, PlaysToEnd, PlaysUpdate, sources}
@@ -93,14 +95,26 @@ offer layout bytes accepted uris = record {
   uris = uris;
 }
 
+-- No component has room for more on a flash of this size: a slot lies in it, and each working memory has at most 1,048,576
+-- bytes.
+abbrev pub most_room : ℕ → ℕ
+most_room size = max size 1048576
+
 -- The envelope was accepted, and installed so: how it was judged beside the record, how the procedure was played, what the
--- flash is left with, and whose fault was counted. Each launch has its digest, and its size where one is in force.
+-- flash is left with, which files were asked for, and whose fault was counted. Of the host nothing was asked where no fetch
+-- stands in the procedure, or it was not begun. Each launch has its digest, and its size where one is in force.
 pub record IsUpdate (o : Offer) (launched now : Launching) (before after : Outside)
     (end : UpdateEnd) : Type 0 where
   pub alone : LeavesAlone launched now before after
   pub counts :
       UpdateCounts end (counts_of before.faults before.flash.faults launched.faults)
       (counts_of after.faults after.flash.faults now.faults)
+  pub asks : IsTrue before.told
+      → AsksAmong (tree_of o.accepted) o.uris (most_room before.flash.size)
+      (asked_at before.asked before.pulled)
+      (asked_at after.asked after.pulled)
+  pub unasked : (HasFetch (tree_of o.accepted) → ⊥) ⊎ IsUnbegun end
+      → asked_at after.asked after.pulled ≡ asked_at before.asked before.pulled
   pub judged : IsTrue before.flash.told
       → ForOffer before.flash.reads o.accepted.said.wrapper
       (λ held digest. JudgedSo o.accepted.manifest.sequence digest held end)
@@ -118,7 +132,7 @@ pub record IsUpdate (o : Offer) (launched now : Launching) (before after : Outsi
       (LeavesUpdate o.layout o.accepted.places (tree_of o.accepted) held
       (new_of o.accepted held before.flash.reads digest) before.flash.reads after.flash.reads end)
       (after.flash.reads ≡ before.flash.reads) end)
-  pub safe : IsTrue before.told → IsTrue before.flash.told → IsTrue launched.told
+  pub safe : IsTrue before.told ⊎ (o.uris ≡ []) → IsTrue before.flash.told → IsTrue launched.told
       → GainsSafe launched.launches now.launches
 
 -- the flash holds a configuration, the file was read and accepted under it, an update was made of it, and these lines tell

@@ -1,10 +1,10 @@
 //! The top call: all that the program does.
 
-ghost use Rattle.std.specs.Prelude.{◌≡◌, ◌≤◌, IsTrue, Some};
+ghost use Rattle.std.specs.Prelude.{◌≡◌, ◌≤◌, ℕ, IsTrue, List, Some};
 ghost use Rattle.suit_edge.specs.Flash.{Passes};
 ghost use Rattle.flash_layout.specs.declared.frame.TheConstants.{VERSION_1};
 ghost use Rattle.suit_commands.specs.Tree.{PlanTree};
-ghost use Rattle.suit_cli.specs.Words.{RunBoot, task_of, task_said};
+ghost use Rattle.suit_cli.specs.Words.{RunBoot, RunUpdate, task_of, task_said};
 ghost use Rattle.suit_cli.specs.Stages.{ending_of};
 ghost use Rattle.suit_cli.specs.Commands.{does};
 ghost use Rattle.suit_cli.specs.Judgement.{AreSafe};
@@ -18,12 +18,13 @@ ghost use Rattle.suit_cli.specs.Program.{
   ChecksSafe,
   ChecksUnsafe,
   AreCounted,
+  AsksForUpdate,
   LeavesBy,
   MayBeLeft,
   ComesTo,
   FlashPasses,
   IfBoots,
-  IsForUpdate,
+  NamesFiles,
   KeepsAsTold,
 };
 ghost use Rattle.suit_cli.specs.Settling.{StaysSettled};
@@ -200,8 +201,14 @@ pub fn run<H: Host, D: Disk, L: Launcher, K: Sink>(
         (⟦<H as SeenHost>⟧.seen host.old (⟦<D as SeenDisk>⟧.seen flash.old)) update invocation →
         (AreSafe update invocation → ⊥) → EndsIn 1 result.0 }
 
-    // No file changes but the one that `make` stores, and there is a limit to what is read.
+    // No file changes but the one that `make` stores, and there is a limit to what is read. `run update` asks for its file,
+    // and then for files that its words name, one for each fetch.
     ensures stays { LeavesBy (task_of words.now)
+        (⟦<H as SeenHost>⟧.seen host.old (⟦<D as SeenDisk>⟧.seen flash.old))
+        (⟦<H as SeenHost>⟧.seen host.new (⟦<D as SeenDisk>⟧.seen flash.new)) }
+    ensures asks { (name : List ℕ) (uris : List (List ℕ × List ℕ))
+        → task_of words.now ≡ Some (RunUpdate name uris) → IsTrue H.told
+        → AsksForUpdate name uris
         (⟦<H as SeenHost>⟧.seen host.old (⟦<D as SeenDisk>⟧.seen flash.old))
         (⟦<H as SeenHost>⟧.seen host.new (⟦<D as SeenDisk>⟧.seen flash.new)) }
 
@@ -212,9 +219,9 @@ pub fn run<H: Host, D: Disk, L: Launcher, K: Sink>(
         (⟦<H as SeenHost>⟧.seen host.old (⟦<D as SeenDisk>⟧.seen flash.old)) (D.flash flash.old)) }
 
     // Each launch has its digest, and its size where one is in force: of `run boot` on a sound flash, whatever the host is,
-    // and of `run update` where the host tells.
+    // and of `run update` where the host tells, or no URI names a file.
     ensures launches { IsTrue D.told → IsTrue L.told
-        → (IsForUpdate (task_of words.now) → IsTrue H.told)
+        → (NamesFiles (task_of words.now) → IsTrue H.told)
         → (task_of words.now ≡ Some RunBoot → Sound VERSION_1 (D.flash flash.old).reads)
         → GainsSafe (L.launches launcher.old) (L.launches launcher.new) }
 

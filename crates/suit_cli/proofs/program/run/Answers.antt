@@ -2,7 +2,7 @@ use Rattle.std.proofs.Common.{refl, subst, sym}
 use Rattle.suit_edge.specs.Flash.{IsFlash}
 use Rattle.suit_cli.specs.Coming.{ended_of}
 use Rattle.suit_cli.proofs.Sounding.{as_it_boots, stays_by}
-use Rattle.suit_cli.proofs.RunEnds.{yes, safe_is_yes, no_path, unsafe_is_no, stays, launches, counts}
+use Rattle.suit_cli.proofs.RunEnds.{yes, safe_is_yes, no_path, unsafe_is_no, stays, asks, launches, counts}
 use Rattle.suit_cli.proofs.program.run.Goals as goal
 
 pub returns-clause-runs : goal.returns-clause-runs
@@ -24,6 +24,9 @@ returns-clause-unsafe_is_no g c =
 
 pub returns-clause-stays : goal.returns-clause-stays
 returns-clause-stays g c = stays c.args.words.now _ _ _ _ _ _ c.put.result.0 (returns-clause-runs g c)
+
+pub returns-clause-asks : goal.returns-clause-asks
+returns-clause-asks g c = asks c.args.words.now _ _ _ _ _ _ c.put.result.0 (returns-clause-runs g c)
 
 pub returns-clause-counts : goal.returns-clause-counts
 returns-clause-counts g c = counts c.args.words.now _ _ _ _ _ _ c.put.result.0 (returns-clause-runs g c)

@@ -1,11 +1,14 @@
-use Rattle.std.proofs.Common.{ℕ, inr, refl, sym, subst}
+use Rattle.std.proofs.Common.{ℕ, inr, ⊎_elim, refl, sym, ap, subst}
 use Rattle.suit_edge.specs.FlashLaws.{same_flash}
 use Rattle.flash_layout.specs.declared.frame.TheConstants.{VERSION_1}
 use Rattle.flash_layout.specs.Configs.{ConfigOf, Configured}
 use Rattle.flash_layout.specs.Frames.{head_of}
 use Rattle.rollback_record.specs.SoundFlash.{Settled}
 use Rattle.suit_cli.specs.Acceptance.{accepted_by}
+use Rattle.step_machine.specs.Fetching.{asked_at}
+use Rattle.suit_cli.specs.Updating.{most_room}
 use Rattle.suit_cli.proofs.AcceptedFacts.{facts}
+use Rattle.suit_cli.proofs.FilesAsked.{rooms_fit}
 use Rattle.suit_cli.proofs.UpdateSound.{distinct, gains_update, sound_update}
 use Rattle.suit_cli.proofs.Settling.{order_start, updates_settled}
 use Rattle.suit_cli.proofs.run_update.update_by.Goals as goal
@@ -47,6 +50,8 @@ returns-clause-answer g c =
       record {
         alone = record { told = refl; files = u.files; flash_told = refl; size = u.size; launcher_told = refl };
         counts = u.counts;
+        asks = λ th. u.asked th (most_room (g.D.Disk.extent c.args.flash.now)) (rooms_fit VERSION_1 (g.D.Disk.extent c.args.flash.now) c.args.config.now.0 c.args.config.now.1 c.requires.allowed);
+        unasked = λ which. ap (λ host. asked_at (g.H.Host.asked host) (g.H.Host.pulled host)) (⊎_elim u.unfetched u.unbegun which);
         judged = u.judged;
         plays = u.plays;
         left = u.left;
