@@ -1,7 +1,9 @@
 -- The answer to a procedure that was played.
 use Rattle.std.proofs.Common.{◌≡◌, inr, ⊎_elim, ℕ, List, [], Option, sym, subst}
-use Rattle.suit_edge.specs.Flash.{Flash, IsFlash, IsSame, Keeps}
-use Rattle.suit_edge.specs.FlashLaws.{keeps_same, keeps_then}
+use Rattle.std.proofs.lemmas.List.{ext_get_or}
+use Rattle.suit_edge.specs.Flash.{Flash, ImageOn, IsFlash, IsSame, Keeps, Now}
+use Rattle.suit_edge.specs.FlashLaws.{keeps_same, keeps_then, same_flash_then, weakens}
+use Rattle.suit_edge.specs.Ranges.{SameOn}
 use Rattle.suit_edge.specs.declared.launch.Launch.{Launch}
 use Rattle.suit_commands.specs.Tree.{PlanTree}
 use Rattle.suit_manifest.specs.declared.manifest.Manifest.{Manifest}
@@ -17,7 +19,7 @@ use Rattle.step_machine.specs.PlanRuns.{Counts, EndCounts, OutsideTargets, Plays
 use Rattle.step_machine.proofs.Counting.{failed_behind, not_fallen}
 use Rattle.invoke_proc.specs.declared.boot_end.BootEnd.{BootEnd}
 use Rattle.invoke_proc.specs.declared.boot_end.BootEnd.TheVariants as ends
-use Rattle.invoke_proc.specs.Booting.{IfUnfaulted, IsStartEnd, KeepsOthers, KeptSo, PlayedSo, PlaysOn, SettledSo, StandActive, end_of}
+use Rattle.invoke_proc.specs.Booting.{IfUnfaulted, IsStartEnd, KeepsOthers, KeptSo, PlayedSo, PlaysOn, SettledSo, StandActive, WritesNothing, end_of}
 use Rattle.invoke_proc.specs.Counting.{BootCounts}
 
 -- ---- counts
@@ -97,3 +99,19 @@ keeps_on layout manifest active standings a b c size law stand plan is kept same
   stand = stand;
   keeps = keeps_then (OutsideTargets (invocation_tree manifest) standings) a b c size law (subst (λ (t : PlanTree). Keeps (OutsideTargets t standings) a b) is kept) (keeps_same (OutsideTargets (invocation_tree manifest) standings) b c same);
 }
+
+-- ---- a procedure that writes nothing
+
+-- all places are kept
+kept_same : (K : ℕ → Type 0) → ((i : ℕ) → K i) → (a b : Flash) → Keeps K a b → IsSame a b
+kept_same K all a b kept = record {
+  reads = same_bytes a.reads b.reads kept.reads;
+  images = weakens a b (ImageOn K a) (Now a) (λ image on. subst (Now a) (sym (same_bytes on.from image on.same)) on.was) kept.images;
+}
+  where
+    same_bytes : (old new : List ℕ) → SameOn K old new → new ≡ old
+    same_bytes old new same = ext_get_or 0 new old same.size (λ i lt. same.same i (all i))
+
+pub unwritten : (plan : PlanTree) (standings : List Standing) (a b c : Flash) (size : ℕ) → IsFlash b size → Keeps (OutsideTargets plan standings) a b → IsSame b c → WritesNothing plan → IsSame a c
+unwritten plan standings a b c size law kept same none =
+    same_flash_then a b c size law (kept_same (OutsideTargets plan standings) (λ i k d lt target. absurd (none k target)) a b kept) same

@@ -6,6 +6,8 @@ use Rattle.suit_edge.specs.Faults.{Faulted}
 use Rattle.suit_edge.specs.declared.launch.Launch.{Launch}
 use Rattle.suit_envelope.specs.Envelopes.{EnvelopeSays}
 use Rattle.suit_envelope.specs.Payloads.{HasPayloads}
+use Rattle.suit_commands.specs.Targets.{IsTarget}
+use Rattle.suit_commands.specs.Tree.{PlanTree}
 use Rattle.suit_manifest.specs.declared.manifest.Manifest.{Manifest}
 use Rattle.suit_manifest.specs.Procedures.{invocation_tree}
 use Rattle.path_model.specs.declared.cause.Cause.TheVariants as causes
@@ -166,6 +168,10 @@ IsStartEnd (ends.BadBank refusal) = ⊥
 IsStartEnd (ends.NotAuthentic lacking) = ⊥
 IsStartEnd (ends.UnknownComponent component) = ⊥
 IsStartEnd _ = Unit {0}
+
+-- no component is written by the procedure
+abbrev pub WritesNothing : PlanTree → Type 0
+WritesNothing plan = (component : ℕ) → IsTarget plan component → ⊥
 
 -- a procedure that ended so is answered so, or the flash failed behind it
 abbrev pub SettledSo : PlanEnd → BootEnd → ℕ → ℕ → Type 0

@@ -3,12 +3,13 @@
 ghost use Rattle.flash_layout.specs.declared.frame.TheConstants.{VERSION_1};
 ghost use Rattle.flash_layout.specs.Layouts.{IsLayout};
 ghost use Rattle.flash_layout.specs.Placement.{ArePlaces};
-ghost use Rattle.invoke_proc.specs.Booting.{IfUnfaulted, IsStartEnd, KeepsOthers, KeptSo, PlayedSo, PlaysOn, SettledSo, end_of};
+ghost use Rattle.invoke_proc.specs.Booting.{IfUnfaulted, IsStartEnd, KeepsOthers, KeptSo, PlayedSo, PlaysOn, SettledSo, WritesNothing, end_of};
 ghost use Rattle.invoke_proc.specs.Counting.{BootCounts};
 ghost use Rattle.std.specs.Prelude.{◌≡◌, ◌≤◌, ◌⊎◌, ℕ, IsTrue, List, length};
 ghost use Rattle.step_machine.specs.PlanRuns.{counts_of};
 ghost use Rattle.step_machine.specs.Worlds.{AreDistinct};
 ghost use Rattle.suit_commands.specs.Allowed.{IsPlan};
+ghost use Rattle.suit_commands.specs.Plans.{plan_tree};
 ghost use Rattle.suit_edge.specs.Flash.{Grows, IsSame, IsSettled};
 ghost use Rattle.suit_envelope.specs.Payloads.{HasPayloads};
 ghost use Rattle.suit_manifest.specs.Procedures.{invocation_tree};
@@ -20,6 +21,7 @@ use flash_layout::{Layout, Record};
 use path_model::Cause;
 use std::alloc::{AllocError, Global};
 use step_machine::{PlanEnd, Steps, Uris, run_plan};
+use suit_commands::{Plan, targets};
 use suit_edge::{Disk, Edge, Host, Launcher};
 use suit_manifest::invocation_plan;
 
@@ -34,11 +36,16 @@ fn end_of(end: PlanEnd) -> BootEnd
     }
 }
 
-// Syncs what a procedure wrote, unless a fault of the flash ended it.
-fn settle<D: Disk>(disk: &mut D, end: PlanEnd) -> BootEnd
+// Syncs what a procedure wrote, unless it writes nothing or a fault of the flash ended it.
+fn settle<D: Disk>(disk: &mut D, plan: &Plan<'_>, end: PlanEnd) -> BootEnd
+    requires { IsPlan (plan_tree plan.now) }
     ensures read { ⟦<D as Steps>⟧.only_reads (SettledSo end result) disk.old disk.new }
-    ensures settled { IsTrue D.told → IfUnfaulted result (IsSettled (D.flash disk.new)) }
+    ensures settled { IsTrue D.told
+        → IfUnfaulted result (WritesNothing (plan_tree plan.now) ⊎ IsSettled (D.flash disk.new)) }
 {
+    if targets(plan).bits == 0 {
+        return end_of(end);
+    }
     match end {
         PlanEnd::DirectiveFailed {
             cause: Cause::FlashFault,
@@ -98,5 +105,5 @@ pub(crate) fn start<H: Host, D: Disk, L: Launcher>(
     };
     let plan = invocation_plan(&startable.manifest);
     let end = run_plan(host, disk, launcher, &mut world, &plan);
-    settle(disk, end)
+    settle(disk, &plan, end)
 }

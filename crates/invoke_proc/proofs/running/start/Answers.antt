@@ -1,11 +1,11 @@
-use Rattle.std.proofs.Common.{inr, sym, subst, ap, ◌∙◌}
+use Rattle.std.proofs.Common.{inl, inr, ⊎_elim, sym, subst, ap, ◌∙◌}
 use Rattle.suit_commands.specs.Allowed.{IsPlan}
 use Rattle.suit_commands.specs.Tree.{PlanTree}
 use Rattle.suit_edge.specs.Flash.{IsSame}
 use Rattle.suit_envelope.specs.Payloads.{HasPayloads}
 use Rattle.suit_envelope.specs.declared.envelope.Envelope.{Envelope}
 use Rattle.invoke_proc.specs.Booting.{KeepsOthers, PlaysOn}
-use Rattle.invoke_proc.proofs.Played.{counts_after, kept_after, keeps_on, plays_after, plays_on, starts_after}
+use Rattle.invoke_proc.proofs.Played.{counts_after, kept_after, keeps_on, plays_after, plays_on, starts_after, unfaulted, unwritten}
 use Rattle.invoke_proc.proofs.running.start.Goals as goal
 
 pub run_plan-end-requires-clause-standings : goal.run_plan-end-requires-clause-standings
@@ -51,3 +51,13 @@ returns-clause-keeps g c td =
 
 pub returns-clause-unasked : goal.returns-clause-unasked
 returns-clause-unasked g c = c.run_plan-end.ensures.unasked (c.in-Ok.ensures.uris ∙ c.new-uris.ensures)
+
+pub settle-requires : goal.settle-requires
+settle-requires g c = subst IsPlan (sym c.invocation_plan-plan.ensures) c.requires.plan
+
+pub returns-clause-settled : goal.returns-clause-settled
+returns-clause-settled g c td =
+    unfaulted _ _ c.settle.result
+    (λ either. ⊎_elim
+    (λ none. inl (unwritten _ c.in-Ok.world.standings.items _ _ _ _ (g.met.D.Disk.obeys c.run_plan-end.new.disk td) (c.run_plan-end.ensures.keeps td) (c.settle.ensures.read.same td) none))
+    (λ settled. inr settled) either) (c.settle.ensures.settled td)
