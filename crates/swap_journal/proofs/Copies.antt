@@ -7,7 +7,7 @@ use Rattle.std.proofs.lemmas.List.{ext_get_or}
 use Rattle.std.proofs.lemmas.List.FromFn.{length-map-range_with_len, get_or-map-range_with_len}
 use Rattle.std.proofs.lemmas.List.Edits.{length-between, get_or-between}
 use Rattle.suit_edge.specs.Ranges.{Outside, SameOn}
-use Rattle.swap_journal.specs.declared.exchange.Exchange.{Exchange}
+use Rattle.swap_journal.specs.declared.contents.Exchange.{Exchange}
 use Rattle.swap_journal.specs.Exchanges.{AreApart, FitsDisk, IsCopy, RecoversSame, longest, copies, copy_from, copy_to, copy_size, piece_from, piece_to, piece_size, first_byte, second_byte, first_recovered, second_recovered}
 use Rattle.swap_journal.specs.CopyLaws.{CopyLaws}
 

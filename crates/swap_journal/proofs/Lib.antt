@@ -1,3 +1,5 @@
 pub mod Copies
 pub mod Making
 pub mod Turns
+pub mod Swapping
+pub mod Completion

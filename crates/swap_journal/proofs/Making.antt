@@ -10,7 +10,7 @@ use Rattle.suit_edge.specs.FlashLaws.{weakens, keeps_fewer}
 use Rattle.suit_edge.specs.declared.edge.Edge.{Edge}
 use Rattle.suit_edge.specs.declared.edge.Edge.TheVariants as edge
 use Rattle.suit_edge.specs.Edge.{IfDone}
-use Rattle.swap_journal.specs.declared.exchange.Exchange.{Exchange}
+use Rattle.swap_journal.specs.declared.contents.Exchange.{Exchange}
 use Rattle.swap_journal.specs.Exchanges.{AreApart, FitsDisk, IsCopy, RecoversSame, areas, longest, copies, copy_from, copy_to, copy_size, piece_from, piece_to, piece_size}
 use Rattle.swap_journal.proofs.Copies.{torn, in_contents, step_of}
 

@@ -12,7 +12,7 @@ use Rattle.std.proofs.Math.Nat.{mul-div-le}
 use Rattle.suit_edge.specs.Flash.{Flash, Now, IsSame, Passes, ImageOn, Keeps, IsSettled, IsFlash}
 use Rattle.suit_edge.specs.FlashLaws.{each_read, weakens, joined, starts, keeps_fewer, keeps_then}
 use Rattle.suit_edge.specs.Gate.{IsOpen, IsGated, IsNewPage, page_at}
-use Rattle.swap_journal.specs.declared.exchange.Exchange.{Exchange}
+use Rattle.swap_journal.specs.declared.contents.Exchange.{Exchange}
 use Rattle.swap_journal.specs.declared.progress.Entry.{Entry}
 use Rattle.swap_journal.specs.declared.progress.Entry.TheVariants.{First, Second}
 use Rattle.swap_journal.specs.Exchanges.{FitsDisk, RecoversSame, areas, copies, longest}
@@ -21,7 +21,7 @@ use Rattle.swap_journal.proofs.Copies.{all, whole, short_rest}
 
 -- ---- images that have both
 
-both_pass : (a b : Flash) (P Q : List ℕ → Type 0) → Passes a b P → Passes a b Q → Passes a b (λ image. P image × Q image)
+pub both_pass : (a b : Flash) (P Q : List ℕ → Type 0) → Passes a b P → Passes a b Q → Passes a b (λ image. P image × Q image)
 both_pass a b P Q p q = record {
   later = p.later;
   each = λ image may. (p.each image may, q.each image may);
@@ -29,12 +29,12 @@ both_pass a b P Q p q = record {
 }
 
 -- of a settled start, places that are left alone read as they did
-settled_on : (K : ℕ → Type 0) (a : Flash) (image : List ℕ) → IsSettled a → ImageOn K a image → SameOn K a.reads image
+pub settled_on : (K : ℕ → Type 0) (a : Flash) (image : List ℕ) → IsSettled a → ImageOn K a image → SameOn K a.reads image
 settled_on K a image settled on = subst (λ (l : List ℕ). SameOn K l image) (settled on.from on.was) on.same
 
 -- ---- numbers of entries
 
-number_same : (K : ℕ → Type 0) (old image : List ℕ) (gate : ℕ) → SameOn K old image → gate + 9 ≤ length old → ((i : ℕ) → gate ≤ i → i < gate + 9 → K i)
+pub number_same : (K : ℕ → Type 0) (old image : List ℕ) (gate : ℕ) → SameOn K old image → gate + 9 ≤ length old → ((i : ℕ) → gate ≤ i → i < gate + 9 → K i)
     → number_at image gate ≡ number_at old gate
 number_same K old image gate same fits at =
     let first : get_or image gate 0 ≡ get_or old gate 0 = same.same gate (at gate (omega arith) (omega arith)) in
@@ -44,7 +44,7 @@ number_same K old image gate same fits at =
 
 -- ---- contents of the areas
 
-same_areas : (x : Exchange) (k : ℕ) (K : ℕ → Type 0) (old image : List ℕ) → SameOn K old image
+pub same_areas : (x : Exchange) (k : ℕ) (K : ℕ → Type 0) (old image : List ℕ) → SameOn K old image
     → ((i : ℕ) → i < longest x → K (x.first + i)) → ((i : ℕ) → i < longest x → K (x.second + i)) → ((i : ℕ) → i < 4096 → K (x.scratch + i)) → RecoversSame x k old k image
 same_areas x k K old image same at_first at_second at_scratch = whole x k k old image (record {
   first = λ i lt.
@@ -133,7 +133,7 @@ out_of_other page Second n i is low high = (inl (omega (arith, high)), (inl (ome
 open_number : (image : List ℕ) (gate : ℕ) → IsOpen image gate → number_at image gate ≡ from_be_bytes w64 (slice_range image (gate + 1) (gate + 9))
 open_number image gate is_open = rw is_open refl
 
-shut_number : (image : List ℕ) (gate : ℕ) → (get_or image gate 0 == OPEN) ≡ false → number_at image gate ≡ 0
+pub shut_number : (image : List ℕ) (gate : ℕ) → (get_or image gate 0 == OPEN) ≡ false → number_at image gate ≡ 0
 shut_number image gate shut = rw shut refl
 
 module _ (gate n : ℕ) (body : List ℕ) (is : body ≡ to_be_bytes w64 n) (small : n < 2 ^ 64) where

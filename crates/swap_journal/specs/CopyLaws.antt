@@ -1,7 +1,7 @@
 -- The law of copies.
 use Rattle.std.specs.Prelude.{◌≡◌, ◌<◌, ◌≤◌, ◌+◌, ℕ, List, length, slice_range}
 use Rattle.suit_edge.specs.Ranges.{Outside, SameOn}
-use Rattle.swap_journal.specs.declared.exchange.Exchange.{Exchange}
+use Rattle.swap_journal.specs.declared.contents.Exchange.{Exchange}
 use Rattle.swap_journal.specs.Exchanges.{AreApart, FitsDisk, IsCopy, RecoversSame, copies, copy_from, copy_size, copy_to, first_recovered, second_recovered}
 
 pub record CopyLaws : Type 0 where

@@ -2,7 +2,7 @@
 use Rattle.std.specs.Prelude.{◌≡◌, ◌⊎◌, ◌<◌, ◌≤◌, ◌+◌, ◌-◌, ◌*◌, ◌/◌, ◌%◌, ◌==◌, ℕ, min, max, List, [], ◌∷◌, map, slice_index, nat_lt, nat_le, if◌then◌else◌}
 use Rattle.std.specs.List.{range_with_len}
 use Rattle.suit_edge.specs.Ranges.{Range, Outside, SameOn}
-use Rattle.swap_journal.specs.declared.exchange.Exchange.{Exchange}
+use Rattle.swap_journal.specs.declared.contents.Exchange.{Exchange}
 
 abbrev pub longest : Exchange → ℕ
 longest x = max x.first_length x.second_length

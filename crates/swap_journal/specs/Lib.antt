@@ -1,3 +1,4 @@
 pub mod Exchanges
 pub mod CopyLaws
 pub mod Progress
+pub mod Swaps

@@ -4,7 +4,7 @@ use Rattle.std.specs.Int.{w64, from_be_bytes}
 use Rattle.suit_edge.specs.declared.page.TheConstants.{OPEN}
 use Rattle.suit_edge.specs.Flash.{Flash, Now}
 use Rattle.suit_edge.specs.Ranges.{Range}
-use Rattle.swap_journal.specs.declared.exchange.Exchange.{Exchange}
+use Rattle.swap_journal.specs.declared.contents.Exchange.{Exchange}
 use Rattle.swap_journal.specs.declared.progress.Entry.{Entry}
 use Rattle.swap_journal.specs.declared.progress.Entry.TheVariants.{First, Second}
 use Rattle.swap_journal.specs.Exchanges.{RecoversSame, longest, first_recovered, second_recovered}

@@ -1,3 +1,5 @@
 //! The tests.
 
 mod cuts;
+mod quiet;
+mod swaps;
