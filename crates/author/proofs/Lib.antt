@@ -15,4 +15,5 @@ pub mod DescriptionGrammar
 pub mod DescriptionLawProofs
 pub mod PayloadsAscend
 pub mod MadeAnswers
+pub mod EnvelopeLengthFacts
 pub mod MadeWrappers

@@ -19,5 +19,7 @@ pub mod Held
 pub mod Making
 pub mod Severances
 pub mod MadeEnvelopes
+pub mod EnvelopeLengths
+pub mod MadePayloads
 pub mod MadeMembers
 pub mod DescriptionLaws

@@ -6,6 +6,7 @@ ghost use Rattle.author.specs.FileNames.{file_names};
 ghost use Rattle.author.specs.Files.{has_files};
 ghost use Rattle.author.specs.Held.{value_of};
 ghost use Rattle.author.specs.MadeMembers.{HoldsMembersOf};
+ghost use Rattle.author.specs.MadePayloads.{HoldsPayloadsOf};
 ghost use Rattle.author.specs.MadeEnvelopes.{made_parts, HasOneBlock, IsMadeOf, IsTooLong, IsMakeFaultOf, IsMadeAs, IsTooLongBy, IsAuthenticUnder, HoldsPartsOf, HoldsManifestOf};
 
 use crate::made_wrapper::made_wrapper;
@@ -71,6 +72,7 @@ pub fn make(
     ensures authentic { IfOk result (IsAuthenticUnder key.now) }
     ensures manifest { IfOk result (HoldsManifestOf (value_of description.now) files.now) }
     ensures members { IfOk result (HoldsMembersOf (value_of description.now) files.now) }
+    ensures payloads { IfOk result (HoldsPayloadsOf (value_of description.now) files.now) }
 {
     description_laws();
     let said = parts_of(alloc, description, files)?;

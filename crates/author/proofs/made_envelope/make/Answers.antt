@@ -2,7 +2,8 @@ use Rattle.std.proofs.lemmas.Result.{IfOk-weaker}
 use Rattle.author.specs.Held.{value_of}
 use Rattle.author.specs.MadeEnvelopes.{IsAuthenticUnder, HoldsPartsOf, HoldsManifestOf}
 use Rattle.author.specs.MadeMembers.{HoldsMembersOf}
-use Rattle.author.proofs.MadeAnswers.{made_ok, made_refused, made_envelope, made_limit, authentic_made, holds_parts, holds_manifest, holds_members}
+use Rattle.author.specs.MadePayloads.{HoldsPayloadsOf}
+use Rattle.author.proofs.MadeAnswers.{made_ok, made_refused, made_envelope, made_limit, authentic_made, holds_parts, holds_manifest, holds_members, holds_payloads}
 use Rattle.author.proofs.made_envelope.make.Goals as goal
 
 pub returns-clause-ok : goal.returns-clause-ok
@@ -42,3 +43,10 @@ returns-clause-members c =
     IfOk-weaker c.encode_short.result _ (HoldsMembersOf d c.args.files.now)
     (λ bytes e. holds_members c.description_laws.ensures d c.args.files.now c.args.key.now bytes c.in_ok-said.said c.in_ok-parts.parts c.in_ok-parted.parted e.0 c.args.description.now.accepted c.in_ok-said.ensures c.in_ok-parted.ensures.is
     c.in_ok-parts.ensures.is c.in_ok-parted.ensures.written e.1.0 e.1.1) c.encode_short.ensures.says
+
+pub returns-clause-payloads : goal.returns-clause-payloads
+returns-clause-payloads c =
+    let d = value_of c.args.description.now in
+    IfOk-weaker c.encode_short.result _ (HoldsPayloadsOf d c.args.files.now)
+    (λ bytes e. holds_payloads d c.args.files.now c.args.key.now bytes c.in_ok-said.said c.in_ok-parts.parts c.in_ok-parted.parted c.in_ok-said.ensures c.in_ok-parted.ensures.is
+    c.in_ok-parts.ensures.is e) c.encode_short.ensures.payloads
