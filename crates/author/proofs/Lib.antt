@@ -17,3 +17,7 @@ pub mod PayloadsAscend
 pub mod MadeAnswers
 pub mod EnvelopeLengthFacts
 pub mod MadeWrappers
+pub mod LeftAfter
+pub mod ContentFacts
+pub mod OutlineFacts
+pub mod TooLongFacts

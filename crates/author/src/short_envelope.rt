@@ -13,9 +13,10 @@ use det_cbor::Bytes;
 use std::alloc::Global;
 use suit_envelope::{Envelope, EnvelopeParts, PayloadList, encode_envelope, trimmed_length};
 
-// The longest envelopes, in bytes.
-const MAX_TRIMMED: u64 = 16_384;
+/// The longest trimmed envelope, in bytes.
+pub(crate) const MAX_TRIMMED: u64 = 16_384;
 
+// The longest envelope, in bytes.
 const MAX_WHOLE: u64 = 1_048_576;
 
 // The length of the trimmed envelope of these parts. Saturates at 64 bits.
