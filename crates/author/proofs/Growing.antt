@@ -150,7 +150,7 @@ eqb_left m n h = grind (arith, nat_tests)
 
 -- ---- the turns of the loops that read sequences and branches
 
-drop_turn : (vs : List Value) (i : ℕ) (v : Value) → i < length vs → v ≡ get_or vs i v → items_view (drop i vs) ≡ item (view v) (items_view (drop (i + 1) vs))
+pub drop_turn : (vs : List Value) (i : ℕ) (v : Value) → i < length vs → v ≡ get_or vs i v → items_view (drop i vs) ≡ item (view v) (items_view (drop (i + 1) vs))
 drop_turn vs i v h is = ap items_view (drop-cons vs i v h) ∙ ap (λ x. item (view x) (items_view (drop (suc i) vs))) (sym is) ∙ ap (λ n. item (view v) (items_view (drop n vs))) (sym (add-one i))
 
 module _ (scope : Scope) (levels i : ℕ) (vs : List Value) where

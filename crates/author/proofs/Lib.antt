@@ -15,4 +15,9 @@ pub mod DescriptionGrammar
 pub mod DescriptionLawProofs
 pub mod PayloadsAscend
 pub mod MadeAnswers
+pub mod EnvelopeLengthFacts
 pub mod MadeWrappers
+pub mod LeftAfter
+pub mod ContentFacts
+pub mod OutlineFacts
+pub mod TooLongFacts

@@ -1,5 +1,5 @@
 -- The answer to a description that is made into an envelope.
-use Rattle.std.proofs.Common.{◌≡◌, ℕ, Bool, true, false, Option, ◌<◌, ◌≤◌, ◌^◌, ◌-◌, length, min, List, [], ◌∷◌, Result, Ok, Err, refl, sym, ap, subst, ◌∙◌, arith, inl, inr}
+use Rattle.std.proofs.Common.{◌≡◌, ℕ, Bool, true, false, Option, length, List, [], ◌∷◌, Result, Ok, Err, refl, sym, ap, subst, ◌∙◌, arith, inl, inr}
 use Rattle.std.specs.Prelude.{IfOk, IfErr}
 use Rattle.serde_json.specs.Data.{Data}
 use Rattle.json_fields.specs.declared.flaw.Flaw.{Flaw}
@@ -8,9 +8,8 @@ use Rattle.suit_envelope.specs.Envelopes.{EnvelopeSays}
 use Rattle.suit_envelope.specs.Macs.{ThisVerifies}
 use Rattle.suit_envelope.specs.Making.{SaysParts}
 use Rattle.suit_envelope.specs.Members.{string_digest}
-use Rattle.suit_envelope.specs.Said.{said_by, EnvelopeOf}
-use Rattle.suit_envelope.specs.Trimmed.{trimmed}
-use Rattle.suit_envelope.specs.declared.envelope.Envelope.{Envelope}
+use Rattle.suit_envelope.specs.Payloads.{HasPayloads}
+use Rattle.suit_envelope.specs.Said.{EnvelopeOf}
 use Rattle.suit_params.specs.Refusing.{SaysWhole}
 use Rattle.suit_manifest.specs.ManifestMaking.{placed_manifest}
 use Rattle.suit_manifest.specs.ManifestWriting.{ManifestFits, IsWrittenManifest, IsGrammatical}
@@ -21,7 +20,6 @@ use Rattle.suit_manifest.specs.declared.manifest.TextMember.{TextMember}
 use Rattle.suit_manifest.specs.declared.manifest.TextMember.TheVariants as texts
 use Rattle.suit_commands.specs.SequenceMaking.{sequence_item}
 use Rattle.det_cbor.specs.DataItem.{spell}
-use Rattle.suit_params.specs.declared.refusal.Refusal.{Refusal}
 use Rattle.suit_envelope.specs.declared.parts.EnvelopeParts.{EnvelopeParts}
 use Rattle.author.specs.declared.fields.Described.{Described}
 use Rattle.author.specs.declared.making.Parted.{Parted}
@@ -32,7 +30,8 @@ use Rattle.author.specs.DescriptionLaws.{DescriptionLaws}
 use Rattle.author.specs.Faults.{IsDescription}
 use Rattle.author.specs.Making.{apart_member, apart_text, made_manifest}
 use Rattle.author.specs.Severances.{parted, severed_content, severed_text}
-use Rattle.author.specs.MadeEnvelopes.{made_parts, made_bytes, trimmed_bytes, IsShort, ExceedsLimit, Trimmed, Whole, AnswersShort, IsMadeOf, IsTooLong, IsMakeFaultOf, IsMadeAs, IsTooLongBy, HasOneBlock, IsAuthenticUnder, HoldsPartsOf, HoldsManifestOf}
+use Rattle.author.specs.MadeEnvelopes.{made_parts, made_bytes, IsShort, ExceedsLimit, Trimmed, Whole, AnswersShort, IsMadeOf, IsTooLong, IsMakeFaultOf, IsMadeAs, IsTooLongBy, HasOneBlock, IsAuthenticUnder, HoldsPartsOf, HoldsManifestOf}
+use Rattle.author.specs.MadePayloads.{HoldsPayloadsOf}
 use Rattle.author.specs.MadeMembers.{HoldsSevered, HoldsText, HoldsMembersOf, IsAllowedMember, IsWrittenApart, AreWrittenApart}
 use Rattle.author.proofs.DescriptionLawProofs.{is_description}
 
@@ -47,38 +46,6 @@ one_limit parts _ _ (Trimmed a) (Trimmed b) = refl
 one_limit parts _ _ (Trimmed a) (Whole b c) = absurd (omega arith)
 one_limit parts _ _ (Whole a b) (Trimmed c) = absurd (omega arith)
 one_limit parts _ _ (Whole a b) (Whole c d) = refl
-
-abbrev said_in : EnvelopeSays → Result EnvelopeSays Refusal → EnvelopeSays
-said_in other (Ok said) = said
-said_in other (Err r) = other
-
-abbrev pub told : EnvelopeSays → Result EnvelopeSays Refusal
-told said = Ok said
-
--- of an envelope that says the parts
-pub trimmed_same : (parts : EnvelopeParts) (said : EnvelopeSays) (e : Envelope) → told (said_by e) ≡ told said → SaysParts parts said → trimmed e.wrapper.now e.manifest.now ≡ trimmed_bytes parts
-trimmed_same parts said e is says =
-    let same : said_by e ≡ said = ap (said_in said) is in
-    ap (λ s. trimmed s.wrapper s.manifest) same ∙ rw (says.wrapper, says.manifest) refl
-
-pub trimmed_long : (parts : EnvelopeParts) (said : EnvelopeSays) (e : Envelope) (n : ℕ) → told (said_by e) ≡ told said → SaysParts parts said
-    → n ≡ min (length (trimmed e.wrapper.now e.manifest.now)) (2 ^ 64 - 1) → 16384 < n → ExceedsLimit parts 16384
-trimmed_long parts said e n is says counted long = let same = trimmed_same parts said e is says in Trimmed (rw (← same) (omega (arith, counted, long)))
-
-trimmed_short : (parts : EnvelopeParts) (said : EnvelopeSays) (e : Envelope) (n : ℕ) → told (said_by e) ≡ told said → SaysParts parts said
-    → n ≡ min (length (trimmed e.wrapper.now e.manifest.now)) (2 ^ 64 - 1) → n ≤ 16384 → length (trimmed_bytes parts) ≤ 16384
-trimmed_short parts said e n is says counted short = let same = trimmed_same parts said e is says in rw (← same) (omega (arith, counted, short))
-
-pub whole_long : (parts : EnvelopeParts) (said : EnvelopeSays) (e : Envelope) (n : ℕ) (bytes : List ℕ) → told (said_by e) ≡ told said → SaysParts parts said
-    → n ≡ min (length (trimmed e.wrapper.now e.manifest.now)) (2 ^ 64 - 1) → n ≤ 16384 → bytes ≡ made_bytes parts → 1048576 < length bytes → ExceedsLimit parts 1048576
-whole_long parts said e n bytes is says counted short made long = Whole (trimmed_short parts said e n is says counted short) (subst (λ (b : List ℕ). 1048576 < length b) made long)
-
-pub both_short : (parts : EnvelopeParts) (said : EnvelopeSays) (e : Envelope) (n : ℕ) (bytes : List ℕ) → told (said_by e) ≡ told said → SaysParts parts said
-    → n ≡ min (length (trimmed e.wrapper.now e.manifest.now)) (2 ^ 64 - 1) → n ≤ 16384 → bytes ≡ made_bytes parts → length bytes ≤ 1048576 → AnswersShort parts (Ok bytes)
-both_short parts said e n bytes is says counted short made few = (made, (trimmed_short parts said e n is says counted short, subst (λ (b : List ℕ). length b ≤ 1048576) made few))
-
-pub never_refused : (said : EnvelopeSays) (r : Refusal) → Err r ≡ told said → ⊥
-never_refused said r e = absurd cc
 
 -- ---- answers
 
@@ -217,4 +184,16 @@ holds_members law d files key bytes described_as p q said accepted reads e k wri
             (says.install ∙ ap (λ (x : EnvelopeParts). x.install) same);
         text = holds_text said.text described_as.severed.text described_as.manifest.text (says.text ∙ ap (λ (x : EnvelopeParts). x.text) same);
       };
+    }
+
+-- ---- the payloads are those of the description
+
+pub holds_payloads : (d : Data) (files : List (List ℕ × List ℕ)) (key bytes : List ℕ) (described_as : Described) (p : EnvelopeParts) (q : Parted) → described files d ≡ Ok described_as
+    → q ≡ parted described_as → p ≡ made_parts key q → HasPayloads bytes p.payloads → HoldsPayloadsOf d files bytes
+holds_payloads d files key bytes described_as p q reads e k has =
+    let same : p ≡ made_parts key (parted described_as) = k ∙ ap (made_parts key) e in
+    record {
+      described_as = described_as;
+      reads = reads;
+      payloads = subst (HasPayloads bytes) (ap (λ (x : EnvelopeParts). x.payloads) same) has;
     }

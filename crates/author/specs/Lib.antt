@@ -6,10 +6,12 @@ pub mod Scope
 pub mod Elements
 pub mod Selections
 pub mod CommandNames
+pub mod Contents
 pub mod Commands
 pub mod Identifiers
 pub mod Members
 pub mod Severing
+pub mod Outlines
 pub mod Payloads
 pub mod Descriptions
 pub mod Alike
@@ -19,5 +21,7 @@ pub mod Held
 pub mod Making
 pub mod Severances
 pub mod MadeEnvelopes
+pub mod EnvelopeLengths
+pub mod MadePayloads
 pub mod MadeMembers
 pub mod DescriptionLaws

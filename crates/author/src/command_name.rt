@@ -4,6 +4,7 @@ ghost use Rattle.std.specs.Prelude.{◌≡◌};
 ghost use Rattle.serde_json.specs.View.{view};
 ghost use Rattle.json_fields.specs.Answers.{Gives};
 ghost use Rattle.author.specs.CommandNames.{command_named, name_of};
+ghost use Rattle.author.specs.Contents.{command_by_name};
 
 use json_fields::{FlawKind, JsonFault, flawed};
 use serde_json::Value;
@@ -44,6 +45,16 @@ fn command_named(name: &str) -> Option<CommandName>
         _ => return None,
     };
     Some(command)
+}
+
+/// The command that a value names, if it does.
+pub(crate) fn named(value: &Value) -> Option<CommandName>
+    ensures { result ≡ command_by_name (view value.now) }
+{
+    match value.as_str() {
+        Some(text) => command_named(text),
+        None => None,
+    }
 }
 
 /// The command that a value names, in the shared sequence or another one.

@@ -4,6 +4,7 @@
 mod alike;
 mod command_name;
 mod commands;
+mod contents;
 mod describing;
 mod elements;
 mod fault;
@@ -20,6 +21,8 @@ mod made_wrapper;
 mod make_fault;
 mod making;
 mod member_fields;
+mod outline;
+mod overlong;
 mod param_fields;
 mod param_name;
 mod parts;

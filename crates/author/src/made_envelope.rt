@@ -6,12 +6,14 @@ ghost use Rattle.author.specs.FileNames.{file_names};
 ghost use Rattle.author.specs.Files.{has_files};
 ghost use Rattle.author.specs.Held.{value_of};
 ghost use Rattle.author.specs.MadeMembers.{HoldsMembersOf};
+ghost use Rattle.author.specs.MadePayloads.{HoldsPayloadsOf};
 ghost use Rattle.author.specs.MadeEnvelopes.{made_parts, HasOneBlock, IsMadeOf, IsTooLong, IsMakeFaultOf, IsMadeAs, IsTooLongBy, IsAuthenticUnder, HoldsPartsOf, HoldsManifestOf};
 
 use crate::made_wrapper::made_wrapper;
 use crate::making::{Parted, part};
+use crate::overlong::is_overlong;
 use crate::parts::parts_of;
-use crate::short_envelope::encode_short;
+use crate::short_envelope::{MAX_TRIMMED, encode_short};
 use crate::{Description, FileList, MakeFault, description_laws};
 use det_cbor::Bytes;
 use std::alloc::{AllocError, Global};
@@ -71,8 +73,13 @@ pub fn make(
     ensures authentic { IfOk result (IsAuthenticUnder key.now) }
     ensures manifest { IfOk result (HoldsManifestOf (value_of description.now) files.now) }
     ensures members { IfOk result (HoldsMembersOf (value_of description.now) files.now) }
+    ensures payloads { IfOk result (HoldsPayloadsOf (value_of description.now) files.now) }
 {
     description_laws();
+    let overlong = is_overlong(alloc, description, files, MAX_TRIMMED)?;
+    if overlong {
+        return Err(MakeFault::TooLong(MAX_TRIMMED));
+    }
     let said = parts_of(alloc, description, files)?;
     let parted = part(alloc, said)?;
     let parts = made_parts(alloc, parted, key)?;

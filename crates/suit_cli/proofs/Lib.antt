@@ -45,3 +45,5 @@ mod NoPayloads
 mod LaunchedLawProofs
 pub mod WordsLawProofs
 pub mod RunLawProofs
+pub mod BootLawProofs
+pub mod UpdateEndLawProofs

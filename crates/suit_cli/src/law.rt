@@ -1,10 +1,12 @@
 //! Laws of the answers to the words and of each command, however they are computed.
 
+ghost use Rattle.suit_cli.specs.BootLaws.{BootLaws};
 ghost use Rattle.suit_cli.specs.RunLaws.{RunLaws};
 ghost use Rattle.suit_cli.specs.CommandLaws.{CheckLaws, ShowLaws};
 ghost use Rattle.suit_cli.specs.DescribingLaws.{DescribingLaws};
 ghost use Rattle.suit_cli.specs.MakeLaws.{MakeLaws};
 ghost use Rattle.suit_cli.specs.FlashLaws.{InitLaws, StatusLaws};
+ghost use Rattle.suit_cli.specs.UpdateEndLaws.{UpdateEndLaws};
 ghost use Rattle.suit_cli.specs.UpdateLaws.{UpdateLaws};
 ghost use Rattle.suit_cli.specs.WordsLaws.{WordsLaws};
 
@@ -94,6 +96,20 @@ pub fn update_laws()
     manifest_laws();
     members_laws();
 }
+
+/// Does nothing. Its contract has the laws of an update that `run update FILE` began, over objects that tell what they hold:
+/// the file was accepted, and each end has its cause. It was refused beside the record, or its procedure was played to that
+/// end; or the flash failed outside of it, or memory ran out.
+pub fn update_end_laws()
+    ensures { UpdateEndLaws }
+{}
+
+/// Does nothing. Its contract has the laws of `run boot` over a flash and a launcher that tell what they hold: each end has
+/// its cause. Nothing was started for the first thing that is wrong in configuration, record and bank; or the recorded
+/// manifest's procedure was played to that end; or the flash failed outside of it, or memory ran out.
+pub fn boot_laws()
+    ensures { BootLaws }
+{}
 
 /// Does nothing. Its contract has the laws of every run, which follow from its answer and the put of it, as `run` has
 /// them: usage, exactly where the words are no command; which statuses there are; which part of the lines is put where the

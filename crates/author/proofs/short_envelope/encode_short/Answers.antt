@@ -1,26 +1,18 @@
-use Rattle.std.proofs.Common.{arith}
-use Rattle.author.proofs.MadeAnswers.{trimmed_long, whole_long, both_short, never_refused}
+use Rattle.std.proofs.Common.{◌≡◌, ◌<◌, ◌≤◌, ℕ, List, length, subst, arith}
+use Rattle.author.specs.MadeEnvelopes.{Whole}
+use Rattle.author.proofs.EnvelopeLengthFacts.{trimmed_exceeds, trimmed_fits, contents_exceed}
 use Rattle.author.proofs.short_envelope.encode_short.Goals as goal
 
-pub returns-then-trimmed_length-gt-MAX_TRIMMED-clause-answers : goal.returns-then-trimmed_length-gt-MAX_TRIMMED-clause-answers
-returns-then-trimmed_length-gt-MAX_TRIMMED-clause-answers c =
-    let e = c.in_ok-bytes.ensures.envelope in
-    trimmed_long c.args.parts.now e.0 c.in-Ok.envelope c.trimmed_length.result (c.in-Ok.ensures.every_envelope e.0 (rw c.as_slice.ensures e.1.0)) e.1.1 c.trimmed_length.ensures
-    (omega (arith, c.if-trimmed_length-gt-MAX_TRIMMED.true))
+pub returns-then-trimmed-gt-MAX_TRIMMED-clause-answers : goal.returns-then-trimmed-gt-MAX_TRIMMED-clause-answers
+returns-then-trimmed-gt-MAX_TRIMMED-clause-answers c = trimmed_exceeds c.args.parts.now c.trimmed.result c.trimmed.ensures (omega (arith, c.if-trimmed-gt-MAX_TRIMMED.true))
 
-pub unreachable-requires : goal.unreachable-requires
-unreachable-requires c =
-    let e = c.in_ok-bytes.ensures.envelope in
-    never_refused e.0 c.in-Err.field-0 (c.in-Err.ensures.every_envelope e.0 (rw c.as_slice.ensures e.1.0))
+pub returns-then-contents-gt-MAX_WHOLE-clause-answers : goal.returns-then-contents-gt-MAX_WHOLE-clause-answers
+returns-then-contents-gt-MAX_WHOLE-clause-answers c =
+    contents_exceed c.args.parts.now c.contents.result (trimmed_fits c.args.parts.now c.trimmed.result c.trimmed.ensures c.if-trimmed-gt-MAX_TRIMMED.false) c.contents.ensures
+    (omega (arith, c.if-contents-gt-MAX_WHOLE.true))
 
 pub returns-then-len-gt-MAX_WHOLE-clause-answers : goal.returns-then-len-gt-MAX_WHOLE-clause-answers
 returns-then-len-gt-MAX_WHOLE-clause-answers c =
-    let e = c.in_ok-bytes.ensures.envelope in
-    whole_long c.args.parts.now e.0 c.in-Ok.envelope c.trimmed_length.result c.in_ok-bytes.bytes (c.in-Ok.ensures.every_envelope e.0 (rw c.as_slice.ensures e.1.0)) e.1.1 c.trimmed_length.ensures
-    c.if-trimmed_length-gt-MAX_TRIMMED.false c.in_ok-bytes.ensures.spelling (omega (arith, c.len.ensures, c.if-len-gt-MAX_WHOLE.true))
-
-pub returns-clause-answers : goal.returns-clause-answers
-returns-clause-answers c =
-    let e = c.in_ok-bytes.ensures.envelope in
-    both_short c.args.parts.now e.0 c.in-Ok.envelope c.trimmed_length.result c.in_ok-bytes.bytes (c.in-Ok.ensures.every_envelope e.0 (rw c.as_slice.ensures e.1.0)) e.1.1 c.trimmed_length.ensures
-    c.if-trimmed_length-gt-MAX_TRIMMED.false c.in_ok-bytes.ensures.spelling (omega (arith, c.len.ensures, c.if-len-gt-MAX_WHOLE.false))
+    let long : 1048576 < length c.in_ok-bytes.bytes = omega (arith, c.len.ensures, c.if-len-gt-MAX_WHOLE.true) in
+    Whole (trimmed_fits c.args.parts.now c.trimmed.result c.trimmed.ensures c.if-trimmed-gt-MAX_TRIMMED.false)
+    (subst (λ (b : List ℕ). 1048576 < length b) c.in_ok-bytes.ensures.spelling long)

@@ -1,0 +1,108 @@
+//! Descriptions whose contents are too long before anything is made of them.
+
+ghost use Rattle.std.specs.Prelude.{◌≡◌, IfOk, IsTrue, Ok, option_map};
+ghost use Rattle.serde_json.specs.View.{view};
+ghost use Rattle.json_fields.specs.Answers.{Gives};
+ghost use Rattle.author.specs.Contents.{left_after};
+ghost use Rattle.author.specs.Held.{value_of};
+ghost use Rattle.author.specs.MadeEnvelopes.{IsOverlong};
+ghost use Rattle.author.specs.Outlines.{severed_by, held_length, member_length, manifest_length, outline_of, outline_view};
+ghost use Rattle.author.specs.Severing.{given_in};
+
+use crate::contents::after_sequence;
+use crate::outline::Outline;
+use crate::severing::{Severed, given, severed_members};
+use crate::{Description, FileList};
+use json_fields::JsonFault;
+use serde_json::Value;
+use std::alloc::{AllocError, Global};
+use suit_commands::MAX_LEVELS;
+
+// The members that a description severs by the value under `sever`.
+fn severed(alloc: Global, description: &Value, sever: Option<&Value>) -> Result<Severed, JsonFault>
+    ensures { Gives (λ s. s) result (severed_by (given_in (view description.now))
+        (option_map (λ v. view v.now) sever.entry)) }
+{
+    match sever {
+        Some(value) => severed_members(alloc, value, given(description)),
+        None => Ok(Severed::none()),
+    }
+}
+
+// What is left of so many bytes after the contents of a sequence that is there.
+fn after_held(value: Option<&Value>, files: &FileList, left: u64) -> Option<u64>
+    ensures { result
+        ≡ left_after left (held_length files.now (option_map (λ v. view v.now) value.entry)) }
+{
+    match value {
+        Some(value) => after_sequence(value, files, MAX_LEVELS, left),
+        None => Some(left),
+    }
+}
+
+// The same of a member, which has none in the manifest if it is severed.
+fn after_member(value: Option<&Value>, severed: bool, files: &FileList, left: u64) -> Option<u64>
+    ensures { result ≡ left_after left
+        (member_length files.now severed (option_map (λ v. view v.now) value.entry)) }
+{
+    if severed {
+        Some(left)
+    } else {
+        after_held(value, files, left)
+    }
+}
+
+// What is left of so many bytes after all contents in the manifest.
+fn after_manifest(
+    outline: &Outline<'_>,
+    severed: Severed,
+    files: &FileList,
+    left: u64,
+) -> Option<u64>
+    ensures { result
+        ≡ left_after left (manifest_length files.now (outline_view outline.now) severed) }
+{
+    let left = after_held(outline.shared, files, left)?;
+    let left = after_held(outline.validate, files, left)?;
+    let left = after_held(outline.load, files, left)?;
+    let left = after_held(outline.invoke, files, left)?;
+    let left = after_member(outline.payload_fetch, severed.payload_fetch, files, left)?;
+    after_member(outline.install, severed.install, files, left)
+}
+
+// The members that a description severs.
+fn severed_in(
+    alloc: Global,
+    description: &Description,
+    outline: &Outline<'_>,
+) -> Result<Severed, AllocError>
+    requires { outline_view outline.now ≡ outline_of (value_of description.now) }
+    ensures { IfOk result (λ s. severed_by (given_in (value_of description.now))
+        (outline_view outline.now).sever ≡ Ok s) }
+{
+    let severed = match severed(alloc, &description.value, outline.sever) {
+        Ok(severed) => severed,
+        Err(JsonFault::NoMemory) => return Err(AllocError),
+        Err(JsonFault::Flawed(_)) => unreachable!(),
+    };
+    Ok(severed)
+}
+
+/// Whether the files that stand as contents in a description's manifest alone take more than so many bytes. Copies no
+/// file.
+pub(crate) fn is_overlong(
+    alloc: Global,
+    description: &Description,
+    files: &FileList,
+    limit: u64,
+) -> Result<bool, AllocError>
+    ensures { IfOk result
+        (λ over. IsTrue over → IsOverlong (value_of description.now) files.now limit) }
+{
+    let outline = Outline::of(&description.value);
+    let severed = severed_in(alloc, description, &outline)?;
+    match after_manifest(&outline, severed, files, limit) {
+        Some(_) => Ok(false),
+        None => Ok(true),
+    }
+}

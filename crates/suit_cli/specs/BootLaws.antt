@@ -1,0 +1,85 @@
+-- Why `run boot` ends so: the cause of each status, over a flash that tells what it holds.
+use Rattle.std.specs.Prelude.{◌≡◌, ◌⊎◌, ℕ, IsTrue, List, Some, None, codes}
+use Rattle.suit_params.specs.declared.refusal.Refusal.{Refusal}
+use Rattle.flash_layout.specs.declared.key.Key.{Key}
+use Rattle.flash_layout.specs.declared.layout.Entry.{Entry}
+use Rattle.flash_layout.specs.declared.slot.Record.{Record}
+use Rattle.rollback_record.specs.SoundFlash.{key_bytes}
+use Rattle.step_machine.specs.declared.plan_end.PlanEnd.{PlanEnd}
+use Rattle.invoke_proc.specs.declared.boot_end.BootEnd.TheVariants as ends
+use Rattle.invoke_proc.specs.declared.boot_end.Lacking.{Lacking}
+use Rattle.invoke_proc.specs.Banks.{bank_in, record_in}
+use Rattle.invoke_proc.specs.Booting.{PlaysBoot, end_of}
+use Rattle.invoke_proc.specs.Starting.{IsBad, IsUnauthentic, IsUnknown}
+use Rattle.suit_cli.specs.declared.reply.Object.TheVariants as objects
+use Rattle.suit_cli.specs.declared.reply.Reply.{Reply}
+use Rattle.suit_cli.specs.Booting.{boot_line, lacking_line}
+use Rattle.suit_cli.specs.Coming.{Comes, Ended, Answered, Booted}
+use Rattle.suit_cli.specs.Commands.{begins_boot}
+use Rattle.suit_cli.specs.Installed.{Holds, HoldsNone}
+use Rattle.suit_cli.specs.Launching.{Launching}
+use Rattle.suit_cli.specs.Lines.{number_line}
+use Rattle.suit_cli.specs.Outside.{Outside}
+use Rattle.suit_cli.specs.Stages.{Says, FaultOf, NoMemory}
+use Rattle.suit_cli.specs.Texts.{refusal_line}
+use Rattle.suit_cli.specs.Words.{RunBoot}
+
+-- the flash holds a layout and a key, and a record
+pub record HasBank (before : Outside) (layout : List Entry) (key : Key) (installed : Record)
+    : Type 0 where
+  pub config : Holds before.flash (layout, key)
+  pub recorded : record_in before.flash.reads (Some installed)
+
+-- why nothing is started: the first of these
+pub data StartsNothing (before : Outside) : Ended → Type 0 where
+  -- status 13, `blank` or `bad config`
+  AtConfig : (reply : Reply) → HoldsNone before.flash reply
+      → StartsNothing before (Answered (Says reply))
+  -- status 15, `nothing installed`
+  AtRecord : (layout : List Entry) (key : Key) → Holds before.flash (layout, key)
+      → record_in before.flash.reads None
+      → StartsNothing before (Booted ends.NothingInstalled (codes "nothing installed\n"))
+  -- status 3, `refused at P: WHY`
+  AtBank : (layout : List Entry) (key : Key) (installed : Record) (refusal : Refusal)
+      → HasBank before layout key installed
+      → IsBad (bank_in before.flash.reads installed) refusal
+      → StartsNothing before (Booted (ends.BadBank refusal) (refusal_line refusal))
+  -- status 4, `not authentic: WHY`
+  AtAuthenticity : (layout : List Entry) (key : Key) (installed : Record) (lacking : Lacking)
+      → HasBank before layout key installed
+      → IsUnauthentic (key_bytes key) (bank_in before.flash.reads installed) lacking
+      → StartsNothing before (Booted (ends.NotAuthentic lacking) (lacking_line lacking))
+  -- status 18, `unknown component I`
+  AtComponents : (layout : List Entry) (key : Key) (installed : Record) (component : ℕ)
+      → HasBank before layout key installed
+      → IsUnknown layout (key_bytes key) (bank_in before.flash.reads installed) component
+      → StartsNothing before
+      (Booted (ends.UnknownComponent component) (number_line (codes "unknown component") component))
+
+-- The invocation procedure of the recorded manifest was played to this end. Status 0, `ended`; 6, `stopped at P: WHY`, where a
+-- condition failed or a directive could not be done; and 7, 8 or 10 where an object failed in a directive.
+pub record Played (launched now : Launching) (before after : Outside) (ended : Ended)
+    : Type 0 where
+  pub layout : List Entry
+  pub key : Key
+  pub config : Holds before.flash (layout, key)
+  pub end : PlanEnd
+  pub plays :
+      PlaysBoot layout key before.files before.flash.reads after.flash.reads launched.launches
+      now.launches end
+  pub ends_so : ended ≡ Booted (end_of end) (boot_line (end_of end))
+
+-- the flash failed outside of the procedure, status 8, or memory ran out, 11
+abbrev pub IsNoAnswer : Ended → Type 0
+IsNoAnswer (Answered (FaultOf objects.Flash)) = Unit {0}
+IsNoAnswer (Answered NoMemory) = Unit {0}
+IsNoAnswer (Booted ends.FlashFault lines) = Unit {0}
+IsNoAnswer (Booted ends.NoMemory lines) = Unit {0}
+IsNoAnswer _ = ⊥
+
+pub record BootLaws : Type 0 where
+  -- each end has its cause
+  pub only : (launched now : Launching) (before after : Outside) (ended : Ended)
+      → IsTrue before.flash.told → IsTrue launched.told
+      → Comes begins_boot (λ task. RunBoot ≡ task) launched now before after ended
+      → StartsNothing before ended ⊎ (Played launched now before after ended ⊎ IsNoAnswer ended)

@@ -1,0 +1,91 @@
+-- Why an update that `run update` began ends so: the cause of each status, over objects that tell what they hold.
+use Rattle.std.specs.Prelude.{◌≡◌, ℕ, IsTrue, List, Option}
+use Rattle.suit_envelope.specs.Payloads.{HasPayloads}
+use Rattle.suit_params.specs.declared.digest.Digest.{Digest}
+use Rattle.path_model.specs.declared.cause.Cause.{Cause}
+use Rattle.flash_layout.specs.declared.key.Key.{Key}
+use Rattle.flash_layout.specs.declared.layout.Entry.{Entry}
+use Rattle.flash_layout.specs.declared.slot.Record.{Record}
+use Rattle.rollback_record.specs.Judging.{IsAcceptable, IsJudged}
+use Rattle.rollback_record.specs.declared.judging.Judged.{Judged}
+use Rattle.rollback_record.specs.declared.judging.Judged.TheVariants as judged
+use Rattle.step_machine.specs.declared.plan_end.PlanEnd.{PlanEnd}
+use Rattle.step_machine.specs.declared.plan_end.PlanEnd.TheVariants as plays
+use Rattle.update_proc.specs.declared.update_end.UpdateEnd.{UpdateEnd}
+use Rattle.update_proc.specs.declared.update_end.UpdateEnd.TheVariants as ends
+use Rattle.update_proc.specs.Offered.{ForOffer}
+use Rattle.update_proc.specs.Updates.{PlaysAndLeaves, PlaysUpdate, sources}
+use Rattle.suit_cli.specs.Acceptance.{Accepted, IsAccepted}
+use Rattle.suit_cli.specs.Inputs.{longest_file, IsRead}
+use Rattle.suit_cli.specs.Installed.{Holds}
+use Rattle.suit_cli.specs.Launching.{Launching}
+use Rattle.suit_cli.specs.Outside.{Outside}
+use Rattle.suit_cli.specs.Updating.{Updates, Offer, offer, tree_of, update_line}
+
+-- the number of what is offered and the digest of its manifest, beside the record that the flash has
+abbrev pub Beside : Offer → Outside → (ℕ → Digest → Option Record → Type 0) → Type 0
+Beside o before P =
+    ForOffer before.flash.reads o.accepted.said.wrapper
+    (λ held digest. P o.accepted.manifest.sequence digest held)
+
+abbrev pub IsJudgedAs : Offer → Outside → Judged → Type 0
+IsJudgedAs o before verdict =
+    Beside o before (λ number digest held. IsJudged number digest held verdict)
+
+-- it may be recorded, and its update procedure was played to this end, with the payloads of the file
+abbrev pub PlayedBeside : Offer → Launching → Launching → Outside → Outside → PlanEnd → Type 0
+PlayedBeside o launched now before after end =
+    Beside o before (λ number digest held.
+    IsAcceptable number digest held
+    × ((payloads : List (List ℕ × List ℕ)) → HasPayloads o.bytes payloads
+    → PlaysAndLeaves
+    (λ made play. PlaysUpdate o.layout o.accepted.places (tree_of o.accepted) held
+    (sources payloads o.uris before.files) before.flash.reads made launched.launches now.launches
+    play)
+    o.layout after.flash.reads end))
+
+pub data UpdateEnds (o : Offer) (launched now : Launching) (before after : Outside)
+    : UpdateEnd → Type 0 where
+  -- status 5, `rollback: recorded N, offered M`
+  IsLower : (recorded offered : ℕ) → IsJudgedAs o before (judged.Lower recorded offered)
+      → UpdateEnds o launched now before after (ends.Lower recorded offered)
+  -- status 5, `rollback: number N has another manifest`
+  IsOther : (recorded offered : Digest) → IsJudgedAs o before (judged.OtherDigest recorded offered)
+      → UpdateEnds o launched now before after (ends.OtherDigest recorded offered)
+  -- status 19, `record worn`
+  IsWorn : IsJudgedAs o before judged.Worn → UpdateEnds o launched now before after ends.Worn
+  -- status 0, `installed N`
+  IsInstalled : (installed : Record) → PlayedBeside o launched now before after plays.Done
+      → UpdateEnds o launched now before after (ends.Installed installed)
+  -- status 6, `stopped at P: condition failed`
+  IsStopped : (place : ℕ)
+      → PlayedBeside o launched now before after (plays.ConditionFailed place)
+      → UpdateEnds o launched now before after (ends.Condition place)
+  -- status 6, `stopped at P: WHY`; 7, 8 or 10 where an object failed in a directive
+  IsFailed : (place : ℕ) (cause : Cause)
+      → PlayedBeside o launched now before after (plays.DirectiveFailed place cause)
+      → UpdateEnds o launched now before after (ends.Stopped place cause)
+  -- status 8, where the flash failed outside of the procedure, or 11
+  FlashFailed : UpdateEnds o launched now before after ends.FlashFault
+  MemoryRanOut : UpdateEnds o launched now before after ends.NoMemory
+
+-- the file was accepted under the configuration of the flash, and its end has that cause and that line
+pub record UpdateIsCaused (name : List ℕ) (uris : List (List ℕ × List ℕ)) (launched now : Launching)
+    (before after : Outside) (end : UpdateEnd) (lines : List ℕ) : Type 0 where
+  pub layout : List Entry
+  pub key : Key
+  pub config : Holds before.flash (layout, key)
+  pub bytes : List ℕ
+  pub read : IsRead longest_file name before bytes
+  pub accepted : Accepted
+  pub is_accepted : IsAccepted layout key bytes accepted
+  pub ends : UpdateEnds (offer layout bytes accepted uris) launched now before after end
+  pub lines_are : lines ≡ update_line accepted.manifest.sequence end
+
+pub record UpdateEndLaws : Type 0 where
+  -- each end has its cause
+  pub only : (name : List ℕ) (uris : List (List ℕ × List ℕ)) (launched now : Launching)
+      (before after : Outside) (end : UpdateEnd) (lines : List ℕ)
+      → IsTrue before.told → IsTrue before.flash.told → IsTrue launched.told
+      → Updates name uris launched now before after end lines
+      → UpdateIsCaused name uris launched now before after end lines
