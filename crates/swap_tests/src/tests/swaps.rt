@@ -1,7 +1,7 @@
 //! Swaps that lose power at each call of the disk, and are then completed.
 
 ghost use Rattle.std.specs.Prelude.{◌≡◌, ◌≤◌, ◌+◌, IfOk, length};
-ghost use Rattle.swap_journal.specs.Swaps.{ArePlaced, HasRoom, IsJournal, IsPlaced};
+ghost use Rattle.swap_journal.specs.Swaps.{ArePlaced, ArePlacedAll, HasRoom, IsJournal};
 
 use super::quiet::Quiet;
 use flash_layout::Slot;
@@ -19,23 +19,20 @@ const LENGTHS: [(u64, u64, u64); 4] = [(3, 2, 41), (0, 5, 41), (4096, 1, 41), (4
 // No pending write is kept, each is, or every second one.
 const CHOICES: [u64; 3] = [0, u64::MAX, 0xAAAA_AAAA_AAAA_AAAA];
 
-fn journal() -> Journal
-    ensures { IsJournal result SIZE }
-{
-    Journal {
-        page: 0,
-        scratch: 4096,
-    }
-}
-
-// The swap, and whether its lengths fit.
-fn swap(first_length: u64, second_length: u64) -> Swap
+// A journal, and a swap beside it.
+fn swap(first_length: u64, second_length: u64) -> (Journal, Swap)
     requires first { first_length ≤ 4097 }
     requires second { second_length ≤ 4097 }
-    ensures slots { ArePlaced (record { page = 0; scratch = 4096 }) SIZE result.first result.second }
-    ensures room { HasRoom result }
+    ensures journal { IsJournal result.0 SIZE }
+    ensures slots { ArePlaced result.0 SIZE result.1.first result.1.second }
+    ensures room { HasRoom result.1 }
+    ensures places { (result.1.first.start ≡ 8192) × (result.1.second.start ≡ 16384) }
 {
-    Swap {
+    let journal = Journal {
+        page: 0,
+        scratch: 4096,
+    };
+    let swap = Swap {
         tag: TAG,
         first: Slot {
             start: 8192,
@@ -47,12 +44,13 @@ fn swap(first_length: u64, second_length: u64) -> Swap
         },
         first_length,
         second_length,
-    }
+    };
+    (journal, swap)
 }
 
 // A content of so many bytes.
 fn content(alloc: Global, size: u64, mask: u8) -> Result<Vec<u8>, AllocError>
-    ensures { IfOk result (λ bytes. length bytes ≡ size) }
+    ensures { IfOk result (λ bytes. length bytes.items ≡ size) }
 {
     let mut bytes = Vec::new(alloc);
     for i in 0..size {
@@ -111,19 +109,64 @@ fn quiet(disk: MemoryDisk, passes: u64) -> Quiet
 fn cut(
     alloc: Global,
     disk: MemoryDisk,
+    journal: &Journal,
     swap: &Swap,
     passes: u64,
     choice: u64,
 ) -> Result<(MemoryDisk, bool), AllocError>
     requires size { length disk.first ≡ SIZE }
-    requires slots { ArePlaced (record { page = 0; scratch = 4096 }) SIZE swap.now.first swap.now.second }
+    requires journal { IsJournal journal.now SIZE }
+    requires slots { ArePlaced journal.now SIZE swap.now.first swap.now.second }
     requires room { HasRoom swap.now }
     ensures { IfOk result (λ r. length r.0.first ≡ SIZE) }
 {
     let mut disk = quiet(disk, passes);
     let mut room = [0u8; 4096];
-    let is_done = exchange(&mut disk, &journal(), swap, &mut room).is_ok();
+    let is_done = exchange(&mut disk, journal, swap, &mut room).is_ok();
     Ok((disk.disk.into_disk().after_loss(alloc, choice)?, is_done))
+}
+
+// Both slots, the second one first.
+fn both_slots(journal: &Journal, swap: &Swap) -> [Slot; 2]
+    requires { ArePlaced journal.now SIZE swap.now.first swap.now.second }
+    ensures { ArePlacedAll journal.now SIZE result }
+{
+    let _journal = journal;
+    [swap.second, swap.first]
+}
+
+// A disk on which the slots have these contents.
+fn prepared(
+    alloc: Global,
+    swap: &Swap,
+    first: &[u8],
+    second: &[u8],
+) -> Result<MemoryDisk, AllocError>
+    requires first { swap.now.first.start + 8 + length first.now ≤ 24576 }
+    requires second { swap.now.second.start + 8 + length second.now ≤ 24576 }
+    ensures { IfOk result (λ disk. length disk.first ≡ SIZE) }
+{
+    let mut disk = MemoryDisk::new(alloc, SIZE, &[])?;
+    fill(&mut disk, swap.first, first)?;
+    fill(&mut disk, swap.second, second)?;
+    disk.after_loss(alloc, u64::MAX)
+}
+
+// The tag of the swap that was completed, if one stood open. None where a call fails.
+fn completed(disk: &mut Quiet, journal: &Journal, swap: &Swap) -> Option<Option<u64>>
+    requires size { length disk.old.disk.disk.first ≡ SIZE }
+    requires journal { IsJournal journal.now SIZE }
+    requires slots { ArePlaced journal.now SIZE swap.now.first swap.now.second }
+    ensures { length disk.new.disk.disk.first ≡ SIZE }
+{
+    let mut room = [0u8; 4096];
+    let slots = both_slots(journal, swap);
+    let tag = complete(disk, journal, &slots, &mut room).ok()?;
+    close(disk, journal).ok()?;
+    match complete(disk, journal, &slots, &mut room) {
+        Ok(None) => Some(tag),
+        _ => None,
+    }
 }
 
 // Whether a swap that is cut so, and then completed, leaves both contents or exchanges both, as the tag tells.
@@ -132,50 +175,41 @@ fn survives(
     lengths: (u64, u64),
     passes: u64,
     choice: u64,
-) -> Result<bool, AllocError> {
-    if lengths.0 > 4097 || lengths.1 > 4097 {
-        return Ok(false);
-    }
-    let swap = swap(lengths.0, lengths.1);
+) -> Result<bool, AllocError>
+    requires first { lengths.0 ≤ 4097 }
+    requires second { lengths.1 ≤ 4097 }
+{
+    let (journal, swap) = swap(lengths.0, lengths.1);
     let first = content(alloc, lengths.0, 0)?;
     let second = content(alloc, lengths.1, 0xff)?;
-    let mut disk = MemoryDisk::new(alloc, SIZE, &[])?;
-    fill(&mut disk, swap.first, first.as_slice())?;
-    fill(&mut disk, swap.second, second.as_slice())?;
-    let (disk, is_done) = cut(
-        alloc,
-        disk.after_loss(alloc, u64::MAX)?,
-        &swap,
-        passes,
-        choice,
-    )?;
+    let disk = prepared(alloc, &swap, first.as_slice(), second.as_slice())?;
+    let (disk, is_done) = cut(alloc, disk, &journal, &swap, passes, choice)?;
     let mut disk = quiet(disk, u64::MAX);
-    let mut room = [0u8; 4096];
-    let slots = [swap.second, swap.first];
-    let Ok(tag) = complete(&mut disk, &journal(), &slots, &mut room) else {
+    let Some(tag) = completed(&mut disk, &journal, &swap) else {
         return Ok(false);
     };
-    if tag.is_none() && is_done || close(&mut disk, &journal()).is_err() {
-        return Ok(false);
-    }
+    let is_told = match tag {
+        None => !is_done,
+        Some(tag) => tag == TAG,
+    };
     let (first, second) = match tag {
         None => (first, second),
         Some(_) => (second, first),
     };
     Ok(
-        (tag.is_none() || tag == Some(TAG))
+        is_told
             && holds(alloc, &mut disk, swap.first, first.as_slice())?
-            && holds(alloc, &mut disk, swap.second, second.as_slice())?
-            && complete(&mut disk, &journal(), &slots, &mut room) == Ok(None),
+            && holds(alloc, &mut disk, swap.second, second.as_slice())?,
     )
 }
 
 #[test]
 fn cuts(rt: HostRuntime) -> Result<(), AllocError> {
     for (first_length, second_length, calls) in LENGTHS {
+        let lengths = (first_length.min(4097), second_length.min(4097));
         for passes in 0..calls {
             for choice in CHOICES {
-                assert!(rt; survives(rt.alloc(), (first_length, second_length), passes, choice)?);
+                assert!(rt; survives(rt.alloc(), lengths, passes, choice)?);
             }
         }
     }
