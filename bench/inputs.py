@@ -138,6 +138,19 @@ def many_matches(stored, count, states=0):
     return invoked(stored, 2 * states + 4 * count + 6, tries + ALL + IMAGE[1:] + matches + size_of(3), 8)
 
 
+def matches_in_a_try(stored, count):
+    """So many matches, each of another size, in a try: each may end its branch."""
+    matches = head(4, 4 * count) + b"".join(size_of(number) + b"\x03\x0f" for number in range(count))
+    return invoked(stored, 4, b"\x0f\x82" + byte_string(matches) + b"\xf6" + size_of(3))
+
+
+def writes_beside(stored, count, times):
+    """So many matches of each of eight components, and then so many of one of them, each of which is ended by a write."""
+    matches = b"".join(size_of(number) + b"\x03\x0f" for number in range(count))
+    writes = b"\x0c\x01\x14\xa1\x12\x41\xaa" + b"\x03\x0f\x12\x0f" * times
+    return invoked(stored, 4 * count + 4 * times + 12, ALL + IMAGE[1:] + matches + writes + b"\x0c\x00" + size_of(3), 8)
+
+
 def many_overrides_told(stored, times):
     """The same as many overrides, but for the match: the invoke is not covered."""
     listed = b"\x0c" + head(4, times) + b"\x00" * times

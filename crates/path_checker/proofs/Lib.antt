@@ -1,5 +1,7 @@
 pub mod Membership
 pub mod ChainLaws
+pub mod MatchLaws
+pub mod HeldLaws
 pub mod Exploring
 pub mod Quiet
 pub mod InnerStates

@@ -1,5 +1,5 @@
 -- The matches that stand after one more event.
-use Rattle.std.proofs.Common.{◌≡◌, ℕ, false, List, [], ◌∷◌, ◌++◌, Option, refl, sym, subst, append_assoc, inl, inr}
+use Rattle.std.proofs.Common.{◌≡◌, ℕ, false, List, [], ◌∷◌, ◌++◌, Option, refl, sym, ap, subst, append_assoc, inl, inr}
 use Rattle.std.proofs.lemmas.List.{append-nil}
 use Rattle.suit_params.specs.declared.param.Param.{Param}
 use Rattle.suit_params.specs.declared.digest.Digest.{Digest}
@@ -11,13 +11,17 @@ use Rattle.path_model.specs.Following.{SameMatches}
 use Rattle.path_model.proofs.Covering.{HasMatched-append}
 use Rattle.path_model.proofs.Following.{same_matches, same_trans}
 use Rattle.path_model.proofs.CoverLaws.{match_stands, matched_after}
-use Rattle.path_checker.specs.declared.judge_plan.happened.Happened.{Happened}
-use Rattle.path_checker.specs.declared.judge_plan.happened.Happened.TheVariants as lent
+use Rattle.std.specs.Borrow.{Bor}
+use Rattle.path_checker.specs.declared.judge_plan.matches.Match.{Match as LentMatch}
+use Rattle.path_checker.specs.declared.judge_plan.trace.Told.{Told}
+use Rattle.path_checker.specs.declared.judge_plan.trace.Told.TheVariants as tells
 use Rattle.path_checker.specs.declared.judge_plan.happened.Ended.{Ended}
 use Rattle.path_checker.specs.declared.judge_plan.happened.Ended.TheVariants as ends
-use Rattle.path_checker.specs.Happening.{event_of, after_end}
+use Rattle.path_checker.specs.Happening.{after_end, told_by}
 use Rattle.path_checker.specs.Exploring.{In}
-use Rattle.path_checker.specs.Standing.{Stands, StandsAfter, LeavesOut}
+use Rattle.path_checker.specs.Matches.{Match, match_of}
+use Rattle.path_checker.specs.declared.judge_plan.standing.StandingMatches.{StandingMatches}
+use Rattle.path_checker.specs.Standing.{held_of, Gains, Loses, SameHeld, Stands, StandsAfter}
 
 -- ---- a match stands after one more event that does not end it
 
@@ -26,40 +30,37 @@ stays events e c d s quiet h = HasMatched-append events (e ∷ []) c d s (quiet,
 
 -- ---- what a list of them becomes
 
-pub stands_none : Stands [] []
-stands_none c d s = (λ h. absurd h, λ h. never h.before h.since h.is)
+pub stands_none : (standing : StandingMatches) → ((component : ℕ) → held_of standing component ≡ []) → Stands standing []
+stands_none standing none c d s = (λ h. absurd (subst (λ (xs : List Match). In (d, s) xs) (none c) h), λ h. absurd (never h.before h.since h.is))
   where
     never : (before since : List Event) → [] ≡ before ++ Matched c d s ∷ since → ⊥
     never [] since is = absurd cc
     never (x ∷ before) since is = absurd cc
 
-pub after_again : (matches : List Event) (c : ℕ) (d : Digest) (s : Option ℕ) → In (Matched c d s) matches → StandsAfter matches (Matched c d s) matches
-after_again matches c d s there events stand c' d' s' = (
-  λ h. stays events (Matched c d s) c' d' s' (λ n. n) ((stand c' d' s').0 h),
+-- where an event is a match, it is this one
+abbrev IsOne : ℕ → Match → Event → Type 0
+IsOne component one (Matched c d s) = (c ≡ component) × ((d, s) ≡ one)
+IsOne component one _ = Unit {0}
+
+pub after_match : (standing after : StandingMatches) (c : ℕ) (d : Digest) (s : Option ℕ) → Gains standing c (d, s) after → StandsAfter standing (Matched c d s) after
+after_match standing after c d s gains events stand c' d' s' = (
+  λ h. elim ((gains c' (d', s')).0 h) [
+    | inl p ↦ subst (λ (k : ℕ). HasMatched (events ++ Matched c d s ∷ []) k d' s') (sym p.0)
+        (subst (λ (m : Match). HasMatched (events ++ Matched c d s ∷ []) c m.0 m.1) (sym p.1) (match_stands events c d s))
+    | inr b ↦ stays events (Matched c d s) c' d' s' (λ n. n) ((stand c' d' s').0 b)
+  ],
   λ h. elim (matched_after events (Matched c d s) c' d' s' h) [
-    | inl is ↦ subst (λ (x : Event). In x matches) is there
-    | inr h ↦ (stand c' d' s').1 h.0
+    | inl is ↦ (gains c' (d', s')).1 (inl (subst (IsOne c (d, s)) is (refl, refl)))
+    | inr b ↦ (gains c' (d', s')).1 (inr ((stand c' d' s').1 b.0))
   ],
 )
 
-pub after_match : (matches : List Event) (c : ℕ) (d : Digest) (s : Option ℕ) → StandsAfter matches (Matched c d s) (Matched c d s ∷ matches)
-after_match matches c d s events stand c' d' s' = (
-  λ h. elim h [
-    | inl is ↦ subst (λ (x : Event). HasMatched (events ++ x ∷ []) c' d' s') (sym is) (match_stands events c' d' s')
-    | inr h ↦ stays events (Matched c d s) c' d' s' (λ n. n) ((stand c' d' s').0 h)
-  ],
-  λ h. elim (matched_after events (Matched c d s) c' d' s' h) [
-    | inl is ↦ inl is
-    | inr h ↦ inr ((stand c' d' s').1 h.0)
-  ],
-)
-
-pub after_write : (matches after : List Event) (c : ℕ) → LeavesOut c matches after → StandsAfter matches (Wrote c) after
-after_write matches after c leaves events stand c' d' s' = (
-  λ h. let x = (leaves (Matched c' d' s')).0 h in stays events (Wrote c) c' d' s' (λ w. x.1 (sym w)) ((stand c' d' s').0 x.0),
+pub after_write : (standing after : StandingMatches) (c : ℕ) → Loses standing c after → StandsAfter standing (Wrote c) after
+after_write standing after c loses events stand c' d' s' = (
+  λ h. let x = (loses c' (d', s')).0 h in stays events (Wrote c) c' d' s' (λ w. x.0 (sym w)) ((stand c' d' s').0 x.1),
   λ h. elim (matched_after events (Wrote c) c' d' s' h) [
     | inl is ↦ absurd cc
-    | inr h ↦ (leaves (Matched c' d' s')).1 ((stand c' d' s').1 h.0, λ m. h.1 (sym m))
+    | inr b ↦ (loses c' (d', s')).1 (λ e. b.1 (sym e), (stand c' d' s').1 b.0)
   ],
 )
 
@@ -67,7 +68,7 @@ after_write matches after c leaves events stand c' d' s' = (
 abbrev IsPlain : Event → Type 0
 IsPlain e = (c : ℕ) (d : Digest) (s : Option ℕ) → (e ≡ Matched c d s → ⊥) × (WritesTo c e → ⊥)
 
-after_plain : (matches : List Event) (e : Event) → IsPlain e → StandsAfter matches e matches
+after_plain : (matches : StandingMatches) (e : Event) → IsPlain e → StandsAfter matches e matches
 after_plain matches e plain events stand c d s = (
   λ h. stays events e c d s (plain c d s).1 ((stand c d s).0 h),
   λ h. elim (matched_after events e c d s h) [
@@ -76,26 +77,55 @@ after_plain matches e plain events stand c d s = (
   ],
 )
 
-pub after_other : (matches : List Event) (h : Happened) → ((c : _) (d : _) (s : _) → h ≡ lent.Matched c d s → ⊥) → ((c : ℕ) → h ≡ lent.Wrote c → ⊥) → StandsAfter matches (event_of h) matches
-after_other matches (lent.Tried c k p) no_match no_write = after_plain matches _ (λ c' d' s'. (λ is. absurd cc, λ w. w))
-after_other matches (lent.Matched c d s) no_match no_write = absurd (no_match c d s refl)
-after_other matches (lent.Missed c) no_match no_write = after_plain matches _ (λ c' d' s'. (λ is. absurd cc, λ w. w))
-after_other matches (lent.Wrote c) no_match no_write = absurd (no_write c refl)
-after_other matches (lent.Invoked c d s p) no_match no_write = after_plain matches _ (λ c' d' s'. (λ is. absurd cc, λ w. w))
-after_other matches (lent.Failed p) no_match no_write = after_plain matches _ (λ c' d' s'. (λ is. absurd cc, λ w. w))
+-- ---- as they are told
+
+first : Event → List Event → Event
+first event [] = event
+first event (other ∷ events) = other
+
+same_one : (one other : Event) → one ∷ [] ≡ other ∷ [] → one ≡ other
+unfolding first
+same_one one other is = ap (first one) is
+
+pub told_matched : (standing after : StandingMatches) (told : Told) (c : ℕ) (own : Bor LentMatch) → told ≡ tells.Matched c own → Gains standing c (match_of own.now) after → (event : Event) → told_by told ≡ event ∷ [] → StandsAfter standing event after
+told_matched standing after told c own is gains event one =
+    subst (λ (e : Event). StandsAfter standing e after) (same_one _ event (subst (λ (t : Told). told_by t ≡ event ∷ []) is one))
+    (after_match standing after c own.now.digest.now own.now.size gains)
+
+pub told_wrote : (standing after : StandingMatches) (told : Told) (c : ℕ) → told ≡ tells.Wrote c → Loses standing c after → (event : Event) → told_by told ≡ event ∷ [] → StandsAfter standing event after
+told_wrote standing after told c is loses event one =
+    subst (λ (e : Event). StandsAfter standing e after) (same_one _ event (subst (λ (t : Told). told_by t ≡ event ∷ []) is one))
+    (after_write standing after c loses)
+
+by_plain : (standing : StandingMatches) (plain event : Event) → IsPlain plain → plain ∷ [] ≡ event ∷ [] → StandsAfter standing event standing
+by_plain standing plain event is one = subst (λ (e : Event). StandsAfter standing e standing) (same_one plain event one) (after_plain standing plain is)
+
+pub told_other : (standing : StandingMatches) (told : Told) → ((c : _) (own : _) → told ≡ tells.Matched c own → ⊥) → ((c : ℕ) → told ≡ tells.Wrote c → ⊥) → (event : Event) → told_by told ≡ event ∷ [] → StandsAfter standing event standing
+told_other standing (tells.Tried c k p) no_match no_write event one = by_plain standing _ event (λ c' d' s'. (λ is. absurd cc, λ w. w)) one
+told_other standing (tells.Missed c) no_match no_write event one = by_plain standing _ event (λ c' d' s'. (λ is. absurd cc, λ w. w)) one
+told_other standing (tells.Wrote c) no_match no_write event one = absurd (no_write c refl)
+told_other standing (tells.Matched c own) no_match no_write event one = absurd (no_match c own refl)
+told_other standing (tells.Failed p) no_match no_write event one = by_plain standing _ event (λ c' d' s'. (λ is. absurd cc, λ w. w)) one
+told_other standing (tells.Invoked i) no_match no_write event one = by_plain standing _ event (λ c' d' s'. (λ is. absurd cc, λ w. w)) one
+told_other standing (tells.Sets c list) no_match no_write event one = sets list.now one
+  where
+    sets : (params : List Param) → set_events c params ≡ event ∷ [] → StandsAfter standing event standing
+    sets [] is = absurd cc
+    sets (param ∷ []) is = by_plain standing _ event (λ c' d' s'. (λ is. absurd cc, λ w. w)) is
+    sets (param ∷ other ∷ params) is = absurd cc
 
 -- and after those of an override
-pub stands_set : (matches events : List Event) (c : ℕ) (list : List Param) → Stands matches events → Stands matches (events ++ set_events c list)
+pub stands_set : (matches : StandingMatches) (events : List Event) (c : ℕ) (list : List Param) → Stands matches events → Stands matches (events ++ set_events c list)
 stands_set matches events c [] stand = subst (Stands matches) (sym (append-nil events)) stand
 stands_set matches events c (param ∷ list) stand =
     let one : Stands matches (events ++ Set c param ∷ []) = after_plain matches (Set c param) (λ c' d' s'. (λ is. absurd cc, λ w. w)) events stand in
     subst (Stands matches) (append_assoc events (Set c param ∷ []) (set_events c list)) (stands_set matches (events ++ Set c param ∷ []) c list one)
 
--- ---- where each of the matches that stand is among the others, and the other way round
+-- ---- where the same matches are held
 
-pub same_standing : (matches others events more : List Event) → Stands matches events → Stands others more → ((e : Event) → In e matches → In e others) → ((e : Event) → In e others → In e matches) → SameMatches events more
-same_standing matches others events more a b there back c d s =
-    (λ h. (b c d s).0 (there (Matched c d s) ((a c d s).1 h)), λ h. (a c d s).0 (back (Matched c d s) ((b c d s).1 h)))
+pub same_standing : (one other : StandingMatches) (events more : List Event) → Stands one events → Stands other more → ((component : ℕ) → SameHeld one other component) → SameMatches events more
+same_standing one other events more a b same c d s =
+    (λ h. (b c d s).0 ((same c (d, s)).0 ((a c d s).1 h)), λ h. (a c d s).0 ((same c (d, s)).1 ((b c d s).1 h)))
 
 -- ---- an end by a failed condition ends no match
 

@@ -8,8 +8,10 @@ use Rattle.path_checker.specs.declared.judge_plan.happened.Happened.{Happened}
 use Rattle.path_checker.specs.declared.judge_plan.happened.Happened.TheVariants as lent
 use Rattle.path_checker.specs.declared.judge_plan.happened.Ended.{Ended}
 use Rattle.path_checker.specs.declared.judge_plan.happened.Ended.TheVariants as ends
+use Rattle.path_checker.specs.Matches.{match_of, match_event}
+use Rattle.path_checker.specs.declared.judge_plan.trace.Invoke.{Invoke}
 use Rattle.path_checker.specs.declared.judge_plan.trace.Told.{Told}
-use Rattle.path_checker.specs.declared.judge_plan.trace.Told.TheVariants.{One, Sets}
+use Rattle.path_checker.specs.declared.judge_plan.trace.Told.TheVariants as told
 
 abbrev pub event_of : Happened → Event
 event_of (lent.Tried component kind passed) = events.Tried component kind passed
@@ -19,9 +21,17 @@ event_of (lent.Wrote component) = events.Wrote component
 event_of (lent.Invoked component digest size passed) = events.Invoked component (option_copied digest) size passed
 event_of (lent.Failed place) = events.Failed place
 
+abbrev pub invoke_event : Invoke → Event
+invoke_event invoke = events.Invoked invoke.component (option_copied invoke.digest) invoke.size invoke.passed
+
 abbrev pub told_by : Told → List Event
-told_by (One happened) = event_of happened ∷ []
-told_by (Sets component list) = set_events component list.now
+told_by (told.Tried component kind passed) = events.Tried component kind passed ∷ []
+told_by (told.Missed component) = events.Missed component ∷ []
+told_by (told.Wrote component) = events.Wrote component ∷ []
+told_by (told.Matched component own) = match_event component (match_of own.now) ∷ []
+told_by (told.Failed place) = events.Failed place ∷ []
+told_by (told.Invoked invoke) = invoke_event invoke.now ∷ []
+told_by (told.Sets component list) = set_events component list.now
 
 -- the events up to a failed condition at a place
 abbrev pub after_end : List Event → Ended → ℕ → List Event

@@ -1,4 +1,5 @@
 pub mod Knowing
+pub mod Matches
 pub mod Happening
 pub mod Chains
 pub mod Forking

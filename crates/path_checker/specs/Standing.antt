@@ -1,34 +1,45 @@
--- The matches that stand after events, as a list of their own.
-use Rattle.std.specs.Prelude.{◌↔◌, ◌≡◌, ◌⊎◌, ℕ, List, [], ◌∷◌, ◌++◌, Option}
+-- The matches that stand after events, and parts of events in the order in which they happened.
+use Rattle.std.specs.Prelude.{◌↔◌, ◌≡◌, ◌≢◌, ◌⊎◌, ℕ, List, [], ◌∷◌, ◌++◌, Option, Some, None, slice_get}
+use Rattle.std.specs.Borrow.{Bor}
 use Rattle.suit_params.specs.declared.digest.Digest.{Digest}
 use Rattle.path_model.specs.declared.event.Event.{Event}
-use Rattle.path_model.specs.declared.event.Event.TheVariants.{Matched}
 use Rattle.path_model.specs.Safe.{HasMatched}
+use Rattle.path_checker.specs.declared.judge_plan.standing.StandingMatches.{StandingMatches}
 use Rattle.path_checker.specs.Exploring.{In}
+use Rattle.path_checker.specs.Matches.{Match, matches_from}
 
 -- parts of which the last comes first, in the order in which they happened
 abbrev pub all_in_order : List (List Event) → List Event
 all_in_order [] = []
 all_in_order (part ∷ parts) = all_in_order parts ++ part
 
--- these matches stand after those events, and no others
-abbrev pub Stands : List Event → List Event → Type 0
-Stands matches events =
-    (component : ℕ) (digest : Digest) (size : Option ℕ) → In (Matched component digest size) matches ↔ HasMatched events component digest size
+-- the matches of a component
+abbrev pub held_in : Option (Option (Bor (List Match))) → List Match
+held_in None = []
+held_in (Some tree) = matches_from tree
 
--- the matches that stand after one more event
-abbrev pub StandsAfter : List Event → Event → List Event → Type 0
-StandsAfter matches event after = (events : List Event) → Stands matches events → Stands after (events ++ event ∷ [])
+abbrev pub held_of : StandingMatches → ℕ → List Match
+held_of standing component = held_in (slice_get standing.of component)
 
-abbrev pub IsMatchOf : ℕ → Event → Type 0
-IsMatchOf component (Matched other digest size) = other ≡ component
-IsMatchOf component _ = ⊥
-
--- one event more, unless it is a match of a component
-abbrev pub Unless : ℕ → Event → List Event → List Event → Type 0
-Unless component event events after =
-    (IsMatchOf component event × (after ≡ events)) ⊎ ((IsMatchOf component event → ⊥) × (after ≡ event ∷ events))
+-- one match of a component more
+abbrev pub Gains : StandingMatches → ℕ → Match → StandingMatches → Type 0
+Gains before component one after =
+    (other : ℕ) (any : Match) → In any (held_of after other) ↔ (((other ≡ component) × (any ≡ one)) ⊎ In any (held_of before other))
 
 -- without the matches of a component
-abbrev pub LeavesOut : ℕ → List Event → List Event → Type 0
-LeavesOut component events left = (event : Event) → In event left ↔ (In event events × (IsMatchOf component event → ⊥))
+abbrev pub Loses : StandingMatches → ℕ → StandingMatches → Type 0
+Loses before component after =
+    (other : ℕ) (any : Match) → In any (held_of after other) ↔ ((other ≢ component) × In any (held_of before other))
+
+-- the same matches of a component
+abbrev pub SameHeld : StandingMatches → StandingMatches → ℕ → Type 0
+SameHeld one other component = (any : Match) → In any (held_of one component) ↔ In any (held_of other component)
+
+-- these matches stand after those events, and no others
+abbrev pub Stands : StandingMatches → List Event → Type 0
+Stands standing events =
+    (component : ℕ) (digest : Digest) (size : Option ℕ) → In (digest, size) (held_of standing component) ↔ HasMatched events component digest size
+
+-- the matches that stand after one more event
+abbrev pub StandsAfter : StandingMatches → Event → StandingMatches → Type 0
+StandsAfter standing event after = (events : List Event) → Stands standing events → Stands after (events ++ event ∷ [])

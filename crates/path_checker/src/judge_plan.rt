@@ -6,7 +6,6 @@ ghost use Rattle.suit_commands.specs.Plans.{plan_tree};
 ghost use Rattle.path_checker.specs.Procedures.{ArePlan};
 ghost use Rattle.path_checker.specs.PlanVerdicts.{Tells, Judges, JudgesPlan};
 
-mod chain;
 mod choice;
 mod conditions;
 mod directives;
@@ -20,11 +19,13 @@ mod inner;
 mod invoking;
 mod kept;
 mod known;
+mod matches;
 mod memory;
 mod merged;
 mod procedure_walk;
 mod same_param;
 mod selected;
+mod standing;
 mod trace;
 mod walk;
 
@@ -32,10 +33,11 @@ use bumpalo::Bump;
 use choice::chosen_identities;
 use halt::Halt;
 use kept::Kept;
-use memory::Memory;
+use memory::{COMPARED, Memory};
 use path_model::BadPath;
 use procedure_walk::{first, procedure};
 use std::alloc::Global;
+use std::cell::Cell;
 use suit_commands::{Plan, width};
 
 // The largest width of a procedure that is judged.
@@ -68,11 +70,20 @@ fn told(alloc: Global, k: Kept<'_>) -> CheckVerdict
 }
 
 // Whether each invoke is covered, with this memory.
-fn judge_in<'a>(alloc: Global, events: &'a Bump, plan: Plan<'a>) -> CheckVerdict
+fn judge_in<'a>(
+    alloc: Global,
+    events: &'a Bump,
+    left: &'a Cell<u64>,
+    plan: Plan<'a>,
+) -> CheckVerdict
     requires { ArePlan (plan_tree plan) }
     ensures { Judges (plan_tree plan.entry) result }
 {
-    let memory = Memory { alloc, events };
+    let memory = Memory {
+        alloc,
+        events,
+        left,
+    };
     let Ok(from) = first(memory.alloc, plan.count) else {
         return CheckVerdict::NoMemory;
     };
@@ -89,7 +100,8 @@ fn judge(alloc: Global, plan: &Plan<'_>) -> CheckVerdict
     ensures { Judges (plan_tree plan.now) result }
 {
     let events = Bump::new(alloc);
-    judge_in(alloc, &events, *plan)
+    let left = Cell::new(COMPARED);
+    judge_in(alloc, &events, &left, *plan)
 }
 
 /// Judges a procedure of the grammar for all identities of its components (draft-ietf-suit-manifest-25, section 6.4).

@@ -1,11 +1,8 @@
 //! Events of a path, lent from the procedure.
 
-ghost use Rattle.std.specs.Prelude.{◌≡◌, IfOk};
+ghost use Rattle.std.specs.Prelude.{◌≡◌};
 ghost use Rattle.std.specs.Option.{option_copied};
-ghost use Rattle.path_checker.specs.Happening.{event_of};
 
-use path_model::Event;
-use std::alloc::{AllocError, Global};
 use suit_commands::TestKind;
 use suit_params::Digest;
 
@@ -47,53 +44,12 @@ pub(crate) enum Ended {
     Exhausted,
 }
 
-fn copied(digest: Option<&Digest>) -> Option<Digest>
+/// The digest, in memory of its own.
+pub(crate) fn copied(digest: Option<&Digest>) -> Option<Digest>
     ensures { result ≡ option_copied digest.entry }
 {
     match digest {
         Some(digest) => Some(*digest),
         None => None,
-    }
-}
-
-impl<'a> Happened<'a> {
-    /// The event in memory of its own.
-    pub(crate) fn told(&self, alloc: Global) -> Result<Event, AllocError>
-        ensures { IfOk result (λ event. event ≡ event_of self.now) }
-    {
-        Ok(match *self {
-            Happened::Tried {
-                component,
-                kind,
-                passed,
-            } => Event::Tried {
-                component,
-                kind,
-                passed,
-            },
-            Happened::Matched {
-                component,
-                digest,
-                size,
-            } => Event::Matched {
-                component,
-                digest: *digest,
-                size,
-            },
-            Happened::Missed { component } => Event::Missed { component },
-            Happened::Wrote { component } => Event::Wrote { component },
-            Happened::Invoked {
-                component,
-                digest,
-                size,
-                passed,
-            } => Event::Invoked {
-                component,
-                digest: copied(digest),
-                size,
-                passed,
-            },
-            Happened::Failed { place } => Event::Failed { place },
-        })
     }
 }

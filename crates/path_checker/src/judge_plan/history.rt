@@ -4,11 +4,13 @@ ghost use Rattle.std.specs.Prelude.{◌≡◌, ◌↔◌, [], ◌∷◌, ◌++�
 ghost use Rattle.path_model.specs.Directives.{set_events};
 ghost use Rattle.path_model.specs.Safe.{HasMatched};
 ghost use Rattle.path_model.specs.Following.{SameMatches};
-ghost use Rattle.path_checker.specs.Happening.{event_of, after_end};
+ghost use Rattle.path_model.specs.declared.event.Event.{Event as TheEvent};
+ghost use Rattle.path_checker.specs.Happening.{event_of, after_end, told_by};
 ghost use Rattle.path_checker.specs.Standing.{StandsAfter};
 
-use crate::judge_plan::chain::Chain;
 use crate::judge_plan::happened::{Ended, Happened};
+use crate::judge_plan::matches::Match;
+use crate::judge_plan::standing::StandingMatches;
 use crate::judge_plan::trace::{Told, Trace};
 use bumpalo::Bump;
 use path_model::Events;
@@ -20,7 +22,7 @@ use suit_params::{Digest, ParamList};
 #[derive(Drop)]
 pub(crate) struct History<'a> {
     all: Trace<'a>,
-    standing: Chain<'a>,
+    standing: StandingMatches<'a>,
 }
 
 impl<'a> Model for History<'a> {
@@ -39,25 +41,16 @@ impl<'a> Model for History<'a> {
 // The matches that stand after one more event.
 fn standing_after<'a>(
     bump: &'a Bump,
-    standing: &Chain<'a>,
-    event: Happened<'a>,
-) -> Result<Chain<'a>, AllocError>
-    ensures { IfOk result (StandsAfter standing.now (event_of event.entry)) }
+    standing: &StandingMatches<'a>,
+    told: Told<'a>,
+) -> Result<StandingMatches<'a>, AllocError>
+    ensures { IfOk result (λ after. (event : TheEvent) → told_by told.entry ≡ event ∷ []
+        → StandsAfter standing.now event after) }
 {
-    match event {
-        Happened::Matched {
-            component,
-            digest,
-            size,
-        } => {
-            if standing.finds(component, digest, size) {
-                Ok(standing.copy())
-            } else {
-                standing.with(bump, event)
-            }
-        }
-        Happened::Wrote { component } => standing.without(bump, component),
-        _ => Ok(standing.copy()),
+    match told {
+        Told::Matched { component, own } => standing.with(bump, component, own),
+        Told::Wrote { component } => Ok(standing.without(component)),
+        _ => Ok(*standing),
     }
 }
 
@@ -68,7 +61,7 @@ impl<'a> History<'a> {
     {
         History {
             all: Trace::new(),
-            standing: Chain::new(),
+            standing: StandingMatches::new(),
         }
     }
 
@@ -77,16 +70,19 @@ impl<'a> History<'a> {
         ensures { result ≡ self.now }
     {
         let all = self.all.copy();
-        let standing = self.standing.copy();
-        History { all, standing }
+        History {
+            all,
+            standing: self.standing,
+        }
     }
 
     /// Adds the last event.
     pub(crate) fn push(&mut self, bump: &'a Bump, event: Happened<'a>) -> Result<(), AllocError>
         ensures { OnOk result (self.new ≡ self.old ++ event_of event.entry ∷ []) }
     {
-        let standing = standing_after(bump, &self.standing, event)?;
-        let all = self.all.with(bump, Told::One(event))?;
+        let told = Told::of(bump, event)?;
+        let standing = standing_after(bump, &self.standing, told)?;
+        let all = self.all.with(bump, told)?;
         self.all = all;
         self.standing = standing;
         Ok(())
@@ -134,19 +130,24 @@ impl<'a> History<'a> {
     pub(crate) fn has_matched(&self, component: u32, digest: &Digest, size: Option<u64>) -> bool
         ensures { IsTrue result ↔ HasMatched self.now component digest.now size }
     {
-        self.standing.has_match(component, digest, size)
+        self.standing.has(component, &Match::new(digest, size))
     }
 
     /// Whether the same matches stand.
-    pub(crate) fn same_matches(&self, other: &History<'_>) -> bool
+    pub(crate) fn same_matches(&self, other: &History<'a>) -> bool
         ensures { IsTrue result → SameMatches self.now other.now }
     {
-        self.standing.is_within(&other.standing) && other.standing.is_within(&self.standing)
+        self.standing.is_same(&other.standing)
     }
 
     /// A fingerprint: equal where the same matches stand.
     pub(crate) fn fingerprint(&self) -> u64 {
         self.standing.fingerprint()
+    }
+
+    /// How many matches stand, at most.
+    pub(crate) fn most(&self) -> u32 {
+        self.standing.most()
     }
 
     /// The events, in memory of their own.

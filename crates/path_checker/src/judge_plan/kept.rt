@@ -64,6 +64,9 @@ pub(crate) trait Standing: Drop {
 
     /// A fingerprint: equal where they are the same.
     fn fingerprint(&self) -> u64;
+
+    /// How many matches stand, at most.
+    fn most(&self) -> u32;
 }
 
 impl<'a> Stopped<'a> {
@@ -90,6 +93,10 @@ impl<'a> Standing for Stopped<'a> {
             self.history.fingerprint(),
         )
     }
+
+    fn most(&self) -> u32 {
+        self.history.most()
+    }
 }
 
 impl<'a> Standing for Kept<'a> {
@@ -110,6 +117,10 @@ impl<'a> Standing for Kept<'a> {
             mixed(self.soft_failure as u64, known),
             self.history.fingerprint(),
         )
+    }
+
+    fn most(&self) -> u32 {
+        self.history.most()
     }
 }
 

@@ -5,7 +5,8 @@ ghost use Rattle.path_checker.specs.Exploring.{In};
 ghost use Rattle.path_checker.specs.Merging.{Merges, SameState, SameStop};
 
 use crate::judge_plan::kept::{Kept, Standing, Stopped};
-use std::alloc::{AllocError, Global};
+use crate::judge_plan::memory::Memory;
+use std::alloc::AllocError;
 use std::collections::HashMap;
 use suit_commands::Command;
 
@@ -14,6 +15,7 @@ const FEW: usize = 32;
 
 // Whether the one at an index stands for this one, or an earlier one of the same fingerprint.
 fn stands_for<T: Standing>(
+    memory: Memory<'_>,
     kept: &[T],
     earlier: &[Option<usize>],
     last: Option<&usize>,
@@ -24,7 +26,7 @@ fn stands_for<T: Standing>(
     let mut left = kept.len();
     let mut at = last.copied();
     while let Some(index) = at {
-        if index >= left {
+        if index >= left || !memory.may_compare(one.most()) {
             return false;
         }
         if kept[index].is_same(one) {
@@ -40,17 +42,17 @@ fn stands_for<T: Standing>(
 }
 
 // Some of these, which stand for all.
-fn merged<T: Standing>(alloc: Global, from: Vec<T>) -> Result<Vec<T>, AllocError>
+fn merged<T: Standing>(memory: Memory<'_>, from: Vec<T>) -> Result<Vec<T>, AllocError>
     requires { (one : T) → T.same one one }
     ensures { IfOk result (λ v. Merges T.same from.items v.items) }
 {
-    let mut seen = HashMap::new(alloc);
-    let mut kept = Vec::new(alloc);
+    let mut seen = HashMap::new(memory.alloc);
+    let mut kept = Vec::new(memory.alloc);
     // Of each that is kept, the index of the one before it with its fingerprint.
-    let mut earlier = Vec::new(alloc);
+    let mut earlier = Vec::new(memory.alloc);
     for one in from {
         let print = one.fingerprint();
-        if stands_for(&kept, &earlier, seen.get(&print), &one) {
+        if stands_for(memory, &kept, &earlier, seen.get(&print), &one) {
             continue;
         }
         let before = seen.insert(print, kept.len())?;
@@ -71,7 +73,7 @@ fn has_inner(command: &Command) -> bool {
 
 /// The states, or some of them, which stand for all, where a command may have added to them.
 pub(crate) fn merged_states<'a>(
-    alloc: Global,
+    memory: Memory<'a>,
     command: &Command,
     from: Vec<Kept<'a>>,
 ) -> Result<Vec<Kept<'a>>, AllocError>
@@ -80,12 +82,12 @@ pub(crate) fn merged_states<'a>(
     if from.len() < 2 || !has_inner(command) {
         return Ok(from);
     }
-    merged(alloc, from)
+    merged(memory, from)
 }
 
 /// The failures, or some that stand for all once they are twice as many as were left the last time.
 pub(crate) fn settled<'a>(
-    alloc: Global,
+    memory: Memory<'a>,
     from: Vec<Stopped<'a>>,
     left: &mut usize,
 ) -> Result<Vec<Stopped<'a>>, AllocError>
@@ -94,7 +96,7 @@ pub(crate) fn settled<'a>(
     if from.len() / 2 < *left || from.len() < FEW {
         return Ok(from);
     }
-    let kept = merged(alloc, from)?;
+    let kept = merged(memory, from)?;
     *left = kept.len();
     Ok(kept)
 }

@@ -2,21 +2,53 @@
 
 ghost use Rattle.std.specs.Prelude.{◌≡◌, [], ◌∷◌, ◌++◌, map, IfOk, OnOk};
 ghost use Rattle.path_model.specs.Directives.{set_events};
-ghost use Rattle.path_checker.specs.Happening.{told_by};
+ghost use Rattle.path_checker.specs.Happening.{event_of, invoke_event, told_by};
 ghost use Rattle.path_checker.specs.Standing.{all_in_order};
 
-use crate::judge_plan::happened::Happened;
+use crate::judge_plan::happened::{Happened, copied};
+use crate::judge_plan::matches::Match;
 use bumpalo::Bump;
 use path_model::{Event, Events};
 use std::alloc::{AllocError, Global};
 use std::marker::Model;
-use suit_params::ParamList;
+use suit_commands::TestKind;
+use suit_params::{Digest, ParamList};
 
-/// Events that follow one another: one alone, or all of an override at a component.
+/// An invoke, as it is told.
+#[derive(Clone, Copy)]
+pub(crate) struct Invoke<'a> {
+    component: u32,
+    digest: Option<&'a Digest>,
+    size: Option<u64>,
+    passed: bool,
+}
+
+/// Events that follow one another: one alone, or all of an override at a component. Large ones are lent.
 #[derive(Clone, Copy)]
 pub(crate) enum Told<'a> {
-    One(Happened<'a>),
-    Sets { component: u32, list: &'a ParamList },
+    Tried {
+        component: u32,
+        kind: TestKind,
+        passed: bool,
+    },
+    Missed {
+        component: u32,
+    },
+    Wrote {
+        component: u32,
+    },
+    Matched {
+        component: u32,
+        own: &'a Match<'a>,
+    },
+    Failed {
+        place: u64,
+    },
+    Invoked(&'a Invoke<'a>),
+    Sets {
+        component: u32,
+        list: &'a ParamList,
+    },
 }
 
 // Events, and those before them.
@@ -67,18 +99,85 @@ fn tell_sets(
     Ok(())
 }
 
+impl<'a> Invoke<'a> {
+    fn told(&self) -> Event
+        ensures { result ≡ invoke_event self.now }
+    {
+        Event::Invoked {
+            component: self.component,
+            digest: copied(self.digest),
+            size: self.size,
+            passed: self.passed,
+        }
+    }
+}
+
 impl<'a> Told<'a> {
+    /// One event.
+    pub(crate) fn of(bump: &'a Bump, happened: Happened<'a>) -> Result<Told<'a>, AllocError>
+        ensures { IfOk result (λ told. told_by told ≡ event_of happened.entry ∷ []) }
+    {
+        match happened {
+            Happened::Tried {
+                component,
+                kind,
+                passed,
+            } => Ok(Told::Tried {
+                component,
+                kind,
+                passed,
+            }),
+            Happened::Missed { component } => Ok(Told::Missed { component }),
+            Happened::Wrote { component } => Ok(Told::Wrote { component }),
+            Happened::Failed { place } => Ok(Told::Failed { place }),
+            Happened::Matched {
+                component,
+                digest,
+                size,
+            } => {
+                let own = Match::lent(bump, digest, size)?;
+                Ok(Told::Matched { component, own })
+            }
+            Happened::Invoked {
+                component,
+                digest,
+                size,
+                passed,
+            } => match bump.try_alloc(Invoke {
+                component,
+                digest,
+                size,
+                passed,
+            }) {
+                Ok(lent) => Ok(Told::Invoked(lent)),
+                Err(_) => Err(AllocError),
+            },
+        }
+    }
+
     // Adds the events, in memory of their own.
     fn tell(&self, alloc: Global, events: &mut Events) -> Result<(), AllocError>
         ensures { OnOk result (events.new ≡ events.old ++ told_by self.now) }
     {
-        match *self {
-            Told::One(happened) => {
-                events.push(happened.told(alloc)?)?;
-                Ok(())
-            }
-            Told::Sets { component, list } => tell_sets(alloc, component, list, events),
-        }
+        let event = match *self {
+            Told::Tried {
+                component,
+                kind,
+                passed,
+            } => Event::Tried {
+                component,
+                kind,
+                passed,
+            },
+            Told::Missed { component } => Event::Missed { component },
+            Told::Wrote { component } => Event::Wrote { component },
+            Told::Matched { component, own } => own.told(component),
+            Told::Failed { place } => Event::Failed { place },
+            Told::Invoked(invoke) => invoke.told(),
+            Told::Sets { component, list } => return tell_sets(alloc, component, list, events),
+        };
+        events.push(event)?;
+        Ok(())
     }
 }
 

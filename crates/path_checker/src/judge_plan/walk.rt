@@ -44,7 +44,7 @@ pub(crate) fn sequence<'a>(
     let mut left = 0;
     for step in sequence.as_slice() {
         now = command(memory, count, step, now, &mut stops)?;
-        stops = settled(memory.alloc, stops, &mut left)?;
+        stops = settled(memory, stops, &mut left)?;
     }
     join(failed, stops)?;
     Ok(now)
@@ -101,7 +101,7 @@ pub(crate) fn command<'a>(
             _ => each(memory, count, step, k, &mut next, failed)?,
         }
     }
-    let merged = merged_states(memory.alloc, &step.command, next)?;
+    let merged = merged_states(memory, &step.command, next)?;
     Ok(merged)
 }
 

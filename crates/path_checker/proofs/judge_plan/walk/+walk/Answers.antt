@@ -194,3 +194,7 @@ command-returns-clause-ok t c =
 
 pub one_branch-returns-clause-ok : goal.one_branch-returns-clause-ok
 one_branch-returns-clause-ok t c = Adds-branch (runs_course c.args.inner.now c.args.count) c.args.outer.now c.args.component c.args.from.items c.in_ok-inside.inside.items c.in_ok-done.done.items c.args.next.now.items c.leave_all.new.next.items c.new-rest.result.items c.split.new.next.items c.new-stops.result.items c.sequence.new.failed.items c.args.failed.now.items c.split.new.failed.items c.in_ok-inside.ensures c.new-stops.ensures.items c.in_ok-done.ensures.ok c.in_ok-leave_all.ensures c.new-rest.ensures.items c.in_ok-split.ensures.soft c.in_ok-split.ensures.hard
+
+pub one_branch-returns-in_err-done-clause-err : goal.one_branch-returns-in_err-done-clause-err
+one_branch-returns-in_err-done-clause-err t c =
+    let p = err_from_is_err_and c.from_residual-in_err-done.result c.from_residual-in_err-done.ensures.1 in rw (p.1, p.2) (subst (λ ks. Halts (runs_course c.args.inner.now c.args.count) ks c.in_err-done.field-0.0) c.in_ok-inside.ensures c.in_err-done.ensures.err)

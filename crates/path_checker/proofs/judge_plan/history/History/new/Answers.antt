@@ -1,0 +1,8 @@
+use Rattle.std.proofs.Common.{List, sym, subst}
+use Rattle.path_model.specs.declared.event.Event.{Event}
+use Rattle.path_checker.specs.Standing.{all_in_order, Stands}
+use Rattle.path_checker.proofs.StandingLaws.{stands_none}
+use Rattle.path_checker.proofs.judge_plan.history.History.new.Goals as goal
+
+pub invariant_of-result : goal.invariant_of-result
+invariant_of-result c = subst (λ (parts : List (List Event)). Stands c.new-2.result (all_in_order parts)) (sym c.new.ensures) (stands_none c.new-2.result c.new-2.ensures)
