@@ -3,6 +3,7 @@
 mod accepted;
 mod check;
 mod cut;
+mod damage;
 mod device;
 mod failing;
 mod goes;

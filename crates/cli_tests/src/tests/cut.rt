@@ -3,4 +3,4 @@
 mod after;
 mod faults;
 mod losses;
-mod recorded;
+pub(crate) mod recorded;
