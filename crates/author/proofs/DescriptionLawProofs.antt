@@ -11,6 +11,7 @@ use Rattle.author.specs.Descriptions.{described}
 use Rattle.author.specs.DescriptionLaws.{DescriptionLaws}
 use Rattle.author.specs.Faults.{AreFewAndApart, IsDescription}
 use Rattle.author.proofs.DescriptionGrammar.{grammatical, members_allowed}
+use Rattle.author.proofs.GivenPartProofs.{parts}
 use Rattle.author.proofs.Likes.{Like, BothRead, BothFlawed}
 use Rattle.author.proofs.PayloadsAscend.{ascend}
 use Rattle.author.proofs.SameFields.{SameComponents, like_described, never_flawed}
@@ -72,4 +73,5 @@ laws items payloads = record {
   grammatical = λ d files p h is. grammatical items d files p (few_apart d files p ∣ h ∣₁ is) is;
   members = λ d files p h is. members_allowed d files p (few_apart d files p ∣ h ∣₁ is) is;
   payloads = ascend payloads;
+  parts = parts;
 }

@@ -12,7 +12,6 @@ pub mod ParamGrammar
 pub mod Grammar
 pub mod OneItem
 pub mod DescriptionGrammar
-pub mod DescriptionLawProofs
 pub mod PayloadsAscend
 pub mod MadeAnswers
 pub mod EnvelopeLengthFacts
@@ -21,3 +20,12 @@ pub mod LeftAfter
 pub mod ContentFacts
 pub mod OutlineFacts
 pub mod TooLongFacts
+pub mod Found
+pub mod GivenCommandProofs
+pub mod GivenValues
+pub mod GivenMembers
+pub mod GivenPayloadProofs
+pub mod GivenFields
+pub mod GivenSevered
+pub mod GivenPartProofs
+pub mod DescriptionLawProofs

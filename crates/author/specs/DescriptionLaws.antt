@@ -6,6 +6,8 @@ use Rattle.suit_manifest.specs.ManifestWriting.{ManifestFits, IsGrammatical}
 use Rattle.author.specs.declared.fields.Described.{Described}
 use Rattle.author.specs.Descriptions.{described}
 use Rattle.author.specs.Faults.{IsDescription}
+use Rattle.author.specs.GivenParts.{HasPartsOf}
+use Rattle.author.specs.KeysOnce.{HasKeysOnce}
 use Rattle.author.specs.MadeMembers.{IsAllowedMember}
 use Rattle.author.specs.Making.{made_manifest}
 
@@ -23,3 +25,6 @@ pub record DescriptionLaws : Type 0 where
       × IsAllowedMember (length p.manifest.components) p.manifest.install
   pub payloads : (d : Data) (files : List (List ℕ × List ℕ)) (p : Described)
       → described files d ≡ Ok p → AreAscending None p.payloads
+  -- its payloads, severed members and key's identifier are those that stand in the value
+  pub parts : (d : Data) (files : List (List ℕ × List ℕ)) (p : Described) → HasKeysOnce d
+      → described files d ≡ Ok p → HasPartsOf d files p

@@ -24,4 +24,7 @@ pub mod MadeEnvelopes
 pub mod EnvelopeLengths
 pub mod MadePayloads
 pub mod MadeMembers
+pub mod KeysOnce
+pub mod GivenCommands
+pub mod GivenParts
 pub mod DescriptionLaws

@@ -1,0 +1,100 @@
+-- A description's payloads, the members that may be severed and the key's identifier, by what is found in its JSON value.
+use Rattle.std.specs.Prelude.{◌≡◌, ◌↔◌, ℕ, IsTrue, List, codes, Option, Some, None, option_and_then}
+use Rattle.std.specs.Result.{result_ok}
+use Rattle.serde_json.specs.Data.{Data, string, array, object, Items}
+use Rattle.serde_json.specs.Find.{get, get_item, as_str}
+use Rattle.hex.specs.Hex.{decode_of}
+use Rattle.suit_envelope.specs.Payloads.{payload_under}
+use Rattle.suit_manifest.specs.declared.manifest.Member.{Member}
+use Rattle.suit_manifest.specs.declared.manifest.Member.TheVariants as members
+use Rattle.suit_manifest.specs.declared.manifest.TextMember.{TextMember}
+use Rattle.suit_manifest.specs.declared.manifest.TextMember.TheVariants as texts
+use Rattle.author.specs.declared.fields.Described.{Described}
+use Rattle.author.specs.Files.{bytes_of}
+use Rattle.author.specs.GivenCommands.{HasCommandsOf}
+
+abbrev pub text_under : List ℕ → Data → Option (List ℕ)
+text_under key d = option_and_then as_str (get key d)
+
+-- the bytes that hexadecimal digits spell
+abbrev pub bytes_spelled : List ℕ → Option (List ℕ)
+bytes_spelled digits = result_ok (decode_of digits)
+
+abbrev pub bytes_under : List ℕ → Data → Option (List ℕ)
+bytes_under key d = option_and_then bytes_spelled (text_under key d)
+
+-- ---- payloads: `{"file": NAME}` or `{"hex": HEX}` under each key
+
+abbrev pub bytes_given : List (List ℕ × List ℕ) → Option (List ℕ) → Option (List ℕ)
+    → Option (List ℕ)
+bytes_given files (Some name) None = Some (bytes_of files name)
+bytes_given files None (Some digits) = bytes_spelled digits
+bytes_given files (Some name) (Some digits) = None
+bytes_given files None None = None
+
+abbrev pub payload_given : List (List ℕ × List ℕ) → Data → Option (List ℕ)
+payload_given files d =
+    bytes_given files (text_under (codes "file") d) (text_under (codes "hex") d)
+
+abbrev pub payload_at : List ℕ → Data → Option Data
+payload_at key d = option_and_then (get key) (get (codes "payloads") d)
+
+-- one under each key that stands there, with the bytes that are given for it, and no other
+pub record ArePayloadsOf (d : Data) (files payloads : List (List ℕ × List ℕ)) : Type 0 where
+  pub each : (key : List ℕ) (given : Data) → payload_at key d ≡ Some given
+      → (bytes : List ℕ) × (payload_given files given ≡ Some bytes)
+      × (payload_under payloads key ≡ Some bytes)
+  pub no_other : (key : List ℕ) → payload_at key d ≡ None → payload_under payloads key ≡ None
+
+-- ---- members: the digest of one that is left out, or else its content
+
+abbrev pub IsMemberOf : Option Data → Member → Type 0
+IsMemberOf None members.Empty = Unit {0}
+IsMemberOf (Some (array ds)) (members.Here s) = HasCommandsOf ds s
+IsMemberOf (Some (object ms)) (members.Apart digest) =
+    bytes_under (codes "digest") (object ms) ≡ Some digest.bytes
+IsMemberOf _ _ = ⊥
+
+abbrev pub IsTextOf : Option Data → TextMember → Type 0
+IsTextOf None texts.Empty = Unit {0}
+IsTextOf (Some (string digits)) (texts.Here content) = bytes_spelled digits ≡ Some content
+IsTextOf (Some (object ms)) (texts.Apart digest) =
+    bytes_under (codes "digest") (object ms) ≡ Some digest.bytes
+IsTextOf _ _ = ⊥
+
+-- ---- severed members
+
+-- the name stands in the array under `sever`
+pub record Severs (d : Data) (name : List ℕ) : Type 0 where
+  pub names : Items
+  pub i : ℕ
+  pub array : get (codes "sever") d ≡ Some (array names)
+  pub at : get_item i names ≡ Some (string name)
+
+-- given with its content
+abbrev pub IsHere : Member → Type 0
+IsHere (members.Here s) = Unit {0}
+IsHere _ = ⊥
+
+abbrev pub IsTextHere : TextMember → Type 0
+IsTextHere (texts.Here content) = Unit {0}
+IsTextHere _ = ⊥
+
+-- just the named members, each given with its content
+pub record AreSeveredOf (d : Data) (p : Described) : Type 0 where
+  pub payload_fetch : IsTrue p.severed.payload_fetch ↔ Severs d (codes "payload-fetch")
+  pub install : IsTrue p.severed.install ↔ Severs d (codes "install")
+  pub text : IsTrue p.severed.text ↔ Severs d (codes "text")
+  pub payload_fetch_here : IsTrue p.severed.payload_fetch → IsHere p.manifest.payload_fetch
+  pub install_here : IsTrue p.severed.install → IsHere p.manifest.install
+  pub text_here : IsTrue p.severed.text → IsTextHere p.manifest.text
+
+-- ---- together
+
+pub record HasPartsOf (d : Data) (files : List (List ℕ × List ℕ)) (p : Described) : Type 0 where
+  pub payloads : ArePayloadsOf d files p.payloads
+  pub severed : AreSeveredOf d p
+  pub payload_fetch : IsMemberOf (get (codes "payload-fetch") d) p.manifest.payload_fetch
+  pub install : IsMemberOf (get (codes "install") d) p.manifest.install
+  pub text : IsTextOf (get (codes "text") d) p.manifest.text
+  pub kid : p.kid ≡ bytes_under (codes "kid") d
