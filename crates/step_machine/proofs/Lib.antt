@@ -11,6 +11,7 @@ pub mod Lifting
 pub mod Image
 pub mod Launching
 pub mod FetchPlays
+pub mod Fetched
 pub mod Asking
 pub mod Beginning
 pub mod Inner

@@ -197,7 +197,7 @@ module _ (one other : Spot) (bytes : List ℕ) (a b : Flash) (size : ℕ) (law :
 
 -- ---- reads
 
-now_held : (spot : Spot) (bytes : List ℕ) (a : Flash) (image : List ℕ) → Now a image → IsEmptyOrWholeAt spot bytes a image
+pub now_held : (spot : Spot) (bytes : List ℕ) (a : Flash) (image : List ℕ) → Now a image → IsEmptyOrWholeAt spot bytes a image
 now_held (spots.Flash slot) bytes a image now = inr (inl (image, now, refl))
 now_held (spots.Ram component) bytes a image now = tt
 

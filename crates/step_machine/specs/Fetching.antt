@@ -84,6 +84,13 @@ payload_by payloads words files uri =
     if get_or uri 0 0 == 35 then found_under payloads uri
     else option_and_then files (found_under words uri)
 
+-- the file that the URI in force for the component names
+abbrev pub file_by : ℕ → Parameters → List (List ℕ × List ℕ) → List (List ℕ × List ℕ)
+    → (List ℕ → Option (List ℕ)) → Option (List ℕ)
+file_by component parameters payloads words files =
+    option_and_then (payload_by payloads words files)
+    (bytes_of (in_force parameters component keys.Uri))
+
 -- in each setting with these payloads and files, and on each device where the component has that room and holds the
 -- content before, and holds the content after
 abbrev pub FetchesAs : ℕ → ℕ → Parameters → List (List ℕ × List ℕ) → List (List ℕ × List ℕ)

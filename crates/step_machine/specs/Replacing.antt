@@ -1,6 +1,6 @@
 -- A content that is replaced, in each image that a power loss on the way may leave.
-use Rattle.std.specs.Prelude.{◌≡◌, ◌⊎◌, ℕ, List, length}
-use Rattle.suit_edge.specs.Flash.{Flash, IsSettled, Now}
+use Rattle.std.specs.Prelude.{◌≡◌, ◌⊎◌, ℕ, List, Option, Some, None, length}
+use Rattle.suit_edge.specs.Flash.{Flash, IsSettled, Now, Passes}
 use Rattle.flash_layout.specs.declared.slot.Slot.{Slot}
 use Rattle.flash_slots.specs.Contents.{IsEmptyInEach, IsEmptySlot, area_of, pieces_of}
 use Rattle.step_machine.specs.declared.spot.Spot.{Spot}
@@ -18,6 +18,17 @@ IsEmptyOrWholeAt (spots.Flash slot) bytes start image =
     IsEmptySlot slot image ⊎ IsRoomBefore slot start image
     ⊎ (pieces_of slot (length bytes) image ≡ bytes)
 IsEmptyOrWholeAt (spots.Ram component) bytes start image = Unit {0}
+
+-- The same of a file. Where there is none the flash is as it was.
+abbrev pub IsReplacedBy : Spot → Option (List ℕ) → Flash → List ℕ → Type 0
+IsReplacedBy spot None start image = Now start image
+IsReplacedBy spot (Some file) start image = IsEmptyOrWholeAt spot file start image
+
+-- in each image since the start, by one file, or by none, that is so
+pub record IsReplaced (spot : Spot) (Is : Option (List ℕ) → Type 0) (old new : Flash) : Type 0 where
+  pub file : Option (List ℕ)
+  pub named : Is file
+  pub images : Passes old new (IsReplacedBy spot file old)
 
 -- a slot is empty, as the flash reads
 abbrev pub IsEmptyAt : Spot → List ℕ → Type 0

@@ -4,7 +4,8 @@ ghost use Rattle.path_model.specs.declared.cause.Cause.TheVariants as causes;
 ghost use Rattle.path_model.specs.Settings.{found_under};
 ghost use Rattle.std.specs.Prelude.{[], ◌≡◌, ◌⊎◌, ◌<◌, ◌≤◌, ◌+◌, ◌==◌, ℕ, Err, IsTrue, List, Some, get_or, length, option_map};
 ghost use Rattle.std.specs.Option.{option_and_then};
-ghost use Rattle.step_machine.specs.Fetching.{AsksAtMost, FetchCounts, FetchesAs, TakesNamed, asked_at, file_named};
+ghost use Rattle.step_machine.specs.Fetching.{AsksAtMost, FetchCounts, FetchesAs, TakesNamed, asked_at, file_by, file_named};
+ghost use Rattle.step_machine.specs.Replacing.{IsReplaced};
 ghost use Rattle.step_machine.specs.Spots.{IsPlaced, IsRamBut, IsSpot, OutsideSpot, content_of, room_at};
 ghost use Rattle.suit_edge.specs.Flash.{Grows, Keeps};
 ghost use Rattle.suit_envelope.specs.Payloads.{HasPayloads};
@@ -49,6 +50,10 @@ fn fetch_payload<D: Disk>(
         → TakesNamed result standing.now.capacity (found_under payloads key.now)
         (content_of standing.now.spot ram.old (D.flash disk.old).reads)
         (content_of standing.now.spot ram.new (D.flash disk.new).reads) }
+    ensures replaced { IsTrue D.told → IsReplaced standing.now.spot
+        (λ file. (payloads : List (List ℕ × List ℕ)) → HasPayloads envelope.now.whole.now payloads
+        → file ≡ found_under payloads key.now)
+        (D.flash disk.old) (D.flash disk.new) }
     ensures keeps { IsTrue D.told
         → Keeps (OutsideSpot standing.now.spot) (D.flash disk.old) (D.flash disk.new) }
     ensures grows { IsTrue D.told → Grows (D.flash disk.old) (D.flash disk.new) }
@@ -75,6 +80,9 @@ fn fetch_named<H: Host, D: Disk>(
         → TakesNamed result standing.now.capacity (H.file host.old name.now)
         (content_of standing.now.spot ram.old (D.flash disk.old).reads)
         (content_of standing.now.spot ram.new (D.flash disk.new).reads) }
+    ensures replaced { IsTrue D.told → IsReplaced standing.now.spot
+        (λ file. IsTrue H.told → file ≡ H.file host.old name.now)
+        (D.flash disk.old) (D.flash disk.new) }
     ensures keeps { IsTrue D.told
         → Keeps (OutsideSpot standing.now.spot) (D.flash disk.old) (D.flash disk.new) }
     ensures goes { ⟦<D as Steps>⟧.goes_on
@@ -114,6 +122,10 @@ fn fetch_file<H: Host, D: Disk>(
         (option_and_then (H.file host.old) (found_under uris.now uri.now))
         (content_of standing.now.spot ram.old (D.flash disk.old).reads)
         (content_of standing.now.spot ram.new (D.flash disk.new).reads) }
+    ensures replaced { IsTrue D.told → IsReplaced standing.now.spot
+        (λ file. IsTrue H.told ⊎ (uris.now ≡ [])
+        → file ≡ option_and_then (H.file host.old) (found_under uris.now uri.now))
+        (D.flash disk.old) (D.flash disk.new) }
     ensures asked { IsTrue H.told
         → AsksAtMost (found_under uris.now uri.now) (standing.now.capacity + 1)
         (asked_at (H.asked host.old) (H.pulled host.old))
@@ -133,7 +145,7 @@ fn fetch_file<H: Host, D: Disk>(
 /// envelope where it begins with `#`, and otherwise the file that answers it. Where there is none nothing changes. One that
 /// is too large leaves the content empty, a fault of the host leaves the old content or none, and one of the flash any. At
 /// most one byte more is pulled than there is room for, and no file is asked for but that one. Where there are no names of
-/// files the host is not called.
+/// files the host is not called. A power loss on the way leaves the slot empty, or its room as it was, or the file whole.
 pub fn fetch<H: Host, D: Disk>(
     host: &mut H,
     disk: &mut D,
@@ -166,6 +178,11 @@ pub fn fetch<H: Host, D: Disk>(
         (H.file host.old)
         (content_of standing.now.spot ram.old (D.flash disk.old).reads)
         (content_of standing.now.spot ram.new (D.flash disk.new).reads) result }
+    ensures replaced { IsTrue D.told → IsReplaced standing.now.spot
+        (λ file. IsTrue H.told ⊎ (uris.now ≡ []) → (payloads : List (List ℕ × List ℕ))
+        → HasPayloads envelope.now.whole.now payloads
+        → file ≡ file_by standing.now.component params.now payloads uris.now (H.file host.old))
+        (D.flash disk.old) (D.flash disk.new) }
     ensures keeps { IsTrue D.told
         → Keeps (OutsideSpot standing.now.spot) (D.flash disk.old) (D.flash disk.new) }
     ensures grows { IsTrue D.told → Grows (D.flash disk.old) (D.flash disk.new) }

@@ -3,7 +3,7 @@
 ghost use Rattle.flash_layout.specs.Slots.{LiesWithin, extent_of, slot_content};
 ghost use Rattle.flash_slots.specs.Contents.{ResultCounts};
 ghost use Rattle.flash_slots.specs.RamContents.{held_by, holding};
-ghost use Rattle.std.specs.Prelude.{◌≡◌, ◌<◌, ◌≤◌, IsTrue, OnErr, OnOk, length};
+ghost use Rattle.std.specs.Prelude.{◌≡◌, ◌<◌, ◌≤◌, [], ℕ, IsTrue, List, OnErr, OnOk, length};
 ghost use Rattle.step_machine.specs.Replacing.{IsEmptyOrWholeAt};
 ghost use Rattle.step_machine.specs.Spots.{IsRamBut, IsSpot, OutsideSpot, content_of, room_at};
 ghost use Rattle.step_machine.specs.declared.spot.Spot.TheVariants as spots;
@@ -74,6 +74,33 @@ pub(crate) fn fill<D: Disk>(
         Spot::Flash(slot) => fill_slot(disk, slot, bytes),
         Spot::Ram(component) => {
             fill_ram(ram, component, bytes);
+            Ok(())
+        }
+    }
+}
+
+// Empties a content.
+pub(crate) fn empty<D: Disk>(disk: &mut D, ram: &mut Ram, spot: Spot) -> Result<(), FlashFault>
+    requires spot { IsSpot (D.extent disk.old) ram.old spot }
+    ensures goes { ⟦<D as Steps>⟧.goes_on (ResultCounts result) disk.old disk.new }
+    ensures content { IsTrue D.told
+        → OnOk result (content_of spot ram.new (D.flash disk.new).reads ≡ []) }
+    ensures short { IsTrue D.told
+        → OnErr result
+        (length (content_of spot ram.new (D.flash disk.new).reads) ≤ room_at spot ram.old) }
+    ensures ram { IsRamBut spot ram.old ram.new }
+    ensures any_moment { IsTrue D.told → (bytes : List ℕ)
+        → Passes (D.flash disk.old) (D.flash disk.new)
+        (IsEmptyOrWholeAt spot bytes (D.flash disk.old)) }
+    ensures keeps { IsTrue D.told → Keeps (OutsideSpot spot) (D.flash disk.old) (D.flash disk.new) }
+{
+    match spot {
+        Spot::Flash(slot) => {
+            begin(disk, slot)?;
+            Ok(())
+        }
+        Spot::Ram(component) => {
+            ram.clear(component);
             Ok(())
         }
     }

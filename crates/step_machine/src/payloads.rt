@@ -3,12 +3,13 @@
 ghost use Rattle.path_model.specs.Settings.{found_under};
 ghost use Rattle.std.specs.Prelude.{◌≡◌, ◌<◌, ℕ, IsTrue, List, option_map};
 ghost use Rattle.step_machine.specs.Fetching.{FetchCounts, TakesIn};
+ghost use Rattle.step_machine.specs.Replacing.{IsEmptyOrWholeAt};
 ghost use Rattle.step_machine.specs.Spots.{IsPlaced, IsRamBut, OutsideSpot, content_of};
-ghost use Rattle.suit_edge.specs.Flash.{Grows, Keeps};
+ghost use Rattle.suit_edge.specs.Flash.{Grows, Keeps, Passes};
 ghost use Rattle.suit_envelope.specs.Payloads.{HasPayloads};
 
 use crate::Standing;
-use crate::filling::fill;
+use crate::filling::{empty, fill};
 use det_cbor::as_text;
 use flash_layout::FlashFault;
 use flash_slots::Ram;
@@ -38,6 +39,8 @@ pub(crate) fn fill_with<D: Disk>(
     ensures ram { IsRamBut standing.now.spot ram.old ram.new }
     ensures takes { IsTrue D.told → TakesIn result standing.now.capacity payload.now
         (content_of standing.now.spot ram.new (D.flash disk.new).reads) }
+    ensures any_moment { IsTrue D.told → Passes (D.flash disk.old) (D.flash disk.new)
+        (IsEmptyOrWholeAt standing.now.spot payload.now (D.flash disk.old)) }
     ensures keeps { IsTrue D.told
         → Keeps (OutsideSpot standing.now.spot) (D.flash disk.old) (D.flash disk.new) }
     ensures size { D.extent disk.new ≡ D.extent disk.old }
@@ -46,7 +49,7 @@ pub(crate) fn fill_with<D: Disk>(
     ensures grows { IsTrue D.told → Grows (D.flash disk.old) (D.flash disk.new) }
 {
     if standing.capacity < payload.len() as u64 {
-        return match fill(disk, ram, standing.spot, &[]) {
+        return match empty(disk, ram, standing.spot) {
             Ok(()) => Err(Cause::TooLarge),
             Err(FlashFault) => Err(Cause::FlashFault),
         };

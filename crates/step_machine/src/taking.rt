@@ -1,12 +1,14 @@
 //! Reading a started file into a content.
 
 ghost use Rattle.flash_layout.specs.Slots.{LiesWithin, extent_of, slot_content};
-ghost use Rattle.flash_slots.specs.Contents.{pieces_of};
+ghost use Rattle.flash_slots.specs.Contents.{IsEmptyInEach, IsEmptySlot, pieces_of};
 ghost use Rattle.flash_slots.specs.RamContents.{held_by, holding};
-ghost use Rattle.std.specs.Prelude.{◌≡◌, ◌<◌, ◌≤◌, [], ℕ, IsTrue, length};
+ghost use Rattle.std.specs.Prelude.{◌≡◌, ◌<◌, ◌≤◌, [], ℕ, IsTrue, Some, length};
 ghost use Rattle.step_machine.specs.Fetching.{FetchCounts, PutsIn, TakesIn};
+ghost use Rattle.step_machine.specs.Replacing.{IsReplaced};
 ghost use Rattle.step_machine.specs.Spots.{IsPlaced, IsRamBut, OutsideSpot, content_of};
-ghost use Rattle.suit_edge.specs.Flash.{Keeps};
+ghost use Rattle.step_machine.specs.declared.spot.Spot.TheVariants as spots;
+ghost use Rattle.suit_edge.specs.Flash.{Keeps, Passes};
 ghost use Rattle.suit_edge.specs.Ranges.{Outside};
 
 use crate::outside::{Pulls, Steps};
@@ -41,6 +43,8 @@ fn append_file<H: Host, D: Disk>(
         (pieces_of writing.old.slot writing.new.written (D.flash disk.new).reads) }
     ensures empty { IsTrue D.told → slot_content writing.old.slot (D.flash disk.old).reads ≡ []
         → slot_content writing.old.slot (D.flash disk.new).reads ≡ [] }
+    ensures still_empty { IsTrue D.told → IsEmptyInEach writing.old.slot (D.flash disk.old)
+        → Passes (D.flash disk.old) (D.flash disk.new) (IsEmptySlot writing.old.slot) }
     ensures keeps { IsTrue D.told
         → Keeps (Outside writing.old.slot.start (extent_of writing.old.slot)) (D.flash disk.old)
         (D.flash disk.new) }
@@ -71,6 +75,9 @@ fn take_into_slot<H: Host, D: Disk>(
     ensures takes { IsTrue D.told → IsTrue H.told
         → TakesIn result slot.capacity (H.rest host.old)
         (slot_content slot (D.flash disk.new).reads) }
+    ensures replaced { IsTrue D.told → IsReplaced (spots.Flash slot)
+        (λ file. IsTrue H.told → file ≡ Some (H.rest host.old))
+        (D.flash disk.old) (D.flash disk.new) }
     ensures keeps { IsTrue D.told
         → Keeps (Outside slot.start (extent_of slot)) (D.flash disk.old) (D.flash disk.new) }
     ensures goes { ⟦<D as Steps>⟧.goes_on
@@ -173,6 +180,9 @@ pub(crate) fn take_into<H: Host, D: Disk>(
     ensures takes { IsTrue D.told → IsTrue H.told
         → TakesIn result standing.now.capacity (H.rest host.old)
         (content_of standing.now.spot ram.new (D.flash disk.new).reads) }
+    ensures replaced { IsTrue D.told → IsReplaced standing.now.spot
+        (λ file. IsTrue H.told → file ≡ Some (H.rest host.old))
+        (D.flash disk.old) (D.flash disk.new) }
     ensures keeps { IsTrue D.told
         → Keeps (OutsideSpot standing.now.spot) (D.flash disk.old) (D.flash disk.new) }
 {

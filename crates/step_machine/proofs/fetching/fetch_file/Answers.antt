@@ -1,8 +1,10 @@
-use Rattle.std.proofs.Common.{inl, ◌+◌, ⊎_elim, ℕ, List, Option, refl, sym, ap, subst}
+use Rattle.std.proofs.Common.{◌≡◌, ◌⊎◌, [], None, IsTrue, ◌∙◌, inl, ◌+◌, ⊎_elim, ℕ, List, Option, refl, sym, ap, subst}
 use Rattle.std.specs.Option.{option_and_then}
+use Rattle.path_model.specs.Settings.{found_under}
 use Rattle.step_machine.specs.Fetching.{AsksAtMost, TakesNamed, asked_at}
 use Rattle.step_machine.specs.Spots.{content_of}
 use Rattle.step_machine.proofs.FetchPlays.{none_under}
+use Rattle.step_machine.proofs.Fetched.{left_alone, named_as}
 use Rattle.step_machine.proofs.Memory.{ram_same}
 use Rattle.step_machine.proofs.fetching.fetch_file.Goals as goal
 
@@ -30,3 +32,13 @@ returns-in-Some-clause-asked g c t =
 
 pub returns-in-None-clause-asked : goal.returns-in-None-clause-asked
 returns-in-None-clause-asked g c t = inl (refl, refl)
+
+pub returns-in-Some-clause-replaced : goal.returns-in-Some-clause-replaced
+returns-in-Some-clause-replaced g c t =
+    named_as c.args.standing.now.spot (λ file. IsTrue g.H.Host.told ⊎ (c.args.uris.now ≡ []) → file ≡ option_and_then (g.H.Host.file c.args.host.now) (found_under c.args.uris.now c.args.uri.now)) _ _ _
+    (λ file is u. is (⊎_elim (λ told. told) (λ none. absurd (none_under c.args.uris.now c.args.uri.now _ none c.in-Some.ensures)) u) ∙ ap (option_and_then (g.H.Host.file c.args.host.now)) c.in-Some.ensures) (c.fetch_named.ensures.replaced t)
+
+pub returns-in-None-clause-replaced : goal.returns-in-None-clause-replaced
+returns-in-None-clause-replaced g c t =
+    left_alone c.args.standing.now.spot (λ file. IsTrue g.H.Host.told ⊎ (c.args.uris.now ≡ []) → file ≡ option_and_then (g.H.Host.file c.args.host.now) (found_under c.args.uris.now c.args.uri.now)) None (g.D.Disk.flash c.args.disk.now)
+    (λ u. ap (option_and_then (g.H.Host.file c.args.host.now)) c.in-None.ensures)

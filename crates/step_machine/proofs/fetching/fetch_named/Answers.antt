@@ -1,5 +1,6 @@
-use Rattle.std.proofs.Common.{refl, inl, inr, ⊎_elim, ◌∙◌, arith}
+use Rattle.std.proofs.Common.{◌≡◌, None, IsTrue, sym, refl, inl, inr, ⊎_elim, ◌∙◌, arith}
 use Rattle.step_machine.specs.Spots.{content_of}
+use Rattle.step_machine.proofs.Fetched.{left_alone, named_as}
 use Rattle.step_machine.proofs.Memory.{ram_same}
 use Rattle.step_machine.proofs.TakenFiles.{found_takes}
 use Rattle.step_machine.proofs.fetching.fetch_named.Goals as goal
@@ -29,3 +30,15 @@ returns-in-Failed-clause-takes g c t u = inl refl
 
 pub returns-in-Failed-clause-ram : goal.returns-in-Failed-clause-ram
 returns-in-Failed-clause-ram g c = ram_same c.args.standing.now.spot c.args.ram.now
+
+pub returns-in-Done-clause-replaced : goal.returns-in-Done-clause-replaced
+returns-in-Done-clause-replaced g c t =
+    named_as c.args.standing.now.spot (λ file. IsTrue g.H.Host.told → file ≡ g.H.Host.file c.args.host.now c.args.name.now) _ _ _ (λ file is u. is u ∙ sym (c.in-Done.ensures.starts u)) (c.take_into.ensures.replaced t)
+
+pub returns-in-Absent-clause-replaced : goal.returns-in-Absent-clause-replaced
+returns-in-Absent-clause-replaced g c t =
+    left_alone c.args.standing.now.spot (λ file. IsTrue g.H.Host.told → file ≡ g.H.Host.file c.args.host.now c.args.name.now) None (g.D.Disk.flash c.args.disk.now) (λ u. sym (c.in-Absent.ensures.starts u).0)
+
+pub returns-in-Failed-clause-replaced : goal.returns-in-Failed-clause-replaced
+returns-in-Failed-clause-replaced g c t =
+    left_alone c.args.standing.now.spot (λ file. IsTrue g.H.Host.told → file ≡ g.H.Host.file c.args.host.now c.args.name.now) (g.H.Host.file c.args.host.now c.args.name.now) (g.D.Disk.flash c.args.disk.now) (λ u. refl)

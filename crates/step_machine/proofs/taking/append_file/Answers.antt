@@ -2,9 +2,10 @@ use Rattle.std.proofs.Common.{◌≡◌, ◌≤◌, ◌+◌, ◌++◌, [], lengt
 use Rattle.std.proofs.lemmas.List.{length-take-le}
 use Rattle.flash_layout.specs.declared.slot.Slot.{Slot}
 use Rattle.flash_layout.specs.Slots.{slot_content}
-use Rattle.flash_slots.specs.Contents.{pieces_of}
-use Rattle.suit_edge.specs.FlashLaws.{grows_start, grows_then, keeps_start}
+use Rattle.flash_slots.specs.Contents.{IsEmptySlot, pieces_of}
+use Rattle.suit_edge.specs.FlashLaws.{grows_start, grows_then, keeps_start, same_flash, starts}
 use Rattle.step_machine.proofs.Ranging.{more_put_there}
+use Rattle.step_machine.proofs.Replaced.{moment_more}
 use Rattle.step_machine.proofs.TakenFiles.{none_put, piece_put, piece_taken}
 use Rattle.step_machine.proofs.taking.append_file.Goals as goal
 
@@ -22,6 +23,7 @@ loop-count-init g c = record {
   taken = λ t. omega (arith, c.requires.none);
   parts = λ t u. none_put c.args.writing.now.slot (g.D.Disk.flash c.args.disk.now).reads _ _ c.requires.none;
   empty = λ t e. e;
+  still_empty = λ t empty. starts _ (IsEmptySlot c.args.writing.now.slot) empty;
   keeps = λ t. keeps_start _ _;
   grows = λ t. grows_start (g.D.Disk.flash c.args.disk.now);
 }
@@ -33,6 +35,11 @@ returns-in-Err-FlashFault-clause-keeps g c t =
     let size : length (take count c.next_piece.new.room) ≡ count = length-take-le count c.next_piece.new.room (omega (arith, c.in_ok-count.ensures.fits, c.next_piece.auto.room)) in
     let inside : c.loop-count.writing.written + count ≤ own.capacity = omega (arith, c.requires.capacity, c.loop-count.invariant.all, c.in_ok-count.ensures.few) in
     more_put_there own c.loop-count.writing.slot _ _ _ _ _ _ c.loop-count.invariant.slot (omega (arith, size, inside)) (g.met.D.Disk.obeys c.loop-count.disk t) (c.loop-count.invariant.keeps t) (c.append.ensures.keeps t)
+
+pub returns-in-Err-FlashFault-clause-still_empty :
+    goal.returns-in-Err-FlashFault-clause-still_empty
+returns-in-Err-FlashFault-clause-still_empty g c t none =
+    moment_more c.args.writing.now.slot c.loop-count.writing.slot c.loop-count.invariant.slot _ _ _ _ _ _ (g.met.D.Disk.obeys c.loop-count.disk t) (g.met.D.Disk.obeys c.loop-count.disk t) (c.loop-count.invariant.still_empty t none) (same_flash (g.D.Disk.flash c.loop-count.disk)) (c.append.ensures.still_empty t)
 
 pub loop-count-preserved : goal.loop-count-preserved
 loop-count-preserved g c =
@@ -69,6 +76,8 @@ loop-count-preserved g c =
       empty = λ t e.
           subst (λ (x : Slot). slot_content x new ≡ []) same
           (c.append.ensures.empty t (subst (λ (x : Slot). slot_content x reads ≡ []) (sym same) (c.loop-count.invariant.empty t e)));
+      still_empty = λ t none.
+          moment_more own c.loop-count.writing.slot same _ _ _ _ _ _ (g.met.D.Disk.obeys c.loop-count.disk t) (g.met.D.Disk.obeys c.loop-count.disk t) (c.loop-count.invariant.still_empty t none) (same_flash (g.D.Disk.flash c.loop-count.disk)) (c.append.ensures.still_empty t);
       keeps = λ t. more_put_there own c.loop-count.writing.slot _ _ _ _ _ _ same (omega (arith, size, inside)) (g.met.D.Disk.obeys c.loop-count.disk t) (c.loop-count.invariant.keeps t) (c.append.ensures.keeps t);
       grows = λ t.
           grows_then (g.D.Disk.flash c.args.disk.now) (g.D.Disk.flash c.loop-count.disk) (g.D.Disk.flash c.append.new.disk) (c.loop-count.invariant.keeps t).images.later (c.loop-count.invariant.grows t) (c.append.ensures.grows t);

@@ -1,7 +1,7 @@
 use Rattle.std.proofs.Common.{◌≡◌, ◌+◌, ◌++◌, [], length, IsTrue}
 use Rattle.flash_layout.specs.Slots.{extent_of, slot_content}
-use Rattle.flash_slots.specs.Contents.{pieces_of}
-use Rattle.suit_edge.specs.Flash.{Grows, Keeps}
+use Rattle.flash_slots.specs.Contents.{IsEmptyInEach, IsEmptySlot, pieces_of}
+use Rattle.suit_edge.specs.Flash.{Grows, Keeps, Passes}
 use Rattle.suit_edge.specs.Ranges.{Outside}
 use Rattle.step_machine.proofs.taking.append_file.Given as goal
 
@@ -24,6 +24,7 @@ invariant-loop-count g l =
       taken : IsTrue h.told → length (h.rest l.fn.host) ≡ l.writing.written + length (h.rest l.host);
       parts : IsTrue d.told → IsTrue h.told → h.rest l.fn.host ≡ pieces_of own l.writing.written (d.flash l.disk).reads ++ h.rest l.host;
       empty : IsTrue d.told → slot_content own (d.flash l.fn.disk).reads ≡ [] → slot_content own (d.flash l.disk).reads ≡ [];
+      still_empty : IsTrue d.told → IsEmptyInEach own (d.flash l.fn.disk) → Passes (d.flash l.fn.disk) (d.flash l.disk) (IsEmptySlot own);
       keeps : IsTrue d.told → Keeps (Outside own.start (extent_of own)) (d.flash l.fn.disk) (d.flash l.disk);
       grows : IsTrue d.told → Grows (d.flash l.fn.disk) (d.flash l.disk);
     }
