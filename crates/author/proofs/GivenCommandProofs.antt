@@ -1,9 +1,8 @@
 -- A sequence has the commands that its array names.
-use Rattle.std.proofs.Common.{◌≡◌, ℕ, zero, suc, List, [], ◌∷◌, Bool, true, false, cond, Option, Some, None, Result, Ok, Err, refl, ap, sym, ◌∙◌}
-use Rattle.std.specs.Prelude.{map, codes, option_and_then, option_map}
+use Rattle.std.proofs.Common.{◌≡◌, ℕ, suc, List, ◌∷◌, Bool, true, false, cond, Option, Some, None, Result, refl, ap, sym, ◌∙◌}
+use Rattle.std.specs.Prelude.{codes, option_and_then, option_map}
 use Rattle.std.specs.Str.{bytes_eq}
-use Rattle.det_cbor.specs.HeadReading.{◌>>=◌}
-use Rattle.serde_json.specs.Data.{Data, null, boolean, number, string, array, object, Items, no_items, item}
+use Rattle.serde_json.specs.Data.{Data, array, Items, no_items, item}
 use Rattle.serde_json.specs.Find.{at, as_str}
 use Rattle.json_fields.specs.declared.flaw.Flaw.{Flaw}
 use Rattle.json_fields.specs.declared.flaw.FlawKind.TheVariants.{Field}
@@ -16,7 +15,7 @@ use Rattle.author.specs.declared.command_name.CommandName.{CommandName}
 use Rattle.author.specs.declared.command_name.CommandName.TheVariants as names
 use Rattle.author.specs.CommandNames.{command_named, allowed, name_of}
 use Rattle.author.specs.Commands.{command_said, sequence_of, steps_from, command_of, tries_of}
-use Rattle.author.specs.GivenCommands.{code_named, codes_listed, codes_in, HasCommandsOf}
+use Rattle.author.specs.GivenCommands.{code_named, codes_listed, HasCommandsOf}
 use Rattle.author.specs.Scope.{Scope}
 use Rattle.author.proofs.Keeps.{Holds, WasRead, WasFlawed, holds_bind, holds_then, holds_under, holds_weaker}
 

@@ -1,31 +1,28 @@
 -- The fields of a description are read of the values that are found in it.
-use Rattle.std.proofs.Common.{◌≡◌, ℕ, List, [], Bool, true, false, cond, Option, Some, None, Result, Ok, Err, inl, inr, refl, ap, sym, subst, ◌∙◌}
-use Rattle.std.specs.Prelude.{codes, IsTrue, not, is_some, option_and_then}
+use Rattle.std.proofs.Common.{◌≡◌, ℕ, List, [], Bool, true, false, Option, Some, None, Result, Ok, refl, ap, sym, subst, ◌∙◌}
+use Rattle.std.specs.Prelude.{codes, option_and_then}
 use Rattle.std.specs.Str.{bytes_eq}
 use Rattle.std.proofs.lemmas.Slice.Eq.{bytes_eq-Decides}
 use Rattle.det_cbor.specs.HeadReading.{◌>>=◌}
 use Rattle.serde_json.specs.Data.{Data, null, boolean, number, string, array, object, Members, no_members, member}
-use Rattle.serde_json.specs.Find.{get_member, get, as_str, as_object}
+use Rattle.serde_json.specs.Find.{get_member, as_str}
 use Rattle.json_fields.specs.declared.flaw.Flaw.{Flaw}
 use Rattle.json_fields.specs.Objects.{members_of, required}
 use Rattle.json_fields.specs.Pointers.{key_token}
 use Rattle.json_fields.specs.Values.{hex_of}
-use Rattle.suit_envelope.specs.declared.severed.MemberName.TheVariants as names
 use Rattle.suit_manifest.specs.declared.manifest.Member.{Member}
 use Rattle.suit_manifest.specs.declared.manifest.Member.TheVariants as members
 use Rattle.suit_manifest.specs.declared.manifest.TextMember.{TextMember}
 use Rattle.suit_manifest.specs.declared.manifest.TextMember.TheVariants as texts
 use Rattle.author.specs.declared.fields.Described.{Described}
 use Rattle.author.specs.declared.fields.Fields.{Fields}
-use Rattle.author.specs.declared.severing.Severed.{Severed}
 use Rattle.author.specs.Descriptions.{no_fields, scope_of, takes_field, whole, described}
-use Rattle.author.specs.GivenParts.{bytes_spelled, bytes_under, ArePayloadsOf, IsMemberOf, IsTextOf, IsHere, IsTextHere, Severs, AreSeveredOf, HasPartsOf}
+use Rattle.author.specs.GivenParts.{bytes_spelled, IsMemberOf, IsTextOf, IsHere, IsTextHere}
 use Rattle.author.specs.KeysOnce.{HasKeysOnce, AreKeysOnce}
 use Rattle.author.specs.Members.{described_member, text_member_of}
-use Rattle.author.specs.Outlines.{severed_by}
 use Rattle.author.specs.Payloads.{payloads_of}
 use Rattle.author.specs.Scope.{Scope}
-use Rattle.author.specs.Severing.{is_in, is_content, none_severed, given_in, severed_of}
+use Rattle.author.specs.Severing.{is_content, none_severed, given_in, severed_of}
 use Rattle.author.proofs.Found.{pick, pick_all, pick_found, found_here, found_later}
 use Rattle.author.proofs.GivenValues.{Spelled, hex_spelled, same_read}
 use Rattle.author.proofs.Keeps.{Holds, WasRead, WasFlawed, held, holds_bind, holds_then, holds_under, holds_choice}

@@ -1,9 +1,8 @@
 -- Members that may be severed are those that stand in a description.
-use Rattle.std.proofs.Common.{◌≡◌, ℕ, zero, suc, List, Bool, true, false, cond, Option, Some, None, Result, Ok, Err, refl, ap, sym, subst, ◌∙◌}
+use Rattle.std.proofs.Common.{◌≡◌, ℕ, zero, suc, List, Bool, true, false, cond, Option, Some, None, Ok, refl, ap, ◌∙◌}
 use Rattle.std.specs.Prelude.{codes, option_and_then, option_map}
 use Rattle.std.specs.Str.{bytes_eq}
-use Rattle.det_cbor.specs.HeadReading.{◌>>=◌}
-use Rattle.serde_json.specs.Data.{Data, null, boolean, number, string, array, object, Items, no_items, item, Members, no_members, member}
+use Rattle.serde_json.specs.Data.{Data, null, boolean, number, string, array, object, Items, no_items, item, Members}
 use Rattle.serde_json.specs.Find.{get_member, as_str}
 use Rattle.json_fields.specs.declared.flaw.FlawKind.TheVariants.{Field}
 use Rattle.json_fields.specs.Flaws.{flawed}
@@ -17,12 +16,12 @@ use Rattle.author.specs.Commands.{sequence_of}
 use Rattle.author.specs.GivenCommands.{HasCommandsOf}
 use Rattle.author.specs.GivenParts.{bytes_spelled, bytes_under, IsMemberOf, IsTextOf}
 use Rattle.author.specs.KeysOnce.{HasKeysOnce, AreKeysOnce}
-use Rattle.author.specs.Members.{takes_digest, left_out, described_member, is_one_item, one_item, text_member_of}
+use Rattle.author.specs.Members.{takes_digest, left_out, described_member, is_one_item, text_member_of}
 use Rattle.author.specs.Scope.{Scope}
 use Rattle.author.proofs.Found.{pick, one_found}
 use Rattle.author.proofs.GivenCommandProofs.{steps_hold}
 use Rattle.author.proofs.GivenValues.{Spelled, hex_spelled, sized_spelled}
-use Rattle.author.proofs.Keeps.{Holds, WasRead, WasFlawed, holds_bind, holds_then, holds_required, holds_weaker}
+use Rattle.author.proofs.Keeps.{Holds, WasRead, WasFlawed, holds_bind, holds_required}
 
 -- ---- the digest of one that is left out
 

@@ -1,28 +1,27 @@
 -- A description has the parts that stand in its JSON value.
-use Rattle.std.proofs.Common.{◌≡◌, ℕ, List, [], Bool, true, false, Option, Some, None, Result, Ok, Err, ◌⊎◌, inl, inr, refl, ap, sym, subst, ◌∙◌}
+use Rattle.std.proofs.Common.{◌≡◌, ℕ, List, [], true, Option, Some, None, Ok, inl, inr, refl, ap, sym, ◌∙◌}
 use Rattle.std.specs.Prelude.{◌↔◌, codes, IsTrue, option_and_then}
-use Rattle.serde_json.specs.Data.{Data, null, boolean, number, string, array, object, Items, Members, no_members}
+use Rattle.serde_json.specs.Data.{Data, null, boolean, number, string, array, object, Items, Members}
 use Rattle.serde_json.specs.Find.{get_member, get, get_item, as_str}
 use Rattle.suit_envelope.specs.Payloads.{payload_under}
 use Rattle.suit_envelope.specs.declared.severed.MemberName.{MemberName}
 use Rattle.suit_envelope.specs.declared.severed.MemberName.TheVariants as names
 use Rattle.suit_manifest.specs.declared.manifest.Member.{Member}
 use Rattle.suit_manifest.specs.declared.manifest.Member.TheVariants as members
-use Rattle.suit_manifest.specs.declared.manifest.TextMember.{TextMember}
 use Rattle.suit_manifest.specs.declared.manifest.TextMember.TheVariants as texts
 use Rattle.author.specs.declared.fields.Described.{Described}
 use Rattle.author.specs.declared.severing.Severed.{Severed}
 use Rattle.author.specs.Descriptions.{described}
-use Rattle.author.specs.GivenParts.{bytes_spelled, bytes_under, payload_given, payload_at, ArePayloadsOf, IsMemberOf, IsTextOf, IsHere, IsTextHere, Severs, AreSeveredOf, HasPartsOf}
+use Rattle.author.specs.GivenParts.{bytes_spelled, bytes_under, payload_given, payload_at, IsMemberOf, IsTextOf, Severs, HasPartsOf}
 use Rattle.author.specs.KeysOnce.{HasKeysOnce, AreKeysOnce}
 use Rattle.author.specs.Members.{described_member, text_member_of}
 use Rattle.author.specs.Payloads.{payloads_of}
-use Rattle.author.specs.Severing.{is_in, is_content, none_severed, given_in, severed_of}
+use Rattle.author.specs.Severing.{is_in, none_severed, given_in, severed_of}
 use Rattle.author.proofs.GivenFields.{IsFound, scope, read_or, kid_of, is_found, once_inside, read_found, is_kid, here_given, text_here}
 use Rattle.author.proofs.GivenMembers.{member_given, text_given}
 use Rattle.author.proofs.GivenPayloadProofs.{PayloadIs, under_key}
-use Rattle.author.proofs.GivenSevered.{name_text, Listed, Added, NamedBy, severed_named}
-use Rattle.author.proofs.Keeps.{Holds, WasRead, WasFlawed, held}
+use Rattle.author.proofs.GivenSevered.{name_text, NamedBy, severed_named}
+use Rattle.author.proofs.Keeps.{held}
 
 abbrev Files : Type 0
 Files = List (List ℕ × List ℕ)

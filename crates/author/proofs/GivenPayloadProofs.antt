@@ -1,5 +1,5 @@
 -- The payloads of a description are those that stand in it.
-use Rattle.std.proofs.Common.{◌≡◌, ℕ, suc, ◌+◌, ◌<◌, ◌≤◌, ◌^◌, List, [], ◌∷◌, ◌++◌, length, Bool, true, false, cond, Option, Some, None, Result, Ok, Err, Ordering, Less, Equal, Greater, refl, ap, sym, subst, ◌∙◌, inl, inr, arith}
+use Rattle.std.proofs.Common.{◌≡◌, ℕ, ◌+◌, ◌≤◌, List, [], ◌∷◌, ◌++◌, length, Bool, true, false, cond, Option, Some, None, Result, Ordering, Less, Equal, Greater, refl, ap, sym, subst, ◌∙◌, inl, inr, arith}
 use Rattle.std.specs.Prelude.{codes, option_and_then}
 use Rattle.std.specs.Str.{bytes_eq}
 use Rattle.std.specs.Ordering.{match_ordering}
@@ -8,22 +8,20 @@ use Rattle.std.proofs.lemmas.Bool.Decides.{nat_tests}
 use Rattle.std.proofs.lemmas.List.{length-append, append_cancel_left}
 use Rattle.std.proofs.lemmas.Slice.Eq.{bytes_eq-Decides}
 use Rattle.det_cbor.specs.DataItem.{TextString, spell}
-use Rattle.det_cbor.specs.HeadReading.{◌>>=◌}
 use Rattle.det_cbor.specs.Heads.{head_bytes}
 use Rattle.det_cbor.proofs.KeyOrder.{equal_keys, same_key}
-use Rattle.serde_json.specs.Data.{Data, null, boolean, number, string, array, object, Members, no_members, member}
+use Rattle.serde_json.specs.Data.{Data, null, boolean, number, string, array, object}
 use Rattle.serde_json.specs.Find.{get_member, get, as_str}
 use Rattle.json_fields.specs.Objects.{members_of}
-use Rattle.json_fields.specs.Pointers.{key_token}
 use Rattle.suit_envelope.specs.PayloadOrder.{key_order, put_payload}
 use Rattle.suit_envelope.specs.Payloads.{payload_under}
 use Rattle.author.specs.declared.payload_fields.PayloadField.{PayloadField}
-use Rattle.author.specs.GivenParts.{text_under, bytes_spelled, bytes_given, payload_given}
-use Rattle.author.specs.KeysOnce.{HasKeysOnce, AreKeysOnce}
+use Rattle.author.specs.GivenParts.{bytes_spelled, bytes_given, payload_given}
+use Rattle.author.specs.KeysOnce.{HasKeysOnce}
 use Rattle.author.specs.Payloads.{takes_source, source_bytes, payload_of, PayloadsSoFar, takes_payload, payloads_of}
-use Rattle.author.proofs.Found.{pick, one_found, found_here, found_later}
+use Rattle.author.proofs.Found.{pick, one_found}
 use Rattle.author.proofs.GivenValues.{holds_both, text_read, Spelled, hex_spelled}
-use Rattle.author.proofs.Keeps.{Holds, WasRead, WasFlawed, holds_bind, holds_then, holds_under, holds_choice}
+use Rattle.author.proofs.Keeps.{Holds, WasRead, WasFlawed, holds_bind, holds_then, holds_choice}
 
 -- ---- one payload
 

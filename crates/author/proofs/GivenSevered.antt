@@ -1,14 +1,12 @@
 -- The severed members of a description are those that it names, each given with its content.
-use Rattle.std.proofs.Common.{◌≡◌, ℕ, zero, suc, List, Bool, true, false, cond, Option, Some, None, Result, Ok, Err, ◌⊎◌, inl, inr, refl, ap, sym, ◌∙◌}
-use Rattle.std.specs.Prelude.{not, ◌&&◌, codes, is_some, option_and_then}
+use Rattle.std.proofs.Common.{◌≡◌, ℕ, zero, suc, List, Bool, true, false, cond, Option, Some, Ok, ◌⊎◌, inl, inr, refl, ap, sym, ◌∙◌}
+use Rattle.std.specs.Prelude.{not, ◌&&◌, codes, option_and_then}
 use Rattle.std.specs.Str.{bytes_eq}
 use Rattle.std.proofs.lemmas.Slice.Eq.{bytes_eq-Decides}
-use Rattle.det_cbor.specs.HeadReading.{◌>>=◌}
 use Rattle.serde_json.specs.Data.{Data, null, boolean, number, string, array, object, Items, no_items, item}
-use Rattle.serde_json.specs.Find.{get_item, as_str, as_object}
-use Rattle.json_fields.specs.declared.flaw.Flaw.{Flaw}
+use Rattle.serde_json.specs.Find.{get_item, as_str}
 use Rattle.json_fields.specs.declared.flaw.FlawKind.TheVariants.{Field}
-use Rattle.json_fields.specs.Flaws.{flawed, found_or, under}
+use Rattle.json_fields.specs.Flaws.{flawed}
 use Rattle.json_fields.specs.Pointers.{index_token}
 use Rattle.suit_envelope.specs.declared.severed.MemberName.{MemberName}
 use Rattle.suit_envelope.specs.declared.severed.MemberName.TheVariants as names

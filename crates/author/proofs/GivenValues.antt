@@ -1,10 +1,10 @@
 -- Texts and bytes that are read of values.
-use Rattle.std.proofs.Common.{◌≡◌, ℕ, List, Bool, true, false, cond, Option, Some, None, Result, Ok, Err, refl, ap, sym, ◌∙◌}
+use Rattle.std.proofs.Common.{◌≡◌, ℕ, List, Bool, true, false, cond, Option, Some, None, Result, Ok, Err, refl}
 use Rattle.std.specs.Prelude.{◌==◌, ◌%◌, ◌/◌, length, option_and_then}
 use Rattle.std.specs.Result.{result_ok}
 use Rattle.serde_json.specs.Data.{Data, null, boolean, number, string, array, object}
 use Rattle.serde_json.specs.Find.{as_str}
-use Rattle.hex.specs.Hex.{decode_of, decode_sized, decode_pairs}
+use Rattle.hex.specs.Hex.{decode_pairs}
 use Rattle.hex.specs.declared.FromHexError.{FromHexError}
 use Rattle.hex.specs.declared.FromHexError.TheVariants.{OddLength, InvalidStringLength}
 use Rattle.json_fields.specs.declared.flaw.Flaw.{Flaw}

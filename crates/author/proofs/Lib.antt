@@ -29,3 +29,5 @@ pub mod GivenFields
 pub mod GivenSevered
 pub mod GivenPartProofs
 pub mod DescriptionLawProofs
+pub mod BareReads
+pub mod BareLengths

@@ -1,5 +1,5 @@
 -- A manifest is spelled by at least the bytes of the files that stand in it as contents.
-use Rattle.std.proofs.Common.{◌≡◌, ◌<◌, ◌≤◌, ℕ, ◌+◌, Bool, true, false, List, [], ◌∷◌, ◌++◌, length, Option, Some, None, Result, Ok, Err, refl, sym, ap, subst, arith}
+use Rattle.std.proofs.Common.{◌≡◌, ◌≤◌, ℕ, ◌+◌, Bool, true, false, List, [], ◌∷◌, ◌++◌, length, Option, Some, None, Result, Ok, Err, refl, sym, ap, subst, arith}
 use Rattle.std.specs.Prelude.{codes, is_some}
 use Rattle.std.specs.Str.{bytes_eq}
 use Rattle.std.proofs.lemmas.List.{length-append}
@@ -15,7 +15,6 @@ use Rattle.json_fields.specs.Pointers.{key_token}
 use Rattle.suit_commands.specs.Allowed.{levels_allowed}
 use Rattle.suit_commands.specs.SequenceMaking.{sequence_item, step_items}
 use Rattle.suit_commands.specs.Tree.{SequenceTree}
-use Rattle.suit_envelope.specs.Trimmed.{trimmed}
 use Rattle.suit_manifest.specs.ManifestMaking.{pair_then, row_pairs, held_item, severed_item, common_rows, common_item, manifest_rows, manifest_item, Row}
 use Rattle.suit_manifest.specs.declared.manifest.Manifest.{Manifest}
 use Rattle.suit_manifest.specs.declared.manifest.Member.{Member}
@@ -24,15 +23,13 @@ use Rattle.author.specs.declared.fields.Described.{Described}
 use Rattle.author.specs.declared.fields.Fields.{Fields}
 use Rattle.author.specs.Contents.{sequence_length}
 use Rattle.author.specs.Descriptions.{no_fields, scope_of, field_sequence, takes_field, whole, described}
-use Rattle.author.specs.MadeEnvelopes.{trimmed_bytes, made_parts, ExceedsLimit, Trimmed, IsOverlong}
 use Rattle.author.specs.Making.{apart_member, made_manifest}
 use Rattle.author.specs.Members.{described_member}
 use Rattle.author.specs.Outlines.{Outline, no_values, noted, noted_all, outline_of, severed_by, held_length, member_length, manifest_length}
 use Rattle.author.specs.Scope.{Scope}
-use Rattle.author.specs.Severances.{parted}
 use Rattle.author.specs.Severing.{given_in, severed_of}
 use Rattle.author.proofs.ContentFacts.{Files, size, sequences, string_longer, array_longer}
-use Rattle.author.proofs.Keeps.{Holds, WasRead, WasFlawed, held, holds_bind, holds_then, holds_under, holds_choice, holds_required}
+use Rattle.author.proofs.Keeps.{Holds, WasRead, WasFlawed, held, holds_bind, holds_then, holds_under, holds_choice}
 
 -- ---- members
 
@@ -40,7 +37,7 @@ abbrev tree_size : Option SequenceTree → ℕ
 tree_size None = 0
 tree_size (Some s) = size s
 
-abbrev member_size : Member → ℕ
+abbrev pub member_size : Member → ℕ
 member_size members.Empty = 0
 member_size (members.Here s) = size s
 member_size (members.Apart digest) = 0

@@ -113,8 +113,10 @@ whole t ids n = record {
   kid = t.kid;
 }
 
-abbrev pub described : List (List ℕ × List ℕ) → Data → Result Described Flaw
-described files d =
-    object_of takes_field (no_fields files d) d >>= λ t.
+abbrev pub finished : Fields → Result Described Flaw
+finished t =
     required (codes "components") t.components >>= λ ids. required (codes "sequence") t.sequence
     >>= λ n. Ok (whole t ids n)
+
+abbrev pub described : List (List ℕ × List ℕ) → Data → Result Described Flaw
+described files d = object_of takes_field (no_fields files d) d >>= λ t. finished t

@@ -18,6 +18,8 @@ pub mod Alike
 pub mod FileNames
 pub mod Faults
 pub mod Held
+pub mod Bare
+pub mod Overlong
 pub mod Making
 pub mod Severances
 pub mod MadeEnvelopes

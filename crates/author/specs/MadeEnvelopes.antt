@@ -21,7 +21,7 @@ use Rattle.author.specs.declared.making.Parted.{Parted}
 use Rattle.author.specs.declared.make_fault.MakeFault.{MakeFault}
 use Rattle.author.specs.declared.make_fault.MakeFault.TheVariants.{TooLong, NoMemory}
 use Rattle.author.specs.Descriptions.{described}
-use Rattle.author.specs.Making.{made_manifest, IsManifestOf}
+use Rattle.author.specs.Making.{IsManifestOf}
 use Rattle.author.specs.Severances.{parted}
 
 -- ---- the parts
@@ -99,12 +99,6 @@ IsMadeAs bytes (Err fault) = fault ≡ NoMemory
 abbrev pub IsTooLongBy : ℕ → Result (List ℕ) MakeFault → Type 0
 IsTooLongBy limit (Ok made) = ⊥
 IsTooLongBy limit (Err fault) = (fault ≡ TooLong limit) ⊎ (fault ≡ NoMemory)
-
--- the manifest alone takes more than so many bytes
-abbrev pub IsOverlong : Data → List (List ℕ × List ℕ) → ℕ → Type 0
-IsOverlong d files limit =
-    (p : Described) → described files d ≡ Ok p
-    → limit < length (spell (manifest_item (made_manifest p)))
 
 -- ---- the meaning of the bytes
 

@@ -1,5 +1,6 @@
 -- The values under a description's keys of sequences and under `sever`. Of a key that stands twice the last counts.
-use Rattle.std.specs.Prelude.{ℕ, ◌+◌, Bool, true, false, if◌then◌else◌, List, codes, Option, Some, None, option_map, Result, Ok}
+use Rattle.std.specs.Prelude.{ℕ, ◌+◌, Bool, true, false, not, if◌then◌else◌, List, codes, Option, Some, None, option_map, unwrap_or, Result, Ok}
+use Rattle.std.specs.Result.{result_ok}
 use Rattle.std.specs.Str.{bytes_eq}
 use Rattle.serde_json.specs.Data.{Data, Members, no_members, member}
 use Rattle.json_fields.specs.declared.flaw.Flaw.{Flaw}
@@ -65,7 +66,11 @@ abbrev pub severed_by : Severed → Option Data → Result Severed Flaw
 severed_by given None = Ok none_severed
 severed_by given (Some d) = severed_of given d
 
--- ---- how many bytes of files stand as contents in the manifest
+-- those of a description
+abbrev pub severed_in : Data → Severed
+severed_in d = unwrap_or (result_ok (severed_by (given_in d) (outline_of d).sever)) none_severed
+
+-- ---- how many bytes of files stand as contents in the manifest, and in the severed members
 
 abbrev pub held_length : List (List ℕ × List ℕ) → Option Data → ℕ
 held_length files None = 0
@@ -81,3 +86,15 @@ manifest_length files o severed =
     + (held_length files o.invoke
     + (member_length files severed.payload_fetch o.payload_fetch
     + member_length files severed.install o.install))))
+
+abbrev pub severed_length : List (List ℕ × List ℕ) → Outline → Severed → ℕ
+severed_length files o severed =
+    member_length files (not severed.payload_fetch) o.payload_fetch
+    + member_length files (not severed.install) o.install
+
+-- those of a description
+abbrev pub manifest_contents : List (List ℕ × List ℕ) → Data → ℕ
+manifest_contents files d = manifest_length files (outline_of d) (severed_in d)
+
+abbrev pub severed_contents : List (List ℕ × List ℕ) → Data → ℕ
+severed_contents files d = severed_length files (outline_of d) (severed_in d)

@@ -3,7 +3,7 @@
 ghost use Rattle.std.specs.Prelude.{◌≡◌};
 ghost use Rattle.serde_json.specs.View.{view};
 ghost use Rattle.json_fields.specs.Answers.{Gives};
-ghost use Rattle.author.specs.Descriptions.{count_in, no_fields, scope_of, field_sequence, takes_field, described};
+ghost use Rattle.author.specs.Descriptions.{count_in, no_fields, scope_of, field_sequence, takes_field, finished, described};
 
 use crate::FileList;
 use crate::commands::sequence;
@@ -26,7 +26,7 @@ use suit_params::Identifiers;
 
 /// The fields that were read.
 #[derive(Drop)]
-struct Fields<'a> {
+pub(crate) struct Fields<'a> {
     source: Source<'a>,
     sequence: Option<u64>,
     components: Option<Identifiers>,
@@ -35,8 +35,8 @@ struct Fields<'a> {
     validate: Option<Sequence>,
     load: Option<Sequence>,
     invoke: Option<Sequence>,
-    payload_fetch: Member,
-    install: Member,
+    pub(crate) payload_fetch: Member,
+    pub(crate) install: Member,
     text: TextMember,
     severed: Severed,
     payloads: PayloadList<'a>,
@@ -121,8 +121,8 @@ pub(crate) struct Described<'a> {
     pub(crate) kid: Option<Bytes>,
 }
 
-// A description of no fields.
-fn no_fields<'a>(alloc: Global, description: &Value, files: &'a FileList) -> Fields<'a>
+/// A description of no fields.
+pub(crate) fn no_fields<'a>(alloc: Global, description: &Value, files: &'a FileList) -> Fields<'a>
     ensures { result ≡ no_fields files.now (view description.now) }
 {
     Fields {
@@ -151,12 +151,10 @@ fn no_fields<'a>(alloc: Global, description: &Value, files: &'a FileList) -> Fie
 }
 
 impl<'a> Described<'a> {
-    /// Reads the parts, where the description's files have these bytes.
-    pub(crate) fn read(alloc: Global, value: &Value, files: &'a FileList) -> Result<Self, JsonFault>
-        ensures { Gives (λ p. p) result (described files.now (view value.now)) }
+    /// The parts by the fields, of which two have to be there.
+    pub(crate) fn of(alloc: Global, fields: Fields<'a>) -> Result<Self, JsonFault>
+        ensures { Gives (λ p. p) result (finished fields.entry) }
     {
-        let mut fields = no_fields(alloc, value, files);
-        object(alloc, value, &mut fields)?;
         let components = required(alloc, "components", fields.components)?;
         let sequence = required(alloc, "sequence", fields.sequence)?;
         Ok(Described {
@@ -176,5 +174,14 @@ impl<'a> Described<'a> {
             payloads: fields.payloads,
             kid: fields.kid,
         })
+    }
+
+    /// Reads the parts, where the description's files have these bytes.
+    pub(crate) fn read(alloc: Global, value: &Value, files: &'a FileList) -> Result<Self, JsonFault>
+        ensures { Gives (λ p. p) result (described files.now (view value.now)) }
+    {
+        let mut fields = no_fields(alloc, value, files);
+        object(alloc, value, &mut fields)?;
+        Described::of(alloc, fields)
     }
 }

@@ -2,6 +2,7 @@
 #![tactic(auto)]
 
 mod alike;
+mod bare;
 mod command_name;
 mod commands;
 mod contents;

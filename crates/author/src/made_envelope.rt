@@ -1,19 +1,22 @@
 //! The envelope of a description.
 
-ghost use Rattle.std.specs.Prelude.{◌≡◌, ℕ, List, IfOk, IfErr, IsTrue};
+ghost use Rattle.std.specs.Prelude.{◌≡◌, ◌<◌, ℕ, List, None, IfOk, IfErr, IfSome, IsTrue};
 ghost use Rattle.suit_manifest.specs.ManifestWriting.{IsWrittenManifest, ManifestFits};
 ghost use Rattle.author.specs.FileNames.{file_names};
 ghost use Rattle.author.specs.Files.{has_files};
 ghost use Rattle.author.specs.Held.{value_of};
 ghost use Rattle.author.specs.MadeMembers.{HoldsMembersOf};
 ghost use Rattle.author.specs.MadePayloads.{HoldsPayloadsOf};
+ghost use Rattle.author.specs.Outlines.{severed_in, severed_contents};
+ghost use Rattle.author.specs.Overlong.{ContentsFit};
 ghost use Rattle.author.specs.MadeEnvelopes.{made_parts, HasOneBlock, IsMadeOf, IsTooLong, IsMakeFaultOf, IsMadeAs, IsTooLongBy, IsAuthenticUnder, HoldsPartsOf, HoldsManifestOf};
 
 use crate::made_wrapper::made_wrapper;
 use crate::making::{Parted, part};
-use crate::overlong::is_overlong;
-use crate::parts::parts_of;
-use crate::short_envelope::{MAX_TRIMMED, encode_short};
+use crate::overlong::{Contents, judge_contents};
+use crate::parts::{bare_parts_of, parts_of};
+use crate::severing::Severed;
+use crate::short_envelope::{MAX_TRIMMED, MAX_WHOLE, encode_short, trimmed};
 use crate::{Description, FileList, MakeFault, description_laws};
 use det_cbor::Bytes;
 use std::alloc::{AllocError, Global};
@@ -49,6 +52,53 @@ fn made_parts<'a>(
     })
 }
 
+// The limit that is passed where the severed members alone are too long: the first, if wrapper and manifest are too long
+// too. Their contents are not read.
+fn passed_limit(
+    alloc: Global,
+    description: &Description,
+    files: &FileList,
+    severed: Severed,
+    key: &[u8],
+) -> Result<u64, AllocError>
+    requires files { IsTrue (has_files files.now (file_names (value_of description.now))) }
+    requires severed { severed ≡ severed_in (value_of description.now) }
+    requires long { 1048576 < severed_contents files.now (value_of description.now) }
+    ensures { IfOk result (IsTooLong (value_of description.now) files.now key.now) }
+{
+    let bare = bare_parts_of(alloc, description, files, severed)?;
+    let parted = part(alloc, bare)?;
+    let parts = made_parts(alloc, parted, key)?;
+    if trimmed(&parts) > MAX_TRIMMED {
+        Ok(MAX_TRIMMED)
+    } else {
+        Ok(MAX_WHOLE)
+    }
+}
+
+// The limit that is passed for certain, by the files that stand as contents alone.
+fn certain_limit(
+    alloc: Global,
+    description: &Description,
+    files: &FileList,
+    key: &[u8],
+) -> Result<Option<u64>, AllocError>
+    requires files { IsTrue (has_files files.now (file_names (value_of description.now))) }
+    ensures told { IfOk result (λ limit. IfSome limit
+        (IsTooLong (value_of description.now) files.now key.now)) }
+    ensures within { IfOk result (λ limit. limit ≡ None
+        → ContentsFit (value_of description.now) files.now) }
+{
+    match judge_contents(alloc, description, files)? {
+        Contents::Short => Ok(None),
+        Contents::LongManifest => Ok(Some(MAX_TRIMMED)),
+        Contents::LongMembers(severed) => {
+            let limit = passed_limit(alloc, description, files, severed, key)?;
+            Ok(Some(limit))
+        }
+    }
+}
+
 /// The tagged envelope of a description, where its files have these bytes (draft-ietf-suit-manifest-25, section 8.2).
 /// The members to be severed and the payloads stand beside its manifest. It is authentic under the key: its wrapper has
 /// just one block, which verifies.
@@ -76,9 +126,8 @@ pub fn make(
     ensures payloads { IfOk result (HoldsPayloadsOf (value_of description.now) files.now) }
 {
     description_laws();
-    let overlong = is_overlong(alloc, description, files, MAX_TRIMMED)?;
-    if overlong {
-        return Err(MakeFault::TooLong(MAX_TRIMMED));
+    if let Some(limit) = certain_limit(alloc, description, files, key)? {
+        return Err(MakeFault::TooLong(limit));
     }
     let said = parts_of(alloc, description, files)?;
     let parted = part(alloc, said)?;

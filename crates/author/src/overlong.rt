@@ -1,17 +1,18 @@
 //! Descriptions whose contents are too long before anything is made of them.
 
-ghost use Rattle.std.specs.Prelude.{◌≡◌, IfOk, IsTrue, Ok, option_map};
+ghost use Rattle.std.specs.Prelude.{◌≡◌, IfOk, option_map};
 ghost use Rattle.serde_json.specs.View.{view};
 ghost use Rattle.json_fields.specs.Answers.{Gives};
 ghost use Rattle.author.specs.Contents.{left_after};
 ghost use Rattle.author.specs.Held.{value_of};
-ghost use Rattle.author.specs.MadeEnvelopes.{IsOverlong};
-ghost use Rattle.author.specs.Outlines.{severed_by, held_length, member_length, manifest_length, outline_of, outline_view};
+ghost use Rattle.author.specs.Outlines.{severed_by, held_length, member_length, manifest_length, severed_length, severed_in, outline_of, outline_view};
+ghost use Rattle.author.specs.Overlong.{AreJudged};
 ghost use Rattle.author.specs.Severing.{given_in};
 
 use crate::contents::after_sequence;
 use crate::outline::Outline;
 use crate::severing::{Severed, given, severed_members};
+use crate::short_envelope::{MAX_TRIMMED, MAX_WHOLE};
 use crate::{Description, FileList};
 use json_fields::JsonFault;
 use serde_json::Value;
@@ -70,6 +71,20 @@ fn after_manifest(
     after_member(outline.install, severed.install, files, left)
 }
 
+// What is left of so many bytes after all contents in the severed members.
+fn after_severed(
+    outline: &Outline<'_>,
+    severed: Severed,
+    files: &FileList,
+    left: u64,
+) -> Option<u64>
+    ensures { result
+        ≡ left_after left (severed_length files.now (outline_view outline.now) severed) }
+{
+    let left = after_member(outline.payload_fetch, !severed.payload_fetch, files, left)?;
+    after_member(outline.install, !severed.install, files, left)
+}
+
 // The members that a description severs.
 fn severed_in(
     alloc: Global,
@@ -77,32 +92,41 @@ fn severed_in(
     outline: &Outline<'_>,
 ) -> Result<Severed, AllocError>
     requires { outline_view outline.now ≡ outline_of (value_of description.now) }
-    ensures { IfOk result (λ s. severed_by (given_in (value_of description.now))
-        (outline_view outline.now).sever ≡ Ok s) }
+    ensures { IfOk result (λ s. s ≡ severed_in (value_of description.now)) }
 {
-    let severed = match severed(alloc, &description.value, outline.sever) {
-        Ok(severed) => severed,
-        Err(JsonFault::NoMemory) => return Err(AllocError),
+    match severed(alloc, &description.value, outline.sever) {
+        Ok(severed) => Ok(severed),
+        Err(JsonFault::NoMemory) => Err(AllocError),
         Err(JsonFault::Flawed(_)) => unreachable!(),
-    };
-    Ok(severed)
+    }
 }
 
-/// Whether the files that stand as contents in a description's manifest alone take more than so many bytes. Copies no
-/// file.
-pub(crate) fn is_overlong(
+/// Whether the files that stand as contents in a description leave room for its envelope.
+#[derive(Clone, Copy)]
+pub(crate) enum Contents {
+    /// Those of the manifest and those of the severed members are within the limits.
+    Short,
+    /// Those of the manifest alone are longer than a trimmed envelope may be.
+    LongManifest,
+    /// Those of the severed members, which are these, are longer than an envelope may be.
+    LongMembers(Severed),
+}
+
+/// Judges the files that stand as contents in a description. Copies no file.
+pub(crate) fn judge_contents(
     alloc: Global,
     description: &Description,
     files: &FileList,
-    limit: u64,
-) -> Result<bool, AllocError>
-    ensures { IfOk result
-        (λ over. IsTrue over → IsOverlong (value_of description.now) files.now limit) }
+) -> Result<Contents, AllocError>
+    ensures { IfOk result (AreJudged (value_of description.now) files.now) }
 {
     let outline = Outline::of(&description.value);
     let severed = severed_in(alloc, description, &outline)?;
-    match after_manifest(&outline, severed, files, limit) {
-        Some(_) => Ok(false),
-        None => Ok(true),
+    if after_manifest(&outline, severed, files, MAX_TRIMMED).is_none() {
+        return Ok(Contents::LongManifest);
+    }
+    match after_severed(&outline, severed, files, MAX_WHOLE) {
+        Some(_) => Ok(Contents::Short),
+        None => Ok(Contents::LongMembers(severed)),
     }
 }

@@ -1,6 +1,6 @@
 //! Envelopes within their limits.
 
-ghost use Rattle.std.specs.Prelude.{◌≡◌, ◌+◌, ◌-◌, ◌^◌, None, IfOk, length, min};
+ghost use Rattle.std.specs.Prelude.{◌≡◌, ◌-◌, ◌^◌, None, IfOk, length, min};
 ghost use Rattle.suit_envelope.specs.Making.{SpellsParts};
 ghost use Rattle.suit_envelope.specs.PayloadOrder.{AreAscending};
 ghost use Rattle.suit_envelope.specs.Payloads.{HasPayloads};
@@ -16,11 +16,11 @@ use suit_envelope::{Envelope, EnvelopeParts, PayloadList, encode_envelope, trimm
 /// The longest trimmed envelope, in bytes.
 pub(crate) const MAX_TRIMMED: u64 = 16_384;
 
-// The longest envelope, in bytes.
-const MAX_WHOLE: u64 = 1_048_576;
+/// The longest envelope, in bytes.
+pub(crate) const MAX_WHOLE: u64 = 1_048_576;
 
-// The length of the trimmed envelope of these parts. Saturates at 64 bits.
-fn trimmed(parts: &EnvelopeParts<'_>) -> u64
+/// The length of the trimmed envelope of these parts. Saturates at 64 bits.
+pub(crate) fn trimmed(parts: &EnvelopeParts<'_>) -> u64
     ensures { result ≡ min (length (trimmed_bytes parts.now)) (2 ^ 64 - 1) }
 {
     let envelope = Envelope {

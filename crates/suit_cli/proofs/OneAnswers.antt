@@ -69,7 +69,7 @@ layout_part Bad = []
 layout_part (Configured layout key) = layout
 
 module _ (configs : Rattle.flash_layout.specs.ConfigLaws.OneAnswer) (records : Rattle.rollback_record.specs.RecordLaws.OneAnswer) (b : Outside) (t : IsTrue b.flash.told) where
-  one_none : (r q : Reply) → HoldsNone b.flash r → HoldsNone b.flash q → q ≡ r
+  pub one_none : (r q : Reply) → HoldsNone b.flash r → HoldsNone b.flash q → q ≡ r
   one_none r q (IsBlank x says) (IsBlank y says') = one_reply r q _ _ says says'
   one_none r q (IsBad x says) (IsBad y says') = one_reply r q _ _ says says'
   one_none r q (IsBlank x says) (IsBad y says') =
@@ -77,7 +77,7 @@ module _ (configs : Rattle.flash_layout.specs.ConfigLaws.OneAnswer) (records : R
   one_none r q (IsBad x says) (IsBlank y says') =
       let never : Blank ≡ Bad = configs VERSION_1 b.flash.size (head_of VERSION_1 b.flash.reads) Blank Bad (y t) (x t) in absurd cc
 
-  holds_not_none : (config : List Entry × Key) (r : Reply) → Holds b.flash config → HoldsNone b.flash r → ⊥
+  pub holds_not_none : (config : List Entry × Key) (r : Reply) → Holds b.flash config → HoldsNone b.flash r → ⊥
   holds_not_none config r holds (IsBlank x says) =
       let never : Configured config.0 config.1 ≡ Blank = configs VERSION_1 b.flash.size (head_of VERSION_1 b.flash.reads) (Configured config.0 config.1) Blank (holds t) (x t) in absurd cc
   holds_not_none config r holds (IsBad x says) =

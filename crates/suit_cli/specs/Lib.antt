@@ -35,5 +35,5 @@ pub mod UpdateLaws
 pub mod Program
 pub mod RunLaws
 pub mod Opening
-pub mod BootLaws
+pub mod BootEndLaws
 pub mod UpdateEndLaws

@@ -1,6 +1,6 @@
 //! Laws of the answers to the words and of each command, however they are computed.
 
-ghost use Rattle.suit_cli.specs.BootLaws.{BootLaws};
+ghost use Rattle.suit_cli.specs.BootEndLaws.{BootEndLaws};
 ghost use Rattle.suit_cli.specs.RunLaws.{RunLaws};
 ghost use Rattle.suit_cli.specs.CommandLaws.{CheckLaws, ShowLaws};
 ghost use Rattle.suit_cli.specs.DescribingLaws.{DescribingLaws};
@@ -12,6 +12,7 @@ ghost use Rattle.suit_cli.specs.WordsLaws.{WordsLaws};
 
 use command_words::word_laws;
 use flash_layout::config_laws;
+use invoke_proc::boot_laws;
 use rollback_record::record_laws;
 use suit_envelope::{authenticity_laws, envelope_laws};
 use suit_manifest::{manifest_laws, members_laws};
@@ -106,10 +107,15 @@ pub fn update_end_laws()
 
 /// Does nothing. Its contract has the laws of `run boot` over a flash and a launcher that tell what they hold: each end has
 /// its cause. Nothing was started for the first thing that is wrong in configuration, record and bank; or the recorded
-/// manifest's procedure was played to that end; or the flash failed outside of it, or memory ran out.
-pub fn boot_laws()
-    ensures { BootLaws }
-{}
+/// manifest's procedure was played to that end; or the flash failed outside of it, or memory ran out. And where one of these
+/// things is wrong, or a manifest is started, each end is of that cause, but for such a failure.
+pub fn boot_end_laws()
+    ensures { BootEndLaws }
+{
+    config_laws();
+    record_laws();
+    boot_laws();
+}
 
 /// Does nothing. Its contract has the laws of every run, which follow from its answer and the put of it, as `run` has
 /// them: usage, exactly where the words are no command; which statuses there are; which part of the lines is put where the

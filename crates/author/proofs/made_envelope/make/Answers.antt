@@ -1,32 +1,18 @@
-use Rattle.std.proofs.Common.{Err, refl}
 use Rattle.std.proofs.lemmas.Result.{IfOk-weaker}
-use Rattle.author.specs.declared.make_fault.MakeFault.TheVariants.{TooLong}
 use Rattle.author.specs.Held.{value_of}
-use Rattle.author.specs.MadeEnvelopes.{made_parts, IsAuthenticUnder, HoldsPartsOf, HoldsManifestOf}
+use Rattle.author.specs.MadeEnvelopes.{IsAuthenticUnder, HoldsPartsOf, HoldsManifestOf}
 use Rattle.author.specs.MadeMembers.{HoldsMembersOf}
 use Rattle.author.specs.MadePayloads.{HoldsPayloadsOf}
 use Rattle.author.proofs.MadeAnswers.{made_ok, made_refused, made_envelope, made_limit, authentic_made, holds_parts, holds_manifest, holds_members, holds_payloads}
-use Rattle.author.specs.Severances.{parted}
-use Rattle.author.proofs.TooLongFacts.{exceeds}
+use Rattle.author.proofs.TooLongFacts.{told_envelope, told_limit}
 use Rattle.author.proofs.made_envelope.make.Goals as goal
 
-pub returns-then-overlong-clause-refused : goal.returns-then-overlong-clause-refused
-returns-then-overlong-clause-refused c =
-    exceeds (value_of c.args.description.now) c.args.files.now c.args.key.now c.args.description.now.accepted (c.in_ok-overlong.ensures c.if-overlong.true)
+pub returns-in-Some-clause-every_envelope : goal.returns-in-Some-clause-every_envelope
+returns-in-Some-clause-every_envelope c =
+    told_envelope (value_of c.args.description.now) c.args.files.now c.args.key.now c.in-Some.limit (rw c.in-Some.is at c.in_ok-limit.ensures.told)
 
-pub returns-then-overlong-clause-every_envelope : goal.returns-then-overlong-clause-every_envelope
-returns-then-overlong-clause-every_envelope c =
-    let d = value_of c.args.description.now in
-    let key = c.args.key.now in
-    let x = exceeds d c.args.files.now key c.args.description.now.accepted (c.in_ok-overlong.ensures c.if-overlong.true) in
-    made_envelope d c.args.files.now key x.said x.reads (made_parts key (parted x.said)) (parted x.said) (Err (TooLong 16384)) refl refl x.passes
-
-pub returns-then-overlong-clause-every_limit : goal.returns-then-overlong-clause-every_limit
-returns-then-overlong-clause-every_limit c =
-    let d = value_of c.args.description.now in
-    let key = c.args.key.now in
-    let x = exceeds d c.args.files.now key c.args.description.now.accepted (c.in_ok-overlong.ensures c.if-overlong.true) in
-    made_limit d c.args.files.now key x.said x.reads (made_parts key (parted x.said)) (parted x.said) (Err (TooLong 16384)) refl refl x.passes
+pub returns-in-Some-clause-every_limit : goal.returns-in-Some-clause-every_limit
+returns-in-Some-clause-every_limit c = told_limit (value_of c.args.description.now) c.args.files.now c.args.key.now c.in-Some.limit (rw c.in-Some.is at c.in_ok-limit.ensures.told)
 
 pub returns-clause-ok : goal.returns-clause-ok
 returns-clause-ok c = made_ok (value_of c.args.description.now) c.args.files.now c.args.key.now c.in_ok-said.said c.in_ok-said.ensures c.in_ok-parts.parts c.in_ok-parted.parted c.encode_short.result c.in_ok-parted.ensures.is c.in_ok-parts.ensures.is c.encode_short.ensures.answers

@@ -1,6 +1,7 @@
 -- Why `run boot` ends so: the cause of each status, over a flash that tells what it holds.
 use Rattle.std.specs.Prelude.{◌≡◌, ◌⊎◌, ℕ, IsTrue, List, Some, None, codes}
 use Rattle.suit_params.specs.declared.refusal.Refusal.{Refusal}
+use Rattle.suit_manifest.specs.declared.manifest.Manifest.{Manifest}
 use Rattle.flash_layout.specs.declared.key.Key.{Key}
 use Rattle.flash_layout.specs.declared.layout.Entry.{Entry}
 use Rattle.flash_layout.specs.declared.slot.Record.{Record}
@@ -9,13 +10,14 @@ use Rattle.step_machine.specs.declared.plan_end.PlanEnd.{PlanEnd}
 use Rattle.invoke_proc.specs.declared.boot_end.BootEnd.TheVariants as ends
 use Rattle.invoke_proc.specs.declared.boot_end.Lacking.{Lacking}
 use Rattle.invoke_proc.specs.Banks.{bank_in, record_in}
-use Rattle.invoke_proc.specs.Booting.{PlaysBoot, end_of}
+use Rattle.invoke_proc.specs.Booting.{PlaysBoot, Starts, end_of}
 use Rattle.invoke_proc.specs.Starting.{IsBad, IsUnauthentic, IsUnknown}
 use Rattle.suit_cli.specs.declared.reply.Object.TheVariants as objects
 use Rattle.suit_cli.specs.declared.reply.Reply.{Reply}
 use Rattle.suit_cli.specs.Booting.{boot_line, lacking_line}
 use Rattle.suit_cli.specs.Coming.{Comes, Ended, Answered, Booted}
 use Rattle.suit_cli.specs.Commands.{begins_boot}
+use Rattle.suit_cli.specs.Envelopes.{AreBytes}
 use Rattle.suit_cli.specs.Installed.{Holds, HoldsNone}
 use Rattle.suit_cli.specs.Launching.{Launching}
 use Rattle.suit_cli.specs.Lines.{number_line}
@@ -29,6 +31,19 @@ pub record HasBank (before : Outside) (layout : List Entry) (key : Key) (install
     : Type 0 where
   pub config : Holds before.flash (layout, key)
   pub recorded : record_in before.flash.reads (Some installed)
+
+-- the bank of its record, if it has one, has bytes
+abbrev pub HasBytes : Outside → Type 0
+HasBytes before = (installed : Record) → record_in before.flash.reads (Some installed) → AreBytes (bank_in before.flash.reads installed)
+
+-- the bank of its record starts a manifest
+pub record HasStart (before : Outside) : Type 0 where
+  pub layout : List Entry
+  pub key : Key
+  pub config : Holds before.flash (layout, key)
+  pub installed : Record
+  pub manifest : Manifest
+  pub starts : Starts layout key before.flash.reads installed manifest
 
 -- why nothing is started: the first of these
 pub data StartsNothing (before : Outside) : Ended → Type 0 where
@@ -77,9 +92,19 @@ IsNoAnswer (Booted ends.FlashFault lines) = Unit {0}
 IsNoAnswer (Booted ends.NoMemory lines) = Unit {0}
 IsNoAnswer _ = ⊥
 
-pub record BootLaws : Type 0 where
+pub record BootEndLaws : Type 0 where
   -- each end has its cause
   pub only : (launched now : Launching) (before after : Outside) (ended : Ended)
       → IsTrue before.flash.told → IsTrue launched.told
       → Comes begins_boot (λ task. RunBoot ≡ task) launched now before after ended
       → StartsNothing before ended ⊎ (Played launched now before after ended ⊎ IsNoAnswer ended)
+  -- where a cause to start nothing stands, each end is that one, unless the flash failed or memory ran out
+  pub always : (launched now : Launching) (before after : Outside) (ended other : Ended)
+      → IsTrue before.flash.told → IsTrue launched.told → HasBytes before → StartsNothing before ended
+      → Comes begins_boot (λ task. RunBoot ≡ task) launched now before after other
+      → (other ≡ ended) ⊎ IsNoAnswer other
+  -- and where a manifest is started, each end is that of its play
+  pub started : (launched now : Launching) (before after : Outside) (ended : Ended)
+      → IsTrue before.flash.told → IsTrue launched.told → HasBytes before → HasStart before
+      → Comes begins_boot (λ task. RunBoot ≡ task) launched now before after ended
+      → Played launched now before after ended ⊎ IsNoAnswer ended
