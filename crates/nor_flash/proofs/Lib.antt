@@ -3,6 +3,7 @@ pub mod Commit
 pub mod Direct
 pub mod Fronts
 pub mod NameSteps
+pub mod NamedRead
 pub mod Pieces
 pub mod Progress
 pub mod Quiet
