@@ -1,0 +1,12 @@
+pub mod BlockLemmas
+pub mod Commit
+pub mod Direct
+pub mod Fronts
+pub mod NameSteps
+pub mod NamedRead
+pub mod Pieces
+pub mod Progress
+pub mod Quiet
+pub mod Replacement
+pub mod Rewriting
+pub mod Steadiness

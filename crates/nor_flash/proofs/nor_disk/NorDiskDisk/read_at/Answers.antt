@@ -1,0 +1,8 @@
+use Rattle.std.proofs.Common.{◌≡◌}
+use Rattle.nor_flash.proofs.nor_disk.NorDiskDisk.read_at.Goals as goal
+
+pub returns-clause-grows : goal.returns-clause-grows
+returns-clause-grows g c t =
+    let nor : c.args.self.now.0 ≡ c.self.inside.nor = cc in
+    let phase : c.args.self.now.1 ≡ c.self.inside.phase = cc in
+    rw (nor, phase, c.read.ensures.size) ((c.read.ensures.steady t).grows)

@@ -1,0 +1,4 @@
+pub mod Blocks
+pub mod NorDisks
+pub mod NorLaws
+pub mod Rises

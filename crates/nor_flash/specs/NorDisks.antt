@@ -1,0 +1,96 @@
+-- A disk over a device of blocks.
+use Rattle.std.specs.Prelude.{◌≡◌, ◌<◌, ◌≤◌, ◌⊎◌, ◌+◌, ◌-◌, ◌/◌, ℕ, List, Option, Some, None}
+use Rattle.suit_edge.specs.Faults.{Faulted}
+use Rattle.suit_edge.specs.Flash.{Flash, Grows, IsSame, Passes}
+use Rattle.suit_edge.specs.Ranges.{SameOn}
+use Rattle.nor_flash.specs.declared.phase.Phase.{Phase}
+use Rattle.nor_flash.specs.declared.phase.Phase.TheVariants as phases
+use Rattle.nor_flash.specs.Blocks.{IsErased, OutsideBlock, front, name_in, named, plain, with_block}
+
+-- how many blocks the disk has: the device's without the last four
+abbrev pub blocks_of : ℕ → ℕ
+blocks_of size = size / 4096 - 4
+
+-- what the disk reads: once a rewrite is given up, the blocks as they stand
+abbrev pub seen : ℕ → Phase → List ℕ → List ℕ
+seen m phases.Unsettled device = plain m device
+seen m phases.Settled device = plain m device
+seen m phases.GivenUp device = front m device
+seen m (phases.Rewriting block) device = plain m device
+
+-- what a power loss leaves is the disk of what it leaves of the device, or what the disk reads now
+abbrev pub nor_flash : ℕ → Phase → Flash → Flash
+nor_flash m phase device = record {
+  reads = seen m phase device.reads;
+  clock = device.clock;
+  may = λ t image. ((left : List ℕ) × device.may t left × (image ≡ plain m left)) ⊎ ((t ≤ device.clock) × (image ≡ seen m phase device.reads));
+}
+
+-- the three names
+abbrev pub AreErased : ℕ → List ℕ → Type 0
+AreErased m device = IsErased (m + 1) device × IsErased (m + 2) device × IsErased (m + 3) device
+
+-- what is known of the names
+abbrev pub HoldsPhase : ℕ → Phase → List ℕ → Type 0
+HoldsPhase m phases.Unsettled device = Unit {0}
+HoldsPhase m phases.Settled device = AreErased m device
+HoldsPhase m phases.GivenUp device = Unit {0}
+HoldsPhase m (phases.Rewriting block) device = named m device ≡ Some block
+
+-- ---- inside
+
+-- the disk of a device, or what it reads
+abbrev pub Shows : ℕ → Phase → List ℕ → List ℕ → Type 0
+Shows m phase device image = (image ≡ seen m phase device) ⊎ (image ≡ plain m device)
+
+-- nothing of the disk is changed, whatever becomes of this block
+pub record IsQuietAt (m : ℕ) (phase : Phase) (device : List ℕ) (left : List ℕ) : Type 0 where
+  pub shows : Shows m phase device (plain m left)
+  pub sees : seen m phase left ≡ seen m phase device
+  pub holds : HoldsPhase m phase left
+
+abbrev pub IsQuiet : ℕ → Phase → List ℕ → ℕ → Type 0
+IsQuiet m phase device block = (left : List ℕ) → SameOn (OutsideBlock block) device left → IsQuietAt m phase device left
+
+-- the disk is the same, and what a power loss may have left stays
+pub record IsSteady (m : ℕ) (before : Phase) (old : Flash) (phase : Phase) (new : Flash) : Type 0 where
+  pub same : IsSame (nor_flash m before old) (nor_flash m phase new)
+  pub grows : Grows (nor_flash m before old) (nor_flash m phase new)
+
+-- something was read, and else the count of faults rose
+abbrev pub ReadCounts : {T : Type 0} → Option T → ℕ → ℕ → Type 0
+ReadCounts (Some read) before now = now ≡ before
+ReadCounts None before now = Faulted before now
+
+-- a block that is being rewritten is one of the disk
+abbrev pub IsOfDisk : ℕ → Phase → Type 0
+IsOfDisk m phases.Unsettled = Unit {0}
+IsOfDisk m phases.Settled = Unit {0}
+IsOfDisk m phases.GivenUp = Unit {0}
+IsOfDisk m (phases.Rewriting block) = block < m
+
+-- the names can be erased in their order
+abbrev pub CanClear : ℕ → Phase → List ℕ → Type 0
+CanClear m phase device = (phase ≡ phases.GivenUp) ⊎ ((phase ≡ phases.Unsettled) × (named m device ≡ None))
+
+-- the two that go first
+abbrev pub AreFirstNames : ℕ → ℕ → Type 0
+AreFirstNames first second = ((first ≡ 1) × (second ≡ 2)) ⊎ ((first ≡ 2) × (second ≡ 1))
+
+abbrev pub IsOneOf : List ℕ → List ℕ → List ℕ → Type 0
+IsOneOf old new image = (image ≡ old) ⊎ (image ≡ new)
+
+-- each image is what the disk read, or this one
+pub record IsReplaced (old new : Flash) (with : List ℕ) : Type 0 where
+  pub images : Passes old new (IsOneOf old.reads with)
+  pub grows : Grows old new
+
+-- the same of the disk of a device, where the new image has the image block in place of this one
+abbrev pub IsCommit : ℕ → ℕ → Flash → Phase → Flash → Type 0
+IsCommit m block old phase new = IsReplaced (nor_flash m phases.GivenUp old) (nor_flash m phase new) (with_block m block old.reads)
+
+-- two names are those of the block, and the last one is erased
+pub record IsPrepared (m block : ℕ) (device : List ℕ) : Type 0 where
+  pub first : name_in (m + 1) device ≡ block
+  pub second : name_in (m + 2) device ≡ block
+  pub third : IsErased (m + 3) device
