@@ -1,8 +1,11 @@
 pub mod BlockLemmas
 pub mod Commit
 pub mod Direct
+pub mod Filling
 pub mod Fronts
 pub mod NameSteps
+mod NorLosses
+pub mod NorSteps
 pub mod Pieces
 pub mod Progress
 pub mod Quiet
