@@ -1,4 +1,9 @@
 pub mod Blocks
+pub mod EitherDisk
+pub mod FuseNor
+pub mod MemoryNor
+pub mod MemoryNorLaws
 pub mod NorDisks
 pub mod NorLaws
+pub mod NorLossLaws
 pub mod Rises
