@@ -30,7 +30,7 @@ fn perform(rt: &HostRuntime, alloc: Global, step: Step, folder: &str) -> io::Res
         Step::Memory => tell_memory(alloc, &mut FileHost::new(rt), &mut out),
         Step::Suit(words) => {
             let disk = &mut FileDisk::new(rt);
-            let launcher = &mut FileLauncher::new(alloc, rt);
+            let launcher = &mut FileLauncher::new(rt);
             let Status(status) = run(alloc, &words, &mut host, disk, launcher, &mut out);
             if status != 0 {
                 println!(rt; "[status {status}]")?;

@@ -21,7 +21,7 @@ fn main(rt: HostRuntime) -> ExitCode {
     };
     let mut host = FileHost::new(&rt);
     let mut flash = FileDisk::new(&rt);
-    let mut launcher = FileLauncher::new(alloc, &rt);
+    let mut launcher = FileLauncher::new(&rt);
     let Status(code) = run(
         alloc,
         &words,

@@ -1,26 +1,29 @@
 //! A launcher that writes images into files.
 
-ghost use Rattle.std.specs.Prelude.{◌≡◌, ◌+◌, ◌≤◌, [], ℕ, IsTrue, false};
+ghost use Rattle.std.specs.Prelude.{◌≡◌, ◌+◌, ◌≤◌, ◌++◌, [], ℕ, IsTrue, codes, false};
+ghost use Rattle.std.specs.Fmt.{decimal};
 ghost use Rattle.suit_edge.specs.Flash.{Grows, IsSame};
 ghost use Rattle.suit_edge.specs.Launch.{LaunchCounts, LiesWithin};
 ghost use Rattle.suit_edge.specs.FileLauncher.{StepCounts};
 
 use crate::{Disk, Edge, Image, Label, Launched, Launcher};
-use std::alloc::Global;
-use std::fs::File;
+use arrayvec::ArrayString;
+use std::fs::{self, File};
 use std::io::Write;
 use std::marker::Model;
 use std::rt::Files;
-use std::{fs, io};
+
+/// The length in bytes of the longest name, `boot-4294967295.img`.
+const LONGEST_NAME: usize = 19;
 
 /// How many bytes of an image are read at once.
 const PIECE: usize = 4096;
 
 /// A launcher that writes the image of component C into the file `boot-C.img` of the working directory, and starts
-/// nothing. Where it fails, the file may hold a part of the image. It tells nothing of what it launched.
+/// nothing. Where it fails, the file may hold a part of the image. It takes no memory, and tells nothing of what it
+/// launched.
 #[derive(Drop)]
 pub struct FileLauncher<R: Files<File = File> + Drop> {
-    alloc: Global,
     rt: R,
     faults: u64,
 }
@@ -34,21 +37,23 @@ impl<R: Files<File = File> + Drop> Model for FileLauncher<R> {
 
 impl<R: Files<File = File> + Drop> FileLauncher<R> {
     /// The launcher into the files that a runtime reaches. No call on the outside is made.
-    pub fn new(alloc: Global, rt: R) -> FileLauncher<R>
+    pub fn new(rt: R) -> FileLauncher<R>
         ensures { result ≡ 0 }
     {
-        FileLauncher {
-            alloc,
-            rt,
-            faults: 0,
-        }
+        FileLauncher { rt, faults: 0 }
     }
 }
 
-// The file of a component, emptied.
-fn create<R: Files<File = File>>(alloc: Global, rt: &R, component: u32) -> io::Result<File> {
-    let name = format!(in alloc; "boot-{component}.img")?;
-    fs::create(rt, name.as_str())
+// The name of a component's file.
+fn image_name(component: u32) -> ArrayString<LONGEST_NAME>
+    ensures { result.bytes ≡ (codes "boot-" ++ decimal component) ++ codes ".img" }
+{
+    let mut digits = itoa::Buffer::new();
+    let mut name = ArrayString::new();
+    name.push_str("boot-");
+    name.push_str(digits.format(component));
+    name.push_str(".img");
+    name
 }
 
 // Writes bytes to the end of a file.
@@ -111,7 +116,7 @@ impl<R: Files<File = File> + Drop> Launcher for FileLauncher<R> {
     ghost faults = { λ l. l };
 
     fn launch<D: Disk>(&mut self, disk: &mut D, image: Image<'_>, label: Label<'_>) -> Launched {
-        let Ok(mut file) = create(self.alloc, &self.rt, label.component) else {
+        let Ok(mut file) = fs::create(&self.rt, image_name(label.component).as_str()) else {
             self.faults = self.faults.saturating_add(1);
             return Launched::Failed;
         };

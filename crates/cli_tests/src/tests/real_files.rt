@@ -162,7 +162,7 @@ fn a_real_launcher_writes_images(rt: HostRuntime) -> Result<(), AllocError> {
     let mut disk = MemoryDisk::new(rt.alloc(), 6000, &[])?;
     let bytes = vec![in rt.alloc(); 7u8; 5000]?;
     assert!(rt; disk.write_at(900, &bytes) == Edge::Done);
-    let mut launcher = FileLauncher::new(rt.alloc(), &rt);
+    let mut launcher = FileLauncher::new(&rt);
     let image = Image::Flash {
         place: 900,
         length: 5000,
