@@ -233,10 +233,6 @@ tagged_again levels read law tag x rest lt valid =
     let inner : read (notation_of x ++ (codes ")" ++ rest)) ≡ Some (x, codes ")" ++ rest) = law x (codes ")" ++ rest) valid (refl, refl) in
     with_digits (Some read) tag (codes "(" ++ (notation_of x ++ (codes ")" ++ rest))) (omega arith) refl ∙ rw (small, inner) refl
 
--- what stands between a mark and the rest
-regroup_marked : (inner close rest : List ℕ) → (inner ++ close) ++ rest ≡ inner ++ (close ++ rest)
-regroup_marked inner close rest = append_assoc inner close rest
-
 whole_again : (levels : ℕ) (parts : Option Reader) → PartsReadAgain levels parts → ReadsAgain levels (item_with parts)
 whole_again levels parts law (UnsignedInteger n) rest valid end = unsigned_again parts n rest valid end
 whole_again levels parts law (NegativeInteger n) rest valid end = negative_again parts n rest valid end

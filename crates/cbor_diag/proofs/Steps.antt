@@ -1,14 +1,14 @@
 -- The steps of reading, one turn of a loop at a time.
-use Rattle.std.proofs.Common.{◌≡◌, ℕ, zero, suc, ◌+◌, ◌-◌, ◌*◌, ◌^◌, ◌<◌, ◌≤◌, ◌&&◌, Bool, true, false, cond, List, [], ◌∷◌, ◌++◌, length, get_or, take, drop, Option, Some, None, option_map, refl, sym, ap, ◌∙◌, append_assoc, arith}
-use Rattle.std.specs.Prelude.{codes, nat_eq, nat_le, MatchOption}
+use Rattle.std.proofs.Common.{◌≡◌, ℕ, zero, suc, ◌+◌, ◌-◌, ◌<◌, ◌≤◌, ◌&&◌, Bool, true, false, cond, List, [], ◌∷◌, ◌++◌, length, take, drop, Option, Some, None, option_map, refl, sym, ap, ◌∙◌, append_assoc, arith}
+use Rattle.std.specs.Prelude.{codes, nat_eq, MatchOption}
 use Rattle.std.specs.Str.{IsUtf8, is_utf8}
 use Rattle.std.proofs.lemmas.Str.{IsUtf8-from_is_utf8, is_utf8-from_IsUtf8}
-use Rattle.std.proofs.lemmas.Bool.{le-leb, lt-leb, false_from_ne_true}
-use Rattle.std.proofs.lemmas.List.{drop_more, append-nil}
+use Rattle.std.proofs.lemmas.Bool.{false_from_ne_true}
+use Rattle.std.proofs.lemmas.List.{append-nil}
 use lib.Pointwise.{pointwise}
 use Rattle.det_cbor.specs.DataItem.{DataItem}
 use Rattle.cbor_diag.specs.declared.quoted.Quoted.{Quoted}
-use Rattle.cbor_diag.specs.Reading.{◌>>=◌, Read, Reader, after, past, is_digit, number_at, quote_of, piece_at, quoted_by, items_by, pairs_by, item_with, item_at, reader_at}
+use Rattle.cbor_diag.specs.Reading.{◌>>=◌, Read, Reader, after, past, quote_of, piece_at, quoted_by, items_by, pairs_by, item_with, item_at, reader_at}
 
 pub item_at_is : (levels : ℕ) (text : List ℕ) → item_at levels text ≡ item_with (reader_at levels) text
 unfolding item_at
@@ -32,31 +32,7 @@ pub stripped : {A : Type 0} (now : A → List ℕ) (mark text : List ℕ) (r : O
 stripped now mark text None other = sym (compared mark text ∙ rw other refl)
 stripped now mark text (Some x) same = ap Some same.1 ∙ sym (compared mark text ∙ rw same.0 refl)
 
-pub past_there : (mark text rest : List ℕ) → Some rest ≡ after mark text → past mark text ≡ rest
-past_there mark text rest e = rw (← e) refl
-
-pub past_none : (mark text : List ℕ) → None ≡ after mark text → past mark text ≡ text
-past_none mark text e = rw (← e) refl
-
 -- ---- numbers
-
-pub number_digit : (n place : ℕ) (text : List ℕ) → place < length text → is_digit (get_or text place 0) ≡ true → n ≤ 2 ^ 64
-    → number_at n (drop place text) ≡ number_at (n * 10 + (get_or text place 0 - 48)) (drop (place + 1) text)
-number_digit n place text lt digit le =
-    let small : nat_le n (2 ^ 64) ≡ true = le-leb _ _ le in
-    rw (drop_more text place 0 lt, digit, small) refl
-
-pub number_large : (n place : ℕ) (text : List ℕ) → place < length text → is_digit (get_or text place 0) ≡ true → 2 ^ 64 < n
-    → number_at n (drop place text) ≡ None
-number_large n place text lt digit gt =
-    let large : nat_le n (2 ^ 64) ≡ false = lt-leb _ _ gt in
-    rw (drop_more text place 0 lt, digit, large) refl
-
-pub number_stop : (n place : ℕ) (text : List ℕ) → place < length text → is_digit (get_or text place 0) ≡ false
-    → number_at n (drop place text) ≡ Some (n, drop place text)
-number_stop n place text lt other =
-    let step : number_at n (get_or text place 0 ∷ drop (place + 1) text) ≡ Some (n, get_or text place 0 ∷ drop (place + 1) text) = rw other refl in
-    rw (drop_more text place 0 lt) step
 
 -- ---- what was read before, in front
 
@@ -88,14 +64,6 @@ quoted_step kind front count i text b later total lt unclosed e so_far =
     let step : with_front front (quoted_by kind (count - i) text) ≡ with_front (front ++ b ∷ []) (quoted_by kind (count - (i + 1)) later) = rw (one_left count i lt, ← unclosed, ← e) (one_more front b (quoted_by kind (count - (i + 1)) later)) in
     sym step ∙ so_far
 
-pub quoted_bad : (kind : Quoted) (front : List ℕ) (count i : ℕ) (text : List ℕ) (total : Read (List ℕ)) → i < count → None ≡ after (quote_of kind) text → None ≡ piece_at kind text
-    → with_front front (quoted_by kind (count - i) text) ≡ total → total ≡ None
-quoted_bad kind front count i text total lt unclosed e so_far = sym so_far ∙ rw (one_left count i lt, ← unclosed, ← e) refl
-
-pub quoted_open : (kind : Quoted) (front : List ℕ) (count i : ℕ) (text : List ℕ) (total : Read (List ℕ)) → count ≤ i
-    → with_front front (quoted_by kind (count - i) text) ≡ total → total ≡ None
-quoted_open kind front count i text total le so_far = sym so_far ∙ rw (none_left count i le) refl
-
 -- ---- items
 
 pub items_end : (read : Reader) (front : List DataItem) (count i : ℕ) (text rest : List ℕ) (total : Read (List DataItem)) → i < count → Some rest ≡ after (codes "]") text
@@ -109,19 +77,7 @@ items_step read front count i text x behind later total lt unclosed e skips so_f
     let step : with_front front (items_by read (count - i) text) ≡ with_front (front ++ x ∷ []) (items_by read (count - (i + 1)) later) = rw (one_left count i lt, ← unclosed, e, ← skips) (one_more front x (items_by read (count - (i + 1)) later)) in
     sym step ∙ so_far
 
-pub items_bad : (read : Reader) (front : List DataItem) (count i : ℕ) (text : List ℕ) (total : Read (List DataItem)) → i < count → None ≡ after (codes "]") text → read text ≡ None
-    → with_front front (items_by read (count - i) text) ≡ total → total ≡ None
-items_bad read front count i text total lt unclosed e so_far = sym so_far ∙ rw (one_left count i lt, ← unclosed, e) refl
-
-pub items_open : (read : Reader) (front : List DataItem) (count i : ℕ) (text : List ℕ) (total : Read (List DataItem)) → count ≤ i
-    → with_front front (items_by read (count - i) text) ≡ total → total ≡ None
-items_open read front count i text total le so_far = sym so_far ∙ rw (none_left count i le) refl
-
 -- ---- pairs
-
-pub pairs_end : (read : Reader) (front : List (DataItem × DataItem)) (count i : ℕ) (text rest : List ℕ) (total : Read (List (DataItem × DataItem))) → i < count → Some rest ≡ after (codes "}") text
-    → with_front front (pairs_by read (count - i) text) ≡ total → total ≡ Some (front, rest)
-pairs_end read front count i text rest total lt e so_far = sym so_far ∙ rw (one_left count i lt, ← e) (at_end front rest)
 
 pub pairs_step : (read : Reader) (front : List (DataItem × DataItem)) (count i : ℕ) (text : List ℕ) (key value : DataItem) (after_key skipped behind later : List ℕ) (total : Read (List (DataItem × DataItem))) → i < count
     → None ≡ after (codes "}") text → read text ≡ Some (key, after_key) → skipped ≡ past (codes ": ") after_key → read skipped ≡ Some (value, behind) → later ≡ past (codes ", ") behind
@@ -130,20 +86,6 @@ pairs_step read front count i text key value after_key skipped behind later tota
     let step : with_front front (pairs_by read (count - i) text) ≡ with_front (front ++ (key, value) ∷ []) (pairs_by read (count - (i + 1)) later) =
     rw (one_left count i lt, ← unclosed, first, ← skips, second, ← skips_on) (one_more front (key, value) (pairs_by read (count - (i + 1)) later)) in
     sym step ∙ so_far
-
-pub pairs_bad_key : (read : Reader) (front : List (DataItem × DataItem)) (count i : ℕ) (text : List ℕ) (total : Read (List (DataItem × DataItem))) → i < count → None ≡ after (codes "}") text → read text ≡ None
-    → with_front front (pairs_by read (count - i) text) ≡ total → total ≡ None
-pairs_bad_key read front count i text total lt unclosed e so_far = sym so_far ∙ rw (one_left count i lt, ← unclosed, e) refl
-
-pub pairs_bad_value : (read : Reader) (front : List (DataItem × DataItem)) (count i : ℕ) (text : List ℕ) (key : DataItem) (after_key skipped : List ℕ) (total : Read (List (DataItem × DataItem))) → i < count
-    → None ≡ after (codes "}") text → read text ≡ Some (key, after_key) → skipped ≡ past (codes ": ") after_key → read skipped ≡ None
-    → with_front front (pairs_by read (count - i) text) ≡ total → total ≡ None
-pairs_bad_value read front count i text key after_key skipped total lt unclosed first skips second so_far =
-    sym so_far ∙ rw (one_left count i lt, ← unclosed, first, ← skips, second) refl
-
-pub pairs_open : (read : Reader) (front : List (DataItem × DataItem)) (count i : ℕ) (text : List ℕ) (total : Read (List (DataItem × DataItem))) → count ≤ i
-    → with_front front (pairs_by read (count - i) text) ≡ total → total ≡ None
-pairs_open read front count i text total le so_far = sym so_far ∙ rw (none_left count i le) refl
 
 -- ---- texts
 

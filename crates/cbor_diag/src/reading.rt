@@ -187,8 +187,6 @@ pub fn read_notation(alloc: Global, text: &str) -> Result<Item, NotationFault>
     ensures item { IfOk result (λ item. Notates (tree_of item) text.now) }
     ensures every_item { (x : DataItem) → Notates x text.now → IsReadAs x result }
 {
-    match read_item(alloc, text.as_bytes(), MAX_LEVELS) {
-        Ok((item, _)) => checked(alloc, text, item),
-        Err(fault) => Err(fault),
-    }
+    let (item, _) = read_item(alloc, text.as_bytes(), MAX_LEVELS)?;
+    checked(alloc, text, item)
 }
