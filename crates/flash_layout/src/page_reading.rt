@@ -73,10 +73,8 @@ fn read_entries(alloc: Global, bytes: &[u8], count: usize) -> Result<Layout, Fau
     let mut layout = Layout::new(alloc);
     for i in 0..count {
         let from = ENTRY_SIZE * i;
-        match read_entry(alloc, &bytes[from..from + ENTRY_SIZE]) {
-            Ok(entry) => layout.push(entry)?,
-            Err(fault) => return Err(fault),
-        }
+        let entry = read_entry(alloc, &bytes[from..from + ENTRY_SIZE])?;
+        layout.push(entry)?;
     }
     Ok(layout)
 }

@@ -111,10 +111,7 @@ fn put_strings(out: &mut Spelling, parts: &[Bytes]) -> Result<(), TooLong>
         (64 < length out.old + length (spell_items (string_items parts.now))) }
 {
     for part in parts {
-        match put_string(out, part) {
-            Ok(()) => {}
-            Err(TooLong) => return Err(TooLong),
-        }
+        put_string(out, part)?;
     }
     Ok(())
 }
@@ -127,15 +124,8 @@ pub(crate) fn spell_id(identifier: &Identifier) -> Result<Spelling, TooLong>
 {
     let parts = identifier.as_slice();
     let mut out = Spelling::new();
-    match put_head(&mut out, 4, parts.len() as u64) {
-        Ok(()) => {}
-        Err(TooLong) => return Err(TooLong),
-    }
-    match put_strings(&mut out, parts) {
-        Ok(()) => {
-            let _few = out.as_slice();
-            Ok(out)
-        }
-        Err(TooLong) => Err(TooLong),
-    }
+    put_head(&mut out, 4, parts.len() as u64)?;
+    put_strings(&mut out, parts)?;
+    let _few = out.as_slice();
+    Ok(out)
 }

@@ -45,16 +45,8 @@ fn macs<'a>(wrapper: &'a [u8], key: &[u8]) -> Result<MacVerdict<'a>, Refusal>
         → BlocksSay key.now (payload_of digest) blocks answer) }
     ensures read { IfErr result (λ _. HasWrapper wrapper.now → ⊥) }
 {
-    match first_string(wrapper) {
-        Ok((content, rest)) => {
-            let payload = bytes_left(content);
-            match scan(rest, count(wrapper), key, payload) {
-                Ok(answer) => Ok(answer),
-                Err(refusal) => Err(refusal),
-            }
-        }
-        Err(refusal) => Err(refusal),
-    }
+    let (content, rest) = first_string(wrapper)?;
+    scan(rest, count(wrapper), key, bytes_left(content))
 }
 
 fn answer<'a>(envelope: &Envelope<'a>, key: &[u8]) -> Authenticity<'a>

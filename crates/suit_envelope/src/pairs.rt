@@ -27,10 +27,8 @@ fn wrapper_held(content: Cursor<'_>) -> Result<(), Refusal>
 fn first_refusal(judged: Result<(), Refusal>, next: Result<(), Refusal>) -> Result<(), Refusal>
     ensures { result ≡ first_refusal judged next }
 {
-    match judged {
-        Ok(()) => next,
-        Err(refusal) => Err(refusal),
-    }
+    judged?;
+    next
 }
 
 // The first refusal, after the content of a value: the wrapper is judged, and no other.

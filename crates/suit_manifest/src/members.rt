@@ -44,13 +44,11 @@ fn both(alloc: Global, envelope: &Envelope<'_>, manifest: &Manifest) -> Result<M
     let first = apart(alloc, envelope, name, place, &manifest.payload_fetch, count)?;
     let name = MemberName::Install;
     let place = envelope.install_place;
-    match apart(alloc, envelope, name, place, &manifest.install, count) {
-        Ok(second) => Ok(Members {
-            payload_fetch: first,
-            install: second,
-        }),
-        Err(fault) => Err(fault),
-    }
+    let second = apart(alloc, envelope, name, place, &manifest.install, count)?;
+    Ok(Members {
+        payload_fetch: first,
+        install: second,
+    })
 }
 
 /// The members whose digests the manifest states, taken from its envelope

@@ -70,9 +70,9 @@ pub(crate) fn apart(
     match member {
         Member::Empty => Ok(None),
         Member::Here(_) => Ok(None),
-        Member::Apart(stated) => match taken(alloc, envelope, name, place, stated, count) {
-            Ok(sequence) => Ok(Some(sequence)),
-            Err(fault) => Err(fault),
-        },
+        Member::Apart(stated) => {
+            let sequence = taken(alloc, envelope, name, place, stated, count)?;
+            Ok(Some(sequence))
+        }
     }
 }

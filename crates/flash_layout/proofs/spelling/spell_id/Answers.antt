@@ -1,19 +1,25 @@
-use Rattle.std.proofs.Common.{◌≤◌, ℕ, List, length, subst}
+use Rattle.std.proofs.Common.{◌≤◌, ℕ, List, length, subst, Result, Ok, Err}
+use Rattle.std.specs.Prelude.{IfErr}
 use Rattle.flash_layout.proofs.Spellings.{head_long, parts_long, parts_spelled}
 use Rattle.flash_layout.proofs.spelling.spell_id.Goals as goal
 
-pub returns-in-Err-clause-long : goal.returns-in-Err-clause-long
-returns-in-Err-clause-long c = head_long c.args.identifier.now c.as_slice-parts.result.now c.new-out.result c.new-out.ensures c.as_slice-parts.ensures c.in-Err.ensures.err
+whatever : {A E : Type 0} (r : Result A E) (P : Type 0) → P → IfErr r (λ _. P)
+whatever (Ok a) P p = tt
+whatever (Err e) P p = p
 
-pub returns-in-Ok-put_strings-clause-ok : goal.returns-in-Ok-put_strings-clause-ok
-returns-in-Ok-put_strings-clause-ok c =
-    parts_spelled c.args.identifier.now c.as_slice-parts.result.now c.new-out.result c.put_head.new.out c.put_strings.new.out c.new-out.ensures c.as_slice-parts.ensures c.in-Ok.ensures.ok c.in-Ok-put_strings.ensures.ok
+pub returns-in_err-put_head-clause-long : goal.returns-in_err-put_head-clause-long
+returns-in_err-put_head-clause-long c = whatever c.from_residual.result _
+    (head_long c.args.identifier.now c.as_slice-parts.result.now c.new-out.result c.new-out.ensures c.as_slice-parts.ensures c.in_err-put_head.ensures.err)
 
-pub returns-in-Ok-put_strings-clause-short : goal.returns-in-Ok-put_strings-clause-short
-returns-in-Ok-put_strings-clause-short c =
-    let is = parts_spelled c.args.identifier.now c.as_slice-parts.result.now c.new-out.result c.put_head.new.out c.put_strings.new.out c.new-out.ensures c.as_slice-parts.ensures c.in-Ok.ensures.ok c.in-Ok-put_strings.ensures.ok in
+pub returns-in_err-put_strings-clause-long : goal.returns-in_err-put_strings-clause-long
+returns-in_err-put_strings-clause-long c = whatever c.from_residual-in_err-put_strings.result _
+    (parts_long c.args.identifier.now c.as_slice-parts.result.now c.new-out.result c.put_head.new.out c.new-out.ensures c.as_slice-parts.ensures c.in_ok-put_head.ensures.ok c.in_err-put_strings.ensures.err)
+
+pub returns-clause-ok : goal.returns-clause-ok
+returns-clause-ok c =
+    parts_spelled c.args.identifier.now c.as_slice-parts.result.now c.new-out.result c.put_head.new.out c.put_strings.new.out c.new-out.ensures c.as_slice-parts.ensures c.in_ok-put_head.ensures.ok c.in_ok-put_strings.ensures.ok
+
+pub returns-clause-short : goal.returns-clause-short
+returns-clause-short c =
+    let is = parts_spelled c.args.identifier.now c.as_slice-parts.result.now c.new-out.result c.put_head.new.out c.put_strings.new.out c.new-out.ensures c.as_slice-parts.ensures c.in_ok-put_head.ensures.ok c.in_ok-put_strings.ensures.ok in
     subst (λ (l : List ℕ). length l ≤ 64) is c.as_slice-few.ensures.few
-
-pub returns-in-Err-put_strings-clause-long : goal.returns-in-Err-put_strings-clause-long
-returns-in-Err-put_strings-clause-long c =
-    parts_long c.args.identifier.now c.as_slice-parts.result.now c.new-out.result c.put_head.new.out c.new-out.ensures c.as_slice-parts.ensures c.in-Ok.ensures.ok c.in-Err-put_strings.ensures.err
