@@ -73,10 +73,8 @@ pub(crate) fn opened_in(alloc: Global, bytes: &[u8]) -> Result<Opened<'_>, Stop>
     envelope_laws();
     let envelope = envelope_in(alloc, bytes)?;
     short(alloc, &envelope)?;
-    match manifest_in(alloc, &envelope) {
-        Ok(manifest) => Ok(Opened { envelope, manifest }),
-        Err(stop) => Err(stop),
-    }
+    let manifest = manifest_in(alloc, &envelope)?;
+    Ok(Opened { envelope, manifest })
 }
 
 fn name_text(name: MemberName) -> &'static str

@@ -100,19 +100,10 @@ fn judged(alloc: Global, manifest: &Manifest, members: &Members) -> Result<(), S
         result }
 {
     let update = update_plan(manifest, members);
-    match narrow(alloc, &update) {
-        Ok(()) => {}
-        Err(stop) => return Err(stop),
-    }
+    narrow(alloc, &update)?;
     let invocation = invocation_plan(manifest);
-    match narrow(alloc, &invocation) {
-        Ok(()) => {}
-        Err(stop) => return Err(stop),
-    }
-    match judge_safe(alloc, &update, &invocation) {
-        Ok(()) => Ok(()),
-        Err(stop) => Err(stop),
-    }
+    narrow(alloc, &invocation)?;
+    judge_safe(alloc, &update, &invocation)
 }
 
 // The update that an authentic envelope with this manifest offers.
@@ -131,18 +122,9 @@ fn accept_manifest<'a>(
     ensures other { IfOk result (λ a. HaveOtherPlaces a.manifest.components a.places) }
 {
     procedure_laws();
-    let places = match places_in(alloc, layout, &file.manifest) {
-        Ok(places) => places,
-        Err(stop) => return Err(stop),
-    };
-    let members = match members_in(alloc, &file) {
-        Ok(members) => members,
-        Err(stop) => return Err(stop),
-    };
-    match judged(alloc, &file.manifest, &members) {
-        Ok(()) => {}
-        Err(stop) => return Err(stop),
-    }
+    let places = places_in(alloc, layout, &file.manifest)?;
+    let members = members_in(alloc, &file)?;
+    judged(alloc, &file.manifest, &members)?;
     let Opened { envelope, manifest } = file;
     Ok(Acceptable {
         envelope,
@@ -169,24 +151,9 @@ pub(crate) fn accept<'a>(
 {
     envelope_laws();
     manifest_laws();
-    let envelope = match envelope_in(alloc, bytes) {
-        Ok(envelope) => envelope,
-        Err(stop) => return Err(stop),
-    };
-    match short(alloc, &envelope) {
-        Ok(()) => {}
-        Err(stop) => return Err(stop),
-    }
-    match authentic_in(alloc, &envelope, key) {
-        Ok(()) => {}
-        Err(stop) => return Err(stop),
-    }
-    let manifest = match manifest_in(alloc, &envelope) {
-        Ok(manifest) => manifest,
-        Err(stop) => return Err(stop),
-    };
-    match accept_manifest(alloc, layout, Opened { envelope, manifest }) {
-        Ok(acceptable) => Ok(acceptable),
-        Err(stop) => Err(stop),
-    }
+    let envelope = envelope_in(alloc, bytes)?;
+    short(alloc, &envelope)?;
+    authentic_in(alloc, &envelope, key)?;
+    let manifest = manifest_in(alloc, &envelope)?;
+    accept_manifest(alloc, layout, Opened { envelope, manifest })
 }

@@ -140,10 +140,8 @@ fn show_file<H: Host>(
         (⟦<H as SeenHost>⟧.seen host.old flash) (⟦<H as SeenHost>⟧.seen host.new flash)
         (ending_of result) }
 {
-    match opened_in(alloc, bytes) {
-        Ok(file) => show_manifest(alloc, &file.envelope, &file.manifest, key_name, host),
-        Err(stop) => Err(stop),
-    }
+    let file = opened_in(alloc, bytes)?;
+    show_manifest(alloc, &file.envelope, &file.manifest, key_name, host)
 }
 
 /// The reply to `show NAME KEY`. The key is read after the manifest was accepted.

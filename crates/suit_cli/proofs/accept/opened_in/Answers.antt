@@ -20,17 +20,18 @@ pub manifest_in-requires : goal.manifest_in-requires
 manifest_in-requires c =
     (c.envelope_laws.ensures.ends c.args.bytes.now (said_by c.in_ok-envelope.envelope) 18446744073709551616 (c.in_ok-envelope.ensures.finds anywhere).1.1 (omega (arith, c.requires))).manifest
 
-pub returns-in-Err : goal.returns-in-Err
-returns-in-Err c here =
-    Goes (said_by c.in_ok-envelope.envelope) here _ (c.in_ok-envelope.ensures.finds here) (Goes tt here _ (c.in_ok-short.ensures here)
-    (stopped _ _ here here c.in-Err.stop (c.in-Err.ensures here)))
+pub returns-in_err-manifest : goal.returns-in_err-manifest
+returns-in_err-manifest c =
+    stops_opening c.args.bytes.now c.from_residual-in_err-manifest.result c.in_err-manifest.field-0.0 c.from_residual-in_err-manifest.ensures.1
+    (λ here. Goes (said_by c.in_ok-envelope.envelope) here _ (c.in_ok-envelope.ensures.finds here) (Goes tt here _ (c.in_ok-short.ensures here)
+    (stopped _ _ here here c.in_err-manifest.field-0.0 (c.in_err-manifest.ensures here))))
 
-pub returns-in-Ok : goal.returns-in-Ok
-returns-in-Ok c = record {
+pub returns : goal.returns
+returns c = record {
   are_bytes = (c.in_ok-envelope.ensures.finds anywhere).1.0;
   envelope = (c.in_ok-envelope.ensures.finds anywhere).1.1;
   is_short = (c.in_ok-short.ensures anywhere).1;
-  manifest = (c.in-Ok.ensures anywhere).1;
+  manifest = (c.in_ok-manifest.ensures anywhere).1;
   wrapper = c.in_ok-envelope.ensures.wrapper;
   whole = c.in_ok-envelope.ensures.whole;
   places =
