@@ -14,6 +14,7 @@ use Rattle.author.proofs.DescriptionGrammar.{grammatical, members_allowed}
 use Rattle.author.proofs.GivenPartProofs.{parts}
 use Rattle.author.proofs.Likes.{Like, BothRead, BothFlawed}
 use Rattle.author.proofs.PayloadsAscend.{ascend}
+use Rattle.author.proofs.ReadOnce.{read_once}
 use Rattle.author.proofs.SameFields.{SameComponents, like_described, never_flawed}
 
 abbrev Files : Type 0
@@ -73,5 +74,6 @@ laws items payloads = record {
   grammatical = λ d files p h is. grammatical items d files p (few_apart d files p ∣ h ∣₁ is) is;
   members = λ d files p h is. members_allowed d files p (few_apart d files p ∣ h ∣₁ is) is;
   payloads = ascend payloads;
+  once = read_once;
   parts = parts;
 }

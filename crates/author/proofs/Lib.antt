@@ -31,3 +31,4 @@ pub mod GivenPartProofs
 pub mod DescriptionLawProofs
 pub mod BareReads
 pub mod BareLengths
+pub mod ReadOnce

@@ -1,6 +1,7 @@
 -- The laws of all descriptions, whatever bytes their files have.
-use Rattle.std.specs.Prelude.{◌≡◌, ℕ, List, None, Ok, length}
+use Rattle.std.specs.Prelude.{◌≡◌, ℕ, List, Some, None, Ok, length}
 use Rattle.serde_json.specs.Data.{Data}
+use Rattle.serde_json.specs.Read.{read}
 use Rattle.suit_envelope.specs.PayloadOrder.{AreAscending}
 use Rattle.suit_manifest.specs.ManifestWriting.{ManifestFits, IsGrammatical}
 use Rattle.author.specs.declared.fields.Described.{Described}
@@ -25,6 +26,8 @@ pub record DescriptionLaws : Type 0 where
       × IsAllowedMember (length p.manifest.components) p.manifest.install
   pub payloads : (d : Data) (files : List (List ℕ × List ℕ)) (p : Described)
       → described files d ≡ Ok p → AreAscending None p.payloads
-  -- its payloads, severed members and key's identifier are those that stand in the value
+  -- no key stands twice in what is read of a text
+  pub once : (text : List ℕ) (d : Data) → read text ≡ Some d → HasKeysOnce d
+  -- where none does, the payloads, severed members and key's identifier are those that stand in the value
   pub parts : (d : Data) (files : List (List ℕ × List ℕ)) (p : Described) → HasKeysOnce d
       → described files d ≡ Ok p → HasPartsOf d files p
