@@ -34,7 +34,9 @@ pub record HasBank (before : Outside) (layout : List Entry) (key : Key) (install
 
 -- the bank of its record, if it has one, has bytes
 abbrev pub HasBytes : Outside → Type 0
-HasBytes before = (installed : Record) → record_in before.flash.reads (Some installed) → AreBytes (bank_in before.flash.reads installed)
+HasBytes before =
+    (installed : Record) → record_in before.flash.reads (Some installed)
+    → AreBytes (bank_in before.flash.reads installed)
 
 -- the bank of its record starts a manifest
 pub record HasStart (before : Outside) : Type 0 where
@@ -100,7 +102,8 @@ pub record BootEndLaws : Type 0 where
       → StartsNothing before ended ⊎ (Played launched now before after ended ⊎ IsNoAnswer ended)
   -- where a cause to start nothing stands, each end is that one, unless the flash failed or memory ran out
   pub always : (launched now : Launching) (before after : Outside) (ended other : Ended)
-      → IsTrue before.flash.told → IsTrue launched.told → HasBytes before → StartsNothing before ended
+      → IsTrue before.flash.told → IsTrue launched.told → HasBytes before
+      → StartsNothing before ended
       → Comes begins_boot (λ task. RunBoot ≡ task) launched now before after other
       → (other ≡ ended) ⊎ IsNoAnswer other
   -- and where a manifest is started, each end is that of its play

@@ -1,11 +1,15 @@
 -- Why an update that `run update` began ends so: the cause of each status, over objects that tell what they hold.
-use Rattle.std.specs.Prelude.{◌≡◌, ℕ, IsTrue, List, Option}
+use Rattle.std.specs.Prelude.{◌≡◌, ◌⊎◌, ℕ, IsTrue, List, Option}
 use Rattle.suit_envelope.specs.Payloads.{HasPayloads}
+use Rattle.suit_envelope.specs.WrapperParts.{WrapperSays}
 use Rattle.suit_params.specs.declared.digest.Digest.{Digest}
 use Rattle.path_model.specs.declared.cause.Cause.{Cause}
+use Rattle.flash_layout.specs.declared.frame.TheConstants.{VERSION_1}
 use Rattle.flash_layout.specs.declared.key.Key.{Key}
 use Rattle.flash_layout.specs.declared.layout.Entry.{Entry}
 use Rattle.flash_layout.specs.declared.slot.Record.{Record}
+use Rattle.flash_layout.specs.Frames.{head_of}
+use Rattle.rollback_record.specs.HeadRecord.{RecordOf}
 use Rattle.rollback_record.specs.Judging.{IsAcceptable, IsJudged}
 use Rattle.rollback_record.specs.declared.judging.Judged.{Judged}
 use Rattle.rollback_record.specs.declared.judging.Judged.TheVariants as judged
@@ -82,6 +86,40 @@ pub record UpdateIsCaused (name : List ℕ) (uris : List (List ℕ × List ℕ))
   pub ends : UpdateEnds (offer layout bytes accepted uris) launched now before after end
   pub lines_are : lines ≡ update_line accepted.manifest.sequence end
 
+-- ---- where a cause stands
+
+-- the file is accepted under the configuration of the flash, and this is the verdict on it beside the record
+pub record IsOffered (name : List ℕ) (before : Outside) (verdict : Judged) : Type 0 where
+  pub layout : List Entry
+  pub key : Key
+  pub config : Holds before.flash (layout, key)
+  pub bytes : List ℕ
+  pub read : IsRead longest_file name before bytes
+  pub accepted : Accepted
+  pub is_accepted : IsAccepted layout key bytes accepted
+  pub held : Option Record
+  pub recorded : RecordOf VERSION_1 (head_of VERSION_1 before.flash.reads) held
+  pub digest : Digest
+  pub blocks : List (List ℕ)
+  pub states : WrapperSays accepted.said.wrapper digest.bytes blocks
+  pub is_judged : IsJudged accepted.manifest.sequence digest held verdict
+
+-- the end that a verdict leads to: its own, or where the file may be recorded, that of its play
+abbrev pub IsEndOf : Judged → UpdateEnd → Type 0
+IsEndOf (judged.Lower recorded offered) end = end ≡ ends.Lower recorded offered
+IsEndOf (judged.OtherDigest recorded offered) end = end ≡ ends.OtherDigest recorded offered
+IsEndOf judged.Worn end = end ≡ ends.Worn
+IsEndOf judged.Accepted (ends.Installed installed) = Unit {0}
+IsEndOf judged.Accepted (ends.Condition place) = Unit {0}
+IsEndOf judged.Accepted (ends.Stopped place cause) = Unit {0}
+IsEndOf judged.Accepted _ = ⊥
+
+-- the flash failed outside of the procedure, status 8, or memory ran out, 11
+abbrev pub IsNoEnd : UpdateEnd → Type 0
+IsNoEnd ends.FlashFault = Unit {0}
+IsNoEnd ends.NoMemory = Unit {0}
+IsNoEnd _ = ⊥
+
 pub record UpdateEndLaws : Type 0 where
   -- each end has its cause
   pub only : (name : List ℕ) (uris : List (List ℕ × List ℕ)) (launched now : Launching)
@@ -89,3 +127,10 @@ pub record UpdateEndLaws : Type 0 where
       → IsTrue before.told → IsTrue before.flash.told → IsTrue launched.told
       → Updates name uris launched now before after end lines
       → UpdateIsCaused name uris launched now before after end lines
+  -- and where a verdict stands, each end is the one that it leads to, unless the flash failed or memory ran out
+  pub always : (name : List ℕ) (uris : List (List ℕ × List ℕ)) (launched now : Launching)
+      (before after : Outside) (end : UpdateEnd) (lines : List ℕ) (verdict : Judged)
+      → IsTrue before.told → IsTrue before.flash.told → IsTrue launched.told
+      → IsOffered name before verdict
+      → Updates name uris launched now before after end lines
+      → IsEndOf verdict end ⊎ IsNoEnd end

@@ -100,10 +100,15 @@ pub fn update_laws()
 
 /// Does nothing. Its contract has the laws of an update that `run update FILE` began, over objects that tell what they hold:
 /// the file was accepted, and each end has its cause. It was refused beside the record, or its procedure was played to that
-/// end; or the flash failed outside of it, or memory ran out.
+/// end; or the flash failed outside of it, or memory ran out. And where the record has a verdict on the file, each end is
+/// the one that this leads to, but for such a failure.
 pub fn update_end_laws()
     ensures { UpdateEndLaws }
-{}
+{
+    config_laws();
+    envelope_laws();
+    manifest_laws();
+}
 
 /// Does nothing. Its contract has the laws of `run boot` over a flash and a launcher that tell what they hold: each end has
 /// its cause. Nothing was started for the first thing that is wrong in configuration, record and bank; or the recorded
