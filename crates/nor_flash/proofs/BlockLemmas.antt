@@ -6,6 +6,7 @@ use Rattle.std.proofs.lemmas.Bool.{cases_lt, and_parts, ltb-true, eqb-true}
 use Rattle.std.proofs.lemmas.List.{ext_get_or, length-replicate}
 use Rattle.std.proofs.lemmas.List.Edits.{length-between, get_or-between}
 use Rattle.std.proofs.lemmas.List.{get_or-replicate}
+use Rattle.lane_bytes.specs.Bytes.{IsFirstOther}
 use Rattle.suit_edge.specs.Ranges.{SameOn, written}
 use Rattle.suit_edge.specs.RangeLaws.{same_range}
 use Rattle.nor_flash.specs.Blocks.{IsErased, OutsideBlock, front, image_block, name_in, named, named_by, plain, plain_by, with_block}
@@ -61,6 +62,15 @@ erased_read block n room before now size fits same read all i low high =
     let got : get_or room (i - 4096 * block) 0 ≡ get_or before (4096 * block + (i - 4096 * block)) 0 =
     ap (λ l. get_or l (i - 4096 * block) 0) read ∙ get_or-between before (4096 * block) (4096 * block + n) (i - 4096 * block) 0 (omega (arith, low, high, size)) in
     ap (λ l. get_or l i 0) same ∙ subst (λ (j : ℕ). get_or before j 0 ≡ 255) at (sym got ∙ all (i - 4096 * block) (omega (arith, low, high, long, size)))
+
+-- it has a byte that is not 0xFF: it was not erased
+pub not_erased : (block i : ℕ) (room before : List ℕ) → IsFirstOther room 255 i → 4096 * block + 4096 ≤ length before
+    → room ≡ slice_range before (4096 * block) (4096 * block + 4096) → IsErased block before → ⊥
+not_erased block i room before other fits read erased =
+    let long : length room ≡ 4096 = ap length read ∙ length-between before (4096 * block) (4096 * block + 4096) fits ∙ omega arith in
+    let near : i < 4096 = omega (arith, other.inside, long) in
+    other.other (ap (λ (l : List ℕ). get_or l i 0) read ∙ get_or-between before (4096 * block) (4096 * block + 4096) i 0 (omega (arith, near))
+    ∙ erased (4096 * block + i) (omega arith) (omega (arith, near)))
 
 -- ---- the disk by what is named
 

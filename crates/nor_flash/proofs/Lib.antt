@@ -4,6 +4,7 @@ pub mod Direct
 pub mod Filling
 pub mod Fronts
 pub mod NameSteps
+pub mod NamedRead
 mod NorLosses
 pub mod NorSteps
 pub mod Pieces

@@ -1,11 +1,11 @@
 -- The three names are erased, one after another.
-use Rattle.std.proofs.Common.{◌≡◌, ◌≢◌, ◌⊎◌, ⊎_elim, ◌<◌, ◌≤◌, ◌+◌, ◌*◌, ℕ, length, ◌∙◌, sym, subst, arith}
+use Rattle.std.proofs.Common.{◌≡◌, ◌≢◌, ◌⊎◌, ⊎_elim, ◌<◌, ◌≤◌, ◌+◌, ◌*◌, ℕ, List, length, ◌∙◌, sym, subst, arith}
 use Rattle.suit_edge.specs.Flash.{Flash, IsFlash, IsSettled, Grows, Keeps}
-use Rattle.suit_edge.specs.Ranges.{AreBytes}
+use Rattle.suit_edge.specs.Ranges.{AreBytes, SameOn}
 use Rattle.nor_flash.specs.declared.phase.Phase.{Phase}
 use Rattle.nor_flash.specs.declared.phase.Phase.TheVariants as phases
 use Rattle.nor_flash.specs.Blocks.{IsErased, OutsideBlock}
-use Rattle.nor_flash.specs.NorDisks.{AreFirstNames, IsQuiet, IsSteady, blocks_of, nor_flash}
+use Rattle.nor_flash.specs.NorDisks.{AreErased, AreFirstNames, IsQuiet, IsSteady, blocks_of, nor_flash}
 use Rattle.nor_flash.specs.NorLaws.{nor_obeys}
 use Rattle.nor_flash.proofs.BlockLemmas.{blank_name, erased_same}
 use Rattle.nor_flash.proofs.Quiet.{second_quiet, third_quiet}
@@ -51,3 +51,16 @@ module _ (size : ℕ) (all : 4096 * (blocks_of size + 4) ≡ size) (few : blocks
       pub three_names : IsSteady (blocks_of size) phase a phase d
       three_names = steady_then (blocks_of size) (4096 * blocks_of size) phase phase phase a c d (calm_disk size phase c calm_c) two_names
           (quiet_step (blocks_of size) size phase c d (blocks_of size + 3) calm_c.law calm_c.settled (third_quiet (blocks_of size) few c.reads (calm_c.law.fits ∙ sym all) phase can first second names still) kept_3 grown_3)
+
+-- then all three are erased
+pub all_erased : (m : ℕ) (b c d : List ℕ) → length b ≡ 4096 * (m + 4) → (first second : ℕ) → AreFirstNames first second → IsErased (m + first) b
+    → SameOn (OutsideBlock (m + second)) b c → IsErased (m + second) c → SameOn (OutsideBlock (m + 3)) c d → IsErased (m + 3) d → AreErased m d
+all_erased m b c d fits first second names erased kept erased_2 kept_2 erased_3 =
+    let one : IsErased (m + first) d =
+    erased_same m c (kept.size ∙ fits) (m + 3) d kept_2 (m + first) (λ e. ⊎_elim (λ h. absurd (omega (arith, e, h.0))) (λ h. absurd (omega (arith, e, h.0))) names)
+    (erased_same m b fits (m + second) c kept (m + first) (λ e. ⊎_elim (λ h. absurd (omega (arith, e, h.0, h.1))) (λ h. absurd (omega (arith, e, h.0, h.1))) names) erased) in
+    let two : IsErased (m + second) d =
+    erased_same m c (kept.size ∙ fits) (m + 3) d kept_2 (m + second) (λ e. ⊎_elim (λ h. absurd (omega (arith, e, h.1))) (λ h. absurd (omega (arith, e, h.1))) names) erased_2 in
+    ⊎_elim
+    (λ h. (subst (λ (k : ℕ). IsErased (m + k) d) h.0 one, subst (λ (k : ℕ). IsErased (m + k) d) h.1 two, erased_3))
+    (λ h. (subst (λ (k : ℕ). IsErased (m + k) d) h.1 two, subst (λ (k : ℕ). IsErased (m + k) d) h.0 one, erased_3)) names

@@ -26,8 +26,11 @@ pub(crate) fn erase<N: Nor>(nor: &mut N, block: u64) -> Edge
     ensures size { N.extent nor.new ≡ N.extent nor.old }
     ensures counts { EdgeCounts result (N.faults nor.old) (N.faults nor.new) }
     ensures erased { IsTrue N.told → IfDone result (IsErased block (N.flash nor.new).reads) }
-    ensures keeps { IsTrue N.told → Keeps (OutsideBlock block) (N.flash nor.old) (N.flash nor.new) }
+    ensures keeps { IsTrue N.told
+        → Keeps (OutsideBlock block) (N.flash nor.old) (N.flash nor.new) }
     ensures grows { IsTrue N.told → Grows (N.flash nor.old) (N.flash nor.new) }
+    ensures spared { IsTrue N.told → IsErased block (N.flash nor.old).reads
+        → N.erases nor.new ≡ N.erases nor.old }
 {
     let _size = nor.size();
     let mut room = [0; BLOCK];

@@ -1,7 +1,7 @@
 //! A disk over a device of blocks.
 
 ghost use Rattle.lane_bytes.specs.Bytes.{OnlyClears};
-ghost use Rattle.nor_flash.specs.NorDisks.{blocks_of, nor_flash};
+ghost use Rattle.nor_flash.specs.NorDisks.{blocks_of, nor_flash, seen};
 ghost use Rattle.nor_flash.specs.NorLaws.{nor_obeys};
 ghost use Rattle.nor_flash.specs.declared.phase.Phase.TheVariants as phases;
 ghost use Rattle.std.specs.Prelude.{◌≡◌, ◌+◌, ◌*◌, ◌≤◌, IsTrue, length, slice_range};
@@ -84,8 +84,8 @@ impl<N: Nor + Drop> Disk for NorDisk<N> {
             ≡ 4096 * blocks_of (N.extent self.old.0) }
         ensures counts { EdgeCounts result (N.faults self.old.0) (N.faults self.new.0) }
         ensures written { IsTrue N.told → IfDone result
-            ((nor_flash (blocks_of (N.extent self.new.0)) self.new.1 (N.flash self.new.0)).reads
-            ≡ written (nor_flash (blocks_of (N.extent self.old.0)) self.old.1 (N.flash self.old.0)).reads
+            (seen (blocks_of (N.extent self.new.0)) self.new.1 (N.flash self.new.0).reads
+            ≡ written (seen (blocks_of (N.extent self.old.0)) self.old.1 (N.flash self.old.0).reads)
             place bytes.now) }
         ensures keeps { IsTrue N.told → Keeps (Outside place (length bytes.now))
             (nor_flash (blocks_of (N.extent self.old.0)) self.old.1 (N.flash self.old.0))
@@ -96,7 +96,7 @@ impl<N: Nor + Drop> Disk for NorDisk<N> {
         ensures settles { IfDone result (self.new.1 ≡ phases.Settled) }
         ensures erases { IsTrue N.told → self.old.1 ≡ phases.Settled
             → OnlyClears (slice_range
-            (nor_flash (blocks_of (N.extent self.old.0)) self.old.1 (N.flash self.old.0)).reads place
+            (seen (blocks_of (N.extent self.old.0)) self.old.1 (N.flash self.old.0).reads) place
             (place + length bytes.now)) bytes.now
             → N.erases self.new.0 ≡ N.erases self.old.0 }
     {

@@ -1,7 +1,7 @@
 use Rattle.std.proofs.Common.{refl, arith}
 use Rattle.suit_edge.specs.FlashLaws.{keeps_same, keeps_then}
 use Rattle.nor_flash.specs.Blocks.{OutsideBlock}
-use Rattle.nor_flash.proofs.BlockLemmas.{erased_read}
+use Rattle.nor_flash.proofs.BlockLemmas.{erased_read, not_erased}
 use Rattle.nor_flash.proofs.blocks.erase.Goals as goal
 
 pub returns-in-None-clause-erased : goal.returns-in-None-clause-erased
@@ -14,3 +14,8 @@ returns-in-Some-clause-keeps g c t =
     keeps_then (OutsideBlock c.args.block) (g.N.Nor.flash c.args.nor.now) (g.N.Nor.flash c.read_at.new.self) (g.N.Nor.flash c.erase.new.self) (g.N.Nor.extent c.read_at.new.self)
     (g.met.N.Nor.obeys c.read_at.new.self t)
     (keeps_same (OutsideBlock c.args.block) (g.N.Nor.flash c.args.nor.now) (g.N.Nor.flash c.read_at.new.self) (c.read_at.ensures.same t)) (c.erase.ensures.keeps t)
+
+pub returns-in-Some-clause-spared : goal.returns-in-Some-clause-spared
+returns-in-Some-clause-spared g c t erased =
+    absurd (not_erased c.args.block _ c.read_at.new.room (g.N.Nor.flash c.args.nor.now).reads c.in-Some.ensures
+    (omega (arith, (g.met.N.Nor.obeys c.args.nor.now t).fits, c.requires)) (c.in-Done.ensures.bytes t) erased)

@@ -1,9 +1,10 @@
-use Rattle.std.proofs.Common.{◌≡◌, ◌+◌, ◌*◌, ◌≤◌, ℕ, List, length, subst, ap, sym, ◌∙◌, arith}
+use Rattle.std.proofs.Common.{◌≡◌, ◌+◌, ◌*◌, ◌≤◌, ℕ, List, length, Some, subst, ap, sym, ◌∙◌, arith}
 use Rattle.std.specs.List.{slice_range}
 use Rattle.suit_edge.specs.Flash.{IsFlash}
-use Rattle.nor_flash.specs.Blocks.{front}
-use Rattle.nor_flash.specs.NorDisks.{blocks_of, seen}
-use Rattle.nor_flash.proofs.BlockLemmas.{blank_name}
+use Rattle.nor_flash.specs.declared.phase.Phase.{Phase}
+use Rattle.nor_flash.specs.Blocks.{front, named, with_block}
+use Rattle.nor_flash.specs.NorDisks.{HoldsPhase, blocks_of, seen}
+use Rattle.nor_flash.proofs.BlockLemmas.{blank_name, plain_named}
 use Rattle.nor_flash.proofs.Fronts.{front_part, if_done_then}
 use Rattle.nor_flash.proofs.NameSteps.{IsCalm, calm_disk}
 use Rattle.nor_flash.proofs.Steadiness.{read_step, steady_then}
@@ -33,3 +34,16 @@ returns-in-Done-clause-steady g c t =
     let calm_b : IsCalm size b = record { law = subst (λ (s : ℕ). IsFlash b s) c.ready.ensures.size (g.met.N.Nor.obeys c.ready.new.nor t); settled = g.met.N.Nor.rests c.ready.new.nor t; bytes = g.met.N.Nor.cells c.ready.new.nor t } in
     steady_then (blocks_of size) (4096 * blocks_of size) c.args.phase.now c.ready.new.phase c.ready.new.phase a b d (calm_disk size c.ready.new.phase b calm_b) (c.ready.ensures.steady t)
     (read_step (blocks_of size) c.ready.new.phase b d (c.read_at.ensures.same t) (c.read_at.ensures.grows t))
+
+pub returns-in-Rewriting-clause-bytes : goal.returns-in-Rewriting-clause-bytes
+returns-in-Rewriting-clause-bytes g c t =
+    let m = blocks_of (g.N.Nor.extent c.args.nor.now) in
+    let a = (g.N.Nor.flash c.args.nor.now).reads in
+    let from = c.args.place in
+    let to = c.args.place + length c.args.room.now in
+    let block = c.in-Rewriting.block in
+    let is : named m a ≡ Some block = subst (λ (p : Phase). HoldsPhase m p a) c.in-Rewriting.is (c.requires.holds t) in
+    let sees : seen m c.args.phase.now a ≡ with_block m block a =
+    subst (λ (p : Phase). seen m p a ≡ with_block m block a) (sym c.in-Rewriting.is) (plain_named m block a is) in
+    if_done_then c.read_named.result (c.read_named.new.room ≡ slice_range (with_block m block a) from to) (c.read_named.new.room ≡ slice_range (seen m c.args.phase.now a) from to) (c.read_named.ensures.bytes t)
+    (λ e. e ∙ ap (λ (l : List ℕ). slice_range l from to) (sym sees))
