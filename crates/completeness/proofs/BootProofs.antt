@@ -3,7 +3,6 @@ use Rattle.std.proofs.Common.{◌≡◌, ◌⊎◌, inl, inr, ⊎_elim, ℕ, Lis
 use Rattle.std.proofs.lemmas.Option.{same_Some}
 use Rattle.std.specs.Prelude.{IsTrue}
 use Rattle.suit_edge.specs.Faults.{Faulted}
-use Rattle.suit_envelope.specs.Payloads.{HasPayloads}
 use Rattle.suit_manifest.specs.declared.manifest.Manifest.{Manifest}
 use Rattle.suit_manifest.specs.Procedures.{invocation_tree}
 use Rattle.path_model.specs.declared.cause.Cause.{Cause}
@@ -51,7 +50,6 @@ use Rattle.completeness.specs.Plays.{LeavesPlay}
 use Rattle.completeness.specs.Boots.{Activates, BootsWhole, ReadyToBoot, Records, boot_play}
 use Rattle.completeness.proofs.Begun.{never_fault, two_faults}
 use Rattle.completeness.proofs.Leaving.{completes, leaves, never_condition, never_stops, starved_leaves}
-use Rattle.completeness.proofs.OnePlay.{one_list}
 use Rattle.completeness.proofs.SamePlaces.{no_entry, one_standing, same_places, stand_there, turned}
 use Rattle.completeness.proofs.UpdatePlayed.{SeesSame}
 use Rattle.completeness.proofs.UpdateProofs.{configured_once, inside_there}
@@ -122,7 +120,7 @@ module _ (configs : OneConfigAnswer) (records : OneAnswer) (laws : BootLaws) whe
     -- the play on the active slots
     record Replayed (play : PlanEnd) : Type 0 where
       pub ram : List Held
-      pub plays_so : PlaysPlan (invocation_tree R.is.said) (setting_of ready.on.standings ready.on.payloads [] b.files) play
+      pub plays_so : PlaysPlan (invocation_tree R.is.said) (setting_of ready.on.standings [] [] b.files) play
           (contents_of ready.on.standings (empty_ram R.layout) b.flash.reads) (contents_of ready.on.standings ram a.flash.reads) l.launches n.launches
 
     replayed : (play : PlanEnd) → PlaysBoot R.layout R.key b.files b.flash.reads a.flash.reads l.launches n.launches play → Replayed play
@@ -131,15 +129,13 @@ module _ (configs : OneConfigAnswer) (records : OneAnswer) (laws : BootLaws) whe
         let start = laws.installed R.layout R.key Bank R.installed R.is in
         let started = subst (λ (z : Record). IsStarted R.layout (key_bytes R.key) (bank_in b.flash.reads z) p.starts.said p.manifest) record_is p.starts.started in
         let manifest = (laws.same R.layout (key_bytes R.key) Bank p.starts.said start.0 p.manifest R.is.said R.is.are_bytes started start.1).1 in
-        let payloads = one_list Bank ready.on.payloads p.payloads ready.on.has (subst (λ (z : Record). HasPayloads (bank_in b.flash.reads z) p.payloads) record_is p.has) in
-        let on = subst (λ (z : List (List ℕ × List ℕ)). PlaysOn R.layout R.is.said R.installed.active z b.files b.flash.reads a.flash.reads l.launches n.launches play) payloads
-        (subst (λ (z : Record). PlaysOn R.layout R.is.said z.active p.payloads b.files b.flash.reads a.flash.reads l.launches n.launches play) record_is
-        (subst (λ (z : Manifest). PlaysOn R.layout z p.installed.active p.payloads b.files b.flash.reads a.flash.reads l.launches n.launches play) manifest p.on)) in
+        let on = subst (λ (z : Record). PlaysOn R.layout R.is.said z.active b.files b.flash.reads a.flash.reads l.launches n.launches play) record_is
+        (subst (λ (z : Manifest). PlaysOn R.layout z p.installed.active b.files b.flash.reads a.flash.reads l.launches n.launches play) manifest p.on) in
         let standings = one_active VERSION_1 b.flash.size R.layout (R.configured ready.told.flash).page.allowed R.is.said.components R.installed.active ready.on.standings on.standings
         ready.on.stand on.stand in
         record {
           ram = on.ram;
-          plays_so = subst (λ (t : List Standing). PlaysPlan (invocation_tree R.is.said) (setting_of t ready.on.payloads [] b.files) play
+          plays_so = subst (λ (t : List Standing). PlaysPlan (invocation_tree R.is.said) (setting_of t [] [] b.files) play
               (contents_of t (empty_ram R.layout) b.flash.reads) (contents_of t on.ram a.flash.reads) l.launches n.launches) standings on.plays;
         }
 
@@ -248,15 +244,15 @@ module _ (configs : OneConfigAnswer) (records : OneAnswer) (laws : BootLaws) whe
       records_there : Records b
       records_there = record { layout = u.layout; key = u.key; configured = u.held.1; installed = play.installed; recorded = play.starts.recorded; is = is_installed }
 
-      on_there : PlaysOn u.layout is_installed.said play.installed.active play.payloads b.files b.flash.reads a.flash.reads l.launches n.launches plays.Done
+      on_there : PlaysOn u.layout is_installed.said play.installed.active b.files b.flash.reads a.flash.reads l.launches n.launches plays.Done
       on_there =
           let start = laws.installed u.layout u.key (bank_in b.flash.reads play.installed) play.installed is_installed in
-          subst (λ (z : Manifest). PlaysOn u.layout z play.installed.active play.payloads b.files b.flash.reads a.flash.reads l.launches n.launches plays.Done)
+          subst (λ (z : Manifest). PlaysOn u.layout z play.installed.active b.files b.flash.reads a.flash.reads l.launches n.launches plays.Done)
           (laws.same u.layout (key_bytes u.key) (bank_in b.flash.reads play.installed) play.starts.said start.0 play.manifest is_installed.said is_installed.are_bytes play.starts.started start.1).1
           play.on
 
-      activates : Activates u.layout b.flash.reads play.installed is_installed.said
-      activates = record { standings = on_there.standings; stand = on_there.stand; payloads = play.payloads; has = play.has }
+      activates : Activates u.layout play.installed is_installed.said
+      activates = record { standings = on_there.standings; stand = on_there.stand }
 
       was_ready : ReadyToBoot words l b
       unfolding records_there activates

@@ -1,6 +1,5 @@
 -- The needs of `run boot`, and how it leaves the outside where they are met.
 use Rattle.std.specs.Prelude.{◌≡◌, ℕ, List, [], Some, codes}
-use Rattle.suit_envelope.specs.Payloads.{HasPayloads}
 use Rattle.suit_manifest.specs.declared.manifest.Manifest.{Manifest}
 use Rattle.suit_manifest.specs.Procedures.{invocation_tree}
 use Rattle.path_model.specs.DevicePlays.{Device, played}
@@ -40,20 +39,18 @@ pub record Records (before : Outside) : Type 0 where
 
 -- ---- the play
 
--- the active slots, which its components stand for, and the payloads of its envelope
-pub record Activates (layout : List Entry) (reads : List ℕ) (installed : Record)
-    (manifest : Manifest) : Type 0 where
+-- the active slots, which its components stand for
+pub record Activates (layout : List Entry) (installed : Record) (manifest : Manifest)
+    : Type 0 where
   pub standings : List Standing
   pub stand : StandActive layout manifest.components installed.active standings
-  pub payloads : List (List ℕ × List ℕ)
-  pub has : HasPayloads (bank_in reads installed) payloads
 
--- the play of its invocation procedure on the flash as it reads, with working memory empty and no names of files
+-- the play of its invocation procedure on the flash as it reads, with working memory empty, no payloads and no names of
+-- files
 abbrev pub boot_play : (layout : List Entry) (manifest : Manifest) (installed : Record)
-    (before : Outside)
-    → Activates layout before.flash.reads installed manifest → Outcome Device
+    (before : Outside) → Activates layout installed manifest → Outcome Device
 boot_play layout manifest installed before on =
-    played (invocation_tree manifest) (setting_of on.standings on.payloads [] before.files)
+    played (invocation_tree manifest) (setting_of on.standings [] [] before.files)
     (contents_of on.standings (empty_ram layout) before.flash.reads)
 
 -- ---- the needs
@@ -64,7 +61,7 @@ pub record ReadyToBoot (words : List (List ℕ)) (launched : Launching) (before 
   pub asks : task_of words ≡ Some RunBoot
   pub told : AreTold launched before
   pub records : Records before
-  pub on : Activates records.layout before.flash.reads records.installed records.is.said
+  pub on : Activates records.layout records.installed records.is.said
   pub completes : Completes (boot_play records.layout records.is.said records.installed before on)
 
 -- ---- the end

@@ -133,16 +133,14 @@ started_from layout key reads bytes r said m recorded same is = record {
 pub payloads_in : (bytes : List ℕ) (said : EnvelopeSays) → EnvelopeOf bytes said → (payloads : List (List ℕ × List ℕ)) × HasPayloads bytes payloads
 payloads_in bytes said envelope = (integrated_payloads (map_entries envelope.says_so.map), record { said = said; envelope = envelope; are = refl })
 
-pub plays_boot : (layout : List Entry) (key : Key) (files : List ℕ → Option (List ℕ)) (reads before after bytes : List ℕ) (launched now : List Launch) (r : Record) (m : Manifest)
-    (payloads : List (List ℕ × List ℕ)) → Starts layout key reads r m → bytes ≡ bank_in reads r → HasPayloads bytes payloads → before ≡ reads
-    → (end : PlanEnd) → PlaysOn layout m r.active payloads files before after launched now end → PlaysBoot layout key files reads after launched now end
-plays_boot layout key files reads before after bytes launched now r m payloads starts same has read end on = record {
+pub plays_boot : (layout : List Entry) (key : Key) (files : List ℕ → Option (List ℕ)) (reads before after : List ℕ) (launched now : List Launch) (r : Record) (m : Manifest)
+    → Starts layout key reads r m → before ≡ reads
+    → (end : PlanEnd) → PlaysOn layout m r.active files before after launched now end → PlaysBoot layout key files reads after launched now end
+plays_boot layout key files reads before after launched now r m starts read end on = record {
   installed = r;
   manifest = m;
   starts = starts;
-  payloads = payloads;
-  has = subst (λ (l : List ℕ). HasPayloads l payloads) same has;
-  on = subst (λ (l : List ℕ). PlaysOn layout m r.active payloads files l after launched now end) read on;
+  on = subst (λ (l : List ℕ). PlaysOn layout m r.active files l after launched now end) read on;
 }
 
 pub keeps_boot : (layout : List Entry) (key : Key) (r : Record) (m : Manifest) (a b c : Flash) (size : ℕ) → IsFlash b size → IsSame a b

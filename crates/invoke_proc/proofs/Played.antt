@@ -74,21 +74,21 @@ unfaulted P Q _ to p = to p
 
 -- ---- the play, from the world that it was played on
 
-pub plays_on : (layout : List Entry) (manifest : Manifest) (active : List ℕ) (payloads uris : List (List ℕ × List ℕ)) (files : List ℕ → Option (List ℕ))
+pub plays_on : (layout : List Entry) (manifest : Manifest) (active : List ℕ) (uris : List (List ℕ × List ℕ)) (files : List ℕ → Option (List ℕ))
     (before between after : List ℕ) (launched now : List Launch) (end : PlanEnd) (standings : List Standing) (ram left : List Held)
     → StandActive layout manifest.components active standings → ram ≡ empty_ram layout → uris ≡ [] → after ≡ between
     → (plan : PlanTree) → plan ≡ invocation_tree manifest
-    → PlaysPlan plan (setting_of standings payloads uris files) end (contents_of standings ram before) (contents_of standings left between) launched now
-    → PlaysOn layout manifest active payloads files before after launched now end
-plays_on layout manifest active payloads uris files before between after launched now end standings ram left stand none words same plan is played = record {
+    → PlaysPlan plan (setting_of standings [] uris files) end (contents_of standings ram before) (contents_of standings left between) launched now
+    → PlaysOn layout manifest active files before after launched now end
+plays_on layout manifest active uris files before between after launched now end standings ram left stand none words same plan is played = record {
   standings = standings;
   stand = stand;
   ram = left;
   plays =
-      subst (λ (l : List ℕ). PlaysPlan (invocation_tree manifest) (setting_of standings payloads [] files) end (contents_of standings (empty_ram layout) before) (contents_of standings left l) launched now) (sym same)
-      (subst (λ (r : List Held). PlaysPlan (invocation_tree manifest) (setting_of standings payloads [] files) end (contents_of standings r before) (contents_of standings left between) launched now) none
-      (subst (λ (u : List (List ℕ × List ℕ)). PlaysPlan (invocation_tree manifest) (setting_of standings payloads u files) end (contents_of standings ram before) (contents_of standings left between) launched now) words
-      (subst (λ (t : PlanTree). PlaysPlan t (setting_of standings payloads uris files) end (contents_of standings ram before) (contents_of standings left between) launched now) is played)));
+      subst (λ (l : List ℕ). PlaysPlan (invocation_tree manifest) (setting_of standings [] [] files) end (contents_of standings (empty_ram layout) before) (contents_of standings left l) launched now) (sym same)
+      (subst (λ (r : List Held). PlaysPlan (invocation_tree manifest) (setting_of standings [] [] files) end (contents_of standings r before) (contents_of standings left between) launched now) none
+      (subst (λ (u : List (List ℕ × List ℕ)). PlaysPlan (invocation_tree manifest) (setting_of standings [] u files) end (contents_of standings ram before) (contents_of standings left between) launched now) words
+      (subst (λ (t : PlanTree). PlaysPlan t (setting_of standings [] uris files) end (contents_of standings ram before) (contents_of standings left between) launched now) is played)));
 }
 
 pub keeps_on : (layout : List Entry) (manifest : Manifest) (active : List ℕ) (standings : List Standing) (a b c : Flash) (size : ℕ) → IsFlash b size

@@ -128,7 +128,7 @@ module _ (safe : SafeLaunches) (faulted : FaultedSafeLaunches) (manifests : Mani
         gained = p.on.plays.gained;
         added = p.on.plays.added;
         safe =
-            have_digests safe faulted (invocation_tree p.manifest) (setting_of p.on.standings p.payloads [] files) (contents_of p.on.standings (empty_ram layout) before) safe_plan
+            have_digests safe faulted (invocation_tree p.manifest) (setting_of p.on.standings [] [] files) (contents_of p.on.standings (empty_ram layout) before) safe_plan
             (identities_there size layout is p.manifest.components p.installed.active p.on.standings grammar.few grammar.apart p.on.stand (invocation_tree p.manifest) typed refl)
             (record { contents = contents_of p.on.standings p.on.ram after; launches = map launched_as p.on.plays.gained }) end p.on.plays.ends;
       }

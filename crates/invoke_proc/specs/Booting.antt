@@ -5,7 +5,6 @@ use Rattle.suit_edge.specs.Flash.{Flash, Keeps}
 use Rattle.suit_edge.specs.Faults.{Faulted}
 use Rattle.suit_edge.specs.declared.launch.Launch.{Launch}
 use Rattle.suit_envelope.specs.Envelopes.{EnvelopeSays}
-use Rattle.suit_envelope.specs.Payloads.{HasPayloads}
 use Rattle.suit_commands.specs.Targets.{IsTarget}
 use Rattle.suit_commands.specs.Tree.{PlanTree}
 use Rattle.suit_manifest.specs.declared.manifest.Manifest.{Manifest}
@@ -76,27 +75,24 @@ Answers layout key reads ends.NoMemory = (r : Record) × record_in reads (Some r
 -- ---- the play
 
 -- The invocation procedure of the manifest is played on the active slots, with working memory empty, no names of files,
--- and these payloads. It ends so, and leaves these contents and launches.
+-- and no payloads. It ends so, and leaves these contents and launches.
 pub record PlaysOn (layout : List Entry) (manifest : Manifest) (active : List ℕ)
-    (payloads : List (List ℕ × List ℕ)) (files : List ℕ → Option (List ℕ))
-    (before after : List ℕ) (launched now : List Launch) (end : PlanEnd) : Type 0 where
+    (files : List ℕ → Option (List ℕ)) (before after : List ℕ) (launched now : List Launch) (end : PlanEnd) : Type 0 where
   pub standings : List Standing
   pub stand : StandActive layout manifest.components active standings
   pub ram : List Held
-  pub plays : PlaysPlan (invocation_tree manifest) (setting_of standings payloads [] files) end
+  pub plays : PlaysPlan (invocation_tree manifest) (setting_of standings [] [] files) end
       (contents_of standings (empty_ram layout) before) (contents_of standings ram after) launched
       now
 
--- that of what the flash has, with the payloads of the bank's envelope
+-- that of what the flash has
 pub record PlaysBoot (layout : List Entry) (key : Key) (files : List ℕ → Option (List ℕ))
     (before after : List ℕ) (launched now : List Launch) (end : PlanEnd)
     : Type 0 where
   pub installed : Record
   pub manifest : Manifest
   pub starts : Starts layout key before installed manifest
-  pub payloads : List (List ℕ × List ℕ)
-  pub has : HasPayloads (bank_in before installed) payloads
-  pub on : PlaysOn layout manifest installed.active payloads files before after launched now end
+  pub on : PlaysOn layout manifest installed.active files before after launched now end
 
 -- no directive of the procedure was stopped by a fault of the flash
 abbrev pub IsUnfaulted : PlanEnd → Type 0

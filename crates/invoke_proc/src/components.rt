@@ -5,7 +5,7 @@ ghost use Rattle.flash_layout.specs.Layouts.{IsLayout};
 ghost use Rattle.flash_layout.specs.Placement.{ArePlaces};
 ghost use Rattle.flash_slots.specs.RamContents.{empty_ram};
 ghost use Rattle.invoke_proc.specs.Booting.{StandActive};
-ghost use Rattle.std.specs.Prelude.{◌≡◌, ℕ, IfOk, length};
+ghost use Rattle.std.specs.Prelude.{◌≡◌, ℕ, IfOk, None, length};
 ghost use Rattle.step_machine.specs.Worlds.{AreDistinct, AreStandings};
 
 use crate::judging::Startable;
@@ -13,7 +13,7 @@ use flash_layout::{Layout, Record};
 use std::alloc::{AllocError, Global};
 use step_machine::{SlotChoice, Uris, World, slots_in_use};
 
-/// The invocation procedure's world: each component of the manifest in its active slot, and working memory empty.
+/// The invocation procedure's world: each component of the manifest in its active slot, working memory empty, and no payloads.
 pub(crate) fn world_in<'a>(
     alloc: Global,
     layout: &Layout,
@@ -31,7 +31,7 @@ pub(crate) fn world_in<'a>(
         (λ w. length w.standings.items ≡ length startable.now.manifest.components) }
     ensures ram { IfOk result (λ w. w.ram ≡ empty_ram layout.now) }
     ensures uris { IfOk result (λ w. w.uris.now ≡ uris.now) }
-    ensures envelope { IfOk result (λ w. w.envelope.now ≡ startable.now.envelope) }
+    ensures envelope { IfOk result (λ w. w.envelope ≡ None) }
     ensures fit { IfOk result
         (λ w. (size : ℕ) → IsLayout VERSION_1 size layout.now
         → AreStandings size w.ram w.standings.items) }
@@ -39,14 +39,8 @@ pub(crate) fn world_in<'a>(
     let slots = SlotChoice {
         number: slots_in_use(layout, &installed.active),
     };
-    match World::new(
-        alloc,
-        layout,
-        &startable.places,
-        &slots,
-        uris,
-        &startable.envelope,
-    ) {
+    let payloads = None;
+    match World::new(alloc, layout, &startable.places, &slots, uris, payloads) {
         Ok(world) => Ok(world),
         Err(AllocError) => Err(AllocError),
     }

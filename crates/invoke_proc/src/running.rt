@@ -11,7 +11,6 @@ ghost use Rattle.step_machine.specs.Worlds.{AreDistinct};
 ghost use Rattle.suit_commands.specs.Allowed.{IsPlan};
 ghost use Rattle.suit_commands.specs.Plans.{plan_tree};
 ghost use Rattle.suit_edge.specs.Flash.{Grows, IsSame, IsSettled};
-ghost use Rattle.suit_envelope.specs.Payloads.{HasPayloads};
 ghost use Rattle.suit_manifest.specs.Procedures.{invocation_tree};
 
 use crate::BootEnd;
@@ -59,7 +58,8 @@ fn settle<D: Disk>(disk: &mut D, plan: &Plan<'_>, end: PlanEnd) -> BootEnd
     }
 }
 
-/// Starts what was judged: runs the invocation procedure of the manifest on its active slots, with working memory empty.
+/// Starts what was judged: runs the invocation procedure of the manifest on its active slots, with working memory empty. It
+/// has no payloads: those of the envelope in the bank are not fetched.
 /// All memory is taken before anything is launched or written.
 pub(crate) fn start<H: Host, D: Disk, L: Launcher>(
     alloc: Global,
@@ -83,10 +83,8 @@ pub(crate) fn start<H: Host, D: Disk, L: Launcher>(
     ensures files { IsTrue H.told → H.file host.new ≡ H.file host.old }
     ensures unasked { host.new ≡ host.old }
     ensures plays { IsTrue D.told → IsTrue L.told
-        → (payloads : List (List ℕ × List ℕ))
-        → HasPayloads startable.now.envelope.whole.now payloads
         → PlayedSo
-        (PlaysOn layout.now startable.now.manifest installed.now.active payloads (H.file host.old)
+        (PlaysOn layout.now startable.now.manifest installed.now.active (H.file host.old)
         (D.flash disk.old).reads (D.flash disk.new).reads (L.launches launcher.old)
         (L.launches launcher.new))
         (L.launches launcher.old) (L.launches launcher.new) result }

@@ -5,7 +5,6 @@ use Rattle.suit_edge.specs.Flash.{IsSame, Keeps}
 use Rattle.suit_params.specs.declared.param.Param.{Param}
 use Rattle.suit_params.specs.declared.param.ParamKey.TheVariants as keys
 use Rattle.suit_params.specs.InForce.{in_force, number_of}
-use Rattle.suit_envelope.specs.Payloads.{HasPayloads}
 use Rattle.suit_commands.specs.declared.kinds.ActKind.{ActKind}
 use Rattle.suit_commands.specs.declared.kinds.ActKind.TheVariants as acts
 use Rattle.suit_commands.specs.Targets.{IsWriting}
@@ -21,7 +20,7 @@ use Rattle.step_machine.specs.Allowing.{MayName, MayWrite}
 use Rattle.step_machine.specs.Copying.{CopiesAs, IsRamButBoth, OutsideBoth, Side, SwapsAs, side_of}
 use Rattle.step_machine.specs.Devices.{AreSpotsClear}
 use Rattle.step_machine.specs.Directives.{ActsSo, WritesAs}
-use Rattle.step_machine.specs.Fetching.{FetchesAs}
+use Rattle.step_machine.specs.Fetching.{ArePayloads, FetchesAs}
 use Rattle.step_machine.specs.Invoking.{InvokesAs}
 use Rattle.step_machine.specs.Parts.{act_part}
 use Rattle.step_machine.specs.Running.{AreFilesKnown, Moment, Stays, StopCounts, Fits, Part, RunsPart, IsReady, IsUnderWay, counts_at, device_at, stopped}
@@ -96,7 +95,7 @@ module _ (machine : Machine) (m n : Moment) (s : State) (place c : ℕ) (lt : c 
         subst (λ (k : ℕ). WritesAs acts.Write k (stands_at machine c).capacity s.parameters (holds_at machine c m) (holds_at machine c n) r) component_is (writes fits.disk)
         setting place s _ refl (capacity_here machine m c no_standing lt setting fits prior) (content_here machine m c no_standing lt setting fits prior) (within_here machine m c no_standing lt setting fits prior))
 
-    pub fetch_runs : (IsTrue m.disk.told → AreFilesKnown machine m → (payloads : List (List ℕ × List ℕ)) → HasPayloads machine.envelope.now.whole.now payloads
+    pub fetch_runs : (IsTrue m.disk.told → AreFilesKnown machine m → (payloads : List (List ℕ × List ℕ)) → ArePayloads machine.envelope payloads
         → FetchesAs (stands_at machine c).component (stands_at machine c).capacity s.parameters payloads machine.uris.now m.host.files (holds_at machine c m) (holds_at machine c n) r)
         → RunsPart machine (act_part acts.Fetch place c) s m result s n
     fetch_runs fetches =

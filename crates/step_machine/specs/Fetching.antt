@@ -1,9 +1,12 @@
 -- The result of a fetch for a component, as plays have it, and of taking a file piece by piece.
 use Rattle.std.specs.Prelude.{◌≡◌, ◌⊎◌, ◌<◌, ◌≤◌, ◌+◌, ◌*◌, ◌==◌, ℕ, Bool, IsTrue, if◌then◌else◌, List, [], ◌++◌, Option, Some, None, Result, Ok, Err, get_or, length, take}
+use Rattle.std.specs.Borrow.{Bor}
 use Rattle.std.specs.List.{AllByRecursion}
 use Rattle.std.specs.Option.{option_and_then}
 use Rattle.suit_edge.specs.Faults.{Faulted}
 use Rattle.suit_edge.specs.Host.{AsksFor}
+use Rattle.suit_envelope.specs.Payloads.{HasPayloads}
+use Rattle.suit_envelope.specs.declared.envelope.Envelope.{Envelope}
 use Rattle.suit_params.specs.declared.param.ParamKey.TheVariants as keys
 use Rattle.suit_params.specs.InForce.{Parameters, bytes_of, in_force}
 use Rattle.suit_commands.specs.declared.kinds.ActKind.TheVariants as acts
@@ -77,6 +80,11 @@ TakesNamed result capacity named before after =
 
 -- ---- as plays have it
 
+-- the payloads that a procedure may fetch: those of its envelope, or none where it is given none
+abbrev pub ArePayloads : Option (Bor Envelope) → List (List ℕ × List ℕ) → Type 0
+ArePayloads None payloads = payloads ≡ []
+ArePayloads (Some envelope) payloads = HasPayloads envelope.now.whole.now payloads
+
 -- the payload that a URI names, of these payloads, these names of files and these files
 abbrev pub payload_by : List (List ℕ × List ℕ) → List (List ℕ × List ℕ) → (List ℕ → Option (List ℕ))
     → List ℕ → Option (List ℕ)
@@ -130,8 +138,8 @@ abbrev pub IsFileOf : PlanTree → List (List ℕ × List ℕ) → List ℕ → 
 IsFileOf plan words name =
     (uri : List ℕ) × SetsUri plan uri × (found_under words uri ≡ Some name)
 
--- only files that URIs of the procedure name were asked for, one after another, and of each at most one byte more was
--- pulled than there is room for
+-- Only files that URIs of the procedure name were asked for, in this order. In all no more was pulled than, for each time that
+-- one was asked for, one byte more than there is room for.
 pub record AsksAmong (plan : PlanTree) (words : List (List ℕ × List ℕ)) (room : ℕ)
     (before now : Asked) : Type 0 where
   pub more : List (List ℕ)

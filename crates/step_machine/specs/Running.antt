@@ -5,7 +5,6 @@ use Rattle.suit_edge.specs.Flash.{Grows, Keeps}
 use Rattle.suit_edge.specs.declared.launch.Launch.{Launch}
 use Rattle.suit_params.specs.InForce.{Parameters, bytes_of, in_force, number_of}
 use Rattle.suit_params.specs.declared.param.ParamKey.TheVariants as keys
-use Rattle.suit_envelope.specs.Payloads.{HasPayloads}
 use Rattle.suit_commands.specs.Plans.{plan_tree}
 use Rattle.suit_commands.specs.Targets.{InSome, Sources}
 use Rattle.path_model.specs.Behaviour.{State}
@@ -28,7 +27,7 @@ use Rattle.step_machine.specs.Devices.{contents_of}
 use Rattle.step_machine.specs.Invoking.{launched_as}
 use Rattle.step_machine.specs.PlanRuns.{Counts, counts_of, CountsFor, OutsideTargets}
 use Rattle.step_machine.specs.Steps.{DiskAt}
-use Rattle.step_machine.specs.Fetching.{Asked, AsksAmong}
+use Rattle.step_machine.specs.Fetching.{ArePayloads, Asked, AsksAmong}
 use Rattle.step_machine.specs.Worlds.{AreStandings, StandAtMost}
 
 -- ---- a moment
@@ -145,7 +144,7 @@ pub record Fits (machine : Machine) (at : Moment) (setting : Setting) : Type 0 w
   pub launcher : IsTrue at.launcher.told
   pub identities : setting.identities ≡ map (λ (s : Standing). s.identity) machine.standings.now
   pub capacities : setting.capacities ≡ map (λ (s : Standing). s.capacity) machine.standings.now
-  pub payloads : HasPayloads machine.envelope.now.whole.now setting.payloads
+  pub payloads : ArePayloads machine.envelope setting.payloads
   pub words : setting.words ≡ machine.uris.now
   pub files : setting.files ≡ at.host.files
 

@@ -4,15 +4,14 @@ ghost use Rattle.path_model.specs.declared.cause.Cause.TheVariants as causes;
 ghost use Rattle.path_model.specs.Settings.{found_under};
 ghost use Rattle.std.specs.Prelude.{[], ◌≡◌, ◌⊎◌, ◌<◌, ◌≤◌, ◌+◌, ◌==◌, ℕ, Err, IsTrue, List, Some, get_or, length, option_map};
 ghost use Rattle.std.specs.Option.{option_and_then};
-ghost use Rattle.step_machine.specs.Fetching.{AsksAtMost, FetchCounts, FetchesAs, TakesNamed, asked_at, file_by, file_named};
+ghost use Rattle.step_machine.specs.Fetching.{ArePayloads, AsksAtMost, FetchCounts, FetchesAs, TakesNamed, asked_at, file_by, file_named};
 ghost use Rattle.step_machine.specs.Replacing.{IsReplaced};
 ghost use Rattle.step_machine.specs.Spots.{IsPlaced, IsRamBut, IsSpot, OutsideSpot, content_of, room_at};
 ghost use Rattle.suit_edge.specs.Flash.{Grows, Keeps};
-ghost use Rattle.suit_envelope.specs.Payloads.{HasPayloads};
 
 use crate::outside::{Pulls, Steps};
 use crate::params_in_force::bytes;
-use crate::payloads::{fill_with, payload_with};
+use crate::payloads::{fill_with, payload_of};
 use crate::taking::take_into;
 use crate::uris::name_of;
 use crate::{Standing, Uris};
@@ -36,7 +35,7 @@ fn is_key(uri: &[u8]) -> bool
 fn fetch_payload<D: Disk>(
     disk: &mut D,
     ram: &mut Ram,
-    envelope: &Envelope<'_>,
+    envelope: Option<&Envelope<'_>>,
     standing: &Standing,
     key: &[u8],
 ) -> Result<(), Cause>
@@ -46,19 +45,19 @@ fn fetch_payload<D: Disk>(
         → FetchCounts result host host (D.faults disk.old) (D.faults disk.new) }
     ensures ram { IsRamBut standing.now.spot ram.old ram.new }
     ensures takes { IsTrue D.told → (payloads : List (List ℕ × List ℕ))
-        → HasPayloads envelope.now.whole.now payloads
+        → ArePayloads envelope.entry payloads
         → TakesNamed result standing.now.capacity (found_under payloads key.now)
         (content_of standing.now.spot ram.old (D.flash disk.old).reads)
         (content_of standing.now.spot ram.new (D.flash disk.new).reads) }
     ensures replaced { IsTrue D.told → IsReplaced standing.now.spot
-        (λ file. (payloads : List (List ℕ × List ℕ)) → HasPayloads envelope.now.whole.now payloads
+        (λ file. (payloads : List (List ℕ × List ℕ)) → ArePayloads envelope.entry payloads
         → file ≡ found_under payloads key.now)
         (D.flash disk.old) (D.flash disk.new) }
     ensures keeps { IsTrue D.told
         → Keeps (OutsideSpot standing.now.spot) (D.flash disk.old) (D.flash disk.new) }
     ensures grows { IsTrue D.told → Grows (D.flash disk.old) (D.flash disk.new) }
 {
-    match payload_with(envelope, key) {
+    match payload_of(envelope, key) {
         Some(payload) => fill_with(disk, ram, standing, payload),
         None => Err(Cause::Absent),
     }
@@ -142,7 +141,7 @@ fn fetch_file<H: Host, D: Disk>(
 }
 
 /// Fetch: the content becomes what the URI in force names (draft-ietf-suit-manifest-25, section 8.4.10): a payload of the
-/// envelope where it begins with `#`, and otherwise the file that answers it. Where there is none nothing changes. One that
+/// envelope where it begins with `#`, and otherwise the file that answers it; without an envelope there are no payloads. Where there is none nothing changes. One that
 /// is too large leaves the content empty, a fault of the host leaves the old content or none, and one of the flash any. At
 /// most one byte more is pulled than there is room for, and no file is asked for but that one. Where there are no names of
 /// files the host is not called. A power loss on the way leaves the slot empty, or its room as it was, or the file whole.
@@ -150,7 +149,7 @@ pub fn fetch<H: Host, D: Disk>(
     host: &mut H,
     disk: &mut D,
     ram: &mut Ram,
-    envelope: &Envelope<'_>,
+    envelope: Option<&Envelope<'_>>,
     uris: &Uris,
     standing: &Standing,
     params: &Params<'_>,
@@ -173,14 +172,14 @@ pub fn fetch<H: Host, D: Disk>(
         → H.pulled host.new ≤ H.pulled host.old + (standing.now.capacity + 1) }
     ensures ram { IsRamBut standing.now.spot ram.old ram.new }
     ensures fetches { IsTrue D.told → IsTrue H.told ⊎ (uris.now ≡ [])
-        → (payloads : List (List ℕ × List ℕ)) → HasPayloads envelope.now.whole.now payloads
+        → (payloads : List (List ℕ × List ℕ)) → ArePayloads envelope.entry payloads
         → FetchesAs standing.now.component standing.now.capacity params.now payloads uris.now
         (H.file host.old)
         (content_of standing.now.spot ram.old (D.flash disk.old).reads)
         (content_of standing.now.spot ram.new (D.flash disk.new).reads) result }
     ensures replaced { IsTrue D.told → IsReplaced standing.now.spot
         (λ file. IsTrue H.told ⊎ (uris.now ≡ []) → (payloads : List (List ℕ × List ℕ))
-        → HasPayloads envelope.now.whole.now payloads
+        → ArePayloads envelope.entry payloads
         → file ≡ file_by standing.now.component params.now payloads uris.now (H.file host.old))
         (D.flash disk.old) (D.flash disk.new) }
     ensures keeps { IsTrue D.told

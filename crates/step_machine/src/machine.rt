@@ -5,13 +5,13 @@ use flash_slots::Ram;
 use suit_commands::Plan;
 use suit_envelope::Envelope;
 
-/// The procedure, where its components stand, and where payloads come from.
+/// The procedure, where its components stand, and where payloads come from: the envelope's own, if it is given one, and files.
 #[derive(Clone, Copy)]
 pub(crate) struct Machine<'m> {
     pub plan: &'m Plan<'m>,
     pub standings: &'m [Standing],
     pub uris: &'m Uris,
-    pub envelope: &'m Envelope<'m>,
+    pub envelope: Option<&'m Envelope<'m>>,
 }
 
 /// Room for two pieces of contents.

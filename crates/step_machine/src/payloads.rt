@@ -2,7 +2,7 @@
 
 ghost use Rattle.path_model.specs.Settings.{found_under};
 ghost use Rattle.std.specs.Prelude.{◌≡◌, ◌<◌, ℕ, IsTrue, List, option_map};
-ghost use Rattle.step_machine.specs.Fetching.{FetchCounts, TakesIn};
+ghost use Rattle.step_machine.specs.Fetching.{ArePayloads, FetchCounts, TakesIn};
 ghost use Rattle.step_machine.specs.Replacing.{IsEmptyOrWholeAt};
 ghost use Rattle.step_machine.specs.Spots.{IsPlaced, IsRamBut, OutsideSpot, content_of};
 ghost use Rattle.suit_edge.specs.Flash.{Grows, Keeps, Passes};
@@ -17,13 +17,24 @@ use path_model::Cause;
 use suit_edge::Disk;
 use suit_envelope::{Envelope, payload};
 
-// The payload with the key of these bytes. Bytes that are no text are no key.
-pub(crate) fn payload_with<'a>(envelope: &Envelope<'a>, key: &[u8]) -> Option<&'a [u8]>
+// The envelope's payload with the key of these bytes. Bytes that are no text are no key.
+fn payload_with<'a>(envelope: &Envelope<'a>, key: &[u8]) -> Option<&'a [u8]>
     ensures { (payloads : List (List ℕ × List ℕ)) → HasPayloads envelope.now.whole.now payloads
         → option_map (λ content. content.now) result ≡ found_under payloads key.now }
 {
     match as_text(key) {
         Some(text) => payload(envelope, text),
+        None => None,
+    }
+}
+
+// The payload with this key, where payloads may be fetched.
+pub(crate) fn payload_of<'a>(envelope: Option<&Envelope<'a>>, key: &[u8]) -> Option<&'a [u8]>
+    ensures { (payloads : List (List ℕ × List ℕ)) → ArePayloads envelope.entry payloads
+        → option_map (λ content. content.now) result ≡ found_under payloads key.now }
+{
+    match envelope {
+        Some(envelope) => payload_with(envelope, key),
         None => None,
     }
 }

@@ -9,13 +9,12 @@ ghost use Rattle.step_machine.specs.Devices.{contents_of};
 ghost use Rattle.step_machine.specs.Parts.{plan_part, starting_part};
 ghost use Rattle.step_machine.specs.PlanRuns.{EndCounts, OutsideTargets, PlaysPlan, counts_of, end_of, setting_of};
 ghost use Rattle.step_machine.specs.Running.{AreSources, IsReady, LeavesWork, RunsPart, state_of};
-ghost use Rattle.step_machine.specs.Fetching.{AsksAmong, asked_at};
+ghost use Rattle.step_machine.specs.Fetching.{ArePayloads, AsksAmong, asked_at};
 ghost use Rattle.step_machine.specs.UrisSet.{HasFetch};
 ghost use Rattle.step_machine.specs.Worlds.{AreStandings, StandAtMost};
 ghost use Rattle.suit_commands.specs.Allowed.{IsPlan};
 ghost use Rattle.suit_commands.specs.Plans.{lent_tree, plan_tree};
 ghost use Rattle.suit_edge.specs.Flash.{Grows, Keeps};
-ghost use Rattle.suit_envelope.specs.Payloads.{HasPayloads};
 
 use crate::machine::{Machine, Pieces, Work};
 use crate::outside::Moments;
@@ -190,7 +189,7 @@ pub fn run_plan<H: Host, D: Disk, L: Launcher>(
         (asked_at (H.asked host.new) (H.pulled host.new)) }
     ensures plays { IsTrue H.told ⊎ (world.old.uris.now ≡ []) → IsTrue D.told → IsTrue L.told
         → (payloads : List (List ℕ × List ℕ))
-        → HasPayloads world.old.envelope.now.whole.now payloads
+        → ArePayloads world.old.envelope payloads
         → PlaysPlan (plan_tree plan.now)
         (setting_of world.old.standings.items payloads world.old.uris.now (H.file host.old)) result
         (contents_of world.old.standings.items world.old.ram (D.flash disk.old).reads)

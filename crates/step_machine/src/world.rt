@@ -20,13 +20,13 @@ pub struct SlotChoice {
 }
 
 /// The components of a procedure and where their contents stand, the contents in working memory, and where payloads come
-/// from: the envelope's own, and files by their URIs.
+/// from: those of an envelope, if there is one, and files by their URIs.
 #[derive(Drop)]
 pub struct World<'a> {
     pub(crate) standings: Vec<Standing>,
     pub(crate) ram: Ram,
     pub(crate) uris: &'a Uris,
-    pub(crate) envelope: &'a Envelope<'a>,
+    pub(crate) envelope: Option<&'a Envelope<'a>>,
 }
 
 // The list of a component's starts has room for two.
@@ -92,14 +92,15 @@ fn stand(
 
 impl<'a> World<'a> {
     /// The components of a manifest that have these places in the layout, each standing for the chosen slot. Contents in
-    /// working memory are empty. All memory that a procedure needs is taken here.
+    /// working memory are empty. Payloads are those of the envelope; without one there are none. All memory that a procedure
+    /// needs is taken here.
     pub fn new(
         alloc: Global,
         layout: &Layout,
         places: &Places,
         slots: &SlotChoice,
         uris: &'a Uris,
-        envelope: &'a Envelope<'a>,
+        envelope: Option<&'a Envelope<'a>>,
     ) -> Result<World<'a>, AllocError>
         requires places { AreDistinct layout.now places.now }
         requires slots { IsChoice layout.now slots.now }
@@ -107,7 +108,7 @@ impl<'a> World<'a> {
             (λ world. StandAs layout.now places.now slots.now world.standings.items) }
         ensures ram { IfOk result (λ world. world.ram ≡ empty_ram layout.now) }
         ensures uris { IfOk result (λ world. world.uris.now ≡ uris.now) }
-        ensures envelope { IfOk result (λ world. world.envelope.now ≡ envelope.now) }
+        ensures envelope { IfOk result (λ world. world.envelope ≡ envelope.entry) }
         ensures fit { IfOk result
             (λ world. (frame : Frame) (size : ℕ) → IsLayout frame size layout.now
             → AreStandings size world.ram world.standings.items) }

@@ -2,8 +2,6 @@
 use Rattle.std.proofs.Common.{◌≡◌, ◌⊎◌, inl, inr, ⊎_elim, ℕ, List, length, Option, sym, ◌∙◌, ap, subst}
 use Rattle.std.specs.Prelude.{IsTrue}
 use Rattle.suit_edge.specs.declared.launch.Launch.{Launch}
-use Rattle.suit_envelope.specs.EnvelopeLaws.{EnvelopeLaws}
-use Rattle.suit_envelope.specs.Trimmed.{trimmed_says}
 use Rattle.suit_manifest.specs.declared.manifest.Manifest.{Manifest}
 use Rattle.flash_layout.specs.declared.frame.TheConstants.{VERSION_1}
 use Rattle.flash_layout.specs.declared.key.Key.{Key}
@@ -24,9 +22,8 @@ use Rattle.suit_cli.specs.Outside.{Outside}
 use Rattle.suit_cli.specs.LifeLaws.{HasRecorded, LifeLaws}
 use Rattle.suit_cli.specs.LaunchedLaws.{BootsRecorded, LaunchedLaws, LaunchesRecorded}
 use Rattle.suit_cli.proofs.LifeLawProofs.{installed_in}
-use Rattle.suit_cli.proofs.NoPayloads.{no_payloads}
 
-module _ (configs : OneConfigAnswer) (records : OneAnswer) (laws : BootLaws) (envelopes : EnvelopeLaws) where
+module _ (configs : OneConfigAnswer) (records : OneAnswer) (laws : BootLaws) where
   -- ---- one play
 
   module _ (layout : List Entry) (key : Key) (files : List ℕ → Option (List ℕ)) (image after : List ℕ) (launched now : List Launch) (sound : Sound VERSION_1 image)
@@ -43,15 +40,12 @@ module _ (configs : OneConfigAnswer) (records : OneAnswer) (laws : BootLaws) (en
         let is = installed_in configs records VERSION_1 layout key p.installed image has sound in
         let start = laws.installed layout key (bank_in image p.installed) p.installed is in
         let same = laws.same layout (key_bytes key) (bank_in image p.installed) p.starts.said start.0 p.manifest is.said is.are_bytes p.starts.started start.1 in
-        let strings = envelopes.strings (bank_in image p.installed) (trimmed_says is.wrapper is.manifest) is.envelope in
-        let none = no_payloads is.wrapper is.manifest (bank_in image p.installed) p.payloads strings.wrapper strings.manifest is.spelled p.has in
         record {
           installed = p.installed;
           recorded = has;
           is = is;
           end = end;
-          plays = subst (λ (x : List (List ℕ × List ℕ)). PlaysOn layout is.said p.installed.active x files image after launched now end) none
-              (subst (λ (m : Manifest). PlaysOn layout m p.installed.active p.payloads files image after launched now end) same.1 p.on);
+          plays = subst (λ (m : Manifest). PlaysOn layout m p.installed.active files image after launched now end) same.1 p.on;
           gains = gains;
         }
 

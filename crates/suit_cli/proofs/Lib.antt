@@ -41,7 +41,6 @@ pub mod BootHosts
 pub mod FilesAsked
 pub mod RunEnds
 mod LifeLawProofs
-mod NoPayloads
 mod LaunchedLawProofs
 pub mod WordsLawProofs
 pub mod RunLawProofs

@@ -1,5 +1,5 @@
 -- The launches of a boot of a sound flash, and so over the whole life of a flash.
-use Rattle.std.specs.Prelude.{◌≡◌, ◌⊎◌, ℕ, IsTrue, List, [], length, Option, All}
+use Rattle.std.specs.Prelude.{◌≡◌, ◌⊎◌, ℕ, IsTrue, List, length, Option, All}
 use Rattle.suit_edge.specs.declared.launch.Launch.{Launch}
 use Rattle.flash_layout.specs.declared.frame.TheConstants.{VERSION_1}
 use Rattle.flash_layout.specs.declared.key.Key.{Key}
@@ -16,8 +16,8 @@ use Rattle.suit_cli.specs.Launching.{Launching}
 use Rattle.suit_cli.specs.LifeLaws.{HasRecorded, IsLife}
 
 -- The image has a record, and its bank the manifest with the record's number and digest, authentic under the image's key
--- and judged safe. The invocation procedure of that manifest was played, with no payloads, since a bank has none, and each
--- launch that it made has the digest that was in force, and the size where one was.
+-- and judged safe. The invocation procedure of that manifest was played, with no payloads, and each launch that it made has
+-- the digest that was in force, and the size where one was.
 pub record LaunchesRecorded (layout : List Entry) (key : Key) (files : List ℕ → Option (List ℕ))
     (image after : List ℕ) (launched now : List Launch)
     : Type 0 where
@@ -26,7 +26,7 @@ pub record LaunchesRecorded (layout : List Entry) (key : Key) (files : List ℕ 
   pub is :
       IsInstalled layout key (recorded_bank VERSION_1 (head_of VERSION_1 image) installed) installed
   pub end : PlanEnd
-  pub plays : PlaysOn layout is.said installed.active [] files image after launched now end
+  pub plays : PlaysOn layout is.said installed.active files image after launched now end
   pub gains : GainsSafe launched now
 
 -- flash and launcher tell what they hold, and the flash reads the image

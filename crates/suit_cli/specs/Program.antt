@@ -155,9 +155,9 @@ stored_by _ = None
 abbrev pub IsNamed : List (List ℕ × List ℕ) → List ℕ → Type 0
 IsNamed uris name = (uri : List ℕ) × (found_under uris uri ≡ Some name)
 
--- FILE is asked for, and after it only files that these URIs name, one for each fetch that found one. Of FILE at most one
--- byte more than its limit is pulled, and of each other one at most one byte more than a component has room for. Where a
--- fault comes first, nothing is asked for.
+-- FILE is asked for, and after it only files that these URIs name. In all no more is pulled than one byte more than the limit
+-- of FILE and, for each time that another one was asked for, one byte more than a component has room for. Where a fault comes
+-- first, nothing is asked for.
 pub data AsksForUpdate (name : List ℕ) (uris : List (List ℕ × List ℕ)) (before after : Outside)
     : Type 0 where
   AsksNothing : after.asked ≡ before.asked

@@ -11,7 +11,6 @@ use flash_layout::config_laws;
 use invoke_proc::boot_laws;
 use rollback_record::{installed_laws, record_laws, sound_laws};
 use suit_edge::Disk;
-use suit_envelope::envelope_laws;
 
 /// A life begins with a flash of zero bytes, or with a sound one, and each next image is sound and goes on from the one
 /// before it, as `run` says of each image that a power loss may leave. Then every image is sound, each goes on from all
@@ -55,6 +54,5 @@ pub fn launched_laws()
     config_laws();
     record_laws();
     boot_laws();
-    envelope_laws();
     life_laws();
 }

@@ -202,7 +202,7 @@ pub fn run<H: Host, D: Disk, L: Launcher, K: Sink>(
         (AreSafe update invocation → ⊥) → EndsIn 1 result.0 }
 
     // No file changes but the one that `make` stores, and there is a limit to what is read. `run update` asks for its file,
-    // and then for files that its words name, one for each fetch.
+    // and then only for files that its words name.
     ensures stays { LeavesBy (task_of words.now)
         (⟦<H as SeenHost>⟧.seen host.old (⟦<D as SeenDisk>⟧.seen flash.old))
         (⟦<H as SeenHost>⟧.seen host.new (⟦<D as SeenDisk>⟧.seen flash.new)) }

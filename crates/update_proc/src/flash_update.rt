@@ -34,7 +34,7 @@ use suit_manifest::{Manifest, Members, update_plan};
 /// Updates a flash (draft-ietf-suit-manifest-25, section 6): the manifest is judged beside the record that the flash
 /// holds, its update procedure is run on the chosen slots, and where that is done the trimmed envelope is written to a bank
 /// and recorded. All memory is taken before anything is launched or written. The host is asked only for files that URIs
-/// name, one for each fetch, and for none where the procedure is not begun.
+/// name, and for none where the procedure is not begun.
 pub fn update<H: Host, D: Disk, L: Launcher>(
     alloc: Global,
     host: &mut H,

@@ -128,7 +128,7 @@ pub(crate) fn start<H: Host, D: Disk, L: Launcher>(
     moment_laws();
     choice_laws();
     let slots = choose_slots(layout, places, plan, held);
-    let mut world = match World::new(alloc, layout, places, &slots, uris, envelope) {
+    let mut world = match World::new(alloc, layout, places, &slots, uris, Some(envelope)) {
         Ok(world) => world,
         Err(AllocError) => return UpdateEnd::NoMemory,
     };

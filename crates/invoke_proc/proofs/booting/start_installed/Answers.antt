@@ -1,7 +1,6 @@
-use Rattle.std.proofs.Common.{ℕ, List, sym, subst, ◌∙◌}
+use Rattle.std.proofs.Common.{◌∙◌}
 use Rattle.suit_edge.specs.Flash.{IsSame}
 use Rattle.suit_edge.specs.FlashLaws.{same_flash_then}
-use Rattle.suit_envelope.specs.Payloads.{HasPayloads}
 use Rattle.suit_envelope.specs.Said.{said_by}
 use Rattle.invoke_proc.specs.Booting.{KeepsBoot, KeepsOthers, PlaysBoot, PlaysOn}
 use Rattle.invoke_proc.proofs.Booted as booted
@@ -50,13 +49,12 @@ returns-clause-plays g c td tl =
     let r = c.in-Ok.bank.installed in
     let m = c.in-Ok-judge.startable.manifest in
     let said = said_by c.in-Ok-judge.startable.envelope in
-    let found = booted.payloads_in bytes said c.in-Ok-judge.ensures.started.says.envelope in
     let same = c.as_slice.ensures.value ∙ c.in-Ok.ensures.bytes td in
     let starts = booted.started_from c.args.layout.now c.args.key.now reads bytes r said m (c.in-Ok.ensures.recorded td) same c.in-Ok-judge.ensures.started in
-    booted.played_as (PlaysOn c.args.layout.now m r.active found.0 files before after launched now) (PlaysBoot c.args.layout.now c.args.key.now files reads after launched now)
+    booted.played_as (PlaysOn c.args.layout.now m r.active files before after launched now) (PlaysBoot c.args.layout.now c.args.key.now files reads after launched now)
     launched now c.start.result
-    (booted.plays_boot c.args.layout.now c.args.key.now files reads before after bytes launched now r m found.0 starts same found.1 (c.in-Ok.ensures.same td).reads)
-    (c.start.ensures.plays td tl found.0 (subst (λ (l : List ℕ). HasPayloads l found.0) (sym c.in-Ok-judge.ensures.whole) found.1))
+    (booted.plays_boot c.args.layout.now c.args.key.now files reads before after launched now r m starts (c.in-Ok.ensures.same td).reads)
+    (c.start.ensures.plays td tl)
 
 pub returns-clause-keeps : goal.returns-clause-keeps
 returns-clause-keeps g c t =

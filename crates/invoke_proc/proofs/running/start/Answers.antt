@@ -1,9 +1,10 @@
-use Rattle.std.proofs.Common.{inl, inr, ⊎_elim, sym, subst, ap, ◌∙◌}
+use Rattle.std.proofs.Common.{[], Option, refl, inl, inr, ⊎_elim, sym, subst, ap, ◌∙◌}
+use Rattle.std.specs.Borrow.{Bor}
 use Rattle.suit_commands.specs.Allowed.{IsPlan}
 use Rattle.suit_commands.specs.Tree.{PlanTree}
 use Rattle.suit_edge.specs.Flash.{IsSame}
-use Rattle.suit_envelope.specs.Payloads.{HasPayloads}
 use Rattle.suit_envelope.specs.declared.envelope.Envelope.{Envelope}
+use Rattle.step_machine.specs.Fetching.{ArePayloads}
 use Rattle.invoke_proc.specs.Booting.{KeepsOthers, PlaysOn}
 use Rattle.invoke_proc.proofs.Played.{counts_after, kept_after, keeps_on, plays_after, plays_on, starts_after, unfaulted, unwritten}
 use Rattle.invoke_proc.proofs.running.start.Goals as goal
@@ -24,7 +25,7 @@ pub returns-clause-counts : goal.returns-clause-counts
 returns-clause-counts g c = counts_after c.run_plan-end.result c.settle.result _ _ c.settle.ensures.read.counts _ _ _ _ _ c.run_plan-end.ensures.counts
 
 pub returns-clause-plays : goal.returns-clause-plays
-returns-clause-plays g c td tl payloads has =
+returns-clause-plays g c td tl =
     let d = g.D.Disk in
     let w = c.in-Ok.world in
     let before = (d.flash c.args.disk.now).reads in
@@ -34,10 +35,10 @@ returns-clause-plays g c td tl payloads has =
     let launched = g.L.Launcher.launches c.args.launcher.now in
     let now = g.L.Launcher.launches c.run_plan-end.new.launcher in
     plays_after c.run_plan-end.result c.settle.result _ _ c.settle.ensures.read.counts
-    (PlaysOn c.args.layout.now c.args.startable.now.manifest c.args.installed.now.active payloads files before after launched now) launched now
-    (plays_on c.args.layout.now c.args.startable.now.manifest c.args.installed.now.active payloads w.uris.now files before between after launched now c.run_plan-end.result
+    (PlaysOn c.args.layout.now c.args.startable.now.manifest c.args.installed.now.active files before after launched now) launched now
+    (plays_on c.args.layout.now c.args.startable.now.manifest c.args.installed.now.active w.uris.now files before between after launched now c.run_plan-end.result
     w.standings.items w.ram c.run_plan-end.new.world.ram c.in-Ok.ensures.stand c.in-Ok.ensures.ram (c.in-Ok.ensures.uris ∙ c.new-uris.ensures) (c.settle.ensures.read.same td).reads _ c.invocation_plan-plan.ensures
-    (c.run_plan-end.ensures.plays (inr (c.in-Ok.ensures.uris ∙ c.new-uris.ensures)) td tl payloads (subst (λ (e : Envelope). HasPayloads e.whole.now payloads) (sym c.in-Ok.ensures.envelope) has)))
+    (c.run_plan-end.ensures.plays (inr (c.in-Ok.ensures.uris ∙ c.new-uris.ensures)) td tl [] (subst (λ (e : Option (Bor Envelope)). ArePayloads e []) (sym c.in-Ok.ensures.envelope) refl)))
 
 pub returns-clause-keeps : goal.returns-clause-keeps
 returns-clause-keeps g c td =

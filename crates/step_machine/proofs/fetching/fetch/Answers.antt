@@ -3,11 +3,10 @@ use Rattle.std.specs.Prelude.{◌==◌, Result, get_or}
 use Rattle.std.proofs.lemmas.Bool.{eqb-false}
 use Rattle.std.specs.Option.{option_and_then}
 use Rattle.suit_params.specs.InForce.{bytes_of}
-use Rattle.suit_envelope.specs.Payloads.{HasPayloads}
 use Rattle.path_model.specs.declared.cause.Cause.{Cause}
 use Rattle.path_model.specs.declared.cause.Cause.TheVariants as causes
 use Rattle.path_model.specs.Settings.{found_under}
-use Rattle.step_machine.specs.Fetching.{AsksAtMost, FetchCounts, asked_at, file_by, payload_by}
+use Rattle.step_machine.specs.Fetching.{ArePayloads, AsksAtMost, FetchCounts, asked_at, file_by, payload_by}
 use Rattle.step_machine.proofs.FetchPlays.{fetch_named}
 use Rattle.step_machine.proofs.Fetched.{left_alone, named_as}
 use Rattle.step_machine.proofs.Memory.{ram_same}
@@ -51,12 +50,12 @@ returns-else-is_key-clause-asked g c t =
 
 pub returns-in-None-clause-replaced : goal.returns-in-None-clause-replaced
 returns-in-None-clause-replaced g c t =
-    left_alone c.args.standing.now.spot (λ file. IsTrue g.H.Host.told ⊎ (c.args.uris.now ≡ []) → (payloads : List (List ℕ × List ℕ)) → HasPayloads c.args.envelope.now.whole.now payloads → file ≡ file_by c.args.standing.now.component c.args.params.now payloads c.args.uris.now (g.H.Host.file c.args.host.now)) None (g.D.Disk.flash c.args.disk.now)
+    left_alone c.args.standing.now.spot (λ file. IsTrue g.H.Host.told ⊎ (c.args.uris.now ≡ []) → (payloads : List (List ℕ × List ℕ)) → ArePayloads c.args.envelope payloads → file ≡ file_by c.args.standing.now.component c.args.params.now payloads c.args.uris.now (g.H.Host.file c.args.host.now)) None (g.D.Disk.flash c.args.disk.now)
     (λ u payloads has. ap (option_and_then (payload_by payloads c.args.uris.now (g.H.Host.file c.args.host.now))) (c.in-None.ensures ∙ ap bytes_of c.get.ensures))
 
 pub returns-then-is_key-clause-replaced : goal.returns-then-is_key-clause-replaced
 returns-then-is_key-clause-replaced g c t =
-    named_as c.args.standing.now.spot (λ file. IsTrue g.H.Host.told ⊎ (c.args.uris.now ≡ []) → (payloads : List (List ℕ × List ℕ)) → HasPayloads c.args.envelope.now.whole.now payloads → file ≡ file_by c.args.standing.now.component c.args.params.now payloads c.args.uris.now (g.H.Host.file c.args.host.now)) _ _ _
+    named_as c.args.standing.now.spot (λ file. IsTrue g.H.Host.told ⊎ (c.args.uris.now ≡ []) → (payloads : List (List ℕ × List ℕ)) → ArePayloads c.args.envelope payloads → file ≡ file_by c.args.standing.now.component c.args.params.now payloads c.args.uris.now (g.H.Host.file c.args.host.now)) _ _ _
     (λ file is u payloads has.
     let by = when_true (get_or c.in-Some.uri.now 0 0 == 35) (found_under payloads c.in-Some.uri.now) (option_and_then (g.H.Host.file c.args.host.now) (found_under c.args.uris.now c.in-Some.uri.now)) (sym c.is_key.ensures ∙ c.if-is_key.true) in
     is payloads has ∙ sym by ∙ ap (option_and_then (payload_by payloads c.args.uris.now (g.H.Host.file c.args.host.now))) (c.in-Some.ensures ∙ ap bytes_of c.get.ensures))
@@ -64,7 +63,7 @@ returns-then-is_key-clause-replaced g c t =
 
 pub returns-else-is_key-clause-replaced : goal.returns-else-is_key-clause-replaced
 returns-else-is_key-clause-replaced g c t =
-    named_as c.args.standing.now.spot (λ file. IsTrue g.H.Host.told ⊎ (c.args.uris.now ≡ []) → (payloads : List (List ℕ × List ℕ)) → HasPayloads c.args.envelope.now.whole.now payloads → file ≡ file_by c.args.standing.now.component c.args.params.now payloads c.args.uris.now (g.H.Host.file c.args.host.now)) _ _ _
+    named_as c.args.standing.now.spot (λ file. IsTrue g.H.Host.told ⊎ (c.args.uris.now ≡ []) → (payloads : List (List ℕ × List ℕ)) → ArePayloads c.args.envelope payloads → file ≡ file_by c.args.standing.now.component c.args.params.now payloads c.args.uris.now (g.H.Host.file c.args.host.now)) _ _ _
     (λ file is u payloads has.
     let by = when_false (get_or c.in-Some.uri.now 0 0 == 35) (found_under payloads c.in-Some.uri.now) (option_and_then (g.H.Host.file c.args.host.now) (found_under c.args.uris.now c.in-Some.uri.now)) (sym c.is_key.ensures ∙ c.if-is_key.false) in
     is u ∙ sym by ∙ ap (option_and_then (payload_by payloads c.args.uris.now (g.H.Host.file c.args.host.now))) (c.in-Some.ensures ∙ ap bytes_of c.get.ensures))

@@ -3,7 +3,6 @@ use Rattle.std.proofs.Common.{◌≡◌, ◌≤◌, ℕ, List, Bor, Option, Some
 use Rattle.suit_commands.specs.Plans.{plan_tree}
 use Rattle.suit_edge.specs.Flash.{IsFlash, IsSame, IsSettled, Now, Passes}
 use Rattle.suit_edge.specs.FlashLaws.{grows_start, grows_then, same_flash, starts}
-use Rattle.suit_envelope.specs.Payloads.{HasPayloads}
 use Rattle.suit_envelope.specs.declared.envelope.Envelope.{Envelope}
 use Rattle.flash_layout.specs.declared.frame.TheConstants.{VERSION_1}
 use Rattle.flash_layout.specs.declared.slot.Record.{Record}
@@ -11,7 +10,7 @@ use Rattle.flash_layout.specs.Frames.{head_of}
 use Rattle.rollback_record.specs.HeadRecord.{RecordOf}
 use Rattle.rollback_record.specs.SettledLaws.{each_sound}
 use Rattle.rollback_record.specs.SoundFlash.{Follows, Sound}
-use Rattle.step_machine.specs.Fetching.{AsksAmong, asked_at}
+use Rattle.step_machine.specs.Fetching.{ArePayloads, AsksAmong, asked_at}
 use Rattle.step_machine.specs.declared.plan_end.PlanEnd.{PlanEnd}
 use Rattle.step_machine.specs.declared.plan_end.PlanEnd.TheVariants as plays
 use Rattle.update_proc.specs.declared.update_end.UpdateEnd.{UpdateEnd}
@@ -185,7 +184,7 @@ returns-clause-keeps g c t settled =
     let did : c.run_plan-end.result ≡ plays.Done → Done b.reads = λ ended th tl payloads has.
     subst (λ (end : PlanEnd). PlaysUpdate c.args.layout.now c.args.places.now (plan_tree c.args.plan.now) (held_of c.args.held) (sources payloads c.args.uris.now (g.H.Host.file c.args.host.now)) (g.D.Disk.flash c.args.disk.now).reads b.reads (g.L.Launcher.launches c.args.launcher.now) (g.L.Launcher.launches c.run_plan-end.new.launcher) end) ended
     (plays_update c.args.layout.now c.args.places.now (plan_tree c.args.plan.now) (held_of c.args.held) payloads c.in-Ok.world.uris.now c.args.uris.now (g.H.Host.file c.args.host.now) (g.D.Disk.flash c.args.disk.now).reads (g.D.Disk.flash c.run_plan-end.new.disk).reads (g.L.Launcher.launches c.args.launcher.now) (g.L.Launcher.launches c.run_plan-end.new.launcher) c.run_plan-end.result c.choose_slots-slots.result.number c.in-Ok.world.standings.items c.in-Ok.world.ram c.run_plan-end.new.world.ram chosen c.choose_slots-slots.ensures.choice c.in-Ok.ensures.stand c.in-Ok.ensures.ram c.in-Ok.ensures.uris
-    (c.run_plan-end.ensures.plays (inl th) t tl payloads (subst (λ (e : Envelope). HasPayloads e.whole.now payloads) (sym c.in-Ok.ensures.envelope) has))) in
+    (c.run_plan-end.ensures.plays (inl th) t tl payloads (subst (λ (e : Option (Bor Envelope)). ArePayloads e payloads) (sym c.in-Ok.ensures.envelope) has))) in
     let others = contents_made c.sound_laws.ensures c.moment_laws.ensures c.choice_laws.ensures (g.D.Disk.extent c.args.disk.now) c.requires.size c.args.layout.now c.requires.layout c.args.places.now (plan_tree c.args.plan.now) (held_of c.args.held) c.requires.loadable c.choose_slots-slots.result.number c.in-Ok.world.standings.items c.requires.distinct c.choose_slots-slots.ensures.choice c.in-Ok.ensures.stand chosen (g.D.Disk.flash c.args.disk.now) (g.D.Disk.flash c.run_plan-end.new.disk) (g.met.D.Disk.obeys c.args.disk.now t) law_b (c.requires.config t).0 (c.requires.config t).1 (c.requires.held t) (c.run_plan-end.ensures.keeps t) in
     let stays = old_all c.sound_laws.ensures c.moment_laws.ensures c.choice_laws.ensures (g.D.Disk.extent c.args.disk.now) c.requires.size c.args.layout.now c.requires.layout c.args.places.now (plan_tree c.args.plan.now) (held_of c.args.held) c.requires.loadable c.choose_slots-slots.result.number c.in-Ok.world.standings.items c.requires.distinct c.choose_slots-slots.ensures.choice c.in-Ok.ensures.stand chosen (g.D.Disk.flash c.args.disk.now) (g.D.Disk.flash c.run_plan-end.new.disk) (g.met.D.Disk.obeys c.args.disk.now t) law_b (c.requires.config t).0 (c.requires.config t).1 (c.requires.held t) (c.run_plan-end.ensures.keeps t) settled c.args.accepted.now.bytes.now c.args.accepted.now.sequence c.args.accepted.now.digest c.requires.fits (g.D.Disk.flash c.finish.new.disk) law_d in
     let old_left = old_at_end c.sound_laws.ensures c.moment_laws.ensures c.choice_laws.ensures (g.D.Disk.extent c.args.disk.now) c.requires.size c.args.layout.now c.requires.layout c.args.places.now (plan_tree c.args.plan.now) (held_of c.args.held) c.requires.loadable c.choose_slots-slots.result.number c.in-Ok.world.standings.items c.requires.distinct c.choose_slots-slots.ensures.choice c.in-Ok.ensures.stand chosen (g.D.Disk.flash c.args.disk.now) (g.D.Disk.flash c.run_plan-end.new.disk) (g.met.D.Disk.obeys c.args.disk.now t) law_b (c.requires.config t).0 (c.requires.config t).1 (c.requires.held t) (c.run_plan-end.ensures.keeps t) settled c.args.accepted.now.bytes.now c.args.accepted.now.sequence c.args.accepted.now.digest c.requires.fits (g.D.Disk.flash c.finish.new.disk) law_d in
@@ -234,7 +233,7 @@ returns-clause-plays g c th t tl payloads has =
     let law_d = (subst (λ (n : ℕ). IsFlash (g.D.Disk.flash c.finish.new.disk) n) (c.finish.ensures.size ∙ c.run_plan-end.ensures.size) (g.met.D.Disk.obeys c.finish.new.disk t)) in
     let Plays : List ℕ → PlanEnd → Type 0 = λ made end. PlaysUpdate c.args.layout.now c.args.places.now (plan_tree c.args.plan.now) (held_of c.args.held) (sources payloads c.args.uris.now (g.H.Host.file c.args.host.now)) (g.D.Disk.flash c.args.disk.now).reads made (g.L.Launcher.launches c.args.launcher.now) (g.L.Launcher.launches c.run_plan-end.new.launcher) end in
     let play : Plays (g.D.Disk.flash c.run_plan-end.new.disk).reads c.run_plan-end.result = plays_update c.args.layout.now c.args.places.now (plan_tree c.args.plan.now) (held_of c.args.held) payloads c.in-Ok.world.uris.now c.args.uris.now (g.H.Host.file c.args.host.now) (g.D.Disk.flash c.args.disk.now).reads (g.D.Disk.flash c.run_plan-end.new.disk).reads (g.L.Launcher.launches c.args.launcher.now) (g.L.Launcher.launches c.run_plan-end.new.launcher) c.run_plan-end.result c.choose_slots-slots.result.number c.in-Ok.world.standings.items c.in-Ok.world.ram c.run_plan-end.new.world.ram chosen c.choose_slots-slots.ensures.choice c.in-Ok.ensures.stand c.in-Ok.ensures.ram c.in-Ok.ensures.uris
-    (c.run_plan-end.ensures.plays (⊎_elim (λ told. inl told) (λ none. inr (c.in-Ok.ensures.uris ∙ none)) th) t tl payloads (subst (λ (e : Envelope). HasPayloads e.whole.now payloads) (sym c.in-Ok.ensures.envelope) has)) in
+    (c.run_plan-end.ensures.plays (⊎_elim (λ told. inl told) (λ none. inr (c.in-Ok.ensures.uris ∙ none)) th) t tl payloads (subst (λ (e : Option (Bor Envelope)). ArePayloads e payloads) (sym c.in-Ok.ensures.envelope) has)) in
     after c.run_plan-end.result c.finish.result _ _ c.finish.ensures.answer
     (λ answer. PlayedSo Plays c.args.layout.now (g.D.Disk.flash c.finish.new.disk).reads (g.L.Launcher.launches c.args.launcher.now) (g.L.Launcher.launches c.run_plan-end.new.launcher) answer)
     (λ r same ended. record { made = (g.D.Disk.flash c.run_plan-end.new.disk).reads; plays = subst (Plays (g.D.Disk.flash c.run_plan-end.new.disk).reads) ended play; left = behind (g.D.Disk.extent c.args.disk.now) c.args.layout.now c.requires.layout (c.requires.config t).1.typed.entries (g.D.Disk.flash c.run_plan-end.new.disk).reads (g.D.Disk.flash c.finish.new.disk).reads law_b.fits (c.finish.ensures.behind t) })
