@@ -1,0 +1,3 @@
+pub mod ShapesRead
+pub mod States
+pub mod FilesNamed

@@ -1,0 +1,6 @@
+pub mod Draws
+pub mod Shapes
+pub mod Drawing
+pub mod Rounds
+pub mod ShapeLaws
+pub mod Vectors

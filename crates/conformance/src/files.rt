@@ -1,0 +1,50 @@
+//! The files of a round.
+
+ghost use Rattle.std.specs.Prelude.{◌≡◌, ◌∷◌, [], IfOk};
+ghost use Rattle.conformance.specs.Rounds.{payload_got, spoiled};
+ghost use Rattle.conformance.specs.Shapes.{got_name, image_name};
+
+use author::FileList;
+use det_cbor::{Bytes, Text};
+use std::alloc::{AllocError, Global};
+
+/// The file of the described bytes.
+const IMAGE: &str = "img.bin";
+
+/// The file of the bytes that come when they are fetched.
+const GOT: &str = "got.bin";
+
+// Other bytes than these.
+fn spoiled(alloc: Global, payload: &[u8]) -> Result<Bytes, AllocError>
+    ensures { IfOk result (λ bytes. bytes ≡ spoiled payload.now) }
+{
+    let Some((first, rest)) = payload.split_first() else {
+        return Bytes::from_slice(alloc, &[0]);
+    };
+    let mut bytes = Bytes::from_slice(alloc, &[*first ^ 1])?;
+    bytes.extend(rest)?;
+    Ok(bytes)
+}
+
+// The bytes that come in place of a payload.
+fn payload_got(alloc: Global, wrong: bool, payload: &[u8]) -> Result<Bytes, AllocError>
+    ensures { IfOk result (λ bytes. bytes ≡ payload_got wrong payload.now) }
+{
+    if wrong {
+        spoiled(alloc, payload)
+    } else {
+        Bytes::from_slice(alloc, payload)
+    }
+}
+
+/// The files of a payload: as it is described, and as it comes.
+pub(crate) fn files_of(alloc: Global, wrong: bool, payload: Bytes) -> Result<FileList, AllocError>
+    ensures { IfOk result (λ files. files
+        ≡ (image_name, payload) ∷ (got_name, payload_got wrong payload) ∷ []) }
+{
+    let got = payload_got(alloc, wrong, payload.as_slice())?;
+    let mut files = FileList::new(alloc);
+    files.push((Text::from_str(alloc, IMAGE)?, payload))?;
+    files.push((Text::from_str(alloc, GOT)?, got))?;
+    Ok(files)
+}

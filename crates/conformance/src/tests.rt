@@ -1,0 +1,87 @@
+//! Tests by numbers that another program found.
+
+use crate::drawing::{Drawn, draw_round};
+use crate::shape::Shape;
+use crate::{Draw, round, vectors};
+use std::alloc::{AllocError, Global};
+
+#[test]
+fn draws_are_those_of_another_program(rt: HostRuntime) {
+    let firsts = [
+        (7, 1_059_165_278),
+        (0, 167_951_807),
+        (18_446_744_073_709_551_615, 1_574_552_488),
+    ];
+    for (number, first) in firsts {
+        assert_eq!(rt; Draw::new(number).next(), first, "of {number}");
+    }
+    let mut draw = Draw::new(7);
+    let three = [draw.next(), draw.next(), draw.next()];
+    assert_eq!(rt; three, [1_059_165_278, 2_052_263_231, 1_946_856_753]);
+}
+
+#[test]
+fn the_first_round_of_seven(rt: HostRuntime) -> Result<(), AllocError> {
+    let drawn = draw_round(rt.alloc(), &mut Draw::new(7))?;
+    assert_eq!(rt; drawn.shape, Shape::Loaded);
+    assert_eq!(rt; drawn.payload.len(), 49_028);
+    assert!(rt; !drawn.wrong_payload);
+    assert!(rt; !drawn.wants_cut);
+    assert_eq!(rt; drawn.passes, 103);
+    assert_eq!(rt; drawn.choice, 2_977_844_157_744_241_824);
+    Ok(())
+}
+
+// How many of 200 rounds want neither a cut nor a wrong payload, and how many without a cut want a wrong payload where it
+// is fetched in any case.
+fn counts(alloc: Global, number: u64) -> Result<(usize, usize), AllocError> {
+    let mut draw = Draw::new(number);
+    let mut plain: usize = 0;
+    let mut stopped: usize = 0;
+    for _ in 0..200usize {
+        let drawn: Drawn = draw_round(alloc, &mut draw)?;
+        if drawn.wants_cut {
+            continue;
+        }
+        if !drawn.wrong_payload {
+            plain = plain.saturating_add(1);
+        } else if drawn.shape != Shape::FetchedIfOther {
+            stopped = stopped.saturating_add(1);
+        }
+    }
+    Ok((plain, stopped))
+}
+
+#[test]
+fn two_hundred_rounds(rt: HostRuntime) -> Result<(), AllocError> {
+    let rows = [
+        (7, 65, 25),
+        (0, 73, 14),
+        (18_446_744_073_709_551_615, 60, 16),
+    ];
+    for (number, plain, stopped) in rows {
+        let found = counts(rt.alloc(), number)?;
+        assert_eq!(rt; found, (plain, stopped), "of {number}");
+    }
+    Ok(())
+}
+
+#[test]
+fn a_round_is_made(rt: HostRuntime) -> Result<(), AllocError> {
+    let mut draw = Draw::new(7);
+    for sequence in 1..20u64 {
+        let round = round(rt.alloc(), &mut draw, sequence)?;
+        assert!(rt; !round.description.files().is_empty());
+    }
+    Ok(())
+}
+
+#[test]
+fn vectors_are_there(rt: HostRuntime) -> Result<(), AllocError> {
+    let mut lengths = Vec::new(rt.alloc());
+    for vector in vectors(rt.alloc())?.as_slice() {
+        lengths.push(vector.len())?;
+    }
+    assert_eq!(rt; lengths.as_slice(), [32, 32, 44, 71, 119, 83].as_slice());
+    Ok(())
+}
