@@ -1,8 +1,9 @@
 -- Lists in the order in which things happened.
-use Rattle.std.proofs.Common.{◌≡◌, List, [], ◌∷◌, ◌++◌, refl, sym, ap, ◌∙◌, append_assoc}
+use Rattle.std.proofs.Common.{◌≡◌, ℕ, List, [], ◌∷◌, ◌++◌, refl, sym, ap, ◌∙◌, append_assoc}
 use Rattle.std.specs.Prelude.{map}
 use Rattle.std.proofs.lemmas.List.{append-nil}
 use Rattle.path_model.specs.declared.event.Event.{Event}
+use Rattle.path_model.specs.declared.event.Event.TheVariants.{Failed}
 use Rattle.path_checker.specs.declared.judge_plan.trace.Told.{Told}
 use Rattle.path_checker.specs.Happening.{told_by}
 use Rattle.path_checker.specs.Standing.{all_in_order}
@@ -25,3 +26,7 @@ told_more events events' whole hs hs' h so_far popped pushed =
 pub parts_more : (whole rest : List (List Event)) (hs hs' : List Told) (h : Told) → map told_by hs ++ (told_by h ∷ rest) ≡ whole → hs' ≡ hs ++ h ∷ [] → map told_by hs' ++ rest ≡ whole
 parts_more whole rest hs hs' h so_far pushed =
     ap (λ (xs : List Told). map told_by xs ++ rest) pushed ∙ ap (λ (xs : List (List Event)). xs ++ rest) (map-last hs h) ∙ append_assoc (map told_by hs) (told_by h ∷ []) rest ∙ so_far
+
+-- an end by two events
+pub end_told : (past missed : List Event) (e : Event) (place : ℕ) (all : List Event) → missed ≡ past ++ e ∷ [] → all ≡ past ++ e ∷ Failed place ∷ [] → missed ++ Failed place ∷ [] ≡ all
+end_told past missed e place all one told = ap (λ (xs : List Event). xs ++ Failed place ∷ []) one ∙ append_assoc past (e ∷ []) (Failed place ∷ []) ∙ sym told

@@ -31,3 +31,5 @@ pub mod Among
 pub mod Choices
 pub mod Counting
 pub mod StandingLaws
+pub mod Passing
+pub mod OverridesEach

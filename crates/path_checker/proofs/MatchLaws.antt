@@ -1,82 +1,65 @@
--- Matches in a search tree, whose order does not matter.
-use Rattle.std.proofs.Common.{◌≡◌, ◌<◌, ◌+◌, ℕ, List, [], ◌∷◌, ◌++◌, length, refl, sym, subst, arith, inl, inr, length-append}
-use Rattle.std.specs.Prelude.{◌⊎◌, ◌↔◌}
+-- Matches that are lent, one after another.
+use Rattle.std.proofs.Common.{◌≡◌, ◌<◌, ◌+◌, ℕ, zero, suc, List, [], ◌∷◌, ◌++◌, length, get_or, take, refl, sym, ap, ◌∙◌, subst, arith, inl, inr}
+use Rattle.std.specs.Borrow.{Bor}
+use Rattle.std.proofs.lemmas.List.{take_more}
+use Rattle.path_checker.specs.declared.judge_plan.matches.Match.{Match as LentMatch}
 use Rattle.path_checker.specs.Exploring.{In}
-use Rattle.path_checker.specs.Matches.{Match, SameMembers}
+use Rattle.path_checker.specs.Matches.{Match, match_of, all_lent, SameMembers}
 use Rattle.path_checker.proofs.Membership.{In-left, In-right, In-cases}
-
--- ---- a match with others on both sides
-
-pub in_zero : (m top : Match) (zero one : List Match) → In m zero → In m (top ∷ (zero ++ one))
-in_zero m top zero one h = inr (In-left m zero one h)
-
-pub in_one : (m top : Match) (zero one : List Match) → In m one → In m (top ∷ (zero ++ one))
-in_one m top zero one h = inr (In-right m zero one h)
-
-pub in_rest : (m top : Match) (zero one : List Match) → (top ≡ m → ⊥) → (In m zero → ⊥) → In m (top ∷ (zero ++ one)) → In m one
-in_rest m top zero one t z h = elim h [
-  | inl e ↦ absurd (t e)
-  | inr r ↦ elim (In-cases m zero one r) [ inl a ↦ absurd (z a) | inr b ↦ b ]
-]
-
-pub all_within : (top : Match) (zero one others : List Match) → In top others → ((m : Match) → In m zero → In m others) → ((m : Match) → In m one → In m others)
-    → (m : Match) → In m (top ∷ (zero ++ one)) → In m others
-all_within top zero one others t z o m h = elim h [
-  | inl e ↦ subst (λ (x : Match). In x others) e t
-  | inr r ↦ elim (In-cases m zero one r) [ inl a ↦ z m a | inr b ↦ o m b ]
-]
-
-pub zero_is_less : (top : Match) (zero one : List Match) → length zero < length (top ∷ (zero ++ one))
-zero_is_less top zero one = omega (arith, length-append zero one)
-
-pub one_is_less : (top : Match) (zero one : List Match) → length one < length (top ∷ (zero ++ one))
-one_is_less top zero one = omega (arith, length-append zero one)
 
 -- ---- one match more
 
-pub alone : (m : Match) (tree new : List Match) → tree ≡ [] → new ≡ m ∷ [] → SameMembers new (m ∷ tree)
-alone m tree new none is any = subst (λ (xs : List Match). In any new ↔ In any (m ∷ xs)) (sym none) (subst (λ (xs : List Match). In any xs ↔ In any (m ∷ [])) (sym is) (λ h. h, λ h. h))
-
-added_to_zero : (m top : Match) (zero more one : List Match) → SameMembers more (m ∷ zero) → SameMembers (top ∷ (more ++ one)) (m ∷ (top ∷ (zero ++ one)))
-added_to_zero m top zero more one same any = (
+pub same_again : (m : Match) (xs : List Match) → In m xs → SameMembers xs (m ∷ xs)
+same_again m xs there any = (
+  λ h. inr h,
   λ h. elim h [
-    | inl e ↦ inr (inl e)
-    | inr r ↦ elim (In-cases any more one r) [
-      | inl a ↦ elim ((same any).0 a) [ inl e ↦ inl e | inr b ↦ inr (in_zero any top zero one b) ]
-      | inr b ↦ inr (in_one any top zero one b)
-    ]
-  ],
-  λ h. elim h [
-    | inl e ↦ in_zero any top more one ((same any).1 (inl e))
-    | inr r ↦ elim r [
-      | inl e ↦ inl e
-      | inr s ↦ elim (In-cases any zero one s) [ inl a ↦ in_zero any top more one ((same any).1 (inr a)) | inr b ↦ in_one any top more one b ]
-    ]
+    | inl e ↦ subst (λ (x : Match). In x xs) e there
+    | inr i ↦ i
   ],
 )
 
-added_to_one : (m top : Match) (zero one more : List Match) → SameMembers more (m ∷ one) → SameMembers (top ∷ (zero ++ more)) (m ∷ (top ∷ (zero ++ one)))
-added_to_one m top zero one more same any = (
-  λ h. elim h [
-    | inl e ↦ inr (inl e)
-    | inr r ↦ elim (In-cases any zero more r) [
-      | inl a ↦ inr (in_zero any top zero one a)
-      | inr b ↦ elim ((same any).0 b) [ inl e ↦ inl e | inr d ↦ inr (in_one any top zero one d) ]
-    ]
+same_pushed : (m : Match) (xs : List Match) → SameMembers (xs ++ m ∷ []) (m ∷ xs)
+same_pushed m xs any = (
+  λ h. elim (In-cases any xs (m ∷ []) h) [
+    | inl i ↦ inr i
+    | inr (inl e) ↦ inl e
+    | inr (inr n) ↦ absurd n
   ],
   λ h. elim h [
-    | inl e ↦ in_one any top zero more ((same any).1 (inl e))
-    | inr r ↦ elim r [
-      | inl e ↦ inl e
-      | inr s ↦ elim (In-cases any zero one s) [ inl a ↦ in_zero any top zero more a | inr b ↦ in_one any top zero more ((same any).1 (inr b)) ]
-    ]
+    | inl e ↦ In-right any xs (m ∷ []) (inl e)
+    | inr i ↦ In-left any xs (m ∷ []) i
   ],
 )
 
-pub more_in_zero : (m top : Match) (zero more one tree new : List Match) → SameMembers more (m ∷ zero) → tree ≡ top ∷ (zero ++ one) → new ≡ top ∷ (more ++ one) → SameMembers new (m ∷ tree)
-more_in_zero m top zero more one tree new same was is =
-    subst (λ (xs : List Match). SameMembers new (m ∷ xs)) (sym was) (subst (λ (xs : List Match). SameMembers xs (m ∷ (top ∷ (zero ++ one)))) (sym is) (added_to_zero m top zero more one same))
+lent_last : (xs : List (Bor LentMatch)) (x : Bor LentMatch) → all_lent (xs ++ x ∷ []) ≡ all_lent xs ++ match_of x.now ∷ []
+lent_last [] x = refl
+lent_last (y ∷ xs) x = ap (λ (ms : List Match). match_of y.now ∷ ms) (lent_last xs x)
 
-pub more_in_one : (m top : Match) (zero one more tree new : List Match) → SameMembers more (m ∷ one) → tree ≡ top ∷ (zero ++ one) → new ≡ top ∷ (zero ++ more) → SameMembers new (m ∷ tree)
-more_in_one m top zero one more tree new same was is =
-    subst (λ (xs : List Match). SameMembers new (m ∷ xs)) (sym was) (subst (λ (xs : List Match). SameMembers xs (m ∷ (top ∷ (zero ++ one)))) (sym is) (added_to_one m top zero one more same))
+pub same_lent : (xs more : List (Bor LentMatch)) (x : Bor LentMatch) → more ≡ xs ++ x ∷ [] → SameMembers (all_lent more) (match_of x.now ∷ all_lent xs)
+same_lent xs more x pushed =
+    subst (λ (ms : List Match). SameMembers ms (match_of x.now ∷ all_lent xs)) (sym (ap all_lent pushed ∙ lent_last xs x)) (same_pushed (match_of x.now) (all_lent xs))
+
+-- ---- one of them
+
+pub lent_at : (xs : List (Bor LentMatch)) (i : ℕ) (d : Bor LentMatch) → i < length xs → In (match_of (get_or xs i d).now) (all_lent xs)
+lent_at [] i d lt = absurd (omega arith)
+lent_at (x ∷ xs) zero d lt = inl refl
+lent_at (x ∷ xs) (suc i) d lt = inr (lent_at xs i d (omega arith))
+
+-- where none of the first is one, and the next is not
+pub lent_next : (m : Match) (xs : List (Bor LentMatch)) (i : ℕ) (d : Bor LentMatch) → i < length xs → (In m (all_lent (take i xs)) → ⊥) → (match_of (get_or xs i d).now ≡ m → ⊥) → In m (all_lent (take (i + 1) xs)) → ⊥
+lent_next m xs i d lt none not h =
+    elim (In-cases m (all_lent (take i xs)) (match_of (get_or xs i d).now ∷ []) (subst (λ (ms : List Match). In m ms) (ap all_lent (take_more xs i d lt) ∙ lent_last (take i xs) (get_or xs i d)) h)) [
+      | inl a ↦ none a
+      | inr (inl e) ↦ not e
+      | inr (inr n) ↦ n
+    ]
+
+-- the first of them and the next are in a list
+pub within_next : (others : List Match) (xs : List (Bor LentMatch)) (i : ℕ) (d : Bor LentMatch) → i < length xs → ((m : Match) → In m (all_lent (take i xs)) → In m others) → In (match_of (get_or xs i d).now) others → (m : Match) → In m (all_lent (take (i + 1) xs)) → In m others
+within_next others xs i d lt so_far here m h =
+    elim (In-cases m (all_lent (take i xs)) (match_of (get_or xs i d).now ∷ []) (subst (λ (ms : List Match). In m ms) (ap all_lent (take_more xs i d lt) ∙ lent_last (take i xs) (get_or xs i d)) h)) [
+      | inl a ↦ so_far m a
+      | inr (inl e) ↦ subst (λ (x : Match). In x others) e here
+      | inr (inr n) ↦ absurd n
+    ]

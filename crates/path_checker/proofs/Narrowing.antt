@@ -1,12 +1,13 @@
 -- A fact learnt of one component is learnt of all.
-use Rattle.std.proofs.Common.{◌≡◌, ◌<◌, ◌≤◌, ℕ, zero, suc, List, [], ◌∷◌, length, get_or, Option, sym, ap, ◌∙◌, subst, arith, length-set}
+use Rattle.std.proofs.Common.{◌≡◌, ◌<◌, ◌≤◌, ℕ, zero, suc, List, [], ◌∷◌, length, get_or, Option, Some, None, refl, inr, sym, ap, ◌∙◌, subst, arith, length-set}
 use Rattle.std.specs.Prelude.{◌↔◌, slice_get, slice_set}
 use Rattle.path_model.specs.declared.identity.Identity.{Identity}
 use Rattle.path_checker.specs.declared.judge_plan.facts.Own.{Own}
 use Rattle.path_checker.specs.declared.judge_plan.facts.Own.TheVariants as owns
 use Rattle.path_checker.specs.declared.judge_plan.facts.Knowledge.{Knowledge}
-use Rattle.path_checker.specs.Knowing.{Allows, Learns}
-use Rattle.path_checker.specs.Forking.{DecidesOne, NarrowsOne, Has}
+use Rattle.path_checker.specs.Knowing.{nothing, Allows, Learns}
+use Rattle.path_checker.specs.Forking.{DecidesOne, NarrowsOne, Has, HasOne, HasNoneOf, TellsOne, learnt, excluded, learnt_at, Learnt}
+use Rattle.path_checker.proofs.Telling.{narrows_learnt, narrows_excluded}
 
 -- the identity of a component of which something is known
 identity_at : (facts : List Knowledge) (c : ℕ) (d : Knowledge) (fact : Option Identity → Type 0) → c < length facts → DecidesOne (get_or facts c d) fact
@@ -51,3 +52,23 @@ learns_at facts learned c d known narrow fact lt is made narrows = record {
   allows = λ ids. subst (λ (fs : List Knowledge). Allows fs ids ↔ (Allows facts ids × fact (slice_get ids c))) (sym made)
       (narrowed facts c d narrow fact lt (subst (λ (k : Knowledge). NarrowsOne k narrow fact) is narrows) ids);
 }
+
+-- ---- a component learns what is open of it
+
+same_at : (facts : List Knowledge) (c : ℕ) (d e : Knowledge) → c < length facts → get_or facts c d ≡ get_or facts c e
+same_at [] c d e lt = absurd (omega arith)
+same_at (k ∷ facts) zero d e lt = refl
+same_at (k ∷ facts) (suc c) d e lt = same_at facts c d e (omega arith)
+
+pub learnt_open : (facts learned : List Knowledge) (c : ℕ) (d known : Knowledge) (own : Own) → c < length facts → known ≡ get_or facts c d → TellsOne known own None → learned ≡ learnt_at facts c own → Learnt facts c own (Some learned)
+learnt_open facts learned c d known own lt is told made =
+    let at : known ≡ get_or facts c nothing = is ∙ same_at facts c d nothing lt in
+    let free : TellsOne (get_or facts c nothing) own None = subst (λ (k : Knowledge). TellsOne k own None) at told in
+    let others : List Knowledge = slice_set facts c (excluded (get_or facts c nothing) own) in
+    inr (
+      others,
+      (
+        learns_at facts learned c nothing (get_or facts c nothing) (learnt (get_or facts c nothing) own) (HasOne own) lt refl made (narrows_learnt (get_or facts c nothing) own free),
+        learns_at facts others c nothing (get_or facts c nothing) (excluded (get_or facts c nothing) own) (HasNoneOf own) lt refl refl (narrows_excluded (get_or facts c nothing) own free),
+      ),
+    )

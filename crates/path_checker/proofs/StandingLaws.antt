@@ -17,11 +17,13 @@ use Rattle.path_checker.specs.declared.judge_plan.trace.Told.{Told}
 use Rattle.path_checker.specs.declared.judge_plan.trace.Told.TheVariants as tells
 use Rattle.path_checker.specs.declared.judge_plan.happened.Ended.{Ended}
 use Rattle.path_checker.specs.declared.judge_plan.happened.Ended.TheVariants as ends
-use Rattle.path_checker.specs.Happening.{after_end, told_by}
+use Rattle.path_checker.specs.Happening.{after_end, sets_at, told_by}
+use Rattle.path_checker.specs.Selecting.{components_of}
+use Rattle.std.specs.Prelude.{◌↔◌, slice_get}
 use Rattle.path_checker.specs.Exploring.{In}
 use Rattle.path_checker.specs.Matches.{Match, match_of}
 use Rattle.path_checker.specs.declared.judge_plan.standing.StandingMatches.{StandingMatches}
-use Rattle.path_checker.specs.Standing.{held_of, Gains, Loses, SameHeld, Stands, StandsAfter}
+use Rattle.path_checker.specs.Standing.{held_in, held_of, Gains, Loses, SameHeld, Stands, StandsAfter}
 
 -- ---- a match stands after one more event that does not end it
 
@@ -87,6 +89,10 @@ same_one : (one other : Event) → one ∷ [] ≡ other ∷ [] → one ≡ other
 unfolding first
 same_one one other is = ap (first one) is
 
+same_head : (one other : Event) (rest more : List Event) → one ∷ rest ≡ other ∷ more → one ≡ other
+unfolding first
+same_head one other rest more is = ap (first one) is
+
 pub told_matched : (standing after : StandingMatches) (told : Told) (c : ℕ) (own : Bor LentMatch) → told ≡ tells.Matched c own → Gains standing c (match_of own.now) after → (event : Event) → told_by told ≡ event ∷ [] → StandsAfter standing event after
 told_matched standing after told c own is gains event one =
     subst (λ (e : Event). StandsAfter standing e after) (same_one _ event (subst (λ (t : Told). told_by t ≡ event ∷ []) is one))
@@ -107,12 +113,12 @@ told_other standing (tells.Wrote c) no_match no_write event one = absurd (no_wri
 told_other standing (tells.Matched c own) no_match no_write event one = absurd (no_match c own refl)
 told_other standing (tells.Failed p) no_match no_write event one = by_plain standing _ event (λ c' d' s'. (λ is. absurd cc, λ w. w)) one
 told_other standing (tells.Invoked i) no_match no_write event one = by_plain standing _ event (λ c' d' s'. (λ is. absurd cc, λ w. w)) one
-told_other standing (tells.Sets c list) no_match no_write event one = sets list.now one
+told_other standing (tells.Sets components list) no_match no_write event one = sets (components_of components) list.now one
   where
-    sets : (params : List Param) → set_events c params ≡ event ∷ [] → StandsAfter standing event standing
-    sets [] is = absurd cc
-    sets (param ∷ []) is = by_plain standing _ event (λ c' d' s'. (λ is. absurd cc, λ w. w)) is
-    sets (param ∷ other ∷ params) is = absurd cc
+    sets : (cs : List ℕ) (params : List Param) → sets_at cs params ≡ event ∷ [] → StandsAfter standing event standing
+    sets [] params is = absurd cc
+    sets (c ∷ cs) [] is = sets cs [] is
+    sets (c ∷ cs) (param ∷ params) is = subst (λ (e : Event). StandsAfter standing e standing) (same_head (Set c param) event (set_events c params ++ sets_at cs (param ∷ params)) [] is) (after_plain standing (Set c param) (λ c' d' s'. (λ is. absurd cc, λ w. w)))
 
 -- and after those of an override
 pub stands_set : (matches : StandingMatches) (events : List Event) (c : ℕ) (list : List Param) → Stands matches events → Stands matches (events ++ set_events c list)
@@ -121,7 +127,16 @@ stands_set matches events c (param ∷ list) stand =
     let one : Stands matches (events ++ Set c param ∷ []) = after_plain matches (Set c param) (λ c' d' s'. (λ is. absurd cc, λ w. w)) events stand in
     subst (Stands matches) (append_assoc events (Set c param ∷ []) (set_events c list)) (stands_set matches (events ++ Set c param ∷ []) c list one)
 
+-- at some components
+pub stands_sets : (matches : StandingMatches) (events : List Event) (cs : List ℕ) (list : List Param) → Stands matches events → Stands matches (events ++ sets_at cs list)
+stands_sets matches events [] list stand = subst (Stands matches) (sym (append-nil events)) stand
+stands_sets matches events (c ∷ cs) list stand =
+    subst (Stands matches) (append_assoc events (set_events c list) (sets_at cs list)) (stands_sets matches (events ++ set_events c list) cs list (stands_set matches events c list stand))
+
 -- ---- where the same matches are held
+
+pub stands_same : (one other : StandingMatches) (events : List Event) → other.of.items ≡ one.of.items → Stands one events → Stands other events
+stands_same one other events same stand c d s = subst (λ (of : List (Option (List Match))). In (d, s) (held_in (slice_get of c)) ↔ HasMatched events c d s) (sym same) (stand c d s)
 
 pub same_standing : (one other : StandingMatches) (events more : List Event) → Stands one events → Stands other more → ((component : ℕ) → SameHeld one other component) → SameMatches events more
 same_standing one other events more a b same c d s =

@@ -7,4 +7,4 @@ use Rattle.path_checker.specs.Happening.{told_by}
 
 abbrev pub parts_from : Option (Bor Part) → List (List Event)
 parts_from None = []
-parts_from (Some part) = told_by part.now.told ∷ part.now.before
+parts_from (Some part) = told_by part.now.told.now ∷ part.now.before

@@ -1,5 +1,5 @@
 -- When the states that are kept stand for all runs from other ones.
-use Rattle.std.specs.Prelude.{◌≡◌, ◌⊎◌, ℕ, Bool, List, [], ◌∷◌, ◌++◌, length}
+use Rattle.std.specs.Prelude.{◌≡◌, ◌⊎◌, ℕ, Bool, List, [], ◌∷◌, ◌++◌, Option, Some, None, length}
 use Rattle.suit_params.specs.InForce.{Parameters}
 use Rattle.path_model.specs.declared.identity.Identity.{Identity}
 use Rattle.path_model.specs.declared.event.Event.{Event}
@@ -29,6 +29,11 @@ state_of parameters selection soft_failure = record { parameters = parameters; s
 
 abbrev pub kept_of : List Knowledge → List Event → State → Kept
 kept_of facts events state = record { facts = facts; events = events; state = state }
+
+-- a state, if there is one
+abbrev pub at_most_one : Option Kept → List Kept
+at_most_one None = []
+at_most_one (Some k) = k ∷ []
 
 -- a failed condition at a place, with the soft failure that its sequence held
 pub record Stopped : Type 0 where

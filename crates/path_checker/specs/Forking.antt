@@ -1,5 +1,5 @@
 -- Whether a component has something of its own, as far as the facts tell.
-use Rattle.std.specs.Prelude.{◌≡◌, ◌≢◌, ◌↔◌, ◌++◌, ℕ, Bool, true, false, List, [], ◌∷◌, Option, Some, None, slice_get}
+use Rattle.std.specs.Prelude.{◌≡◌, ◌≢◌, ◌↔◌, ◌⊎◌, ◌++◌, ℕ, Bool, true, false, List, [], ◌∷◌, Option, Some, None, get_or, slice_get, slice_set}
 use Rattle.path_model.specs.declared.identity.Identity.{Identity}
 use Rattle.path_checker.specs.declared.judge_plan.facts.Own.{Own}
 use Rattle.path_checker.specs.declared.judge_plan.facts.Own.TheVariants as owns
@@ -7,7 +7,7 @@ use Rattle.path_checker.specs.declared.judge_plan.facts.Knowledge.{Knowledge}
 use Rattle.path_checker.specs.declared.judge_plan.facts.Fork.{Fork}
 use Rattle.path_checker.specs.declared.judge_plan.facts.Fork.TheVariants as forks
 use Rattle.path_checker.specs.Exploring.{In}
-use Rattle.path_checker.specs.Knowing.{Known, Agrees, AllowsOne, Allows, HasOwn, Learns}
+use Rattle.path_checker.specs.Knowing.{nothing, Known, Agrees, AllowsOne, Allows, HasOwn, Learns}
 
 -- knowledge is narrowed to this
 abbrev pub Narrows : {A : Type 0} → Known A → Known A → (Option A → Type 0) → Type 0
@@ -76,3 +76,13 @@ abbrev pub Forks : List Knowledge → ℕ → Own → Fork → Type 0
 Forks facts component own forks.Has = (identities : List Identity) → Allows facts identities → Has component own identities
 Forks facts component own forks.HasNot = (identities : List Identity) → Allows facts identities → HasNo component own identities
 Forks facts component own (forks.Either has has_not) = Learns facts has (Has component own) × Learns facts has_not (HasNo component own)
+
+-- one component has this
+abbrev pub learnt_at : List Knowledge → ℕ → Own → List Knowledge
+learnt_at facts component own = slice_set facts component (learnt (get_or facts component nothing) own)
+
+-- no identities that are allowed have it, or all do, or these are the facts where they do, and others those where they do not
+abbrev pub Learnt : List Knowledge → ℕ → Own → Option (List Knowledge) → Type 0
+Learnt facts component own None = Forks facts component own forks.HasNot
+Learnt facts component own (Some learned) =
+    (Forks facts component own forks.Has × (learned ≡ facts)) ⊎ ((others : List Knowledge) × Forks facts component own (forks.Either learned others))

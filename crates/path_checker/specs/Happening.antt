@@ -8,6 +8,8 @@ use Rattle.path_checker.specs.declared.judge_plan.happened.Happened.{Happened}
 use Rattle.path_checker.specs.declared.judge_plan.happened.Happened.TheVariants as lent
 use Rattle.path_checker.specs.declared.judge_plan.happened.Ended.{Ended}
 use Rattle.path_checker.specs.declared.judge_plan.happened.Ended.TheVariants as ends
+use Rattle.suit_params.specs.declared.param.Param.{Param}
+use Rattle.path_checker.specs.Selecting.{components_of}
 use Rattle.path_checker.specs.Matches.{match_of, match_event}
 use Rattle.path_checker.specs.declared.judge_plan.trace.Invoke.{Invoke}
 use Rattle.path_checker.specs.declared.judge_plan.trace.Told.{Told}
@@ -24,6 +26,11 @@ event_of (lent.Failed place) = events.Failed place
 abbrev pub invoke_event : Invoke → Event
 invoke_event invoke = events.Invoked invoke.component (option_copied invoke.digest) invoke.size invoke.passed
 
+-- those of an override at some components
+abbrev pub sets_at : List ℕ → List Param → List Event
+sets_at [] list = []
+sets_at (component ∷ components) list = set_events component list ++ sets_at components list
+
 abbrev pub told_by : Told → List Event
 told_by (told.Tried component kind passed) = events.Tried component kind passed ∷ []
 told_by (told.Missed component) = events.Missed component ∷ []
@@ -31,7 +38,7 @@ told_by (told.Wrote component) = events.Wrote component ∷ []
 told_by (told.Matched component own) = match_event component (match_of own.now) ∷ []
 told_by (told.Failed place) = events.Failed place ∷ []
 told_by (told.Invoked invoke) = invoke_event invoke.now ∷ []
-told_by (told.Sets component list) = set_events component list.now
+told_by (told.Sets components list) = sets_at (components_of components) list.now
 
 -- the events up to a failed condition at a place
 abbrev pub after_end : List Event → Ended → ℕ → List Event

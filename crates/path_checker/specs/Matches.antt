@@ -14,9 +14,13 @@ Match = Digest × Option ℕ
 abbrev pub match_of : LentMatch → Match
 match_of lent = (lent.digest.now, lent.size)
 
-abbrev pub matches_from : Option (Bor (List Match)) → List Match
+abbrev pub all_lent : List (Bor LentMatch) → List Match
+all_lent [] = []
+all_lent (lent ∷ rest) = match_of lent.now ∷ all_lent rest
+
+abbrev pub matches_from : Option (List Match) → List Match
 matches_from None = []
-matches_from (Some node) = node.now
+matches_from (Some held) = held
 
 -- the event that a component matched so
 abbrev pub match_event : ℕ → Match → Event

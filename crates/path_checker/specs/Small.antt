@@ -3,7 +3,7 @@ use Rattle.std.specs.Prelude.{◌<◌, ◌≤◌, ℕ, List}
 use Rattle.std.specs.List.{AllByRecursion}
 use Rattle.suit_commands.specs.declared.selection.Selection.{Selection}
 use Rattle.suit_commands.specs.declared.selection.Selection.TheVariants.{One, All, Listed}
-use Rattle.suit_commands.specs.Tree.{CommandTree, Index, TryEach, RunSequence, SequenceTree, NoSteps, StepThen, BranchesTree, NoBranches, BranchThen, NullThen}
+use Rattle.suit_commands.specs.Tree.{CommandTree, Test, Act, Override, Index, TryEach, RunSequence, SequenceTree, NoSteps, StepThen, BranchesTree, NoBranches, BranchThen, NullThen}
 
 abbrev pub AreSmall : List ℕ → Type 0
 AreSmall components = AllByRecursion (λ component. component < 8) components
@@ -28,3 +28,10 @@ abbrev mutual
   AreSmallBranches count NoBranches = Unit {0}
   AreSmallBranches count (NullThen rest) = AreSmallBranches count rest
   AreSmallBranches count (BranchThen inner rest) = IsSmallSequence count inner × AreSmallBranches count rest
+
+-- neither a selection nor a command with a sequence inside
+abbrev pub IsStraight : CommandTree → Type 0
+IsStraight (Test kind report) = Unit {0}
+IsStraight (Act kind report) = Unit {0}
+IsStraight (Override list) = Unit {0}
+IsStraight _ = ⊥

@@ -1,6 +1,5 @@
 -- The matches that stand after events, and parts of events in the order in which they happened.
 use Rattle.std.specs.Prelude.{◌↔◌, ◌≡◌, ◌≢◌, ◌⊎◌, ℕ, List, [], ◌∷◌, ◌++◌, Option, Some, None, slice_get}
-use Rattle.std.specs.Borrow.{Bor}
 use Rattle.suit_params.specs.declared.digest.Digest.{Digest}
 use Rattle.path_model.specs.declared.event.Event.{Event}
 use Rattle.path_model.specs.Safe.{HasMatched}
@@ -14,12 +13,12 @@ all_in_order [] = []
 all_in_order (part ∷ parts) = all_in_order parts ++ part
 
 -- the matches of a component
-abbrev pub held_in : Option (Option (Bor (List Match))) → List Match
+abbrev pub held_in : Option (Option (List Match)) → List Match
 held_in None = []
 held_in (Some tree) = matches_from tree
 
 abbrev pub held_of : StandingMatches → ℕ → List Match
-held_of standing component = held_in (slice_get standing.of component)
+held_of standing component = held_in (slice_get standing.of.items component)
 
 -- one match of a component more
 abbrev pub Gains : StandingMatches → ℕ → Match → StandingMatches → Type 0

@@ -1,6 +1,7 @@
 -- The effect of single steps on a state, and of a command at one component.
 use Rattle.std.specs.Prelude.{ℕ, Bool, List, [], ◌∷◌, ◌++◌}
 use Rattle.suit_params.specs.declared.param.Param.{Param}
+use Rattle.suit_params.specs.InForce.{Parameters, overridden}
 use Rattle.suit_commands.specs.Tree.{CommandTree, Test, Act, Index, Override, TryEach, RunSequence}
 use Rattle.path_model.specs.declared.event.Event.{Event}
 use Rattle.path_model.specs.Conditions.{Tests}
@@ -29,6 +30,15 @@ stopped_after k ended place = record { facts = k.facts; events = after_end k.eve
 abbrev pub soft_after_all : Bool → List Param → Bool
 soft_after_all soft_failure [] = soft_failure
 soft_after_all soft_failure (param ∷ list) = soft_after_all (soft_after soft_failure param) list
+
+-- the parameters in force, and soft failure, after an override at some components
+abbrev pub overridden_at : Parameters → List ℕ → List Param → Parameters
+overridden_at parameters [] list = parameters
+overridden_at parameters (component ∷ components) list = overridden_at (overridden parameters component list) components list
+
+abbrev pub soft_at : Bool → List ℕ → List Param → Bool
+soft_at soft_failure [] list = soft_failure
+soft_at soft_failure (component ∷ components) list = soft_at (soft_after_all soft_failure list) components list
 
 abbrev pub with_selection : Kept → List ℕ → Kept
 with_selection k selection = record { facts = k.facts; events = k.events; state = record k.state { selection = selection } }

@@ -23,9 +23,11 @@ mod matches;
 mod memory;
 mod merged;
 mod procedure_walk;
+mod reuse;
 mod same_param;
 mod selected;
 mod standing;
+mod straight;
 mod trace;
 mod walk;
 
@@ -70,20 +72,10 @@ fn told(alloc: Global, k: Kept<'_>) -> CheckVerdict
 }
 
 // Whether each invoke is covered, with this memory.
-fn judge_in<'a>(
-    alloc: Global,
-    events: &'a Bump,
-    left: &'a Cell<u64>,
-    plan: Plan<'a>,
-) -> CheckVerdict
+fn judge_in<'a>(memory: Memory<'a>, plan: Plan<'a>) -> CheckVerdict
     requires { ArePlan (plan_tree plan) }
     ensures { Judges (plan_tree plan.entry) result }
 {
-    let memory = Memory {
-        alloc,
-        events,
-        left,
-    };
     let Ok(from) = first(memory.alloc, plan.count) else {
         return CheckVerdict::NoMemory;
     };
@@ -94,6 +86,22 @@ fn judge_in<'a>(
     }
 }
 
+// Whether each invoke is covered, with events in this memory.
+fn judge_with<'a>(
+    alloc: Global,
+    events: &'a Bump,
+    left: &'a Cell<u64>,
+    plan: Plan<'a>,
+) -> CheckVerdict
+    requires { ArePlan (plan_tree plan) }
+    ensures { Judges (plan_tree plan.entry) result }
+{
+    match Memory::new(alloc, events, left) {
+        Ok(memory) => judge_in(memory, plan),
+        Err(_) => CheckVerdict::NoMemory,
+    }
+}
+
 // Whether each invoke is covered.
 fn judge(alloc: Global, plan: &Plan<'_>) -> CheckVerdict
     requires { ArePlan (plan_tree plan.now) }
@@ -101,7 +109,7 @@ fn judge(alloc: Global, plan: &Plan<'_>) -> CheckVerdict
 {
     let events = Bump::new(alloc);
     let left = Cell::new(COMPARED);
-    judge_in(alloc, &events, &left, *plan)
+    judge_with(alloc, &events, &left, *plan)
 }
 
 /// Judges a procedure of the grammar for all identities of its components (draft-ietf-suit-manifest-25, section 6.4).

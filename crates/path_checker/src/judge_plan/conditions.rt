@@ -1,15 +1,15 @@
 //! Conditions at one component.
 
-ghost use Rattle.std.specs.Prelude.{◌≡◌, ◌<◌, List, [], ◌∷◌, Some, OnOk};
+ghost use Rattle.std.specs.Prelude.{◌≡◌, ◌<◌, List, [], ◌∷◌, Some, IfOk, OnOk};
 ghost use Rattle.path_model.specs.CommandLaws.{IsOnIdentity};
 ghost use Rattle.path_model.specs.Conditions.{Tests};
-ghost use Rattle.path_checker.specs.Exploring.{Adds, Kept as TheKept};
+ghost use Rattle.path_checker.specs.Exploring.{Adds, Passes, Kept as TheKept, at_most_one};
 ghost use Rattle.path_checker.specs.Wanting.{TestsOwn};
 ghost use Rattle.path_checker.specs.Steps.{knowing};
 
 use crate::judge_plan::facts::{Facts, Fork, Own};
 use crate::judge_plan::happened::{Ended, Happened};
-use crate::judge_plan::kept::{Kept, Stopped, pass, stop};
+use crate::judge_plan::kept::{Kept, Stopped, pass, stop, went};
 use crate::judge_plan::memory::Memory;
 use std::alloc::AllocError;
 use suit_commands::TestKind;
@@ -54,7 +54,7 @@ fn own_test<'a>(
             Ok(())
         }
         Fork::Either(has, has_not) => {
-            let other = k.copy_with(has_not)?;
+            let other = k.copy_with(memory.alloc, has_not)?;
             pass(memory, under(k, has), passed, next)?;
             stop(other, place, missed, failed)?;
             Ok(())
@@ -116,7 +116,7 @@ fn image_match<'a>(
                 digest,
                 size,
             };
-            pass(memory, k.copy()?, matched, next)?;
+            pass(memory, k.copy(memory.alloc)?, matched, next)?;
             stop(k, place, Ended::Missed { component }, failed)?;
             Ok(())
         }
@@ -146,7 +146,7 @@ fn check_content<'a>(
             kind: TestKind::CheckContent,
             passed: true,
         };
-        pass(memory, k.copy()?, passed, next)?;
+        pass(memory, k.copy(memory.alloc)?, passed, next)?;
         stop(k, place, missed, failed)?;
         return Ok(());
     }
@@ -171,6 +171,142 @@ fn abort<'a>(
     };
     stop(k, place, missed, failed)?;
     Ok(())
+}
+
+// ---- where failures are not kept
+
+// An identity condition that asks for something.
+fn pass_own_test<'a>(
+    memory: Memory<'a>,
+    place: u64,
+    kind: TestKind,
+    component: u32,
+    own: &Own,
+    k: Kept<'a>,
+) -> Result<Option<Kept<'a>>, AllocError>
+    ensures { IfOk result
+        (λ to. Passes (TestsOwn kind place component (Some own.now))
+        (k.entry ∷ []) (at_most_one to)) }
+{
+    let Kept {
+        facts,
+        history,
+        params,
+        selection,
+        soft_failure,
+    } = k;
+    match facts.learn(memory.alloc, component, own)? {
+        Some(facts) => {
+            let passed = Happened::Tried {
+                component,
+                kind,
+                passed: true,
+            };
+            let history = history.with(memory, passed)?;
+            Ok(Some(Kept {
+                facts,
+                history,
+                params,
+                selection,
+                soft_failure,
+            }))
+        }
+        None => Ok(None),
+    }
+}
+
+// A condition on the identity.
+fn pass_identity_test<'a>(
+    memory: Memory<'a>,
+    place: u64,
+    kind: TestKind,
+    component: u32,
+    k: Kept<'a>,
+) -> Result<Option<Kept<'a>>, AllocError>
+    requires room { component < 8 }
+    requires kinds { IsOnIdentity kind }
+    ensures { IfOk result
+        (λ to. Passes (λ identities. Tests kind identities place component) (k.entry ∷ [])
+        (at_most_one to)) }
+{
+    match k.params.wanted(kind, component) {
+        Some(own) => pass_own_test(memory, place, kind, component, &own, k),
+        None => Ok(None),
+    }
+}
+
+// Image match, under the digest and size in force.
+fn pass_image_match<'a>(
+    memory: Memory<'a>,
+    place: u64,
+    component: u32,
+    k: Kept<'a>,
+) -> Result<Option<Kept<'a>>, AllocError>
+    requires room { component < 8 }
+    ensures { IfOk result
+        (λ to. Passes (λ identities. Tests TestKind.ImageMatch identities place component)
+        (k.entry ∷ []) (at_most_one to)) }
+{
+    match k.params.digest(component) {
+        Some(digest) => {
+            let size = k.params.size(component);
+            let matched = Happened::Matched {
+                component,
+                digest,
+                size,
+            };
+            let to = went(memory, k, matched)?;
+            Ok(Some(to))
+        }
+        None => Ok(None),
+    }
+}
+
+fn pass_check_content<'a>(
+    memory: Memory<'a>,
+    place: u64,
+    component: u32,
+    k: Kept<'a>,
+) -> Result<Option<Kept<'a>>, AllocError>
+    requires room { component < 8 }
+    ensures { IfOk result
+        (λ to. Passes (λ identities. Tests TestKind.CheckContent identities place component)
+        (k.entry ∷ []) (at_most_one to)) }
+{
+    if k.params.has_content(component) {
+        let passed = Happened::Tried {
+            component,
+            kind: TestKind::CheckContent,
+            passed: true,
+        };
+        let to = went(memory, k, passed)?;
+        return Ok(Some(to));
+    }
+    Ok(None)
+}
+
+/// A condition whose failure ends the procedure: the state after it, where it may be met.
+pub(crate) fn pass_test<'a>(
+    memory: Memory<'a>,
+    place: u64,
+    kind: TestKind,
+    component: u32,
+    k: Kept<'a>,
+) -> Result<Option<Kept<'a>>, AllocError>
+    requires room { component < 8 }
+    ensures { IfOk result
+        (λ to. Passes (λ identities. Tests kind identities place component) (k.entry ∷ [])
+        (at_most_one to)) }
+{
+    match kind {
+        TestKind::Vendor => pass_identity_test(memory, place, kind, component, k),
+        TestKind::Class => pass_identity_test(memory, place, kind, component, k),
+        TestKind::Device => pass_identity_test(memory, place, kind, component, k),
+        TestKind::Slot => pass_identity_test(memory, place, kind, component, k),
+        TestKind::ImageMatch => pass_image_match(memory, place, component, k),
+        TestKind::CheckContent => pass_check_content(memory, place, component, k),
+        TestKind::Abort => Ok(None),
+    }
 }
 
 /// A condition: the states after it, and its failures.

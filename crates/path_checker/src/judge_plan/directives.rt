@@ -1,15 +1,17 @@
 //! Directives at one component.
 
 ghost use Rattle.std.specs.Prelude.{◌≡◌, ◌<◌, List, [], ◌∷◌, ◌++◌, OnOk, IfOk, IfErr};
+ghost use Rattle.path_model.specs.Behaviour.{Each};
 ghost use Rattle.path_model.specs.Directives.{Acts, Overrides, soft_after};
-ghost use Rattle.path_checker.specs.Exploring.{Adds, Stopped as TheStopped};
+ghost use Rattle.path_checker.specs.Exploring.{Explores, at_most_one};
 ghost use Rattle.path_checker.specs.Steps.{soft_after_all};
 ghost use Rattle.path_checker.specs.Halting.{Halts};
 
 use crate::judge_plan::halt::Halt;
 use crate::judge_plan::happened::Happened;
-use crate::judge_plan::kept::{Kept, pass, went};
+use crate::judge_plan::kept::{Kept, went};
 use crate::judge_plan::memory::Memory;
+use crate::judge_plan::selected::Components;
 use std::alloc::AllocError;
 use suit_commands::ActKind;
 use suit_params::{Param, ParamList};
@@ -19,18 +21,17 @@ fn write<'a>(
     place: u64,
     component: u32,
     k: Kept<'a>,
-    next: &mut Vec<Kept<'a>>,
-) -> Result<(), AllocError>
+) -> Result<Option<Kept<'a>>, AllocError>
     requires room { component < 8 }
-    ensures { OnOk result
-        ((f : List TheStopped)
-        → Adds (λ identities. Acts ActKind.Write place component) (k.entry ∷ []) next.old.items
-        next.new.items f f) }
+    ensures { IfOk result
+        (λ to. Explores (λ identities. Acts ActKind.Write place component)
+        (k.entry ∷ []) (at_most_one to) []) }
 {
     if k.params.has_content(component) {
-        pass(memory, k, Happened::Wrote { component }, next)?;
+        let to = went(memory, k, Happened::Wrote { component })?;
+        return Ok(Some(to));
     }
-    Ok(())
+    Ok(None)
 }
 
 fn fetch<'a>(
@@ -38,18 +39,17 @@ fn fetch<'a>(
     place: u64,
     component: u32,
     k: Kept<'a>,
-    next: &mut Vec<Kept<'a>>,
-) -> Result<(), AllocError>
+) -> Result<Option<Kept<'a>>, AllocError>
     requires room { component < 8 }
-    ensures { OnOk result
-        ((f : List TheStopped)
-        → Adds (λ identities. Acts ActKind.Fetch place component) (k.entry ∷ []) next.old.items
-        next.new.items f f) }
+    ensures { IfOk result
+        (λ to. Explores (λ identities. Acts ActKind.Fetch place component)
+        (k.entry ∷ []) (at_most_one to) []) }
 {
     if k.params.has_uri(component) {
-        pass(memory, k, Happened::Wrote { component }, next)?;
+        let to = went(memory, k, Happened::Wrote { component })?;
+        return Ok(Some(to));
     }
-    Ok(())
+    Ok(None)
 }
 
 fn copy<'a>(
@@ -57,20 +57,18 @@ fn copy<'a>(
     place: u64,
     component: u32,
     k: Kept<'a>,
-    next: &mut Vec<Kept<'a>>,
-) -> Result<(), AllocError>
+) -> Result<Option<Kept<'a>>, AllocError>
     requires room { component < 8 }
-    ensures { OnOk result
-        ((f : List TheStopped)
-        → Adds (λ identities. Acts ActKind.Copy place component) (k.entry ∷ []) next.old.items
-        next.new.items f f) }
+    ensures { IfOk result
+        (λ to. Explores (λ identities. Acts ActKind.Copy place component)
+        (k.entry ∷ []) (at_most_one to) []) }
 {
     match k.params.source(component) {
         Some(_) => {
-            pass(memory, k, Happened::Wrote { component }, next)?;
-            Ok(())
+            let to = went(memory, k, Happened::Wrote { component })?;
+            Ok(Some(to))
         }
-        None => Ok(()),
+        None => Ok(None),
     }
 }
 
@@ -80,21 +78,19 @@ fn swap<'a>(
     place: u64,
     component: u32,
     k: Kept<'a>,
-    next: &mut Vec<Kept<'a>>,
-) -> Result<(), AllocError>
+) -> Result<Option<Kept<'a>>, AllocError>
     requires room { component < 8 }
-    ensures { OnOk result
-        ((f : List TheStopped)
-        → Adds (λ identities. Acts ActKind.Swap place component) (k.entry ∷ []) next.old.items
-        next.new.items f f) }
+    ensures { IfOk result
+        (λ to. Explores (λ identities. Acts ActKind.Swap place component)
+        (k.entry ∷ []) (at_most_one to) []) }
 {
     match k.params.source(component) {
         Some(source) => {
             let one = went(memory, k, Happened::Wrote { component })?;
-            pass(memory, one, Happened::Wrote { component: source }, next)?;
-            Ok(())
+            let both = went(memory, one, Happened::Wrote { component: source })?;
+            Ok(Some(both))
         }
-        None => Ok(()),
+        None => Ok(None),
     }
 }
 
@@ -103,13 +99,11 @@ fn invoke<'a>(
     place: u64,
     component: u32,
     k: Kept<'a>,
-    next: &mut Vec<Kept<'a>>,
-) -> Result<(), Halt<'a>>
+) -> Result<Option<Kept<'a>>, Halt<'a>>
     requires room { component < 8 }
-    ensures ok { OnOk result
-        ((f : List TheStopped)
-        → Adds (λ identities. Acts ActKind.Invoke place component) (k.entry ∷ []) next.old.items
-        next.new.items f f) }
+    ensures ok { IfOk result
+        (λ to. Explores (λ identities. Acts ActKind.Invoke place component)
+        (k.entry ∷ []) (at_most_one to) []) }
     ensures err { IfErr result
         (λ h. Halts (λ identities. Acts ActKind.Invoke place component) (k.entry ∷ []) h) }
 {
@@ -134,8 +128,7 @@ fn invoke<'a>(
             };
             let to = went(memory, k, event)?;
             if covered {
-                next.push(to)?;
-                Ok(())
+                Ok(Some(to))
             } else {
                 Err(Halt::Uncovered(to))
             }
@@ -150,22 +143,20 @@ pub(crate) fn act<'a>(
     kind: ActKind,
     component: u32,
     k: Kept<'a>,
-    next: &mut Vec<Kept<'a>>,
-) -> Result<(), Halt<'a>>
+) -> Result<Option<Kept<'a>>, Halt<'a>>
     requires room { component < 8 }
-    ensures ok { OnOk result
-        ((f : List TheStopped)
-        → Adds (λ identities. Acts kind place component) (k.entry ∷ []) next.old.items
-        next.new.items f f) }
+    ensures ok { IfOk result
+        (λ to. Explores (λ identities. Acts kind place component)
+        (k.entry ∷ []) (at_most_one to) []) }
     ensures err { IfErr result
         (λ h. Halts (λ identities. Acts kind place component) (k.entry ∷ []) h) }
 {
     match kind {
-        ActKind::Write => Ok(write(memory, place, component, k, next)?),
-        ActKind::Fetch => Ok(fetch(memory, place, component, k, next)?),
-        ActKind::Copy => Ok(copy(memory, place, component, k, next)?),
-        ActKind::Swap => Ok(swap(memory, place, component, k, next)?),
-        ActKind::Invoke => invoke(memory, place, component, k, next),
+        ActKind::Write => Ok(write(memory, place, component, k)?),
+        ActKind::Fetch => Ok(fetch(memory, place, component, k)?),
+        ActKind::Copy => Ok(copy(memory, place, component, k)?),
+        ActKind::Swap => Ok(swap(memory, place, component, k)?),
+        ActKind::Invoke => invoke(memory, place, component, k),
     }
 }
 
@@ -196,18 +187,61 @@ pub(crate) fn overrides<'a>(
     list: &'a ParamList,
     component: u32,
     k: Kept<'a>,
-    next: &mut Vec<Kept<'a>>,
-) -> Result<(), AllocError>
+) -> Result<Kept<'a>, AllocError>
     requires room { component < 8 }
-    ensures { OnOk result
-        ((f : List TheStopped)
-        → Adds (λ identities. Overrides list.now component) (k.entry ∷ []) next.old.items
-        next.new.items f f) }
+    ensures { IfOk result
+        (λ to. Explores (λ identities. Overrides list.now component) (k.entry ∷ []) (to ∷ []) []) }
 {
-    let mut k = k;
-    k.history.push_sets(memory.events, component, list)?;
-    k.params.override_with(memory.alloc, component, list)?;
-    k.soft_failure = soft_after_all(k.soft_failure, list);
-    next.push(k)?;
-    Ok(())
+    let Kept {
+        facts,
+        history,
+        params,
+        selection,
+        soft_failure,
+    } = k;
+    let mut params = params;
+    params.override_with(memory.alloc, component, list)?;
+    let history = history.with_sets(memory, Components::One(component), list)?;
+    Ok(Kept {
+        facts,
+        history,
+        params,
+        selection,
+        soft_failure: soft_after_all(soft_failure, list),
+    })
+}
+
+/// Override parameters at each selected component: the state after it.
+pub(crate) fn overrides_each<'a>(
+    memory: Memory<'a>,
+    list: &'a ParamList,
+    k: Kept<'a>,
+) -> Result<Kept<'a>, AllocError>
+    ensures { IfOk result
+        (λ to. Explores
+        (λ identities. Each (λ component. Overrides list.now component) k.entry.state.selection)
+        (k.entry ∷ []) (to ∷ []) []) }
+{
+    let Kept {
+        facts,
+        history,
+        params,
+        selection,
+        soft_failure,
+    } = k;
+    let components = selection.listed(memory.alloc)?;
+    let mut params = params;
+    let mut soft_failure = soft_failure;
+    for component in components.as_slice() {
+        params.override_with(memory.alloc, *component, list)?;
+        soft_failure = soft_after_all(soft_failure, list);
+    }
+    let history = history.with_sets(memory, selection.components(), list)?;
+    Ok(Kept {
+        facts,
+        history,
+        params,
+        selection,
+        soft_failure,
+    })
 }

@@ -1,8 +1,8 @@
 //! Knowledge of the identities of all components.
 
-ghost use Rattle.std.specs.Prelude.{◌≡◌, ◌<◌, length, slice_set, IsTrue, IfOk};
+ghost use Rattle.std.specs.Prelude.{◌≡◌, ◌<◌, length, slice_set, IsTrue, IfOk, OnOk};
 ghost use Rattle.path_checker.specs.Knowing.{nothing, nothing_known};
-ghost use Rattle.path_checker.specs.Forking.{Forks, TellsOne, learnt, excluded};
+ghost use Rattle.path_checker.specs.Forking.{Forks, Learnt, TellsOne, learnt_at, learnt, excluded};
 
 use crate::judge_plan::fingerprint::mixed;
 use crate::judge_plan::known::Known;
@@ -121,17 +121,24 @@ impl Knowledge {
         }
     }
 
+    // It has this.
+    fn learn(&mut self, alloc: Global, own: &Own)
+        ensures { self.new ≡ learnt self.old own.now }
+    {
+        match own {
+            Own::Vendor(id) => self.vendor = Known::of(alloc, *id),
+            Own::Class(id) => self.class = Known::of(alloc, *id),
+            Own::Device(id) => self.device = Known::of(alloc, *id),
+            Own::Slot(number) => self.slot = Known::of(alloc, *number),
+        }
+    }
+
     // A copy that has this.
     fn with(&self, alloc: Global, own: &Own) -> Result<Knowledge, AllocError>
         ensures { IfOk result (λ other. other ≡ learnt self.now own.now) }
     {
         let mut other = self.copy(alloc)?;
-        match own {
-            Own::Vendor(id) => other.vendor = Known::of(alloc, *id),
-            Own::Class(id) => other.class = Known::of(alloc, *id),
-            Own::Device(id) => other.device = Known::of(alloc, *id),
-            Own::Slot(number) => other.slot = Known::of(alloc, *number),
-        }
+        other.learn(alloc, own);
         Ok(other)
     }
 
@@ -204,6 +211,18 @@ impl Shared {
     {
         let known = self.held.with(alloc, own)?;
         Shared::new(alloc, known)
+    }
+
+    // It has this. Others that share the knowledge keep it.
+    fn learn(&mut self, alloc: Global, own: &Own) -> Result<(), AllocError>
+        ensures { OnOk result (self.new ≡ learnt self.old own.now) }
+    {
+        match Rc::get_mut(&mut self.held) {
+            Some(known) => known.learn(alloc, own),
+            None => self.held = Rc::new(alloc, self.held.with(alloc, own)?)?,
+        }
+        self.print = self.held.fingerprint();
+        Ok(())
     }
 
     // One that has it not.
@@ -293,6 +312,46 @@ impl Facts {
         Ok(Facts {
             held: Rc::new(alloc, held)?,
         })
+    }
+
+    // A component has this. Others that share the knowledge keep it.
+    fn learn_at(&mut self, alloc: Global, component: usize, own: &Own) -> Result<(), AllocError>
+        requires { component < length self.now }
+        ensures { OnOk result (self.new ≡ learnt_at self.old component own.now) }
+    {
+        match Rc::get_mut(&mut self.held) {
+            Some(held) => held[component].learn(alloc, own),
+            None => {
+                let mut held = self.copied(alloc)?;
+                held[component].learn(alloc, own)?;
+                self.held = Rc::new(alloc, held)?;
+                Ok(())
+            }
+        }
+    }
+
+    /// The facts where a component has something of its own, if it may.
+    pub(crate) fn learn(
+        self,
+        alloc: Global,
+        component: u32,
+        own: &Own,
+    ) -> Result<Option<Facts>, AllocError>
+        ensures { IfOk result (Learnt self component own.now) }
+    {
+        let index = component as usize;
+        let mut facts = self;
+        let held = facts.as_slice();
+        if index >= held.len() {
+            return Ok(None);
+        }
+        match held[index].tells(own) {
+            Some(has) => { if has { Ok(Some(facts)) } else { Ok(None) } }
+            None => {
+                facts.learn_at(alloc, index, own)?;
+                Ok(Some(facts))
+            }
+        }
     }
 
     /// Whether a component has something of its own. A component of which there is no identity has nothing.

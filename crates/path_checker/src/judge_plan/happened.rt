@@ -36,6 +36,20 @@ pub(crate) enum Happened<'a> {
     },
 }
 
+impl<'a> Happened<'a> {
+    /// The component where it happened.
+    pub(crate) fn component(&self) -> u32 {
+        match self {
+            Happened::Tried { component, .. } => *component,
+            Happened::Matched { component, .. } => *component,
+            Happened::Missed { component } => *component,
+            Happened::Wrote { component } => *component,
+            Happened::Invoked { component, .. } => *component,
+            Happened::Failed { .. } => 0,
+        }
+    }
+}
+
 /// How a failed condition ended a sequence: by an event, or as a try each of which each branch had failed before.
 #[derive(Clone, Copy)]
 pub(crate) enum Ended {

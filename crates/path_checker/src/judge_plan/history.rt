@@ -1,24 +1,25 @@
 //! The history of a state.
 
-ghost use Rattle.std.specs.Prelude.{◌≡◌, ◌↔◌, [], ◌∷◌, ◌++◌, IsTrue, IfOk, OnOk};
-ghost use Rattle.path_model.specs.Directives.{set_events};
+ghost use Rattle.std.specs.Prelude.{◌≡◌, ◌↔◌, [], ◌∷◌, ◌++◌, IsTrue, IfOk};
 ghost use Rattle.path_model.specs.Safe.{HasMatched};
 ghost use Rattle.path_model.specs.Following.{SameMatches};
 ghost use Rattle.path_model.specs.declared.event.Event.{Event as TheEvent};
-ghost use Rattle.path_checker.specs.Happening.{event_of, after_end, told_by};
+ghost use Rattle.path_checker.specs.Happening.{event_of, after_end, sets_at, told_by};
+ghost use Rattle.path_checker.specs.Selecting.{components_of};
 ghost use Rattle.path_checker.specs.Standing.{StandsAfter};
 
 use crate::judge_plan::happened::{Ended, Happened};
 use crate::judge_plan::matches::Match;
+use crate::judge_plan::memory::Memory;
+use crate::judge_plan::selected::Components;
 use crate::judge_plan::standing::StandingMatches;
 use crate::judge_plan::trace::{Told, Trace};
-use bumpalo::Bump;
 use path_model::Events;
 use std::alloc::{AllocError, Global};
 use std::marker::Model;
 use suit_params::{Digest, ParamList};
 
-/// The events that led to a state, and the matches that stand after them. Copying takes no memory.
+/// The events that led to a state, and the matches that stand after them.
 #[derive(Drop)]
 pub(crate) struct History<'a> {
     all: Trace<'a>,
@@ -40,90 +41,92 @@ impl<'a> Model for History<'a> {
 
 // The matches that stand after one more event.
 fn standing_after<'a>(
-    bump: &'a Bump,
-    standing: &StandingMatches<'a>,
-    told: Told<'a>,
+    alloc: Global,
+    standing: StandingMatches<'a>,
+    told: &Told<'a>,
 ) -> Result<StandingMatches<'a>, AllocError>
-    ensures { IfOk result (λ after. (event : TheEvent) → told_by told.entry ≡ event ∷ []
-        → StandsAfter standing.now event after) }
+    ensures { IfOk result (λ after. (event : TheEvent) → told_by told.now ≡ event ∷ []
+        → StandsAfter standing.entry event after) }
 {
     match told {
-        Told::Matched { component, own } => standing.with(bump, component, own),
-        Told::Wrote { component } => Ok(standing.without(component)),
-        _ => Ok(*standing),
+        Told::Matched { component, own } => standing.with(alloc, *component, *own),
+        Told::Wrote { component } => Ok(standing.without(*component)),
+        _ => Ok(standing),
     }
 }
 
 impl<'a> History<'a> {
     /// Nothing has happened.
-    pub(crate) fn new() -> History<'a>
-        ensures { result ≡ [] }
+    pub(crate) fn new(alloc: Global) -> Result<History<'a>, AllocError>
+        ensures { IfOk result (λ history. history ≡ []) }
     {
-        History {
+        let standing = StandingMatches::new(alloc)?;
+        Ok(History {
             all: Trace::new(),
-            standing: StandingMatches::new(),
-        }
+            standing,
+        })
     }
 
     /// The same.
-    pub(crate) fn copy(&self) -> History<'a>
-        ensures { result ≡ self.now }
+    pub(crate) fn copy(&self, alloc: Global) -> Result<History<'a>, AllocError>
+        ensures { IfOk result (λ history. history ≡ self.now) }
     {
         let all = self.all.copy();
-        History {
-            all,
-            standing: self.standing,
-        }
+        let standing = self.standing.copy(alloc)?;
+        Ok(History { all, standing })
     }
 
-    /// Adds the last event.
-    pub(crate) fn push(&mut self, bump: &'a Bump, event: Happened<'a>) -> Result<(), AllocError>
-        ensures { OnOk result (self.new ≡ self.old ++ event_of event.entry ∷ []) }
+    /// One event more.
+    pub(crate) fn with(
+        self,
+        memory: Memory<'a>,
+        event: Happened<'a>,
+    ) -> Result<History<'a>, AllocError>
+        ensures { IfOk result (λ history. history ≡ self.entry ++ event_of event.entry ∷ []) }
     {
-        let told = Told::of(bump, event)?;
-        let standing = standing_after(bump, &self.standing, told)?;
-        let all = self.all.with(bump, told)?;
-        self.all = all;
-        self.standing = standing;
-        Ok(())
+        let History { all, standing } = self;
+        let told = Told::event(memory, event)?;
+        let standing = standing_after(memory.alloc, standing, told)?;
+        let all = all.with(memory.events, told)?;
+        Ok(History { all, standing })
     }
 
-    /// Adds the events of an override at a component. They end no match.
-    pub(crate) fn push_sets(
-        &mut self,
-        bump: &'a Bump,
-        component: u32,
+    /// The events of an override at some components more. They end no match.
+    pub(crate) fn with_sets(
+        self,
+        memory: Memory<'a>,
+        components: Components<'a>,
         list: &'a ParamList,
-    ) -> Result<(), AllocError>
-        ensures { OnOk result (self.new ≡ self.old ++ set_events component list.now) }
+    ) -> Result<History<'a>, AllocError>
+        ensures { IfOk result
+            (λ history. history ≡ self.entry ++ sets_at (components_of components.entry) list.now) }
     {
-        let all = self.all.with(bump, Told::Sets { component, list })?;
-        self.all = all;
-        Ok(())
+        let History { all, standing } = self;
+        let told = Told::sets(memory, components, list)?;
+        let all = all.with(memory.events, told)?;
+        Ok(History { all, standing })
     }
 
-    /// Adds the events of a failed condition at a place.
-    pub(crate) fn push_end(
-        &mut self,
-        bump: &'a Bump,
+    /// The events of a failed condition at a place more.
+    pub(crate) fn with_end(
+        self,
+        memory: Memory<'a>,
         ended: Ended,
         place: u64,
-    ) -> Result<(), AllocError>
-        ensures { OnOk result (self.new ≡ after_end self.old ended place) }
+    ) -> Result<History<'a>, AllocError>
+        ensures { IfOk result (λ history. history ≡ after_end self.entry ended place) }
     {
-        match ended {
-            Ended::Tried { component, kind } => self.push(
-                bump,
-                Happened::Tried {
-                    component,
-                    kind,
-                    passed: false,
-                },
-            )?,
-            Ended::Missed { component } => self.push(bump, Happened::Missed { component })?,
-            Ended::Exhausted => return Ok(()),
-        }
-        self.push(bump, Happened::Failed { place })
+        let event = match ended {
+            Ended::Tried { component, kind } => Happened::Tried {
+                component,
+                kind,
+                passed: false,
+            },
+            Ended::Missed { component } => Happened::Missed { component },
+            Ended::Exhausted => return Ok(self),
+        };
+        let missed = self.with(memory, event)?;
+        missed.with(memory, Happened::Failed { place })
     }
 
     /// Whether a component stands as matched under a digest and a size.

@@ -100,8 +100,7 @@ fn resume<'a>(
     ensures { IfOk result (λ k. k ≡ resumed outer.now stop.entry) }
 {
     let params = outer.params.copy()?;
-    let mut history = stop.history;
-    history.push_end(memory.events, stop.ended, stop.place)?;
+    let history = stop.history.with_end(memory, stop.ended, stop.place)?;
     Ok(Kept {
         facts: stop.facts,
         history,

@@ -2,7 +2,7 @@
 
 ghost use Rattle.std.specs.Prelude.{◌≡◌, [], ◌∷◌, ◌++◌, IsTrue, IfOk, OnOk};
 ghost use Rattle.path_model.specs.Following.{SameMatches};
-ghost use Rattle.path_checker.specs.Exploring.{Kept as TheKept, Stopped as TheStopped, kept_of, state_of};
+ghost use Rattle.path_checker.specs.Exploring.{Kept as TheKept, Stopped as TheStopped, at_most_one, kept_of, state_of};
 ghost use Rattle.path_checker.specs.Happening.{event_of, after_end};
 ghost use Rattle.path_checker.specs.Merging.{SameState, SameStop};
 ghost use Rattle.path_checker.specs.Steps.{with_events, knowing, stopped_after};
@@ -14,7 +14,7 @@ use crate::judge_plan::history::History;
 use crate::judge_plan::in_force::InForce;
 use crate::judge_plan::memory::Memory;
 use crate::judge_plan::selected::Selected;
-use std::alloc::AllocError;
+use std::alloc::{AllocError, Global};
 use std::marker::Model;
 
 /// A state, the knowledge of the identities there, and its history.
@@ -125,22 +125,23 @@ impl<'a> Standing for Kept<'a> {
 }
 
 impl<'a> Kept<'a> {
-    /// The same. Takes no memory.
-    pub(crate) fn copy(&self) -> Result<Kept<'a>, AllocError>
+    /// The same.
+    pub(crate) fn copy(&self, alloc: Global) -> Result<Kept<'a>, AllocError>
         ensures { IfOk result (λ k. k ≡ self.now) }
     {
         let facts = self.facts.copy()?;
-        self.copy_with(facts)
+        self.copy_with(alloc, facts)
     }
 
     /// The same under other facts.
-    pub(crate) fn copy_with(&self, facts: Facts) -> Result<Kept<'a>, AllocError>
+    pub(crate) fn copy_with(&self, alloc: Global, facts: Facts) -> Result<Kept<'a>, AllocError>
         ensures { IfOk result (λ k. k ≡ knowing self.now facts) }
     {
         let params = self.params.copy()?;
+        let history = self.history.copy(alloc)?;
         Ok(Kept {
             facts,
-            history: self.history.copy(),
+            history,
             params,
             selection: self.selection.copy(),
             soft_failure: self.soft_failure,
@@ -156,9 +157,21 @@ pub(crate) fn went<'a>(
 ) -> Result<Kept<'a>, AllocError>
     ensures { IfOk result (λ to. to ≡ with_events k.entry (event_of event.entry ∷ [])) }
 {
-    let mut k = k;
-    k.history.push(memory.events, event)?;
-    Ok(k)
+    let Kept {
+        facts,
+        history,
+        params,
+        selection,
+        soft_failure,
+    } = k;
+    let history = history.with(memory, event)?;
+    Ok(Kept {
+        facts,
+        history,
+        params,
+        selection,
+        soft_failure,
+    })
 }
 
 /// Keeps the state after one more event.
@@ -193,5 +206,23 @@ pub(crate) fn stop<'a>(
         place,
         soft_failure: k.soft_failure,
     })?;
+    Ok(())
+}
+
+/// Adds a state, if there is one.
+pub(crate) fn add<'a>(more: Option<Kept<'a>>, next: &mut Vec<Kept<'a>>) -> Result<(), AllocError>
+    ensures { OnOk result (next.new.items ≡ next.old.items ++ at_most_one more.entry) }
+{
+    if let Some(k) = more {
+        next.push(k)?;
+    }
+    Ok(())
+}
+
+/// Adds a state.
+pub(crate) fn put<'a>(k: Kept<'a>, next: &mut Vec<Kept<'a>>) -> Result<(), AllocError>
+    ensures { OnOk result (next.new.items ≡ next.old.items ++ k.entry ∷ []) }
+{
+    next.push(k)?;
     Ok(())
 }

@@ -1,15 +1,19 @@
-//! The matches of one component, as a search tree. Trees that come of one share what they have in common.
+//! The matches of one component, as a search tree. Copies share them until one is added.
 
-ghost use Rattle.std.specs.Prelude.{◌≡◌, ◌↔◌, ◌∷◌, ◌++◌, IsTrue, IfOk};
+ghost use Rattle.std.specs.Prelude.{◌≡◌, ◌↔◌, [], ◌∷◌, IsTrue, IfOk, OnOk};
 ghost use Rattle.path_checker.specs.Exploring.{In};
 ghost use Rattle.path_checker.specs.Matches.{Match as TheMatch, match_of, matches_from, match_event, SameMembers};
 
 use crate::judge_plan::fingerprint::{mixed, of_bytes, of_number};
 use bumpalo::Bump;
 use path_model::Event;
-use std::alloc::AllocError;
+use std::alloc::{AllocError, Global};
 use std::marker::Model;
+use std::rc::Rc;
 use suit_params::Digest;
+
+// How far down a match is searched.
+const DEEPEST: u32 = 512;
 
 /// A digest and a size that a component was matched under.
 #[derive(Clone, Copy)]
@@ -17,31 +21,6 @@ pub(crate) struct Match<'a> {
     digest: &'a Digest,
     size: Option<u64>,
     print: u64,
-}
-
-/// A match, and those below it.
-#[derive(Drop)]
-pub(crate) struct Node<'a> {
-    own: &'a Match<'a>,
-    // The fingerprints of all matches from here down, added up.
-    sum: u64,
-    zero: Option<&'a Node<'a>>,
-    one: Option<&'a Node<'a>>,
-}
-
-impl<'a> Model for Node<'a> {
-    ghost use Rattle.std.specs.Prelude.{List, ◌∷◌, ◌++◌, length};
-    ghost use Rattle.path_checker.specs.Matches.{Match as TheMatch, match_of, matches_from};
-
-    ghost Value = { List TheMatch };
-
-    ghost view = { λ a. match_of a.own.now ∷ (matches_from a.zero ++ matches_from a.one) };
-
-    ghost size = { length };
-
-    ghost use Rattle.std.proofs.Common.{arith, length-append};
-
-    ghost size_decreases = { λ a h. Prim.grind (arith, length-append) };
 }
 
 // Both ways, so that no size is easily found that gives a fingerprint.
@@ -63,14 +42,10 @@ impl<'a> Match<'a> {
     }
 
     /// In memory that all states share.
-    pub(crate) fn lent(
-        bump: &'a Bump,
-        digest: &'a Digest,
-        size: Option<u64>,
-    ) -> Result<&'a Match<'a>, AllocError>
-        ensures { IfOk result (λ lent. match_of lent.now ≡ (digest.now, size)) }
+    pub(crate) fn lent(self, bump: &'a Bump) -> Result<&'a Match<'a>, AllocError>
+        ensures { IfOk result (λ lent. match_of lent.now ≡ match_of self.entry) }
     {
-        match bump.try_alloc(Match::new(digest, size)) {
+        match bump.try_alloc(self) {
             Ok(lent) => Ok(lent),
             Err(_) => Err(AllocError),
         }
@@ -87,10 +62,23 @@ impl<'a> Match<'a> {
         }
     }
 
+    /// Whether it is under this digest and size.
+    pub(crate) fn is_under(&self, digest: &Digest, size: Option<u64>) -> bool
+        ensures { IsTrue result → match_of self.now ≡ (digest.now, size) }
+    {
+        self.size == size && *self.digest == *digest
+    }
+
+    // Whether it is the other.
     fn is(&self, other: &Match<'_>) -> bool
         ensures { IsTrue result ↔ (match_of self.now ≡ match_of other.now) }
     {
         self.size == other.size && *self.digest == *other.digest
+    }
+
+    // Eight bits of the fingerprint, which tell it from most others.
+    fn tag(&self) -> u32 {
+        (self.print >> 56) as u32
     }
 
     // Which way it is found at a depth: by its fingerprint, and further down by its digest.
@@ -105,108 +93,336 @@ impl<'a> Match<'a> {
     }
 }
 
+// Where a search ended: at a match that is the wanted one, or above a free place.
+#[derive(Clone, Copy)]
+struct Ended {
+    found: bool,
+    at: usize,
+    one: bool,
+}
+
+// Where the next match is, by its index, and eight bits of its fingerprint. There is none at 0, where the first one is.
+#[derive(Clone, Copy)]
+struct Link {
+    bits: u32,
+}
+
+impl Link {
+    fn none() -> Link {
+        Link { bits: 0 }
+    }
+
+    // To an index below 2^24; others are not linked.
+    fn to(index: usize, own: &Match<'_>) -> Link {
+        match u32::try_from(index) {
+            Ok(index) if index < 1 << 24 => Link {
+                bits: own.tag() << 24 | index,
+            },
+            _ => Link::none(),
+        }
+    }
+
+    fn index(self) -> usize {
+        (self.bits & 0x00ff_ffff) as usize
+    }
+
+    fn may_be(self, wanted: &Match<'_>) -> bool {
+        self.bits >> 24 == wanted.tag()
+    }
+}
+
+// The links to the two matches below one.
+#[derive(Clone, Copy)]
+struct Below {
+    zero: Link,
+    one: Link,
+}
+
+impl Below {
+    fn none() -> Below {
+        Below {
+            zero: Link::none(),
+            one: Link::none(),
+        }
+    }
+}
+
+/// The matches of a component.
+#[derive(Drop)]
+pub(crate) struct Matches<'a> {
+    all: Vec<&'a Match<'a>>,
+    // How each is found.
+    below: Vec<Below>,
+    // The fingerprints of all matches, added up.
+    sum: u64,
+}
+
+impl<'a> Model for Matches<'a> {
+    ghost use Rattle.std.specs.Prelude.{List};
+    ghost use Rattle.path_checker.specs.Matches.{Match as TheMatch, all_lent};
+
+    ghost Value = { List TheMatch };
+
+    ghost view = { λ a. all_lent a.all.items };
+}
+
+impl<'a> Matches<'a> {
+    // One alone.
+    fn of(alloc: Global, own: &'a Match<'a>) -> Result<Matches<'a>, AllocError>
+        ensures { IfOk result (λ held. held ≡ match_of own.now ∷ []) }
+    {
+        let mut all = Vec::new(alloc);
+        all.push(own)?;
+        let mut below = Vec::new(alloc);
+        below.push(Below::none())?;
+        Ok(Matches {
+            all,
+            below,
+            sum: own.print,
+        })
+    }
+
+    // The same, in memory of its own.
+    fn copy(&self, alloc: Global) -> Result<Matches<'a>, AllocError>
+        ensures { IfOk result (λ held. held ≡ self.now) }
+    {
+        let all = Vec::from_slice(alloc, &self.all)?;
+        let below = Vec::from_slice(alloc, &self.below)?;
+        Ok(Matches {
+            all,
+            below,
+            sum: self.sum,
+        })
+    }
+
+    // Whether the wanted match is at an index.
+    fn is_at(&self, at: usize, wanted: &Match<'_>) -> bool
+        ensures { IsTrue result → In (match_of wanted.now) self.now }
+    {
+        let all = self.all.as_slice();
+        if at >= all.len() {
+            return false;
+        }
+        let own = all[at];
+        own.print == wanted.print && own.is(wanted)
+    }
+
+    // Searches from the first match down.
+    fn search(&self, wanted: &Match<'_>) -> Ended
+        ensures { IsTrue result.found → In (match_of wanted.now) self.now }
+    {
+        let mut at = 0;
+        let mut may_be = true;
+        for depth in 0..DEEPEST {
+            if may_be && self.is_at(at, wanted) {
+                return Ended {
+                    found: true,
+                    at,
+                    one: false,
+                };
+            }
+            let one = wanted.goes_one(depth);
+            let link = self.next(at, one);
+            if link.index() == 0 {
+                return Ended {
+                    found: false,
+                    at,
+                    one,
+                };
+            }
+            at = link.index();
+            may_be = link.may_be(wanted);
+        }
+        Ended {
+            found: false,
+            at: usize::MAX,
+            one: false,
+        }
+    }
+
+    // The link to the one below another.
+    fn next(&self, at: usize, one: bool) -> Link {
+        match self.below.get(at) {
+            Some(below) if one => below.one,
+            Some(below) => below.zero,
+            None => Link::none(),
+        }
+    }
+
+    // One match more.
+    fn add(&mut self, own: &'a Match<'a>) -> Result<(), AllocError>
+        ensures { OnOk result (SameMembers self.new (match_of own.now ∷ self.old)) }
+    {
+        let ended = self.search(own);
+        if ended.found {
+            return Ok(());
+        }
+        self.all.push(own)?;
+        self.below.push(Below::none())?;
+        self.sum = self.sum.wrapping_add(own.print);
+        self.link(&ended, own);
+        Ok(())
+    }
+
+    // Puts the last match below the one where a search for it ended.
+    fn link(&mut self, ended: &Ended, own: &Match<'_>)
+        ensures { self.new ≡ self.old }
+    {
+        let link = Link::to(self.below.len().wrapping_sub(1), own);
+        match self.below.get_mut(ended.at) {
+            Some(below) if ended.one => below.one = link,
+            Some(below) => below.zero = link,
+            None => {}
+        }
+    }
+
+    // Whether a match is anywhere among them.
+    fn is_among(&self, wanted: &Match<'_>) -> bool
+        ensures { IsTrue result ↔ In (match_of wanted.now) self.now }
+    {
+        for own in self.all.as_slice() {
+            if own.is(wanted) {
+                return true;
+            }
+        }
+        false
+    }
+
+    // Whether each is found among the others.
+    fn is_within(&self, others: &Matches<'_>) -> bool
+        ensures { IsTrue result
+            → (one : TheMatch) → In one self.now → In one others.now }
+    {
+        for own in self.all.as_slice() {
+            if !others.search(own).found {
+                return false;
+            }
+        }
+        true
+    }
+}
+
+/// The matches of a component, of which there is one at least. Copies share them until one is added.
+#[derive(Drop)]
+pub(crate) struct Held<'a> {
+    held: Rc<Matches<'a>>,
+}
+
+impl<'a> Model for Held<'a> {
+    ghost use Rattle.std.specs.Prelude.{List};
+    ghost use Rattle.path_checker.specs.Matches.{Match as TheMatch};
+
+    ghost Value = { List TheMatch };
+
+    ghost view = { λ a. a.held.value };
+}
+
+impl<'a> Held<'a> {
+    fn of(alloc: Global, own: &'a Match<'a>) -> Result<Held<'a>, AllocError>
+        ensures { IfOk result (λ held. held ≡ match_of own.now ∷ []) }
+    {
+        let one = Matches::of(alloc, own)?;
+        let held = Rc::new(alloc, one)?;
+        Ok(Held { held })
+    }
+
+    // The same, shared.
+    fn copy(&self) -> Result<Held<'a>, AllocError>
+        ensures { IfOk result (λ held. held ≡ self.now) }
+    {
+        let held = self.held.clone()?;
+        Ok(Held { held })
+    }
+
+    // Whether a match is among them. All are looked at only where it is not found.
+    fn has(&self, wanted: &Match<'_>) -> bool
+        ensures { IsTrue result ↔ In (match_of wanted.now) self.now }
+    {
+        self.held.search(wanted).found || self.held.is_among(wanted)
+    }
+
+    // Whether each is found among the others.
+    fn is_within(&self, others: &Held<'_>) -> bool
+        ensures { IsTrue result
+            → (one : TheMatch) → In one self.now → In one others.now }
+    {
+        self.held.is_within(&others.held)
+    }
+
+    // One match more, in place or in a copy where they are shared.
+    fn add(&mut self, alloc: Global, own: &'a Match<'a>) -> Result<(), AllocError>
+        ensures { OnOk result (SameMembers self.new (match_of own.now ∷ self.old)) }
+    {
+        match Rc::get_mut(&mut self.held) {
+            Some(all) => all.add(own),
+            None => {
+                let mut all = self.held.copy(alloc)?;
+                all.add(own)?;
+                self.held = Rc::new(alloc, all)?;
+                Ok(())
+            }
+        }
+    }
+}
+
+// ---- the matches of a component, of which there may be none
+
+/// The same, shared.
+pub(crate) fn shared<'a>(held: &Option<Held<'a>>) -> Result<Option<Held<'a>>, AllocError>
+    ensures { IfOk result (λ other. other ≡ held.now) }
+{
+    match held {
+        Some(held) => Ok(Some(held.copy()?)),
+        None => Ok(None),
+    }
+}
+
+/// One match more.
+pub(crate) fn add<'a>(
+    held: &mut Option<Held<'a>>,
+    alloc: Global,
+    own: &'a Match<'a>,
+) -> Result<(), AllocError>
+    ensures { OnOk result
+        (SameMembers (matches_from held.new) (match_of own.now ∷ matches_from held.old)) }
+{
+    match held {
+        Some(held) => held.add(alloc, own),
+        None => {
+            *held = Some(Held::of(alloc, own)?);
+            Ok(())
+        }
+    }
+}
+
 /// The fingerprints of all matches, added up.
-pub(crate) fn sum(tree: Option<&Node<'_>>) -> u64 {
-    match tree {
-        Some(node) => node.sum,
+pub(crate) fn sum(held: &Option<Held<'_>>) -> u64 {
+    match held {
+        Some(held) => held.held.sum,
         None => 0,
     }
 }
 
-// A match with others below it.
-fn joined<'a>(
-    bump: &'a Bump,
-    own: &'a Match<'a>,
-    zero: Option<&'a Node<'a>>,
-    one: Option<&'a Node<'a>>,
-) -> Result<&'a Node<'a>, AllocError>
-    ensures { IfOk result
-        (λ node. node.now ≡ match_of own.now ∷ (matches_from zero.entry ++ matches_from one.entry)) }
+/// Whether a match is among them.
+pub(crate) fn has(held: &Option<Held<'_>>, wanted: &Match<'_>) -> bool
+    ensures { IsTrue result ↔ In (match_of wanted.now) (matches_from held.now) }
 {
-    let below = sum(zero).wrapping_add(sum(one));
-    let sum = own.print.wrapping_add(below);
-    match bump.try_alloc(Node {
-        own,
-        sum,
-        zero,
-        one,
-    }) {
-        Ok(node) => Ok(node),
-        Err(_) => Err(AllocError),
-    }
-}
-
-/// One match more, from a depth down.
-pub(crate) fn with<'a>(
-    bump: &'a Bump,
-    tree: Option<&'a Node<'a>>,
-    own: &'a Match<'a>,
-    depth: u32,
-) -> Result<&'a Node<'a>, AllocError>
-    ensures { IfOk result
-        (λ node. SameMembers node.now (match_of own.now ∷ matches_from tree.entry)) }
-{
-    let deeper = depth.wrapping_add(1);
-    match tree {
-        None => joined(bump, own, None, None),
-        Some(top) if own.goes_one(depth) => {
-            let one = with(bump, top.one, own, deeper)?;
-            joined(bump, top.own, top.zero, Some(one))
-        }
-        Some(top) => {
-            let zero = with(bump, top.zero, own, deeper)?;
-            joined(bump, top.own, Some(zero), top.one)
-        }
-    }
-}
-
-/// Whether a match is found where it would have been added.
-pub(crate) fn finds<'a>(tree: Option<&'a Node<'a>>, wanted: &Match<'_>) -> bool
-    ensures { IsTrue result → In (match_of wanted.now) (matches_from tree.entry) }
-{
-    let mut at = tree;
-    let mut depth: u32 = 0;
-    while let Some(node) = at {
-        if node.own.print == wanted.print && node.own.is(wanted) {
-            return true;
-        }
-        at = if wanted.goes_one(depth) {
-            node.one
-        } else {
-            node.zero
-        };
-        depth = depth.wrapping_add(1);
-    }
-    false
-}
-
-// Whether a match is anywhere in a tree.
-fn is_in<'a>(wanted: &Match<'_>, tree: Option<&'a Node<'a>>) -> bool
-    ensures { IsTrue result ↔ In (match_of wanted.now) (matches_from tree.entry) }
-{
-    match tree {
-        Some(node) => { node.own.is(wanted) || is_in(wanted, node.zero) || is_in(wanted, node.one) }
+    match held {
+        Some(held) => held.has(wanted),
         None => false,
     }
 }
 
-/// Whether a match is in a tree. All are looked at only where it is not found.
-pub(crate) fn has<'a>(tree: Option<&'a Node<'a>>, wanted: &Match<'_>) -> bool
-    ensures { IsTrue result ↔ In (match_of wanted.now) (matches_from tree.entry) }
-{
-    finds(tree, wanted) || is_in(wanted, tree)
-}
-
-/// Whether each match of a tree is found in another.
-pub(crate) fn is_within<'a>(tree: Option<&'a Node<'a>>, other: Option<&'a Node<'a>>) -> bool
+/// Whether each is found among the others.
+pub(crate) fn is_within(held: &Option<Held<'_>>, others: &Option<Held<'_>>) -> bool
     ensures { IsTrue result
-        → (one : TheMatch) → In one (matches_from tree.entry)
-        → In one (matches_from other.entry) }
+        → (one : TheMatch) → In one (matches_from held.now) → In one (matches_from others.now) }
 {
-    match tree {
-        Some(node) => {
-            finds(other, node.own) && is_within(node.zero, other) && is_within(node.one, other)
-        }
+    match held {
+        Some(held) => match others {
+            Some(others) => held.is_within(others),
+            None => false,
+        },
         None => true,
     }
 }

@@ -3,10 +3,11 @@
 ghost use Rattle.std.specs.Prelude.{◌≡◌, ◌↔◌, ◌≤◌, [], ◌∷◌, IsTrue, IfOk, IfErr, OnOk};
 ghost use Rattle.suit_commands.specs.Plans.{lent_tree, plan_tree};
 ghost use Rattle.suit_commands.specs.Allowed.{IsPlan};
+ghost use Rattle.suit_commands.specs.View.{command_tree};
 ghost use Rattle.path_model.specs.Path.{RunsPlan};
-ghost use Rattle.path_model.specs.Runs.{Runs};
+ghost use Rattle.path_model.specs.Runs.{Runs, Does};
 ghost use Rattle.path_checker.specs.Exploring.{Passes};
-ghost use Rattle.path_checker.specs.Small.{IsSmallSequence};
+ghost use Rattle.path_checker.specs.Small.{IsSmallSequence, IsSmallCommand};
 ghost use Rattle.path_checker.specs.Invoking.{Covers};
 ghost use Rattle.path_checker.specs.Procedures.{FromStart, FromThird, FromSecond, ThirdInvokes, SecondInvokes, FirstInvokes, ArePlan, first_kept};
 ghost use Rattle.path_checker.specs.Halting.{Halts};
@@ -20,9 +21,10 @@ use crate::judge_plan::invoking::lent_invokes;
 use crate::judge_plan::kept::Kept;
 use crate::judge_plan::memory::Memory;
 use crate::judge_plan::selected::Selected;
+use crate::judge_plan::straight::{is_straight, straight};
 use crate::judge_plan::walk::command;
 use std::alloc::{AllocError, Global};
-use suit_commands::{Plan, Sequence};
+use suit_commands::{Plan, Sequence, Step};
 
 /// The state in which a procedure of so many components begins.
 pub(crate) fn first<'a>(alloc: Global, count: u32) -> Result<Vec<Kept<'a>>, AllocError>
@@ -30,10 +32,11 @@ pub(crate) fn first<'a>(alloc: Global, count: u32) -> Result<Vec<Kept<'a>>, Allo
 {
     let facts = Facts::unknown(alloc, count)?;
     let params = InForce::new(alloc)?;
+    let history = History::new(alloc)?;
     let mut from = Vec::new(alloc);
     from.push(Kept {
         facts,
-        history: History::new(),
+        history,
         params,
         selection: Selected::one(0),
         soft_failure: false,
@@ -41,7 +44,31 @@ pub(crate) fn first<'a>(alloc: Global, count: u32) -> Result<Vec<Kept<'a>>, Allo
     Ok(from)
 }
 
-// Runs the commands of a member or of the shared sequence. A failure there ends the procedure, so none is kept.
+// Does a command of a member or of the shared sequence. A failure there ends the procedure, so none is kept.
+fn outermost<'a>(
+    memory: Memory<'a>,
+    count: u32,
+    step: &'a Step,
+    from: Vec<Kept<'a>>,
+) -> Result<Vec<Kept<'a>>, Halt<'a>>
+    requires small { IsSmallCommand count (command_tree step.now.command) }
+    ensures ok { IfOk result
+        (λ v. Passes
+        (λ identities. Does (command_tree step.now.command) identities count step.now.place)
+        from.entry.items v.items) }
+    ensures err { IfErr result
+        (λ h. Halts
+        (λ identities. Does (command_tree step.now.command) identities count step.now.place)
+        from.entry.items h) }
+{
+    if is_straight(&step.command) {
+        return straight(memory, count, step, from);
+    }
+    let mut ended = Vec::new(memory.alloc);
+    command(memory, count, step, from, &mut ended)
+}
+
+// Runs the commands of a member or of the shared sequence.
 fn commands<'a>(
     memory: Memory<'a>,
     count: u32,
@@ -56,8 +83,7 @@ fn commands<'a>(
 {
     let mut now = from;
     for step in sequence.as_slice() {
-        let mut ended = Vec::new(memory.alloc);
-        now = command(memory, count, step, now, &mut ended)?;
+        now = outermost(memory, count, step, now)?;
     }
     Ok(now)
 }

@@ -3,7 +3,7 @@
 ghost use Rattle.std.specs.Prelude.{◌≡◌, IsTrue};
 ghost use Rattle.std.specs.Option.{option_copied};
 
-use suit_params::Param;
+use suit_params::{Param, ParamList};
 
 fn same(one: &Param, other: &Param) -> bool
     ensures { IsTrue result → one.now ≡ other.now }
@@ -23,6 +23,42 @@ fn same(one: &Param, other: &Param) -> bool
         (Param::Args(bytes), Param::Args(other)) => bytes.as_slice() == other.as_slice(),
         _ => false,
     }
+}
+
+// Longer values and lists are not compared.
+const SHORT: usize = 64;
+
+const FEW: usize = 4;
+
+// Whether they are equal, and short.
+fn is_short(one: &Param, other: &Param) -> bool
+    ensures { IsTrue result → one.now ≡ other.now }
+{
+    let short = match one {
+        Param::Content(bytes) => bytes.len() <= SHORT,
+        Param::Uri(text) => text.len() <= SHORT,
+        Param::Args(bytes) => bytes.len() <= SHORT,
+        _ => true,
+    };
+    short && same(one, other)
+}
+
+/// Whether both lists hold the same parameters. May be false of equal ones that are long.
+pub(crate) fn same_short(ones: &ParamList, others: &ParamList) -> bool
+    ensures { IsTrue result → ones.now ≡ others.now }
+{
+    let (mine, theirs) = (ones.as_slice(), others.as_slice());
+    if mine.len() > FEW || mine.len() != theirs.len() {
+        return false;
+    }
+    let mut index = 0;
+    while index < mine.len() {
+        if !is_short(&mine[index], &theirs[index]) {
+            return false;
+        }
+        index += 1;
+    }
+    true
 }
 
 /// Whether both are absent, or both are there and equal.

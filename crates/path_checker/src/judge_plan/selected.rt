@@ -3,6 +3,7 @@
 ghost use Rattle.std.specs.Prelude.{◌≡◌, ◌<◌, ◌≤◌, [], ◌∷◌, IsTrue, IfOk, IfSome};
 ghost use Rattle.std.specs.List.{range_with_len};
 ghost use Rattle.suit_commands.specs.Selections.{selected_by};
+ghost use Rattle.path_checker.specs.Selecting.{components_of};
 ghost use Rattle.path_checker.specs.Small.{AreSmall, SelectsSmall};
 
 use std::alloc::{AllocError, Global};
@@ -46,6 +47,29 @@ fn numbers(alloc: Global, count: u32) -> Result<Vec<u32>, AllocError>
         held.push(component)?;
     }
     Ok(held)
+}
+
+/// The components, in memory of their own.
+pub(crate) fn listed(alloc: Global, held: Components<'_>) -> Result<Vec<u32>, AllocError>
+    ensures { IfOk result (λ list. list.items ≡ components_of held.entry) }
+{
+    match held {
+        Components::One(component) => Vec::from_slice(alloc, &[component]),
+        Components::First(count) => numbers(alloc, count),
+        Components::Listed(components) => Vec::from_slice(alloc, components),
+    }
+}
+
+/// Whether they are the same, in the same order. May be false of those that are told in two ways.
+pub(crate) fn same_components(some: &Components<'_>, others: &Components<'_>) -> bool
+    ensures { IsTrue result → components_of some.now ≡ components_of others.now }
+{
+    match (some, others) {
+        (Components::One(component), Components::One(other)) => *component == *other,
+        (Components::First(count), Components::First(other)) => *count == *other,
+        (Components::Listed(components), Components::Listed(other)) => *components == *other,
+        _ => false,
+    }
 }
 
 impl<'a> Selected<'a> {
@@ -94,12 +118,14 @@ impl<'a> Selected<'a> {
     pub(crate) fn is_same(&self, other: &Selected<'_>) -> bool
         ensures { IsTrue result → self.now ≡ other.now }
     {
-        match (&self.held, &other.held) {
-            (Components::One(component), Components::One(other)) => *component == *other,
-            (Components::First(count), Components::First(other)) => *count == *other,
-            (Components::Listed(components), Components::Listed(other)) => *components == *other,
-            _ => false,
-        }
+        same_components(&self.held, &other.held)
+    }
+
+    /// How they are told.
+    pub(crate) fn components(&self) -> Components<'a>
+        ensures { components_of result ≡ self.now }
+    {
+        self.held
     }
 
     /// The component, where one alone is selected.
@@ -120,10 +146,6 @@ impl<'a> Selected<'a> {
         ensures value { IfOk result (λ held. held.items ≡ self.now) }
         ensures small { IfOk result (λ held. AreSmall held.items) }
     {
-        match self.held {
-            Components::One(component) => Vec::from_slice(alloc, &[component]),
-            Components::First(count) => numbers(alloc, count),
-            Components::Listed(components) => Vec::from_slice(alloc, components),
-        }
+        listed(alloc, self.held)
     }
 }

@@ -1,18 +1,25 @@
 //! The events of a path. Paths that begin alike share their beginning.
 
-ghost use Rattle.std.specs.Prelude.{◌≡◌, [], ◌∷◌, ◌++◌, map, IfOk, OnOk};
+ghost use Rattle.std.specs.Prelude.{◌≡◌, [], ◌∷◌, ◌++◌, map, IsTrue, IfOk, OnOk};
 ghost use Rattle.path_model.specs.Directives.{set_events};
-ghost use Rattle.path_checker.specs.Happening.{event_of, invoke_event, told_by};
+ghost use Rattle.path_checker.specs.Happening.{event_of, invoke_event, sets_at, told_by};
+ghost use Rattle.path_checker.specs.Selecting.{components_of};
 ghost use Rattle.path_checker.specs.Standing.{all_in_order};
 
 use crate::judge_plan::happened::{Happened, copied};
 use crate::judge_plan::matches::Match;
+use crate::judge_plan::memory::Memory;
+use crate::judge_plan::same_param::same_short;
+use crate::judge_plan::selected::{Components, listed, same_components};
 use bumpalo::Bump;
 use path_model::{Event, Events};
 use std::alloc::{AllocError, Global};
 use std::marker::Model;
 use suit_commands::TestKind;
 use suit_params::{Digest, ParamList};
+
+// Where the last override is kept, beside the last event of each component.
+const SETS: u32 = 8;
 
 /// An invoke, as it is told.
 #[derive(Clone, Copy)]
@@ -23,7 +30,7 @@ pub(crate) struct Invoke<'a> {
     passed: bool,
 }
 
-/// Events that follow one another: one alone, or all of an override at a component. Large ones are lent.
+/// Events that follow one another: one alone, or all of an override at some components. Large ones are lent.
 #[derive(Clone, Copy)]
 pub(crate) enum Told<'a> {
     Tried {
@@ -46,16 +53,16 @@ pub(crate) enum Told<'a> {
     },
     Invoked(&'a Invoke<'a>),
     Sets {
-        component: u32,
+        components: Components<'a>,
         list: &'a ParamList,
     },
 }
 
-// Events, and those before them.
+// Events, and those before them. Equal ones are lent to many parts.
 #[cycle(trace)]
 #[derive(Drop)]
 pub(crate) struct Part<'a> {
-    told: Told<'a>,
+    told: &'a Told<'a>,
     before: Trace<'a>,
 }
 
@@ -81,6 +88,23 @@ impl<'a> Model for Trace<'a> {
     ghost use Rattle.std.proofs.Common.{arith};
 
     ghost size_decreases = { λ a h. Prim.grind (arith) };
+}
+
+// Adds the events of an override at some components, in memory of their own.
+fn tell_all_sets(
+    alloc: Global,
+    components: Components<'_>,
+    list: &ParamList,
+    events: &mut Events,
+) -> Result<(), AllocError>
+    ensures { OnOk result
+        (events.new ≡ events.old ++ sets_at (components_of components.entry) list.now) }
+{
+    let each = listed(alloc, components)?;
+    for component in each.as_slice() {
+        tell_sets(alloc, *component, list, events)?;
+    }
+    Ok(())
 }
 
 // Adds the events of an override, in memory of their own.
@@ -113,8 +137,8 @@ impl<'a> Invoke<'a> {
 }
 
 impl<'a> Told<'a> {
-    /// One event.
-    pub(crate) fn of(bump: &'a Bump, happened: Happened<'a>) -> Result<Told<'a>, AllocError>
+    // One event.
+    fn of(bump: &'a Bump, happened: Happened<'a>) -> Result<Told<'a>, AllocError>
         ensures { IfOk result (λ told. told_by told ≡ event_of happened.entry ∷ []) }
     {
         match happened {
@@ -135,7 +159,7 @@ impl<'a> Told<'a> {
                 digest,
                 size,
             } => {
-                let own = Match::lent(bump, digest, size)?;
+                let own = Match::new(digest, size).lent(bump)?;
                 Ok(Told::Matched { component, own })
             }
             Happened::Invoked {
@@ -153,6 +177,100 @@ impl<'a> Told<'a> {
                 Err(_) => Err(AllocError),
             },
         }
+    }
+
+    // Whether it is this event.
+    fn tells(&self, event: &Happened<'_>) -> bool
+        ensures { IsTrue result → told_by self.now ≡ event_of event.now ∷ [] }
+    {
+        match (self, event) {
+            (
+                Told::Tried {
+                    component,
+                    kind,
+                    passed,
+                },
+                Happened::Tried {
+                    component: other,
+                    kind: other_kind,
+                    passed: other_passed,
+                },
+            ) => *component == *other && *kind == *other_kind && *passed == *other_passed,
+            (Told::Missed { component }, Happened::Missed { component: other }) => {
+                *component == *other
+            }
+            (Told::Wrote { component }, Happened::Wrote { component: other }) => {
+                *component == *other
+            }
+            (
+                Told::Matched { component, own },
+                Happened::Matched {
+                    component: other,
+                    digest,
+                    size,
+                },
+            ) => *component == *other && own.is_under(digest, *size),
+            (Told::Failed { place }, Happened::Failed { place: other }) => *place == *other,
+            _ => false,
+        }
+    }
+
+    // Whether they are the events of an override at some components. May be false of some that are.
+    fn tells_sets(&self, components: Components<'_>, list: &ParamList) -> bool
+        ensures { IsTrue result
+            → told_by self.now ≡ sets_at (components_of components.entry) list.now }
+    {
+        match self {
+            Told::Sets {
+                components: others,
+                list: other,
+            } => same_components(others, &components) && same_short(other, list),
+            _ => false,
+        }
+    }
+
+    // In memory that all states share. The next state mostly comes to the same.
+    fn lent(self, memory: Memory<'a>, component: u32) -> Result<&'a Told<'a>, AllocError>
+        ensures { IfOk result (λ lent. lent.now ≡ self.entry) }
+    {
+        match memory.events.try_alloc(self) {
+            Ok(lent) => {
+                memory.keep_told(component, lent);
+                Ok(lent)
+            }
+            Err(_) => Err(AllocError),
+        }
+    }
+
+    /// One event, lent.
+    pub(crate) fn event(memory: Memory<'a>, event: Happened<'a>) -> Result<&'a Told<'a>, AllocError>
+        ensures { IfOk result (λ told. told_by told.now ≡ event_of event.entry ∷ []) }
+    {
+        let component = event.component();
+        if let Some(last) = memory.last_told(component) {
+            if last.tells(&event) {
+                return Ok(last);
+            }
+        }
+        let told = Told::of(memory.events, event)?;
+        told.lent(memory, component)
+    }
+
+    /// The events of an override at some components, lent.
+    pub(crate) fn sets(
+        memory: Memory<'a>,
+        components: Components<'a>,
+        list: &'a ParamList,
+    ) -> Result<&'a Told<'a>, AllocError>
+        ensures { IfOk result
+            (λ told. told_by told.now ≡ sets_at (components_of components.entry) list.now) }
+    {
+        if let Some(last) = memory.last_told(SETS) {
+            if last.tells_sets(components, list) {
+                return Ok(last);
+            }
+        }
+        Told::Sets { components, list }.lent(memory, SETS)
     }
 
     // Adds the events, in memory of their own.
@@ -174,7 +292,9 @@ impl<'a> Told<'a> {
             Told::Matched { component, own } => own.told(component),
             Told::Failed { place } => Event::Failed { place },
             Told::Invoked(invoke) => invoke.told(),
-            Told::Sets { component, list } => return tell_sets(alloc, component, list, events),
+            Told::Sets { components, list } => {
+                return tell_all_sets(alloc, components, list, events);
+            }
         };
         events.push(event)?;
         Ok(())
@@ -197,8 +317,8 @@ impl<'a> Trace<'a> {
     }
 
     /// With more events.
-    pub(crate) fn with(&self, bump: &'a Bump, told: Told<'a>) -> Result<Trace<'a>, AllocError>
-        ensures { IfOk result (λ trace. trace ≡ told_by told.entry ∷ self.now) }
+    pub(crate) fn with(&self, bump: &'a Bump, told: &'a Told<'a>) -> Result<Trace<'a>, AllocError>
+        ensures { IfOk result (λ trace. trace ≡ told_by told.now ∷ self.now) }
     {
         let before = self.copy();
         match bump.try_alloc(Part { told, before }) {
@@ -214,7 +334,7 @@ impl<'a> Trace<'a> {
         let mut held = Vec::new(alloc);
         let mut at = self.last;
         while let Some(part) = at {
-            held.push(part.told)?;
+            held.push(*part.told)?;
             at = part.before.last;
         }
         Ok(held)

@@ -12,15 +12,15 @@ ghost use Rattle.suit_commands.specs.Selections.{selected_by};
 ghost use Rattle.path_checker.specs.Halting.{Halts};
 
 use crate::judge_plan::conditions::test;
-use crate::judge_plan::directives::{act, overrides};
+use crate::judge_plan::directives::{act, overrides, overrides_each};
 use crate::judge_plan::halt::Halt;
 use crate::judge_plan::inner::{Outer, enter, enter_all, exhaust, leave_all, outer_of, split};
-use crate::judge_plan::kept::{Kept, Stopped};
+use crate::judge_plan::kept::{Kept, Stopped, add, put};
 use crate::judge_plan::memory::Memory;
 use crate::judge_plan::merged::{merged_states, settled};
+use crate::judge_plan::reuse::reuse;
 use crate::judge_plan::selected::Selected;
 use std::alloc::AllocError;
-use std::mem;
 use suit_commands::{Branches, Command, Selection, Sequence, Step};
 
 /// Runs a sequence from each of the states.
@@ -61,16 +61,6 @@ fn join<'a>(failed: &mut Vec<Stopped<'a>>, stops: Vec<Stopped<'a>>) -> Result<()
     }
     failed.append(&mut stops)?;
     Ok(())
-}
-
-// Both lists as they are. Where they are empty, the next one gets the other's memory.
-fn reuse<'a>(now: &mut Vec<Kept<'a>>, next: &mut Vec<Kept<'a>>)
-    ensures now { now.new.items ≡ now.old.items }
-    ensures next { next.new.items ≡ next.old.items }
-{
-    if now.is_empty() && next.is_empty() {
-        mem::swap(now, next);
-    }
 }
 
 /// Does a command in each of the states.
@@ -142,6 +132,10 @@ fn each<'a>(
     if let Some(component) = k.selection.sole() {
         return one(memory, count, step, component, k, next, failed);
     }
+    if let Command::Override(list) = &step.command {
+        put(overrides_each(memory, list, k)?, next)?;
+        return Ok(());
+    }
     let selection = k.selection.listed(memory.alloc)?;
     let mut now = Vec::new(memory.alloc);
     now.push(k)?;
@@ -203,9 +197,9 @@ fn one<'a>(
         Command::Test { kind, .. } => {
             Ok(test(memory, step.place, *kind, component, k, next, failed)?)
         }
-        Command::Act { kind, .. } => act(memory, step.place, *kind, component, k, next),
+        Command::Act { kind, .. } => Ok(add(act(memory, step.place, *kind, component, k)?, next)?),
         Command::Index(_) => Ok(next.push(k)?),
-        Command::Override(list) => Ok(overrides(memory, list, component, k, next)?),
+        Command::Override(list) => Ok(put(overrides(memory, list, component, k)?, next)?),
         Command::TryEach(branches) => {
             try_each(
                 memory, count, branches, step.place, component, k, next, failed,

@@ -1,9 +1,15 @@
-use Rattle.std.proofs.Common.{ap, sym, ◌∙◌}
-use Rattle.path_checker.proofs.DirectiveLeaves.{Adds-fetch, Adds-no_fetch}
+use Rattle.std.proofs.Common.{[], ◌∷◌, ap, sym, ◌∙◌}
+use Rattle.suit_commands.specs.declared.kinds.ActKind.TheVariants as acts
+use Rattle.path_checker.proofs.DirectiveLeaves.{acts_course, Adds-fetch, Adds-no_fetch}
+use Rattle.path_checker.proofs.Passing.{Explores-added}
 use Rattle.path_checker.proofs.judge_plan.directives.fetch.Goals as goal
 
-pub returns-in_ok-pass : goal.returns-in_ok-pass
-returns-in_ok-pass c = Adds-fetch c.args.place c.args.component c.args.k c.k.inside.params c.args.next.now.items c.pass.new.next.items (ap (λ k. k.state.parameters) c.k.view_is) (sym c.has_uri.ensures ∙ c.if-has_uri.true) c.in_ok-pass.ensures
+pub returns-then-has_uri : goal.returns-then-has_uri
+returns-then-has_uri c =
+    Explores-added (acts_course acts.Fetch c.args.place c.args.component) (c.args.k ∷ []) (c.in_ok-to.to ∷ [])
+    (Adds-fetch c.args.place c.args.component c.args.k c.k.inside.params [] (c.in_ok-to.to ∷ []) (ap (λ k. k.state.parameters) c.k.view_is) (sym c.has_uri.ensures ∙ c.if-has_uri.true) (ap (λ x. x ∷ []) c.in_ok-to.ensures))
 
-pub returns-else-has_uri : goal.returns-else-has_uri
-returns-else-has_uri c = Adds-no_fetch c.args.place c.args.component c.args.k c.k.inside.params c.args.next.now.items (ap (λ k. k.state.parameters) c.k.view_is) (sym c.has_uri.ensures ∙ c.if-has_uri.false)
+pub returns : goal.returns
+returns c =
+    Explores-added (acts_course acts.Fetch c.args.place c.args.component) (c.args.k ∷ []) []
+    (Adds-no_fetch c.args.place c.args.component c.args.k c.k.inside.params [] (ap (λ k. k.state.parameters) c.k.view_is) (sym c.has_uri.ensures ∙ c.if-has_uri.false))

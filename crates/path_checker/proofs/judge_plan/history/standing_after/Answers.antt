@@ -9,11 +9,11 @@ use Rattle.path_checker.proofs.judge_plan.history.standing_after.Goals as goal
 
 pub returns-in-Matched : goal.returns-in-Matched
 returns-in-Matched c =
-    IfOk-weaker c.with.result (Gains c.args.standing.now c.in-Matched.component (match_of c.in-Matched.own.now)) (λ after. (event : Event) → told_by c.args.told ≡ event ∷ [] → StandsAfter c.args.standing.now event after)
-    (λ after gains. told_matched c.args.standing.now after c.args.told c.in-Matched.component c.in-Matched.own c.in-Matched.is gains) c.with.ensures
+    IfOk-weaker c.with.result (Gains c.args.standing c.in-Matched.component (match_of c.in-Matched.own.now)) (λ after. (event : Event) → told_by c.args.told.now ≡ event ∷ [] → StandsAfter c.args.standing event after)
+    (λ after gains. told_matched c.args.standing after c.args.told.now c.in-Matched.component c.in-Matched.own c.in-Matched.is gains) c.with.ensures
 
 pub returns-in-Wrote : goal.returns-in-Wrote
-returns-in-Wrote c = told_wrote c.args.standing.now c.without.result c.args.told c.in-Wrote.component c.in-Wrote.is c.without.ensures
+returns-in-Wrote c = told_wrote c.args.standing c.without.result c.args.told.now c.in-Wrote.component c.in-Wrote.is c.without.ensures
 
 pub returns-in_default : goal.returns-in_default
-returns-in_default c = told_other c.args.standing.now c.args.told c.in_default.not-Matched c.in_default.not-Wrote
+returns-in_default c = told_other c.args.standing c.args.told.now c.in_default.not-Matched c.in_default.not-Wrote

@@ -4,10 +4,10 @@ use Rattle.std.proofs.lemmas.Result.{err_from_is_err_and}
 use Rattle.suit_commands.specs.declared.command.Step.{Step}
 use Rattle.suit_commands.specs.Tree.{SequenceTree}
 use Rattle.suit_commands.specs.View.{sequence_tree, command_tree}
-use Rattle.path_checker.specs.Exploring.{Stopped, Adds}
+use Rattle.path_checker.specs.Exploring.{Adds}
 use Rattle.path_checker.specs.Halting.{Halts}
 use Rattle.path_checker.specs.Small.{IsSmallSequence, IsSmallCommand}
-use Rattle.path_checker.proofs.Merging.{Adds-behind}
+use Rattle.path_checker.proofs.Passing.{Adds-passes}
 use Rattle.path_checker.proofs.Smallness.{small_step}
 use Rattle.path_checker.proofs.Starting.{Passes-end}
 use Rattle.path_checker.proofs.Walking.{Walks, Walks-start, Walks-step, Walks-stops, runs_course, does_course}
@@ -20,8 +20,8 @@ loop-step-init c = record {
   walks = ([], subst (λ (s : SequenceTree). Walks (runs_course c.args.sequence.now c.args.count) c.args.from.items [] (runs_course s c.args.count) c.args.from.items []) (sym c.as_slice-step-items.ensures) (Walks-start (runs_course c.args.sequence.now c.args.count) c.args.from.items []));
 }
 
-pub command-requires : goal.command-requires
-command-requires c = record { small = subst (λ (s : Step). IsSmallCommand c.args.count (command_tree s.command)) (sym c.step-item.is) (small_step c.args.count c.as_slice-step-items.result.now c.loop-step.step-index c.step-item.result c.loop-step-test.true c.loop-step.invariant.small).0 }
+pub outermost-requires : goal.outermost-requires
+outermost-requires c = record { small = subst (λ (s : Step). IsSmallCommand c.args.count (command_tree s.command)) (sym c.step-item.is) (small_step c.args.count c.as_slice-step-items.result.now c.loop-step.step-index c.step-item.result c.loop-step-test.true c.loop-step.invariant.small).0 }
 
 pub returns-in_err-now-clause-err : goal.returns-in_err-now-clause-err
 returns-in_err-now-clause-err c =
@@ -30,14 +30,11 @@ returns-in_err-now-clause-err c =
 pub loop-step-preserved : goal.loop-step-preserved
 loop-step-preserved c =
     let before = c.loop-step.invariant.walks.0 in
-    let step : Adds (does_course (command_tree c.step-item.result.command) c.args.count c.step-item.result.place) c.loop-step.now.items [] c.in_ok-now.now.items [] c.command.new.failed.items =
-    subst (λ (f : List Stopped). Adds (does_course (command_tree c.step-item.result.command) c.args.count c.step-item.result.place) c.loop-step.now.items [] c.in_ok-now.now.items f c.command.new.failed.items) c.new-ended.ensures.items c.in_ok-now.ensures.ok
-    in
-    let more = Adds-behind (does_course (command_tree c.step-item.result.command) c.args.count c.step-item.result.place) c.loop-step.now.items c.in_ok-now.now.items before (before ++ c.command.new.failed.items) c.command.new.failed.items step refl in
+    let more = c.in_ok-now.ensures.ok in
     record {
       whole = c.loop-step.invariant.whole;
       small = (small_step c.args.count c.as_slice-step-items.result.now c.loop-step.step-index c.step-item.result c.loop-step-test.true c.loop-step.invariant.small).1;
-      walks = (before ++ c.command.new.failed.items, Walks-step c.as_slice-step-items.result.now c.loop-step.step-index c.args.count c.step-item.result c.loop-step-test.true (runs_course c.args.sequence.now c.args.count) c.args.from.items c.loop-step.now.items [] before c.loop-step.invariant.walks.1 c.in_ok-now.now.items (before ++ c.command.new.failed.items) (subst (λ (s : Step). Adds (does_course (command_tree s.command) c.args.count s.place) c.loop-step.now.items [] c.in_ok-now.now.items before (before ++ c.command.new.failed.items)) c.step-item.is more));
+      walks = (before ++ more.0, Walks-step c.as_slice-step-items.result.now c.loop-step.step-index c.args.count c.step-item.result c.loop-step-test.true (runs_course c.args.sequence.now c.args.count) c.args.from.items c.loop-step.now.items [] before c.loop-step.invariant.walks.1 c.in_ok-now.now.items (before ++ more.0) (subst (λ (s : Step). Adds (does_course (command_tree s.command) c.args.count s.place) c.loop-step.now.items [] c.in_ok-now.now.items before (before ++ more.0)) c.step-item.is (Adds-passes (does_course (command_tree c.step-item.result.command) c.args.count c.step-item.result.place) c.loop-step.now.items [] c.in_ok-now.now.items c.in_ok-now.now.items before more refl)));
     }
 
 pub returns-clause-ok : goal.returns-clause-ok

@@ -19,6 +19,7 @@ use Rattle.path_checker.proofs.Smallness.{small_step, small_index, small_branch}
 use Rattle.path_checker.proofs.Walking.{Walks, Walks-start, Walks-step, Walks-stops, Walks-end, runs_course, does_course}
 use Rattle.path_checker.proofs.Popping.{Pops-start, Pops-step, Pops-halt, Pops-moved, Pops-end, none_left, each_course, each_sole, does_each, Adds-same, Halts-same, Adds-index, Adds-at_index, Each-step, Each-stops}
 use Rattle.path_checker.proofs.Branching.{Trying, Trying-start, Trying-branch, Trying-halt, Trying-null, Trying-end, rest_course, at_some, at_none, Adds-run, Halts-run, Adds-branch, Adds-appended}
+use Rattle.path_checker.proofs.Passing.{Adds-passed}
 use Rattle.path_checker.proofs.Merging.{Adds-states, Adds-behind, Walks-stops_merged}
 use Rattle.path_checker.proofs.judge_plan.walk.+walk.Goals as goal
 
@@ -87,17 +88,21 @@ each-returns-clause-ok t c =
 pub one-returns-in_ok-test-in-Test-clause-ok : goal.one-returns-in_ok-test-in-Test-clause-ok
 one-returns-in_ok-test-in-Test-clause-ok t c = subst (λ (m : Command). Adds (At (command_tree m) c.args.count c.args.step.now.place c.args.component) (c.args.k ∷ []) c.args.next.now.items c.test.new.next.items c.args.failed.now.items c.test.new.failed.items) (sym c.in-Test.is) c.in_ok-test-in-Test.ensures
 
-pub one-returns-in-Act-clause-ok : goal.one-returns-in-Act-clause-ok
-one-returns-in-Act-clause-ok t c = subst (λ (m : Command). OnOk c.act.result (Adds (At (command_tree m) c.args.count c.args.step.now.place c.args.component) (c.args.k ∷ []) c.args.next.now.items c.act.new.next.items c.args.failed.now.items c.args.failed.now.items)) (sym c.in-Act.is) (on_ok_weaker c.act.result (λ h. h c.args.failed.now.items) c.act.ensures.ok)
+pub one-returns-in_ok-add-in-Act-clause-ok : goal.one-returns-in_ok-add-in-Act-clause-ok
+one-returns-in_ok-add-in-Act-clause-ok t c = subst (λ (m : Command). Adds (At (command_tree m) c.args.count c.args.step.now.place c.args.component) (c.args.k ∷ []) c.args.next.now.items c.add.new.next.items c.args.failed.now.items c.args.failed.now.items) (sym c.in-Act.is) (Adds-passed _ (c.args.k ∷ []) c.args.next.now.items c.add.new.next.items _ c.args.failed.now.items c.in_ok-act-in-Act.ensures.ok c.in_ok-add-in-Act.ensures)
 
-pub one-returns-in-Act-clause-err : goal.one-returns-in-Act-clause-err
-one-returns-in-Act-clause-err t c = subst (λ (m : Command). IfErr c.act.result (λ h. Halts (At (command_tree m) c.args.count c.args.step.now.place c.args.component) (c.args.k ∷ []) h)) (sym c.in-Act.is) c.act.ensures.err
+pub one-returns-in_err-act-in-Act-clause-err : goal.one-returns-in_err-act-in-Act-clause-err
+one-returns-in_err-act-in-Act-clause-err t c =
+    let p = err_from_is_err_and c.from_residual-in_err-act-in-Act.result c.from_residual-in_err-act-in-Act.ensures.1 in rw (p.1, p.2) (subst (λ (m : Command). Halts (At (command_tree m) c.args.count c.args.step.now.place c.args.component) (c.args.k ∷ []) c.in_err-act-in-Act.field-0.0) (sym c.in-Act.is) c.in_err-act-in-Act.ensures.err)
 
 pub one-returns-in_ok-push-in-Index-clause-ok : goal.one-returns-in_ok-push-in-Index-clause-ok
 one-returns-in_ok-push-in-Index-clause-ok t c = Adds-at_index c.args.k c.args.component c.in-Index.field-0 c.args.count c.args.step.now.place c.args.step.now.command c.args.next.now.items c.push.new.self.items c.args.failed.now.items c.in-Index.is c.in_ok-push-in-Index.ensures.items
 
-pub one-returns-in_ok-overrides-in-Override-clause-ok : goal.one-returns-in_ok-overrides-in-Override-clause-ok
-one-returns-in_ok-overrides-in-Override-clause-ok t c = subst (λ (m : Command). Adds (At (command_tree m) c.args.count c.args.step.now.place c.args.component) (c.args.k ∷ []) c.args.next.now.items c.overrides.new.next.items c.args.failed.now.items c.args.failed.now.items) (sym c.in-Override.is) (c.in_ok-overrides-in-Override.ensures c.args.failed.now.items)
+pub one-returns-in_ok-put-in-Override-clause-ok : goal.one-returns-in_ok-put-in-Override-clause-ok
+one-returns-in_ok-put-in-Override-clause-ok t c = subst (λ (m : Command). Adds (At (command_tree m) c.args.count c.args.step.now.place c.args.component) (c.args.k ∷ []) c.args.next.now.items c.put.new.next.items c.args.failed.now.items c.args.failed.now.items) (sym c.in-Override.is) (Adds-passed _ (c.args.k ∷ []) c.args.next.now.items c.put.new.next.items _ c.args.failed.now.items c.in_ok-overrides-in-Override.ensures c.in_ok-put-in-Override.ensures)
+
+pub each-returns-in-Override-clause-ok : goal.each-returns-in-Override-clause-ok
+each-returns-in-Override-clause-ok t c = subst (λ (m : Command). Adds (each_course (command_tree m) c.args.count c.args.step.now.place c.args.k.state.selection) (c.args.k ∷ []) c.args.next.now.items c.put.new.next.items c.args.failed.now.items c.args.failed.now.items) (sym c.in-Override.is) (Adds-passed _ (c.args.k ∷ []) c.args.next.now.items c.put.new.next.items _ c.args.failed.now.items c.in_ok-overrides_each.ensures c.in_ok-put.ensures)
 
 pub one-returns-in-TryEach-clause-ok : goal.one-returns-in-TryEach-clause-ok
 one-returns-in-TryEach-clause-ok t c = subst (λ (m : Command). OnOk c.try_each.result (Adds (At (command_tree m) c.args.count c.args.step.now.place c.args.component) (c.args.k ∷ []) c.args.next.now.items c.try_each.new.next.items c.args.failed.now.items c.try_each.new.failed.items)) (sym c.in-TryEach.is) c.try_each.ensures.ok

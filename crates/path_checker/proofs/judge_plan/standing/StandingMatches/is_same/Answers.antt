@@ -1,20 +1,19 @@
-use Rattle.std.proofs.Common.{rules, ◌≤◌, ℕ, arith, sym, subst, ⊎_elim, eq-or-lt_of_le}
-use Rattle.std.proofs.lemmas.Bool.Decides.{leb_tells}
-use Rattle.path_checker.specs.Standing.{SameHeld}
-use Rattle.path_checker.proofs.HeldLaws.{same_held_past}
+use Rattle.std.proofs.Common.{rules, List, Option, subst, arith}
+use Rattle.std.specs.Prelude.{◌↔◌, slice_get}
+use Rattle.path_checker.specs.Exploring.{In}
+use Rattle.path_checker.specs.Matches.{Match}
+use Rattle.path_checker.specs.Standing.{held_in}
+use Rattle.path_checker.proofs.HeldLaws.{same_held_at, same_here, same_next}
 use Rattle.path_checker.proofs.judge_plan.standing.StandingMatches.is_same.Goals as goal
 
-pub returns : goal.returns
-returns c t component =
-    ⊎_elim
-    (λ h. same_held_past c.args.self.now.of c.args.other.now.of component (omega (arith, c.whole.ensures, h.1)) (omega (arith, c.whole-2.ensures, h.1)))
-    (λ h. c.loop-component.invariant component (omega (arith, h.1, c.loop-component-test.false)))
-    (leb_tells 8 component)
+pub loop-index-preserved : goal.loop-index-preserved
+loop-index-preserved c component lt any =
+    same_next c.as_slice-mine.result.now c.as_slice-others.result.now c.loop-index.index component c.loop-index.invariant
+    (same_here c.as_slice-mine.result.now c.as_slice-others.result.now c.loop-index.index _ _ c.index-mine-index.result c.index-others-index.result (omega (arith, c.loop-index-test.true)) (omega (arith, c.if-mine-others.false, c.loop-index-test.true)) c.index-mine-index.is c.index-others-index.is (c.is_same_held.ensures (search rules)))
+    lt any
 
-pub loop-component-preserved : goal.loop-component-preserved
-loop-component-preserved c component lt =
-    let le : component ≤ c.loop-component.component = omega (arith, lt) in
-    ⊎_elim
-    (λ e. subst (λ (k : ℕ). SameHeld c.args.self.now c.args.other.now k) (sym e) (c.is_same_at.ensures (search rules)))
-    (λ l. c.loop-component.invariant component l)
-    (eq-or-lt_of_le le)
+pub returns : goal.returns
+returns c t component any =
+    subst (λ (of : List (Option (List Match))). In any (held_in (slice_get of component)) ↔ In any (held_in (slice_get c.args.other.now.of.items component))) c.as_slice-mine.ensures.value
+    (subst (λ (of : List (Option (List Match))). In any (held_in (slice_get c.as_slice-mine.result.now component)) ↔ In any (held_in (slice_get of component))) c.as_slice-others.ensures.value
+    (same_held_at c.as_slice-mine.result.now c.as_slice-others.result.now c.loop-index.index component c.loop-index.invariant (omega (arith, c.loop-index-test.false)) (omega (arith, c.if-mine-others.false, c.loop-index-test.false)) any))

@@ -1,9 +1,12 @@
-use Rattle.std.proofs.Common.{◌-◌, ◌<◌, ℕ}
-use Rattle.path_checker.specs.Standing.{SameHeld}
+use Rattle.std.proofs.Common.{◌-◌, ◌<◌, ℕ, length}
+use Rattle.std.specs.Prelude.{◌↔◌, slice_get}
+use Rattle.path_checker.specs.Exploring.{In}
+use Rattle.path_checker.specs.Matches.{Match}
+use Rattle.path_checker.specs.Standing.{held_in}
 use Rattle.path_checker.proofs.judge_plan.standing.StandingMatches.is_same.Given as goal
 
-abbrev pub invariant-loop-component : goal.invariant-loop-component
-invariant-loop-component l = (component : ℕ) → component < l.component → SameHeld l.self l.other component
+abbrev pub invariant-loop-index : goal.invariant-loop-index
+invariant-loop-index l = (component : ℕ) → component < l.index → (any : Match) → In any (held_in (slice_get l.mine component)) ↔ In any (held_in (slice_get l.others component))
 
-abbrev pub decreases-loop-component : goal.decreases-loop-component
-decreases-loop-component l = 8 - l.component
+abbrev pub decreases-loop-index : goal.decreases-loop-index
+decreases-loop-index l = length l.mine - l.index

@@ -1,0 +1,19 @@
+use Rattle.std.proofs.Common.{◌≡◌, List, [], ◌∷◌, ◌++◌, sym, ap, ◌∙◌}
+use Rattle.std.proofs.lemmas.Result.{IfOk-weaker}
+use Rattle.path_model.specs.declared.event.Event.{Event}
+use Rattle.path_model.specs.declared.event.Event.TheVariants.{Failed}
+use Rattle.path_checker.specs.Happening.{event_of, after_end}
+use Rattle.path_checker.proofs.ChainLaws.{end_told}
+use Rattle.path_checker.proofs.judge_plan.history.History.with_end.Goals as goal
+use Rattle.path_checker.proofs.judge_plan.history.History.with_end.Goals.{in-Tried, in-Missed}
+
+pub returns : goal.returns
+returns c =
+    let told : after_end c.args.self c.args.ended c.args.place ≡ c.args.self ++ event_of c.match-ended.event ∷ Failed c.args.place ∷ [] =
+    elim c.match-ended.branch [
+      | in-Tried w ↦ ap (λ e. after_end c.args.self e c.args.place) w.in-Tried.is ∙ ap (λ h. c.args.self ++ event_of h ∷ Failed c.args.place ∷ []) (sym w.event-is)
+      | in-Missed w ↦ ap (λ e. after_end c.args.self e c.args.place) w.in-Missed.is ∙ ap (λ h. c.args.self ++ event_of h ∷ Failed c.args.place ∷ []) (sym w.event-is)
+    ]
+    in
+    IfOk-weaker c.with-2.result (λ (history : List Event). history ≡ c.in_ok-missed.missed ++ Failed c.args.place ∷ []) (λ (history : List Event). history ≡ after_end c.args.self c.args.ended c.args.place)
+    (λ history is. is ∙ end_told c.args.self c.in_ok-missed.missed (event_of c.match-ended.event) c.args.place (after_end c.args.self c.args.ended c.args.place) c.in_ok-missed.ensures told) c.with-2.ensures

@@ -1,0 +1,7 @@
+use Rattle.std.proofs.Common.{take}
+use Rattle.path_checker.specs.Exploring.{In}
+use Rattle.path_checker.specs.Matches.{Match, all_lent}
+use Rattle.path_checker.proofs.judge_plan.matches.Matches.is_within.Given as goal
+
+abbrev pub invariant-loop-own : goal.invariant-loop-own
+invariant-loop-own l = (one : Match) → In one (all_lent (take l.own-index l.own-items)) → In one l.others

@@ -1,0 +1,59 @@
+use Rattle.std.proofs.Common.{◌≡◌, [], ◌∷◌, ◌++◌, List, drop, refl, sym, ap, ◌∙◌, subst}
+use Rattle.std.specs.Prelude.{IfErr}
+use Rattle.std.proofs.lemmas.List.{drop_all}
+use Rattle.std.proofs.lemmas.Result.{err_from_is_err_and, IfOk-weaker, IfErr-weaker}
+use Rattle.suit_commands.specs.declared.command.Command.{Command}
+use Rattle.suit_commands.specs.View.{command_tree}
+use Rattle.path_checker.specs.Exploring.{Passes, at_most_one}
+use Rattle.path_checker.specs.Small.{AreSmall}
+use Rattle.path_checker.specs.Steps.{At}
+use Rattle.path_checker.specs.Halting.{Halts}
+use Rattle.path_checker.proofs.Passing.{Passes-same, Passes-added, Adds-passes}
+use Rattle.path_checker.proofs.Popping.{each_course, each_sole, Halts-same, Each-step, Each-stops}
+use Rattle.path_checker.proofs.Smallness.{small_index}
+use Rattle.path_checker.proofs.Walking.{Walks, Walks-start, Walks-end}
+use Rattle.path_checker.proofs.judge_plan.straight.at_each.Goals as goal
+
+pub returns-in-Some-clause-ok : goal.returns-in-Some-clause-ok
+returns-in-Some-clause-ok c =
+    let sole = sym (ap (λ k. k.state.selection) c.k.view_is) ∙ c.in-Some.ensures.sole in
+    IfOk-weaker c.at_one.result (λ to. Passes (At (command_tree c.args.step.now.command) c.args.count c.args.step.now.place c.in-Some.component) (c.args.k ∷ []) (at_most_one to)) (λ to. Passes (each_course (command_tree c.args.step.now.command) c.args.count c.args.step.now.place c.args.k.state.selection) (c.args.k ∷ []) (at_most_one to))
+    (λ to x. Passes-same c.args.k (At (command_tree c.args.step.now.command) c.args.count c.args.step.now.place c.in-Some.component) (each_course (command_tree c.args.step.now.command) c.args.count c.args.step.now.place c.args.k.state.selection) (at_most_one to) (each_sole (command_tree c.args.step.now.command) c.args.count c.args.step.now.place c.in-Some.component c.args.k sole) x) c.at_one.ensures.ok
+
+pub returns-in-Some-clause-err : goal.returns-in-Some-clause-err
+returns-in-Some-clause-err c =
+    let sole = sym (ap (λ k. k.state.selection) c.k.view_is) ∙ c.in-Some.ensures.sole in
+    IfErr-weaker c.at_one.result (λ h. Halts (At (command_tree c.args.step.now.command) c.args.count c.args.step.now.place c.in-Some.component) (c.args.k ∷ []) h) (λ h. Halts (each_course (command_tree c.args.step.now.command) c.args.count c.args.step.now.place c.args.k.state.selection) (c.args.k ∷ []) h) (λ h u. Halts-same c.args.k (At (command_tree c.args.step.now.command) c.args.count c.args.step.now.place c.in-Some.component) (each_course (command_tree c.args.step.now.command) c.args.count c.args.step.now.place c.args.k.state.selection) (each_sole (command_tree c.args.step.now.command) c.args.count c.args.step.now.place c.in-Some.component c.args.k sole) h u) c.at_one.ensures.err
+
+pub returns-in-Override-clause-ok : goal.returns-in-Override-clause-ok
+returns-in-Override-clause-ok c = subst (λ (m : Command). Passes (each_course (command_tree m) c.args.count c.args.step.now.place c.args.k.state.selection) (c.args.k ∷ []) (c.in_ok-overrides_each.field-0 ∷ [])) (sym c.in-Override.is) ([], c.in_ok-overrides_each.ensures)
+
+pub loop-component-init : goal.loop-component-init
+loop-component-init c =
+    let whole : c.as_slice-component-items.result.now ≡ c.args.k.state.selection = c.as_slice-component-items.ensures.value ∙ c.in_ok-selection.ensures.value ∙ ap (λ k. k.state.selection) c.k.view_is in
+    record {
+      whole = whole;
+      small = subst AreSmall (sym c.as_slice-component-items.ensures.value) c.in_ok-selection.ensures.small;
+      walks = ([], subst (λ cs. Walks (each_course (command_tree c.args.step.now.command) c.args.count c.args.step.now.place c.args.k.state.selection) (c.args.k ∷ []) [] (each_course (command_tree c.args.step.now.command) c.args.count c.args.step.now.place cs) (c.args.k ∷ []) []) (sym whole) (Walks-start (each_course (command_tree c.args.step.now.command) c.args.count c.args.step.now.place c.args.k.state.selection) (c.args.k ∷ []) []));
+    }
+
+pub returns-in_err-now-clause-err : goal.returns-in_err-now-clause-err
+returns-in_err-now-clause-err c =
+    let p = err_from_is_err_and c.from_residual-in_err-now.result c.from_residual-in_err-now.ensures.1 in rw (p.1, p.2) (Each-stops (command_tree c.args.step.now.command) c.args.count c.args.step.now.place c.as_slice-component-items.result.now c.loop-component.component-index _ c.loop-component-test.true (each_course (command_tree c.args.step.now.command) c.args.count c.args.step.now.place c.args.k.state.selection) (c.args.k ∷ []) (at_most_one c.loop-component.now) [] c.loop-component.invariant.walks.0 c.loop-component.invariant.walks.1 c.in_err-now.field-0.0 c.in_err-now.ensures.err)
+
+pub loop-component-preserved : goal.loop-component-preserved
+loop-component-preserved c =
+    let before = c.loop-component.invariant.walks in
+    let more = c.in_ok-now.ensures.ok in
+    record {
+      whole = c.loop-component.invariant.whole;
+      small = (small_index c.as_slice-component-items.result.now c.loop-component.component-index 0 c.loop-component-test.true c.loop-component.invariant.small).1;
+      walks = (before.0 ++ more.0, Each-step (command_tree c.args.step.now.command) c.args.count c.args.step.now.place c.as_slice-component-items.result.now c.loop-component.component-index _ c.loop-component-test.true (each_course (command_tree c.args.step.now.command) c.args.count c.args.step.now.place c.args.k.state.selection) (c.args.k ∷ []) (at_most_one c.loop-component.now) [] before.0 before.1 (at_most_one c.in_ok-now.now) (before.0 ++ more.0) (Adds-passes _ (at_most_one c.loop-component.now) [] (at_most_one c.in_ok-now.now) (at_most_one c.in_ok-now.now) before.0 more refl));
+    }
+
+pub returns-clause-ok : goal.returns-clause-ok
+returns-clause-ok c =
+    let none : drop c.loop-component.component-index c.as_slice-component-items.result.now ≡ [] = drop_all c.loop-component.component-index c.as_slice-component-items.result.now c.loop-component-test.false in
+    let walks = c.loop-component.invariant.walks in
+    Passes-added (each_course (command_tree c.args.step.now.command) c.args.count c.args.step.now.place c.args.k.state.selection) (c.args.k ∷ []) (at_most_one c.loop-component.now) walks.0
+    (Walks-end (each_course (command_tree c.args.step.now.command) c.args.count c.args.step.now.place c.args.k.state.selection) (c.args.k ∷ []) (at_most_one c.loop-component.now) [] walks.0 (subst (λ cs. Walks (each_course (command_tree c.args.step.now.command) c.args.count c.args.step.now.place c.args.k.state.selection) (c.args.k ∷ []) [] (each_course (command_tree c.args.step.now.command) c.args.count c.args.step.now.place cs) (at_most_one c.loop-component.now) walks.0) none walks.1))
