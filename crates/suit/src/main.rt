@@ -2,15 +2,17 @@
 //! the status of that call.
 #![tactic(auto)]
 
+mod flash;
 mod source;
 mod starving;
 mod words;
 
+use flash::flash_of;
 use source::Started;
 use starving::out_of_memory;
 use std::process::ExitCode;
 use suit_cli::{Status, run};
-use suit_edge::{FileDisk, FileHost, FileLauncher, StdSink};
+use suit_edge::{FileHost, FileLauncher, StdSink};
 use words::command_line;
 
 fn main(rt: HostRuntime) -> ExitCode {
@@ -20,7 +22,7 @@ fn main(rt: HostRuntime) -> ExitCode {
         return ExitCode::from(out_of_memory(&mut out));
     };
     let mut host = FileHost::new(&rt);
-    let mut flash = FileDisk::new(&rt);
+    let mut flash = flash_of(&rt);
     let mut launcher = FileLauncher::new(&rt);
     let Status(code) = run(
         alloc,
