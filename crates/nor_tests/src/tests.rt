@@ -1,0 +1,3 @@
+mod erasing;
+mod real_file;
+mod stopped;

@@ -1,0 +1,141 @@
+//! The second update is stopped at each call of the device, or one of these calls fails.
+
+ghost use Rattle.std.specs.Prelude.{◌≡◌, IfOk, IfSome};
+
+use crate::commands::{Ending, FIRST, MADE, UPDATE, all_go, end_of_run, goes_on};
+use crate::files::with_files;
+use nor_flash::{FuseNor, MemoryNor, NorDisk};
+use std::alloc::{AllocError, Global};
+use suit_edge::{Host, MemoryLauncher};
+
+/// What happens at a call of the device.
+#[derive(Clone, Copy, PartialEq, Eq)]
+enum Stop {
+    /// The power goes before it.
+    Cut,
+    /// It fails, and the program goes on with the same disk.
+    Failed,
+    /// It fails, and then the power goes.
+    Torn,
+}
+
+/// How the second update ended.
+#[derive(Clone, Copy, PartialEq, Eq)]
+enum Ended {
+    /// It was not begun: what stands before it failed.
+    Before,
+    /// With a fault of the flash, and all goes on after it.
+    Told,
+    Done,
+    Wrong,
+}
+
+// A disk of 80 blocks.
+fn disk_over(nor: MemoryNor, passes: u64) -> NorDisk<FuseNor>
+    ensures { result.0.nor ≡ nor }
+{
+    NorDisk::new(FuseNor::new(nor, passes))
+}
+
+// The device after the first update, where these calls fail.
+fn after_first<H: Host>(
+    alloc: Global,
+    host: &mut H,
+    fails: &[u64],
+) -> Result<Option<MemoryNor>, AllocError>
+    ensures { IfOk result (λ found. IfSome found (λ nor. nor.blocks ≡ 84)) }
+{
+    let mut disk = disk_over(MemoryNor::new(alloc, 84, fails)?, u64::MAX);
+    let mut launcher = MemoryLauncher::new(alloc, &[])?;
+    let done = all_go(alloc, host, &mut disk, &mut launcher, FIRST)?;
+    let nor = disk.into_nor().into_nor();
+    Ok(if done { Some(nor) } else { None })
+}
+
+// How the second update ends on a device that takes so many calls, and whether all goes on after it.
+fn end_on<H: Host>(
+    alloc: Global,
+    host: &mut H,
+    nor: MemoryNor,
+    stop: Stop,
+    passes: u64,
+) -> Result<Ended, AllocError>
+    requires { nor.blocks ≡ 84 }
+{
+    let mut disk = disk_over(nor, passes);
+    let ending = end_of_run(alloc, UPDATE, host, &mut disk)?;
+    if stop != Stop::Failed {
+        disk = disk_over(disk.into_nor().into_nor(), u64::MAX);
+    }
+    match ending {
+        Ending::Installed => Ok(Ended::Done),
+        Ending::FlashFault if goes_on(alloc, host, &mut disk)? => Ok(Ended::Told),
+        _ => Ok(Ended::Wrong),
+    }
+}
+
+// How it ends where it is stopped at this call: of the second update where the power goes, and else of all.
+fn end_at<H: Host>(
+    alloc: Global,
+    host: &mut H,
+    stop: Stop,
+    call: u64,
+) -> Result<Ended, AllocError> {
+    let (fails, passes) = match stop {
+        Stop::Cut => ([u64::MAX], call),
+        Stop::Failed | Stop::Torn => ([call], u64::MAX),
+    };
+    match after_first(alloc, host, &fails)? {
+        Some(nor) => end_on(alloc, host, nor, stop, passes),
+        None => Ok(Ended::Before),
+    }
+}
+
+// At how many calls the second update is stopped, and all goes on after each; 0 where it does not.
+fn stops<H: Host>(alloc: Global, host: &mut H, stop: Stop) -> Result<u64, AllocError> {
+    let mut told = 0u64;
+    for call in 0..100_000u64 {
+        match end_at(alloc, host, stop, call)? {
+            Ended::Before => {}
+            Ended::Told => told = told.saturating_add(1),
+            Ended::Done => return Ok(told),
+            Ended::Wrong => return Ok(0),
+        }
+    }
+    Ok(0)
+}
+
+// Whether both envelopes are made.
+fn makes<H: Host>(alloc: Global, host: &mut H) -> Result<bool, AllocError> {
+    let mut disk = disk_over(MemoryNor::new(alloc, 84, &[])?, u64::MAX);
+    let mut launcher = MemoryLauncher::new(alloc, &[])?;
+    all_go(alloc, host, &mut disk, &mut launcher, MADE)
+}
+
+// At how many calls of the device the second update is stopped so, and all goes on after each; 0 where it does not.
+fn calls(alloc: Global, stop: Stop) -> Result<u64, AllocError> {
+    let mut host = with_files(alloc)?;
+    if makes(alloc, &mut host)? {
+        stops(alloc, &mut host, stop)
+    } else {
+        Ok(0)
+    }
+}
+
+#[test]
+fn the_power_may_go_before_each_call(rt: HostRuntime) -> Result<(), AllocError> {
+    assert!(rt; calls(rt.alloc(), Stop::Cut)? > 30);
+    Ok(())
+}
+
+#[test]
+fn each_call_may_fail(rt: HostRuntime) -> Result<(), AllocError> {
+    assert!(rt; calls(rt.alloc(), Stop::Failed)? > 30);
+    Ok(())
+}
+
+#[test]
+fn each_call_may_fail_as_the_power_goes(rt: HostRuntime) -> Result<(), AllocError> {
+    assert!(rt; calls(rt.alloc(), Stop::Torn)? > 30);
+    Ok(())
+}
