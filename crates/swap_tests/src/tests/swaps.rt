@@ -7,7 +7,7 @@ use super::quiet::Quiet;
 use flash_layout::Slot;
 use std::alloc::{AllocError, Global};
 use suit_edge::{Disk, Edge, FuseDisk, MemoryDisk};
-use swap_journal::{Journal, Swap, close, complete, exchange};
+use swap_journal::{Journal, Progress, Swap, close, complete, exchange, read_progress};
 
 const SIZE: usize = 24_576;
 
@@ -213,5 +213,18 @@ fn cuts(rt: HostRuntime) -> Result<(), AllocError> {
             }
         }
     }
+    Ok(())
+}
+
+#[test]
+fn three_copies_exchange_short_contents(rt: HostRuntime) -> Result<(), AllocError> {
+    let (journal, swap) = swap(3, 2);
+    let disk = prepared(rt.alloc(), &swap, b"abc", b"xy")?;
+    let mut disk = quiet(disk, u64::MAX);
+    let mut room = [0u8; 4096];
+    assert!(rt; exchange(&mut disk, &journal, &swap, &mut room).is_ok());
+    assert!(rt; matches!(read_progress(&mut disk, 0), Some(Progress { made: 3, .. })));
+    assert!(rt; holds(rt.alloc(), &mut disk, swap.first, b"xy")?);
+    assert!(rt; holds(rt.alloc(), &mut disk, swap.second, b"abc")?);
     Ok(())
 }
