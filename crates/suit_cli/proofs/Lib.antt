@@ -46,3 +46,12 @@ pub mod WordsLawProofs
 pub mod RunLawProofs
 pub mod BootLawProofs
 pub mod UpdateEndLawProofs
+mod DrillDevices
+mod DrillWords
+mod DrillCounts
+mod DrillCuts
+mod DrillUpdates
+mod DrillTurns
+mod DrillLawProofs
+mod DrillLoop
+mod DrillRun

@@ -11,13 +11,13 @@ use Rattle.suit_cli.specs.declared.reply.Outcome.{Outcome}
 use Rattle.suit_cli.specs.declared.reply.Outcome.TheVariants as outcomes
 use Rattle.suit_cli.specs.Texts.{usage_line}
 use Rattle.suit_cli.specs.declared.reply.Object.TheVariants as objects
-use Rattle.suit_cli.specs.Words.{Task, Make, Describe, Show, Check, RunInit, RunUpdate, RunBoot, RunStatus, task_of}
+use Rattle.suit_cli.specs.Words.{Task, Make, Describe, Show, Check, RunInit, RunUpdate, RunBoot, RunStatus, Drill, task_of}
 use Rattle.suit_cli.specs.Outside.{Outside, Sunk}
 use Rattle.suit_cli.specs.Stages.{Ending, Says, FaultOf, NoMemory, Goes, Declines}
 use Rattle.suit_cli.specs.Statuses.{status_of, ending_status, ending_text}
 use Rattle.suit_cli.specs.Judgement.{AreSafe, AreJudged, JudgedSafe, JudgedUnsafe}
 use Rattle.suit_cli.specs.Program.{answers, PutsText, IsPut, IsCut, EndsIn, ChecksProcedures, IsCheck, ChecksSafe, ChecksUnsafe, IsUsage, Judges}
-use Rattle.suit_cli.proofs.Running.{Declining, IsJudged, checked, judged_when, judged_safe, judged_unsafe, done_safe, unsafe_shows, shown_plain, showed, status_done, status_unsafe, status_usage, not_seven, not_eight, not_ten_of, inited, begun, stated, plain_not, unsafe_refuted}
+use Rattle.suit_cli.proofs.Running.{Declining, IsJudged, checked, judged_when, judged_safe, judged_unsafe, done_safe, unsafe_shows, shown_plain, showed, status_done, status_unsafe, status_usage, not_seven, not_eight, not_ten_of, inited, begun, stated, drilled, plain_not, unsafe_refuted}
 use Rattle.suit_cli.proofs.Describing.{described}
 use Rattle.suit_cli.proofs.AcceptedFacts.{IsUnsafeFile, began}
 use Rattle.suit_cli.proofs.TaskAnswers.{ByCheck, ByUpdate, JudgesTask, does_of, judged_task}
@@ -67,6 +67,7 @@ usage_of words b a r (Goes (RunUpdate name uris) m _ g rest) is = absurd (of_way
   of_way (inr u) = let never = sym u.unsafe.outcome_is ∙ is in cc
 usage_of words b a r (Goes RunBoot m _ g rest) is = absurd (plain_not r.outcome _ (begun m a r rest) is (λ d. d) (λ e. cc))
 usage_of words b a r (Goes RunStatus m _ g rest) is = absurd (plain_not r.outcome _ (stated m a r rest) is (λ d. d) (λ e. cc))
+usage_of words b a r (Goes (Drill number) m _ g rest) is = absurd (plain_not r.outcome _ (drilled number m a r rest) is (λ d. d) (λ e. cc))
 
 no_task_usage : (words : List (List ℕ)) (b a : Outside) (r : Reply) → task_of words ≡ None → answers words b a (Says r) → status_of r.outcome ≡ 2
 no_task_usage words b a r none (Declines _ d) = ap status_of d.1.1.outcome_is

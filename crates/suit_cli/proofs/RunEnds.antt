@@ -89,11 +89,11 @@ module _ (l m : Launching) (b a : Outside) (end : BootEnd) (lines : List ℕ) (b
   boot_files : IsTrue b.told → a.files ≡ b.files
   boot_files told = boots.boot.alone.files (subst IsTrue (sym same_told) told) ∙ same_files
 
-  boot_counts : ByStatus (boot_status end) (counts_of b.faults b.flash.faults l.faults) (counts_of a.faults a.flash.faults m.faults)
+  pub boot_counts : ByStatus (boot_status end) (counts_of b.faults b.flash.faults l.faults) (counts_of a.faults a.flash.faults m.faults)
   boot_counts = by_end end _ _ (subst (λ (n : ℕ). BootCounts end (counts_of b.faults n l.faults) (counts_of a.faults a.flash.faults m.faults)) boots.held.0.faults
       (subst (λ (n : ℕ). BootCounts end (counts_of n boots.middle.flash.faults l.faults) (counts_of a.faults a.flash.faults m.faults)) same_faults boots.boot.counts))
 
-  boot_safe : IsTrue b.flash.told → IsTrue l.told → Sound VERSION_1 b.flash.reads → GainsSafe l.launches m.launches
+  pub boot_safe : IsTrue b.flash.told → IsTrue l.told → Sound VERSION_1 b.flash.reads → GainsSafe l.launches m.launches
   boot_safe flash_told launcher_told sound =
       boots.boot.safe (subst IsTrue (sym boots.held.0.still.told) flash_told) launcher_told
       (subst (Sound VERSION_1) (sym (boots.held.0.still.reads flash_told)) sound)

@@ -30,7 +30,7 @@ use Rattle.suit_cli.specs.Judgement.{IsNarrow, AreSafe, AreJudged, JudgedSafe, J
 use Rattle.suit_cli.specs.Shown.{IsShown, authenticity_outcome}
 use Rattle.suit_cli.specs.Devices.{IsNoDevice, IsNoJson, IsNoLayout}
 use Rattle.suit_cli.specs.Installed.{HoldsNone, IsBlank, IsBad}
-use Rattle.suit_cli.specs.Commands.{in_manifest, judges_manifest, checks, shows_manifest, shows, inits_as, inits, begins_boot, tells_status, does}
+use Rattle.suit_cli.specs.Commands.{in_manifest, judges_manifest, checks, shows_manifest, shows, inits_as, inits, begins_boot, tells_status, drills, does}
 use Rattle.path_model.proofs.Refuting.{IsBadPath-not_safe}
 use Rattle.suit_cli.proofs.OneStage.{Alike, alike_self, asks_for, asks_reads, alike_asked, passes, stands, one_reply, one_file, one_envelope, one_short, one_manifest, one_members, one_narrow}
 
@@ -354,6 +354,9 @@ stated b a r (Goes config m0 _ g (Goes installed m1 _ h (Goes lines m2 _ l (Ends
 pub plain_not : (o p : Outcome) → Plain o → o ≡ p → (Declining p → ⊥) → (p ≡ outcomes.Done → ⊥) → ⊥
 plain_not o p (inl d) is never done = never (subst Declining is d)
 plain_not o p (inr d) is never done = done (sym is ∙ d)
+
+pub drilled : (number : ℕ) (b a : Outside) (r : Reply) → drills number b a (Says r) → Plain r.outcome
+drilled number b a r (Ends _ same says) = inr says.says.outcome_is
 
 -- of `show` with a key
 pub shown_plain : (r : Reply) → Declining r.outcome ⊎ IsShownOf r → Plain r.outcome

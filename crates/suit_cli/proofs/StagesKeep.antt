@@ -12,7 +12,7 @@ use Rattle.flash_layout.specs.declared.key.Key.{Key}
 use Rattle.flash_layout.specs.declared.layout.Entry.{Entry}
 use Rattle.suit_cli.specs.Formatting.{formatting, FormatsInVain}
 use Rattle.suit_cli.specs.Inputs.{longest_file, longest_device, longest_key}
-use Rattle.suit_cli.specs.Commands.{describes, shows, checks, inits, inits_as, begins_boot, tells_status, does}
+use Rattle.suit_cli.specs.Commands.{describes, shows, checks, inits, inits_as, begins_boot, tells_status, drills, does}
 use Rattle.suit_cli.specs.Program.{answers, most_pulled}
 
 -- only an answer that is a fault counted one, of its object
@@ -212,3 +212,6 @@ begins_keeps = then_keeps 0 0 _ _ (looking_keeps _ _) (λ config. last_keeps _)
 
 pub tells_keeps : Keeps 0 tells_status
 tells_keeps = then_keeps 0 0 _ _ (looking_keeps _ _) (λ config. then_keeps 0 0 _ _ (looking_keeps _ _) (λ installed. then_keeps 0 0 _ _ (looking_keeps _ _) (λ lines. last_keeps _)))
+
+pub drills_keeps : (number : ℕ) → Keeps 0 (drills number)
+drills_keeps number = last_keeps _

@@ -24,7 +24,7 @@ use Rattle.suit_cli.specs.declared.reply.Outcome.{Outcome}
 use Rattle.suit_cli.specs.declared.reply.Outcome.TheVariants as outcomes
 use Rattle.suit_cli.specs.declared.reply.Object.TheVariants as objects
 use Rattle.suit_cli.specs.declared.reply.Reply.{Reply}
-use Rattle.suit_cli.specs.Words.{Task, Make, Describe, Show, Check, RunInit, RunUpdate, RunBoot, RunStatus}
+use Rattle.suit_cli.specs.Words.{Task, Make, Describe, Show, Check, RunInit, RunUpdate, RunBoot, RunStatus, Drill}
 use Rattle.suit_cli.specs.Outside.{Outside, Flashed}
 use Rattle.suit_cli.specs.Stages.{Ending, Says, FaultOf, NoMemory, Answers, Stage, judging, reading, looking, in_turn, Then, Goes, Lacks, Last, EndsWithout}
 use Rattle.suit_cli.specs.Statuses.{ending_status, status_of}
@@ -117,6 +117,7 @@ does_starves (RunUpdate name uris) =
     then_starves _ _ (accepts_nears config.0 config.1 bytes) (λ accepted. last_starves _)))
 does_starves RunBoot = then_starves _ _ (looking_nears _ _) (λ config. last_starves _)
 does_starves RunStatus = then_starves _ _ (looking_nears _ _) (λ config. then_starves _ _ (looking_nears _ _) (λ installed. then_starves _ _ (looking_nears _ _) (λ lines. last_starves _)))
+does_starves (Drill number) = last_starves _
 
 answers_starves : (words : List (List ℕ)) → Starves (answers words)
 answers_starves words b a (Goes task c _ g rest) = near_then b c a (near_same b c g.0) (does_starves task c a rest)

@@ -3,12 +3,12 @@ use Rattle.std.proofs.Common.{◌≡◌, ℕ, List, Some, None, ◌⊎◌, inl, 
 use Rattle.std.proofs.lemmas.Option.{same_Some}
 use Rattle.suit_cli.specs.declared.reply.Reply.{Reply}
 use Rattle.suit_cli.specs.declared.reply.Outcome.TheVariants as outcomes
-use Rattle.suit_cli.specs.Words.{Task, Make, Describe, Show, Check, RunInit, RunUpdate, RunBoot, RunStatus, task_of}
+use Rattle.suit_cli.specs.Words.{Task, Make, Describe, Show, Check, RunInit, RunUpdate, RunBoot, RunStatus, Drill, task_of}
 use Rattle.suit_cli.specs.Outside.{Outside}
 use Rattle.suit_cli.specs.Stages.{Says, Goes, Declines}
 use Rattle.suit_cli.specs.Commands.{checks, does}
 use Rattle.suit_cli.specs.Program.{answers}
-use Rattle.suit_cli.proofs.Running.{Declining, shown_plain, showed, inited, begun, stated, plain_not}
+use Rattle.suit_cli.proofs.Running.{Declining, shown_plain, showed, inited, begun, stated, drilled, plain_not}
 use Rattle.suit_cli.proofs.AcceptedFacts.{IsUnsafeFile, began}
 use Rattle.suit_cli.proofs.Describing.{described}
 use Rattle.suit_cli.proofs.MakeLawProofs.{made_as}
@@ -38,3 +38,4 @@ judged_task words b a r (Goes (RunUpdate name uris) m _ g rest) is = of_way (beg
   of_way (inr unsafe) = ByUpdate name uris g.1 (subst (λ (o : Outside). IsUnsafeFile name o r) g.0 unsafe)
 judged_task words b a r (Goes RunBoot m _ g rest) is = absurd (plain_not r.outcome _ (begun m a r rest) is (λ d. d) (λ e. cc))
 judged_task words b a r (Goes RunStatus m _ g rest) is = absurd (plain_not r.outcome _ (stated m a r rest) is (λ d. d) (λ e. cc))
+judged_task words b a r (Goes (Drill number) m _ g rest) is = absurd (plain_not r.outcome _ (drilled number m a r rest) is (λ d. d) (λ e. cc))

@@ -3,7 +3,7 @@ use Rattle.std.specs.Prelude.{ℕ, List}
 use Rattle.suit_envelope.specs.Envelopes.{EnvelopeSays}
 use Rattle.suit_manifest.specs.declared.manifest.Manifest.{Manifest}
 use Rattle.suit_manifest.specs.Procedures.{update_tree, invocation_tree}
-use Rattle.suit_cli.specs.Words.{Task, Make, Describe, Show, Check, RunInit, RunUpdate, RunBoot, RunStatus}
+use Rattle.suit_cli.specs.Words.{Task, Make, Describe, Show, Check, RunInit, RunUpdate, RunBoot, RunStatus, Drill}
 use Rattle.suit_cli.specs.Stages.{Answers, ◌>>=◌, Last}
 use Rattle.suit_cli.specs.Inputs.{longest_file, longest_device, file, key_in}
 use Rattle.suit_cli.specs.Envelopes.{envelope_in, short, manifest_in, members_in}
@@ -13,7 +13,8 @@ use Rattle.suit_cli.specs.Describing.{there_in, text_in, IsDescribed}
 use Rattle.suit_cli.specs.Authoring.{longest_description, description_in, makes_described}
 use Rattle.suit_cli.specs.Devices.{device_in, key_of}
 use Rattle.suit_cli.specs.Formatting.{unused, formats}
-use Rattle.suit_cli.specs.Acceptance.{accepts}
+pub use Rattle.suit_cli.specs.Beginnings.{begins_boot, begins_update}
+use Rattle.suit_cli.specs.Drilling.{IsDrilled}
 use Rattle.suit_cli.specs.Installed.{config_in, record_in, lines_in, IsStatus}
 
 -- up to the manifest in a file, and then on
@@ -82,19 +83,6 @@ inits_as size device key_name =
 abbrev pub inits : List ℕ → List ℕ → Answers
 inits device key_name = unused >>= λ size. inits_as size device key_name
 
--- `run boot`: the configuration. A boot follows, or memory runs out for its line.
-abbrev pub begins_boot : Answers
-begins_boot = config_in >>= λ config. Last (λ reply. ⊥)
-
--- `run update FILE`: the configuration, the file, and what it spells. An update follows, or memory runs out for its
--- line.
-abbrev pub begins_update : List ℕ → Answers
-begins_update name =
-    config_in >>= λ config.
-    file longest_file name >>= λ bytes.
-    accepts config.0 config.1 bytes >>= λ accepted.
-    Last (λ reply. ⊥)
-
 -- `run status`: the configuration, the record, and the lengths of the contents
 abbrev pub tells_status : Answers
 tells_status =
@@ -102,6 +90,10 @@ tells_status =
     record_in >>= λ installed.
     lines_in config.0 installed >>= λ lines.
     Last (IsStatus installed lines)
+
+-- `drill NUMBER`: it reads no file, looks at no flash and has objects of its own
+abbrev pub drills : ℕ → Answers
+drills number = Last (IsDrilled number)
 
 abbrev pub does : Task → Answers
 does (Make description key_name out) = makes description key_name out
@@ -112,3 +104,4 @@ does (RunInit device key_name) = inits device key_name
 does (RunUpdate name uris) = begins_update name
 does RunBoot = begins_boot
 does RunStatus = tells_status
+does (Drill number) = drills number

@@ -23,6 +23,11 @@ pub mod Booting
 pub mod Acceptance
 pub mod Updating
 pub mod Coming
+pub mod Beginnings
+pub mod DrillDevice
+pub mod DrillRounds
+pub mod Drilling
+pub mod DrillLaws
 pub mod Commands
 pub mod Holding
 pub mod CommandLaws

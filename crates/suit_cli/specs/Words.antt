@@ -16,12 +16,13 @@ pub data Task : Type 0 where
   RunUpdate : List ℕ → List (List ℕ × List ℕ) → Task
   RunBoot : Task
   RunStatus : Task
+  Drill : ℕ → Task
 
 -- a URI, and the name of the file that answers it
 abbrev pub named_by : Answer → List ℕ × List ℕ
 named_by answer = (answer.uri, answer.name)
 
--- the commands that are built: words that ask for another are usage as yet
+-- the same task; names stand beside their URIs
 abbrev pub built : asked.Task → Option Task
 built (asked.Make description key out) = Some (Make description key out)
 built (asked.Describe file) = Some (Describe file)
@@ -31,9 +32,9 @@ built (asked.Init device key) = Some (RunInit device key)
 built (asked.Update file uris) = Some (RunUpdate file (map named_by uris))
 built asked.Boot = Some RunBoot
 built asked.Status = Some RunStatus
-built (asked.Drill number) = None
+built (asked.Drill number) = Some (Drill number)
 
--- all words but those of a command that is built are usage
+-- all words but those of a command are usage
 abbrev pub task_of : List (List ℕ) → Option Task
 task_of words = option_and_then built (table.task_of words)
 
@@ -46,3 +47,4 @@ task_said (commands.RunInit device key) = RunInit device.now key.now
 task_said (commands.RunUpdate file uris) = RunUpdate file.now uris
 task_said commands.RunBoot = RunBoot
 task_said commands.RunStatus = RunStatus
+task_said (commands.Drill number) = Drill number

@@ -5,6 +5,7 @@ ghost use Rattle.suit_cli.specs.RunLaws.{RunLaws};
 ghost use Rattle.suit_cli.specs.CommandLaws.{CheckLaws, ShowLaws};
 ghost use Rattle.suit_cli.specs.DescribingLaws.{DescribingLaws};
 ghost use Rattle.suit_cli.specs.MakeLaws.{MakeLaws};
+ghost use Rattle.suit_cli.specs.DrillLaws.{DrillLaws};
 ghost use Rattle.suit_cli.specs.FlashLaws.{InitLaws, StatusLaws};
 ghost use Rattle.suit_cli.specs.UpdateEndLaws.{UpdateEndLaws};
 ghost use Rattle.suit_cli.specs.UpdateLaws.{UpdateLaws};
@@ -131,3 +132,9 @@ pub fn run_laws()
 {
     config_laws();
 }
+
+/// Does nothing. Its contract has the law of `drill NUMBER`: the line's counts of rounds add up to 200, and no launch is
+/// wrong.
+pub fn drill_laws()
+    ensures { DrillLaws }
+{}

@@ -8,6 +8,7 @@ mod boot_lines;
 mod check;
 mod components;
 mod device;
+mod drill;
 mod init;
 mod input;
 mod json;
@@ -30,8 +31,8 @@ mod why;
 mod words;
 
 pub use law::{
-    boot_end_laws, check_laws, describing_laws, init_laws, make_laws, run_laws, show_laws,
-    status_laws, update_end_laws, update_laws, words_laws,
+    boot_end_laws, check_laws, describing_laws, drill_laws, init_laws, make_laws, run_laws,
+    show_laws, status_laws, update_end_laws, update_laws, words_laws,
 };
 pub use life::{launched_laws, life_laws, new_flash_laws, restart_laws, soundness_laws};
 pub use outside::{SeenDisk, SeenHost, SeenLauncher, SeenSink};

@@ -35,6 +35,7 @@ ghost use Rattle.rollback_record.specs.SoundFlash.{Settled, Sound};
 use crate::answer::Answer;
 use crate::boot_lines::boot_status;
 use crate::check::check;
+use crate::drill::drill;
 use crate::init::init;
 use crate::make::make_envelope;
 use crate::outside::{SeenDisk, SeenHost, SeenLauncher, SeenSink};
@@ -92,6 +93,7 @@ fn perform<H: Host, D: Disk, L: Launcher>(
         Command::RunUpdate(name, uris) => { run_update(alloc, name, &uris, host, flash, launcher) }
         Command::RunBoot => run_boot(alloc, host, flash, launcher),
         Command::RunStatus => Answer::Said(status(alloc, flash)),
+        Command::Drill(number) => Answer::Said(drill(alloc, number)),
     }
 }
 

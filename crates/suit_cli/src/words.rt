@@ -31,6 +31,8 @@ pub(crate) enum Command<'a> {
     RunBoot,
     /// To show what is installed in the flash.
     RunStatus,
+    /// To run rounds that are drawn from this number, on a flash in memory.
+    Drill(u64),
 }
 
 /// The words, lent one by one.
@@ -56,7 +58,7 @@ fn uris_of(alloc: Global, words: &[UriWord<'_>]) -> Result<Uris, AllocError>
     Ok(uris)
 }
 
-// The commands that are built. The others are usage as yet.
+// The same command, with its URIs and names in a list.
 fn built<'a>(
     alloc: Global,
     command: command_words::Command<'a>,
@@ -78,7 +80,7 @@ fn built<'a>(
         }
         command_words::Command::Boot => Some(Command::RunBoot),
         command_words::Command::Status => Some(Command::RunStatus),
-        command_words::Command::Drill { .. } => None,
+        command_words::Command::Drill { number } => Some(Command::Drill(number)),
     })
 }
 

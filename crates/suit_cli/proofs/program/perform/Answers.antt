@@ -55,3 +55,6 @@ pub returns-in-RunStatus-clause-flash : goal.returns-in-RunStatus-clause-flash
 returns-in-RunStatus-clause-flash g c told =
     flash_as c.args.command _ c.in-RunStatus.is _ _ _ _ _ _ _
     (record { any_moment = (c.status.ensures.same told).images; sound = tt; settled = looked _ _ _ _ _ (g.met.D.Disk.obeys c.status.new.flash told) (c.status.ensures.same told); keeps = tt })
+
+pub returns-in-Drill-clause-answer : goal.returns-in-Drill-clause-answer
+returns-in-Drill-clause-answer g c = comes_command c.args.command _ c.in-Drill.is _ _ _ _ (c.drill.ensures _)

@@ -1,0 +1,15 @@
+use Rattle.std.proofs.Common.{◌∙◌, refl, arith}
+use Rattle.suit_cli.specs.DrillDevice.{flash_size}
+use Rattle.suit_cli.proofs.DrillDevices.{is_first, is_ready, never_open, sized}
+use Rattle.suit_cli.proofs.drill.device.new_flash.Goals as goal
+
+pub unreachable-requires : goal.unreachable-requires
+unreachable-requires c = never_open c.in_ok-disk.disk _ flash_size _ c.in_ok-disk.ensures.state (omega arith) (c.in-NotBlank.ensures.not_blank refl).0
+
+pub returns-in-Done-clause-first : goal.returns-in-Done-clause-first
+returns-in-Done-clause-first c =
+    is_first _ _ _ _ (sized c.in_ok-disk.disk _ flash_size c.in_ok-disk.ensures.state) c.in_ok-layout.ensures.is c.key_of-key.ensures.is (c.in-Done.ensures.formatted refl)
+
+pub returns-in-Done-clause-ready : goal.returns-in-Done-clause-ready
+returns-in-Done-clause-ready c =
+    is_ready c.sound_laws.ensures _ (c.in-Done.ensures.size ∙ sized c.in_ok-disk.disk _ flash_size c.in_ok-disk.ensures.state) (returns-in-Done-clause-first c) (c.in-Done.ensures.settled refl)
