@@ -5,6 +5,7 @@ mod check;
 mod cut;
 mod damage;
 mod device;
+mod drilled;
 mod failing;
 mod goes;
 mod installed;
