@@ -5,7 +5,7 @@ complete -c suit -n __fish_use_subcommand -a make -d 'Make an envelope from a de
 complete -c suit -n __fish_use_subcommand -a show -d 'Print a description, or whether an envelope is authentic'
 complete -c suit -n __fish_use_subcommand -a check -d 'Say whether a manifest is safe'
 complete -c suit -n __fish_use_subcommand -a run -d 'Work with a flash'
-complete -c suit -n __fish_use_subcommand -a drill -d 'Not built yet'
+complete -c suit -n __fish_use_subcommand -a drill -d 'Try updates and boots on a flash in memory'
 
 set -l commands init update boot status
 complete -c suit -n "__fish_seen_subcommand_from run; and not __fish_seen_subcommand_from $commands" -a init -d 'Format a blank flash for a device'
