@@ -5,11 +5,9 @@ use Rattle.std.proofs.lemmas.Bool.{cases_lt, leb-true, le-leb}
 use Rattle.std.proofs.lemmas.List.{length-replicate, get_or-replicate, take-append-le, take_all, drop-append-le, drop_all}
 use Rattle.suit_edge.specs.declared.edge.Edge.{Edge}
 use Rattle.suit_edge.specs.declared.edge.Edge.TheVariants.{Done, Failed}
-use Rattle.suit_edge.specs.Calls.{CallCounts}
 use Rattle.suit_edge.specs.Edge.{IfDone}
-use Rattle.suit_edge.specs.Faults.{EdgeCounts}
-use Rattle.suit_edge.specs.Flash.{Grows, ImageOn, IsSame, Keeps}
-use Rattle.suit_edge.specs.FlashLaws.{grows_start, keeps_start, same_flash}
+use Rattle.suit_edge.specs.Flash.{Grows, ImageOn, Keeps}
+use Rattle.suit_edge.specs.FlashLaws.{grows_start, keeps_start}
 use Rattle.suit_edge.specs.Ranges.{AreBytes, Outside, SameOn, written}
 use Rattle.suit_edge.specs.RangeLaws.{same_start, written_outside, written_within}
 use Rattle.nor_flash.specs.declared.step.Step.{Step}
@@ -176,9 +174,6 @@ module _ (before now : NorState) where
   flash_held : HoldsOn before now → memory_nor now ≡ memory_nor before
   flash_held held = ap (λ (n : ℕ). flash_of n now.steps) held.blocks ∙ ap (flash_of before.blocks) held.steps
 
-  pub same_held : HoldsOn before now → IsSame (memory_nor before) (memory_nor now)
-  same_held held = subst (IsSame (memory_nor before)) (sym (flash_held held)) (same_flash (memory_nor before))
-
   pub grows_held : HoldsOn before now → Grows (memory_nor before) (memory_nor now)
   grows_held held = subst (Grows (memory_nor before)) (sym (flash_held held)) (grows_start (memory_nor before))
 
@@ -203,14 +198,6 @@ module _ (before now : NorState) where
     pub grows_exact : (answer : Edge) → StepsExactly answer before now s → Grows (memory_nor before) (memory_nor now)
     grows_exact Done does = grows_taken s does.1
     grows_exact Failed does = ⊎_elim (λ spoils. grows_taken (spoiling s) spoils.1) (λ starves. grows_held starves.1) does
-
-    pub counts_exact : (answer : Edge) → StepsExactly answer before now s → EdgeCounts answer before.calls.faults now.calls.faults
-    counts_exact Done does = ap (λ (c : CallCounts). c.faults) does.0.counts
-    counts_exact Failed does = ⊎_elim (λ spoils. spoils.0.faulted) (λ starves. starves.0.faulted) does
-
-    pub blocks_exact : (answer : Edge) → StepsExactly answer before now s → now.blocks ≡ before.blocks
-    blocks_exact Done does = does.1.blocks
-    blocks_exact Failed does = ⊎_elim (λ spoils. spoils.1.blocks) (λ starves. starves.1.blocks) does
 
     -- one that is done fills its range
     pub filled_exact : (answer : Edge) → (range_of s).place + (range_of s).size ≤ 4096 * before.blocks → StepsExactly answer before now s
