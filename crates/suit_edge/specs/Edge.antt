@@ -5,7 +5,3 @@ use Rattle.suit_edge.specs.declared.edge.Edge.TheVariants as edge
 abbrev pub IfDone : Edge → Type 0 → Type 0
 IfDone edge.Done P = P
 IfDone edge.Failed P = Unit {0}
-
-abbrev pub IfFailed : Edge → Type 0 → Type 0
-IfFailed edge.Done P = Unit {0}
-IfFailed edge.Failed P = P

@@ -4,7 +4,7 @@ use Rattle.std.specs.List.{slice_range}
 use Rattle.std.proofs.lemmas.List.Edits.{get_or-between}
 use Rattle.suit_edge.specs.declared.page.TheConstants.{OPEN, CLOSED}
 use Rattle.suit_edge.specs.Ranges.{Outside, InSome, OutsideEach, SameOn, written}
-use Rattle.suit_edge.specs.Flash.{Flash, Now, Passes, ImageOn, Keeps, IsSame, IsSettled, IsFirmOn, IsFlash}
+use Rattle.suit_edge.specs.Flash.{Flash, Now, Passes, ImageOn, Keeps, IsSettled, IsFirmOn, IsFlash}
 use Rattle.suit_edge.specs.Gate.{IsShut, Closes, IsClosing, IsNewPage, IsOpening, IsGated, body_at, page_at}
 use Rattle.suit_edge.specs.RangeLaws.{same_range, written_outside, written_range, written_one, same_start, same_then, same_fewer}
 use Rattle.suit_edge.specs.FlashLaws.{keeps_fewer, joined, weakens, image_on, image_fewer, image_then}
@@ -23,15 +23,6 @@ gate_written old new q b fits is = ap (λ (l : List ℕ). get_or l q 0) is ∙ w
 
 -- ---- a gate is closed
 
-pub closes_closed : (gate : ℕ) (old new : List ℕ) → get_or old gate 0 ≢ OPEN → new ≡ old
-    → Closes gate old new
-closes_closed gate old new shut same = record {
-  apart = subst (λ (l : List ℕ). SameOn (Outside gate 1) old l) (sym same) (same_start (Outside gate 1) old);
-  shut = λ is_open. shut (sym (ap (λ (l : List ℕ). get_or l gate 0) same) ∙ is_open);
-  closed = λ is_open. absurd (shut is_open);
-  stays = λ _. same;
-}
-
 pub closes_open : (gate : ℕ) (old new : List ℕ) → gate + 1 ≤ length old → get_or old gate 0 ≡ OPEN
     → new ≡ written old gate (CLOSED ∷ []) → Closes gate old new
 closes_open gate old new fits is_open wrote =
@@ -47,11 +38,6 @@ closes_open gate old new fits is_open wrote =
 pub closing : (gate : ℕ) (start b : Flash) → get_or start.reads gate 0 ≡ OPEN
     → Keeps (Outside gate 1) start b → Passes start b (IsClosing gate start)
 closing gate start b is_open kept = weakens start b (ImageOn (Outside gate 1) start) (IsClosing gate start) (λ image on. inr (is_open, on)) kept.images
-
--- while it is read
-pub not_closing : (gate : ℕ) (start b : Flash) → IsSame start b
-    → Passes start b (IsClosing gate start)
-not_closing gate start b same = weakens start b (Now start) (IsClosing gate start) (λ image now. inl now) same.images
 
 -- a closed gate is shut where nothing is pending
 pub settled_shut : (gate : ℕ) (f : Flash) → IsSettled f → (get_or f.reads gate 0 ≢ OPEN)
@@ -163,13 +149,6 @@ module _ (start : Flash) (size gate place : ℕ) (body : List ℕ) (law : IsFlas
           bytes = new.bytes;
           rest = same_then page start.reads b.reads image (same_fewer page (Outside gate 1) (λ i o. o.0) start.reads b.reads closed.apart) new.rest;
         }
-
-    pub gated_page : (b c : List ℕ) → Closes gate start.reads b → IsNewPage gate place body b c
-        → IsNewPage gate place body start.reads c
-    gated_page b c closed new = record {
-      bytes = new.bytes;
-      rest = same_then page start.reads b c (same_fewer page (Outside gate 1) (λ i o. o.0) start.reads b closed.apart) new.rest;
-    }
 
 -- ---- bytes that are left alone
 
