@@ -103,13 +103,6 @@ module _ (size : ℕ) (layout : List Entry) (laws : MomentLaws size layout) (pla
         (λ now. inr (record { record_is = now; contents = contents }))
         is.record_is
 
-    -- at each moment from the start on
-    pub old_or_new : (d : Flash) → Passes b d (IsInstalling held new bytes b) → Passes a d (λ image. IsOld layout places tree numbers held a.reads image ⊎ IsNew layout new b.reads image)
-    old_or_new d since =
-        joined a b d (λ image. IsOld layout places tree numbers held a.reads image ⊎ IsNew layout new b.reads image)
-        (weakens a b (IsOld layout places tree numbers held a.reads) (λ image. IsOld layout places tree numbers held a.reads image ⊎ IsNew layout new b.reads image) (λ image old. inl old) old_run)
-        (weakens b d (IsInstalling held new bytes b) (λ image. IsOld layout places tree numbers held a.reads image ⊎ IsNew layout new b.reads image) installing since)
-
     -- the same where what stands may be left alone instead
     moment_of : (image : List ℕ) → NowOr (IsInstalling held new bytes b) b image → IsOld layout places tree numbers held a.reads image ⊎ IsNew layout new b.reads image
     moment_of image is = ⊎_elim (λ now. inl (each_now a b size (IsOld layout places tree numbers held a.reads) law_b old_run image now)) (installing image) is
