@@ -5,17 +5,16 @@ use Rattle.std.specs.List.{AllByRecursion, range_with_len}
 use Rattle.flash_slots.specs.RamContents.{Held}
 use Rattle.suit_commands.specs.declared.command.Step.{Step}
 use Rattle.suit_commands.specs.declared.selection.Selection.TheVariants.{One, All, Listed}
-use Rattle.suit_commands.specs.declared.kinds.ActKind.{ActKind}
 use Rattle.suit_commands.specs.declared.kinds.ActKind.TheVariants as acts
 use Rattle.suit_commands.specs.Indexed.{IsIndexed}
 use Rattle.suit_commands.specs.Selections.{Among, selected_after}
-use Rattle.suit_commands.specs.Targets.{CommandWrites, IsWriting}
-use Rattle.suit_commands.specs.Tree.{CommandTree, Test, Act, Index, Override, TryEach, RunSequence, SequenceTree, StepThen, BranchesTree, BranchThen}
+use Rattle.suit_commands.specs.Targets.{CommandWrites}
+use Rattle.suit_commands.specs.Tree.{CommandTree, Test, Act, Index, Override, TryEach, RunSequence, SequenceTree, StepThen, BranchThen}
 use Rattle.suit_commands.specs.View.{sequence_tree, command_tree, branches_tree}
 use Rattle.step_machine.specs.declared.machine.Machine.{Machine}
 use Rattle.step_machine.specs.declared.spot.Spot.{Spot}
 use Rattle.step_machine.specs.declared.spot.Spot.TheVariants as spots
-use Rattle.step_machine.specs.Allowing.{AllowsSequence, AllowsCommand, AllowsBranches, MayFetch, MayWrite, MaySwap}
+use Rattle.step_machine.specs.Allowing.{AllowsSequence, AllowsCommand, AllowsBranches}
 use Rattle.step_machine.specs.Running.{Moment, Stays, IsReady}
 use Rattle.step_machine.specs.Spots.{IsSpot, room_at}
 
@@ -75,35 +74,6 @@ pub allows_at : (machine : Machine) (command : CommandTree) (selection : List �
 allows_at machine command selection k among a = record {
   indexed = a.indexed;
   writes = λ c w. a.writes c (narrow command machine.plan.now.count selection k c among w);
-  swaps = a.swaps;
-  fetches = a.fetches;
-  sources = a.sources;
-  uris = a.uris;
-}
-
-pub may_write : (machine : Machine) (kind : ActKind) (report k : ℕ) → AllowsCommand machine (Act kind report) (k ∷ []) → IsWriting kind → MayWrite machine k
-may_write machine kind report k a w = a.writes k (w, inl refl)
-
-pub may_swap : (machine : Machine) (kind : ActKind) (report k : ℕ) → AllowsCommand machine (Act kind report) (k ∷ []) → kind ≡ acts.Swap → MaySwap machine
-may_swap machine kind report k a e = a.swaps e
-
-pub may_fetch : (machine : Machine) (kind : ActKind) (report k : ℕ) → AllowsCommand machine (Act kind report) (k ∷ []) → kind ≡ acts.Fetch → MayFetch machine
-may_fetch machine kind report k a e = a.fetches e
-
-pub allows_inner : (machine : Machine) (inner : SequenceTree) (k : ℕ) → AllowsCommand machine (RunSequence inner) (k ∷ []) → AllowsSequence machine inner (k ∷ [])
-allows_inner machine inner k a = record {
-  indexed = a.indexed;
-  writes = λ c w. a.writes c (k, inl refl, w);
-  swaps = a.swaps;
-  fetches = a.fetches;
-  sources = a.sources;
-  uris = a.uris;
-}
-
-pub allows_branches : (machine : Machine) (branches : BranchesTree) (k : ℕ) → AllowsCommand machine (TryEach branches) (k ∷ []) → AllowsBranches machine branches k
-allows_branches machine branches k a = record {
-  indexed = a.indexed;
-  writes = λ c w. a.writes c (k, inl refl, w);
   swaps = a.swaps;
   fetches = a.fetches;
   sources = a.sources;

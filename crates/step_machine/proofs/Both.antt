@@ -59,9 +59,6 @@ room_stays (spots.Ram i) (spots.Ram j) ram after (content, is) =
 pub first_changed : (a b : Spot) (ram after : List Held) → IsRamBut a ram after → IsRamButBoth a b ram after
 first_changed a b ram after is = (after, is, ram_same b after)
 
-pub second_changed : (a b : Spot) (ram after : List Held) → IsRamBut b ram after → IsRamButBoth a b ram after
-second_changed a b ram after is = (ram, ram_same a ram, is)
-
 ram_then : (a : Spot) (r s t : List Held) → IsRamBut a r s → IsRamBut a s t → IsRamBut a r t
 ram_then (spots.Flash x) r s t is next = next ∙ is
 ram_then (spots.Ram i) r s t (x, is) (y, next) = (y, next ∙ ap (λ (m : List Held). holding m i y) is ∙ holding_again r i x y)
@@ -89,9 +86,6 @@ put_behind old middle new c piece lt was put =
     let content : (held_by new c).content ≡ all = ap (λ (r : List Held). (held_by r c).content) put ∙ ap (λ (h : Held). h.content) (held_holding middle c all (omega (arith, lt, long))) in
     (put ∙ ap (λ (r : List Held). holding r c all) was ∙ holding_again old c x all ∙ ap (holding old c) (sym content), content)
 
-pub both_spot : (a b e : Spot) (size now : ℕ) (ram after : List Held) → now ≡ size → IsRamButBoth a b ram after → IsSpot size ram e → IsSpot now after e
-both_spot a b e size now ram after same (m, one, two) inside = spot_stays b e size now m after same two (spot_stays a e size size ram m refl one inside)
-
 pub both_room : (a b e : Spot) (ram after : List Held) → IsRamButBoth a b ram after → room_at e after ≡ room_at e ram
 both_room a b e ram after (m, one, two) = room_stays b e m after two ∙ room_stays a e ram m one
 
@@ -105,6 +99,3 @@ stretched_then a b ram one two three clear first second both = both_then a b ram
 
 pub first_then : (a b : Spot) (ram middle after : List Held) → AreSpotsClear a b → IsRamButBoth a b ram middle → IsRamBut a middle after → IsRamButBoth a b ram after
 first_then a b ram middle after clear both is = both_then a b ram middle after clear both (first_changed a b middle after is)
-
-pub second_then : (a b : Spot) (ram middle after : List Held) → AreSpotsClear a b → IsRamButBoth a b ram middle → IsRamBut b middle after → IsRamButBoth a b ram after
-second_then a b ram middle after clear both is = both_then a b ram middle after clear both (second_changed a b middle after is)

@@ -1,7 +1,7 @@
 -- A copy, as plays have it.
-use Rattle.std.proofs.Common.{◌≡◌, ◌≢◌, ◌≤◌, ◌<◌, ℕ, List, [], ◌∷◌, Option, Ok, Err, length, refl, sym, ap, subst, ◌∙◌, arith}
+use Rattle.std.proofs.Common.{◌≡◌, ◌≢◌, ◌≤◌, ℕ, List, [], ◌∷◌, Option, Ok, Err, length, refl, sym, ap, subst, ◌∙◌, arith}
 use Rattle.std.specs.Prelude.{◌==◌, nat_le}
-use Rattle.std.proofs.lemmas.Bool.{le-leb, lt-leb, eq-eqb, ne_eqb}
+use Rattle.std.proofs.lemmas.Bool.{le-leb, ne_eqb}
 use Rattle.suit_commands.specs.declared.kinds.ActKind.TheVariants as acts
 use Rattle.path_model.specs.declared.event.Event.TheVariants.{Wrote}
 use Rattle.path_model.specs.declared.cause.Cause.TheVariants as causes
@@ -10,31 +10,17 @@ use Rattle.path_model.specs.Settings.{Setting, capacity_of}
 use Rattle.path_model.specs.Plays.{Outcome}
 use Rattle.path_model.specs.DevicePlays.{Device, Made, Refused, content_at, with_content, concluded, filled, copied, acted, ActIsCut, WriteLeaves, directive_play}
 use Rattle.step_machine.specs.Copying.{CopiesAs, NamesSource}
-use Rattle.step_machine.proofs.Writing.{stopped, when_false, when_true, with_same}
+use Rattle.step_machine.proofs.Writing.{stopped, when_false, when_true}
 
 module _ (c cap source : ℕ) (content before after : List ℕ) where
   comes : (setting : Setting) (p : ℕ) (s : State) (w : Device) → NamesSource s c source → (directive_play setting acts.Copy p c).comes s w ≡ concluded p (Wrote c ∷ []) s (copied setting c source w)
   comes setting p s w some = ap (acted p (λ x. Wrote c ∷ []) (λ x. copied setting c x) s w) some
-
-  pub copy_self : source ≡ c → after ≡ before → CopiesAs c cap source content before after (Err causes.SelfCopy)
-  copy_self same still setting p s w some room there here inside =
-      stopped p (Wrote c ∷ []) s causes.SelfCopy w (with_content w c after) ((directive_play setting acts.Copy p c).comes s w)
-      (comes setting p s w some ∙ ap (concluded p (Wrote c ∷ []) s) (when_true (source == c) (Refused causes.SelfCopy w) (filled setting c (content_at w source) w) (eq-eqb source c same)))
-      (sym (ap (with_content w c) still ∙ with_same w c before here inside))
 
   module _ (other : source ≢ c) where
     comes_other : (setting : Setting) (p : ℕ) (s : State) (w : Device) → NamesSource s c source → content_at w source ≡ content → (directive_play setting acts.Copy p c).comes s w ≡ concluded p (Wrote c ∷ []) s (filled setting c content w)
     comes_other setting p s w some there =
         comes setting p s w some
         ∙ ap (concluded p (Wrote c ∷ []) s) (when_false (source == c) (Refused causes.SelfCopy w) (filled setting c (content_at w source) w) (ne_eqb source c other) ∙ ap (λ (x : List ℕ). filled setting c x w) there)
-
-    pub copy_large : cap < length content → after ≡ before → CopiesAs c cap source content before after (Err causes.TooLarge)
-    copy_large large still setting p s w some room there here inside =
-        let lt : capacity_of setting c < length content = omega (arith, large, room) in
-        stopped p (Wrote c ∷ []) s causes.TooLarge w (with_content w c after) ((directive_play setting acts.Copy p c).comes s w)
-        (comes_other setting p s w some there
-        ∙ ap (concluded p (Wrote c ∷ []) s) (when_false (nat_le (length content) (capacity_of setting c)) (Made (with_content w c content)) (Refused causes.TooLarge w) (lt-leb (length content) (capacity_of setting c) lt)))
-        (sym (ap (with_content w c) still ∙ with_same w c before here inside))
 
     pub copy_done : (u : Unit {0}) → length content ≤ cap → after ≡ content → CopiesAs c cap source content before after (Ok u)
     copy_done u fits is setting p s w some room there here inside =

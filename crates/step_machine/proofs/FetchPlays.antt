@@ -39,13 +39,6 @@ module _ (c cap : ℕ) (ps : Parameters) (payloads words : List (List ℕ × Lis
       ap (acted p (λ x. Wrote c ∷ []) (λ x. fetched setting c (payload_of setting x)) s w) some
       ∙ ap (λ (o : Option (List ℕ)). concluded p (Wrote c ∷ []) s (fetched setting c o w)) is
 
-  pub fetch_missing : (before : List ℕ) → bytes_of (in_force ps c keys.Uri) ≡ None → FetchesAs c cap ps payloads words files before before (Err causes.Missing)
-  unfolding uri_in
-  fetch_missing before none setting p s w same room e f h here inside =
-      stopped p [] s causes.Missing w (with_content w c before) ((directive_play setting acts.Fetch p c).comes s w)
-      (ap (acted p (λ x. Wrote c ∷ []) (λ x. fetched setting c (payload_of setting x)) s w) (ap uri_in same ∙ none))
-      (sym (with_same w c before here inside))
-
   module _ (uri : List ℕ) (some : bytes_of (in_force ps c keys.Uri) ≡ Some uri) where
     pub fetch_absent : (before : List ℕ) → payload_by payloads words files uri ≡ None → FetchesAs c cap ps payloads words files before before (Err causes.Absent)
     unfolding uri_in

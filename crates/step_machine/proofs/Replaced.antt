@@ -47,9 +47,6 @@ module _ (one other : Spot) where
   pub first_length : (a b : Flash) → Keeps (OutsideLength one) a b → Keeps (OutsideLengths one other) a b
   first_length a b kept = keeps_fewer (OutsideLengths one other) (OutsideLength one) (λ i out. out.0) a b kept
 
-  pub first_room : (a b : Flash) → Keeps (OutsideRoom one) a b → Keeps (OutsideRooms one other) a b
-  first_room a b kept = keeps_fewer (OutsideRooms one other) (OutsideRoom one) (λ i out. out.0) a b kept
-
   pub keeps_lengths : (a b : Flash) → Keeps (OutsideLengths one other) a b → Keeps (OutsideBoth one other) a b
   keeps_lengths a b kept = keeps_fewer (OutsideBoth one other) (OutsideLengths one other) (λ i out. (length_outside one i out.0, length_outside other i out.1)) a b kept
 

@@ -1,7 +1,7 @@
 -- Contents and pieces as bytes of their rooms.
 use Rattle.std.proofs.Common.{◌≡◌, ◌≤◌, ◌<◌, ◌+◌, ◌-◌, ℕ, List, ◌++◌, length, take, drop, refl, sym, ap, subst, ◌∙◌, arith, take-take, get_or-set_other}
 use Rattle.std.proofs.Math.Seq.{take-add}
-use Rattle.std.proofs.lemmas.List.{take_all, take_at, drop-take}
+use Rattle.std.proofs.lemmas.List.{take_all, take_at}
 use Rattle.std.proofs.lemmas.List.Edits.{length-between}
 use Rattle.suit_edge.specs.Flash.{Flash, Keeps}
 use Rattle.suit_edge.specs.Ranges.{written}
@@ -14,7 +14,7 @@ use Rattle.flash_slots.proofs.Room.{area_front}
 use Rattle.flash_slots.proofs.Stored.{inner_range}
 use Rattle.step_machine.specs.declared.spot.Spot.{Spot}
 use Rattle.step_machine.specs.declared.spot.Spot.TheVariants as spots
-use Rattle.step_machine.specs.Areas.{IsHeld, KeepsFront, area_at, size_at}
+use Rattle.step_machine.specs.Areas.{KeepsFront, area_at, size_at}
 use Rattle.step_machine.specs.Spots.{content_of, IsSpot, OutsideSpot, IsRamBut}
 use Rattle.step_machine.specs.Devices.{AreSpotsClear}
 use Rattle.step_machine.proofs.Image.{content_range}
@@ -23,12 +23,6 @@ use Rattle.step_machine.proofs.Mixed.{mixed_all, mixed_more}
 use Rattle.step_machine.proofs.Short.{slot_short}
 
 -- ---- what was read
-
--- a part of a part
-pub inner_take : (l : List ℕ) (size from n : ℕ) → from + n ≤ size → take n (drop from (take size l)) ≡ take n (drop from l)
-inner_take l size from n inside =
-    let e : size ≡ from + (size - from) = omega (arith, inside) in
-    ap (λ (k : ℕ). take n (drop from (take k l))) e ∙ ap (take n) (drop-take from (size - from) l) ∙ take-take n (size - from) (drop from l) (omega (arith, inside))
 
 -- a part of a slot's room
 pub area_part : (slot : Slot) (image old new : List ℕ) (size from n : ℕ) → LiesWithin (length image) slot → size ≤ slot.capacity → from + n ≤ size → new ≡ part_of slot from n image ++ drop n old
@@ -67,10 +61,6 @@ kept_area a (spots.Flash y) ram after f g clear fits but kept = kept_found area_
 kept_area a (spots.Ram j) ram after f g clear fits but kept = kept_found area_of kept_room a (spots.Ram j) ram after f g clear fits but kept
 
 -- ---- rooms that change in place
-
-pub held_spot : (spot : Spot) (size : ℕ) (ram : List Held) → IsSpot size ram spot → IsHeld spot ram
-held_spot (spots.Flash slot) size ram inside = tt
-held_spot (spots.Ram component) size ram inside = inside
 
 pub area_long : (spot : Spot) (ram : List Held) (reads : List ℕ) → IsSpot (length reads) ram spot → length (area_at spot ram reads) ≡ size_at spot ram
 area_long (spots.Flash slot) ram reads inside =

@@ -6,22 +6,13 @@ use Rattle.flash_layout.specs.declared.layout.Entry.{Entry}
 use Rattle.flash_layout.specs.declared.place.Places.{Places}
 use Rattle.step_machine.specs.declared.spot.Standing.{Standing}
 use Rattle.step_machine.specs.declared.world.SlotChoice.{SlotChoice}
-use Rattle.step_machine.specs.Worlds.{HaveTwo, StandAs, standing_of}
+use Rattle.step_machine.specs.Worlds.{HaveTwo, standing_of}
 
 -- so many of them are listed
 pub record StandSo (layout : List Entry) (places : Places) (slots : SlotChoice) (standings : List Standing) (n : ℕ) : Type 0 where
   pub count : length standings ≡ n
   pub each : (k : ℕ) (d : Standing) (e : Entry) → k < n
       → get_or standings k d ≡ standing_of (get_or layout (slice_index places.layout_index k) e) k (slice_index places.layout_index k) (slice_index slots.number (slice_index places.layout_index k))
-
-pub stand_none : (layout : List Entry) (places : Places) (slots : SlotChoice) → StandSo layout places slots [] 0
-stand_none layout places slots = record { count = refl; each = λ k d e lt. absurd (omega (arith, lt)) }
-
-pub stand_all : (layout : List Entry) (places : Places) (slots : SlotChoice) (standings : List Standing) (count : ℕ) → count ≡ places.count → StandSo layout places slots standings count → StandAs layout places slots standings
-stand_all layout places slots standings count all so = record {
-  count = so.count ∙ all;
-  each = λ k d e lt. so.each k d e (omega (arith, lt, all));
-}
 
 module _ {A : Type 0} where
   snoc_other : (xs : List A) (x : A) (k : ℕ) (d : A) → k < length xs → get_or (xs ++ x ∷ []) k d ≡ get_or xs k d

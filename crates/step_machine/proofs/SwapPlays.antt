@@ -1,7 +1,7 @@
 -- A swap, as plays have it.
 use Rattle.std.proofs.Common.{◌≡◌, ◌≢◌, ◌≤◌, ◌<◌, ◌⊎◌, ℕ, Bool, true, false, List, [], ◌∷◌, Option, Ok, Err, length, refl, sym, ap, subst, ◌∙◌, arith, inl, inr, ⊎_elim}
 use Rattle.std.specs.Prelude.{◌==◌, ◌&&◌, if◌then◌else◌}
-use Rattle.std.proofs.lemmas.Bool.{le-leb, lt-leb, eq-eqb, ne_eqb}
+use Rattle.std.proofs.lemmas.Bool.{le-leb, lt-leb, ne_eqb}
 use Rattle.suit_commands.specs.declared.kinds.ActKind.TheVariants as acts
 use Rattle.path_model.specs.declared.event.Event.{Event}
 use Rattle.path_model.specs.declared.event.Event.TheVariants.{Wrote}
@@ -26,18 +26,6 @@ module _ (one other : Side) where
   stays w still other_still here there inside other_inside =
       let first : with_content w one.component one.after ≡ w = ap (with_content w one.component) still ∙ with_same w one.component one.before here inside in
       sym (ap (λ (v : Device). with_content v other.component other.after) first ∙ ap (with_content w other.component) other_still ∙ with_same w other.component other.before there other_inside)
-
-  pub swap_self : other.component ≡ one.component → one.after ≡ one.before → other.after ≡ other.before → SwapsAs one other (Err causes.SelfCopy)
-  swap_self same still other_still setting p s w some room other_room here there inside other_inside =
-      stopped p (Wrote one.component ∷ Wrote other.component ∷ []) s causes.SelfCopy w (with_content (with_content w one.component one.after) other.component other.after) ((directive_play setting acts.Swap p one.component).comes s w)
-      (comes setting p s w some ∙ ap (concluded p (Wrote one.component ∷ Wrote other.component ∷ []) s) (when_true (other.component == one.component) (Refused causes.SelfCopy w) (exchanged setting w) (eq-eqb other.component one.component same)))
-      (stays w still other_still here there inside other_inside)
-    where
-      exchanged : Setting → Device → Change
-      exchanged setting w =
-          if fits_into setting w other.component one.component && fits_into setting w one.component other.component
-          then Made (with_content (with_content w one.component (content_at w other.component)) other.component (content_at w one.component))
-          else Refused causes.TooLarge w
 
   module _ (apart : other.component ≢ one.component) where
     comes_apart : (setting : Setting) (p : ℕ) (s : State) (w : Device) (change : Change) → NamesSource s one.component other.component

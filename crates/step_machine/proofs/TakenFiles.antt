@@ -1,12 +1,12 @@
 -- A file that is taken piece by piece.
 use Rattle.std.proofs.Common.{◌≡◌, ◌≤◌, ◌+◌, ℕ, List, [], ◌++◌, length, take, Option, Some, Result, Ok, Err, refl, sym, ap, ◌∙◌, append_assoc, arith, inr}
-use Rattle.std.proofs.lemmas.List.{append-nil, length-append, length-take-le}
+use Rattle.std.proofs.lemmas.List.{length-append, length-take-le}
 use Rattle.flash_layout.specs.declared.slot.Slot.{Slot}
 use Rattle.flash_slots.specs.Contents.{pieces_of}
 use Rattle.flash_slots.proofs.Whole.{no_pieces}
 use Rattle.path_model.specs.declared.cause.Cause.{Cause}
 use Rattle.path_model.specs.declared.cause.Cause.TheVariants as causes
-use Rattle.step_machine.specs.Fetching.{IsPiece, GivesPiece, PieceCounts, PullsPiece, FetchCounts, PutsIn, TakesIn, TakesNamed}
+use Rattle.step_machine.specs.Fetching.{IsPiece, TakesIn, TakesNamed}
 
 -- at first nothing was put
 pub none_put : (slot : Slot) (image rest : List ℕ) (taken : ℕ) → taken ≡ 0 → rest ≡ pieces_of slot taken image ++ rest
@@ -27,51 +27,9 @@ module _ (file rest later room so_far : List ℕ) (n : ℕ) (piece : IsPiece n r
       let both : length rest ≡ length (take n room) + length later = ap length piece.is ∙ length-append (take n room) later in
       omega (arith, is, one, both)
 
-  -- at the end of the file all of it stands there
-  pub all_put : n ≡ 0 → file ≡ so_far ++ rest → so_far ≡ file
-  all_put none is = sym (is ∙ ap (λ (l : List ℕ). so_far ++ l) (piece.end none) ∙ append-nil so_far)
-
-  pub all_taken : (taken : ℕ) → n ≡ 0 → length file ≡ taken + length rest → length file ≡ taken
-  all_taken taken none is =
-      let end : length rest ≡ 0 = ap length (piece.end none) in
-      omega (arith, is, end)
-
 -- ---- a piece that failed
 
-pub piece_counts : (cause : Cause) (before now flash : ℕ) → PieceCounts (Err cause) before now → FetchCounts (Err cause) before now flash flash
-piece_counts causes.TooLarge before now flash is = (is, refl)
-piece_counts causes.HostFault before now flash is = (is, refl)
-piece_counts causes.Missing before now flash is = absurd is
-piece_counts causes.SelfCopy before now flash is = absurd is
-piece_counts causes.Absent before now flash is = absurd is
-piece_counts causes.FlashFault before now flash is = absurd is
-piece_counts causes.LaunchFault before now flash is = absurd is
-
-pub piece_stops : (cause : Cause) (before now capacity taken left : ℕ) (file rest later room put : List ℕ) → PieceCounts (Err cause) before now
-    → GivesPiece (Err cause) left rest later room → taken + left ≡ capacity → length file ≡ taken + length rest → PutsIn (Err cause) capacity file put
-piece_stops causes.TooLarge before now capacity taken left file rest later room put counts is all so_far = omega (arith, is, all, so_far)
-piece_stops causes.HostFault before now capacity taken left file rest later room put counts is all so_far = tt
-piece_stops causes.Missing before now capacity taken left file rest later room put counts is all so_far = absurd counts
-piece_stops causes.SelfCopy before now capacity taken left file rest later room put counts is all so_far = absurd counts
-piece_stops causes.Absent before now capacity taken left file rest later room put counts is all so_far = absurd counts
-piece_stops causes.FlashFault before now capacity taken left file rest later room put counts is all so_far = absurd counts
-piece_stops causes.LaunchFault before now capacity taken left file rest later room put counts is all so_far = absurd counts
-
-pub piece_pulls : (cause : Cause) (first before now capacity taken left : ℕ) → PullsPiece (Err cause) left before now → before ≡ first + taken → taken + left ≡ capacity → now ≤ first + (capacity + 1)
-piece_pulls cause first before now capacity taken left is so_far all = omega (arith, is, so_far, all)
-
 -- ---- what stopped, in an empty content
-
-pub stopped_empty : (cause : Cause) (capacity : ℕ) (file put content : List ℕ) → PutsIn (Err cause) capacity file put → content ≡ [] → TakesIn (Err cause) capacity file content
-stopped_empty causes.TooLarge capacity file put content is empty = (is, empty)
-stopped_empty causes.HostFault capacity file put content is empty = empty
-stopped_empty causes.FlashFault capacity file put content is empty =
-    let none : length content ≡ 0 = ap length empty in
-    omega (arith, none)
-stopped_empty causes.Missing capacity file put content is empty = absurd is
-stopped_empty causes.SelfCopy capacity file put content is empty = absurd is
-stopped_empty causes.Absent capacity file put content is empty = absurd is
-stopped_empty causes.LaunchFault capacity file put content is empty = absurd is
 
 -- ---- what was found
 

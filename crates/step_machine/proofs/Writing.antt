@@ -1,7 +1,7 @@
 -- A write, as plays have it.
-use Rattle.std.proofs.Common.{◌≡◌, ◌≤◌, ◌<◌, ℕ, Bool, true, false, List, [], ◌∷◌, Option, Some, None, Ok, Err, length, refl, sym, ap, subst, ◌∙◌, arith}
-use Rattle.std.specs.Prelude.{nat_le, if◌then◌else◌, slice_set}
-use Rattle.std.proofs.lemmas.Bool.{le-leb, lt-leb, true≢false}
+use Rattle.std.proofs.Common.{◌≡◌, ◌≤◌, ◌<◌, ℕ, Bool, true, false, List, [], ◌∷◌, Option, Some, Err, length, refl, sym, ap, subst, ◌∙◌, arith}
+use Rattle.std.specs.Prelude.{if◌then◌else◌, slice_set}
+use Rattle.std.proofs.lemmas.Bool.{true≢false}
 use Rattle.std.proofs.lemmas.List.{set-get_or}
 use Rattle.suit_params.specs.declared.param.ParamKey.TheVariants as keys
 use Rattle.suit_params.specs.InForce.{Parameters, in_force, bytes_of}
@@ -13,7 +13,7 @@ use Rattle.path_model.specs.declared.cause.Cause.TheVariants as causes
 use Rattle.path_model.specs.Behaviour.{State}
 use Rattle.path_model.specs.Settings.{capacity_of}
 use Rattle.path_model.specs.Plays.{Outcome}
-use Rattle.path_model.specs.DevicePlays.{Device, content_at, with_content, Made, Refused, concluded, filled, acted, ActIsCut, WriteLeaves, directive_play}
+use Rattle.path_model.specs.DevicePlays.{Device, content_at, with_content, Refused, concluded, ActIsCut, WriteLeaves}
 use Rattle.step_machine.specs.Directives.{Stops, WritesAs}
 
 pub when_true : {A : Type 0} (b : Bool) (x y : A) → b ≡ true → (if b then x else y) ≡ x
@@ -43,31 +43,6 @@ told c content = Wrote c ∷ []
 module _ (c cap : ℕ) (ps : Parameters) where
   wanted : Parameters → Option (List ℕ)
   wanted qs = bytes_of (in_force qs c keys.Content)
-
-  pub write_missing : (before : List ℕ) → bytes_of (in_force ps c keys.Content) ≡ None → WritesAs acts.Write c cap ps before before (Err causes.Missing)
-  unfolding wanted
-  write_missing before none setting p s w same room here inside =
-      stopped p [] s causes.Missing w (with_content w c before) ((directive_play setting acts.Write p c).comes s w)
-      (ap (acted p (λ x. Wrote c ∷ []) (λ x. filled setting c x) s w) (ap wanted same ∙ none))
-      (sym (with_same w c before here inside))
-
-  pub write_large : (before x : List ℕ) → bytes_of (in_force ps c keys.Content) ≡ Some x → cap < length x → WritesAs acts.Write c cap ps before before (Err causes.TooLarge)
-  unfolding wanted
-  write_large before x some large setting p s w same room here inside =
-      let lt : capacity_of setting c < length x = omega (arith, large, room) in
-      stopped p (Wrote c ∷ []) s causes.TooLarge w (with_content w c before) ((directive_play setting acts.Write p c).comes s w)
-      (ap (acted p (λ x. Wrote c ∷ []) (λ x. filled setting c x) s w) (ap wanted same ∙ some)
-      ∙ ap (concluded p (Wrote c ∷ []) s) (when_false (nat_le (length x) (capacity_of setting c)) (Made (with_content w c x)) (Refused causes.TooLarge w) (lt-leb (length x) (capacity_of setting c) lt)))
-      (sym (with_same w c before here inside))
-
-  pub write_done : (before after x : List ℕ) (u : Unit {0}) → bytes_of (in_force ps c keys.Content) ≡ Some x → length x ≤ cap → after ≡ x → WritesAs acts.Write c cap ps before after (Ok u)
-  unfolding wanted
-  write_done before after x u some fits is setting p s w same room here inside =
-      let le : length x ≤ capacity_of setting c = omega (arith, fits, room) in
-      let comes : (directive_play setting acts.Write p c).comes s w ≡ concluded p (Wrote c ∷ []) s (Made (with_content w c x)) =
-      ap (acted p (λ x. Wrote c ∷ []) (λ x. filled setting c x) s w) (ap wanted same ∙ some)
-      ∙ ap (concluded p (Wrote c ∷ []) s) (when_true (nat_le (length x) (capacity_of setting c)) (Made (with_content w c x)) (Refused causes.TooLarge w) (le-leb (length x) (capacity_of setting c) le)) in
-      (ap (λ (o : Outcome Device). o.ending) comes, ap (λ (o : Outcome Device). o.world) comes ∙ ap (with_content w c) (sym is))
 
   pub write_cut : (before after x : List ℕ) → bytes_of (in_force ps c keys.Content) ≡ Some x → length after ≤ cap → WritesAs acts.Write c cap ps before after (Err causes.FlashFault)
   unfolding wanted
