@@ -24,7 +24,7 @@ use Rattle.swap_journal.specs.declared.contents.Exchange.{Exchange}
 use Rattle.swap_journal.specs.declared.progress.Entry.TheVariants.{First}
 use Rattle.swap_journal.specs.declared.swap.Journal.{Journal}
 use Rattle.swap_journal.specs.declared.swap.Swap.{Swap}
-use Rattle.swap_journal.specs.Exchanges.{AreApart, FitsDisk, areas, first_recovered, second_recovered, longest}
+use Rattle.swap_journal.specs.Exchanges.{FitsDisk, areas, first_recovered, second_recovered, longest}
 use Rattle.swap_journal.specs.Progress.{GivesProgress, IsPageApart, RecoversNow, Stands, entries, progress_at}
 use Rattle.swap_journal.specs.Progress.{number_at as entry_number}
 use Rattle.swap_journal.specs.Swaps.{ArePlaced, GoesOn, HasRoom, HoldsContents, IsCompleted, IsExchanged, IsJournal, IsNoted, IsStored, IsTyped, IsUntouched, IsUntouchedOrExchanged, exchange_of, length_fields, swap_at, swap_body, swap_fields, swap_of, touched}
@@ -165,13 +165,6 @@ module _ (journal : Journal) (size : ℕ) (swap : Swap) (is : IsJournal journal 
 
   short_second : longest x ≤ swap.second.capacity
   short_second = omega (arith, room.first_length.1, room.second_length.1)
-
-  pub apart_areas : AreApart x
-  apart_areas = record {
-    contents = ⊎_elim (λ h. inl (omega (arith, h, short_first))) (λ h. inr (omega (arith, h, short_second))) (clear swap.first.start (extent_of swap.first) swap.second.start (extent_of swap.second) placed.slots);
-    from_first = ⊎_elim (λ h. inl (omega (arith, h, short_first))) (λ h. inr (omega (arith, h))) (clear swap.first.start (extent_of swap.first) journal.scratch 4096 placed.first.scratch);
-    from_second = ⊎_elim (λ h. inl (omega (arith, h, short_second))) (λ h. inr (omega (arith, h))) (clear swap.second.start (extent_of swap.second) journal.scratch 4096 placed.second.scratch);
-  }
 
   pub apart_page : IsPageApart x journal.page
   apart_page = record {

@@ -10,7 +10,7 @@ use Rattle.suit_edge.specs.OutsideLaws.{outside_first, outside_second}
 use Rattle.suit_edge.specs.RangeLaws.{same_range}
 use Rattle.std.proofs.Math.Nat.{mul-div-le}
 use Rattle.suit_edge.specs.Flash.{Flash, Now, IsSame, Passes, ImageOn, Keeps, IsSettled, IsFlash}
-use Rattle.suit_edge.specs.FlashLaws.{each_read, weakens, joined, starts, keeps_fewer, keeps_then}
+use Rattle.suit_edge.specs.FlashLaws.{each_read, weakens, joined, keeps_fewer, keeps_then}
 use Rattle.suit_edge.specs.Gate.{IsOpen, IsGated, IsNewPage, page_at}
 use Rattle.swap_journal.specs.declared.contents.Exchange.{Exchange}
 use Rattle.swap_journal.specs.declared.progress.Entry.{Entry}
@@ -230,11 +230,6 @@ next_fits x k size lt fits small = omega (arith, lt, mul-div-le (longest x + 409
 
 -- ---- turn after turn
 
--- nothing was done
-pub no_turn : (x : Exchange) (page : ℕ) (a : Flash) → IsSettled a → Passes a a (RecoversNow x page a.reads)
-no_turn x page a settled = starts a (RecoversNow x page a.reads) (λ image now.
-    subst (λ (l : List ℕ). RecoversNow x page a.reads l) (sym (settled image now)) (record { first = refl; second = refl }))
-
 -- one turn more
 pub one_turn : (x : Exchange) (page : ℕ) (a b c : Flash) (size : ℕ) → IsFlash b size → Passes a b (RecoversNow x page a.reads) → Passes b c (RecoversNow x page b.reads)
     → Passes a c (RecoversNow x page a.reads)
@@ -261,9 +256,3 @@ pub resumed : (x : Exchange) (page : ℕ) (a b c : Flash) → IsSame a b → Pas
 resumed x page a b c same run =
     joined a b c (StillRecovers x page a) (still x page a b same)
     (weakens b c (RecoversNow x page b.reads) (StillRecovers x page a) (λ image now. inr (subst (λ (l : List ℕ). RecoversNow x page l image) same.reads now)) run)
-
-pub stands_then : (x : Exchange) (page : ℕ) (a b : Flash) (new : List ℕ) → IsSame a b → Stands x page b.reads new → Stands x page a.reads new
-stands_then x page a b new same stands = subst (λ (l : List ℕ). Stands x page l new) same.reads stands
-
-pub gives_then : (page : ℕ) (spare : Entry) (k : ℕ) (a b : Flash) → IsSame a b → GivesProgress a.reads page spare k → GivesProgress b.reads page spare k
-gives_then page spare k a b same gives = subst (λ (l : List ℕ). GivesProgress l page spare k) (sym same.reads) gives
