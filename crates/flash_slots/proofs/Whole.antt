@@ -56,7 +56,3 @@ module _ (slot : Slot) (image : List ℕ) (n : ℕ) (is : n ≡ length (slot_con
   pub all_same : (bytes : List ℕ) (from : ℕ) → n ≡ length bytes → from ≡ n → pieces_of slot from image ≡ take from bytes → slot_content slot image ≡ bytes
   all_same bytes from long end equal =
       whole_content ∙ ap (λ (k : ℕ). pieces_of slot k image) (sym end) ∙ equal ∙ take_all from bytes (omega (arith, long, end))
-
-  -- another length
-  pub other_length : (bytes : List ℕ) → n ≢ length bytes → slot_content slot image ≢ bytes
-  other_length bytes other equal = other (is ∙ ap length equal)
