@@ -18,7 +18,7 @@ use Rattle.suit_cli.specs.Judgement.{AreSafe, IsNarrow, narrow}
 use Rattle.suit_cli.specs.Holding.{HasProcedures}
 use Rattle.suit_cli.specs.Acceptance.{Accepted, AreUnsafe, IsAccepted, Meets, accepts, accepts_manifest, authentic_in, judges, places_in, safe_in}
 use Rattle.suit_cli.specs.Commands.{begins_update}
-use Rattle.suit_cli.specs.UpdateLaws.{AtAuthenticity, AtComponents, AtEnvelope, AtInvocationWidth, AtLength, AtManifest, AtMembers, AtPaths, AtUpdateWidth, HasAll, IsAuthenticIn, IsDeclined}
+use Rattle.suit_cli.specs.UpdateCauses.{AtAuthenticity, AtComponents, AtEnvelope, AtInvocationWidth, AtLength, AtManifest, AtMembers, AtPaths, AtUpdateWidth, HasAll, IsAuthenticIn, IsDeclined}
 use Rattle.suit_cli.proofs.Chains.{anywhere}
 use Rattle.suit_cli.proofs.AcceptSteps.{behind_authentic, behind_envelope, behind_judges, behind_members, behind_places, behind_short, behind_width}
 use Rattle.suit_cli.proofs.Turns.{declined_by}

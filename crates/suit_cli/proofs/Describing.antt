@@ -12,8 +12,8 @@ use Rattle.suit_cli.specs.Stages.{Says, FaultOf, Goes, Declines, Faults, Ends}
 use Rattle.suit_cli.specs.Holding.{HasManifest}
 use Rattle.suit_cli.specs.Describing.{IsDescribed}
 use Rattle.suit_cli.specs.Commands.{describes_manifest, describes}
-use Rattle.suit_cli.specs.CommandLaws.{NoManifest}
-use Rattle.suit_cli.specs.DescribingLaws.{DescribingSays, BeforeMembers, AtMembers, AtText, AtDescription}
+use Rattle.suit_cli.specs.CommandCauses.{NoManifest}
+use Rattle.suit_cli.specs.DescribingCauses.{DescribingSays, BeforeMembers, AtMembers, AtText, AtDescription}
 use Rattle.suit_cli.proofs.OneStage.{one_reply}
 use Rattle.suit_cli.proofs.Running.{Declining, declining, no_manifest_declines, lack_told, Plain, Reached, reaches}
 

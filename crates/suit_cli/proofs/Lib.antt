@@ -7,7 +7,6 @@ pub mod OneStage
 pub mod Running
 pub mod StagesKeep
 pub mod RunClauses
-pub mod CommandLawProofs
 pub mod SameFiles
 pub mod Leaving
 pub mod Initing
@@ -15,15 +14,10 @@ pub mod KeyReading
 pub mod KeyBytes
 pub mod StatusLines
 pub mod StatusNumbers
-pub mod OneFlaw
-pub mod OneAnswers
-pub mod FlashLawProofs
 pub mod Describing
 pub mod TaskAnswers
-pub mod DescribingLawProofs
 pub mod DescriptionTexts
 pub mod Authoring
-pub mod MakeLawProofs
 pub mod StagesLet
 pub mod Sounding
 pub mod Settling
@@ -35,23 +29,15 @@ pub mod AcceptedFacts
 pub mod UpdateAnswers
 pub mod UpdateEnds
 pub mod UpdateSound
-pub mod UpdateLawProofs
 pub mod Starving
 pub mod BootHosts
 pub mod FilesAsked
 pub mod RunEnds
-mod LifeLawProofs
-mod LaunchedLawProofs
-pub mod WordsLawProofs
-pub mod RunLawProofs
-pub mod BootLawProofs
-pub mod UpdateEndLawProofs
 mod DrillDevices
 mod DrillWords
 mod DrillCounts
 mod DrillCuts
 mod DrillUpdates
 mod DrillTurns
-mod DrillLawProofs
 mod DrillLoop
 mod DrillRun

@@ -25,7 +25,7 @@ use Rattle.suit_cli.specs.Inputs.{file, longest_file, longest_key, IsUnread, IsA
 use Rattle.suit_cli.specs.Envelopes.{TellsLack}
 use Rattle.suit_cli.specs.Envelopes as stages
 use Rattle.suit_cli.specs.Holding.{HasManifest, HasProcedures}
-use Rattle.suit_cli.specs.CommandLaws.{NoManifest, AtFile, AtEnvelope, AtLength, AtManifest, CheckSays, BeforeMembers, AtMembers, AtUpdateWidth, AtInvocationWidth, AtPaths, SameButPath}
+use Rattle.suit_cli.specs.CommandCauses.{NoManifest, AtFile, AtEnvelope, AtLength, AtManifest, CheckSays, BeforeMembers, AtMembers, AtUpdateWidth, AtInvocationWidth, AtPaths, SameButPath}
 use Rattle.suit_cli.specs.Judgement.{IsNarrow, AreSafe, AreJudged, JudgedSafe, JudgedUnsafe, ShowUnsafe, UpdateUnsafe, InvocationUnsafe}
 use Rattle.suit_cli.specs.Shown.{IsShown, authenticity_outcome}
 use Rattle.suit_cli.specs.Devices.{IsNoDevice, IsNoJson, IsNoLayout}

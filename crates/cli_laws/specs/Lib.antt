@@ -1,0 +1,12 @@
+pub mod WordsLaws
+pub mod DrillLaws
+pub mod CommandLaws
+pub mod DescribingLaws
+pub mod MakeLaws
+pub mod FlashLaws
+pub mod LifeLaws
+pub mod LaunchedLaws
+pub mod UpdateLaws
+pub mod RunLaws
+pub mod BootEndLaws
+pub mod UpdateEndLaws
