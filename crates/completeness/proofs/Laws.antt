@@ -19,6 +19,7 @@ use Rattle.completeness.specs.Boots.{BootsWhole}
 use Rattle.completeness.specs.Updates.{Installs, Meets}
 use Rattle.completeness.specs.CompletenessLaws.{CompletenessLaws}
 use Rattle.completeness.proofs.BootProofs.{boot_completes, only_boot}
+use Rattle.completeness.proofs.Premises.{can_activate, can_set}
 use Rattle.completeness.proofs.Runs.{ends_well, says_so}
 use Rattle.completeness.proofs.UpdateProofs.{only_update, update_completes}
 
@@ -40,6 +41,8 @@ module _ (layout : List Entry) (key : Key) (bytes : List ℕ) (a : Accepted) whe
 pub completeness_laws : OneConfigAnswer → OneAnswer → EnvelopeLaws → ManifestLaws → MembersLaws → BootLaws → UpdateLaws → SoundnessLaws → CompletenessLaws
 completeness_laws configs records envelopes manifests members boots updates soundness = record {
   accepts = λ layout key bytes a. (meets layout key bytes a, accepted layout key bytes a);
+  can_set = can_set;
+  can_activate = can_activate;
   update = λ words l n b a ended ready faultless comes. update_completes configs envelopes manifests members updates words l n b a ready ended faultless comes;
   update_ends = λ words l n b a sb sa result ready faultless runs. ends_well _ _ sb sa result runs.ended (λ done. ap ended_status done.ended_is) (λ starved. starved.lacks.status)
       (update_completes configs envelopes manifests members updates words l n b a ready runs.ended faultless runs.comes) runs.puts;

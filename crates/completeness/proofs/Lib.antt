@@ -1,4 +1,6 @@
 pub mod SamePlaces
+pub mod Deciding
+pub mod Premises
 pub mod OnePlay
 pub mod Leaving
 pub mod UpdatePlayed

@@ -1,5 +1,5 @@
 -- Given what it needs, a command is done; and it is done only then.
-use Rattle.std.specs.Prelude.{◌≡◌, ◌⊎◌, ◌↔◌, ℕ, List, length, Option, Some}
+use Rattle.std.specs.Prelude.{◌≡◌, ◌⊎◌, ◌↔◌, ℕ, IsTrue, List, length, Option, Some}
 use Rattle.flash_layout.specs.declared.frame.TheConstants.{VERSION_1}
 use Rattle.flash_layout.specs.declared.key.Key.{Key}
 use Rattle.flash_layout.specs.declared.layout.Entry.{Entry}
@@ -14,8 +14,22 @@ use Rattle.suit_cli.specs.Outside.{Outside, Sunk}
 use Rattle.suit_cli.specs.Program.{ComesTo, Performs}
 use Rattle.suit_cli.specs.Words.{RunBoot, RunUpdate, task_of}
 use Rattle.completeness.specs.Outcomes.{AreTold, EndsWell, IsFaultless, LeavesFlash, PutsDone}
-use Rattle.completeness.specs.Updates.{Installs, Meets, ReadyToUpdate}
-use Rattle.completeness.specs.Boots.{BootsWhole, ReadyToBoot}
+use Rattle.completeness.specs.Updates.{Installs, Meets, Offers, ReadyToUpdate, Sets}
+use Rattle.completeness.specs.Boots.{Activates, BootsWhole, ReadyToBoot, Records}
+
+-- ---- what is there
+
+-- slots and payloads for whatever is offered
+abbrev pub CanSet : Type 0
+CanSet =
+    (name : List ℕ) (before : Outside) → IsTrue before.flash.told → (o : Offers name before)
+    → Sets o.layout o.bytes o.accepted o.held
+
+-- and slots for whatever is recorded
+abbrev pub CanActivate : Type 0
+CanActivate =
+    (before : Outside) → IsTrue before.flash.told → (r : Records before)
+    → Activates r.layout r.installed r.is.said
 
 -- ---- either
 
@@ -88,6 +102,8 @@ BootSaysSo =
 
 pub record CompletenessLaws : Type 0 where
   pub accepts : AcceptsWhatMeets
+  pub can_set : CanSet
+  pub can_activate : CanActivate
   pub update : Completes ReadyToUpdate Installs
   pub update_ends : EndsWhole ReadyToUpdate Installs
   pub only_update : OnlyReadyUpdates
