@@ -16,3 +16,4 @@ pub mod Overriding
 pub mod ParamMade
 pub mod InForceLawProofs
 pub mod ParamLawProofs
+pub mod Judged

@@ -22,3 +22,4 @@ pub mod JudgingLaws
 pub mod HeldLaws
 pub mod OneWholeLaws
 pub mod TextLaws
+pub mod ParamSlices

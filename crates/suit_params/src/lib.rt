@@ -6,8 +6,10 @@ mod fault;
 mod identifier;
 mod law;
 mod param;
+mod param_judging;
 mod param_list;
 mod param_map;
+mod param_slice;
 mod param_value;
 mod param_writing;
 mod params;
@@ -19,11 +21,13 @@ pub use digest::{Digest, digest_of, read_digest};
 pub use identifier::{Identifier, Identifiers};
 pub use law::in_force_laws;
 pub use param::{Param, ParamKey};
+pub use param_judging::judge_params;
 pub use param_list::ParamList;
 pub use param_map::{param_laws, params_of, read_params};
+pub use param_slice::{ParamSlice, lend_param};
 pub use param_value::component_index;
 pub use param_writing::write_params;
-pub use params::Params;
+pub use params::{Params, rank};
 pub use reading::{
     bytes_left, copy_left, next_content, only_item, read_array, read_bytes, read_content,
     read_head, read_item, read_kind, read_map, same_place,

@@ -43,8 +43,9 @@ fn numbered(place: u64, number: u64) -> Result<ParamKey, Refusal>
     }
 }
 
+/// The key of the next pair.
 #[tactic(auto, unfolding(crate::specs::ParamReading::key_from))]
-fn read_key(map: &mut Cursor<'_>) -> Result<ParamKey, Refusal>
+pub(crate) fn read_key(map: &mut Cursor<'_>) -> Result<ParamKey, Refusal>
     ensures { map_ok (λ key. (key, map.new)) result ≡ key_from map.old }
 {
     let place = map.place();

@@ -25,8 +25,8 @@ impl<'a> Model for Params<'a> {
     ghost view = { λ a. lent_params a.held };
 }
 
-// At which of the twelve a key stands, in the order of their numbers.
-fn rank(key: ParamKey) -> usize
+/// At which of the twelve a key stands, in the order of their numbers.
+pub fn rank(key: ParamKey) -> usize
     ensures is { result ≡ rank key }
     ensures small { result < 12 }
 {
