@@ -1,4 +1,4 @@
-use Rattle.std.proofs.Common.{◌∙◌}
+use Rattle.std.proofs.Common.{◌≡◌, ◌∙◌}
 use Rattle.suit_edge.specs.Flash.{IsSame}
 use Rattle.suit_edge.specs.FlashLaws.{same_flash_then}
 use Rattle.suit_envelope.specs.Said.{said_by}
@@ -12,6 +12,9 @@ pub returns-in-Err-judge-clause-answers : goal.returns-in-Err-judge-clause-answe
 returns-in-Err-judge-clause-answers g c t =
     booted.declined_answers c.args.layout.now c.args.key.now (g.D.Disk.flash c.args.disk.now).reads c.in-Ok.bank.installed (c.in-Ok.ensures.recorded t) c.as_slice.result.now
     c.in-Err-judge.end (c.as_slice.ensures.value ∙ c.in-Ok.ensures.bytes t) c.in-Err-judge.ensures.declined
+
+pub returns-in-Err-clause-plays : goal.returns-in-Err-clause-plays
+returns-in-Err-clause-plays g c td tl = booted.none_plays _ _ (g.L.Launcher.launches c.args.launcher.now) c.in-Err.fault (c.in-Err.ensures.same td).reads
 
 pub start-requires-clause-distinct : goal.start-requires-clause-distinct
 start-requires-clause-distinct g c =
@@ -52,8 +55,9 @@ returns-clause-plays g c td tl =
     let same = c.as_slice.ensures.value ∙ c.in-Ok.ensures.bytes td in
     let starts = booted.started_from c.args.layout.now c.args.key.now reads bytes r said m (c.in-Ok.ensures.recorded td) same c.in-Ok-judge.ensures.started in
     booted.played_as (PlaysOn c.args.layout.now m r.active files before after launched now) (PlaysBoot c.args.layout.now c.args.key.now files reads after launched now)
-    launched now c.start.result
+    (after ≡ before) (after ≡ reads) launched now c.start.result
     (booted.plays_boot c.args.layout.now c.args.key.now files reads before after launched now r m starts (c.in-Ok.ensures.same td).reads)
+    (λ same. same ∙ (c.in-Ok.ensures.same td).reads)
     (c.start.ensures.plays td tl)
 
 pub returns-clause-keeps : goal.returns-clause-keeps
