@@ -1,8 +1,9 @@
-use Rattle.std.proofs.Common.{◌≡◌, ◌∙◌}
+use Rattle.std.proofs.Common.{◌≡◌, ◌∙◌, sym, subst}
 use Rattle.suit_edge.specs.Flash.{IsSame}
 use Rattle.suit_edge.specs.FlashLaws.{same_flash_then}
 use Rattle.suit_envelope.specs.Said.{said_by}
-use Rattle.invoke_proc.specs.Booting.{KeepsBoot, KeepsOthers, PlaysBoot, PlaysOn}
+use Rattle.invoke_proc.specs.declared.boot_end.BootEnd.{BootEnd}
+use Rattle.invoke_proc.specs.Booting.{KeepsBoot, KeepsOthers, PlayedSo, PlaysBoot, PlaysOn}
 use Rattle.invoke_proc.proofs.Booted as booted
 use Rattle.invoke_proc.proofs.Places.{are_distinct}
 use Rattle.invoke_proc.proofs.Played.{unfaulted}
@@ -14,7 +15,12 @@ returns-in-Err-judge-clause-answers g c t =
     c.in-Err-judge.end (c.as_slice.ensures.value ∙ c.in-Ok.ensures.bytes t) c.in-Err-judge.ensures.declined
 
 pub returns-in-Err-clause-plays : goal.returns-in-Err-clause-plays
-returns-in-Err-clause-plays g c td tl = booted.none_plays _ _ (g.L.Launcher.launches c.args.launcher.now) c.in-Err.fault (c.in-Err.ensures.same td).reads
+returns-in-Err-clause-plays g c td tl =
+    let launched = g.L.Launcher.launches c.args.launcher.now in
+    let reads = (g.D.Disk.flash c.args.disk.now).reads in
+    let after = (g.D.Disk.flash c.find_bank.new.disk).reads in
+    let Plays = PlaysBoot c.args.layout.now c.args.key.now (g.H.Host.file c.args.host.now) reads after launched launched in
+    subst (λ (e : BootEnd). PlayedSo Plays (after ≡ reads) launched launched e) (sym c.without_bank.ensures) (booted.none_plays Plays (after ≡ reads) launched c.in-Err.fault (c.in-Err.ensures.same td).reads)
 
 pub start-requires-clause-distinct : goal.start-requires-clause-distinct
 start-requires-clause-distinct g c =
