@@ -63,10 +63,10 @@ module _ (launched now : Launching) (before after : Outside) where
       abbrev Plays : PlanEnd → Type 0
       Plays = PlaysBoot b.layout b.key before.files before.flash.reads after.flash.reads launched.launches now.launches
 
-      played : PlayedSo Plays launched.launches now.launches end
+      played : PlayedSo Plays (after.flash.reads ≡ before.flash.reads) launched.launches now.launches end
       played =
-          subst (λ (f : List ℕ → Option (List ℕ)). PlayedSo (PlaysBoot b.layout b.key f before.flash.reads after.flash.reads launched.launches now.launches) launched.launches now.launches end) files
-          (subst (λ (l : List ℕ). PlayedSo (PlaysBoot b.layout b.key b.middle.files l after.flash.reads launched.launches now.launches) launched.launches now.launches end) reads
+          subst (λ (f : List ℕ → Option (List ℕ)). PlayedSo (PlaysBoot b.layout b.key f before.flash.reads after.flash.reads launched.launches now.launches) (after.flash.reads ≡ before.flash.reads) launched.launches now.launches end) files
+          (subst (λ (l : List ℕ). PlayedSo (PlaysBoot b.layout b.key b.middle.files l after.flash.reads launched.launches now.launches) (after.flash.reads ≡ l) launched.launches now.launches end) reads
           (b.boot.plays middle_told launcher))
 
       with_lines : Caused (Booted end (boot_line end)) → Caused (Booted end lines)

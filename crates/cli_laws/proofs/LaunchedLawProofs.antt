@@ -49,16 +49,16 @@ module _ (configs : OneConfigAnswer) (records : OneAnswer) (laws : BootLaws) whe
           gains = gains;
         }
 
-    of_end : (end : BootEnd) → PlayedSo Plays launched now end → (now ≡ launched) ⊎ Launches
-    of_end ends.Ended p = inr (of_play plays.Done p)
-    of_end (ends.Condition place) p = inr (of_play (plays.ConditionFailed place) p)
-    of_end (ends.Stopped place cause) p = inr (of_play (plays.DirectiveFailed place cause) p)
-    of_end ends.FlashFault p = ⊎_elim (λ same. inl same) (λ some. inr (of_play some.0 some.1)) p
-    of_end ends.NothingInstalled p = inl p
-    of_end (ends.BadBank refusal) p = inl p
-    of_end (ends.NotAuthentic lacking) p = inl p
-    of_end (ends.UnknownComponent component) p = inl p
-    of_end ends.NoMemory p = inl p
+    of_end : (Same : Type 0) (end : BootEnd) → PlayedSo Plays Same launched now end → (now ≡ launched) ⊎ Launches
+    of_end Same ends.Ended p = inr (of_play plays.Done p)
+    of_end Same (ends.Condition place) p = inr (of_play (plays.ConditionFailed place) p)
+    of_end Same (ends.Stopped place cause) p = inr (of_play (plays.DirectiveFailed place cause) p)
+    of_end Same ends.FlashFault p = ⊎_elim (λ none. inl none.0) (λ some. inr (of_play some.0 some.1)) p
+    of_end Same ends.NothingInstalled p = inl p
+    of_end Same (ends.BadBank refusal) p = inl p
+    of_end Same (ends.NotAuthentic lacking) p = inl p
+    of_end Same (ends.UnknownComponent component) p = inl p
+    of_end Same ends.NoMemory p = inl p
 
   -- ---- a boot
 
@@ -72,11 +72,11 @@ module _ (configs : OneConfigAnswer) (records : OneAnswer) (laws : BootLaws) whe
       subst (λ (n : ℕ). ConfigOf VERSION_1 n (head_of VERSION_1 image) (Configured boots.layout boots.key)) holds.size
       (subst (λ (l : List ℕ). ConfigOf VERSION_1 before.flash.size (head_of VERSION_1 l) (Configured boots.layout boots.key)) holds.reads (boots.held.1 holds.flash)) in
       let gains = boots.boot.safe flash_told holds.launcher (subst (Sound VERSION_1) (sym reads) sound) in
-      let played = subst (λ (f : List ℕ → Option (List ℕ)). PlayedSo (λ e. PlaysBoot boots.layout boots.key f image after.flash.reads launched.launches now.launches e) launched.launches now.launches end) files
-      (subst (λ (l : List ℕ). PlayedSo (λ e. PlaysBoot boots.layout boots.key boots.middle.files l after.flash.reads launched.launches now.launches e) launched.launches now.launches end) reads
+      let played = subst (λ (f : List ℕ → Option (List ℕ)). PlayedSo (λ e. PlaysBoot boots.layout boots.key f image after.flash.reads launched.launches now.launches e) (after.flash.reads ≡ image) launched.launches now.launches end) files
+      (subst (λ (l : List ℕ). PlayedSo (λ e. PlaysBoot boots.layout boots.key boots.middle.files l after.flash.reads launched.launches now.launches e) (after.flash.reads ≡ l) launched.launches now.launches end) reads
       (boots.boot.plays flash_told holds.launcher)) in
       ⊎_elim (λ same. inl same) (λ some. inr (boots.layout, boots.key, some))
-      (of_end boots.layout boots.key before.files image after.flash.reads launched.launches now.launches sound config gains end played)
+      (of_end boots.layout boots.key before.files image after.flash.reads launched.launches now.launches sound config gains (after.flash.reads ≡ image) end played)
 
   pub launched_laws : LifeLaws → LaunchedLaws
   launched_laws lives = record {

@@ -41,7 +41,7 @@ module _ (o : Offer) (launched now : Launching) (before after : Outside) where
   IsPlayedSo end =
       Beside o before (λ number digest held. (payloads : List (List ℕ × List ℕ)) → HasPayloads o.bytes payloads
       → PlayedSo (λ made play. PlaysUpdate o.layout o.accepted.places (tree_of o.accepted) held (sources payloads o.uris before.files) before.flash.reads made launched.launches now.launches play)
-      o.layout after.flash.reads launched.launches now.launches end)
+      (after.flash.reads ≡ before.flash.reads) o.layout after.flash.reads launched.launches now.launches end)
 
   of_end : (end : UpdateEnd) → IsJudgedSo end → IsPlayedSo end → UpdateEnds o launched now before after end
   of_end (ends.Lower recorded offered) j p = IsLower recorded offered j
@@ -85,7 +85,7 @@ module _ (name : List ℕ) (uris : List (List ℕ × List ℕ)) (launched now : 
   abbrev Plays : Option Record → List (List ℕ × List ℕ) → (List ℕ → Option (List ℕ)) → List ℕ → Type 0
   Plays held payloads f l =
       PlayedSo (λ made play. PlaysUpdate u.layout u.accepted.places (tree_of u.accepted) held (sources payloads uris f) l made launched.launches now.launches play)
-      u.layout after.flash.reads launched.launches now.launches end
+      (after.flash.reads ≡ l) u.layout after.flash.reads launched.launches now.launches end
 
   played : IsPlayedSo o launched now before after end
   played held digest blocks record_is says payloads has =

@@ -25,6 +25,26 @@ use Rattle.invoke_proc.specs.Starting.{IsDeclined, IsStarted}
 
 -- ---- where no envelope is read
 
+pub none_answers : (layout : List Entry) (key : Key) (reads : List ℕ) (fault : NoBank) → IsNoBank reads fault → Answers layout key reads (without_bank fault)
+none_answers layout key reads banks.NothingInstalled is = is
+none_answers layout key reads banks.FlashFault is = is
+none_answers layout key reads banks.NoMemory is = is
+
+pub none_counts : (A : Type 0) (fault : NoBank) (h d e l : ℕ) → BankCounts {A = A} (Err fault) d e → BootCounts (without_bank fault) (counts_of h d l) (counts_of h e l)
+none_counts A banks.NothingInstalled h d e l is = subst (λ (n : ℕ). counts_of h n l ≡ counts_of h d l) (sym is) refl
+none_counts A banks.FlashFault h d e l is = (omega arith, is, omega arith)
+none_counts A banks.NoMemory h d e l is = subst (λ (n : ℕ). counts_of h n l ≡ counts_of h d l) (sym is) refl
+
+pub none_plays : (P : PlanEnd → Type 0) (Same : Type 0) (launches : List Launch) (fault : NoBank) → Same → PlayedSo P Same launches launches (without_bank fault)
+none_plays P Same launches banks.NothingInstalled same = refl
+none_plays P Same launches banks.FlashFault same = inl (refl, same)
+none_plays P Same launches banks.NoMemory same = refl
+
+pub none_keeps : (Kept Same : Type 0) (fault : NoBank) → Same → KeptSo Kept Same (without_bank fault)
+none_keeps Kept Same banks.NothingInstalled same = same
+none_keeps Kept Same banks.FlashFault same = inl same
+none_keeps Kept Same banks.NoMemory same = same
+
 -- ---- of any answer
 
 pub always : (P : Type 0) (answer : BootEnd) → P → IfUnfaulted answer P
@@ -32,17 +52,17 @@ always P (ends.Stopped place causes.FlashFault) p = tt
 always P ends.FlashFault p = tt
 always P _ p = p
 
-pub played_as : (P Q : PlanEnd → Type 0) (launched now : List Launch) (answer : BootEnd) → ((end : PlanEnd) → P end → Q end) → PlayedSo P launched now answer
-    → PlayedSo Q launched now answer
-played_as P Q launched now ends.Ended to p = to plays.Done p
-played_as P Q launched now ends.NothingInstalled to p = p
-played_as P Q launched now (ends.BadBank r) to p = p
-played_as P Q launched now (ends.NotAuthentic l) to p = p
-played_as P Q launched now (ends.UnknownComponent i) to p = p
-played_as P Q launched now (ends.Condition place) to p = to (plays.ConditionFailed place) p
-played_as P Q launched now (ends.Stopped place cause) to p = to (plays.DirectiveFailed place cause) p
-played_as P Q launched now ends.FlashFault to p = ⊎_elim (λ same. inl same) (λ some. inr (some.0, to some.0 some.1, some.2)) p
-played_as P Q launched now ends.NoMemory to p = p
+pub played_as : (P Q : PlanEnd → Type 0) (Same Also : Type 0) (launched now : List Launch) (answer : BootEnd) → ((end : PlanEnd) → P end → Q end) → (Same → Also) → PlayedSo P Same launched now answer
+    → PlayedSo Q Also launched now answer
+played_as P Q Same Also launched now ends.Ended to also p = to plays.Done p
+played_as P Q Same Also launched now ends.NothingInstalled to also p = p
+played_as P Q Same Also launched now (ends.BadBank r) to also p = p
+played_as P Q Same Also launched now (ends.NotAuthentic l) to also p = p
+played_as P Q Same Also launched now (ends.UnknownComponent i) to also p = p
+played_as P Q Same Also launched now (ends.Condition place) to also p = to (plays.ConditionFailed place) p
+played_as P Q Same Also launched now (ends.Stopped place cause) to also p = to (plays.DirectiveFailed place cause) p
+played_as P Q Same Also launched now ends.FlashFault to also p = ⊎_elim (λ none. inl (none.0, also none.1)) (λ some. inr (some.0, to some.0 some.1, some.2)) p
+played_as P Q Same Also launched now ends.NoMemory to also p = p
 
 pub kept_as : (P Q R S : Type 0) (answer : BootEnd) → (P → Q) → (R → S) → KeptSo P R answer → KeptSo Q S answer
 kept_as P Q R S ends.Ended to also p = to p
@@ -75,6 +95,28 @@ module _ (layout : List Entry) (key : Key) (reads : List ℕ) (r : Record) (reco
     start_answers ends.FlashFault is = tt
     start_answers ends.NoMemory is = (r, recorded)
     start_answers _ is = absurd is
+
+pub declined_counts : (layout : List Entry) (key bytes : List ℕ) (end : BootEnd) (a b : Counts) → IsDeclined layout key bytes end → b ≡ a → BootCounts end a b
+declined_counts layout key bytes (ends.BadBank refusal) a b is same = same
+declined_counts layout key bytes (ends.NotAuthentic l) a b is same = same
+declined_counts layout key bytes (ends.UnknownComponent i) a b is same = same
+declined_counts layout key bytes ends.NoMemory a b is same = same
+declined_counts layout key bytes _ a b is same = absurd is
+
+pub declined_plays : (layout : List Entry) (key bytes : List ℕ) (end : BootEnd) (P : PlanEnd → Type 0) (Same : Type 0) (launches : List Launch) → IsDeclined layout key bytes end
+    → PlayedSo P Same launches launches end
+declined_plays layout key bytes (ends.BadBank refusal) P Same launches is = refl
+declined_plays layout key bytes (ends.NotAuthentic l) P Same launches is = refl
+declined_plays layout key bytes (ends.UnknownComponent i) P Same launches is = refl
+declined_plays layout key bytes ends.NoMemory P Same launches is = refl
+declined_plays layout key bytes _ P Same launches is = absurd is
+
+pub declined_keeps : (layout : List Entry) (key bytes : List ℕ) (end : BootEnd) (Kept Same : Type 0) → IsDeclined layout key bytes end → Same → KeptSo Kept Same end
+declined_keeps layout key bytes (ends.BadBank refusal) Kept Same is same = same
+declined_keeps layout key bytes (ends.NotAuthentic l) Kept Same is same = same
+declined_keeps layout key bytes (ends.UnknownComponent i) Kept Same is same = same
+declined_keeps layout key bytes ends.NoMemory Kept Same is same = same
+declined_keeps layout key bytes _ Kept Same is same = absurd is
 
 -- ---- from the moment before the bank was read
 

@@ -37,19 +37,19 @@ never_stopped laws plan setting place before after launched now empty played =
     none_named named.0 (subst (λ (words : List (List ℕ × List ℕ)). NamesFile words named.0) empty named.1)
 
 module _ (laws : FaultedEnds) (layout : List Entry) (key : Key) (files : List ℕ → Option (List ℕ)) (before after : List ℕ) (launched now : List Launch) where
-  pub never_host : (answer : BootEnd) → PlayedSo (PlaysBoot layout key files before after launched now) launched now answer → NeverHost answer
-  never_host (ends.Stopped place causes.HostFault) p = never_stopped laws _ _ place _ _ launched now refl p.on.plays
-  never_host (ends.Stopped place causes.Missing) p = tt
-  never_host (ends.Stopped place causes.SelfCopy) p = tt
-  never_host (ends.Stopped place causes.TooLarge) p = tt
-  never_host (ends.Stopped place causes.Absent) p = tt
-  never_host (ends.Stopped place causes.FlashFault) p = tt
-  never_host (ends.Stopped place causes.LaunchFault) p = tt
-  never_host ends.Ended p = tt
-  never_host ends.NothingInstalled p = tt
-  never_host (ends.BadBank r) p = tt
-  never_host (ends.NotAuthentic l) p = tt
-  never_host (ends.UnknownComponent i) p = tt
-  never_host (ends.Condition place) p = tt
-  never_host ends.FlashFault p = tt
-  never_host ends.NoMemory p = tt
+  pub never_host : (Same : Type 0) (answer : BootEnd) → PlayedSo (PlaysBoot layout key files before after launched now) Same launched now answer → NeverHost answer
+  never_host Same (ends.Stopped place causes.HostFault) p = never_stopped laws _ _ place _ _ launched now refl p.on.plays
+  never_host Same (ends.Stopped place causes.Missing) p = tt
+  never_host Same (ends.Stopped place causes.SelfCopy) p = tt
+  never_host Same (ends.Stopped place causes.TooLarge) p = tt
+  never_host Same (ends.Stopped place causes.Absent) p = tt
+  never_host Same (ends.Stopped place causes.FlashFault) p = tt
+  never_host Same (ends.Stopped place causes.LaunchFault) p = tt
+  never_host Same ends.Ended p = tt
+  never_host Same ends.NothingInstalled p = tt
+  never_host Same (ends.BadBank r) p = tt
+  never_host Same (ends.NotAuthentic l) p = tt
+  never_host Same (ends.UnknownComponent i) p = tt
+  never_host Same (ends.Condition place) p = tt
+  never_host Same ends.FlashFault p = tt
+  never_host Same ends.NoMemory p = tt

@@ -48,14 +48,14 @@ module _ (end : PlanEnd) (answer : BootEnd) (d e : ℕ) (settled : SettledSo end
   pub starts_after : IsStartEnd answer
   starts_after = ⊎_elim (λ same. subst IsStartEnd (sym same.0) (start_end end)) (λ fault. subst IsStartEnd (sym fault.1) tt) settled
 
-  played_end : (P : PlanEnd → Type 0) (launched now : List Launch) (end : PlanEnd) → P end → PlayedSo P launched now (end_of end)
-  played_end P launched now plays.Done p = p
-  played_end P launched now (plays.ConditionFailed place) p = p
-  played_end P launched now (plays.DirectiveFailed place cause) p = p
+  played_end : (P : PlanEnd → Type 0) (Same : Type 0) (launched now : List Launch) (end : PlanEnd) → P end → PlayedSo P Same launched now (end_of end)
+  played_end P Same launched now plays.Done p = p
+  played_end P Same launched now (plays.ConditionFailed place) p = p
+  played_end P Same launched now (plays.DirectiveFailed place cause) p = p
 
-  pub plays_after : (P : PlanEnd → Type 0) (launched now : List Launch) → P end → PlayedSo P launched now answer
-  plays_after P launched now p =
-      ⊎_elim (λ same. subst (PlayedSo P launched now) (sym same.0) (played_end P launched now end p)) (λ fault. subst (PlayedSo P launched now) (sym fault.1) (inr (end, p, fault.0))) settled
+  pub plays_after : (P : PlanEnd → Type 0) (Same : Type 0) (launched now : List Launch) → P end → PlayedSo P Same launched now answer
+  plays_after P Same launched now p =
+      ⊎_elim (λ same. subst (PlayedSo P Same launched now) (sym same.0) (played_end P Same launched now end p)) (λ fault. subst (PlayedSo P Same launched now) (sym fault.1) (inr (end, p, fault.0))) settled
 
   kept_end : (Kept Same : Type 0) (end : PlanEnd) → Kept → KeptSo Kept Same (end_of end)
   kept_end Kept Same plays.Done k = k

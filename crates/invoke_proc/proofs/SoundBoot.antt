@@ -136,16 +136,16 @@ module _ (safe : SafeLaunches) (faulted : FaultedSafeLaunches) (manifests : Mani
   nothing_gained : now ≡ launched → GainsSafe launched now
   nothing_gained same = record { gained = []; added = same ∙ sym (append-nil launched); safe = tt }
 
-  pub played_gains : (P : PlanEnd → Type 0) (answer : BootEnd) → ((end : PlanEnd) → P end → GainsSafe launched now) → PlayedSo P launched now answer → GainsSafe launched now
-  played_gains P ends.Ended to p = to plays.Done p
-  played_gains P (ends.Condition place) to p = to (plays.ConditionFailed place) p
-  played_gains P (ends.Stopped place cause) to p = to (plays.DirectiveFailed place cause) p
-  played_gains P ends.FlashFault to p = ⊎_elim (λ same. nothing_gained same) (λ some. to some.0 some.1) p
-  played_gains P ends.NothingInstalled to p = nothing_gained p
-  played_gains P (ends.BadBank r) to p = nothing_gained p
-  played_gains P (ends.NotAuthentic l) to p = nothing_gained p
-  played_gains P (ends.UnknownComponent i) to p = nothing_gained p
-  played_gains P ends.NoMemory to p = nothing_gained p
+  pub played_gains : (P : PlanEnd → Type 0) (Same : Type 0) (answer : BootEnd) → ((end : PlanEnd) → P end → GainsSafe launched now) → PlayedSo P Same launched now answer → GainsSafe launched now
+  played_gains P Same ends.Ended to p = to plays.Done p
+  played_gains P Same (ends.Condition place) to p = to (plays.ConditionFailed place) p
+  played_gains P Same (ends.Stopped place cause) to p = to (plays.DirectiveFailed place cause) p
+  played_gains P Same ends.FlashFault to p = ⊎_elim (λ none. nothing_gained none.0) (λ some. to some.0 some.1) p
+  played_gains P Same ends.NothingInstalled to p = nothing_gained p
+  played_gains P Same (ends.BadBank r) to p = nothing_gained p
+  played_gains P Same (ends.NotAuthentic l) to p = nothing_gained p
+  played_gains P Same (ends.UnknownComponent i) to p = nothing_gained p
+  played_gains P Same ends.NoMemory to p = nothing_gained p
 
 -- ---- the head
 

@@ -100,14 +100,14 @@ IsUnfaulted (plays.DirectiveFailed place causes.FlashFault) = ⊥
 IsUnfaulted _ = Unit {0}
 
 -- The procedure was played and ended so; or nothing was launched. A fault of the flash that no command met came before
--- the procedure, or behind it: one that a directive met is told with its place.
-abbrev pub PlayedSo : (PlanEnd → Type 0) → List Launch → List Launch → BootEnd → Type 0
-PlayedSo P launched now ends.Ended = P plays.Done
-PlayedSo P launched now (ends.Condition place) = P (plays.ConditionFailed place)
-PlayedSo P launched now (ends.Stopped place cause) = P (plays.DirectiveFailed place cause)
-PlayedSo P launched now ends.FlashFault =
-    (now ≡ launched) ⊎ ((end : PlanEnd) × P end × IsUnfaulted end)
-PlayedSo P launched now _ = now ≡ launched
+-- the procedure, and then the flash reads the same, or behind it: one that a directive met is told with its place.
+abbrev pub PlayedSo : (PlanEnd → Type 0) → Type 0 → List Launch → List Launch → BootEnd → Type 0
+PlayedSo P Same launched now ends.Ended = P plays.Done
+PlayedSo P Same launched now (ends.Condition place) = P (plays.ConditionFailed place)
+PlayedSo P Same launched now (ends.Stopped place cause) = P (plays.DirectiveFailed place cause)
+PlayedSo P Same launched now ends.FlashFault =
+    ((now ≡ launched) × Same) ⊎ ((end : PlanEnd) × P end × IsUnfaulted end)
+PlayedSo P Same launched now _ = now ≡ launched
 
 -- a procedure that has no names of files is not stopped by a fault of the host
 abbrev pub NeverHost : BootEnd → Type 0

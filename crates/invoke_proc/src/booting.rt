@@ -56,8 +56,9 @@ fn start_installed<H: Host, D: Disk, L: Launcher>(
     ensures plays { IsTrue D.told → IsTrue L.told
         → PlayedSo (PlaysBoot layout.now key.now (H.file host.old) (D.flash disk.old).reads
         (D.flash disk.new).reads
-        (L.launches launcher.old) (L.launches launcher.new)) (L.launches launcher.old)
-        (L.launches launcher.new) result }
+        (L.launches launcher.old) (L.launches launcher.new))
+        ((D.flash disk.new).reads ≡ (D.flash disk.old).reads)
+        (L.launches launcher.old) (L.launches launcher.new) result }
     ensures unasked { host.new ≡ host.old }
     ensures grows { IsTrue D.told → Grows (D.flash disk.old) (D.flash disk.new) }
     ensures keeps { IsTrue D.told
@@ -114,8 +115,9 @@ pub fn boot<H: Host, D: Disk, L: Launcher>(
     ensures plays { IsTrue D.told → IsTrue L.told
         → PlayedSo (PlaysBoot layout.now key.now (H.file host.old) (D.flash disk.old).reads
         (D.flash disk.new).reads
-        (L.launches launcher.old) (L.launches launcher.new)) (L.launches launcher.old)
-        (L.launches launcher.new) result }
+        (L.launches launcher.old) (L.launches launcher.new))
+        ((D.flash disk.new).reads ≡ (D.flash disk.old).reads)
+        (L.launches launcher.old) (L.launches launcher.new) result }
     ensures host { IsTrue D.told → IsTrue L.told → NeverHost result }
     ensures safe { IsTrue D.told → IsTrue L.told
         → Sound VERSION_1 (D.flash disk.old).reads

@@ -87,6 +87,7 @@ pub(crate) fn start<H: Host, D: Disk, L: Launcher>(
         (PlaysOn layout.now startable.now.manifest installed.now.active (H.file host.old)
         (D.flash disk.old).reads (D.flash disk.new).reads (L.launches launcher.old)
         (L.launches launcher.new))
+        ((D.flash disk.new).reads ≡ (D.flash disk.old).reads)
         (L.launches launcher.old) (L.launches launcher.new) result }
     ensures keeps { IsTrue D.told → KeptSo
         (KeepsOthers layout.now startable.now.manifest installed.now.active (D.flash disk.old)

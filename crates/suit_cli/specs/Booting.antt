@@ -73,7 +73,7 @@ pub record IsBoot (layout : List Entry) (key : Key) (launched now : Launching)
       → PlayedSo
       (PlaysBoot layout key before.files before.flash.reads after.flash.reads launched.launches
       now.launches)
-      launched.launches now.launches end
+      (after.flash.reads ≡ before.flash.reads) launched.launches now.launches end
   pub safe : IsTrue before.flash.told → IsTrue launched.told
       → Sound VERSION_1 before.flash.reads
       → GainsSafe launched.launches now.launches

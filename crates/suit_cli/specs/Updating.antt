@@ -125,7 +125,8 @@ pub record IsUpdate (o : Offer) (launched now : Launching) (before after : Outsi
       (λ made play. PlaysUpdate o.layout o.accepted.places (tree_of o.accepted) held
       (sources payloads o.uris before.files) before.flash.reads made launched.launches
       now.launches play)
-      o.layout after.flash.reads launched.launches now.launches end)
+      (after.flash.reads ≡ before.flash.reads) o.layout after.flash.reads launched.launches
+      now.launches end)
   pub left : IsTrue before.flash.told
       → ForOffer before.flash.reads o.accepted.said.wrapper (λ held digest.
       KeptSo

@@ -3,11 +3,11 @@ use Rattle.std.proofs.Common.{◌≡◌, ◌≢◌, inl, inr, ⊎_elim, ◌<◌,
 use Rattle.std.specs.List.{slice_range}
 use Rattle.std.proofs.lemmas.List.Edits.{get_or-between}
 use Rattle.suit_edge.specs.declared.page.TheConstants.{OPEN, CLOSED}
-use Rattle.suit_edge.specs.Ranges.{Outside, InSome, OutsideEach, SameOn, written}
-use Rattle.suit_edge.specs.Flash.{Flash, Now, Passes, ImageOn, Keeps, IsSettled, IsFirmOn, IsFlash}
+use Rattle.suit_edge.specs.Ranges.{Outside, InSome, OutsideEach, SameOn, Within, written}
+use Rattle.suit_edge.specs.Flash.{Flash, Now, Passes, ImageOn, Keeps, IsSame, IsSettled, IsFirmOn, IsFlash}
 use Rattle.suit_edge.specs.Gate.{IsShut, Closes, IsClosing, IsNewPage, IsOpening, IsGated, body_at, page_at}
 use Rattle.suit_edge.specs.RangeLaws.{same_range, written_outside, written_range, written_one, same_start, same_then, same_fewer}
-use Rattle.suit_edge.specs.FlashLaws.{keeps_fewer, joined, weakens, image_on, image_fewer, image_then}
+use Rattle.suit_edge.specs.FlashLaws.{each_now, keeps_fewer, joined, weakens, image_on, image_fewer, image_then}
 
 -- a gate is what was read of it
 pub gate_read : (reads room : List ℕ) (q : ℕ) → room ≡ slice_range reads q (q + 1)
@@ -43,6 +43,13 @@ closing gate start b is_open kept = weakens start b (ImageOn (Outside gate 1) st
 pub settled_shut : (gate : ℕ) (f : Flash) → IsSettled f → (get_or f.reads gate 0 ≢ OPEN)
     → IsShut gate f
 settled_shut gate f settled shut image now is_open = shut (sym (ap (λ (l : List ℕ). get_or l gate 0) (settled image now)) ∙ is_open)
+
+-- and where a power loss leaves it as it reads
+pub firm_shut : (gate : ℕ) (a b : Flash) (size : ℕ) → IsFlash b size → IsFirmOn (Within gate 1) a
+    → IsSame a b → (get_or a.reads gate 0 ≢ OPEN) → IsShut gate b
+firm_shut gate a b size law firm same shut image now is_open =
+    let was = each_now a b size (Now a) law same.images image now in
+    shut (sym ((firm image was).same gate (omega arith, omega arith)) ∙ is_open)
 
 -- ---- a page behind a closed gate
 
@@ -135,12 +142,12 @@ module _ (start : Flash) (size gate place : ℕ) (body : List ℕ) (law : IsFlas
 
     -- while it is written again
     pub gated_opening : (b c : Flash) → IsFlash b size → Passes start b (IsClosing gate start)
-        → Closes gate start.reads b.reads → IsSettled b
+        → Closes gate start.reads b.reads → IsShut gate b
         → Passes b c (IsOpening gate place body b) → Passes start c (IsGated gate place body start)
-    gated_opening b c law_b run closed settled opens =
+    gated_opening b c law_b run closed shut opens =
         joined start b c (IsGated gate place body start) (gated_closing b run) (weakens b c (IsOpening gate place body b) (IsGated gate place body start) (λ image o. record {
           apart = image_then page start b size law_b (weakens start b (IsClosing gate start) (ImageOn page start) (λ i g. (still i g).apart) run) image o.apart;
-          opens = λ is_open. inr (later_page b image closed (o.opens (settled_shut gate b settled closed.shut) is_open));
+          opens = λ is_open. inr (later_page b image closed (o.opens shut is_open));
         }) opens)
       where
         later_page : (b : Flash) (image : List ℕ) → Closes gate start.reads b.reads

@@ -4,8 +4,8 @@ ghost use Rattle.std.specs.Prelude.{◌≡◌, ◌+◌, ◌≤◌, length, IsTru
 ghost use Rattle.suit_edge.specs.Edge.{IfDone};
 ghost use Rattle.suit_edge.specs.Faults.{EdgeCounts};
 ghost use Rattle.suit_edge.specs.Flash.{Grows, IsFirmOn, IsSettled, Keeps, Passes};
-ghost use Rattle.suit_edge.specs.Gate.{Closes, IsClosing, IsGated, IsNewPage, IsOpen, IsOpening, page_at};
-ghost use Rattle.suit_edge.specs.Ranges.{InSome, Outside, OutsideEach, written};
+ghost use Rattle.suit_edge.specs.Gate.{Closes, IsClosing, IsGated, IsNewPage, IsOpen, IsOpening, IsShut, page_at};
+ghost use Rattle.suit_edge.specs.Ranges.{InSome, Outside, OutsideEach, Within, written};
 
 use crate::{Disk, Edge};
 
@@ -84,6 +84,34 @@ pub fn close_gate<D: Disk>(disk: &mut D, gate: u64) -> Edge
     }
 }
 
+// Closes a gate that reads open, and syncs that. A gate that reads closed is left, and nothing is synced.
+fn shut_gate<D: Disk>(disk: &mut D, gate: u64) -> Edge
+    requires gate { gate + 1 ≤ D.extent disk.old }
+    requires firm { IsTrue D.told → IsFirmOn (Within gate 1) (D.flash disk.old) }
+    ensures size { D.extent disk.new ≡ D.extent disk.old }
+    ensures counts { EdgeCounts result (D.faults disk.old) (D.faults disk.new) }
+    ensures closes { IsTrue D.told
+        → IfDone result (Closes gate (D.flash disk.old).reads (D.flash disk.new).reads) }
+    ensures shut { IsTrue D.told → IfDone result (IsShut gate (D.flash disk.new)) }
+    ensures keeps { IsTrue D.told → Keeps (Outside gate 1) (D.flash disk.old) (D.flash disk.new) }
+    ensures any_moment { IsTrue D.told
+        → Passes (D.flash disk.old) (D.flash disk.new) (IsClosing gate (D.flash disk.old)) }
+    ensures grows { IsTrue D.told → Grows (D.flash disk.old) (D.flash disk.new) }
+{
+    let mut mark = [0u8; 1];
+    match disk.read_at(gate, &mut mark) {
+        Edge::Failed => return Edge::Failed,
+        Edge::Done => {}
+    }
+    if mark[0] != OPEN {
+        return Edge::Done;
+    }
+    match write_and_sync(disk, gate, &[CLOSED]) {
+        Edge::Failed => Edge::Failed,
+        Edge::Done => Edge::Done,
+    }
+}
+
 /// Writes the bytes of a page and syncs them, and then opens its gate. Where no power loss at the start could leave the
 /// gate open, an open page is the new one at any moment. If it fails, the page is then the new one, or closed.
 pub fn open_written<D: Disk>(disk: &mut D, gate: u64, place: u64, body: &[u8]) -> Edge
@@ -138,7 +166,7 @@ pub fn write_gated<D: Disk>(disk: &mut D, gate: u64, place: u64, body: &[u8]) ->
         (IsGated gate place body.now (D.flash disk.old)) }
     ensures grows { IsTrue D.told → Grows (D.flash disk.old) (D.flash disk.new) }
 {
-    match close_gate(disk, gate) {
+    match shut_gate(disk, gate) {
         Edge::Failed => return Edge::Failed,
         Edge::Done => {}
     }

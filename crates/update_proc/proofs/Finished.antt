@@ -217,15 +217,15 @@ unbegun_kept Kept Same (ends.Stopped place cause) is same = elim is [ ]
 unbegun_kept Kept Same ends.FlashFault is same = elim is [ ]
 unbegun_kept Kept Same ends.NoMemory is same = same
 
-pub unbegun_played : (Plays : List ℕ → PlanEnd → Type 0) (layout : List Entry) (image : List ℕ) (launched : List Launch) (answer : UpdateEnd) → IsUnbegun answer → PlayedSo Plays layout image launched launched answer
-unbegun_played Plays layout image launched (ends.Lower m n) is = refl
-unbegun_played Plays layout image launched (ends.OtherDigest m n) is = refl
-unbegun_played Plays layout image launched ends.Worn is = refl
-unbegun_played Plays layout image launched (ends.Installed r) is = elim is [ ]
-unbegun_played Plays layout image launched (ends.Condition place) is = elim is [ ]
-unbegun_played Plays layout image launched (ends.Stopped place cause) is = elim is [ ]
-unbegun_played Plays layout image launched ends.FlashFault is = elim is [ ]
-unbegun_played Plays layout image launched ends.NoMemory is = refl
+pub unbegun_played : (Plays : List ℕ → PlanEnd → Type 0) (Same : Type 0) (layout : List Entry) (image : List ℕ) (launched : List Launch) (answer : UpdateEnd) → IsUnbegun answer → PlayedSo Plays Same layout image launched launched answer
+unbegun_played Plays Same layout image launched (ends.Lower m n) is = refl
+unbegun_played Plays Same layout image launched (ends.OtherDigest m n) is = refl
+unbegun_played Plays Same layout image launched ends.Worn is = refl
+unbegun_played Plays Same layout image launched (ends.Installed r) is = elim is [ ]
+unbegun_played Plays Same layout image launched (ends.Condition place) is = elim is [ ]
+unbegun_played Plays Same layout image launched (ends.Stopped place cause) is = elim is [ ]
+unbegun_played Plays Same layout image launched ends.FlashFault is = elim is [ ]
+unbegun_played Plays Same layout image launched ends.NoMemory is = refl
 
 pub unbegun_settled : (P : Type 0) (answer : UpdateEnd) → IsUnbegun answer → P → IfUnfaulted answer P
 unbegun_settled P (ends.Lower m n) is p = p
@@ -260,21 +260,21 @@ held_as held a d same is = subst (λ (l : List ℕ). RecordOf VERSION_1 (head_of
 
 -- ---- launches
 
-pub some_play : (Plays : List ℕ → PlanEnd → Type 0) (layout : List Entry) (after : List ℕ) (launched now : List Launch) (answer : UpdateEnd) → PlayedSo Plays layout after launched now answer
+pub some_play : (Plays : List ℕ → PlanEnd → Type 0) (Same : Type 0) (layout : List Entry) (after : List ℕ) (launched now : List Launch) (answer : UpdateEnd) → PlayedSo Plays Same layout after launched now answer
     → (now ≡ launched) ⊎ ((made : List ℕ) × (end : PlanEnd) × Plays made end)
-some_play Plays layout after launched now (ends.Installed r) is = inr (is.made, plays.Done, is.plays)
-some_play Plays layout after launched now (ends.Condition place) is = inr (is.made, plays.ConditionFailed place, is.plays)
-some_play Plays layout after launched now (ends.Stopped place cause) is = inr (is.made, plays.DirectiveFailed place cause, is.plays)
-some_play Plays layout after launched now ends.FlashFault is = ⊎_elim (λ same. inl same) (λ play. inr (play.0, play.1, play.2)) is
-some_play Plays layout after launched now (ends.Lower m n) is = inl is
-some_play Plays layout after launched now (ends.OtherDigest m n) is = inl is
-some_play Plays layout after launched now ends.Worn is = inl is
-some_play Plays layout after launched now ends.NoMemory is = inl is
+some_play Plays Same layout after launched now (ends.Installed r) is = inr (is.made, plays.Done, is.plays)
+some_play Plays Same layout after launched now (ends.Condition place) is = inr (is.made, plays.ConditionFailed place, is.plays)
+some_play Plays Same layout after launched now (ends.Stopped place cause) is = inr (is.made, plays.DirectiveFailed place cause, is.plays)
+some_play Plays Same layout after launched now ends.FlashFault is = ⊎_elim (λ none. inl none.0) (λ play. inr (play.0, play.1, play.2)) is
+some_play Plays Same layout after launched now (ends.Lower m n) is = inl is
+some_play Plays Same layout after launched now (ends.OtherDigest m n) is = inl is
+some_play Plays Same layout after launched now ends.Worn is = inl is
+some_play Plays Same layout after launched now ends.NoMemory is = inl is
 
 -- beside the record that was read
-pub launched_by : (Plays : Option Record → List ℕ → PlanEnd → Type 0) (layout : List Entry) (image after : List ℕ) (launched now : List Launch) (answer : UpdateEnd) (held : Option Record)
-    → RecordOf VERSION_1 (head_of VERSION_1 image) held → PlayedSo (Plays held) layout after launched now answer → LaunchesBy Plays image launched now
-launched_by Plays layout image after launched now answer held is played = of_some (some_play (Plays held) layout after launched now answer played) where
+pub launched_by : (Plays : Option Record → List ℕ → PlanEnd → Type 0) (Same : Type 0) (layout : List Entry) (image after : List ℕ) (launched now : List Launch) (answer : UpdateEnd) (held : Option Record)
+    → RecordOf VERSION_1 (head_of VERSION_1 image) held → PlayedSo (Plays held) Same layout after launched now answer → LaunchesBy Plays image launched now
+launched_by Plays Same layout image after launched now answer held is played = of_some (some_play (Plays held) Same layout after launched now answer played) where
   of_some : (now ≡ launched) ⊎ ((made : List ℕ) × (end : PlanEnd) × Plays held made end) → LaunchesBy Plays image launched now
   of_some (inl same) = inl same
   of_some (inr (made, end, play)) = inr (held, is, made, end, play)

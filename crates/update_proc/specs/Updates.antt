@@ -59,18 +59,19 @@ pub record PlaysAndLeaves (Plays : List ℕ → PlanEnd → Type 0) (layout : Li
   pub left : HasContentsOf layout made after
 
 -- The procedure was played and ended so; or nothing was launched. A fault of the flash that no command met came before
--- the procedure, or behind it: one that a directive met is told with its place.
-abbrev pub PlayedSo : (List ℕ → PlanEnd → Type 0) → List Entry → List ℕ → List Launch → List Launch
-    → UpdateEnd → Type 0
-PlayedSo Plays layout after launched now (ends.Installed r) =
+-- the procedure, and then the flash reads the same, or behind it: one that a directive met is told with its place.
+abbrev pub PlayedSo : (List ℕ → PlanEnd → Type 0) → Type 0 → List Entry → List ℕ → List Launch
+    → List Launch → UpdateEnd → Type 0
+PlayedSo Plays Same layout after launched now (ends.Installed r) =
     PlaysAndLeaves Plays layout after plays.Done
-PlayedSo Plays layout after launched now (ends.Condition place) =
+PlayedSo Plays Same layout after launched now (ends.Condition place) =
     PlaysAndLeaves Plays layout after (plays.ConditionFailed place)
-PlayedSo Plays layout after launched now (ends.Stopped place cause) =
+PlayedSo Plays Same layout after launched now (ends.Stopped place cause) =
     PlaysAndLeaves Plays layout after (plays.DirectiveFailed place cause)
-PlayedSo Plays layout after launched now ends.FlashFault =
-    (now ≡ launched) ⊎ ((made : List ℕ) × (end : PlanEnd) × Plays made end × IsUnfaulted end)
-PlayedSo Plays layout after launched now _ = now ≡ launched
+PlayedSo Plays Same layout after launched now ends.FlashFault =
+    ((now ≡ launched) × Same)
+    ⊎ ((made : List ℕ) × (end : PlanEnd) × Plays made end × IsUnfaulted end)
+PlayedSo Plays Same layout after launched now _ = now ≡ launched
 
 -- Whatever was answered, nothing was launched, or the procedure was played beside the record that this image has.
 abbrev pub LaunchesBy : (Option Record → List ℕ → PlanEnd → Type 0) → List ℕ → List Launch

@@ -78,7 +78,7 @@ pub fn update<H: Host, D: Disk, L: Launcher>(
         (update_tree manifest.now members.now) held
         (sources payloads uris.now (H.file host.old)) (D.flash disk.old).reads made
         (L.launches launcher.old) (L.launches launcher.new) end)
-        layout.now (D.flash disk.new).reads (L.launches launcher.old) (L.launches launcher.new)
+        ((D.flash disk.new).reads ≡ (D.flash disk.old).reads) layout.now (D.flash disk.new).reads (L.launches launcher.old) (L.launches launcher.new)
         result) }
     ensures launches { IsTrue H.told ⊎ (uris.now ≡ []) → IsTrue D.told → IsTrue L.told
         → (payloads : List (List ℕ × List ℕ)) → HasPayloads envelope.now.whole.now payloads

@@ -1,4 +1,4 @@
-use Rattle.std.proofs.Common.{ℕ, sym, subst}
+use Rattle.std.proofs.Common.{◌≡◌, ℕ, sym, subst}
 use Rattle.flash_layout.specs.declared.frame.TheConstants.{VERSION_1}
 use Rattle.flash_layout.specs.Configs.{ConfigOf, Configured}
 use Rattle.flash_layout.specs.Frames.{head_of}
@@ -21,7 +21,7 @@ returns-clause-unrefused g c t sound =
 pub returns-clause-host : goal.returns-clause-host
 returns-clause-host g c td tl =
     never_host c.play_laws.ensures.faulted_ends c.args.layout.now c.args.key.now (g.H.Host.file c.args.host.now) (g.D.Disk.flash c.args.disk.now).reads
-    (g.D.Disk.flash c.start_installed.new.disk).reads (g.L.Launcher.launches c.args.launcher.now) (g.L.Launcher.launches c.start_installed.new.launcher) c.start_installed.result
+    (g.D.Disk.flash c.start_installed.new.disk).reads (g.L.Launcher.launches c.args.launcher.now) (g.L.Launcher.launches c.start_installed.new.launcher) _ c.start_installed.result
     (c.start_installed.ensures.plays td tl)
 
 pub returns-clause-safe : goal.returns-clause-safe
@@ -37,7 +37,7 @@ returns-clause-safe g c td tl sound =
     let now = g.L.Launcher.launches c.start_installed.new.launcher in
     let config = subst (λ (n : ℕ). ConfigOf VERSION_1 n (head_of VERSION_1 reads) (Configured layout key)) (sym (g.met.D.Disk.obeys c.args.disk.now td).fits) (c.requires.held td) in
     played_gains c.play_laws.ensures.safe c.play_laws.ensures.faulted_safe c.manifest_laws.ensures size layout c.requires.allowed.layout_is c.has_identifiers.ensures key files reads after launched now
-    (PlaysBoot layout key files reads after launched now) c.start_installed.result
+    (PlaysBoot layout key files reads after launched now) (after ≡ reads) c.start_installed.result
     (λ end p. gains c.play_laws.ensures.safe c.play_laws.ensures.faulted_safe c.manifest_laws.ensures size layout c.requires.allowed.layout_is c.has_identifiers.ensures key files reads after launched now end p
     (safe_start c.config_laws.ensures.answer c.record_laws.ensures.answer c.boot_laws.ensures layout key reads config p.installed p.manifest sound p.starts))
     (c.start_installed.ensures.plays td tl)

@@ -1,8 +1,9 @@
-use Rattle.std.proofs.Common.{◌∙◌}
+use Rattle.std.proofs.Common.{◌≡◌, ◌∙◌, sym, subst}
 use Rattle.suit_edge.specs.Flash.{IsSame}
 use Rattle.suit_edge.specs.FlashLaws.{same_flash_then}
 use Rattle.suit_envelope.specs.Said.{said_by}
-use Rattle.invoke_proc.specs.Booting.{KeepsBoot, KeepsOthers, PlaysBoot, PlaysOn}
+use Rattle.invoke_proc.specs.declared.boot_end.BootEnd.{BootEnd}
+use Rattle.invoke_proc.specs.Booting.{KeepsBoot, KeepsOthers, PlayedSo, PlaysBoot, PlaysOn}
 use Rattle.invoke_proc.proofs.Booted as booted
 use Rattle.invoke_proc.proofs.Places.{are_distinct}
 use Rattle.invoke_proc.proofs.Played.{unfaulted}
@@ -12,6 +13,14 @@ pub returns-in-Err-judge-clause-answers : goal.returns-in-Err-judge-clause-answe
 returns-in-Err-judge-clause-answers g c t =
     booted.declined_answers c.args.layout.now c.args.key.now (g.D.Disk.flash c.args.disk.now).reads c.in-Ok.bank.installed (c.in-Ok.ensures.recorded t) c.as_slice.result.now
     c.in-Err-judge.end (c.as_slice.ensures.value ∙ c.in-Ok.ensures.bytes t) c.in-Err-judge.ensures.declined
+
+pub returns-in-Err-clause-plays : goal.returns-in-Err-clause-plays
+returns-in-Err-clause-plays g c td tl =
+    let launched = g.L.Launcher.launches c.args.launcher.now in
+    let reads = (g.D.Disk.flash c.args.disk.now).reads in
+    let after = (g.D.Disk.flash c.find_bank.new.disk).reads in
+    let Plays = PlaysBoot c.args.layout.now c.args.key.now (g.H.Host.file c.args.host.now) reads after launched launched in
+    subst (λ (e : BootEnd). PlayedSo Plays (after ≡ reads) launched launched e) (sym c.without_bank.ensures) (booted.none_plays Plays (after ≡ reads) launched c.in-Err.fault (c.in-Err.ensures.same td).reads)
 
 pub start-requires-clause-distinct : goal.start-requires-clause-distinct
 start-requires-clause-distinct g c =
@@ -52,8 +61,9 @@ returns-clause-plays g c td tl =
     let same = c.as_slice.ensures.value ∙ c.in-Ok.ensures.bytes td in
     let starts = booted.started_from c.args.layout.now c.args.key.now reads bytes r said m (c.in-Ok.ensures.recorded td) same c.in-Ok-judge.ensures.started in
     booted.played_as (PlaysOn c.args.layout.now m r.active files before after launched now) (PlaysBoot c.args.layout.now c.args.key.now files reads after launched now)
-    launched now c.start.result
+    (after ≡ before) (after ≡ reads) launched now c.start.result
     (booted.plays_boot c.args.layout.now c.args.key.now files reads before after launched now r m starts (c.in-Ok.ensures.same td).reads)
+    (λ same. same ∙ (c.in-Ok.ensures.same td).reads)
     (c.start.ensures.plays td tl)
 
 pub returns-clause-keeps : goal.returns-clause-keeps

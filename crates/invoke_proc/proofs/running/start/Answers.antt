@@ -1,4 +1,4 @@
-use Rattle.std.proofs.Common.{[], Option, refl, inl, inr, ⊎_elim, sym, subst, ap, ◌∙◌}
+use Rattle.std.proofs.Common.{◌≡◌, [], Option, refl, inl, inr, ⊎_elim, sym, subst, ap, ◌∙◌}
 use Rattle.std.specs.Borrow.{Bor}
 use Rattle.suit_commands.specs.Allowed.{IsPlan}
 use Rattle.suit_commands.specs.Tree.{PlanTree}
@@ -35,7 +35,7 @@ returns-clause-plays g c td tl =
     let launched = g.L.Launcher.launches c.args.launcher.now in
     let now = g.L.Launcher.launches c.run_plan-end.new.launcher in
     plays_after c.run_plan-end.result c.settle.result _ _ c.settle.ensures.read.counts
-    (PlaysOn c.args.layout.now c.args.startable.now.manifest c.args.installed.now.active files before after launched now) launched now
+    (PlaysOn c.args.layout.now c.args.startable.now.manifest c.args.installed.now.active files before after launched now) (after ≡ before) launched now
     (plays_on c.args.layout.now c.args.startable.now.manifest c.args.installed.now.active w.uris.now files before between after launched now c.run_plan-end.result
     w.standings.items w.ram c.run_plan-end.new.world.ram c.in-Ok.ensures.stand c.in-Ok.ensures.ram (c.in-Ok.ensures.uris ∙ c.new-uris.ensures) (c.settle.ensures.read.same td).reads _ c.invocation_plan-plan.ensures
     (c.run_plan-end.ensures.plays (inr (c.in-Ok.ensures.uris ∙ c.new-uris.ensures)) td tl [] (subst (λ (e : Option (Bor Envelope)). ArePayloads e []) (sym c.in-Ok.ensures.envelope) refl)))

@@ -54,9 +54,9 @@ returns-clause-judged g c t =
 pub returns-clause-plays : goal.returns-clause-plays
 returns-clause-plays g c th t tl =
     for_offer c.record_laws.ensures.answer (g.D.Disk.flash c.args.disk.now).reads c.args.envelope.now.wrapper.now
-    (λ held digest. (payloads : List (List ℕ × List ℕ)) → HasPayloads c.args.envelope.now.whole.now payloads → PlayedSo (λ made end. PlaysUpdate c.args.layout.now c.args.places.now (update_tree c.args.manifest.now c.args.members.now) held (sources payloads c.args.uris.now (g.H.Host.file c.args.host.now)) (g.D.Disk.flash c.args.disk.now).reads made (g.L.Launcher.launches c.args.launcher.now) (g.L.Launcher.launches c.start.new.launcher) end) c.args.layout.now (g.D.Disk.flash c.start.new.disk).reads (g.L.Launcher.launches c.args.launcher.now) (g.L.Launcher.launches c.start.new.launcher) c.start.result)
+    (λ held digest. (payloads : List (List ℕ × List ℕ)) → HasPayloads c.args.envelope.now.whole.now payloads → PlayedSo (λ made end. PlaysUpdate c.args.layout.now c.args.places.now (update_tree c.args.manifest.now c.args.members.now) held (sources payloads c.args.uris.now (g.H.Host.file c.args.host.now)) (g.D.Disk.flash c.args.disk.now).reads made (g.L.Launcher.launches c.args.launcher.now) (g.L.Launcher.launches c.start.new.launcher) end) ((g.D.Disk.flash c.start.new.disk).reads ≡ (g.D.Disk.flash c.args.disk.now).reads) c.args.layout.now (g.D.Disk.flash c.start.new.disk).reads (g.L.Launcher.launches c.args.launcher.now) (g.L.Launcher.launches c.start.new.launcher) c.start.result)
     (held_of c.as_ref-held.result) c.stated_digest-digest.result (recorded_as (head_of VERSION_1 (g.D.Disk.flash c.args.disk.now).reads) c.as_ref-held.result c.in-Ok.held c.as_ref-held.ensures.value (c.in-Ok.ensures.exact t)) c.stated_digest-digest.ensures
-    (λ payloads has. subst (λ (l : List ℕ). PlayedSo (λ made end. PlaysUpdate c.args.layout.now c.args.places.now (update_tree c.args.manifest.now c.args.members.now) (held_of c.as_ref-held.result) (sources payloads c.args.uris.now (g.H.Host.file c.args.host.now)) l made (g.L.Launcher.launches c.args.launcher.now) (g.L.Launcher.launches c.start.new.launcher) end) c.args.layout.now (g.D.Disk.flash c.start.new.disk).reads (g.L.Launcher.launches c.args.launcher.now) (g.L.Launcher.launches c.start.new.launcher) c.start.result) (c.in-Ok.ensures.same t).reads (subst (λ (tree : PlanTree). PlayedSo (λ made end. PlaysUpdate c.args.layout.now c.args.places.now tree (held_of c.as_ref-held.result) (sources payloads c.args.uris.now (g.H.Host.file c.args.host.now)) (g.D.Disk.flash c.load_record.new.disk).reads made (g.L.Launcher.launches c.args.launcher.now) (g.L.Launcher.launches c.start.new.launcher) end) c.args.layout.now (g.D.Disk.flash c.start.new.disk).reads (g.L.Launcher.launches c.args.launcher.now) (g.L.Launcher.launches c.start.new.launcher) c.start.result) c.update_plan-plan.ensures (c.start.ensures.plays (inl th) t tl payloads has)))
+    (λ payloads has. subst (λ (l : List ℕ). PlayedSo (λ made end. PlaysUpdate c.args.layout.now c.args.places.now (update_tree c.args.manifest.now c.args.members.now) (held_of c.as_ref-held.result) (sources payloads c.args.uris.now (g.H.Host.file c.args.host.now)) l made (g.L.Launcher.launches c.args.launcher.now) (g.L.Launcher.launches c.start.new.launcher) end) ((g.D.Disk.flash c.start.new.disk).reads ≡ l) c.args.layout.now (g.D.Disk.flash c.start.new.disk).reads (g.L.Launcher.launches c.args.launcher.now) (g.L.Launcher.launches c.start.new.launcher) c.start.result) (c.in-Ok.ensures.same t).reads (subst (λ (tree : PlanTree). PlayedSo (λ made end. PlaysUpdate c.args.layout.now c.args.places.now tree (held_of c.as_ref-held.result) (sources payloads c.args.uris.now (g.H.Host.file c.args.host.now)) (g.D.Disk.flash c.load_record.new.disk).reads made (g.L.Launcher.launches c.args.launcher.now) (g.L.Launcher.launches c.start.new.launcher) end) ((g.D.Disk.flash c.start.new.disk).reads ≡ (g.D.Disk.flash c.load_record.new.disk).reads) c.args.layout.now (g.D.Disk.flash c.start.new.disk).reads (g.L.Launcher.launches c.args.launcher.now) (g.L.Launcher.launches c.start.new.launcher) c.start.result) c.update_plan-plan.ensures (c.start.ensures.plays (inl th) t tl payloads has)))
 
 pub returns-in-Err-clause-asked : goal.returns-in-Err-clause-asked
 returns-in-Err-clause-asked g c t room rooms = asks_none (update_tree c.args.manifest.now c.args.members.now) c.args.uris.now room _
@@ -92,9 +92,9 @@ returns-in-Err-clause-launches g c th t tl payloads has = inl refl
 pub returns-clause-launches : goal.returns-clause-launches
 returns-clause-launches g c th t tl payloads has =
     launched_by (λ held made end. PlaysUpdate c.args.layout.now c.args.places.now (update_tree c.args.manifest.now c.args.members.now) held (sources payloads c.args.uris.now (g.H.Host.file c.args.host.now)) (g.D.Disk.flash c.args.disk.now).reads made (g.L.Launcher.launches c.args.launcher.now) (g.L.Launcher.launches c.start.new.launcher) end)
-    c.args.layout.now (g.D.Disk.flash c.args.disk.now).reads (g.D.Disk.flash c.start.new.disk).reads (g.L.Launcher.launches c.args.launcher.now) (g.L.Launcher.launches c.start.new.launcher) c.start.result
+    ((g.D.Disk.flash c.start.new.disk).reads ≡ (g.D.Disk.flash c.args.disk.now).reads) c.args.layout.now (g.D.Disk.flash c.args.disk.now).reads (g.D.Disk.flash c.start.new.disk).reads (g.L.Launcher.launches c.args.launcher.now) (g.L.Launcher.launches c.start.new.launcher) c.start.result
     (held_of c.as_ref-held.result) (recorded_as (head_of VERSION_1 (g.D.Disk.flash c.args.disk.now).reads) c.as_ref-held.result c.in-Ok.held c.as_ref-held.ensures.value (c.in-Ok.ensures.exact t))
-    (subst (λ (l : List ℕ). PlayedSo (λ made end. PlaysUpdate c.args.layout.now c.args.places.now (update_tree c.args.manifest.now c.args.members.now) (held_of c.as_ref-held.result) (sources payloads c.args.uris.now (g.H.Host.file c.args.host.now)) l made (g.L.Launcher.launches c.args.launcher.now) (g.L.Launcher.launches c.start.new.launcher) end) c.args.layout.now (g.D.Disk.flash c.start.new.disk).reads (g.L.Launcher.launches c.args.launcher.now) (g.L.Launcher.launches c.start.new.launcher) c.start.result) (c.in-Ok.ensures.same t).reads (subst (λ (tree : PlanTree). PlayedSo (λ made end. PlaysUpdate c.args.layout.now c.args.places.now tree (held_of c.as_ref-held.result) (sources payloads c.args.uris.now (g.H.Host.file c.args.host.now)) (g.D.Disk.flash c.load_record.new.disk).reads made (g.L.Launcher.launches c.args.launcher.now) (g.L.Launcher.launches c.start.new.launcher) end) c.args.layout.now (g.D.Disk.flash c.start.new.disk).reads (g.L.Launcher.launches c.args.launcher.now) (g.L.Launcher.launches c.start.new.launcher) c.start.result) c.update_plan-plan.ensures (c.start.ensures.plays th t tl payloads has)))
+    (subst (λ (l : List ℕ). PlayedSo (λ made end. PlaysUpdate c.args.layout.now c.args.places.now (update_tree c.args.manifest.now c.args.members.now) (held_of c.as_ref-held.result) (sources payloads c.args.uris.now (g.H.Host.file c.args.host.now)) l made (g.L.Launcher.launches c.args.launcher.now) (g.L.Launcher.launches c.start.new.launcher) end) ((g.D.Disk.flash c.start.new.disk).reads ≡ l) c.args.layout.now (g.D.Disk.flash c.start.new.disk).reads (g.L.Launcher.launches c.args.launcher.now) (g.L.Launcher.launches c.start.new.launcher) c.start.result) (c.in-Ok.ensures.same t).reads (subst (λ (tree : PlanTree). PlayedSo (λ made end. PlaysUpdate c.args.layout.now c.args.places.now tree (held_of c.as_ref-held.result) (sources payloads c.args.uris.now (g.H.Host.file c.args.host.now)) (g.D.Disk.flash c.load_record.new.disk).reads made (g.L.Launcher.launches c.args.launcher.now) (g.L.Launcher.launches c.start.new.launcher) end) ((g.D.Disk.flash c.start.new.disk).reads ≡ (g.D.Disk.flash c.load_record.new.disk).reads) c.args.layout.now (g.D.Disk.flash c.start.new.disk).reads (g.L.Launcher.launches c.args.launcher.now) (g.L.Launcher.launches c.start.new.launcher) c.start.result) c.update_plan-plan.ensures (c.start.ensures.plays th t tl payloads has)))
 
 pub returns-clause-keeps : goal.returns-clause-keeps
 returns-clause-keeps g c t settled =
@@ -184,7 +184,7 @@ returns-in-Err-installable-clause-counts g c =
 
 pub returns-in-Err-installable-clause-plays : goal.returns-in-Err-installable-clause-plays
 returns-in-Err-installable-clause-plays g c th t tl held digest blocks there said payloads has =
-    unbegun_played _ c.args.layout.now (g.D.Disk.flash c.load_record.new.disk).reads (g.L.Launcher.launches c.args.launcher.now) c.in-Err-installable.end c.in-Err-installable.ensures.unbegun
+    unbegun_played _ _ c.args.layout.now (g.D.Disk.flash c.load_record.new.disk).reads (g.L.Launcher.launches c.args.launcher.now) c.in-Err-installable.end c.in-Err-installable.ensures.unbegun
 
 pub returns-in-Err-installable-clause-launches : goal.returns-in-Err-installable-clause-launches
 returns-in-Err-installable-clause-launches g c th t tl payloads has = inl refl
