@@ -25,25 +25,10 @@ use Rattle.invoke_proc.specs.Starting.{IsDeclined, IsStarted}
 
 -- ---- where no envelope is read
 
-pub none_answers : (layout : List Entry) (key : Key) (reads : List ℕ) (fault : NoBank) → IsNoBank reads fault → Answers layout key reads (without_bank fault)
-none_answers layout key reads banks.NothingInstalled is = is
-none_answers layout key reads banks.FlashFault is = is
-none_answers layout key reads banks.NoMemory is = is
-
-pub none_counts : (A : Type 0) (fault : NoBank) (h d e l : ℕ) → BankCounts {A = A} (Err fault) d e → BootCounts (without_bank fault) (counts_of h d l) (counts_of h e l)
-none_counts A banks.NothingInstalled h d e l is = subst (λ (n : ℕ). counts_of h n l ≡ counts_of h d l) (sym is) refl
-none_counts A banks.FlashFault h d e l is = (omega arith, is, omega arith)
-none_counts A banks.NoMemory h d e l is = subst (λ (n : ℕ). counts_of h n l ≡ counts_of h d l) (sym is) refl
-
 pub none_plays : (P : PlanEnd → Type 0) (Same : Type 0) (launches : List Launch) (fault : NoBank) → Same → PlayedSo P Same launches launches (without_bank fault)
 none_plays P Same launches banks.NothingInstalled same = refl
 none_plays P Same launches banks.FlashFault same = inl (refl, same)
 none_plays P Same launches banks.NoMemory same = refl
-
-pub none_keeps : (Kept Same : Type 0) (fault : NoBank) → Same → KeptSo Kept Same (without_bank fault)
-none_keeps Kept Same banks.NothingInstalled same = same
-none_keeps Kept Same banks.FlashFault same = inl same
-none_keeps Kept Same banks.NoMemory same = same
 
 -- ---- of any answer
 
@@ -95,28 +80,6 @@ module _ (layout : List Entry) (key : Key) (reads : List ℕ) (r : Record) (reco
     start_answers ends.FlashFault is = tt
     start_answers ends.NoMemory is = (r, recorded)
     start_answers _ is = absurd is
-
-pub declined_counts : (layout : List Entry) (key bytes : List ℕ) (end : BootEnd) (a b : Counts) → IsDeclined layout key bytes end → b ≡ a → BootCounts end a b
-declined_counts layout key bytes (ends.BadBank refusal) a b is same = same
-declined_counts layout key bytes (ends.NotAuthentic l) a b is same = same
-declined_counts layout key bytes (ends.UnknownComponent i) a b is same = same
-declined_counts layout key bytes ends.NoMemory a b is same = same
-declined_counts layout key bytes _ a b is same = absurd is
-
-pub declined_plays : (layout : List Entry) (key bytes : List ℕ) (end : BootEnd) (P : PlanEnd → Type 0) (Same : Type 0) (launches : List Launch) → IsDeclined layout key bytes end
-    → PlayedSo P Same launches launches end
-declined_plays layout key bytes (ends.BadBank refusal) P Same launches is = refl
-declined_plays layout key bytes (ends.NotAuthentic l) P Same launches is = refl
-declined_plays layout key bytes (ends.UnknownComponent i) P Same launches is = refl
-declined_plays layout key bytes ends.NoMemory P Same launches is = refl
-declined_plays layout key bytes _ P Same launches is = absurd is
-
-pub declined_keeps : (layout : List Entry) (key bytes : List ℕ) (end : BootEnd) (Kept Same : Type 0) → IsDeclined layout key bytes end → Same → KeptSo Kept Same end
-declined_keeps layout key bytes (ends.BadBank refusal) Kept Same is same = same
-declined_keeps layout key bytes (ends.NotAuthentic l) Kept Same is same = same
-declined_keeps layout key bytes (ends.UnknownComponent i) Kept Same is same = same
-declined_keeps layout key bytes ends.NoMemory Kept Same is same = same
-declined_keeps layout key bytes _ Kept Same is same = absurd is
 
 -- ---- from the moment before the bank was read
 
