@@ -1,13 +1,14 @@
 //! The installed record, and the envelope in its bank.
 
-ghost use Rattle.invoke_proc.specs.Banks.{BankCounts, IsNoBank, bank_in, record_in};
+ghost use Rattle.flash_layout.specs.declared.key.Key.{Key};
+ghost use Rattle.invoke_proc.specs.Banks.{BankCounts, IsNoBank, bank_in, config_in, record_in};
 ghost use Rattle.std.specs.Prelude.{◌≡◌, ◌≤◌, ◌<◌, IfErr, IfOk, IsTrue, Some, length};
 ghost use Rattle.suit_edge.specs.Edge.{IfDone};
 ghost use Rattle.suit_edge.specs.Faults.{EdgeCounts};
 ghost use Rattle.suit_edge.specs.Flash.{Grows, IsSame};
 
-use flash_layout::{FlashFault, Record, VERSION_1, bank};
-use rollback_record::load_record;
+use flash_layout::{FlashFault, Layout, Record, VERSION_1, bank};
+use rollback_record::load_record_by;
 use std::alloc::{AllocError, Global};
 use suit_edge::{Disk, Edge};
 
@@ -81,9 +82,15 @@ fn read_bank<D: Disk>(alloc: Global, disk: &mut D, installed: &Record) -> Result
     }
 }
 
-/// Reads the record and its bank's envelope. Changes nothing, whatever it answers.
-pub(crate) fn find_bank<D: Disk>(alloc: Global, disk: &mut D) -> Result<Bank, NoBank>
-    requires { VERSION_1.size ≤ D.extent disk.old }
+/// Reads the record of a flash with this layout and its bank's envelope. Changes nothing, whatever it answers.
+pub(crate) fn find_bank<D: Disk>(
+    alloc: Global,
+    disk: &mut D,
+    layout: &Layout,
+) -> Result<Bank, NoBank>
+    requires size { VERSION_1.size ≤ D.extent disk.old }
+    requires config { IsTrue D.told
+        → (key : Key) × config_in (D.extent disk.old) (D.flash disk.old).reads layout.now key }
     ensures size { D.extent disk.new ≡ D.extent disk.old }
     ensures counts { BankCounts result (D.faults disk.old) (D.faults disk.new) }
     ensures recorded { IsTrue D.told
@@ -94,7 +101,7 @@ pub(crate) fn find_bank<D: Disk>(alloc: Global, disk: &mut D) -> Result<Bank, No
     ensures same { IsTrue D.told → IsSame (D.flash disk.old) (D.flash disk.new) }
     ensures grows { IsTrue D.told → Grows (D.flash disk.old) (D.flash disk.new) }
 {
-    let installed = match load_record(disk) {
+    let installed = match load_record_by(disk, layout) {
         Ok(Some(installed)) => installed,
         Ok(None) => return Err(NoBank::NothingInstalled),
         Err(FlashFault) => return Err(NoBank::FlashFault),

@@ -44,7 +44,9 @@ fn start_installed<H: Host, D: Disk, L: Launcher>(
     disk: &mut D,
     launcher: &mut L,
 ) -> BootEnd
-    requires { IsAllowed VERSION_1 (D.extent disk.old) layout.now key.now }
+    requires allowed { IsAllowed VERSION_1 (D.extent disk.old) layout.now key.now }
+    requires held { IsTrue D.told
+        → config_in (D.extent disk.old) (D.flash disk.old).reads layout.now key.now }
     ensures answers { IsTrue D.told → Answers layout.now key.now (D.flash disk.old).reads result }
     ensures size { D.extent disk.new ≡ D.extent disk.old }
     ensures settled { IsTrue D.told → IfUnfaulted result
@@ -67,7 +69,7 @@ fn start_installed<H: Host, D: Disk, L: Launcher>(
 {
     manifest_laws();
     procedure_laws();
-    let bank = match find_bank(alloc, disk) {
+    let bank = match find_bank(alloc, disk, layout) {
         Ok(bank) => bank,
         Err(fault) => return without_bank(fault),
     };

@@ -8,7 +8,7 @@ use Rattle.flash_layout.specs.declared.slot.Record.{Record}
 use Rattle.flash_layout.specs.ConfigPage.{number_bytes}
 use Rattle.flash_layout.specs.PageReading.{number_at}
 use Rattle.flash_layout.proofs.PageFields.{field, number_read, number_long}
-use Rattle.rollback_record.specs.RecordPage.{IsTypedRecord, IsRecordPage, record_body, fields_at}
+use Rattle.rollback_record.specs.RecordPage.{IsPageBeside, IsTypedRecord, IsRecordPage, record_body, fields_at}
 
 same_record : (a b : Record) → a.generation ≡ b.generation → a.sequence ≡ b.sequence → a.bank ≡ b.bank → a.length ≡ b.length → a.digest.bytes ≡ b.digest.bytes → a.active ≡ b.active → a ≡ b
 same_record a b p q r s t u = λ i. record { generation = p i; sequence = q i; bank = r i; length = s i; digest = record { bytes = t i }; active = u i }
@@ -91,6 +91,9 @@ body_read r typed =
 -- the page of a record is read as that record
 pub page_read : (frame : Frame) (config page : List ℕ) (r : Record) → IsRecordPage frame config page r → fields_at page ≡ r
 page_read frame config page r is = ap fields_at is.bytes ∙ body_read r is.typed
+
+pub beside_read : (frame : Frame) (slots page : List ℕ) (r : Record) → IsPageBeside frame slots page r → fields_at page ≡ r
+beside_read frame slots page r is = ap fields_at is.bytes ∙ body_read r is.typed
 
 -- a page holds one record at most
 pub one_record : (frame : Frame) (config page : List ℕ) (r s : Record) → IsRecordPage frame config page r → IsRecordPage frame config page s → r ≡ s

@@ -1,5 +1,7 @@
 pub mod Answered
 pub mod Fields
+pub mod ConfigSlots
+pub mod SlotCounts
 mod FieldPlaces
 pub mod Pages
 pub mod Loads

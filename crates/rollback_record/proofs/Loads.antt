@@ -6,36 +6,38 @@ use Rattle.std.proofs.lemmas.Bool.{cases_eq, cases_lt, lt-ltb, le-ltb}
 use Rattle.flash_layout.specs.declared.frame.TheConstants.{VERSION_1}
 use Rattle.flash_layout.specs.declared.slot.Record.{Record}
 use Rattle.flash_layout.specs.Frames.{head_of, config_page_of}
-use Rattle.rollback_record.specs.RecordPage.{IsRecordPage}
+use Rattle.rollback_record.specs.RecordPage.{IsPageBeside, IsRecordPage}
 use Rattle.rollback_record.specs.HeadRecord.{record_bytes, Counts, HaveRead, IsLoadable, RecordOf, higher}
 use Rattle.rollback_record.proofs.Pages.{bytes_in, config_in, head_short}
 
--- three reads in turn
-pub have_read : (a b c config first second : List ℕ) (p q k m n : ℕ) → p ≡ 4096 → q ≡ 8192 → k ≡ 1204 → m ≡ 99 → n ≡ 99 → b ≡ a → c ≡ b
-    → config ≡ slice_range a 0 (0 + k) → first ≡ slice_range b p (p + m) → second ≡ slice_range c q (q + n)
-    → HaveRead VERSION_1 (head_of VERSION_1 a) config first second
-have_read a b c config first second p q k m n p_is q_is k_is m_is n_is same also config_is first_is second_is = record {
-  config_is = config_is ∙ ap (λ (i : ℕ). slice_range a 0 (0 + i)) k_is ∙ sym (config_in a);
-  first_is = first_is ∙ ap (λ (i : ℕ). slice_range b p (p + i)) m_is ∙ ap (λ (i : ℕ). slice_range b i (i + 99)) p_is ∙ ap (λ (l : List ℕ). slice_range l 4096 4195) same ∙ sym (bytes_in a 0 (omega arith));
-  second_is = second_is ∙ ap (λ (i : ℕ). slice_range c q (q + i)) n_is ∙ ap (λ (i : ℕ). slice_range c i (i + 99)) q_is ∙ ap (λ (l : List ℕ). slice_range l 8192 8291) (also ∙ same) ∙ sym (bytes_in a 1 (omega arith));
+-- the configuration page
+pub config_read : (a config : List ℕ) (k : ℕ) → k ≡ 1204 → config ≡ slice_range a 0 (0 + k) → config ≡ config_page_of VERSION_1 (head_of VERSION_1 a)
+config_read a config k k_is is = is ∙ ap (λ (i : ℕ). slice_range a 0 (0 + i)) k_is ∙ sym (config_in a)
+
+-- and then the record pages, in turn
+pub have_read : (a b first second : List ℕ) (p q m n : ℕ) → p ≡ 4096 → q ≡ 8192 → m ≡ 99 → n ≡ 99 → b ≡ a → first ≡ slice_range a p (p + m) → second ≡ slice_range b q (q + n)
+    → HaveRead VERSION_1 (head_of VERSION_1 a) first second
+have_read a b first second p q m n p_is q_is m_is n_is same first_is second_is = record {
+  first_is = first_is ∙ ap (λ (i : ℕ). slice_range a p (p + i)) m_is ∙ ap (λ (i : ℕ). slice_range a i (i + 99)) p_is ∙ sym (bytes_in a 0 (omega arith));
+  second_is = second_is ∙ ap (λ (i : ℕ). slice_range b q (q + i)) n_is ∙ ap (λ (i : ℕ). slice_range b i (i + 99)) q_is ∙ ap (λ (l : List ℕ). slice_range l 8192 8291) same ∙ sym (bytes_in a 1 (omega arith));
 }
 
 -- a small flash has no record
 pub small_none : (reads : List ℕ) → length reads < 49152 → RecordOf VERSION_1 (head_of VERSION_1 reads) None
 small_none reads small which r few is = absurd (omega (arith, is.whole, head_short reads small))
 
-pub loadable : (config page : List ℕ) (r : Record) → IsRecordPage VERSION_1 config page r → IsLoadable VERSION_1 r
-loadable config page r is = record { typed = is.typed; bank = is.fields.bank; size = is.fields.size }
+loadable : (slots page : List ℕ) (r : Record) → IsPageBeside VERSION_1 slots page r → IsLoadable VERSION_1 r
+loadable slots page r is = record { typed = is.typed; bank = is.fields.bank; size = is.fields.size }
 
-pub higher_loadable : (config first second : List ℕ) (p q : Option Record) → IfSome p (IsRecordPage VERSION_1 config first) → IfSome q (IsRecordPage VERSION_1 config second) → IfSome (higher p q) (IsLoadable VERSION_1)
-higher_loadable config first second None None is so = so
-higher_loadable config first second None (Some s) is so = loadable config second s so
-higher_loadable config first second (Some r) None is so = loadable config first r is
-higher_loadable config first second (Some r) (Some s) is so = pick (nat_lt r.generation s.generation)
+pub higher_loadable : (slots first second : List ℕ) (p q : Option Record) → IfSome p (λ r. IsPageBeside VERSION_1 slots first r) → IfSome q (λ r. IsPageBeside VERSION_1 slots second r) → IfSome (higher p q) (IsLoadable VERSION_1)
+higher_loadable slots first second None None is so = so
+higher_loadable slots first second None (Some s) is so = loadable slots second s so
+higher_loadable slots first second (Some r) None is so = loadable slots first r is
+higher_loadable slots first second (Some r) (Some s) is so = pick (nat_lt r.generation s.generation)
   where
     pick : (b : Bool) → IfSome (if b then Some s else Some r) (IsLoadable VERSION_1)
-    pick true = loadable config second s so
-    pick false = loadable config first r is
+    pick true = loadable slots second s so
+    pick false = loadable slots first r is
 
 same_some : (r s : Record) → ◌≡◌ {A = Option Record} (Some r) (Some s) → r ≡ s
 same_some r s e = cc
@@ -43,24 +45,27 @@ same_some r s e = cc
 none_some : (s : Record) → ◌≡◌ {A = Option Record} None (Some s) → ⊥
 none_some s e = cc
 
-module _ (h config first second : List ℕ) (whole : 49152 ≤ length h) (read : HaveRead VERSION_1 h config first second) where
+module _ (h first second : List ℕ) (whole : 49152 ≤ length h) (read : HaveRead VERSION_1 h first second) where
+  abbrev config : List ℕ
+  config = config_page_of VERSION_1 h
+
   first_counts : (r : Record) → IsRecordPage VERSION_1 config first r → Counts VERSION_1 h 0 r
   first_counts r is = record {
     whole = whole;
-    page = subst (λ (l : List ℕ). IsRecordPage VERSION_1 l (record_bytes VERSION_1 h 0) r) read.config_is (subst (λ (l : List ℕ). IsRecordPage VERSION_1 config l r) read.first_is is);
+    page = subst (λ (l : List ℕ). IsRecordPage VERSION_1 config l r) read.first_is is;
   }
 
   second_counts : (r : Record) → IsRecordPage VERSION_1 config second r → Counts VERSION_1 h 1 r
   second_counts r is = record {
     whole = whole;
-    page = subst (λ (l : List ℕ). IsRecordPage VERSION_1 l (record_bytes VERSION_1 h 1) r) read.config_is (subst (λ (l : List ℕ). IsRecordPage VERSION_1 config l r) read.second_is is);
+    page = subst (λ (l : List ℕ). IsRecordPage VERSION_1 config l r) read.second_is is;
   }
 
   of_first : (r : Record) → Counts VERSION_1 h 0 r → IsRecordPage VERSION_1 config first r
-  of_first r is = subst (λ (l : List ℕ). IsRecordPage VERSION_1 l first r) (sym read.config_is) (subst (λ (l : List ℕ). IsRecordPage VERSION_1 (config_page_of VERSION_1 h) l r) (sym read.first_is) is.page)
+  of_first r is = subst (λ (l : List ℕ). IsRecordPage VERSION_1 config l r) (sym read.first_is) is.page
 
   of_second : (r : Record) → Counts VERSION_1 h 1 r → IsRecordPage VERSION_1 config second r
-  of_second r is = subst (λ (l : List ℕ). IsRecordPage VERSION_1 l second r) (sym read.config_is) (subst (λ (l : List ℕ). IsRecordPage VERSION_1 (config_page_of VERSION_1 h) l r) (sym read.second_is) is.page)
+  of_second r is = subst (λ (l : List ℕ). IsRecordPage VERSION_1 config l r) (sym read.second_is) is.page
 
   pub decoded : (p q : Option Record) → IfSome p (IsRecordPage VERSION_1 config first) → IfSome q (IsRecordPage VERSION_1 config second)
       → ((r : Record) → IsRecordPage VERSION_1 config first r → p ≡ Some r) → ((r : Record) → IsRecordPage VERSION_1 config second r → q ≡ Some r) → RecordOf VERSION_1 h (higher p q)

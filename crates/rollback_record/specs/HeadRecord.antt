@@ -39,9 +39,8 @@ RecordOf frame head (Some r) = HoldsRecord frame head r
 
 -- ---- the answers of a load
 
--- the pages that were read of a head
-pub record HaveRead (frame : Frame) (head config first second : List ℕ) : Type 0 where
-  pub config_is : config ≡ config_page_of frame head
+-- the record pages that were read of a head
+pub record HaveRead (frame : Frame) (head first second : List ℕ) : Type 0 where
   pub first_is : first ≡ record_bytes frame head 0
   pub second_is : second ≡ record_bytes frame head 1
 

@@ -1,5 +1,5 @@
 -- A record page of the flash: a gate, and a record behind it. All numbers are big-endian.
-use Rattle.std.specs.Prelude.{◌≡◌, ◌⊎◌, ◌<◌, ◌≤◌, ◌+◌, ◌*◌, ◌^◌, ℕ, List, ◌∷◌, ◌++◌, length, slice_index, slice_range}
+use Rattle.std.specs.Prelude.{◌≡◌, ◌↔◌, ◌⊎◌, ◌<◌, ◌≤◌, ◌+◌, ◌*◌, ◌^◌, ℕ, List, ◌∷◌, ◌++◌, length, slice_index, slice_range}
 use Rattle.suit_edge.specs.declared.page.TheConstants.{OPEN}
 use Rattle.flash_layout.specs.declared.frame.Frame.{Frame}
 use Rattle.flash_layout.specs.declared.frame.TheConstants.{ENTRY_SIZE, FRONT_SIZE}
@@ -53,6 +53,29 @@ record_body r = numbers_field r ++ (bank_field r ++ (digest_field r.digest.bytes
 pub record IsRecordPage (frame : Frame) (config page : List ℕ) (r : Record) : Type 0 where
   pub typed : IsTypedRecord r
   pub fields : IsInRange frame config r
+  pub bytes : page ≡ OPEN ∷ record_body r
+
+-- ---- by how many slots each component has
+
+-- slot 0, or slot 1 of a component with two
+abbrev pub HasSlot : ℕ → ℕ → Type 0
+HasSlot slots slot = (slot ≡ 0) ⊎ ((slot ≡ 1) × (slots ≡ 2))
+
+-- of the components of that configuration page those have a second slot that have two by this list
+abbrev pub CountSlots : List ℕ → List ℕ → Type 0
+CountSlots config slots =
+    (i : ℕ) → i < 8 → (slice_index slots i ≡ 2) ↔ HasSecondSlot config i
+
+-- fields in range, where components have so many slots
+pub record FitsSlots (frame : Frame) (slots : List ℕ) (r : Record) : Type 0 where
+  pub bank : r.bank < 2
+  pub size : r.length ≤ frame.bank_size
+  pub active : (i : ℕ) → i < 8 → HasSlot (slice_index slots i) (slice_index r.active i)
+
+-- and the page counts
+pub record IsPageBeside (frame : Frame) (slots page : List ℕ) (r : Record) : Type 0 where
+  pub typed : IsTypedRecord r
+  pub fields : FitsSlots frame slots r
   pub bytes : page ≡ OPEN ∷ record_body r
 
 -- ---- reading

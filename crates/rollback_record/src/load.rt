@@ -1,20 +1,42 @@
 //! Reading the record.
 
+ghost use Rattle.flash_layout.specs.declared.key.Key.{Key};
+ghost use Rattle.flash_layout.specs.Configs.{ConfigOf, Configured};
 ghost use Rattle.flash_layout.specs.Frames.{config_page_of, head_of};
 ghost use Rattle.rollback_record.specs.HeadRecord.{HaveRead, IsLoadable, RecordOf, ResultCounts, higher};
+ghost use Rattle.rollback_record.specs.RecordPage.{CountSlots};
 ghost use Rattle.std.specs.Prelude.{◌≡◌, ◌≤◌, IfOk, IfSome, IsTrue, length};
 ghost use Rattle.suit_edge.specs.Edge.{IfDone};
 ghost use Rattle.suit_edge.specs.Faults.{EdgeCounts};
 ghost use Rattle.suit_edge.specs.Flash.{Grows, IsSame};
 
-use crate::page::{CONFIG_BYTES, RECORD_BYTES, decode};
-use flash_layout::{CONFIG_GATE, FlashFault, Record, VERSION_1, record_page};
+use crate::page::{RECORD_BYTES, decode};
+use crate::slot_counts::{counts_in, counts_on};
+use flash_layout::{
+    CONFIG_GATE, FlashFault, Layout, MAX_ENTRIES, PAGE_BYTES, Record, VERSION_1, record_page,
+};
 use suit_edge::{Disk, Edge};
 
-// Reads what the record stands on: the configuration page and both record pages.
+// Reads the configuration page.
+fn read_config<D: Disk>(disk: &mut D, config: &mut [u8; PAGE_BYTES]) -> Edge
+    requires { VERSION_1.size ≤ D.extent disk.old }
+    ensures size { D.extent disk.new ≡ D.extent disk.old }
+    ensures counts { EdgeCounts result (D.faults disk.old) (D.faults disk.new) }
+    ensures bytes { IsTrue D.told
+        → IfDone result
+        (config.new ≡ config_page_of VERSION_1 (head_of VERSION_1 (D.flash disk.old).reads)) }
+    ensures same { IsTrue D.told → IsSame (D.flash disk.old) (D.flash disk.new) }
+    ensures grows { IsTrue D.told → Grows (D.flash disk.old) (D.flash disk.new) }
+{
+    match disk.read_at(CONFIG_GATE, config) {
+        Edge::Failed => Edge::Failed,
+        Edge::Done => Edge::Done,
+    }
+}
+
+// Reads both record pages.
 fn read_pages<D: Disk>(
     disk: &mut D,
-    config: &mut [u8; CONFIG_BYTES],
     first: &mut [u8; RECORD_BYTES],
     second: &mut [u8; RECORD_BYTES],
 ) -> Edge
@@ -23,15 +45,10 @@ fn read_pages<D: Disk>(
     ensures counts { EdgeCounts result (D.faults disk.old) (D.faults disk.new) }
     ensures bytes { IsTrue D.told
         → IfDone result
-        (HaveRead VERSION_1 (head_of VERSION_1 (D.flash disk.old).reads) config.new first.new
-        second.new) }
+        (HaveRead VERSION_1 (head_of VERSION_1 (D.flash disk.old).reads) first.new second.new) }
     ensures same { IsTrue D.told → IsSame (D.flash disk.old) (D.flash disk.new) }
     ensures grows { IsTrue D.told → Grows (D.flash disk.old) (D.flash disk.new) }
 {
-    match disk.read_at(CONFIG_GATE, config) {
-        Edge::Failed => return Edge::Failed,
-        Edge::Done => {}
-    }
     match disk.read_at(record_page(0), first) {
         Edge::Failed => return Edge::Failed,
         Edge::Done => {}
@@ -59,6 +76,33 @@ fn higher_of(first: Option<Record>, second: Option<Record>) -> Option<Record>
     }
 }
 
+// The record of both pages, where each component has so many slots.
+fn load_beside<D: Disk>(
+    disk: &mut D,
+    slots: &[u8; MAX_ENTRIES],
+) -> Result<Option<Record>, FlashFault>
+    requires { VERSION_1.size ≤ D.extent disk.old }
+    ensures size { D.extent disk.new ≡ D.extent disk.old }
+    ensures counts { ResultCounts result (D.faults disk.old) (D.faults disk.new) }
+    ensures loadable { IfOk result (λ o. IfSome o (IsLoadable VERSION_1)) }
+    ensures exact { IsTrue D.told
+        → CountSlots (config_page_of VERSION_1 (head_of VERSION_1 (D.flash disk.old).reads))
+        slots.now
+        → IfOk result (RecordOf VERSION_1 (head_of VERSION_1 (D.flash disk.old).reads)) }
+    ensures same { IsTrue D.told → IsSame (D.flash disk.old) (D.flash disk.new) }
+    ensures grows { IsTrue D.told → Grows (D.flash disk.old) (D.flash disk.new) }
+{
+    let mut first = [0u8; RECORD_BYTES];
+    let mut second = [0u8; RECORD_BYTES];
+    match read_pages(disk, &mut first, &mut second) {
+        Edge::Failed => return Err(FlashFault),
+        Edge::Done => {}
+    }
+    let first = decode(slots, &first);
+    let second = decode(slots, &second);
+    Ok(higher_of(first, second))
+}
+
 /// The record that the flash holds, or `None` where no page counts, as on a flash of fewer than 49,152 bytes. Changes
 /// nothing, whatever it answers.
 pub fn load_record<D: Disk>(disk: &mut D) -> Result<Option<Record>, FlashFault>
@@ -74,14 +118,30 @@ pub fn load_record<D: Disk>(disk: &mut D) -> Result<Option<Record>, FlashFault>
     if size < VERSION_1.size {
         return Ok(None);
     }
-    let mut config = [0u8; CONFIG_BYTES];
-    let mut first = [0u8; RECORD_BYTES];
-    let mut second = [0u8; RECORD_BYTES];
-    match read_pages(disk, &mut config, &mut first, &mut second) {
+    let mut config = [0u8; PAGE_BYTES];
+    match read_config(disk, &mut config) {
         Edge::Failed => return Err(FlashFault),
         Edge::Done => {}
     }
-    let first = decode(&config, &first);
-    let second = decode(&config, &second);
-    Ok(higher_of(first, second))
+    let slots = counts_on(&config);
+    load_beside(disk, &slots)
+}
+
+/// The record that a flash with this layout holds, or `None` where no page counts. Its configuration page, which gave the
+/// layout, is not read again. Changes nothing, whatever it answers.
+pub fn load_record_by<D: Disk>(disk: &mut D, layout: &Layout) -> Result<Option<Record>, FlashFault>
+    requires size { VERSION_1.size ≤ D.extent disk.old }
+    requires config { IsTrue D.told → (key : Key)
+        × ConfigOf VERSION_1 (D.extent disk.old) (head_of VERSION_1 (D.flash disk.old).reads)
+        (Configured layout.now key) }
+    ensures size { D.extent disk.new ≡ D.extent disk.old }
+    ensures counts { ResultCounts result (D.faults disk.old) (D.faults disk.new) }
+    ensures loadable { IfOk result (λ o. IfSome o (IsLoadable VERSION_1)) }
+    ensures exact { IsTrue D.told
+        → IfOk result (RecordOf VERSION_1 (head_of VERSION_1 (D.flash disk.old).reads)) }
+    ensures same { IsTrue D.told → IsSame (D.flash disk.old) (D.flash disk.new) }
+    ensures grows { IsTrue D.told → Grows (D.flash disk.old) (D.flash disk.new) }
+{
+    let slots = counts_in(layout);
+    load_beside(disk, &slots)
 }

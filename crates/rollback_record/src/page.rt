@@ -1,18 +1,15 @@
 //! The bytes of a record page, and how they are read and put together without memory.
 
-ghost use Rattle.rollback_record.specs.RecordPage.{HasSecondSlot, IsActiveSlot, IsInRange, IsRecordPage, bank_field, digest_field, fields_at, numbers_field, record_body};
+ghost use Rattle.rollback_record.specs.RecordPage.{FitsSlots, HasSlot, IsPageBeside, bank_field, digest_field, fields_at, numbers_field, record_body};
 ghost use Rattle.std.specs.Prelude.{◌≡◌, ◌↔◌, ◌≤◌, ◌<◌, ◌+◌, ℕ, ◌∷◌, ◌++◌, Some, IfSome, IsTrue, length, slice_index};
 
 use crate::typing::typed;
-use flash_layout::{ENTRY_SIZE, FRONT_SIZE, PAGE_BYTES, Page, Record, VERSION_1, read_number};
+use flash_layout::{Page, Record, VERSION_1, read_number};
 use suit_edge::OPEN;
 use suit_params::Digest;
 
 /// The bytes of a record page that are read: the gate, and the record behind it.
 pub const RECORD_BYTES: usize = 99;
-
-/// The bytes of the configuration page.
-pub(crate) const CONFIG_BYTES: usize = PAGE_BYTES;
 
 // Adds the generation and the number.
 fn put_numbers(page: &mut Page<RECORD_BYTES>, installed: &Record)
@@ -79,46 +76,33 @@ fn read_fields(page: &[u8]) -> Record
     }
 }
 
-// Whether the component of that index has a second slot.
-fn has_second_slot(config: &[u8], i: usize) -> bool
-    requires size { length config.now ≡ CONFIG_BYTES }
-    requires inside { i < 8 }
-    ensures { IsTrue result ↔ HasSecondSlot config.now i }
+// Whether a component with so many slots has this one.
+fn has_slot(slots: u8, slot: u8) -> bool
+    ensures { IsTrue result ↔ HasSlot slots slot }
 {
-    i < config[3] as usize && config[ENTRY_SIZE * i + (FRONT_SIZE + 1)] == 2
-}
-
-// Whether the component has the slot.
-fn is_active(config: &[u8], i: usize, slot: u8) -> bool
-    requires size { length config.now ≡ CONFIG_BYTES }
-    requires inside { i < 8 }
-    ensures { IsTrue result ↔ IsActiveSlot config.now i slot }
-{
-    slot == 0 || (slot == 1 && has_second_slot(config, i))
+    slot == 0 || (slot == 1 && slots == 2)
 }
 
 // Whether each component has its slot.
-fn are_active(config: &[u8], active: &[u8; 8]) -> bool
-    requires { length config.now ≡ CONFIG_BYTES }
+fn are_active(slots: &[u8; 8], active: &[u8; 8]) -> bool
     ensures { IsTrue result
-        ↔ ((i : ℕ) → i < 8 → IsActiveSlot config.now i (slice_index active.now i)) }
+        ↔ ((i : ℕ) → i < 8 → HasSlot (slice_index slots.now i) (slice_index active.now i)) }
 {
     for i in 0..8 {
-        if !is_active(config, i, active[i]) {
+        if !has_slot(slots[i], active[i]) {
             return false;
         }
     }
     true
 }
 
-/// Whether the fields are in range, on a flash with that configuration page.
-pub(crate) fn is_in_range(config: &[u8], installed: &Record) -> bool
-    requires { length config.now ≡ CONFIG_BYTES }
-    ensures { IsTrue result ↔ IsInRange VERSION_1 config.now installed.now }
+/// Whether the fields are in range, where each component has so many slots.
+pub(crate) fn is_in_range(slots: &[u8; 8], installed: &Record) -> bool
+    ensures { IsTrue result ↔ FitsSlots VERSION_1 slots.now installed.now }
 {
     installed.bank < 2
         && installed.length <= VERSION_1.bank_size
-        && are_active(config, &installed.active)
+        && are_active(slots, &installed.active)
 }
 
 /// Whether the bytes are the page of the record.
@@ -128,16 +112,15 @@ pub(crate) fn is_page_of(page: &[u8], installed: &Record) -> bool
     spell(installed).as_slice() == page
 }
 
-/// The record of a page that counts, or `None` where the page does not count.
-pub(crate) fn decode(config: &[u8], page: &[u8]) -> Option<Record>
-    requires config { length config.now ≡ CONFIG_BYTES }
-    requires page { length page.now ≡ RECORD_BYTES }
-    ensures some { IfSome result (λ r. IsRecordPage VERSION_1 config.now page.now r) }
-    ensures every { (r : Record) → IsRecordPage VERSION_1 config.now page.now r → result ≡ Some r }
+/// The record of a page that counts, where each component has so many slots, or `None` where the page does not count.
+pub(crate) fn decode(slots: &[u8; 8], page: &[u8]) -> Option<Record>
+    requires { length page.now ≡ RECORD_BYTES }
+    ensures some { IfSome result (λ r. IsPageBeside VERSION_1 slots.now page.now r) }
+    ensures every { (r : Record) → IsPageBeside VERSION_1 slots.now page.now r → result ≡ Some r }
 {
     let installed = read_fields(page);
     typed(&installed);
-    if !is_in_range(config, &installed) {
+    if !is_in_range(slots, &installed) {
         return None;
     }
     if !is_page_of(page, &installed) {

@@ -3,7 +3,8 @@
 ghost use Rattle.std.specs.Prelude.{◌≡◌, ◌≤◌, ◌++◌, IfOk, IsTrue, string_bytes};
 ghost use Rattle.suit_edge.specs.Flash.{IsSame};
 ghost use Rattle.flash_layout.specs.declared.frame.TheConstants.{VERSION_1};
-ghost use Rattle.flash_layout.specs.Configs.{IsAllowed};
+ghost use Rattle.flash_layout.specs.Configs.{ConfigOf, Configured, IsAllowed};
+ghost use Rattle.flash_layout.specs.Frames.{head_of};
 ghost use Rattle.suit_cli.specs.declared.reply.Outcome.TheVariants as outcomes;
 ghost use Rattle.suit_cli.specs.Lines.{number_line};
 ghost use Rattle.suit_cli.specs.Outside.{Outside, with_flash};
@@ -17,7 +18,7 @@ use crate::outside::SeenDisk;
 use crate::reply::{Object, Outcome, Reply, Stop, declined};
 use det_cbor::Text;
 use flash_layout::{FlashFault, Key, Layout, Loaded, Record, load_config};
-use rollback_record::load_record;
+use rollback_record::load_record_by;
 use std::alloc::{AllocError, Global};
 use suit_edge::Disk;
 use suit_params::Digest;
@@ -48,15 +49,18 @@ pub(crate) fn config_in<D: Disk>(alloc: Global, flash: &mut D) -> Result<Config,
     }
 }
 
-// The record of a flash that has one.
-fn record_in<D: Disk>(alloc: Global, flash: &mut D) -> Result<Record, Stop>
+// The record of a flash with this configuration that has one.
+fn record_in<D: Disk>(alloc: Global, flash: &mut D, config: &Config) -> Result<Record, Stop>
+    requires allowed { IsAllowed VERSION_1 (D.extent flash.old) config.now.0 config.now.1 }
+    requires held { IsTrue D.told → ConfigOf VERSION_1 (D.extent flash.old)
+        (head_of VERSION_1 (D.flash flash.old).reads) (Configured config.now.0 config.now.1) }
     ensures finds { (here : Outside) → Does record_in
         (with_flash here (⟦<D as SeenDisk>⟧.seen flash.old))
         (with_flash here (⟦<D as SeenDisk>⟧.seen flash.new)) result }
     ensures extent { D.extent flash.new ≡ D.extent flash.old }
     ensures same { IsTrue D.told → IsSame (D.flash flash.old) (D.flash flash.new) }
 {
-    match load_record(flash) {
+    match load_record_by(flash, &config.0) {
         Ok(Some(record)) => Ok(record),
         Ok(None) => Err(declined(Reply::fixed(
             alloc,
@@ -105,7 +109,7 @@ pub(crate) fn status<D: Disk>(alloc: Global, flash: &mut D) -> Result<Reply, Sto
     ensures same { IsTrue D.told → IsSame (D.flash flash.old) (D.flash flash.new) }
 {
     let config = config_in(alloc, flash)?;
-    let installed = record_in(alloc, flash)?;
+    let installed = record_in(alloc, flash, &config)?;
     let lines = component_lines(alloc, config.0.as_slice(), &installed, flash)?;
     Ok(status_lines(alloc, &installed, lines.as_str())?)
 }

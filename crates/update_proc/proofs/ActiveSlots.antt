@@ -10,7 +10,7 @@ use Rattle.rollback_record.specs.HeadRecord.{RecordOf}
 use Rattle.rollback_record.specs.RecordPage.{IsActiveSlot}
 use Rattle.update_proc.specs.ChoiceLaws.{ChoiceLaw}
 use Rattle.update_proc.specs.Choices.{active_slots}
-use Rattle.update_proc.proofs.ConfigSlots.{second_slot}
+use Rattle.rollback_record.proofs.ConfigSlots.{second_slot}
 
 some_entry : Entry
 some_entry = record { identifier = []; memory = memory.Ram; slots = 0; starts = []; capacity = 0; vendor = None; class = None; device = None }

@@ -20,7 +20,7 @@ use Rattle.step_machine.specs.Worlds.{IsChoice}
 use Rattle.update_proc.specs.Choices.{AreChosen, active_slots}
 use Rattle.step_machine.specs.InUse.{AreInUse}
 use Rattle.update_proc.proofs.ActiveSlots.{held_active}
-use Rattle.update_proc.proofs.ConfigSlots.{has_two}
+use Rattle.rollback_record.proofs.ConfigSlots.{has_two}
 
 some_entry : Entry
 some_entry = record { identifier = []; memory = memory.Ram; slots = 0; starts = []; capacity = 0; vendor = None; class = None; device = None }

@@ -1,7 +1,6 @@
 mod ActiveSlots
 mod BankBytes
 mod Numbering
-mod ConfigSlots
 mod Installs
 mod SlotsApart
 mod MomentProofs

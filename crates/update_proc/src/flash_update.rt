@@ -24,7 +24,7 @@ use crate::UpdateEnd;
 use crate::accepting::installable;
 use crate::starting::{Accepted, start};
 use flash_layout::{FlashFault, Layout, Places, VERSION_1};
-use rollback_record::{load_record, record_laws, sound_laws};
+use rollback_record::{load_record_by, record_laws, sound_laws};
 use std::alloc::Global;
 use step_machine::Uris;
 use suit_edge::{Disk, Host, Launcher};
@@ -78,8 +78,8 @@ pub fn update<H: Host, D: Disk, L: Launcher>(
         (update_tree manifest.now members.now) held
         (sources payloads uris.now (H.file host.old)) (D.flash disk.old).reads made
         (L.launches launcher.old) (L.launches launcher.new) end)
-        ((D.flash disk.new).reads ≡ (D.flash disk.old).reads) layout.now (D.flash disk.new).reads (L.launches launcher.old) (L.launches launcher.new)
-        result) }
+        ((D.flash disk.new).reads ≡ (D.flash disk.old).reads) layout.now
+        (D.flash disk.new).reads (L.launches launcher.old) (L.launches launcher.new) result) }
     ensures launches { IsTrue H.told ⊎ (uris.now ≡ []) → IsTrue D.told → IsTrue L.told
         → (payloads : List (List ℕ × List ℕ)) → HasPayloads envelope.now.whole.now payloads
         → LaunchesBy (λ held made end. PlaysUpdate layout.now places.now
@@ -123,7 +123,7 @@ pub fn update<H: Host, D: Disk, L: Launcher>(
 {
     record_laws();
     sound_laws();
-    let loaded = match load_record(disk) {
+    let loaded = match load_record_by(disk, layout) {
         Ok(held) => held,
         Err(FlashFault) => return UpdateEnd::FlashFault,
     };

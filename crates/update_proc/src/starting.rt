@@ -90,8 +90,8 @@ pub(crate) fn start<H: Host, D: Disk, L: Launcher>(
         → PlayedSo (λ made end. PlaysUpdate layout.now places.now (plan_tree plan.now) held
         (sources payloads uris.now (H.file host.old))
         (D.flash disk.old).reads made (L.launches launcher.old) (L.launches launcher.new) end)
-        ((D.flash disk.new).reads ≡ (D.flash disk.old).reads) layout.now (D.flash disk.new).reads (L.launches launcher.old) (L.launches launcher.new)
-        result }
+        ((D.flash disk.new).reads ≡ (D.flash disk.old).reads) layout.now
+        (D.flash disk.new).reads (L.launches launcher.old) (L.launches launcher.new) result }
     ensures keeps { IsTrue D.told → Settled VERSION_1 (D.flash disk.old)
         → let held = option_map (λ r. r.now) held.entry in
         let start = D.flash disk.old in

@@ -103,7 +103,7 @@ run update 1.suit img=abc.img
 installed 1";
 
 // The first call of the flash that this fetch makes.
-const FIRST_OF_FETCH: u64 = 14;
+const FIRST_OF_FETCH: u64 = 13;
 
 const FAILED_RECORD: &str = "run update 1.suit img=abc.img
 8
@@ -118,7 +118,7 @@ run update 1.suit img=abc.img
 installed 1";
 
 // The last call of the flash without which nothing is recorded.
-const LAST_OF_RECORD: u64 = 27;
+const LAST_OF_RECORD: u64 = 26;
 
 const FAILED_LAUNCH: &str = "make 1-at-once.json k u.suit
 0

@@ -15,8 +15,12 @@ read_bank-requires-clause-recorded g c t =
 
 pub returns-in-Ok-clause-same : goal.returns-in-Ok-clause-same
 returns-in-Ok-clause-same g c t =
-    same_flash_then _ _ _ _ (g.met.D.Disk.obeys c.load_record.new.disk t) (c.in-Ok-Some.ensures.same t) (c.in-Ok.ensures.same t)
+    same_flash_then _ _ _ _ (g.met.D.Disk.obeys c.load_record_by.new.disk t) (c.in-Ok-Some.ensures.same t) (c.in-Ok.ensures.same t)
 
 pub returns-in-Err-read_bank-clause-none : goal.returns-in-Err-read_bank-clause-none
 returns-in-Err-read_bank-clause-none g c t =
     subst (λ (l : List ℕ). IsNoBank l c.in-Err-read_bank.fault) (c.in-Ok-Some.ensures.same t).reads (c.in-Err-read_bank.ensures.none t)
+
+pub returns-in-Err-read_bank-clause-same : goal.returns-in-Err-read_bank-clause-same
+returns-in-Err-read_bank-clause-same g c t =
+    same_flash_then _ _ _ _ (g.met.D.Disk.obeys c.load_record_by.new.disk t) (c.in-Ok-Some.ensures.same t) (c.in-Err-read_bank.ensures.same t)

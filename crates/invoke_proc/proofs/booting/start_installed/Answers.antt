@@ -3,7 +3,7 @@ use Rattle.suit_edge.specs.Flash.{IsSame}
 use Rattle.suit_edge.specs.FlashLaws.{same_flash_then}
 use Rattle.suit_envelope.specs.Said.{said_by}
 use Rattle.invoke_proc.specs.declared.boot_end.BootEnd.{BootEnd}
-use Rattle.invoke_proc.specs.Booting.{KeepsBoot, KeepsOthers, PlayedSo, PlaysBoot, PlaysOn}
+use Rattle.invoke_proc.specs.Booting.{Answers, KeepsBoot, KeepsOthers, PlayedSo, PlaysBoot, PlaysOn}
 use Rattle.invoke_proc.proofs.Booted as booted
 use Rattle.invoke_proc.proofs.Places.{are_distinct}
 use Rattle.invoke_proc.proofs.Played.{unfaulted}
@@ -13,6 +13,11 @@ pub returns-in-Err-judge-clause-answers : goal.returns-in-Err-judge-clause-answe
 returns-in-Err-judge-clause-answers g c t =
     booted.declined_answers c.args.layout.now c.args.key.now (g.D.Disk.flash c.args.disk.now).reads c.in-Ok.bank.installed (c.in-Ok.ensures.recorded t) c.as_slice.result.now
     c.in-Err-judge.end (c.as_slice.ensures.value ∙ c.in-Ok.ensures.bytes t) c.in-Err-judge.ensures.declined
+
+pub returns-in-Err-clause-answers : goal.returns-in-Err-clause-answers
+returns-in-Err-clause-answers g c t =
+    subst (λ (e : BootEnd). Answers c.args.layout.now c.args.key.now (g.D.Disk.flash c.args.disk.now).reads e) (sym c.without_bank.ensures)
+    (booted.none_answers c.args.layout.now c.args.key.now (g.D.Disk.flash c.args.disk.now).reads c.in-Err.fault (c.in-Err.ensures.none t))
 
 pub returns-in-Err-clause-plays : goal.returns-in-Err-clause-plays
 returns-in-Err-clause-plays g c td tl =
@@ -86,3 +91,6 @@ returns-clause-settled g c t =
     unfaulted _ _ c.start.result
     (booted.settled_from (g.D.Disk.flash c.args.disk.now) (g.D.Disk.flash c.find_bank.new.disk) (g.D.Disk.flash c.start.new.disk) _ (g.met.D.Disk.obeys c.find_bank.new.disk t) (c.in-Ok.ensures.same t))
     (c.start.ensures.settled t)
+
+pub find_bank-requires-clause-config : goal.find_bank-requires-clause-config
+find_bank-requires-clause-config g c t = (c.args.key.now, c.requires.held t)

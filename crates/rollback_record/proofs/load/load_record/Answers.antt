@@ -1,18 +1,23 @@
-use Rattle.std.proofs.Common.{◌≤◌, length, arith}
-use Rattle.rollback_record.proofs.Pages.{head_long}
-use Rattle.rollback_record.proofs.Loads.{decoded, higher_loadable, small_none}
+use Rattle.std.proofs.Common.{List, ℕ, sym, subst, ◌∙◌, ap, arith}
+use Rattle.std.specs.Prelude.{IfOk}
+use Rattle.suit_edge.specs.FlashLaws.{same_flash_then}
+use Rattle.flash_layout.specs.declared.frame.TheConstants.{VERSION_1}
+use Rattle.flash_layout.specs.Frames.{config_page_of, head_of}
+use Rattle.rollback_record.specs.HeadRecord.{RecordOf}
+use Rattle.rollback_record.specs.RecordPage.{CountSlots}
+use Rattle.rollback_record.proofs.Loads.{small_none}
 use Rattle.rollback_record.proofs.load.load_record.Goals as goal
 
 pub returns-then-size-clause-exact : goal.returns-then-size-clause-exact
 returns-then-size-clause-exact g c t =
     small_none (g.D.Disk.flash c.args.disk.now).reads (omega (arith, (g.met.D.Disk.obeys c.args.disk.now t).fits, c.size-size.ensures, c.if-size.true))
 
-pub returns-clause-loadable : goal.returns-clause-loadable
-returns-clause-loadable g c =
-    rw c.higher_of.ensures (higher_loadable _ _ _ _ _ c.decode-first.ensures.some c.decode-second.ensures.some)
-
 pub returns-clause-exact : goal.returns-clause-exact
 returns-clause-exact g c t =
-    let reads = (g.D.Disk.flash c.args.disk.now).reads in
-    let large : 49152 ≤ length reads = omega (arith, (g.met.D.Disk.obeys c.args.disk.now t).fits, c.size-size.ensures, c.if-size.false) in
-    rw c.higher_of.ensures (decoded _ _ _ _ (head_long reads large) (c.in-Done.ensures.bytes t) _ _ c.decode-first.ensures.some c.decode-second.ensures.some c.decode-first.ensures.every c.decode-second.ensures.every)
+    let same = (c.read_config.ensures.same t).reads in
+    let page = λ (l : List ℕ). config_page_of VERSION_1 (head_of VERSION_1 l) in
+    subst (λ (l : List ℕ). IfOk c.load_beside.result (RecordOf VERSION_1 (head_of VERSION_1 l))) same
+    (c.load_beside.ensures.exact t (subst (λ (l : List ℕ). CountSlots l c.counts_on-slots.result) (c.in-Done.ensures.bytes t ∙ sym (ap page same)) c.counts_on-slots.ensures))
+
+pub returns-clause-same : goal.returns-clause-same
+returns-clause-same g c t = same_flash_then _ _ _ _ (g.met.D.Disk.obeys c.read_config.new.disk t) (c.read_config.ensures.same t) (c.load_beside.ensures.same t)

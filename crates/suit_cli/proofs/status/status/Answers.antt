@@ -6,7 +6,8 @@ use Rattle.flash_layout.specs.declared.layout.Entry.{Entry}
 use Rattle.flash_layout.specs.Layouts.{IsEntry}
 use Rattle.suit_cli.specs.Stages.{Goes, Ends}
 use Rattle.suit_cli.specs.Installed.{IsStatus}
-use Rattle.suit_cli.proofs.Chains.{ends_there, lacks_last}
+use Rattle.suit_cli.proofs.Chains.{anywhere, ends_there, lacks_last}
+use Rattle.suit_cli.proofs.Sounding.{allowed_after, held_after}
 use Rattle.suit_cli.proofs.StatusLines.{lines_of, same_twice}
 use Rattle.suit_cli.proofs.status.status.Goals as goal
 
@@ -22,6 +23,13 @@ returns-in_err-installed-clause-answer g c here =
 pub returns-in_err-installed-clause-same : goal.returns-in_err-installed-clause-same
 returns-in_err-installed-clause-same g c t =
     same_flash_then _ _ _ _ (g.met.D.Disk.obeys c.config_in.new.flash t) (c.in_ok-config.ensures.same t) (c.in_err-installed.ensures.same t)
+
+pub record_in-requires-clause-allowed : goal.record_in-requires-clause-allowed
+record_in-requires-clause-allowed g c = allowed_after c.in_ok-config.config.0 c.in_ok-config.config.1 _ _ c.in_ok-config.ensures.extent c.in_ok-config.ensures.allowed
+
+pub record_in-requires-clause-held : goal.record_in-requires-clause-held
+record_in-requires-clause-held g c told =
+    held_after c.in_ok-config.config.0 c.in_ok-config.config.1 _ _ _ _ c.in_ok-config.ensures.extent (c.in_ok-config.ensures.same told).reads ((c.in_ok-config.ensures.finds anywhere).1 told)
 
 pub component_lines-requires-clause-few : goal.component_lines-requires-clause-few
 component_lines-requires-clause-few g c =

@@ -1,0 +1,55 @@
+//! How many slots each component has. A record names one of them.
+
+ghost use Rattle.flash_layout.specs.declared.layout.Entry.{Entry};
+ghost use Rattle.rollback_record.specs.RecordPage.{CountSlots, HasSecondSlot};
+ghost use Rattle.std.specs.Prelude.{◌≡◌, ◌↔◌, ◌<◌, ◌≤◌, ℕ, get_or, length, slice_index};
+
+use flash_layout::{ENTRY_SIZE, Entry, FRONT_SIZE, Layout, MAX_ENTRIES, PAGE_BYTES};
+
+// The slots of the component of that index by the configuration page; 0 where there is no such component.
+fn slots_on(config: &[u8; PAGE_BYTES], i: usize) -> u8
+    requires { i < 8 }
+    ensures { (result ≡ 2) ↔ HasSecondSlot config.now i }
+{
+    if i < config[3] as usize {
+        config[ENTRY_SIZE * i + (FRONT_SIZE + 1)]
+    } else {
+        0
+    }
+}
+
+/// The slots of each component by the configuration page.
+pub(crate) fn counts_on(config: &[u8; PAGE_BYTES]) -> [u8; MAX_ENTRIES]
+    ensures { CountSlots config.now result }
+{
+    let mut slots = [0; MAX_ENTRIES];
+    for i in 0..MAX_ENTRIES {
+        slots[i] = slots_on(config, i);
+    }
+    slots
+}
+
+// The slots of the component of that index; 0 where there is no such component.
+fn slots_in(entries: &[Entry], i: usize) -> u8
+    ensures { (result ≡ 2)
+        ↔ ((i < length entries.now) × ((d : Entry) → (get_or entries.now i d).slots ≡ 2)) }
+{
+    if i < entries.len() {
+        entries[i].slots
+    } else {
+        0
+    }
+}
+
+/// The slots of each component of a layout.
+pub(crate) fn counts_in(layout: &Layout) -> [u8; MAX_ENTRIES]
+    ensures { (i : ℕ) → i < 8 → (slice_index result i ≡ 2)
+        ↔ ((i < length layout.now) × ((d : Entry) → (get_or layout.now i d).slots ≡ 2)) }
+{
+    let entries = layout.as_slice();
+    let mut slots = [0; MAX_ENTRIES];
+    for i in 0..MAX_ENTRIES {
+        slots[i] = slots_in(entries, i);
+    }
+    slots
+}
