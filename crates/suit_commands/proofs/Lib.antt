@@ -36,3 +36,4 @@ pub mod SequenceSpelled
 pub mod SequenceValid
 pub mod SequenceSays
 pub mod SequenceWritten
+pub mod JudgingSteps

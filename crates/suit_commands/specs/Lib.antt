@@ -5,6 +5,7 @@ pub mod Codes
 pub mod CommandCodes
 pub mod Falls
 pub mod Indexed
+pub mod Judged
 pub mod Kinds
 pub mod KnownPlan
 pub mod NumberLaws

@@ -16,9 +16,9 @@ use suit_params::{
     refused, same_place,
 };
 
-/// Reads a reporting policy.
+/// Reads a reporting policy (draft-ietf-suit-manifest-25, section 8.4.7), of an item that was judged before.
 #[tactic(auto, unfolding(crate::specs::SequenceReading::report_from))]
-pub(crate) fn read_report(cursor: &mut Cursor<'_>) -> Result<u8, Refusal>
+pub fn read_report(cursor: &mut Cursor<'_>) -> Result<u8, Refusal>
     ensures { map_ok (λ n. (n, cursor.new)) result ≡ report_from cursor.old }
 {
     let place = cursor.place();
@@ -30,9 +30,9 @@ pub(crate) fn read_report(cursor: &mut Cursor<'_>) -> Result<u8, Refusal>
     }
 }
 
-// Reads an element of the list of indices at another place.
+/// Reads an element of the list of indices at another place, for so many components.
 #[tactic(auto, unfolding(crate::specs::SequenceReading::element_from))]
-fn read_element(cursor: &mut Cursor<'_>, list: u64, count: u32) -> Result<u32, Refusal>
+pub fn read_element(cursor: &mut Cursor<'_>, list: u64, count: u32) -> Result<u32, Refusal>
     ensures { map_ok (λ i. (i, cursor.new)) result ≡ element_from count list cursor.old }
 {
     let place = cursor.place();

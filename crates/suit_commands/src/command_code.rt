@@ -12,7 +12,7 @@ use suit_params::{Refusal, Why, read_kind, refused};
 
 /// Which command a code stands for (draft-ietf-suit-manifest-25, sections 8.4.9 and 8.4.10).
 #[derive(Clone, Copy, Debug, PartialEq, Eq)]
-pub(crate) enum CommandCode {
+pub enum CommandCode {
     Test(TestKind),
     Act(ActKind),
     Index,
@@ -58,9 +58,9 @@ fn known_code(place: u64, shared: bool, number: u64) -> Result<CommandCode, Refu
     }
 }
 
-/// Reads the code of a command.
+/// Reads the code of a command, in the shared sequence or another one.
 #[tactic(auto, unfolding(crate::specs::SequenceReading::code_from))]
-pub(crate) fn read_code(cursor: &mut Cursor<'_>, shared: bool) -> Result<CommandCode, Refusal>
+pub fn read_code(cursor: &mut Cursor<'_>, shared: bool) -> Result<CommandCode, Refusal>
     ensures { map_ok (λ code. (code, cursor.new)) result ≡ code_from shared cursor.old }
 {
     let place = cursor.place();
