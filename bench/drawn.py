@@ -93,3 +93,81 @@ def drawn(stored, seed):
     pairs.append(b"\x09" + byte_string(sequence(invoke + end)))
     manifest = head(5, len(pairs)) + b"".join(pairs)
     return bytes.fromhex("d86b") + head(5, 2) + parts_of(stored)[0] + b"\x03" + byte_string(manifest)
+
+
+# ---- shapes that are dear: tries each of which multiplies the states, and then commands in all of them, up to the width
+
+WIDEST = 4_194_304
+
+
+def override(pairs):
+    return b"\x14" + head(5, len(pairs)) + b"".join(head(0, key) + value for key, value in sorted(pairs))
+
+
+def size(number):
+    return (14, head(0, number))
+
+
+# A branch that may fail: its commands, how many they are, what they cost, and by how much they multiply the ways.
+FORKS = [
+    lambda draw, n: (override([size(100 + n)]) + b"\x03\x0f", 2, 2, 2),
+    lambda draw, n: (override([(5, head(0, n))]) + b"\x05\x0f", 2, 2, 2),
+    lambda draw, n: (override([(1, byte_string(bytes([n]) * 16))]) + b"\x01\x0f", 2, 2, 2),
+    lambda draw, n: (override([(24, byte_string(bytes([n]) * 16)), size(n)]) + b"\x18\x18\x0f\x03\x0f", 3, 3, 3),
+    lambda draw, n: (override([(18, byte_string(bytes([n])))]) + b"\x06\x0f", 2, 2, 2),
+    lambda draw, n: (override([(21, b"\x61" + bytes([65 + n])), size(n)]) + b"\x03\x0f", 2, 2, 2),
+]
+
+# Commands in all states behind the tries: their bytes, and how many they are.
+TAILS = [
+    lambda draw, n: (override([size(n)]), 1),
+    lambda draw, n: (override([size(n)]) + b"\x03\x0f", 2),
+    lambda draw, n: (override([size(n % 7)]) + b"\x03\x0f", 2),
+    lambda draw, n: (override([(3, digest(bytes([n % 251]) * 32)), size(n)]) + b"\x03\x0f", 2),
+    lambda draw, n: (override([(18, byte_string(bytes([n % 256])))]) + b"\x12\x0f", 2),
+    lambda draw, n: (override([(18, byte_string(bytes([n % 256])))]), 1),
+    lambda draw, n: (b"\x03\x0f", 1),
+]
+
+
+def inside(draw, fork, count):
+    """A fork, sometimes behind a selection of a component, which is one more command."""
+    branch, many, work, ways = fork
+    if count > 1 and draw.random() < 0.5:
+        return b"\x0c" + head(0, draw.randrange(count)) + branch, many + 1, work + 1, ways
+    return fork
+
+
+def shaped(stored, seed):
+    """The envelope that a seed draws: as many commands behind the tries as the width and the length allow."""
+    draw = random.Random(seed)
+    count = draw.choice((1, 2, 8))
+    kinds = draw.sample(FORKS, draw.randrange(1, 3))
+    body, items, work, ways = override([(3, digest(DIGESTS[0]))]), 1, 60, 1
+    limit = 2 ** draw.randrange(3, 17)
+    number = 0
+    while True:
+        part, many, cost, times = inside(draw, draw.choice(kinds)(draw, number), count)
+        if ways * times > limit or (work + 3 * cost) * ways * times > WIDEST:
+            break
+        body += b"\x0f\x82" + byte_string(head(4, 2 * many) + part) + b"\xf6"
+        items, work, ways, number = items + 1, work + cost + 1, ways * times, number + 1
+    everywhere = count > 1 and draw.random() < 0.7
+    if everywhere:
+        body, items, work = body + b"\x0c\xf5" + override([(3, digest(DIGESTS[1]))]), items + 2, work + count + 1
+    kinds = draw.sample(TAILS, draw.randrange(1, 3))
+    number = 0
+    while True:
+        part, many = draw.choice(kinds)(draw, number)
+        cost = many * (count if everywhere else 1)
+        if (work + cost + 8) * ways > WIDEST or len(body) + len(part) > 15_000:
+            break
+        body, items, work, number = body + part, items + many, work + cost, number + 1
+    end = b"\x0c\x00" + override([size(3)]) + b"\x03\x0f\x17\x0f"
+    ids = b"".join(b"\x81\x41" + bytes([number]) for number in range(count))
+    start = b"\x82" + override([(3, digest(DIGESTS[0]))])
+    common = head(5, 2) + b"\x02" + head(4, count) + ids + b"\x04" + byte_string(start)
+    pairs = [b"\x01\x01", b"\x02\x01", b"\x03" + byte_string(common)]
+    pairs.append(b"\x09" + byte_string(head(4, 2 * (items + 4)) + body + end))
+    manifest = head(5, len(pairs)) + b"".join(pairs)
+    return bytes.fromhex("d86b") + head(5, 2) + parts_of(stored)[0] + b"\x03" + byte_string(manifest)
