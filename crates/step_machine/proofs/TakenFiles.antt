@@ -2,13 +2,13 @@
 use Rattle.std.proofs.Common.{◌≡◌, ◌≤◌, ◌+◌, ℕ, suc, Bool, true, false, List, [], ◌++◌, length, replicate, take, Option, Some, Result, Ok, Err, refl, sym, ap, ◌∙◌, append_assoc, arith, inr}
 use Rattle.std.specs.Prelude.{IsTrue}
 use Rattle.std.proofs.lemmas.Bool.{true≢false}
-use Rattle.std.proofs.lemmas.List.{append-nil, length-append, length-replicate, length-take-le}
+use Rattle.std.proofs.lemmas.List.{length-append, length-replicate, length-take-le}
 use Rattle.flash_layout.specs.declared.slot.Slot.{Slot}
 use Rattle.flash_slots.specs.Contents.{pieces_of}
 use Rattle.flash_slots.proofs.Whole.{no_pieces}
 use Rattle.path_model.specs.declared.cause.Cause.{Cause}
 use Rattle.path_model.specs.declared.cause.Cause.TheVariants as causes
-use Rattle.step_machine.specs.Fetching.{IsPiece, GivesPiece, PieceCounts, PullsPiece, FetchCounts, PutsIn, StopsTaking, TakesIn, TakesNamed, TakesSome}
+use Rattle.step_machine.specs.Fetching.{IsPiece, PutsIn, StopsTaking, TakesIn, TakesNamed, TakesSome}
 
 -- at first nothing was put
 pub none_put : (slot : Slot) (image rest : List ℕ) (taken : ℕ) → taken ≡ 0 → rest ≡ pieces_of slot taken image ++ rest
@@ -45,15 +45,6 @@ stopped_empty causes.Absent capacity file put content is empty = absurd is
 stopped_empty causes.LaunchFault capacity file put content is empty = absurd is
 
 -- ---- whatever file it was
-
-pub stops_taking : (cause : Cause) (before now : ℕ) → PieceCounts (Err cause) before now → StopsTaking cause
-stops_taking causes.TooLarge before now is = tt
-stops_taking causes.HostFault before now is = tt
-stops_taking causes.Missing before now is = absurd is
-stops_taking causes.SelfCopy before now is = absurd is
-stops_taking causes.Absent before now is = absurd is
-stops_taking causes.FlashFault before now is = absurd is
-stops_taking causes.LaunchFault before now is = absurd is
 
 any_file : (cause : Cause) (capacity : ℕ) (rest content : List ℕ) → StopsTaking cause → content ≡ [] → TakesSome false rest (Err cause) capacity content
 any_file causes.TooLarge capacity rest content stops empty =
