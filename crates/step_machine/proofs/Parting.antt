@@ -3,6 +3,8 @@ use Rattle.std.proofs.Common.{◌≡◌, ℕ, ◌+◌, ◌<◌, add-one, Bool, t
 use Rattle.std.proofs.Math.Seq.{drop-cons}
 use Rattle.suit_commands.specs.declared.command.Step.{Step}
 use Rattle.suit_commands.specs.Tree.{CommandTree, Index, Override, SequenceTree, NoBranches}
+use Rattle.suit_commands.specs.Selections.{selected_by}
+use Rattle.suit_commands.specs.declared.selection.Selection.{Selection}
 use Rattle.suit_commands.specs.View.{sequence_tree, command_tree, branches_tree}
 use Rattle.suit_params.specs.declared.param.Param.{Param}
 use Rattle.path_model.specs.Behaviour.{State, Done}
@@ -100,6 +102,13 @@ pub runs_exhausted : (machine : Machine) (count place component : ℕ) (s : Stat
     → RunsPart machine (branches_part NoBranches count place component) s m (Err (stops.Condition place s.soft_failure)) s m
 runs_exhausted machine count place component s m sources =
     runs_at_once machine (branches_part NoBranches count place component) s m (Err (stops.Condition place s.soft_failure)) s refl sources (λ setting w. (refl, refl))
+
+pub runs_index : (machine : Machine) (selection : Selection) (count place : ℕ) (s t : State) (m : Moment) → AreSources machine s.parameters
+    → t ≡ record s { selection = selected_by selection count }
+    → RunsPart machine (command_part (Index selection) count place) s m (Ok tt) t m
+runs_index machine selection count place s t m sources is =
+    subst (λ (x : State). RunsPart machine (command_part (Index selection) count place) s m (Ok tt) x m) (sym is)
+    (runs_at_once machine (command_part (Index selection) count place) s m (Ok tt) (record s { selection = selected_by selection count }) refl sources (λ setting w. (refl, refl)))
 
 pub runs_override : (machine : Machine) (list : List Param) (count place component : ℕ) (s t : State) (m : Moment) → AreSources machine t.parameters
     → t ≡ after_override s component list
