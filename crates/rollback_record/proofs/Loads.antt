@@ -7,7 +7,7 @@ use Rattle.flash_layout.specs.declared.frame.TheConstants.{VERSION_1}
 use Rattle.flash_layout.specs.declared.slot.Record.{Record}
 use Rattle.flash_layout.specs.Frames.{head_of, config_page_of}
 use Rattle.rollback_record.specs.RecordPage.{IsPageBeside, IsRecordPage}
-use Rattle.rollback_record.specs.HeadRecord.{record_bytes, Counts, HaveRead, IsLoadable, RecordOf, higher}
+use Rattle.rollback_record.specs.HeadRecord.{Counts, HaveRead, IsLoadable, RecordOf, higher}
 use Rattle.rollback_record.proofs.Pages.{bytes_in, config_in, head_short}
 
 -- the configuration page

@@ -2,7 +2,7 @@
 
 ghost use Rattle.flash_layout.specs.declared.layout.Entry.{Entry};
 ghost use Rattle.rollback_record.specs.RecordPage.{CountSlots, HasSecondSlot};
-ghost use Rattle.std.specs.Prelude.{◌≡◌, ◌↔◌, ◌<◌, ◌≤◌, ℕ, get_or, length, slice_index};
+ghost use Rattle.std.specs.Prelude.{◌≡◌, ◌↔◌, ◌<◌, ℕ, get_or, length, slice_index};
 
 use flash_layout::{ENTRY_SIZE, Entry, FRONT_SIZE, Layout, MAX_ENTRIES, PAGE_BYTES};
 
