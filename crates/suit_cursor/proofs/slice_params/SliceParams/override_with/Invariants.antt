@@ -1,0 +1,10 @@
+use Rattle.std.proofs.Common.{◌≡◌, length}
+use Rattle.suit_params.specs.InForce.{overridden}
+use Rattle.suit_cursor.proofs.slice_params.SliceParams.override_with.Given as goal
+
+-- what is left of the list still to be set gives the whole
+abbrev pub invariant-loop-param : goal.invariant-loop-param
+invariant-loop-param l = overridden l.self l.component l.list ≡ overridden l.fn.self l.component l.fn.list
+
+abbrev pub decreases-loop-param : goal.decreases-loop-param
+decreases-loop-param l = length l.list

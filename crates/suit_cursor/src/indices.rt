@@ -1,0 +1,87 @@
+//! Lists of component indices.
+
+ghost use Rattle.std.specs.Prelude.{◌≡◌, length, IsOk, Ok};
+ghost use Rattle.suit_commands.specs.SequenceReading.{indices_from};
+ghost use Rattle.suit_cursor.specs.Lending.{LendsIndex};
+
+use det_cbor::Cursor;
+use std::marker::Model;
+use suit_commands::read_element;
+use suit_params::same_place;
+
+/// The indices of a list that are left, in the order in which they are selected, lent by bytes that were judged.
+#[derive(Drop)]
+pub struct LentIndices<'a> {
+    cursor: Cursor<'a>,
+    left: u64,
+    list: u64,
+    count: u32,
+}
+
+impl<'a> Model for LentIndices<'a> {
+    ghost use Rattle.std.specs.Prelude.{List, ℕ};
+
+    ghost Value = { List ℕ };
+
+    ghost use Rattle.suit_cursor.specs.LentParts.{lent_indices, AreIndices};
+
+    ghost view = { λ s. lent_indices s.count s.list s.left s.cursor };
+
+    ghost invariant = { λ s. AreIndices s.count s.list s.left s.cursor };
+}
+
+/// So many indices of the list at a place, which the cursor passes.
+pub(crate) fn lend_indices<'a>(
+    cursor: &mut Cursor<'a>,
+    list: u64,
+    elements: u64,
+    count: u32,
+) -> LentIndices<'a>
+    requires { IsOk (indices_from count list elements cursor.old) }
+    ensures { indices_from count list elements cursor.old ≡ Ok (result, cursor.new) }
+{
+    let indices = LentIndices {
+        cursor: same_place(cursor),
+        left: elements,
+        list,
+        count,
+    };
+    for _ in 0..elements {
+        read_element(cursor, list, count).unwrap();
+    }
+    indices
+}
+
+impl<'a> LentIndices<'a> {
+    /// The number of indices left.
+    pub fn len(&self) -> u64
+        ensures { result ≡ length self.now }
+    {
+        self.left
+    }
+
+    /// The same indices, lent again.
+    pub fn copy(&mut self) -> LentIndices<'a>
+        ensures copied { result ≡ self.old }
+        ensures same { self.new ≡ self.old }
+    {
+        LentIndices {
+            cursor: same_place(&mut self.cursor),
+            left: self.left,
+            list: self.list,
+            count: self.count,
+        }
+    }
+
+    /// The next index. `None` stands exactly at the end.
+    pub fn next(&mut self) -> Option<u32>
+        ensures { LendsIndex self.old self.new result }
+    {
+        if self.left == 0 {
+            return None;
+        }
+        let index = read_element(&mut self.cursor, self.list, self.count).unwrap();
+        self.left -= 1;
+        Some(index)
+    }
+}

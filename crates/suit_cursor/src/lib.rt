@@ -1,0 +1,24 @@
+//! Command sequences of SUIT manifests, read from the manifest's bytes as they are run.
+//!
+//! A sequence is judged once, and then its parts are lent: each command where it stands, each list, each sequence inside.
+//! Nothing is copied, and nothing is judged again. A contract sees each lent part as the tree that its bytes spell.
+#![tactic(auto)]
+
+mod branches;
+mod command;
+mod copying;
+mod entering;
+mod indices;
+mod params;
+mod sequence;
+mod slice_params;
+#[cfg(test)]
+mod tests;
+
+pub use branches::{LentBranch, LentBranches};
+pub use command::{Lent, LentCommand, LentSelection};
+pub use copying::copy_sequence;
+pub use indices::LentIndices;
+pub use params::LentParams;
+pub use sequence::LentSequence;
+pub use slice_params::SliceParams;

@@ -1,0 +1,81 @@
+//! The parameters of an override.
+
+ghost use Rattle.std.specs.Prelude.{◌≡◌, IsOk, Ok};
+ghost use Rattle.suit_params.specs.ParamReading.{next_params};
+ghost use Rattle.suit_commands.specs.SequenceReading.{override_from};
+ghost use Rattle.suit_cursor.specs.Lending.{LendsParam};
+
+use det_cbor::Cursor;
+use std::marker::Model;
+use suit_params::{ParamSlice, lend_param, read_item, read_map, same_place};
+
+/// The parameters of an override that are left, ascending by their keys' numbers (draft-ietf-suit-manifest-25, section
+/// 8.4.10.3), lent by bytes that were judged.
+#[derive(Drop)]
+pub struct LentParams<'a> {
+    cursor: Cursor<'a>,
+    left: u64,
+    count: u32,
+}
+
+impl<'a> Model for LentParams<'a> {
+    ghost use Rattle.std.specs.Prelude.{List};
+    ghost use Rattle.suit_params.specs.declared.param.Param.{Param};
+
+    ghost Value = { List Param };
+
+    ghost use Rattle.suit_cursor.specs.LentParts.{lent_params, AreParams};
+
+    ghost view = { λ p. lent_params p.count p.left p.cursor };
+
+    ghost invariant = { λ p. AreParams p.count p.left p.cursor };
+}
+
+// The parameters of the next item, which is a map.
+#[tactic(auto, unfolding(suit_params::specs::ParamReading::params_at, suit_params::specs::Reading::map_from))]
+fn lend_map<'a>(cursor: &mut Cursor<'a>, count: u32) -> LentParams<'a>
+    requires { IsOk (next_params count cursor.old) }
+    ensures { next_params count cursor.old ≡ Ok (result, cursor.new) }
+{
+    let mut map = read_item(cursor).unwrap();
+    let pairs = read_map(&mut map).unwrap();
+    LentParams {
+        cursor: map,
+        left: pairs,
+        count,
+    }
+}
+
+/// The parameters of the override whose map stands at the cursor.
+pub(crate) fn lend_override<'a>(cursor: &mut Cursor<'a>, count: u32) -> LentParams<'a>
+    requires { IsOk (override_from count cursor.old) }
+    ensures { override_from count cursor.old ≡ Ok (result, cursor.new) }
+{
+    lend_map(cursor, count)
+}
+
+impl<'a> LentParams<'a> {
+    /// The same parameters, lent again.
+    pub fn copy(&mut self) -> LentParams<'a>
+        ensures copied { result ≡ self.old }
+        ensures same { self.new ≡ self.old }
+    {
+        LentParams {
+            cursor: same_place(&mut self.cursor),
+            left: self.left,
+            count: self.count,
+        }
+    }
+
+    /// The next parameter, its bytes lent. `None` stands exactly at the end.
+    pub fn next(&mut self) -> Option<ParamSlice<'a>>
+        ensures { LendsParam self.old self.new result }
+    {
+        if self.left == 0 {
+            return None;
+        }
+        let param = lend_param(&mut self.cursor, self.count).unwrap();
+        self.left -= 1;
+        Some(param)
+    }
+}
