@@ -1,6 +1,5 @@
 -- Trees that are copied part by part, and the measures of parts.
-use Rattle.std.proofs.Common.{◌≡◌, ◌∙◌, ℕ, ◌+◌, ◌≤◌, ◌<◌, List, [], ◌∷◌, ◌++◌, Option, Some, None, refl, sym, ap, subst, append_assoc, arith}
-use Rattle.std.proofs.lemmas.List.{append-nil}
+use Rattle.std.proofs.Common.{◌≡◌, ◌∙◌, ℕ, ◌+◌, ◌≤◌, ◌<◌, List, [], ◌∷◌, ◌++◌, Option, Some, None, refl, sym, ap, append_assoc, arith}
 use Rattle.suit_commands.specs.SequenceJudging.{branch_before}
 use Rattle.suit_commands.specs.Size.{sequence_size, command_size, branches_size}
 use Rattle.suit_commands.specs.Tree.{CommandTree, SequenceTree, NoSteps, StepThen, BranchesTree, NoBranches, BranchThen, NullThen}
@@ -12,9 +11,6 @@ use Rattle.suit_commands.proofs.ReadingSteps.{steps_append, branches_append}
 pub one_copied : {A : Type 0} (front before after whole : List A) (x y : A) → before ≡ x ∷ after → y ≡ x → front ++ before ≡ whole → (front ++ y ∷ []) ++ after ≡ whole
 one_copied {A} front before after whole x y is same so_far =
     append_assoc front (y ∷ []) after ∙ ap (λ (z : A). front ++ z ∷ after) same ∙ ap (λ (l : List A). front ++ l) (sym is) ∙ so_far
-
-pub all_copied : {A : Type 0} (front before whole : List A) → before ≡ [] → front ++ before ≡ whole → front ≡ whole
-all_copied {A} front before whole none so_far = sym (append-nil front) ∙ ap (λ (l : List A). front ++ l) (sym none) ∙ so_far
 
 -- ---- steps
 
