@@ -13,9 +13,9 @@ use Rattle.suit_commands.specs.declared.kinds.ActKind.TheVariants as acts
 use Rattle.path_model.specs.declared.cause.Cause.{Cause}
 use Rattle.path_model.specs.declared.cause.Cause.TheVariants as causes
 use Rattle.path_model.specs.Behaviour.{State, Done, Directive}
-use Rattle.path_model.specs.Settings.{Setting, capacity_of, found_under, payload_of}
+use Rattle.path_model.specs.Settings.{Setting, asked_by, capacity_of, found_under, payload_of}
 use Rattle.path_model.specs.Plays.{Outcome}
-use Rattle.path_model.specs.DevicePlays.{Launched, Device, content_at, condition_play, directive_play}
+use Rattle.path_model.specs.DevicePlays.{Launched, Device, content_at, asking, condition_play, directive_play}
 
 -- ---- conditions
 
@@ -73,6 +73,7 @@ pub record Holds (component : ℕ) (bytes : List ℕ) (before after : Device) : 
   pub content : component < length before.contents → content_at after component ≡ bytes
   pub others : (other : ℕ) → other ≢ component → content_at after other ≡ content_at before other
   pub launches : after.launches ≡ before.launches
+  pub asked : after.asked ≡ before.asked
 
 abbrev pub MissingRule : ActKind → (State → ℕ → Type 0) → Type 0
 MissingRule kind Lacks =
@@ -98,26 +99,26 @@ pub record WriteRules : Type 0 where
       → content_named state component keys.Content ≡ Some bytes → capacity_of setting component < length bytes
       → FailsFor (acts_at setting acts.Write place component state device) causes.TooLarge device
 
--- a payload that is too large leaves nothing
+-- The host is asked first, whatever it holds, and the payload is that of this request. One that is too large leaves nothing.
 pub record FetchRules : Type 0 where
   pub missing :
       MissingRule acts.Fetch (λ state component. content_named state component keys.Uri ≡ None)
   pub absent :
       (setting : Setting) (place component : ℕ) (state : State) (device : Device) (uri : List ℕ)
-      → content_named state component keys.Uri ≡ Some uri → payload_of setting uri ≡ None
-      → FailsFor (acts_at setting acts.Fetch place component state device) causes.Absent device
+      → content_named state component keys.Uri ≡ Some uri → payload_of setting (length device.asked) uri ≡ None
+      → FailsFor (acts_at setting acts.Fetch place component state device) causes.Absent (asking setting uri device)
   pub fits :
       (setting : Setting) (place component : ℕ) (state : State) (device : Device)
       (uri bytes : List ℕ)
-      → content_named state component keys.Uri ≡ Some uri → payload_of setting uri ≡ Some bytes → length bytes ≤ capacity_of setting component
+      → content_named state component keys.Uri ≡ Some uri → payload_of setting (length device.asked) uri ≡ Some bytes → length bytes ≤ capacity_of setting component
       → let outcome = acts_at setting acts.Fetch place component state device in
-      (outcome.ending ≡ Done state) × Holds component bytes device outcome.world
+      (outcome.ending ≡ Done state) × Holds component bytes (asking setting uri device) outcome.world
   pub too_large :
       (setting : Setting) (place component : ℕ) (state : State) (device : Device)
       (uri bytes : List ℕ)
-      → content_named state component keys.Uri ≡ Some uri → payload_of setting uri ≡ Some bytes → capacity_of setting component < length bytes
+      → content_named state component keys.Uri ≡ Some uri → payload_of setting (length device.asked) uri ≡ Some bytes → capacity_of setting component < length bytes
       → let outcome = acts_at setting acts.Fetch place component state device in
-      (outcome.cause ≡ Some causes.TooLarge) × Holds component [] device outcome.world
+      (outcome.cause ≡ Some causes.TooLarge) × Holds component [] (asking setting uri device) outcome.world
 
 pub record CopyRules : Type 0 where
   pub missing : MissingRule acts.Copy (λ state component. source_named state component ≡ None)
@@ -139,6 +140,7 @@ pub record Exchanged (component source : ℕ) (before after : Device) : Type 0 w
   pub others : (other : ℕ) → other ≢ component → other ≢ source
       → content_at after other ≡ content_at before other
   pub launches : after.launches ≡ before.launches
+  pub asked : after.asked ≡ before.asked
 
 -- one of the two contents has no room in the place of the other
 abbrev pub NoRoom : Setting → Device → ℕ → ℕ → Type 0
@@ -170,6 +172,7 @@ pub record Launches (state : State) (component : ℕ) (before after : Device) : 
   pub is : IsLaunchOf state before component launch
   pub added : after.launches ≡ before.launches ++ launch ∷ []
   pub contents : after.contents ≡ before.contents
+  pub asked : after.asked ≡ before.asked
 
 abbrev pub InvokeRule : Type 0
 InvokeRule =
@@ -181,13 +184,19 @@ InvokeRule =
 
 pub record PayloadRules : Type 0 where
   -- under a key that begins with '#' those of the envelope
-  pub integrated : (setting : Setting) (key : List ℕ)
-      → payload_of setting (35 ∷ key) ≡ found_under setting.payloads (35 ∷ key)
+  pub integrated : (setting : Setting) (request : ℕ) (key : List ℕ)
+      → payload_of setting request (35 ∷ key) ≡ found_under setting.payloads (35 ∷ key)
   -- any other URI names a file, if it is known and there is such a file
-  pub named : (setting : Setting) (first : ℕ) (uri name : List ℕ) → first ≢ 35
-      → found_under setting.words (first ∷ uri) ≡ Some name → payload_of setting (first ∷ uri) ≡ setting.files name
-  pub unnamed : (setting : Setting) (first : ℕ) (uri : List ℕ) → first ≢ 35
-      → found_under setting.words (first ∷ uri) ≡ None → payload_of setting (first ∷ uri) ≡ None
+  pub named : (setting : Setting) (request first : ℕ) (uri name : List ℕ) → first ≢ 35
+      → found_under setting.words (first ∷ uri) ≡ Some name → payload_of setting request (first ∷ uri) ≡ setting.files request name
+  pub unnamed : (setting : Setting) (request first : ℕ) (uri : List ℕ) → first ≢ 35
+      → found_under setting.words (first ∷ uri) ≡ None → payload_of setting request (first ∷ uri) ≡ None
+  -- a host is asked for that file, and for none under a key and where no file is known
+  pub asks_none : (words : List (List ℕ × List ℕ)) (key : List ℕ) → asked_by words (35 ∷ key) ≡ []
+  pub asks : (words : List (List ℕ × List ℕ)) (first : ℕ) (uri name : List ℕ) → first ≢ 35
+      → found_under words (first ∷ uri) ≡ Some name → asked_by words (first ∷ uri) ≡ name ∷ []
+  pub asks_unnamed : (words : List (List ℕ × List ℕ)) (first : ℕ) (uri : List ℕ) → first ≢ 35
+      → found_under words (first ∷ uri) ≡ None → asked_by words (first ∷ uri) ≡ []
   -- the first of a name is found
   pub none : (key : List ℕ) → found_under [] key ≡ None
   pub here : (key value : List ℕ) (pairs : List (List ℕ × List ℕ))
@@ -210,26 +219,35 @@ pub record HoldBoth (setting : Setting) (component : ℕ) (before after : Device
   pub one : HoldsSome setting component before middle
   pub other : HoldsSome setting source middle after
 
--- the device that a fault may leave: one of the flash any content of what the directive writes, one of the host the old
--- content or none, and one of the launcher all as it was
-abbrev pub Leaves : Setting → ActKind → Cause → ℕ → Device → Device → Type 0
-Leaves setting acts.Write causes.FlashFault component before after = HoldsSome setting component before after
-Leaves setting acts.Fetch causes.FlashFault component before after = HoldsSome setting component before after
-Leaves setting acts.Fetch causes.HostFault component before after = (after ≡ before) ⊎ Holds component [] before after
-Leaves setting acts.Copy causes.FlashFault component before after = HoldsSome setting component before after
-Leaves setting acts.Swap causes.FlashFault component before after = HoldBoth setting component before after
-Leaves setting acts.Invoke causes.FlashFault component before after = after ≡ before
-Leaves setting acts.Invoke causes.LaunchFault component before after = after ≡ before
-Leaves setting kind cause component before after = ⊥
+-- the device behind the ask for the URI in force
+pub record Asking (setting : Setting) (state : State) (component : ℕ) (before : Device)
+    (Then : Device → Type 0) : Type 0 where
+  pub uri : List ℕ
+  pub named : content_named state component keys.Uri ≡ Some uri
+  pub then_so : Then (asking setting uri before)
 
-pub record IsFault (setting : Setting) (kind : ActKind) (place component : ℕ) (before : Device)
-    (outcome : Outcome Device) : Type 0 where
+-- the device that a fault may leave: one of the flash any content of what the directive writes, one of the host the old
+-- content or none, and one of the launcher all as it was. A fetch asks the host first, which may fail at once.
+abbrev pub Leaves : Setting → ActKind → Cause → ℕ → State → Device → Device → Type 0
+Leaves setting acts.Write causes.FlashFault component state before after = HoldsSome setting component before after
+Leaves setting acts.Fetch causes.FlashFault component state before after =
+    Asking setting state component before (λ asked. HoldsSome setting component asked after)
+Leaves setting acts.Fetch causes.HostFault component state before after =
+    (after ≡ before) ⊎ Asking setting state component before (λ asked. (after ≡ asked) ⊎ Holds component [] asked after)
+Leaves setting acts.Copy causes.FlashFault component state before after = HoldsSome setting component before after
+Leaves setting acts.Swap causes.FlashFault component state before after = HoldBoth setting component before after
+Leaves setting acts.Invoke causes.FlashFault component state before after = after ≡ before
+Leaves setting acts.Invoke causes.LaunchFault component state before after = after ≡ before
+Leaves setting kind cause component state before after = ⊥
+
+pub record IsFault (setting : Setting) (kind : ActKind) (place component : ℕ) (state : State)
+    (before : Device) (outcome : Outcome Device) : Type 0 where
   pub ending : outcome.ending ≡ Directive place
   pub cause : Cause
   pub named : outcome.cause ≡ Some cause
-  pub leaves : Leaves setting kind cause component before outcome.world
+  pub leaves : Leaves setting kind cause component state before outcome.world
 
 abbrev pub FaultRule : Type 0
 FaultRule =
     (setting : Setting) (kind : ActKind) (place component : ℕ) (state : State) (device : Device) (outcome : Outcome Device)
-    → (directive_play setting kind place component).IsCut state device outcome → IsFault setting kind place component device outcome
+    → (directive_play setting kind place component).IsCut state device outcome → IsFault setting kind place component state device outcome

@@ -21,7 +21,7 @@ use Rattle.path_model.specs.Behaviour.{State, Done, Condition, Directive}
 use Rattle.path_model.specs.Conditions.{vendor_of, class_of, device_of, slot_of}
 use Rattle.path_model.specs.Directives.{invoke_event}
 use Rattle.path_model.specs.Path.{first_state}
-use Rattle.path_model.specs.Settings.{Setting, capacity_of, payload_of, NamesFile}
+use Rattle.path_model.specs.Settings.{Setting, asked_by, capacity_of, payload_of, NamesFile}
 use Rattle.path_model.specs.Plays.{Outcome, Play, procedure}
 
 -- one launch: the component, its content, and what its parameters name
@@ -32,17 +32,18 @@ pub record Launched : Type 0 where
   pub size : Option ℕ
   pub args : Option (List ℕ)
 
--- the content of each component, and what was launched
+-- the content of each component, what was launched, and the names of files that the host was asked for, in order
 pub record Device : Type 0 where
   pub contents : List (List ℕ)
   pub launches : List Launched
+  pub asked : List (List ℕ)
 
 abbrev pub content_at : Device → ℕ → List ℕ
 content_at device component = get_or device.contents component []
 
 abbrev pub with_content : Device → ℕ → List ℕ → Device
 with_content device component bytes =
-    record { contents = slice_set device.contents component bytes; launches = device.launches }
+    record device { contents = slice_set device.contents component bytes }
 
 -- ---- conditions
 
@@ -167,6 +168,11 @@ filled setting component bytes device =
     then Made (with_content device component bytes)
     else Refused causes.TooLarge device
 
+-- the host was asked for the file that the URI names, where it names one
+abbrev pub asking : Setting → List ℕ → Device → Device
+asking setting uri device =
+    record device { asked = device.asked ++ asked_by setting.words uri }
+
 -- a payload that is too large leaves nothing
 abbrev pub fetched : Setting → ℕ → Option (List ℕ) → Device → Change
 fetched setting component None device = Refused causes.Absent device
@@ -174,6 +180,12 @@ fetched setting component (Some bytes) device =
     if nat_le (length bytes) (capacity_of setting component)
     then Made (with_content device component bytes)
     else Refused causes.TooLarge (with_content device component [])
+
+-- the payload of a URI; the host is asked first
+abbrev pub fetching : Setting → ℕ → List ℕ → Device → Change
+fetching setting component uri device =
+    fetched setting component (payload_of setting (length device.asked) uri)
+    (asking setting uri device)
 
 abbrev pub copied : Setting → ℕ → ℕ → Device → Change
 copied setting component source device =
@@ -234,12 +246,14 @@ abbrev pub WriteLeaves : Setting → ℕ → Cause → Device → Device → Typ
 WriteLeaves setting component causes.FlashFault before left = HoldsAny setting component before left
 WriteLeaves setting component _ before left = ⊥
 
--- a fault of the host comes where a file is named, and leaves the old content or none
+-- a fault of the host comes where a file is named. It leaves the old content or none; the host was asked, or could not be.
 abbrev pub FetchLeaves : Setting → List ℕ → ℕ → Cause → Device → Device → Type 0
 FetchLeaves setting uri component causes.HostFault before left =
-    NamesFile setting.words uri × ((left ≡ before) ⊎ (left ≡ with_content before component []))
+    NamesFile setting.words uri
+    × ((left ≡ before) ⊎ (left ≡ asking setting uri before)
+    ⊎ (left ≡ with_content (asking setting uri before) component []))
 FetchLeaves setting uri component causes.FlashFault before left =
-    HoldsAny setting component before left
+    HoldsAny setting component (asking setting uri before) left
 FetchLeaves setting uri component _ before left = ⊥
 
 abbrev pub SwapLeaves : Setting → ℕ → ℕ → Cause → Device → Device → Type 0
@@ -260,10 +274,8 @@ launch_of device component parameters = record {
 }
 
 abbrev pub launching : Device → ℕ → Parameters → Device
-launching device component parameters = record {
-  contents = device.contents;
-  launches = device.launches ++ launch_of device component parameters ∷ [];
-}
+launching device component parameters =
+    record device { launches = device.launches ++ launch_of device component parameters ∷ [] }
 
 abbrev pub StopsLaunch : Cause → Type 0
 StopsLaunch causes.FlashFault = Unit {0}
@@ -286,7 +298,7 @@ directive_play setting acts.Write place component =
     (λ content. filled setting component content) (λ content. WriteLeaves setting component)
 directive_play setting acts.Fetch place component =
     writing place component (λ state. bytes_of (in_force state.parameters component keys.Uri))
-    (λ uri. fetched setting component (payload_of setting uri))
+    (λ uri. fetching setting component uri)
     (λ uri. FetchLeaves setting uri component)
 directive_play setting acts.Copy place component =
     writing place component (λ state. number_of (in_force state.parameters component keys.Source))
@@ -299,9 +311,9 @@ directive_play setting acts.Invoke place component = invoking place component
 
 -- ---- procedures
 
--- nothing was launched before
+-- nothing was launched and no file asked for before
 abbrev pub first_device : List (List ℕ) → Device
-first_device contents = record { contents = contents; launches = [] }
+first_device contents = record { contents = contents; launches = []; asked = [] }
 
 abbrev pub plan_play : PlanTree → Setting → Play Device
 plan_play plan setting =

@@ -32,6 +32,13 @@ FaultedLaunchesFirst =
     → IsFaulted plan setting contents outcome
     → (rest : List Launched) × ((played plan setting contents).world.launches ≡ outcome.world.launches ++ rest)
 
+-- the names that the host was asked for before the fault are the play's first ones
+abbrev pub FaultedAsksFirst : Type 0
+FaultedAsksFirst =
+    (plan : PlanTree) (setting : Setting) (contents : List (List ℕ)) (outcome : Outcome Device)
+    → IsFaulted plan setting contents outcome
+    → (rest : List (List ℕ)) × ((played plan setting contents).world.asked ≡ outcome.world.asked ++ rest)
+
 -- a launch has the digest that was in force, and its size where there was one
 pub record HasItsDigest (launch : Launched) : Type 0 where
   pub digest : Digest

@@ -100,7 +100,7 @@ step_comes recalled done world (Some step) =
 -- ---- a loss of power in a free step
 
 -- what it leaves of the device: any content of what the step writes, and all else as it was. A swap is as before it:
--- one that began is completed before anything else.
+-- one that began is completed before anything else. A fetch that was lost asks again, and counts once.
 abbrev pub LossLeaves : FreeStep → Device → Device → Type 0
 LossLeaves (MatchStep component place digest size) before after = after ≡ before
 LossLeaves (ContentStep component place) before after = after ≡ before

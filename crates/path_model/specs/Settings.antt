@@ -1,5 +1,5 @@
 -- The setting of a procedure, on a device and about it.
-use Rattle.std.specs.Prelude.{◌≡◌, ◌≢◌, ℕ, ◌==◌, if◌then◌else◌, List, [], ◌∷◌, Option, Some, None, get_or}
+use Rattle.std.specs.Prelude.{◌≡◌, ◌≢◌, ℕ, ◌==◌, if◌then◌else◌, List, [], ◌∷◌, Option, Some, None, get_or, option_to_list}
 use Rattle.std.specs.Option.{option_and_then}
 use Rattle.std.specs.Str.{bytes_eq}
 use Rattle.path_model.specs.declared.identity.Identity.{Identity}
@@ -12,8 +12,12 @@ pub record Setting : Type 0 where
   pub payloads : List (List ℕ × List ℕ)
   -- the URIs that name a file, each with the file's name
   pub words : List (List ℕ × List ℕ)
-  -- the bytes of the file of a name, where there is one
-  pub files : List ℕ → Option (List ℕ)
+  -- the bytes that the request of a number, from 0 on, is given under a file's name, where there is such a file
+  pub files : ℕ → List ℕ → Option (List ℕ)
+
+-- the same files at each request
+abbrev pub steady : (List ℕ → Option (List ℕ)) → ℕ → List ℕ → Option (List ℕ)
+steady files request = files
 
 abbrev pub capacity_of : Setting → ℕ → ℕ
 capacity_of setting component = get_or setting.capacities component 0
@@ -23,11 +27,16 @@ abbrev pub found_under : List (List ℕ × List ℕ) → List ℕ → Option (Li
 found_under [] key = None
 found_under (pair ∷ pairs) key = if bytes_eq pair.0 key then Some pair.1 else found_under pairs key
 
--- a URI that begins with '#' is the key of a payload, and any other names a file
-abbrev pub payload_of : Setting → List ℕ → Option (List ℕ)
-payload_of setting uri =
+-- a URI that begins with '#' is the key of a payload, and any other names a file, which the request of this number asks for
+abbrev pub payload_of : Setting → ℕ → List ℕ → Option (List ℕ)
+payload_of setting request uri =
     if get_or uri 0 0 == 35 then found_under setting.payloads uri
-    else option_and_then setting.files (found_under setting.words uri)
+    else option_and_then (setting.files request) (found_under setting.words uri)
+
+-- the names that a fetch of this URI asks for: that of its file, where it names one
+abbrev pub asked_by : List (List ℕ × List ℕ) → List ℕ → List (List ℕ)
+asked_by words uri =
+    if get_or uri 0 0 == 35 then [] else option_to_list (found_under words uri)
 
 -- a URI that is no key, and under which some file was named
 abbrev pub NamesFile : List (List ℕ × List ℕ) → List ℕ → Type 0

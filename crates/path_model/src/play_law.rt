@@ -1,11 +1,11 @@
 //! The laws of plays. Each call does nothing, and its contract is a law.
 
 ghost use Rattle.path_model.specs.DeviceLaws.{ConditionRules, WriteRules, FetchRules, CopyRules, SwapRules, InvokeRule, PayloadRules, FaultRule};
-ghost use Rattle.path_model.specs.PlayLaws.{PlayRuns, FaultedIsPath, FaultedLaunchesFirst, SafeLaunches, FaultedSafeLaunches, PlayEnds, FaultedEnds};
+ghost use Rattle.path_model.specs.PlayLaws.{PlayRuns, FaultedIsPath, FaultedAsksFirst, FaultedLaunchesFirst, SafeLaunches, FaultedSafeLaunches, PlayEnds, FaultedEnds};
 
 /// A play on contents may happen: it is a run of its procedure, and the events of a play that a fault cut short are a
-/// path of it. The first ends by itself, and the other by the fault. The launches before a fault are the play's first
-/// ones. So each launch of a safe procedure has the digest that was in force, and the size where there was one, whether
+/// path of it. The first ends by itself, and the other by the fault. The launches and the names asked for before a
+/// fault are the play's first ones. So each launch of a safe procedure has the digest that was in force, and the size where there was one, whether
 /// or not a fault comes.
 pub fn play_laws()
     ensures runs { PlayRuns }
@@ -13,6 +13,7 @@ pub fn play_laws()
     ensures ends { PlayEnds }
     ensures faulted_ends { FaultedEnds }
     ensures launches { FaultedLaunchesFirst }
+    ensures asks { FaultedAsksFirst }
     ensures safe { SafeLaunches }
     ensures faulted_safe { FaultedSafeLaunches }
 {}

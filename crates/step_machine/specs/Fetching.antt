@@ -1,5 +1,5 @@
 -- The result of a fetch for a component, as plays have it, and of taking a file piece by piece.
-use Rattle.std.specs.Prelude.{◌≡◌, ◌⊎◌, ◌<◌, ◌≤◌, ◌+◌, ◌*◌, ◌==◌, ℕ, Bool, IsTrue, if◌then◌else◌, List, [], ◌++◌, Option, Some, None, Result, Ok, Err, get_or, length, take}
+use Rattle.std.specs.Prelude.{◌≡◌, ◌⊎◌, ◌<◌, ◌≤◌, ◌+◌, ◌*◌, ◌==◌, ℕ, suc, Bool, IsTrue, if◌then◌else◌, List, [], ◌∷◌, ◌++◌, Option, Some, None, Result, Ok, Err, get_or, length, map, take}
 use Rattle.std.specs.Borrow.{Bor}
 use Rattle.std.specs.List.{AllByRecursion}
 use Rattle.std.specs.Option.{option_and_then}
@@ -71,6 +71,13 @@ PutsIn (Err causes.HostFault) capacity file put = Unit {0}
 PutsIn (Err causes.FlashFault) capacity file put = Unit {0}
 PutsIn (Err _) capacity file put = ⊥
 
+-- some file was taken in: where the host tells, the one that was started
+pub record TakesSome (told : Bool) (rest : List ℕ) (result : Result (Unit {0}) Cause) (capacity : ℕ)
+    (content : List ℕ) : Type 0 where
+  pub file : List ℕ
+  pub is : IsTrue told → file ≡ rest
+  pub takes : TakesIn result capacity file content
+
 -- The named file became the content. If there was none it stays, and a fault of the host leaves it or empties it.
 abbrev pub TakesNamed : Result (Unit {0}) Cause → ℕ → Option (List ℕ) → List ℕ → List ℕ → Type 0
 TakesNamed (Err causes.Absent) capacity named before after = (named ≡ None) × (after ≡ before)
@@ -99,17 +106,48 @@ file_by component parameters payloads words files =
     option_and_then (payload_by payloads words files)
     (bytes_of (in_force parameters component keys.Uri))
 
--- in each setting with these payloads and files, and on each device where the component has that room and holds the
--- content before, and holds the content after
+-- a request of a host: the name of a file, and the bytes given under it, where there is such a file
+pub record Request : Type 0 where
+  pub name : List ℕ
+  pub given : Option (List ℕ)
+
+abbrev pub request : List ℕ → Option (List ℕ) → Request
+request name given = record { name = name; given = given }
+
+abbrev pub names_of : List Request → List (List ℕ)
+names_of requests = map (λ (r : Request). r.name) requests
+
+-- from this number on, the files of a setting are given so
+abbrev pub AreGiven : (ℕ → List ℕ → Option (List ℕ)) → ℕ → List Request → Type 0
+AreGiven files number [] = Unit {0}
+AreGiven files number (r ∷ requests) =
+    (files number r.name ≡ r.given) × AreGiven files (suc number) requests
+
+-- The requests from one moment of a host to a later one. Where it tells, they are the names that it was asked for, in order,
+-- and were given its files. Where no URI names a file there are none.
+pub record AreRequests (told : Bool) (words : List (List ℕ × List ℕ))
+    (files : List ℕ → Option (List ℕ)) (before now : List (List ℕ)) (requests : List Request)
+    : Type 0 where
+  pub asked : IsTrue told → now ≡ before ++ names_of requests
+  pub given : IsTrue told → AllByRecursion (λ r. r.given ≡ files r.name) requests
+  pub none : words ≡ [] → requests ≡ []
+
+-- the device after requests for these names
+abbrev pub with_asked : Device → List (List ℕ) → Device
+with_asked device names = record device { asked = device.asked ++ names }
+
+-- in each setting with these payloads that gives the requests so, and on each device where the component has that room
+-- and holds the content before, and holds the content after
 abbrev pub FetchesAs : ℕ → ℕ → Parameters → List (List ℕ × List ℕ) → List (List ℕ × List ℕ)
-    → (List ℕ → Option (List ℕ)) → List ℕ → List ℕ → Result (Unit {0}) Cause → Type 0
-FetchesAs component capacity parameters payloads words files before after result =
+    → List Request → List ℕ → List ℕ → Result (Unit {0}) Cause → Type 0
+FetchesAs component capacity parameters payloads words requests before after result =
     (setting : Setting) (place : ℕ) (state : State) (device : Device)
     → state.parameters ≡ parameters → capacity_of setting component ≡ capacity
-    → setting.payloads ≡ payloads → setting.words ≡ words → setting.files ≡ files
+    → setting.payloads ≡ payloads → setting.words ≡ words
+    → AreGiven setting.files (length device.asked) requests
     → content_at device component ≡ before → component < length device.contents
     → ActsSo (directive_play setting acts.Fetch place component) place state device result
-    (with_content device component after)
+    (with_content (with_asked device (names_of requests)) component after)
 
 -- ---- calls of the host
 

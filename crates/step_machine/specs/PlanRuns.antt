@@ -1,5 +1,5 @@
 -- How a procedure that runs on a device ends, by its play, and what it leaves alone.
-use Rattle.std.specs.Prelude.{◌≡◌, ◌<◌, ◌≤◌, ℕ, Bool, List, ◌++◌, Option, Result, Ok, Err, length, get_or, map}
+use Rattle.std.specs.Prelude.{◌≡◌, ◌⊎◌, ◌<◌, ◌≤◌, ℕ, Bool, IsTrue, List, [], ◌++◌, Option, Result, Ok, Err, length, get_or, map}
 use Rattle.suit_edge.specs.declared.launch.Launch.{Launch}
 use Rattle.suit_edge.specs.Faults.{Faulted}
 use Rattle.suit_commands.specs.Tree.{PlanTree}
@@ -8,7 +8,7 @@ use Rattle.path_model.specs.declared.cause.Cause.{Cause}
 use Rattle.path_model.specs.declared.cause.Cause.TheVariants as causes
 use Rattle.path_model.specs.Behaviour.{State, Done, Condition}
 use Rattle.path_model.specs.Path.{first_state}
-use Rattle.path_model.specs.Settings.{Setting}
+use Rattle.path_model.specs.Settings.{Setting, steady}
 use Rattle.path_model.specs.DevicePlays.{Device, first_device, plan_play, played}
 use Rattle.step_machine.specs.declared.plan_end.PlanEnd.{PlanEnd}
 use Rattle.step_machine.specs.declared.plan_end.PlanEnd.TheVariants as ends
@@ -19,9 +19,9 @@ use Rattle.step_machine.specs.Directives.{StopsSo}
 use Rattle.step_machine.specs.Invoking.{launched_as}
 use Rattle.step_machine.specs.Spots.{OutsideSpot}
 
--- the setting of components that stand so, with these payloads, these URIs and these files
+-- the setting of components that stand so, with these payloads, these URIs and what each request is given
 abbrev pub setting_of : List Standing → List (List ℕ × List ℕ) → List (List ℕ × List ℕ)
-    → (List ℕ → Option (List ℕ)) → Setting
+    → (ℕ → List ℕ → Option (List ℕ)) → Setting
 setting_of standings payloads words files = record {
   identities = map (λ (s : Standing). s.identity) standings;
   capacities = map (λ (s : Standing). s.capacity) standings;
@@ -44,14 +44,21 @@ EndsAs plan setting contents (ends.ConditionFailed place) after =
 EndsAs plan setting contents (ends.DirectiveFailed place cause) after =
     StopsSo (plan_play plan setting) place first_state (first_device contents) cause after
 
--- the contents before and after, and the launches before and after, of which those gained are the play's
+-- what each request is given: by a host that tells, its files each time, and so where no URI names one
+abbrev pub GivesAs : Bool → List (List ℕ × List ℕ) → (List ℕ → Option (List ℕ))
+    → (ℕ → List ℕ → Option (List ℕ)) → Type 0
+GivesAs told words files given = IsTrue told ⊎ (words ≡ []) → given ≡ steady files
+
+-- the contents before and after, and the launches before and after, of which those gained are the play's; and the names
+-- that the play asks for, in order
 pub record PlaysPlan (plan : PlanTree) (setting : Setting) (end : PlanEnd)
     (before after : List (List ℕ)) (launched now : List Launch) : Type 0 where
   pub gained : List Launch
   pub added : now ≡ launched ++ gained
+  pub asks : List (List ℕ)
   pub ends :
       EndsAs plan setting before end
-      (record { contents = after; launches = map launched_as gained })
+      (record { contents = after; launches = map launched_as gained; asked = asks })
 
 -- how a procedure ends of which a sequence ended so
 abbrev pub end_of : Result (Unit {0}) Stop → PlanEnd

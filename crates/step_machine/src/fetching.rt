@@ -171,12 +171,14 @@ pub fn fetch<H: Host, D: Disk>(
     ensures pulled { IsTrue H.told
         → H.pulled host.new ≤ H.pulled host.old + (standing.now.capacity + 1) }
     ensures ram { IsRamBut standing.now.spot ram.old ram.new }
-    ensures fetches { IsTrue D.told → IsTrue H.told ⊎ (uris.now ≡ [])
-        → (payloads : List (List ℕ × List ℕ)) → ArePayloads envelope.entry payloads
+    ensures fetches { IsTrue D.told → (requests : List Request)
+        × AreRequests H.told uris.now (H.file host.old) (H.asked host.old) (H.asked host.new)
+        requests
+        × ((payloads : List (List ℕ × List ℕ)) → ArePayloads envelope.entry payloads
         → FetchesAs standing.now.component standing.now.capacity params.now payloads uris.now
-        (H.file host.old)
+        requests
         (content_of standing.now.spot ram.old (D.flash disk.old).reads)
-        (content_of standing.now.spot ram.new (D.flash disk.new).reads) result }
+        (content_of standing.now.spot ram.new (D.flash disk.new).reads) result) }
     ensures replaced { IsTrue D.told → IsReplaced standing.now.spot
         (λ file. IsTrue H.told ⊎ (uris.now ≡ []) → (payloads : List (List ℕ × List ℕ))
         → ArePayloads envelope.entry payloads

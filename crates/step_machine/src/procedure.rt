@@ -3,11 +3,11 @@
 ghost use Rattle.flash_slots.specs.RamContents.{Held};
 ghost use Rattle.path_model.specs.Behaviour.{State};
 ghost use Rattle.path_model.specs.Path.{first_state};
-ghost use Rattle.std.specs.Prelude.{◌≡◌, ◌⊎◌, ◌<◌, ◌∷◌, [], ℕ, IsTrue, List, length, map};
+ghost use Rattle.std.specs.Prelude.{◌≡◌, ◌<◌, ◌∷◌, ◌++◌, [], ℕ, IsTrue, List, Option, length, map};
 ghost use Rattle.step_machine.specs.Allowing.{AllowsSequence, MayFetch};
 ghost use Rattle.step_machine.specs.Devices.{contents_of};
 ghost use Rattle.step_machine.specs.Parts.{plan_part, starting_part};
-ghost use Rattle.step_machine.specs.PlanRuns.{EndCounts, OutsideTargets, PlaysPlan, counts_of, end_of, setting_of};
+ghost use Rattle.step_machine.specs.PlanRuns.{EndCounts, GivesAs, OutsideTargets, PlaysPlan, counts_of, end_of, setting_of};
 ghost use Rattle.step_machine.specs.Running.{AreSources, IsReady, LeavesWork, RunsPart, state_of};
 ghost use Rattle.step_machine.specs.Fetching.{ArePayloads, AsksAmong, asked_at};
 ghost use Rattle.step_machine.specs.UrisSet.{HasFetch};
@@ -161,8 +161,9 @@ fn end_of(ended: Result<(), Stop>) -> PlanEnd
 
 /// Runs a procedure on a device (draft-ietf-suit-manifest-25, section 6.4). It ends as its play on the contents does, and
 /// leaves the contents and makes the launches that its play has. Where a fault comes it ends there, as a play that the
-/// fault cut short. The host is called only where a fetch stands in the procedure and a URI names a file, and is asked for no
-/// other files; where no URI does, it need not tell what it holds. Takes no memory.
+/// fault cut short. The host is called only where a fetch stands in the procedure and a URI names a file, and is asked for the
+/// files of the play's fetches, in order, and for no others. A host that does not tell what it holds gives each request some
+/// file, or none. Takes no memory.
 pub fn run_plan<H: Host, D: Disk, L: Launcher>(
     host: &mut H,
     disk: &mut D,
@@ -187,14 +188,16 @@ pub fn run_plan<H: Host, D: Disk, L: Launcher>(
         → AsksAmong (plan_tree plan.now) world.old.uris.now room
         (asked_at (H.asked host.old) (H.pulled host.old))
         (asked_at (H.asked host.new) (H.pulled host.new)) }
-    ensures plays { IsTrue H.told ⊎ (world.old.uris.now ≡ []) → IsTrue D.told → IsTrue L.told
-        → (payloads : List (List ℕ × List ℕ))
+    ensures plays { IsTrue D.told → IsTrue L.told → (payloads : List (List ℕ × List ℕ))
         → ArePayloads world.old.envelope payloads
-        → PlaysPlan (plan_tree plan.now)
-        (setting_of world.old.standings.items payloads world.old.uris.now (H.file host.old)) result
+        → (given : ℕ → List ℕ → Option (List ℕ))
+        × GivesAs H.told world.old.uris.now (H.file host.old) given
+        × (plays : PlaysPlan (plan_tree plan.now)
+        (setting_of world.old.standings.items payloads world.old.uris.now given) result
         (contents_of world.old.standings.items world.old.ram (D.flash disk.old).reads)
         (contents_of world.old.standings.items world.new.ram (D.flash disk.new).reads)
-        (L.launches launcher.old) (L.launches launcher.new) }
+        (L.launches launcher.old) (L.launches launcher.new))
+        × (IsTrue H.told → H.asked host.new ≡ H.asked host.old ++ plays.asks) }
     ensures keeps { IsTrue D.told
         → Keeps (OutsideTargets (plan_tree plan.now) world.old.standings.items)
         (D.flash disk.old) (D.flash disk.new) }
