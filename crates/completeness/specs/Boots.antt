@@ -4,6 +4,7 @@ use Rattle.suit_manifest.specs.declared.manifest.Manifest.{Manifest}
 use Rattle.suit_manifest.specs.Procedures.{invocation_tree}
 use Rattle.path_model.specs.DevicePlays.{Device, played}
 use Rattle.path_model.specs.Plays.{Outcome}
+use Rattle.path_model.specs.Settings.{steady}
 use Rattle.flash_layout.specs.declared.frame.TheConstants.{VERSION_1}
 use Rattle.flash_layout.specs.declared.key.Key.{Key}
 use Rattle.flash_layout.specs.declared.layout.Entry.{Entry}
@@ -50,7 +51,7 @@ pub record Activates (layout : List Entry) (installed : Record) (manifest : Mani
 abbrev pub boot_play : (layout : List Entry) (manifest : Manifest) (installed : Record)
     (before : Outside) → Activates layout installed manifest → Outcome Device
 boot_play layout manifest installed before on =
-    played (invocation_tree manifest) (setting_of on.standings [] [] before.files)
+    played (invocation_tree manifest) (setting_of on.standings [] [] (steady before.files))
     (contents_of on.standings (empty_ram layout) before.flash.reads)
 
 -- ---- the needs

@@ -7,6 +7,7 @@ use Rattle.suit_envelope.specs.Payloads.{HasPayloads}
 use Rattle.suit_manifest.specs.Procedures.{update_tree}
 use Rattle.path_model.specs.DevicePlays.{Device, played}
 use Rattle.path_model.specs.Plays.{Outcome}
+use Rattle.path_model.specs.Settings.{steady}
 use Rattle.flash_layout.specs.declared.frame.TheConstants.{VERSION_1}
 use Rattle.flash_layout.specs.declared.key.Key.{Key}
 use Rattle.flash_layout.specs.declared.layout.Entry.{Entry}
@@ -78,7 +79,7 @@ pub record Sets (layout : List Entry) (bytes : List ℕ) (a : Accepted) (held : 
 abbrev pub play_of : (layout : List Entry) (bytes : List ℕ) (a : Accepted) (held : Option Record)
     → Sets layout bytes a held → List (List ℕ × List ℕ) → Outside → Outcome Device
 play_of layout bytes a held sets uris before =
-    played (procedure_of a) (setting_of sets.standings sets.payloads uris before.files)
+    played (procedure_of a) (setting_of sets.standings sets.payloads uris (steady before.files))
     (contents_of sets.standings (empty_ram layout) before.flash.reads)
 
 -- ---- the needs

@@ -17,7 +17,7 @@ use Rattle.path_model.specs.Behaviour.{State}
 use Rattle.path_model.specs.Path.{first_state}
 use Rattle.path_model.specs.Settings.{Setting, capacity_of, payload_of}
 use Rattle.path_model.specs.Plays.{Outcome}
-use Rattle.path_model.specs.DevicePlays.{Device, content_at, with_content, tested, unread, comparing, is_image, matched, is_content, condition_play, Change, Made, Refused, concluded, filled, fetched, copied, swapped, fits_into, acted, ActIsCut, acting, WriteLeaves, FetchLeaves, SwapLeaves, directive_play, first_device, plan_play}
+use Rattle.path_model.specs.DevicePlays.{Device, content_at, with_content, tested, unread, comparing, is_image, matched, is_content, condition_play, Change, Made, Refused, concluded, filled, asking, fetched, fetching, copied, swapped, fits_into, acted, ActIsCut, acting, WriteLeaves, FetchLeaves, SwapLeaves, directive_play, first_device, plan_play}
 use Rattle.path_model.specs.PlayLaws.{IsFault, IsFaultIn, EndsSo, EndsByFault, PlayEnds, FaultedEnds}
 use Rattle.path_model.proofs.PlaysEnd.{Ends, procedure_ends}
 use Rattle.path_model.proofs.Leaving.{write_cut, fetch_cut, swap_cut}
@@ -129,7 +129,7 @@ acts_end : (setting : Setting) (kind : ActKind) (p c : ℕ) → Ends Device sett
 acts_end setting acts.Write p c =
     acting_ends setting p (λ x. Wrote c ∷ []) (λ x. filled setting c x) (λ x. WriteLeaves setting c) (λ x w. filled_plain setting c x w) (λ x. write_fault setting c) (λ s. bytes_of (in_force s.parameters c keys.Content))
 acts_end setting acts.Fetch p c =
-    acting_ends setting p (λ x. Wrote c ∷ []) (λ x. fetched setting c (payload_of setting x)) (λ x. FetchLeaves setting x c) (λ x w. fetched_plain setting c (payload_of setting x) w) (λ x. fetch_fault setting x c) (λ s. bytes_of (in_force s.parameters c keys.Uri))
+    acting_ends setting p (λ x. Wrote c ∷ []) (λ x. fetching setting c x) (λ x. FetchLeaves setting x c) (λ x w. fetched_plain setting c (payload_of setting (length w.asked) x) (asking setting x w)) (λ x. fetch_fault setting x c) (λ s. bytes_of (in_force s.parameters c keys.Uri))
 acts_end setting acts.Copy p c =
     acting_ends setting p (λ x. Wrote c ∷ []) (λ x. copied setting c x) (λ x. WriteLeaves setting c) (λ x w. copied_plain setting c x w) (λ x. write_fault setting c) (λ s. number_of (in_force s.parameters c keys.Source))
 acts_end setting acts.Swap p c =

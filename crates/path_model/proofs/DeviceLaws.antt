@@ -2,7 +2,7 @@
 use Rattle.std.proofs.Common.{◌≡◌, ◌≢◌, ◌<◌, ◌≤◌, ℕ, Bool, true, false, List, [], ◌∷◌, Option, Some, None, refl, sym, ap, subst, ◌∙◌, inl, inr, length, length-set, arith, get_or-set_same, get_or-set_other}
 use Rattle.std.proofs.lemmas.Bool.{eq-eqb, ne_eqb, le-leb, lt-leb, and_from, and_left, and_right, true≢false}
 use lib.Pointwise.{bytes_decides}
-use Rattle.std.specs.Prelude.{◌==◌, nat_le, ◌&&◌, if◌then◌else◌}
+use Rattle.std.specs.Prelude.{◌==◌, nat_le, ◌&&◌, if◌then◌else◌, option_to_list}
 use Rattle.std.specs.Option.{option_and_then}
 use Rattle.std.specs.Str.{bytes_eq}
 use Rattle.sha2.specs.Sha256.{sha256}
@@ -20,7 +20,7 @@ use Rattle.path_model.specs.declared.cause.Cause.TheVariants as causes
 use Rattle.path_model.specs.Behaviour.{State, Done, Condition}
 use Rattle.path_model.specs.Settings.{Setting, capacity_of, found_under, payload_of}
 use Rattle.path_model.specs.Plays.{Outcome}
-use Rattle.path_model.specs.DevicePlays.{Device, content_at, with_content, tested, unread, comparing, fits_size, is_image, matched, is_content, condition_play, Change, Made, Refused, concluded, filled, fetched, copied, swapped, fits_into, acted, ActIsCut, HoldsAny, WriteLeaves, FetchLeaves, SwapLeaves, launch_of}
+use Rattle.path_model.specs.DevicePlays.{Device, content_at, with_content, tested, unread, comparing, fits_size, is_image, matched, is_content, condition_play, Change, Made, Refused, concluded, filled, asking, fetched, fetching, copied, swapped, fits_into, acted, ActIsCut, HoldsAny, WriteLeaves, FetchLeaves, SwapLeaves, launch_of}
 use Rattle.path_model.specs.DeviceLaws.{IsUnread, ConditionRules, FailsFor, Holds, WriteRules, FetchRules, CopyRules, Exchanged, NoRoom, SwapRules, InvokeRule, PayloadRules, HoldsSome, Leaves, IsFault, FaultRule, acts_at}
 use Rattle.path_model.proofs.Fits.{first_true, second_true, fits}
 use Rattle.path_model.proofs.DeviceLeads.{tested_world, matched_world}
@@ -152,6 +152,7 @@ holds_with c bytes w = record {
   content = λ inside. get_or-set_same w.contents c bytes [] inside;
   others = λ k other. get_or-set_other w.contents c k bytes [] other;
   launches = refl;
+  asked = refl;
 }
 
 -- a directive whose parameter is there comes to its change
@@ -189,8 +190,8 @@ write_rules = record {
 }
 
 module _ (setting : Setting) (p c : ℕ) (s : State) (w : Device) (uri : List ℕ) (some : bytes_of (in_force s.parameters c keys.Uri) ≡ Some uri) where
-  fetch_comes : (change : Change) → fetched setting c (payload_of setting uri) w ≡ change → acts_at setting acts.Fetch p c s w ≡ concluded p (Wrote c ∷ []) s change
-  fetch_comes change is = there p (λ x. Wrote c ∷ []) (λ x. fetched setting c (payload_of setting x)) s w (bytes_of (in_force s.parameters c keys.Uri)) uri change some is
+  fetch_comes : (change : Change) → fetching setting c uri w ≡ change → acts_at setting acts.Fetch p c s w ≡ concluded p (Wrote c ∷ []) s change
+  fetch_comes change is = there p (λ x. Wrote c ∷ []) (λ x. fetching setting c x) s w (bytes_of (in_force s.parameters c keys.Uri)) uri change some is
 
 fetched_made : (setting : Setting) (c : ℕ) (found : Option (List ℕ)) (bytes : List ℕ) (w : Device) → found ≡ Some bytes → length bytes ≤ capacity_of setting c → fetched setting c found w ≡ Made (with_content w c bytes)
 fetched_made setting c found bytes w is le =
@@ -204,16 +205,19 @@ fetched_large setting c found bytes w is lt =
 
 pub fetch_rules : FetchRules
 fetch_rules = record {
-  missing = λ setting p c s w none. lacking p (λ x. Wrote c ∷ []) (λ x. fetched setting c (payload_of setting x)) s w (bytes_of (in_force s.parameters c keys.Uri)) none;
+  missing = λ setting p c s w none. lacking p (λ x. Wrote c ∷ []) (λ x. fetching setting c x) s w (bytes_of (in_force s.parameters c keys.Uri)) none;
   absent = λ setting p c s w uri some none.
-      refused_fails p (Wrote c ∷ []) s causes.Absent w (acts_at setting acts.Fetch p c s w)
-      (fetch_comes setting p c s w uri some (Refused causes.Absent w) (ap (λ (o : Option (List ℕ)). fetched setting c o w) none));
+      let asked : Device = asking setting uri w in
+      refused_fails p (Wrote c ∷ []) s causes.Absent asked (acts_at setting acts.Fetch p c s w)
+      (fetch_comes setting p c s w uri some (Refused causes.Absent asked) (ap (λ (o : Option (List ℕ)). fetched setting c o asked) none));
   fits = λ setting p c s w uri bytes some found le.
-      made_holds p c (Wrote c ∷ []) s w bytes (acts_at setting acts.Fetch p c s w)
-      (fetch_comes setting p c s w uri some (Made (with_content w c bytes)) (fetched_made setting c (payload_of setting uri) bytes w found le));
+      let asked : Device = asking setting uri w in
+      made_holds p c (Wrote c ∷ []) s asked bytes (acts_at setting acts.Fetch p c s w)
+      (fetch_comes setting p c s w uri some (Made (with_content asked c bytes)) (fetched_made setting c (payload_of setting (length w.asked) uri) bytes asked found le));
   too_large = λ setting p c s w uri bytes some found lt.
-      let is = fetch_comes setting p c s w uri some (Refused causes.TooLarge (with_content w c [])) (fetched_large setting c (payload_of setting uri) bytes w found lt) in
-      (ap (λ (x : Outcome Device). x.cause) is, subst (λ (v : Device). Holds c [] w v) (sym (ap (λ (x : Outcome Device). x.world) is)) (holds_with c [] w));
+      let asked : Device = asking setting uri w in
+      let is = fetch_comes setting p c s w uri some (Refused causes.TooLarge (with_content asked c [])) (fetched_large setting c (payload_of setting (length w.asked) uri) bytes asked found lt) in
+      (ap (λ (x : Outcome Device). x.cause) is, subst (λ (v : Device). Holds c [] asked v) (sym (ap (λ (x : Outcome Device). x.world) is)) (holds_with c [] asked));
 }
 
 module _ (setting : Setting) (p c : ℕ) (s : State) (w : Device) (source : ℕ) (some : number_of (in_force s.parameters c keys.Source) ≡ Some source) where
@@ -267,6 +271,7 @@ module _ (setting : Setting) (c source : ℕ) (w : Device) (other : source ≢ c
             (let long = length-set w.contents c (content_at w source) in omega (arith, inside, long));
         others = λ k not_one not_two. get_or-set_other middle.contents source k (content_at w c) [] not_two ∙ get_or-set_other w.contents c k (content_at w source) [] not_one;
         launches = refl;
+        asked = refl;
       }
 
   fit_true : length (content_at w source) ≤ capacity_of setting c → length (content_at w c) ≤ capacity_of setting source → fit ≡ true
@@ -303,6 +308,7 @@ invoke_rule setting p c s w = (
     is = record { component = refl; bytes = refl; digest = refl; size = refl; args = refl };
     added = refl;
     contents = refl;
+    asked = refl;
   },
 )
 
@@ -310,13 +316,18 @@ invoke_rule setting p c s w = (
 
 pub payload_rules : PayloadRules
 payload_rules = record {
-  integrated = λ setting key. refl;
-  named = λ setting first uri name other is.
-      when_false (first == 35) (found_under setting.payloads (first ∷ uri)) (option_and_then setting.files (found_under setting.words (first ∷ uri))) (ne_eqb first 35 other)
-      ∙ ap (option_and_then setting.files) is;
-  unnamed = λ setting first uri other is.
-      when_false (first == 35) (found_under setting.payloads (first ∷ uri)) (option_and_then setting.files (found_under setting.words (first ∷ uri))) (ne_eqb first 35 other)
-      ∙ ap (option_and_then setting.files) is;
+  integrated = λ setting request key. refl;
+  named = λ setting request first uri name other is.
+      when_false (first == 35) (found_under setting.payloads (first ∷ uri)) (option_and_then (setting.files request) (found_under setting.words (first ∷ uri))) (ne_eqb first 35 other)
+      ∙ ap (option_and_then (setting.files request)) is;
+  unnamed = λ setting request first uri other is.
+      when_false (first == 35) (found_under setting.payloads (first ∷ uri)) (option_and_then (setting.files request) (found_under setting.words (first ∷ uri))) (ne_eqb first 35 other)
+      ∙ ap (option_and_then (setting.files request)) is;
+  asks_none = λ words key. refl;
+  asks = λ words first uri name other is.
+      when_false (first == 35) [] (option_to_list (found_under words (first ∷ uri))) (ne_eqb first 35 other) ∙ ap option_to_list is;
+  asks_unnamed = λ words first uri other is.
+      when_false (first == 35) [] (option_to_list (found_under words (first ∷ uri))) (ne_eqb first 35 other) ∙ ap option_to_list is;
   none = λ key. refl;
   here = λ key value pairs. when_true (bytes_eq key key) (Some value) (found_under pairs key) ((bytes_decides key key).1 refl);
   later = λ key other value pairs differs. when_false (bytes_eq other key) (Some value) (found_under pairs key) (not_same other key differs);
@@ -335,41 +346,54 @@ held_some : (setting : Setting) (c : ℕ) (w v : Device) → HoldsAny setting c 
 held_some setting c w v (bytes, short, is) = record { bytes = bytes; short = short; holds = subst (λ (u : Device). Holds c bytes w u) (sym is) (holds_with c bytes w) }
 
 module _ {A : Type 0} (setting : Setting) (kind : ActKind) (p c : ℕ) (told : A → List Event) (Left : A → Cause → Device → Device → Type 0)
-    (leaves : (x : A) (cause : Cause) (w v : Device) → Left x cause w v → Leaves setting kind cause c w v) where
-  cut_fault : (s : State) (w : Device) (o : Outcome Device) (wanted : Option A) → ActIsCut p told Left s w o wanted → IsFault setting kind p c w o
-  cut_fault s w o None cut = absurd cut
-  cut_fault s w o (Some x) (cause, v, left, is) = record {
+    (s : State) (wanted : Option A) (leaves : (x : A) → wanted ≡ Some x → (cause : Cause) (w v : Device) → Left x cause w v → Leaves setting kind cause c s w v) where
+  cut_so : (w : Device) (o : Outcome Device) (named : Option A) → wanted ≡ named → ActIsCut p told Left s w o named → IsFault setting kind p c s w o
+  cut_so w o None same cut = absurd cut
+  cut_so w o (Some x) same (cause, v, left, is) = record {
     ending = ap (λ (y : Outcome Device). y.ending) is;
     cause = cause;
     named = ap (λ (y : Outcome Device). y.cause) is;
-    leaves = subst (λ (u : Device). Leaves setting kind cause c w u) (sym (ap (λ (y : Outcome Device). y.world) is)) (leaves x cause w v left);
+    leaves = subst (λ (u : Device). Leaves setting kind cause c s w u) (sym (ap (λ (y : Outcome Device). y.world) is)) (leaves x same cause w v left);
   }
 
-write_left : (setting : Setting) (c : ℕ) (cause : Cause) (w v : Device) → WriteLeaves setting c cause w v → Leaves setting acts.Write cause c w v
-write_left setting c cause w v h = write_cut setting c w v (λ k. Leaves setting acts.Write k c w v) cause h (held_some setting c w v)
+  cut_fault : (w : Device) (o : Outcome Device) → ActIsCut p told Left s w o wanted → IsFault setting kind p c s w o
+  cut_fault w o cut = cut_so w o wanted refl cut
 
-copy_left : (setting : Setting) (c : ℕ) (cause : Cause) (w v : Device) → WriteLeaves setting c cause w v → Leaves setting acts.Copy cause c w v
-copy_left setting c cause w v h = write_cut setting c w v (λ k. Leaves setting acts.Copy k c w v) cause h (held_some setting c w v)
+write_left : (setting : Setting) (c : ℕ) (s : State) (cause : Cause) (w v : Device) → WriteLeaves setting c cause w v → Leaves setting acts.Write cause c s w v
+write_left setting c s cause w v h = write_cut setting c w v (λ k. Leaves setting acts.Write k c s w v) cause h (held_some setting c w v)
 
-fetch_left : (setting : Setting) (uri : List ℕ) (c : ℕ) (cause : Cause) (w v : Device) → FetchLeaves setting uri c cause w v → Leaves setting acts.Fetch cause c w v
-fetch_left setting uri c cause w v h =
-    fetch_cut setting c w v (λ k. Leaves setting acts.Fetch k c w v) uri cause h (held_some setting c w v)
-    (λ named left. elim left [ inl is ↦ inl is | inr is ↦ inr (subst (λ (u : Device). Holds c [] w u) (sym is) (holds_with c [] w)) ])
+copy_left : (setting : Setting) (c : ℕ) (s : State) (cause : Cause) (w v : Device) → WriteLeaves setting c cause w v → Leaves setting acts.Copy cause c s w v
+copy_left setting c s cause w v h = write_cut setting c w v (λ k. Leaves setting acts.Copy k c s w v) cause h (held_some setting c w v)
 
-swap_left : (setting : Setting) (c source : ℕ) (cause : Cause) (w v : Device) → SwapLeaves setting c source cause w v → Leaves setting acts.Swap cause c w v
-swap_left setting c source cause w v h =
-    swap_cut setting c w v (λ k. Leaves setting acts.Swap k c w v) source cause h
+fetch_left : (setting : Setting) (c : ℕ) (s : State) (uri : List ℕ) → bytes_of (in_force s.parameters c keys.Uri) ≡ Some uri → (cause : Cause) (w v : Device) → FetchLeaves setting uri c cause w v
+    → Leaves setting acts.Fetch cause c s w v
+fetch_left setting c s uri same cause w v h =
+    let asked : Device = asking setting uri w in
+    fetch_cut setting c w v (λ k. Leaves setting acts.Fetch k c s w v) uri cause h
+    (λ any. record { uri = uri; named = same; then_so = held_some setting c asked v any })
+    (λ named left. elim left [
+      | inl is ↦ inl is
+      | inr later ↦ inr (record {
+        uri = uri;
+        named = same;
+        then_so = elim later [ inl is ↦ inl is | inr is ↦ inr (subst (λ (u : Device). Holds c [] asked u) (sym is) (holds_with c [] asked)) ];
+      })
+    ])
+
+swap_left : (setting : Setting) (c : ℕ) (s : State) (source : ℕ) (cause : Cause) (w v : Device) → SwapLeaves setting c source cause w v → Leaves setting acts.Swap cause c s w v
+swap_left setting c s source cause w v h =
+    swap_cut setting c w v (λ k. Leaves setting acts.Swap k c s w v) source cause h
     (λ m one two. record { source = source; middle = m; one = held_some setting c w m one; other = held_some setting source m v two })
 
 pub fault_rule : FaultRule
 fault_rule setting acts.Write p c s w o cut =
-    cut_fault setting acts.Write p c (λ x. Wrote c ∷ []) (λ x. WriteLeaves setting c) (λ x. write_left setting c) s w o (bytes_of (in_force s.parameters c keys.Content)) cut
+    cut_fault setting acts.Write p c (λ x. Wrote c ∷ []) (λ x. WriteLeaves setting c) s (bytes_of (in_force s.parameters c keys.Content)) (λ x same. write_left setting c s) w o cut
 fault_rule setting acts.Fetch p c s w o cut =
-    cut_fault setting acts.Fetch p c (λ x. Wrote c ∷ []) (λ x. FetchLeaves setting x c) (λ x. fetch_left setting x c) s w o (bytes_of (in_force s.parameters c keys.Uri)) cut
+    cut_fault setting acts.Fetch p c (λ x. Wrote c ∷ []) (λ x. FetchLeaves setting x c) s (bytes_of (in_force s.parameters c keys.Uri)) (fetch_left setting c s) w o cut
 fault_rule setting acts.Copy p c s w o cut =
-    cut_fault setting acts.Copy p c (λ x. Wrote c ∷ []) (λ x. WriteLeaves setting c) (λ x. copy_left setting c) s w o (number_of (in_force s.parameters c keys.Source)) cut
+    cut_fault setting acts.Copy p c (λ x. Wrote c ∷ []) (λ x. WriteLeaves setting c) s (number_of (in_force s.parameters c keys.Source)) (λ x same. copy_left setting c s) w o cut
 fault_rule setting acts.Swap p c s w o cut =
-    cut_fault setting acts.Swap p c (λ x. Wrote c ∷ Wrote x ∷ []) (λ x. SwapLeaves setting c x) (λ x. swap_left setting c x) s w o (number_of (in_force s.parameters c keys.Source)) cut
+    cut_fault setting acts.Swap p c (λ x. Wrote c ∷ Wrote x ∷ []) (λ x. SwapLeaves setting c x) s (number_of (in_force s.parameters c keys.Source)) (λ x same. swap_left setting c s x) w o cut
 fault_rule setting acts.Invoke p c s w o (causes.LaunchFault, stops, is) = record {
   ending = ap (λ (y : Outcome Device). y.ending) is;
   cause = causes.LaunchFault;

@@ -22,9 +22,9 @@ use Rattle.path_model.specs.Behaviour.{State, Ending, Done, Directive, Behaviour
 use Rattle.path_model.specs.Conditions.{IsMet, IsUnmet, IsAsWanted, Compares, ComparesIdentifier, vendor_of, class_of, device_of, slot_of, Matches, ChecksContent, Tests}
 use Rattle.path_model.specs.Directives.{Writes, Invokes, Acts}
 use Rattle.path_model.specs.Path.{first_state, RunsPlan}
-use Rattle.path_model.specs.Settings.{Setting, payload_of}
+use Rattle.path_model.specs.Settings.{Setting}
 use Rattle.path_model.specs.Plays.{Outcome}
-use Rattle.path_model.specs.DevicePlays.{Device, content_at, tested, comparing, comparing_identifier, same_identifier, same_number, is_image, matched, matching, is_content, checking, condition_play, Change, Made, Refused, concluded, filled, fetched, copied, swapped, acted, ActIsCut, acting, WriteLeaves, FetchLeaves, SwapLeaves, invoking, directive_play, first_device, plan_play}
+use Rattle.path_model.specs.DevicePlays.{Device, content_at, tested, comparing, comparing_identifier, same_identifier, same_number, is_image, matched, matching, is_content, checking, condition_play, Change, Made, Refused, concluded, filled, fetching, copied, swapped, acted, ActIsCut, acting, WriteLeaves, FetchLeaves, SwapLeaves, invoking, directive_play, first_device, plan_play}
 use Rattle.path_model.specs.PlayLaws.{PlayRuns, FaultedIsPath}
 use Rattle.path_model.proofs.PlaysRun.{Begins, Follows, other_run, procedure_follows}
 
@@ -188,7 +188,7 @@ module _ (setting : Setting) where
   acts_follow acts.Fetch p c =
       let wanted : State → Option (List ℕ) = λ s. bytes_of (in_force s.parameters c keys.Uri) in
       other_run Device (λ s. Writes p (wanted s) (λ x. Wrote c ∷ []) s) (Acts acts.Fetch p c) (directive_play setting acts.Fetch p c) (λ s es e r. r)
-      (acting_follows p (λ x. Wrote c ∷ []) (λ x. fetched setting c (payload_of setting x)) (λ x. FetchLeaves setting x c) wanted)
+      (acting_follows p (λ x. Wrote c ∷ []) (λ x. fetching setting c x) (λ x. FetchLeaves setting x c) wanted)
   acts_follow acts.Copy p c =
       let wanted : State → Option ℕ = λ s. number_of (in_force s.parameters c keys.Source) in
       other_run Device (λ s. Writes p (wanted s) (λ x. Wrote c ∷ []) s) (Acts acts.Copy p c) (directive_play setting acts.Copy p c) (λ s es e r. r)

@@ -3,7 +3,7 @@ use Rattle.std.proofs.Common.{◌≡◌, ◌⊎◌, ℕ, List, []}
 use Rattle.path_model.specs.declared.cause.Cause.{Cause}
 use Rattle.path_model.specs.declared.cause.Cause.TheVariants as causes
 use Rattle.path_model.specs.Settings.{Setting, NamesFile}
-use Rattle.path_model.specs.DevicePlays.{Device, with_content, HoldsAny, WriteLeaves, FetchLeaves, SwapLeaves}
+use Rattle.path_model.specs.DevicePlays.{Device, with_content, asking, HoldsAny, WriteLeaves, FetchLeaves, SwapLeaves}
 
 module _ (setting : Setting) (c : ℕ) (w v : Device) (P : Cause → Type 0) where
   pub write_cut : (cause : Cause) → WriteLeaves setting c cause w v → (HoldsAny setting c w v → P causes.FlashFault) → P cause
@@ -15,8 +15,8 @@ module _ (setting : Setting) (c : ℕ) (w v : Device) (P : Cause → Type 0) whe
   write_cut causes.Absent h flash = absurd h
   write_cut causes.LaunchFault h flash = absurd h
 
-  pub fetch_cut : (uri : List ℕ) (cause : Cause) → FetchLeaves setting uri c cause w v → (HoldsAny setting c w v → P causes.FlashFault)
-      → (NamesFile setting.words uri → (v ≡ w) ⊎ (v ≡ with_content w c []) → P causes.HostFault) → P cause
+  pub fetch_cut : (uri : List ℕ) (cause : Cause) → FetchLeaves setting uri c cause w v → (HoldsAny setting c (asking setting uri w) v → P causes.FlashFault)
+      → (NamesFile setting.words uri → (v ≡ w) ⊎ (v ≡ asking setting uri w) ⊎ (v ≡ with_content (asking setting uri w) c []) → P causes.HostFault) → P cause
   fetch_cut uri causes.FlashFault h flash host = flash h
   fetch_cut uri causes.HostFault h flash host = host h.0 h.1
   fetch_cut uri causes.Missing h flash host = absurd h

@@ -17,7 +17,7 @@ use Rattle.path_model.specs.Behaviour.{State, Done, Condition}
 use Rattle.path_model.specs.OneRun.{FreeStep, MatchStep, ContentStep, WriteStep, SwapStep, passed_told, failed_told}
 use Rattle.path_model.specs.Settings.{Setting, capacity_of, payload_of}
 use Rattle.path_model.specs.Plays.{Outcome}
-use Rattle.path_model.specs.DevicePlays.{Device, content_at, with_content, tested, comparing, is_image, matched, is_content, condition_play, Change, Made, Refused, concluded, filled, fetched, copied, swapped, acted, directive_play}
+use Rattle.path_model.specs.DevicePlays.{Device, content_at, with_content, tested, comparing, is_image, matched, is_content, condition_play, Change, Made, Refused, concluded, filled, asking, fetched, fetching, copied, swapped, acted, directive_play}
 use Rattle.path_model.specs.RecalledPlays.{Recalling, recalling, free_test, free_act, recalled_test, recalled_act, kept_after, as_recalling, step_comes, LossLeaves, StepIsLost, recalled_condition, recalled_directive}
 use Rattle.path_model.specs.ResumeLaws.{EndsUnfailed, with_world, Resumes}
 
@@ -191,7 +191,7 @@ module _ (A : Type 0) (p : ℕ) (told : A → List Event) (makes : A → Device 
 -- ---- what each directive makes
 
 written_twice : (d : Device) (c : ℕ) (before bytes : List ℕ) → with_content (with_content d c before) c bytes ≡ with_content d c bytes
-written_twice d c before bytes = ap (λ (contents : List (List ℕ)). record { contents = contents; launches = d.launches }) (set-set d.contents c before bytes)
+written_twice d c before bytes = ap (λ (contents : List (List ℕ)). record { contents = contents; launches = d.launches; asked = d.asked }) (set-set d.contents c before bytes)
 
 -- bytes that go to the component, or not
 one_filled : (d : Device) (c : ℕ) (before bytes : List ℕ) (v : Bool) (refused : Device → Change) (e : Device) → ((x : Device) → refused x ≡ Made e → ⊥)
@@ -208,6 +208,12 @@ fetched_same setting c None d x e before at is = absurd cc
 fetched_same setting c (Some bytes) d x e before at is =
     ap (fetched setting c (Some bytes)) at ∙ one_filled d c before bytes (nat_le (length bytes) (capacity_of setting c)) (λ y. Refused causes.TooLarge (with_content y c [])) e (λ y h. absurd cc) is
 
+-- the host is asked as before
+fetching_same : (setting : Setting) (c : ℕ) (uri : List ℕ) (d x e : Device) (before : List ℕ) → x ≡ with_content d c before → fetching setting c uri d ≡ Made e → fetching setting c uri x ≡ Made e
+fetching_same setting c uri d x e before at is =
+    ap (fetching setting c uri) at
+    ∙ fetched_same setting c (payload_of setting (length d.asked) uri) (asking setting uri d) (asking setting uri (with_content d c before)) e before refl is
+
 -- a copy of another component
 one_copied : (setting : Setting) (c source : ℕ) (d x e : Device) (before : List ℕ) (v : Bool) → source == c ≡ v → x ≡ with_content d c before
     → (if v then Refused causes.SelfCopy d else filled setting c (content_at d source) d) ≡ Made e → (if v then Refused causes.SelfCopy x else filled setting c (content_at x source) x) ≡ Made e
@@ -222,8 +228,8 @@ directives_resume setting acts.Write p c other = act_resumes setting acts.Write 
     acting_tells (List ℕ) p (λ content. Wrote c ∷ []) (λ content. filled setting c content) (λ content. WriteStep c p) s (λ content. refl)
     (λ content d x e leaves is. filled_same setting c content d x e leaves.0 leaves.1 is) (bytes_of (in_force s.parameters c keys.Content)))
 directives_resume setting acts.Fetch p c other = act_resumes setting acts.Fetch p c (λ s.
-    acting_tells (List ℕ) p (λ uri. Wrote c ∷ []) (λ uri. fetched setting c (payload_of setting uri)) (λ uri. WriteStep c p) s (λ uri. refl)
-    (λ uri d x e leaves is. fetched_same setting c (payload_of setting uri) d x e leaves.0 leaves.1 is) (bytes_of (in_force s.parameters c keys.Uri)))
+    acting_tells (List ℕ) p (λ uri. Wrote c ∷ []) (λ uri. fetching setting c uri) (λ uri. WriteStep c p) s (λ uri. refl)
+    (λ uri d x e leaves is. fetching_same setting c uri d x e leaves.0 leaves.1 is) (bytes_of (in_force s.parameters c keys.Uri)))
 directives_resume setting acts.Copy p c other = act_resumes setting acts.Copy p c (λ s.
     acting_tells ℕ p (λ source. Wrote c ∷ []) (λ source. copied setting c source) (λ source. WriteStep c p) s (λ source. refl)
     (λ source d x e leaves is. one_copied setting c source d x e leaves.0 (source == c) refl leaves.1 is) (number_of (in_force s.parameters c keys.Source)))

@@ -26,7 +26,7 @@ use Rattle.path_model.specs.Safe.{HasMatched, IsCovered, AllCovered}
 use Rattle.path_model.specs.Following.{CoveredFrom}
 use Rattle.path_model.specs.Settings.{Setting, capacity_of, payload_of}
 use Rattle.path_model.specs.Plays.{Outcome, Play}
-use Rattle.path_model.specs.DevicePlays.{Launched, Device, content_at, with_content, tested, unread, comparing, fits_size, is_image, matched, is_content, condition_play, Change, Made, Refused, concluded, filled, fetched, copied, swapped, fits_into, acted, ActIsCut, acting, WriteLeaves, FetchLeaves, SwapLeaves, launch_of, launching, directive_play, first_device, plan_play, played}
+use Rattle.path_model.specs.DevicePlays.{Launched, Device, content_at, with_content, tested, unread, comparing, fits_size, is_image, matched, is_content, condition_play, Change, Made, Refused, concluded, filled, asking, fetched, fetching, copied, swapped, fits_into, acted, ActIsCut, acting, WriteLeaves, FetchLeaves, SwapLeaves, launch_of, launching, directive_play, first_device, plan_play, played}
 use Rattle.path_model.specs.PlayLaws.{HasItsDigest, SafeLaunches, FaultedSafeLaunches}
 use Rattle.path_model.proofs.CoverLaws.{nothing_matched, matched_after}
 use Rattle.path_model.proofs.Coverage.{covered_by_standing}
@@ -230,6 +230,10 @@ fetched_writes setting c None w = written_same c w
 fetched_writes setting c (Some bytes) w =
     chosen c w (nat_le (length bytes) (capacity_of setting c)) (Made (with_content w c bytes)) (Refused causes.TooLarge (with_content w c [])) (written_with c w bytes) (written_with c w [])
 
+-- the ask writes nothing
+asked_writes : (setting : Setting) (c : ℕ) (uri : List ℕ) (w v : Device) → WrittenAt c (asking setting uri w) v → WrittenAt c w v
+asked_writes setting c uri w v written = record { others = written.others; launches = written.launches }
+
 copied_writes : (setting : Setting) (c source : ℕ) (w : Device) → Writes c w (copied setting c source w)
 unfolding left_in Writes
 copied_writes setting c source w =
@@ -241,10 +245,14 @@ write_leaves setting c cause w v h =
 
 fetch_leaves : (setting : Setting) (uri : List ℕ) (c : ℕ) (cause : Cause) (w v : Device) → FetchLeaves setting uri c cause w v → WrittenAt c w v
 fetch_leaves setting uri c cause w v h =
-    fetch_cut setting c w v (λ k. WrittenAt c w v) uri cause h (λ (bytes, short, is). subst (WrittenAt c w) (sym is) (written_with c w bytes))
+    let asked : Device = asking setting uri w in
+    fetch_cut setting c w v (λ k. WrittenAt c w v) uri cause h (λ (bytes, short, is). asked_writes setting c uri w v (subst (WrittenAt c asked) (sym is) (written_with c asked bytes)))
     (λ named left. elim left [
       | inl is ↦ subst (WrittenAt c w) (sym is) (written_same c w)
-      | inr is ↦ subst (WrittenAt c w) (sym is) (written_with c w [])
+      | inr later ↦ elim later [
+        | inl is ↦ asked_writes setting c uri w v (subst (WrittenAt c asked) (sym is) (written_same c asked))
+        | inr is ↦ asked_writes setting c uri w v (subst (WrittenAt c asked) (sym is) (written_with c asked []))
+      ]
     ])
 
 -- both sides of a swap
@@ -307,7 +315,7 @@ unfolding Writes BothIn
 acts_keep setting acts.Write p c =
     one_keeps p c (λ x. filled setting c x) (λ x. WriteLeaves setting c) (λ s. bytes_of (in_force s.parameters c keys.Content)) (filled_writes setting c) (λ x. write_leaves setting c)
 acts_keep setting acts.Fetch p c =
-    one_keeps p c (λ x. fetched setting c (payload_of setting x)) (λ x. FetchLeaves setting x c) (λ s. bytes_of (in_force s.parameters c keys.Uri)) (λ x. fetched_writes setting c (payload_of setting x)) (λ x. fetch_leaves setting x c)
+    one_keeps p c (λ x. fetching setting c x) (λ x. FetchLeaves setting x c) (λ s. bytes_of (in_force s.parameters c keys.Uri)) (λ x w. asked_writes setting c x w _ (fetched_writes setting c (payload_of setting (length w.asked) x) (asking setting x w))) (λ x. fetch_leaves setting x c)
 acts_keep setting acts.Copy p c =
     one_keeps p c (λ x. copied setting c x) (λ x. WriteLeaves setting c) (λ s. number_of (in_force s.parameters c keys.Source)) (copied_writes setting c) (λ x. write_leaves setting c)
 acts_keep setting acts.Swap p c =

@@ -1,23 +1,24 @@
 -- A procedure that has come so far, and goes on or stops there.
-use Rattle.std.proofs.Common.{◌≡◌, inl, inr, ⊎_elim, List, [], ◌∷◌, ◌++◌, Result, Ok, Err, map, refl, sym, ap, subst, ◌∙◌, append_assoc}
+use Rattle.std.proofs.Common.{◌≡◌, ◌+◌, inl, inr, ⊎_elim, ℕ, suc, List, [], ◌∷◌, ◌++◌, Option, Result, Ok, Err, length, map, refl, sym, ap, subst, ◌∙◌, append_assoc, arith}
 use Rattle.std.specs.Prelude.{IsTrue}
-use Rattle.std.proofs.lemmas.List.{append-nil}
+use Rattle.std.specs.List.{AllByRecursion}
+use Rattle.std.proofs.lemmas.List.{append-nil, length-append}
 use Rattle.suit_edge.specs.declared.launch.Launch.{Launch}
 use Rattle.suit_edge.specs.Flash.{IsFlash}
 use Rattle.suit_edge.specs.FlashLaws.{keeps_start, keeps_then, grows_start, grows_then}
 use Rattle.suit_commands.specs.Plans.{plan_tree}
 use Rattle.path_model.specs.Behaviour.{State}
 use Rattle.path_model.specs.Settings.{Setting}
-use Rattle.path_model.specs.Plays.{Play}
 use Rattle.path_model.specs.DevicePlays.{Device, Launched}
 use Rattle.step_machine.specs.declared.stop.Stop.{Stop}
 use Rattle.step_machine.specs.declared.machine.Machine.{Machine}
 use Rattle.step_machine.specs.Comes.{Comes}
+use Rattle.step_machine.specs.Fetching.{AreGiven, AreRequests, Request, names_of}
 use Rattle.step_machine.specs.Invoking.{launched_as}
 use Rattle.step_machine.specs.PlanRuns.{Counts, OutsideTargets}
-use Rattle.step_machine.specs.Running.{Moment, Stays, StopCounts, Fits, Gained, Part, RunsPart, AreFilesKnown, AreSources, counts_at, device_at}
+use Rattle.step_machine.specs.Running.{Moment, Past, Stays, StopCounts, Fits, Gained, Goes, Part, RunsPart, AreFilesKnown, AreSources, counts_at, device_at, followed, gained}
 use Rattle.step_machine.specs.Parts.{nothing_part, then_part}
-use Rattle.step_machine.proofs.Asking.{asks_none, asks_then}
+use Rattle.step_machine.proofs.Asking.{asks_none, asks_then, unrequested}
 use Rattle.step_machine.proofs.Composing.{then_comes, first_stops}
 
 -- ---- what stays
@@ -59,18 +60,6 @@ stays_then machine a b c law first second = record {
       grows_then a.disk.flash b.disk.flash c.disk.flash (first.keeps t).images.later (first.grows t) (second.grows u);
 }
 
-pub fits_then : (machine : Machine) (a b : Moment) (setting : Setting) → Stays machine a b → Fits machine a setting → Fits machine b setting
-fits_then machine a b setting stays fits = record {
-  host = known_then machine a b stays.host fits.host;
-  disk = subst IsTrue (sym stays.disk) fits.disk;
-  launcher = subst IsTrue (sym stays.launcher) fits.launcher;
-  identities = fits.identities;
-  capacities = fits.capacities;
-  payloads = fits.payloads;
-  words = fits.words;
-  files = fits.files ∙ sym (stays.files fits.host);
-}
-
 -- ---- parts that run as another does
 
 pub runs_as : (machine : Machine) (p q : Part) (s z : State) (m n : Moment) (r x : Result (Unit {0}) Stop) (t y : State) → RunsPart machine p s m r t n → StopCounts x (counts_at m) (counts_at n) → AreSources machine y.parameters
@@ -79,92 +68,166 @@ runs_as machine p q s z m n r x t y one counts sources comes = record {
   stays = one.stays;
   counts = counts;
   sources = sources;
-  goes = λ setting fits prior. let g = one.goes setting fits prior in record { gained = g.gained; added = g.added; comes = comes setting _ _ g.comes };
+  goes = λ disk launcher. let g = one.goes disk launcher in
+      record { more = g.more; launches = g.launches; requests = g.requests; comes = λ setting fits past given. comes setting _ _ (g.comes setting fits past given) };
 }
 
+-- ---- requests
+
+-- the names are those before
+pub no_requests : (machine : Machine) (m n : Moment) → n.host.asked.names ≡ m.host.asked.names → AreRequests m.host.told machine.uris.now m.host.files m.host.asked.names n.host.asked.names []
+no_requests machine m n same = unrequested m.host.told machine.uris.now m.host.files m.host.asked.names n.host.asked.names same
+
+-- after them nothing was launched, and these were asked for
+pub followed_asking : (past : Past) (requests : List Request) → followed past (gained [] requests) ≡ record { launches = past.launches; asked = past.asked ++ names_of requests }
+followed_asking past requests = ap (λ (l : List Launched). record { launches = l; asked = past.asked ++ names_of requests }) (append-nil past.launches)
+
+pub followed_quietly : (past : Past) → followed past (gained [] []) ≡ past
+followed_quietly past = followed_asking past [] ∙ ap (λ (names : List (List ℕ)). record { launches = past.launches; asked = names }) (append-nil past.asked)
+
 -- no launch is made
-pub runs_quietly : (machine : Machine) (part : Part) (s : State) (m n : Moment) (r : Result (Unit {0}) Stop) (t : State) → Stays machine m n → StopCounts r (counts_at m) (counts_at n) → AreSources machine t.parameters
+pub runs_asking : (machine : Machine) (part : Part) (s : State) (m n : Moment) (r : Result (Unit {0}) Stop) (t : State) → Stays machine m n → StopCounts r (counts_at m) (counts_at n) → AreSources machine t.parameters
     → n.launcher.launches ≡ m.launcher.launches
-    → ((setting : Setting) → Fits machine m setting → (prior : List Launched) → Comes (part setting) s (device_at machine m prior) r t (device_at machine n prior)) → RunsPart machine part s m r t n
-runs_quietly machine part s m n r t stays counts sources launches comes = record {
+    → (IsTrue m.disk.told → (requests : List Request) × AreRequests m.host.told machine.uris.now m.host.files m.host.asked.names n.host.asked.names requests
+    × ((setting : Setting) → Fits machine setting → (past : Past) → AreGiven setting.files (length past.asked) requests
+    → Comes (part setting) s (device_at machine m past) r t (device_at machine n (record { launches = past.launches; asked = past.asked ++ names_of requests })))) → RunsPart machine part s m r t n
+runs_asking machine part s m n r t stays counts sources launches comes = record {
   stays = stays;
   counts = counts;
   sources = sources;
-  goes = λ setting fits prior. record {
-    gained = [];
-    added = launches ∙ sym (append-nil m.launcher.launches);
-    comes = subst (λ (l : List Launched). Comes (part setting) s (device_at machine m prior) r t (device_at machine n l)) (sym (append-nil prior)) (comes setting fits prior);
-  };
+  goes = λ disk launcher. let c = comes disk in
+      record {
+        more = gained [] c.0;
+        launches = launches ∙ sym (append-nil m.launcher.launches);
+        requests = c.1;
+        comes = λ setting fits past given.
+            subst (λ (p : Past). Comes (part setting) s (device_at machine m past) r t (device_at machine n p)) (sym (followed_asking past c.0)) (c.2 setting fits past given);
+      };
 }
+
+-- and nothing is asked for
+pub runs_quietly : (machine : Machine) (part : Part) (s : State) (m n : Moment) (r : Result (Unit {0}) Stop) (t : State) → Stays machine m n → StopCounts r (counts_at m) (counts_at n) → AreSources machine t.parameters
+    → n.launcher.launches ≡ m.launcher.launches → n.host.asked.names ≡ m.host.asked.names
+    → (IsTrue m.disk.told → (setting : Setting) → Fits machine setting → (past : Past) → Comes (part setting) s (device_at machine m past) r t (device_at machine n past)) → RunsPart machine part s m r t n
+runs_quietly machine part s m n r t stays counts sources launches asked comes =
+    runs_asking machine part s m n r t stays counts sources launches (λ told. ([], no_requests machine m n asked, λ setting fits past given.
+    subst (λ (names : List (List ℕ)). Comes (part setting) s (device_at machine m past) r t (device_at machine n (record { launches = past.launches; asked = names }))) (sym (append-nil past.asked)) (comes told setting fits past)))
 
 -- nothing outside changes
 pub runs_at_once : (machine : Machine) (part : Part) (s : State) (m : Moment) (r : Result (Unit {0}) Stop) (t : State) → StopCounts r (counts_at m) (counts_at m) → AreSources machine t.parameters
     → ((setting : Setting) (w : Device) → Comes (part setting) s w r t w) → RunsPart machine part s m r t m
 runs_at_once machine part s m r t counts sources comes =
-    runs_quietly machine part s m m r t (stays_start machine m) counts sources refl (λ setting fits prior. comes setting (device_at machine m prior))
+    runs_quietly machine part s m m r t (stays_start machine m) counts sources refl refl (λ told setting fits past. comes setting (device_at machine m past))
 
 -- ---- events before the rest
 
 -- the whole ends as the rest does
-pub record Led (machine : Machine) (whole rest : Play Device) (s0 : State) (m0 : Moment) (s : State) (m : Moment) (prior : List Launched) : Type 0 where
-  pub gained : List Launch
-  pub added : m.launcher.launches ≡ m0.launcher.launches ++ gained
-  pub leads : (r : Result (Unit {0}) Stop) (t : State) (after : Device) → Comes rest s (device_at machine m (prior ++ map launched_as gained)) r t after
-      → Comes whole s0 (device_at machine m0 prior) r t after
+pub record Led (machine : Machine) (whole rest : Part) (s0 : State) (m0 : Moment) (s : State) (m : Moment) : Type 0 where
+  pub more : Gained
+  pub launches : m.launcher.launches ≡ m0.launcher.launches ++ more.launches
+  pub requests : AreRequests m0.host.told machine.uris.now m0.host.files m0.host.asked.names m.host.asked.names more.requests
+  pub leads : (setting : Setting) → Fits machine setting → (past : Past) → AreGiven setting.files (length past.asked) more.requests
+      → (r : Result (Unit {0}) Stop) (t : State) (after : Device) → Comes (rest setting) s (device_at machine m (followed past more)) r t after
+      → Comes (whole setting) s0 (device_at machine m0 past) r t after
 
 pub record Begun (machine : Machine) (whole rest : Part) (s0 : State) (m0 : Moment) (s : State) (m : Moment) : Type 0 where
   pub stays : Stays machine m0 m
   pub counts : counts_at m ≡ counts_at m0
   pub sources : AreSources machine s.parameters
-  pub leads : (setting : Setting) → Fits machine m0 setting → (prior : List Launched) → Led machine (whole setting) (rest setting) s0 m0 s m prior
+  pub leads : IsTrue m0.disk.told → IsTrue m0.launcher.told → Led machine whole rest s0 m0 s m
 
 pub begun : (machine : Machine) (whole : Part) (s : State) (m : Moment) → AreSources machine s.parameters → Begun machine whole whole s m s m
 begun machine whole s m sources = record {
   stays = stays_start machine m;
   counts = refl;
   sources = sources;
-  leads = λ setting fits prior. record {
-    gained = [];
-    added = sym (append-nil m.launcher.launches);
-    leads = λ r t after comes. subst (λ (l : List Launched). Comes (whole setting) s (device_at machine m l) r t after) (append-nil prior) comes;
+  leads = λ disk launcher. record {
+    more = gained [] [];
+    launches = sym (append-nil m.launcher.launches);
+    requests = no_requests machine m m refl;
+    leads = λ setting fits past given r t after comes. subst (λ (p : Past). Comes (whole setting) s (device_at machine m p) r t after) (followed_quietly past) comes;
   };
 }
+
+-- the launches and requests of one after another
+abbrev pub joined : Gained → Gained → Gained
+joined one other = gained (one.launches ++ other.launches) (one.requests ++ other.requests)
 
 map-append : {A B : Type 0} (f : A → B) (xs ys : List A) → map f (xs ++ ys) ≡ map f xs ++ map f ys
 map-append f [] ys = refl
 map-append f (x ∷ xs) ys = ap (λ l. f x ∷ l) (map-append f xs ys)
 
--- the launches of one after another
-pub joined : (prior : List Launched) (one other : List Launch) → (prior ++ map launched_as one) ++ map launched_as other ≡ prior ++ map launched_as (one ++ other)
-joined prior one other =
-    append_assoc prior (map launched_as one) (map launched_as other)
-    ∙ ap (λ (l : List Launched). prior ++ l) (sym (map-append launched_as one other))
+both_after : {A B : Type 0} (f : A → B) (before : List B) (xs ys : List A) → (before ++ map f xs) ++ map f ys ≡ before ++ map f (xs ++ ys)
+both_after f before xs ys = append_assoc before (map f xs) (map f ys) ∙ ap (λ l. before ++ l) (sym (map-append f xs ys))
 
-module _ (machine : Machine) (whole rest : Play Device) (s0 : State) (m0 : Moment) (s : State) (m : Moment) (prior : List Launched) (led : Led machine whole rest s0 m0 s m prior) where
-  since : (n : Moment) (more : List Launch) → n.launcher.launches ≡ m.launcher.launches ++ more → n.launcher.launches ≡ m0.launcher.launches ++ (led.gained ++ more)
-  since n more added = added ∙ ap (λ (l : List Launch). l ++ more) led.added ∙ append_assoc m0.launcher.launches led.gained more
+pub followed_both : (past : Past) (one other : Gained) → followed (followed past one) other ≡ followed past (joined one other)
+followed_both past one other =
+    ap (λ (l : List Launched). record { launches = l; asked = (past.asked ++ names_of one.requests) ++ names_of other.requests }) (both_after launched_as past.launches one.launches other.launches)
+    ∙ ap (λ (names : List (List ℕ)). record { launches = past.launches ++ map launched_as (one.launches ++ other.launches); asked = names }) (both_after (λ (r : Request). r.name) past.asked one.requests other.requests)
 
+-- what is given to both is given to each, to the second behind the first
+given_each : (files : ℕ → List ℕ → Option (List ℕ)) (number : ℕ) (one other : List Request) → AreGiven files number (one ++ other) → AreGiven files number one × AreGiven files (number + length (names_of one)) other
+given_each files number [] other given = (tt, subst (λ (k : ℕ). AreGiven files k other) (omega arith) given)
+given_each files number (r ∷ one) other given =
+    let rest = given_each files (suc number) one other given.1 in
+    ((given.0, rest.0), subst (λ (k : ℕ). AreGiven files k other) (omega arith) rest.1)
+
+pub given_both : (files : ℕ → List ℕ → Option (List ℕ)) (past : Past) (one other : Gained) → AreGiven files (length past.asked) (joined one other).requests
+    → AreGiven files (length past.asked) one.requests × AreGiven files (length (followed past one).asked) other.requests
+given_both files past one other given =
+    let each = given_each files (length past.asked) one.requests other.requests given in
+    (each.0, subst (λ (k : ℕ). AreGiven files k other.requests) (sym (length-append past.asked (names_of one.requests))) each.1)
+
+all_of_both : (P : Request → Type 0) (l m : List Request) → AllByRecursion P l → AllByRecursion P m → AllByRecursion P (l ++ m)
+all_of_both P [] m first second = second
+all_of_both P (x ∷ l) m first second = (first.0, all_of_both P l m first.1 second)
+
+requests_then : (machine : Machine) (a b c : Moment) (one other : List Request) → Stays machine a b
+    → AreRequests a.host.told machine.uris.now a.host.files a.host.asked.names b.host.asked.names one
+    → AreRequests b.host.told machine.uris.now b.host.files b.host.asked.names c.host.asked.names other
+    → AreRequests a.host.told machine.uris.now a.host.files a.host.asked.names c.host.asked.names (one ++ other)
+requests_then machine a b c one other stays first second = record {
+  asked = λ told.
+      second.asked (later told) ∙ ap (λ (l : List (List ℕ)). l ++ names_of other) (first.asked told) ∙ both_after (λ (r : Request). r.name) a.host.asked.names one other;
+  given = λ told. all_of_both (λ r. r.given ≡ a.host.files r.name) one other (first.given told)
+      (subst (λ (files : List ℕ → Option (List ℕ)). AllByRecursion (λ r. r.given ≡ files r.name) other) (stays.files (inl told)) (second.given (later told)));
+  none = λ none. ap (λ (l : List Request). l ++ other) (first.none none) ∙ second.none none;
+}
+  where
+    later : IsTrue a.host.told → IsTrue b.host.told
+    later told = subst IsTrue (sym stays.host) told
+
+launches_then : (a b c : Moment) (one other : List Launch) → b.launcher.launches ≡ a.launcher.launches ++ one → c.launcher.launches ≡ b.launcher.launches ++ other → c.launcher.launches ≡ a.launcher.launches ++ (one ++ other)
+launches_then a b c one other first second = second ∙ ap (λ (l : List Launch). l ++ other) first ∙ append_assoc a.launcher.launches one other
+
+module _ (machine : Machine) (whole rest : Part) (s0 : State) (m0 : Moment) (s : State) (m : Moment) (stays : Stays machine m0 m) (led : Led machine whole rest s0 m0 s m) where
   -- the rest goes to its end, and so does the whole
-  led_last : (r : Result (Unit {0}) Stop) (t : State) (n : Moment) → Gained machine rest s m r t n (prior ++ map launched_as led.gained) → Gained machine whole s0 m0 r t n prior
-  led_last r t n more = record {
-    gained = led.gained ++ more.gained;
-    added = since n more.gained more.added;
-    comes = led.leads r t (device_at machine n (prior ++ map launched_as (led.gained ++ more.gained)))
-        (subst (λ (l : List Launched). Comes rest s (device_at machine m (prior ++ map launched_as led.gained)) r t (device_at machine n l)) (joined prior led.gained more.gained) more.comes);
+  led_last : (r : Result (Unit {0}) Stop) (t : State) (n : Moment) → Goes machine rest s m r t n → Goes machine whole s0 m0 r t n
+  led_last r t n last = record {
+    more = joined led.more last.more;
+    launches = launches_then m0 m n led.more.launches last.more.launches led.launches last.launches;
+    requests = requests_then machine m0 m n led.more.requests last.more.requests stays led.requests last.requests;
+    comes = λ setting fits past given.
+        let each = given_both setting.files past led.more last.more given in
+        led.leads setting fits past each.0 r t (device_at machine n (followed past (joined led.more last.more)))
+        (subst (λ (p : Past). Comes (rest setting) s (device_at machine m (followed past led.more)) r t (device_at machine n p)) (followed_both past led.more last.more)
+        (last.comes setting fits (followed past led.more) each.1));
   }
 
   -- a part of it goes to its end, and the second is left
-  led_then : (first second : Play Device) (z y : State) (r : Result (Unit {0}) Stop) (t : State) (n : Moment) (more : Gained machine first z m r t n (prior ++ map launched_as led.gained))
-      → (Comes first z (device_at machine m (prior ++ map launched_as led.gained)) r t (device_at machine n ((prior ++ map launched_as led.gained) ++ map launched_as more.gained))
-      → (q : Result (Unit {0}) Stop) (x : State) (after : Device) → Comes second y (device_at machine n ((prior ++ map launched_as led.gained) ++ map launched_as more.gained)) q x after
-      → Comes rest s (device_at machine m (prior ++ map launched_as led.gained)) q x after)
-      → Led machine whole second s0 m0 y n prior
-  led_then first second z y r t n more comes = record {
-    gained = led.gained ++ more.gained;
-    added = since n more.gained more.added;
-    leads = λ q x after rest_comes.
-        led.leads q x after (comes more.comes q x after
-        (subst (λ (l : List Launched). Comes second y (device_at machine n l) q x after) (sym (joined prior led.gained more.gained)) rest_comes));
+  led_then : (first second : Part) (z y : State) (r : Result (Unit {0}) Stop) (t : State) (n : Moment) → Goes machine first z m r t n
+      → ((setting : Setting) (w v : Device) → Comes (first setting) z w r t v → (q : Result (Unit {0}) Stop) (x : State) (after : Device) → Comes (second setting) y v q x after → Comes (rest setting) s w q x after)
+      → Led machine whole second s0 m0 y n
+  led_then first second z y r t n one comes = record {
+    more = joined led.more one.more;
+    launches = launches_then m0 m n led.more.launches one.more.launches led.launches one.launches;
+    requests = requests_then machine m0 m n led.more.requests one.more.requests stays led.requests one.requests;
+    leads = λ setting fits past given q x after rest_comes.
+        let each = given_both setting.files past led.more one.more given in
+        led.leads setting fits past each.0 q x after
+        (comes setting (device_at machine m (followed past led.more)) (device_at machine n (followed (followed past led.more) one.more))
+        (one.comes setting fits (followed past led.more) each.1) q x after
+        (subst (λ (p : Past). Comes (second setting) y (device_at machine n p) q x after) (sym (followed_both past led.more one.more)) rest_comes));
   }
 
 module _ (machine : Machine) (whole rest : Part) (s0 : State) (m0 : Moment) (s : State) (m : Moment) (law : Obeys m) (b : Begun machine whole rest s0 m0 s m) where
@@ -174,9 +237,8 @@ module _ (machine : Machine) (whole rest : Part) (s0 : State) (m0 : Moment) (s :
     stays = stays_then machine m0 m n law b.stays last.stays;
     counts = subst (λ (x : Counts). StopCounts r x (counts_at n)) b.counts last.counts;
     sources = last.sources;
-    goes = λ setting fits prior.
-        let led = b.leads setting fits prior in
-        led_last machine (whole setting) (rest setting) s0 m0 s m prior led r t n (last.goes setting (fits_then machine m0 m setting b.stays fits) (prior ++ map launched_as led.gained));
+    goes = λ disk launcher.
+        led_last machine whole rest s0 m0 s m b.stays (b.leads disk launcher) r t n (last.goes (subst IsTrue (sym b.stays.disk) disk) (subst IsTrue (sym b.stays.launcher) launcher));
   }
 
 -- a part runs, and then others are left
@@ -188,10 +250,9 @@ begun_after machine whole first rest second s0 m0 s m law b z r t y n one counts
   stays = stays_then machine m0 m n law b.stays one.stays;
   counts = counts ∙ b.counts;
   sources = sources;
-  leads = λ setting fits prior.
-      let led = b.leads setting fits prior in
-      led_then machine (whole setting) (rest setting) s0 m0 s m prior led (first setting) (second setting) z y r t n
-      (one.goes setting (fits_then machine m0 m setting b.stays fits) (prior ++ map launched_as led.gained)) (comes setting _ _);
+  leads = λ disk launcher.
+      led_then machine whole rest s0 m0 s m b.stays (b.leads disk launcher) first second z y r t n
+      (one.goes (subst IsTrue (sym b.stays.disk) disk) (subst IsTrue (sym b.stays.launcher) launcher)) comes;
 }
 
 module _ (machine : Machine) (whole first second : Part) (s0 : State) (m0 : Moment) (s : State) (m : Moment) (law : Obeys m) (b : Begun machine whole (then_part first second) s0 m0 s m) where

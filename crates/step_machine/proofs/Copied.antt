@@ -11,7 +11,7 @@ use Rattle.path_model.specs.declared.cause.Cause.TheVariants as causes
 use Rattle.path_model.specs.declared.event.Event.TheVariants.{Wrote}
 use Rattle.path_model.specs.Behaviour.{State}
 use Rattle.path_model.specs.Plays.{Outcome}
-use Rattle.path_model.specs.DevicePlays.{Device, Launched, with_content, acted, copied, swapped}
+use Rattle.path_model.specs.DevicePlays.{Device, with_content, acted, copied, swapped}
 use Rattle.flash_layout.specs.declared.slot.Slot.{Slot}
 use Rattle.flash_slots.specs.RamContents.{Held, held_by}
 use Rattle.step_machine.specs.declared.spot.Spot.{Spot}
@@ -24,7 +24,7 @@ use Rattle.step_machine.specs.Copying.{IsRamButBoth, OutsideBoth}
 use Rattle.step_machine.specs.Devices.{AreSpotsClear, IsApart}
 use Rattle.step_machine.specs.PlanRuns.{OutsideTargets}
 use Rattle.step_machine.specs.Parts.{act_part}
-use Rattle.step_machine.specs.Running.{AreFilesKnown, Moment, Stays, RunsPart, IsReady, AreSources, device_at}
+use Rattle.step_machine.specs.Running.{AreFilesKnown, Moment, Past, Stays, RunsPart, IsReady, AreSources, device_at}
 use Rattle.step_machine.specs.Spots.{content_of, IsSpot, OutsideSpot, IsRamBut}
 use Rattle.step_machine.proofs.Asking.{asks_same}
 use Rattle.step_machine.proofs.Leaves.{no_standing, same_rooms}
@@ -81,11 +81,11 @@ module _ (machine : Machine) (m n : Moment) (i j : ℕ) (d : Standing) (lt : i <
       subst (λ (s : Standing). AreSpotsClear s.spot (get_or machine.standings.now x e).spot) (same_at machine.standings.now k e d under)
       (ready.standings.apart k under x e inside other)
 
-  pub two_device : length m.disk.flash.reads ≡ m.disk.size → Keeps (OutsideBoth (get_or machine.standings.now i d).spot (get_or machine.standings.now j d).spot) m.disk.flash n.disk.flash → (launches : List Launched)
-      → with_content (with_content (device_at machine m launches) i (content_of (get_or machine.standings.now i d).spot n.ram n.disk.flash.reads)) j (content_of (get_or machine.standings.now j d).spot n.ram n.disk.flash.reads)
-      ≡ device_at machine n launches
-  two_device size keeps launches =
-      ap (λ (l : List (List ℕ)). record { contents = l; launches = launches })
+  pub two_device : length m.disk.flash.reads ≡ m.disk.size → Keeps (OutsideBoth (get_or machine.standings.now i d).spot (get_or machine.standings.now j d).spot) m.disk.flash n.disk.flash → (past : Past)
+      → with_content (with_content (device_at machine m past) i (content_of (get_or machine.standings.now i d).spot n.ram n.disk.flash.reads)) j (content_of (get_or machine.standings.now j d).spot n.ram n.disk.flash.reads)
+      ≡ device_at machine n past
+  two_device size keeps past =
+      ap (λ (l : List (List ℕ)). record { contents = l; launches = past.launches; asked = past.asked })
       (sym (map_two (λ (s : Standing). content_of s.spot m.ram m.disk.flash.reads) (λ (s : Standing). content_of s.spot n.ram n.disk.flash.reads) machine.standings.now i j d lt below
       (λ k e under one other.
       kept_by_both (get_or machine.standings.now i d).spot (get_or machine.standings.now j d).spot (get_or machine.standings.now k e).spot m.ram n.ram m.disk.flash n.disk.flash

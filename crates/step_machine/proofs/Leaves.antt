@@ -10,7 +10,7 @@ use Rattle.path_model.specs.declared.cause.Cause.TheVariants as causes
 use Rattle.path_model.specs.Behaviour.{State}
 use Rattle.path_model.specs.Settings.{Setting, capacity_of}
 use Rattle.path_model.specs.Plays.{Play}
-use Rattle.path_model.specs.DevicePlays.{Device, Launched, content_at, with_content}
+use Rattle.path_model.specs.DevicePlays.{Device, content_at, with_content}
 use Rattle.flash_slots.specs.RamContents.{Held, held_by}
 use Rattle.step_machine.specs.declared.stop.Stop.{Stop}
 use Rattle.step_machine.specs.declared.spot.Spot.{Spot}
@@ -24,7 +24,7 @@ use Rattle.step_machine.specs.Fetching.{FetchCounts}
 use Rattle.step_machine.specs.PlanRuns.{counts_of, OutsideTargets}
 use Rattle.step_machine.specs.Fetching.{AsksAmong}
 use Rattle.step_machine.specs.Worlds.{StandAtMost}
-use Rattle.step_machine.specs.Running.{AreFilesKnown, Moment, Stays, StopCounts, Fits, Part, RunsPart, IsReady, AreSources, counts_at, device_at, stopped}
+use Rattle.step_machine.specs.Running.{AreFilesKnown, Moment, Past, Stays, StopCounts, Fits, Part, RunsPart, IsReady, AreSources, counts_at, device_at, stopped}
 use Rattle.step_machine.specs.Spots.{IsRamBut, IsSpot, OutsideSpot, content_of}
 use Rattle.step_machine.proofs.Beginning.{runs_quietly}
 use Rattle.step_machine.proofs.Lifting.{one_changed}
@@ -77,27 +77,27 @@ acts_come play place s w v (Ok u) a = a
 acts_come play place s w v (Err cause) a = a
 
 -- it makes no launch, and leaves the device so
-pub acts_run : (machine : Machine) (m n : Moment) (part : Part) (s : State) (place : ℕ) (r : Result (Unit {0}) Cause) (result : Result (Unit {0}) Stop) (leaves : List Launched → Device) → result ≡ stopped place r
-    → Stays machine m n → n.launcher.launches ≡ m.launcher.launches → StopCounts (stopped place r) (counts_at m) (counts_at n) → AreSources machine s.parameters
-    → (IsTrue m.disk.told → (prior : List Launched) → leaves prior ≡ device_at machine n prior)
-    → ((setting : Setting) → Fits machine m setting → (prior : List Launched) → ActsSo (part setting) place s (device_at machine m prior) r (leaves prior)) → RunsPart machine part s m result s n
-acts_run machine m n part s place r result leaves is stays launches counts sources left acts =
+pub acts_run : (machine : Machine) (m n : Moment) (part : Part) (s : State) (place : ℕ) (r : Result (Unit {0}) Cause) (result : Result (Unit {0}) Stop) (leaves : Past → Device) → result ≡ stopped place r
+    → Stays machine m n → n.launcher.launches ≡ m.launcher.launches → n.host.asked.names ≡ m.host.asked.names → StopCounts (stopped place r) (counts_at m) (counts_at n) → AreSources machine s.parameters
+    → (IsTrue m.disk.told → (past : Past) → leaves past ≡ device_at machine n past)
+    → (IsTrue m.disk.told → (setting : Setting) → Fits machine setting → (past : Past) → ActsSo (part setting) place s (device_at machine m past) r (leaves past)) → RunsPart machine part s m result s n
+acts_run machine m n part s place r result leaves is stays launches asked counts sources left acts =
     subst (λ (x : Result (Unit {0}) Stop). RunsPart machine part s m x s n) (sym is)
-    (runs_quietly machine part s m n (stopped place r) s stays counts sources launches (λ setting fits prior.
-    subst (λ (v : Device). Comes (part setting) s (device_at machine m prior) (stopped place r) s v) (left fits.disk prior)
-    (acts_come (part setting) place s (device_at machine m prior) _ r (acts setting fits prior))))
+    (runs_quietly machine part s m n (stopped place r) s stays counts sources launches asked (λ told setting fits past.
+    subst (λ (v : Device). Comes (part setting) s (device_at machine m past) (stopped place r) s v) (left told past)
+    (acts_come (part setting) place s (device_at machine m past) _ r (acts told setting fits past))))
 
-module _ (machine : Machine) (m : Moment) (c : ℕ) (d : Standing) (lt : c < length machine.standings.now) (setting : Setting) (fits : Fits machine m setting) (prior : List Launched) where
+module _ (machine : Machine) (m : Moment) (c : ℕ) (d : Standing) (lt : c < length machine.standings.now) (setting : Setting) (fits : Fits machine setting) (past : Past) where
   -- the setting and the device at one component
   pub capacity_here : capacity_of setting c ≡ (get_or machine.standings.now c d).capacity
   capacity_here =
       ap (λ (l : List ℕ). get_or l c 0) fits.capacities
       ∙ get_or-map (λ (s : Standing). s.capacity) machine.standings.now c d 0 lt
 
-  pub content_here : content_at (device_at machine m prior) c ≡ content_of (get_or machine.standings.now c d).spot m.ram m.disk.flash.reads
+  pub content_here : content_at (device_at machine m past) c ≡ content_of (get_or machine.standings.now c d).spot m.ram m.disk.flash.reads
   content_here = get_or-map (λ (s : Standing). content_of s.spot m.ram m.disk.flash.reads) machine.standings.now c d [] lt
 
-  pub within_here : c < length (device_at machine m prior).contents
+  pub within_here : c < length (device_at machine m past).contents
   within_here = subst (λ (k : ℕ). c < k) (sym (length-map machine.standings.now (λ (s : Standing). content_of s.spot m.ram m.disk.flash.reads))) lt
 
 module _ (machine : Machine) (m n : Moment) (c : ℕ) (d : Standing) (lt : c < length machine.standings.now) (ready : IsReady machine m.disk.size m.ram)
@@ -117,9 +117,9 @@ module _ (machine : Machine) (m n : Moment) (c : ℕ) (d : Standing) (lt : c < l
   }
 
   -- the device afterwards
-  pub one_device : length m.disk.flash.reads ≡ m.disk.size → Keeps (OutsideSpot (get_or machine.standings.now c d).spot) m.disk.flash n.disk.flash → (launches : List Launched)
-      → with_content (device_at machine m launches) c (content_of (get_or machine.standings.now c d).spot n.ram n.disk.flash.reads) ≡ device_at machine n launches
-  one_device size keeps launches =
-      ap (λ (l : List (List ℕ)). record { contents = l; launches = launches })
+  pub one_device : length m.disk.flash.reads ≡ m.disk.size → Keeps (OutsideSpot (get_or machine.standings.now c d).spot) m.disk.flash n.disk.flash → (past : Past)
+      → with_content (device_at machine m past) c (content_of (get_or machine.standings.now c d).spot n.ram n.disk.flash.reads) ≡ device_at machine n past
+  one_device size keeps past =
+      ap (λ (l : List (List ℕ)). record { contents = l; launches = past.launches; asked = past.asked })
       (sym (one_changed machine.standings.now c d m.ram n.ram m.disk.flash n.disk.flash lt (ready.standings.apart c lt)
       (λ k e below. subst (λ (x : ℕ). IsSpot x m.ram (get_or machine.standings.now k e).spot) (sym size) (ready.standings.each k e below).spot) but keeps))

@@ -17,7 +17,7 @@ use Rattle.path_model.specs.declared.event.Event.TheVariants.{Matched, Missed}
 use Rattle.path_model.specs.declared.identity.Identity.{Identity}
 use Rattle.path_model.specs.Behaviour.{State, Done, Condition}
 use Rattle.path_model.specs.Settings.{Setting}
-use Rattle.path_model.specs.DevicePlays.{Device, Launched, content_at, tested, matched, unread, is_image, condition_play, directive_play}
+use Rattle.path_model.specs.DevicePlays.{Device, content_at, tested, matched, unread, is_image, condition_play, directive_play}
 use Rattle.path_model.specs.DeviceLaws.{TestPasses}
 use Rattle.step_machine.specs.declared.spot.Standing.{Standing}
 use Rattle.step_machine.specs.declared.stop.Stop.{Stop}
@@ -29,11 +29,11 @@ use Rattle.step_machine.specs.Devices.{contents_of}
 use Rattle.step_machine.specs.Directives.{StopsSo}
 use Rattle.step_machine.specs.Invoking.{InvokesAs, InvokeCounts, launched_as}
 use Rattle.step_machine.specs.PlanRuns.{counts_of, OutsideTargets}
-use Rattle.step_machine.specs.Running.{AreFilesKnown, Moment, Stays, StopCounts, Fits, Gained, RunsPart, AreSources, counts_at, device_at, stopped}
+use Rattle.step_machine.specs.Running.{AreFilesKnown, Moment, Past, Stays, StopCounts, Fits, Goes, RunsPart, AreSources, counts_at, device_at, followed, gained, stopped}
 use Rattle.step_machine.specs.Parts.{test_part, act_part}
 use Rattle.step_machine.specs.Spots.{content_of}
 use Rattle.step_machine.proofs.Asking.{asks_same}
-use Rattle.step_machine.proofs.Beginning.{runs_quietly}
+use Rattle.step_machine.proofs.Beginning.{followed_quietly, no_requests, runs_quietly}
 use Rattle.step_machine.proofs.Leaves.{content_here}
 
 -- ---- how a condition ends
@@ -88,23 +88,23 @@ looked machine m n host disk launcher size ram files asked same grows = record {
   grows = grows;
 }
 
-pub same_device : (machine : Machine) (m n : Moment) (launches : List Launched) → n.ram ≡ m.ram → n.disk.flash.reads ≡ m.disk.flash.reads → device_at machine m launches ≡ device_at machine n launches
-same_device machine m n launches ram reads =
-    ap (λ r. record { contents = contents_of machine.standings.now r m.disk.flash.reads; launches = launches }) (sym ram)
-    ∙ ap (λ l. record { contents = contents_of machine.standings.now n.ram l; launches = launches }) (sym reads)
+pub same_device : (machine : Machine) (m n : Moment) (past : Past) → n.ram ≡ m.ram → n.disk.flash.reads ≡ m.disk.flash.reads → device_at machine m past ≡ device_at machine n past
+same_device machine m n past ram reads =
+    ap (λ r. record { contents = contents_of machine.standings.now r m.disk.flash.reads; launches = past.launches; asked = past.asked }) (sym ram)
+    ∙ ap (λ l. record { contents = contents_of machine.standings.now n.ram l; launches = past.launches; asked = past.asked }) (sym reads)
 
 -- ---- a condition as a part of a procedure
 
 module _ (machine : Machine) (m n : Moment) (kind : TestKind) (p c : ℕ) (s : State) (d : Standing) (lt : c < length machine.standings.now) (stays : Stays machine m n) (ram : n.ram ≡ m.ram)
-    (same : IsTrue m.disk.told → IsSame m.disk.flash n.disk.flash) (launches : n.launcher.launches ≡ m.launcher.launches) (sources : AreSources machine s.parameters) where
+    (same : IsTrue m.disk.told → IsSame m.disk.flash n.disk.flash) (launches : n.launcher.launches ≡ m.launcher.launches) (asked : n.host.asked.names ≡ m.host.asked.names) (sources : AreSources machine s.parameters) where
   runs_test : (r : Result (Unit {0}) Stop) → StopCounts r (counts_at m) (counts_at n)
-      → ((setting : Setting) → Fits machine m setting → (prior : List Launched) → Comes (condition_play setting kind p c) s (device_at machine m prior) r s (device_at machine m prior))
+      → (IsTrue m.disk.told → (setting : Setting) → Fits machine setting → (past : Past) → Comes (condition_play setting kind p c) s (device_at machine m past) r s (device_at machine m past))
       → RunsPart machine (test_part kind p c) s m r s n
   runs_test r counts comes =
-      runs_quietly machine (test_part kind p c) s m n r s stays counts sources launches (λ setting fits prior.
-      subst (λ (v : Device). Comes (condition_play setting kind p c) s (device_at machine m prior) r s v) (same_device machine m n prior ram (same fits.disk).reads) (comes setting fits prior))
+      runs_quietly machine (test_part kind p c) s m n r s stays counts sources launches asked (λ told setting fits past.
+      subst (λ (v : Device). Comes (condition_play setting kind p c) s (device_at machine m past) r s v) (same_device machine m n past ram (same told).reads) (comes told setting fits past))
 
-  identity_here : (setting : Setting) → Fits machine m setting → slice_get setting.identities c ≡ Some (get_or machine.standings.now c d).identity
+  identity_here : (setting : Setting) → Fits machine setting → slice_get setting.identities c ≡ Some (get_or machine.standings.now c d).identity
   identity_here setting fits = ap (λ (l : List Identity). slice_get l c) fits.identities ∙ got machine.standings.now c lt
     where
       got : (l : List Standing) (i : ℕ) → i < length l → slice_get (map (λ (s : Standing). s.identity) l) i ≡ Some (get_or l i d).identity
@@ -114,30 +114,30 @@ module _ (machine : Machine) (m n : Moment) (kind : TestKind) (p c : ℕ) (s : S
 
   module _ (component : (get_or machine.standings.now c d).component ≡ c) where
     passes_here : (b x : Bool) → b ≡ x → (IsTrue m.disk.told → PassesAs kind (get_or machine.standings.now c d).component s.parameters (get_or machine.standings.now c d).identity (content_of (get_or machine.standings.now c d).spot m.ram m.disk.flash.reads) b)
-        → (setting : Setting) → Fits machine m setting → (prior : List Launched) → IsTrue x ↔ TestPasses setting kind p c s (device_at machine m prior)
-    passes_here b x is exact setting fits prior =
+        → IsTrue m.disk.told → (setting : Setting) → Fits machine setting → (past : Past) → IsTrue x ↔ TestPasses setting kind p c s (device_at machine m past)
+    passes_here b x is exact told setting fits past =
         subst (λ (k : ℕ). PassesAs kind k s.parameters (get_or machine.standings.now c d).identity (content_of (get_or machine.standings.now c d).spot m.ram m.disk.flash.reads) x) component
-        (subst (λ (y : Bool). PassesAs kind (get_or machine.standings.now c d).component s.parameters (get_or machine.standings.now c d).identity (content_of (get_or machine.standings.now c d).spot m.ram m.disk.flash.reads) y) is (exact fits.disk))
-        setting p s (device_at machine m prior) refl (identity_here setting fits) (content_here machine m c d lt setting fits prior)
+        (subst (λ (y : Bool). PassesAs kind (get_or machine.standings.now c d).component s.parameters (get_or machine.standings.now c d).identity (content_of (get_or machine.standings.now c d).spot m.ram m.disk.flash.reads) y) is (exact told))
+        setting p s (device_at machine m past) refl (identity_here setting fits) (content_here machine m c d lt setting fits past)
 
     pub test_passed : (b : Bool) → b ≡ true → StopCounts (Ok tt) (counts_at m) (counts_at n)
         → (IsTrue m.disk.told → PassesAs kind (get_or machine.standings.now c d).component s.parameters (get_or machine.standings.now c d).identity (content_of (get_or machine.standings.now c d).spot m.ram m.disk.flash.reads) b)
         → RunsPart machine (test_part kind p c) s m (Ok tt) s n
     test_passed b is counts exact =
-        runs_test (Ok tt) counts (λ setting fits prior. condition_comes setting kind p c s (device_at machine m prior) (passes_here b true is exact setting fits prior))
+        runs_test (Ok tt) counts (λ told setting fits past. condition_comes setting kind p c s (device_at machine m past) (passes_here b true is exact told setting fits past))
 
     pub test_failed : (b : Bool) → b ≡ false → StopCounts (Err (stops.Condition p s.soft_failure)) (counts_at m) (counts_at n)
         → (IsTrue m.disk.told → PassesAs kind (get_or machine.standings.now c d).component s.parameters (get_or machine.standings.now c d).identity (content_of (get_or machine.standings.now c d).spot m.ram m.disk.flash.reads) b)
         → RunsPart machine (test_part kind p c) s m (Err (stops.Condition p s.soft_failure)) s n
     test_failed b is counts exact =
-        runs_test (Err (stops.Condition p s.soft_failure)) counts (λ setting fits prior. condition_fails setting kind p c s (device_at machine m prior) (passes_here b false is exact setting fits prior))
+        runs_test (Err (stops.Condition p s.soft_failure)) counts (λ told setting fits past. condition_fails setting kind p c s (device_at machine m past) (passes_here b false is exact told setting fits past))
 
     pub test_cut : StopCounts (Err (stops.Directive p causes.FlashFault)) (counts_at m) (counts_at n)
         → (IsTrue m.disk.told → CutsPlay kind (get_or machine.standings.now c d).component s.parameters)
         → RunsPart machine (test_part kind p c) s m (Err (stops.Directive p causes.FlashFault)) s n
     test_cut counts cuts =
-        runs_test (Err (stops.Directive p causes.FlashFault)) counts (λ setting fits prior.
-        condition_cut setting kind p c s (device_at machine m prior) (subst (λ (k : ℕ). CutsPlay kind k s.parameters) component (cuts fits.disk) setting p s (device_at machine m prior) refl))
+        runs_test (Err (stops.Directive p causes.FlashFault)) counts (λ told setting fits past.
+        condition_cut setting kind p c s (device_at machine m past) (subst (λ (k : ℕ). CutsPlay kind k s.parameters) component (cuts told) setting p s (device_at machine m past) refl))
 
 -- ---- a launch
 
@@ -148,25 +148,27 @@ invoke_counts (Err causes.FlashFault) place host before now disk_before disk_now
 invoke_counts (Err _) place host before now disk_before disk_now e = absurd e
 
 module _ (machine : Machine) (m n : Moment) (p c : ℕ) (s : State) (d : Standing) (lt : c < length machine.standings.now) (stays : Stays machine m n) (ram : n.ram ≡ m.ram)
-    (same : IsTrue m.disk.told → IsSame m.disk.flash n.disk.flash) (sources : AreSources machine s.parameters) where
-  launch_gains : (r : Result (Unit {0}) Cause) (setting : Setting) → Fits machine m setting → (prior : List Launched)
-      → InvokesAs c s.parameters (content_of (get_or machine.standings.now c d).spot m.ram m.disk.flash.reads) m.launcher.launches n.launcher.launches r
-      → Gained machine (directive_play setting acts.Invoke p c) s m (stopped p r) s n prior
-  launch_gains (Ok u) setting fits prior invokes =
-      let got = invokes setting p s (device_at machine m prior) refl (content_here machine m c d lt setting fits prior) in
-      record {
-        gained = got.0 ∷ [];
-        added = got.1;
-        comes = (got.2, got.3 ∙ same_device machine m n (prior ++ launched_as got.0 ∷ []) ram (same fits.disk).reads);
-      }
-  launch_gains (Err cause) setting fits prior invokes =
-      let got = invokes setting p s (device_at machine m prior) refl (content_here machine m c d lt setting fits prior) in
-      record {
-        gained = [];
-        added = got.0 ∙ sym (append-nil m.launcher.launches);
-        comes = subst (λ (v : Device). StopsSo (directive_play setting acts.Invoke p c) p s (device_at machine m prior) cause v)
-            (same_device machine m n prior ram (same fits.disk).reads ∙ ap (device_at machine n) (sym (append-nil prior))) got.1;
-      }
+    (same : IsTrue m.disk.told → IsSame m.disk.flash n.disk.flash) (asked : n.host.asked.names ≡ m.host.asked.names) (sources : AreSources machine s.parameters) where
+  launch_goes : (r : Result (Unit {0}) Cause) → IsTrue m.disk.told → InvokesAs c s.parameters (content_of (get_or machine.standings.now c d).spot m.ram m.disk.flash.reads) m.launcher.launches n.launcher.launches r
+      → Goes machine (act_part acts.Invoke p c) s m (stopped p r) s n
+  launch_goes (Ok u) told (launch, added, comes) = record {
+    more = gained (launch ∷ []) [];
+    launches = added;
+    requests = no_requests machine m n asked;
+    comes = λ setting fits past given.
+        let got = comes setting p s (device_at machine m past) refl (content_here machine m c d lt setting fits past) in
+        let later : Past = record { launches = past.launches ++ launched_as launch ∷ []; asked = past.asked } in
+        (got.0, got.1 ∙ same_device machine m n later ram (same told).reads ∙ ap (λ (names : List (List ℕ)). device_at machine n (record { launches = later.launches; asked = names })) (sym (append-nil past.asked)));
+  }
+  launch_goes (Err cause) told (kept, comes) = record {
+    more = gained [] [];
+    launches = kept ∙ sym (append-nil m.launcher.launches);
+    requests = no_requests machine m n asked;
+    comes = λ setting fits past given.
+        subst (λ (v : Device). StopsSo (directive_play setting acts.Invoke p c) p s (device_at machine m past) cause v)
+        (same_device machine m n past ram (same told).reads ∙ ap (device_at machine n) (sym (followed_quietly past)))
+        (comes setting p s (device_at machine m past) refl (content_here machine m c d lt setting fits past));
+  }
 
   pub runs_invoke : (r : Result (Unit {0}) Cause) → StopCounts (stopped p r) (counts_at m) (counts_at n)
       → (IsTrue m.disk.told → IsTrue m.launcher.told → InvokesAs c s.parameters (content_of (get_or machine.standings.now c d).spot m.ram m.disk.flash.reads) m.launcher.launches n.launcher.launches r)
@@ -175,5 +177,5 @@ module _ (machine : Machine) (m n : Moment) (p c : ℕ) (s : State) (d : Standin
     stays = stays;
     counts = counts;
     sources = sources;
-    goes = λ setting fits prior. launch_gains r setting fits prior (invokes fits.disk fits.launcher);
+    goes = λ told launcher_told. launch_goes r told (invokes told launcher_told);
   }

@@ -1,6 +1,7 @@
 -- A whole procedure.
-use Rattle.std.proofs.Common.{◌≡◌, ℕ, zero, suc, [], ◌∷◌, Option, Some, None, Result, Ok, Err, replicate, refl, sym, ap, subst, ◌∙◌, inl, inr}
-use Rattle.std.specs.Prelude.{slice_get}
+use Rattle.std.proofs.Common.{◌≡◌, ℕ, zero, suc, Bool, true, false, List, [], ◌∷◌, ◌++◌, Option, Some, None, Result, Ok, Err, replicate, refl, sym, ap, subst, ◌∙◌, inl, inr, ⊎_elim}
+use Rattle.std.specs.Prelude.{IsTrue, slice_get}
+use Rattle.std.specs.List.{AllByRecursion}
 use Rattle.suit_params.specs.declared.param.Param.{Param}
 use Rattle.suit_params.specs.declared.param.ParamKey.TheVariants as keys
 use Rattle.suit_params.specs.InForce.{bytes_of, in_force, number_of, none_in_force, held_at, cell}
@@ -11,20 +12,23 @@ use Rattle.suit_commands.specs.Indexed.{AreIndexed}
 use Rattle.suit_commands.specs.Targets.{InSome, Sources, Swaps, Writes}
 use Rattle.suit_commands.specs.Touches.{HasAct}
 use Rattle.suit_commands.specs.declared.kinds.ActKind.TheVariants as acts
-use Rattle.suit_commands.specs.Tree.{SequenceTree, NoSteps}
+use Rattle.suit_commands.specs.Tree.{PlanTree, SequenceTree, NoSteps}
 use Rattle.suit_commands.proofs.IndexedSteps.{member_indexed, shared_indexed}
 use Rattle.path_model.specs.Behaviour.{State}
 use Rattle.path_model.specs.Path.{start_state, first_state}
-use Rattle.path_model.specs.Settings.{Setting}
+use Rattle.path_model.specs.Settings.{Setting, steady}
 use Rattle.step_machine.specs.declared.machine.Machine.{Machine}
+use Rattle.step_machine.specs.declared.plan_end.PlanEnd.{PlanEnd}
+use Rattle.step_machine.specs.declared.spot.Standing.{Standing}
 use Rattle.step_machine.specs.declared.stop.Stop.{Stop}
 use Rattle.step_machine.specs.declared.stop.Stop.TheVariants as stops
 use Rattle.step_machine.specs.Allowing.{AllowsSequence}
 use Rattle.step_machine.specs.UrisSet.{Sets}
 use Rattle.step_machine.specs.Devices.{contents_of}
+use Rattle.step_machine.specs.Fetching.{AreGiven, AreRequests, Request, names_of}
 use Rattle.step_machine.specs.Parts.{sequence_part, starting_part, then_part, plan_part}
-use Rattle.step_machine.specs.PlanRuns.{Counts, EndCounts, PlaysPlan, end_of}
-use Rattle.step_machine.specs.Running.{Moment, Part, StopCounts, Fits, RunsPart, AreSources}
+use Rattle.step_machine.specs.PlanRuns.{Counts, EndCounts, GivesAs, PlaysPlan, end_of}
+use Rattle.step_machine.specs.Running.{Moment, Past, Part, StopCounts, Fits, Goes, RunsPart, AreSources}
 use Rattle.step_machine.proofs.Beginning.{Begun, begun, runs_as, runs_at_once}
 use Rattle.step_machine.proofs.Parting.{comes_same}
 
@@ -121,15 +125,65 @@ end_counts (Ok u) a b h = h
 end_counts (Err (stops.Condition place soft)) a b h = h
 end_counts (Err (stops.Directive place cause)) a b h = h
 
-module _ (machine : Machine) (m n : Moment) (t : State) (setting : Setting) (fits : Fits machine m setting) where
-  pub plan_plays : (r : Result (Unit {0}) Stop) → RunsPart machine (plan_part (plan_tree machine.plan.now)) first_state m r t n
-      → PlaysPlan (plan_tree machine.plan.now) setting (end_of r) (contents_of machine.standings.now m.ram m.disk.flash.reads) (contents_of machine.standings.now n.ram n.disk.flash.reads) m.launcher.launches n.launcher.launches
-  plan_plays (Ok u) runs =
-      let g = runs.goes setting fits [] in
-      record { gained = g.gained; added = g.added; ends = (t, g.comes.0, g.comes.1) }
-  plan_plays (Err (stops.Condition place soft)) runs =
-      let g = runs.goes setting fits [] in
-      record { gained = g.gained; added = g.added; ends = (soft, g.comes.0, g.comes.1) }
-  plan_plays (Err (stops.Directive place cause)) runs =
-      let g = runs.goes setting fits [] in
-      record { gained = g.gained; added = g.added; ends = g.comes }
+nothing_past : Past
+nothing_past = record { launches = []; asked = [] }
+
+module _ (machine : Machine) (m n : Moment) (t : State) (setting : Setting) (fits : Fits machine setting) where
+  pub plan_plays : (r : Result (Unit {0}) Stop) (goes : Goes machine (plan_part (plan_tree machine.plan.now)) first_state m r t n) → AreGiven setting.files 0 goes.more.requests
+      → (p : PlaysPlan (plan_tree machine.plan.now) setting (end_of r) (contents_of machine.standings.now m.ram m.disk.flash.reads) (contents_of machine.standings.now n.ram n.disk.flash.reads) m.launcher.launches n.launcher.launches)
+      × (p.asks ≡ names_of goes.more.requests)
+  unfolding nothing_past
+  plan_plays (Ok u) goes given =
+      let comes = goes.comes setting fits nothing_past given in
+      (record { gained = goes.more.launches; added = goes.launches; asks = names_of goes.more.requests; ends = (t, comes.0, comes.1) }, refl)
+  plan_plays (Err (stops.Condition place soft)) goes given =
+      let comes = goes.comes setting fits nothing_past given in
+      (record { gained = goes.more.launches; added = goes.launches; asks = names_of goes.more.requests; ends = (soft, comes.0, comes.1) }, refl)
+  plan_plays (Err (stops.Directive place cause)) goes given =
+      (record { gained = goes.more.launches; added = goes.launches; asks = names_of goes.more.requests; ends = goes.comes setting fits nothing_past given }, refl)
+
+-- the play, and the names that the host was asked for
+abbrev pub PlaysAsking : PlanTree → (List Standing → Setting) → Moment → Moment → List Standing → PlanEnd → Type 0
+PlaysAsking plan setting m n standings end =
+    (p : PlaysPlan plan (setting standings) end (contents_of standings m.ram m.disk.flash.reads) (contents_of standings n.ram n.disk.flash.reads) m.launcher.launches n.launcher.launches)
+    × (IsTrue m.host.told → n.host.asked.names ≡ m.host.asked.names ++ p.asks)
+
+pub asking_as : (plan : PlanTree) (setting : List Standing → Setting) (m n : Moment) (standings items : List Standing) (end x : PlanEnd) → standings ≡ items → end ≡ x
+    → PlaysAsking plan setting m n standings end → PlaysAsking plan setting m n items x
+asking_as plan setting m n standings items end x same ended plays =
+    subst (PlaysAsking plan setting m n items) ended (subst (λ (l : List Standing). PlaysAsking plan setting m n l end) same plays)
+
+-- ---- what the requests are given
+
+-- each what it was given
+served : List Request → ℕ → List ℕ → Option (List ℕ)
+served [] number name = None
+served (r ∷ requests) zero name = r.given
+served (r ∷ requests) (suc number) name = served requests number name
+
+given_later : (files later : ℕ → List ℕ → Option (List ℕ)) (number : ℕ) (requests : List Request) → ((k : ℕ) → later (suc k) ≡ files k) → AreGiven files number requests → AreGiven later (suc number) requests
+given_later files later number [] same given = tt
+given_later files later number (r ∷ requests) same given =
+    (ap (λ (f : List ℕ → Option (List ℕ)). f r.name) (same number) ∙ given.0, given_later files later (suc number) requests same given.1)
+
+are_served : (requests : List Request) → AreGiven (served requests) 0 requests
+unfolding served
+are_served [] = tt
+are_served (r ∷ requests) = (refl, given_later (served requests) (served (r ∷ requests)) 0 requests (λ k. refl) (are_served requests))
+
+-- a host that tells gives its files
+are_steady : (files : List ℕ → Option (List ℕ)) (number : ℕ) (requests : List Request) → AllByRecursion (λ r. r.given ≡ files r.name) requests → AreGiven (steady files) number requests
+are_steady files number [] all = tt
+are_steady files number (r ∷ requests) all = (sym all.0, are_steady files (suc number) requests all.1)
+
+pub are_given : (told : Bool) (words : List (List ℕ × List ℕ)) (files : List ℕ → Option (List ℕ)) (before now : List (List ℕ)) (requests : List Request) → AreRequests told words files before now requests
+    → (given : ℕ → List ℕ → Option (List ℕ)) × GivesAs told words files given × AreGiven given 0 requests
+are_given true words files before now requests are = (steady files, λ known. refl, are_steady files 0 requests (are.given refl))
+are_given false [] files before now requests are = (steady files, λ known. refl, subst (AreGiven (steady files) 0) (sym (are.none refl)) tt)
+are_given false (word ∷ words) files before now requests are = (served requests, λ known. ⊎_elim (λ told. absurd (never told)) (λ none. absurd (some none)) known, are_served requests)
+  where
+    never : IsTrue false → ⊥
+    never e = absurd cc
+
+    some : word ∷ words ≡ [] → ⊥
+    some e = absurd cc

@@ -1,12 +1,14 @@
 -- A file that is taken piece by piece.
-use Rattle.std.proofs.Common.{◌≡◌, ◌≤◌, ◌+◌, ℕ, List, [], ◌++◌, length, take, Option, Some, Result, Ok, Err, refl, sym, ap, ◌∙◌, append_assoc, arith, inr}
-use Rattle.std.proofs.lemmas.List.{append-nil, length-append, length-take-le}
+use Rattle.std.proofs.Common.{◌≡◌, ◌≤◌, ◌+◌, ℕ, suc, Bool, true, false, List, [], ◌++◌, length, replicate, take, Option, Some, Result, Ok, Err, refl, sym, ap, ◌∙◌, append_assoc, arith, inr}
+use Rattle.std.specs.Prelude.{IsTrue}
+use Rattle.std.proofs.lemmas.Bool.{true≢false}
+use Rattle.std.proofs.lemmas.List.{append-nil, length-append, length-replicate, length-take-le}
 use Rattle.flash_layout.specs.declared.slot.Slot.{Slot}
 use Rattle.flash_slots.specs.Contents.{pieces_of}
 use Rattle.flash_slots.proofs.Whole.{no_pieces}
 use Rattle.path_model.specs.declared.cause.Cause.{Cause}
 use Rattle.path_model.specs.declared.cause.Cause.TheVariants as causes
-use Rattle.step_machine.specs.Fetching.{IsPiece, GivesPiece, PieceCounts, PullsPiece, FetchCounts, PutsIn, TakesIn, TakesNamed}
+use Rattle.step_machine.specs.Fetching.{IsPiece, GivesPiece, PieceCounts, PullsPiece, FetchCounts, PutsIn, StopsTaking, TakesIn, TakesNamed, TakesSome}
 
 -- at first nothing was put
 pub none_put : (slot : Slot) (image rest : List ℕ) (taken : ℕ) → taken ≡ 0 → rest ≡ pieces_of slot taken image ++ rest
@@ -72,6 +74,44 @@ stopped_empty causes.Missing capacity file put content is empty = absurd is
 stopped_empty causes.SelfCopy capacity file put content is empty = absurd is
 stopped_empty causes.Absent capacity file put content is empty = absurd is
 stopped_empty causes.LaunchFault capacity file put content is empty = absurd is
+
+-- ---- whatever file it was
+
+pub stops_taking : (cause : Cause) (before now : ℕ) → PieceCounts (Err cause) before now → StopsTaking cause
+stops_taking causes.TooLarge before now is = tt
+stops_taking causes.HostFault before now is = tt
+stops_taking causes.Missing before now is = absurd is
+stops_taking causes.SelfCopy before now is = absurd is
+stops_taking causes.Absent before now is = absurd is
+stops_taking causes.FlashFault before now is = absurd is
+stops_taking causes.LaunchFault before now is = absurd is
+
+any_file : (cause : Cause) (capacity : ℕ) (rest content : List ℕ) → StopsTaking cause → content ≡ [] → TakesSome false rest (Err cause) capacity content
+any_file causes.TooLarge capacity rest content stops empty =
+    let file : List ℕ = replicate (suc capacity) 0 in
+    let long : length file ≡ suc capacity = length-replicate {A = ℕ} (suc capacity) 0 in
+    record { file = file; is = λ told. absurd (true≢false (sym told)); takes = (omega (arith, long), empty) }
+any_file causes.HostFault capacity rest content stops empty = record { file = rest; is = λ told. refl; takes = empty }
+any_file causes.FlashFault capacity rest content stops empty =
+    let none : length content ≡ 0 = ap length empty in
+    record { file = rest; is = λ told. refl; takes = omega (arith, none) }
+any_file causes.Missing capacity rest content stops empty = absurd stops
+any_file causes.SelfCopy capacity rest content stops empty = absurd stops
+any_file causes.Absent capacity rest content stops empty = absurd stops
+any_file causes.LaunchFault capacity rest content stops empty = absurd stops
+
+-- it stopped, and the content is empty
+pub some_stopped : (told : Bool) (cause : Cause) (capacity : ℕ) (rest put content : List ℕ) → StopsTaking cause → (IsTrue told → PutsIn (Err cause) capacity rest put) → content ≡ [] → TakesSome told rest (Err cause) capacity content
+some_stopped true cause capacity rest put content stops puts empty =
+    record { file = rest; is = λ told. refl; takes = stopped_empty cause capacity rest put content (puts refl) empty }
+some_stopped false cause capacity rest put content stops puts empty = any_file cause capacity rest content stops empty
+
+-- it is done, and the content is what was put
+pub some_done : (told : Bool) (u : Unit {0}) (capacity : ℕ) (rest content : List ℕ) → (IsTrue told → content ≡ rest) → length content ≤ capacity → TakesSome told rest (Ok u) capacity content
+some_done told u capacity rest content is few = record { file = content; is = is; takes = (few, refl) }
+
+pub some_cut : (told : Bool) (capacity : ℕ) (rest content : List ℕ) → length content ≤ capacity → TakesSome told rest (Err causes.FlashFault) capacity content
+some_cut told capacity rest content few = record { file = rest; is = λ t. refl; takes = few }
 
 -- ---- what was found
 

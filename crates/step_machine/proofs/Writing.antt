@@ -27,7 +27,7 @@ when_false false x y e = refl
 -- the same content changes nothing
 pub with_same : (w : Device) (c : ℕ) (content : List ℕ) → content_at w c ≡ content → c < length w.contents → with_content w c content ≡ w
 with_same w c content here inside =
-    ap (λ (xs : List (List ℕ)). record { contents = xs; launches = w.launches })
+    ap (λ (xs : List (List ℕ)). record { contents = xs; launches = w.launches; asked = w.asked })
     (ap (slice_set w.contents c) (sym here) ∙ set-get_or w.contents c [])
 
 pub stopped : (p : ℕ) (es : List Event) (s : State) (cause : Cause) (w v : Device) (o : Outcome Device) → o ≡ concluded p es s (Refused cause w) → w ≡ v → Stops p cause v o

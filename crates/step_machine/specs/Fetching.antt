@@ -71,6 +71,13 @@ PutsIn (Err causes.HostFault) capacity file put = Unit {0}
 PutsIn (Err causes.FlashFault) capacity file put = Unit {0}
 PutsIn (Err _) capacity file put = ⊥
 
+-- why a started file may not be taken
+abbrev pub StopsTaking : Cause → Type 0
+StopsTaking causes.TooLarge = Unit {0}
+StopsTaking causes.HostFault = Unit {0}
+StopsTaking causes.FlashFault = Unit {0}
+StopsTaking _ = ⊥
+
 -- some file was taken in: where the host tells, the one that was started
 pub record TakesSome (told : Bool) (rest : List ℕ) (result : Result (Unit {0}) Cause) (capacity : ℕ)
     (content : List ℕ) : Type 0 where
@@ -85,26 +92,7 @@ TakesNamed (Err causes.HostFault) capacity named before after = (after ≡ befor
 TakesNamed result capacity named before after =
     (file : List ℕ) × (named ≡ Some file) × TakesIn result capacity file after
 
--- ---- as plays have it
-
--- the payloads that a procedure may fetch: those of its envelope, or none where it is given none
-abbrev pub ArePayloads : Option (Bor Envelope) → List (List ℕ × List ℕ) → Type 0
-ArePayloads None payloads = payloads ≡ []
-ArePayloads (Some envelope) payloads = HasPayloads envelope.now.whole.now payloads
-
--- the payload that a URI names, of these payloads, these names of files and these files
-abbrev pub payload_by : List (List ℕ × List ℕ) → List (List ℕ × List ℕ) → (List ℕ → Option (List ℕ))
-    → List ℕ → Option (List ℕ)
-payload_by payloads words files uri =
-    if get_or uri 0 0 == 35 then found_under payloads uri
-    else option_and_then files (found_under words uri)
-
--- the file that the URI in force for the component names
-abbrev pub file_by : ℕ → Parameters → List (List ℕ × List ℕ) → List (List ℕ × List ℕ)
-    → (List ℕ → Option (List ℕ)) → Option (List ℕ)
-file_by component parameters payloads words files =
-    option_and_then (payload_by payloads words files)
-    (bytes_of (in_force parameters component keys.Uri))
+-- ---- requests of a host
 
 -- a request of a host: the name of a file, and the bytes given under it, where there is such a file
 pub record Request : Type 0 where
@@ -131,6 +119,38 @@ pub record AreRequests (told : Bool) (words : List (List ℕ × List ℕ))
   pub asked : IsTrue told → now ≡ before ++ names_of requests
   pub given : IsTrue told → AllByRecursion (λ r. r.given ≡ files r.name) requests
   pub none : words ≡ [] → requests ≡ []
+
+-- The file of this name was asked for, and taken in as it was given; or the host failed before that. Without a name nothing
+-- was asked for.
+abbrev pub TakesOf : Option (List ℕ) → List Request → Result (Unit {0}) Cause → ℕ → List ℕ → List ℕ
+    → Type 0
+TakesOf None requests result capacity before after =
+    (requests ≡ []) × TakesNamed result capacity None before after
+TakesOf (Some name) requests result capacity before after =
+    ((requests ≡ []) × (result ≡ Err causes.HostFault) × (after ≡ before))
+    ⊎ ((given : Option (List ℕ)) × (requests ≡ request name given ∷ [])
+    × TakesNamed result capacity given before after)
+
+-- ---- as plays have it
+
+-- the payloads that a procedure may fetch: those of its envelope, or none where it is given none
+abbrev pub ArePayloads : Option (Bor Envelope) → List (List ℕ × List ℕ) → Type 0
+ArePayloads None payloads = payloads ≡ []
+ArePayloads (Some envelope) payloads = HasPayloads envelope.now.whole.now payloads
+
+-- the payload that a URI names, of these payloads, these names of files and these files
+abbrev pub payload_by : List (List ℕ × List ℕ) → List (List ℕ × List ℕ) → (List ℕ → Option (List ℕ))
+    → List ℕ → Option (List ℕ)
+payload_by payloads words files uri =
+    if get_or uri 0 0 == 35 then found_under payloads uri
+    else option_and_then files (found_under words uri)
+
+-- the file that the URI in force for the component names
+abbrev pub file_by : ℕ → Parameters → List (List ℕ × List ℕ) → List (List ℕ × List ℕ)
+    → (List ℕ → Option (List ℕ)) → Option (List ℕ)
+file_by component parameters payloads words files =
+    option_and_then (payload_by payloads words files)
+    (bytes_of (in_force parameters component keys.Uri))
 
 -- the device after requests for these names
 abbrev pub with_asked : Device → List (List ℕ) → Device

@@ -41,30 +41,28 @@ launched_as launch = record {
   args = launch.args;
 }
 
--- where it is done there is one launch more, and that is the one of the play; otherwise there is none, and the play is cut
-abbrev pub LaunchesSo : Play Device → ℕ → State → Device → List Launch → List Launch
-    → Result (Unit {0}) Cause → Type 0
-LaunchesSo play place state device before now (Ok _) =
-    (launch : Launch) × (now ≡ before ++ launch ∷ [])
-    × ((play.comes state device).ending ≡ Done state)
-    ×
-    ((play.comes state device).world
-    ≡
-    record {
-      contents = device.contents;
-      launches = device.launches ++ launched_as launch ∷ [];
-    })
-LaunchesSo play place state device before now (Err cause) =
-    (now ≡ before) × StopsSo play place state device cause device
-
--- on each device where the component holds this
-abbrev pub InvokesAs : ℕ → Parameters → List ℕ → List Launch → List Launch → Result (Unit {0}) Cause
+-- in each setting, and on each device where the component holds this
+abbrev pub OnEachDevice : ℕ → Parameters → List ℕ → (Play Device → ℕ → State → Device → Type 0)
     → Type 0
-InvokesAs component parameters content before now result =
+OnEachDevice component parameters content Comes =
     (setting : Setting) (place : ℕ) (state : State) (device : Device)
     → state.parameters ≡ parameters → content_at device component ≡ content
-    → LaunchesSo (directive_play setting acts.Invoke place component) place state device before now
-    result
+    → Comes (directive_play setting acts.Invoke place component) place state device
+
+-- where it is done there is one launch more, and that is the one of the play; otherwise there is none, and the play is cut
+abbrev pub InvokesAs : ℕ → Parameters → List ℕ → List Launch → List Launch → Result (Unit {0}) Cause
+    → Type 0
+InvokesAs component parameters content before now (Ok _) =
+    (launch : Launch) × (now ≡ before ++ launch ∷ [])
+    ×
+    OnEachDevice component parameters content
+    (λ play place state device. ((play.comes state device).ending ≡ Done state)
+    × ((play.comes state device).world
+    ≡ record device { launches = device.launches ++ launched_as launch ∷ [] }))
+InvokesAs component parameters content before now (Err cause) =
+    (now ≡ before)
+    × OnEachDevice component parameters content
+    (λ play place state device. StopsSo play place state device cause device)
 
 -- the counts of the launcher and of the flash: one of them rose for its fault
 abbrev pub InvokeCounts : Result (Unit {0}) Cause → ℕ → ℕ → ℕ → ℕ → Type 0

@@ -27,7 +27,7 @@ use Rattle.step_machine.specs.Devices.{contents_of}
 use Rattle.step_machine.specs.Invoking.{launched_as}
 use Rattle.step_machine.specs.PlanRuns.{Counts, counts_of, CountsFor, OutsideTargets}
 use Rattle.step_machine.specs.Steps.{DiskAt}
-use Rattle.step_machine.specs.Fetching.{ArePayloads, Asked, AsksAmong}
+use Rattle.step_machine.specs.Fetching.{AreGiven, ArePayloads, AreRequests, Asked, AsksAmong, Request, names_of}
 use Rattle.step_machine.specs.Worlds.{AreStandings, StandAtMost}
 
 -- ---- a moment
@@ -55,13 +55,32 @@ moment host disk launcher ram = record { host = host; disk = disk; launcher = la
 abbrev pub counts_at : Moment → Counts
 counts_at m = counts_of m.host.faults m.disk.faults m.launcher.faults
 
--- the device of plays, after these launches
-abbrev pub device_at : Machine → Moment → List Launched → Device
-device_at machine m launches =
-    record {
-      contents = contents_of machine.standings.now m.ram m.disk.flash.reads;
-      launches = launches;
-    }
+-- the launches of a play so far, and the names that it asked for
+pub record Past : Type 0 where
+  pub launches : List Launched
+  pub asked : List (List ℕ)
+
+-- the device of plays, after these
+abbrev pub device_at : Machine → Moment → Past → Device
+device_at machine m past = record {
+  contents = contents_of machine.standings.now m.ram m.disk.flash.reads;
+  launches = past.launches;
+  asked = past.asked;
+}
+
+-- the launches of a part, and its requests of the host
+pub record Gained : Type 0 where
+  pub launches : List Launch
+  pub requests : List Request
+
+abbrev pub gained : List Launch → List Request → Gained
+gained launches requests = record { launches = launches; requests = requests }
+
+abbrev pub followed : Past → Gained → Past
+followed past more = record {
+  launches = past.launches ++ map launched_as more.launches;
+  asked = past.asked ++ names_of more.requests;
+}
 
 -- ---- the state of a running sequence
 
@@ -137,41 +156,37 @@ StopCounts (Ok _) before now = now ≡ before
 StopCounts (Err (stops.Condition place soft_failure)) before now = now ≡ before
 StopCounts (Err (stops.Directive place cause)) before now = CountsFor cause before now
 
--- flash and launcher tell, the files are known, and the setting is that of the machine
-pub record Fits (machine : Machine) (at : Moment) (setting : Setting) : Type 0 where
-  pub host : AreFilesKnown machine at
-  pub disk : IsTrue at.disk.told
-  pub launcher : IsTrue at.launcher.told
+-- the setting is that of the machine
+pub record Fits (machine : Machine) (setting : Setting) : Type 0 where
   pub identities : setting.identities ≡ map (λ (s : Standing). s.identity) machine.standings.now
   pub capacities : setting.capacities ≡ map (λ (s : Standing). s.capacity) machine.standings.now
   pub payloads : ArePayloads machine.envelope setting.payloads
   pub words : setting.words ≡ machine.uris.now
-  pub files : setting.files ≡ at.host.files
 
 abbrev pub Part : Type 1
 Part = Setting → Play Device
 
--- the play comes to it, and to the launches that were gained
-pub record Gained (machine : Machine) (play : Play Device) (state : State) (before : Moment)
-    (result : Result (Unit {0}) Stop) (next : State) (after : Moment) (prior : List Launched)
-    : Type 0 where
-  pub gained : List Launch
-  pub added : after.launcher.launches ≡ before.launcher.launches ++ gained
-  pub comes :
-      Comes play state (device_at machine before prior) result next
-      (device_at machine after (prior ++ map launched_as gained))
-
-abbrev pub Goes : Machine → Part → State → Moment → Result (Unit {0}) Stop → State → Moment → Type 0
-Goes machine part state before result next after =
-    (setting : Setting) → Fits machine before setting → (prior : List Launched)
-    → Gained machine (part setting) state before result next after prior
+-- The launches and the requests from one moment to a later one. In each setting that gives the requests so, the play comes
+-- to that.
+pub record Goes (machine : Machine) (part : Part) (state : State) (before : Moment)
+    (result : Result (Unit {0}) Stop) (next : State) (after : Moment) : Type 0 where
+  pub more : Gained
+  pub launches : after.launcher.launches ≡ before.launcher.launches ++ more.launches
+  pub requests :
+      AreRequests before.host.told machine.uris.now before.host.files before.host.asked.names
+      after.host.asked.names more.requests
+  pub comes : (setting : Setting) → Fits machine setting → (past : Past)
+      → AreGiven setting.files (length past.asked) more.requests
+      → Comes (part setting) state (device_at machine before past) result next
+      (device_at machine after (followed past more))
 
 pub record RunsPart (machine : Machine) (part : Part) (state : State) (before : Moment)
     (result : Result (Unit {0}) Stop) (next : State) (after : Moment) : Type 0 where
   pub stays : Stays machine before after
   pub counts : StopCounts result (counts_at before) (counts_at after)
   pub sources : AreSources machine next.parameters
-  pub goes : Goes machine part state before result next after
+  pub goes : IsTrue before.disk.told → IsTrue before.launcher.told
+      → Goes machine part state before result next after
 
 -- ---- where a directive stopped
 

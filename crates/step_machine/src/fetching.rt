@@ -2,9 +2,9 @@
 
 ghost use Rattle.path_model.specs.declared.cause.Cause.TheVariants as causes;
 ghost use Rattle.path_model.specs.Settings.{found_under};
-ghost use Rattle.std.specs.Prelude.{[], ◌≡◌, ◌⊎◌, ◌<◌, ◌≤◌, ◌+◌, ◌==◌, ℕ, Err, IsTrue, List, Some, get_or, length, option_map};
+ghost use Rattle.std.specs.Prelude.{[], ◌≡◌, ◌≢◌, ◌⊎◌, ◌<◌, ◌≤◌, ◌+◌, ◌==◌, ℕ, Err, IsTrue, List, Some, get_or, length, option_map};
 ghost use Rattle.std.specs.Option.{option_and_then};
-ghost use Rattle.step_machine.specs.Fetching.{ArePayloads, AsksAtMost, FetchCounts, FetchesAs, TakesNamed, asked_at, file_by, file_named};
+ghost use Rattle.step_machine.specs.Fetching.{ArePayloads, AreRequests, AsksAtMost, FetchCounts, FetchesAs, Request, TakesNamed, TakesOf, asked_at, file_by, file_named};
 ghost use Rattle.step_machine.specs.Replacing.{IsReplaced};
 ghost use Rattle.step_machine.specs.Spots.{IsPlaced, IsRamBut, IsSpot, OutsideSpot, content_of, room_at};
 ghost use Rattle.suit_edge.specs.Flash.{Grows, Keeps};
@@ -75,8 +75,10 @@ fn fetch_named<H: Host, D: Disk>(
     requires room { 0 < length room.old }
     requires placed { IsPlaced (D.extent disk.old) ram.old standing.now }
     ensures ram { IsRamBut standing.now.spot ram.old ram.new }
-    ensures takes { IsTrue D.told → IsTrue H.told
-        → TakesNamed result standing.now.capacity (H.file host.old name.now)
+    ensures takes { IsTrue D.told → (requests : List Request)
+        × ((words : List (List ℕ × List ℕ)) → words ≢ []
+        → AreRequests H.told words (H.file host.old) (H.asked host.old) (H.asked host.new) requests)
+        × TakesOf (Some name.now) requests result standing.now.capacity
         (content_of standing.now.spot ram.old (D.flash disk.old).reads)
         (content_of standing.now.spot ram.new (D.flash disk.new).reads) }
     ensures replaced { IsTrue D.told → IsReplaced standing.now.spot
@@ -116,9 +118,10 @@ fn fetch_file<H: Host, D: Disk>(
         (FetchCounts result (H.faults host.old) (H.faults host.new)) disk.old disk.new }
     ensures pulls { ⟦<H as Pulls>⟧.pulls standing.now.capacity host.old host.new }
     ensures ram { IsRamBut standing.now.spot ram.old ram.new }
-    ensures takes { IsTrue D.told → IsTrue H.told ⊎ (uris.now ≡ [])
-        → TakesNamed result standing.now.capacity
-        (option_and_then (H.file host.old) (found_under uris.now uri.now))
+    ensures takes { IsTrue D.told → (requests : List Request)
+        × AreRequests H.told uris.now (H.file host.old) (H.asked host.old) (H.asked host.new)
+        requests
+        × TakesOf (found_under uris.now uri.now) requests result standing.now.capacity
         (content_of standing.now.spot ram.old (D.flash disk.old).reads)
         (content_of standing.now.spot ram.new (D.flash disk.new).reads) }
     ensures replaced { IsTrue D.told → IsReplaced standing.now.spot

@@ -3,8 +3,8 @@
 ghost use Rattle.flash_layout.specs.Slots.{LiesWithin, extent_of, slot_content};
 ghost use Rattle.flash_slots.specs.Contents.{IsEmptyInEach, IsEmptySlot, pieces_of};
 ghost use Rattle.flash_slots.specs.RamContents.{held_by, holding};
-ghost use Rattle.std.specs.Prelude.{◌≡◌, ◌<◌, ◌≤◌, [], ℕ, IsTrue, Some, length};
-ghost use Rattle.step_machine.specs.Fetching.{FetchCounts, PutsIn, TakesIn};
+ghost use Rattle.std.specs.Prelude.{◌≡◌, ◌<◌, ◌≤◌, [], ℕ, IfErr, IsTrue, Some, length};
+ghost use Rattle.step_machine.specs.Fetching.{FetchCounts, PutsIn, StopsTaking, TakesSome};
 ghost use Rattle.step_machine.specs.Replacing.{IsReplaced};
 ghost use Rattle.step_machine.specs.Spots.{IsPlaced, IsRamBut, OutsideSpot, content_of};
 ghost use Rattle.step_machine.specs.declared.spot.Spot.TheVariants as spots;
@@ -38,6 +38,7 @@ fn append_file<H: Host, D: Disk>(
     ensures pulls { ⟦<H as Pulls>⟧.pulls capacity host.old host.new }
     ensures asked { IsTrue H.told → H.asked host.new ≡ H.asked host.old }
     ensures slot { writing.new.slot ≡ writing.old.slot }
+    ensures stops { IfErr result StopsTaking }
     ensures within { writing.new.written ≤ capacity }
     ensures puts { IsTrue D.told → IsTrue H.told → PutsIn result capacity (H.rest host.old)
         (pieces_of writing.old.slot writing.new.written (D.flash disk.new).reads) }
@@ -72,8 +73,7 @@ fn take_into_slot<H: Host, D: Disk>(
 ) -> Result<(), Cause>
     requires slot { LiesWithin (D.extent disk.old) slot }
     requires room { 0 < length room.old }
-    ensures takes { IsTrue D.told → IsTrue H.told
-        → TakesIn result slot.capacity (H.rest host.old)
+    ensures takes { IsTrue D.told → TakesSome H.told (H.rest host.old) result slot.capacity
         (slot_content slot (D.flash disk.new).reads) }
     ensures replaced { IsTrue D.told → IsReplaced (spots.Flash slot)
         (λ file. IsTrue H.told → file ≡ Some (H.rest host.old))
@@ -114,7 +114,9 @@ fn append_file_in_ram<H: Host>(
         → FetchCounts result (H.faults host.old) (H.faults host.new) flash flash }
     ensures pulls { ⟦<H as Pulls>⟧.pulls capacity host.old host.new }
     ensures asked { IsTrue H.told → H.asked host.new ≡ H.asked host.old }
+    ensures stops { IfErr result StopsTaking }
     ensures ram { ram.new ≡ holding ram.old component (held_by ram.new component).content }
+    ensures within { length (held_by ram.new component).content ≤ capacity }
     ensures puts { IsTrue H.told
         → PutsIn result capacity (H.rest host.old) (held_by ram.new component).content }
 {
@@ -143,8 +145,8 @@ fn take_into_ram<H: Host>(
     requires capacity { (held_by ram.old component).capacity ≡ capacity }
     requires room { 0 < length room.old }
     ensures ram { ram.new ≡ holding ram.old component (held_by ram.new component).content }
-    ensures takes { IsTrue H.told
-        → TakesIn result capacity (H.rest host.old) (held_by ram.new component).content }
+    ensures takes { TakesSome H.told (H.rest host.old) result capacity
+        (held_by ram.new component).content }
     ensures counts { (flash : ℕ)
         → FetchCounts result (H.faults host.old) (H.faults host.new) flash flash }
     ensures pulls { ⟦<H as Pulls>⟧.pulls capacity host.old host.new }
@@ -177,8 +179,8 @@ pub(crate) fn take_into<H: Host, D: Disk>(
     ensures pulls { ⟦<H as Pulls>⟧.pulls standing.now.capacity host.old host.new }
     ensures asked { IsTrue H.told → H.asked host.new ≡ H.asked host.old }
     ensures ram { IsRamBut standing.now.spot ram.old ram.new }
-    ensures takes { IsTrue D.told → IsTrue H.told
-        → TakesIn result standing.now.capacity (H.rest host.old)
+    ensures takes { IsTrue D.told
+        → TakesSome H.told (H.rest host.old) result standing.now.capacity
         (content_of standing.now.spot ram.new (D.flash disk.new).reads) }
     ensures replaced { IsTrue D.told → IsReplaced standing.now.spot
         (λ file. IsTrue H.told → file ≡ Some (H.rest host.old))

@@ -1,5 +1,5 @@
 use Rattle.path_model.proofs.DeviceLeaves.{play_runs, faulted_is_path}
-use Rattle.path_model.proofs.DeviceLeads.{faulted_launches_first}
+use Rattle.path_model.proofs.DeviceLeads.{faulted_asks_first, faulted_launches_first}
 use Rattle.path_model.proofs.Vouching.{safe_launches, faulted_safe_launches}
 use Rattle.path_model.proofs.DeviceEnds.{play_ends, faulted_ends}
 use Rattle.path_model.proofs.play_law.play_laws.Goals as goal
@@ -12,6 +12,9 @@ returns-clause-faulted c = faulted_is_path
 
 pub returns-clause-launches : goal.returns-clause-launches
 returns-clause-launches c = faulted_launches_first
+
+pub returns-clause-asks : goal.returns-clause-asks
+returns-clause-asks c = faulted_asks_first
 
 pub returns-clause-safe : goal.returns-clause-safe
 returns-clause-safe c = safe_launches

@@ -18,7 +18,7 @@ returns-in-Write g c =
       runs = act_as c.args.machine.now c.args.kind acts.Write c.args.place c.args.component c.in-Write.is _ _ _ _ _
           (write_runs c.args.machine.now _ _ (state_of c.args.state.now) c.args.place c.args.component r.inside r.ready r.under_way (λ t. g.met.D.Disk.obeys c.args.work.now.disk.now t) c.write.result _ c.stopped.ensures
           (one_stays c.args.machine.now _ _ c.args.component no_standing r.inside r.ready w.ram refl refl refl w.size (λ t. refl) (λ t room rooms. asks_none (plan_tree c.args.machine.now.plan.now) c.args.machine.now.uris.now room _) may w.keeps w.grows) refl
-          (cause_counts c.write.result c.args.place _ _ _ _ w.counts) w.ram w.keeps w.writes);
+          (cause_counts c.write.result c.args.place _ _ _ _ w.counts) w.ram w.keeps refl w.writes);
       leaves = record { unasked = λ none. refl; unfetched = λ none. refl; host = refl; disk = refl; launcher = refl; ram = refl; pieces = refl };
     }
 
@@ -43,6 +43,6 @@ returns-in-Invoke g c =
     record {
       runs = act_as c.args.machine.now c.args.kind acts.Invoke c.args.place c.args.component c.in-Invoke.is _ _ _ _ _
           (invoke_runs c.args.machine.now _ _ (state_of c.args.state.now) c.args.place c.args.component r.inside r.ready r.under_way c.invoke.result _ c.stopped-in-Invoke.ensures
-          (looked c.args.machine.now _ _ refl refl refl w.size refl (λ t. refl) refl w.same w.grows) refl w.same (invoke_counts c.invoke.result c.args.place _ _ _ _ _ w.counts) w.invokes);
+          (looked c.args.machine.now _ _ refl refl refl w.size refl (λ t. refl) refl w.same w.grows) refl w.same refl (invoke_counts c.invoke.result c.args.place _ _ _ _ _ w.counts) w.invokes);
       leaves = record { unasked = λ none. refl; unfetched = λ none. refl; host = refl; disk = refl; launcher = refl; ram = refl; pieces = refl };
     }

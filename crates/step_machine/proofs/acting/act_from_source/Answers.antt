@@ -40,7 +40,7 @@ returns-in_default g c =
       runs = act_as c.args.machine.now c.args.kind acts.Copy c.args.place c.args.component (copies c.args.kind c.requires.from c.in_default.not-Swap) _ _ _ _ _
           (copy_runs c.args.machine.now _ _ (state_of c.args.state.now) c.args.place c.args.component r.inside r.ready r.under_way (λ t. g.met.D.Disk.obeys c.args.work.now.disk.now t) c.copy.result _ c.stopped-in_default.ensures
           (one_stays c.args.machine.now _ _ c.args.component no_standing r.inside r.ready w.ram refl refl refl w.size (λ t. refl) (λ t room rooms. asks_none (plan_tree c.args.machine.now.plan.now) c.args.machine.now.uris.now room _) r.target w.keeps w.grows) refl
-          (cause_counts c.copy.result c.args.place _ _ _ _ w.counts) w.ram w.keeps c.in-Some.source named w.copies);
+          (cause_counts c.copy.result c.args.place _ _ _ _ w.counts) w.ram w.keeps refl c.in-Some.source named w.copies);
       leaves = record { unasked = λ none. refl; unfetched = λ none. refl; host = refl; disk = refl; launcher = refl; ram = refl; pieces = refl };
     }
 
@@ -53,7 +53,7 @@ returns-in-Swap g c =
       runs = act_as c.args.machine.now c.args.kind acts.Swap c.args.place c.args.component (c.in-Swap.is) _ _ _ _ _
           (swap_runs c.args.machine.now _ _ (state_of c.args.state.now) c.args.place c.args.component r.inside r.ready r.under_way (λ t. g.met.D.Disk.obeys c.args.work.now.disk.now t) c.swap-swapped.result _ c.stopped.ensures
           (two_stay c.args.machine.now _ _ c.args.component c.in-Some.source no_standing r.inside (source_below c.args.machine.now _ _ (state_of c.args.state.now) c.args.component c.in-Some.source c.requires.inside c.requires.ready c.requires.under_way named) r.ready w.ram refl refl refl w.size (λ t. refl) refl r.target (inr (r.swaps c.in-Swap.is, source_named c.args.machine.now _ _ (state_of c.args.state.now) c.args.component c.in-Some.source c.requires.inside c.requires.ready c.requires.under_way named)) w.keeps w.grows) refl
-          (cause_counts c.swap-swapped.result c.args.place _ _ _ _ w.counts) c.in-Some.source named w.ram w.keeps w.swaps);
+          (cause_counts c.swap-swapped.result c.args.place _ _ _ _ w.counts) refl c.in-Some.source named w.ram w.keeps w.swaps);
       leaves = record { unasked = λ none. refl; unfetched = λ none. refl; host = refl; disk = refl; launcher = refl; ram = refl; pieces = refl };
     }
 

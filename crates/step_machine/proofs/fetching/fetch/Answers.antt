@@ -7,7 +7,8 @@ use Rattle.path_model.specs.declared.cause.Cause.{Cause}
 use Rattle.path_model.specs.declared.cause.Cause.TheVariants as causes
 use Rattle.path_model.specs.Settings.{found_under}
 use Rattle.step_machine.specs.Fetching.{ArePayloads, AsksAtMost, FetchCounts, asked_at, file_by, payload_by}
-use Rattle.step_machine.proofs.FetchPlays.{fetch_named}
+use Rattle.step_machine.proofs.Asking.{unrequested}
+use Rattle.step_machine.proofs.FetchPlays.{fetch_by_key, fetch_by_name, fetch_missing}
 use Rattle.step_machine.proofs.Fetched.{left_alone, named_as}
 use Rattle.step_machine.proofs.Memory.{ram_same}
 use Rattle.step_machine.proofs.Writing.{when_false, when_true}
@@ -26,16 +27,31 @@ other_than a b differ = eqb-false a b differ
 pub returns-in-None-clause-ram : goal.returns-in-None-clause-ram
 returns-in-None-clause-ram g c = ram_same c.args.standing.now.spot c.args.ram.now
 
+pub returns-in-None-clause-fetches : goal.returns-in-None-clause-fetches
+returns-in-None-clause-fetches g c t = (
+  [],
+  unrequested g.H.Host.told c.args.uris.now (g.H.Host.file c.args.host.now) _ _ refl,
+  λ payloads has. fetch_missing c.args.standing.now.component c.args.standing.now.capacity c.args.params.now payloads c.args.uris.now _ (sym (ap bytes_of c.get.ensures) ∙ sym c.in-None.ensures),
+)
+
 pub returns-then-is_key-clause-fetches : goal.returns-then-is_key-clause-fetches
-returns-then-is_key-clause-fetches g c t u payloads has =
-    let by = when_true (get_or c.in-Some.uri.now 0 0 == 35) (found_under payloads c.in-Some.uri.now) (option_and_then (g.H.Host.file c.args.host.now) (found_under c.args.uris.now c.in-Some.uri.now)) (sym c.is_key.ensures ∙ c.if-is_key.true) in
-    fetch_named c.args.standing.now.component c.args.standing.now.capacity c.args.params.now payloads c.args.uris.now (g.H.Host.file c.args.host.now) c.in-Some.uri.now (sym (ap bytes_of c.get.ensures) ∙ sym c.in-Some.ensures) c.fetch_payload.result (found_under payloads c.in-Some.uri.now) _ _ by (λ e. absurd (never_host _ _ _ (c.fetch_payload.ensures.counts 0) e)) (c.fetch_payload.ensures.takes t payloads has)
+returns-then-is_key-clause-fetches g c t = (
+  [],
+  unrequested g.H.Host.told c.args.uris.now (g.H.Host.file c.args.host.now) _ _ refl,
+  λ payloads has. fetch_by_key c.args.standing.now.component c.args.standing.now.capacity c.args.params.now payloads c.args.uris.now c.in-Some.uri.now c.fetch_payload.result _ _ (sym (ap bytes_of c.get.ensures) ∙ sym c.in-Some.ensures)
+      (sym c.is_key.ensures ∙ c.if-is_key.true) (never_host _ _ _ (c.fetch_payload.ensures.counts 0)) (c.fetch_payload.ensures.takes t payloads has),
+)
 
 pub returns-else-is_key-clause-fetches : goal.returns-else-is_key-clause-fetches
-returns-else-is_key-clause-fetches g c t u payloads has =
-    let by = when_false (get_or c.in-Some.uri.now 0 0 == 35) (found_under payloads c.in-Some.uri.now) (option_and_then (g.H.Host.file c.args.host.now) (found_under c.args.uris.now c.in-Some.uri.now)) (sym c.is_key.ensures ∙ c.if-is_key.false) in
-    fetch_named c.args.standing.now.component c.args.standing.now.capacity c.args.params.now payloads c.args.uris.now (g.H.Host.file c.args.host.now) c.in-Some.uri.now (sym (ap bytes_of c.get.ensures) ∙ sym c.in-Some.ensures) c.fetch_file.result (option_and_then (g.H.Host.file c.args.host.now) (found_under c.args.uris.now c.in-Some.uri.now)) _ _ by
-    (λ e. let found = c.fetch_file.ensures.named e in (other_than (get_or c.in-Some.uri.now 0 0) 35 (sym c.is_key.ensures ∙ c.if-is_key.false), found.0, found.1)) (c.fetch_file.ensures.takes t u)
+returns-else-is_key-clause-fetches g c t =
+    let takes = c.fetch_file.ensures.takes t in
+    let other = sym c.is_key.ensures ∙ c.if-is_key.false in
+    (
+      takes.0,
+      takes.1,
+      λ payloads has. fetch_by_name c.args.standing.now.component c.args.standing.now.capacity c.args.params.now payloads c.args.uris.now c.in-Some.uri.now (sym (ap bytes_of c.get.ensures) ∙ sym c.in-Some.ensures) other
+          (found_under c.args.uris.now c.in-Some.uri.now) takes.0 c.fetch_file.result _ _ refl (λ e. let found = c.fetch_file.ensures.named e in (other_than (get_or c.in-Some.uri.now 0 0) 35 other, found.0, found.1)) takes.2,
+    )
 
 pub returns-in-None-clause-asked : goal.returns-in-None-clause-asked
 returns-in-None-clause-asked g c t = inl (refl, refl)

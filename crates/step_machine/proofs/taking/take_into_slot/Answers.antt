@@ -1,6 +1,7 @@
-use Rattle.std.proofs.Common.{◌≡◌, ◌∙◌, Some, IsTrue, length, refl, sym, ap, subst, arith}
+use Rattle.std.proofs.Common.{◌≡◌, ◌∙◌, [], Some, IsTrue, length, refl, sym, ap, subst, arith}
+use Rattle.std.proofs.lemmas.Result.{err_from_is_err_and}
 use Rattle.flash_layout.specs.declared.slot.Slot.{Slot}
-use Rattle.flash_layout.specs.Slots.{LiesWithin}
+use Rattle.flash_layout.specs.Slots.{LiesWithin, slot_content}
 use Rattle.flash_slots.specs.Contents.{IsEmptyInEach, pieces_of}
 use Rattle.flash_slots.specs.WritingLaws.{appended, emptied}
 use Rattle.step_machine.specs.declared.spot.Spot.TheVariants as spots
@@ -8,13 +9,33 @@ use Rattle.step_machine.proofs.Fetched.{by_file, pieces_long}
 use Rattle.step_machine.proofs.Ranging.{length_put, pieces_put, slot_put}
 use Rattle.step_machine.proofs.Replaced.{begun_slot, finished_slot, put_slot}
 use Rattle.step_machine.proofs.Short.{slot_short}
+use Rattle.step_machine.proofs.TakenFiles.{some_cut, some_done, some_stopped}
 use Rattle.step_machine.proofs.taking.take_into_slot.Goals as goal
 
 pub returns-in-Err-clause-takes : goal.returns-in-Err-clause-takes
-returns-in-Err-clause-takes g c t u = slot_short c.args.slot (g.D.Disk.flash c.begin.new.disk).reads
+returns-in-Err-clause-takes g c t = some_cut g.H.Host.told c.args.slot.capacity _ _ (slot_short c.args.slot (g.D.Disk.flash c.begin.new.disk).reads)
 
 pub returns-in-Err-finish-clause-takes : goal.returns-in-Err-finish-clause-takes
-returns-in-Err-finish-clause-takes g c t u = slot_short c.args.slot (g.D.Disk.flash c.finish.new.disk).reads
+returns-in-Err-finish-clause-takes g c t = some_cut g.H.Host.told c.args.slot.capacity _ _ (slot_short c.args.slot (g.D.Disk.flash c.finish.new.disk).reads)
+
+pub returns-in_err-append_file-clause-takes : goal.returns-in_err-append_file-clause-takes
+returns-in_err-append_file-clause-takes g c t =
+    let reads = (g.D.Disk.flash c.append_file.new.disk).reads in
+    let is = c.in-Ok.ensures.slot in
+    let empty : slot_content c.args.slot reads ≡ [] =
+    subst (λ (x : Slot). slot_content x reads ≡ []) is (c.append_file.ensures.empty t (subst (λ (x : Slot). slot_content x (g.D.Disk.flash c.begin.new.disk).reads ≡ []) (sym is) (c.in-Ok.ensures.empty t))) in
+    let p = err_from_is_err_and c.from_residual.result c.from_residual.ensures.1 in
+    rw (p.1, p.2) (some_stopped g.H.Host.told c.in_err-append_file.field-0.0 c.args.slot.capacity _ _ _ c.in_err-append_file.ensures.stops (c.in_err-append_file.ensures.puts t) empty)
+
+pub returns-in-Ok-finish-clause-takes : goal.returns-in-Ok-finish-clause-takes
+returns-in-Ok-finish-clause-takes g c t =
+    let put = c.append_file.new.writing in
+    let before = (g.D.Disk.flash c.append_file.new.disk).reads in
+    let after = (g.D.Disk.flash c.finish.new.disk).reads in
+    let same : put.slot ≡ c.args.slot = c.append_file.ensures.slot ∙ c.in-Ok.ensures.slot in
+    some_done g.H.Host.told _ c.args.slot.capacity _ (slot_content c.args.slot after)
+    (λ u. ap (λ (x : Slot). slot_content x after) (sym same) ∙ c.in-Ok-finish.ensures.content t ∙ ap (λ (x : Slot). pieces_of x put.written before) c.append_file.ensures.slot ∙ (c.in_ok-append_file.ensures.puts t u).1)
+    (slot_short c.args.slot after)
 
 pub returns-in-Err-clause-keeps : goal.returns-in-Err-clause-keeps
 returns-in-Err-clause-keeps g c t =
