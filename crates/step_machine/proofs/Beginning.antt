@@ -110,8 +110,12 @@ pub runs_quietly : (machine : Machine) (part : Part) (s : State) (m n : Moment) 
     → n.launcher.launches ≡ m.launcher.launches → n.host.asked.names ≡ m.host.asked.names
     → (IsTrue m.disk.told → (setting : Setting) → Fits machine setting → (past : Past) → Comes (part setting) s (device_at machine m past) r t (device_at machine n past)) → RunsPart machine part s m r t n
 runs_quietly machine part s m n r t stays counts sources launches asked comes =
-    runs_asking machine part s m n r t stays counts sources launches (λ told. ([], no_requests machine m n asked, λ setting fits past given.
-    subst (λ (names : List (List ℕ)). Comes (part setting) s (device_at machine m past) r t (device_at machine n (record { launches = past.launches; asked = names }))) (sym (append-nil past.asked)) (comes told setting fits past)))
+    runs_asking machine part s m n r t stays counts sources launches (λ told. (
+      [],
+      no_requests machine m n asked,
+      λ setting fits past given.
+          subst (λ (names : List (List ℕ)). Comes (part setting) s (device_at machine m past) r t (device_at machine n (record { launches = past.launches; asked = names }))) (sym (append-nil past.asked)) (comes told setting fits past),
+    ))
 
 -- nothing outside changes
 pub runs_at_once : (machine : Machine) (part : Part) (s : State) (m : Moment) (r : Result (Unit {0}) Stop) (t : State) → StopCounts r (counts_at m) (counts_at m) → AreSources machine t.parameters
@@ -189,8 +193,8 @@ requests_then : (machine : Machine) (a b c : Moment) (one other : List Request) 
 requests_then machine a b c one other stays first second = record {
   asked = λ told.
       second.asked (later told) ∙ ap (λ (l : List (List ℕ)). l ++ names_of other) (first.asked told) ∙ both_after (λ (r : Request). r.name) a.host.asked.names one other;
-  given = λ told. all_of_both (λ r. r.given ≡ a.host.files r.name) one other (first.given told)
-      (subst (λ (files : List ℕ → Option (List ℕ)). AllByRecursion (λ r. r.given ≡ files r.name) other) (stays.files (inl told)) (second.given (later told)));
+  given = λ told. all_of_both (λ (r : Request). r.given ≡ a.host.files r.name) one other (first.given told)
+      (subst (λ (files : List ℕ → Option (List ℕ)). AllByRecursion (λ (r : Request). r.given ≡ files r.name) other) (stays.files (inl told)) (second.given (later told)));
   none = λ none. ap (λ (l : List Request). l ++ other) (first.none none) ∙ second.none none;
 }
   where

@@ -104,13 +104,16 @@ module _ (machine : Machine) (m n : Moment) (s : State) (place c : ℕ) (lt : c 
     fetch_runs fetches =
         subst (λ (x : Result (Unit {0}) Stop). RunsPart machine (act_part acts.Fetch place c) s m x s n) (sym is)
         (runs_asking machine (act_part acts.Fetch place c) s m n (stopped place r) s stays counts under.sources launches (λ told.
-        let f = fetches told in
-        (f.0, f.1, λ setting fits past given.
-        let asked : Past = record { launches = past.launches; asked = past.asked ++ names_of f.0 } in
-        subst (λ (v : Device). Comes (directive_play setting acts.Fetch place c) s (device_at machine m past) (stopped place r) s v) (one_device machine m n c no_standing lt ready but (law told).fits (keeps told) asked)
-        (acts_come (directive_play setting acts.Fetch place c) place s (device_at machine m past) (with_content (with_asked (device_at machine m past) (names_of f.0)) c (holds_at machine c n)) r
-        (subst (λ (k : ℕ). FetchesAs k (stands_at machine c).capacity s.parameters setting.payloads machine.uris.now f.0 (holds_at machine c m) (holds_at machine c n) r) component_is (f.2 setting.payloads fits.payloads)
-        setting place s (device_at machine m past) refl (capacity_here machine m c no_standing lt setting fits past) refl fits.words given (content_here machine m c no_standing lt setting fits past) (within_here machine m c no_standing lt setting fits past))))))
+        let f = fetches told in (
+          f.0,
+          f.1,
+          λ setting fits past given.
+              let asked : Past = record { launches = past.launches; asked = past.asked ++ names_of f.0 } in
+              subst (λ (v : Device). Comes (directive_play setting acts.Fetch place c) s (device_at machine m past) (stopped place r) s v) (one_device machine m n c no_standing lt ready but (law told).fits (keeps told) asked)
+              (acts_come (directive_play setting acts.Fetch place c) place s (device_at machine m past) (with_content (with_asked (device_at machine m past) (names_of f.0)) c (holds_at machine c n)) r
+              (subst (λ (k : ℕ). FetchesAs k (stands_at machine c).capacity s.parameters setting.payloads machine.uris.now f.0 (holds_at machine c m) (holds_at machine c n) r) component_is (f.2 setting.payloads fits.payloads)
+              setting place s (device_at machine m past) refl (capacity_here machine m c no_standing lt setting fits past) refl fits.words given (content_here machine m c no_standing lt setting fits past) (within_here machine m c no_standing lt setting fits past))),
+        )))
 
     pub copy_runs : n.host.asked.names ≡ m.host.asked.names → (source : ℕ) → number_of (in_force s.parameters c keys.Source) ≡ Some source
         → (IsTrue m.disk.told → CopiesAs (stands_at machine c).component (stands_at machine c).capacity (stands_at machine source).component (holds_at machine source m) (holds_at machine c m) (holds_at machine c n) r)

@@ -24,31 +24,41 @@ pub invoke_done : (c : ℕ) (ps : Parameters) (content reads : List ℕ) (before
     → now ≡ before ++ launch ∷ [] → IsLaunch image true reads c digest size args launch → IsImageOf reads content image
     → digest ≡ digest_bytes (digest_in ps c) → size ≡ size_in ps c → args ≡ bytes_of (in_force ps c keys.Args)
     → InvokesAs c ps content before now (Ok u)
-invoke_done c ps content reads before now image digest args size launch u grown is from d_is s_is a_is = (launch, grown, λ setting p s w same here.
-    let asked : Launched = launch_of w c s.parameters in
-    let bytes : launch.bytes ≡ asked.bytes = from launch.bytes is.bytes ∙ sym here in
-    let named : (launched_as launch).digest ≡ asked.digest =
-    ap (option_map (λ (xs : List ℕ). record { bytes = xs })) (is.digest ∙ d_is) ∙ there_and_back (digest_in ps c) ∙ ap (λ (qs : Parameters). digest_in qs c) (sym same) in
-    let sized : launch.size ≡ asked.size = is.size ∙ s_is ∙ ap (λ (qs : Parameters). size_in qs c) (sym same) in
-    let argued : launch.args ≡ asked.args = is.args ∙ a_is ∙ ap (λ (qs : Parameters). bytes_of (in_force qs c keys.Args)) (sym same) in
-    let equal : asked ≡ launched_as launch = λ i. record {
-      component = sym is.component i;
-      bytes = sym bytes i;
-      digest = sym named i;
-      size = sym sized i;
-      args = sym argued i;
-    } in
-    (refl, ap (λ (l : Launched). record { contents = w.contents; launches = w.launches ++ l ∷ []; asked = w.asked }) equal))
+invoke_done c ps content reads before now image digest args size launch u grown is from d_is s_is a_is = (
+  launch,
+  grown,
+  λ setting p s w same here.
+      let asked : Launched = launch_of w c s.parameters in
+      let bytes : launch.bytes ≡ asked.bytes = from launch.bytes is.bytes ∙ sym here in
+      let named : (launched_as launch).digest ≡ asked.digest =
+      ap (option_map (λ (xs : List ℕ). record { bytes = xs })) (is.digest ∙ d_is) ∙ there_and_back (digest_in ps c) ∙ ap (λ (qs : Parameters). digest_in qs c) (sym same) in
+      let sized : launch.size ≡ asked.size = is.size ∙ s_is ∙ ap (λ (qs : Parameters). size_in qs c) (sym same) in
+      let argued : launch.args ≡ asked.args = is.args ∙ a_is ∙ ap (λ (qs : Parameters). bytes_of (in_force qs c keys.Args)) (sym same) in
+      let equal : asked ≡ launched_as launch = λ i. record {
+        component = sym is.component i;
+        bytes = sym bytes i;
+        digest = sym named i;
+        size = sym sized i;
+        args = sym argued i;
+      } in
+      (refl, ap (λ (l : Launched). record { contents = w.contents; launches = w.launches ++ l ∷ []; asked = w.asked }) equal),
+)
 
 pub invoke_cut : (c : ℕ) (ps : Parameters) (content : List ℕ) (before now : List Launch) → now ≡ before → InvokesAs c ps content before now (Err causes.FlashFault)
-invoke_cut c ps content before now kept = (kept, λ setting p s w same here.
-    let outcome : Outcome Device = concluded p (invoke_event c s.parameters false ∷ []) s (Refused causes.FlashFault w) in
-    record { outcome = outcome; cut = (causes.FlashFault, tt, refl); stops = record { ending = refl; named = refl; world = refl } })
+invoke_cut c ps content before now kept = (
+  kept,
+  λ setting p s w same here.
+      let outcome : Outcome Device = concluded p (invoke_event c s.parameters false ∷ []) s (Refused causes.FlashFault w) in
+      record { outcome = outcome; cut = (causes.FlashFault, tt, refl); stops = record { ending = refl; named = refl; world = refl } },
+)
 
 pub invoke_failed : (c : ℕ) (ps : Parameters) (content : List ℕ) (before now : List Launch) → now ≡ before → InvokesAs c ps content before now (Err causes.LaunchFault)
-invoke_failed c ps content before now kept = (kept, λ setting p s w same here.
-    let outcome : Outcome Device = concluded p (invoke_event c s.parameters false ∷ []) s (Refused causes.LaunchFault w) in
-    record { outcome = outcome; cut = (causes.LaunchFault, tt, refl); stops = record { ending = refl; named = refl; world = refl } })
+invoke_failed c ps content before now kept = (
+  kept,
+  λ setting p s w same here.
+      let outcome : Outcome Device = concluded p (invoke_event c s.parameters false ∷ []) s (Refused causes.LaunchFault w) in
+      record { outcome = outcome; cut = (causes.LaunchFault, tt, refl); stops = record { ending = refl; named = refl; world = refl } },
+)
 
 -- ---- each answer of the launcher
 

@@ -172,7 +172,7 @@ are_served [] = tt
 are_served (r ∷ requests) = (refl, given_later (served requests) (served (r ∷ requests)) 0 requests (λ k. refl) (are_served requests))
 
 -- a host that tells gives its files
-are_steady : (files : List ℕ → Option (List ℕ)) (number : ℕ) (requests : List Request) → AllByRecursion (λ r. r.given ≡ files r.name) requests → AreGiven (steady files) number requests
+are_steady : (files : List ℕ → Option (List ℕ)) (number : ℕ) (requests : List Request) → AllByRecursion (λ (r : Request). r.given ≡ files r.name) requests → AreGiven (steady files) number requests
 are_steady files number [] all = tt
 are_steady files number (r ∷ requests) all = (sym all.0, are_steady files (suc number) requests all.1)
 

@@ -36,6 +36,11 @@ pub command_as : (machine : Machine) (x y : Command) (count place : ℕ) → x �
 command_as machine x y count place is each s m r t n runs =
     runs_command machine (command_tree x) count place s m r t n (subst (λ (z : Command). IsEach (command_tree z)) (sym is) each) runs
 
+pub index_as : (machine : Machine) (x y : Command) (count place : ℕ) → x ≡ y → (s : State) (m : Moment) (r : Result (Unit {0}) Stop) (t : State) (n : Moment)
+    → RunsPart machine (command_part (command_tree y) count place) s m r t n → RunsPart machine (command_part (command_tree x) count place) s m r t n
+index_as machine x y count place is s m r t n runs =
+    subst (λ (z : Command). RunsPart machine (command_part (command_tree z) count place) s m r t n) (sym is) runs
+
 -- ---- steps
 
 pub steps_begun : (machine : Machine) (tree whole : SequenceTree) (s : State) (m : Moment) → tree ≡ whole → AreSources machine s.parameters

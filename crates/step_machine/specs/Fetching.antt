@@ -117,7 +117,7 @@ pub record AreRequests (told : Bool) (words : List (List ℕ × List ℕ))
     (files : List ℕ → Option (List ℕ)) (before now : List (List ℕ)) (requests : List Request)
     : Type 0 where
   pub asked : IsTrue told → now ≡ before ++ names_of requests
-  pub given : IsTrue told → AllByRecursion (λ r. r.given ≡ files r.name) requests
+  pub given : IsTrue told → AllByRecursion (λ (r : Request). r.given ≡ files r.name) requests
   pub none : words ≡ [] → requests ≡ []
 
 -- The file of this name was asked for, and taken in as it was given; or the host failed before that. Without a name nothing

@@ -45,8 +45,7 @@ returns-then-is_key-clause-fetches g c t = (
 pub returns-else-is_key-clause-fetches : goal.returns-else-is_key-clause-fetches
 returns-else-is_key-clause-fetches g c t =
     let takes = c.fetch_file.ensures.takes t in
-    let other = sym c.is_key.ensures ∙ c.if-is_key.false in
-    (
+    let other = sym c.is_key.ensures ∙ c.if-is_key.false in (
       takes.0,
       takes.1,
       λ payloads has. fetch_by_name c.args.standing.now.component c.args.standing.now.capacity c.args.params.now payloads c.args.uris.now c.in-Some.uri.now (sym (ap bytes_of c.get.ensures) ∙ sym c.in-Some.ensures) other

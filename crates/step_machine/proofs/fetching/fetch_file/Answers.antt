@@ -1,4 +1,4 @@
-use Rattle.std.proofs.Common.{◌≡◌, ◌⊎◌, [], None, Err, IsTrue, ◌∙◌, inl, ◌+◌, ⊎_elim, ℕ, List, Option, refl, sym, ap, subst}
+use Rattle.std.proofs.Common.{◌≡◌, ◌⊎◌, [], None, Err, IsTrue, ◌∙◌, inl, ◌+◌, ⊎_elim, ℕ, List, Option, refl, ap, subst}
 use Rattle.std.specs.Option.{option_and_then}
 use Rattle.path_model.specs.Settings.{found_under}
 use Rattle.path_model.specs.declared.cause.Cause.TheVariants as causes
@@ -15,8 +15,7 @@ returns-in-Some-clause-takes g c t =
     let standing = c.args.standing.now in
     let before = content_of standing.spot c.args.ram.now (g.D.Disk.flash c.args.disk.now).reads in
     let after = content_of standing.spot c.fetch_named.new.ram (g.D.Disk.flash c.fetch_named.new.disk).reads in
-    let takes = c.fetch_named.ensures.takes t in
-    (
+    let takes = c.fetch_named.ensures.takes t in (
       takes.0,
       takes.1 c.args.uris.now (λ none. none_under c.args.uris.now c.args.uri.now _ none c.in-Some.ensures),
       subst (λ (o : Option (List ℕ)). TakesOf o takes.0 c.fetch_named.result standing.capacity before after) c.in-Some.ensures takes.2,
@@ -25,8 +24,7 @@ returns-in-Some-clause-takes g c t =
 pub returns-in-None-clause-takes : goal.returns-in-None-clause-takes
 returns-in-None-clause-takes g c t =
     let standing = c.args.standing.now in
-    let before = content_of standing.spot c.args.ram.now (g.D.Disk.flash c.args.disk.now).reads in
-    (
+    let before = content_of standing.spot c.args.ram.now (g.D.Disk.flash c.args.disk.now).reads in (
       [],
       unrequested g.H.Host.told c.args.uris.now (g.H.Host.file c.args.host.now) _ _ refl,
       subst (λ (o : Option (List ℕ)). TakesOf o [] (Err causes.Absent) standing.capacity before before) c.in-None.ensures (refl, (refl, refl)),

@@ -8,8 +8,7 @@ use Rattle.step_machine.proofs.fetching.fetch_named.Goals as goal
 
 pub returns-in-Done-clause-takes : goal.returns-in-Done-clause-takes
 returns-in-Done-clause-takes g c t =
-    let some = c.take_into.ensures.takes t in
-    (
+    let some = c.take_into.ensures.takes t in (
       request c.args.name.now (Some some.file) ∷ [],
       λ words names. one_requested g.H.Host.told words (g.H.Host.file c.args.host.now) _ _ c.args.name.now (Some some.file) names (λ u. c.take_into.ensures.asked u ∙ c.in-Done.ensures.asked u) (λ u. ap Some (some.is u) ∙ sym (c.in-Done.ensures.starts u)),
       inr (Some some.file, refl, found_takes _ c.args.standing.now.capacity _ some.file _ _ refl some.takes),

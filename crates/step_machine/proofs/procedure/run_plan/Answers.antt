@@ -4,7 +4,6 @@ use Rattle.suit_edge.specs.Flash.{Keeps}
 use Rattle.step_machine.specs.declared.machine.Machine.{Machine}
 use Rattle.step_machine.specs.declared.plan_end.PlanEnd.{PlanEnd}
 use Rattle.step_machine.specs.declared.spot.Standing.{Standing}
-use Rattle.step_machine.specs.Devices.{contents_of}
 use Rattle.path_model.specs.Settings.{Setting}
 use Rattle.step_machine.specs.PlanRuns.{EndCounts, counts_of, OutsideTargets, end_of, setting_of}
 use Rattle.step_machine.specs.Worlds.{AreStandings, StandAtMost}
@@ -47,8 +46,9 @@ returns g c =
           let setting : List Standing → Setting = λ l. setting_of l payloads machine.uris.now served.0 in
           let fits : Fits machine (setting machine.standings.now) = record { identities = refl; capacities = refl; payloads = are; words = refl } in
           let plays = plan_plays machine m n c.run_lent-ended.ensures.runs.0 (setting machine.standings.now) fits c.run_lent-ended.result goes served.2 in
-          (served.0, served.1, asking_as plan setting m n machine.standings.now items (end_of c.run_lent-ended.result) c.end_of.result e (sym c.end_of.ensures)
-          (plays.0, λ told. goes.requests.asked told ∙ ap (λ (l : List (List ℕ)). m.host.asked.names ++ l) (sym plays.1)));
+          let asking = asking_as plan setting m n machine.standings.now items (end_of c.run_lent-ended.result) c.end_of.result e (sym c.end_of.ensures)
+          (plays.0, λ told. goes.requests.asked told ∙ ap (λ (l : List (List ℕ)). m.host.asked.names ++ l) (sym plays.1)) in
+          (served.0, served.1, asking.0, asking.1);
       keeps = λ told. subst (λ (l : List Standing). Keeps (OutsideTargets plan l) (g.D.Disk.flash c.args.disk.now) (g.D.Disk.flash c.run_lent-ended.new.disk)) e (runs.stays.keeps told);
       grows = runs.stays.grows;
     }

@@ -1,4 +1,4 @@
-use Rattle.std.proofs.Common.{◌≡◌, ◌<◌, ◌≤◌, ◌+◌, ◌∙◌, None, length, refl, sym, ap, subst, true, arith}
+use Rattle.std.proofs.Common.{◌≡◌, ◌<◌, ◌≤◌, ◌+◌, ◌∙◌, ℕ, List, None, length, refl, sym, ap, subst, true, arith}
 use Rattle.std.specs.List.{AllByRecursion}
 use Rattle.std.proofs.lemmas.Result.{err_from_is_err_and}
 use Rattle.suit_commands.specs.Size.{sequence_size, branches_size}
@@ -15,9 +15,9 @@ use Rattle.step_machine.specs.Running.{IsUnderWay, selected_list, state_of}
 use Rattle.step_machine.proofs.Allowed.{allows_branch, allows_others, ready_after}
 use Rattle.step_machine.proofs.Beginning.{begun}
 use Rattle.step_machine.proofs.Leaving.{leaves_start, leaves_then}
-use Rattle.step_machine.proofs.Parting.{runs_nothing, runs_override}
+use Rattle.step_machine.proofs.Parting.{runs_index, runs_nothing, runs_override}
 use Rattle.step_machine.proofs.Sourcing.{sources_overridden}
-use Rattle.step_machine.proofs.Turns.{at_as, branches_begun, steps_begun, command_as, step_allowed, later_allowed, step_done, step_stopped, step_selects, steps_done, one_below, one_allowed, one_done, one_stopped, each_done, none_left, null_done, try_done, try_stopped, try_next, inner_ran, inner_softly, inner_out}
+use Rattle.step_machine.proofs.Turns.{at_as, branches_begun, steps_begun, command_as, index_as, step_allowed, later_allowed, step_done, step_stopped, step_selects, steps_done, one_below, one_allowed, one_done, one_stopped, each_done, none_left, null_done, try_done, try_stopped, try_next, inner_ran, inner_softly, inner_out}
 use Rattle.step_machine.proofs.running.+running.Goals as goal
 
 pub at-returns-in-Index-clause-runs : goal.at-returns-in-Index-clause-runs
@@ -32,6 +32,13 @@ at-returns-in-Override-clause-runs g t c =
 pub at-returns-in-Run-clause-runs : goal.at-returns-in-Run-clause-runs
 at-returns-in-Run-clause-runs g t c =
     at_as c.args.machine.now c.args.machine.now.plan.now.count c.args.step.now.place c.args.component _ _ c.in-Run.is _ _ _ _ _ c.run_inner.ensures.runs
+
+pub command-returns-in-Index-clause-runs : goal.command-returns-in-Index-clause-runs
+command-returns-in-Index-clause-runs g t c =
+    let state = c.args.state.now in
+    index_as c.args.machine.now c.args.step.now.command _ c.args.machine.now.plan.now.count c.args.step.now.place c.in-Index.is _ _ _ _ _
+    (runs_index c.args.machine.now c.in-Index.selection c.args.machine.now.plan.now.count c.args.step.now.place (state_of state) _ _ c.requires.under_way.sources
+    (ap (λ (l : List ℕ). record { parameters = state.params; selection = l; soft_failure = state.soft_failure }) c.by-state.ensures))
 
 pub command-returns-in-Test-clause-runs : goal.command-returns-in-Test-clause-runs
 command-returns-in-Test-clause-runs g t c = command_as c.args.machine.now c.args.step.now.command _ c.args.machine.now.plan.now.count c.args.step.now.place c.in-Test.is tt _ _ _ _ _ c.each.ensures.runs
