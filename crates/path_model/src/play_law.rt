@@ -4,9 +4,9 @@ ghost use Rattle.path_model.specs.DeviceLaws.{ConditionRules, WriteRules, FetchR
 ghost use Rattle.path_model.specs.PlayLaws.{PlayRuns, FaultedIsPath, FaultedAsksFirst, FaultedLaunchesFirst, SafeLaunches, FaultedSafeLaunches, PlayEnds, FaultedEnds};
 
 /// A play on contents may happen: it is a run of its procedure, and the events of a play that a fault cut short are a
-/// path of it. The first ends by itself, and the other by the fault. The launches and the names asked for before a
-/// fault are the play's first ones. So each launch of a safe procedure has the digest that was in force, and the size where there was one, whether
-/// or not a fault comes.
+/// path of it. The first ends by itself, and the other by the fault. The launches and the names asked for before a fault
+/// are the play's first ones. So each launch of a safe procedure has the digest that was in force, and the size where
+/// there was one, whether or not a fault comes.
 pub fn play_laws()
     ensures runs { PlayRuns }
     ensures faulted { FaultedIsPath }

@@ -144,10 +144,12 @@ fn fetch_file<H: Host, D: Disk>(
 }
 
 /// Fetch: the content becomes what the URI in force names (draft-ietf-suit-manifest-25, section 8.4.10): a payload of the
-/// envelope where it begins with `#`, and otherwise the file that answers it; without an envelope there are no payloads. Where there is none nothing changes. One that
-/// is too large leaves the content empty, a fault of the host leaves the old content or none, and one of the flash any. At
-/// most one byte more is pulled than there is room for, and no file is asked for but that one. Where there are no names of
-/// files the host is not called. A power loss on the way leaves the slot empty, or its room as it was, or the file whole.
+/// envelope where it begins with `#`, and otherwise the file that answers it; without an envelope there are no payloads.
+/// Where there is none nothing changes. One that is too large leaves the content empty, a fault of the host leaves the old
+/// content or none, and one of the flash any. The host is asked once for that file, and for none under `#`; it may fail
+/// before. A host that does not tell what it holds gives some file, or none. At most one byte more is pulled than there is
+/// room for. Where there are no names of files the host is not called. A power loss on the way leaves the slot empty, or
+/// its room as it was, or the file whole.
 pub fn fetch<H: Host, D: Disk>(
     host: &mut H,
     disk: &mut D,
