@@ -42,6 +42,7 @@ pub mod FilesAsked
 pub mod RunEnds
 mod LifeLawProofs
 mod LaunchedLawProofs
+mod LaunchedUpdateLawProofs
 pub mod WordsLawProofs
 pub mod RunLawProofs
 pub mod BootLawProofs

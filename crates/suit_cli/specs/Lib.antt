@@ -36,6 +36,7 @@ pub mod MakeLaws
 pub mod FlashLaws
 pub mod LifeLaws
 pub mod LaunchedLaws
+pub mod LaunchedUpdateLaws
 pub mod UpdateLaws
 pub mod Program
 pub mod RunLaws
