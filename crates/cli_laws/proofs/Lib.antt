@@ -7,6 +7,7 @@ pub mod MakeLawProofs
 pub mod UpdateLawProofs
 pub mod LifeLawProofs
 pub mod LaunchedLawProofs
+pub mod LaunchedUpdateLawProofs
 pub mod WordsLawProofs
 pub mod RunLawProofs
 pub mod BootLawProofs

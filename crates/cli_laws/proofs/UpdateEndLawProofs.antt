@@ -1,5 +1,5 @@
 -- Why an update ends so.
-use Rattle.std.proofs.Common.{◌≡◌, ◌⊎◌, inl, inr, ℕ, List, Option, Some, None, refl, sym, ap, subst, ◌∙◌, arith}
+use Rattle.std.proofs.Common.{◌≡◌, ◌⊎◌, inl, inr, ℕ, Bool, List, Option, Some, None, refl, sym, ap, subst, ◌∙◌, arith}
 use Rattle.std.specs.Prelude.{IsTrue}
 use Rattle.suit_envelope.specs.EnvelopeLaws.{EnvelopeLaws}
 use Rattle.suit_envelope.specs.Envelopes.{EnvelopeSays}
@@ -15,6 +15,7 @@ use Rattle.flash_layout.specs.declared.slot.Record.{Record}
 use Rattle.flash_layout.specs.ConfigLaws.{OneAnswer}
 use Rattle.flash_layout.specs.Configs.{Configured}
 use Rattle.flash_layout.specs.Frames.{head_of}
+use Rattle.step_machine.specs.declared.plan_end.PlanEnd.{PlanEnd}
 use Rattle.rollback_record.specs.HeadRecord.{RecordOf}
 use Rattle.rollback_record.specs.Judging.{IsJudged}
 use Rattle.rollback_record.specs.declared.judging.Judged.{Judged}
@@ -22,7 +23,7 @@ use Rattle.rollback_record.specs.declared.judging.Judged.TheVariants as verdicts
 use Rattle.update_proc.specs.declared.update_end.UpdateEnd.{UpdateEnd}
 use Rattle.update_proc.specs.declared.update_end.UpdateEnd.TheVariants as ends
 use Rattle.update_proc.specs.Ends.{JudgedSo}
-use Rattle.update_proc.specs.Updates.{PlayedSo, PlaysUpdate, sources}
+use Rattle.update_proc.specs.Updates.{PlayedSo, PlaysUpdate, hosted, sources}
 use Rattle.suit_cli.specs.Acceptance.{IsAccepted, Meets}
 use Rattle.suit_cli.specs.Envelopes.{ManifestOf}
 use Rattle.suit_cli.specs.Launching.{Launching}
@@ -40,7 +41,7 @@ module _ (o : Offer) (launched now : Launching) (before after : Outside) where
   abbrev IsPlayedSo : UpdateEnd → Type 0
   IsPlayedSo end =
       Beside o before (λ number digest held. (payloads : List (List ℕ × List ℕ)) → HasPayloads o.bytes payloads
-      → PlayedSo (λ made play. PlaysUpdate o.layout o.accepted.places (tree_of o.accepted) held (sources payloads o.uris before.files) before.flash.reads made launched.launches now.launches play)
+      → PlayedSo (λ made play. (since : List (List ℕ)) × PlaysUpdate o.layout o.accepted.places (tree_of o.accepted) held (sources payloads o.uris (hosted before.told before.files since after.asked)) before.flash.reads made launched.launches now.launches play)
       (after.flash.reads ≡ before.flash.reads) o.layout after.flash.reads launched.launches now.launches end)
 
   of_end : (end : UpdateEnd) → IsJudgedSo end → IsPlayedSo end → UpdateEnds o launched now before after end
@@ -52,6 +53,19 @@ module _ (o : Offer) (launched now : Launching) (before after : Outside) where
   of_end (ends.Stopped place cause) j p = IsFailed place cause (λ held digest blocks record_is says. (j held digest blocks record_is says, p held digest blocks record_is says))
   of_end ends.FlashFault j p = FlashFailed
   of_end ends.NoMemory j p = MemoryRanOut
+
+-- a play since some names were asked for
+somewhere : (P : List ℕ → PlanEnd → List (List ℕ) → Type 0) (Same : Type 0) (layout : List Entry) (after : List ℕ) (launched now : List Launch) (end : UpdateEnd) (since : List (List ℕ))
+    → PlayedSo (λ made play. P made play since) Same layout after launched now end → PlayedSo (λ made play. (asked : List (List ℕ)) × P made play asked) Same layout after launched now end
+somewhere P Same layout after launched now (ends.Installed r) since p = record { made = p.made; plays = (since, p.plays); left = p.left }
+somewhere P Same layout after launched now (ends.Condition place) since p = record { made = p.made; plays = (since, p.plays); left = p.left }
+somewhere P Same layout after launched now (ends.Stopped place cause) since p = record { made = p.made; plays = (since, p.plays); left = p.left }
+somewhere P Same layout after launched now ends.FlashFault since (inl none) = inl none
+somewhere P Same layout after launched now ends.FlashFault since (inr (made, end, play, is)) = inr (made, end, (since, play), is)
+somewhere P Same layout after launched now (ends.Lower recorded offered) since p = p
+somewhere P Same layout after launched now (ends.OtherDigest recorded offered) since p = p
+somewhere P Same layout after launched now ends.Worn since p = p
+somewhere P Same layout after launched now ends.NoMemory since p = p
 
 module _ (name : List ℕ) (uris : List (List ℕ × List ℕ)) (launched now : Launching) (before after : Outside) (end : UpdateEnd) (lines : List ℕ) (told : IsTrue before.told) (flash_told : IsTrue before.flash.told)
     (launcher : IsTrue launched.told) (u : Updates name uris launched now before after end lines) where
@@ -82,16 +96,19 @@ module _ (name : List ℕ) (uris : List (List ℕ × List ℕ)) (launched now : 
   judged held digest blocks record_is says =
       u.update.judged flash_tells held digest blocks (subst (λ (l : List ℕ). RecordOf VERSION_1 (head_of VERSION_1 l) held) (sym reads) record_is) says
 
-  abbrev Plays : Option Record → List (List ℕ × List ℕ) → (List ℕ → Option (List ℕ)) → List ℕ → Type 0
-  Plays held payloads f l =
-      PlayedSo (λ made play. PlaysUpdate u.layout u.accepted.places (tree_of u.accepted) held (sources payloads uris f) l made launched.launches now.launches play)
+  abbrev Plays : Option Record → List (List ℕ × List ℕ) → Bool → (List ℕ → Option (List ℕ)) → List ℕ → Type 0
+  Plays held payloads t f l =
+      PlayedSo (λ made play. PlaysUpdate u.layout u.accepted.places (tree_of u.accepted) held (sources payloads uris (hosted t f u.middle.asked after.asked)) l made launched.launches now.launches play)
       (after.flash.reads ≡ l) u.layout after.flash.reads launched.launches now.launches end
 
   played : IsPlayedSo o launched now before after end
   played held digest blocks record_is says payloads has =
-      subst (λ (f : List ℕ → Option (List ℕ)). Plays held payloads f before.flash.reads) files
-      (subst (λ (l : List ℕ). Plays held payloads u.middle.files l) reads
-      (u.update.plays middle_told flash_tells launcher held digest blocks (subst (λ (l : List ℕ). RecordOf VERSION_1 (head_of VERSION_1 l) held) (sym reads) record_is) says payloads has))
+      somewhere (λ made play since. PlaysUpdate u.layout u.accepted.places (tree_of u.accepted) held (sources payloads uris (hosted before.told before.files since after.asked)) before.flash.reads made launched.launches now.launches play)
+      (after.flash.reads ≡ before.flash.reads) u.layout after.flash.reads launched.launches now.launches end u.middle.asked
+      (subst (λ (t : Bool). Plays held payloads t before.files before.flash.reads) (u.read.0.quiet.told ∙ here_told)
+      (subst (λ (f : List ℕ → Option (List ℕ)). Plays held payloads u.middle.told f before.flash.reads) files
+      (subst (λ (l : List ℕ). Plays held payloads u.middle.told u.middle.files l) reads
+      (u.update.plays flash_tells launcher held digest blocks (subst (λ (l : List ℕ). RecordOf VERSION_1 (head_of VERSION_1 l) held) (sym reads) record_is) says payloads has))))
 
   pub only : UpdateIsCaused name uris launched now before after end lines
   only = record {

@@ -6,6 +6,7 @@ pub mod MakeLaws
 pub mod FlashLaws
 pub mod LifeLaws
 pub mod LaunchedLaws
+pub mod LaunchedUpdateLaws
 pub mod UpdateLaws
 pub mod RunLaws
 pub mod BootEndLaws

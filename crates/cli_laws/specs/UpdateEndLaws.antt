@@ -18,7 +18,7 @@ use Rattle.step_machine.specs.declared.plan_end.PlanEnd.TheVariants as plays
 use Rattle.update_proc.specs.declared.update_end.UpdateEnd.{UpdateEnd}
 use Rattle.update_proc.specs.declared.update_end.UpdateEnd.TheVariants as ends
 use Rattle.update_proc.specs.Offered.{ForOffer}
-use Rattle.update_proc.specs.Updates.{PlaysAndLeaves, PlaysUpdate, sources}
+use Rattle.update_proc.specs.Updates.{PlaysAndLeaves, PlaysUpdate, hosted, sources}
 use Rattle.suit_cli.specs.Acceptance.{Accepted, IsAccepted}
 use Rattle.suit_cli.specs.Inputs.{longest_file, IsRead}
 use Rattle.suit_cli.specs.Installed.{Holds}
@@ -43,9 +43,10 @@ PlayedBeside o launched now before after end =
     IsAcceptable number digest held
     × ((payloads : List (List ℕ × List ℕ)) → HasPayloads o.bytes payloads
     → PlaysAndLeaves
-    (λ made play. PlaysUpdate o.layout o.accepted.places (tree_of o.accepted) held
-    (sources payloads o.uris before.files) before.flash.reads made launched.launches now.launches
-    play)
+    (λ made play. (since : List (List ℕ))
+    × PlaysUpdate o.layout o.accepted.places (tree_of o.accepted) held
+    (sources payloads o.uris (hosted before.told before.files since after.asked))
+    before.flash.reads made launched.launches now.launches play)
     o.layout after.flash.reads end))
 
 pub data UpdateEnds (o : Offer) (launched now : Launching) (before after : Outside)

@@ -5,6 +5,7 @@ ghost use Rattle.suit_edge.specs.Flash.{IsSettled};
 ghost use Rattle.flash_layout.specs.declared.frame.TheConstants.{VERSION_1};
 ghost use Rattle.rollback_record.specs.SoundFlash.{Settled, Sound};
 ghost use Rattle.cli_laws.specs.LaunchedLaws.{LaunchedLaws};
+ghost use Rattle.cli_laws.specs.LaunchedUpdateLaws.{LaunchedUpdateLaws};
 ghost use Rattle.cli_laws.specs.LifeLaws.{AreZeros, LifeLaws, SoundnessLaws};
 
 use flash_layout::config_laws;
@@ -54,5 +55,14 @@ pub fn launched_laws()
     config_laws();
     record_laws();
     boot_laws();
+    life_laws();
+}
+
+/// An update of a sound flash, and so of each image of a life, launches nothing, or just what the update procedure of the
+/// accepted file invokes, each with the digest that was in force, and the size where one was, whatever a host gives.
+pub fn launched_update_laws()
+    ensures { LaunchedUpdateLaws }
+{
+    config_laws();
     life_laws();
 }

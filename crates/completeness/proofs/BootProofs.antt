@@ -24,6 +24,7 @@ use Rattle.step_machine.specs.declared.plan_end.PlanEnd.{PlanEnd}
 use Rattle.step_machine.specs.declared.plan_end.PlanEnd.TheVariants as plays
 use Rattle.step_machine.specs.declared.spot.Standing.{Standing}
 use Rattle.step_machine.specs.Devices.{contents_of}
+use Rattle.path_model.specs.Settings.{steady}
 use Rattle.step_machine.specs.PlanRuns.{CountsFor, PlaysPlan, counts_of, setting_of}
 use Rattle.invoke_proc.specs.declared.boot_end.BootEnd.{BootEnd}
 use Rattle.invoke_proc.specs.declared.boot_end.BootEnd.TheVariants as ends
@@ -120,7 +121,7 @@ module _ (configs : OneConfigAnswer) (records : OneAnswer) (laws : BootLaws) whe
     -- the play on the active slots
     record Replayed (play : PlanEnd) : Type 0 where
       pub ram : List Held
-      pub plays_so : PlaysPlan (invocation_tree R.is.said) (setting_of ready.on.standings [] [] b.files) play
+      pub plays_so : PlaysPlan (invocation_tree R.is.said) (setting_of ready.on.standings [] [] (steady b.files)) play
           (contents_of ready.on.standings (empty_ram R.layout) b.flash.reads) (contents_of ready.on.standings ram a.flash.reads) l.launches n.launches
 
     replayed : (play : PlanEnd) → PlaysBoot R.layout R.key b.files b.flash.reads a.flash.reads l.launches n.launches play → Replayed play
@@ -135,7 +136,7 @@ module _ (configs : OneConfigAnswer) (records : OneAnswer) (laws : BootLaws) whe
         ready.on.stand on.stand in
         record {
           ram = on.ram;
-          plays_so = subst (λ (t : List Standing). PlaysPlan (invocation_tree R.is.said) (setting_of t [] [] b.files) play
+          plays_so = subst (λ (t : List Standing). PlaysPlan (invocation_tree R.is.said) (setting_of t [] [] (steady b.files)) play
               (contents_of t (empty_ram R.layout) b.flash.reads) (contents_of t on.ram a.flash.reads) l.launches n.launches) standings on.plays;
         }
 

@@ -30,7 +30,8 @@ use Rattle.update_proc.specs.declared.update_end.UpdateEnd.{UpdateEnd}
 use Rattle.update_proc.specs.declared.update_end.UpdateEnd.TheVariants as ends
 use Rattle.update_proc.specs.Choices.{active_slots}
 use Rattle.update_proc.specs.Moments.{KeepsContents}
-use Rattle.update_proc.specs.Updates.{PlaysUpdate, sources}
+use Rattle.path_model.specs.Settings.{steady}
+use Rattle.update_proc.specs.Updates.{PlaysUpdate, hosted, sources}
 use Rattle.suit_cli.specs.Acceptance.{Accepted}
 use Rattle.suit_cli.specs.Launching.{Launching}
 use Rattle.suit_cli.specs.Outside.{Outside}
@@ -100,13 +101,13 @@ module _ (layout : List Entry) (bytes : List ℕ) (s : EnvelopeSays) (m : Manife
     record Replayed (made : List ℕ) (play : PlanEnd) : Type 0 where
       pub ram : List Held
       pub choice : IsChoice layout (record { number = sets.numbers })
-      pub plays_so : PlaysPlan Tree (setting_of sets.standings sets.payloads uris b.files) play
+      pub plays_so : PlaysPlan Tree (setting_of sets.standings sets.payloads uris (steady b.files)) play
           (contents_of sets.standings (empty_ram layout) b.flash.reads) (contents_of sets.standings ram made) l.launches n.launches
 
     chosen_once : (numbers : List ℕ) → Rattle.update_proc.specs.Choices.AreChosen layout q Tree (active_slots held) numbers → numbers ≡ sets.numbers
     chosen_once numbers chosen = one_choice layout p Tree (active_slots held) sets.numbers numbers sets.chosen (chosen_there layout q p (turned p q same) Tree (active_slots held) numbers chosen)
 
-    replayed : (made : List ℕ) (play : PlanEnd) → PlaysUpdate layout q Tree held (sources sets.payloads uris mid.files) mid.flash.reads made l.launches n.launches play → Replayed made play
+    replayed : (made : List ℕ) (play : PlanEnd) → PlaysUpdate layout q Tree held (sources sets.payloads uris (hosted mid.told mid.files mid.asked a.asked)) mid.flash.reads made l.launches n.launches play → Replayed made play
     replayed made play u =
         let numbers = chosen_once u.numbers u.chosen in
         let standings : u.standings ≡ sets.standings = one_standing layout p (record { number = sets.numbers }) (record { number = u.numbers }) sets.standings u.standings
@@ -115,12 +116,14 @@ module _ (layout : List Entry) (bytes : List ℕ) (s : EnvelopeSays) (m : Manife
         record {
           ram = u.ram;
           choice = subst (λ (z : List ℕ). IsChoice layout (record { number = z })) numbers u.choice;
-          plays_so = subst (λ (f : List ℕ → Option (List ℕ)). PlaysPlan Tree (setting_of sets.standings sets.payloads uris f) play
+          plays_so = subst (λ (f : List ℕ → Option (List ℕ)). PlaysPlan Tree (setting_of sets.standings sets.payloads uris (steady f)) play
               (contents_of sets.standings (empty_ram layout) b.flash.reads) (contents_of sets.standings u.ram made) l.launches n.launches) sees.files
-              (subst (λ (r : List ℕ). PlaysPlan Tree (setting_of sets.standings sets.payloads uris mid.files) play
+              (subst (λ (r : List ℕ). PlaysPlan Tree (setting_of sets.standings sets.payloads uris (steady mid.files)) play
               (contents_of sets.standings (empty_ram layout) r) (contents_of sets.standings u.ram made) l.launches n.launches) sees.reads
-              (subst (λ (t : List Standing). PlaysPlan Tree (setting_of t sets.payloads uris mid.files) play
-              (contents_of t (empty_ram layout) mid.flash.reads) (contents_of t u.ram made) l.launches n.launches) standings u.plays));
+              (subst (λ (t : List Standing). PlaysPlan Tree (setting_of t sets.payloads uris (steady mid.files)) play
+              (contents_of t (empty_ram layout) mid.flash.reads) (contents_of t u.ram made) l.launches n.launches) standings
+              (subst (λ (f : ℕ → List ℕ → Option (List ℕ)). PlaysPlan Tree (setting_of u.standings sets.payloads uris f) play
+              (contents_of u.standings (empty_ram layout) mid.flash.reads) (contents_of u.standings u.ram made) l.launches n.launches) (u.gives (inl mid_told)) u.plays)));
         }
 
     -- ---- it was installed
@@ -134,7 +137,7 @@ module _ (layout : List Entry) (bytes : List ℕ) (s : EnvelopeSays) (m : Manife
 
     pub installed_so : (r : Record) → IsUpdate (offer layout bytes Found uris) l n mid a (ends.Installed r) → InstalledSo (ends.Installed r)
     installed_so r u =
-        let played = u.plays mid_told mid_flash_told told.launcher held (digest_of Offered) authentic.blocks mid_recorded states sets.payloads sets.has in
+        let played = u.plays mid_flash_told told.launcher held (digest_of Offered) authentic.blocks mid_recorded states sets.payloads sets.has in
         let again = replayed played.made plays.Done played.plays in
         let kept = u.left mid_flash_told held (digest_of Offered) authentic.blocks mid_recorded states in
         let numbers = chosen_once kept.numbers kept.chosen in
@@ -164,7 +167,7 @@ module _ (layout : List Entry) (bytes : List ℕ) (s : EnvelopeSays) (m : Manife
       -- a play that was stopped by itself is no play that completes
       module _ (place : ℕ) (cause : Cause) where
         abbrev Stopped : Type 0
-        Stopped = (made : List ℕ) × PlaysUpdate layout q Tree held (sources sets.payloads uris mid.files) mid.flash.reads made l.launches n.launches (plays.DirectiveFailed place cause)
+        Stopped = (made : List ℕ) × PlaysUpdate layout q Tree held (sources sets.payloads uris (hosted mid.told mid.files mid.asked a.asked)) mid.flash.reads made l.launches n.launches (plays.DirectiveFailed place cause)
 
       never_by_itself : (place : ℕ) (cause : Cause) → Stopped place cause → CountsFor cause (counts_of mid.faults mid.flash.faults l.faults) (counts_of a.faults a.flash.faults n.faults) → ⊥
       never_by_itself place causes.Missing st c = never_stops _ place causes.Missing _ done (replayed st.0 (plays.DirectiveFailed place causes.Missing) st.1).plays_so.ends
@@ -179,7 +182,7 @@ module _ (layout : List Entry) (bytes : List ℕ) (s : EnvelopeSays) (m : Manife
       way (ends.Installed r) u = inl (installed_so r u)
       way ends.NoMemory u = inr (record {
         is = refl;
-        launches = u.plays mid_told mid_flash_told told.launcher held (digest_of Offered) authentic.blocks mid_recorded states sets.payloads sets.has;
+        launches = u.plays mid_flash_told told.launcher held (digest_of Offered) authentic.blocks mid_recorded states sets.payloads sets.has;
         reads = u.left mid_flash_told held (digest_of Offered) authentic.blocks mid_recorded states ∙ sees.reads;
       })
       way (ends.Lower recorded_number offered) u =
@@ -188,9 +191,9 @@ module _ (layout : List Entry) (bytes : List ℕ) (s : EnvelopeSays) (m : Manife
           absurd (not_other m.sequence (digest_of Offered) held recorded_digest offered acceptable (u.judged mid_flash_told held (digest_of Offered) authentic.blocks mid_recorded states))
       way ends.Worn u = absurd (not_worn m.sequence (digest_of Offered) held acceptable (u.judged mid_flash_told held (digest_of Offered) authentic.blocks mid_recorded states))
       way (ends.Condition place) u =
-          let played = u.plays mid_told mid_flash_told told.launcher held (digest_of Offered) authentic.blocks mid_recorded states sets.payloads sets.has in
+          let played = u.plays mid_flash_told told.launcher held (digest_of Offered) authentic.blocks mid_recorded states sets.payloads sets.has in
           absurd (never_condition Tree _ _ _ _ _ place done (replayed played.made (plays.ConditionFailed place) played.plays).plays_so)
       way (ends.Stopped place cause) u =
-          let played = u.plays mid_told mid_flash_told told.launcher held (digest_of Offered) authentic.blocks mid_recorded states sets.payloads sets.has in
+          let played = u.plays mid_flash_told told.launcher held (digest_of Offered) authentic.blocks mid_recorded states sets.payloads sets.has in
           absurd (never_by_itself place cause (played.made, played.plays) u.counts)
       way ends.FlashFault u = absurd (faultless.flash (subst (λ (z : ℕ). Faulted z a.flash.faults) sees.flash_faults u.counts.1))

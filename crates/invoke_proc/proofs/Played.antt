@@ -15,6 +15,7 @@ use Rattle.step_machine.specs.declared.plan_end.PlanEnd.{PlanEnd}
 use Rattle.step_machine.specs.declared.plan_end.PlanEnd.TheVariants as plays
 use Rattle.step_machine.specs.declared.spot.Standing.{Standing}
 use Rattle.step_machine.specs.Devices.{contents_of}
+use Rattle.path_model.specs.Settings.{steady}
 use Rattle.step_machine.specs.PlanRuns.{Counts, EndCounts, OutsideTargets, PlaysPlan, counts_of, setting_of}
 use Rattle.step_machine.proofs.Counting.{failed_behind, not_fallen}
 use Rattle.invoke_proc.specs.declared.boot_end.BootEnd.{BootEnd}
@@ -78,17 +79,19 @@ pub plays_on : (layout : List Entry) (manifest : Manifest) (active : List ℕ) (
     (before between after : List ℕ) (launched now : List Launch) (end : PlanEnd) (standings : List Standing) (ram left : List Held)
     → StandActive layout manifest.components active standings → ram ≡ empty_ram layout → uris ≡ [] → after ≡ between
     → (plan : PlanTree) → plan ≡ invocation_tree manifest
-    → PlaysPlan plan (setting_of standings [] uris files) end (contents_of standings ram before) (contents_of standings left between) launched now
+    → (given : ℕ → List ℕ → Option (List ℕ)) → given ≡ steady files
+    → PlaysPlan plan (setting_of standings [] uris given) end (contents_of standings ram before) (contents_of standings left between) launched now
     → PlaysOn layout manifest active files before after launched now end
-plays_on layout manifest active uris files before between after launched now end standings ram left stand none words same plan is played = record {
+plays_on layout manifest active uris files before between after launched now end standings ram left stand none words same plan is given gives played = record {
   standings = standings;
   stand = stand;
   ram = left;
   plays =
-      subst (λ (l : List ℕ). PlaysPlan (invocation_tree manifest) (setting_of standings [] [] files) end (contents_of standings (empty_ram layout) before) (contents_of standings left l) launched now) (sym same)
-      (subst (λ (r : List Held). PlaysPlan (invocation_tree manifest) (setting_of standings [] [] files) end (contents_of standings r before) (contents_of standings left between) launched now) none
-      (subst (λ (u : List (List ℕ × List ℕ)). PlaysPlan (invocation_tree manifest) (setting_of standings [] u files) end (contents_of standings ram before) (contents_of standings left between) launched now) words
-      (subst (λ (t : PlanTree). PlaysPlan t (setting_of standings [] uris files) end (contents_of standings ram before) (contents_of standings left between) launched now) is played)));
+      subst (λ (l : List ℕ). PlaysPlan (invocation_tree manifest) (setting_of standings [] [] (steady files)) end (contents_of standings (empty_ram layout) before) (contents_of standings left l) launched now) (sym same)
+      (subst (λ (r : List Held). PlaysPlan (invocation_tree manifest) (setting_of standings [] [] (steady files)) end (contents_of standings r before) (contents_of standings left between) launched now) none
+      (subst (λ (u : List (List ℕ × List ℕ)). PlaysPlan (invocation_tree manifest) (setting_of standings [] u (steady files)) end (contents_of standings ram before) (contents_of standings left between) launched now) words
+      (subst (λ (t : PlanTree). PlaysPlan t (setting_of standings [] uris (steady files)) end (contents_of standings ram before) (contents_of standings left between) launched now) is
+      (subst (λ (f : ℕ → List ℕ → Option (List ℕ)). PlaysPlan plan (setting_of standings [] uris f) end (contents_of standings ram before) (contents_of standings left between) launched now) gives played))));
 }
 
 pub keeps_on : (layout : List Entry) (manifest : Manifest) (active : List ℕ) (standings : List Standing) (a b c : Flash) (size : ℕ) → IsFlash b size

@@ -33,6 +33,7 @@ use Rattle.step_machine.specs.declared.plan_end.PlanEnd.TheVariants as plays
 use Rattle.step_machine.specs.Devices.{contents_of}
 use Rattle.flash_slots.specs.RamContents.{empty_ram}
 use Rattle.step_machine.specs.Invoking.{launched_as}
+use Rattle.path_model.specs.Settings.{steady}
 use Rattle.step_machine.specs.PlanRuns.{EndsAs, OutsideTargets, setting_of}
 use Rattle.invoke_proc.specs.declared.boot_end.BootEnd.{BootEnd}
 use Rattle.invoke_proc.specs.declared.boot_end.BootEnd.TheVariants as ends
@@ -128,9 +129,9 @@ module _ (safe : SafeLaunches) (faulted : FaultedSafeLaunches) (manifests : Mani
         gained = p.on.plays.gained;
         added = p.on.plays.added;
         safe =
-            have_digests safe faulted (invocation_tree p.manifest) (setting_of p.on.standings [] [] files) (contents_of p.on.standings (empty_ram layout) before) safe_plan
+            have_digests safe faulted (invocation_tree p.manifest) (setting_of p.on.standings [] [] (steady files)) (contents_of p.on.standings (empty_ram layout) before) safe_plan
             (identities_there size layout is p.manifest.components p.installed.active p.on.standings grammar.few grammar.apart p.on.stand (invocation_tree p.manifest) typed refl)
-            (record { contents = contents_of p.on.standings p.on.ram after; launches = map launched_as p.on.plays.gained }) end p.on.plays.ends;
+            (record { contents = contents_of p.on.standings p.on.ram after; launches = map launched_as p.on.plays.gained; asked = p.on.plays.asks }) end p.on.plays.ends;
       }
 
   nothing_gained : now ≡ launched → GainsSafe launched now

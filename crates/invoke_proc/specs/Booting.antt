@@ -30,6 +30,7 @@ use Rattle.invoke_proc.specs.declared.boot_end.BootEnd.{BootEnd}
 use Rattle.invoke_proc.specs.declared.boot_end.BootEnd.TheVariants as ends
 use Rattle.invoke_proc.specs.Banks.{bank_in, record_in}
 use Rattle.step_machine.specs.InUse.{AreInUse}
+use Rattle.path_model.specs.Settings.{steady}
 use Rattle.invoke_proc.specs.Starting.{IsDeclined, IsStarted}
 
 -- ---- the start
@@ -81,7 +82,7 @@ pub record PlaysOn (layout : List Entry) (manifest : Manifest) (active : List â„
   pub standings : List Standing
   pub stand : StandActive layout manifest.components active standings
   pub ram : List Held
-  pub plays : PlaysPlan (invocation_tree manifest) (setting_of standings [] [] files) end
+  pub plays : PlaysPlan (invocation_tree manifest) (setting_of standings [] [] (steady files)) end
       (contents_of standings (empty_ram layout) before) (contents_of standings ram after) launched
       now
 

@@ -1,5 +1,5 @@
 -- How a run ends: in stages, by a boot or by an update.
-use Rattle.std.proofs.Common.{◌≡◌, ◌⊎◌, inl, inr, refl, ℕ, List, [], ◌∷◌, length, append-nil, Option, Some, None, sym, ap, subst, ◌∙◌, ◌≤◌, arith}
+use Rattle.std.proofs.Common.{◌≡◌, ◌⊎◌, inr, refl, ℕ, List, [], ◌∷◌, length, append-nil, Option, Some, None, sym, ap, subst, ◌∙◌, ◌≤◌, arith}
 use Rattle.std.specs.Prelude.{IsTrue, ◌≢◌}
 use Rattle.suit_edge.specs.declared.launch.Launch.{Launch}
 use Rattle.suit_commands.specs.Tree.{PlanTree}
@@ -22,7 +22,7 @@ use Rattle.suit_cli.specs.Booting.{Boots, boot_status}
 use Rattle.suit_cli.specs.Coming.{Ended, Answered, Booted, Updated, ByStages, ByBoot, ByUpdate, ended_status}
 use Rattle.suit_cli.specs.Updating.{Updates, update_status}
 use Rattle.update_proc.specs.declared.update_end.UpdateEnd.{UpdateEnd}
-use Rattle.suit_cli.specs.Program.{ComesTo, Puts, PutsText, IsPut, IsCut, Performs, EndsIn, IsStatus, ChecksProcedures, IsCheck, ChecksSafe, ChecksUnsafe, IsUsage, IsCutOff, MayLaunch, AreCounted, AsFound, AsksForUpdate, IsForUpdate, LeavesBy, NamesFiles, KeepsLauncher, most_pulled, stored_by}
+use Rattle.suit_cli.specs.Program.{ComesTo, Puts, PutsText, IsPut, IsCut, Performs, EndsIn, IsStatus, ChecksProcedures, IsCheck, ChecksSafe, ChecksUnsafe, IsUsage, IsCutOff, MayLaunch, AreCounted, AsFound, AsksForUpdate, IsForUpdate, LeavesBy, KeepsLauncher, most_pulled, stored_by}
 use Rattle.suit_cli.proofs.Running as running
 use Rattle.suit_cli.proofs.RunClauses as staged
 use Rattle.suit_cli.proofs.RunClauses.{Staged}
@@ -196,19 +196,12 @@ module _ (words : List (List ℕ)) (l m : Launching) (b a : Outside) (sb sa : Su
     of_way (AsBoot end lines word boots puts) = absurd (never (subst MayLaunch (sym word) tt))
     of_way (AsUpdate name uris end lines word updates puts) = absurd (never (subst MayLaunch (sym word) tt))
 
-  -- the host tells, or no URI names a file
-  files_known : (name : List ℕ) (uris : List (List ℕ × List ℕ)) → task_of words ≡ Some (RunUpdate name uris) → (NamesFiles (task_of words) → IsTrue b.told) → IsTrue b.told ⊎ (uris ≡ [])
-  files_known name [] word told = inr refl
-  files_known name (pair ∷ uris) word told =
-      let some : NamesFiles (Some (RunUpdate name (pair ∷ uris))) = λ none. absurd cc in
-      inl (told (subst NamesFiles (sym word) some))
-
-  pub launches : IsTrue b.flash.told → IsTrue l.told → (NamesFiles (task_of words) → IsTrue b.told) → (task_of words ≡ Some RunBoot → Sound VERSION_1 b.flash.reads) → GainsSafe l.launches m.launches
-  launches flash_told launcher_told told sound = of_way way where
+  pub launches : IsTrue b.flash.told → IsTrue l.told → (task_of words ≡ Some RunBoot → Sound VERSION_1 b.flash.reads) → GainsSafe l.launches m.launches
+  launches flash_told launcher_told sound = of_way way where
     of_way : Way words l m b a sb sa result → GainsSafe l.launches m.launches
     of_way (InStages run same) = gains_none l.launches m.launches (ap (λ (x : Launching). x.launches) same)
     of_way (AsBoot end lines word boots puts) = boot_safe l m b a end lines boots flash_told launcher_told (sound word)
-    of_way (AsUpdate name uris end lines word updates puts) = update_safe name uris l m b a end lines updates (files_known name uris word told) flash_told launcher_told
+    of_way (AsUpdate name uris end lines word updates puts) = update_safe name uris l m b a end lines updates flash_told launcher_told
 
   pub is_status : IsStatus result
   is_status = of_puts runs.puts where
@@ -276,7 +269,7 @@ module _ (words : List (List ℕ)) (l m : Launching) (b a : Outside) (sb sa : Su
     of_way : Way words l m b a sb sa result → AsFound l m b a
     of_way (InStages run same) =
         let near = starved_near words b a run.ending (sym (put_status _ _ run.puts (λ nine. omega (arith, eleven, nine))) ∙ eleven) run.answer in
-        record { files = near.files; reads = near.flash.reads; launches = λ host flash launcher. ap (λ (x : Launching). x.launches) same }
+        record { files = near.files; reads = near.flash.reads; launches = λ flash launcher. ap (λ (x : Launching). x.launches) same }
     of_way (AsBoot end lines word boots puts) = boot_starved l m b a end lines boots (sym (put_status _ _ puts (λ nine. omega (arith, eleven, nine))) ∙ eleven)
     of_way (AsUpdate name uris end lines word updates puts) =
         update_starved name uris l m b a configs end lines updates (sym (put_status _ _ puts (λ nine. omega (arith, eleven, nine))) ∙ eleven) size

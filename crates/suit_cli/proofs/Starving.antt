@@ -143,7 +143,7 @@ module _ (layout : List Entry) (key : Key) (l m : Launching) (b mid a : Outside)
   boot_found boot_ends.NoMemory eleven u = record {
     files = λ t. u.alone.files (subst IsTrue (sym same_told) t) ∙ same_files;
     reads = λ t. u.left (subst IsTrue (sym flash_told) t) ∙ reads t;
-    launches = λ host flash launcher. u.plays (subst IsTrue (sym flash_told) flash) launcher;
+    launches = λ flash launcher. u.plays (subst IsTrue (sym flash_told) flash) launcher;
   }
   boot_found (boot_ends.Stopped place cause) eleven u = absurd (cause_not_eleven cause eleven)
   boot_found _ eleven u = absurd (omega (arith, eleven))
@@ -156,7 +156,7 @@ boot_starved l m b a end lines u eleven =
 -- ---- an update
 
 -- a sound flash with a configuration has a record, or none
-recorded_in : OneAnswer → (layout : List Entry) (key : Key) (reads : List ℕ) → ConfigOf VERSION_1 (length reads) (head_of VERSION_1 reads) (Configured layout key) → Sound VERSION_1 reads
+pub recorded_in : OneAnswer → (layout : List Entry) (key : Key) (reads : List ℕ) → ConfigOf VERSION_1 (length reads) (head_of VERSION_1 reads) (Configured layout key) → Sound VERSION_1 reads
     → (held : Option Record) × RecordOf VERSION_1 (head_of VERSION_1 reads) held
 recorded_in configs layout key reads config (SoundBlank blank) =
     let never = configs VERSION_1 (length reads) (head_of VERSION_1 reads) (Configured layout key) Blank config blank in absurd cc
@@ -180,7 +180,7 @@ module _ (name : List ℕ) (uris : List (List ℕ × List ℕ)) (l m : Launching
       record {
         files = λ t. update_files name uris l m b a update_ends.NoMemory lines u t;
         reads = λ t. u.update.left (subst IsTrue (sym flash_told) t) (recorded t).0 digest f.authentic.blocks (there t) states ∙ reads t;
-        launches = λ host flash launcher. u.update.plays (subst IsTrue (sym same_told) host) (subst IsTrue (sym flash_told) flash) launcher
+        launches = λ flash launcher. u.update.plays (subst IsTrue (sym flash_told) flash) launcher
             (recorded flash).0 digest f.authentic.blocks (there flash) states payloads.0 payloads.1;
       }
 

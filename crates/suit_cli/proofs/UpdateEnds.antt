@@ -1,5 +1,5 @@
 -- The status and the counts of an update, seen from the start of the run.
-use Rattle.std.proofs.Common.{◌≡◌, ◌⊎◌, inl, inr, ⊎_elim, ℕ, List, [], refl, sym, ap, subst, ◌∙◌, ◌≤◌, arith}
+use Rattle.std.proofs.Common.{◌≡◌, ◌⊎◌, inr, ℕ, List, [], refl, sym, ap, subst, ◌∙◌, ◌≤◌, arith}
 use Rattle.std.specs.Prelude.{IsTrue, ◌≢◌}
 use Rattle.suit_edge.specs.Faults.{Faulted}
 use Rattle.path_model.specs.declared.cause.Cause.{Cause}
@@ -119,6 +119,6 @@ module _ (name : List ℕ) (uris : List (List ℕ × List ℕ)) (l m : Launching
   update_counts = by_update end _ _ (subst (λ (n : ℕ). UpdateCounts end (counts_of b.faults n l.faults) (counts_of a.faults a.flash.faults m.faults)) same_flash_faults
       (subst (λ (n : ℕ). UpdateCounts end (counts_of n u.middle.flash.faults l.faults) (counts_of a.faults a.flash.faults m.faults)) same_faults u.update.counts))
 
-  pub update_safe : IsTrue b.told ⊎ (uris ≡ []) → IsTrue b.flash.told → IsTrue l.told → GainsSafe l.launches m.launches
-  update_safe known flash_told launcher_told =
-      u.update.safe (⊎_elim (λ told. inl (subst IsTrue (sym same_told) told)) (λ none. inr none) known) (subst IsTrue (sym flash_told_same) flash_told) launcher_told
+  pub update_safe : IsTrue b.flash.told → IsTrue l.told → GainsSafe l.launches m.launches
+  update_safe flash_told launcher_told =
+      u.update.safe (subst IsTrue (sym flash_told_same) flash_told) launcher_told

@@ -34,7 +34,7 @@ use Rattle.invoke_proc.proofs.SoundBoot.{have_digests}
 use Rattle.update_proc.specs.Choices.{AreChosen, active_slots}
 use Rattle.update_proc.specs.Installing.{MayBeInstalled}
 use Rattle.update_proc.specs.Offered.{ForOffer}
-use Rattle.update_proc.specs.Updates.{LaunchesBy, PlaysUpdate, sources}
+use Rattle.update_proc.specs.Updates.{Hosted, LaunchesBy, PlaysUpdate, sources}
 use Rattle.place_laws.specs.Installing.{InstalledAnywhere}
 use Rattle.suit_cli.specs.Acceptance.{Accepted, Meets}
 use Rattle.suit_cli.specs.Updating.{HasOffer, new_of}
@@ -106,7 +106,7 @@ gains_nothing launched now same = record { gained = []; added = same ∙ sym (ap
 
 module _ (safe : SafeLaunches) (faulted : FaultedSafeLaunches) (manifests : ManifestLaws) (size : ℕ) (layout : List Entry) (key : Key) (allowed : IsAllowed VERSION_1 size layout key)
     (typed : All HasIdentifiers layout) (bytes : List ℕ) (a : Accepted) (f : Meets layout key bytes a) (other : HaveOtherPlaces a.manifest.components a.places)
-    (uris : List (List ℕ × List ℕ)) (files : List ℕ → Option (List ℕ)) (before : List ℕ) (launched now : List Launch) where
+    (uris : List (List ℕ × List ℕ)) (host : Hosted) (before : List ℕ) (launched now : List Launch) where
   abbrev payloads : List (List ℕ × List ℕ)
   payloads = integrated_payloads (map_entries f.envelope.says_so.map)
 
@@ -114,17 +114,17 @@ module _ (safe : SafeLaunches) (faulted : FaultedSafeLaunches) (manifests : Mani
   has_payloads = record { said = a.said; envelope = f.envelope; are = refl }
 
   abbrev Plays : Option Record → List ℕ → PlanEnd → Type 0
-  Plays held made end = PlaysUpdate layout a.places (update_tree a.manifest a.members) held (sources payloads uris files) before made launched now end
+  Plays held made end = PlaysUpdate layout a.places (update_tree a.manifest a.members) held (sources payloads uris host) before made launched now end
 
   gains_played : (held : Option Record) (made : List ℕ) (end : PlanEnd) → Plays held made end → GainsSafe launched now
   gains_played held made end p = record {
     gained = p.plays.gained;
     added = p.plays.added;
     safe =
-        have_digests safe faulted (update_tree a.manifest a.members) (setting_of p.standings payloads uris files) (contents_of p.standings (empty_ram layout) before) f.are_safe.update_safe
+        have_digests safe faulted (update_tree a.manifest a.members) (setting_of p.standings payloads uris p.given) (contents_of p.standings (empty_ram layout) before) f.are_safe.update_safe
         (are_identities size layout allowed.layout_is a.places (record { number = p.numbers }) p.standings typed (distinct manifests layout key bytes a f other) p.choice p.stand
         (update_tree a.manifest a.members) (sym f.placed.count ∙ sym p.stand.count))
-        (record { contents = contents_of p.standings p.ram made; launches = map launched_as p.plays.gained }) end p.plays.ends;
+        (record { contents = contents_of p.standings p.ram made; launches = map launched_as p.plays.gained; asked = p.plays.asks }) end p.plays.ends;
   }
 
   of_launches : LaunchesBy Plays before launched now → GainsSafe launched now
@@ -133,6 +133,6 @@ module _ (safe : SafeLaunches) (faulted : FaultedSafeLaunches) (manifests : Mani
 
   -- whatever payloads it is said of
   pub gains_update : ((p : List (List ℕ × List ℕ)) → HasPayloads bytes p
-      → LaunchesBy (λ held made end. PlaysUpdate layout a.places (update_tree a.manifest a.members) held (sources p uris files) before made launched now end) before launched now)
+      → LaunchesBy (λ held made end. PlaysUpdate layout a.places (update_tree a.manifest a.members) held (sources p uris host) before made launched now end) before launched now)
       → GainsSafe launched now
   gains_update launches = of_launches (launches payloads has_payloads)

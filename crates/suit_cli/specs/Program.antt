@@ -223,7 +223,7 @@ pub record AreCounted (words : List (List ℕ)) (launched now : Launching) (befo
 pub record AsFound (launched now : Launching) (before after : Outside) : Type 0 where
   pub files : IsTrue before.told → after.files ≡ before.files
   pub reads : IsTrue before.flash.told → after.flash.reads ≡ before.flash.reads
-  pub launches : IsTrue before.told → IsTrue before.flash.told → IsTrue launched.told
+  pub launches : IsTrue before.flash.told → IsTrue launched.told
       → now.launches ≡ launched.launches
 
 -- an update stands beside the flash's record, which a sound flash has, or says to be none
@@ -236,11 +236,6 @@ IsForUpdate _ = ⊥
 -- only `run boot` and `run update` launch, or fail at the launcher
 abbrev pub KeepsLauncher : List (List ℕ) → Launching → Launching → Type 0
 KeepsLauncher words launched now = (MayLaunch (task_of words) → ⊥) → now ≡ launched
-
--- an update of which some URI names a file, that a fetch may ask the host for
-abbrev pub NamesFiles : Option Task → Type 0
-NamesFiles (Some (RunUpdate name uris)) = uris ≢ []
-NamesFiles _ = ⊥
 
 -- ---- soundness
 

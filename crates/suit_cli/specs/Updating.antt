@@ -24,7 +24,7 @@ use Rattle.update_proc.specs.declared.update_end.UpdateEnd.TheVariants as ends
 use Rattle.update_proc.specs.Ends.{IsUnbegun, JudgedSo, UpdateCounts}
 use Rattle.update_proc.specs.Offered.{ForOffer}
 use Rattle.update_proc.specs.Records.{new_record}
-use Rattle.update_proc.specs.Updates.{KeepsUpdate, KeptSo, LeavesUpdate, PlayedSo, PlaysToEnd, PlaysUpdate, sources}
+use Rattle.update_proc.specs.Updates.{KeepsUpdate, KeptSo, LeavesUpdate, PlayedSo, PlaysToEnd, PlaysUpdate, hosted, sources}
 use Rattle.suit_cli.specs.Lines.{joined, number_line}
 use Rattle.suit_cli.specs.Texts.{flash_fault_line, out_of_memory_line}
 use Rattle.suit_cli.specs.Outside.{Outside}
@@ -118,13 +118,13 @@ pub record IsUpdate (o : Offer) (launched now : Launching) (before after : Outsi
   pub judged : IsTrue before.flash.told
       → ForOffer before.flash.reads o.accepted.said.wrapper
       (λ held digest. JudgedSo o.accepted.manifest.sequence digest held end)
-  pub plays : IsTrue before.told → IsTrue before.flash.told → IsTrue launched.told
+  pub plays : IsTrue before.flash.told → IsTrue launched.told
       → ForOffer before.flash.reads o.accepted.said.wrapper (λ held digest.
       (payloads : List (List ℕ × List ℕ)) → HasPayloads o.bytes payloads
       → PlayedSo
       (λ made play. PlaysUpdate o.layout o.accepted.places (tree_of o.accepted) held
-      (sources payloads o.uris before.files) before.flash.reads made launched.launches
-      now.launches play)
+      (sources payloads o.uris (hosted before.told before.files before.asked after.asked))
+      before.flash.reads made launched.launches now.launches play)
       (after.flash.reads ≡ before.flash.reads) o.layout after.flash.reads launched.launches
       now.launches end)
   pub left : IsTrue before.flash.told
@@ -133,7 +133,7 @@ pub record IsUpdate (o : Offer) (launched now : Launching) (before after : Outsi
       (LeavesUpdate o.layout o.accepted.places (tree_of o.accepted) held
       (new_of o.accepted held before.flash.reads digest) before.flash.reads after.flash.reads end)
       (after.flash.reads ≡ before.flash.reads) end)
-  pub safe : IsTrue before.told ⊎ (o.uris ≡ []) → IsTrue before.flash.told → IsTrue launched.told
+  pub safe : IsTrue before.flash.told → IsTrue launched.told
       → GainsSafe launched.launches now.launches
 
 -- the flash holds a configuration, the file was read and accepted under it, an update was made of it, and these lines tell

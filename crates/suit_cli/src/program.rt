@@ -24,7 +24,6 @@ ghost use Rattle.suit_cli.specs.Program.{
   ComesTo,
   FlashPasses,
   IfBoots,
-  NamesFiles,
   KeepsAsTold,
 };
 ghost use Rattle.suit_cli.specs.Settling.{StaysSettled};
@@ -220,10 +219,9 @@ pub fn run<H: Host, D: Disk, L: Launcher, K: Sink>(
         (MayBeLeft (task_of words.now)
         (⟦<H as SeenHost>⟧.seen host.old (⟦<D as SeenDisk>⟧.seen flash.old)) (D.flash flash.old)) }
 
-    // Each launch has its digest, and its size where one is in force: of `run boot` on a sound flash, whatever the host is,
-    // and of `run update` where the host tells, or no URI names a file.
+    // Each launch has its digest, and its size where one is in force, whatever the host is and gives: of `run boot` on a sound
+    // flash.
     ensures launches { IsTrue D.told → IsTrue L.told
-        → (NamesFiles (task_of words.now) → IsTrue H.told)
         → (task_of words.now ≡ Some RunBoot → Sound VERSION_1 (D.flash flash.old).reads)
         → GainsSafe (L.launches launcher.old) (L.launches launcher.new) }
 

@@ -1,6 +1,6 @@
 -- The answer of an update, by how its procedure ended and by what came behind it.
-use Rattle.std.proofs.Common.{◌≡◌, ◌⊎◌, inl, inr, ⊎_elim, ◌<◌, ℕ, ◌-◌, ◌^◌, List, Option, Some, None, IfSome, refl, sym, ◌∙◌, ap, subst, arith}
-use Rattle.std.specs.Prelude.{◌≢◌}
+use Rattle.std.proofs.Common.{◌≡◌, ◌⊎◌, inl, inr, ⊎_elim, ◌<◌, ℕ, ◌-◌, ◌^◌, ◌++◌, Bool, true, List, Option, Some, None, IfSome, refl, sym, ◌∙◌, ap, subst, arith}
+use Rattle.std.specs.Prelude.{◌≢◌, IsTrue}
 use Rattle.suit_edge.specs.declared.launch.Launch.{Launch}
 use Rattle.suit_params.specs.declared.digest.Digest.{Digest}
 use Rattle.path_model.specs.declared.cause.Cause.{Cause}
@@ -21,7 +21,7 @@ use Rattle.step_machine.specs.declared.plan_end.PlanEnd.{PlanEnd}
 use Rattle.step_machine.specs.declared.plan_end.PlanEnd.TheVariants as plays
 use Rattle.step_machine.specs.declared.spot.Standing.{Standing}
 use Rattle.step_machine.specs.Devices.{contents_of}
-use Rattle.step_machine.specs.PlanRuns.{Counts, EndCounts, PlaysPlan, counts_of, setting_of}
+use Rattle.step_machine.specs.PlanRuns.{Counts, EndCounts, GivesAs, PlaysPlan, counts_of, setting_of}
 use Rattle.step_machine.proofs.Counting.{failed_behind, not_fallen}
 use Rattle.step_machine.specs.Worlds.{IsChoice, StandAs}
 use Rattle.suit_commands.specs.Tree.{PlanTree}
@@ -34,7 +34,7 @@ use Rattle.update_proc.specs.Ends.{FinishedSo, IfInstalled, IfStopped, IfTold, I
 use Rattle.update_proc.specs.Installing.{BehindHead, IsNotWorn}
 use Rattle.update_proc.specs.Moments.{HasContentsOf}
 use Rattle.update_proc.specs.Records.{next_generation}
-use Rattle.update_proc.specs.Updates.{KeptSo, LaunchesBy, PlayedSo, PlaysUpdate, sources}
+use Rattle.update_proc.specs.Updates.{Hosted, hosted, KeptSo, LaunchesBy, PlayedSo, PlaysUpdate, sources}
 
 -- ---- acceptance
 
@@ -168,21 +168,49 @@ reads_same layout made after same i n slot is = ap (λ (l : List ℕ). slot_cont
 
 -- ---- the play, from the world that it was played on
 
-pub plays_update : (layout : List Entry) (places : Places) (tree : PlanTree) (held : Option Record) (payloads words uris : List (List ℕ × List ℕ)) (files : List ℕ → Option (List ℕ))
+-- a play on a host
+abbrev Runs : PlanTree → List Standing → List (List ℕ × List ℕ) → List (List ℕ × List ℕ) → Hosted → PlanEnd → List (List ℕ) → List (List ℕ) → List Launch → List Launch → Type 0
+Runs tree standings payloads words host end before after launched now =
+    (given : ℕ → List ℕ → Option (List ℕ)) × GivesAs host.told words host.files given
+    × (plays : PlaysPlan tree (setting_of standings payloads words given) end before after launched now) × (IsTrue host.told → host.now ≡ host.before ++ plays.asks)
+
+pub plays_update : (layout : List Entry) (places : Places) (tree : PlanTree) (held : Option Record) (payloads words uris : List (List ℕ × List ℕ)) (host : Hosted)
     (before made : List ℕ) (launched now : List Launch) (end : PlanEnd) (numbers : List ℕ) (standings : List Standing) (ram left : List Held)
     → AreChosen layout places tree (active_slots held) numbers → IsChoice layout (record { number = numbers }) → StandAs layout places (record { number = numbers }) standings → ram ≡ empty_ram layout → words ≡ uris
-    → PlaysPlan tree (setting_of standings payloads words files) end (contents_of standings ram before) (contents_of standings left made) launched now
-    → PlaysUpdate layout places tree held (sources payloads uris files) before made launched now end
-plays_update layout places tree held payloads words uris files before made launched now end numbers standings ram left chosen choice stand none same played = record {
-  numbers = numbers;
-  chosen = chosen;
-  choice = choice;
-  standings = standings;
-  stand = stand;
-  ram = left;
-  plays =
-      subst (λ (r : List Held). PlaysPlan tree (setting_of standings payloads uris files) end (contents_of standings r before) (contents_of standings left made) launched now) none
-      (subst (λ (u : List (List ℕ × List ℕ)). PlaysPlan tree (setting_of standings payloads u files) end (contents_of standings ram before) (contents_of standings left made) launched now) same played);
+    → Runs tree standings payloads words host end (contents_of standings ram before) (contents_of standings left made) launched now
+    → PlaysUpdate layout places tree held (sources payloads uris host) before made launched now end
+plays_update layout places tree held payloads words uris host before made launched now end numbers standings ram left chosen choice stand none same played =
+    let run = subst (λ (r : List Held). Runs tree standings payloads uris host end (contents_of standings r before) (contents_of standings left made) launched now) none
+    (subst (λ (u : List (List ℕ × List ℕ)). Runs tree standings payloads u host end (contents_of standings ram before) (contents_of standings left made) launched now) same played) in
+    record {
+      numbers = numbers;
+      chosen = chosen;
+      choice = choice;
+      standings = standings;
+      stand = stand;
+      ram = left;
+      given = run.0;
+      gives = run.1;
+      plays = run.2;
+      asks = run.3;
+    }
+
+-- of a host that tells
+pub told_plays : (layout : List Entry) (places : Places) (tree : PlanTree) (held : Option Record) (payloads uris : List (List ℕ × List ℕ)) (told : Bool) (files : List ℕ → Option (List ℕ)) (since later : List (List ℕ))
+    (before made : List ℕ) (launched now : List Launch) (end : PlanEnd) (host : IsTrue told)
+    → PlaysUpdate layout places tree held (sources payloads uris (hosted told files since later)) before made launched now end
+    → PlaysUpdate layout places tree held (sources payloads uris (hosted true files since later)) before made launched now end
+told_plays layout places tree held payloads uris told files since later before made launched now end host p = record {
+  numbers = p.numbers;
+  chosen = p.chosen;
+  choice = p.choice;
+  standings = p.standings;
+  stand = p.stand;
+  ram = p.ram;
+  given = p.given;
+  gives = λ any. p.gives (inl host);
+  plays = p.plays;
+  asks = λ any. p.asks host;
 }
 
 -- ---- before anything was launched or written

@@ -28,7 +28,7 @@ use Rattle.update_proc.specs.Choices.{AreChosen, HasOther, HaveTwoSlots, IsInUse
 use Rattle.update_proc.specs.Installing.{BehindHead, IsRecording}
 use Rattle.update_proc.specs.MomentLaws.{EachMoment}
 use Rattle.update_proc.specs.Moments.{HasContentsOf, HasInUse, HasPlayed, IsNew, IsOld, KeepsContents, OutsideTouched}
-use Rattle.update_proc.specs.Updates.{PlaysUpdate, sources}
+use Rattle.update_proc.specs.Updates.{PlaysUpdate, Sources}
 use Rattle.update_proc.proofs.SlotsApart.{content_kept, lies, one_or_clear, untouched}
 
 some_entry : Entry
@@ -101,10 +101,10 @@ content_there : (e : Entry) (index n : ℕ) (ram : List Held) (made : List ℕ) 
 content_there e index n ram made flash =
     subst (λ (m : Memory). slot_content (slot_at e (get_or e.starts n 0)) made ≡ content_of (spot_of m e index n) ram made) (sym flash) refl
 
-module _ (layout : List Entry) (places : Places) (tree : PlanTree) (held : Option Record) (payloads words : List (List ℕ × List ℕ)) (files : List ℕ → Option (List ℕ)) (before made image : List ℕ)
+module _ (layout : List Entry) (places : Places) (tree : PlanTree) (held : Option Record) (from : Sources) (before made image : List ℕ)
     (launched now : List Launch) (r : Record) (chosen : AreChosen layout places tree (active_slots held) r.active)
-    (play : PlaysUpdate layout places tree held (sources payloads words files) before made launched now plays.Done) (is : IsNew layout r made image) where
-  from_play : HasPlayed layout places r.active (played tree (setting_of play.standings payloads words files) (contents_of play.standings (empty_ram layout) before)).world.contents image
+    (play : PlaysUpdate layout places tree held from before made launched now plays.Done) (is : IsNew layout r made image) where
+  from_play : HasPlayed layout places r.active (played tree (setting_of play.standings from.payloads from.words play.given) (contents_of play.standings (empty_ram layout) before)).world.contents image
   from_play k slot short stands =
       let index = get_or places.layout_index k 0 in
       let e = get_or layout index some_entry in

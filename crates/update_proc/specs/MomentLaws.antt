@@ -17,7 +17,7 @@ use Rattle.update_proc.specs.Banks.{BesideBank}
 use Rattle.update_proc.specs.Choices.{AreChosen, HaveTwoSlots, active_slots}
 use Rattle.update_proc.specs.Installing.{IsRecording}
 use Rattle.update_proc.specs.Moments.{HasContentsOf, HasInUse, HasPlayed, IsNew, IsOld, KeepsContents, OutsideTouched}
-use Rattle.update_proc.specs.Updates.{PlaysUpdate, sources}
+use Rattle.update_proc.specs.Updates.{PlaysUpdate, Sources}
 
 -- on a flash of that size with that layout
 pub record MomentLaws (size : ℕ) (layout : List Entry) : Type 0 where
@@ -44,11 +44,11 @@ pub record MomentLaws (size : ℕ) (layout : List Entry) : Type 0 where
   -- of each component of the procedure, the content that its play to the end leaves there.
   pub played :
       (places : Places) (tree : PlanTree) (held : Option Record)
-      (payloads words : List (List ℕ × List ℕ)) (files : List ℕ → Option (List ℕ))
+      (from : Sources)
       (before made image : List ℕ) (launched now : List Launch) (r : Record) → AreChosen layout places tree (active_slots held) r.active
-      → (play : PlaysUpdate layout places tree held (sources payloads words files) before made launched now plays.Done) → IsNew layout r made image
+      → (play : PlaysUpdate layout places tree held from before made launched now plays.Done) → IsNew layout r made image
       → HasPlayed layout places r.active
-      (played tree (setting_of play.standings payloads words files) (contents_of play.standings (empty_ram layout) before)).world.contents image
+      (played tree (setting_of play.standings from.payloads from.words play.given) (contents_of play.standings (empty_ram layout) before)).world.contents image
 
 abbrev pub EachMoment : Type 0
 EachMoment = (size : ℕ) (layout : List Entry) → IsLayout VERSION_1 size layout → All IsTypedEntry layout → MomentLaws size layout

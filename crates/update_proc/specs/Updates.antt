@@ -1,5 +1,5 @@
 -- An update: its procedure, the flash that it leaves, and the flash at each moment.
-use Rattle.std.specs.Prelude.{◌≡◌, ◌⊎◌, ℕ, List, Option, Some}
+use Rattle.std.specs.Prelude.{◌≡◌, ◌⊎◌, ◌++◌, ℕ, Bool, true, IsTrue, List, Option, Some}
 use Rattle.suit_commands.specs.Tree.{PlanTree}
 use Rattle.suit_edge.specs.Flash.{Flash, Passes}
 use Rattle.suit_edge.specs.declared.launch.Launch.{Launch}
@@ -16,7 +16,7 @@ use Rattle.step_machine.specs.declared.plan_end.PlanEnd.{PlanEnd}
 use Rattle.step_machine.specs.declared.plan_end.PlanEnd.TheVariants as plays
 use Rattle.step_machine.specs.declared.spot.Standing.{Standing}
 use Rattle.step_machine.specs.Devices.{contents_of}
-use Rattle.step_machine.specs.PlanRuns.{PlaysPlan, setting_of}
+use Rattle.step_machine.specs.PlanRuns.{GivesAs, PlaysPlan, setting_of}
 use Rattle.step_machine.specs.Worlds.{IsChoice, StandAs}
 use Rattle.update_proc.specs.declared.update_end.UpdateEnd.{UpdateEnd}
 use Rattle.update_proc.specs.declared.update_end.UpdateEnd.TheVariants as ends
@@ -26,18 +26,29 @@ use Rattle.update_proc.specs.Moments.{HasContentsOf, IsNew, IsOld, KeepsContents
 
 -- ---- the play
 
--- what a procedure fetches from: payloads, names of files for URIs, and files by their names
+-- whether a host tells what it holds, its files by their names, and the names that it was asked for before and since
+pub record Hosted : Type 0 where
+  pub told : Bool
+  pub files : List ℕ → Option (List ℕ)
+  pub before : List (List ℕ)
+  pub now : List (List ℕ)
+
+abbrev pub hosted : Bool → (List ℕ → Option (List ℕ)) → List (List ℕ) → List (List ℕ) → Hosted
+hosted told files before now =
+    record { told = told; files = files; before = before; now = now }
+
+-- what a procedure fetches from: payloads, names of files for URIs, and a host
 pub record Sources : Type 0 where
   pub payloads : List (List ℕ × List ℕ)
   pub words : List (List ℕ × List ℕ)
-  pub files : List ℕ → Option (List ℕ)
+  pub host : Hosted
 
-abbrev pub sources : List (List ℕ × List ℕ) → List (List ℕ × List ℕ)
-    → (List ℕ → Option (List ℕ)) → Sources
-sources payloads words files = record { payloads = payloads; words = words; files = files }
+abbrev pub sources : List (List ℕ × List ℕ) → List (List ℕ × List ℕ) → Hosted → Sources
+sources payloads words host = record { payloads = payloads; words = words; host = host }
 
 -- The procedure is played on the chosen slots, with working memory empty, from these sources. It ends so, and leaves these
--- contents and launches.
+-- contents and launches. A host that tells was asked for the files of the play's fetches, in order, and gave them each time;
+-- any other gave each request some file, or none.
 pub record PlaysUpdate (layout : List Entry) (places : Places) (tree : PlanTree)
     (held : Option Record) (from : Sources) (before made : List ℕ) (launched now : List Launch)
     (end : PlanEnd) : Type 0 where
@@ -47,9 +58,12 @@ pub record PlaysUpdate (layout : List Entry) (places : Places) (tree : PlanTree)
   pub standings : List Standing
   pub stand : StandAs layout places (record { number = numbers }) standings
   pub ram : List Held
-  pub plays : PlaysPlan tree (setting_of standings from.payloads from.words from.files) end
+  pub given : ℕ → List ℕ → Option (List ℕ)
+  pub gives : GivesAs from.host.told from.words from.host.files given
+  pub plays : PlaysPlan tree (setting_of standings from.payloads from.words given) end
       (contents_of standings (empty_ram layout) before) (contents_of standings ram made) launched
       now
+  pub asks : IsTrue from.host.told → from.host.now ≡ from.host.before ++ plays.asks
 
 -- and those contents are left
 pub record PlaysAndLeaves (Plays : List ℕ → PlanEnd → Type 0) (layout : List Entry) (after : List ℕ)
@@ -82,14 +96,16 @@ LaunchesBy Plays image launched now =
     ((held : Option Record) × RecordOf VERSION_1 (head_of VERSION_1 image) held
     × (made : List ℕ) × (end : PlanEnd) × Plays held made end)
 
--- The procedure of an envelope of these bytes is played to its end, with these launches, and makes those contents.
+-- The procedure of an envelope of these bytes is played to its end over a host that has these files, with these launches, and
+-- makes those contents.
 abbrev pub PlaysToEnd : List Entry → Places → PlanTree → Option Record → List ℕ
     → List (List ℕ × List ℕ)
     → (List ℕ → Option (List ℕ)) → List ℕ → List Launch → List Launch → List ℕ → Type 0
 PlaysToEnd layout places tree held bytes uris files before launched now made =
     (payloads : List (List ℕ × List ℕ)) → HasPayloads bytes payloads
-    → PlaysUpdate layout places tree held (sources payloads uris files) before made launched now
-    plays.Done
+    → (since : List (List ℕ)) × (later : List (List ℕ))
+    × PlaysUpdate layout places tree held (sources payloads uris (hosted true files since later))
+    before made launched now plays.Done
 
 -- ---- what is left
 

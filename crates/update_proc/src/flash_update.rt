@@ -18,7 +18,7 @@ ghost use Rattle.update_proc.specs.Ends.{IfUnfaulted, IsUnbegun, JudgedSo, Updat
 ghost use Rattle.update_proc.specs.Installing.{HasLayout, MayBeInstalled};
 ghost use Rattle.update_proc.specs.Offered.{ForOffer};
 ghost use Rattle.update_proc.specs.Records.{new_record};
-ghost use Rattle.update_proc.specs.Updates.{KeepsUpdate, KeptSo, LaunchesBy, LeavesUpdate, PlayedSo, PlaysToEnd, PlaysUpdate, sources};
+ghost use Rattle.update_proc.specs.Updates.{KeepsUpdate, KeptSo, LaunchesBy, LeavesUpdate, PlayedSo, PlaysToEnd, PlaysUpdate, hosted, sources};
 
 use crate::UpdateEnd;
 use crate::accepting::installable;
@@ -71,21 +71,23 @@ pub fn update<H: Host, D: Disk, L: Launcher>(
     ensures unfetched { (HasFetch (update_tree manifest.now members.now) → ⊥)
         → host.new ≡ host.old }
     ensures unbegun { IsUnbegun result → host.new ≡ host.old }
-    ensures plays { IsTrue H.told → IsTrue D.told → IsTrue L.told
+    ensures plays { IsTrue D.told → IsTrue L.told
         → ForOffer (D.flash disk.old).reads envelope.now.wrapper.now (λ held digest.
         (payloads : List (List ℕ × List ℕ)) → HasPayloads envelope.now.whole.now payloads
         → PlayedSo (λ made end. PlaysUpdate layout.now places.now
         (update_tree manifest.now members.now) held
-        (sources payloads uris.now (H.file host.old)) (D.flash disk.old).reads made
-        (L.launches launcher.old) (L.launches launcher.new) end)
+        (sources payloads uris.now
+        (hosted H.told (H.file host.old) (H.asked host.old) (H.asked host.new)))
+        (D.flash disk.old).reads made (L.launches launcher.old) (L.launches launcher.new) end)
         ((D.flash disk.new).reads ≡ (D.flash disk.old).reads) layout.now
         (D.flash disk.new).reads (L.launches launcher.old) (L.launches launcher.new) result) }
-    ensures launches { IsTrue H.told ⊎ (uris.now ≡ []) → IsTrue D.told → IsTrue L.told
+    ensures launches { IsTrue D.told → IsTrue L.told
         → (payloads : List (List ℕ × List ℕ)) → HasPayloads envelope.now.whole.now payloads
         → LaunchesBy (λ held made end. PlaysUpdate layout.now places.now
         (update_tree manifest.now members.now) held
-        (sources payloads uris.now (H.file host.old)) (D.flash disk.old).reads made
-        (L.launches launcher.old) (L.launches launcher.new) end)
+        (sources payloads uris.now
+        (hosted H.told (H.file host.old) (H.asked host.old) (H.asked host.new)))
+        (D.flash disk.old).reads made (L.launches launcher.old) (L.launches launcher.new) end)
         (D.flash disk.old).reads (L.launches launcher.old) (L.launches launcher.new) }
     ensures keeps { IsTrue D.told → Settled VERSION_1 (D.flash disk.old)
         → let start = D.flash disk.old in

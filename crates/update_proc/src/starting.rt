@@ -18,7 +18,7 @@ ghost use Rattle.update_proc.specs.Choices.{AreChosen, active_slots};
 ghost use Rattle.update_proc.specs.Ends.{IfUnfaulted, IsStartEnd, IsUnbegun, UpdateCounts};
 ghost use Rattle.update_proc.specs.Installing.{HasLayout, MayBeInstalled};
 ghost use Rattle.update_proc.specs.Records.{new_record};
-ghost use Rattle.update_proc.specs.Updates.{KeepsUpdate, KeptSo, LeavesUpdate, PlayedSo, PlaysToEnd, PlaysUpdate, sources};
+ghost use Rattle.update_proc.specs.Updates.{KeepsUpdate, KeptSo, LeavesUpdate, PlayedSo, PlaysToEnd, PlaysUpdate, hosted, sources};
 
 use crate::finishing::finish;
 use crate::in_use::choose_slots;
@@ -84,11 +84,12 @@ pub(crate) fn start<H: Host, D: Disk, L: Launcher>(
     ensures unbegun { IsUnbegun result → host.new ≡ host.old }
     ensures settled { IsTrue D.told → IfUnfaulted result
         (IsSame (D.flash disk.old) (D.flash disk.new) ⊎ IsSettled (D.flash disk.new)) }
-    ensures plays { IsTrue H.told ⊎ (uris.now ≡ []) → IsTrue D.told → IsTrue L.told
+    ensures plays { IsTrue D.told → IsTrue L.told
         → let held = option_map (λ r. r.now) held.entry in
         (payloads : List (List ℕ × List ℕ)) → HasPayloads envelope.now.whole.now payloads
         → PlayedSo (λ made end. PlaysUpdate layout.now places.now (plan_tree plan.now) held
-        (sources payloads uris.now (H.file host.old))
+        (sources payloads uris.now
+        (hosted H.told (H.file host.old) (H.asked host.old) (H.asked host.new)))
         (D.flash disk.old).reads made (L.launches launcher.old) (L.launches launcher.new) end)
         ((D.flash disk.new).reads ≡ (D.flash disk.old).reads) layout.now
         (D.flash disk.new).reads (L.launches launcher.old) (L.launches launcher.new) result }

@@ -34,11 +34,12 @@ returns-clause-plays g c td tl =
     let files = g.H.Host.file c.args.host.now in
     let launched = g.L.Launcher.launches c.args.launcher.now in
     let now = g.L.Launcher.launches c.run_plan-end.new.launcher in
+    let run = c.run_plan-end.ensures.plays td tl [] (subst (λ (e : Option (Bor Envelope)). ArePayloads e []) (sym c.in-Ok.ensures.envelope) refl) in
     plays_after c.run_plan-end.result c.settle.result _ _ c.settle.ensures.read.counts
     (PlaysOn c.args.layout.now c.args.startable.now.manifest c.args.installed.now.active files before after launched now) (after ≡ before) launched now
     (plays_on c.args.layout.now c.args.startable.now.manifest c.args.installed.now.active w.uris.now files before between after launched now c.run_plan-end.result
     w.standings.items w.ram c.run_plan-end.new.world.ram c.in-Ok.ensures.stand c.in-Ok.ensures.ram (c.in-Ok.ensures.uris ∙ c.new-uris.ensures) (c.settle.ensures.read.same td).reads _ c.invocation_plan-plan.ensures
-    (c.run_plan-end.ensures.plays (inr (c.in-Ok.ensures.uris ∙ c.new-uris.ensures)) td tl [] (subst (λ (e : Option (Bor Envelope)). ArePayloads e []) (sym c.in-Ok.ensures.envelope) refl)))
+    run.0 (run.1 (inr (c.in-Ok.ensures.uris ∙ c.new-uris.ensures))) run.2)
 
 pub returns-clause-keeps : goal.returns-clause-keeps
 returns-clause-keeps g c td =

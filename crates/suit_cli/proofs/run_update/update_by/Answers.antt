@@ -6,6 +6,7 @@ use Rattle.flash_layout.specs.Frames.{head_of}
 use Rattle.rollback_record.specs.SoundFlash.{Settled}
 use Rattle.suit_cli.specs.Acceptance.{accepted_by}
 use Rattle.step_machine.specs.Fetching.{asked_at}
+use Rattle.update_proc.specs.Updates.{hosted}
 use Rattle.suit_cli.specs.Updating.{most_room}
 use Rattle.suit_cli.proofs.AcceptedFacts.{facts}
 use Rattle.suit_cli.proofs.FilesAsked.{rooms_fit}
@@ -55,10 +56,10 @@ returns-clause-answer g c =
         judged = u.judged;
         plays = u.plays;
         left = u.left;
-        safe = λ th td tl.
+        safe = λ td tl.
             gains_update c.play_laws.ensures.safe c.play_laws.ensures.faulted_safe c.manifest_laws.ensures (g.D.Disk.extent c.args.flash.now) c.args.config.now.0 c.args.config.now.1 c.requires.allowed c.has_identifiers.ensures
-            c.args.accepted.now.envelope.whole.now (accepted_by c.args.accepted.now) f c.requires.other c.args.uris.now (g.H.Host.file c.args.host.now) (g.D.Disk.flash c.args.flash.now).reads
-            (g.L.Launcher.launches c.args.launcher.now) (g.L.Launcher.launches c.update-end.new.launcher) (u.launches th td tl);
+            c.args.accepted.now.envelope.whole.now (accepted_by c.args.accepted.now) f c.requires.other c.args.uris.now (hosted g.H.Host.told (g.H.Host.file c.args.host.now) (g.H.Host.asked c.args.host.now) (g.H.Host.asked c.update-end.new.host)) (g.D.Disk.flash c.args.flash.now).reads
+            (g.L.Launcher.launches c.args.launcher.now) (g.L.Launcher.launches c.update-end.new.launcher) (u.launches td tl);
       },
       c.update_line-text.ensures,
     )

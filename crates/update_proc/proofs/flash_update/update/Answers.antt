@@ -20,7 +20,7 @@ use Rattle.update_proc.specs.Choices.{AreChosen, active_slots}
 use Rattle.update_proc.specs.Ends.{JudgedSo, UpdateCounts}
 use Rattle.update_proc.specs.Installing.{MayBeInstalled}
 use Rattle.update_proc.specs.Records.{new_record}
-use Rattle.update_proc.specs.Updates.{KeepsUpdate, KeptSo, LeavesUpdate, PlayedSo, PlaysToEnd, PlaysUpdate, sources}
+use Rattle.update_proc.specs.Updates.{KeepsUpdate, KeptSo, LeavesUpdate, PlayedSo, PlaysToEnd, PlaysUpdate, hosted, sources}
 use Rattle.step_machine.specs.Fetching.{AsksAmong, asked_at}
 use Rattle.step_machine.specs.UrisSet.{HasFetch}
 use Rattle.step_machine.proofs.Asking.{asks_none}
@@ -52,11 +52,11 @@ returns-clause-judged g c t =
     (accepted_judged c.args.manifest.now.sequence c.stated_digest-digest.result (held_of c.as_ref-held.result) c.start.result c.start.ensures.starts c.in-Ok-installable.ensures.accepted)
 
 pub returns-clause-plays : goal.returns-clause-plays
-returns-clause-plays g c th t tl =
+returns-clause-plays g c t tl =
     for_offer c.record_laws.ensures.answer (g.D.Disk.flash c.args.disk.now).reads c.args.envelope.now.wrapper.now
-    (λ held digest. (payloads : List (List ℕ × List ℕ)) → HasPayloads c.args.envelope.now.whole.now payloads → PlayedSo (λ made end. PlaysUpdate c.args.layout.now c.args.places.now (update_tree c.args.manifest.now c.args.members.now) held (sources payloads c.args.uris.now (g.H.Host.file c.args.host.now)) (g.D.Disk.flash c.args.disk.now).reads made (g.L.Launcher.launches c.args.launcher.now) (g.L.Launcher.launches c.start.new.launcher) end) ((g.D.Disk.flash c.start.new.disk).reads ≡ (g.D.Disk.flash c.args.disk.now).reads) c.args.layout.now (g.D.Disk.flash c.start.new.disk).reads (g.L.Launcher.launches c.args.launcher.now) (g.L.Launcher.launches c.start.new.launcher) c.start.result)
+    (λ held digest. (payloads : List (List ℕ × List ℕ)) → HasPayloads c.args.envelope.now.whole.now payloads → PlayedSo (λ made end. PlaysUpdate c.args.layout.now c.args.places.now (update_tree c.args.manifest.now c.args.members.now) held (sources payloads c.args.uris.now (hosted g.H.Host.told (g.H.Host.file c.args.host.now) (g.H.Host.asked c.args.host.now) (g.H.Host.asked c.start.new.host))) (g.D.Disk.flash c.args.disk.now).reads made (g.L.Launcher.launches c.args.launcher.now) (g.L.Launcher.launches c.start.new.launcher) end) ((g.D.Disk.flash c.start.new.disk).reads ≡ (g.D.Disk.flash c.args.disk.now).reads) c.args.layout.now (g.D.Disk.flash c.start.new.disk).reads (g.L.Launcher.launches c.args.launcher.now) (g.L.Launcher.launches c.start.new.launcher) c.start.result)
     (held_of c.as_ref-held.result) c.stated_digest-digest.result (recorded_as (head_of VERSION_1 (g.D.Disk.flash c.args.disk.now).reads) c.as_ref-held.result c.in-Ok.held c.as_ref-held.ensures.value (c.in-Ok.ensures.exact t)) c.stated_digest-digest.ensures
-    (λ payloads has. subst (λ (l : List ℕ). PlayedSo (λ made end. PlaysUpdate c.args.layout.now c.args.places.now (update_tree c.args.manifest.now c.args.members.now) (held_of c.as_ref-held.result) (sources payloads c.args.uris.now (g.H.Host.file c.args.host.now)) l made (g.L.Launcher.launches c.args.launcher.now) (g.L.Launcher.launches c.start.new.launcher) end) ((g.D.Disk.flash c.start.new.disk).reads ≡ l) c.args.layout.now (g.D.Disk.flash c.start.new.disk).reads (g.L.Launcher.launches c.args.launcher.now) (g.L.Launcher.launches c.start.new.launcher) c.start.result) (c.in-Ok.ensures.same t).reads (subst (λ (tree : PlanTree). PlayedSo (λ made end. PlaysUpdate c.args.layout.now c.args.places.now tree (held_of c.as_ref-held.result) (sources payloads c.args.uris.now (g.H.Host.file c.args.host.now)) (g.D.Disk.flash c.load_record_by.new.disk).reads made (g.L.Launcher.launches c.args.launcher.now) (g.L.Launcher.launches c.start.new.launcher) end) ((g.D.Disk.flash c.start.new.disk).reads ≡ (g.D.Disk.flash c.load_record_by.new.disk).reads) c.args.layout.now (g.D.Disk.flash c.start.new.disk).reads (g.L.Launcher.launches c.args.launcher.now) (g.L.Launcher.launches c.start.new.launcher) c.start.result) c.update_plan-plan.ensures (c.start.ensures.plays (inl th) t tl payloads has)))
+    (λ payloads has. subst (λ (l : List ℕ). PlayedSo (λ made end. PlaysUpdate c.args.layout.now c.args.places.now (update_tree c.args.manifest.now c.args.members.now) (held_of c.as_ref-held.result) (sources payloads c.args.uris.now (hosted g.H.Host.told (g.H.Host.file c.args.host.now) (g.H.Host.asked c.args.host.now) (g.H.Host.asked c.start.new.host))) l made (g.L.Launcher.launches c.args.launcher.now) (g.L.Launcher.launches c.start.new.launcher) end) ((g.D.Disk.flash c.start.new.disk).reads ≡ l) c.args.layout.now (g.D.Disk.flash c.start.new.disk).reads (g.L.Launcher.launches c.args.launcher.now) (g.L.Launcher.launches c.start.new.launcher) c.start.result) (c.in-Ok.ensures.same t).reads (subst (λ (tree : PlanTree). PlayedSo (λ made end. PlaysUpdate c.args.layout.now c.args.places.now tree (held_of c.as_ref-held.result) (sources payloads c.args.uris.now (hosted g.H.Host.told (g.H.Host.file c.args.host.now) (g.H.Host.asked c.args.host.now) (g.H.Host.asked c.start.new.host))) (g.D.Disk.flash c.load_record_by.new.disk).reads made (g.L.Launcher.launches c.args.launcher.now) (g.L.Launcher.launches c.start.new.launcher) end) ((g.D.Disk.flash c.start.new.disk).reads ≡ (g.D.Disk.flash c.load_record_by.new.disk).reads) c.args.layout.now (g.D.Disk.flash c.start.new.disk).reads (g.L.Launcher.launches c.args.launcher.now) (g.L.Launcher.launches c.start.new.launcher) c.start.result) c.update_plan-plan.ensures (c.start.ensures.plays t tl payloads has)))
 
 pub returns-in-Err-clause-asked : goal.returns-in-Err-clause-asked
 returns-in-Err-clause-asked g c t room rooms = asks_none (update_tree c.args.manifest.now c.args.members.now) c.args.uris.now room _
@@ -87,14 +87,14 @@ pub returns-in-Err-installable-clause-unbegun : goal.returns-in-Err-installable-
 returns-in-Err-installable-clause-unbegun g c is = refl
 
 pub returns-in-Err-clause-launches : goal.returns-in-Err-clause-launches
-returns-in-Err-clause-launches g c th t tl payloads has = inl refl
+returns-in-Err-clause-launches g c t tl payloads has = inl refl
 
 pub returns-clause-launches : goal.returns-clause-launches
-returns-clause-launches g c th t tl payloads has =
-    launched_by (λ held made end. PlaysUpdate c.args.layout.now c.args.places.now (update_tree c.args.manifest.now c.args.members.now) held (sources payloads c.args.uris.now (g.H.Host.file c.args.host.now)) (g.D.Disk.flash c.args.disk.now).reads made (g.L.Launcher.launches c.args.launcher.now) (g.L.Launcher.launches c.start.new.launcher) end)
+returns-clause-launches g c t tl payloads has =
+    launched_by (λ held made end. PlaysUpdate c.args.layout.now c.args.places.now (update_tree c.args.manifest.now c.args.members.now) held (sources payloads c.args.uris.now (hosted g.H.Host.told (g.H.Host.file c.args.host.now) (g.H.Host.asked c.args.host.now) (g.H.Host.asked c.start.new.host))) (g.D.Disk.flash c.args.disk.now).reads made (g.L.Launcher.launches c.args.launcher.now) (g.L.Launcher.launches c.start.new.launcher) end)
     ((g.D.Disk.flash c.start.new.disk).reads ≡ (g.D.Disk.flash c.args.disk.now).reads) c.args.layout.now (g.D.Disk.flash c.args.disk.now).reads (g.D.Disk.flash c.start.new.disk).reads (g.L.Launcher.launches c.args.launcher.now) (g.L.Launcher.launches c.start.new.launcher) c.start.result
     (held_of c.as_ref-held.result) (recorded_as (head_of VERSION_1 (g.D.Disk.flash c.args.disk.now).reads) c.as_ref-held.result c.in-Ok.held c.as_ref-held.ensures.value (c.in-Ok.ensures.exact t))
-    (subst (λ (l : List ℕ). PlayedSo (λ made end. PlaysUpdate c.args.layout.now c.args.places.now (update_tree c.args.manifest.now c.args.members.now) (held_of c.as_ref-held.result) (sources payloads c.args.uris.now (g.H.Host.file c.args.host.now)) l made (g.L.Launcher.launches c.args.launcher.now) (g.L.Launcher.launches c.start.new.launcher) end) ((g.D.Disk.flash c.start.new.disk).reads ≡ l) c.args.layout.now (g.D.Disk.flash c.start.new.disk).reads (g.L.Launcher.launches c.args.launcher.now) (g.L.Launcher.launches c.start.new.launcher) c.start.result) (c.in-Ok.ensures.same t).reads (subst (λ (tree : PlanTree). PlayedSo (λ made end. PlaysUpdate c.args.layout.now c.args.places.now tree (held_of c.as_ref-held.result) (sources payloads c.args.uris.now (g.H.Host.file c.args.host.now)) (g.D.Disk.flash c.load_record_by.new.disk).reads made (g.L.Launcher.launches c.args.launcher.now) (g.L.Launcher.launches c.start.new.launcher) end) ((g.D.Disk.flash c.start.new.disk).reads ≡ (g.D.Disk.flash c.load_record_by.new.disk).reads) c.args.layout.now (g.D.Disk.flash c.start.new.disk).reads (g.L.Launcher.launches c.args.launcher.now) (g.L.Launcher.launches c.start.new.launcher) c.start.result) c.update_plan-plan.ensures (c.start.ensures.plays th t tl payloads has)))
+    (subst (λ (l : List ℕ). PlayedSo (λ made end. PlaysUpdate c.args.layout.now c.args.places.now (update_tree c.args.manifest.now c.args.members.now) (held_of c.as_ref-held.result) (sources payloads c.args.uris.now (hosted g.H.Host.told (g.H.Host.file c.args.host.now) (g.H.Host.asked c.args.host.now) (g.H.Host.asked c.start.new.host))) l made (g.L.Launcher.launches c.args.launcher.now) (g.L.Launcher.launches c.start.new.launcher) end) ((g.D.Disk.flash c.start.new.disk).reads ≡ l) c.args.layout.now (g.D.Disk.flash c.start.new.disk).reads (g.L.Launcher.launches c.args.launcher.now) (g.L.Launcher.launches c.start.new.launcher) c.start.result) (c.in-Ok.ensures.same t).reads (subst (λ (tree : PlanTree). PlayedSo (λ made end. PlaysUpdate c.args.layout.now c.args.places.now tree (held_of c.as_ref-held.result) (sources payloads c.args.uris.now (hosted g.H.Host.told (g.H.Host.file c.args.host.now) (g.H.Host.asked c.args.host.now) (g.H.Host.asked c.start.new.host))) (g.D.Disk.flash c.load_record_by.new.disk).reads made (g.L.Launcher.launches c.args.launcher.now) (g.L.Launcher.launches c.start.new.launcher) end) ((g.D.Disk.flash c.start.new.disk).reads ≡ (g.D.Disk.flash c.load_record_by.new.disk).reads) c.args.layout.now (g.D.Disk.flash c.start.new.disk).reads (g.L.Launcher.launches c.args.launcher.now) (g.L.Launcher.launches c.start.new.launcher) c.start.result) c.update_plan-plan.ensures (c.start.ensures.plays t tl payloads has)))
 
 pub returns-clause-keeps : goal.returns-clause-keeps
 returns-clause-keeps g c t settled =
@@ -183,11 +183,11 @@ returns-in-Err-installable-clause-counts g c =
     (unbegun_counts c.in-Err-installable.end (counts (g.D.Disk.faults c.args.disk.now)) c.in-Err-installable.ensures.unbegun)
 
 pub returns-in-Err-installable-clause-plays : goal.returns-in-Err-installable-clause-plays
-returns-in-Err-installable-clause-plays g c th t tl held digest blocks there said payloads has =
+returns-in-Err-installable-clause-plays g c t tl held digest blocks there said payloads has =
     unbegun_played _ _ c.args.layout.now (g.D.Disk.flash c.load_record_by.new.disk).reads (g.L.Launcher.launches c.args.launcher.now) c.in-Err-installable.end c.in-Err-installable.ensures.unbegun
 
 pub returns-in-Err-installable-clause-launches : goal.returns-in-Err-installable-clause-launches
-returns-in-Err-installable-clause-launches g c th t tl payloads has = inl refl
+returns-in-Err-installable-clause-launches g c t tl payloads has = inl refl
 
 pub returns-in-Err-installable-clause-keeps : goal.returns-in-Err-installable-clause-keeps
 returns-in-Err-installable-clause-keeps g c t settled held digest blocks there said =

@@ -1,5 +1,5 @@
 use Rattle.std.specs.Prelude.{IsTrue}
-use Rattle.std.proofs.Common.{◌≡◌, ◌≤◌, ℕ, List, Bor, Option, Some, inl, inr, ⊎_elim, option_map, refl, sym, ◌∙◌, subst, arith}
+use Rattle.std.proofs.Common.{◌≡◌, ◌≤◌, ℕ, List, Bor, Option, Some, inl, inr, option_map, refl, sym, ◌∙◌, subst, arith}
 use Rattle.suit_commands.specs.Plans.{plan_tree}
 use Rattle.suit_edge.specs.Flash.{IsFlash, IsSame, IsSettled, Now, Passes}
 use Rattle.suit_edge.specs.FlashLaws.{grows_start, grows_then, same_flash, starts}
@@ -17,9 +17,9 @@ use Rattle.update_proc.specs.declared.update_end.UpdateEnd.{UpdateEnd}
 use Rattle.update_proc.specs.Choices.{active_slots}
 use Rattle.update_proc.specs.Ends.{IsUnbegun}
 use Rattle.update_proc.specs.Records.{new_record}
-use Rattle.update_proc.specs.Updates.{KeepsUpdate, KeptSo, LeavesUpdate, PlayedSo, PlaysToEnd, PlaysUpdate, sources}
+use Rattle.update_proc.specs.Updates.{KeepsUpdate, KeptSo, LeavesUpdate, PlayedSo, PlaysToEnd, PlaysUpdate, hosted, sources}
 use Rattle.step_machine.proofs.Asking.{asks_none}
-use Rattle.update_proc.proofs.Finished.{after, counts_after, held_as, installed_as, no_earlier, not_worn, plays_update, reads_same, starts_after, stopped_at, stopped_by, stopped_or_done, told_at, told_by, unfaulted}
+use Rattle.update_proc.proofs.Finished.{after, counts_after, held_as, installed_as, no_earlier, not_worn, plays_update, reads_same, starts_after, stopped_at, stopped_by, stopped_or_done, told_at, told_by, told_plays, unfaulted}
 use Rattle.update_proc.proofs.InUseSlots.{chosen_as, in_use_as_held}
 use Rattle.update_proc.proofs.Installs.{held_or_same}
 use Rattle.update_proc.proofs.MomentProofs.{behind}
@@ -78,7 +78,7 @@ returns-clause-unbegun g c =
     (λ r same ended never. absurd never) (λ place same ended never. absurd never) (λ place cause same ended never. absurd never) (λ whole never. absurd never)
 
 pub returns-in-Err-clause-plays : goal.returns-in-Err-clause-plays
-returns-in-Err-clause-plays g c th td tl payloads has = refl
+returns-in-Err-clause-plays g c td tl payloads has = refl
 
 pub returns-in-Err-clause-follows : goal.returns-in-Err-clause-follows
 returns-in-Err-clause-follows g c t settled =
@@ -181,10 +181,13 @@ returns-clause-keeps g c t settled =
     let b = g.D.Disk.flash c.run_plan-end.new.disk in
     let d = g.D.Disk.flash c.finish.new.disk in
     let Done : List ℕ → Type 0 = (λ made. IsTrue g.H.Host.told → IsTrue g.L.Launcher.told → PlaysToEnd c.args.layout.now c.args.places.now (plan_tree c.args.plan.now) (held_of c.args.held) c.args.envelope.now.whole.now c.args.uris.now (g.H.Host.file c.args.host.now) (g.D.Disk.flash c.args.disk.now).reads (g.L.Launcher.launches c.args.launcher.now) (g.L.Launcher.launches c.run_plan-end.new.launcher) made) in
-    let did : c.run_plan-end.result ≡ plays.Done → Done b.reads = λ ended th tl payloads has.
-    subst (λ (end : PlanEnd). PlaysUpdate c.args.layout.now c.args.places.now (plan_tree c.args.plan.now) (held_of c.args.held) (sources payloads c.args.uris.now (g.H.Host.file c.args.host.now)) (g.D.Disk.flash c.args.disk.now).reads b.reads (g.L.Launcher.launches c.args.launcher.now) (g.L.Launcher.launches c.run_plan-end.new.launcher) end) ended
-    (plays_update c.args.layout.now c.args.places.now (plan_tree c.args.plan.now) (held_of c.args.held) payloads c.in-Ok.world.uris.now c.args.uris.now (g.H.Host.file c.args.host.now) (g.D.Disk.flash c.args.disk.now).reads (g.D.Disk.flash c.run_plan-end.new.disk).reads (g.L.Launcher.launches c.args.launcher.now) (g.L.Launcher.launches c.run_plan-end.new.launcher) c.run_plan-end.result c.choose_slots-slots.result.number c.in-Ok.world.standings.items c.in-Ok.world.ram c.run_plan-end.new.world.ram chosen c.choose_slots-slots.ensures.choice c.in-Ok.ensures.stand c.in-Ok.ensures.ram c.in-Ok.ensures.uris
-    (c.run_plan-end.ensures.plays (inl th) t tl payloads (subst (λ (e : Option (Bor Envelope)). ArePayloads e payloads) (sym c.in-Ok.ensures.envelope) has))) in
+    let did : c.run_plan-end.result ≡ plays.Done → Done b.reads = λ ended th tl payloads has. (
+      g.H.Host.asked c.args.host.now,
+      g.H.Host.asked c.run_plan-end.new.host,
+      told_plays _ _ _ _ _ _ _ _ _ _ _ _ _ _ _ th (subst (λ (end : PlanEnd). PlaysUpdate c.args.layout.now c.args.places.now (plan_tree c.args.plan.now) (held_of c.args.held) (sources payloads c.args.uris.now (hosted g.H.Host.told (g.H.Host.file c.args.host.now) (g.H.Host.asked c.args.host.now) (g.H.Host.asked c.run_plan-end.new.host))) (g.D.Disk.flash c.args.disk.now).reads b.reads (g.L.Launcher.launches c.args.launcher.now) (g.L.Launcher.launches c.run_plan-end.new.launcher) end) ended
+          (plays_update c.args.layout.now c.args.places.now (plan_tree c.args.plan.now) (held_of c.args.held) payloads c.in-Ok.world.uris.now c.args.uris.now (hosted g.H.Host.told (g.H.Host.file c.args.host.now) (g.H.Host.asked c.args.host.now) (g.H.Host.asked c.run_plan-end.new.host)) (g.D.Disk.flash c.args.disk.now).reads (g.D.Disk.flash c.run_plan-end.new.disk).reads (g.L.Launcher.launches c.args.launcher.now) (g.L.Launcher.launches c.run_plan-end.new.launcher) c.run_plan-end.result c.choose_slots-slots.result.number c.in-Ok.world.standings.items c.in-Ok.world.ram c.run_plan-end.new.world.ram chosen c.choose_slots-slots.ensures.choice c.in-Ok.ensures.stand c.in-Ok.ensures.ram c.in-Ok.ensures.uris
+          (c.run_plan-end.ensures.plays t tl payloads (subst (λ (e : Option (Bor Envelope)). ArePayloads e payloads) (sym c.in-Ok.ensures.envelope) has)))),
+    ) in
     let others = contents_made c.sound_laws.ensures c.moment_laws.ensures c.choice_laws.ensures (g.D.Disk.extent c.args.disk.now) c.requires.size c.args.layout.now c.requires.layout c.args.places.now (plan_tree c.args.plan.now) (held_of c.args.held) c.requires.loadable c.choose_slots-slots.result.number c.in-Ok.world.standings.items c.requires.distinct c.choose_slots-slots.ensures.choice c.in-Ok.ensures.stand chosen (g.D.Disk.flash c.args.disk.now) (g.D.Disk.flash c.run_plan-end.new.disk) (g.met.D.Disk.obeys c.args.disk.now t) law_b (c.requires.config t).0 (c.requires.config t).1 (c.requires.held t) (c.run_plan-end.ensures.keeps t) in
     let stays = old_all c.sound_laws.ensures c.moment_laws.ensures c.choice_laws.ensures (g.D.Disk.extent c.args.disk.now) c.requires.size c.args.layout.now c.requires.layout c.args.places.now (plan_tree c.args.plan.now) (held_of c.args.held) c.requires.loadable c.choose_slots-slots.result.number c.in-Ok.world.standings.items c.requires.distinct c.choose_slots-slots.ensures.choice c.in-Ok.ensures.stand chosen (g.D.Disk.flash c.args.disk.now) (g.D.Disk.flash c.run_plan-end.new.disk) (g.met.D.Disk.obeys c.args.disk.now t) law_b (c.requires.config t).0 (c.requires.config t).1 (c.requires.held t) (c.run_plan-end.ensures.keeps t) settled c.args.accepted.now.bytes.now c.args.accepted.now.sequence c.args.accepted.now.digest c.requires.fits (g.D.Disk.flash c.finish.new.disk) law_d in
     let old_left = old_at_end c.sound_laws.ensures c.moment_laws.ensures c.choice_laws.ensures (g.D.Disk.extent c.args.disk.now) c.requires.size c.args.layout.now c.requires.layout c.args.places.now (plan_tree c.args.plan.now) (held_of c.args.held) c.requires.loadable c.choose_slots-slots.result.number c.in-Ok.world.standings.items c.requires.distinct c.choose_slots-slots.ensures.choice c.in-Ok.ensures.stand chosen (g.D.Disk.flash c.args.disk.now) (g.D.Disk.flash c.run_plan-end.new.disk) (g.met.D.Disk.obeys c.args.disk.now t) law_b (c.requires.config t).0 (c.requires.config t).1 (c.requires.held t) (c.run_plan-end.ensures.keeps t) settled c.args.accepted.now.bytes.now c.args.accepted.now.sequence c.args.accepted.now.digest c.requires.fits (g.D.Disk.flash c.finish.new.disk) law_d in
@@ -227,13 +230,13 @@ returns-clause-left g c t =
     (λ unfaulted. inr (record { numbers = numbers; chosen = chosen; accepted = c.requires.judged; contents = contents; left = held_or_same (held_of c.args.held) _ _ (g.D.Disk.flash c.finish.new.disk).reads same_new (c.finish.ensures.reads t) }))
 
 pub returns-clause-plays : goal.returns-clause-plays
-returns-clause-plays g c th t tl payloads has =
+returns-clause-plays g c t tl payloads has =
     let chosen = (chosen_as c.args.layout.now c.args.places.now (plan_tree c.args.plan.now) c.choose_slots-slots.ensures.chosen.0 (active_slots (held_of c.args.held)) c.choose_slots-slots.result.number (in_use_as_held (g.D.Disk.extent c.args.disk.now) (g.D.Disk.flash c.args.disk.now).reads c.args.layout.now (c.requires.config t).0 (held_of c.args.held) (c.requires.config t).1 (c.requires.held t) c.requires.loadable c.choose_slots-slots.ensures.chosen.0 c.choose_slots-slots.ensures.chosen.1) c.choose_slots-slots.ensures.chosen.2) in
     let law_b = (subst (λ (n : ℕ). IsFlash (g.D.Disk.flash c.run_plan-end.new.disk) n) c.run_plan-end.ensures.size (g.met.D.Disk.obeys c.run_plan-end.new.disk t)) in
     let law_d = (subst (λ (n : ℕ). IsFlash (g.D.Disk.flash c.finish.new.disk) n) (c.finish.ensures.size ∙ c.run_plan-end.ensures.size) (g.met.D.Disk.obeys c.finish.new.disk t)) in
-    let Plays : List ℕ → PlanEnd → Type 0 = λ made end. PlaysUpdate c.args.layout.now c.args.places.now (plan_tree c.args.plan.now) (held_of c.args.held) (sources payloads c.args.uris.now (g.H.Host.file c.args.host.now)) (g.D.Disk.flash c.args.disk.now).reads made (g.L.Launcher.launches c.args.launcher.now) (g.L.Launcher.launches c.run_plan-end.new.launcher) end in
-    let play : Plays (g.D.Disk.flash c.run_plan-end.new.disk).reads c.run_plan-end.result = plays_update c.args.layout.now c.args.places.now (plan_tree c.args.plan.now) (held_of c.args.held) payloads c.in-Ok.world.uris.now c.args.uris.now (g.H.Host.file c.args.host.now) (g.D.Disk.flash c.args.disk.now).reads (g.D.Disk.flash c.run_plan-end.new.disk).reads (g.L.Launcher.launches c.args.launcher.now) (g.L.Launcher.launches c.run_plan-end.new.launcher) c.run_plan-end.result c.choose_slots-slots.result.number c.in-Ok.world.standings.items c.in-Ok.world.ram c.run_plan-end.new.world.ram chosen c.choose_slots-slots.ensures.choice c.in-Ok.ensures.stand c.in-Ok.ensures.ram c.in-Ok.ensures.uris
-    (c.run_plan-end.ensures.plays (⊎_elim (λ told. inl told) (λ none. inr (c.in-Ok.ensures.uris ∙ none)) th) t tl payloads (subst (λ (e : Option (Bor Envelope)). ArePayloads e payloads) (sym c.in-Ok.ensures.envelope) has)) in
+    let Plays : List ℕ → PlanEnd → Type 0 = λ made end. PlaysUpdate c.args.layout.now c.args.places.now (plan_tree c.args.plan.now) (held_of c.args.held) (sources payloads c.args.uris.now (hosted g.H.Host.told (g.H.Host.file c.args.host.now) (g.H.Host.asked c.args.host.now) (g.H.Host.asked c.run_plan-end.new.host))) (g.D.Disk.flash c.args.disk.now).reads made (g.L.Launcher.launches c.args.launcher.now) (g.L.Launcher.launches c.run_plan-end.new.launcher) end in
+    let play : Plays (g.D.Disk.flash c.run_plan-end.new.disk).reads c.run_plan-end.result = plays_update c.args.layout.now c.args.places.now (plan_tree c.args.plan.now) (held_of c.args.held) payloads c.in-Ok.world.uris.now c.args.uris.now (hosted g.H.Host.told (g.H.Host.file c.args.host.now) (g.H.Host.asked c.args.host.now) (g.H.Host.asked c.run_plan-end.new.host)) (g.D.Disk.flash c.args.disk.now).reads (g.D.Disk.flash c.run_plan-end.new.disk).reads (g.L.Launcher.launches c.args.launcher.now) (g.L.Launcher.launches c.run_plan-end.new.launcher) c.run_plan-end.result c.choose_slots-slots.result.number c.in-Ok.world.standings.items c.in-Ok.world.ram c.run_plan-end.new.world.ram chosen c.choose_slots-slots.ensures.choice c.in-Ok.ensures.stand c.in-Ok.ensures.ram c.in-Ok.ensures.uris
+    (c.run_plan-end.ensures.plays t tl payloads (subst (λ (e : Option (Bor Envelope)). ArePayloads e payloads) (sym c.in-Ok.ensures.envelope) has)) in
     after c.run_plan-end.result c.finish.result _ _ c.finish.ensures.answer
     (λ answer. PlayedSo Plays ((g.D.Disk.flash c.finish.new.disk).reads ≡ (g.D.Disk.flash c.args.disk.now).reads) c.args.layout.now (g.D.Disk.flash c.finish.new.disk).reads (g.L.Launcher.launches c.args.launcher.now) (g.L.Launcher.launches c.run_plan-end.new.launcher) answer)
     (λ r same ended. record { made = (g.D.Disk.flash c.run_plan-end.new.disk).reads; plays = subst (Plays (g.D.Disk.flash c.run_plan-end.new.disk).reads) ended play; left = behind (g.D.Disk.extent c.args.disk.now) c.args.layout.now c.requires.layout (c.requires.config t).1.typed.entries (g.D.Disk.flash c.run_plan-end.new.disk).reads (g.D.Disk.flash c.finish.new.disk).reads law_b.fits (c.finish.ensures.behind t) })
