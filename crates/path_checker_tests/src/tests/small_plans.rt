@@ -296,13 +296,13 @@ fn verdicts_are_those_of_all_runs(rt: HostRuntime) -> Result<(), AllocError> {
     let alloc = rt.alloc();
     let mut draws = Draws { alloc, state: 1 };
     let mut all = Vec::new(alloc);
-    for _ in 0..400 {
+    for _ in 0..1_260 {
         let found = drawn_verdict(&mut draws)?;
         all.push(found)?;
     }
     assert!(rt; times(&all, Found::Wrong) == 0);
-    assert!(rt; times(&all, Found::Safe) == 243);
-    assert!(rt; times(&all, Found::Unsafe) == 76);
-    assert!(rt; times(&all, Found::Wide) == 81);
+    assert!(rt; times(&all, Found::Safe) == 801);
+    assert!(rt; times(&all, Found::Unsafe) == 206);
+    assert!(rt; times(&all, Found::Wide) == 253);
     Ok(())
 }
