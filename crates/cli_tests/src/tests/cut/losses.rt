@@ -126,12 +126,12 @@ fn calls(alloc: Global, before: Sessions, slots: Slots) -> Result<u64, AllocErro
 
 #[test]
 fn a_cut_leaves_one_of_two_slots_to_start(rt: HostRuntime) -> Result<(), AllocError> {
-    assert!(rt; calls(rt.alloc(), ON_TWO, Slots::Two)? > 20);
+    assert!(rt; calls(rt.alloc(), ON_TWO, Slots::Two)? > 15);
     Ok(())
 }
 
 #[test]
 fn a_cut_over_one_slot_starts_nothing_else(rt: HostRuntime) -> Result<(), AllocError> {
-    assert!(rt; calls(rt.alloc(), ON_ONE, Slots::One)? > 20);
+    assert!(rt; calls(rt.alloc(), ON_ONE, Slots::One)? > 15);
     Ok(())
 }
