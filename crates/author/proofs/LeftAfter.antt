@@ -32,7 +32,6 @@ left_zero left = left_fits left 0 (omega arith) ∙ ap Some (omega arith)
 -- ---- loops over the elements of a value
 
 module _ (one : Data → ℕ) (total : Items → ℕ) (step : (d : Data) (ds : Items) → total (item d ds) ≡ one d + total ds) (vs : List Value) (i : ℕ) where
-
   pub left_end : (left : ℕ) (whole : Option ℕ) → total no_items ≡ 0 → length vs ≤ i → whole ≡ left_after left (total (items_view (drop i vs))) → Some left ≡ whole
   left_end left whole none h so_far =
       sym (so_far ∙ ap (λ xs. left_after left (total (items_view xs))) (drop_all i vs h) ∙ ap (left_after left) none ∙ left_zero left)
