@@ -16,14 +16,20 @@ use Rattle.rollback_record.specs.SoundFlash.{key_bytes}
 use Rattle.step_machine.specs.declared.plan_end.PlanEnd.{PlanEnd}
 use Rattle.step_machine.specs.declared.plan_end.PlanEnd.TheVariants as plays
 use Rattle.step_machine.specs.PlanRuns.{OutsideTargets}
+use Rattle.invoke_proc.specs.declared.bank.NoBank.{NoBank}
 use Rattle.invoke_proc.specs.declared.bank.NoBank.TheVariants as banks
 use Rattle.invoke_proc.specs.declared.boot_end.BootEnd.{BootEnd}
 use Rattle.invoke_proc.specs.declared.boot_end.BootEnd.TheVariants as ends
-use Rattle.invoke_proc.specs.Banks.{bank_in, record_in}
+use Rattle.invoke_proc.specs.Banks.{IsNoBank, bank_in, record_in, without_bank}
 use Rattle.invoke_proc.specs.Booting.{Answers, IfUnfaulted, IsStartEnd, KeepsBoot, KeepsOthers, KeptSo, PlayedSo, PlaysBoot, PlaysOn, Starts}
 use Rattle.invoke_proc.specs.Starting.{IsDeclined, IsStarted}
 
 -- ---- where no envelope is read
+
+pub none_answers : (layout : List Entry) (key : Key) (reads : List ℕ) (fault : NoBank) → IsNoBank reads fault → Answers layout key reads (without_bank fault)
+none_answers layout key reads banks.NothingInstalled is = is
+none_answers layout key reads banks.FlashFault is = is
+none_answers layout key reads banks.NoMemory is = is
 
 pub none_plays : (P : PlanEnd → Type 0) (Same : Type 0) (launches : List Launch) (fault : NoBank) → Same → PlayedSo P Same launches launches (without_bank fault)
 none_plays P Same launches banks.NothingInstalled same = refl
