@@ -14,10 +14,9 @@ ghost use Rattle.suit_cli.specs.Words.{RunBoot, task_of};
 ghost use Rattle.flash_layout.specs.declared.frame.TheConstants.{VERSION_1};
 ghost use Rattle.rollback_record.specs.SoundFlash.{Sound};
 
-use cli_laws::run_laws;
 use det_cbor::Names;
 use std::alloc::Global;
-use suit_cli::{SeenDisk, SeenHost, SeenLauncher, SeenSink, Status, run};
+use suit_cli::{SeenDisk, SeenHost, SeenLauncher, SeenSink, Status, run, run_laws};
 use suit_edge::{Disk, Host, Launcher, Sink};
 
 /// Runs the program. What `run_laws` says of its answer holds of the objects.

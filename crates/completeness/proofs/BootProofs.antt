@@ -37,7 +37,7 @@ use Rattle.suit_cli.specs.Coming.{Answered, Booted, ByBoot, ByStages, ByUpdate, 
 use Rattle.suit_cli.specs.Commands.{begins_boot}
 use Rattle.suit_cli.specs.Installed.{IsBad, IsBlank}
 use Rattle.suit_cli.specs.Launching.{Launching}
-use Rattle.cli_laws.specs.LifeLaws.{HasRecorded, SoundnessLaws}
+use Rattle.suit_cli.specs.LifeLaws.{HasRecorded, SoundnessLaws}
 use Rattle.suit_cli.specs.Outside.{Outside}
 use Rattle.suit_cli.specs.Program.{ComesTo, answers}
 use Rattle.suit_cli.specs.Stages.{Declines, Ending, Ends, FaultOf, Goes, NoMemory, Says}

@@ -10,10 +10,10 @@ use Rattle.rollback_record.specs.RecordLaws.{OneAnswer}
 use Rattle.invoke_proc.specs.BootLaws.{BootLaws}
 use Rattle.suit_cli.specs.Acceptance.{Accepted, IsAccepted}
 use Rattle.suit_cli.specs.Coming.{ended_status}
-use Rattle.cli_laws.specs.LifeLaws.{SoundnessLaws}
+use Rattle.suit_cli.specs.LifeLaws.{SoundnessLaws}
 use Rattle.suit_cli.specs.Outside.{Outside}
 use Rattle.suit_cli.specs.Stages.{After, Stage}
-use Rattle.cli_laws.specs.UpdateLaws.{UpdateLaws}
+use Rattle.suit_cli.specs.UpdateLaws.{UpdateLaws}
 use Rattle.suit_cli.proofs.AcceptedFacts.{facts}
 use Rattle.completeness.specs.Boots.{BootsWhole}
 use Rattle.completeness.specs.Updates.{Installs, Meets}

@@ -2,10 +2,10 @@
 
 ghost use Rattle.completeness.specs.CompletenessLaws.{CompletenessLaws};
 
-use cli_laws::{soundness_laws, update_laws};
 use flash_layout::config_laws;
 use invoke_proc::boot_laws;
 use rollback_record::record_laws;
+use suit_cli::{soundness_laws, update_laws};
 use suit_envelope::envelope_laws;
 use suit_manifest::{manifest_laws, members_laws};
 

@@ -74,8 +74,6 @@ judging_none good bad = record {
   lacks = λ b a l. unasked_same b a l;
 }
 
-module _ {A : Type 0} (good : Flashed → A → Type 0) (bad : Flashed → Reply → Type 0) where
-
 module _ {A B : Type 0} (first : Stage A) (next : A → Stage B) (one : AsksNone first) (two : (x : A) → AsksNone (next x)) where
   turn_none : AsksNone (in_turn first next)
   turn_none = record {

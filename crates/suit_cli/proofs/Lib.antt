@@ -41,3 +41,18 @@ mod DrillUpdates
 mod DrillTurns
 mod DrillLoop
 mod DrillRun
+pub mod CommandLawProofs
+pub mod OneFlaw
+pub mod OneAnswers
+pub mod FlashLawProofs
+pub mod DescribingLawProofs
+pub mod MakeLawProofs
+pub mod UpdateLawProofs
+pub mod LifeLawProofs
+pub mod LaunchedLawProofs
+pub mod LaunchedUpdateLawProofs
+pub mod WordsLawProofs
+pub mod RunLawProofs
+pub mod BootLawProofs
+pub mod UpdateEndLawProofs
+pub mod DrillLawProofs

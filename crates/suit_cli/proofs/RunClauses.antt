@@ -21,7 +21,7 @@ use Rattle.suit_cli.proofs.Running.{Declining, IsJudged, checked, judged_when, j
 use Rattle.suit_cli.proofs.Describing.{described}
 use Rattle.suit_cli.proofs.AcceptedFacts.{IsUnsafeFile, began}
 use Rattle.suit_cli.proofs.TaskAnswers.{ByCheck, ByUpdate, JudgesTask, does_of, judged_task}
-use Rattle.cli_laws.proofs.MakeLawProofs.{made_as}
+use Rattle.suit_cli.proofs.MakeLawProofs.{made_as}
 use Rattle.suit_cli.proofs.StagesKeep.{Counts}
 use Rattle.suit_cli.proofs.StagesLet.{answers_lets}
 

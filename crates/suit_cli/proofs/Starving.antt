@@ -37,7 +37,7 @@ use Rattle.suit_cli.specs.Booting.{Boots, IsBoot, boot_status}
 use Rattle.suit_cli.specs.Updating.{Updates, update_status}
 use Rattle.suit_cli.specs.Program.{AsFound, answers}
 use Rattle.suit_cli.proofs.AcceptedFacts.{facts}
-use Rattle.cli_laws.proofs.FlashLawProofs.{IsNear, near_looks, near_reads, near_same, near_then}
+use Rattle.suit_cli.proofs.FlashLawProofs.{IsNear, near_looks, near_reads, near_same, near_then}
 use Rattle.suit_cli.proofs.Running.{not_eleven}
 use Rattle.suit_cli.proofs.UpdateEnds.{update_files}
 

@@ -11,7 +11,7 @@ use Rattle.suit_cli.specs.Program.{answers}
 use Rattle.suit_cli.proofs.Running.{Declining, shown_plain, showed, inited, begun, stated, drilled, plain_not}
 use Rattle.suit_cli.proofs.AcceptedFacts.{IsUnsafeFile, began}
 use Rattle.suit_cli.proofs.Describing.{described}
-use Rattle.cli_laws.proofs.MakeLawProofs.{made_as}
+use Rattle.suit_cli.proofs.MakeLawProofs.{made_as}
 
 -- a reply to words that are those of a task
 pub does_of : (words : List (List ℕ)) (b a : Outside) (r : Reply) (task : Task) → task_of words ≡ Some task → answers words b a (Says r) → does task b a (Says r)

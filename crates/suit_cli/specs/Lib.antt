@@ -33,3 +33,16 @@ pub mod DescribingCauses
 pub mod UpdateCauses
 pub mod Program
 pub mod Opening
+pub mod WordsLaws
+pub mod DrillLaws
+pub mod CommandLaws
+pub mod DescribingLaws
+pub mod MakeLaws
+pub mod FlashLaws
+pub mod LifeLaws
+pub mod LaunchedLaws
+pub mod LaunchedUpdateLaws
+pub mod UpdateLaws
+pub mod RunLaws
+pub mod BootEndLaws
+pub mod UpdateEndLaws

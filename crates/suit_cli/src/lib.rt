@@ -13,6 +13,8 @@ mod init;
 mod input;
 mod json;
 mod judgement;
+mod law;
+mod life;
 mod lines;
 mod make;
 mod member_lines;
@@ -28,6 +30,13 @@ mod update_lines;
 mod why;
 mod words;
 
+pub use law::{
+    boot_end_laws, check_laws, describing_laws, drill_laws, init_laws, make_laws, run_laws,
+    show_laws, status_laws, update_end_laws, update_laws, words_laws,
+};
+pub use life::{
+    launched_laws, launched_update_laws, life_laws, new_flash_laws, restart_laws, soundness_laws,
+};
 pub use outside::{SeenDisk, SeenHost, SeenLauncher, SeenSink};
 pub use program::{Status, run};
 pub use reply::Outcome;

@@ -7,5 +7,5 @@ mod MomentProofs
 mod WholeUpdate
 mod InUseSlots
 mod Started
-mod Finished
+pub mod Finished
 pub mod Reread

@@ -1,5 +1,0 @@
-use Rattle.cli_laws.proofs.DescribingLawProofs as proofs
-use Rattle.cli_laws.proofs.law.describing_laws.Goals as goal
-
-pub returns : goal.returns
-returns c = proofs.describing_laws c.envelope_laws.ensures c.manifest_laws.ensures c.members_laws.ensures

@@ -1,7 +1,0 @@
-use Rattle.flash_layout.specs.declared.frame.TheConstants.{VERSION_1}
-use Rattle.rollback_record.specs.SettledLaws.{settles}
-use Rattle.cli_laws.proofs.LifeLawProofs.{zeros_sound}
-use Rattle.cli_laws.proofs.life.new_flash_laws.Goals as goal
-
-pub returns : goal.returns
-returns g c none zeros = settles VERSION_1 _ none (zeros_sound VERSION_1 _ zeros)

@@ -1,5 +1,0 @@
-use Rattle.cli_laws.proofs.LifeLawProofs as proofs
-use Rattle.cli_laws.proofs.life.soundness_laws.Goals as goal
-
-pub returns : goal.returns
-returns c = proofs.soundness_laws c.config_laws.ensures.answer c.record_laws.ensures.answer c.sound_laws.ensures c.installed_laws.ensures

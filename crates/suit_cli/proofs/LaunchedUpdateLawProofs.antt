@@ -1,0 +1,86 @@
+-- The launches of an update of a sound flash.
+use Rattle.std.proofs.Common.{◌≡◌, ◌⊎◌, inl, inr, ⊎_elim, ℕ, List, length, Option, sym, ◌∙◌, ap, subst}
+use Rattle.std.specs.Prelude.{IsTrue}
+use Rattle.suit_params.specs.declared.digest.Digest.{Digest}
+use Rattle.flash_layout.specs.declared.frame.TheConstants.{VERSION_1}
+use Rattle.flash_layout.specs.ConfigLaws.{OneAnswer}
+use Rattle.flash_layout.specs.Configs.{ConfigOf, Configured}
+use Rattle.flash_layout.specs.Frames.{head_of}
+use Rattle.flash_layout.specs.declared.slot.Record.{Record}
+use Rattle.rollback_record.specs.HeadRecord.{RecordOf}
+use Rattle.rollback_record.specs.SoundFlash.{Sound}
+use Rattle.step_machine.specs.declared.plan_end.PlanEnd.{PlanEnd}
+use Rattle.invoke_proc.proofs.Booted.{payloads_in}
+use Rattle.update_proc.specs.declared.update_end.UpdateEnd.{UpdateEnd}
+use Rattle.update_proc.specs.Updates.{Hosted, PlaysUpdate, hosted, sources}
+use Rattle.update_proc.proofs.Finished.{some_play}
+use Rattle.suit_cli.specs.Inputs.{IsRead, longest_file}
+use Rattle.suit_cli.specs.Launching.{Launching}
+use Rattle.suit_cli.specs.LaunchedLaws.{Holds}
+use Rattle.suit_cli.specs.LaunchedUpdateLaws.{LaunchedUpdateLaws, LaunchesAccepted, UpdatesAccepted}
+use Rattle.suit_cli.specs.LifeLaws.{LifeLaws}
+use Rattle.suit_cli.specs.Outside.{Flashed, Outside, with_flash}
+use Rattle.suit_cli.specs.Updating.{Updates, tree_of}
+use Rattle.suit_cli.proofs.AcceptedFacts.{facts}
+use Rattle.suit_cli.proofs.Starving.{recorded_in}
+
+module _ (configs : OneAnswer) where
+  module _ (image : List ℕ) (sound : Sound VERSION_1 image) (name : List ℕ) (uris : List (List ℕ × List ℕ)) (launched now : Launching) (before after : Outside) (end : UpdateEnd) (lines : List ℕ)
+      (holds : Holds image launched before) (u : Updates name uris launched now before after end lines) where
+    flash_told : IsTrue u.middle.flash.told
+    flash_told = subst IsTrue (sym (ap (λ (f : Flashed). f.told) u.read.0.flash ∙ u.held.0.still.told)) holds.flash
+
+    reads : u.middle.flash.reads ≡ image
+    reads = ap (λ (f : Flashed). f.reads) u.read.0.flash ∙ u.held.0.still.reads holds.flash ∙ holds.reads
+
+    config : ConfigOf VERSION_1 (length image) (head_of VERSION_1 image) (Configured u.layout u.key)
+    config =
+        subst (λ (n : ℕ). ConfigOf VERSION_1 n (head_of VERSION_1 image) (Configured u.layout u.key)) holds.size
+        (subst (λ (l : List ℕ). ConfigOf VERSION_1 before.flash.size (head_of VERSION_1 l) (Configured u.layout u.key)) holds.reads (u.held.1 holds.flash))
+
+    there : IsRead longest_file name (with_flash before u.configured.flash) u.bytes
+    there = subst (λ (x : Outside). IsRead longest_file name x u.bytes) u.held.0.beside u.read.1
+
+    abbrev host : Hosted
+    host = hosted u.middle.told u.middle.files u.middle.asked after.asked
+
+    abbrev Plays : Option Record → List (List ℕ × List ℕ) → List ℕ → List ℕ → PlanEnd → Type 0
+    Plays held payloads from made play =
+        PlaysUpdate u.layout u.accepted.places (tree_of u.accepted) held (sources payloads uris host) from made launched.launches now.launches play
+
+    launches : (now.launches ≡ launched.launches) ⊎ LaunchesAccepted uris u.layout u.key u.bytes image launched.launches now.launches
+    launches =
+        let f = facts u.layout u.key u.bytes u.accepted u.is_accepted in
+        let some = recorded_in configs u.layout u.key image config sound in
+        let digest : Digest = record { bytes = f.authentic.digest } in
+        let payloads = payloads_in u.bytes u.accepted.said f.envelope in
+        let recorded : RecordOf VERSION_1 (head_of VERSION_1 u.middle.flash.reads) some.0 = subst (λ (l : List ℕ). RecordOf VERSION_1 (head_of VERSION_1 l) some.0) (sym reads) some.1 in
+        let played = u.update.plays flash_told holds.launcher some.0 digest f.authentic.blocks recorded f.authentic.says payloads.0 payloads.1 in
+        ⊎_elim (λ same. inl same)
+        (λ play. inr (record {
+          config = config;
+          accepted = u.accepted;
+          is_accepted = u.is_accepted;
+          held = some.0;
+          recorded = some.1;
+          payloads = payloads.0;
+          are = payloads.1;
+          host = host;
+          made = play.0;
+          end = play.1;
+          plays = subst (λ (l : List ℕ). Plays some.0 payloads.0 l play.0 play.1) reads play.2;
+          gains = u.update.safe flash_told holds.launcher;
+        }))
+        (some_play (Plays some.0 payloads.0 u.middle.flash.reads) _ u.layout after.flash.reads launched.launches now.launches end played)
+
+  updates_accepted : (image : List ℕ) → Sound VERSION_1 image → UpdatesAccepted image
+  updates_accepted image sound name uris launched now before after end lines holds u =
+      ⊎_elim (λ same. inl same)
+      (λ some. inr (u.layout, u.key, u.bytes, (there image sound name uris launched now before after end lines holds u).holds, some))
+      (launches image sound name uris launched now before after end lines holds u)
+
+  pub laws : LifeLaws → LaunchedUpdateLaws
+  laws lives = record {
+    sound = updates_accepted;
+    life = λ images life k d lt. updates_accepted _ (lives.sound VERSION_1 images life k d lt);
+  }

@@ -1,0 +1,59 @@
+-- The launches of an update of a sound flash.
+use Rattle.std.specs.Prelude.{◌≡◌, ◌⊎◌, ℕ, IsTrue, List, length, Option, Some, All}
+use Rattle.suit_edge.specs.declared.launch.Launch.{Launch}
+use Rattle.suit_envelope.specs.Payloads.{HasPayloads}
+use Rattle.flash_layout.specs.declared.frame.TheConstants.{VERSION_1}
+use Rattle.flash_layout.specs.declared.key.Key.{Key}
+use Rattle.flash_layout.specs.declared.layout.Entry.{Entry}
+use Rattle.flash_layout.specs.declared.slot.Record.{Record}
+use Rattle.flash_layout.specs.Configs.{ConfigOf, Configured}
+use Rattle.flash_layout.specs.Frames.{head_of}
+use Rattle.rollback_record.specs.HeadRecord.{RecordOf}
+use Rattle.rollback_record.specs.SoundFlash.{Sound}
+use Rattle.step_machine.specs.declared.plan_end.PlanEnd.{PlanEnd}
+use Rattle.invoke_proc.specs.Booting.{GainsSafe}
+use Rattle.update_proc.specs.declared.update_end.UpdateEnd.{UpdateEnd}
+use Rattle.update_proc.specs.Updates.{Hosted, PlaysUpdate, sources}
+use Rattle.suit_cli.specs.Acceptance.{Accepted, IsAccepted}
+use Rattle.suit_cli.specs.Launching.{Launching}
+use Rattle.suit_cli.specs.LaunchedLaws.{Holds}
+use Rattle.suit_cli.specs.LifeLaws.{IsLife}
+use Rattle.suit_cli.specs.Outside.{Outside}
+use Rattle.suit_cli.specs.Updating.{Updates, tree_of}
+
+-- These bytes were accepted under the configuration of the image: they are an envelope that is authentic under its key, and
+-- judged safe. Its update procedure was played beside the record that the image has, or beside none, with the payloads of the
+-- bytes and the names of files for URIs. Each launch that it made has the digest that was in force, and the size where one was.
+pub record LaunchesAccepted (uris : List (List ℕ × List ℕ)) (layout : List Entry) (key : Key) (bytes : List ℕ)
+    (image : List ℕ) (launched now : List Launch)
+    : Type 0 where
+  pub config : ConfigOf VERSION_1 (length image) (head_of VERSION_1 image) (Configured layout key)
+  pub accepted : Accepted
+  pub is_accepted : IsAccepted layout key bytes accepted
+  pub held : Option Record
+  pub recorded : RecordOf VERSION_1 (head_of VERSION_1 image) held
+  pub payloads : List (List ℕ × List ℕ)
+  pub are : HasPayloads bytes payloads
+  pub host : Hosted
+  pub made : List ℕ
+  pub end : PlanEnd
+  pub plays :
+      PlaysUpdate layout accepted.places (tree_of accepted) held (sources payloads uris host) image
+      made launched now end
+  pub gains : GainsSafe launched now
+
+-- each update of the image launches nothing, or what the file's procedure does; a host that tells has that file
+abbrev pub UpdatesAccepted : List ℕ → Type 0
+UpdatesAccepted image =
+    (name : List ℕ) (uris : List (List ℕ × List ℕ)) (launched now : Launching)
+    (before after : Outside) (end : UpdateEnd) (lines : List ℕ)
+    → Holds image launched before → Updates name uris launched now before after end lines
+    → (now.launches ≡ launched.launches)
+    ⊎ ((layout : List Entry) × (key : Key) × (bytes : List ℕ)
+    × (IsTrue before.told → before.files name ≡ Some bytes)
+    × LaunchesAccepted uris layout key bytes image launched.launches now.launches)
+
+-- so it is with a sound image, and with each image of a life, whatever the host is and gives
+pub record LaunchedUpdateLaws : Type 0 where
+  pub sound : (image : List ℕ) → Sound VERSION_1 image → UpdatesAccepted image
+  pub life : (images : List (List ℕ)) → IsLife VERSION_1 images → All UpdatesAccepted images
