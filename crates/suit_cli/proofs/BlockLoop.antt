@@ -40,6 +40,9 @@ abbrev pub Goes : List ℕ → List ℕ → ℕ → List ℕ → Type 0
 Goes wrapper old number text = (digest : List ℕ) (all : List (List ℕ)) → WrapperSays wrapper digest all → (rest : List ℕ) → BlockLines number (drop number all) rest
     → (lines : List ℕ) × BlockLines 0 all lines × (text ++ rest ≡ old ++ lines)
 
+pub goes_start : (wrapper old : List ℕ) → Goes wrapper old 0 old
+goes_start wrapper old digest all says rest lines = (rest, lines, refl)
+
 pub goes_on : (wrapper old text new : List ℕ) (number : ℕ) (block : List ℕ) (is_mac : Bool) → Goes wrapper old number text
     → ((digest : List ℕ) (all : List (List ℕ)) → WrapperSays wrapper digest all → Some block ≡ slice_get all number) → HasKind block is_mac
     → new ≡ text ++ block_line number (kind_text is_mac) → Goes wrapper old (number + 1) new

@@ -1,5 +1,5 @@
 -- The files that `run update` asks for.
-use Rattle.std.proofs.Common.{◌≡◌, ℕ, ◌+◌, ◌*◌, ◌≤◌, max, List, [], ◌∷◌, ◌++◌, Some, length, take, get_or, ⊎_elim, refl, sym, ap, subst, ◌∙◌, append_assoc, arith}
+use Rattle.std.proofs.Common.{◌≡◌, ℕ, ◌+◌, ◌*◌, ◌<◌, ◌≤◌, max, List, [], ◌∷◌, ◌++◌, Option, Some, length, take, get_or, inl, inr, ⊎_elim, refl, sym, ap, subst, ◌∙◌, append_assoc, arith}
 use Rattle.std.specs.Prelude.{IsTrue}
 use Rattle.std.specs.List.{AllByRecursion}
 use Rattle.std.proofs.lemmas.List.{length-take-le}
@@ -10,7 +10,7 @@ use Rattle.flash_layout.specs.declared.layout.Entry.{Entry}
 use Rattle.flash_layout.specs.declared.layout.Memory.{Memory}
 use Rattle.flash_layout.specs.declared.layout.Memory.TheVariants as memory
 use Rattle.flash_layout.specs.Configs.{IsAllowed}
-use Rattle.flash_layout.specs.Layouts.{IsOfMemory, IsTypedEntry, slot_starts, starts_in}
+use Rattle.flash_layout.specs.Layouts.{IsEntry, IsOfMemory, IsTypedEntry, slot_starts, starts_in}
 use Rattle.step_machine.specs.Fetching.{IsFileOf}
 use Rattle.step_machine.specs.Worlds.{HaveAtMost}
 use Rattle.update_proc.specs.declared.update_end.UpdateEnd.{UpdateEnd}
@@ -18,10 +18,11 @@ use Rattle.suit_cli.specs.declared.reply.Object.{Object}
 use Rattle.suit_cli.specs.declared.reply.Object.TheVariants as objects
 use Rattle.suit_cli.specs.declared.reply.Reply.{Reply}
 use Rattle.suit_cli.specs.Words.{Task, RunUpdate, task_of}
-use Rattle.suit_cli.specs.Outside.{Outside, Flashed, Reads, ReadsInVain, with_flash}
-use Rattle.suit_cli.specs.Stages.{Ending, Stage, judging, in_turn, Then, Goes, Declines, Faults, Lacks, Last, Ends, EndsWithout}
+use Rattle.suit_cli.specs.Outside.{Outside, Flashed, Quiet, Reads, ReadsInVain, with_flash}
+use Rattle.suit_cli.specs.Stages.{Answers, Ending, Stage, judging, looking, in_turn, Then, Goes, Declines, Faults, Lacks, Last, Ends, EndsWithout}
 use Rattle.suit_cli.specs.Acceptance.{accepts}
 use Rattle.suit_cli.specs.Inputs.{longest_file, file}
+use Rattle.suit_cli.specs.Installed.{config_in}
 use Rattle.suit_cli.specs.Commands.{begins_update, does}
 use Rattle.suit_cli.specs.Launching.{Launching}
 use Rattle.suit_commands.specs.Tree.{PlanTree}
@@ -73,6 +74,19 @@ judging_none good bad = record {
   faults = λ object b a f. absurd f;
   lacks = λ b a l. unasked_same b a l;
 }
+
+module _ {A : Type 0} (good : Flashed → A → Type 0) (bad : Flashed → Reply → Type 0) where
+  at_object : (object : Object) (b a : Outside) → (looking good bad).faults object b a → Unasked b a
+  at_object objects.Host b a f = absurd f
+  at_object objects.Flash b a f = unasked_beside b a f.beside
+
+  looking_none : AsksNone (looking good bad)
+  looking_none = record {
+    gives = λ b a x g. unasked_beside b a g.0.beside;
+    declines = λ b a r d. unasked_beside b a d.0.beside;
+    faults = at_object;
+    lacks = λ b a l. unasked_beside b a l.beside;
+  }
 
 module _ {A B : Type 0} (first : Stage A) (next : A → Stage B) (one : AsksNone first) (two : (x : A) → AsksNone (next x)) where
   turn_none : AsksNone (in_turn first next)

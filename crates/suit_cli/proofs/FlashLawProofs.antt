@@ -5,6 +5,7 @@ use Rattle.suit_edge.specs.Gate.{IsOpen}
 use Rattle.flash_layout.specs.declared.frame.TheConstants.{VERSION_1, CONFIG_GATE}
 use Rattle.flash_layout.specs.declared.layout.Entry.{Entry}
 use Rattle.flash_layout.specs.declared.slot.Record.{Record}
+use Rattle.flash_layout.specs.Configs.{Config, ConfigOf}
 use Rattle.flash_layout.specs.Formats.{IsFormatted}
 use Rattle.flash_layout.specs.Frames.{head_of}
 use Rattle.rollback_record.specs.HeadRecord.{RecordOf}
@@ -159,6 +160,13 @@ init_laws = record {
   of_other device key_name b a r never (inr is) = absurd (never is.0)
 
 -- ---- `run status`
+
+-- reads give at the start as they gave then
+config_here : (f g : Flashed) → IsStill f g → (config : Config) → (IsTrue g.told → ConfigOf VERSION_1 g.size (head_of VERSION_1 g.reads) config)
+    → IsTrue f.told → ConfigOf VERSION_1 f.size (head_of VERSION_1 f.reads) config
+config_here f g still config holds t =
+    subst (λ (n : ℕ). ConfigOf VERSION_1 n (head_of VERSION_1 f.reads) config) still.size
+    (subst (λ (l : List ℕ). ConfigOf VERSION_1 g.size (head_of VERSION_1 l) config) (still.reads t) (holds (subst IsTrue (sym still.told) t)))
 
 record_here : (f g : Flashed) → IsStill f g → (o : Option Record) → (IsTrue g.told → RecordOf VERSION_1 (head_of VERSION_1 g.reads) o)
     → IsTrue f.told → RecordOf VERSION_1 (head_of VERSION_1 f.reads) o

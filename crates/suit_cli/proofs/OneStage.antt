@@ -26,6 +26,7 @@ use Rattle.suit_cli.specs.Stages.{Answers, Stage, Then, Goes, Declines, Says}
 use Rattle.suit_cli.specs.Inputs.{IsRead, IsUnread, IsAbsent, IsTooLong, file, longest_key, IsKey, IsNoKey, IsUnreadKey, IsEmptyKey, key_in}
 use Rattle.suit_cli.specs.Envelopes.{IsRefused, envelope_in, longest_trimmed, trimmed_size, short, manifest_in, TellsLack, IsLack, members_in}
 use Rattle.suit_cli.specs.Judgement.{narrow}
+use Rattle.suit_cli.specs.Program.{task_in}
 
 -- two moments of hosts that tell the same files
 pub record Alike (first second : Outside) : Type 0 where
@@ -241,3 +242,7 @@ one_members laws bytes said manifest is = one_judging _ _ one_value one_refusal 
 
 pub one_narrow : (plan : PlanTree) → IsOne (narrow plan)
 one_narrow plan = one_judging _ _ (λ x y g h. refl) (λ r q g h. one_reply r q _ _ g.says h.says) (λ x q g h. let above = h.wide in omega (arith, g, above))
+
+pub one_task : (words : List (List ℕ)) → IsOne (task_in words)
+one_task words = one_judging _ _ (λ x y g h. same_Some y x (sym h ∙ g)) (λ r q g h. one_reply r q _ _ g.1 h.1)
+    (λ x q g h. let never : None ≡ Some x = sym h.0 ∙ g in absurd cc)

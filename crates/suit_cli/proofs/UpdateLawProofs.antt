@@ -1,9 +1,12 @@
 -- The laws of `run update`, from its stages.
-use Rattle.std.proofs.Common.{◌≡◌, ◌⊎◌, inl, ℕ, List, [], refl, sym, ◌∙◌, ap, subst, ◌<◌, ⊎_elim, arith}
+use Rattle.std.proofs.Common.{◌≡◌, ◌⊎◌, inl, inr, ℕ, List, [], Option, Some, None, length, refl, sym, ◌∙◌, ap, subst, true, ◌<◌, ⊎_elim, arith}
 use Rattle.std.specs.Prelude.{IsTrue}
-use Rattle.suit_envelope.specs.Authentic.{IsAuthentic}
+use Rattle.suit_commands.specs.Tree.{PlanTree}
+use Rattle.suit_envelope.specs.Authentic.{AnswersAuthentic, IsAuthentic, TellSame}
 use Rattle.suit_envelope.specs.EnvelopeLaws.{AuthenticityLaw, EnvelopeLaws}
 use Rattle.suit_envelope.specs.Envelopes.{EnvelopeSays}
+use Rattle.suit_envelope.specs.Said.{EnvelopeOf}
+use Rattle.suit_envelope.specs.declared.authenticity.Authenticity.{Authenticity}
 use Rattle.suit_envelope.specs.declared.authenticity.Authenticity.TheVariants as authenticities
 use Rattle.suit_manifest.specs.declared.manifest.Manifest.{Manifest}
 use Rattle.suit_manifest.specs.declared.manifest.Members.{Members}
@@ -17,6 +20,7 @@ use Rattle.flash_layout.specs.Placement.{ArePlaces, IsFirstUnknown}
 use Rattle.rollback_record.specs.SoundFlash.{key_bytes}
 use Rattle.suit_cli.specs.declared.reply.Reply.{Reply}
 use Rattle.suit_cli.specs.declared.reply.Outcome.TheVariants as outcomes
+use Rattle.suit_cli.specs.Texts.{authenticity_line}
 use Rattle.suit_cli.specs.Lines.{number_line}
 use Rattle.suit_cli.specs.Replies.{IsReply}
 use Rattle.flash_layout.specs.declared.frame.TheConstants.{VERSION_1}
@@ -24,19 +28,20 @@ use Rattle.flash_layout.specs.ConfigLaws.{OneAnswer}
 use Rattle.flash_layout.specs.Configs.{Bad, Blank, Configured}
 use Rattle.flash_layout.specs.Frames.{head_of}
 use Rattle.suit_cli.specs.Outside.{Flashed, Outside, with_flash}
-use Rattle.suit_cli.specs.Stages.{Declines, Ends, Goes, Says, Stage, in_turn}
-use Rattle.suit_cli.specs.Inputs.{IsRead, longest_file}
+use Rattle.suit_cli.specs.Stages.{Declines, Ends, Goes, Says, Stage, in_turn, judging}
+use Rattle.suit_cli.specs.Inputs.{IsAbsent, IsRead, IsTooLong, IsUnread, longest_file}
 use Rattle.suit_cli.specs.Installed.{Holds, HoldsNone, IsBad, IsBlank}
 use Rattle.suit_cli.specs.Commands.{begins_update}
-use Rattle.suit_cli.specs.Envelopes.{IsShort}
-use Rattle.suit_cli.specs.Judgement.{IsNarrow}
-use Rattle.suit_cli.specs.Acceptance.{Accepted, IsAccepted, LacksComponent, accepts}
+use Rattle.suit_cli.specs.Envelopes.{IsShort, envelope_in, short, manifest_in, members_in}
+use Rattle.suit_cli.specs.Judgement.{AreSafe, IsNarrow, narrow}
+use Rattle.suit_cli.specs.Acceptance.{Accepted, AreUnsafe, IsAccepted, IsUnauthentic, Meets, LacksComponent, accepts, accepts_manifest, authentic_in, judges, places_in, safe_in}
 use Rattle.suit_cli.specs.CommandCauses.{SameButPath}
-use Rattle.suit_cli.specs.UpdateCauses.{AtBytes, AtConfig, AtFile, HasAll, IsAuthenticIn, Spell, UpdateSays}
+use Rattle.suit_cli.specs.UpdateCauses.{AtAuthenticity, AtBytes, AtComponents, AtConfig, AtFile, AtEnvelope, AtInvocationWidth, AtLength, AtManifest, AtMembers, AtPaths, AtUpdateWidth, HasAll, IsAuthenticIn, IsDeclined, Spell, UpdateSays}
 use Rattle.suit_cli.specs.UpdateLaws.{UpdateLaws}
-use Rattle.suit_cli.proofs.OneStage.{Alike, IsOne, one_read, one_reply, one_unread, read_not_unread}
-use Rattle.suit_cli.proofs.AcceptedFacts.{declined_so, read_before, unread_before}
-use Rattle.suit_cli.proofs.AcceptSteps.{behind_places}
+use Rattle.suit_cli.proofs.OneStage.{Alike, IsOne, one_envelope, one_judging, one_manifest, one_members, one_narrow, one_read, one_reply, one_short, one_unread, read_not_unread}
+use Rattle.suit_cli.proofs.AcceptedFacts.{declined_so, facts, read_before, unread_before}
+use Rattle.suit_cli.proofs.Running.{unsafe_refuted}
+use Rattle.suit_cli.proofs.AcceptSteps.{behind_authentic, behind_envelope, behind_judges, behind_members, behind_places, behind_short, behind_width}
 use Rattle.suit_cli.proofs.Turns.{declined_by}
 
 -- ---- one stage of several in turn
@@ -57,6 +62,21 @@ module _ {A B : Type 0} (first : Stage A) (next : A → Stage B) (one : IsOne fi
       (λ y m g rest. absurd (one.never b' b m a y r (record { told = alike.told_too; told_too = alike.told; files = sym alike.files }) g declines)) d
 
 -- ---- authenticity has one answer
+
+same_line : (a b : Authenticity) → TellSame a b → authenticity_line b ≡ authenticity_line a
+same_line authenticities.Yes authenticities.Yes same = refl
+same_line authenticities.NoMac authenticities.NoMac same = refl
+same_line (authenticities.DigestDiffers s f) (authenticities.DigestDiffers t g) same = refl
+same_line (authenticities.MacDiffers e f) (authenticities.MacDiffers d g) same = refl
+same_line _ _ same = absurd same
+
+one_authentic : EnvelopeLaws → AuthenticityLaw → (bytes : List ℕ) (said : EnvelopeSays) → EnvelopeOf bytes said → (key : List ℕ) → IsOne (authentic_in said key)
+one_authentic envelopes law bytes said is key = one_judging _ _ (λ x y g h. refl) one_refusal (λ x q g h. h.lacking (h.authenticity.every_yes g)) where
+  one_refusal : (r q : Reply) → IsUnauthentic said key r → IsUnauthentic said key q → q ≡ r
+  one_refusal r q g h =
+      let w = envelopes.wrapper bytes said is in
+      let same = law w.0 w.1 said.manifest key g.answer h.answer (g.authenticity.answers w.0 w.1 w.2) (h.authenticity.answers w.0 w.1 w.2) in
+      one_reply r q _ _ g.says (subst (λ (line : List ℕ). IsReply q outcomes.NotAuthentic line) (same_line g.answer h.answer same) h.says)
 
 -- ---- the first component that a layout lacks is one
 
@@ -85,10 +105,25 @@ module _ (envelopes : EnvelopeLaws) (authenticity : AuthenticityLaw) (manifests 
   alike = record { told = told; told_too = told; files = refl }
 
   module _ (said : EnvelopeSays) (sp : Spell bytes said) where
+    past_spell : (m : Outside) × Alike b m × (behind_envelope layout key said).declines m a q
+    past_spell = passed (envelope_in bytes) (behind_envelope layout key) (one_envelope envelopes bytes) b b b a q alike said (refl, (sp.are_bytes, sp.envelope)) answer
+
     module _ (is_short : IsShort said) where
+      past_length : (m : Outside) × Alike b m × (behind_short layout key said tt).declines m a q
+      past_length = let s = past_spell in passed (short said) (behind_short layout key said) (one_short said) b s.0 b a q s.1 tt (refl, is_short) s.2
+
       module _ (authentic : IsAuthentic said.wrapper said.manifest (key_bytes key)) where
+        past_mac : (m : Outside) × Alike b m × (behind_authentic layout said tt).declines m a q
+        past_mac =
+            let s = past_length in
+            passed (authentic_in said (key_bytes key)) (behind_authentic layout said) (one_authentic envelopes authenticity bytes said sp.envelope (key_bytes key)) b s.0 b a q s.1 tt (refl, authentic) s.2
 
   module _ (said : EnvelopeSays) (manifest : Manifest) (is : IsAuthenticIn key bytes said manifest) where
+    past_manifest : (m : Outside) × Alike b m × (accepts_manifest layout said manifest).declines m a q
+    past_manifest =
+        let s = past_mac said is.spell is.is_short is.authentic in
+        passed (manifest_in said) (accepts_manifest layout said) (one_manifest envelopes manifests bytes said is.spell.envelope) b s.0 b a q s.1 manifest (refl, is.says) s.2
+
     -- the places have no part in what comes behind them
     record Placed : Type 0 where
       pub there : Outside
@@ -96,9 +131,78 @@ module _ (envelopes : EnvelopeLaws) (authenticity : AuthenticityLaw) (manifests 
       pub alike_there : Alike b there
       pub rest : (behind_places said manifest places).declines there a q
 
+    past_places : (places : Places) → ArePlaces layout manifest.components places → Placed
+    past_places places are =
+        let s = past_manifest in
+        declined_by (places_in layout manifest) (behind_places said manifest) Placed s.0 a q
+        (λ lacks. absurd (has_or_lacks layout manifest places q are lacks.1))
+        (λ other m g rest. record { there = m; places = other; alike_there = subst (λ (o : Outside). Alike b o) (sym g.0) s.1; rest = rest }) s.2
+
   module _ (said : EnvelopeSays) (manifest : Manifest) (taken : Members) (all : HasAll layout key bytes said manifest taken) where
+    past_members : (m : Outside) × (places : Places) × Alike b m × (behind_members said manifest places taken).declines m a q
+    past_members =
+        let p = past_places said manifest all.authentic_in all.places all.placed in
+        let s = passed (members_in said manifest) (behind_members said manifest p.places) (one_members members bytes said manifest all.authentic_in.spell.envelope) b p.there b a q p.alike_there taken (refl, all.has_members) p.rest in
+        (s.0, p.places, s.1, s.2)
+
+    past_judged : (m : Outside) × Alike b m × (judges (update_tree manifest taken) (invocation_tree manifest)).declines m a q
+    past_judged =
+        let s = past_members in
+        declined_by (judges (update_tree manifest taken) (invocation_tree manifest)) (behind_judges said manifest s.1 taken)
+        ((m : Outside) × Alike b m × (judges (update_tree manifest taken) (invocation_tree manifest)).declines m a q) s.0 a q
+        (λ here. (s.0, s.2, here)) (λ u m g last. absurd last.1) s.3
+
     module _ (first : IsNarrow (update_tree manifest taken)) where
+      past_width : (m : Outside) × Alike b m × (behind_width (update_tree manifest taken) (invocation_tree manifest) tt).declines m a q
+      past_width =
+          let s = past_judged in
+          passed (narrow (update_tree manifest taken)) (behind_width (update_tree manifest taken) (invocation_tree manifest)) (one_narrow (update_tree manifest taken)) b s.0 b a q s.1 tt (refl, first) s.2
+
       module _ (second : IsNarrow (invocation_tree manifest)) where
+        past_widths : (m : Outside) × Alike b m × (safe_in (update_tree manifest taken) (invocation_tree manifest)).declines m a q
+        past_widths =
+            let s = past_width in
+            passed (narrow (invocation_tree manifest)) (λ _. safe_in (update_tree manifest taken) (invocation_tree manifest)) (one_narrow (invocation_tree manifest)) b s.0 b a q s.1 tt (refl, second) s.2
+
+  -- one cause stands
+  pub same_cause : (r : Reply) → IsDeclined layout key bytes r → SameButPath r q
+  same_cause r (AtEnvelope all refused) = inl (stood (envelope_in bytes) (behind_envelope layout key) (one_envelope envelopes bytes) b b b a q alike r (refl, (all, refused)) answer)
+  same_cause r (AtLength said sp long) =
+      let s = past_spell said sp in inl (stood (short said) (behind_short layout key said) (one_short said) b s.0 b a q s.1 r (refl, long) s.2)
+  same_cause r (AtAuthenticity said sp is_short lacks) =
+      let s = past_length said sp is_short in
+      inl (stood (authentic_in said (key_bytes key)) (behind_authentic layout said) (one_authentic envelopes authenticity bytes said sp.envelope (key_bytes key)) b s.0 b a q s.1 r (refl, lacks) s.2)
+  same_cause r (AtManifest said sp is_short authentic refused) =
+      let s = past_mac said sp is_short authentic in
+      inl (stood (manifest_in said) (accepts_manifest layout said) (one_manifest envelopes manifests bytes said sp.envelope) b s.0 b a q s.1 r (refl, refused) s.2)
+  same_cause r (AtComponents said manifest is lacks) =
+      let s = past_manifest said manifest is in
+      declined_by (places_in layout manifest) (behind_places said manifest) (SameButPath r q) s.0 a q
+      (λ here. inl (one_lack layout manifest r q lacks here.1))
+      (λ places m g rest. absurd (has_or_lacks layout manifest places r g.1 lacks)) s.2
+  same_cause r (AtMembers said manifest places is are lack) =
+      let p = past_places said manifest is places are in
+      inl (stood (members_in said manifest) (behind_members said manifest p.places) (one_members members bytes said manifest is.spell.envelope) b p.there b a q p.alike_there r (refl, lack) p.rest)
+  same_cause r (AtUpdateWidth said manifest taken all wide) =
+      let s = past_judged said manifest taken all in
+      inl (stood (narrow (update_tree manifest taken)) (behind_width (update_tree manifest taken) (invocation_tree manifest)) (one_narrow (update_tree manifest taken)) b s.0 b a q s.1 r (refl, wide) s.2)
+  same_cause r (AtInvocationWidth said manifest taken all first wide) =
+      let s = past_width said manifest taken all first in
+      inl (stood (narrow (invocation_tree manifest)) (λ _. safe_in (update_tree manifest taken) (invocation_tree manifest)) (one_narrow (invocation_tree manifest)) b s.0 b a q s.1 r (refl, wide) s.2)
+  same_cause r (AtPaths said manifest taken all first second unsafe) =
+      let s = past_widths said manifest taken all first second in inr (unsafe.outcome_is, s.2.1.outcome_is)
+
+  -- and none where the bytes are accepted
+  pub accepted_not : (x : Accepted) → Meets layout key bytes x → ⊥
+  accepted_not x f =
+      let all : HasAll layout key bytes x.said x.manifest x.members = record {
+        authentic_in = record { spell = record { are_bytes = f.are_bytes; envelope = f.envelope }; is_short = f.is_short; authentic = f.authentic; says = f.says };
+        places = x.places;
+        placed = f.placed;
+        has_members = f.members;
+      } in
+      let s = past_widths x.said x.manifest x.members all f.update_narrow f.invocation_narrow in
+      unsafe_refuted (update_tree x.manifest x.members) (invocation_tree x.manifest) q.text s.2.1.shows_path f.are_safe
 
 -- ---- the command
 
@@ -157,6 +261,12 @@ module _ (configs : OneAnswer) (envelopes : EnvelopeLaws) (authenticity : Authen
 
       told_there : IsTrue n.told
       told_there = subst IsTrue (sym (still ∙ looked_told)) told
+
+      cause_there : (r : Reply) → IsDeclined config.0 config.1 bytes r → SameButPath r q
+      cause_there r cause = same_cause envelopes authenticity manifests members config.0 config.1 bytes n a told_there q there r cause
+
+      never_there : (y : Accepted) → IsAccepted config.0 config.1 bytes y → ⊥
+      never_there y accepted = accepted_not envelopes authenticity manifests members config.0 config.1 bytes n a told_there q there y (facts config.0 config.1 bytes y accepted)
 
   same_answer : (r : Reply) → UpdateSays name b r → begins_update name b a (Says q) → SameButPath r q
   same_answer r (AtConfig none) (Declines _ d) = inl (none_once configs b.flash flash_told r q none d.1)
