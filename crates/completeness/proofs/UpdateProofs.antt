@@ -246,7 +246,7 @@ module _ (configs : OneAnswer) (envelopes : EnvelopeLaws) (manifests : ManifestL
 
       sets : Sets u.layout u.bytes V held
       sets =
-          let played = (u.update.plays middle_told middle_flash_told told.launcher held (digest_of V) h.authentic.blocks recorded_there states payloads.0 payloads.1).plays in
+          let played = (u.update.plays middle_flash_told told.launcher held (digest_of V) h.authentic.blocks recorded_there states payloads.0 payloads.1).plays in
           record { numbers = played.numbers; chosen = played.chosen; standings = played.standings; stand = played.stand; payloads = payloads.0; has = payloads.1 }
 
       installed_there : InstalledSo u.layout u.bytes V.said V.manifest V.members V.places V.places itself (key_bytes u.key) h.authentic
