@@ -1,3 +1,4 @@
+mod Outcomes
 pub mod Stored
 pub mod Whole
 pub mod Since

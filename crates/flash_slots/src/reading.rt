@@ -84,15 +84,9 @@ pub fn read<D: Disk>(
     ensures same { IsTrue D.told → IsSame (D.flash disk.old) (D.flash disk.new) }
     ensures grows { IsTrue D.told → Grows (D.flash disk.old) (D.flash disk.new) }
 {
-    let size = match length(disk, slot) {
-        Ok(size) => size,
-        Err(FlashFault) => return Err(FlashFault),
-    };
+    let size = length(disk, slot)?;
     if size <= from {
         return Ok(0);
     }
-    match read_some(disk, slot, size, from, room) {
-        Ok(count) => Ok(count),
-        Err(FlashFault) => Err(FlashFault),
-    }
+    read_some(disk, slot, size, from, room)
 }
