@@ -106,8 +106,6 @@ pub(crate) fn find_bank<D: Disk>(
         Ok(None) => return Err(NoBank::NothingInstalled),
         Err(FlashFault) => return Err(NoBank::FlashFault),
     };
-    match read_bank(alloc, disk, &installed) {
-        Ok(bytes) => Ok(Bank { installed, bytes }),
-        Err(fault) => Err(fault),
-    }
+    let bytes = read_bank(alloc, disk, &installed)?;
+    Ok(Bank { installed, bytes })
 }

@@ -40,8 +40,5 @@ pub(crate) fn world_in<'a>(
         number: slots_in_use(layout, &installed.active),
     };
     let payloads = None;
-    match World::new(alloc, layout, &startable.places, &slots, uris, payloads) {
-        Ok(world) => Ok(world),
-        Err(AllocError) => Err(AllocError),
-    }
+    World::new(alloc, layout, &startable.places, &slots, uris, payloads)
 }

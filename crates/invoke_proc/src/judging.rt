@@ -123,16 +123,11 @@ pub(crate) fn judge<'a>(
         Ok(envelope) => envelope,
         Err(refusal) => return Err(BootEnd::BadBank(refusal)),
     };
-    let manifest = match manifest_in(alloc, &envelope) {
-        Ok(manifest) => manifest,
-        Err(end) => return Err(end),
-    };
-    match places_in(layout, key, &envelope, &manifest) {
-        Ok(places) => Ok(Startable {
-            envelope,
-            manifest,
-            places,
-        }),
-        Err(end) => Err(end),
-    }
+    let manifest = manifest_in(alloc, &envelope)?;
+    let places = places_in(layout, key, &envelope, &manifest)?;
+    Ok(Startable {
+        envelope,
+        manifest,
+        places,
+    })
 }
