@@ -4,3 +4,7 @@ pub mod ItsHead
 pub mod ListedIndices
 pub mod SlicesInForce
 pub mod TreeCopies
+pub mod Lengths
+pub mod Depths
+pub mod LentBranchCounts
+pub mod Standings

@@ -4,6 +4,7 @@ ghost use Rattle.std.specs.Prelude.{◌≡◌, IsOk, Ok};
 ghost use Rattle.suit_commands.specs.Judged.{inner_by};
 ghost use Rattle.suit_commands.specs.SequenceReading.{branch_from, branches_from, try_from};
 ghost use Rattle.suit_cursor.specs.Lending.{LendsBranch, branch_of};
+ghost use Rattle.suit_cursor.specs.Walking.{branch_count, branch_at};
 
 use crate::LentSequence;
 use crate::entering::enter_held;
@@ -109,5 +110,25 @@ impl<'a> LentBranches<'a> {
         }
         self.left -= 1;
         Some(lend_branch(&mut self.cursor, self.left == 0, self.rules))
+    }
+
+    /// The number of branches left.
+    pub fn len(&self) -> u64
+        ensures { result ≡ branch_count self.now }
+    {
+        self.left
+    }
+
+    /// The sequence of the branch with this number, if it is there and not null.
+    pub fn branch(mut self, number: u32) -> Option<LentSequence<'a>>
+        ensures { result ≡ branch_at self.entry number }
+    {
+        for _ in 0..number {
+            self.next();
+        }
+        match self.next() {
+            Some(LentBranch::Inner(inner)) => Some(inner),
+            _ => None,
+        }
     }
 }

@@ -9,7 +9,7 @@ use crate::branches::lend_try;
 use crate::entering::enter_held;
 use crate::indices::lend_indices;
 use crate::params::lend_override;
-use crate::{LentBranches, LentIndices, LentParams, LentSequence};
+use crate::{LentBranches, LentIndices, LentSequence, ParamView};
 use det_cbor::{Cursor, HeadKind};
 use suit_commands::{ActKind, CommandCode, Rules, TestKind, read_report};
 use suit_params::{Why, component_index, read_head, read_kind};
@@ -31,7 +31,7 @@ pub enum LentCommand<'a> {
     /// Set component index.
     Index(LentSelection<'a>),
     /// Override parameters.
-    Override(LentParams<'a>),
+    Override(ParamView<'a>),
     TryEach(LentBranches<'a>),
     /// Run sequence.
     Run(LentSequence<'a>),

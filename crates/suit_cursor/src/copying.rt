@@ -5,7 +5,7 @@ ghost use Rattle.suit_commands.specs.View.{command_tree};
 ghost use Rattle.suit_cursor.specs.Lending.{selection_of, command_of, branch_of};
 
 use crate::{
-    LentBranch, LentBranches, LentCommand, LentIndices, LentParams, LentSelection, LentSequence,
+    LentBranch, LentBranches, LentCommand, LentIndices, LentSelection, LentSequence, ParamView,
 };
 use std::alloc::{AllocError, Global};
 use suit_commands::{Branches, Command, IndexList, Selection, Sequence, Step};
@@ -31,7 +31,7 @@ fn copy_selection(alloc: Global, selection: LentSelection<'_>) -> Result<Selecti
     }
 }
 
-fn copy_params(alloc: Global, mut left: LentParams<'_>) -> Result<ParamList, AllocError>
+fn copy_params(alloc: Global, mut left: ParamView<'_>) -> Result<ParamList, AllocError>
     ensures { IfOk result (λ list. list ≡ left.entry) }
 {
     let mut list = ParamList::new(alloc);

@@ -1,6 +1,6 @@
 //! Lists of component indices.
 
-ghost use Rattle.std.specs.Prelude.{◌≡◌, length, IsOk, Ok};
+ghost use Rattle.std.specs.Prelude.{◌≡◌, ◌<◌, length, slice_index, IsOk, Ok};
 ghost use Rattle.suit_commands.specs.SequenceReading.{indices_from};
 ghost use Rattle.suit_cursor.specs.Lending.{LendsIndex};
 
@@ -12,10 +12,10 @@ use suit_params::same_place;
 /// The indices of a list that are left, in the order in which they are selected, lent by bytes that were judged.
 #[derive(Drop)]
 pub struct LentIndices<'a> {
-    cursor: Cursor<'a>,
-    left: u64,
-    list: u64,
-    count: u32,
+    pub(crate) cursor: Cursor<'a>,
+    pub(crate) left: u64,
+    pub(crate) list: u64,
+    pub(crate) count: u32,
 }
 
 impl<'a> Model for LentIndices<'a> {
@@ -83,5 +83,16 @@ impl<'a> LentIndices<'a> {
         let index = read_element(&mut self.cursor, self.list, self.count).unwrap();
         self.left -= 1;
         Some(index)
+    }
+
+    /// The index at this place of the order.
+    pub(crate) fn at(mut self, n: u32) -> u32
+        requires { n < length self }
+        ensures { result ≡ slice_index self.entry n }
+    {
+        for _ in 0..n {
+            self.next();
+        }
+        self.next().unwrap()
     }
 }

@@ -8,17 +8,24 @@ mod branches;
 mod command;
 mod copying;
 mod entering;
+mod index_view;
 mod indices;
+mod level;
 mod params;
 mod sequence;
 mod slice_params;
 #[cfg(test)]
 mod tests;
+mod view;
+mod walk;
 
 pub use branches::{LentBranch, LentBranches};
 pub use command::{Lent, LentCommand, LentSelection};
 pub use copying::copy_sequence;
+pub use index_view::IndexView;
 pub use indices::LentIndices;
-pub use params::LentParams;
+pub use params::ParamView;
 pub use sequence::LentSequence;
 pub use slice_params::SliceParams;
+pub use view::{View, ViewAct};
+pub use walk::{Entered, Walk};

@@ -12,13 +12,13 @@ use suit_params::{ParamSlice, lend_param, read_item, read_map, same_place};
 /// The parameters of an override that are left, ascending by their keys' numbers (draft-ietf-suit-manifest-25, section
 /// 8.4.10.3), lent by bytes that were judged.
 #[derive(Drop)]
-pub struct LentParams<'a> {
+pub struct ParamView<'a> {
     cursor: Cursor<'a>,
     left: u64,
     count: u32,
 }
 
-impl<'a> Model for LentParams<'a> {
+impl<'a> Model for ParamView<'a> {
     ghost use Rattle.std.specs.Prelude.{List};
     ghost use Rattle.suit_params.specs.declared.param.Param.{Param};
 
@@ -33,13 +33,13 @@ impl<'a> Model for LentParams<'a> {
 
 // The parameters of the next item, which is a map.
 #[tactic(auto, unfolding(suit_params::specs::ParamReading::params_at, suit_params::specs::Reading::map_from))]
-fn lend_map<'a>(cursor: &mut Cursor<'a>, count: u32) -> LentParams<'a>
+fn lend_map<'a>(cursor: &mut Cursor<'a>, count: u32) -> ParamView<'a>
     requires { IsOk (next_params count cursor.old) }
     ensures { next_params count cursor.old ≡ Ok (result, cursor.new) }
 {
     let mut map = read_item(cursor).unwrap();
     let pairs = read_map(&mut map).unwrap();
-    LentParams {
+    ParamView {
         cursor: map,
         left: pairs,
         count,
@@ -47,20 +47,20 @@ fn lend_map<'a>(cursor: &mut Cursor<'a>, count: u32) -> LentParams<'a>
 }
 
 /// The parameters of the override whose map stands at the cursor.
-pub(crate) fn lend_override<'a>(cursor: &mut Cursor<'a>, count: u32) -> LentParams<'a>
+pub(crate) fn lend_override<'a>(cursor: &mut Cursor<'a>, count: u32) -> ParamView<'a>
     requires { IsOk (override_from count cursor.old) }
     ensures { override_from count cursor.old ≡ Ok (result, cursor.new) }
 {
     lend_map(cursor, count)
 }
 
-impl<'a> LentParams<'a> {
+impl<'a> ParamView<'a> {
     /// The same parameters, lent again.
-    pub fn copy(&mut self) -> LentParams<'a>
+    pub fn copy(&mut self) -> ParamView<'a>
         ensures copied { result ≡ self.old }
         ensures same { self.new ≡ self.old }
     {
-        LentParams {
+        ParamView {
             cursor: same_place(&mut self.cursor),
             left: self.left,
             count: self.count,

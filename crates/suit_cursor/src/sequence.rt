@@ -7,7 +7,7 @@ ghost use Rattle.suit_commands.specs.Allowed.{levels_allowed, levels_inside};
 ghost use Rattle.suit_commands.specs.Sequences.{SaysSequence};
 ghost use Rattle.suit_commands.specs.SequenceFaults.{RefusesSequence};
 ghost use Rattle.suit_commands.specs.SequenceReading.{whole_sequence};
-ghost use Rattle.suit_commands.specs.Tree.{SequenceTree};
+ghost use Rattle.suit_commands.specs.Tree.{SequenceTree, NoSteps};
 ghost use Rattle.suit_cursor.specs.Lending.{LendsStep};
 
 use crate::Lent;
@@ -63,6 +63,21 @@ fn judged<'a>(
 }
 
 impl<'a> LentSequence<'a> {
+    // No steps.
+    pub(crate) fn empty() -> LentSequence<'a>
+        ensures { result ≡ NoSteps }
+    {
+        LentSequence {
+            cursor: Cursor::new(&[], 0),
+            left: 0,
+            rules: Rules {
+                levels: 0,
+                shared: false,
+                count: 0,
+            },
+        }
+    }
+
     /// The sequence that the bytes spell, for so many components. The bytes start at this place in the envelope, from which
     /// the places of commands and refusals count. They are judged once, here, as `decode_sequence` judges them. Takes no
     /// memory.

@@ -1,10 +1,10 @@
 //! The parameters in force, lent.
 
-ghost use Rattle.std.specs.Prelude.{◌≡◌, ◌<◌, length, option_map};
+ghost use Rattle.std.specs.Prelude.{◌≡◌, ◌<◌, [], ◌∷◌, length, option_map};
 ghost use Rattle.suit_params.specs.InForce.{none_in_force, in_force, with_param, overridden, IsOverridden};
 ghost use Rattle.suit_params.specs.ParamSlices.{param_of};
 
-use crate::LentParams;
+use crate::ParamView;
 use std::marker::Model;
 use suit_params::{ParamKey, ParamSlice, rank};
 
@@ -51,8 +51,16 @@ impl<'a> SliceParams<'a> {
         SliceParams { held: self.held }
     }
 
-    /// Replaces the value of one key.
-    pub fn set(&mut self, component: u32, param: ParamSlice<'a>)
+    // There is a cell for each component and key.
+    fn whole(&self)
+        ensures { length self.now ≡ 96 }
+    {
+        let cells = &self.held[..];
+        let _count = cells.len();
+    }
+
+    // Replaces the value of one key.
+    fn put(&mut self, component: u32, param: ParamSlice<'a>)
         requires { component < 8 }
         ensures { self.new ≡ with_param self.old component (param_of param.entry) }
     {
@@ -60,14 +68,34 @@ impl<'a> SliceParams<'a> {
         cells[12 * component as usize + rank(param.key())] = Some(param);
     }
 
-    /// Overrides a component's parameters by those that are left of an override: each replaces the one with its key, and
-    /// all others stay.
-    pub fn override_with(&mut self, component: u32, mut list: LentParams<'a>)
+    // Replaces the values of the keys that are left, one after another.
+    fn put_each(&mut self, component: u32, mut list: ParamView<'a>)
         requires { component < 8 }
         ensures { self.new ≡ overridden self.old component list.entry }
     {
         while let Some(param) = list.next() {
-            self.set(component, param);
+            self.put(component, param);
         }
+    }
+
+    /// Replaces the value of one component's key, and no other.
+    pub fn set(&mut self, component: u32, param: ParamSlice<'a>)
+        requires { component < 8 }
+        ensures exact { self.new ≡ with_param self.old component (param_of param.entry) }
+        ensures alone { IsOverridden self.old self.new component (param_of param.entry ∷ []) }
+    {
+        self.whole();
+        self.put(component, param);
+    }
+
+    /// Overrides a component's parameters by those that are left of an override: each replaces the one with its key, and
+    /// all others stay.
+    pub fn override_with(&mut self, component: u32, list: ParamView<'a>)
+        requires { component < 8 }
+        ensures exact { self.new ≡ overridden self.old component list.entry }
+        ensures last { IsOverridden self.old self.new component list.entry }
+    {
+        self.whole();
+        self.put_each(component, list);
     }
 }

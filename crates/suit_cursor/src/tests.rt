@@ -1,6 +1,6 @@
 //! The tests: worked sequences, walked in their bytes and decoded beside. The first byte has the place 65.
 
-use crate::{LentCommand, LentParams, LentSequence, copy_sequence};
+use crate::{LentSequence, ParamView, View, ViewAct, Walk, copy_sequence};
 use std::alloc::{AllocError, Global};
 use suit_commands::{decode_sequence, encode_sequence};
 use suit_params::{Fault, ParamSlice};
@@ -22,33 +22,31 @@ const EACH: [u8; 30] = [
 const OTHERS: [u8; 7] = [0x00, 0x01, 0x0f, 0x20, 0x82, 0xf6, 0xff];
 
 // Whether these are a digest that begins with 186 and the size 3.
-fn are_digest_and_size(mut list: LentParams<'_>) -> bool {
+fn are_digest_and_size(mut list: ParamView<'_>) -> bool {
     let digest = matches!(list.next(), Some(ParamSlice::Digest(digest)) if digest.bytes[0] == 0xba);
     let size = matches!(list.next(), Some(ParamSlice::Size(3)));
     digest && size && list.next().is_none()
 }
 
-fn is_override(command: LentCommand<'_>) -> bool {
-    match command {
-        LentCommand::Override(list) => are_digest_and_size(list),
+fn is_override(view: View<'_>) -> bool {
+    let place = view.place;
+    match view.act {
+        ViewAct::Override(list) => place == 66 && are_digest_and_size(list),
         _ => false,
     }
 }
 
-fn is_one_override(mut left: LentSequence<'_>) -> bool {
-    match left.next() {
-        Some(step) => {
-            let place = step.place;
-            is_override(step.command) && place == 66 && left.next().is_none()
-        }
+fn is_one_override(mut walk: Walk<'_>) -> bool {
+    match walk.next() {
+        Some(view) => is_override(view) && walk.next().is_none(),
         None => false,
     }
 }
 
 #[test]
 fn the_shared_sequence_lends_one_override(rt: HostRuntime) {
-    let lends_it = match LentSequence::new(&SHARED, 65, true, 1) {
-        Ok(left) => is_one_override(left),
+    let lends_it = match Walk::new(&SHARED, 65, true, 1) {
+        Ok(walk) => is_one_override(walk),
         Err(_) => false,
     };
     assert!(rt; lends_it);

@@ -1,4 +1,4 @@
-use Rattle.std.proofs.Common.{◌≡◌, ◌≤◌, ◌<◌, sym, subst, arith}
+use Rattle.std.proofs.Common.{◌≡◌, ◌<◌, sym, subst, arith}
 use Rattle.suit_commands.specs.Size.{branches_size}
 use Rattle.suit_commands.specs.Tree.{SequenceTree, BranchesTree}
 use Rattle.suit_commands.specs.View.{command_tree}

@@ -1,6 +1,6 @@
 use Rattle.std.proofs.Common.{◌≡◌, length}
 use Rattle.suit_params.specs.InForce.{overridden}
-use Rattle.suit_cursor.proofs.slice_params.SliceParams.override_with.Given as goal
+use Rattle.suit_cursor.proofs.slice_params.SliceParams.put_each.Given as goal
 
 -- what is left of the list still to be set gives the whole
 abbrev pub invariant-loop-param : goal.invariant-loop-param

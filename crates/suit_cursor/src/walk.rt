@@ -1,0 +1,140 @@
+//! Walks through a sequence and the sequences in it.
+
+ghost use Rattle.std.specs.Prelude.{◌≡◌, ◌+◌, ◌<◌, ◌^◌, length, Result, Ok, Err, IfOk, IfErr};
+ghost use Rattle.det_cbor.specs.HeadReading.{map_ok};
+ghost use Rattle.suit_params.specs.declared.refusal.Refusal.{Refusal};
+ghost use Rattle.suit_params.specs.Refusing.{RefusesWhole, SaysWhole};
+ghost use Rattle.suit_commands.specs.Allowed.{levels_allowed, levels_inside};
+ghost use Rattle.suit_commands.specs.Sequences.{SaysSequence};
+ghost use Rattle.suit_commands.specs.SequenceFaults.{RefusesSequence};
+ghost use Rattle.suit_commands.specs.SequenceReading.{whole_sequence};
+ghost use Rattle.suit_commands.specs.Tree.{SequenceTree};
+ghost use Rattle.suit_cursor.specs.Walking.{starting, at_first, Leaves};
+ghost use Rattle.suit_cursor.specs.Within.{IsLevel};
+ghost use Rattle.suit_cursor.specs.Views.{LendsView, Enters};
+
+use crate::level::{Level, Within};
+use crate::view::shown;
+use crate::{LentSequence, View};
+use arrayvec::ArrayVec;
+use std::marker::Model;
+use std::mem;
+use suit_params::Refusal;
+
+/// A walk through a sequence of commands (draft-ietf-suit-manifest-25, section 8.4.6) and the sequences in it, in bytes
+/// that were judged.
+#[derive(Drop)]
+pub struct Walk<'a> {
+    here: Level<'a>,
+    outer: ArrayVec<Level<'a>, 7>,
+    count: u32,
+}
+
+impl<'a> Model for Walk<'a> {
+    ghost use Rattle.suit_cursor.specs.Walking.{Standing, coded_standing};
+
+    ghost Value = { Standing };
+
+    ghost coded = { coded_standing };
+
+    ghost use Rattle.suit_cursor.specs.Within.{standing_of, Stands};
+
+    ghost view = { λ w. standing_of w.count w.here w.outer.items };
+
+    ghost invariant = { λ w. Stands w.here w.outer.items };
+}
+
+/// Whether a branch was entered.
+#[derive(Clone, Copy, Debug)]
+pub enum Entered {
+    Inside,
+    /// The branch is null, or there is none with this number.
+    Nothing,
+}
+
+impl<'a> Walk<'a> {
+    // At the first step.
+    fn start(left: LentSequence<'a>, count: u32) -> Walk<'a>
+        requires { IsLevel 0 (at_first left) }
+        ensures { result ≡ starting count left.entry }
+    {
+        Walk {
+            here: Level {
+                left,
+                within: Within::Nothing,
+            },
+            outer: ArrayVec::new(),
+            count,
+        }
+    }
+
+    /// A walk through the sequence that the bytes spell, for so many components, from its first command on. The bytes start
+    /// at this place in the envelope, from which the places of commands and refusals count. They are judged once, here, as
+    /// `decode_sequence` judges them. Takes no memory.
+    pub fn new(bytes: &'a [u8], place: u64, shared: bool, count: u32) -> Result<Walk<'a>, Refusal>
+        requires place { place + length bytes.now < 2 ^ 64 }
+        requires short { length bytes.now < 2 ^ 32 }
+        ensures exact { result ≡ map_ok (starting count) (whole_sequence shared count levels_inside
+            (record { left = bytes.now; place = place })) }
+        ensures ok { IfOk result (λ walk. (walk ≡ starting count walk.here.left)
+            × SaysWhole (SaysSequence shared count levels_allowed) place bytes.now walk.here.left) }
+        ensures refused { IfErr result
+            (RefusesWhole (RefusesSequence shared count levels_allowed) place bytes.now) }
+        ensures every_sequence { (s : SequenceTree)
+            → SaysWhole (SaysSequence shared count levels_allowed) place bytes.now s
+            → result ≡ Ok (starting count s) }
+        ensures every_refusal { (r : Refusal)
+            → RefusesWhole (RefusesSequence shared count levels_allowed) place bytes.now r
+            → result ≡ Err r }
+    {
+        let left = LentSequence::new(bytes, place, shared, count)?;
+        Ok(Walk::start(left, count))
+    }
+
+    /// The next command of the sequence that was entered last. `None` stands exactly at its end.
+    pub fn next(&mut self) -> Option<View<'a>>
+        ensures { LendsView self.old self.new result }
+    {
+        match self.here.left.next() {
+            Some(step) => {
+                let place = step.place;
+                let (act, within) = shown(step.command, self.count);
+                self.here.within = within;
+                Some(View { place, act })
+            }
+            None => {
+                self.here.within = Within::Nothing;
+                None
+            }
+        }
+    }
+
+    /// Enters the branch with this number of the command that was lent last in this sequence. Its bytes are not judged
+    /// again.
+    pub fn enter(&mut self, branch: u32) -> Entered
+        ensures { Enters self.old self.new branch result }
+    {
+        match self.here.within.branch(branch) {
+            Some(left) => {
+                let inner = Level {
+                    left,
+                    within: Within::Nothing,
+                };
+                let outer = mem::replace(&mut self.here, inner);
+                self.outer.push(outer);
+                Entered::Inside
+            }
+            None => Entered::Nothing,
+        }
+    }
+
+    /// Goes back to the sequence around, behind the command whose branch was entered. That command is then the one that
+    /// was lent last. Does nothing in the outermost sequence.
+    pub fn leave(&mut self)
+        ensures { Leaves self.old self.new }
+    {
+        if let Some(outer) = self.outer.pop() {
+            self.here = outer;
+        }
+    }
+}
