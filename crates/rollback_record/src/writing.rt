@@ -113,10 +113,7 @@ pub fn commit<D: Disk>(disk: &mut D, held: Option<&Record>, new: &Record) -> Res
 {
     typed(new);
     let _size = disk.size();
-    let which = match find_spare(disk, held) {
-        Ok(which) => which,
-        Err(FlashFault) => return Err(FlashFault),
-    };
+    let which = find_spare(disk, held)?;
     let gate = record_page(which);
     let page = spell(new);
     let answer = write_gated(disk, gate, gate + 1, page.behind_gate());

@@ -11,7 +11,7 @@ use crate::machine::{Machine, Work};
 use crate::outside::Moments;
 use crate::params_in_force::number;
 use crate::progress::Progress;
-use crate::{Stop, copy, fetch, invoke, passes, swap, write};
+use crate::{Sources, Stop, copy, fetch, invoke, passes, swap, write};
 use flash_layout::FlashFault;
 use path_model::Cause;
 use suit_commands::{ActKind, TestKind};
@@ -145,12 +145,15 @@ pub(crate) fn act<H: Host, D: Disk, L: Launcher>(
         ActKind::Write => stopped(place, write(work.disk, work.ram, standing, &state.params)),
         ActKind::Fetch => {
             let pieces = &mut *work.pieces;
+            let sources = Sources {
+                envelope: machine.envelope,
+                uris: machine.uris,
+            };
             let fetched = fetch(
                 work.host,
                 work.disk,
                 work.ram,
-                machine.envelope,
-                machine.uris,
+                &sources,
                 standing,
                 &state.params,
                 &mut pieces.one[..],

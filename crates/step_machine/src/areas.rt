@@ -57,10 +57,7 @@ pub(crate) fn read_piece<D: Disk>(
         ≡ take n (drop from (area_at spot ram.now (D.flash disk.old).reads))) }
 {
     match spot {
-        Spot::Flash(slot) => match read_some(disk, slot, size, from, room) {
-            Ok(count) => Ok(count),
-            Err(FlashFault) => Err(FlashFault),
-        },
+        Spot::Flash(slot) => read_some(disk, slot, size, from, room),
         Spot::Ram(component) => Ok(read_held(ram, component, size as usize, from as usize, room)),
     }
 }

@@ -63,6 +63,13 @@ fn write_piece<D: Disk>(
     }
 }
 
+// What is left to exchange: the bytes from that one on, of so many in all.
+#[derive(Clone, Copy)]
+struct Left {
+    from: u64,
+    size: u64,
+}
+
 // Exchanges two pieces, through rooms of the same length.
 fn exchange_piece<D: Disk>(
     disk: &mut D,
@@ -71,27 +78,28 @@ fn exchange_piece<D: Disk>(
     other: Spot,
     room: &mut [u8],
     spare: &mut [u8],
-    from: u64,
-    size: u64,
+    left: Left,
 ) -> Result<(), FlashFault>
     requires pair { IsPair (D.extent disk.old) ram.old one other }
     requires alike { length spare.old ≡ length room.old }
-    requires within { from + length room.old ≤ size }
-    requires area { size ≤ size_at one ram.old }
-    requires other_area { size ≤ size_at other ram.old }
+    requires within { left.from + length room.old ≤ left.size }
+    requires area { left.size ≤ size_at one ram.old }
+    requires other_area { left.size ≤ size_at other ram.old }
     ensures goes { ⟦<D as Steps>⟧.goes_on (ResultCounts result) disk.old disk.new }
     ensures one { IsTrue D.told → OnOk result (area_at one ram.new (D.flash disk.new).reads
-        ≡ written (area_at one ram.old (D.flash disk.old).reads) from
-        (take (length room.old) (drop from (area_at other ram.old (D.flash disk.old).reads)))) }
+        ≡ written (area_at one ram.old (D.flash disk.old).reads) left.from
+        (take (length room.old)
+        (drop left.from (area_at other ram.old (D.flash disk.old).reads)))) }
     ensures other { IsTrue D.told → OnOk result (area_at other ram.new (D.flash disk.new).reads
-        ≡ written (area_at other ram.old (D.flash disk.old).reads) from
-        (take (length room.old) (drop from (area_at one ram.old (D.flash disk.old).reads)))) }
+        ≡ written (area_at other ram.old (D.flash disk.old).reads) left.from
+        (take (length room.old) (drop left.from (area_at one ram.old (D.flash disk.old).reads)))) }
     ensures long { size_at one ram.new ≡ size_at one ram.old }
     ensures other_long { size_at other ram.new ≡ size_at other ram.old }
     ensures ram { IsRamButBoth one other ram.old ram.new }
     ensures keeps { IsTrue D.told
         → Keeps (OutsideRooms one other) (D.flash disk.old) (D.flash disk.new) }
 {
+    let Left { from, size } = left;
     read_piece(disk, ram, one, size, from, room)?;
     read_piece(disk, ram, other, size, from, spare)?;
     write_piece(disk, ram, one, from, spare)?;
@@ -141,8 +149,7 @@ fn exchange_pieces<D: Disk>(
             other,
             &mut room[..count],
             &mut spare[..count],
-            from,
-            size,
+            Left { from, size },
         )?;
         from += count as u64;
     }

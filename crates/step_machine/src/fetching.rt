@@ -14,7 +14,7 @@ use crate::params_in_force::bytes;
 use crate::payloads::{fill_with, payload_of};
 use crate::taking::take_into;
 use crate::uris::name_of;
-use crate::{Standing, Uris};
+use crate::{Sources, Standing, Uris};
 use flash_slots::Ram;
 use path_model::Cause;
 use suit_edge::{Disk, Host, Started};
@@ -154,8 +154,7 @@ pub fn fetch<H: Host, D: Disk>(
     host: &mut H,
     disk: &mut D,
     ram: &mut Ram,
-    envelope: Option<&Envelope<'_>>,
-    uris: &Uris,
+    sources: &Sources<'_>,
     standing: &Standing,
     params: &Params<'_>,
     room: &mut [u8],
@@ -168,26 +167,27 @@ pub fn fetch<H: Host, D: Disk>(
     ensures counts { FetchCounts result (H.faults host.old) (H.faults host.new) (D.faults disk.old)
         (D.faults disk.new) }
     ensures files { IsTrue H.told → H.file host.new ≡ H.file host.old }
-    ensures unasked { uris.now ≡ [] → host.new ≡ host.old }
+    ensures unasked { sources.now.uris.now ≡ [] → host.new ≡ host.old }
     ensures asked { IsTrue H.told
-        → AsksAtMost (file_named standing.now.component params.now uris.now)
+        → AsksAtMost (file_named standing.now.component params.now sources.now.uris.now)
         (standing.now.capacity + 1) (asked_at (H.asked host.old) (H.pulled host.old))
         (asked_at (H.asked host.new) (H.pulled host.new)) }
     ensures pulled { IsTrue H.told
         → H.pulled host.new ≤ H.pulled host.old + (standing.now.capacity + 1) }
     ensures ram { IsRamBut standing.now.spot ram.old ram.new }
     ensures fetches { IsTrue D.told → (requests : List Request)
-        × AreRequests H.told uris.now (H.file host.old) (H.asked host.old) (H.asked host.new)
-        requests
-        × ((payloads : List (List ℕ × List ℕ)) → ArePayloads envelope.entry payloads
-        → FetchesAs standing.now.component standing.now.capacity params.now payloads uris.now
-        requests
+        × AreRequests H.told sources.now.uris.now (H.file host.old) (H.asked host.old)
+        (H.asked host.new) requests
+        × ((payloads : List (List ℕ × List ℕ)) → ArePayloads sources.now.envelope payloads
+        → FetchesAs standing.now.component standing.now.capacity params.now payloads
+        sources.now.uris.now requests
         (content_of standing.now.spot ram.old (D.flash disk.old).reads)
         (content_of standing.now.spot ram.new (D.flash disk.new).reads) result) }
     ensures replaced { IsTrue D.told → IsReplaced standing.now.spot
-        (λ file. IsTrue H.told ⊎ (uris.now ≡ []) → (payloads : List (List ℕ × List ℕ))
-        → ArePayloads envelope.entry payloads
-        → file ≡ file_by standing.now.component params.now payloads uris.now (H.file host.old))
+        (λ file. IsTrue H.told ⊎ (sources.now.uris.now ≡ []) → (payloads : List (List ℕ × List ℕ))
+        → ArePayloads sources.now.envelope payloads
+        → file ≡ file_by standing.now.component params.now payloads sources.now.uris.now
+        (H.file host.old))
         (D.flash disk.old) (D.flash disk.new) }
     ensures keeps { IsTrue D.told
         → Keeps (OutsideSpot standing.now.spot) (D.flash disk.old) (D.flash disk.new) }
@@ -197,9 +197,9 @@ pub fn fetch<H: Host, D: Disk>(
         None => Err(Cause::Missing),
         Some(uri) => {
             if is_key(uri) {
-                return fetch_payload(disk, ram, envelope, standing, uri);
+                return fetch_payload(disk, ram, sources.envelope, standing, uri);
             }
-            fetch_file(host, disk, ram, uris, standing, uri, room)
+            fetch_file(host, disk, ram, sources.uris, standing, uri, room)
         }
     }
 }

@@ -33,13 +33,11 @@ fn image_in<'a, D: Disk>(disk: &mut D, slot: Slot) -> Result<Image<'a>, FlashFau
 {
     // Each place of the slot fits a u64, since the flash's size does.
     let _size = disk.size();
-    match length(disk, slot) {
-        Ok(count) => Ok(Image::Flash {
-            place: slot.start + LENGTH_SIZE,
-            length: count,
-        }),
-        Err(FlashFault) => Err(FlashFault),
-    }
+    let length = length(disk, slot)?;
+    Ok(Image::Flash {
+        place: slot.start + LENGTH_SIZE,
+        length,
+    })
 }
 
 // A content as an image that can be launched.
@@ -53,10 +51,7 @@ fn image_at<'a, D: Disk>(disk: &mut D, ram: &'a Ram, spot: Spot) -> Result<Image
         (content_of spot ram.now (D.flash disk.old).reads)) }
 {
     match spot {
-        Spot::Flash(slot) => match image_in(disk, slot) {
-            Ok(image) => Ok(image),
-            Err(FlashFault) => Err(FlashFault),
-        },
+        Spot::Flash(slot) => image_in(disk, slot),
         Spot::Ram(component) => Ok(Image::Ram(ram.content(component))),
     }
 }

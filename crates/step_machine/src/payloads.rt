@@ -22,10 +22,8 @@ fn payload_with<'a>(envelope: &Envelope<'a>, key: &[u8]) -> Option<&'a [u8]>
     ensures { (payloads : List (List ℕ × List ℕ)) → HasPayloads envelope.now.whole.now payloads
         → option_map (λ content. content.now) result ≡ found_under payloads key.now }
 {
-    match as_text(key) {
-        Some(text) => payload(envelope, text),
-        None => None,
-    }
+    let text = as_text(key)?;
+    payload(envelope, text)
 }
 
 // The payload with this key, where payloads may be fetched.

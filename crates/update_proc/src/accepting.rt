@@ -1,7 +1,7 @@
 //! An offered update is judged beside the record, and its envelope is trimmed.
 
 ghost use Rattle.rollback_record.specs.Judging.{IsAcceptable};
-ghost use Rattle.std.specs.Prelude.{◌≡◌, IfErr, IfNone, IfOk, IfSome, OnOk, option_map};
+ghost use Rattle.std.specs.Prelude.{◌≡◌, IfErr, IfOk, OnOk, option_map};
 ghost use Rattle.suit_envelope.specs.Trimmed.{trimmed};
 ghost use Rattle.update_proc.specs.Ends.{IsRefusal, IsUnbegun, JudgedSo};
 
@@ -13,21 +13,21 @@ use std::alloc::{AllocError, Global};
 use suit_envelope::{Envelope, trim};
 use suit_params::Digest;
 
-// Why a manifest may not be recorded; none if it may.
-fn refusal(held: Option<&Record>, sequence: u64, digest: &Digest) -> Option<UpdateEnd>
-    ensures refused { IfSome result (λ end. IsRefusal end) }
-    ensures judged { IfSome result
+// A manifest that may not be recorded is refused.
+fn accept(held: Option<&Record>, sequence: u64, digest: &Digest) -> Result<(), UpdateEnd>
+    ensures refused { IfErr result (λ end. IsRefusal end) }
+    ensures judged { IfErr result
         (λ end. JudgedSo sequence digest.now (option_map (λ r. r.now) held.entry) end) }
-    ensures accepted { IfNone result
+    ensures accepted { OnOk result
         (IsAcceptable sequence digest.now (option_map (λ r. r.now) held.entry)) }
 {
     match judge(held, sequence, digest) {
-        Judged::Accepted => None,
-        Judged::Lower { recorded, offered } => Some(UpdateEnd::Lower { recorded, offered }),
+        Judged::Accepted => Ok(()),
+        Judged::Lower { recorded, offered } => Err(UpdateEnd::Lower { recorded, offered }),
         Judged::OtherDigest { recorded, offered } => {
-            Some(UpdateEnd::OtherDigest { recorded, offered })
+            Err(UpdateEnd::OtherDigest { recorded, offered })
         }
-        Judged::Worn => Some(UpdateEnd::Worn),
+        Judged::Worn => Err(UpdateEnd::Worn),
     }
 }
 
@@ -47,10 +47,7 @@ pub(crate) fn installable(
     ensures judged { IfErr result
         (λ end. JudgedSo sequence digest.now (option_map (λ r. r.now) held.entry) end) }
 {
-    match refusal(held, sequence, digest) {
-        Some(end) => return Err(end),
-        None => {}
-    }
+    accept(held, sequence, digest)?;
     match trim(alloc, envelope) {
         Ok(bytes) => Ok(bytes),
         Err(AllocError) => Err(UpdateEnd::NoMemory),

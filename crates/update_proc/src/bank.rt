@@ -13,13 +13,12 @@ use flash_layout::{FlashFault, Record, VERSION_1, bank};
 use suit_edge::{Disk, Edge, write_and_sync};
 
 // Writes the envelope to that bank, and syncs all pending writes.
-fn fill_bank<D: Disk>(disk: &mut D, which: u8, bytes: &[u8]) -> Result<u8, FlashFault>
+fn fill_bank<D: Disk>(disk: &mut D, which: u8, bytes: &[u8]) -> Result<(), FlashFault>
     requires size { VERSION_1.size ≤ D.extent disk.old }
     requires which { which < 2 }
     requires fits { length bytes.now ≤ VERSION_1.bank_size }
     ensures size { D.extent disk.new ≡ D.extent disk.old }
     ensures counts { ResultCounts result (D.faults disk.old) (D.faults disk.new) }
-    ensures which { IfOk result (λ bank. bank ≡ which) }
     ensures holds { IsTrue D.told → OnOk result
         (bank_of VERSION_1 (head_of VERSION_1 (D.flash disk.new).reads) which (length bytes.now)
         ≡ bytes.now) }
@@ -31,22 +30,21 @@ fn fill_bank<D: Disk>(disk: &mut D, which: u8, bytes: &[u8]) -> Result<u8, Flash
 {
     match write_and_sync(disk, bank(u64::from(which)), bytes) {
         Edge::Failed => Err(FlashFault),
-        Edge::Done => Ok(which),
+        Edge::Done => Ok(()),
     }
 }
 
 // Syncs all pending writes, and leaves the bank as it is.
-fn keep_bank<D: Disk>(disk: &mut D, which: u8) -> Result<u8, FlashFault>
+fn keep_bank<D: Disk>(disk: &mut D) -> Result<(), FlashFault>
     ensures size { D.extent disk.new ≡ D.extent disk.old }
     ensures counts { ResultCounts result (D.faults disk.old) (D.faults disk.new) }
-    ensures which { IfOk result (λ bank. bank ≡ which) }
     ensures settled { IsTrue D.told → OnOk result (IsSettled (D.flash disk.new)) }
     ensures same { IsTrue D.told → IsSame (D.flash disk.old) (D.flash disk.new) }
     ensures grows { IsTrue D.told → Grows (D.flash disk.old) (D.flash disk.new) }
 {
     match disk.sync() {
         Edge::Failed => Err(FlashFault),
-        Edge::Done => Ok(which),
+        Edge::Done => Ok(()),
     }
 }
 
@@ -82,14 +80,11 @@ pub fn write_bank<D: Disk>(
     ensures grows { IsTrue D.told → Grows (D.flash disk.old) (D.flash disk.new) }
 {
     match held {
-        None => match fill_bank(disk, 0, bytes) {
-            Ok(bank) => Ok(bank),
-            Err(FlashFault) => Err(FlashFault),
-        },
-        Some(held) => match write_beside(disk, held, bytes, room) {
-            Ok(bank) => Ok(bank),
-            Err(FlashFault) => Err(FlashFault),
-        },
+        None => {
+            fill_bank(disk, 0, bytes)?;
+            Ok(0)
+        }
+        Some(held) => write_beside(disk, held, bytes, room),
     }
 }
 
@@ -120,19 +115,12 @@ fn write_beside<D: Disk>(
         → Keeps (BesideBank (Some held.now) bytes.now) (D.flash disk.old) (D.flash disk.new) }
     ensures grows { IsTrue D.told → Grows (D.flash disk.old) (D.flash disk.new) }
 {
-    let recorded = match is_recorded(disk, held, bytes, room) {
-        Ok(recorded) => recorded,
-        Err(FlashFault) => return Err(FlashFault),
-    };
+    let recorded = is_recorded(disk, held, bytes, room)?;
     if recorded {
-        match keep_bank(disk, held.bank) {
-            Ok(bank) => Ok(bank),
-            Err(FlashFault) => Err(FlashFault),
-        }
-    } else {
-        match fill_bank(disk, 1 - held.bank, bytes) {
-            Ok(bank) => Ok(bank),
-            Err(FlashFault) => Err(FlashFault),
-        }
+        keep_bank(disk)?;
+        return Ok(held.bank);
     }
+    let other = 1 - held.bank;
+    fill_bank(disk, other, bytes)?;
+    Ok(other)
 }

@@ -50,10 +50,7 @@ fn has_bytes<D: Disk>(
     while from < bytes.len() {
         let count = room.len().min(bytes.len() - from);
         let piece = &bytes[from..from + count];
-        let same = match has_piece(disk, piece, place + from as u64, room) {
-            Ok(same) => same,
-            Err(FlashFault) => return Err(FlashFault),
-        };
+        let same = has_piece(disk, piece, place + from as u64, room)?;
         if !same {
             return Ok(false);
         }
@@ -80,8 +77,5 @@ pub(crate) fn is_recorded<D: Disk>(
     if held.length != bytes.len() as u64 {
         return Ok(false);
     }
-    match has_bytes(disk, bank(u64::from(held.bank)), bytes, room) {
-        Ok(same) => Ok(same),
-        Err(FlashFault) => Err(FlashFault),
-    }
+    has_bytes(disk, bank(u64::from(held.bank)), bytes, room)
 }

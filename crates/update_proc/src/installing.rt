@@ -83,10 +83,7 @@ pub fn install<D: Disk>(
     ensures grows { IsTrue D.told → Grows (D.flash disk.old) (D.flash disk.new) }
 {
     sound_laws();
-    let bank = match write_bank(disk, held, bytes, room) {
-        Ok(bank) => bank,
-        Err(FlashFault) => return Err(FlashFault),
-    };
+    let bank = write_bank(disk, held, bytes, room)?;
     let new = Record {
         generation: generation_after(held),
         sequence: offer.sequence,
@@ -95,8 +92,6 @@ pub fn install<D: Disk>(
         digest: offer.digest,
         active: offer.active,
     };
-    match commit(disk, held, &new) {
-        Ok(()) => Ok(new),
-        Err(FlashFault) => Err(FlashFault),
-    }
+    commit(disk, held, &new)?;
+    Ok(new)
 }

@@ -10,13 +10,13 @@ use Rattle.rollback_record.proofs.writing.commit.Given as given
 use Rattle.rollback_record.proofs.writing.commit.Goals as goal
 use Rattle.rollback_record.proofs.writing.commit.Goals.{After-behind_gate}
 
-pub returns-in-Err-clause-any_moment : goal.returns-in-Err-clause-any_moment
-returns-in-Err-clause-any_moment g c t =
+pub returns-in_err-which-clause-any_moment : goal.returns-in_err-which-clause-any_moment
+returns-in_err-which-clause-any_moment g c t =
     let law = g.met.D.Disk.obeys c.args.disk.now t in
     only_read _ _ _ _ (omega (arith, law.fits, c.requires.size)) (c.requires.held t) (c.requires.firm t) (c.find_spare.ensures.same t)
 
-pub returns-in-Err-clause-keeps : goal.returns-in-Err-clause-keeps
-returns-in-Err-clause-keeps g c t = read_keeps _ _ _ (c.requires.held t) (c.find_spare.ensures.same t)
+pub returns-in_err-which-clause-keeps : goal.returns-in_err-which-clause-keeps
+returns-in_err-which-clause-keeps g c t = read_keeps _ _ _ (c.requires.held t) (c.find_spare.ensures.same t)
 
 -- ---- the page is spelled, and then written
 
@@ -24,7 +24,7 @@ abbrev held_in : Option (Bor Record) → Option Record
 held_in held = option_map (λ (r : Bor Record). r.now) held
 
 begins : (g : given.Over) (c : After-behind_gate g) → IsTrue g.D.Disk.told
-    → Begins (g.D.Disk.flash c.args.disk.now) (g.D.Disk.flash c.find_spare.new.disk) (g.D.Disk.extent c.args.disk.now) c.in-Ok.which
+    → Begins (g.D.Disk.flash c.args.disk.now) (g.D.Disk.flash c.find_spare.new.disk) (g.D.Disk.extent c.args.disk.now) c.in_ok-which.which
     (held_in c.args.held) c.args.new.now c.record_page-gate.result (c.record_page-gate.result + 1) c.behind_gate.result.now
 begins g c t = record {
   law_a = g.met.D.Disk.obeys c.args.disk.now t;
@@ -33,8 +33,8 @@ begins g c t = record {
   same = c.find_spare.ensures.same t;
   is = c.requires.held t;
   firm = c.requires.firm t;
-  spare = c.in-Ok.ensures.spare t;
-  two = c.in-Ok.ensures.which;
+  spare = c.in_ok-which.ensures.spare t;
+  two = c.in_ok-which.ensures.which;
   next = c.requires.next;
   typed = c.typed.ensures;
   fields = c.requires.fields t;
@@ -61,7 +61,7 @@ returns-clause-keeps g c t =
 pub returns-clause-counts : goal.returns-clause-counts
 returns-clause-counts g c =
     counts_so c.result_of.result c.write_gated-answer.result _ _ c.result_of.ensures.ok c.result_of.ensures.err
-    (subst (λ (n : ℕ). EdgeCounts c.write_gated-answer.result n (g.D.Disk.faults c.write_gated-answer.new.disk)) c.in-Ok.ensures.counts c.write_gated-answer.ensures.counts)
+    (subst (λ (n : ℕ). EdgeCounts c.write_gated-answer.result n (g.D.Disk.faults c.write_gated-answer.new.disk)) c.in_ok-which.ensures.counts c.write_gated-answer.ensures.counts)
 
 pub returns-clause-settled : goal.returns-clause-settled
 returns-clause-settled g c t = on_done c.result_of.result _ _ c.result_of.ensures.ok (c.write_gated-answer.ensures.settled t)
@@ -72,13 +72,13 @@ returns-clause-ok g c t =
     (both_done c.write_gated-answer.result _ _ _ (c.write_gated-answer.ensures.page t) (c.write_gated-answer.ensures.opened t)
     (recorded _ _ _ _ _ _ _ _ _ (begins g (goal.at.returns-clause-ok g c).After-behind_gate t) (g.D.Disk.flash c.write_gated-answer.new.disk)))
 
-pub returns-in-Err-clause-sound : goal.returns-in-Err-clause-sound
-returns-in-Err-clause-sound g c t =
-    sound_since _ _ _ _ _ (g.met.D.Disk.obeys c.args.disk.now t) c.requires.size (c.requires.held t) (c.requires.firm t) (returns-in-Err-clause-any_moment g c t) (returns-in-Err-clause-keeps g c t) (c.requires.fields t)
+pub returns-in_err-which-clause-sound : goal.returns-in_err-which-clause-sound
+returns-in_err-which-clause-sound g c t =
+    sound_since _ _ _ _ _ (g.met.D.Disk.obeys c.args.disk.now t) c.requires.size (c.requires.held t) (c.requires.firm t) (returns-in_err-which-clause-any_moment g c t) (returns-in_err-which-clause-keeps g c t) (c.requires.fields t)
 
-pub returns-in-Err-clause-follows : goal.returns-in-Err-clause-follows
-returns-in-Err-clause-follows g c t =
-    follows_since _ _ _ _ _ (g.met.D.Disk.obeys c.args.disk.now t) c.requires.size (c.requires.held t) (c.requires.firm t) (returns-in-Err-clause-any_moment g c t) (returns-in-Err-clause-keeps g c t)
+pub returns-in_err-which-clause-follows : goal.returns-in_err-which-clause-follows
+returns-in_err-which-clause-follows g c t =
+    follows_since _ _ _ _ _ (g.met.D.Disk.obeys c.args.disk.now t) c.requires.size (c.requires.held t) (c.requires.firm t) (returns-in_err-which-clause-any_moment g c t) (returns-in_err-which-clause-keeps g c t)
 
 pub returns-clause-sound : goal.returns-clause-sound
 returns-clause-sound g c t =

@@ -36,10 +36,10 @@ returns-clause-one g c t =
     let k = c.in_ok-read_piece-2.field-0 in
     let count : k ≡ length c.args.room.now = omega (arith, c.in_ok-read_piece-2.ensures.count, c.requires.alike, c.requires.within) in
     let long : length spare ≤ k = omega (arith, count, c.requires.alike, c.read_piece-2.auto.room) in
-    let is : spare ≡ take (length c.args.room.now) (drop c.args.from (area_at c.args.other c.args.ram.now (g.D.Disk.flash c.args.disk.now).reads)) =
+    let is : spare ≡ take (length c.args.room.now) (drop c.args.left.from (area_at c.args.other c.args.ram.now (g.D.Disk.flash c.args.disk.now).reads)) =
     sym (take_all k spare long) ∙ c.in_ok-read_piece-2.ensures.bytes t
-    ∙ ap (λ (l : List ℕ). take k (drop c.args.from (area_at c.args.other c.args.ram.now l))) (c.read_piece.ensures.read.same t).reads
-    ∙ ap (λ (i : ℕ). take i (drop c.args.from (area_at c.args.other c.args.ram.now (g.D.Disk.flash c.args.disk.now).reads))) count in
+    ∙ ap (λ (l : List ℕ). take k (drop c.args.left.from (area_at c.args.other c.args.ram.now l))) (c.read_piece.ensures.read.same t).reads
+    ∙ ap (λ (i : ℕ). take i (drop c.args.left.from (area_at c.args.other c.args.ram.now (g.D.Disk.flash c.args.disk.now).reads))) count in
     let size : length (g.D.Disk.flash c.write_piece.new.disk).reads ≡ g.D.Disk.extent c.args.disk.now =
     (g.met.D.Disk.obeys c.write_piece.new.disk t).fits ∙ c.write_piece.ensures.goes.size ∙ c.read_piece-2.ensures.read.size ∙ c.read_piece.ensures.read.size in
     let inside : IsSpot (length (g.D.Disk.flash c.write_piece.new.disk).reads) c.write_piece.new.ram c.args.one =
@@ -47,8 +47,8 @@ returns-clause-one g c t =
     on_ok c.write_piece-2.result (c.write_piece-2.ensures.area t) (λ _.
     kept_area c.args.other c.args.one c.write_piece.new.ram c.write_piece-2.new.ram (g.D.Disk.flash c.write_piece.new.disk) (g.D.Disk.flash c.write_piece-2.new.disk) (clear_back c.args.one c.args.other c.requires.pair.clear) inside c.write_piece-2.ensures.ram (keeps_room c.args.other _ _ (c.write_piece-2.ensures.keeps t))
     ∙ c.in_ok-write_piece.ensures.area t
-    ∙ ap (λ (l : List ℕ). written (area_at c.args.one c.args.ram.now l) c.args.from spare) ((c.read_piece-2.ensures.read.same t).reads ∙ (c.read_piece.ensures.read.same t).reads)
-    ∙ ap (λ (l : List ℕ). written (area_at c.args.one c.args.ram.now (g.D.Disk.flash c.args.disk.now).reads) c.args.from l) is)
+    ∙ ap (λ (l : List ℕ). written (area_at c.args.one c.args.ram.now l) c.args.left.from spare) ((c.read_piece-2.ensures.read.same t).reads ∙ (c.read_piece.ensures.read.same t).reads)
+    ∙ ap (λ (l : List ℕ). written (area_at c.args.one c.args.ram.now (g.D.Disk.flash c.args.disk.now).reads) c.args.left.from l) is)
 
 pub returns-clause-other : goal.returns-clause-other
 returns-clause-other g c t =
@@ -56,9 +56,9 @@ returns-clause-other g c t =
     let k = c.in_ok-read_piece.field-0 in
     let count : k ≡ length c.args.room.now = omega (arith, c.in_ok-read_piece.ensures.count, c.requires.within) in
     let long : length room ≤ k = omega (arith, count, c.read_piece.auto.room) in
-    let is : room ≡ take (length c.args.room.now) (drop c.args.from (area_at c.args.one c.args.ram.now (g.D.Disk.flash c.args.disk.now).reads)) =
+    let is : room ≡ take (length c.args.room.now) (drop c.args.left.from (area_at c.args.one c.args.ram.now (g.D.Disk.flash c.args.disk.now).reads)) =
     sym (take_all k room long) ∙ c.in_ok-read_piece.ensures.bytes t
-    ∙ ap (λ (i : ℕ). take i (drop c.args.from (area_at c.args.one c.args.ram.now (g.D.Disk.flash c.args.disk.now).reads))) count in
+    ∙ ap (λ (i : ℕ). take i (drop c.args.left.from (area_at c.args.one c.args.ram.now (g.D.Disk.flash c.args.disk.now).reads))) count in
     let before = g.D.Disk.flash c.read_piece-2.new.disk in
     let size : length before.reads ≡ g.D.Disk.extent c.args.disk.now =
     (g.met.D.Disk.obeys c.read_piece-2.new.disk t).fits ∙ c.read_piece-2.ensures.read.size ∙ c.read_piece.ensures.read.size in
@@ -68,5 +68,5 @@ returns-clause-other g c t =
     ∙ ap (area_at c.args.other c.args.ram.now) ((c.read_piece-2.ensures.read.same t).reads ∙ (c.read_piece.ensures.read.same t).reads) in
     on_ok c.write_piece-2.result (c.write_piece-2.ensures.area t) (λ put.
     put
-    ∙ ap (λ (l : List ℕ). written l c.args.from room) same
-    ∙ ap (λ (l : List ℕ). written (area_at c.args.other c.args.ram.now (g.D.Disk.flash c.args.disk.now).reads) c.args.from l) is)
+    ∙ ap (λ (l : List ℕ). written l c.args.left.from room) same
+    ∙ ap (λ (l : List ℕ). written (area_at c.args.other c.args.ram.now (g.D.Disk.flash c.args.disk.now).reads) c.args.left.from l) is)

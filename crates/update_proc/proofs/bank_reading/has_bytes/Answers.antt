@@ -8,7 +8,7 @@ returns-then-not-same-clause-exact g c t =
     let within : c.loop-from.from + c.min-count.result ≤ length c.args.bytes.now = omega (arith, c.min-count.ensures, c.loop-from-test.true) in (
       λ no. absurd cc,
       λ equal. absurd (other_piece (g.D.Disk.flash c.args.disk.now).reads c.args.bytes.now c.args.place c.loop-from.from c.min-count.result within (g.D.Disk.flash c.loop-from.disk).reads (c.loop-from.invariant.same t).reads
-          (λ e. let yes = (c.in-Ok.ensures.exact t).1 e in absurd cc) equal),
+          (λ e. let yes = (c.in_ok-same.ensures.exact t).1 e in absurd cc) equal),
     )
 
 pub loop-from-preserved : goal.loop-from-preserved
@@ -21,7 +21,7 @@ loop-from-preserved g c = record {
       let fits : c.args.place + length c.args.bytes.now ≤ length (g.D.Disk.flash c.args.disk.now).reads = omega (arith, (g.met.D.Disk.obeys c.args.disk.now t).fits, c.requires.within) in
       let within : c.loop-from.from + c.min-count.result ≤ length c.args.bytes.now = omega (arith, c.min-count.ensures, c.loop-from-test.true) in
       more_passed (g.D.Disk.flash c.args.disk.now).reads c.args.bytes.now c.args.place c.loop-from.from c.min-count.result fits within (g.D.Disk.flash c.loop-from.disk).reads (c.loop-from.invariant.same t).reads (c.loop-from.invariant.passed t)
-      ((c.in-Ok.ensures.exact t).0 c.if-not-same.false);
+      ((c.in_ok-same.ensures.exact t).0 c.if-not-same.false);
   same = λ t. same_flash_then _ _ _ _ (g.met.D.Disk.obeys c.loop-from.disk t) (c.loop-from.invariant.same t) (c.has_piece.ensures.read.same t);
   grows = λ t. grows_then (g.D.Disk.flash c.args.disk.now) (g.D.Disk.flash c.loop-from.disk) (g.D.Disk.flash c.has_piece.new.disk) (c.loop-from.invariant.same t).images.later (c.loop-from.invariant.grows t) (c.has_piece.ensures.read.grows t);
 }

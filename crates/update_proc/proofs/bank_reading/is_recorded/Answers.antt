@@ -1,4 +1,5 @@
 use Rattle.std.proofs.Common.{◌≡◌, ◌≤◌, length, arith}
+use Rattle.std.proofs.lemmas.Result.{IfOk-weaker}
 use Rattle.flash_layout.specs.declared.frame.TheConstants.{VERSION_1}
 use Rattle.flash_layout.specs.Frames.{bank_place}
 use Rattle.update_proc.proofs.BankBytes.{recorded_iff, recorded_length}
@@ -9,9 +10,10 @@ returns-then-held-bytes-clause-exact g c t =
     let large : 49152 ≤ length (g.D.Disk.flash c.args.disk.now).reads = omega (arith, (g.met.D.Disk.obeys c.args.disk.now t).fits, c.requires.size) in
     (λ no. absurd cc, λ is. absurd (let long = recorded_length (g.D.Disk.flash c.args.disk.now).reads c.args.held.now c.args.bytes.now large c.requires.held is in omega (arith, long, c.if-held-bytes.true)))
 
-pub returns-in-Ok-clause-exact : goal.returns-in-Ok-clause-exact
-returns-in-Ok-clause-exact g c t =
+pub returns-clause-exact : goal.returns-clause-exact
+returns-clause-exact g c t =
     let large : 49152 ≤ length (g.D.Disk.flash c.args.disk.now).reads = omega (arith, (g.met.D.Disk.obeys c.args.disk.now t).fits, c.requires.size) in
     let place : c.bank.result ≡ bank_place VERSION_1 c.args.held.now.bank = omega (arith, c.bank.ensures, c.from.ensures) in
     let long : c.args.held.now.length ≡ length c.args.bytes.now = omega (arith, c.if-held-bytes.false) in
-    recorded_iff (g.D.Disk.flash c.args.disk.now).reads c.args.held.now c.args.bytes.now large c.requires.held c.bank.result c.in-Ok.same place long (c.in-Ok.ensures.exact t)
+    IfOk-weaker c.has_bytes.result _ _ (λ same is.
+    recorded_iff (g.D.Disk.flash c.args.disk.now).reads c.args.held.now c.args.bytes.now large c.requires.held c.bank.result same place long is) (c.has_bytes.ensures.exact t)
