@@ -1,0 +1,106 @@
+-- Bytes are admitted or refused in one way, whatever judges them.
+use Rattle.std.specs.Prelude.{◌≡◌, ℕ, List}
+use Rattle.suit_envelope.specs.Authentic.{TellSame}
+use Rattle.suit_envelope.specs.Envelopes.{EnvelopeSays}
+use Rattle.suit_commands.specs.Tree.{PlanTree}
+use Rattle.suit_manifest.specs.declared.manifest.Manifest.{Manifest}
+use Rattle.flash_layout.specs.declared.layout.Entry.{Entry}
+use Rattle.flash_layout.specs.declared.place.Places.{Places}
+use Rattle.admission.specs.declared.refusal.NotAdmitted.{NotAdmitted}
+use Rattle.admission.specs.declared.refusal.NotAdmitted.TheVariants as refusals
+use Rattle.admission.specs.declared.refusal.NotOpened.{NotOpened}
+use Rattle.admission.specs.declared.refusal.NotSafe.{NotSafe}
+use Rattle.admission.specs.declared.refusal.NotSafe.TheVariants as not_safe
+use Rattle.admission.specs.declared.refusal.NotStartable.{NotStartable}
+use Rattle.admission.specs.declared.refusal.NotStartable.TheVariants as not_startable
+use Rattle.admission.specs.Opening.{IsNotOpened, IsOpened}
+use Rattle.admission.specs.Judging.{AreSafe, IsNotSafe}
+use Rattle.admission.specs.Starting.{IsNotStartable, IsStartable}
+use Rattle.admission.specs.Admission.{Admission, IsAdmitted, IsNotAdmitted}
+
+-- two refusals tell the same; a procedure that is not safe may be told by another path
+abbrev pub RefuseAlike : NotAdmitted → NotAdmitted → Type 0
+RefuseAlike (refusals.NoEnvelope r) (refusals.NoEnvelope other) = r ≡ other
+RefuseAlike (refusals.TooLong size) (refusals.TooLong other) = size ≡ other
+RefuseAlike (refusals.NotAuthentic answer) (refusals.NotAuthentic other) = TellSame answer other
+RefuseAlike (refusals.NoManifest r) (refusals.NoManifest other) = r ≡ other
+RefuseAlike (refusals.UnknownComponent component) (refusals.UnknownComponent other) =
+    component ≡ other
+RefuseAlike (refusals.Severed name) (refusals.Severed other) = name ≡ other
+RefuseAlike (refusals.Differs name stated found)
+    (refusals.Differs other other_stated other_found) =
+    (name ≡ other) × (stated ≡ other_stated) × (found ≡ other_found)
+RefuseAlike (refusals.NoSequence r) (refusals.NoSequence other) = r ≡ other
+RefuseAlike (refusals.TooWide procedure width) (refusals.TooWide other other_width) =
+    (procedure ≡ other) × (width ≡ other_width)
+RefuseAlike (refusals.Unsafe procedure path) (refusals.Unsafe other other_path) =
+    procedure ≡ other
+RefuseAlike refusals.NoMemory refusals.NoMemory = Unit {0}
+RefuseAlike _ _ = ⊥
+
+-- two refusals of the same procedures
+abbrev pub JudgeAlike : NotSafe → NotSafe → Type 0
+JudgeAlike (not_safe.TooWide procedure width) (not_safe.TooWide other other_width) =
+    (procedure ≡ other) × (width ≡ other_width)
+JudgeAlike (not_safe.Unsafe procedure path) (not_safe.Unsafe other other_path) = procedure ≡ other
+JudgeAlike not_safe.NoMemory not_safe.NoMemory = Unit {0}
+JudgeAlike _ _ = ⊥
+
+-- two refusals to start
+abbrev pub StartAlike : NotStartable → NotStartable → Type 0
+StartAlike (not_startable.NoEnvelope r) (not_startable.NoEnvelope other) = r ≡ other
+StartAlike (not_startable.NoManifest r) (not_startable.NoManifest other) = r ≡ other
+StartAlike (not_startable.NotAuthentic answer) (not_startable.NotAuthentic other) =
+    TellSame answer other
+StartAlike (not_startable.UnknownComponent component) (not_startable.UnknownComponent other) =
+    component ≡ other
+StartAlike not_startable.NoMemory not_startable.NoMemory = Unit {0}
+StartAlike _ _ = ⊥
+
+-- two admissions are of the same envelope, manifest and members
+pub record AdmitAlike (a b : Admission) : Type 0 where
+  pub said : a.said ≡ b.said
+  pub manifest : a.manifest ≡ b.manifest
+  pub members : a.members ≡ b.members
+
+-- ---- the laws: what is met has no refusal, and is one; what is refused has one refusal
+
+pub record OpeningLaws : Type 0 where
+  pub never_both : (limit : ℕ) (bytes : List ℕ) (said : EnvelopeSays) (manifest : Manifest)
+      (r : NotOpened)
+      → IsOpened limit bytes said manifest → IsNotOpened limit bytes r → ⊥
+  pub one_refusal : (limit : ℕ) (bytes : List ℕ) (r other : NotOpened)
+      → IsNotOpened limit bytes r → IsNotOpened limit bytes other → r ≡ other
+
+pub record JudgingLaws : Type 0 where
+  pub never_both : (update invocation : PlanTree) (r : NotSafe)
+      → AreSafe update invocation → IsNotSafe update invocation r → ⊥
+  pub one_refusal : (update invocation : PlanTree) (r other : NotSafe)
+      → IsNotSafe update invocation r → IsNotSafe update invocation other → JudgeAlike r other
+
+pub record AdmittingLaws : Type 0 where
+  pub never_both : (layout : List Entry) (key bytes : List ℕ) (a : Admission) (r : NotAdmitted)
+      → IsAdmitted layout key bytes a → IsNotAdmitted layout key bytes r → ⊥
+  pub one_admission : (layout : List Entry) (key bytes : List ℕ) (a b : Admission)
+      → IsAdmitted layout key bytes a → IsAdmitted layout key bytes b → AdmitAlike a b
+  pub one_refusal : (layout : List Entry) (key bytes : List ℕ) (r other : NotAdmitted)
+      → IsNotAdmitted layout key bytes r → IsNotAdmitted layout key bytes other
+      → RefuseAlike r other
+
+pub record StartingLaws : Type 0 where
+  pub never_both : (layout : List Entry) (key bytes : List ℕ) (said : EnvelopeSays)
+      (manifest : Manifest) (places : Places) (r : NotStartable)
+      → IsStartable layout key bytes said manifest places → IsNotStartable layout key bytes r → ⊥
+  pub one_refusal : (layout : List Entry) (key bytes : List ℕ) (r other : NotStartable)
+      → IsNotStartable layout key bytes r → IsNotStartable layout key bytes other
+      → StartAlike r other
+  -- what is admitted may be started
+  pub admitted : (layout : List Entry) (key bytes : List ℕ) (a : Admission)
+      → IsAdmitted layout key bytes a
+      → IsStartable layout key bytes a.said a.manifest a.places
+
+pub record AdmissionLaws : Type 0 where
+  pub opening : OpeningLaws
+  pub judging : JudgingLaws
+  pub admitting : AdmittingLaws
+  pub starting : StartingLaws

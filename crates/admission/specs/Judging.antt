@@ -1,0 +1,39 @@
+-- Procedures that may be run: narrow enough to be judged, and safe. These definitions are this project's own.
+use Rattle.std.specs.Prelude.{◌≡◌, ◌<◌, ◌≤◌, ℕ}
+use Rattle.suit_commands.specs.Capped.{capped}
+use Rattle.suit_commands.specs.Numbers.{width_number}
+use Rattle.suit_commands.specs.Tree.{PlanTree}
+use Rattle.path_model.specs.BadPaths.{IsBadPath}
+use Rattle.path_model.specs.Safe.{Safe}
+use Rattle.path_checker.specs.PlanVerdicts.{widest}
+use Rattle.admission.specs.declared.refusal.NotSafe.{NotSafe}
+use Rattle.admission.specs.declared.refusal.NotSafe.TheVariants as refusals
+use Rattle.admission.specs.declared.refusal.Procedure.TheVariants as procedures
+
+abbrev pub IsNarrow : PlanTree → Type 0
+IsNarrow plan = width_number plan ≤ widest
+
+pub record IsWide (plan : PlanTree) (width : ℕ) : Type 0 where
+  pub wide : widest < width_number plan
+  pub width_is : width ≡ capped (width_number plan)
+
+pub record AreNarrow (update invocation : PlanTree) : Type 0 where
+  pub update_narrow : IsNarrow update
+  pub invocation_narrow : IsNarrow invocation
+
+-- on each path of both procedures each invoke is covered
+pub record AreSafe (update invocation : PlanTree) : Type 0 where
+  pub narrow : AreNarrow update invocation
+  pub update_safe : Safe update
+  pub invocation_safe : Safe invocation
+
+-- why they may not be run: the width of the update, that of the invocation, a path of the update, one of the invocation
+abbrev pub IsNotSafe : PlanTree → PlanTree → NotSafe → Type 0
+IsNotSafe update invocation (refusals.TooWide procedures.Update width) = IsWide update width
+IsNotSafe update invocation (refusals.TooWide procedures.Invocation width) =
+    IsNarrow update × IsWide invocation width
+IsNotSafe update invocation (refusals.Unsafe procedures.Update path) =
+    AreNarrow update invocation × IsBadPath update path
+IsNotSafe update invocation (refusals.Unsafe procedures.Invocation path) =
+    AreNarrow update invocation × Safe update × IsBadPath invocation path
+IsNotSafe update invocation refusals.NoMemory = ⊥

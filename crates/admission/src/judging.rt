@@ -1,0 +1,107 @@
+//! Whether the two procedures of a manifest may be run.
+
+ghost use Rattle.std.specs.Prelude.{◌≡◌, ◌≢◌, ◌⊎◌, ◌<◌, ◌^◌, IfErr, IsErrAnd, IsOk, length};
+ghost use Rattle.suit_commands.specs.Allowed.{IsPlan};
+ghost use Rattle.suit_commands.specs.Plans.{plan_tree};
+ghost use Rattle.suit_commands.specs.Tree.{PlanTree};
+ghost use Rattle.suit_manifest.specs.Procedures.{invocation_tree, update_tree};
+ghost use Rattle.path_model.specs.BadPaths.{IsBadPath};
+ghost use Rattle.path_model.specs.Safe.{Safe};
+ghost use Rattle.admission.specs.AdmissionLaws.{JudgeAlike};
+ghost use Rattle.admission.specs.Judging.{AreSafe, IsNarrow, IsNotSafe};
+ghost use Rattle.admission.specs.declared.refusal.NotSafe.{NotSafe};
+ghost use Rattle.admission.specs.declared.refusal.NotSafe.TheVariants.{NoMemory};
+
+use crate::{NotSafe, Procedure, admission_laws};
+use path_checker::{CheckVerdict, check};
+use path_model::BadPath;
+use std::alloc::Global;
+use suit_commands::{Plan, width};
+use suit_manifest::{Manifest, Members, invocation_plan, update_plan};
+
+/// The largest width of a procedure that is judged.
+pub const WIDEST: u64 = 4_194_304;
+
+// Judges the invocation behind a narrow and safe update.
+fn judge_invocation(alloc: Global, invocation: &Plan<'_>) -> Result<(), NotSafe>
+    requires { IsPlan (plan_tree invocation.now) }
+    ensures safe { IsOk result
+        → (update : PlanTree) → IsNarrow update → Safe update
+        → AreSafe update (plan_tree invocation.now) }
+    ensures refused { IfErr result
+        (λ e. e ≢ NoMemory → (update : PlanTree) → IsNarrow update → Safe update
+        → IsNotSafe update (plan_tree invocation.now) e) }
+{
+    let procedure = Procedure::Invocation;
+    match check(alloc, invocation) {
+        CheckVerdict::Safe => Ok(()),
+        CheckVerdict::TooWide(width) => Err(NotSafe::TooWide { procedure, width }),
+        CheckVerdict::Unsafe(path) => Err(NotSafe::Unsafe { procedure, path }),
+        CheckVerdict::NoMemory => Err(NotSafe::NoMemory),
+    }
+}
+
+// The refusal of a narrow update with this path, which comes only behind the invocation's width.
+fn refuse_update(invocation: &Plan<'_>, path: BadPath) -> NotSafe
+    ensures { (update : PlanTree) → IsNarrow update → IsBadPath update path
+        → IsNotSafe update (plan_tree invocation.now) result }
+{
+    let width = width(invocation);
+    if width > WIDEST {
+        NotSafe::TooWide {
+            procedure: Procedure::Invocation,
+            width,
+        }
+    } else {
+        NotSafe::Unsafe {
+            procedure: Procedure::Update,
+            path,
+        }
+    }
+}
+
+// See `judge`.
+fn judge_both(alloc: Global, manifest: &Manifest, members: &Members) -> Result<(), NotSafe>
+    requires components { length manifest.now.components < 2 ^ 32 }
+    requires update { IsPlan (update_tree manifest.now members.now) }
+    requires invocation { IsPlan (invocation_tree manifest.now) }
+    ensures safe { IsOk result
+        → AreSafe (update_tree manifest.now members.now) (invocation_tree manifest.now) }
+    ensures refused { IfErr result
+        (λ e. e ≢ NoMemory
+        → IsNotSafe (update_tree manifest.now members.now) (invocation_tree manifest.now) e) }
+{
+    let update = update_plan(manifest, members);
+    let invocation = invocation_plan(manifest);
+    match check(alloc, &update) {
+        CheckVerdict::Safe => judge_invocation(alloc, &invocation),
+        CheckVerdict::TooWide(width) => Err(NotSafe::TooWide {
+            procedure: Procedure::Update,
+            width,
+        }),
+        CheckVerdict::Unsafe(path) => Err(refuse_update(&invocation, path)),
+        CheckVerdict::NoMemory => Err(NotSafe::NoMemory),
+    }
+}
+
+/// Judges both procedures of a manifest: their widths, the update's first, and then their paths, the update's first.
+///
+/// Each width is counted once. Where memory runs out, the update is not too wide.
+pub fn judge(alloc: Global, manifest: &Manifest, members: &Members) -> Result<(), NotSafe>
+    requires components { length manifest.now.components < 2 ^ 32 }
+    requires update { IsPlan (update_tree manifest.now members.now) }
+    requires invocation { IsPlan (invocation_tree manifest.now) }
+    ensures safe { IsOk result
+        → AreSafe (update_tree manifest.now members.now) (invocation_tree manifest.now) }
+    ensures refused { IfErr result
+        (λ e. e ≢ NoMemory
+        → IsNotSafe (update_tree manifest.now members.now) (invocation_tree manifest.now) e) }
+    ensures every_safe { AreSafe (update_tree manifest.now members.now) (invocation_tree manifest.now)
+        → IfErr result (λ e. e ≡ NoMemory) }
+    ensures every_refusal { (r : NotSafe)
+        → IsNotSafe (update_tree manifest.now members.now) (invocation_tree manifest.now) r
+        → IsErrAnd result (λ e. JudgeAlike e r ⊎ (e ≡ NoMemory)) }
+{
+    admission_laws();
+    judge_both(alloc, manifest, members)
+}
