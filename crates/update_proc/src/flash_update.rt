@@ -138,11 +138,13 @@ pub fn update<H: Host, D: Disk, L: Launcher>(
     let plan = update_plan(manifest, members);
     let whole = bytes.as_slice();
     let accepted = Accepted {
+        held,
         bytes: whole,
         sequence: manifest.sequence,
         digest,
+        plan: &plan,
+        envelope,
+        uris,
     };
-    start(
-        alloc, host, disk, launcher, &accepted, held, layout, places, envelope, &plan, uris,
-    )
+    start(alloc, host, disk, launcher, layout, places, &accepted)
 }

@@ -32,12 +32,17 @@ use suit_edge::{Disk, Host, Launcher};
 use suit_envelope::Envelope;
 use suit_params::Digest;
 
-/// An accepted update: the bytes to be installed with the number and the digest of their manifest.
+/// An accepted update: the bytes to be installed beside the record with the number and the digest of their manifest, its
+/// procedure, and where its payloads come from.
 #[derive(Clone, Copy)]
 pub(crate) struct Accepted<'a> {
+    pub held: Option<&'a Record>,
     pub bytes: &'a [u8],
     pub sequence: u64,
     pub digest: Digest,
+    pub plan: &'a Plan<'a>,
+    pub envelope: &'a Envelope<'a>,
+    pub uris: &'a Uris,
 }
 
 /// Runs the procedure of an accepted update on the chosen slots, with working memory empty, and installs the envelope where
@@ -47,27 +52,23 @@ pub(crate) fn start<H: Host, D: Disk, L: Launcher>(
     host: &mut H,
     disk: &mut D,
     launcher: &mut L,
-    accepted: &Accepted<'_>,
-    held: Option<&Record>,
     layout: &Layout,
     places: &Places,
-    envelope: &Envelope<'_>,
-    plan: &Plan<'_>,
-    uris: &Uris,
+    accepted: &Accepted<'_>,
 ) -> UpdateEnd
     requires size { VERSION_1.size ≤ D.extent disk.old }
     requires layout { IsLayout VERSION_1 (D.extent disk.old) layout.now }
     requires config { IsTrue D.told
         → HasLayout (D.extent disk.old) (D.flash disk.old).reads layout.now }
     requires distinct { AreDistinct layout.now places.now }
-    requires plan { IsPlan (plan_tree plan.now) }
-    requires count { plan.now.count ≡ places.now.count }
-    requires loadable { IfSome (option_map (λ r. r.now) held) (IsLoadable VERSION_1) }
+    requires plan { IsPlan (plan_tree accepted.now.plan.now) }
+    requires count { accepted.now.plan.now.count ≡ places.now.count }
+    requires loadable { IfSome (option_map (λ r. r.now) accepted.now.held) (IsLoadable VERSION_1) }
     requires held { IsTrue D.told
         → RecordOf VERSION_1 (head_of VERSION_1 (D.flash disk.old).reads)
-        (option_map (λ r. r.now) held) }
+        (option_map (λ r. r.now) accepted.now.held) }
     requires judged { IsAcceptable accepted.now.sequence accepted.now.digest
-        (option_map (λ r. r.now) held) }
+        (option_map (λ r. r.now) accepted.now.held) }
     requires fits { length accepted.now.bytes.now ≤ VERSION_1.bank_size }
     ensures size { D.extent disk.new ≡ D.extent disk.old }
     ensures later { IsTrue D.told → (D.flash disk.old).clock ≤ (D.flash disk.new).clock }
@@ -77,44 +78,46 @@ pub(crate) fn start<H: Host, D: Disk, L: Launcher>(
         (counts_of (H.faults host.new) (D.faults disk.new) (L.faults launcher.new)) }
     ensures files { IsTrue H.told → H.file host.new ≡ H.file host.old }
     ensures asked { IsTrue H.told → (room : ℕ) → HaveAtMost layout.now room
-        → AsksAmong (plan_tree plan.now) uris.now room
+        → AsksAmong (plan_tree accepted.now.plan.now) accepted.now.uris.now room
         (asked_at (H.asked host.old) (H.pulled host.old))
         (asked_at (H.asked host.new) (H.pulled host.new)) }
-    ensures unfetched { (HasFetch (plan_tree plan.now) → ⊥) → host.new ≡ host.old }
+    ensures unfetched { (HasFetch (plan_tree accepted.now.plan.now) → ⊥) → host.new ≡ host.old }
     ensures unbegun { IsUnbegun result → host.new ≡ host.old }
     ensures settled { IsTrue D.told → IfUnfaulted result
         (IsSame (D.flash disk.old) (D.flash disk.new) ⊎ IsSettled (D.flash disk.new)) }
     ensures plays { IsTrue D.told → IsTrue L.told
-        → let held = option_map (λ r. r.now) held.entry in
-        (payloads : List (List ℕ × List ℕ)) → HasPayloads envelope.now.whole.now payloads
-        → PlayedSo (λ made end. PlaysUpdate layout.now places.now (plan_tree plan.now) held
-        (sources payloads uris.now
+        → let held = option_map (λ r. r.now) accepted.now.held in
+        (payloads : List (List ℕ × List ℕ))
+        → HasPayloads accepted.now.envelope.now.whole.now payloads
+        → PlayedSo (λ made end. PlaysUpdate layout.now places.now
+        (plan_tree accepted.now.plan.now) held
+        (sources payloads accepted.now.uris.now
         (hosted H.told (H.file host.old) (H.asked host.old) (H.asked host.new)))
         (D.flash disk.old).reads made (L.launches launcher.old) (L.launches launcher.new) end)
         ((D.flash disk.new).reads ≡ (D.flash disk.old).reads) layout.now
         (D.flash disk.new).reads (L.launches launcher.old) (L.launches launcher.new) result }
     ensures keeps { IsTrue D.told → Settled VERSION_1 (D.flash disk.old)
-        → let held = option_map (λ r. r.now) held.entry in
+        → let held = option_map (λ r. r.now) accepted.now.held in
         let start = D.flash disk.old in
-        KeptSo (KeepsUpdate layout.now places.now (plan_tree plan.now)
+        KeptSo (KeepsUpdate layout.now places.now (plan_tree accepted.now.plan.now)
         (λ made. IsTrue H.told → IsTrue L.told
-        → PlaysToEnd layout.now places.now (plan_tree plan.now) held
-        envelope.now.whole.now uris.now (H.file host.old) start.reads
+        → PlaysToEnd layout.now places.now (plan_tree accepted.now.plan.now) held
+        accepted.now.envelope.now.whole.now accepted.now.uris.now (H.file host.old) start.reads
         (L.launches launcher.old) (L.launches launcher.new) made) held
         (λ numbers. new_record held start.reads accepted.now.bytes.now accepted.now.sequence
         accepted.now.digest numbers)
         start (D.flash disk.new) result) (IsSame start (D.flash disk.new)) result }
-    ensures left { IsTrue D.told → let held = option_map (λ r. r.now) held.entry in
+    ensures left { IsTrue D.told → let held = option_map (λ r. r.now) accepted.now.held in
         let start = (D.flash disk.old).reads in
-        KeptSo (LeavesUpdate layout.now places.now (plan_tree plan.now) held
+        KeptSo (LeavesUpdate layout.now places.now (plan_tree accepted.now.plan.now) held
         (λ numbers. new_record held start accepted.now.bytes.now accepted.now.sequence
         accepted.now.digest numbers)
         start (D.flash disk.new).reads result) ((D.flash disk.new).reads ≡ start) result }
     ensures grows { IsTrue D.told → Grows (D.flash disk.old) (D.flash disk.new) }
     ensures sound { IsTrue D.told → Settled VERSION_1 (D.flash disk.old)
-        → let held = option_map (λ r. r.now) held.entry in
+        → let held = option_map (λ r. r.now) accepted.now.held in
         let start = D.flash disk.old in
-        ((numbers : List ℕ) → AreChosen layout.now places.now (plan_tree plan.now)
+        ((numbers : List ℕ) → AreChosen layout.now places.now (plan_tree accepted.now.plan.now)
         (active_slots held) numbers
         → MayBeInstalled start.reads accepted.now.bytes.now
         (new_record held start.reads accepted.now.bytes.now accepted.now.sequence
@@ -128,8 +131,11 @@ pub(crate) fn start<H: Host, D: Disk, L: Launcher>(
     sound_laws();
     moment_laws();
     choice_laws();
+    let held = accepted.held;
+    let plan = accepted.plan;
     let slots = choose_slots(layout, places, plan, held);
-    let mut world = match World::new(alloc, layout, places, &slots, uris, Some(envelope)) {
+    let payloads = Some(accepted.envelope);
+    let mut world = match World::new(alloc, layout, places, &slots, accepted.uris, payloads) {
         Ok(world) => world,
         Err(AllocError) => return UpdateEnd::NoMemory,
     };
