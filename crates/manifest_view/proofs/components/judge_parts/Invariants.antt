@@ -1,0 +1,9 @@
+use Rattle.std.proofs.Common.{◌≡◌, ◌-◌}
+use Rattle.suit_manifest.specs.Elements.{all_from}
+use Rattle.suit_manifest.specs.ComponentsReading.{part_at}
+use Rattle.manifest_view.proofs.Elements.{judged}
+use Rattle.manifest_view.proofs.components.judge_parts.Given as goal
+
+-- the rest to judge decides the answer
+abbrev pub invariant-loop : goal.invariant-loop
+invariant-loop l = judged (all_from part_at (l.count - l.counter) l.items) ≡ judged (all_from part_at l.count l.fn.items)

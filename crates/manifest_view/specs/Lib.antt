@@ -1,0 +1,3 @@
+pub mod LentParts
+pub mod Lending
+pub mod Views

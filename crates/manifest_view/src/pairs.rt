@@ -1,0 +1,118 @@
+//! The pairs of a map of numbered keys, read in one pass from an item judged before, as `suit_manifest` reads them.
+//!
+//! Keys ascend in such a map, so its values are found by asking for one number after another.
+
+ghost use Rattle.std.specs.Prelude.{◌≡◌};
+ghost use Rattle.det_cbor.specs.HeadReading.{map_ok};
+ghost use Rattle.suit_params.specs.Reading.{string_from};
+ghost use Rattle.suit_manifest.specs.MapReading.{key_is, up_to, value_from, value_then, take_from, end_from, needed};
+
+use det_cbor::{Cursor, HeadKind};
+use suit_params::{Refusal, Why, read_bytes, read_head, read_item, refused, same_place};
+
+// The next bytes, as many as are asked for, as an item by itself.
+fn piece<'a>(map: &mut Cursor<'a>, count: u64) -> Result<Cursor<'a>, Refusal>
+    ensures { map_ok (λ inner. (inner, map.new)) result ≡ string_from count map.old }
+{
+    let place = map.place();
+    let bytes = read_bytes(map, count)?;
+    Ok(Cursor::new(bytes, place))
+}
+
+// The next item up to another cursor, by itself.
+fn up_to<'a>(map: &mut Cursor<'a>, end: &Cursor<'_>) -> Result<Cursor<'a>, Refusal>
+    ensures { map_ok (λ inner. (inner, map.new)) result ≡ up_to map.old end.now }
+{
+    piece(map, map.left().saturating_sub(end.left()) as u64)
+}
+
+// The next value of a map judged before, as an item by itself. A number or a string is passed by
+// its head.
+#[tactic(auto, unfolding(suit_manifest::specs::MapReading::value_from))]
+fn read_value<'a>(map: &mut Cursor<'a>) -> Result<Cursor<'a>, Refusal>
+    ensures { map_ok (λ inner. (inner, map.new)) result ≡ value_from map.old }
+{
+    let mut ahead = same_place(map);
+    let head = read_head(&mut ahead)?;
+    match head.kind {
+        HeadKind::Unsigned => up_to(map, &ahead),
+        HeadKind::Bytes | HeadKind::Text => {
+            read_bytes(&mut ahead, head.value)?;
+            up_to(map, &ahead)
+        }
+        _ => read_item(map),
+    }
+}
+
+// Whether the next key is this number. The cursor passes its head.
+#[tactic(auto, unfolding(suit_manifest::specs::MapReading::key_is))]
+fn key_is(map: &mut Cursor<'_>, number: u64) -> Result<bool, Refusal>
+    ensures { map_ok (λ is. (is, map.new)) result ≡ key_is number map.old }
+{
+    let head = read_head(map)?;
+    match head.kind {
+        HeadKind::Unsigned => Ok(head.value == number),
+        _ => Ok(false),
+    }
+}
+
+/// The remaining pairs of a map.
+#[derive(Drop)]
+pub(crate) struct Pairs<'a> {
+    pub(crate) map: Cursor<'a>,
+    pub(crate) left: u64,
+}
+
+impl<'a> Pairs<'a> {
+    // The next value, behind its key.
+    fn value(&mut self, mut behind: Cursor<'a>) -> Result<Option<Cursor<'a>>, Refusal>
+        ensures { value_then self.old.left behind.entry
+            ≡ map_ok (λ value. (value, record { map = self.new.map; left = self.new.left })) result }
+    {
+        let value = read_value(&mut behind)?;
+        self.map = behind;
+        self.left = self.left.saturating_sub(1);
+        Ok(Some(value))
+    }
+
+    /// The value of the next pair, as an item by itself, where its key is this number.
+    pub(crate) fn take(&mut self, number: u64) -> Result<Option<Cursor<'a>>, Refusal>
+        ensures { take_from number (record { map = self.old.map; left = self.old.left })
+            ≡ map_ok (λ value. (value, record { map = self.new.map; left = self.new.left })) result }
+    {
+        if self.left == 0 {
+            return Ok(None);
+        }
+        let mut ahead = same_place(&mut self.map);
+        if key_is(&mut ahead, number)? {
+            self.value(ahead)
+        } else {
+            Ok(None)
+        }
+    }
+
+    /// Refuses a remaining pair: its key is none of those asked for.
+    pub(crate) fn end(&self) -> Result<(), Refusal>
+        ensures { result ≡ end_from (record { map = self.now.map; left = self.now.left }) }
+    {
+        if self.left == 0 {
+            Ok(())
+        } else {
+            refused(self.map.place(), Why::UnknownKey)
+        }
+    }
+}
+
+/// A value required under a number, in the map at a place.
+pub(crate) fn needed<'a>(
+    place: u64,
+    number: u64,
+    value: Option<Cursor<'a>>,
+) -> Result<Cursor<'a>, Refusal>
+    ensures { result ≡ needed place number value.entry }
+{
+    match value {
+        Some(value) => Ok(value),
+        None => refused(place, Why::Missing(number)),
+    }
+}
