@@ -1,5 +1,9 @@
 -- A file is opened or refused in one way.
-use Rattle.std.proofs.Common.{◌≡◌, inl, inr, ℕ, List, ap}
+use Rattle.std.proofs.Common.{◌≡◌, ◌⊎◌, ⊎_elim, inl, inr, ℕ, List, ap, arith, refl}
+use Rattle.std.specs.List.{AllByRecursion}
+use Rattle.std.proofs.lemmas.Bool.{cases_lt}
+use Rattle.det_cbor.specs.DataItem.{IsByte}
+use Rattle.suit_commands.specs.Capped.{capped}
 use Rattle.suit_params.specs.declared.refusal.Refusal.{Refusal}
 use Rattle.suit_envelope.specs.Envelopes.{EnvelopeSays}
 use Rattle.suit_envelope.specs.EnvelopeLaws.{EnvelopeLaws}
@@ -7,7 +11,7 @@ use Rattle.suit_manifest.specs.declared.manifest.Manifest.{Manifest}
 use Rattle.suit_manifest.specs.ManifestLaws.{ManifestLaws}
 use Rattle.admission.specs.declared.refusal.NotOpened.{NotOpened}
 use Rattle.admission.specs.declared.refusal.NotOpened.TheVariants as refusals
-use Rattle.admission.specs.Opening.{HasManifest, HasNoManifest, IsNotOpened, IsOpened, Spell, SpellNone}
+use Rattle.admission.specs.Opening.{HasManifest, HasNoManifest, IsNotOpened, IsOpened, IsWithin, Spell, SpellNone, trimmed_size}
 use Rattle.admission.specs.AdmissionLaws.{OpeningLaws}
 use Rattle.admission.proofs.Chain.{Chain, IsOne, Stopped, end_one, first_then, one_then, the_end}
 use Rattle.admission.proofs.Judgements.{IsLong, IsShort, envelope_judged, length_judged, manifest_judged}
@@ -46,8 +50,31 @@ module _ (limit : ℕ) (bytes : List ℕ) where
     all_one = one_then (λ x y. x ≡ y) (Spell bytes) (SpellNone bytes) (λ x y. x ≡ y) (λ r. refusals.NoEnvelope r) to_length
         (envelope_judged envelopes bytes) (λ r q same. ap (λ (x : Refusal). refusals.NoEnvelope x) same) length_one
 
+-- ---- and in some way
+
+module _ (envelopes : EnvelopeLaws) (manifests : ManifestLaws) (limit : ℕ) (bytes : List ℕ) where
+  abbrev Answered : Type 0
+  Answered = ((said : EnvelopeSays) × (manifest : Manifest) × IsOpened limit bytes said manifest) ⊎ ((r : NotOpened) × IsNotOpened limit bytes r)
+
+  within_answered : (said : EnvelopeSays) → IsWithin limit bytes said → Answered
+  within_answered said within =
+      ⊎_elim (λ one. inl (said, one.said, record { within = within; says = one.whole }))
+      (λ none. inr (refusals.NoManifest none.refusal, record { said = said; within = within; refuses = none.refuses }))
+      (manifests.whole said.manifest_place said.manifest (envelopes.strings bytes said within.spell.envelope).manifest.1)
+
+  spelled_answered : (said : EnvelopeSays) → Spell bytes said → Answered
+  spelled_answered said spell =
+      ⊎_elim (λ above. inr (refusals.TooLong (capped (trimmed_size said)), record { said = said; spell = spell; long = above; size_is = refl }))
+      (λ below. within_answered said (record { spell = spell; short = omega (arith, below) })) (cases_lt limit (trimmed_size said))
+
+  opening_total : AllByRecursion IsByte bytes → Answered
+  opening_total are =
+      ⊎_elim (λ one. spelled_answered one.said (record { are_bytes = are; envelope = one.whole }))
+      (λ none. inr (refusals.NoEnvelope none.refusal, record { are_bytes = are; refuses = none.refuses })) (envelopes.whole 0 bytes are)
+
 pub opening_laws : EnvelopeLaws → ManifestLaws → OpeningLaws
 opening_laws envelopes manifests = record {
   never_both = λ limit bytes said manifest r is is_not. (all_one limit bytes envelopes manifests).never r (goes_so limit bytes said manifest is) (stops_so limit bytes r is_not);
   one_refusal = λ limit bytes r other x y. (all_one limit bytes envelopes manifests).alike r other (stops_so limit bytes r x) (stops_so limit bytes other y);
+  total = opening_total envelopes manifests;
 }

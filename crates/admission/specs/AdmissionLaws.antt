@@ -1,5 +1,7 @@
 -- Bytes are admitted or refused in one way, whatever judges them.
-use Rattle.std.specs.Prelude.{◌≡◌, ℕ, List}
+use Rattle.std.specs.Prelude.{◌≡◌, ◌⊎◌, ℕ, List}
+use Rattle.std.specs.List.{AllByRecursion}
+use Rattle.det_cbor.specs.DataItem.{IsByte}
 use Rattle.suit_envelope.specs.Authentic.{TellSame}
 use Rattle.suit_envelope.specs.Envelopes.{EnvelopeSays}
 use Rattle.suit_commands.specs.Tree.{PlanTree}
@@ -63,7 +65,7 @@ pub record AdmitAlike (a b : Admission) : Type 0 where
   pub manifest : a.manifest ≡ b.manifest
   pub members : a.members ≡ b.members
 
--- ---- the laws: what is met has no refusal, and is one; what is refused has one refusal
+-- ---- the laws: what is met has no refusal, and is one; what is refused has one refusal; each file is opened or refused
 
 pub record OpeningLaws : Type 0 where
   pub never_both : (limit : ℕ) (bytes : List ℕ) (said : EnvelopeSays) (manifest : Manifest)
@@ -71,6 +73,9 @@ pub record OpeningLaws : Type 0 where
       → IsOpened limit bytes said manifest → IsNotOpened limit bytes r → ⊥
   pub one_refusal : (limit : ℕ) (bytes : List ℕ) (r other : NotOpened)
       → IsNotOpened limit bytes r → IsNotOpened limit bytes other → r ≡ other
+  pub total : (limit : ℕ) (bytes : List ℕ) → AllByRecursion IsByte bytes
+      → ((said : EnvelopeSays) × (manifest : Manifest) × IsOpened limit bytes said manifest)
+      ⊎ ((r : NotOpened) × IsNotOpened limit bytes r)
 
 pub record JudgingLaws : Type 0 where
   pub never_both : (update invocation : PlanTree) (r : NotSafe)

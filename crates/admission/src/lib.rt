@@ -9,8 +9,6 @@ mod law;
 mod opening;
 mod refusal;
 mod starting;
-#[cfg(test)]
-mod tests;
 
 pub use admitting::{Admitted, admit};
 pub use judging::{WIDEST, judge};

@@ -2,13 +2,10 @@
 
 ghost use Rattle.std.specs.Prelude.{◌≡◌, IfOk, length};
 
-use crate::{
-    LONGEST_TRIMMED, NotAdmitted, NotOpened, NotStartable, Opened, admit, open, startable,
-};
+use admission::{LONGEST_TRIMMED, NotOpened, Opened, admit, open, startable};
 use det_cbor::Bytes;
 use flash_layout::{Entry, Layout, Memory};
 use std::alloc::{AllocError, Global};
-use suit_envelope::Authenticity;
 use suit_params::Identifier;
 
 // The envelope crates/suit/data/e1.suit, whose wrapper states a digest of zeros. It is trimmed already.
@@ -51,34 +48,6 @@ fn the_stored_envelope_is_opened_within_its_length(rt: HostRuntime) {
     assert!(rt; has_first_number(&open(rt.alloc(), &STORED, 119)));
     let above = open(rt.alloc(), &STORED, 118);
     assert!(rt; matches!(above, Err(NotOpened::TooLong(119))));
-}
-
-#[test]
-fn the_stored_envelope_has_another_digest(rt: HostRuntime) {
-    let layout = Layout::new(rt.alloc());
-    let admitted = admit(rt.alloc(), &layout, &[1], &STORED);
-    assert!(rt;
-        matches!(
-            admitted,
-            Err(NotAdmitted::NotAuthentic(Authenticity::DigestDiffers { .. }))
-        )
-    );
-    let started = startable(rt.alloc(), &layout, &[1], &STORED);
-    assert!(rt;
-        matches!(
-            started,
-            Err(NotStartable::NotAuthentic(Authenticity::DigestDiffers { .. }))
-        )
-    );
-}
-
-#[test]
-fn another_layout_lacks_the_component(rt: HostRuntime) {
-    let layout = Layout::new(rt.alloc());
-    let admitted = admit(rt.alloc(), &layout, &[1], &AUTHENTIC);
-    assert!(rt; matches!(admitted, Err(NotAdmitted::UnknownComponent(0))));
-    let started = startable(rt.alloc(), &layout, &[1], &AUTHENTIC);
-    assert!(rt; matches!(started, Err(NotStartable::UnknownComponent(0))));
 }
 
 // The layout of one component in working memory, which has the identifier of one byte, 0.
