@@ -1,5 +1,5 @@
 -- Walks of whole procedures: from where a member or the shared sequence begins.
-use Rattle.std.proofs.Common.{◌≡◌, ℕ, List, [], ◌++◌, refl, sym, subst, inl, inr}
+use Rattle.std.proofs.Common.{◌≡◌, ℕ, true, List, [], ◌++◌, refl, sym, subst, inl, inr}
 use Rattle.suit_commands.specs.Tree.{SequenceTree, NoSteps, PlanTree}
 use Rattle.path_model.specs.declared.identity.Identity.{Identity}
 use Rattle.path_model.specs.declared.event.Event.{Event}
@@ -12,6 +12,7 @@ use Rattle.path_checker.specs.declared.judge_plan.facts.Knowledge.{Knowledge}
 use Rattle.path_checker.specs.declared.judge_plan.halt.Halt.{Halt}
 use Rattle.path_checker.specs.Exploring.{Course, Kept, Stopped, Found, Reaches, Leads, Explores, Passes, Uncovered, Uncovers}
 use Rattle.path_checker.specs.Invoking.{Invokes, Covers}
+use Rattle.path_checker.specs.Keeping.{PassesTo}
 use Rattle.path_checker.specs.Inner.{restarted, all_restarted}
 use Rattle.path_checker.specs.Procedures.{FromStart, FromThird, FromSecond, ThirdInvokes, SecondInvokes, FirstInvokes}
 use Rattle.path_checker.specs.Halting.{Halts}
@@ -61,6 +62,17 @@ Passes-absent count from started is = Passes-started NoSteps count from started 
 
 pub Passes-end : (whole : Course) (from now : List Kept) (f : List Stopped) → Walks whole from [] nothing_course now f → Passes whole from now
 Passes-end whole from now f w = let a = Walks-end whole from now [] f w in (a.failed, subst (λ (n : List Kept). Explores whole from n a.failed) (sym a.next_is) a.explores)
+
+-- where the states are wanted, they are all there
+pub Passes-kept : (course : Course) (from v : List Kept) → PassesTo course from true v → Passes course from v
+Passes-kept course from v p = subst (λ (n : List Kept). Passes course from n) (sym (p.2 tt)) p.1
+
+-- the rest from where a loop stands
+pub Passes-rest : (whole rest : Course) (from now v : List Kept) (f : List Stopped) → Walks whole from [] rest now f → Passes rest now v → Passes whole from v
+Passes-rest whole rest from now v f w (g, x) = (w.added ++ g, w.carries.explores v g x)
+
+pub Halts-rest : (whole rest : Course) (from now : List Kept) (f : List Stopped) → Walks whole from [] rest now f → (h : Halt) → Halts rest now h → Halts whole from h
+Halts-rest whole rest from now f w h u = Halts-lift rest whole now from (λ facts events x. w.carries.uncovers facts events x) h u
 
 -- ---- one part after another
 

@@ -1,4 +1,4 @@
-use Rattle.std.proofs.Common.{[], ◌∷◌, refl, ◌∙◌}
+use Rattle.std.proofs.Common.{[], ◌∷◌, refl}
 use Rattle.std.proofs.lemmas.List.{append-nil}
 use Rattle.path_checker.proofs.DirectiveLeaves.{Adds-overrides}
 use Rattle.path_checker.proofs.Passing.{Explores-added}
