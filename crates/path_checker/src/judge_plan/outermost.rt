@@ -1,6 +1,6 @@
 //! The commands of a member or of the shared sequence. A failure there ends the procedure, so none is kept.
 
-ghost use Rattle.std.specs.Prelude.{IfOk, IfErr};
+ghost use Rattle.std.specs.Prelude.{◌≡◌, ◌++◌, IsTrue, OnOk, IfOk, IfErr};
 ghost use Rattle.suit_commands.specs.View.{command_tree, sequence_tree};
 ghost use Rattle.path_model.specs.Runs.{Runs, Does};
 ghost use Rattle.path_checker.specs.Exploring.{Passes};
@@ -13,6 +13,7 @@ use crate::judge_plan::kept::Kept;
 use crate::judge_plan::memory::Memory;
 use crate::judge_plan::straight::{is_straight, straight};
 use crate::judge_plan::walk::command;
+use std::alloc::AllocError;
 use suit_commands::Step;
 
 // More states than these go on alone, one after another. Equal ones are then looked for among those that follow one alone.
@@ -94,10 +95,25 @@ fn each_alone<'a>(
     while let Some(k) = now.pop() {
         let mut one = Vec::new(memory.alloc);
         one.push(k)?;
-        let mut done = commands(memory, count, steps, wanted, one)?;
-        if wanted {
-            next.append(&mut done)?;
-        }
+        let done = commands(memory, count, steps, wanted, one)?;
+        keep(wanted, done, &mut next)?;
     }
     Ok(next)
+}
+
+// Adds states, where they are wanted.
+fn keep<'a>(
+    wanted: bool,
+    done: Vec<Kept<'a>>,
+    next: &mut Vec<Kept<'a>>,
+) -> Result<(), AllocError>
+    ensures { OnOk result
+        (IsTrue wanted → next.new.items ≡ next.old.items ++ done.entry.items) }
+{
+    if !wanted {
+        return Ok(());
+    }
+    let mut done = done;
+    next.append(&mut done)?;
+    Ok(())
 }

@@ -8,10 +8,10 @@ use Rattle.path_checker.proofs.Passing.{Passed}
 use Rattle.path_checker.proofs.judge_plan.outermost.+alone.Given as goal
 
 abbrev pub decreases-commands : goal.decreases-commands
-decreases-commands l = 2 * length l.steps
+decreases-commands l = 2 * length l.steps.now
 
 abbrev pub decreases-each_alone : goal.decreases-each_alone
-decreases-each_alone l = 2 * length l.steps + 1
+decreases-each_alone l = 2 * length l.steps.now + 1
 
 abbrev pub invariant-commands-loop-at : goal.invariant-commands-loop-at
 invariant-commands-loop-at l = record {

@@ -17,9 +17,9 @@ returns-in_err-before_third-clause-err c =
 pub returns-in_err-part-clause-err : goal.returns-in_err-part-clause-err
 returns-in_err-part-clause-err c =
     let plan = plan_tree c.args.plan.now in
-    let p = err_from_is_err_and c.from_residual-in_err-part.result c.from_residual-in_err-part.ensures.1 in rw (p.1, p.2) (Halts-then (part_course plan.shared plan) (part_course plan.third plan) c.args.from.items c.in_ok-before_third.before_third.items (Passes-kept _ _ _ c.in_ok-before_third.ensures.ok) c.in_err-part.field-0.0 c.in_err-part.ensures.err)
+    let p = err_from_is_err_and c.from_residual-in_err-part.result c.from_residual-in_err-part.ensures.1 in rw (p.1, p.2) (Halts-then (part_course plan.shared plan) (part_course plan.third plan) c.args.from.items c.in_ok-before_third.before_third.items (Passes-kept (part_course plan.shared plan) c.args.from.items c.in_ok-before_third.before_third.items c.in_ok-before_third.ensures.ok) c.in_err-part.field-0.0 c.in_err-part.ensures.err)
 
 pub returns-clause-ok : goal.returns-clause-ok
 returns-clause-ok c =
     let plan = plan_tree c.args.plan.now in
-    Covers-then (part_course plan.shared plan) (part_course plan.third plan) c.args.from.items c.in_ok-before_third.before_third.items (Passes-kept _ _ _ c.in_ok-before_third.ensures.ok) (Covers-last (part_course plan.third plan) c.in_ok-before_third.before_third.items c.in_ok-part.ensures.ok.0 c.in_ok-part.ensures.ok.1)
+    Covers-then (part_course plan.shared plan) (part_course plan.third plan) c.args.from.items c.in_ok-before_third.before_third.items (Passes-kept (part_course plan.shared plan) c.args.from.items c.in_ok-before_third.before_third.items c.in_ok-before_third.ensures.ok) (Covers-last (part_course plan.third plan) c.in_ok-before_third.before_third.items c.in_ok-part.ensures.ok.0 c.in_ok-part.ensures.ok.1)
