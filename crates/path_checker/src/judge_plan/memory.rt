@@ -11,7 +11,7 @@ use std::cell::Cell;
 /// alone bounds the work.
 pub(crate) const COMPARED: u64 = 4_194_304;
 
-// What two states cost that hold no match.
+// The cost of comparing two states that hold no match.
 const LEAST: u64 = 32;
 
 // How many events are kept where states go on alone, each of which comes to the same events: a power of two.
@@ -23,14 +23,14 @@ pub(crate) struct Memory<'a> {
     pub alloc: Global,
     pub events: &'a Bump,
     pub left: &'a Cell<u64>,
-    /// What was made last: the next state mostly comes to the same, and shares it.
+    /// The values made last. The next state mostly comes to the same, and shares them.
     pub last: &'a Last<'a>,
 }
 
-/// What happened last at each component that there is room for, and the last override, lent.
+/// The last event at each component that there is room for, and the last override, lent.
 type LastTold<'a> = [Option<&'a Told<'a>>; 9];
 
-/// What was made last in any state.
+/// The values made last, in any state.
 #[derive(Drop)]
 pub(crate) struct Last<'a> {
     told: Cell<LastTold<'a>>,
@@ -119,7 +119,7 @@ impl<'a> Memory<'a> {
         Ok(())
     }
 
-    /// What happened last at a component, or with a fingerprint, in any state.
+    /// The last event at a component, or with a fingerprint, in any state.
     pub(crate) fn last_told(&self, component: u32, print: u64) -> Option<&'a Told<'a>> {
         if let Some(last) = self.last.more.get().get(print as usize & (EVENTS - 1)) {
             return last.get();
