@@ -1,4 +1,4 @@
-use Rattle.std.proofs.Common.{◌≡◌, [], ◌++◌, List, drop, refl, sym, subst}
+use Rattle.std.proofs.Common.{◌≡◌, [], ◌++◌, drop, refl, sym, subst}
 use Rattle.std.proofs.lemmas.List.{drop_all}
 use Rattle.std.proofs.lemmas.Result.{err_from_is_err_and}
 use Rattle.suit_commands.specs.declared.command.Step.{Step}
