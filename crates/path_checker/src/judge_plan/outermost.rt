@@ -102,11 +102,7 @@ fn each_alone<'a>(
 }
 
 // Adds states, where they are wanted.
-fn keep<'a>(
-    wanted: bool,
-    done: Vec<Kept<'a>>,
-    next: &mut Vec<Kept<'a>>,
-) -> Result<(), AllocError>
+fn keep<'a>(wanted: bool, done: Vec<Kept<'a>>, next: &mut Vec<Kept<'a>>) -> Result<(), AllocError>
     ensures { OnOk result
         (IsTrue wanted → next.new.items ≡ next.old.items ++ done.entry.items) }
 {
