@@ -68,7 +68,7 @@ Passes-end whole from now f w = let a = Walks-end whole from now [] f w in (a.fa
 
 -- where the states are wanted, they are all there
 pub Passes-kept : (course : Course) (from v : List Kept) → PassesTo course from true v → Passes course from v
-Passes-kept course from v p = subst (λ (n : List Kept). Passes course from n) (sym (p.2 tt)) p.1
+Passes-kept course from v p = subst (λ (n : List Kept). Passes course from n) (sym (p.2 refl)) p.1
 
 -- one more command of a sequence
 pub Walks-passes : (steps : List Step) (i count : ℕ) (step : Step) → i < length steps → step ≡ get_or steps i step → (whole : Course) (from now mid : List Kept) (f : List Stopped) → Walks whole from [] (runs_course (sequence_tree (drop i steps)) count) now f → (p : Passes (does_course (command_tree step.command) count step.place) now mid)

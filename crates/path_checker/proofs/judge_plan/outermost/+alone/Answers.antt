@@ -1,13 +1,14 @@
-use Rattle.std.proofs.Common.{rules, ◌≡◌, ◌<◌, ◌+◌, [], ◌∷◌, ◌++◌, List, drop, refl, sym, ap, ◌∙◌, subst, arith, length-drop}
+use Rattle.std.proofs.Common.{rules, ◌≡◌, ℕ, ◌<◌, ◌+◌, ◌-◌, [], ◌∷◌, ◌++◌, List, length, take, drop, refl, sym, ap, ◌∙◌, subst, arith, length-drop, take_all}
 use Rattle.std.proofs.lemmas.List.{drop_all}
 use Rattle.std.proofs.lemmas.Result.{err_from_is_err_and, IfOk-weaker, IfErr-weaker}
+use Rattle.std.specs.Prelude.{IfOk, IfErr}
 use Rattle.std.specs.Vec.{vec_len}
 use Rattle.suit_commands.specs.declared.command.Step.{Step}
 use Rattle.suit_commands.specs.View.{sequence_tree, command_tree}
 use Rattle.path_checker.specs.Exploring.{Kept, Passes}
 use Rattle.path_checker.specs.Halting.{Halts}
 use Rattle.path_checker.specs.Keeping.{PassesTo}
-use Rattle.path_checker.specs.Small.{IsSmallCommand}
+use Rattle.path_checker.specs.Small.{IsSmallSequence, IsSmallCommand}
 use Rattle.path_checker.proofs.DirectiveLeaves.{never_true}
 use Rattle.path_checker.proofs.Passing.{Passed-start, Passed-step, Passed-halt, Passed-end}
 use Rattle.path_checker.proofs.Popping.{none_left}
@@ -15,6 +16,10 @@ use Rattle.path_checker.proofs.Smallness.{small_step}
 use Rattle.path_checker.proofs.Starting.{Passes-end, Passes-rest, Halts-rest, Walks-passes}
 use Rattle.path_checker.proofs.Walking.{Walks, Walks-start, Walks-stops, runs_course, does_course}
 use Rattle.path_checker.proofs.judge_plan.outermost.+alone.Goals as goal
+
+-- what is left of a list from an index on
+same_rest : (steps : List Step) (n : ℕ) → take (length steps - n) (drop n steps) ≡ drop n steps
+same_rest steps n = take_all (length steps - n) (drop n steps) (omega (arith, length-drop n steps))
 
 pub commands-loop-at-init : goal.commands-loop-at-init
 commands-loop-at-init t c = record {
@@ -37,19 +42,24 @@ commands-loop-at-preserved t c = record {
 
 pub commands-each_alone-requires : goal.commands-each_alone-requires
 commands-each_alone-requires t c =
-    (omega (arith, c.decreases, length-drop (c.loop-at.at + 1) c.args.steps.now, c.loop-at-test.true), (small_step c.args.count c.args.steps.now c.loop-at.at c.index-steps-at.result c.loop-at-test.true c.loop-at.invariant.small).1)
+    let same = same_rest c.args.steps.now (c.loop-at.at + 1) in (
+      omega (arith, c.decreases, length-drop (c.loop-at.at + 1) c.args.steps.now, ap (λ (s : List Step). length s) same, c.loop-at-test.true),
+      subst (λ (s : List Step). IsSmallSequence c.args.count (sequence_tree s)) (sym same) (small_step c.args.count c.args.steps.now c.loop-at.at c.index-steps-at.result c.loop-at-test.true c.loop-at.invariant.small).1,
+    )
 
 pub commands-returns-then-len-gt-MANY-clause-ok : goal.commands-returns-then-len-gt-MANY-clause-ok
 commands-returns-then-len-gt-MANY-clause-ok t c =
     let walks = Walks-passes c.args.steps.now c.loop-at.at c.args.count c.index-steps-at.result c.loop-at-test.true c.index-steps-at.is (runs_course (sequence_tree c.args.steps.now) c.args.count) c.args.from.items c.loop-at.now.items c.in_ok-now.now.items c.loop-at.invariant.walks.0 c.loop-at.invariant.walks.1 c.in_ok-now.ensures.ok in
     IfOk-weaker c.each_alone.result (λ v. PassesTo (runs_course (sequence_tree (drop (c.loop-at.at + 1) c.args.steps.now)) c.args.count) c.in_ok-now.now.items c.args.wanted v.items) (λ v. PassesTo (runs_course (sequence_tree c.args.steps.now) c.args.count) c.args.from.items c.args.wanted v.items)
-    (λ v a. (a.0, Passes-rest (runs_course (sequence_tree c.args.steps.now) c.args.count) (runs_course (sequence_tree (drop (c.loop-at.at + 1) c.args.steps.now)) c.args.count) c.args.from.items c.in_ok-now.now.items a.0 (c.loop-at.invariant.walks.0 ++ c.in_ok-now.ensures.ok.0) walks a.1, a.2)) c.each_alone.ensures.ok
+    (λ v a. (a.0, Passes-rest (runs_course (sequence_tree c.args.steps.now) c.args.count) (runs_course (sequence_tree (drop (c.loop-at.at + 1) c.args.steps.now)) c.args.count) c.args.from.items c.in_ok-now.now.items a.0 (c.loop-at.invariant.walks.0 ++ c.in_ok-now.ensures.ok.0) walks a.1, a.2))
+    (subst (λ (s : List Step). IfOk c.each_alone.result (λ v. PassesTo (runs_course (sequence_tree s) c.args.count) c.in_ok-now.now.items c.args.wanted v.items)) (same_rest c.args.steps.now (c.loop-at.at + 1)) c.each_alone.ensures.ok)
 
 pub commands-returns-then-len-gt-MANY-clause-err : goal.commands-returns-then-len-gt-MANY-clause-err
 commands-returns-then-len-gt-MANY-clause-err t c =
     let walks = Walks-passes c.args.steps.now c.loop-at.at c.args.count c.index-steps-at.result c.loop-at-test.true c.index-steps-at.is (runs_course (sequence_tree c.args.steps.now) c.args.count) c.args.from.items c.loop-at.now.items c.in_ok-now.now.items c.loop-at.invariant.walks.0 c.loop-at.invariant.walks.1 c.in_ok-now.ensures.ok in
     IfErr-weaker c.each_alone.result (λ h. Halts (runs_course (sequence_tree (drop (c.loop-at.at + 1) c.args.steps.now)) c.args.count) c.in_ok-now.now.items h) (λ h. Halts (runs_course (sequence_tree c.args.steps.now) c.args.count) c.args.from.items h)
-    (λ h u. Halts-rest (runs_course (sequence_tree c.args.steps.now) c.args.count) (runs_course (sequence_tree (drop (c.loop-at.at + 1) c.args.steps.now)) c.args.count) c.args.from.items c.in_ok-now.now.items (c.loop-at.invariant.walks.0 ++ c.in_ok-now.ensures.ok.0) walks h u) c.each_alone.ensures.err
+    (λ h u. Halts-rest (runs_course (sequence_tree c.args.steps.now) c.args.count) (runs_course (sequence_tree (drop (c.loop-at.at + 1) c.args.steps.now)) c.args.count) c.args.from.items c.in_ok-now.now.items (c.loop-at.invariant.walks.0 ++ c.in_ok-now.ensures.ok.0) walks h u)
+    (subst (λ (s : List Step). IfErr c.each_alone.result (λ h. Halts (runs_course (sequence_tree s) c.args.count) c.in_ok-now.now.items h)) (same_rest c.args.steps.now (c.loop-at.at + 1)) c.each_alone.ensures.err)
 
 pub commands-returns-clause-ok : goal.commands-returns-clause-ok
 commands-returns-clause-ok t c =
