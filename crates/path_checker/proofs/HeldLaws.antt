@@ -1,13 +1,12 @@
 -- The matches of each component, after those of one have changed.
-use Rattle.std.proofs.Common.{◌≡◌, ◌≢◌, ◌<◌, ◌≤◌, ◌+◌, ℕ, zero, suc, add-one, List, [], ◌∷◌, ◌++◌, length, get_or, replicate, Option, Some, None, refl, sym, ap, ◌∙◌, subst, arith, inl, inr, ⊎_elim}
+use Rattle.std.proofs.Common.{◌≡◌, ◌≢◌, ◌<◌, ◌≤◌, ◌+◌, ℕ, zero, suc, add-one, List, [], ◌∷◌, ◌++◌, length, get_or, replicate, Option, None, refl, sym, ap, ◌∙◌, subst, arith, inl, inr, ⊎_elim}
 use Rattle.std.specs.Prelude.{◌⊎◌, ◌↔◌, slice_get, slice_set}
 use Rattle.std.proofs.lemmas.Bool.Decides.{eqb_tells, leb_tells}
 use Rattle.std.proofs.lemmas.Option.{slice_get_past}
 use Rattle.std.proofs.Math.Nat.{eq-or-lt_of_le}
-use Rattle.path_checker.specs.declared.judge_plan.standing.StandingMatches.{StandingMatches}
 use Rattle.path_checker.specs.Exploring.{In}
 use Rattle.path_checker.specs.Matches.{Match, matches_from, SameMembers}
-use Rattle.path_checker.specs.Standing.{held_in, held_of, Gains}
+use Rattle.path_checker.specs.Standing.{held_in}
 
 abbrev Trees : Type 0
 Trees = List (Option (List Match))

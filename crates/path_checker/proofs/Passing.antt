@@ -1,5 +1,5 @@
 -- States that are followed by one at most, where failed conditions are not kept.
-use Rattle.std.proofs.Common.{◌≡◌, ℕ, true, false, List, [], ◌∷◌, ◌++◌, Option, Some, None, refl, sym, ap, ◌∙◌, subst, append_assoc, inl, inr}
+use Rattle.std.proofs.Common.{◌≡◌, ℕ, true, List, [], ◌∷◌, ◌++◌, Option, Some, None, refl, sym, ap, ◌∙◌, subst, inl, inr}
 use Rattle.std.proofs.lemmas.List.{append-nil}
 use Rattle.suit_params.specs.InForce.{Parameters}
 use Rattle.suit_commands.specs.declared.kinds.TestKind.{TestKind}
@@ -7,7 +7,6 @@ use Rattle.suit_commands.specs.declared.command.Command.{Command}
 use Rattle.suit_commands.specs.declared.command.Command.TheVariants as commands
 use Rattle.suit_commands.specs.View.{command_tree}
 use Rattle.path_model.specs.CommandLaws.{IsOnIdentity}
-use Rattle.path_model.specs.Conditions.{Tests}
 use Rattle.path_checker.specs.declared.judge_plan.facts.Own.{Own}
 use Rattle.path_checker.specs.declared.judge_plan.facts.Knowledge.{Knowledge}
 use Rattle.path_checker.specs.declared.judge_plan.halt.Halt.{Halt}

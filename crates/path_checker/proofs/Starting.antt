@@ -1,6 +1,8 @@
 -- Walks of whole procedures: from where a member or the shared sequence begins.
-use Rattle.std.proofs.Common.{◌≡◌, ℕ, List, [], ◌++◌, refl, sym, subst, inl, inr}
+use Rattle.std.proofs.Common.{◌≡◌, ℕ, ◌+◌, ◌<◌, true, List, [], ◌++◌, length, get_or, drop, refl, sym, subst, inl, inr}
+use Rattle.suit_commands.specs.declared.command.Step.{Step}
 use Rattle.suit_commands.specs.Tree.{SequenceTree, NoSteps, PlanTree}
+use Rattle.suit_commands.specs.View.{sequence_tree, command_tree}
 use Rattle.path_model.specs.declared.identity.Identity.{Identity}
 use Rattle.path_model.specs.declared.event.Event.{Event}
 use Rattle.path_model.specs.Behaviour.{State, Ending, Done, Condition, Directive}
@@ -10,8 +12,9 @@ use Rattle.path_model.proofs.Covering.{CoveredFrom-append}
 use Rattle.path_model.proofs.Following.{CoveredFrom-same}
 use Rattle.path_checker.specs.declared.judge_plan.facts.Knowledge.{Knowledge}
 use Rattle.path_checker.specs.declared.judge_plan.halt.Halt.{Halt}
-use Rattle.path_checker.specs.Exploring.{Course, Kept, Stopped, Found, Reaches, Leads, Explores, Passes, Uncovered, Uncovers}
+use Rattle.path_checker.specs.Exploring.{Course, Kept, Stopped, Found, Reaches, Leads, Explores, Adds, Passes, Uncovered, Uncovers}
 use Rattle.path_checker.specs.Invoking.{Invokes, Covers}
+use Rattle.path_checker.specs.Keeping.{PassesTo}
 use Rattle.path_checker.specs.Inner.{restarted, all_restarted}
 use Rattle.path_checker.specs.Procedures.{FromStart, FromThird, FromSecond, ThirdInvokes, SecondInvokes, FirstInvokes}
 use Rattle.path_checker.specs.Halting.{Halts}
@@ -20,7 +23,8 @@ use Rattle.path_checker.proofs.Carrying.{nothing_course, Explores-nothing}
 use Rattle.path_checker.proofs.InnerStates.{In-restarted, restarted-from}
 use Rattle.path_checker.proofs.Quiet.{IsSilent, runs_quiet, silent-then, Covers-silent}
 use Rattle.path_checker.proofs.Uncovering.{Uncovered-lift, Uncovers-first, Uncovers-second}
-use Rattle.path_checker.proofs.Walking.{Halts-lift, runs_course, Walks, Walks-end}
+use Rattle.path_checker.proofs.Passing.{Adds-passes}
+use Rattle.path_checker.proofs.Walking.{Halts-lift, runs_course, does_course, Walks, Walks-step, Walks-end}
 
 Found-started : (k : Kept) (ids : List Identity) (es : List Event) (done : List Kept) (failed : List Stopped) (e : Ending) → Found (restarted k) ids es done failed e → Found k ids es done failed e
 Found-started k ids es done failed (Done t) h = h
@@ -61,6 +65,23 @@ Passes-absent count from started is = Passes-started NoSteps count from started 
 
 pub Passes-end : (whole : Course) (from now : List Kept) (f : List Stopped) → Walks whole from [] nothing_course now f → Passes whole from now
 Passes-end whole from now f w = let a = Walks-end whole from now [] f w in (a.failed, subst (λ (n : List Kept). Explores whole from n a.failed) (sym a.next_is) a.explores)
+
+-- where the states are wanted, they are all there
+pub Passes-kept : (course : Course) (from v : List Kept) → PassesTo course from true v → Passes course from v
+Passes-kept course from v p = subst (λ (n : List Kept). Passes course from n) (sym (p.2 refl)) p.1
+
+-- one more command of a sequence
+pub Walks-passes : (steps : List Step) (i count : ℕ) (step : Step) → i < length steps → step ≡ get_or steps i step → (whole : Course) (from now mid : List Kept) (f : List Stopped) → Walks whole from [] (runs_course (sequence_tree (drop i steps)) count) now f → (p : Passes (does_course (command_tree step.command) count step.place) now mid)
+    → Walks whole from [] (runs_course (sequence_tree (drop (i + 1) steps)) count) mid (f ++ p.0)
+Walks-passes steps i count step lt is whole from now mid f w p =
+    Walks-step steps i count step lt whole from now [] f w mid (f ++ p.0) (subst (λ (s : Step). Adds (does_course (command_tree s.command) count s.place) now [] mid f (f ++ p.0)) is (Adds-passes (does_course (command_tree step.command) count step.place) now [] mid mid f p refl))
+
+-- the rest from where a loop stands
+pub Passes-rest : (whole rest : Course) (from now v : List Kept) (f : List Stopped) → Walks whole from [] rest now f → Passes rest now v → Passes whole from v
+Passes-rest whole rest from now v f w (g, x) = (w.added ++ g, w.carries.explores v g x)
+
+pub Halts-rest : (whole rest : Course) (from now : List Kept) (f : List Stopped) → Walks whole from [] rest now f → (h : Halt) → Halts rest now h → Halts whole from h
+Halts-rest whole rest from now f w h u = Halts-lift rest whole now from (λ facts events x. w.carries.uncovers facts events x) h u
 
 -- ---- one part after another
 

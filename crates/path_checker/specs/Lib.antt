@@ -15,5 +15,6 @@ pub mod Small
 pub mod Selecting
 pub mod Steps
 pub mod Procedures
+pub mod Keeping
 pub mod Halting
 pub mod PlanVerdicts

@@ -19,9 +19,11 @@ mod inner;
 mod invoking;
 mod kept;
 mod known;
+mod links;
 mod matches;
 mod memory;
 mod merged;
+mod outermost;
 mod procedure_walk;
 mod reuse;
 mod same_param;
@@ -97,7 +99,11 @@ fn judge_with<'a>(
     ensures { Judges (plan_tree plan.entry) result }
 {
     match Memory::new(alloc, events, left) {
-        Ok(memory) => judge_in(memory, plan),
+        Ok(memory) => {
+            let verdict = judge_in(memory, plan);
+            memory.release();
+            verdict
+        }
         Err(_) => CheckVerdict::NoMemory,
     }
 }

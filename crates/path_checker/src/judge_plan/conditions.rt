@@ -44,7 +44,7 @@ fn own_test<'a>(
         passed: true,
     };
     let missed = Ended::Tried { component, kind };
-    match k.facts.fork(memory.alloc, component, own)? {
+    match k.facts.fork(memory, component, own)? {
         Fork::Has => {
             pass(memory, k, passed, next)?;
             Ok(())
@@ -195,7 +195,7 @@ fn pass_own_test<'a>(
         selection,
         soft_failure,
     } = k;
-    match facts.learn(memory.alloc, component, own)? {
+    match facts.learn(memory, component, own)? {
         Some(facts) => {
             let passed = Happened::Tried {
                 component,

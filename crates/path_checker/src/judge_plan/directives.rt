@@ -9,6 +9,7 @@ ghost use Rattle.path_checker.specs.Halting.{Halts};
 
 use crate::judge_plan::halt::Halt;
 use crate::judge_plan::happened::Happened;
+use crate::judge_plan::in_force::InForce;
 use crate::judge_plan::kept::{Kept, went};
 use crate::judge_plan::memory::Memory;
 use crate::judge_plan::selected::Components;
@@ -181,6 +182,20 @@ fn soft_after_all(soft_failure: bool, list: &ParamList) -> bool
     soft_failure
 }
 
+// The same parameters. Where they were made anew, they are shared with those that were made last.
+fn settled<'a>(
+    memory: Memory<'a>,
+    params: InForce<'a>,
+    was_own: bool,
+) -> Result<InForce<'a>, AllocError>
+    ensures { IfOk result (λ settled. settled ≡ params.entry) }
+{
+    if was_own {
+        return Ok(params);
+    }
+    params.shared(&memory.last.params)
+}
+
 /// Override parameters: the state after it.
 pub(crate) fn overrides<'a>(
     memory: Memory<'a>,
@@ -199,8 +214,10 @@ pub(crate) fn overrides<'a>(
         selection,
         soft_failure,
     } = k;
+    let was_own = params.is_own();
     let mut params = params;
     params.override_with(memory.alloc, component, list)?;
+    let params = settled(memory, params, was_own)?;
     let history = history.with_sets(memory, Components::One(component), list)?;
     Ok(Kept {
         facts,
@@ -230,12 +247,14 @@ pub(crate) fn overrides_each<'a>(
         soft_failure,
     } = k;
     let components = selection.listed(memory.alloc)?;
+    let was_own = params.is_own();
     let mut params = params;
     let mut soft_failure = soft_failure;
     for component in components.as_slice() {
         params.override_with(memory.alloc, *component, list)?;
         soft_failure = soft_after_all(soft_failure, list);
     }
+    let params = settled(memory, params, was_own)?;
     let history = history.with_sets(memory, selection.components(), list)?;
     Ok(Kept {
         facts,

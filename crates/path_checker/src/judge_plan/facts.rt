@@ -6,7 +6,9 @@ ghost use Rattle.path_checker.specs.Forking.{Forks, Learnt, TellsOne, learnt_at,
 
 use crate::judge_plan::fingerprint::mixed;
 use crate::judge_plan::known::Known;
+use crate::judge_plan::memory::Memory;
 use std::alloc::{AllocError, Global};
+use std::cell::Cell;
 use std::marker::Model;
 use std::rc::Rc;
 
@@ -205,32 +207,48 @@ impl Shared {
         self.held.tells(own)
     }
 
+    // One of this knowledge, shared with the one that was made last where that is equal.
+    fn shared(
+        alloc: Global,
+        known: Knowledge,
+        last: &Cell<Option<Shared>>,
+    ) -> Result<Shared, AllocError>
+        ensures { IfOk result (λ shared. shared ≡ known) }
+    {
+        if let Some(made) = last.replace(None) {
+            if made.held.is_same(&known) {
+                let same = made.copy()?;
+                last.set(Some(made));
+                return Ok(same);
+            }
+        }
+        let made = Shared::new(alloc, known)?;
+        last.set(Some(made.copy()?));
+        Ok(made)
+    }
+
     // One that has this.
-    fn with(&self, alloc: Global, own: &Own) -> Result<Shared, AllocError>
+    fn with(&self, memory: Memory<'_>, component: usize, own: &Own) -> Result<Shared, AllocError>
         ensures { IfOk result (λ other. other ≡ learnt self.now own.now) }
     {
-        let known = self.held.with(alloc, own)?;
-        Shared::new(alloc, known)
+        let known = self.held.with(memory.alloc, own)?;
+        Shared::shared(memory.alloc, known, memory.having(component))
     }
 
     // It has this. Others that share the knowledge keep it.
-    fn learn(&mut self, alloc: Global, own: &Own) -> Result<(), AllocError>
+    fn learn(&mut self, memory: Memory<'_>, component: usize, own: &Own) -> Result<(), AllocError>
         ensures { OnOk result (self.new ≡ learnt self.old own.now) }
     {
-        match Rc::get_mut(&mut self.held) {
-            Some(known) => known.learn(alloc, own),
-            None => self.held = Rc::new(alloc, self.held.with(alloc, own)?)?,
-        }
-        self.print = self.held.fingerprint();
+        *self = self.with(memory, component, own)?;
         Ok(())
     }
 
     // One that has it not.
-    fn without(&self, alloc: Global, own: &Own) -> Result<Shared, AllocError>
+    fn without(&self, memory: Memory<'_>, component: usize, own: &Own) -> Result<Shared, AllocError>
         ensures { IfOk result (λ other. other ≡ excluded self.now own.now) }
     {
-        let known = self.held.without(alloc, own)?;
-        Shared::new(alloc, known)
+        let known = self.held.without(memory.alloc, own)?;
+        Shared::shared(memory.alloc, known, memory.lacking(component))
     }
 }
 
@@ -315,16 +333,21 @@ impl Facts {
     }
 
     // A component has this. Others that share the knowledge keep it.
-    fn learn_at(&mut self, alloc: Global, component: usize, own: &Own) -> Result<(), AllocError>
+    fn learn_at(
+        &mut self,
+        memory: Memory<'_>,
+        component: usize,
+        own: &Own,
+    ) -> Result<(), AllocError>
         requires { component < length self.now }
         ensures { OnOk result (self.new ≡ learnt_at self.old component own.now) }
     {
         match Rc::get_mut(&mut self.held) {
-            Some(held) => held[component].learn(alloc, own),
+            Some(held) => held[component].learn(memory, component, own),
             None => {
-                let mut held = self.copied(alloc)?;
-                held[component].learn(alloc, own)?;
-                self.held = Rc::new(alloc, held)?;
+                let mut held = self.copied(memory.alloc)?;
+                held[component].learn(memory, component, own)?;
+                self.held = Rc::new(memory.alloc, held)?;
                 Ok(())
             }
         }
@@ -333,7 +356,7 @@ impl Facts {
     /// The facts where a component has something of its own, if it may.
     pub(crate) fn learn(
         self,
-        alloc: Global,
+        memory: Memory<'_>,
         component: u32,
         own: &Own,
     ) -> Result<Option<Facts>, AllocError>
@@ -348,14 +371,19 @@ impl Facts {
         match held[index].tells(own) {
             Some(has) => { if has { Ok(Some(facts)) } else { Ok(None) } }
             None => {
-                facts.learn_at(alloc, index, own)?;
+                facts.learn_at(memory, index, own)?;
                 Ok(Some(facts))
             }
         }
     }
 
     /// Whether a component has something of its own. A component of which there is no identity has nothing.
-    pub(crate) fn fork(&self, alloc: Global, component: u32, own: &Own) -> Result<Fork, AllocError>
+    pub(crate) fn fork(
+        &self,
+        memory: Memory<'_>,
+        component: u32,
+        own: &Own,
+    ) -> Result<Fork, AllocError>
         ensures { IfOk result (Forks self.now component own.now) }
     {
         let index = component as usize;
@@ -367,8 +395,8 @@ impl Facts {
         match known.tells(own) {
             Some(has) => { if has { Ok(Fork::Has) } else { Ok(Fork::HasNot) } }
             None => {
-                let has = self.with(alloc, index, known.with(alloc, own)?)?;
-                let has_not = self.with(alloc, index, known.without(alloc, own)?)?;
+                let has = self.with(memory.alloc, index, known.with(memory, index, own)?)?;
+                let has_not = self.with(memory.alloc, index, known.without(memory, index, own)?)?;
                 Ok(Fork::Either(has, has_not))
             }
         }

@@ -3,6 +3,7 @@
 ghost use Rattle.std.specs.Prelude.{◌≡◌};
 ghost use Rattle.std.specs.Option.{option_copied};
 
+use crate::judge_plan::fingerprint::{mixed, of_bytes, of_number};
 use suit_commands::TestKind;
 use suit_params::Digest;
 
@@ -46,6 +47,20 @@ impl<'a> Happened<'a> {
             Happened::Wrote { component } => *component,
             Happened::Invoked { component, .. } => *component,
             Happened::Failed { .. } => 0,
+        }
+    }
+
+    /// A fingerprint, which tells many matches apart.
+    pub(crate) fn print(&self) -> u64 {
+        let component = u64::from(self.component());
+        match self {
+            Happened::Matched { digest, size, .. } => {
+                let digest = of_bytes(&digest.bytes[..4]);
+                mixed(component, mixed(digest, of_number(*size)))
+            }
+            Happened::Tried { passed, .. } => component + 8 * (*passed as u64),
+            Happened::Failed { place } => mixed(9, *place),
+            _ => 16 + component,
         }
     }
 }

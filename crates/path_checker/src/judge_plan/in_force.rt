@@ -13,6 +13,7 @@ use crate::judge_plan::fingerprint::{mixed, of_param};
 use crate::judge_plan::same_param::same_param;
 use path_model::overriding_laws;
 use std::alloc::{AllocError, Global};
+use std::cell::Cell;
 use std::marker::Model;
 use std::rc::Rc;
 use suit_commands::TestKind;
@@ -118,6 +119,26 @@ impl<'a> InForce<'a> {
     {
         overriding_laws();
         override_shared(&mut self.params, alloc, component, list)
+    }
+
+    /// Whether no other state shares them.
+    pub(crate) fn is_own(&self) -> bool {
+        Rc::strong_count(&self.params) == 1
+    }
+
+    /// The same, shared with those that were made last where they are equal.
+    pub(crate) fn shared(self, last: &Cell<Option<InForce<'a>>>) -> Result<InForce<'a>, AllocError>
+        ensures { IfOk result (λ params. params ≡ self.entry) }
+    {
+        if let Some(made) = last.replace(None) {
+            if made.is_same(&self) {
+                let same = made.copy()?;
+                last.set(Some(made));
+                return Ok(same);
+            }
+        }
+        last.set(Some(self.copy()?));
+        Ok(self)
     }
 
     // Whether the same is in force for a component under a key.

@@ -1,19 +1,17 @@
-//! The matches of one component, as a search tree. Copies share them until one is added.
+//! The matches of one component. Copies share them until one is added.
 
 ghost use Rattle.std.specs.Prelude.{◌≡◌, ◌↔◌, [], ◌∷◌, IsTrue, IfOk, OnOk};
 ghost use Rattle.path_checker.specs.Exploring.{In};
 ghost use Rattle.path_checker.specs.Matches.{Match as TheMatch, match_of, matches_from, match_event, SameMembers};
 
 use crate::judge_plan::fingerprint::{mixed, of_bytes, of_number};
+use crate::judge_plan::links::Links;
 use bumpalo::Bump;
 use path_model::Event;
 use std::alloc::{AllocError, Global};
 use std::marker::Model;
 use std::rc::Rc;
 use suit_params::Digest;
-
-// How far down a match is searched.
-const DEEPEST: u32 = 512;
 
 /// A digest and a size that a component was matched under.
 #[derive(Clone, Copy)]
@@ -69,20 +67,25 @@ impl<'a> Match<'a> {
         self.size == size && *self.digest == *digest
     }
 
-    // Whether it is the other.
-    fn is(&self, other: &Match<'_>) -> bool
+    /// Whether it is the other.
+    pub(crate) fn is(&self, other: &Match<'_>) -> bool
         ensures { IsTrue result ↔ (match_of self.now ≡ match_of other.now) }
     {
         self.size == other.size && *self.digest == *other.digest
     }
 
-    // Eight bits of the fingerprint, which tell it from most others.
-    fn tag(&self) -> u32 {
+    /// Some bits of the fingerprint.
+    pub(crate) fn middle(&self) -> usize {
+        ((self.print >> 32) & 0x00ff_ffff) as usize
+    }
+
+    /// Eight other bits of it, which tell the match from most others.
+    pub(crate) fn tag(&self) -> u32 {
         (self.print >> 56) as u32
     }
 
-    // Which way it is found at a depth: by its fingerprint, and further down by its digest.
-    fn goes_one(&self, depth: u32) -> bool {
+    /// Which way it is found at a depth: by its fingerprint, and further down by its digest.
+    pub(crate) fn goes_one(&self, depth: u32) -> bool {
         if depth < 64 {
             return (self.print >> depth) & 1 == 1;
         }
@@ -93,66 +96,11 @@ impl<'a> Match<'a> {
     }
 }
 
-// Where a search ended: at a match that is the wanted one, or above a free place.
-#[derive(Clone, Copy)]
-struct Ended {
-    found: bool,
-    at: usize,
-    one: bool,
-}
-
-// Where the next match is, by its index, and eight bits of its fingerprint. There is none at 0, where the first one is.
-#[derive(Clone, Copy)]
-struct Link {
-    bits: u32,
-}
-
-impl Link {
-    fn none() -> Link {
-        Link { bits: 0 }
-    }
-
-    // To an index below 2^24; others are not linked.
-    fn to(index: usize, own: &Match<'_>) -> Link {
-        match u32::try_from(index) {
-            Ok(index) if index < 1 << 24 => Link {
-                bits: own.tag() << 24 | index,
-            },
-            _ => Link::none(),
-        }
-    }
-
-    fn index(self) -> usize {
-        (self.bits & 0x00ff_ffff) as usize
-    }
-
-    fn may_be(self, wanted: &Match<'_>) -> bool {
-        self.bits >> 24 == wanted.tag()
-    }
-}
-
-// The links to the two matches below one.
-#[derive(Clone, Copy)]
-struct Below {
-    zero: Link,
-    one: Link,
-}
-
-impl Below {
-    fn none() -> Below {
-        Below {
-            zero: Link::none(),
-            one: Link::none(),
-        }
-    }
-}
-
 /// The matches of a component.
 #[derive(Drop)]
 pub(crate) struct Matches<'a> {
     all: Vec<&'a Match<'a>>,
-    // How each is found.
-    below: Vec<Below>,
+    links: Links,
     // The fingerprints of all matches, added up.
     sum: u64,
 }
@@ -173,11 +121,10 @@ impl<'a> Matches<'a> {
     {
         let mut all = Vec::new(alloc);
         all.push(own)?;
-        let mut below = Vec::new(alloc);
-        below.push(Below::none())?;
+        let links = Links::to_one(alloc, own)?;
         Ok(Matches {
             all,
-            below,
+            links,
             sum: own.print,
         })
     }
@@ -187,93 +134,33 @@ impl<'a> Matches<'a> {
         ensures { IfOk result (λ held. held ≡ self.now) }
     {
         let all = Vec::from_slice(alloc, &self.all)?;
-        let below = Vec::from_slice(alloc, &self.below)?;
+        let links = self.links.copy(alloc)?;
         Ok(Matches {
             all,
-            below,
+            links,
             sum: self.sum,
         })
     }
 
-    // Whether the wanted match is at an index.
-    fn is_at(&self, at: usize, wanted: &Match<'_>) -> bool
+    // Whether a match is found.
+    fn finds(&self, wanted: &Match<'_>) -> bool
         ensures { IsTrue result → In (match_of wanted.now) self.now }
     {
-        let all = self.all.as_slice();
-        if at >= all.len() {
-            return false;
-        }
-        let own = all[at];
-        own.print == wanted.print && own.is(wanted)
-    }
-
-    // Searches from the first match down.
-    fn search(&self, wanted: &Match<'_>) -> Ended
-        ensures { IsTrue result.found → In (match_of wanted.now) self.now }
-    {
-        let mut at = 0;
-        let mut may_be = true;
-        for depth in 0..DEEPEST {
-            if may_be && self.is_at(at, wanted) {
-                return Ended {
-                    found: true,
-                    at,
-                    one: false,
-                };
-            }
-            let one = wanted.goes_one(depth);
-            let link = self.next(at, one);
-            if link.index() == 0 {
-                return Ended {
-                    found: false,
-                    at,
-                    one,
-                };
-            }
-            at = link.index();
-            may_be = link.may_be(wanted);
-        }
-        Ended {
-            found: false,
-            at: usize::MAX,
-            one: false,
-        }
-    }
-
-    // The link to the one below another.
-    fn next(&self, at: usize, one: bool) -> Link {
-        match self.below.get(at) {
-            Some(below) if one => below.one,
-            Some(below) => below.zero,
-            None => Link::none(),
-        }
+        self.links.search(self.all.as_slice(), wanted).found
     }
 
     // One match more.
-    fn add(&mut self, own: &'a Match<'a>) -> Result<(), AllocError>
+    fn add(&mut self, alloc: Global, own: &'a Match<'a>) -> Result<(), AllocError>
         ensures { OnOk result (SameMembers self.new (match_of own.now ∷ self.old)) }
     {
-        let ended = self.search(own);
+        let ended = self.links.search(self.all.as_slice(), own);
         if ended.found {
             return Ok(());
         }
         self.all.push(own)?;
-        self.below.push(Below::none())?;
         self.sum = self.sum.wrapping_add(own.print);
-        self.link(&ended, own);
+        self.links.add(alloc, self.all.as_slice(), own, ended)?;
         Ok(())
-    }
-
-    // Puts the last match below the one where a search for it ended.
-    fn link(&mut self, ended: &Ended, own: &Match<'_>)
-        ensures { self.new ≡ self.old }
-    {
-        let link = Link::to(self.below.len().wrapping_sub(1), own);
-        match self.below.get_mut(ended.at) {
-            Some(below) if ended.one => below.one = link,
-            Some(below) => below.zero = link,
-            None => {}
-        }
     }
 
     // Whether a match is anywhere among them.
@@ -294,7 +181,7 @@ impl<'a> Matches<'a> {
             → (one : TheMatch) → In one self.now → In one others.now }
     {
         for own in self.all.as_slice() {
-            if !others.search(own).found {
+            if !others.finds(own) {
                 return false;
             }
         }
@@ -338,7 +225,7 @@ impl<'a> Held<'a> {
     fn has(&self, wanted: &Match<'_>) -> bool
         ensures { IsTrue result ↔ In (match_of wanted.now) self.now }
     {
-        self.held.search(wanted).found || self.held.is_among(wanted)
+        self.held.finds(wanted) || self.held.is_among(wanted)
     }
 
     // Whether each is found among the others.
@@ -354,10 +241,10 @@ impl<'a> Held<'a> {
         ensures { OnOk result (SameMembers self.new (match_of own.now ∷ self.old)) }
     {
         match Rc::get_mut(&mut self.held) {
-            Some(all) => all.add(own),
+            Some(all) => all.add(alloc, own),
             None => {
                 let mut all = self.held.copy(alloc)?;
-                all.add(own)?;
+                all.add(alloc, own)?;
                 self.held = Rc::new(alloc, all)?;
                 Ok(())
             }

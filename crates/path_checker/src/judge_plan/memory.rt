@@ -1,5 +1,7 @@
 //! The allocators of a judgement, and how much it compares.
 
+use crate::judge_plan::facts::Shared;
+use crate::judge_plan::in_force::InForce;
 use crate::judge_plan::trace::Told;
 use bumpalo::Bump;
 use std::alloc::{AllocError, Global};
@@ -9,8 +11,11 @@ use std::cell::Cell;
 /// alone bounds the work.
 pub(crate) const COMPARED: u64 = 4_194_304;
 
-// What two states cost that hold no match.
+// The cost of comparing two states that hold no match.
 const LEAST: u64 = 32;
+
+// How many events are kept where states go on alone, each of which comes to the same events: a power of two.
+const EVENTS: usize = 16_384;
 
 /// The allocators of a judgement, and how many matches it may still compare. Events are freed together, when it ends.
 #[derive(Clone, Copy)]
@@ -18,12 +23,51 @@ pub(crate) struct Memory<'a> {
     pub alloc: Global,
     pub events: &'a Bump,
     pub left: &'a Cell<u64>,
-    // What happened last at each component.
-    last: &'a Cell<LastTold<'a>>,
+    /// The values made last. The next state mostly comes to the same, and shares them.
+    pub last: &'a Last<'a>,
 }
 
-/// What happened last at each component that there is room for, and the last override, lent.
+/// The last event at each component that there is room for, and the last override, lent.
 type LastTold<'a> = [Option<&'a Told<'a>>; 9];
+
+/// The values made last, in any state.
+#[derive(Drop)]
+pub(crate) struct Last<'a> {
+    told: Cell<LastTold<'a>>,
+    // The same by their fingerprints, where states go on alone.
+    more: Cell<&'a [Cell<Option<&'a Told<'a>>>]>,
+    /// The parameters after an override.
+    pub params: Cell<Option<InForce<'a>>>,
+    // The knowledge of each component where it has something of its own, and where it has not.
+    having: [Cell<Option<Shared>>; 8],
+    lacking: [Cell<Option<Shared>>; 8],
+}
+
+fn none_known() -> [Cell<Option<Shared>>; 8] {
+    [
+        Cell::new(None),
+        Cell::new(None),
+        Cell::new(None),
+        Cell::new(None),
+        Cell::new(None),
+        Cell::new(None),
+        Cell::new(None),
+        Cell::new(None),
+    ]
+}
+
+impl<'a> Last<'a> {
+    // Nothing.
+    fn new() -> Last<'a> {
+        Last {
+            told: Cell::new([None; 9]),
+            more: Cell::new(&[]),
+            params: Cell::new(None),
+            having: none_known(),
+            lacking: none_known(),
+        }
+    }
+}
 
 impl<'a> Memory<'a> {
     /// These allocators, where nothing has happened.
@@ -32,32 +76,71 @@ impl<'a> Memory<'a> {
         events: &'a Bump,
         left: &'a Cell<u64>,
     ) -> Result<Memory<'a>, AllocError> {
-        match events.try_alloc(Cell::new([None; 9])) {
-            Ok(last) => Ok(Memory {
-                alloc,
-                events,
-                left,
-                last,
-            }),
-            Err(_) => Err(AllocError),
+        let last = events.try_alloc(Last::new())?;
+        Ok(Memory {
+            alloc,
+            events,
+            left,
+            last,
+        })
+    }
+
+    /// Frees what was made last.
+    pub(crate) fn release(&self) {
+        self.last.params.set(None);
+        for known in &self.last.having {
+            known.set(None);
+        }
+        for known in &self.last.lacking {
+            known.set(None);
         }
     }
 
-    /// What happened last at a component, in any state.
-    pub(crate) fn last_told(&self, component: u32) -> Option<&'a Told<'a>> {
-        let told = self.last.get();
+    /// The knowledge that was made last of a component that has something of its own.
+    pub(crate) fn having(&self, component: usize) -> &'a Cell<Option<Shared>> {
+        let known = &self.last.having[..];
+        &known[component % 8]
+    }
+
+    /// The knowledge that was made last of a component that has it not.
+    pub(crate) fn lacking(&self, component: usize) -> &'a Cell<Option<Shared>> {
+        let known = &self.last.lacking[..];
+        &known[component % 8]
+    }
+
+    /// Keeps more of what happened from now on.
+    pub(crate) fn keep_more(&self) -> Result<(), AllocError> {
+        if self.last.more.get().is_empty() {
+            let more = self
+                .events
+                .try_alloc_slice_fill_clone(EVENTS, Cell::new(None))?;
+            self.last.more.set(more);
+        }
+        Ok(())
+    }
+
+    /// The last event at a component, or with a fingerprint, in any state.
+    pub(crate) fn last_told(&self, component: u32, print: u64) -> Option<&'a Told<'a>> {
+        if let Some(last) = self.last.more.get().get(print as usize & (EVENTS - 1)) {
+            return last.get();
+        }
+        let told = self.last.told.get();
         match told.get(component as usize) {
             Some(last) => *last,
             None => None,
         }
     }
 
-    /// Keeps what happened last at a component.
-    pub(crate) fn keep_told(&self, component: u32, last: &'a Told<'a>) {
-        let mut told = self.last.get();
+    /// Keeps what happened last at a component, and with a fingerprint.
+    pub(crate) fn keep_told(&self, component: u32, print: u64, last: &'a Told<'a>) {
+        if let Some(place) = self.last.more.get().get(print as usize & (EVENTS - 1)) {
+            place.set(Some(last));
+            return;
+        }
+        let mut told = self.last.told.get();
         if let Some(place) = told.get_mut(component as usize) {
             *place = Some(last);
-            self.last.set(told);
+            self.last.told.set(told);
         }
     }
 

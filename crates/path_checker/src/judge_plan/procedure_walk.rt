@@ -3,11 +3,9 @@
 ghost use Rattle.std.specs.Prelude.{◌≡◌, ◌↔◌, ◌≤◌, [], ◌∷◌, IsTrue, IfOk, IfErr, OnOk};
 ghost use Rattle.suit_commands.specs.Plans.{lent_tree, plan_tree};
 ghost use Rattle.suit_commands.specs.Allowed.{IsPlan};
-ghost use Rattle.suit_commands.specs.View.{command_tree};
 ghost use Rattle.path_model.specs.Path.{RunsPlan};
-ghost use Rattle.path_model.specs.Runs.{Runs, Does};
-ghost use Rattle.path_checker.specs.Exploring.{Passes};
-ghost use Rattle.path_checker.specs.Small.{IsSmallSequence, IsSmallCommand};
+ghost use Rattle.path_checker.specs.Keeping.{PassesTo};
+ghost use Rattle.path_checker.specs.Small.{IsSmallSequence};
 ghost use Rattle.path_checker.specs.Invoking.{Covers};
 ghost use Rattle.path_checker.specs.Procedures.{FromStart, FromThird, FromSecond, ThirdInvokes, SecondInvokes, FirstInvokes, ArePlan, first_kept};
 ghost use Rattle.path_checker.specs.Halting.{Halts};
@@ -20,11 +18,10 @@ use crate::judge_plan::inner::restart_all;
 use crate::judge_plan::invoking::lent_invokes;
 use crate::judge_plan::kept::Kept;
 use crate::judge_plan::memory::Memory;
+use crate::judge_plan::outermost::commands;
 use crate::judge_plan::selected::Selected;
-use crate::judge_plan::straight::{is_straight, straight};
-use crate::judge_plan::walk::command;
 use std::alloc::{AllocError, Global};
-use suit_commands::{Plan, Sequence, Step};
+use suit_commands::{Plan, Sequence};
 
 /// The state in which a procedure of so many components begins.
 pub(crate) fn first<'a>(alloc: Global, count: u32) -> Result<Vec<Kept<'a>>, AllocError>
@@ -44,66 +41,24 @@ pub(crate) fn first<'a>(alloc: Global, count: u32) -> Result<Vec<Kept<'a>>, Allo
     Ok(from)
 }
 
-// Does a command of a member or of the shared sequence. A failure there ends the procedure, so none is kept.
-fn outermost<'a>(
-    memory: Memory<'a>,
-    count: u32,
-    step: &'a Step,
-    from: Vec<Kept<'a>>,
-) -> Result<Vec<Kept<'a>>, Halt<'a>>
-    requires small { IsSmallCommand count (command_tree step.now.command) }
-    ensures ok { IfOk result
-        (λ v. Passes
-        (λ identities. Does (command_tree step.now.command) identities count step.now.place)
-        from.entry.items v.items) }
-    ensures err { IfErr result
-        (λ h. Halts
-        (λ identities. Does (command_tree step.now.command) identities count step.now.place)
-        from.entry.items h) }
-{
-    if is_straight(&step.command) {
-        return straight(memory, count, step, from);
-    }
-    let mut ended = Vec::new(memory.alloc);
-    command(memory, count, step, from, &mut ended)
-}
-
-// Runs the commands of a member or of the shared sequence.
-fn commands<'a>(
-    memory: Memory<'a>,
-    count: u32,
-    sequence: &'a Sequence,
-    from: Vec<Kept<'a>>,
-) -> Result<Vec<Kept<'a>>, Halt<'a>>
-    requires small { IsSmallSequence count sequence.now }
-    ensures ok { IfOk result
-        (λ v. Passes (λ identities. Runs sequence.now identities count) from.entry.items v.items) }
-    ensures err { IfErr result
-        (λ h. Halts (λ identities. Runs sequence.now identities count) from.entry.items h) }
-{
-    let mut now = from;
-    for step in sequence.as_slice() {
-        now = outermost(memory, count, step, now)?;
-    }
-    Ok(now)
-}
-
-// Runs a member or the shared sequence from each of the states.
+// Runs a member or the shared sequence from each of the states. Those after it are kept only where they are wanted.
 fn part<'a>(
     memory: Memory<'a>,
     count: u32,
     lent: Option<&'a Sequence>,
+    wanted: bool,
     from: Vec<Kept<'a>>,
 ) -> Result<Vec<Kept<'a>>, Halt<'a>>
     requires small { IsSmallSequence count (lent_tree lent) }
     ensures ok { IfOk result
-        (λ v. Passes (FromStart (lent_tree lent.entry) count) from.entry.items v.items) }
+        (λ v. PassesTo (FromStart (lent_tree lent.entry) count)
+        from.entry.items wanted v.items) }
     ensures err { IfErr result
         (λ h. Halts (FromStart (lent_tree lent.entry) count) from.entry.items h) }
 {
     let started = restart_all(from);
     match lent {
-        Some(inner) => commands(memory, count, inner, started),
+        Some(inner) => commands(memory, count, inner.as_slice(), wanted, started),
         None => Ok(started),
     }
 }
@@ -139,8 +94,8 @@ fn from_third<'a>(memory: Memory<'a>, plan: &Plan<'a>, from: Vec<Kept<'a>>) -> R
     if !third_invokes(plan) {
         return Ok(());
     }
-    let before_third = part(memory, plan.count, plan.shared, from)?;
-    part(memory, plan.count, plan.third, before_third)?;
+    let before_third = part(memory, plan.count, plan.shared, true, from)?;
+    part(memory, plan.count, plan.third, false, before_third)?;
     Ok(())
 }
 
@@ -153,8 +108,8 @@ fn from_second<'a>(memory: Memory<'a>, plan: &Plan<'a>, from: Vec<Kept<'a>>) -> 
     if !second_invokes(plan) {
         return Ok(());
     }
-    let before_second = part(memory, plan.count, plan.shared, from)?;
-    let after_second = part(memory, plan.count, plan.second, before_second)?;
+    let before_second = part(memory, plan.count, plan.shared, true, from)?;
+    let after_second = part(memory, plan.count, plan.second, true, before_second)?;
     from_third(memory, plan, after_second)
 }
 
@@ -171,7 +126,7 @@ pub(crate) fn procedure<'a>(
     if !first_invokes(plan) {
         return Ok(());
     }
-    let after_shared = part(memory, plan.count, plan.shared, from)?;
-    let after_first = part(memory, plan.count, plan.first, after_shared)?;
+    let after_shared = part(memory, plan.count, plan.shared, true, from)?;
+    let after_first = part(memory, plan.count, plan.first, true, after_shared)?;
     from_second(memory, plan, after_first)
 }

@@ -6,6 +6,7 @@ ghost use Rattle.path_checker.specs.Happening.{event_of, invoke_event, sets_at, 
 ghost use Rattle.path_checker.specs.Selecting.{components_of};
 ghost use Rattle.path_checker.specs.Standing.{all_in_order};
 
+use crate::judge_plan::fingerprint::of_param;
 use crate::judge_plan::happened::{Happened, copied};
 use crate::judge_plan::matches::Match;
 use crate::judge_plan::memory::Memory;
@@ -230,12 +231,17 @@ impl<'a> Told<'a> {
     }
 
     // In memory that all states share. The next state mostly comes to the same.
-    fn lent(self, memory: Memory<'a>, component: u32) -> Result<&'a Told<'a>, AllocError>
+    fn lent(
+        self,
+        memory: Memory<'a>,
+        component: u32,
+        print: u64,
+    ) -> Result<&'a Told<'a>, AllocError>
         ensures { IfOk result (λ lent. lent.now ≡ self.entry) }
     {
         match memory.events.try_alloc(self) {
             Ok(lent) => {
-                memory.keep_told(component, lent);
+                memory.keep_told(component, print, lent);
                 Ok(lent)
             }
             Err(_) => Err(AllocError),
@@ -246,14 +252,14 @@ impl<'a> Told<'a> {
     pub(crate) fn event(memory: Memory<'a>, event: Happened<'a>) -> Result<&'a Told<'a>, AllocError>
         ensures { IfOk result (λ told. told_by told.now ≡ event_of event.entry ∷ []) }
     {
-        let component = event.component();
-        if let Some(last) = memory.last_told(component) {
+        let (component, print) = (event.component(), event.print());
+        if let Some(last) = memory.last_told(component, print) {
             if last.tells(&event) {
                 return Ok(last);
             }
         }
         let told = Told::of(memory.events, event)?;
-        told.lent(memory, component)
+        told.lent(memory, component, print)
     }
 
     /// The events of an override at some components, lent.
@@ -265,12 +271,13 @@ impl<'a> Told<'a> {
         ensures { IfOk result
             (λ told. told_by told.now ≡ sets_at (components_of components.entry) list.now) }
     {
-        if let Some(last) = memory.last_told(SETS) {
+        let print = of_param(list.as_slice().first());
+        if let Some(last) = memory.last_told(SETS, print) {
             if last.tells_sets(components, list) {
                 return Ok(last);
             }
         }
-        Told::Sets { components, list }.lent(memory, SETS)
+        Told::Sets { components, list }.lent(memory, SETS, print)
     }
 
     // Adds the events, in memory of their own.

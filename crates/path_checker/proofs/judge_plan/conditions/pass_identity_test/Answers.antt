@@ -1,8 +1,6 @@
 use Rattle.std.proofs.Common.{[], ap, Some, None}
 use Rattle.std.proofs.lemmas.Result.{IfOk-weaker}
-use Rattle.path_checker.specs.Exploring.{Passes, at_most_one}
-use Rattle.path_checker.specs.Wanting.{TestsOwn}
-use Rattle.path_checker.proofs.ConditionLeaves.{tests_course}
+use Rattle.path_checker.specs.Exploring.{at_most_one}
 use Rattle.path_checker.proofs.Passing.{Passes-identity, Passes-no_own}
 use Rattle.path_checker.proofs.judge_plan.conditions.pass_identity_test.Goals as goal
 

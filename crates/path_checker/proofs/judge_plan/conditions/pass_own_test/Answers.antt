@@ -1,5 +1,4 @@
-use Rattle.std.proofs.Common.{[], ◌∷◌, Option, Some, None, ap, refl, sym, ◌∙◌, subst}
-use Rattle.path_checker.specs.declared.judge_plan.facts.Knowledge.{Knowledge}
+use Rattle.std.proofs.Common.{Some, None, refl, subst}
 use Rattle.path_checker.specs.Exploring.{Kept}
 use Rattle.path_checker.specs.Forking.{Learnt}
 use Rattle.path_checker.proofs.Passing.{Passes-learnt, Passes-unlearnt}

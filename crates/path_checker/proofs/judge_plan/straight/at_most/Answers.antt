@@ -1,4 +1,4 @@
-use Rattle.std.proofs.Common.{subst, sym, [], ◌∷◌}
+use Rattle.std.proofs.Common.{subst, sym, []}
 use Rattle.std.specs.Prelude.{IfOk, IfErr}
 use Rattle.suit_commands.specs.View.{command_tree}
 use Rattle.path_checker.specs.Exploring.{Passes, at_most_one}

@@ -1,4 +1,4 @@
-use Rattle.std.proofs.Common.{rules, ◌≡◌, ◌<◌, [], ◌∷◌}
+use Rattle.std.proofs.Common.{rules, ◌≡◌, ◌<◌, []}
 use Rattle.std.proofs.lemmas.Result.{err_from_is_err_and}
 use Rattle.std.specs.Vec.{vec_len}
 use Rattle.suit_commands.specs.View.{command_tree}

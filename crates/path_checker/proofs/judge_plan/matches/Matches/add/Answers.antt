@@ -1,9 +1,8 @@
-use Rattle.std.proofs.Common.{◌∷◌, List, sym, subst}
+use Rattle.std.proofs.Common.{◌∷◌, List, subst}
 use Rattle.path_checker.specs.Matches.{Match, match_of, all_lent, SameMembers}
 use Rattle.path_checker.proofs.MatchLaws.{same_lent}
 use Rattle.path_checker.proofs.judge_plan.matches.Matches.add.Goals as goal
 
 pub returns : goal.returns
 returns c =
-    subst (λ (ms : List Match). SameMembers ms (match_of c.args.own.now ∷ c.args.self.now)) (sym c.link.ensures)
-    (subst (λ (xs : List Match). SameMembers (all_lent c.push.new.self.items) (match_of c.args.own.now ∷ xs)) c.self.view_is (same_lent c.self.inside.all.items c.push.new.self.items c.args.own c.in_ok-push.ensures.items))
+    subst (λ (xs : List Match). SameMembers (all_lent c.push.new.self.items) (match_of c.args.own.now ∷ xs)) c.self.view_is (same_lent c.self.inside.all.items c.push.new.self.items c.args.own c.in_ok-push.ensures.items)

@@ -1,4 +1,4 @@
-use Rattle.std.proofs.Common.{◌≡◌, List, Bool, refl, ap, ◌∙◌, subst}
+use Rattle.std.proofs.Common.{List, Bool, refl, ap, ◌∙◌, subst}
 use Rattle.std.specs.Prelude.{IsTrue}
 use Rattle.path_checker.specs.Exploring.{In}
 use Rattle.path_checker.specs.Matches.{Match, match_of, all_lent}

@@ -6,7 +6,7 @@ use Rattle.path_checker.proofs.MatchLaws.{within_next}
 use Rattle.path_checker.proofs.judge_plan.matches.Matches.is_within.Goals as goal
 
 pub loop-own-preserved : goal.loop-own-preserved
-loop-own-preserved c = within_next c.args.others.now c.as_slice-own-items.result.now c.loop-own.own-index _ c.loop-own-test.true c.loop-own.invariant (c.search.ensures (search rules))
+loop-own-preserved c = within_next c.args.others.now c.as_slice-own-items.result.now c.loop-own.own-index _ c.loop-own-test.true c.loop-own.invariant (c.finds.ensures (search rules))
 
 pub returns : goal.returns
 returns c t one h =

@@ -1,4 +1,4 @@
-use Rattle.std.proofs.Common.{List, Option, ap, ◌∙◌, refl}
+use Rattle.std.proofs.Common.{List, Option, ap, ◌∙◌}
 use Rattle.std.specs.Prelude.{slice_get}
 use Rattle.path_checker.specs.Matches.{Match}
 use Rattle.path_checker.specs.Standing.{held_in}

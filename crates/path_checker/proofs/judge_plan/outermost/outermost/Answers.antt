@@ -4,7 +4,7 @@ use Rattle.suit_commands.specs.View.{command_tree}
 use Rattle.path_checker.specs.Exploring.{Stopped, Adds, Passes}
 use Rattle.path_checker.proofs.Passing.{Passes-added}
 use Rattle.path_checker.proofs.Walking.{does_course}
-use Rattle.path_checker.proofs.judge_plan.procedure_walk.outermost.Goals as goal
+use Rattle.path_checker.proofs.judge_plan.outermost.outermost.Goals as goal
 
 pub returns-clause-ok : goal.returns-clause-ok
 returns-clause-ok c =
