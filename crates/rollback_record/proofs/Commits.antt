@@ -17,27 +17,6 @@ use Rattle.rollback_record.specs.HeadRecord.{record_bytes, Counts, HoldsRecord, 
 use Rattle.rollback_record.specs.Committing.{HasHeldOrNew, InHead, IsNext, IsSpare, KeepsBesideSpare}
 use Rattle.rollback_record.proofs.Pages.{bytes_in, kept, shut, fresh}
 
--- ---- the free page
-
-pub other_page : (h : List ℕ) (r : Record) (first : List ℕ) → first ≡ record_bytes VERSION_1 h 0 → RecordOf VERSION_1 h (Some r) → first ≡ 0xA5 ∷ record_body r → IsSpare VERSION_1 h (Some r) 1
-other_page h r first is held spelled =
-    (omega arith, record { whole = held.counts.whole; page = record { typed = held.counts.page.typed; fields = held.counts.page.fields; bytes = sym is ∙ spelled } })
-
-pub first_page : (h : List ℕ) (r : Record) (first : List ℕ) → first ≡ record_bytes VERSION_1 h 0 → RecordOf VERSION_1 h (Some r) → (first ≡ 0xA5 ∷ record_body r → ⊥) → IsSpare VERSION_1 h (Some r) 0
-first_page h r first is held other =
-    (omega arith, subst (λ (k : ℕ). Counts VERSION_1 h k r) one held.counts)
-  where
-    one : held.which ≡ 1
-    one = ⊎_elim (λ e. absurd (other (is ∙ ap (λ (k : ℕ). record_bytes VERSION_1 h k) (sym e) ∙ held.counts.page.bytes))) (λ ne. omega (arith, ne, held.inside)) (cases_eq held.which 0)
-
--- there is one
-pub some_spare : (h : List ℕ) (o : Option Record) → RecordOf VERSION_1 h o → (w : ℕ) × IsSpare VERSION_1 h o w
-some_spare h None none = (0, refl)
-some_spare h (Some r) held = (1 - held.which, (omega arith, subst (λ (k : ℕ). Counts VERSION_1 h k r) back held.counts))
-  where
-    back : held.which ≡ 1 - (1 - held.which)
-    back = omega (arith, held.inside)
-
 -- ---- bytes behind a gate
 
 split_first : (l : List ℕ) (q : ℕ) → q + 99 ≤ length l → slice_range l q (q + 99) ≡ get_or l q 0 ∷ slice_range l (q + 1) (q + 1 + 98)
@@ -115,43 +94,29 @@ module _ (b : Flash) (w : ℕ) (held : Option Record) (new : Record) (gate place
             (λ closed. inl (now_shut image (size_of image o.apart) (apart_of image o.apart) closed))
             (cases_eq (get_or image gate 0) 0xA5)
 
--- ---- a read before it
+-- ---- the spare page
 
--- an image of a flash whose head is sure has the record that reads give
-same_head : (a : Flash) (image : List ℕ) → 49152 ≤ length a.reads → IsFirmOn (InHead VERSION_1) a → Now a image → head_of VERSION_1 image ≡ head_of VERSION_1 a.reads
-same_head a image large firm now =
-    let sure = firm image now in
-    same_range image a.reads 0 49152 sure.size (omega (arith, sure.size, large)) (λ i low high. sure.same i (omega arith, omega (arith, high)))
-
--- while nothing was written
-pub only_read : (a b : Flash) (held : Option Record) (new : Record) → 49152 ≤ length a.reads → RecordOf VERSION_1 (head_of VERSION_1 a.reads) held → IsFirmOn (InHead VERSION_1) a → IsSame a b → Passes a b (HasHeldOrNew VERSION_1 held new)
-only_read a b held new large is firm same =
-    weakens a b (Now a) (HasHeldOrNew VERSION_1 held new) (λ image now. inl (subst (λ (h : List ℕ). RecordOf VERSION_1 h held) (sym (same_head a image large firm now)) is)) same.images
-
-pub read_keeps : (a b : Flash) (held : Option Record) → RecordOf VERSION_1 (head_of VERSION_1 a.reads) held → IsSame a b → KeepsBesideSpare VERSION_1 held a b
-read_keeps a b held is same =
-    let s = some_spare (head_of VERSION_1 a.reads) held is in
-    record { which = s.0; spare = s.1; keeps = keeps_same _ a b same }
-
--- ---- a read, and then the page
-
--- a flash, the same one after the read, and the page that is to be written
-pub record Begins (a b : Flash) (size w : ℕ) (held : Option Record) (new : Record) (gate place : ℕ) (body : List ℕ) : Type 0 where
-  pub law_a : IsFlash a size
-  pub law_b : IsFlash b size
+-- a flash, and the page that is to be written
+pub record Begins (b : Flash) (size w : ℕ) (held : Option Record) (new : Record) (gate place : ℕ) (body : List ℕ) : Type 0 where
+  pub law : IsFlash b size
   pub large : 49152 ≤ size
-  pub same : IsSame a b
-  pub is : RecordOf VERSION_1 (head_of VERSION_1 a.reads) held
-  pub firm : IsFirmOn (InHead VERSION_1) a
-  pub spare : IsSpare VERSION_1 (head_of VERSION_1 a.reads) held w
+  pub is : RecordOf VERSION_1 (head_of VERSION_1 b.reads) held
+  pub firm : IsFirmOn (InHead VERSION_1) b
+  pub spare : IsSpare VERSION_1 (head_of VERSION_1 b.reads) held w
   pub two : w < 2
   pub next : IsNext held new
   pub typed : IsTypedRecord new
-  pub fields : IsInRange VERSION_1 (config_page_of VERSION_1 (head_of VERSION_1 a.reads)) new
+  pub fields : IsInRange VERSION_1 (config_page_of VERSION_1 (head_of VERSION_1 b.reads)) new
   pub gate_is : gate ≡ 4096 + w * 4096
   pub place_is : place ≡ gate + 1
   pub body_is : body ≡ record_body new
   pub long : length body ≡ 98
+
+-- the gate in the flash is that in its head
+pub gate_there : (image : List ℕ) (p w : ℕ) → w < 2 → p ≡ 0 + (4096 + w * 4096) → get_or (head_of VERSION_1 image) (4096 + w * 4096) 0 ≡ get_or image p 0
+gate_there image p w two is =
+    let at : 0 + (4096 + w * 4096) ≡ p = sym is in
+    get_or-between image 0 49152 (4096 + w * 4096) 0 (omega (arith, two)) ∙ ap (λ (k : ℕ). get_or image k 0) at
 
 pub gate_of : (p w : ℕ) → p ≡ 0 + (4096 + w * 4096) → p ≡ 4096 + w * 4096
 gate_of p w is = omega (arith, is)
@@ -163,28 +128,13 @@ behind_gate page body new spelled behind = behind ∙ ap (drop 1) spelled
 pub long_behind : (page body : List ℕ) → length page ≡ 99 → body ≡ drop 1 page → length body ≡ 98
 long_behind page body long behind = omega (arith, long, ap length behind, length-drop 1 page)
 
-module _ (a b : Flash) (size w : ℕ) (held : Option Record) (new : Record) (gate place : ℕ) (body : List ℕ) (x : Begins a b size w held new gate place body) where
-  large_a : 49152 ≤ length a.reads
-  large_a = omega (arith, x.law_a.fits, x.large)
-
+module _ (b : Flash) (size w : ℕ) (held : Option Record) (new : Record) (gate place : ℕ) (body : List ℕ) (x : Begins b size w held new gate place body) where
   large_b : 49152 ≤ length b.reads
-  large_b = omega (arith, x.law_b.fits, x.large)
-
-  firm_b : IsFirmOn (InHead VERSION_1) b
-  firm_b = firm_then (InHead VERSION_1) a b size x.law_b x.firm (keeps_same (InHead VERSION_1) a b x.same)
-
-  is_b : RecordOf VERSION_1 (head_of VERSION_1 b.reads) held
-  is_b = subst (λ (l : List ℕ). RecordOf VERSION_1 (head_of VERSION_1 l) held) (sym x.same.reads) x.is
-
-  spare_b : IsSpare VERSION_1 (head_of VERSION_1 b.reads) held w
-  spare_b = subst (λ (l : List ℕ). IsSpare VERSION_1 (head_of VERSION_1 l) held w) (sym x.same.reads) x.spare
-
-  fields_b : IsInRange VERSION_1 (config_page_of VERSION_1 (head_of VERSION_1 b.reads)) new
-  fields_b = subst (λ (l : List ℕ). IsInRange VERSION_1 (config_page_of VERSION_1 (head_of VERSION_1 l)) new) (sym x.same.reads) x.fields
+  large_b = omega (arith, x.law.fits, x.large)
 
   -- the page is sure
   pub page_firm : IsFirmOn (InSome (page_at gate place (length body))) b
-  page_firm = firm_fewer (InSome (page_at gate place (length body))) (InHead VERSION_1) (λ i h. ⊎_elim (λ g. (omega arith, gate_high i g.1)) (λ o. ⊎_elim (λ p. (omega arith, body_high i p.1)) (λ none. absurd none) o) h) b firm_b
+  page_firm = firm_fewer (InSome (page_at gate place (length body))) (InHead VERSION_1) (λ i h. ⊎_elim (λ g. (omega arith, gate_high i g.1)) (λ o. ⊎_elim (λ p. (omega arith, body_high i p.1)) (λ none. absurd none) o) h) b x.firm
     where
       gate_high : (i : ℕ) → i < gate + 1 → i < 0 + 49152
       gate_high i h = omega (arith, h, x.gate_is, x.two)
@@ -192,18 +142,16 @@ module _ (a b : Flash) (size w : ℕ) (held : Option Record) (new : Record) (gat
       body_high : (i : ℕ) → i < place + length body → i < 0 + 49152
       body_high i h = omega (arith, h, x.gate_is, x.place_is, x.long, x.two)
 
-  pub all_moments : (c : Flash) → Passes b c (IsGated gate place body b) → Passes a c (HasHeldOrNew VERSION_1 held new)
-  all_moments c run =
-      joined a b c (HasHeldOrNew VERSION_1 held new) (only_read a b held new large_a x.is x.firm x.same)
-      (held_or_new b w held new gate place body large_b x.two x.gate_is x.place_is x.body_is x.long is_b spare_b x.next x.typed fields_b c firm_b run)
+  pub all_moments : (c : Flash) → Passes b c (IsGated gate place body b) → Passes b c (HasHeldOrNew VERSION_1 held new)
+  all_moments c run = held_or_new b w held new gate place body large_b x.two x.gate_is x.place_is x.body_is x.long x.is x.spare x.next x.typed x.fields c x.firm run
 
-  pub keeps_beside : (c : Flash) → Keeps (OutsideEach (page_at gate place (length body))) b c → KeepsBesideSpare VERSION_1 held a c
+  pub keeps_beside : (c : Flash) → Keeps (OutsideEach (page_at gate place (length body))) b c → KeepsBesideSpare VERSION_1 held b c
   keeps_beside c apart = let at : 4096 + w * 4096 ≡ 0 + (4096 + w * 4096) = omega arith in record {
     which = w;
     spare = x.spare;
-    keeps = subst (λ (k : ℕ). Keeps (Outside k 99) a c) at (keeps_then (Outside (4096 + w * 4096) 99) a b c size x.law_b (keeps_same (Outside (4096 + w * 4096) 99) a b x.same)
-        (keeps_fewer (Outside (4096 + w * 4096) 99) (OutsideEach (page_at gate place (length body))) (beside b w held new gate place body large_b x.two x.gate_is x.place_is x.body_is x.long) b c apart));
+    keeps = subst (λ (k : ℕ). Keeps (Outside k 99) b c) at
+        (keeps_fewer (Outside (4096 + w * 4096) 99) (OutsideEach (page_at gate place (length body))) (beside b w held new gate place body large_b x.two x.gate_is x.place_is x.body_is x.long) b c apart);
   }
 
   pub recorded : (c : Flash) → IsNewPage gate place body b.reads c.reads → IsOpen c.reads gate → RecordOf VERSION_1 (head_of VERSION_1 c.reads) (Some new)
-  recorded c put opens = new_record b w held new gate place body large_b x.two x.gate_is x.place_is x.body_is x.long is_b spare_b x.next x.typed fields_b c.reads put opens
+  recorded c put opens = new_record b w held new gate place body large_b x.two x.gate_is x.place_is x.body_is x.long x.is x.spare x.next x.typed x.fields c.reads put opens

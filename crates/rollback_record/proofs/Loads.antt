@@ -1,13 +1,17 @@
 -- The record of a head, of its pages as they were decoded.
-use Rattle.std.proofs.Common.{◌≡◌, ◌≢◌, ◌⊎◌, ⊎_elim, inl, inr, ◌<◌, ◌≤◌, ℕ, ◌+◌, Bool, true, false, List, length, Option, Some, None, refl, sym, ◌∙◌, ap, subst, arith}
+use Rattle.std.proofs.Common.{◌≡◌, ◌≢◌, ◌⊎◌, ⊎_elim, inl, inr, ◌<◌, ◌≤◌, ℕ, ◌+◌, Bool, true, false, List, length, get_or, Option, Some, None, refl, sym, ◌∙◌, ap, subst, arith}
 use Rattle.std.specs.Prelude.{if◌then◌else◌, nat_lt, IfSome}
 use Rattle.std.specs.List.{slice_range}
 use Rattle.std.proofs.lemmas.Bool.{cases_eq, cases_lt, lt-ltb, le-ltb}
+use Rattle.std.proofs.lemmas.List.Edits.{get_or-between}
+use Rattle.suit_edge.specs.declared.gate.Gate.{Gate}
+use Rattle.suit_edge.specs.Gate.{IsGate}
 use Rattle.flash_layout.specs.declared.frame.TheConstants.{VERSION_1}
 use Rattle.flash_layout.specs.declared.slot.Record.{Record}
-use Rattle.flash_layout.specs.Frames.{head_of, config_page_of}
+use Rattle.flash_layout.specs.Frames.{head_of, config_page_of, record_from}
 use Rattle.rollback_record.specs.RecordPage.{IsPageBeside, IsRecordPage}
-use Rattle.rollback_record.specs.HeadRecord.{Counts, HaveRead, IsLoadable, RecordOf, higher}
+use Rattle.rollback_record.specs.Committing.{HasPages, IsSpare}
+use Rattle.rollback_record.specs.HeadRecord.{Counts, HaveRead, IsLoadable, RecordOf, beside_higher, higher}
 use Rattle.rollback_record.proofs.Pages.{bytes_in, config_in, head_short}
 
 -- the configuration page
@@ -100,3 +104,52 @@ module _ (h first second : List ℕ) (whole : 49152 ≤ length h) (read : HaveRe
       not_above other counts le =
           let same = ap (λ (x : Record). x.generation) (same_some s other (every other (of_second other counts))) in
           ⊎_elim (λ lt. inl lt) (λ ge. inr (refl, (omega (arith, same, le, ge)))) (cases_lt other.generation r.generation)
+
+-- ---- the page beside the record
+
+pub beside_two : (p q : Option Record) → beside_higher p q < 2
+beside_two None q = omega arith
+beside_two (Some r) None = omega arith
+beside_two (Some r) (Some s) = pick (nat_lt r.generation s.generation)
+  where
+    pick : (b : Bool) → (if b then 0 else 1) < 2
+    pick true = omega arith
+    pick false = omega arith
+
+module _ (h first second : List ℕ) (whole : 49152 ≤ length h) (read : HaveRead VERSION_1 h first second) where
+  pub spare : (p q : Option Record) → IfSome p (IsRecordPage VERSION_1 (config_page_of VERSION_1 h) first) → IfSome q (IsRecordPage VERSION_1 (config_page_of VERSION_1 h) second) → IsSpare VERSION_1 h (higher p q) (beside_higher p q)
+  spare None None is so = refl
+  spare None (Some s) is so = (omega arith, second_counts h first second whole read s so)
+  spare (Some r) None is so = (omega arith, first_counts h first second whole read r is)
+  spare (Some r) (Some s) is so = pick (nat_lt r.generation s.generation)
+    where
+      pick : (b : Bool) → IsSpare VERSION_1 h (if b then Some s else Some r) (if b then 0 else 1)
+      pick true = (omega arith, second_counts h first second whole read s so)
+      pick false = (omega arith, first_counts h first second whole read r is)
+
+  gate_first : get_or first 0 0 ≡ get_or h 4096 0
+  gate_first = ap (λ (l : List ℕ). get_or l 0 0) read.first_is ∙ get_or-between h 4096 4195 0 0 (omega arith)
+
+  gate_second : get_or second 0 0 ≡ get_or h 8192 0
+  gate_second = ap (λ (l : List ℕ). get_or l 0 0) read.second_is ∙ get_or-between h 8192 8291 0 0 (omega arith)
+
+  -- the gate of a page is the first of its bytes
+  pub first_gate : (w : ℕ) → w ≡ 0 → get_or first 0 0 ≡ get_or h (record_from VERSION_1 w) 0
+  first_gate w is = gate_first ∙ ap (λ (k : ℕ). get_or h (record_from VERSION_1 k) 0) (sym is)
+
+  pub second_gate : (w : ℕ) → w < 2 → w ≢ 0 → get_or second 0 0 ≡ get_or h (record_from VERSION_1 w) 0
+  second_gate w two other =
+      let is : 1 ≡ w = omega (arith, two, other) in
+      gate_second ∙ ap (λ (k : ℕ). get_or h (record_from VERSION_1 k) 0) is
+
+  pub pages : (p q : Option Record) → IfSome p (IsRecordPage VERSION_1 (config_page_of VERSION_1 h) first) → IfSome q (IsRecordPage VERSION_1 (config_page_of VERSION_1 h) second)
+      → ((r : Record) → IsRecordPage VERSION_1 (config_page_of VERSION_1 h) first r → p ≡ Some r) → ((r : Record) → IsRecordPage VERSION_1 (config_page_of VERSION_1 h) second r → q ≡ Some r)
+      → (o : Option Record) (w : ℕ) (gate : Gate) → o ≡ higher p q → w ≡ beside_higher p q → IsGate gate (get_or h (record_from VERSION_1 w) 0)
+      → HasPages VERSION_1 h (record { held = o; spare = record { which = w; gate = gate } })
+  pages p q is so each every o w gate o_is w_is reads = record {
+    held = subst (λ (r : Option Record). RecordOf VERSION_1 h r) (sym o_is) (decoded h first second whole read p q is so each every);
+    spare = record {
+      free = subst (λ (r : Option Record). IsSpare VERSION_1 h r w) (sym o_is) (subst (λ (k : ℕ). IsSpare VERSION_1 h (higher p q) k) (sym w_is) (spare p q is so));
+      gate = reads;
+    };
+  }

@@ -1,5 +1,7 @@
 -- A sound flash stays so while nothing changes that says what is recorded.
 use Rattle.std.proofs.Common.{◌≡◌, inl, inr, ◌<◌, ◌≤◌, ℕ, ◌+◌, ◌-◌, ◌*◌, List, length, get_or, Option, Some, None, refl, sym, ◌∙◌, subst, arith}
+use Rattle.std.proofs.lemmas.List.Edits.{get_or-between}
+use Rattle.suit_edge.specs.Gate.{IsGate}
 use Rattle.suit_edge.specs.Ranges.{SameOn}
 use Rattle.suit_edge.specs.RangeLaws.{same_range}
 use Rattle.flash_layout.specs.declared.frame.TheConstants.{VERSION_1}
@@ -8,6 +10,8 @@ use Rattle.flash_layout.specs.declared.layout.Entry.{Entry}
 use Rattle.flash_layout.specs.declared.slot.Record.{Record}
 use Rattle.flash_layout.specs.Configs.{ConfigOf, Configured}
 use Rattle.flash_layout.specs.Frames.{config_page_of, head_of}
+use Rattle.rollback_record.specs.declared.spare.Spare.{Spare}
+use Rattle.rollback_record.specs.Committing.{HasSpare, IsSpare}
 use Rattle.rollback_record.specs.HeadRecord.{Counts, RecordOf, record_bytes}
 use Rattle.rollback_record.specs.SoundFlash.{Follows, FollowsBlank, FollowsOn, IsInstalled, Sound, SoundBlank, SoundEmpty, SoundInstalled, recorded_bank}
 use Rattle.rollback_record.specs.SoundLaws.{IsStillSound, SaysRecorded}
@@ -54,6 +58,21 @@ module _ (held : Option Record) (a c : List ℕ) (large : 49152 ≤ length a) (w
   -- the record that was held stands still
   pub still_held : RecordOf VERSION_1 (head_of VERSION_1 c) held
   still_held = recorded held was
+
+  still_free : (o : Option Record) (w : ℕ) → w < 2 → IsSpare VERSION_1 (head_of VERSION_1 a) o w → IsSpare VERSION_1 (head_of VERSION_1 c) o w
+  still_free None w two is = is
+  still_free (Some r) w two is = (is.0, counted (1 - w) r (omega arith) is.1)
+
+  record_gate : (w : ℕ) → w < 2 → get_or (head_of VERSION_1 a) (4096 + w * 4096) 0 ≡ get_or (head_of VERSION_1 c) (4096 + w * 4096) 0
+  record_gate w two =
+      get_or-between a 0 49152 (4096 + w * 4096) 0 (omega (arith, two)) ∙ sym (front (0 + (4096 + w * 4096)) (omega (arith, two))) ∙ sym (get_or-between c 0 49152 (4096 + w * 4096) 0 (omega (arith, two)))
+
+  -- and the page beside it is free still
+  pub still_spare : (spare : Spare) → spare.which < 2 → HasSpare VERSION_1 (head_of VERSION_1 a) held spare → HasSpare VERSION_1 (head_of VERSION_1 c) held spare
+  still_spare spare two has = record {
+    free = still_free held spare.which two has.free;
+    gate = subst (λ (b : ℕ). IsGate spare.gate b) (record_gate spare.which two) has.gate;
+  }
 
   configured : (layout : List Entry) (key : Key) → ConfigOf VERSION_1 (length a) (head_of VERSION_1 a) (Configured layout key) → ConfigOf VERSION_1 (length c) (head_of VERSION_1 c) (Configured layout key)
   configured = same_config a c large same.size page_same gate_same

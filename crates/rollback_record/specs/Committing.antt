@@ -1,11 +1,14 @@
 -- The effect of a commit on the flash.
-use Rattle.std.specs.Prelude.{◌≡◌, ◌⊎◌, ◌<◌, ◌+◌, ◌-◌, ℕ, List, Option, Some, None}
+use Rattle.std.specs.Prelude.{◌≡◌, ◌⊎◌, ◌<◌, ◌+◌, ◌-◌, ℕ, List, slice_index, Option, Some, None}
 use Rattle.suit_edge.specs.Flash.{Flash, Keeps}
+use Rattle.suit_edge.specs.Gate.{IsGate}
 use Rattle.suit_edge.specs.Ranges.{Within, Outside}
 use Rattle.flash_layout.specs.declared.frame.Frame.{Frame}
 use Rattle.flash_layout.specs.declared.slot.Record.{Record}
-use Rattle.flash_layout.specs.Frames.{head_of, record_place}
+use Rattle.flash_layout.specs.Frames.{head_of, record_from, record_place}
 use Rattle.rollback_record.specs.declared.page.TheConstants.{RECORD_BYTES}
+use Rattle.rollback_record.specs.declared.spare.RecordPages.{RecordPages}
+use Rattle.rollback_record.specs.declared.spare.Spare.{Spare}
 use Rattle.rollback_record.specs.HeadRecord.{Counts, RecordOf}
 
 -- the places of the head
@@ -26,6 +29,17 @@ HasHeldOrNew frame held new image =
 abbrev pub IsSpare : Frame → List ℕ → Option Record → ℕ → Type 0
 IsSpare frame head None which = which ≡ 0
 IsSpare frame head (Some r) which = (which < 2) × Counts frame head (1 - which) r
+
+-- beside this record that page is free to be written, and its gate reads so
+pub record HasSpare (frame : Frame) (head : List ℕ) (held : Option Record) (spare : Spare)
+    : Type 0 where
+  pub free : IsSpare frame head held spare.which
+  pub gate : IsGate spare.gate (slice_index head (record_from frame spare.which))
+
+-- the head has this record, and that page beside it
+pub record HasPages (frame : Frame) (head : List ℕ) (pages : RecordPages) : Type 0 where
+  pub held : RecordOf frame head pages.held
+  pub spare : HasSpare frame head pages.held pages.spare
 
 -- nothing but the spare page changed, as the disk reads and in each image since
 pub record KeepsBesideSpare (frame : Frame) (held : Option Record) (old new : Flash) : Type 0 where

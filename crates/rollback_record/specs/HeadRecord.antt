@@ -57,3 +57,9 @@ abbrev pub higher : Option Record → Option Record → Option Record
 higher None second = second
 higher (Some r) None = Some r
 higher (Some r) (Some s) = if nat_lt r.generation s.generation then Some s else Some r
+
+-- the page beside it
+abbrev pub beside_higher : Option Record → Option Record → ℕ
+beside_higher None second = 0
+beside_higher (Some r) None = 1
+beside_higher (Some r) (Some s) = if nat_lt r.generation s.generation then 0 else 1

@@ -3,19 +3,21 @@
 ghost use Rattle.flash_layout.specs.declared.key.Key.{Key};
 ghost use Rattle.flash_layout.specs.Configs.{ConfigOf, Configured};
 ghost use Rattle.flash_layout.specs.Frames.{config_page_of, head_of};
-ghost use Rattle.rollback_record.specs.HeadRecord.{HaveRead, IsLoadable, RecordOf, ResultCounts, higher};
+ghost use Rattle.rollback_record.specs.Committing.{HasPages};
+ghost use Rattle.rollback_record.specs.HeadRecord.{HaveRead, IsLoadable, RecordOf, ResultCounts, beside_higher, higher};
 ghost use Rattle.rollback_record.specs.RecordPage.{CountSlots};
-ghost use Rattle.std.specs.Prelude.{◌≡◌, ◌≤◌, IfOk, IfSome, IsTrue};
+ghost use Rattle.std.specs.Prelude.{◌≡◌, ◌<◌, ◌≤◌, ℕ, IfOk, IfSome, IsTrue, List, length};
 ghost use Rattle.suit_edge.specs.Edge.{IfDone};
 ghost use Rattle.suit_edge.specs.Faults.{EdgeCounts};
 ghost use Rattle.suit_edge.specs.Flash.{Grows, IsSame};
 
 use crate::page::{RECORD_BYTES, decode};
 use crate::slot_counts::{counts_in, counts_on};
+use crate::{RecordPages, Spare};
 use flash_layout::{
     CONFIG_GATE, FlashFault, Layout, MAX_ENTRIES, PAGE_BYTES, Record, VERSION_1, record_page,
 };
-use suit_edge::{Disk, Edge};
+use suit_edge::{Disk, Edge, gate_of};
 
 // Reads the configuration page.
 fn read_config<D: Disk>(disk: &mut D, config: &mut [u8; PAGE_BYTES]) -> Edge
@@ -59,36 +61,58 @@ fn read_pages<D: Disk>(
     }
 }
 
-// The record of two pages: of two that count that of the higher generation, and of equal ones the first.
-fn higher_of(first: Option<Record>, second: Option<Record>) -> Option<Record>
-    ensures { result ≡ higher first second }
+// The record of two pages: of two that count that of the higher generation, and of equal ones the first. Beside it the
+// page that it does not stand on.
+fn higher_of(first: Option<Record>, second: Option<Record>) -> (Option<Record>, u64)
+    ensures record { result.0 ≡ higher first second }
+    ensures spare { result.1 ≡ beside_higher first second }
 {
     match (first, second) {
-        (None, second) => second,
-        (Some(first), None) => Some(first),
+        (None, second) => (second, 0),
+        (Some(first), None) => (Some(first), 1),
         (Some(first), Some(second)) => {
             if first.generation < second.generation {
-                Some(second)
+                (Some(second), 0)
             } else {
-                Some(first)
+                (Some(first), 1)
             }
         }
     }
 }
 
-// The record of both pages, where each component has so many slots.
-fn load_beside<D: Disk>(
-    disk: &mut D,
+// Both pages, where each component has so many slots.
+fn judge_pages(
     slots: &[u8; MAX_ENTRIES],
-) -> Result<Option<Record>, FlashFault>
+    first: &[u8; RECORD_BYTES],
+    second: &[u8; RECORD_BYTES],
+) -> RecordPages
+    ensures loadable { IfSome result.held (IsLoadable VERSION_1) }
+    ensures two { result.spare.which < 2 }
+    ensures exact { (head : List ℕ) → VERSION_1.size ≤ length head
+        → HaveRead VERSION_1 head first.now second.now
+        → CountSlots (config_page_of VERSION_1 head) slots.now
+        → HasPages VERSION_1 head result }
+{
+    let (held, which) = higher_of(decode(slots, first), decode(slots, second));
+    let gate = if which == 0 { first[0] } else { second[0] };
+    let spare = Spare {
+        which,
+        gate: gate_of(gate),
+    };
+    RecordPages { held, spare }
+}
+
+// Both record pages, where each component has so many slots.
+fn load_beside<D: Disk>(disk: &mut D, slots: &[u8; MAX_ENTRIES]) -> Result<RecordPages, FlashFault>
     requires { VERSION_1.size ≤ D.extent disk.old }
     ensures size { D.extent disk.new ≡ D.extent disk.old }
     ensures counts { ResultCounts result (D.faults disk.old) (D.faults disk.new) }
-    ensures loadable { IfOk result (λ o. IfSome o (IsLoadable VERSION_1)) }
+    ensures loadable { IfOk result (λ pages. IfSome pages.held (IsLoadable VERSION_1)) }
+    ensures two { IfOk result (λ pages. pages.spare.which < 2) }
     ensures exact { IsTrue D.told
         → CountSlots (config_page_of VERSION_1 (head_of VERSION_1 (D.flash disk.old).reads))
         slots.now
-        → IfOk result (RecordOf VERSION_1 (head_of VERSION_1 (D.flash disk.old).reads)) }
+        → IfOk result (HasPages VERSION_1 (head_of VERSION_1 (D.flash disk.old).reads)) }
     ensures same { IsTrue D.told → IsSame (D.flash disk.old) (D.flash disk.new) }
     ensures grows { IsTrue D.told → Grows (D.flash disk.old) (D.flash disk.new) }
 {
@@ -98,9 +122,7 @@ fn load_beside<D: Disk>(
         Edge::Failed => return Err(FlashFault),
         Edge::Done => {}
     }
-    let first = decode(slots, &first);
-    let second = decode(slots, &second);
-    Ok(higher_of(first, second))
+    Ok(judge_pages(slots, &first, &second))
 }
 
 /// The record that the flash holds, or `None` where no page counts, as on a flash of fewer than 49,152 bytes. Changes
@@ -124,6 +146,29 @@ pub fn load_record<D: Disk>(disk: &mut D) -> Result<Option<Record>, FlashFault>
         Edge::Done => {}
     }
     let slots = counts_on(&config);
+    match load_beside(disk, &slots) {
+        Err(FlashFault) => Err(FlashFault),
+        Ok(pages) => Ok(pages.held),
+    }
+}
+
+/// The record that a flash with this layout holds, or `None` where no page counts, and the page that the next one is to be
+/// written to. Its configuration page, which gave the layout, is not read again. Changes nothing, whatever it answers.
+pub fn load_pages_by<D: Disk>(disk: &mut D, layout: &Layout) -> Result<RecordPages, FlashFault>
+    requires size { VERSION_1.size ≤ D.extent disk.old }
+    requires config { IsTrue D.told → (key : Key)
+        × ConfigOf VERSION_1 (D.extent disk.old) (head_of VERSION_1 (D.flash disk.old).reads)
+        (Configured layout.now key) }
+    ensures size { D.extent disk.new ≡ D.extent disk.old }
+    ensures counts { ResultCounts result (D.faults disk.old) (D.faults disk.new) }
+    ensures loadable { IfOk result (λ pages. IfSome pages.held (IsLoadable VERSION_1)) }
+    ensures two { IfOk result (λ pages. pages.spare.which < 2) }
+    ensures exact { IsTrue D.told
+        → IfOk result (HasPages VERSION_1 (head_of VERSION_1 (D.flash disk.old).reads)) }
+    ensures same { IsTrue D.told → IsSame (D.flash disk.old) (D.flash disk.new) }
+    ensures grows { IsTrue D.told → Grows (D.flash disk.old) (D.flash disk.new) }
+{
+    let slots = counts_in(layout);
     load_beside(disk, &slots)
 }
 
@@ -142,6 +187,8 @@ pub fn load_record_by<D: Disk>(disk: &mut D, layout: &Layout) -> Result<Option<R
     ensures same { IsTrue D.told → IsSame (D.flash disk.old) (D.flash disk.new) }
     ensures grows { IsTrue D.told → Grows (D.flash disk.old) (D.flash disk.new) }
 {
-    let slots = counts_in(layout);
-    load_beside(disk, &slots)
+    match load_pages_by(disk, layout) {
+        Err(FlashFault) => Err(FlashFault),
+        Ok(pages) => Ok(pages.held),
+    }
 }

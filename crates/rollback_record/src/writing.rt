@@ -1,67 +1,20 @@
 //! Writing the record.
 
 ghost use Rattle.flash_layout.specs.Frames.{config_page_of, head_of};
-ghost use Rattle.rollback_record.specs.Committing.{HasHeldOrNew, InHead, IsNext, IsSpare, KeepsBesideSpare};
+ghost use Rattle.rollback_record.specs.Committing.{HasHeldOrNew, HasSpare, InHead, IsNext, KeepsBesideSpare};
 ghost use Rattle.rollback_record.specs.HeadRecord.{RecordOf, ResultCounts};
-ghost use Rattle.rollback_record.specs.RecordPage.{IsInRange, record_body};
+ghost use Rattle.rollback_record.specs.RecordPage.{IsInRange};
 ghost use Rattle.rollback_record.specs.SoundFlash.{Follows, IsNoEarlier, Sound};
 ghost use Rattle.rollback_record.specs.SoundLaws.{IsInstalledFor};
-ghost use Rattle.std.specs.Prelude.{◌≡◌, ◌↔◌, ◌∷◌, ◌≤◌, ◌<◌, IfOk, IfSome, IsTrue, OnErr, OnOk, Some, length, option_map};
-ghost use Rattle.suit_edge.specs.Flash.{Grows, IsFirmOn, IsSame, IsSettled, Passes};
+ghost use Rattle.std.specs.Prelude.{◌≡◌, ◌≤◌, ◌<◌, IfSome, IsTrue, OnErr, OnOk, Some, option_map};
+ghost use Rattle.suit_edge.specs.Flash.{Grows, IsFirmOn, IsSettled, Passes};
 ghost use Rattle.suit_edge.specs.declared.edge.Edge.TheVariants as edge;
 
-use crate::page::{RECORD_BYTES, is_page_of, spell};
+use crate::Spare;
+use crate::page::spell;
 use crate::typing::typed;
 use flash_layout::{FlashFault, Record, VERSION_1, record_page};
-use suit_edge::{Disk, Edge, write_gated};
-
-// The record page that does not hold the record.
-fn page_beside<D: Disk>(disk: &mut D, held: &Record) -> Result<u64, FlashFault>
-    requires size { VERSION_1.size ≤ D.extent disk.old }
-    requires held { IsTrue D.told
-        → RecordOf VERSION_1 (head_of VERSION_1 (D.flash disk.old).reads) (Some held.now) }
-    ensures size { D.extent disk.new ≡ D.extent disk.old }
-    ensures counts { ResultCounts result (D.faults disk.old) (D.faults disk.new) }
-    ensures which { IfOk result (λ which. which < 2) }
-    ensures spare { IsTrue D.told
-        → IfOk result
-        (IsSpare VERSION_1 (head_of VERSION_1 (D.flash disk.old).reads) (Some held.now)) }
-    ensures same { IsTrue D.told → IsSame (D.flash disk.old) (D.flash disk.new) }
-    ensures grows { IsTrue D.told → Grows (D.flash disk.old) (D.flash disk.new) }
-{
-    let mut page = [0u8; RECORD_BYTES];
-    match disk.read_at(record_page(0), &mut page) {
-        Edge::Failed => return Err(FlashFault),
-        Edge::Done => {}
-    }
-    if is_page_of(&page, held) {
-        Ok(1)
-    } else {
-        Ok(0)
-    }
-}
-
-// The record page that is free to be written: the first one where there is no record, else the one that does not hold it.
-fn find_spare<D: Disk>(disk: &mut D, held: Option<&Record>) -> Result<u64, FlashFault>
-    requires size { VERSION_1.size ≤ D.extent disk.old }
-    requires held { IsTrue D.told
-        → RecordOf VERSION_1 (head_of VERSION_1 (D.flash disk.old).reads)
-        (option_map (λ r. r.now) held) }
-    ensures size { D.extent disk.new ≡ D.extent disk.old }
-    ensures counts { ResultCounts result (D.faults disk.old) (D.faults disk.new) }
-    ensures which { IfOk result (λ which. which < 2) }
-    ensures spare { IsTrue D.told
-        → IfOk result
-        (IsSpare VERSION_1 (head_of VERSION_1 (D.flash disk.old).reads)
-        (option_map (λ r. r.now) held.entry)) }
-    ensures same { IsTrue D.told → IsSame (D.flash disk.old) (D.flash disk.new) }
-    ensures grows { IsTrue D.told → Grows (D.flash disk.old) (D.flash disk.new) }
-{
-    match held {
-        None => Ok(0),
-        Some(held) => page_beside(disk, held),
-    }
-}
+use suit_edge::{Disk, Edge, write_known};
 
 // A call on the flash that failed is a fault of it.
 fn result_of(answer: Edge) -> Result<(), FlashFault>
@@ -74,14 +27,22 @@ fn result_of(answer: Edge) -> Result<(), FlashFault>
     }
 }
 
-/// Records what is installed, on the record page that does not hold the record. A power loss now must leave the head as
-/// it reads. After a fault, and after a power loss at any moment, the flash holds the held record or the new one, and all
+/// Records what is installed, on the spare record page, as it was read. A power loss now must leave the head as it reads. After a fault, and after a power loss at any moment, the flash holds the held record or the new one, and all
 /// else as it was.
-pub fn commit<D: Disk>(disk: &mut D, held: Option<&Record>, new: &Record) -> Result<(), FlashFault>
+pub fn commit<D: Disk>(
+    disk: &mut D,
+    held: Option<&Record>,
+    spare: Spare,
+    new: &Record,
+) -> Result<(), FlashFault>
     requires size { VERSION_1.size ≤ D.extent disk.old }
+    requires two { spare.which < 2 }
     requires held { IsTrue D.told
         → RecordOf VERSION_1 (head_of VERSION_1 (D.flash disk.old).reads)
         (option_map (λ r. r.now) held) }
+    requires spare { IsTrue D.told
+        → HasSpare VERSION_1 (head_of VERSION_1 (D.flash disk.old).reads)
+        (option_map (λ r. r.now) held) spare }
     requires next { IsNext (option_map (λ r. r.now) held) new.now }
     requires fields { IsTrue D.told
         → IsInRange VERSION_1
@@ -113,9 +74,8 @@ pub fn commit<D: Disk>(disk: &mut D, held: Option<&Record>, new: &Record) -> Res
 {
     typed(new);
     let _size = disk.size();
-    let which = find_spare(disk, held)?;
-    let gate = record_page(which);
+    let gate = record_page(spare.which);
     let page = spell(new);
-    let answer = write_gated(disk, gate, gate + 1, page.behind_gate());
+    let answer = write_known(disk, gate, spare.gate, gate + 1, page.behind_gate());
     result_of(answer)
 }

@@ -1,11 +1,18 @@
 -- A page: bytes, and a gate byte that is open only while they stand whole. The gate may stand before or behind them.
 use Rattle.std.specs.Prelude.{◌≡◌, ◌⊎◌, ◌+◌, ℕ, List, [], ◌∷◌, length, slice_index, slice_range}
 use Rattle.suit_edge.specs.declared.page.TheConstants.{OPEN, CLOSED}
+use Rattle.suit_edge.specs.declared.gate.Gate.{Gate}
+use Rattle.suit_edge.specs.declared.gate.Gate.TheVariants as gates
 use Rattle.suit_edge.specs.Flash.{Flash, Now, ImageOn}
 use Rattle.suit_edge.specs.Ranges.{Range, Outside, OutsideEach, SameOn}
 
 abbrev pub IsOpen : List ℕ → ℕ → Type 0
 IsOpen image gate = slice_index image gate ≡ OPEN
+
+-- a gate with this byte is so
+abbrev pub IsGate : Gate → ℕ → Type 0
+IsGate gates.Open byte = byte ≡ OPEN
+IsGate gates.Closed byte = byte ≡ OPEN → ⊥
 
 -- a power loss now leaves the gate closed
 abbrev pub IsShut : ℕ → Flash → Type 0

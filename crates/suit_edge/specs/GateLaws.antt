@@ -1,13 +1,13 @@
 -- Laws of gates: what a power loss leaves while a gate is closed, and while a page is written behind a closed one.
-use Rattle.std.proofs.Common.{◌≡◌, ◌≢◌, inl, inr, ⊎_elim, ◌<◌, ◌≤◌, ℕ, ◌+◌, List, [], ◌∷◌, length, get_or, sym, ◌∙◌, ap, subst, arith}
+use Rattle.std.proofs.Common.{◌≡◌, ◌≢◌, ◌⊎◌, inl, inr, ⊎_elim, ◌<◌, ◌≤◌, ℕ, ◌+◌, List, [], ◌∷◌, length, get_or, sym, ◌∙◌, ap, subst, arith}
 use Rattle.std.specs.List.{slice_range}
 use Rattle.std.proofs.lemmas.List.Edits.{get_or-between}
 use Rattle.suit_edge.specs.declared.page.TheConstants.{OPEN, CLOSED}
 use Rattle.suit_edge.specs.Ranges.{Outside, InSome, OutsideEach, SameOn, Within, written}
 use Rattle.suit_edge.specs.Flash.{Flash, Now, Passes, ImageOn, Keeps, IsSame, IsSettled, IsFirmOn, IsFlash}
-use Rattle.suit_edge.specs.Gate.{IsShut, Closes, IsClosing, IsNewPage, IsOpening, IsGated, body_at, page_at}
+use Rattle.suit_edge.specs.Gate.{IsShut, Closes, IsClosing, IsNewPage, IsOldPage, IsOpening, IsGated, body_at, page_at}
 use Rattle.suit_edge.specs.RangeLaws.{same_range, written_outside, written_range, written_one, same_start, same_then, same_fewer}
-use Rattle.suit_edge.specs.FlashLaws.{each_now, keeps_fewer, joined, weakens, image_on, image_fewer, image_then}
+use Rattle.suit_edge.specs.FlashLaws.{each_now, keeps_fewer, keeps_same, joined, weakens, image_on, image_fewer, image_then}
 
 -- a gate is what was read of it
 pub gate_read : (reads room : List ℕ) (q : ℕ) → room ≡ slice_range reads q (q + 1)
@@ -156,6 +156,19 @@ module _ (start : Flash) (size gate place : ℕ) (body : List ℕ) (law : IsFlas
           bytes = new.bytes;
           rest = same_then page start.reads b.reads image (same_fewer page (Outside gate 1) (λ i o. o.0) start.reads b.reads closed.apart) new.rest;
         }
+
+    -- while its gate is looked at
+    pub gated_look : (b : Flash) → IsSame start b → Passes start b (IsGated gate place body start)
+    gated_look b same = gated_closing b (weakens start b (Now start) (IsClosing gate start) (λ image now. inl now) same.images)
+
+    -- while it is written behind the look
+    pub gated_since : (b c : Flash) → IsFlash b size → IsSame start b
+        → Passes b c (IsGated gate place body b) → Passes start c (IsGated gate place body start)
+    gated_since b c law_b same run =
+        joined start b c (IsGated gate place body start) (gated_look b same) (weakens b c (IsGated gate place body b) (IsGated gate place body start) (λ image o. record {
+          apart = image_then page start b size law_b (keeps_same page start b same).images image o.apart;
+          opens = λ is_open. subst (λ (l : List ℕ). IsOldPage gate place (length body) l image ⊎ IsNewPage gate place body l image) same.reads (o.opens is_open);
+        }) run)
 
 -- ---- bytes that are left alone
 

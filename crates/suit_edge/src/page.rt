@@ -1,13 +1,13 @@
 //! Writes that a power loss does not tear: bytes and a gate, which is open only while they stand whole.
 
-ghost use Rattle.std.specs.Prelude.{◌≡◌, ◌+◌, ◌≤◌, length, IsTrue};
+ghost use Rattle.std.specs.Prelude.{◌≡◌, ◌+◌, ◌≤◌, length, slice_index, IsTrue};
 ghost use Rattle.suit_edge.specs.Edge.{IfDone};
 ghost use Rattle.suit_edge.specs.Faults.{EdgeCounts};
 ghost use Rattle.suit_edge.specs.Flash.{Grows, IsFirmOn, IsSettled, Keeps, Passes};
-ghost use Rattle.suit_edge.specs.Gate.{Closes, IsClosing, IsGated, IsNewPage, IsOpen, IsOpening, IsShut, page_at};
+ghost use Rattle.suit_edge.specs.Gate.{Closes, IsClosing, IsGate, IsGated, IsNewPage, IsOpen, IsOpening, IsShut, page_at};
 ghost use Rattle.suit_edge.specs.Ranges.{InSome, Outside, OutsideEach, Within, written};
 
-use crate::{Disk, Edge};
+use crate::{Disk, Edge, Gate, gate_of};
 
 /// The byte of an open gate.
 pub const OPEN: u8 = 0xA5;
@@ -84,9 +84,10 @@ pub fn close_gate<D: Disk>(disk: &mut D, gate: u64) -> Edge
     }
 }
 
-// Closes a gate that reads open, and syncs that. A gate that reads closed is left, and nothing is synced.
-fn shut_gate<D: Disk>(disk: &mut D, gate: u64) -> Edge
+// Closes an open gate, and syncs that. A closed one is left, and nothing is synced.
+fn shut_gate<D: Disk>(disk: &mut D, gate: u64, known: Gate) -> Edge
     requires gate { gate + 1 ≤ D.extent disk.old }
+    requires known { IsTrue D.told → IsGate known (slice_index (D.flash disk.old).reads gate) }
     requires firm { IsTrue D.told → IsFirmOn (Within gate 1) (D.flash disk.old) }
     ensures size { D.extent disk.new ≡ D.extent disk.old }
     ensures counts { EdgeCounts result (D.faults disk.old) (D.faults disk.new) }
@@ -98,13 +99,9 @@ fn shut_gate<D: Disk>(disk: &mut D, gate: u64) -> Edge
         → Passes (D.flash disk.old) (D.flash disk.new) (IsClosing gate (D.flash disk.old)) }
     ensures grows { IsTrue D.told → Grows (D.flash disk.old) (D.flash disk.new) }
 {
-    let mut mark = [0u8; 1];
-    match disk.read_at(gate, &mut mark) {
-        Edge::Failed => return Edge::Failed,
-        Edge::Done => {}
-    }
-    if mark[0] != OPEN {
-        return Edge::Done;
+    match known {
+        Gate::Closed => return Edge::Done,
+        Gate::Open => {}
     }
     match write_and_sync(disk, gate, &[CLOSED]) {
         Edge::Failed => Edge::Failed,
@@ -143,7 +140,42 @@ pub fn open_written<D: Disk>(disk: &mut D, gate: u64, place: u64, body: &[u8]) -
     }
 }
 
-/// Writes the bytes of a page while its gate is closed, so that a power loss at any moment leaves the old page, the new
+/// Writes the bytes of a page, of whose gate is known how it reads, while that is closed, so that a power loss at any
+/// moment leaves the old page, the new one, or none. The page must be durable before. If it fails, the page is the old
+/// one, the new one, or closed.
+pub fn write_known<D: Disk>(disk: &mut D, gate: u64, known: Gate, place: u64, body: &[u8]) -> Edge
+    requires gate { gate + 1 ≤ D.extent disk.old }
+    requires known { IsTrue D.told → IsGate known (slice_index (D.flash disk.old).reads gate) }
+    requires body { place + length body.now ≤ D.extent disk.old }
+    requires apart { Outside place (length body.now) gate }
+    requires firm { IsTrue D.told
+        → IsFirmOn (InSome (page_at gate place (length body.now))) (D.flash disk.old) }
+    ensures size { D.extent disk.new ≡ D.extent disk.old }
+    ensures counts { EdgeCounts result (D.faults disk.old) (D.faults disk.new) }
+    ensures opened { IsTrue D.told → IfDone result (IsOpen (D.flash disk.new).reads gate) }
+    ensures page { IsTrue D.told
+        → IfDone result
+        (IsNewPage gate place body.now (D.flash disk.old).reads (D.flash disk.new).reads) }
+    ensures settled { IsTrue D.told → IfDone result (IsSettled (D.flash disk.new)) }
+    ensures keeps { IsTrue D.told
+        → Keeps (OutsideEach (page_at gate place (length body.now))) (D.flash disk.old)
+        (D.flash disk.new) }
+    ensures any_moment { IsTrue D.told
+        → Passes (D.flash disk.old) (D.flash disk.new)
+        (IsGated gate place body.now (D.flash disk.old)) }
+    ensures grows { IsTrue D.told → Grows (D.flash disk.old) (D.flash disk.new) }
+{
+    match shut_gate(disk, gate, known) {
+        Edge::Failed => return Edge::Failed,
+        Edge::Done => {}
+    }
+    match open_written(disk, gate, place, body) {
+        Edge::Failed => Edge::Failed,
+        Edge::Done => Edge::Done,
+    }
+}
+
+/// Looks at the gate of a page, and then writes its bytes while that is closed, so that a power loss at any moment leaves the old page, the new
 /// one, or none. The page must be durable before. If it fails, the page is the old one, the new one, or closed.
 pub fn write_gated<D: Disk>(disk: &mut D, gate: u64, place: u64, body: &[u8]) -> Edge
     requires gate { gate + 1 ≤ D.extent disk.old }
@@ -166,11 +198,12 @@ pub fn write_gated<D: Disk>(disk: &mut D, gate: u64, place: u64, body: &[u8]) ->
         (IsGated gate place body.now (D.flash disk.old)) }
     ensures grows { IsTrue D.told → Grows (D.flash disk.old) (D.flash disk.new) }
 {
-    match shut_gate(disk, gate) {
+    let mut mark = [0u8; 1];
+    match disk.read_at(gate, &mut mark) {
         Edge::Failed => return Edge::Failed,
         Edge::Done => {}
     }
-    match open_written(disk, gate, place, body) {
+    match write_known(disk, gate, gate_of(mark[0]), place, body) {
         Edge::Failed => Edge::Failed,
         Edge::Done => Edge::Done,
     }

@@ -14,7 +14,8 @@ use Rattle.flash_layout.specs.ConfigPage.{IsConfigPage}
 use Rattle.flash_layout.specs.Configs.{ConfigOf, Configured}
 use Rattle.flash_layout.specs.Frames.{bank_place, config_page_of, head_of, record_place}
 use Rattle.rollback_record.specs.declared.page.TheConstants.{RECORD_BYTES}
-use Rattle.rollback_record.specs.Committing.{HasHeldOrNew, InHead, IsNext, IsSpare, KeepsBesideSpare}
+use Rattle.rollback_record.specs.declared.spare.Spare.{Spare}
+use Rattle.rollback_record.specs.Committing.{HasHeldOrNew, HasSpare, InHead, IsNext, IsSpare, KeepsBesideSpare}
 use Rattle.rollback_record.specs.HeadRecord.{IsLoadable, RecordOf}
 use Rattle.rollback_record.specs.RecordPage.{IsActiveSlot, IsInRange}
 use Rattle.rollback_record.specs.SettledLaws.{both}
@@ -92,6 +93,10 @@ module _ (held : Option Record) (bytes a c : List ℕ) (large : 49152 ≤ length
     (was : RecordOf VERSION_1 (head_of VERSION_1 a) held) (same : SameOn (BesideBank held bytes) a c) where
   pub still_held : RecordOf VERSION_1 (head_of VERSION_1 c) held
   still_held = recorded.still_held held a c large was (says_same held bytes a c few fits same)
+
+  -- and the page beside it is free still
+  pub still_spare : (spare : Spare) → spare.which < 2 → HasSpare VERSION_1 (head_of VERSION_1 a) held spare → HasSpare VERSION_1 (head_of VERSION_1 c) held spare
+  still_spare spare two has = recorded.still_spare held a c large was (says_same held bytes a c few fits same) spare two has
 
 -- ---- the new record
 

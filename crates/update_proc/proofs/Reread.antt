@@ -15,6 +15,8 @@ use Rattle.flash_layout.specs.declared.slot.Record.{Record}
 use Rattle.flash_layout.specs.Configs.{ConfigOf, Configured}
 use Rattle.flash_layout.specs.Frames.{head_of}
 use Rattle.flash_layout.specs.Layouts.{IsLayout}
+use Rattle.rollback_record.specs.declared.spare.RecordPages.{RecordPages}
+use Rattle.rollback_record.specs.Committing.{HasPages, HasSpare}
 use Rattle.rollback_record.specs.HeadRecord.{RecordOf}
 use Rattle.rollback_record.specs.RecordLaws.{OneAnswer}
 use Rattle.rollback_record.specs.SettledLaws.{each_sound}
@@ -45,6 +47,11 @@ as_loaded (Some r) loaded same = same
 pub recorded_as : (head : List ℕ) (o : Option (Bor Record)) (loaded : Option Record) → option_copied o ≡ loaded → RecordOf VERSION_1 head loaded
     → RecordOf VERSION_1 head (option_map (λ r. r.now) o)
 recorded_as head o loaded same is = subst (λ (p : Option Record). RecordOf VERSION_1 head p) (sym (as_loaded o loaded same)) is
+
+-- and so is the page beside it
+pub spare_as : (head : List ℕ) (o : Option (Bor Record)) (pages : RecordPages) → option_copied o ≡ pages.held → HasPages VERSION_1 head pages
+    → HasSpare VERSION_1 head (option_map (λ r. r.now) o) pages.spare
+spare_as head o pages same is = subst (λ (p : Option Record). HasSpare VERSION_1 head p pages.spare) (sym (as_loaded o pages.held same)) is.spare
 
 -- a property of the record that was read and the digest that was stated holds of each such
 pub for_offer : (one : OneAnswer) (image wrapper : List ℕ) (P : Option Record → Digest → Type 0) (held : Option Record) (stated : Digest)

@@ -1,7 +1,7 @@
 //! The end of a procedure: the envelope is installed where it is done, and otherwise all pending writes are synced.
 
 ghost use Rattle.flash_layout.specs.Frames.{head_of};
-ghost use Rattle.rollback_record.specs.Committing.{HasHeldOrNew, InHead};
+ghost use Rattle.rollback_record.specs.Committing.{HasHeldOrNew, HasSpare, InHead};
 ghost use Rattle.rollback_record.specs.HeadRecord.{RecordOf};
 ghost use Rattle.rollback_record.specs.SoundFlash.{Follows, IsNoEarlier, Sound};
 ghost use Rattle.std.specs.Prelude.{◌≡◌, ◌<◌, ◌≤◌, IfSome, IsTrue, Some, length, option_map};
@@ -14,6 +14,7 @@ ghost use Rattle.update_proc.specs.Records.{new_record};
 use crate::{Offer, UpdateEnd, install};
 use flash_layout::{FlashFault, Record, VERSION_1};
 use path_model::Cause;
+use rollback_record::Spare;
 use step_machine::{PlanEnd, Steps};
 use suit_edge::{Disk, Edge};
 
@@ -45,6 +46,7 @@ pub(crate) fn finish<D: Disk>(
     disk: &mut D,
     end: PlanEnd,
     held: Option<&Record>,
+    spare: Spare,
     offer: &Offer,
     bytes: &[u8],
     room: &mut [u8],
@@ -55,6 +57,10 @@ pub(crate) fn finish<D: Disk>(
     requires held { IsTrue D.told
         → RecordOf VERSION_1 (head_of VERSION_1 (D.flash disk.old).reads)
         (option_map (λ r. r.now) held) }
+    requires two { spare.which < 2 }
+    requires spare { IsTrue D.told
+        → HasSpare VERSION_1 (head_of VERSION_1 (D.flash disk.old).reads)
+        (option_map (λ r. r.now) held) spare }
     requires active { IsTrue D.told → HasActiveSlots (D.flash disk.old).reads offer.now.active }
     ensures behind { IsTrue D.told
         → SameOn BehindHead (D.flash disk.old).reads (D.flash disk.new).reads }
@@ -96,7 +102,7 @@ pub(crate) fn finish<D: Disk>(
     ensures grows { IsTrue D.told → Grows (D.flash disk.old) (D.flash disk.new) }
 {
     match end {
-        PlanEnd::Done => match install(disk, held, offer, bytes, room) {
+        PlanEnd::Done => match install(disk, held, spare, offer, bytes, room) {
             Ok(record) => UpdateEnd::Installed(record),
             Err(FlashFault) => UpdateEnd::FlashFault,
         },

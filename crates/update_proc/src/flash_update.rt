@@ -24,7 +24,7 @@ use crate::UpdateEnd;
 use crate::accepting::installable;
 use crate::starting::{Accepted, start};
 use flash_layout::{FlashFault, Layout, Places, VERSION_1};
-use rollback_record::{load_record_by, record_laws, sound_laws};
+use rollback_record::{load_pages_by, record_laws, sound_laws};
 use std::alloc::Global;
 use step_machine::Uris;
 use suit_edge::{Disk, Host, Launcher};
@@ -125,11 +125,11 @@ pub fn update<H: Host, D: Disk, L: Launcher>(
 {
     record_laws();
     sound_laws();
-    let loaded = match load_record_by(disk, layout) {
-        Ok(held) => held,
+    let pages = match load_pages_by(disk, layout) {
+        Ok(pages) => pages,
         Err(FlashFault) => return UpdateEnd::FlashFault,
     };
-    let held = loaded.as_ref();
+    let held = pages.held.as_ref();
     let digest = stated_digest(envelope);
     let bytes = match installable(alloc, envelope, manifest.sequence, held, &digest) {
         Ok(bytes) => bytes,
@@ -139,6 +139,7 @@ pub fn update<H: Host, D: Disk, L: Launcher>(
     let whole = bytes.as_slice();
     let accepted = Accepted {
         held,
+        spare: pages.spare,
         bytes: whole,
         sequence: manifest.sequence,
         digest,

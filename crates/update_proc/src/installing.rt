@@ -2,7 +2,7 @@
 
 ghost use Rattle.flash_layout.specs.FaultCounts.{ResultCounts};
 ghost use Rattle.flash_layout.specs.Frames.{head_of};
-ghost use Rattle.rollback_record.specs.Committing.{HasHeldOrNew, InHead};
+ghost use Rattle.rollback_record.specs.Committing.{HasHeldOrNew, HasSpare, InHead};
 ghost use Rattle.rollback_record.specs.HeadRecord.{IsLoadable, RecordOf};
 ghost use Rattle.rollback_record.specs.SoundFlash.{Follows, IsNoEarlier, Sound};
 ghost use Rattle.std.specs.Prelude.{◌≡◌, ◌<◌, ◌≤◌, IfOk, IfSome, IsTrue, OnOk, Some, length, option_map};
@@ -14,7 +14,7 @@ ghost use Rattle.update_proc.specs.Records.{new_record, next_generation};
 use crate::Offer;
 use crate::bank::write_bank;
 use flash_layout::{FlashFault, Record, VERSION_1};
-use rollback_record::{commit, sound_laws};
+use rollback_record::{Spare, commit, sound_laws};
 use suit_edge::Disk;
 
 // The generation of the next record.
@@ -29,11 +29,12 @@ fn generation_after(held: Option<&Record>) -> u64
 }
 
 /// Writes the envelope to the bank that the record does not name, unless the record's bank holds it already, and records
-/// it. Up to the last moment the flash holds the record that it held, with its envelope, where a power loss at the start
+/// it on the spare page. Up to the last moment the flash holds the record that it held, with its envelope, where a power loss at the start
 /// leaves the head as it reads.
 pub fn install<D: Disk>(
     disk: &mut D,
     held: Option<&Record>,
+    spare: Spare,
     offer: &Offer,
     bytes: &[u8],
     room: &mut [u8],
@@ -46,6 +47,10 @@ pub fn install<D: Disk>(
     requires held { IsTrue D.told
         → RecordOf VERSION_1 (head_of VERSION_1 (D.flash disk.old).reads)
         (option_map (λ r. r.now) held) }
+    requires two { spare.which < 2 }
+    requires spare { IsTrue D.told
+        → HasSpare VERSION_1 (head_of VERSION_1 (D.flash disk.old).reads)
+        (option_map (λ r. r.now) held) spare }
     requires active { IsTrue D.told → HasActiveSlots (D.flash disk.old).reads offer.now.active }
     ensures size { D.extent disk.new ≡ D.extent disk.old }
     ensures counts { ResultCounts result (D.faults disk.old) (D.faults disk.new) }
@@ -92,6 +97,6 @@ pub fn install<D: Disk>(
         digest: offer.digest,
         active: offer.active,
     };
-    commit(disk, held, &new)?;
+    commit(disk, held, spare, &new)?;
     Ok(new)
 }

@@ -2,10 +2,11 @@
 
 ghost use Rattle.flash_layout.specs.Frames.{head_of};
 ghost use Rattle.flash_layout.specs.Layouts.{IsLayout};
+ghost use Rattle.rollback_record.specs.Committing.{HasSpare};
 ghost use Rattle.rollback_record.specs.HeadRecord.{IsLoadable, RecordOf};
 ghost use Rattle.rollback_record.specs.Judging.{IsAcceptable};
 ghost use Rattle.rollback_record.specs.SoundFlash.{Follows, Settled, Sound};
-ghost use Rattle.std.specs.Prelude.{◌≡◌, ◌≤◌, ◌⊎◌, [], ℕ, IfSome, IsTrue, List, length, option_map};
+ghost use Rattle.std.specs.Prelude.{◌≡◌, ◌<◌, ◌≤◌, ◌⊎◌, [], ℕ, IfSome, IsTrue, List, length, option_map};
 ghost use Rattle.step_machine.specs.Fetching.{AsksAmong, asked_at};
 ghost use Rattle.step_machine.specs.PlanRuns.{counts_of};
 ghost use Rattle.step_machine.specs.UrisSet.{HasFetch};
@@ -24,7 +25,7 @@ use crate::finishing::finish;
 use crate::in_use::choose_slots;
 use crate::{Offer, UpdateEnd, choice_laws, moment_laws};
 use flash_layout::{Layout, Places, Record, VERSION_1};
-use rollback_record::{record_laws, sound_laws};
+use rollback_record::{Spare, record_laws, sound_laws};
 use std::alloc::{AllocError, Global};
 use step_machine::{Uris, World, run_plan};
 use suit_commands::Plan;
@@ -32,11 +33,12 @@ use suit_edge::{Disk, Host, Launcher};
 use suit_envelope::Envelope;
 use suit_params::Digest;
 
-/// An accepted update: the bytes to be installed beside the record with the number and the digest of their manifest, its
+/// An accepted update: the bytes to be installed beside the record, on the spare page, with the number and the digest of their manifest, its
 /// procedure, and where its payloads come from.
 #[derive(Clone, Copy)]
 pub(crate) struct Accepted<'a> {
     pub held: Option<&'a Record>,
+    pub spare: Spare,
     pub bytes: &'a [u8],
     pub sequence: u64,
     pub digest: Digest,
@@ -67,6 +69,10 @@ pub(crate) fn start<H: Host, D: Disk, L: Launcher>(
     requires held { IsTrue D.told
         → RecordOf VERSION_1 (head_of VERSION_1 (D.flash disk.old).reads)
         (option_map (λ r. r.now) accepted.now.held) }
+    requires two { accepted.now.spare.which < 2 }
+    requires spare { IsTrue D.told
+        → HasSpare VERSION_1 (head_of VERSION_1 (D.flash disk.old).reads)
+        (option_map (λ r. r.now) accepted.now.held) accepted.now.spare }
     requires judged { IsAcceptable accepted.now.sequence accepted.now.digest
         (option_map (λ r. r.now) accepted.now.held) }
     requires fits { length accepted.now.bytes.now ≤ VERSION_1.bank_size }
@@ -146,5 +152,7 @@ pub(crate) fn start<H: Host, D: Disk, L: Launcher>(
     };
     let mut room = [0u8; 4096];
     let end = run_plan(host, disk, launcher, &mut world, plan);
-    finish(disk, end, held, &offer, accepted.bytes, &mut room)
+    let spare = accepted.spare;
+    let bytes = accepted.bytes;
+    finish(disk, end, held, spare, &offer, bytes, &mut room)
 }

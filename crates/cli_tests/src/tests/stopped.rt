@@ -118,7 +118,7 @@ run update 1.suit img=abc.img
 installed 1";
 
 // The last call of the flash without which nothing is recorded.
-const LAST_OF_RECORD: u64 = 26;
+const LAST_OF_RECORD: u64 = 25;
 
 const FAILED_LAUNCH: &str = "make 1-at-once.json k u.suit
 0

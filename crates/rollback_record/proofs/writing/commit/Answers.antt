@@ -1,22 +1,13 @@
 use Rattle.std.proofs.Common.{ℕ, IsTrue, Option, Bor, option_map, refl, subst, ◌∙◌, ◌+◌, arith}
-use Rattle.suit_edge.specs.Faults.{EdgeCounts}
-use Rattle.suit_edge.specs.Flash.{IsFlash}
+use Rattle.suit_edge.specs.Gate.{IsGate}
 use Rattle.suit_edge.specs.FlashLaws.{each_read}
 use Rattle.flash_layout.specs.declared.slot.Record.{Record}
 use Rattle.rollback_record.proofs.Answered.{both_done, counts_so, on_done}
-use Rattle.rollback_record.proofs.Commits.{Begins, all_moments, behind_gate, gate_of, keeps_beside, long_behind, only_read, page_firm, read_keeps, recorded}
+use Rattle.rollback_record.proofs.Commits.{Begins, all_moments, behind_gate, gate_of, gate_there, keeps_beside, long_behind, page_firm, recorded}
 use Rattle.rollback_record.proofs.SoundSince.{follows_since, sound_since}
 use Rattle.rollback_record.proofs.writing.commit.Given as given
 use Rattle.rollback_record.proofs.writing.commit.Goals as goal
 use Rattle.rollback_record.proofs.writing.commit.Goals.{After-behind_gate}
-
-pub returns-in_err-which-clause-any_moment : goal.returns-in_err-which-clause-any_moment
-returns-in_err-which-clause-any_moment g c t =
-    let law = g.met.D.Disk.obeys c.args.disk.now t in
-    only_read _ _ _ _ (omega (arith, law.fits, c.requires.size)) (c.requires.held t) (c.requires.firm t) (c.find_spare.ensures.same t)
-
-pub returns-in_err-which-clause-keeps : goal.returns-in_err-which-clause-keeps
-returns-in_err-which-clause-keeps g c t = read_keeps _ _ _ (c.requires.held t) (c.find_spare.ensures.same t)
 
 -- ---- the page is spelled, and then written
 
@@ -24,17 +15,15 @@ abbrev held_in : Option (Bor Record) → Option Record
 held_in held = option_map (λ (r : Bor Record). r.now) held
 
 begins : (g : given.Over) (c : After-behind_gate g) → IsTrue g.D.Disk.told
-    → Begins (g.D.Disk.flash c.args.disk.now) (g.D.Disk.flash c.find_spare.new.disk) (g.D.Disk.extent c.args.disk.now) c.in_ok-which.which
+    → Begins (g.D.Disk.flash c.args.disk.now) (g.D.Disk.extent c.args.disk.now) c.args.spare.which
     (held_in c.args.held) c.args.new.now c.record_page-gate.result (c.record_page-gate.result + 1) c.behind_gate.result.now
 begins g c t = record {
-  law_a = g.met.D.Disk.obeys c.args.disk.now t;
-  law_b = subst (IsFlash (g.D.Disk.flash c.find_spare.new.disk)) c.find_spare.ensures.size (g.met.D.Disk.obeys c.find_spare.new.disk t);
+  law = g.met.D.Disk.obeys c.args.disk.now t;
   large = c.requires.size;
-  same = c.find_spare.ensures.same t;
   is = c.requires.held t;
   firm = c.requires.firm t;
-  spare = c.in_ok-which.ensures.spare t;
-  two = c.in_ok-which.ensures.which;
+  spare = (c.requires.spare t).free;
+  two = c.requires.two;
   next = c.requires.next;
   typed = c.typed.ensures;
   fields = c.requires.fields t;
@@ -44,41 +33,33 @@ begins g c t = record {
   long = long_behind c.spell-page.result _ c.spell-page.ensures.long c.behind_gate.ensures;
 }
 
-pub write_gated-answer-requires-clause-firm : goal.write_gated-answer-requires-clause-firm
-write_gated-answer-requires-clause-firm g c t = page_firm _ _ _ _ _ _ _ _ _ (begins g (goal.at.write_gated-answer-requires-clause-firm g c).After-behind_gate t)
+pub write_known-answer-requires-clause-firm : goal.write_known-answer-requires-clause-firm
+write_known-answer-requires-clause-firm g c t = page_firm _ _ _ _ _ _ _ _ (begins g (goal.at.write_known-answer-requires-clause-firm g c).After-behind_gate t)
 
 pub returns-clause-any_moment : goal.returns-clause-any_moment
 returns-clause-any_moment g c t =
-    all_moments _ _ _ _ _ _ _ _ _ (begins g (goal.at.returns-clause-any_moment g c).After-behind_gate t) _ (c.write_gated-answer.ensures.any_moment t)
+    all_moments _ _ _ _ _ _ _ _ (begins g (goal.at.returns-clause-any_moment g c).After-behind_gate t) _ (c.write_known-answer.ensures.any_moment t)
 
 pub returns-clause-reads : goal.returns-clause-reads
-returns-clause-reads g c t = each_read _ _ _ _ (g.met.D.Disk.obeys c.write_gated-answer.new.disk t) (returns-clause-any_moment g c t)
+returns-clause-reads g c t = each_read _ _ _ _ (g.met.D.Disk.obeys c.write_known-answer.new.disk t) (returns-clause-any_moment g c t)
 
 pub returns-clause-keeps : goal.returns-clause-keeps
 returns-clause-keeps g c t =
-    keeps_beside _ _ _ _ _ _ _ _ _ (begins g (goal.at.returns-clause-keeps g c).After-behind_gate t) _ (c.write_gated-answer.ensures.keeps t)
+    keeps_beside _ _ _ _ _ _ _ _ (begins g (goal.at.returns-clause-keeps g c).After-behind_gate t) _ (c.write_known-answer.ensures.keeps t)
 
 pub returns-clause-counts : goal.returns-clause-counts
 returns-clause-counts g c =
-    counts_so c.result_of.result c.write_gated-answer.result _ _ c.result_of.ensures.ok c.result_of.ensures.err
-    (subst (λ (n : ℕ). EdgeCounts c.write_gated-answer.result n (g.D.Disk.faults c.write_gated-answer.new.disk)) c.in_ok-which.ensures.counts c.write_gated-answer.ensures.counts)
+    counts_so c.result_of.result c.write_known-answer.result _ _ c.result_of.ensures.ok c.result_of.ensures.err
+    c.write_known-answer.ensures.counts
 
 pub returns-clause-settled : goal.returns-clause-settled
-returns-clause-settled g c t = on_done c.result_of.result _ _ c.result_of.ensures.ok (c.write_gated-answer.ensures.settled t)
+returns-clause-settled g c t = on_done c.result_of.result _ _ c.result_of.ensures.ok (c.write_known-answer.ensures.settled t)
 
 pub returns-clause-ok : goal.returns-clause-ok
 returns-clause-ok g c t =
-    on_done c.result_of.result c.write_gated-answer.result _ c.result_of.ensures.ok
-    (both_done c.write_gated-answer.result _ _ _ (c.write_gated-answer.ensures.page t) (c.write_gated-answer.ensures.opened t)
-    (recorded _ _ _ _ _ _ _ _ _ (begins g (goal.at.returns-clause-ok g c).After-behind_gate t) (g.D.Disk.flash c.write_gated-answer.new.disk)))
-
-pub returns-in_err-which-clause-sound : goal.returns-in_err-which-clause-sound
-returns-in_err-which-clause-sound g c t =
-    sound_since _ _ _ _ _ (g.met.D.Disk.obeys c.args.disk.now t) c.requires.size (c.requires.held t) (c.requires.firm t) (returns-in_err-which-clause-any_moment g c t) (returns-in_err-which-clause-keeps g c t) (c.requires.fields t)
-
-pub returns-in_err-which-clause-follows : goal.returns-in_err-which-clause-follows
-returns-in_err-which-clause-follows g c t =
-    follows_since _ _ _ _ _ (g.met.D.Disk.obeys c.args.disk.now t) c.requires.size (c.requires.held t) (c.requires.firm t) (returns-in_err-which-clause-any_moment g c t) (returns-in_err-which-clause-keeps g c t)
+    on_done c.result_of.result c.write_known-answer.result _ c.result_of.ensures.ok
+    (both_done c.write_known-answer.result _ _ _ (c.write_known-answer.ensures.page t) (c.write_known-answer.ensures.opened t)
+    (recorded _ _ _ _ _ _ _ _ (begins g (goal.at.returns-clause-ok g c).After-behind_gate t) (g.D.Disk.flash c.write_known-answer.new.disk)))
 
 pub returns-clause-sound : goal.returns-clause-sound
 returns-clause-sound g c t =
@@ -87,3 +68,7 @@ returns-clause-sound g c t =
 pub returns-clause-follows : goal.returns-clause-follows
 returns-clause-follows g c t =
     follows_since _ _ _ _ _ (g.met.D.Disk.obeys c.args.disk.now t) c.requires.size (c.requires.held t) (c.requires.firm t) (returns-clause-any_moment g c t) (returns-clause-keeps g c t)
+
+pub write_known-answer-requires-clause-known : goal.write_known-answer-requires-clause-known
+write_known-answer-requires-clause-known g c t =
+    subst (λ (b : ℕ). IsGate c.args.spare.gate b) (gate_there (g.D.Disk.flash c.args.disk.now).reads _ c.args.spare.which c.requires.two c.record_page-gate.ensures) (c.requires.spare t).gate

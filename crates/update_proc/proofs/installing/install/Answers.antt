@@ -3,7 +3,7 @@ use Rattle.suit_edge.specs.FlashLaws.{settled_firm}
 use Rattle.flash_layout.specs.declared.frame.TheConstants.{VERSION_1}
 use Rattle.flash_layout.specs.declared.slot.Record.{Record}
 use Rattle.rollback_record.specs.Committing.{InHead}
-use Rattle.update_proc.proofs.Installs.{bank_and_commit, behind_bank, behind_commit, each_follows, each_sound, filling, held_or_same, in_range, next_is, same_record, still_held}
+use Rattle.update_proc.proofs.Installs.{bank_and_commit, behind_bank, behind_commit, each_follows, each_sound, filling, held_or_same, in_range, next_is, same_record, still_held, still_spare}
 use Rattle.update_proc.proofs.installing.install.Goals as goal
 
 abbrev held_of : Option (Bor Record) → Option Record
@@ -27,6 +27,11 @@ pub commit-requires-clause-held : goal.commit-requires-clause-held
 commit-requires-clause-held g c t =
     let large : 49152 ≤ length (g.D.Disk.flash c.args.disk.now).reads = omega (arith, (g.met.D.Disk.obeys c.args.disk.now t).fits, c.requires.size) in
     still_held (held_of c.args.held) c.args.bytes.now (g.D.Disk.flash c.args.disk.now).reads (g.D.Disk.flash c.write_bank.new.disk).reads large c.requires.loadable c.requires.fits (c.requires.held t) (c.write_bank.ensures.keeps t).reads
+
+pub commit-requires-clause-spare : goal.commit-requires-clause-spare
+commit-requires-clause-spare g c t =
+    let large : 49152 ≤ length (g.D.Disk.flash c.args.disk.now).reads = omega (arith, (g.met.D.Disk.obeys c.args.disk.now t).fits, c.requires.size) in
+    still_spare (held_of c.args.held) c.args.bytes.now (g.D.Disk.flash c.args.disk.now).reads (g.D.Disk.flash c.write_bank.new.disk).reads large c.requires.loadable c.requires.fits (c.requires.held t) (c.write_bank.ensures.keeps t).reads c.args.spare c.requires.two (c.requires.spare t)
 
 pub commit-requires-clause-next : goal.commit-requires-clause-next
 commit-requires-clause-next g c =

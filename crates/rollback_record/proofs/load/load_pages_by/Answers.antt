@@ -1,5 +1,5 @@
 use Rattle.rollback_record.proofs.SlotCounts.{of_layout}
-use Rattle.rollback_record.proofs.load.load_record_by.Goals as goal
+use Rattle.rollback_record.proofs.load.load_pages_by.Goals as goal
 
 pub returns-clause-exact : goal.returns-clause-exact
 returns-clause-exact g c t =
