@@ -1,6 +1,6 @@
 //! Events of a path, lent from the procedure.
 
-ghost use Rattle.std.specs.Prelude.{◌≡◌};
+ghost use Rattle.std.specs.Prelude.{◌≡◌, ◌≤◌};
 ghost use Rattle.std.specs.Option.{option_copied};
 
 use crate::judge_plan::fingerprint::{mixed, of_bytes, of_number};
@@ -37,6 +37,21 @@ pub(crate) enum Happened<'a> {
     },
 }
 
+// An even number of its own for each kind.
+fn even_number(kind: TestKind) -> u64
+    ensures { result ≤ 12 }
+{
+    match kind {
+        TestKind::Vendor => 0,
+        TestKind::Class => 2,
+        TestKind::Device => 4,
+        TestKind::Slot => 6,
+        TestKind::ImageMatch => 8,
+        TestKind::CheckContent => 10,
+        TestKind::Abort => 12,
+    }
+}
+
 impl<'a> Happened<'a> {
     /// The component where it happened.
     pub(crate) fn component(&self) -> u32 {
@@ -50,7 +65,7 @@ impl<'a> Happened<'a> {
         }
     }
 
-    /// A fingerprint, which tells many matches apart.
+    /// A fingerprint. It tells most events apart.
     pub(crate) fn print(&self) -> u64 {
         let component = u64::from(self.component());
         match self {
@@ -58,9 +73,14 @@ impl<'a> Happened<'a> {
                 let digest = of_bytes(&digest.bytes[..4]);
                 mixed(component, mixed(digest, of_number(*size)))
             }
-            Happened::Tried { passed, .. } => component + 8 * (*passed as u64),
-            Happened::Failed { place } => mixed(9, *place),
-            _ => 16 + component,
+            Happened::Tried { kind, passed, .. } => mixed(
+                even_number(*kind) + (*passed as u64),
+                component,
+            ),
+            Happened::Failed { place } => mixed(20, *place),
+            Happened::Wrote { .. } => mixed(21, component),
+            Happened::Missed { .. } => mixed(22, component),
+            Happened::Invoked { passed, .. } => mixed(23 + (*passed as u64), component),
         }
     }
 }

@@ -6,6 +6,7 @@ ghost use Rattle.path_checker.specs.Matches.{Match as TheMatch, match_of, matche
 
 use crate::judge_plan::fingerprint::{mixed, of_bytes, of_number};
 use crate::judge_plan::links::Links;
+use crate::judge_plan::same_param::same_digest;
 use bumpalo::Bump;
 use path_model::Event;
 use std::alloc::{AllocError, Global};
@@ -64,14 +65,14 @@ impl<'a> Match<'a> {
     pub(crate) fn is_under(&self, digest: &Digest, size: Option<u64>) -> bool
         ensures { IsTrue result → match_of self.now ≡ (digest.now, size) }
     {
-        self.size == size && *self.digest == *digest
+        self.size == size && same_digest(self.digest, digest)
     }
 
     /// Whether it is the other.
     pub(crate) fn is(&self, other: &Match<'_>) -> bool
         ensures { IsTrue result ↔ (match_of self.now ≡ match_of other.now) }
     {
-        self.size == other.size && *self.digest == *other.digest
+        self.size == other.size && same_digest(self.digest, other.digest)
     }
 
     /// Some bits of the fingerprint.

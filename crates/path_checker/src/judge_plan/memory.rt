@@ -69,6 +69,16 @@ impl<'a> Last<'a> {
     }
 }
 
+// Where an event of a fingerprint is kept.
+fn first_place(print: u64) -> usize {
+    print as usize & (EVENTS - 1)
+}
+
+// Where it is kept if another one is kept there.
+fn second_place(print: u64) -> usize {
+    (print >> 40) as usize & (EVENTS - 1)
+}
+
 impl<'a> Memory<'a> {
     /// These allocators, where nothing has happened.
     pub(crate) fn new(
@@ -119,10 +129,10 @@ impl<'a> Memory<'a> {
         Ok(())
     }
 
-    /// The last event at a component, or with a fingerprint, in any state.
+    /// The last event at a component, or one with a fingerprint, in any state.
     pub(crate) fn last_told(&self, component: u32, print: u64) -> Option<&'a Told<'a>> {
-        if let Some(last) = self.last.more.get().get(print as usize & (EVENTS - 1)) {
-            return last.get();
+        if let Some(first) = self.last.more.get().get(first_place(print)) {
+            return first.get();
         }
         let told = self.last.told.get();
         match told.get(component as usize) {
@@ -131,10 +141,25 @@ impl<'a> Memory<'a> {
         }
     }
 
-    /// Keeps what happened last at a component, and with a fingerprint.
+    /// Another one with a fingerprint, in any state.
+    pub(crate) fn other_told(&self, print: u64) -> Option<&'a Told<'a>> {
+        match self.last.more.get().get(second_place(print)) {
+            Some(second) => second.get(),
+            None => None,
+        }
+    }
+
+    /// Keeps what happened last at a component, or with a fingerprint. Two with one fingerprint are kept.
     pub(crate) fn keep_told(&self, component: u32, print: u64, last: &'a Told<'a>) {
-        if let Some(place) = self.last.more.get().get(print as usize & (EVENTS - 1)) {
-            place.set(Some(last));
+        let more = self.last.more.get();
+        if let (Some(first), Some(second)) = (
+            more.get(first_place(print)),
+            more.get(second_place(print)),
+        ) {
+            match first.get() {
+                Some(_) => second.set(Some(last)),
+                None => first.set(Some(last)),
+            }
             return;
         }
         let mut told = self.last.told.get();

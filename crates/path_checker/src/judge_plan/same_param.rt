@@ -1,9 +1,28 @@
 //! Whether parameters are equal.
 
-ghost use Rattle.std.specs.Prelude.{◌≡◌, IsTrue};
+ghost use Rattle.std.specs.Prelude.{◌≡◌, ◌↔◌, IsTrue};
 ghost use Rattle.std.specs.Option.{option_copied};
 
-use suit_params::{Param, ParamList};
+use lane_bytes::same as same_bytes;
+use suit_params::{Digest, Param, ParamList};
+
+/// Whether two digests are equal.
+pub(crate) fn same_digest(one: &Digest, other: &Digest) -> bool
+    ensures { IsTrue result ↔ (one.now ≡ other.now) }
+{
+    same_bytes(&one.bytes[..], &other.bytes[..])
+}
+
+/// Whether both are absent, or both are there and equal.
+pub(crate) fn same_lent(one: Option<&Digest>, other: Option<&Digest>) -> bool
+    ensures { IsTrue result → option_copied one.entry ≡ option_copied other.entry }
+{
+    match (one, other) {
+        (None, None) => true,
+        (Some(one), Some(other)) => same_digest(one, other),
+        _ => false,
+    }
+}
 
 fn same(one: &Param, other: &Param) -> bool
     ensures { IsTrue result → one.now ≡ other.now }
@@ -12,7 +31,7 @@ fn same(one: &Param, other: &Param) -> bool
         (Param::Vendor(id), Param::Vendor(other)) => *id == *other,
         (Param::Class(id), Param::Class(other)) => *id == *other,
         (Param::Device(id), Param::Device(other)) => *id == *other,
-        (Param::Digest(digest), Param::Digest(other)) => *digest == *other,
+        (Param::Digest(digest), Param::Digest(other)) => same_digest(digest, other),
         (Param::Slot(number), Param::Slot(other)) => *number == *other,
         (Param::Strict(value), Param::Strict(other)) => *value == *other,
         (Param::Soft(value), Param::Soft(other)) => *value == *other,

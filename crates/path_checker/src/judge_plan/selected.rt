@@ -72,6 +72,15 @@ pub(crate) fn same_components(some: &Components<'_>, others: &Components<'_>) ->
     }
 }
 
+/// A number that tells one component from another.
+pub(crate) fn number_of(held: &Components<'_>) -> u64 {
+    match held {
+        Components::One(component) => u64::from(*component),
+        Components::First(count) => 8 + u64::from(*count),
+        Components::Listed(components) => 32 + components.len() as u64,
+    }
+}
+
 impl<'a> Selected<'a> {
     /// One component.
     pub(crate) fn one(component: u32) -> Selected<'a>

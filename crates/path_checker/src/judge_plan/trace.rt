@@ -6,12 +6,12 @@ ghost use Rattle.path_checker.specs.Happening.{event_of, invoke_event, sets_at, 
 ghost use Rattle.path_checker.specs.Selecting.{components_of};
 ghost use Rattle.path_checker.specs.Standing.{all_in_order};
 
-use crate::judge_plan::fingerprint::of_param;
+use crate::judge_plan::fingerprint::{mixed, of_param};
 use crate::judge_plan::happened::{Happened, copied};
 use crate::judge_plan::matches::Match;
 use crate::judge_plan::memory::Memory;
-use crate::judge_plan::same_param::same_short;
-use crate::judge_plan::selected::{Components, listed, same_components};
+use crate::judge_plan::same_param::{same_lent, same_short};
+use crate::judge_plan::selected::{Components, listed, number_of, same_components};
 use bumpalo::Bump;
 use path_model::{Event, Events};
 use std::alloc::{AllocError, Global};
@@ -89,6 +89,15 @@ impl<'a> Model for Trace<'a> {
     ghost use Rattle.std.proofs.Common.{arith};
 
     ghost size_decreases = { λ a h. Prim.grind (arith) };
+}
+
+// A fingerprint of the events of an override at some components.
+fn of_sets(components: &Components<'_>, list: &ParamList) -> u64 {
+    let mut print = mixed(24, number_of(components));
+    for param in list.as_slice() {
+        print = mixed(print, of_param(Some(param)));
+    }
+    print
 }
 
 // Adds the events of an override at some components, in memory of their own.
@@ -212,6 +221,20 @@ impl<'a> Told<'a> {
                 },
             ) => *component == *other && own.is_under(digest, *size),
             (Told::Failed { place }, Happened::Failed { place: other }) => *place == *other,
+            (
+                Told::Invoked(invoke),
+                Happened::Invoked {
+                    component,
+                    digest,
+                    size,
+                    passed,
+                },
+            ) => {
+                invoke.component == *component
+                    && invoke.passed == *passed
+                    && invoke.size == *size
+                    && same_lent(invoke.digest, *digest)
+            }
             _ => false,
         }
     }
@@ -258,6 +281,11 @@ impl<'a> Told<'a> {
                 return Ok(last);
             }
         }
+        if let Some(other) = memory.other_told(print) {
+            if other.tells(&event) {
+                return Ok(other);
+            }
+        }
         let told = Told::of(memory.events, event)?;
         told.lent(memory, component, print)
     }
@@ -271,10 +299,15 @@ impl<'a> Told<'a> {
         ensures { IfOk result
             (λ told. told_by told.now ≡ sets_at (components_of components.entry) list.now) }
     {
-        let print = of_param(list.as_slice().first());
+        let print = of_sets(&components, list);
         if let Some(last) = memory.last_told(SETS, print) {
             if last.tells_sets(components, list) {
                 return Ok(last);
+            }
+        }
+        if let Some(other) = memory.other_told(print) {
+            if other.tells_sets(components, list) {
+                return Ok(other);
             }
         }
         Told::Sets { components, list }.lent(memory, SETS, print)
