@@ -1,5 +1,5 @@
 -- An envelope may be started or is refused in one way.
-use Rattle.std.proofs.Common.{◌≡◌, inl, inr, ℕ, List}
+use Rattle.std.proofs.Common.{◌≡◌, inl, inr, ℕ, List, sym, subst}
 use Rattle.suit_envelope.specs.Envelopes.{EnvelopeSays}
 use Rattle.suit_envelope.specs.Authentic.{TellSame}
 use Rattle.suit_envelope.specs.EnvelopeLaws.{AuthenticityLaw, EnvelopeLaws}
@@ -63,6 +63,13 @@ module _ (layout : List Entry) (key bytes : List ℕ) where
     all_one = one_then StartAlike (Spell bytes) (SpellNone bytes) (λ x y. x ≡ y) (λ r. refusals.NoEnvelope r) to_manifest
         (envelope_judged envelopes bytes) (λ r q same. same) manifest_one
 
+module _ (envelopes : EnvelopeLaws) (manifests : ManifestLaws) (bytes : List ℕ) (said other : EnvelopeSays) (m n : Manifest) where
+  one_manifest : SpellManifest bytes said m → SpellManifest bytes other n → (said ≡ other) × (m ≡ n)
+  one_manifest x y =
+      let same = (envelope_judged envelopes bytes).same said other x.spell y.spell in
+      let says = subst (λ (s : EnvelopeSays). HasManifest s n) (sym same) y.says in
+      (same, (manifest_judged manifests said (envelopes.strings bytes said x.spell.envelope).manifest.1).same m n x.says says)
+
 admitted_starts : (layout : List Entry) (key bytes : List ℕ) (a : Admission) → IsAdmitted layout key bytes a → IsStartable layout key bytes a.said a.manifest a.places
 admitted_starts layout key bytes a is =
     let offered = is.complete.offered in
@@ -78,5 +85,6 @@ starting_laws envelopes authenticity manifests = record {
       (all_one layout key bytes envelopes authenticity manifests).never r (goes_so layout key bytes said manifest places is) (stops_so layout key bytes r is_not);
   one_refusal = λ layout key bytes r other x y.
       (all_one layout key bytes envelopes authenticity manifests).alike r other (stops_so layout key bytes r x) (stops_so layout key bytes other y);
+  one_manifest = one_manifest envelopes manifests;
   admitted = admitted_starts;
 }

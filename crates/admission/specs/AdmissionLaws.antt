@@ -17,7 +17,7 @@ use Rattle.admission.specs.declared.refusal.NotStartable.{NotStartable}
 use Rattle.admission.specs.declared.refusal.NotStartable.TheVariants as not_startable
 use Rattle.admission.specs.Opening.{IsNotOpened, IsOpened}
 use Rattle.admission.specs.Judging.{AreSafe, IsNotSafe}
-use Rattle.admission.specs.Starting.{IsNotStartable, IsStartable}
+use Rattle.admission.specs.Starting.{IsNotStartable, IsStartable, SpellManifest}
 use Rattle.admission.specs.Admission.{Admission, IsAdmitted, IsNotAdmitted}
 
 -- two refusals tell the same; a procedure that is not safe may be told by another path
@@ -99,6 +99,10 @@ pub record StartingLaws : Type 0 where
   pub one_refusal : (layout : List Entry) (key bytes : List ℕ) (r other : NotStartable)
       → IsNotStartable layout key bytes r → IsNotStartable layout key bytes other
       → StartAlike r other
+  -- bytes have one manifest
+  pub one_manifest : (bytes : List ℕ) (said other : EnvelopeSays) (manifest next : Manifest)
+      → SpellManifest bytes said manifest → SpellManifest bytes other next
+      → (said ≡ other) × (manifest ≡ next)
   -- what is admitted may be started
   pub admitted : (layout : List Entry) (key bytes : List ℕ) (a : Admission)
       → IsAdmitted layout key bytes a

@@ -1,11 +1,11 @@
 -- The clauses of a boot about the flash, from those of its stages.
-use Rattle.std.proofs.Common.{◌≡◌, ◌⊎◌, inl, inr, ⊎_elim, ℕ, List, Option, Some, refl, subst}
+use Rattle.std.proofs.Common.{◌≡◌, ◌≢◌, ◌⊎◌, inl, inr, ⊎_elim, ℕ, List, Option, Some, refl, sym, subst}
 use Rattle.suit_edge.specs.Flash.{Flash, IsFlash, IsSame, IsSettled}
 use Rattle.suit_edge.specs.FlashLaws.{keeps_same, keeps_then, same_flash_then}
 use Rattle.suit_edge.specs.declared.launch.Launch.{Launch}
 use Rattle.suit_envelope.specs.Envelopes.{EnvelopeSays, map_entries}
 use Rattle.suit_envelope.specs.Payloads.{HasPayloads, integrated_payloads}
-use Rattle.suit_envelope.specs.Said.{EnvelopeOf}
+use Rattle.suit_envelope.specs.Said.{EnvelopeOf, said_by}
 use Rattle.suit_manifest.specs.declared.manifest.Manifest.{Manifest}
 use Rattle.suit_manifest.specs.Procedures.{invocation_tree}
 use Rattle.path_model.specs.declared.cause.Cause.TheVariants as causes
@@ -13,6 +13,10 @@ use Rattle.flash_layout.specs.declared.key.Key.{Key}
 use Rattle.flash_layout.specs.declared.layout.Entry.{Entry}
 use Rattle.flash_layout.specs.declared.slot.Record.{Record}
 use Rattle.rollback_record.specs.SoundFlash.{key_bytes}
+use Rattle.admission.specs.declared.refusal.NotStartable.{NotStartable}
+use Rattle.admission.specs.declared.refusal.NotStartable.TheVariants as refusals
+use Rattle.admission.specs.declared.starting.Start.{Start}
+use Rattle.admission.specs.Starting.{IsNotStartable, IsStartable}
 use Rattle.step_machine.specs.declared.plan_end.PlanEnd.{PlanEnd}
 use Rattle.step_machine.specs.declared.plan_end.PlanEnd.TheVariants as plays
 use Rattle.step_machine.specs.PlanRuns.{OutsideTargets}
@@ -22,7 +26,8 @@ use Rattle.invoke_proc.specs.declared.boot_end.BootEnd.{BootEnd}
 use Rattle.invoke_proc.specs.declared.boot_end.BootEnd.TheVariants as ends
 use Rattle.invoke_proc.specs.Banks.{IsNoBank, bank_in, record_in, without_bank}
 use Rattle.invoke_proc.specs.Booting.{Answers, IfUnfaulted, IsStartEnd, KeepsBoot, KeepsOthers, KeptSo, PlayedSo, PlaysBoot, PlaysOn, Starts}
-use Rattle.invoke_proc.specs.Starting.{IsDeclined, IsStarted}
+use Rattle.invoke_proc.specs.Starting.{IsDeclined, IsStarted, declined_as}
+use Rattle.invoke_proc.proofs.BankSays.{declined}
 
 -- ---- where no envelope is read
 
@@ -69,12 +74,20 @@ kept_as P Q R S ends.NoMemory to also p = also p
 -- ---- where it is declined
 
 module _ (layout : List Entry) (key : Key) (reads : List ℕ) (r : Record) (recorded : record_in reads (Some r)) where
-  pub declined_answers : (bytes : List ℕ) (end : BootEnd) → bytes ≡ bank_in reads r → IsDeclined layout (key_bytes key) bytes end → Answers layout key reads end
-  declined_answers bytes (ends.BadBank refusal) same is = (r, recorded, subst (λ (l : List ℕ). IsDeclined layout (key_bytes key) l (ends.BadBank refusal)) same is)
-  declined_answers bytes (ends.NotAuthentic l) same is = (r, recorded, subst (λ (b : List ℕ). IsDeclined layout (key_bytes key) b (ends.NotAuthentic l)) same is)
-  declined_answers bytes (ends.UnknownComponent i) same is = (r, recorded, subst (λ (b : List ℕ). IsDeclined layout (key_bytes key) b (ends.UnknownComponent i)) same is)
-  declined_answers bytes ends.NoMemory same is = (r, recorded)
-  declined_answers bytes _ same is = absurd is
+  declined_answers : (end : BootEnd) → IsDeclined layout (key_bytes key) (bank_in reads r) end → Answers layout key reads end
+  declined_answers (ends.BadBank refusal) is = (r, recorded, is)
+  declined_answers (ends.NotAuthentic l) is = (r, recorded, is)
+  declined_answers (ends.UnknownComponent i) is = (r, recorded, is)
+  declined_answers ends.NoMemory is = (r, recorded)
+  declined_answers _ is = absurd is
+
+  pub refused_answers : (word bytes : List ℕ) (refusal : NotStartable) (end : BootEnd) → word ≡ key_bytes key → bytes ≡ bank_in reads r → end ≡ declined_as refusal
+      → (refusal ≢ refusals.NoMemory → IsNotStartable layout word bytes refusal) → Answers layout key reads end
+  refused_answers word bytes refusal end key_is bytes_is end_is refused =
+      subst (λ (e : BootEnd). Answers layout key reads e) (sym end_is)
+      (declined_answers (declined_as refusal)
+      (subst (λ (b : List ℕ). IsDeclined layout (key_bytes key) b (declined_as refusal)) bytes_is
+      (subst (λ (k : List ℕ). IsDeclined layout k bytes (declined_as refusal)) key_is (declined layout word bytes refusal refused))))
 
   -- ---- where something is started
 
@@ -89,12 +102,13 @@ module _ (layout : List Entry) (key : Key) (reads : List ℕ) (r : Record) (reco
 
 -- ---- from the moment before the bank was read
 
-pub started_from : (layout : List Entry) (key : Key) (reads bytes : List ℕ) (r : Record) (said : EnvelopeSays) (m : Manifest) → record_in reads (Some r)
-    → bytes ≡ bank_in reads r → IsStarted layout (key_bytes key) bytes said m → Starts layout key reads r m
-started_from layout key reads bytes r said m recorded same is = record {
+pub started_from : (layout : List Entry) (key : Key) (reads word bytes : List ℕ) (r : Record) (start : Start) → record_in reads (Some r) → word ≡ key_bytes key
+    → bytes ≡ bank_in reads r → IsStartable layout word bytes (said_by start.envelope) start.manifest start.places → Starts layout key reads r start.manifest
+started_from layout key reads word bytes r start recorded key_is bytes_is is = record {
   recorded = recorded;
-  said = said;
-  started = subst (λ (l : List ℕ). IsStarted layout (key_bytes key) l said m) same is;
+  said = said_by start.envelope;
+  started = subst (λ (l : List ℕ). IsStarted layout (key_bytes key) l (said_by start.envelope) start.manifest) bytes_is
+      (subst (λ (k : List ℕ). IsStarted layout k bytes (said_by start.envelope) start.manifest) key_is (start.places, is));
 }
 
 pub payloads_in : (bytes : List ℕ) (said : EnvelopeSays) → EnvelopeOf bytes said → (payloads : List (List ℕ × List ℕ)) × HasPayloads bytes payloads

@@ -1,5 +1,5 @@
+pub mod Placed
 pub mod BankSays
-pub mod Judged
 pub mod Places
 pub mod Played
 pub mod HostNever

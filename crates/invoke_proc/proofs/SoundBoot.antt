@@ -123,7 +123,7 @@ module _ (safe : SafeLaunches) (faulted : FaultedSafeLaunches) (manifests : Mani
     (typed : All HasIdentifiers layout) (key : Key) (files : List ℕ → Option (List ℕ)) (before after : List ℕ) (launched now : List Launch) where
   pub gains : (end : PlanEnd) → (p : PlaysBoot layout key files before after launched now end) → Safe (invocation_tree p.manifest) → GainsSafe launched now
   gains end p safe_plan =
-      let holds = p.starts.started.says.holds in
+      let holds = p.starts.started.1.spell.says in
       let grammar = manifests.grammatical p.starts.said.manifest_place holds.item p.manifest holds.says_so in
       record {
         gained = p.on.plays.gained;
@@ -153,7 +153,7 @@ module _ (safe : SafeLaunches) (faulted : FaultedSafeLaunches) (manifests : Mani
 module _ (manifests : ManifestLaws) (size : ℕ) (layout : List Entry) (is : IsLayout VERSION_1 size layout) (typed : All IsTypedEntry layout) (key : Key) (a b : Flash) where
   boot_kept : KeepsBoot layout key a b → Keeps (InHead VERSION_1) a b
   boot_kept kept =
-      let holds = kept.starts.started.says.holds in
+      let holds = kept.starts.started.1.spell.says in
       let grammar = manifests.grammatical kept.starts.said.manifest_place holds.item kept.manifest holds.says_so in
       let plan = invocation_tree kept.manifest in
       keeps_fewer (InHead VERSION_1) (OutsideTargets plan kept.others.standings)

@@ -1,6 +1,11 @@
 //! How a boot ends.
 
+ghost use Rattle.std.specs.Prelude.{◌≡◌};
+ghost use Rattle.invoke_proc.specs.Starting.{declined_as, lacking_in};
+
+use admission::NotStartable;
 use path_model::Cause;
+use suit_envelope::Authenticity;
 use suit_params::Refusal;
 
 /// Why an envelope is not authentic.
@@ -35,4 +40,31 @@ pub enum BootEnd {
     FlashFault,
     /// Memory ran out. Nothing was launched or written.
     NoMemory,
+}
+
+impl<'a> From<Authenticity<'a>> for Lacking {
+    ghost from_gives = { λ e r. r ≡ lacking_in e };
+
+    // Of a refused envelope, which is never `Yes`.
+    fn from(answer: Authenticity<'a>) -> Lacking {
+        match answer {
+            Authenticity::DigestDiffers { .. } => Lacking::DigestDiffers,
+            Authenticity::MacDiffers { .. } => Lacking::MacDiffers,
+            Authenticity::NoMac | Authenticity::Yes => Lacking::NoMac,
+        }
+    }
+}
+
+impl<'a> From<NotStartable<'a>> for BootEnd {
+    ghost from_gives = { λ e r. r ≡ declined_as e };
+
+    fn from(refusal: NotStartable<'a>) -> BootEnd {
+        match refusal {
+            NotStartable::NoEnvelope(refusal) => BootEnd::BadBank(refusal),
+            NotStartable::NoManifest(refusal) => BootEnd::BadBank(refusal),
+            NotStartable::NotAuthentic(answer) => BootEnd::NotAuthentic(Lacking::from(answer)),
+            NotStartable::UnknownComponent(component) => BootEnd::UnknownComponent(component),
+            NotStartable::NoMemory => BootEnd::NoMemory,
+        }
+    }
 }

@@ -11,11 +11,11 @@ ghost use Rattle.std.specs.Prelude.{◌≡◌, ◌⊎◌, IsTrue};
 ghost use Rattle.step_machine.specs.PlanRuns.{counts_of};
 ghost use Rattle.suit_edge.specs.Flash.{Grows, IsSame, IsSettled, Passes};
 
-use crate::BootEnd;
 use crate::bank::{NoBank, find_bank};
-use crate::judging::judge;
 use crate::law::boot_laws;
 use crate::running::start;
+use crate::{BootEnd, key_bytes};
+use admission::startable;
 use flash_layout::{Key, Layout, config_laws};
 use path_model::play_laws;
 use rollback_record::{record_laws, sound_laws};
@@ -73,9 +73,9 @@ fn start_installed<H: Host, D: Disk, L: Launcher>(
         Ok(bank) => bank,
         Err(fault) => return without_bank(fault),
     };
-    let startable = match judge(alloc, bank.bytes.as_slice(), layout, key) {
+    let startable = match startable(alloc, layout, key_bytes(key), bank.bytes.as_slice()) {
         Ok(startable) => startable,
-        Err(end) => return end,
+        Err(refusal) => return BootEnd::from(refusal),
     };
     start(
         alloc,

@@ -8,7 +8,7 @@ ghost use Rattle.invoke_proc.specs.Booting.{StandActive};
 ghost use Rattle.std.specs.Prelude.{◌≡◌, ℕ, IfOk, None, length};
 ghost use Rattle.step_machine.specs.Worlds.{AreDistinct, AreStandings};
 
-use crate::judging::Startable;
+use admission::Start;
 use flash_layout::{Layout, Record};
 use std::alloc::{AllocError, Global};
 use step_machine::{SlotChoice, Uris, World, slots_in_use};
@@ -19,7 +19,7 @@ pub(crate) fn world_in<'a>(
     layout: &Layout,
     installed: &Record,
     uris: &'a Uris,
-    startable: &'a Startable<'a>,
+    startable: &'a Start<'a>,
 ) -> Result<World<'a>, AllocError>
     requires layout { (size : ℕ) × IsLayout VERSION_1 size layout.now }
     requires placed { ArePlaces layout.now startable.now.manifest.components startable.now.places }

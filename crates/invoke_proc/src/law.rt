@@ -2,14 +2,11 @@
 
 ghost use Rattle.invoke_proc.specs.BootLaws.{BootLaws};
 
-use suit_envelope::{authenticity_laws, envelope_laws};
-use suit_manifest::manifest_laws;
+use admission::admission_laws;
 
 /// The bytes of a bank start one manifest, or nothing for one cause; an installed bank is started.
 pub fn boot_laws()
     ensures { BootLaws }
 {
-    envelope_laws();
-    manifest_laws();
-    authenticity_laws();
+    admission_laws();
 }

@@ -5,11 +5,11 @@ mod bank;
 mod boot_end;
 mod booting;
 mod components;
-mod judging;
+mod key;
 mod law;
 mod running;
 
 pub use boot_end::{BootEnd, Lacking};
 pub use booting::boot;
-pub use judging::key_bytes;
+pub use key::key_bytes;
 pub use law::boot_laws;

@@ -15,7 +15,7 @@ ghost use Rattle.suit_manifest.specs.Procedures.{invocation_tree};
 
 use crate::BootEnd;
 use crate::components::world_in;
-use crate::judging::Startable;
+use admission::Start;
 use flash_layout::{Layout, Record};
 use path_model::Cause;
 use std::alloc::{AllocError, Global};
@@ -68,7 +68,7 @@ pub(crate) fn start<H: Host, D: Disk, L: Launcher>(
     launcher: &mut L,
     layout: &Layout,
     installed: &Record,
-    startable: &Startable<'_>,
+    startable: &Start<'_>,
 ) -> BootEnd
     requires layout { IsLayout VERSION_1 (D.extent disk.old) layout.now }
     requires placed { ArePlaces layout.now startable.now.manifest.components startable.now.places }

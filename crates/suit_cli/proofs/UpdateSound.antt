@@ -1,5 +1,5 @@
 -- An update of what was accepted: it may be installed, and each launch has its digest.
-use Rattle.std.proofs.Common.{◌≡◌, ◌⊎◌, inl, inr, ℕ, List, [], length, map, Option, Some, None, refl, sym, ◌∙◌, subst, append-nil, arith}
+use Rattle.std.proofs.Common.{◌≡◌, ◌⊎◌, inl, inr, ℕ, List, [], length, get_or, map, Option, Some, None, refl, sym, ◌∙◌, subst, append-nil, arith}
 use Rattle.std.specs.List.{All}
 use Rattle.suit_edge.specs.Flash.{Flash, Passes}
 use Rattle.suit_edge.specs.declared.launch.Launch.{Launch}
@@ -17,7 +17,9 @@ use Rattle.flash_layout.specs.declared.slot.Record.{Record}
 use Rattle.flash_layout.specs.ConfigLaws.{OneAnswer}
 use Rattle.flash_layout.specs.Configs.{Blank, ConfigOf, Configured, IsAllowed}
 use Rattle.flash_layout.specs.Frames.{head_of}
-use Rattle.flash_layout.specs.Placement.{HaveOtherPlaces}
+use Rattle.flash_layout.specs.Placement.{ArePlaces, HaveOtherPlaces}
+use Rattle.flash_layout.specs.declared.place.Places.{Places}
+use Rattle.rollback_record.specs.SoundFlash.{HasEach}
 use Rattle.flash_slots.specs.RamContents.{empty_ram}
 use Rattle.rollback_record.specs.HeadRecord.{RecordOf}
 use Rattle.rollback_record.specs.SoundFlash.{IsInstalled, Sound, SoundBlank, SoundEmpty, SoundInstalled}
@@ -28,7 +30,6 @@ use Rattle.step_machine.specs.Worlds.{AreDistinct}
 use Rattle.step_machine.specs.declared.plan_end.PlanEnd.{PlanEnd}
 use Rattle.invoke_proc.specs.Booting.{GainsSafe}
 use Rattle.step_machine.specs.Typing.{HasIdentifiers}
-use Rattle.invoke_proc.proofs.Judged.{has_each}
 use Rattle.invoke_proc.proofs.Places.{are_distinct, are_identities}
 use Rattle.invoke_proc.proofs.SoundBoot.{have_digests}
 use Rattle.update_proc.specs.Choices.{AreChosen, active_slots}
@@ -38,6 +39,10 @@ use Rattle.update_proc.specs.Updates.{Hosted, LaunchesBy, PlaysUpdate, sources}
 use Rattle.place_laws.specs.Installing.{InstalledAnywhere}
 use Rattle.suit_cli.specs.Acceptance.{Accepted, Meets}
 use Rattle.suit_cli.specs.Updating.{HasOffer, new_of}
+
+-- components that have places are in the layout
+has_each : (layout : List Entry) (ids : List (List (List ℕ))) (places : Places) → ArePlaces layout ids places → HasEach layout ids
+has_each layout ids places are k d inside = (get_or places.layout_index k 0, are.each k d inside)
 
 -- ---- the places of its components
 

@@ -1,7 +1,6 @@
 use Rattle.std.proofs.Common.{◌≡◌, ◌∙◌, sym, subst}
 use Rattle.suit_edge.specs.Flash.{IsSame}
 use Rattle.suit_edge.specs.FlashLaws.{same_flash_then}
-use Rattle.suit_envelope.specs.Said.{said_by}
 use Rattle.invoke_proc.specs.declared.boot_end.BootEnd.{BootEnd}
 use Rattle.invoke_proc.specs.Booting.{Answers, KeepsBoot, KeepsOthers, PlayedSo, PlaysBoot, PlaysOn}
 use Rattle.invoke_proc.proofs.Booted as booted
@@ -9,10 +8,10 @@ use Rattle.invoke_proc.proofs.Places.{are_distinct}
 use Rattle.invoke_proc.proofs.Played.{unfaulted}
 use Rattle.invoke_proc.proofs.booting.start_installed.Goals as goal
 
-pub returns-in-Err-judge-clause-answers : goal.returns-in-Err-judge-clause-answers
-returns-in-Err-judge-clause-answers g c t =
-    booted.declined_answers c.args.layout.now c.args.key.now (g.D.Disk.flash c.args.disk.now).reads c.in-Ok.bank.installed (c.in-Ok.ensures.recorded t) c.as_slice.result.now
-    c.in-Err-judge.end (c.as_slice.ensures.value ∙ c.in-Ok.ensures.bytes t) c.in-Err-judge.ensures.declined
+pub returns-in-Err-startable-clause-answers : goal.returns-in-Err-startable-clause-answers
+returns-in-Err-startable-clause-answers g c t =
+    booted.refused_answers c.args.layout.now c.args.key.now (g.D.Disk.flash c.args.disk.now).reads c.in-Ok.bank.installed (c.in-Ok.ensures.recorded t) c.key_bytes.result.now
+    c.as_slice.result.now c.in-Err-startable.refusal c.from.result c.key_bytes.ensures (c.as_slice.ensures.value ∙ c.in-Ok.ensures.bytes t) c.from.ensures c.in-Err-startable.ensures.refused
 
 pub returns-in-Err-clause-answers : goal.returns-in-Err-clause-answers
 returns-in-Err-clause-answers g c t =
@@ -29,25 +28,25 @@ returns-in-Err-clause-plays g c td tl =
 
 pub start-requires-clause-distinct : goal.start-requires-clause-distinct
 start-requires-clause-distinct g c =
-    let m = c.in-Ok-judge.startable.manifest in
-    let holds = c.in-Ok-judge.ensures.started.says.holds in
+    let m = c.in-Ok-startable.startable.manifest in
+    let holds = c.in-Ok-startable.ensures.startable.spell.says in
     let grammar = c.manifest_laws.ensures.grammatical _ holds.item m holds.says_so in
-    are_distinct c.args.layout.now m.components c.in-Ok-judge.startable.places grammar.few grammar.apart c.in-Ok-judge.ensures.placed c.in-Ok-judge.ensures.other
+    are_distinct c.args.layout.now m.components c.in-Ok-startable.startable.places grammar.few grammar.apart c.in-Ok-startable.ensures.startable.placed c.in-Ok-startable.ensures.other
 
 pub start-requires-clause-plan : goal.start-requires-clause-plan
 start-requires-clause-plan g c =
-    let holds = c.in-Ok-judge.ensures.started.says.holds in
-    c.procedure_laws.ensures.invocation _ holds.item c.in-Ok-judge.startable.manifest holds.says_so
+    let holds = c.in-Ok-startable.ensures.startable.spell.says in
+    c.procedure_laws.ensures.invocation _ holds.item c.in-Ok-startable.startable.manifest holds.says_so
 
 pub returns-clause-answers : goal.returns-clause-answers
 returns-clause-answers g c t =
     let reads = (g.D.Disk.flash c.args.disk.now).reads in
     let r = c.in-Ok.bank.installed in
     let recorded = c.in-Ok.ensures.recorded t in
-    let m = c.in-Ok-judge.startable.manifest in
+    let m = c.in-Ok-startable.startable.manifest in
     booted.start_answers c.args.layout.now c.args.key.now reads r recorded m
-    (booted.started_from c.args.layout.now c.args.key.now reads c.as_slice.result.now r (said_by c.in-Ok-judge.startable.envelope) m recorded
-    (c.as_slice.ensures.value ∙ c.in-Ok.ensures.bytes t) c.in-Ok-judge.ensures.started)
+    (booted.started_from c.args.layout.now c.args.key.now reads c.key_bytes.result.now c.as_slice.result.now r c.in-Ok-startable.startable recorded c.key_bytes.ensures
+    (c.as_slice.ensures.value ∙ c.in-Ok.ensures.bytes t) c.in-Ok-startable.ensures.startable)
     c.start.result c.start.ensures.starts
 
 pub returns-clause-plays : goal.returns-clause-plays
@@ -59,12 +58,11 @@ returns-clause-plays g c td tl =
     let files = g.H.Host.file c.args.host.now in
     let launched = g.L.Launcher.launches c.args.launcher.now in
     let now = g.L.Launcher.launches c.start.new.launcher in
-    let bytes = c.as_slice.result.now in
     let r = c.in-Ok.bank.installed in
-    let m = c.in-Ok-judge.startable.manifest in
-    let said = said_by c.in-Ok-judge.startable.envelope in
+    let m = c.in-Ok-startable.startable.manifest in
     let same = c.as_slice.ensures.value ∙ c.in-Ok.ensures.bytes td in
-    let starts = booted.started_from c.args.layout.now c.args.key.now reads bytes r said m (c.in-Ok.ensures.recorded td) same c.in-Ok-judge.ensures.started in
+    let starts = booted.started_from c.args.layout.now c.args.key.now reads c.key_bytes.result.now c.as_slice.result.now r c.in-Ok-startable.startable (c.in-Ok.ensures.recorded td) c.key_bytes.ensures
+    same c.in-Ok-startable.ensures.startable in
     booted.played_as (PlaysOn c.args.layout.now m r.active files before after launched now) (PlaysBoot c.args.layout.now c.args.key.now files reads after launched now)
     (after ≡ before) (after ≡ reads) launched now c.start.result
     (booted.plays_boot c.args.layout.now c.args.key.now files reads before after launched now r m starts (c.in-Ok.ensures.same td).reads)
@@ -78,10 +76,10 @@ returns-clause-keeps g c t =
     let b = d.flash c.find_bank.new.disk in
     let e = d.flash c.start.new.disk in
     let r = c.in-Ok.bank.installed in
-    let m = c.in-Ok-judge.startable.manifest in
+    let m = c.in-Ok-startable.startable.manifest in
     let law = g.met.D.Disk.obeys c.find_bank.new.disk t in
-    let starts = booted.started_from c.args.layout.now c.args.key.now a.reads c.as_slice.result.now r (said_by c.in-Ok-judge.startable.envelope) m (c.in-Ok.ensures.recorded t)
-    (c.as_slice.ensures.value ∙ c.in-Ok.ensures.bytes t) c.in-Ok-judge.ensures.started in
+    let starts = booted.started_from c.args.layout.now c.args.key.now a.reads c.key_bytes.result.now c.as_slice.result.now r c.in-Ok-startable.startable (c.in-Ok.ensures.recorded t) c.key_bytes.ensures
+    (c.as_slice.ensures.value ∙ c.in-Ok.ensures.bytes t) c.in-Ok-startable.ensures.startable in
     booted.kept_as (KeepsOthers c.args.layout.now m r.active b e) (KeepsBoot c.args.layout.now c.args.key.now a e) (IsSame b e) (IsSame a e) c.start.result
     (booted.keeps_boot c.args.layout.now c.args.key.now r m a b e _ law (c.in-Ok.ensures.same t) starts)
     (same_flash_then a b e _ law (c.in-Ok.ensures.same t)) (c.start.ensures.keeps t)
