@@ -11,8 +11,6 @@ use Rattle.invoke_proc.specs.BootLaws.{BootLaws}
 use Rattle.suit_cli.specs.Acceptance.{Accepted, IsAccepted}
 use Rattle.suit_cli.specs.Coming.{ended_status}
 use Rattle.suit_cli.specs.LifeLaws.{SoundnessLaws}
-use Rattle.suit_cli.specs.Outside.{Outside}
-use Rattle.suit_cli.specs.Stages.{After, Stage}
 use Rattle.suit_cli.specs.UpdateLaws.{UpdateLaws}
 use Rattle.suit_cli.proofs.AcceptedFacts.{facts}
 use Rattle.completeness.specs.Boots.{BootsWhole}
@@ -23,20 +21,26 @@ use Rattle.completeness.proofs.Premises.{can_activate, can_set}
 use Rattle.completeness.proofs.Runs.{ends_well, says_so}
 use Rattle.completeness.proofs.UpdateProofs.{only_update, update_completes}
 
--- a stage was good, and all behind it
-passed : {A : Type 0} (first : Stage A) (says : A → Outside → Outside → Type 0) (here : Outside) (value : A) → first.gives here here value → says value here here
-    → After first says here here
-passed first says here value given later = record { value = value; middle = here; given = given; later = later }
-
 module _ (layout : List Entry) (key : Key) (bytes : List ℕ) (a : Accepted) where
   meets : IsAccepted layout key bytes a → Meets layout key bytes a
   meets = facts layout key bytes a
 
   accepted : Meets layout key bytes a → IsAccepted layout key bytes a
-  accepted m here =
-      passed _ _ here a.said (refl, (m.are_bytes, m.envelope)) (passed _ _ here tt (refl, m.is_short) (passed _ _ here tt (refl, m.authentic)
-      (passed _ _ here a.manifest (refl, m.says) (passed _ _ here a.places (refl, m.placed) (passed _ _ here a.members (refl, m.members)
-      (passed _ _ here tt (passed _ _ here tt (refl, m.update_narrow) (passed _ _ here tt (refl, m.invocation_narrow) (refl, m.are_safe))) (refl, refl)))))))
+  accepted m = record {
+    complete = record {
+      offered = record {
+        are_authentic = record { within = record { spell = record { are_bytes = m.are_bytes; envelope = m.envelope }; short = m.is_short }; authentic = m.authentic };
+        says = m.says;
+      };
+      placed = m.placed;
+      members = m.members;
+    };
+    safe = record {
+      narrow = record { update_narrow = m.update_narrow; invocation_narrow = m.invocation_narrow };
+      update_safe = m.are_safe.update_safe;
+      invocation_safe = m.are_safe.invocation_safe;
+    };
+  }
 
 pub completeness_laws : OneConfigAnswer → OneAnswer → EnvelopeLaws → ManifestLaws → MembersLaws → BootLaws → UpdateLaws → SoundnessLaws → CompletenessLaws
 completeness_laws configs records envelopes manifests members boots updates soundness = record {

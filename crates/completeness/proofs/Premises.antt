@@ -1,5 +1,5 @@
 -- What an offer or a record needs besides is there: places, slots and payloads.
-use Rattle.std.proofs.Common.{◌≡◌, ◌⊎◌, inl, inr, ◌<◌, ◌≤◌, ◌-◌, ℕ, List, [], ◌∷◌, length, get_or, replicate, map, Option, Some, None, refl, sym, ◌∙◌, ap, subst, IsTrue, arith}
+use Rattle.std.proofs.Common.{◌≡◌, ◌⊎◌, inl, inr, ◌<◌, ◌≤◌, ◌-◌, ℕ, List, [], length, get_or, replicate, map, Option, Some, None, refl, sym, ◌∙◌, ap, IsTrue, arith}
 use Rattle.std.specs.List.{range_with_len}
 use Rattle.std.proofs.lemmas.List.{get_or_default, get_or_past, length-replicate}
 use Rattle.std.proofs.lemmas.List.FromFn.{length-map-range_with_len, get_or-map-range_with_len}
@@ -13,13 +13,13 @@ use Rattle.flash_layout.specs.declared.layout.Entry.{Entry}
 use Rattle.flash_layout.specs.declared.place.Places.{Places}
 use Rattle.flash_layout.specs.declared.slot.Record.{Record}
 use Rattle.flash_layout.specs.Frames.{head_of}
-use Rattle.flash_layout.specs.Placement.{ArePlaces, HasPlace}
+use Rattle.flash_layout.specs.Placement.{ArePlaces}
 use Rattle.rollback_record.specs.HeadRecord.{RecordOf}
-use Rattle.rollback_record.specs.SoundFlash.{HasEach}
 use Rattle.step_machine.specs.declared.spot.Standing.{Standing}
 use Rattle.step_machine.specs.declared.world.SlotChoice.{SlotChoice}
 use Rattle.step_machine.specs.InUse.{AreInUse, slot_in_use}
 use Rattle.step_machine.specs.Worlds.{StandAs, standing_of}
+use Rattle.invoke_proc.proofs.Placed.{placed}
 use Rattle.update_proc.specs.Choices.{AreChosen, HasOther, IsWritten, active_slots}
 use Rattle.suit_cli.specs.Outside.{Outside}
 use Rattle.suit_cli.proofs.AcceptedFacts.{facts}
@@ -140,38 +140,6 @@ module _ (layout : List Entry) (active : List ℕ) (few : length layout ≤ 8) w
         | inl lt ↦ used_at i lt ∙ is_past (reaches i (length layout)) _ le
         | inr beyond ↦ get_or_past used_numbers i 0 (omega (arith, length-map-range_with_len used 0 8, beyond))
       ];
-    },
-  )
-
--- ---- places
-
-module _ (layout : List Entry) (ids : List (List (List ℕ))) (each : HasEach layout ids) where
-  place : (k : ℕ) → (k < length ids) ⊎ (length ids ≤ k) → ℕ
-  place k (inl lt) = (each k [] lt).0
-  place k (inr past) = 0
-
-  has_place : (k : ℕ) (r : (k < length ids) ⊎ (length ids ≤ k)) → k < length ids → HasPlace layout (get_or ids k []) (place k r)
-  unfolding place
-  has_place k (inl is) lt = (each k [] is).1
-  has_place k (inr past) lt = absurd (omega (arith, past, lt))
-
-  abbrev index : ℕ → ℕ
-  index k = place k (reaches k (length ids))
-
-  abbrev places : Places
-  places = record { count = length ids; layout_index = map index (range_with_len 0 (length ids)) }
-
-  place_at : (k : ℕ) → k < length ids → get_or places.layout_index k 0 ≡ index k
-  place_at k lt = get_or-map-range_with_len index 0 (length ids) k k 0 lt (omega arith)
-
-  pub placed : (p : Places) × ArePlaces layout ids p
-  placed = (
-    places,
-    record {
-      count = refl;
-      each = λ k d lt. subst (λ (id : List (List ℕ)). HasPlace layout id (get_or places.layout_index k 0)) (get_or_default ids k [] d lt)
-          (subst (λ (i : ℕ). HasPlace layout (get_or ids k []) i) (sym (place_at k lt)) (has_place k (reaches k (length ids)) lt));
-      rest = λ k le. get_or_past places.layout_index k 0 (omega (arith, length-map-range_with_len index 0 (length ids), le));
     },
   )
 

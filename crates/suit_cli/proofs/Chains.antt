@@ -3,10 +3,7 @@ use Rattle.std.proofs.Common.{◌≡◌, ℕ, Bool, List, [], None, false, Resul
 use Rattle.std.specs.Result.{IsErrAnd}
 use Rattle.std.specs.Prelude.{IfErr, IfOk, OnOk}
 use Rattle.std.specs.declared.alloc.AllocError.{AllocError}
-use Rattle.suit_commands.specs.Tree.{PlanTree}
-use Rattle.suit_params.specs.declared.refusal.Refusal.{Refusal}
 use Rattle.suit_envelope.specs.Envelopes.{EnvelopeSays}
-use Rattle.suit_envelope.specs.Said.{RefusesBytes}
 use Rattle.suit_cli.specs.declared.reply.Outcome.TheVariants as outcomes
 use Rattle.suit_manifest.specs.declared.manifest.Manifest.{Manifest}
 use Rattle.suit_manifest.specs.declared.manifest.Members.{Members}
@@ -17,16 +14,17 @@ use Rattle.suit_cli.specs.declared.reply.Reply.{Reply}
 use Rattle.suit_cli.specs.declared.reply.Stop.{Stop}
 use Rattle.suit_cli.specs.declared.reply.Stop.TheVariants as stops
 use Rattle.suit_cli.specs.Outside.{Files, Flashed, Outside}
-use Rattle.suit_cli.specs.Stages.{Ending, Answers, Stage, Then, Goes, Declines, Faults, Lacks, Last, EndsWithout, Does, Finds, Tells, ending_of}
+use Rattle.suit_cli.specs.Stages.{Ending, Answers, Stage, Then, Goes, Declines, Faults, Lacks, Last, EndsWithout, Does, Finds, ending_of}
 use Rattle.suit_cli.specs.Replies.{Makes, stop_of}
-use Rattle.suit_cli.specs.Texts.{refusal_line, usage_line}
+use Rattle.suit_cli.specs.Texts.{usage_line}
 use Rattle.suit_cli.specs.Words.{task_of, task_said}
 use Rattle.suit_cli.specs.declared.words.Command.{Command}
 use Rattle.suit_cli.specs.Program.{task_in, answers}
-use Rattle.suit_cli.specs.Envelopes.{AreBytes, envelope_in, members_in}
-use Rattle.suit_cli.specs.Accepting.{IsTaken, TellsFault}
+use Rattle.suit_cli.specs.Envelopes.{members_in}
+use Rattle.admission.specs.Refusals.{of_members}
+use Rattle.suit_cli.specs.Refusals.{StopsAs}
+use Rattle.suit_cli.specs.Accepting.{IsTaken}
 use Rattle.suit_cli.specs.Commands.{shows_file, does}
-use Rattle.suit_cli.specs.Judgement.{narrow, AreJudged}
 
 -- a judgement stands anywhere
 pub anywhere : Outside
@@ -69,7 +67,7 @@ lacks_last says here (Ok reply) is = absurd is
 lacks_last says here (Err stop) is = subst (λ (s : Stop). Last says here here (ending_of (Err s))) (sym is) (EndsWithout refl)
 
 -- a member that is not taken is told
-member_told : (said : EnvelopeSays) (manifest : Manifest) (fault : MemberFault) (stop : Stop) → IsLackBy (LacksMembers said manifest) fault → TellsFault fault stop
+member_told : (said : EnvelopeSays) (manifest : Manifest) (fault : MemberFault) (stop : Stop) → IsLackBy (LacksMembers said manifest) fault → StopsAs (of_members fault) stop
     → (here : Outside) → Does (members_in said manifest) here here (Err stop)
 member_told said manifest (faults.Severed name) (stops.Declined reply) lacks tells here = (refl, record { fault = faults.Severed name; lacks = lacks; says = tells })
 member_told said manifest (faults.Differs name stated found) (stops.Declined reply) lacks tells here = (refl, record { fault = faults.Differs name stated found; lacks = lacks; says = tells })
@@ -85,22 +83,6 @@ members_taken said manifest (Ok members) (Ok given) has lacks is here = (refl, s
 members_taken said manifest (Err fault) (Err stop) has lacks is here = member_told said manifest fault stop lacks is here
 members_taken said manifest (Ok members) (Err stop) has lacks is here = absurd is
 members_taken said manifest (Err fault) (Ok given) has lacks is here = absurd is
-
--- ---- procedures by their trees
-
-pub narrow_of : (plan tree : PlanTree) → plan ≡ tree → (result : Result (Unit {0}) Stop) → Finds (narrow plan) result → Finds (narrow tree) result
-narrow_of plan tree is result finds = subst (λ (p : PlanTree). Finds (narrow p) result) is finds
-
-pub judged_of : (update invocation update_tree invocation_tree : PlanTree) → update ≡ update_tree → invocation ≡ invocation_tree → (result : Result Reply Stop)
-    → Tells (Last (AreJudged update invocation)) result → Tells (Last (AreJudged update_tree invocation_tree)) result
-judged_of update invocation update_tree invocation_tree first second result tells =
-    subst (λ (p : PlanTree). Tells (Last (AreJudged p invocation_tree)) result) first (subst (λ (p : PlanTree). Tells (Last (AreJudged update p)) result) second tells)
-
--- a refusal that was told, unless memory ran out
-pub refuses_there : (bytes : List ℕ) (refusal : Refusal) (made : Result Reply AllocError) → AreBytes bytes → RefusesBytes bytes refusal → Makes made outcomes.Refused (refusal_line refusal)
-    → (here : Outside) → Does (envelope_in bytes) here here (Err (stop_of made))
-refuses_there bytes refusal (Ok reply) all refuses says here = (refl, (all, record { refusal = refusal; refuses = refuses; says = says }))
-refuses_there bytes refusal (Err e) all refuses says here = refl
 
 -- ---- the words
 

@@ -19,7 +19,7 @@ use Rattle.suit_cli.specs.declared.reply.Object.TheVariants as objects
 use Rattle.suit_cli.specs.declared.reply.Reply.{Reply}
 use Rattle.suit_cli.specs.Words.{Task, RunUpdate, task_of}
 use Rattle.suit_cli.specs.Outside.{Outside, Flashed, Quiet, Reads, ReadsInVain, with_flash}
-use Rattle.suit_cli.specs.Stages.{Answers, Ending, Stage, judging, looking, in_turn, Then, Goes, Declines, Faults, Lacks, Last, Ends, EndsWithout}
+use Rattle.suit_cli.specs.Stages.{Answers, Ending, Stage, judging, looking, Then, Goes, Declines, Faults, Lacks, Last, Ends, EndsWithout}
 use Rattle.suit_cli.specs.Acceptance.{accepts}
 use Rattle.suit_cli.specs.Inputs.{longest_file, file}
 use Rattle.suit_cli.specs.Installed.{config_in}
@@ -88,23 +88,8 @@ module _ {A : Type 0} (good : Flashed → A → Type 0) (bad : Flashed → Reply
     lacks = λ b a l. unasked_beside b a l.beside;
   }
 
-module _ {A B : Type 0} (first : Stage A) (next : A → Stage B) (one : AsksNone first) (two : (x : A) → AsksNone (next x)) where
-  turn_none : AsksNone (in_turn first next)
-  turn_none = record {
-    gives = λ b a y g. unasked_then b g.middle a (one.gives b g.middle g.value g.given) ((two g.value).gives g.middle a y g.later);
-    declines = λ b a r d. ⊎_elim (λ here. one.declines b a r here)
-        (λ behind. unasked_then b behind.middle a (one.gives b behind.middle behind.value behind.given) ((two behind.value).declines behind.middle a r behind.later)) d;
-    faults = λ object b a f. ⊎_elim (λ here. one.faults object b a here)
-        (λ behind. unasked_then b behind.middle a (one.gives b behind.middle behind.value behind.given) ((two behind.value).faults object behind.middle a behind.later)) f;
-    lacks = λ b a l. ⊎_elim (λ same. unasked_same b a same) (λ rest. ⊎_elim (λ here. one.lacks b a here)
-        (λ behind. unasked_then b behind.middle a (one.gives b behind.middle behind.value behind.given) ((two behind.value).lacks behind.middle a behind.later)) rest) l;
-  }
-
 accepts_none : (layout : List Entry) (key : Key) (bytes : List ℕ) → AsksNone (accepts layout key bytes)
-accepts_none layout key bytes =
-    turn_none _ _ (judging_none _ _) (λ said. turn_none _ _ (judging_none _ _) (λ u. turn_none _ _ (judging_none _ _) (λ v.
-    turn_none _ _ (judging_none _ _) (λ manifest. turn_none _ _ (judging_none _ _) (λ places. turn_none _ _ (judging_none _ _) (λ members.
-    turn_none _ _ (turn_none _ _ (judging_none _ _) (λ w. turn_none _ _ (judging_none _ _) (λ x. judging_none _ _))) (λ y. judging_none _ _)))))))
+accepts_none layout key bytes = judging_none _ _
 
 -- ---- an update that was not begun
 

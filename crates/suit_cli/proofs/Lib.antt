@@ -24,7 +24,7 @@ pub mod Settling
 pub mod BootAnswers
 pub mod BootKeeping
 pub mod Turns
-pub mod AcceptSteps
+pub mod Refused
 pub mod AcceptedFacts
 pub mod UpdateAnswers
 pub mod UpdateEnds

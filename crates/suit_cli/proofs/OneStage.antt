@@ -21,10 +21,12 @@ use Rattle.suit_cli.specs.declared.reply.Outcome.{Outcome}
 use Rattle.suit_cli.specs.declared.reply.Outcome.TheVariants as outcomes
 use Rattle.suit_cli.specs.Replies.{IsReply}
 use Rattle.suit_cli.specs.Texts.{refusal_line}
+use Rattle.admission.specs.Refusals.{of_members}
+use Rattle.suit_cli.specs.Refusals.{TellsRefusal}
 use Rattle.suit_cli.specs.Outside.{Outside, Reads}
 use Rattle.suit_cli.specs.Stages.{Answers, Stage, Then, Goes, Declines, Says}
 use Rattle.suit_cli.specs.Inputs.{IsRead, IsUnread, IsAbsent, IsTooLong, file, longest_key, IsKey, IsNoKey, IsUnreadKey, IsEmptyKey, key_in}
-use Rattle.suit_cli.specs.Envelopes.{IsRefused, envelope_in, longest_trimmed, trimmed_size, short, manifest_in, TellsLack, IsLack, members_in}
+use Rattle.suit_cli.specs.Envelopes.{IsRefused, envelope_in, short, manifest_in, IsLack, members_in}
 use Rattle.suit_cli.specs.Judgement.{narrow}
 use Rattle.suit_cli.specs.Program.{task_in}
 
@@ -193,7 +195,7 @@ one_envelope laws bytes = one_judging _ _
 
 pub one_short : (said : EnvelopeSays) → IsOne (short said)
 one_short said = one_judging _ _ (λ x y g h. refl) (λ r q g h. one_reply r q _ _ g.says h.says)
-    (λ x q g h. let within : trimmed_size said ≤ longest_trimmed = g in let above : longest_trimmed < trimmed_size said = h.long in omega arith)
+    (λ x q g h. let above = h.long in omega (arith, g, above))
 
 pub one_manifest : EnvelopeLaws → ManifestLaws → (bytes : List ℕ) (said : EnvelopeSays) → EnvelopeOf bytes said → IsOne (manifest_in said)
 one_manifest envelopes laws bytes said is = one_judging _ _
@@ -207,7 +209,7 @@ one_manifest envelopes laws bytes said is = one_judging _ _
 -- ---- members
 
 module _ (r q : Reply) where
-  one_told : (fault : MemberFault) → TellsLack r fault → TellsLack q fault → q ≡ r
+  one_told : (fault : MemberFault) → TellsRefusal r (of_members fault) → TellsRefusal q (of_members fault) → q ≡ r
   one_told (faults.Severed name) first second = one_reply r q _ _ first second
   one_told (faults.Differs name stated found) first second = one_reply r q _ _ first second
   one_told (faults.Refused refusal) first second = one_reply r q _ _ first second
@@ -230,7 +232,7 @@ one_members laws bytes said manifest is = one_judging _ _ one_value one_refusal 
     by_law (inl j) = absurd (j.sound g.fault g.lacks)
     by_law (inr j) =
         let same : h.fault ≡ g.fault = j.only h.fault h.lacks ∙ sym (j.only g.fault g.lacks) in
-        one_told r q g.fault g.says (subst (λ (f : MemberFault). TellsLack q f) same h.says)
+        one_told r q g.fault g.says (subst (λ (f : MemberFault). TellsRefusal q (of_members f)) same h.says)
 
   not_both : (x : Members) (q : Reply) → Rattle.suit_manifest.specs.MembersApart.HasMembers said manifest x → IsLack said manifest q → ⊥
   not_both x q g h = by_law law where

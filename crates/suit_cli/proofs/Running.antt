@@ -22,7 +22,8 @@ use Rattle.suit_cli.specs.Outside.{Outside, Flashed, Quiet, Asks, MayAsk, Reads}
 use Rattle.suit_cli.specs.Stages.{Ending, Says, FaultOf, NoMemory, Answers, at_host, Goes, Declines, Faults, Last, Ends, IsSaid}
 use Rattle.suit_cli.specs.Statuses.{status_of, ending_status}
 use Rattle.suit_cli.specs.Inputs.{file, longest_file, longest_key, IsUnread, IsAbsent, IsTooLong, IsNoKey, IsUnreadKey, IsEmptyKey}
-use Rattle.suit_cli.specs.Envelopes.{TellsLack}
+use Rattle.admission.specs.Refusals.{of_members}
+use Rattle.suit_cli.specs.Refusals.{TellsRefusal}
 use Rattle.suit_cli.specs.Envelopes as stages
 use Rattle.suit_cli.specs.Holding.{HasManifest, HasProcedures}
 use Rattle.suit_cli.specs.CommandCauses.{NoManifest, AtFile, AtEnvelope, AtLength, AtManifest, CheckSays, BeforeMembers, AtMembers, AtUpdateWidth, AtInvocationWidth, AtPaths, SameButPath}
@@ -63,7 +64,7 @@ pub no_key_declines : (name : List ℕ) (b : Outside) (r : Reply) → IsNoKey na
 no_key_declines name b r (IsUnreadKey u) = unread_declines longest_key name b r u
 no_key_declines name b r (IsEmptyKey read says) = declining r _ _ says tt
 
-pub lack_told : (r : Reply) (fault : MemberFault) → TellsLack r fault → Declining r.outcome
+pub lack_told : (r : Reply) (fault : MemberFault) → TellsRefusal r (of_members fault) → Declining r.outcome
 lack_told r (faults.Severed name) says = declining r _ _ says tt
 lack_told r (faults.Differs name stated found) says = declining r _ _ says tt
 lack_told r (faults.Refused refusal) says = declining r _ _ says tt

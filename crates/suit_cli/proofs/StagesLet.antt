@@ -164,11 +164,7 @@ module _ (description key_name out : List ℕ) (b a : Outside) where
 -- ---- `run update`, before it begins
 
 accepts_keeps : (layout : List Entry) (key : Key) (bytes : List ℕ) → StageKeeps 0 (accepts layout key bytes)
-accepts_keeps layout key bytes =
-    in_turn_keeps 0 0 _ _ (judging_keeps _ _) (λ said. in_turn_keeps 0 0 _ _ (judging_keeps _ _) (λ u. in_turn_keeps 0 0 _ _ (judging_keeps _ _) (λ v.
-    in_turn_keeps 0 0 _ _ (judging_keeps _ _) (λ manifest. in_turn_keeps 0 0 _ _ (judging_keeps _ _) (λ places. in_turn_keeps 0 0 _ _ (judging_keeps _ _) (λ members.
-    in_turn_keeps 0 0 _ _ (in_turn_keeps 0 0 _ _ (judging_keeps _ _) (λ w. in_turn_keeps 0 0 _ _ (judging_keeps _ _) (λ x. judging_keeps _ _)))
-    (λ y. judging_keeps _ _)))))))
+accepts_keeps layout key bytes = judging_keeps _ _
 
 pub updates_lets : (name : List ℕ) → Lets 1048577 None (begins_update name)
 updates_lets name =

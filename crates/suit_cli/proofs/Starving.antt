@@ -90,10 +90,7 @@ formats_starves layout key b a (Lacks l) = near_looks b a l
 formats_starves layout key b a (Goes u m _ g rest) = elim rest [ ]
 
 accepts_nears : (layout : List Entry) (key : Key) (bytes : List ℕ) → Nears (accepts layout key bytes)
-accepts_nears layout key bytes =
-    turn_nears _ _ (judging_nears _ _) (λ said. turn_nears _ _ (judging_nears _ _) (λ u. turn_nears _ _ (judging_nears _ _) (λ v.
-    turn_nears _ _ (judging_nears _ _) (λ manifest. turn_nears _ _ (judging_nears _ _) (λ places. turn_nears _ _ (judging_nears _ _) (λ members.
-    turn_nears _ _ (turn_nears _ _ (judging_nears _ _) (λ w. turn_nears _ _ (judging_nears _ _) (λ x. judging_nears _ _))) (λ y. judging_nears _ _)))))))
+accepts_nears layout key bytes = judging_nears _ _
 
 does_starves : (task : Task) → Starves (does task)
 does_starves (Make description key_name out) =

@@ -65,7 +65,7 @@ module _ (name : List ℕ) (uris : List (List ℕ × List ℕ)) (l : Launching) 
       pub comes_updated : (m : Launching) (a : Outside) (accepted : Accepted) → IsAccepted layout key bytes accepted → (ended : Ended)
           → UpdatesBy (offer layout bytes accepted uris) l m d a ended → Comes_to m a ended
       comes_updated m a accepted is (Answered ending) by =
-          ByStages ending (Goes (layout, key) c ending held (Goes bytes d ending read (Goes accepted d ending (is d)
+          ByStages ending (Goes (layout, key) c ending held (Goes bytes d ending read (Goes accepted d ending (refl, is)
           (subst (λ (e : Ending). Last (λ (reply : Reply). ⊥) d a e) (sym by.0) (EndsWithout by.1))))) by.2
       comes_updated m a accepted is (Booted end lines) by = absurd by
       comes_updated m a accepted is (Updated end lines) by = ByUpdate name uris end lines refl (record {

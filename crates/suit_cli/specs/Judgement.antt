@@ -1,5 +1,5 @@
 -- The stages that judge the two procedures of a manifest.
-use Rattle.std.specs.Prelude.{◌≡◌, ◌<◌, ◌≤◌, ℕ, List, ◌++◌, codes}
+use Rattle.std.specs.Prelude.{◌≡◌, ◌<◌, ℕ, List, ◌++◌, codes}
 use Rattle.suit_commands.specs.Tree.{PlanTree}
 use Rattle.suit_commands.specs.Capped.{capped}
 use Rattle.suit_commands.specs.Numbers.{width_number}
@@ -7,6 +7,7 @@ use Rattle.path_model.specs.declared.bad_path.BadPath.{BadPath}
 use Rattle.path_model.specs.Safe.{Safe}
 use Rattle.path_model.specs.BadPaths.{IsBadPath}
 use Rattle.path_checker.specs.PlanVerdicts.{widest}
+pub use Rattle.admission.specs.Judging.{IsNarrow}
 use Rattle.suit_cli.specs.declared.reply.Reply.{Reply}
 use Rattle.suit_cli.specs.declared.reply.Outcome.TheVariants as outcomes
 use Rattle.suit_cli.specs.Lines.{path_lines}
@@ -16,9 +17,6 @@ use Rattle.suit_cli.specs.Stages.{Stage, judging}
 
 -- ---- how much there is to judge
 
-abbrev pub IsNarrow : PlanTree → Type 0
-IsNarrow plan = width_number plan ≤ widest
-
 pub record IsWide (plan : PlanTree) (reply : Reply) : Type 0 where
   pub wide : widest < width_number plan
   pub says : IsReply reply outcomes.TooWide (too_wide_line (capped (width_number plan)))
@@ -27,15 +25,6 @@ abbrev pub narrow : PlanTree → Stage (Unit {0})
 narrow plan = judging (λ _. IsNarrow plan) (IsWide plan)
 
 -- ---- the paths
-
--- a path of one procedure on which an invoke is not covered, behind these lines
-pub record IsUnsafe (plan : PlanTree) (lines : List ℕ) (reply : Reply) : Type 0 where
-  pub bad : BadPath
-  pub is_bad : IsBadPath plan bad
-  pub says : IsReply reply outcomes.Unsafe (lines ++ path_lines bad)
-
-abbrev pub safe : PlanTree → List ℕ → Stage (Unit {0})
-safe plan lines = judging (λ _. Safe plan) (IsUnsafe plan lines)
 
 -- on every path of both procedures each invoke is covered
 pub record AreSafe (update invocation : PlanTree) : Type 0 where

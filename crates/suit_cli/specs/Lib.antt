@@ -6,6 +6,7 @@ pub mod Outside
 pub mod Stages
 pub mod Statuses
 pub mod Inputs
+pub mod Refusals
 pub mod Envelopes
 pub mod Accepting
 pub mod Judgement

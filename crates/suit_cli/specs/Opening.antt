@@ -5,7 +5,7 @@ use Rattle.suit_envelope.specs.Places.{MembersEndBelow}
 use Rattle.suit_envelope.specs.Said.{EnvelopeOf, said_by}
 use Rattle.suit_envelope.specs.WrapperParts.{HasWrapper}
 use Rattle.suit_manifest.specs.declared.manifest.Manifest.{Manifest}
-use Rattle.suit_cli.specs.declared.accept.Opened.{Opened}
+use Rattle.admission.specs.declared.opening.Opened.{Opened}
 use Rattle.suit_cli.specs.declared.reply.Stop.{Stop}
 use Rattle.suit_cli.specs.Outside.{Outside}
 use Rattle.suit_cli.specs.Stages.{Answers, ending_of}

@@ -1,81 +1,35 @@
-//! The stages that judge an envelope, its manifest, and the members that stand apart.
+//! Envelopes are opened and accepted, or it is told what they are refused for.
 
-ghost use Rattle.std.specs.Prelude.{◌≡◌, ◌<◌, ◌≤◌, ◌+◌, ◌^◌, IfOk, length};
-ghost use Rattle.suit_envelope.specs.Said.{said_by, EnvelopeOf};
-ghost use Rattle.suit_envelope.specs.WrapperParts.{HasWrapper};
+ghost use Rattle.std.specs.Prelude.{◌≡◌, ◌<◌, ◌≤◌, ◌^◌, IfOk, codes, length};
+ghost use Rattle.flash_layout.specs.Layouts.{IsKey};
+ghost use Rattle.flash_layout.specs.Placement.{HaveOtherPlaces};
 ghost use Rattle.suit_envelope.specs.Places.{MembersEndBelow};
-ghost use Rattle.suit_cli.specs.Envelopes.{envelope_in, short, manifest_in, members_in};
-ghost use Rattle.suit_cli.specs.Accepting.{FindsEnvelope, IsTaken, TellsFault};
-ghost use Rattle.suit_cli.specs.Inputs.{longest_file};
+ghost use Rattle.suit_envelope.specs.Said.{said_by};
+ghost use Rattle.suit_envelope.specs.WrapperParts.{HasWrapper};
+ghost use Rattle.admission.specs.Refusals.{of_members};
+ghost use Rattle.suit_cli.specs.Acceptance.{FindsAccepted, accepts};
+ghost use Rattle.suit_cli.specs.Accepting.{IsTaken};
+ghost use Rattle.suit_cli.specs.Envelopes.{members_in};
+ghost use Rattle.suit_cli.specs.Lines.{number_line};
 ghost use Rattle.suit_cli.specs.Opening.{Opens};
-ghost use Rattle.suit_cli.specs.Stages.{Finds};
-ghost use Rattle.suit_cli.specs.Texts.{name_text, differs_line};
-ghost use Rattle.suit_cli.specs.declared.reply.Outcome.TheVariants as outcomes;
+ghost use Rattle.suit_cli.specs.Refusals.{StopsAs, unsafe_lines};
 ghost use Rattle.suit_cli.specs.Replies.{Makes};
+ghost use Rattle.suit_cli.specs.Stages.{Finds};
+ghost use Rattle.suit_cli.specs.Texts.{differs_line, name_text, severed_line, too_wide_line};
+ghost use Rattle.suit_cli.specs.declared.reply.Outcome.TheVariants as outcomes;
 
 use crate::reply::{Outcome, Reply, Stop, declined};
+use crate::show::authenticity_line;
+use crate::status::number_line;
+use admission::{Admitted, LONGEST_TRIMMED, NotAdmitted, Opened, Procedure, admit, open};
 use det_cbor::Text;
+use flash_layout::{Key, Layout};
+use invoke_proc::key_bytes;
 use std::alloc::{AllocError, Global};
-use suit_envelope::{Envelope, MemberName, decode_envelope, envelope_laws, trimmed_length};
-use suit_manifest::{Manifest, MemberFault, Members, decode_manifest, members_of};
-use suit_params::Fault;
+use suit_envelope::MemberName;
+use suit_manifest::{MemberFault, Members, members_of};
 
-/// The longest trimmed envelope, in bytes.
-const LONGEST_TRIMMED: u64 = 16_384;
-
-/// The envelope that a file's bytes spell.
-pub(crate) fn envelope_in(alloc: Global, bytes: &[u8]) -> Result<Envelope<'_>, Stop>
-    ensures finds { FindsEnvelope bytes.now result }
-    ensures wrapper { IfOk result (λ e. HasWrapper e.wrapper.now) }
-    ensures whole { IfOk result (λ e. e.whole.now ≡ bytes.now) }
-{
-    match decode_envelope(bytes) {
-        Ok(envelope) => Ok(envelope),
-        Err(refusal) => Err(declined(Reply::refused(alloc, &refusal))),
-    }
-}
-
-/// Checks that the trimmed envelope is within its limit.
-pub(crate) fn short(alloc: Global, envelope: &Envelope<'_>) -> Result<(), Stop>
-    ensures { Finds (short (said_by envelope.now)) result }
-{
-    if trimmed_length(envelope) > LONGEST_TRIMMED {
-        Err(declined(Reply::named(alloc, Outcome::TooLong, "too long ", "envelope")))
-    } else {
-        Ok(())
-    }
-}
-
-/// The envelope's manifest.
-pub(crate) fn manifest_in(alloc: Global, envelope: &Envelope<'_>) -> Result<Manifest, Stop>
-    requires { envelope.now.manifest_place + length envelope.now.manifest.now < 2 ^ 64 }
-    ensures { Finds (manifest_in (said_by envelope.now)) result }
-{
-    match decode_manifest(alloc, envelope.manifest, envelope.manifest_place) {
-        Ok(manifest) => Ok(manifest),
-        Err(Fault::Refused(refusal)) => Err(declined(Reply::refused(alloc, &refusal))),
-        Err(Fault::NoMemory) => Err(Stop::NoMemory),
-    }
-}
-
-/// An envelope and its manifest.
-#[derive(Drop)]
-pub(crate) struct Opened<'a> {
-    pub(crate) envelope: Envelope<'a>,
-    pub(crate) manifest: Manifest,
-}
-
-/// The envelope that a file's bytes spell, which is short enough, and its manifest.
-pub(crate) fn opened_in(alloc: Global, bytes: &[u8]) -> Result<Opened<'_>, Stop>
-    requires { length bytes.now ≤ longest_file }
-    ensures { Opens bytes.now result }
-{
-    envelope_laws();
-    let envelope = envelope_in(alloc, bytes)?;
-    short(alloc, &envelope)?;
-    let manifest = manifest_in(alloc, &envelope)?;
-    Ok(Opened { envelope, manifest })
-}
+// ---- how refusals are told
 
 fn name_text(name: MemberName) -> &'static str
     ensures { result.now ≡ name_text name }
@@ -85,6 +39,23 @@ fn name_text(name: MemberName) -> &'static str
         MemberName::Install => "install",
         MemberName::Text => "text",
     }
+}
+
+// The lines before those of a path.
+fn unsafe_lines(procedure: Procedure) -> &'static str
+    ensures { result.now ≡ unsafe_lines procedure }
+{
+    match procedure {
+        Procedure::Update => "update unsafe\n",
+        Procedure::Invocation => "update safe\ninvocation unsafe\n",
+    }
+}
+
+// The reply that a member is not there.
+fn severed(alloc: Global, name: MemberName) -> Result<Reply, AllocError>
+    ensures { Makes result outcomes.Severed (severed_line name) }
+{
+    Reply::named(alloc, Outcome::Severed, "severed ", name_text(name))
 }
 
 /// The reply that a member differs.
@@ -99,21 +70,76 @@ pub(crate) fn differs(alloc: Global, name: MemberName) -> Result<Reply, AllocErr
     })
 }
 
-// Why a member is not taken.
-fn lack(alloc: Global, fault: MemberFault) -> Stop
-    ensures { TellsFault fault result }
+// The reply that the layout lacks a component.
+fn unknown(alloc: Global, component: u32) -> Result<Reply, AllocError>
+    ensures { Makes result outcomes.UnknownComponent
+        (number_line (codes "unknown component") component) }
 {
-    match fault {
-        MemberFault::Severed(name) => declined(Reply::named(
+    let line = number_line(alloc, "unknown component", u64::from(component))?;
+    Ok(Reply {
+        outcome: Outcome::UnknownComponent,
+        text: Text::from_string(line),
+    })
+}
+
+// The reply that a procedure is too wide.
+fn too_wide(alloc: Global, width: u64) -> Result<Reply, AllocError>
+    ensures { Makes result outcomes.TooWide (too_wide_line width) }
+{
+    let line = format!(in alloc; "too wide: {width}\n")?;
+    Ok(Reply {
+        outcome: Outcome::TooWide,
+        text: Text::from_string(line),
+    })
+}
+
+/// The stop that tells why bytes are refused.
+pub(crate) fn refusal_stop(alloc: Global, refusal: NotAdmitted<'_>) -> Stop
+    ensures { StopsAs refusal.entry result }
+{
+    match refusal {
+        NotAdmitted::NoEnvelope(refusal)
+        | NotAdmitted::NoManifest(refusal)
+        | NotAdmitted::NoSequence(refusal) => declined(Reply::refused(alloc, &refusal)),
+        NotAdmitted::TooLong(_) => declined(Reply::named(
             alloc,
-            Outcome::Severed,
-            "severed ",
-            name_text(name),
+            Outcome::TooLong,
+            "too long ",
+            "envelope",
         )),
-        MemberFault::Differs { name, .. } => declined(differs(alloc, name)),
-        MemberFault::Refused(refusal) => declined(Reply::refused(alloc, &refusal)),
-        MemberFault::NoMemory => Stop::NoMemory,
+        NotAdmitted::NotAuthentic(answer) => declined(Reply::fixed(
+            alloc,
+            Outcome::NotAuthentic,
+            authenticity_line(answer),
+        )),
+        NotAdmitted::UnknownComponent(component) => declined(unknown(alloc, component)),
+        NotAdmitted::Severed(name) => declined(severed(alloc, name)),
+        NotAdmitted::Differs { name, .. } => declined(differs(alloc, name)),
+        NotAdmitted::TooWide { width, .. } => declined(too_wide(alloc, width)),
+        NotAdmitted::Unsafe { procedure, path } => {
+            declined(Reply::with_path(alloc, unsafe_lines(procedure), &path))
+        }
+        NotAdmitted::NoMemory => Stop::NoMemory,
     }
+}
+
+// ---- stages
+
+/// The envelope that a file's bytes spell, which is short enough, and its manifest.
+pub(crate) fn opened_in(alloc: Global, bytes: &[u8]) -> Result<Opened<'_>, Stop>
+    ensures { Opens bytes.now result }
+{
+    match open(alloc, bytes, LONGEST_TRIMMED) {
+        Ok(opened) => Ok(opened),
+        Err(refusal) => Err(refusal_stop(alloc, NotAdmitted::from(refusal))),
+    }
+}
+
+// Why members were not taken.
+fn lack(alloc: Global, fault: MemberFault) -> Stop
+    ensures { StopsAs (of_members fault) result }
+{
+    refusal_stop(alloc, NotAdmitted::from(fault))
 }
 
 /// The members that were taken, or why they were not.
@@ -133,4 +159,24 @@ pub(crate) fn members_in(alloc: Global, file: &Opened<'_>) -> Result<Members, St
     ensures { Finds (members_in (said_by file.now.envelope) file.now.manifest) result }
 {
     taken(alloc, members_of(alloc, &file.envelope, &file.manifest))
+}
+
+/// The update that a file offers to a flash with this layout and key.
+pub(crate) fn accept<'a>(
+    alloc: Global,
+    layout: &Layout,
+    key: &Key,
+    bytes: &'a [u8],
+) -> Result<Admitted<'a>, Stop>
+    requires entries { length layout.now ≤ 8 }
+    requires key { IsKey key.now }
+    ensures finds { FindsAccepted (accepts layout.now key.now bytes.now) result }
+    ensures wrapper { IfOk result (λ a. HasWrapper a.envelope.wrapper.now) }
+    ensures whole { IfOk result (λ a. a.envelope.whole.now ≡ bytes.now) }
+    ensures other { IfOk result (λ a. HaveOtherPlaces a.manifest.components a.places) }
+{
+    match admit(alloc, layout, key_bytes(key), bytes) {
+        Ok(admitted) => Ok(admitted),
+        Err(refusal) => Err(refusal_stop(alloc, refusal)),
+    }
 }

@@ -1,22 +1,21 @@
 //! The command `check`: judges a file.
 
-ghost use Rattle.std.specs.Prelude.{◌≡◌, ◌≤◌, ◌<◌, ◌^◌, ◌+◌, length};
+ghost use Rattle.std.specs.Prelude.{◌^◌};
 ghost use Rattle.suit_envelope.specs.Said.{said_by};
 ghost use Rattle.suit_envelope.specs.Places.{MembersEndBelow};
 ghost use Rattle.suit_cli.specs.Outside.{Flashed};
 ghost use Rattle.suit_cli.specs.Stages.{Tells, ending_of};
-ghost use Rattle.suit_cli.specs.Inputs.{longest_file};
 ghost use Rattle.suit_cli.specs.Envelopes.{ManifestOf};
 ghost use Rattle.suit_cli.specs.Commands.{judges_manifest, judges_file, checks};
 
-use crate::accept::{Opened, members_in, opened_in};
+use crate::accept::{members_in, opened_in, refusal_stop};
 use crate::input::{LONGEST_FILE, read};
-use crate::judgement::{judge, narrow};
 use crate::outside::SeenHost;
-use crate::reply::{Reply, Stop};
+use crate::reply::{Outcome, Reply, Stop};
+use admission::{NotAdmitted, Opened, judge};
 use std::alloc::Global;
 use suit_edge::Host;
-use suit_manifest::{invocation_plan, procedure_laws, update_plan};
+use suit_manifest::procedure_laws;
 
 // Judges an envelope's manifest.
 fn judge_manifest(alloc: Global, file: &Opened<'_>) -> Result<Reply, Stop>
@@ -26,16 +25,15 @@ fn judge_manifest(alloc: Global, file: &Opened<'_>) -> Result<Reply, Stop>
 {
     procedure_laws();
     let members = members_in(alloc, file)?;
-    let update = update_plan(&file.manifest, &members);
-    narrow(alloc, &update)?;
-    let invocation = invocation_plan(&file.manifest);
-    narrow(alloc, &invocation)?;
-    judge(alloc, &update, &invocation)
+    match judge(alloc, &file.manifest, &members) {
+        Ok(()) => {}
+        Err(refusal) => return Err(refusal_stop(alloc, NotAdmitted::from(refusal))),
+    }
+    Ok(Reply::fixed(alloc, Outcome::Done, "update safe\ninvocation safe\n")?)
 }
 
 // Judges a file's bytes.
 fn judge_file(alloc: Global, bytes: &[u8]) -> Result<Reply, Stop>
-    requires { length bytes.now ≤ longest_file }
     ensures { Tells (judges_file bytes.now) result }
 {
     let file = opened_in(alloc, bytes)?;

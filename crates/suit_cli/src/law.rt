@@ -11,11 +11,12 @@ ghost use Rattle.suit_cli.specs.UpdateEndLaws.{UpdateEndLaws};
 ghost use Rattle.suit_cli.specs.UpdateLaws.{UpdateLaws};
 ghost use Rattle.suit_cli.specs.WordsLaws.{WordsLaws};
 
+use admission::admission_laws;
 use command_words::word_laws;
 use flash_layout::config_laws;
 use invoke_proc::boot_laws;
 use rollback_record::record_laws;
-use suit_envelope::{authenticity_laws, envelope_laws};
+use suit_envelope::envelope_laws;
 use suit_manifest::{manifest_laws, members_laws};
 
 /// Does nothing. Its contract has the laws of `check FILE` over a host that tells what it holds: the status and the
@@ -93,10 +94,7 @@ pub fn update_laws()
     ensures { UpdateLaws }
 {
     config_laws();
-    envelope_laws();
-    authenticity_laws();
-    manifest_laws();
-    members_laws();
+    admission_laws();
 }
 
 /// Does nothing. Its contract has the laws of an update that `run update FILE` began, over objects that tell what they hold:

@@ -2,7 +2,6 @@
 #![tactic(auto)]
 
 mod accept;
-mod acceptance;
 mod answer;
 mod boot_lines;
 mod check;
@@ -12,7 +11,6 @@ mod drill;
 mod init;
 mod input;
 mod json;
-mod judgement;
 mod law;
 mod life;
 mod lines;

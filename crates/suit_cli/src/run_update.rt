@@ -7,7 +7,8 @@ ghost use Rattle.flash_layout.specs.Placement.{HaveOtherPlaces};
 ghost use Rattle.invoke_proc.specs.Banks.{config_in};
 ghost use Rattle.rollback_record.specs.SoundFlash.{Settled};
 ghost use Rattle.suit_envelope.specs.WrapperParts.{HasWrapper};
-ghost use Rattle.suit_cli.specs.Acceptance.{IsAccepted, accepted_by};
+ghost use Rattle.admission.specs.Admission.{admission_of};
+ghost use Rattle.suit_cli.specs.Acceptance.{IsAccepted};
 ghost use Rattle.suit_cli.specs.Coming.{
   Comes,
   KeepsAccepted,
@@ -20,13 +21,14 @@ ghost use Rattle.suit_cli.specs.Settling.{StaysInOrder};
 ghost use Rattle.suit_cli.specs.Updating.{offer};
 ghost use Rattle.suit_cli.specs.Words.{RunUpdate};
 
-use crate::acceptance::{Acceptable, accept};
+use crate::accept::accept;
 use crate::answer::Answer;
 use crate::input::{LONGEST_FILE, read};
 use crate::outside::{SeenDisk, SeenHost, SeenLauncher};
 use crate::reply::Stop;
 use crate::status::{Config, config_in};
 use crate::update_lines::{UPDATE_ROOM, update_line};
+use admission::Admitted;
 use flash_layout::config_laws;
 use path_model::play_laws;
 use place_laws::installation_laws;
@@ -44,24 +46,24 @@ fn update_by<H: Host, D: Disk, L: Launcher>(
     flash: &mut D,
     launcher: &mut L,
     config: &Config,
-    accepted: &Acceptable<'_>,
+    accepted: &Admitted<'_>,
     uris: &Uris,
 ) -> Answer
     requires allowed { IsAllowed VERSION_1 (D.extent flash.old) config.now.0 config.now.1 }
     requires held { IsTrue D.told
         → config_in (D.extent flash.old) (D.flash flash.old).reads config.now.0 config.now.1 }
     requires accepted { IsAccepted config.now.0 config.now.1 accepted.now.envelope.whole.now
-        (accepted_by accepted.now) }
+        (admission_of accepted.now) }
     requires wrapper { HasWrapper accepted.now.envelope.wrapper.now }
     requires other { HaveOtherPlaces accepted.now.manifest.components accepted.now.places }
     ensures answer { UpdatesBy (offer config.now.0 accepted.now.envelope.whole.now
-        (accepted_by accepted.now) uris.now)
+        (admission_of accepted.now) uris.now)
         (⟦<L as SeenLauncher>⟧.seen launcher.old) (⟦<L as SeenLauncher>⟧.seen launcher.new)
         (⟦<H as SeenHost>⟧.seen host.old (⟦<D as SeenDisk>⟧.seen flash.old))
         (⟦<H as SeenHost>⟧.seen host.new (⟦<D as SeenDisk>⟧.seen flash.new)) (ended_of result) }
     ensures keeps { IsTrue D.told → Settled VERSION_1 (D.flash flash.old)
         → KeepsAccepted
-        (offer config.now.0 accepted.now.envelope.whole.now (accepted_by accepted.now) uris.now)
+        (offer config.now.0 accepted.now.envelope.whole.now (admission_of accepted.now) uris.now)
         (⟦<L as SeenLauncher>⟧.seen launcher.old) (⟦<L as SeenLauncher>⟧.seen launcher.new)
         (⟦<H as SeenHost>⟧.seen host.old (⟦<D as SeenDisk>⟧.seen flash.old))
         (ended_of result) (D.flash flash.old) (D.flash flash.new) }

@@ -1,13 +1,12 @@
 //! The command `show` with a key: what an envelope holds, and whether it is authentic.
 
-ghost use Rattle.std.specs.Prelude.{◌≡◌, ◌≤◌, ◌+◌, ℕ, List, ◌++◌, IfOk, OnOk, length, string_bytes};
+ghost use Rattle.std.specs.Prelude.{◌≡◌, ◌+◌, ℕ, List, ◌++◌, IfOk, OnOk, string_bytes};
 ghost use Rattle.suit_envelope.specs.Said.{said_by};
 ghost use Rattle.suit_envelope.specs.WrapperParts.{WrapperSays, HasWrapper};
 ghost use Rattle.suit_cli.specs.Texts.{tagged_line, block_line, authenticity_line};
 ghost use Rattle.suit_cli.specs.Shown.{HasKind, kind_text, AddsBlocks, IsShown, authenticity_outcome};
 ghost use Rattle.suit_cli.specs.Outside.{Flashed};
 ghost use Rattle.suit_cli.specs.Stages.{ending_of};
-ghost use Rattle.suit_cli.specs.Inputs.{longest_file};
 ghost use Rattle.suit_cli.specs.Commands.{shows_manifest, shows_file, shows};
 
 use crate::accept::opened_in;
@@ -135,7 +134,6 @@ fn show_file<H: Host>(
     key_name: &str,
     host: &mut H,
 ) -> Result<Reply, Stop>
-    requires { length bytes.now ≤ longest_file }
     ensures { (flash : Flashed) → shows_file bytes.now key_name.now
         (⟦<H as SeenHost>⟧.seen host.old flash) (⟦<H as SeenHost>⟧.seen host.new flash)
         (ending_of result) }

@@ -1,19 +1,19 @@
 //! The command `show` without a key: the description of an envelope.
 
-ghost use Rattle.std.specs.Prelude.{◌<◌, ◌≤◌, ◌^◌, IfOk, length, string_bytes};
+ghost use Rattle.std.specs.Prelude.{◌<◌, ◌^◌, IfOk, length, string_bytes};
 ghost use Rattle.suit_envelope.specs.Said.{said_by};
 ghost use Rattle.suit_envelope.specs.Places.{MembersEndBelow};
 ghost use Rattle.suit_cli.specs.Outside.{Flashed};
 ghost use Rattle.suit_cli.specs.Stages.{Finds, Tells, ending_of};
-ghost use Rattle.suit_cli.specs.Inputs.{longest_file};
 ghost use Rattle.suit_cli.specs.Envelopes.{ManifestOf};
 ghost use Rattle.suit_cli.specs.Describing.{there_in, text_in, IsDescription};
 ghost use Rattle.suit_cli.specs.Commands.{describes_manifest, describes_file, describes};
 
-use crate::accept::{Opened, differs, opened_in, taken};
+use crate::accept::{differs, opened_in, taken};
 use crate::input::{LONGEST_FILE, read};
 use crate::outside::SeenHost;
 use crate::reply::{Reply, Stop, declined};
+use admission::Opened;
 use describe::{describe, describe_laws, members_there};
 use std::alloc::{AllocError, Global};
 use suit_edge::Host;
@@ -73,7 +73,6 @@ fn describe_manifest(alloc: Global, file: &Opened<'_>) -> Result<Reply, Stop>
 
 // The description of the envelope in a file's bytes.
 fn describe_file(alloc: Global, bytes: &[u8]) -> Result<Reply, Stop>
-    requires { length bytes.now ≤ longest_file }
     ensures { Tells (describes_file bytes.now) result }
 {
     let file = opened_in(alloc, bytes)?;

@@ -1,9 +1,8 @@
-use Rattle.std.proofs.Common.{subst, sym, List, ℕ, length, ◌≤◌}
+use Rattle.std.proofs.Common.{subst, List, ℕ}
 use Rattle.suit_cli.specs.Outside.{Outside}
 use Rattle.suit_cli.specs.Stages.{Goes, ending_of}
 use Rattle.suit_cli.specs.Commands.{judges_file}
-use Rattle.suit_cli.specs.Inputs.{longest_file}
-use Rattle.suit_cli.proofs.Chains.{anywhere, ends_there}
+use Rattle.suit_cli.proofs.Chains.{ends_there}
 use Rattle.suit_cli.proofs.check.check.Goals as goal
 
 pub returns-in_err-bytes : goal.returns-in_err-bytes
@@ -13,6 +12,3 @@ pub returns : goal.returns
 returns g c flash =
     Goes c.in_ok-bytes.bytes _ _ (c.in_ok-bytes.ensures flash)
     (subst (λ (b : List ℕ). (here : Outside) → judges_file b here here (ending_of c.judge_file.result)) c.as_slice.ensures c.judge_file.ensures _)
-
-pub judge_file-requires : goal.judge_file-requires
-judge_file-requires g c = subst (λ (l : List ℕ). length l ≤ longest_file) (sym c.as_slice.ensures) (c.in_ok-bytes.ensures anywhere.flash).1.fits

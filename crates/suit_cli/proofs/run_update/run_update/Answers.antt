@@ -1,9 +1,8 @@
-use Rattle.std.proofs.Common.{ℕ, ◌≤◌, List, length, refl, sym, subst, ◌∙◌}
+use Rattle.std.proofs.Common.{refl, sym, subst, ◌∙◌}
 use Rattle.suit_edge.specs.Flash.{IsFlash}
 use Rattle.suit_cli.specs.Launching.{Launching}
 use Rattle.suit_cli.specs.Coming.{ended_of}
-use Rattle.suit_cli.specs.Inputs.{longest_file}
-use Rattle.suit_cli.specs.Acceptance.{accepted_by}
+use Rattle.admission.specs.Admission.{admission_of}
 use Rattle.suit_cli.proofs.Chains.{anywhere, flash_at, outside_at}
 use Rattle.suit_cli.proofs.Sounding.{allowed_after, held_after, settled_later}
 use Rattle.suit_cli.proofs.UpdateAnswers.{accepted_as, comes_updated, keeps_as, keeps_since, unaccepted_as, unaccepted_update, unconfigured_update, unread_update, updates_as}
@@ -44,9 +43,6 @@ accept-requires-clause-entries g c = c.in-Ok.ensures.allowed.layout_is.few
 pub accept-requires-clause-key : goal.accept-requires-clause-key
 accept-requires-clause-key g c = c.in-Ok.ensures.allowed.key_is
 
-pub accept-requires-clause-size : goal.accept-requires-clause-size
-accept-requires-clause-size g c = subst (λ (l : List ℕ). length l ≤ longest_file) (sym c.as_slice.ensures) (c.in-Ok-read.ensures anywhere.flash).1.fits
-
 pub update_by-requires-clause-allowed : goal.update_by-requires-clause-allowed
 update_by-requires-clause-allowed g c = allowed_after c.in-Ok.config.0 c.in-Ok.config.1 _ _ c.in-Ok.ensures.extent c.in-Ok.ensures.allowed
 
@@ -55,7 +51,7 @@ update_by-requires-clause-held g c told =
     held_after c.in-Ok.config.0 c.in-Ok.config.1 _ _ _ _ c.in-Ok.ensures.extent (c.in-Ok.ensures.same told).reads ((c.in-Ok.ensures.finds anywhere).1 told)
 
 pub update_by-requires-clause-accepted : goal.update_by-requires-clause-accepted
-update_by-requires-clause-accepted g c = accepted_as c.in-Ok.config.0 c.in-Ok.config.1 _ _ (sym c.in-Ok-accept.ensures.whole) (accepted_by c.in-Ok-accept.accepted) c.in-Ok-accept.ensures.finds
+update_by-requires-clause-accepted g c = accepted_as c.in-Ok.config.0 c.in-Ok.config.1 _ _ (sym c.in-Ok-accept.ensures.whole) (admission_of c.in-Ok-accept.accepted) (c.in-Ok-accept.ensures.finds anywhere).1
 
 pub update_by-requires-clause-wrapper : goal.update_by-requires-clause-wrapper
 update_by-requires-clause-wrapper g c = c.in-Ok-accept.ensures.wrapper
@@ -67,9 +63,9 @@ pub returns-clause-answer : goal.returns-clause-answer
 returns-clause-answer g c =
     let h = g.H.Host in
     let here = outside_at h.told (h.file c.args.host.now) (h.pulled c.args.host.now) (h.asked c.args.host.now) (h.faults c.args.host.now) anywhere.flash in
-    comes_updated c.args.name.now c.args.uris.now _ _ c.in-Ok.config.0 c.in-Ok.config.1 _ (c.in-Ok.ensures.finds here) c.in-Ok-read.bytes _ (c.in-Ok-read.ensures _) _ _ (accepted_by c.in-Ok-accept.accepted)
-    (accepted_as c.in-Ok.config.0 c.in-Ok.config.1 _ _ c.as_slice.ensures (accepted_by c.in-Ok-accept.accepted) c.in-Ok-accept.ensures.finds) _
-    (updates_as c.in-Ok.config.0 _ _ (c.in-Ok-accept.ensures.whole ∙ c.as_slice.ensures) (accepted_by c.in-Ok-accept.accepted) c.args.uris.now _ _ _ _ _ c.update_by.ensures.answer)
+    comes_updated c.args.name.now c.args.uris.now _ _ c.in-Ok.config.0 c.in-Ok.config.1 _ (c.in-Ok.ensures.finds here) c.in-Ok-read.bytes _ (c.in-Ok-read.ensures _) _ _ (admission_of c.in-Ok-accept.accepted)
+    (accepted_as c.in-Ok.config.0 c.in-Ok.config.1 _ _ c.as_slice.ensures (admission_of c.in-Ok-accept.accepted) (c.in-Ok-accept.ensures.finds anywhere).1) _
+    (updates_as c.in-Ok.config.0 _ _ (c.in-Ok-accept.ensures.whole ∙ c.as_slice.ensures) (admission_of c.in-Ok-accept.accepted) c.args.uris.now _ _ _ _ _ c.update_by.ensures.answer)
 
 pub returns-clause-keeps : goal.returns-clause-keeps
 returns-clause-keeps g c told settled =
@@ -84,8 +80,8 @@ returns-clause-keeps g c told settled =
     keeps_since c.args.name.now c.args.uris.now l m before middle refl (c.in-Ok-read.ensures anywhere.flash).0.quiet.files (g.D.Disk.extent c.args.flash.now) refl
     (g.D.Disk.flash c.args.flash.now) (g.D.Disk.flash c.config_in.new.flash) (g.D.Disk.flash c.update_by.new.flash)
     (g.met.D.Disk.obeys c.args.flash.now told) law same c.in-Ok.config.0 c.in-Ok.config.1 c.in-Ok.ensures.allowed ((c.in-Ok.ensures.finds anywhere).1 told) settled c.in-Ok-read.bytes (c.in-Ok-read.ensures _).1
-    (accepted_by c.in-Ok-accept.accepted) (accepted_as c.in-Ok.config.0 c.in-Ok.config.1 _ _ c.as_slice.ensures (accepted_by c.in-Ok-accept.accepted) c.in-Ok-accept.ensures.finds)
-    c.config_laws.ensures.answer (ended_of c.update_by.result) (keeps_as c.in-Ok.config.0 _ _ (c.in-Ok-accept.ensures.whole ∙ c.as_slice.ensures) (accepted_by c.in-Ok-accept.accepted) c.args.uris.now l m middle (ended_of c.update_by.result)
+    (admission_of c.in-Ok-accept.accepted) (accepted_as c.in-Ok.config.0 c.in-Ok.config.1 _ _ c.as_slice.ensures (admission_of c.in-Ok-accept.accepted) (c.in-Ok-accept.ensures.finds anywhere).1)
+    c.config_laws.ensures.answer (ended_of c.update_by.result) (keeps_as c.in-Ok.config.0 _ _ (c.in-Ok-accept.ensures.whole ∙ c.as_slice.ensures) (admission_of c.in-Ok-accept.accepted) c.args.uris.now l m middle (ended_of c.update_by.result)
     (g.D.Disk.flash c.config_in.new.flash) (g.D.Disk.flash c.update_by.new.flash)
     (c.update_by.ensures.keeps told (settled_later _ _ _ law same settled)))
 

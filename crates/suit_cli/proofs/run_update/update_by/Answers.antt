@@ -4,7 +4,7 @@ use Rattle.flash_layout.specs.declared.frame.TheConstants.{VERSION_1}
 use Rattle.flash_layout.specs.Configs.{ConfigOf, Configured}
 use Rattle.flash_layout.specs.Frames.{head_of}
 use Rattle.rollback_record.specs.SoundFlash.{Settled}
-use Rattle.suit_cli.specs.Acceptance.{accepted_by}
+use Rattle.admission.specs.Admission.{admission_of}
 use Rattle.step_machine.specs.Fetching.{asked_at}
 use Rattle.update_proc.specs.Updates.{hosted}
 use Rattle.suit_cli.specs.Updating.{most_room}
@@ -25,21 +25,21 @@ update-end-requires-clause-layout g c = c.requires.allowed.layout_is
 
 pub update-end-requires-clause-distinct : goal.update-end-requires-clause-distinct
 update-end-requires-clause-distinct g c =
-    distinct c.manifest_laws.ensures c.args.config.now.0 c.args.config.now.1 c.args.accepted.now.envelope.whole.now (accepted_by c.args.accepted.now) (facts c.args.config.now.0 c.args.config.now.1 c.args.accepted.now.envelope.whole.now (accepted_by c.args.accepted.now) c.requires.accepted) c.requires.other
+    distinct c.manifest_laws.ensures c.args.config.now.0 c.args.config.now.1 c.args.accepted.now.envelope.whole.now (admission_of c.args.accepted.now) (facts c.args.config.now.0 c.args.config.now.1 c.args.accepted.now.envelope.whole.now (admission_of c.args.accepted.now) c.requires.accepted) c.requires.other
 
 pub update-end-requires-clause-count : goal.update-end-requires-clause-count
-update-end-requires-clause-count g c = sym (facts c.args.config.now.0 c.args.config.now.1 c.args.accepted.now.envelope.whole.now (accepted_by c.args.accepted.now) c.requires.accepted).placed.count
+update-end-requires-clause-count g c = sym (facts c.args.config.now.0 c.args.config.now.1 c.args.accepted.now.envelope.whole.now (admission_of c.args.accepted.now) c.requires.accepted).placed.count
 
 pub update-end-requires-clause-plan : goal.update-end-requires-clause-plan
 update-end-requires-clause-plan g c =
-    let f = facts c.args.config.now.0 c.args.config.now.1 c.args.accepted.now.envelope.whole.now (accepted_by c.args.accepted.now) c.requires.accepted in
+    let f = facts c.args.config.now.0 c.args.config.now.1 c.args.accepted.now.envelope.whole.now (admission_of c.args.accepted.now) c.requires.accepted in
     c.procedure_laws.ensures.update _ f.says.item _ _ _ f.says.says_so f.members
 
 pub update-end-requires-clause-wrapper : goal.update-end-requires-clause-wrapper
 update-end-requires-clause-wrapper g c = c.requires.wrapper
 
 pub update-end-requires-clause-fits : goal.update-end-requires-clause-fits
-update-end-requires-clause-fits g c = (facts c.args.config.now.0 c.args.config.now.1 c.args.accepted.now.envelope.whole.now (accepted_by c.args.accepted.now) c.requires.accepted).is_short
+update-end-requires-clause-fits g c = (facts c.args.config.now.0 c.args.config.now.1 c.args.accepted.now.envelope.whole.now (admission_of c.args.accepted.now) c.requires.accepted).is_short
 
 pub update-end-requires-clause-config : goal.update-end-requires-clause-config
 update-end-requires-clause-config g c told = (c.args.config.now.1, c.requires.held told)
@@ -47,7 +47,7 @@ update-end-requires-clause-config g c told = (c.args.config.now.1, c.requires.he
 pub returns-clause-answer : goal.returns-clause-answer
 returns-clause-answer g c =
     let u = c.update-end.ensures in
-    let f = facts c.args.config.now.0 c.args.config.now.1 c.args.accepted.now.envelope.whole.now (accepted_by c.args.accepted.now) c.requires.accepted in (
+    let f = facts c.args.config.now.0 c.args.config.now.1 c.args.accepted.now.envelope.whole.now (admission_of c.args.accepted.now) c.requires.accepted in (
       record {
         alone = record { told = refl; files = u.files; flash_told = refl; size = u.size; launcher_told = refl };
         counts = u.counts;
@@ -58,7 +58,7 @@ returns-clause-answer g c =
         left = u.left;
         safe = λ td tl.
             gains_update c.play_laws.ensures.safe c.play_laws.ensures.faulted_safe c.manifest_laws.ensures (g.D.Disk.extent c.args.flash.now) c.args.config.now.0 c.args.config.now.1 c.requires.allowed c.has_identifiers.ensures
-            c.args.accepted.now.envelope.whole.now (accepted_by c.args.accepted.now) f c.requires.other c.args.uris.now (hosted g.H.Host.told (g.H.Host.file c.args.host.now) (g.H.Host.asked c.args.host.now) (g.H.Host.asked c.update-end.new.host)) (g.D.Disk.flash c.args.flash.now).reads
+            c.args.accepted.now.envelope.whole.now (admission_of c.args.accepted.now) f c.requires.other c.args.uris.now (hosted g.H.Host.told (g.H.Host.file c.args.host.now) (g.H.Host.asked c.args.host.now) (g.H.Host.asked c.update-end.new.host)) (g.D.Disk.flash c.args.flash.now).reads
             (g.L.Launcher.launches c.args.launcher.now) (g.L.Launcher.launches c.update-end.new.launcher) (u.launches td tl);
       },
       c.update_line-text.ensures,
@@ -74,7 +74,7 @@ pub returns-clause-flash : goal.returns-clause-flash
 returns-clause-flash g c told =
     let a = g.D.Disk.flash c.args.flash.now in
     let config = subst (λ (n : ℕ). ConfigOf VERSION_1 n (head_of VERSION_1 a.reads) (Configured c.args.config.now.0 c.args.config.now.1)) (sym (g.met.D.Disk.obeys c.args.flash.now told).fits) (c.requires.held told) in
-    let sound = λ (settled : Settled VERSION_1 a). sound_update c.config_laws.ensures.answer c.args.config.now.0 c.args.config.now.1 a.reads config c.installation_laws.ensures c.args.accepted.now.envelope.whole.now (accepted_by c.args.accepted.now) (facts c.args.config.now.0 c.args.config.now.1 c.args.accepted.now.envelope.whole.now (accepted_by c.args.accepted.now) c.requires.accepted)
+    let sound = λ (settled : Settled VERSION_1 a). sound_update c.config_laws.ensures.answer c.args.config.now.0 c.args.config.now.1 a.reads config c.installation_laws.ensures c.args.accepted.now.envelope.whole.now (admission_of c.args.accepted.now) (facts c.args.config.now.0 c.args.config.now.1 c.args.accepted.now.envelope.whole.now (admission_of c.args.accepted.now) c.requires.accepted)
     a (g.D.Disk.flash c.update-end.new.disk) settled.sound (c.update-end.ensures.sound told settled) in
     record {
       any_moment = record { later = c.update-end.ensures.later told; each = λ image may. tt; before = λ t image le may. inr tt };

@@ -1,7 +1,5 @@
-use Rattle.std.proofs.Common.{subst, sym, List, ℕ, length, ◌≤◌}
 use Rattle.suit_cli.specs.Stages.{Goes}
-use Rattle.suit_cli.specs.Inputs.{longest_file}
-use Rattle.suit_cli.proofs.Chains.{anywhere, ends_there, shows_bytes}
+use Rattle.suit_cli.proofs.Chains.{ends_there, shows_bytes}
 use Rattle.suit_cli.proofs.show.show.Goals as goal
 
 pub returns-in_err-bytes : goal.returns-in_err-bytes
@@ -9,6 +7,3 @@ returns-in_err-bytes g c flash = ends_there _ _ _ _ c.from_residual.result c.in_
 
 pub returns : goal.returns
 returns g c flash = Goes c.in_ok-bytes.bytes _ _ (c.in_ok-bytes.ensures flash) (shows_bytes c.args.key_name.now _ _ _ _ _ c.as_slice.ensures (c.show_file.ensures flash))
-
-pub show_file-requires : goal.show_file-requires
-show_file-requires g c = subst (λ (l : List ℕ). length l ≤ longest_file) (sym c.as_slice.ensures) (c.in_ok-bytes.ensures anywhere.flash).1.fits

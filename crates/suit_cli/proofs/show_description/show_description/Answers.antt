@@ -1,9 +1,8 @@
-use Rattle.std.proofs.Common.{subst, sym, List, ℕ, length, ◌≤◌}
+use Rattle.std.proofs.Common.{subst, List, ℕ}
 use Rattle.suit_cli.specs.Outside.{Outside}
 use Rattle.suit_cli.specs.Stages.{Goes, ending_of}
 use Rattle.suit_cli.specs.Commands.{describes_file}
-use Rattle.suit_cli.specs.Inputs.{longest_file}
-use Rattle.suit_cli.proofs.Chains.{anywhere, ends_there}
+use Rattle.suit_cli.proofs.Chains.{ends_there}
 use Rattle.suit_cli.proofs.show_description.show_description.Goals as goal
 
 pub returns-in_err-bytes : goal.returns-in_err-bytes
@@ -13,6 +12,3 @@ pub returns : goal.returns
 returns g c flash =
     Goes c.in_ok-bytes.bytes _ _ (c.in_ok-bytes.ensures flash)
     (subst (λ (b : List ℕ). (here : Outside) → describes_file b here here (ending_of c.describe_file.result)) c.as_slice.ensures c.describe_file.ensures _)
-
-pub describe_file-requires : goal.describe_file-requires
-describe_file-requires g c = subst (λ (l : List ℕ). length l ≤ longest_file) (sym c.as_slice.ensures) (c.in_ok-bytes.ensures anywhere.flash).1.fits
