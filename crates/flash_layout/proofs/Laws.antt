@@ -32,7 +32,7 @@ use Rattle.flash_layout.proofs.Spellings.{spelled_parts}
 
 -- ---- identifiers
 
-head_read : (kind : HeadKind) (n : ℕ) (rest : List ℕ) (p : Position) → major_of kind < 7 → kind_of_major (major_of kind) ≡ kind → n < 2 ^ 64 → p.left ≡ head_bytes (major_of kind) n ++ rest
+pub head_read : (kind : HeadKind) (n : ℕ) (rest : List ℕ) (p : Position) → major_of kind < 7 → kind_of_major (major_of kind) ≡ kind → n < 2 ^ 64 → p.left ≡ head_bytes (major_of kind) n ++ rest
     → head_from p ≡ Ok (record { kind = kind; value = n }, resting p rest)
 unfolding head_from
 head_read kind n rest p lt is fits left = rw (left, plain_again kind n rest lt is fits) refl
@@ -68,7 +68,7 @@ parts_read (part ∷ parts) rest p fits left =
     let one = part_read part (others ++ rest) p inside (left ∙ append_assoc string others rest) in
     rw (one.read, one.content, parts_read parts rest one.next (omega (arith, long, fits)) one.after) refl
 
-count_fits : (parts : List (List ℕ)) → length (spell_items (string_items parts)) < 2 ^ 64 → length parts ≤ length (spell_items (string_items parts))
+pub count_fits : (parts : List (List ℕ)) → length (spell_items (string_items parts)) < 2 ^ 64 → length parts ≤ length (spell_items (string_items parts))
 count_fits [] fits = omega arith
 count_fits (part ∷ parts) fits =
     let string = head_bytes 2 (length part) ++ part in
@@ -77,7 +77,7 @@ count_fits (part ∷ parts) fits =
     let inside : length part < 2 ^ 64 = omega (arith, long, fits, length-append (head_bytes 2 (length part)) part) in
     omega (arith, long, (head_length 2 (length part) inside).0, length-append (head_bytes 2 (length part)) part, count_fits parts (omega (arith, long, fits)))
 
-identifier_read : (parts : List (List ℕ)) → length (spelled_id parts) ≤ 64 → identifier_at (spelled_id parts) ≡ Ok parts
+pub identifier_read : (parts : List (List ℕ)) → length (spelled_id parts) < 2 ^ 64 → identifier_at (spelled_id parts) ≡ Ok parts
 unfolding identifier_at array_from
 identifier_read parts short =
     let is = spelled_parts parts in
@@ -173,7 +173,7 @@ entry_read e typed short =
     let few : ltb 64 (length (spelled_id e.identifier)) ≡ false = le-ltb _ _ short in
     let start0 = ap number_at f.start ∙ number_read (get_or e.starts 0 0) typed.first in
     let start1 = ap number_at f.other ∙ number_read (get_or e.starts 1 0) typed.second in
-    rw (few, ap identifier_at f.name ∙ identifier_read e.identifier short)
+    rw (few, ap identifier_at f.name ∙ identifier_read e.identifier (omega (arith, short)))
     (ap (λ (x : Entry). Ok x) (same_entry _ e refl (memory_read e.memory) refl
     (starts_read _ _ e.starts start0 start1 typed.starts)
     (ap number_at f.size ∙ number_read e.capacity typed.capacity)

@@ -12,6 +12,7 @@ pub mod OneLayout
 mod Overlapping
 pub mod PageFields
 mod Sharing
+mod SpelledPlaces
 mod Spellings
 mod Steps
 mod Wholes
