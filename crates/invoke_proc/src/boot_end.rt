@@ -36,7 +36,7 @@ pub enum BootEnd {
     Condition { place: u64 },
     /// A directive failed at this place, or a fault came there.
     Stopped { place: u64, cause: Cause },
-    /// A call of the flash failed before the procedure, and its count of faults rose.
+    /// A call of the flash failed before the procedure, or the sync behind it, and its count of faults rose.
     FlashFault,
     /// Memory ran out. Nothing was launched or written.
     NoMemory,

@@ -1,19 +1,18 @@
 -- The record of a flash after a record page is written behind its gate.
-use Rattle.std.proofs.Common.{◌≡◌, ◌≢◌, inl, inr, ⊎_elim, ◌<◌, ◌≤◌, ℕ, zero, suc, ◌+◌, ◌-◌, ◌*◌, List, ◌∷◌, length, length-drop, drop, get_or, Option, Some, None, refl, sym, ◌∙◌, ap, subst, arith}
+use Rattle.std.proofs.Common.{◌≡◌, ◌≢◌, inl, inr, ⊎_elim, ◌<◌, ◌≤◌, ℕ, zero, suc, ◌+◌, ◌*◌, List, ◌∷◌, length, length-drop, drop, get_or, Option, Some, sym, ◌∙◌, ap, subst, arith}
 use Rattle.std.specs.List.{slice_range}
 use Rattle.std.proofs.lemmas.Bool.{cases_eq}
 use Rattle.std.proofs.lemmas.List.{ext_get_or}
 use Rattle.std.proofs.lemmas.List.Edits.{length-between, get_or-between}
-use Rattle.suit_edge.specs.Flash.{Flash, Now, Passes, ImageOn, Keeps, IsSame, IsFirmOn, IsFlash}
-use Rattle.suit_edge.specs.FlashLaws.{firm_fewer, firm_then, joined, keeps_fewer, keeps_same, keeps_then, weakens}
+use Rattle.suit_edge.specs.Flash.{Flash, Passes, ImageOn, Keeps, IsFirmOn, IsFlash}
+use Rattle.suit_edge.specs.FlashLaws.{firm_fewer, keeps_fewer, weakens}
 use Rattle.suit_edge.specs.Gate.{IsGated, IsNewPage, IsOpen, body_at, page_at}
 use Rattle.suit_edge.specs.Ranges.{InSome, Outside, OutsideEach}
-use Rattle.suit_edge.specs.RangeLaws.{same_range}
 use Rattle.flash_layout.specs.declared.frame.TheConstants.{VERSION_1}
 use Rattle.flash_layout.specs.declared.slot.Record.{Record}
 use Rattle.flash_layout.specs.Frames.{head_of, config_page_of}
 use Rattle.rollback_record.specs.RecordPage.{IsTypedRecord, IsInRange, record_body}
-use Rattle.rollback_record.specs.HeadRecord.{record_bytes, Counts, HoldsRecord, RecordOf}
+use Rattle.rollback_record.specs.HeadRecord.{record_bytes, HoldsRecord, RecordOf}
 use Rattle.rollback_record.specs.Committing.{HasHeldOrNew, InHead, IsNext, IsSpare, KeepsBesideSpare}
 use Rattle.rollback_record.proofs.Pages.{bytes_in, kept, shut, fresh}
 

@@ -7,6 +7,7 @@ pub mod Pages
 pub mod Loads
 pub mod Commits
 pub mod OneAnswers
+mod SomeAnswers
 mod Sounds
 mod SoundSince
 mod Installed

@@ -1,8 +1,7 @@
 -- The record of an image of the flash. Each word speaks of the image's head alone.
-use Rattle.std.specs.Prelude.{◌≡◌, ◌⊎◌, ◌<◌, ◌≤◌, ◌+◌, ◌-◌, ℕ, List, length, slice_range, nat_lt, if◌then◌else◌, Option, Some, None, Result, MatchResult}
+use Rattle.std.specs.Prelude.{◌≡◌, ◌⊎◌, ◌<◌, ◌≤◌, ◌+◌, ◌-◌, ℕ, List, length, slice_range, nat_lt, if◌then◌else◌, Option, Some, None}
 use Rattle.flash_layout.specs.declared.frame.Frame.{Frame}
 use Rattle.flash_layout.specs.declared.slot.Record.{Record}
-use Rattle.flash_layout.specs.declared.slot.FlashFault.{FlashFault}
 pub use Rattle.flash_layout.specs.FaultCounts.{ResultCounts}
 use Rattle.flash_layout.specs.Frames.{config_page_of, record_from}
 use Rattle.rollback_record.specs.declared.page.TheConstants.{RECORD_BYTES}

@@ -12,3 +12,7 @@ OneRecord = (frame : Frame) (config page : List ℕ) (r s : Record) → IsRecord
 -- and so does the head of an image
 abbrev pub OneAnswer : Type 0
 OneAnswer = (frame : Frame) (head : List ℕ) (a b : Option Record) → RecordOf frame head a → RecordOf frame head b → a ≡ b
+
+-- and it has one, or none
+abbrev pub SomeAnswer : Type 0
+SomeAnswer = (frame : Frame) (head : List ℕ) → (o : Option Record) × RecordOf frame head o

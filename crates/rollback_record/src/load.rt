@@ -146,10 +146,8 @@ pub fn load_record<D: Disk>(disk: &mut D) -> Result<Option<Record>, FlashFault>
         Edge::Done => {}
     }
     let slots = counts_on(&config);
-    match load_beside(disk, &slots) {
-        Err(FlashFault) => Err(FlashFault),
-        Ok(pages) => Ok(pages.held),
-    }
+    let pages = load_beside(disk, &slots)?;
+    Ok(pages.held)
 }
 
 /// The record that a flash with this layout holds, or `None` where no page counts, and the page that the next one is to be
@@ -187,8 +185,6 @@ pub fn load_record_by<D: Disk>(disk: &mut D, layout: &Layout) -> Result<Option<R
     ensures same { IsTrue D.told → IsSame (D.flash disk.old) (D.flash disk.new) }
     ensures grows { IsTrue D.told → Grows (D.flash disk.old) (D.flash disk.new) }
 {
-    match load_pages_by(disk, layout) {
-        Err(FlashFault) => Err(FlashFault),
-        Ok(pages) => Ok(pages.held),
-    }
+    let pages = load_pages_by(disk, layout)?;
+    Ok(pages.held)
 }

@@ -27,8 +27,9 @@ fn result_of(answer: Edge) -> Result<(), FlashFault>
     }
 }
 
-/// Records what is installed, on the spare record page, as it was read. A power loss now must leave the head as it reads. After a fault, and after a power loss at any moment, the flash holds the held record or the new one, and all
-/// else as it was.
+/// Records what is installed, on the spare record page, as it was read. A power loss now must leave the head as it reads.
+/// After a fault, and after a power loss at any moment, the flash holds the held record or the new one, and all else as it
+/// was.
 pub fn commit<D: Disk>(
     disk: &mut D,
     held: Option<&Record>,

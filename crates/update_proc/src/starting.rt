@@ -33,8 +33,8 @@ use suit_edge::{Disk, Host, Launcher};
 use suit_envelope::Envelope;
 use suit_params::Digest;
 
-/// An accepted update: the bytes to be installed beside the record, on the spare page, with the number and the digest of their manifest, its
-/// procedure, and where its payloads come from.
+/// An accepted update: the bytes to be installed beside the record, which is written to the spare page, with the number and
+/// the digest of their manifest, its procedure, and where its payloads come from.
 #[derive(Clone, Copy)]
 pub(crate) struct Accepted<'a> {
     pub held: Option<&'a Record>,
