@@ -1,13 +1,13 @@
 -- A fact learnt of one component is learnt of all.
-use Rattle.std.proofs.Common.{◌≡◌, ◌<◌, ◌≤◌, ℕ, zero, suc, List, [], ◌∷◌, length, get_or, Option, Some, None, refl, inr, sym, ap, ◌∙◌, subst, arith, length-set}
-use Rattle.std.specs.Prelude.{◌↔◌, slice_get, slice_set}
+use Rattle.std.proofs.Common.{◌≡◌, ◌<◌, ◌≤◌, ℕ, zero, suc, List, [], ◌∷◌, length, get_or, Option, Some, None, refl, inl, inr, sym, ap, ◌∙◌, subst, arith, length-set}
+use Rattle.std.specs.Prelude.{◌↔◌, Bool, true, false, slice_get, slice_set}
 use Rattle.path_model.specs.declared.identity.Identity.{Identity}
 use Rattle.path_checker.specs.declared.judge_plan.facts.Own.{Own}
 use Rattle.path_checker.specs.declared.judge_plan.facts.Own.TheVariants as owns
 use Rattle.path_checker.specs.declared.judge_plan.facts.Knowledge.{Knowledge}
 use Rattle.path_checker.specs.Knowing.{nothing, Allows, Learns}
-use Rattle.path_checker.specs.Forking.{DecidesOne, NarrowsOne, Has, HasOne, HasNoneOf, TellsOne, learnt, excluded, learnt_at, Learnt}
-use Rattle.path_checker.proofs.Telling.{narrows_learnt, narrows_excluded}
+use Rattle.path_checker.specs.Forking.{DecidesOne, NarrowsOne, Has, HasOne, HasNoneOf, TellsOne, learnt, excluded, learnt_at, Learnt, some_if}
+use Rattle.path_checker.proofs.Telling.{decides_has, decides_has_not, narrows_learnt, narrows_excluded}
 
 -- the identity of a component of which something is known
 identity_at : (facts : List Knowledge) (c : ℕ) (d : Knowledge) (fact : Option Identity → Type 0) → c < length facts → DecidesOne (get_or facts c d) fact
@@ -72,3 +72,7 @@ learnt_open facts learned c d known own lt is told made =
         learns_at facts others c nothing (get_or facts c nothing) (excluded (get_or facts c nothing) own) (HasNoneOf own) lt refl refl (narrows_excluded (get_or facts c nothing) own free),
       ),
     )
+
+pub learnt_told : (facts : List Knowledge) (c : ℕ) (d known : Knowledge) (own : Own) (has : Bool) → c < length facts → known ≡ get_or facts c d → TellsOne known own (Some has) → Learnt facts c own (some_if has facts)
+learnt_told facts c d known own true lt is told = inl ((λ ids al. decided_at facts c d known (HasOne own) lt is (decides_has known own told) ids al), refl)
+learnt_told facts c d known own false lt is told = λ ids al h. decided_at facts c d known (HasNoneOf own) lt is (decides_has_not known own told) ids al h

@@ -1,5 +1,5 @@
 -- When the states that are kept stand for all runs from other ones.
-use Rattle.std.specs.Prelude.{◌≡◌, ◌⊎◌, ℕ, Bool, List, [], ◌∷◌, ◌++◌, Option, Some, None, length}
+use Rattle.std.specs.Prelude.{◌≡◌, ◌⊎◌, ℕ, Bool, true, false, List, [], ◌∷◌, ◌++◌, Option, Some, None, length}
 use Rattle.suit_params.specs.InForce.{Parameters}
 use Rattle.path_model.specs.declared.identity.Identity.{Identity}
 use Rattle.path_model.specs.declared.event.Event.{Event}
@@ -34,6 +34,11 @@ kept_of facts events state = record { facts = facts; events = events; state = st
 abbrev pub at_most_one : Option Kept → List Kept
 at_most_one None = []
 at_most_one (Some k) = k ∷ []
+
+-- a state, if it goes on
+abbrev pub kept_if : Bool → Kept → List Kept
+kept_if false k = []
+kept_if true k = k ∷ []
 
 -- a failed condition at a place, with the soft failure that its sequence held
 pub record Stopped : Type 0 where

@@ -81,6 +81,10 @@ Forks facts component own (forks.Either has has_not) = Learns facts has (Has com
 abbrev pub learnt_at : List Knowledge → ℕ → Own → List Knowledge
 learnt_at facts component own = slice_set facts component (learnt (get_or facts component nothing) own)
 
+abbrev pub some_if : Bool → List Knowledge → Option (List Knowledge)
+some_if false facts = None
+some_if true facts = Some facts
+
 -- no identities that are allowed have it, or all do, or these are the facts where they do, and others those where they do not
 abbrev pub Learnt : List Knowledge → ℕ → Own → Option (List Knowledge) → Type 0
 Learnt facts component own None = Forks facts component own forks.HasNot

@@ -3,13 +3,13 @@
 ghost use Rattle.std.specs.Prelude.{◌≡◌, ◌<◌, List, [], ◌∷◌, Some, IfOk, OnOk};
 ghost use Rattle.path_model.specs.CommandLaws.{IsOnIdentity};
 ghost use Rattle.path_model.specs.Conditions.{Tests};
-ghost use Rattle.path_checker.specs.Exploring.{Adds, Passes, Kept as TheKept, at_most_one};
+ghost use Rattle.path_checker.specs.Exploring.{Adds, Passes, Kept as TheKept, kept_if};
 ghost use Rattle.path_checker.specs.Wanting.{TestsOwn};
 ghost use Rattle.path_checker.specs.Steps.{knowing};
 
 use crate::judge_plan::facts::{Facts, Fork, Own};
 use crate::judge_plan::happened::{Ended, Happened};
-use crate::judge_plan::kept::{Kept, Stopped, pass, stop, went};
+use crate::judge_plan::kept::{Kept, Stopped, happens, pass, stop};
 use crate::judge_plan::memory::Memory;
 use std::alloc::AllocError;
 use suit_commands::TestKind;
@@ -182,37 +182,23 @@ fn pass_own_test<'a>(
     kind: TestKind,
     component: u32,
     own: &Own,
-    k: Kept<'a>,
-) -> Result<Option<Kept<'a>>, AllocError>
+    k: &mut Kept<'a>,
+) -> Result<bool, AllocError>
     ensures { IfOk result
-        (λ to. Passes (TestsOwn kind place component (Some own.now))
-        (k.entry ∷ []) (at_most_one to)) }
+        (λ passes. Passes (TestsOwn kind place component (Some own.now))
+        (k.old ∷ []) (kept_if passes k.new)) }
 {
-    let Kept {
-        facts,
-        history,
-        params,
-        selection,
-        soft_failure,
-    } = k;
-    match facts.learn(memory, component, own)? {
-        Some(facts) => {
-            let passed = Happened::Tried {
-                component,
-                kind,
-                passed: true,
-            };
-            let history = history.with(memory, passed)?;
-            Ok(Some(Kept {
-                facts,
-                history,
-                params,
-                selection,
-                soft_failure,
-            }))
-        }
-        None => Ok(None),
+    let may_pass = k.facts.learn(memory, component, own)?;
+    if may_pass {
+        let passed = Happened::Tried {
+            component,
+            kind,
+            passed: true,
+        };
+        happens(memory, k, passed)?;
+        return Ok(true);
     }
+    Ok(false)
 }
 
 // A condition on the identity.
@@ -221,17 +207,17 @@ fn pass_identity_test<'a>(
     place: u64,
     kind: TestKind,
     component: u32,
-    k: Kept<'a>,
-) -> Result<Option<Kept<'a>>, AllocError>
+    k: &mut Kept<'a>,
+) -> Result<bool, AllocError>
     requires room { component < 8 }
     requires kinds { IsOnIdentity kind }
     ensures { IfOk result
-        (λ to. Passes (λ identities. Tests kind identities place component) (k.entry ∷ [])
-        (at_most_one to)) }
+        (λ passes. Passes (λ identities. Tests kind identities place component) (k.old ∷ [])
+        (kept_if passes k.new)) }
 {
     match k.params.wanted(kind, component) {
         Some(own) => pass_own_test(memory, place, kind, component, &own, k),
-        None => Ok(None),
+        None => Ok(false),
     }
 }
 
@@ -240,12 +226,12 @@ fn pass_image_match<'a>(
     memory: Memory<'a>,
     place: u64,
     component: u32,
-    k: Kept<'a>,
-) -> Result<Option<Kept<'a>>, AllocError>
+    k: &mut Kept<'a>,
+) -> Result<bool, AllocError>
     requires room { component < 8 }
     ensures { IfOk result
-        (λ to. Passes (λ identities. Tests TestKind.ImageMatch identities place component)
-        (k.entry ∷ []) (at_most_one to)) }
+        (λ passes. Passes (λ identities. Tests TestKind.ImageMatch identities place component)
+        (k.old ∷ []) (kept_if passes k.new)) }
 {
     match k.params.digest(component) {
         Some(digest) => {
@@ -255,10 +241,10 @@ fn pass_image_match<'a>(
                 digest,
                 size,
             };
-            let to = went(memory, k, matched)?;
-            Ok(Some(to))
+            happens(memory, k, matched)?;
+            Ok(true)
         }
-        None => Ok(None),
+        None => Ok(false),
     }
 }
 
@@ -266,12 +252,12 @@ fn pass_check_content<'a>(
     memory: Memory<'a>,
     place: u64,
     component: u32,
-    k: Kept<'a>,
-) -> Result<Option<Kept<'a>>, AllocError>
+    k: &mut Kept<'a>,
+) -> Result<bool, AllocError>
     requires room { component < 8 }
     ensures { IfOk result
-        (λ to. Passes (λ identities. Tests TestKind.CheckContent identities place component)
-        (k.entry ∷ []) (at_most_one to)) }
+        (λ passes. Passes (λ identities. Tests TestKind.CheckContent identities place component)
+        (k.old ∷ []) (kept_if passes k.new)) }
 {
     if k.params.has_content(component) {
         let passed = Happened::Tried {
@@ -279,24 +265,24 @@ fn pass_check_content<'a>(
             kind: TestKind::CheckContent,
             passed: true,
         };
-        let to = went(memory, k, passed)?;
-        return Ok(Some(to));
+        happens(memory, k, passed)?;
+        return Ok(true);
     }
-    Ok(None)
+    Ok(false)
 }
 
-/// A condition whose failure ends the procedure: the state after it, where it may be met.
+/// A condition whose failure ends the procedure: whether it may be met. The state is then the one after it.
 pub(crate) fn pass_test<'a>(
     memory: Memory<'a>,
     place: u64,
     kind: TestKind,
     component: u32,
-    k: Kept<'a>,
-) -> Result<Option<Kept<'a>>, AllocError>
+    k: &mut Kept<'a>,
+) -> Result<bool, AllocError>
     requires room { component < 8 }
     ensures { IfOk result
-        (λ to. Passes (λ identities. Tests kind identities place component) (k.entry ∷ [])
-        (at_most_one to)) }
+        (λ passes. Passes (λ identities. Tests kind identities place component) (k.old ∷ [])
+        (kept_if passes k.new)) }
 {
     match kind {
         TestKind::Vendor => pass_identity_test(memory, place, kind, component, k),
@@ -305,7 +291,7 @@ pub(crate) fn pass_test<'a>(
         TestKind::Slot => pass_identity_test(memory, place, kind, component, k),
         TestKind::ImageMatch => pass_image_match(memory, place, component, k),
         TestKind::CheckContent => pass_check_content(memory, place, component, k),
-        TestKind::Abort => Ok(None),
+        TestKind::Abort => Ok(false),
     }
 }
 

@@ -3,17 +3,18 @@
 ghost use Rattle.std.specs.Prelude.{◌≡◌, ◌<◌, List, [], ◌∷◌, ◌++◌, OnOk, IfOk, IfErr};
 ghost use Rattle.path_model.specs.Behaviour.{Each};
 ghost use Rattle.path_model.specs.Directives.{Acts, Overrides, soft_after};
-ghost use Rattle.path_checker.specs.Exploring.{Explores, at_most_one};
-ghost use Rattle.path_checker.specs.Steps.{soft_after_all};
+ghost use Rattle.path_checker.specs.Exploring.{Explores, at_most_one, kept_if};
+ghost use Rattle.path_checker.specs.Steps.{soft_after_all, overridden_at, soft_at};
+ghost use Rattle.path_checker.specs.Small.{AreSmall};
 ghost use Rattle.path_checker.specs.Halting.{Halts};
 
 use crate::judge_plan::halt::Halt;
 use crate::judge_plan::happened::Happened;
 use crate::judge_plan::in_force::InForce;
-use crate::judge_plan::kept::{Kept, went};
+use crate::judge_plan::kept::{Kept, happens};
 use crate::judge_plan::memory::Memory;
 use crate::judge_plan::selected::Components;
-use std::alloc::AllocError;
+use std::alloc::{AllocError, Global};
 use suit_commands::ActKind;
 use suit_params::{Param, ParamList};
 
@@ -21,55 +22,55 @@ fn write<'a>(
     memory: Memory<'a>,
     place: u64,
     component: u32,
-    k: Kept<'a>,
-) -> Result<Option<Kept<'a>>, AllocError>
+    k: &mut Kept<'a>,
+) -> Result<bool, AllocError>
     requires room { component < 8 }
     ensures { IfOk result
-        (λ to. Explores (λ identities. Acts ActKind.Write place component)
-        (k.entry ∷ []) (at_most_one to) []) }
+        (λ goes_on. Explores (λ identities. Acts ActKind.Write place component)
+        (k.old ∷ []) (kept_if goes_on k.new) []) }
 {
     if k.params.has_content(component) {
-        let to = went(memory, k, Happened::Wrote { component })?;
-        return Ok(Some(to));
+        happens(memory, k, Happened::Wrote { component })?;
+        return Ok(true);
     }
-    Ok(None)
+    Ok(false)
 }
 
 fn fetch<'a>(
     memory: Memory<'a>,
     place: u64,
     component: u32,
-    k: Kept<'a>,
-) -> Result<Option<Kept<'a>>, AllocError>
+    k: &mut Kept<'a>,
+) -> Result<bool, AllocError>
     requires room { component < 8 }
     ensures { IfOk result
-        (λ to. Explores (λ identities. Acts ActKind.Fetch place component)
-        (k.entry ∷ []) (at_most_one to) []) }
+        (λ goes_on. Explores (λ identities. Acts ActKind.Fetch place component)
+        (k.old ∷ []) (kept_if goes_on k.new) []) }
 {
     if k.params.has_uri(component) {
-        let to = went(memory, k, Happened::Wrote { component })?;
-        return Ok(Some(to));
+        happens(memory, k, Happened::Wrote { component })?;
+        return Ok(true);
     }
-    Ok(None)
+    Ok(false)
 }
 
 fn copy<'a>(
     memory: Memory<'a>,
     place: u64,
     component: u32,
-    k: Kept<'a>,
-) -> Result<Option<Kept<'a>>, AllocError>
+    k: &mut Kept<'a>,
+) -> Result<bool, AllocError>
     requires room { component < 8 }
     ensures { IfOk result
-        (λ to. Explores (λ identities. Acts ActKind.Copy place component)
-        (k.entry ∷ []) (at_most_one to) []) }
+        (λ goes_on. Explores (λ identities. Acts ActKind.Copy place component)
+        (k.old ∷ []) (kept_if goes_on k.new) []) }
 {
     match k.params.source(component) {
         Some(_) => {
-            let to = went(memory, k, Happened::Wrote { component })?;
-            Ok(Some(to))
+            happens(memory, k, Happened::Wrote { component })?;
+            Ok(true)
         }
-        None => Ok(None),
+        None => Ok(false),
     }
 }
 
@@ -78,20 +79,20 @@ fn swap<'a>(
     memory: Memory<'a>,
     place: u64,
     component: u32,
-    k: Kept<'a>,
-) -> Result<Option<Kept<'a>>, AllocError>
+    k: &mut Kept<'a>,
+) -> Result<bool, AllocError>
     requires room { component < 8 }
     ensures { IfOk result
-        (λ to. Explores (λ identities. Acts ActKind.Swap place component)
-        (k.entry ∷ []) (at_most_one to) []) }
+        (λ goes_on. Explores (λ identities. Acts ActKind.Swap place component)
+        (k.old ∷ []) (kept_if goes_on k.new) []) }
 {
     match k.params.source(component) {
         Some(source) => {
-            let one = went(memory, k, Happened::Wrote { component })?;
-            let both = went(memory, one, Happened::Wrote { component: source })?;
-            Ok(Some(both))
+            happens(memory, k, Happened::Wrote { component })?;
+            happens(memory, k, Happened::Wrote { component: source })?;
+            Ok(true)
         }
-        None => Ok(None),
+        None => Ok(false),
     }
 }
 
@@ -99,14 +100,14 @@ fn invoke<'a>(
     memory: Memory<'a>,
     place: u64,
     component: u32,
-    k: Kept<'a>,
-) -> Result<Option<Kept<'a>>, Halt<'a>>
+    k: &mut Kept<'a>,
+) -> Result<bool, Halt<'a>>
     requires room { component < 8 }
     ensures ok { IfOk result
-        (λ to. Explores (λ identities. Acts ActKind.Invoke place component)
-        (k.entry ∷ []) (at_most_one to) []) }
+        (λ goes_on. Explores (λ identities. Acts ActKind.Invoke place component)
+        (k.old ∷ []) (kept_if goes_on k.new) []) }
     ensures err { IfErr result
-        (λ h. Halts (λ identities. Acts ActKind.Invoke place component) (k.entry ∷ []) h) }
+        (λ h. Halts (λ identities. Acts ActKind.Invoke place component) (k.old ∷ []) h) }
 {
     let size = k.params.size(component);
     match k.params.digest(component) {
@@ -117,7 +118,8 @@ fn invoke<'a>(
                 size,
                 passed: false,
             };
-            Err(Halt::Uncovered(went(memory, k, bad)?))
+            happens(memory, k, bad)?;
+            Err(Halt::Uncovered(k.copy(memory.alloc)?))
         }
         Some(digest) => {
             let covered = k.history.has_matched(component, digest, size);
@@ -127,17 +129,41 @@ fn invoke<'a>(
                 size,
                 passed: covered,
             };
-            let to = went(memory, k, event)?;
+            happens(memory, k, event)?;
             if covered {
-                Ok(Some(to))
+                Ok(true)
             } else {
-                Err(Halt::Uncovered(to))
+                Err(Halt::Uncovered(k.copy(memory.alloc)?))
             }
         }
     }
 }
 
-/// A directive that acts on contents: the states after it. Where it fails, the procedure ends.
+/// A directive that acts on contents: whether the procedure goes on. Where it fails, the procedure ends.
+pub(crate) fn act_in<'a>(
+    memory: Memory<'a>,
+    place: u64,
+    kind: ActKind,
+    component: u32,
+    k: &mut Kept<'a>,
+) -> Result<bool, Halt<'a>>
+    requires room { component < 8 }
+    ensures ok { IfOk result
+        (λ goes_on. Explores (λ identities. Acts kind place component)
+        (k.old ∷ []) (kept_if goes_on k.new) []) }
+    ensures err { IfErr result
+        (λ h. Halts (λ identities. Acts kind place component) (k.old ∷ []) h) }
+{
+    match kind {
+        ActKind::Write => Ok(write(memory, place, component, k)?),
+        ActKind::Fetch => Ok(fetch(memory, place, component, k)?),
+        ActKind::Copy => Ok(copy(memory, place, component, k)?),
+        ActKind::Swap => Ok(swap(memory, place, component, k)?),
+        ActKind::Invoke => invoke(memory, place, component, k),
+    }
+}
+
+/// The same: the state after it, if there is one.
 pub(crate) fn act<'a>(
     memory: Memory<'a>,
     place: u64,
@@ -152,13 +178,12 @@ pub(crate) fn act<'a>(
     ensures err { IfErr result
         (λ h. Halts (λ identities. Acts kind place component) (k.entry ∷ []) h) }
 {
-    match kind {
-        ActKind::Write => Ok(write(memory, place, component, k)?),
-        ActKind::Fetch => Ok(fetch(memory, place, component, k)?),
-        ActKind::Copy => Ok(copy(memory, place, component, k)?),
-        ActKind::Swap => Ok(swap(memory, place, component, k)?),
-        ActKind::Invoke => invoke(memory, place, component, k),
+    let mut k = k;
+    let goes_on = act_in(memory, place, kind, component, &mut k)?;
+    if goes_on {
+        return Ok(Some(k));
     }
+    Ok(None)
 }
 
 // ---- override parameters
@@ -182,18 +207,79 @@ fn soft_after_all(soft_failure: bool, list: &ParamList) -> bool
     soft_failure
 }
 
-// The same parameters. Where they were made anew, they are shared with those that were made last.
-fn settled<'a>(
+/// Override parameters.
+pub(crate) fn override_in<'a>(
     memory: Memory<'a>,
-    params: InForce<'a>,
-    was_own: bool,
-) -> Result<InForce<'a>, AllocError>
-    ensures { IfOk result (λ settled. settled ≡ params.entry) }
+    list: &'a ParamList,
+    component: u32,
+    k: &mut Kept<'a>,
+) -> Result<(), AllocError>
+    requires room { component < 8 }
+    ensures { OnOk result
+        (Explores (λ identities. Overrides list.now component) (k.old ∷ []) (k.new ∷ []) []) }
 {
-    if was_own {
-        return Ok(params);
+    k.params.override_with(memory.alloc, component, list)?;
+    k.history
+        .add_sets(memory, Components::One(component), list)?;
+    k.soft_failure = soft_after_all(k.soft_failure, list);
+    Ok(())
+}
+
+// Overrides the parameters of some components, one after another.
+fn override_all<'a>(
+    alloc: Global,
+    list: &'a ParamList,
+    components: &[u32],
+    params: &mut InForce<'a>,
+) -> Result<(), AllocError>
+    requires small { AreSmall components.now }
+    ensures { OnOk result (params.new ≡ overridden_at params.old components.now list.now) }
+{
+    for component in components {
+        params.override_with(alloc, *component, list)?;
     }
-    params.shared(&memory.last.params)
+    Ok(())
+}
+
+fn soft_at(soft_failure: bool, list: &ParamList, components: &[u32]) -> bool
+    ensures { result ≡ soft_at soft_failure components.now list.now }
+{
+    let mut soft_failure = soft_failure;
+    for _ in components {
+        soft_failure = soft_after_all(soft_failure, list);
+    }
+    soft_failure
+}
+
+/// Override parameters at each selected component.
+pub(crate) fn override_each_in<'a>(
+    memory: Memory<'a>,
+    list: &'a ParamList,
+    k: &mut Kept<'a>,
+) -> Result<(), AllocError>
+    ensures { OnOk result
+        (Explores
+        (λ identities. Each (λ component. Overrides list.now component) k.old.state.selection)
+        (k.old ∷ []) (k.new ∷ []) []) }
+{
+    let components = k.selection.listed(memory.alloc)?;
+    override_all(memory.alloc, list, &components, &mut k.params)?;
+    k.soft_failure = soft_at(k.soft_failure, list, &components);
+    k.history.add_sets(memory, k.selection.components(), list)?;
+    Ok(())
+}
+
+// ---- where many states are kept at once
+
+// The same state. Where its parameters were made anew, they are shared with those that were made last.
+fn settled<'a>(memory: Memory<'a>, k: Kept<'a>, was_own: bool) -> Result<Kept<'a>, AllocError>
+    ensures { IfOk result (λ settled. settled ≡ k.entry) }
+{
+    let mut k = k;
+    if !was_own {
+        k.params = k.params.shared(&memory.last.params)?;
+    }
+    Ok(k)
 }
 
 /// Override parameters: the state after it.
@@ -207,25 +293,10 @@ pub(crate) fn overrides<'a>(
     ensures { IfOk result
         (λ to. Explores (λ identities. Overrides list.now component) (k.entry ∷ []) (to ∷ []) []) }
 {
-    let Kept {
-        facts,
-        history,
-        params,
-        selection,
-        soft_failure,
-    } = k;
-    let was_own = params.is_own();
-    let mut params = params;
-    params.override_with(memory.alloc, component, list)?;
-    let params = settled(memory, params, was_own)?;
-    let history = history.with_sets(memory, Components::One(component), list)?;
-    Ok(Kept {
-        facts,
-        history,
-        params,
-        selection,
-        soft_failure: soft_after_all(soft_failure, list),
-    })
+    let mut k = k;
+    let was_own = k.params.is_own();
+    override_in(memory, list, component, &mut k)?;
+    settled(memory, k, was_own)
 }
 
 /// Override parameters at each selected component: the state after it.
@@ -239,28 +310,8 @@ pub(crate) fn overrides_each<'a>(
         (λ identities. Each (λ component. Overrides list.now component) k.entry.state.selection)
         (k.entry ∷ []) (to ∷ []) []) }
 {
-    let Kept {
-        facts,
-        history,
-        params,
-        selection,
-        soft_failure,
-    } = k;
-    let components = selection.listed(memory.alloc)?;
-    let was_own = params.is_own();
-    let mut params = params;
-    let mut soft_failure = soft_failure;
-    for component in components.as_slice() {
-        params.override_with(memory.alloc, *component, list)?;
-        soft_failure = soft_after_all(soft_failure, list);
-    }
-    let params = settled(memory, params, was_own)?;
-    let history = history.with_sets(memory, selection.components(), list)?;
-    Ok(Kept {
-        facts,
-        history,
-        params,
-        selection,
-        soft_failure,
-    })
+    let mut k = k;
+    let was_own = k.params.is_own();
+    override_each_in(memory, list, &mut k)?;
+    settled(memory, k, was_own)
 }

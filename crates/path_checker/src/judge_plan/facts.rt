@@ -2,7 +2,7 @@
 
 ghost use Rattle.std.specs.Prelude.{◌≡◌, ◌<◌, length, slice_set, IsTrue, IfOk, OnOk};
 ghost use Rattle.path_checker.specs.Knowing.{nothing, nothing_known};
-ghost use Rattle.path_checker.specs.Forking.{Forks, Learnt, TellsOne, learnt_at, learnt, excluded};
+ghost use Rattle.path_checker.specs.Forking.{Forks, Learnt, TellsOne, learnt_at, learnt, excluded, some_if};
 
 use crate::judge_plan::fingerprint::mixed;
 use crate::judge_plan::known::Known;
@@ -353,26 +353,25 @@ impl Facts {
         }
     }
 
-    /// The facts where a component has something of its own, if it may.
+    /// Whether a component may have something of its own. These are then the facts where it has.
     pub(crate) fn learn(
-        self,
+        &mut self,
         memory: Memory<'_>,
         component: u32,
         own: &Own,
-    ) -> Result<Option<Facts>, AllocError>
-        ensures { IfOk result (Learnt self component own.now) }
+    ) -> Result<bool, AllocError>
+        ensures { IfOk result (λ may. Learnt self.old component own.now (some_if may self.new)) }
     {
         let index = component as usize;
-        let mut facts = self;
-        let held = facts.as_slice();
+        let held = self.as_slice();
         if index >= held.len() {
-            return Ok(None);
+            return Ok(false);
         }
         match held[index].tells(own) {
-            Some(has) => { if has { Ok(Some(facts)) } else { Ok(None) } }
+            Some(has) => Ok(has),
             None => {
-                facts.learn_at(memory, index, own)?;
-                Ok(Some(facts))
+                self.learn_at(memory, index, own)?;
+                Ok(true)
             }
         }
     }

@@ -1,6 +1,6 @@
 //! The history of a state.
 
-ghost use Rattle.std.specs.Prelude.{◌≡◌, ◌↔◌, [], ◌∷◌, ◌++◌, IsTrue, IfOk};
+ghost use Rattle.std.specs.Prelude.{◌≡◌, ◌↔◌, [], ◌∷◌, ◌++◌, IsTrue, IfOk, OnOk};
 ghost use Rattle.path_model.specs.Safe.{HasMatched};
 ghost use Rattle.path_model.specs.Following.{SameMatches};
 ghost use Rattle.path_model.specs.declared.event.Event.{Event as TheEvent};
@@ -40,18 +40,21 @@ impl<'a> Model for History<'a> {
 }
 
 // The matches that stand after one more event.
-fn standing_after<'a>(
+fn stand_after<'a>(
     alloc: Global,
-    standing: StandingMatches<'a>,
+    standing: &mut StandingMatches<'a>,
     told: &Told<'a>,
-) -> Result<StandingMatches<'a>, AllocError>
-    ensures { IfOk result (λ after. (event : TheEvent) → told_by told.now ≡ event ∷ []
-        → StandsAfter standing.entry event after) }
+) -> Result<(), AllocError>
+    ensures { OnOk result ((event : TheEvent) → told_by told.now ≡ event ∷ []
+        → StandsAfter standing.old event standing.new) }
 {
     match told {
-        Told::Matched { component, own } => standing.with(alloc, *component, *own),
-        Told::Wrote { component } => Ok(standing.without(*component)),
-        _ => Ok(standing),
+        Told::Matched { component, own } => standing.gain(alloc, *component, *own),
+        Told::Wrote { component } => {
+            standing.lose(*component);
+            Ok(())
+        }
+        _ => Ok(()),
     }
 }
 
@@ -76,35 +79,39 @@ impl<'a> History<'a> {
         Ok(History { all, standing })
     }
 
-    /// One event more.
-    pub(crate) fn with(
-        self,
-        memory: Memory<'a>,
-        event: Happened<'a>,
-    ) -> Result<History<'a>, AllocError>
-        ensures { IfOk result (λ history. history ≡ self.entry ++ event_of event.entry ∷ []) }
+    /// One event more. Where memory runs out, none is left.
+    pub(crate) fn add(&mut self, memory: Memory<'a>, event: Happened<'a>) -> Result<(), AllocError>
+        ensures { OnOk result (self.new ≡ self.old ++ event_of event.entry ∷ []) }
     {
-        let History { all, standing } = self;
         let told = Told::event(memory, event)?;
-        let standing = standing_after(memory.alloc, standing, told)?;
-        let all = all.with(memory.events, told)?;
-        Ok(History { all, standing })
+        let all = self.all.with(memory.events, told)?;
+        match stand_after(memory.alloc, &mut self.standing, told) {
+            Ok(()) => {
+                self.all = all;
+                Ok(())
+            }
+            Err(error) => {
+                self.all = Trace::new();
+                self.standing = StandingMatches::none(memory.alloc);
+                Err(error)
+            }
+        }
     }
 
     /// The events of an override at some components more. They end no match.
-    pub(crate) fn with_sets(
-        self,
+    pub(crate) fn add_sets(
+        &mut self,
         memory: Memory<'a>,
         components: Components<'a>,
         list: &'a ParamList,
-    ) -> Result<History<'a>, AllocError>
-        ensures { IfOk result
-            (λ history. history ≡ self.entry ++ sets_at (components_of components.entry) list.now) }
+    ) -> Result<(), AllocError>
+        ensures { OnOk result
+            (self.new ≡ self.old ++ sets_at (components_of components.entry) list.now) }
     {
-        let History { all, standing } = self;
         let told = Told::sets(memory, components, list)?;
-        let all = all.with(memory.events, told)?;
-        Ok(History { all, standing })
+        let all = self.all.with(memory.events, told)?;
+        self.all = all;
+        Ok(())
     }
 
     /// The events of a failed condition at a place more.
@@ -125,8 +132,10 @@ impl<'a> History<'a> {
             Ended::Missed { component } => Happened::Missed { component },
             Ended::Exhausted => return Ok(self),
         };
-        let missed = self.with(memory, event)?;
-        missed.with(memory, Happened::Failed { place })
+        let mut history = self;
+        history.add(memory, event)?;
+        history.add(memory, Happened::Failed { place })?;
+        Ok(history)
     }
 
     /// Whether a component stands as matched under a digest and a size.

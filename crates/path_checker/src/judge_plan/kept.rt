@@ -2,7 +2,7 @@
 
 ghost use Rattle.std.specs.Prelude.{◌≡◌, [], ◌∷◌, ◌++◌, IsTrue, IfOk, OnOk};
 ghost use Rattle.path_model.specs.Following.{SameMatches};
-ghost use Rattle.path_checker.specs.Exploring.{Kept as TheKept, Stopped as TheStopped, at_most_one, kept_of, state_of};
+ghost use Rattle.path_checker.specs.Exploring.{Kept as TheKept, Stopped as TheStopped, at_most_one, kept_if, kept_of, state_of};
 ghost use Rattle.path_checker.specs.Happening.{event_of, after_end};
 ghost use Rattle.path_checker.specs.Merging.{SameState, SameStop};
 ghost use Rattle.path_checker.specs.Steps.{with_events, knowing, stopped_after};
@@ -149,29 +149,15 @@ impl<'a> Kept<'a> {
     }
 }
 
-/// The state after one more event.
-pub(crate) fn went<'a>(
+/// One more event.
+pub(crate) fn happens<'a>(
     memory: Memory<'a>,
-    k: Kept<'a>,
+    k: &mut Kept<'a>,
     event: Happened<'a>,
-) -> Result<Kept<'a>, AllocError>
-    ensures { IfOk result (λ to. to ≡ with_events k.entry (event_of event.entry ∷ [])) }
+) -> Result<(), AllocError>
+    ensures { OnOk result (k.new ≡ with_events k.old (event_of event.entry ∷ [])) }
 {
-    let Kept {
-        facts,
-        history,
-        params,
-        selection,
-        soft_failure,
-    } = k;
-    let history = history.with(memory, event)?;
-    Ok(Kept {
-        facts,
-        history,
-        params,
-        selection,
-        soft_failure,
-    })
+    k.history.add(memory, event)
 }
 
 /// Keeps the state after one more event.
@@ -184,8 +170,9 @@ pub(crate) fn pass<'a>(
     ensures { OnOk result
         (next.new.items ≡ next.old.items ++ with_events k.entry (event_of event.entry ∷ []) ∷ []) }
 {
-    let to = went(memory, k, event)?;
-    next.push(to)?;
+    let mut k = k;
+    happens(memory, &mut k, event)?;
+    next.push(k)?;
     Ok(())
 }
 
@@ -214,6 +201,20 @@ pub(crate) fn add<'a>(more: Option<Kept<'a>>, next: &mut Vec<Kept<'a>>) -> Resul
     ensures { OnOk result (next.new.items ≡ next.old.items ++ at_most_one more.entry) }
 {
     if let Some(k) = more {
+        next.push(k)?;
+    }
+    Ok(())
+}
+
+/// Adds a state, if it goes on.
+pub(crate) fn add_if<'a>(
+    goes_on: bool,
+    k: Kept<'a>,
+    next: &mut Vec<Kept<'a>>,
+) -> Result<(), AllocError>
+    ensures { OnOk result (next.new.items ≡ next.old.items ++ kept_if goes_on k.entry) }
+{
+    if goes_on {
         next.push(k)?;
     }
     Ok(())

@@ -1,17 +1,17 @@
 //! The commands of a member or of the shared sequence. A failure there ends the procedure, so none is kept.
 
-ghost use Rattle.std.specs.Prelude.{◌≡◌, ◌++◌, IsTrue, OnOk, IfOk, IfErr};
+ghost use Rattle.std.specs.Prelude.{◌≡◌, ◌<◌, [], ◌∷◌, ◌++◌, length, get_or, IfSome, IsTrue, OnOk, IfOk, IfErr};
 ghost use Rattle.suit_commands.specs.View.{command_tree, sequence_tree};
 ghost use Rattle.path_model.specs.Runs.{Runs, Does};
 ghost use Rattle.path_checker.specs.Exploring.{Passes};
 ghost use Rattle.path_checker.specs.Keeping.{PassesTo};
-ghost use Rattle.path_checker.specs.Small.{IsSmallSequence, IsSmallCommand};
+ghost use Rattle.path_checker.specs.Small.{IsSmallSequence, IsSmallCommand, IsStraight};
 ghost use Rattle.path_checker.specs.Halting.{Halts};
 
 use crate::judge_plan::halt::Halt;
 use crate::judge_plan::kept::Kept;
 use crate::judge_plan::memory::Memory;
-use crate::judge_plan::straight::{is_straight, straight};
+use crate::judge_plan::straight::{is_straight, straight, straight_in};
 use crate::judge_plan::walk::command;
 use std::alloc::AllocError;
 use suit_commands::Step;
@@ -93,12 +93,72 @@ fn each_alone<'a>(
     let mut now = from;
     let mut next = Vec::new(memory.alloc);
     while let Some(k) = now.pop() {
-        let mut one = Vec::new(memory.alloc);
-        one.push(k)?;
-        let done = commands(memory, count, steps, wanted, one)?;
+        let done = alone(memory, count, steps, wanted, k)?;
         keep(wanted, done, &mut next)?;
     }
     Ok(next)
+}
+
+// Runs commands from one state: in place, as long as they hold no sequence.
+#[cycle(alone)]
+fn alone<'a>(
+    memory: Memory<'a>,
+    count: u32,
+    steps: &'a [Step],
+    wanted: bool,
+    from: Kept<'a>,
+) -> Result<Vec<Kept<'a>>, Halt<'a>>
+    requires small { IsSmallSequence count (sequence_tree steps.now) }
+    ensures ok { IfOk result
+        (λ v. PassesTo (λ identities. Runs (sequence_tree steps.now) identities count)
+        (from.entry ∷ []) wanted v.items) }
+    ensures err { IfErr result
+        (λ h. Halts (λ identities. Runs (sequence_tree steps.now) identities count)
+        (from.entry ∷ []) h) }
+{
+    let mut k = from;
+    let mut at = 0;
+    while let Some(step) = straight_at(steps, at) {
+        let goes_on = straight_in(memory, count, step, &mut k)?;
+        if goes_on {
+            at += 1;
+        } else {
+            return Ok(Vec::new(memory.alloc));
+        }
+    }
+    if at == steps.len() {
+        return Ok(kept_alone(memory, wanted, k)?);
+    }
+    let mut one = Vec::new(memory.alloc);
+    one.push(k)?;
+    commands(memory, count, &steps[at..], wanted, one)
+}
+
+// The command at an index, if it holds no sequence.
+fn straight_at(steps: &[Step], at: usize) -> Option<&Step>
+    ensures within { IfSome result (λ step. at < length steps.now) }
+    ensures is { IfSome result (λ step. step.now ≡ get_or steps.now at step.now) }
+    ensures straight { IfSome result (λ step. IsStraight (command_tree step.now.command)) }
+{
+    if at < steps.len() && is_straight(&steps[at].command) {
+        return Some(&steps[at]);
+    }
+    None
+}
+
+// A state, where it is wanted.
+fn kept_alone<'a>(
+    memory: Memory<'a>,
+    wanted: bool,
+    k: Kept<'a>,
+) -> Result<Vec<Kept<'a>>, AllocError>
+    ensures { IfOk result (λ v. IsTrue wanted → v.items ≡ k.entry ∷ []) }
+{
+    let mut kept = Vec::new(memory.alloc);
+    if wanted {
+        kept.push(k)?;
+    }
+    Ok(kept)
 }
 
 // Adds states, where they are wanted.

@@ -1,6 +1,6 @@
 //! The matches that stand.
 
-ghost use Rattle.std.specs.Prelude.{◌≡◌, ◌↔◌, ℕ, [], IsTrue, IfOk};
+ghost use Rattle.std.specs.Prelude.{◌≡◌, ◌↔◌, ℕ, [], IsTrue, IfOk, OnOk};
 ghost use Rattle.path_checker.specs.Exploring.{In};
 ghost use Rattle.path_checker.specs.Matches.{match_of, matches_from, SameMembers};
 ghost use Rattle.path_checker.specs.Standing.{held_of, Gains, Loses, SameHeld};
@@ -18,6 +18,16 @@ pub(crate) struct StandingMatches<'a> {
 }
 
 impl<'a> StandingMatches<'a> {
+    /// None stands, and none ever will. Takes no memory.
+    pub(crate) fn none(alloc: Global) -> StandingMatches<'a>
+        ensures { (component : ℕ) → held_of result component ≡ [] }
+    {
+        StandingMatches {
+            of: Vec::new(alloc),
+            added: 0,
+        }
+    }
+
     /// None stands.
     pub(crate) fn new(alloc: Global) -> Result<StandingMatches<'a>, AllocError>
         ensures { IfOk result (λ standing. (component : ℕ) → held_of standing component ≡ []) }
@@ -54,36 +64,31 @@ impl<'a> StandingMatches<'a> {
     }
 
     /// One match more. There is no memory for those of a ninth component.
-    pub(crate) fn with(
-        self,
+    pub(crate) fn gain(
+        &mut self,
         alloc: Global,
         component: u32,
         own: &'a Match<'a>,
-    ) -> Result<StandingMatches<'a>, AllocError>
-        ensures { IfOk result (Gains self.entry component (match_of own.now)) }
+    ) -> Result<(), AllocError>
+        ensures { OnOk result (Gains self.old component (match_of own.now) self.new) }
     {
-        let StandingMatches { of, added } = self;
-        let mut of = of;
         let index = component as usize;
-        if index >= of.len() {
+        if index >= self.of.len() {
             return Err(AllocError);
         }
-        add(&mut of[index], alloc, own)?;
-        let added = added.saturating_add(1);
-        Ok(StandingMatches { of, added })
+        add(&mut self.of[index], alloc, own)?;
+        self.added = self.added.saturating_add(1);
+        Ok(())
     }
 
-    /// Without the matches of a component.
-    pub(crate) fn without(self, component: u32) -> StandingMatches<'a>
-        ensures { Loses self.entry component result }
+    /// The matches of a component stand no more.
+    pub(crate) fn lose(&mut self, component: u32)
+        ensures { Loses self.old component self.new }
     {
-        let StandingMatches { of, added } = self;
-        let mut of = of;
         let index = component as usize;
-        if index < of.len() {
-            of[index] = None;
+        if index < self.of.len() {
+            self.of[index] = None;
         }
-        StandingMatches { of, added }
     }
 
     /// Whether the same matches stand.

@@ -4,15 +4,15 @@ ghost use Rattle.std.specs.Prelude.{◌<◌, [], ◌∷◌, IsTrue, IfOk, IfErr}
 ghost use Rattle.suit_commands.specs.View.{command_tree};
 ghost use Rattle.path_model.specs.Behaviour.{Each};
 ghost use Rattle.path_model.specs.Runs.{Does};
-ghost use Rattle.path_checker.specs.Exploring.{Passes, at_most_one};
+ghost use Rattle.path_checker.specs.Exploring.{Passes, kept_if};
 ghost use Rattle.path_checker.specs.Small.{IsStraight};
 ghost use Rattle.path_checker.specs.Steps.{At};
 ghost use Rattle.path_checker.specs.Halting.{Halts};
 
 use crate::judge_plan::conditions::pass_test;
-use crate::judge_plan::directives::{act, overrides, overrides_each};
+use crate::judge_plan::directives::{act_in, override_each_in, override_in};
 use crate::judge_plan::halt::Halt;
-use crate::judge_plan::kept::{Kept, add};
+use crate::judge_plan::kept::{Kept, add_if};
 use crate::judge_plan::memory::Memory;
 use crate::judge_plan::reuse::reuse;
 use suit_commands::{Command, Step};
@@ -29,52 +29,56 @@ pub(crate) fn is_straight(command: &Command) -> bool
     }
 }
 
-// Does a command at one component.
+// Does a command at one component: whether the procedure goes on. The state is then the one after it.
 fn at_one<'a>(
     memory: Memory<'a>,
     count: u32,
     step: &'a Step,
     component: u32,
-    k: Kept<'a>,
-) -> Result<Option<Kept<'a>>, Halt<'a>>
+    k: &mut Kept<'a>,
+) -> Result<bool, Halt<'a>>
     requires room { component < 8 }
     requires straight { IsStraight (command_tree step.now.command) }
     ensures ok { IfOk result
-        (λ to. Passes (At (command_tree step.now.command) count step.now.place component)
-        (k.entry ∷ []) (at_most_one to)) }
+        (λ goes_on. Passes (At (command_tree step.now.command) count step.now.place component)
+        (k.old ∷ []) (kept_if goes_on k.new)) }
     ensures err { IfErr result
         (λ h. Halts (At (command_tree step.now.command) count step.now.place component)
-        (k.entry ∷ []) h) }
+        (k.old ∷ []) h) }
 {
     match &step.command {
         Command::Test { kind, .. } => Ok(pass_test(memory, step.place, *kind, component, k)?),
-        Command::Act { kind, .. } => act(memory, step.place, *kind, component, k),
-        Command::Override(list) => Ok(Some(overrides(memory, list, component, k)?)),
-        _ => Ok(Some(k)),
+        Command::Act { kind, .. } => act_in(memory, step.place, *kind, component, k),
+        Command::Override(list) => {
+            override_in(memory, list, component, k)?;
+            Ok(true)
+        }
+        _ => Ok(true),
     }
 }
 
-// The same from a state, if there is one.
-fn at_most<'a>(
+// The same, where the procedure has gone on so far.
+fn at_next<'a>(
     memory: Memory<'a>,
     count: u32,
     step: &'a Step,
     component: u32,
-    from: Option<Kept<'a>>,
-) -> Result<Option<Kept<'a>>, Halt<'a>>
+    goes_on: bool,
+    k: &mut Kept<'a>,
+) -> Result<bool, Halt<'a>>
     requires room { component < 8 }
     requires straight { IsStraight (command_tree step.now.command) }
     ensures ok { IfOk result
-        (λ to. Passes (At (command_tree step.now.command) count step.now.place component)
-        (at_most_one from.entry) (at_most_one to)) }
+        (λ still. Passes (At (command_tree step.now.command) count step.now.place component)
+        (kept_if goes_on k.old) (kept_if still k.new)) }
     ensures err { IfErr result
         (λ h. Halts (At (command_tree step.now.command) count step.now.place component)
-        (at_most_one from.entry) h) }
+        (kept_if goes_on k.old) h) }
 {
-    match from {
-        Some(k) => at_one(memory, count, step, component, k),
-        None => Ok(None),
+    if goes_on {
+        return at_one(memory, count, step, component, k);
     }
+    Ok(false)
 }
 
 // Does a command at each selected component.
@@ -82,34 +86,55 @@ fn at_each<'a>(
     memory: Memory<'a>,
     count: u32,
     step: &'a Step,
-    k: Kept<'a>,
-) -> Result<Option<Kept<'a>>, Halt<'a>>
+    k: &mut Kept<'a>,
+) -> Result<bool, Halt<'a>>
     requires straight { IsStraight (command_tree step.now.command) }
     ensures ok { IfOk result
-        (λ to. Passes
+        (λ goes_on. Passes
         (λ identities. Each
         (λ c. At (command_tree step.now.command) count step.now.place c identities)
-        k.entry.state.selection)
-        (k.entry ∷ []) (at_most_one to)) }
+        k.old.state.selection)
+        (k.old ∷ []) (kept_if goes_on k.new)) }
     ensures err { IfErr result
         (λ h. Halts
         (λ identities. Each
         (λ c. At (command_tree step.now.command) count step.now.place c identities)
-        k.entry.state.selection)
-        (k.entry ∷ []) h) }
+        k.old.state.selection)
+        (k.old ∷ []) h) }
 {
     if let Some(component) = k.selection.sole() {
         return at_one(memory, count, step, component, k);
     }
     if let Command::Override(list) = &step.command {
-        return Ok(Some(overrides_each(memory, list, k)?));
+        override_each_in(memory, list, k)?;
+        return Ok(true);
     }
     let selection = k.selection.listed(memory.alloc)?;
-    let mut now = Some(k);
+    let mut goes_on = true;
     for component in selection.as_slice() {
-        now = at_most(memory, count, step, *component, now)?;
+        goes_on = at_next(memory, count, step, *component, goes_on, k)?;
     }
-    Ok(now)
+    Ok(goes_on)
+}
+
+/// Does a command in a state: whether the procedure goes on. The state is then the one after it.
+pub(crate) fn straight_in<'a>(
+    memory: Memory<'a>,
+    count: u32,
+    step: &'a Step,
+    k: &mut Kept<'a>,
+) -> Result<bool, Halt<'a>>
+    requires straight { IsStraight (command_tree step.now.command) }
+    ensures ok { IfOk result
+        (λ goes_on. Passes
+        (λ identities. Does (command_tree step.now.command) identities count step.now.place)
+        (k.old ∷ []) (kept_if goes_on k.new)) }
+    ensures err { IfErr result
+        (λ h. Halts
+        (λ identities. Does (command_tree step.now.command) identities count step.now.place)
+        (k.old ∷ []) h) }
+{
+    at_each(memory, count, step, k)
 }
 
 /// Does a command in each of the states.
@@ -131,9 +156,11 @@ pub(crate) fn straight<'a>(
 {
     let mut now = from;
     let mut next = Vec::new(memory.alloc);
-    while let Some(k) = now.pop() {
+    while let Some(one) = now.pop() {
         reuse(&mut now, &mut next);
-        add(at_each(memory, count, step, k)?, &mut next)?;
+        let mut k = one;
+        let goes_on = straight_in(memory, count, step, &mut k)?;
+        add_if(goes_on, k, &mut next)?;
     }
     Ok(next)
 }

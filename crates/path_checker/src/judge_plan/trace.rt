@@ -6,7 +6,7 @@ ghost use Rattle.path_checker.specs.Happening.{event_of, invoke_event, sets_at, 
 ghost use Rattle.path_checker.specs.Selecting.{components_of};
 ghost use Rattle.path_checker.specs.Standing.{all_in_order};
 
-use crate::judge_plan::fingerprint::{mixed, of_param};
+use crate::judge_plan::fingerprint::{mixed, of_beginning};
 use crate::judge_plan::happened::{Happened, copied};
 use crate::judge_plan::matches::Match;
 use crate::judge_plan::memory::Memory;
@@ -95,7 +95,7 @@ impl<'a> Model for Trace<'a> {
 fn of_sets(components: &Components<'_>, list: &ParamList) -> u64 {
     let mut print = mixed(24, number_of(components));
     for param in list.as_slice() {
-        print = mixed(print, of_param(Some(param)));
+        print = mixed(print, of_beginning(param));
     }
     print
 }

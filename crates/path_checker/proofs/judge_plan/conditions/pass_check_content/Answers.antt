@@ -6,10 +6,10 @@ use Rattle.path_checker.proofs.judge_plan.conditions.pass_check_content.Goals as
 
 pub returns-then-has_content : goal.returns-then-has_content
 returns-then-has_content c =
-    Passes-added (tests_course tests.CheckContent c.args.place c.args.component) (c.args.k ∷ []) (c.in_ok-to.to ∷ []) (missed_by tests.CheckContent c.args.component c.args.place c.args.k ∷ [])
-    (Adds-content c.args.place c.args.component c.args.k c.args.k c.k.inside.params [] (c.in_ok-to.to ∷ []) [] (missed_by tests.CheckContent c.args.component c.args.place c.args.k ∷ []) (ap (λ k. k.state.parameters) c.k.view_is) (sym c.has_content.ensures ∙ c.if-has_content.true) refl (ap (λ x. x ∷ []) c.in_ok-to.ensures) refl)
+    Passes-added (tests_course tests.CheckContent c.args.place c.args.component) (c.args.k.now ∷ []) (c.happens.new.k ∷ []) (missed_by tests.CheckContent c.args.component c.args.place c.args.k.now ∷ [])
+    (Adds-content c.args.place c.args.component c.args.k.now c.args.k.now c.k.inside.params [] (c.happens.new.k ∷ []) [] (missed_by tests.CheckContent c.args.component c.args.place c.args.k.now ∷ []) (ap (λ k. k.state.parameters) c.k.view_is) (sym c.has_content.ensures ∙ c.if-has_content.true) refl (ap (λ x. x ∷ []) c.in_ok-happens.ensures) refl)
 
 pub returns : goal.returns
 returns c =
-    Passes-added (tests_course tests.CheckContent c.args.place c.args.component) (c.args.k ∷ []) [] (missed_by tests.CheckContent c.args.component c.args.place c.args.k ∷ [])
-    (Adds-no_content c.args.place c.args.component c.args.k c.k.inside.params [] [] (missed_by tests.CheckContent c.args.component c.args.place c.args.k ∷ []) (ap (λ k. k.state.parameters) c.k.view_is) (sym c.has_content.ensures ∙ c.if-has_content.false) refl)
+    Passes-added (tests_course tests.CheckContent c.args.place c.args.component) (c.args.k.now ∷ []) [] (missed_by tests.CheckContent c.args.component c.args.place c.args.k.now ∷ [])
+    (Adds-no_content c.args.place c.args.component c.args.k.now c.k.inside.params [] [] (missed_by tests.CheckContent c.args.component c.args.place c.args.k.now ∷ []) (ap (λ k. k.state.parameters) c.k.view_is) (sym c.has_content.ensures ∙ c.if-has_content.false) refl)

@@ -6,14 +6,14 @@ use Rattle.path_checker.proofs.ConditionLeaves.{tests_course, Adds-missed, Adds-
 use Rattle.path_checker.proofs.Passing.{Passes-added}
 use Rattle.path_checker.proofs.judge_plan.conditions.pass_image_match.Goals as goal
 
-pub returns-in-Some : goal.returns-in-Some
-returns-in-Some c =
-    let missed = stopped_by c.args.k (Missed c.args.component ∷ Failed c.args.place ∷ []) c.args.place in
-    Passes-added (tests_course tests.ImageMatch c.args.place c.args.component) (c.args.k ∷ []) (c.in_ok-to-in-Some.to ∷ []) (missed ∷ [])
-    (Adds-matched c.args.place c.args.component c.args.k c.args.k c.k.inside.params _ _ [] (c.in_ok-to-in-Some.to ∷ []) [] (missed ∷ []) (ap (λ k. k.state.parameters) c.k.view_is) c.in-Some.ensures c.size-size.ensures refl (ap (λ x. x ∷ []) c.in_ok-to-in-Some.ensures) refl)
+pub returns-in_ok-happens-in-Some : goal.returns-in_ok-happens-in-Some
+returns-in_ok-happens-in-Some c =
+    let missed = stopped_by c.args.k.now (Missed c.args.component ∷ Failed c.args.place ∷ []) c.args.place in
+    Passes-added (tests_course tests.ImageMatch c.args.place c.args.component) (c.args.k.now ∷ []) (c.happens.new.k ∷ []) (missed ∷ [])
+    (Adds-matched c.args.place c.args.component c.args.k.now c.args.k.now c.k.inside.params _ _ [] (c.happens.new.k ∷ []) [] (missed ∷ []) (ap (λ k. k.state.parameters) c.k.view_is) c.in-Some.ensures c.size-size.ensures refl (ap (λ x. x ∷ []) c.in_ok-happens-in-Some.ensures) refl)
 
-pub returns : goal.returns
-returns c =
-    let missed = stopped_by c.args.k (Missed c.args.component ∷ Failed c.args.place ∷ []) c.args.place in
-    Passes-added (tests_course tests.ImageMatch c.args.place c.args.component) (c.args.k ∷ []) [] (missed ∷ [])
-    (Adds-missed c.args.place c.args.component c.args.k c.k.inside.params [] [] (missed ∷ []) (ap (λ k. k.state.parameters) c.k.view_is) c.in-None.ensures refl)
+pub returns-in-None : goal.returns-in-None
+returns-in-None c =
+    let missed = stopped_by c.args.k.now (Missed c.args.component ∷ Failed c.args.place ∷ []) c.args.place in
+    Passes-added (tests_course tests.ImageMatch c.args.place c.args.component) (c.args.k.now ∷ []) [] (missed ∷ [])
+    (Adds-missed c.args.place c.args.component c.args.k.now c.k.inside.params [] [] (missed ∷ []) (ap (λ k. k.state.parameters) c.k.view_is) c.in-None.ensures refl)

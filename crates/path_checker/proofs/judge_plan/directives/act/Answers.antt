@@ -1,25 +1,14 @@
-use Rattle.std.proofs.Common.{subst, sym, [], ◌∷◌}
-use Rattle.std.specs.Prelude.{IfOk, IfErr}
-use Rattle.suit_commands.specs.declared.kinds.ActKind.{ActKind}
+use Rattle.std.proofs.Common.{[], ◌∷◌, subst}
+use Rattle.std.proofs.lemmas.Result.{err_from_is_err_and}
 use Rattle.path_model.specs.Directives.{Acts}
-use Rattle.path_checker.specs.Exploring.{Explores, at_most_one}
-use Rattle.path_checker.specs.Halting.{Halts}
+use Rattle.path_checker.specs.Exploring.{Explores, kept_if}
 use Rattle.path_checker.proofs.judge_plan.directives.act.Goals as goal
 
-pub returns-in_ok-write-in-Write-clause-ok : goal.returns-in_ok-write-in-Write-clause-ok
-returns-in_ok-write-in-Write-clause-ok c = subst (λ (m : ActKind). Explores (λ ids. Acts m c.args.place c.args.component) (c.args.k ∷ []) (at_most_one c.in_ok-write-in-Write.field-0) []) (sym c.in-Write.is) c.in_ok-write-in-Write.ensures
+pub returns-then-goes_on-clause-ok : goal.returns-then-goes_on-clause-ok
+returns-then-goes_on-clause-ok c = subst (λ b. Explores (λ ids. Acts c.args.kind c.args.place c.args.component) (c.args.k ∷ []) (kept_if b c.act_in.new.k) []) c.if-goes_on.true c.in_ok-goes_on.ensures.ok
 
-pub returns-in_ok-fetch-in-Fetch-clause-ok : goal.returns-in_ok-fetch-in-Fetch-clause-ok
-returns-in_ok-fetch-in-Fetch-clause-ok c = subst (λ (m : ActKind). Explores (λ ids. Acts m c.args.place c.args.component) (c.args.k ∷ []) (at_most_one c.in_ok-fetch-in-Fetch.field-0) []) (sym c.in-Fetch.is) c.in_ok-fetch-in-Fetch.ensures
+pub returns-clause-ok : goal.returns-clause-ok
+returns-clause-ok c = subst (λ b. Explores (λ ids. Acts c.args.kind c.args.place c.args.component) (c.args.k ∷ []) (kept_if b c.act_in.new.k) []) c.if-goes_on.false c.in_ok-goes_on.ensures.ok
 
-pub returns-in_ok-copy-in-Copy-clause-ok : goal.returns-in_ok-copy-in-Copy-clause-ok
-returns-in_ok-copy-in-Copy-clause-ok c = subst (λ (m : ActKind). Explores (λ ids. Acts m c.args.place c.args.component) (c.args.k ∷ []) (at_most_one c.in_ok-copy-in-Copy.field-0) []) (sym c.in-Copy.is) c.in_ok-copy-in-Copy.ensures
-
-pub returns-in_ok-swap-in-Swap-clause-ok : goal.returns-in_ok-swap-in-Swap-clause-ok
-returns-in_ok-swap-in-Swap-clause-ok c = subst (λ (m : ActKind). Explores (λ ids. Acts m c.args.place c.args.component) (c.args.k ∷ []) (at_most_one c.in_ok-swap-in-Swap.field-0) []) (sym c.in-Swap.is) c.in_ok-swap-in-Swap.ensures
-
-pub returns-in-Invoke-clause-ok : goal.returns-in-Invoke-clause-ok
-returns-in-Invoke-clause-ok c = subst (λ (m : ActKind). IfOk c.invoke.result (λ to. Explores (λ ids. Acts m c.args.place c.args.component) (c.args.k ∷ []) (at_most_one to) [])) (sym c.in-Invoke.is) c.invoke.ensures.ok
-
-pub returns-in-Invoke-clause-err : goal.returns-in-Invoke-clause-err
-returns-in-Invoke-clause-err c = subst (λ (m : ActKind). IfErr c.invoke.result (λ h. Halts (λ ids. Acts m c.args.place c.args.component) (c.args.k ∷ []) h)) (sym c.in-Invoke.is) c.invoke.ensures.err
+pub returns-in_err-goes_on-clause-err : goal.returns-in_err-goes_on-clause-err
+returns-in_err-goes_on-clause-err c = let p = err_from_is_err_and c.from_residual.result c.from_residual.ensures.1 in rw (p.1, p.2) c.in_err-goes_on.ensures.err

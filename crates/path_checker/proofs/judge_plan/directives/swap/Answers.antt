@@ -4,12 +4,12 @@ use Rattle.path_checker.proofs.DirectiveLeaves.{acts_course, Adds-swap, Adds-no_
 use Rattle.path_checker.proofs.Passing.{Explores-added}
 use Rattle.path_checker.proofs.judge_plan.directives.swap.Goals as goal
 
-pub returns-in-Some : goal.returns-in-Some
-returns-in-Some c =
-    Explores-added (acts_course acts.Swap c.args.place c.args.component) (c.args.k ∷ []) (c.in_ok-both-in-Some.both ∷ [])
-    (Adds-swap c.args.place c.args.component _ c.args.k _ c.k.inside.params [] (c.in_ok-both-in-Some.both ∷ []) (ap (λ k. k.state.parameters) c.k.view_is) c.in-Some.ensures c.in_ok-one-in-Some.ensures (ap (λ x. x ∷ []) c.in_ok-both-in-Some.ensures))
+pub returns-in_ok-happens-in-Some-2 : goal.returns-in_ok-happens-in-Some-2
+returns-in_ok-happens-in-Some-2 c =
+    Explores-added (acts_course acts.Swap c.args.place c.args.component) (c.args.k.now ∷ []) (c.happens-in-Some.new.k ∷ [])
+    (Adds-swap c.args.place c.args.component _ c.args.k.now _ c.k.inside.params [] (c.happens-in-Some.new.k ∷ []) (ap (λ k. k.state.parameters) c.k.view_is) c.in-Some.ensures c.in_ok-happens-in-Some.ensures (ap (λ x. x ∷ []) c.in_ok-happens-in-Some-2.ensures))
 
-pub returns : goal.returns
-returns c =
-    Explores-added (acts_course acts.Swap c.args.place c.args.component) (c.args.k ∷ []) []
-    (Adds-no_swap c.args.place c.args.component c.args.k c.k.inside.params [] (ap (λ k. k.state.parameters) c.k.view_is) c.in-None.ensures)
+pub returns-in-None : goal.returns-in-None
+returns-in-None c =
+    Explores-added (acts_course acts.Swap c.args.place c.args.component) (c.args.k.now ∷ []) []
+    (Adds-no_swap c.args.place c.args.component c.args.k.now c.k.inside.params [] (ap (λ k. k.state.parameters) c.k.view_is) c.in-None.ensures)

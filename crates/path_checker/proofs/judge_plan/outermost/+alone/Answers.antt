@@ -5,12 +5,12 @@ use Rattle.std.specs.Prelude.{IfOk, IfErr}
 use Rattle.std.specs.Vec.{vec_len}
 use Rattle.suit_commands.specs.declared.command.Step.{Step}
 use Rattle.suit_commands.specs.View.{sequence_tree, command_tree}
-use Rattle.path_checker.specs.Exploring.{Kept, Passes}
+use Rattle.path_checker.specs.Exploring.{Kept, Passes, kept_if}
 use Rattle.path_checker.specs.Halting.{Halts}
 use Rattle.path_checker.specs.Keeping.{PassesTo}
 use Rattle.path_checker.specs.Small.{IsSmallSequence, IsSmallCommand}
 use Rattle.path_checker.proofs.DirectiveLeaves.{never_true}
-use Rattle.path_checker.proofs.Passing.{Passed-start, Passed-step, Passed-halt, Passed-end}
+use Rattle.path_checker.proofs.Passing.{Passed-start, Passed-step, Passed-halt, Passed-end, Passes-none}
 use Rattle.path_checker.proofs.Popping.{none_left}
 use Rattle.path_checker.proofs.Smallness.{small_step}
 use Rattle.path_checker.proofs.Starting.{Passes-end, Passes-rest, Halts-rest, Walks-passes}
@@ -77,21 +77,87 @@ each_alone-returns-clause-ok t c =
     let none : c.loop-k.now.items ≡ [] = none_left c.loop-k.now.items (λ lt. let l : 0 < vec_len c.loop-k.now = search rules in never_true (c.in_default.ensures.variant.1 l)) in
     (c.loop-k.invariant.0, Passed-end (runs_course (sequence_tree c.args.steps.now) c.args.count) c.args.from.items c.loop-k.now.items c.loop-k.invariant.0 c.loop-k.invariant.1 none, c.loop-k.invariant.2)
 
-pub each_alone-commands-requires : goal.each_alone-commands-requires
-each_alone-commands-requires t c = (omega (arith, c.decreases), c.requires.small)
+pub each_alone-alone-requires : goal.each_alone-alone-requires
+each_alone-alone-requires t c = (omega (arith, c.decreases), c.requires.small)
 
 pub each_alone-returns-in_err-done-clause-err : goal.each_alone-returns-in_err-done-clause-err
 each_alone-returns-in_err-done-clause-err t c =
     let p = err_from_is_err_and c.from_residual-in_err-done.result c.from_residual-in_err-done.ensures.1 in
-    let alone : c.push.new.self.items ≡ c.in-Some.k ∷ [] = c.in_ok-push.ensures.items ∙ ap (λ (x : List Kept). x ++ c.in-Some.k ∷ []) c.new-one.ensures.items in
-    rw (p.1, p.2) (Passed-halt (runs_course (sequence_tree c.args.steps.now) c.args.count) c.args.from.items c.loop-k.now.items c.pop.new.self.items c.loop-k.invariant.0 c.in-Some.k c.loop-k.invariant.1 c.in-Some.ensures.items c.in_err-done.field-0.0 (subst (λ (ks : List Kept). Halts (runs_course (sequence_tree c.args.steps.now) c.args.count) ks c.in_err-done.field-0.0) alone c.in_err-done.ensures.err))
+    rw (p.1, p.2) (Passed-halt (runs_course (sequence_tree c.args.steps.now) c.args.count) c.args.from.items c.loop-k.now.items c.pop.new.self.items c.loop-k.invariant.0 c.in-Some.k c.loop-k.invariant.1 c.in-Some.ensures.items c.in_err-done.field-0.0 c.in_err-done.ensures.err)
 
 pub each_alone-loop-k-preserved : goal.each_alone-loop-k-preserved
 each_alone-loop-k-preserved t c =
     let before = c.loop-k.invariant in
-    let more = c.in_ok-done.ensures.ok in
-    let alone : c.push.new.self.items ≡ c.in-Some.k ∷ [] = c.in_ok-push.ensures.items ∙ ap (λ (x : List Kept). x ++ c.in-Some.k ∷ []) c.new-one.ensures.items in (
+    let more = c.in_ok-done.ensures.ok in (
       before.0 ++ more.0,
-      Passed-step (runs_course (sequence_tree c.args.steps.now) c.args.count) c.args.from.items c.loop-k.now.items c.pop.new.self.items c.pop.new.self.items before.0 before.0 more.0 (before.0 ++ more.0) c.in-Some.k before.1 c.in-Some.ensures.items refl refl (subst (λ (ks : List Kept). Passes (runs_course (sequence_tree c.args.steps.now) c.args.count) ks more.0) alone more.1) refl,
+      Passed-step (runs_course (sequence_tree c.args.steps.now) c.args.count) c.args.from.items c.loop-k.now.items c.pop.new.self.items c.pop.new.self.items before.0 before.0 more.0 (before.0 ++ more.0) c.in-Some.k before.1 c.in-Some.ensures.items refl refl more.1 refl,
       λ w. c.in_ok-keep.ensures w ∙ ap (λ (x : List Kept). x ++ c.in_ok-done.done.items) (before.2 w) ∙ ap (λ (x : List Kept). before.0 ++ x) (more.2 w),
     )
+
+pub alone-loop-step-init : goal.alone-loop-step-init
+alone-loop-step-init t c = record {
+  within = search rules;
+  small = c.requires.small;
+  walks = ([], Walks-start (runs_course (sequence_tree c.args.steps.now) c.args.count) (c.args.from ∷ []) []);
+}
+
+pub alone-straight_in-requires : goal.alone-straight_in-requires
+alone-straight_in-requires t c = record { straight = c.in-Some.ensures.straight }
+
+-- the walk after one more command
+pub alone-loop-step-preserved : goal.alone-loop-step-preserved
+alone-loop-step-preserved t c =
+    let whole = runs_course (sequence_tree c.args.steps.now) c.args.count in
+    let passes = subst (λ b. Passes (does_course (command_tree c.in-Some.step.now.command) c.args.count c.in-Some.step.now.place) (c.loop-step.k ∷ []) (kept_if b c.straight_in.new.k)) c.if-goes_on.true c.in_ok-goes_on.ensures.ok in
+    record {
+      within = omega (arith, c.in-Some.ensures.within);
+      small = (small_step c.args.count c.args.steps.now c.loop-step.at c.in-Some.step.now c.in-Some.ensures.within c.loop-step.invariant.small).1;
+      walks = (c.loop-step.invariant.walks.0 ++ passes.0, Walks-passes c.args.steps.now c.loop-step.at c.args.count c.in-Some.step.now c.in-Some.ensures.within c.in-Some.ensures.is whole (c.args.from ∷ []) (c.loop-step.k ∷ []) (c.straight_in.new.k ∷ []) c.loop-step.invariant.walks.0 c.loop-step.invariant.walks.1 passes);
+    }
+
+pub alone-returns-in_err-goes_on-clause-err : goal.alone-returns-in_err-goes_on-clause-err
+alone-returns-in_err-goes_on-clause-err t c =
+    let p = err_from_is_err_and c.from_residual.result c.from_residual.ensures.1 in
+    rw (p.1, p.2) (Walks-stops c.args.steps.now c.loop-step.at c.args.count c.in-Some.step.now c.in-Some.ensures.within (runs_course (sequence_tree c.args.steps.now) c.args.count) (c.args.from ∷ []) (c.loop-step.k ∷ []) [] c.loop-step.invariant.walks.0 c.loop-step.invariant.walks.1 c.in_err-goes_on.field-0.0 (subst (λ (s : Step). Halts (does_course (command_tree s.command) c.args.count s.place) (c.loop-step.k ∷ []) c.in_err-goes_on.field-0.0) c.in-Some.ensures.is c.in_err-goes_on.ensures.err))
+
+pub alone-returns-else-goes_on-clause-ok : goal.alone-returns-else-goes_on-clause-ok
+alone-returns-else-goes_on-clause-ok t c =
+    let whole = runs_course (sequence_tree c.args.steps.now) c.args.count in
+    let rest = runs_course (sequence_tree (drop (c.loop-step.at + 1) c.args.steps.now)) c.args.count in
+    let passes = subst (λ b. Passes (does_course (command_tree c.in-Some.step.now.command) c.args.count c.in-Some.step.now.place) (c.loop-step.k ∷ []) (kept_if b c.straight_in.new.k)) c.if-goes_on.false c.in_ok-goes_on.ensures.ok in
+    let walks = Walks-passes c.args.steps.now c.loop-step.at c.args.count c.in-Some.step.now c.in-Some.ensures.within c.in-Some.ensures.is whole (c.args.from ∷ []) (c.loop-step.k ∷ []) [] c.loop-step.invariant.walks.0 c.loop-step.invariant.walks.1 passes in
+    ([], Passes-rest whole rest (c.args.from ∷ []) [] [] (c.loop-step.invariant.walks.0 ++ passes.0) walks (Passes-none rest), λ w. search rules)
+
+pub alone-returns-then-at-steps-clause-ok : goal.alone-returns-then-at-steps-clause-ok
+alone-returns-then-at-steps-clause-ok t c =
+    let whole = runs_course (sequence_tree c.args.steps.now) c.args.count in
+    let none : drop c.loop-step.at c.args.steps.now ≡ [] = drop_all c.loop-step.at c.args.steps.now (omega (arith, c.if-at-steps.true)) in (
+      c.loop-step.k ∷ [],
+      Passes-end whole (c.args.from ∷ []) (c.loop-step.k ∷ []) c.loop-step.invariant.walks.0 (subst (λ xs. Walks whole (c.args.from ∷ []) [] (runs_course (sequence_tree xs) c.args.count) (c.loop-step.k ∷ []) c.loop-step.invariant.walks.0) none c.loop-step.invariant.walks.1),
+      λ w. c.in_ok-kept_alone.ensures w,
+    )
+
+pub alone-commands-requires : goal.alone-commands-requires
+alone-commands-requires t c =
+    let same = same_rest c.args.steps.now c.loop-step.at in (
+      omega (arith, c.decreases, length-drop c.loop-step.at c.args.steps.now, ap (λ (s : List Step). length s) same),
+      subst (λ (s : List Step). IsSmallSequence c.args.count (sequence_tree s)) (sym same) c.loop-step.invariant.small,
+    )
+
+pub alone-returns-clause-ok : goal.alone-returns-clause-ok
+alone-returns-clause-ok t c =
+    let whole = runs_course (sequence_tree c.args.steps.now) c.args.count in
+    let rest = runs_course (sequence_tree (drop c.loop-step.at c.args.steps.now)) c.args.count in
+    let one : c.push.new.self.items ≡ c.loop-step.k ∷ [] = c.in_ok-push.ensures.items ∙ ap (λ (x : List Kept). x ++ c.loop-step.k ∷ []) c.new-one.ensures.items in
+    IfOk-weaker c.commands.result (λ v. PassesTo rest (c.loop-step.k ∷ []) c.args.wanted v.items) (λ v. PassesTo whole (c.args.from ∷ []) c.args.wanted v.items)
+    (λ v a. (a.0, Passes-rest whole rest (c.args.from ∷ []) (c.loop-step.k ∷ []) a.0 c.loop-step.invariant.walks.0 c.loop-step.invariant.walks.1 a.1, a.2))
+    (subst (λ (ks : List Kept). IfOk c.commands.result (λ v. PassesTo rest ks c.args.wanted v.items)) one (subst (λ (s : List Step). IfOk c.commands.result (λ v. PassesTo (runs_course (sequence_tree s) c.args.count) c.push.new.self.items c.args.wanted v.items)) (same_rest c.args.steps.now c.loop-step.at) c.commands.ensures.ok))
+
+pub alone-returns-clause-err : goal.alone-returns-clause-err
+alone-returns-clause-err t c =
+    let whole = runs_course (sequence_tree c.args.steps.now) c.args.count in
+    let rest = runs_course (sequence_tree (drop c.loop-step.at c.args.steps.now)) c.args.count in
+    let one : c.push.new.self.items ≡ c.loop-step.k ∷ [] = c.in_ok-push.ensures.items ∙ ap (λ (x : List Kept). x ++ c.loop-step.k ∷ []) c.new-one.ensures.items in
+    IfErr-weaker c.commands.result (λ h. Halts rest (c.loop-step.k ∷ []) h) (λ h. Halts whole (c.args.from ∷ []) h)
+    (λ h u. Halts-rest whole rest (c.args.from ∷ []) (c.loop-step.k ∷ []) c.loop-step.invariant.walks.0 c.loop-step.invariant.walks.1 h u)
+    (subst (λ (ks : List Kept). IfErr c.commands.result (λ h. Halts rest ks h)) one (subst (λ (s : List Step). IfErr c.commands.result (λ h. Halts (runs_course (sequence_tree s) c.args.count) c.push.new.self.items h)) (same_rest c.args.steps.now c.loop-step.at) c.commands.ensures.err))

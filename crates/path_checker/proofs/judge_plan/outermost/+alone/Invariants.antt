@@ -1,5 +1,5 @@
 use Rattle.std.specs.Prelude.{IsTrue}
-use Rattle.std.proofs.Common.{◌≡◌, ◌-◌, ◌*◌, ◌+◌, [], List, drop, length}
+use Rattle.std.proofs.Common.{◌≡◌, ◌-◌, ◌*◌, ◌+◌, ◌≤◌, [], ◌∷◌, List, drop, length}
 use Rattle.suit_commands.specs.View.{sequence_tree}
 use Rattle.path_checker.specs.Exploring.{Kept, Stopped}
 use Rattle.path_checker.specs.Small.{IsSmallSequence}
@@ -8,10 +8,13 @@ use Rattle.path_checker.proofs.Passing.{Passed}
 use Rattle.path_checker.proofs.judge_plan.outermost.+alone.Given as goal
 
 abbrev pub decreases-commands : goal.decreases-commands
-decreases-commands l = 2 * length l.steps.now
+decreases-commands l = 3 * length l.steps.now
 
 abbrev pub decreases-each_alone : goal.decreases-each_alone
-decreases-each_alone l = 2 * length l.steps.now + 1
+decreases-each_alone l = 3 * length l.steps.now + 2
+
+abbrev pub decreases-alone : goal.decreases-alone
+decreases-alone l = 3 * length l.steps.now + 1
 
 abbrev pub invariant-commands-loop-at : goal.invariant-commands-loop-at
 invariant-commands-loop-at l = record {
@@ -27,3 +30,13 @@ invariant-each_alone-loop-k l = (done : List Kept) × Passed (runs_course (seque
 
 abbrev pub decreases-each_alone-loop-k : goal.decreases-each_alone-loop-k
 decreases-each_alone-loop-k l = length l.now.items
+
+abbrev pub invariant-alone-loop-step : goal.invariant-alone-loop-step
+invariant-alone-loop-step l = record {
+  within : l.at ≤ length l.steps;
+  small : IsSmallSequence l.count (sequence_tree (drop l.at l.steps));
+  walks : (ended : List Stopped) × Walks (runs_course (sequence_tree l.steps) l.count) (l.fn.from ∷ []) [] (runs_course (sequence_tree (drop l.at l.steps)) l.count) (l.k ∷ []) ended;
+}
+
+abbrev pub decreases-alone-loop-step : goal.decreases-alone-loop-step
+decreases-alone-loop-step l = length l.steps - l.at

@@ -1,6 +1,4 @@
-use Rattle.std.proofs.Common.{◌≡◌, List, [], ◌∷◌, ◌++◌, sym, ap, ◌∙◌}
-use Rattle.std.proofs.lemmas.Result.{IfOk-weaker}
-use Rattle.path_model.specs.declared.event.Event.{Event}
+use Rattle.std.proofs.Common.{◌≡◌, [], ◌∷◌, ◌++◌, sym, ap, ◌∙◌}
 use Rattle.path_model.specs.declared.event.Event.TheVariants.{Failed}
 use Rattle.path_checker.specs.Happening.{event_of, after_end}
 use Rattle.path_checker.proofs.ChainLaws.{end_told}
@@ -15,5 +13,4 @@ returns c =
       | in-Missed w ↦ ap (λ e. after_end c.args.self e c.args.place) w.in-Missed.is ∙ ap (λ h. c.args.self ++ event_of h ∷ Failed c.args.place ∷ []) (sym w.event-is)
     ]
     in
-    IfOk-weaker c.with-2.result (λ (history : List Event). history ≡ c.in_ok-missed.missed ++ Failed c.args.place ∷ []) (λ (history : List Event). history ≡ after_end c.args.self c.args.ended c.args.place)
-    (λ history is. is ∙ end_told c.args.self c.in_ok-missed.missed (event_of c.match-ended.event) c.args.place (after_end c.args.self c.args.ended c.args.place) c.in_ok-missed.ensures told) c.with-2.ensures
+    c.in_ok-add-2.ensures ∙ end_told c.args.self c.add.new.self (event_of c.match-ended.event) c.args.place (after_end c.args.self c.args.ended c.args.place) c.in_ok-add.ensures told
