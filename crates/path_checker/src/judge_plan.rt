@@ -39,7 +39,7 @@ use halt::Halt;
 use kept::Kept;
 use memory::{COMPARED, Memory};
 use path_model::BadPath;
-use procedure_walk::{first, procedure};
+use procedure_walk::{first, invokes, procedure};
 use std::alloc::Global;
 use std::cell::Cell;
 use suit_commands::{Plan, width};
@@ -108,11 +108,14 @@ fn judge_with<'a>(
     }
 }
 
-// Whether each invoke is covered.
+// Whether each invoke is covered. Where none stands, nothing is made.
 fn judge(alloc: Global, plan: &Plan<'_>) -> CheckVerdict
     requires { ArePlan (plan_tree plan.now) }
     ensures { Judges (plan_tree plan.now) result }
 {
+    if !invokes(plan) {
+        return CheckVerdict::Safe;
+    }
     let events = Bump::new(alloc);
     let left = Cell::new(COMPARED);
     judge_with(alloc, &events, &left, *plan)

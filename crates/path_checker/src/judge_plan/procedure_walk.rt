@@ -77,7 +77,8 @@ fn second_invokes(plan: &Plan<'_>) -> bool
     lent_invokes(plan.second) || third_invokes(plan)
 }
 
-fn first_invokes(plan: &Plan<'_>) -> bool
+/// Whether an invoke stands in a procedure.
+pub(crate) fn invokes(plan: &Plan<'_>) -> bool
     ensures { IsTrue result ↔ FirstInvokes (plan_tree plan.now) }
 {
     lent_invokes(plan.first) || second_invokes(plan)
@@ -113,7 +114,7 @@ fn from_second<'a>(memory: Memory<'a>, plan: &Plan<'a>, from: Vec<Kept<'a>>) -> 
     from_third(memory, plan, after_second)
 }
 
-/// Runs a procedure from each of the states, up to the last of its parts in which an invoke stands.
+/// Runs a procedure in which an invoke stands from each of the states, up to the last of its parts in which one stands.
 pub(crate) fn procedure<'a>(
     memory: Memory<'a>,
     plan: &Plan<'a>,
@@ -123,9 +124,6 @@ pub(crate) fn procedure<'a>(
     ensures ok { OnOk result (Covers (RunsPlan (plan_tree plan.now)) from.entry.items) }
     ensures err { IfErr result (λ h. Halts (RunsPlan (plan_tree plan.now)) from.entry.items h) }
 {
-    if !first_invokes(plan) {
-        return Ok(());
-    }
     let after_shared = part(memory, plan.count, plan.shared, true, from)?;
     let after_first = part(memory, plan.count, plan.first, true, after_shared)?;
     from_second(memory, plan, after_first)

@@ -1,17 +1,11 @@
-use Rattle.std.proofs.Common.{Bool, subst}
-use Rattle.std.specs.Prelude.{IsTrue}
 use Rattle.std.proofs.lemmas.Result.{err_from_is_err_and, on_ok_weaker, IfErr-weaker}
 use Rattle.suit_commands.specs.Plans.{plan_tree}
 use Rattle.path_checker.specs.Halting.{Halts}
 use Rattle.path_model.specs.Path.{RunsPlan}
 use Rattle.path_checker.specs.Procedures.{FromSecond}
-use Rattle.path_checker.proofs.DirectiveLeaves.{never_true}
 use Rattle.path_checker.proofs.Exploring.{then_course}
-use Rattle.path_checker.proofs.Starting.{part_course, Covers-then, Halts-first, Halts-then, Passes-kept, first_covers}
+use Rattle.path_checker.proofs.Starting.{part_course, Covers-then, Halts-first, Halts-then, Passes-kept}
 use Rattle.path_checker.proofs.judge_plan.procedure_walk.procedure.Goals as goal
-
-pub returns-then-not-first_invokes-clause-ok : goal.returns-then-not-first_invokes-clause-ok
-returns-then-not-first_invokes-clause-ok c = first_covers (plan_tree c.args.plan.now) c.args.from.items (λ i. never_true (subst (λ (b : Bool). IsTrue b) c.if-not-first_invokes.true (c.first_invokes.ensures.1 i)))
 
 pub returns-in_err-after_shared-clause-err : goal.returns-in_err-after_shared-clause-err
 returns-in_err-after_shared-clause-err c =
