@@ -9,7 +9,7 @@ use Rattle.flash_layout.specs.declared.layout.Memory.{Memory}
 use Rattle.flash_layout.specs.declared.layout.Memory.TheVariants as memory
 use Rattle.flash_layout.specs.declared.place.Places.{Places}
 use Rattle.flash_layout.specs.Layouts.{IsLayout, IsOfMemory, AreApart, AreClear, slot_starts, starts_in}
-use Rattle.flash_slots.specs.RamContents.{Held, capacity_in, empty, empty_ram, held_by, ram_capacity}
+use Rattle.flash_slots.specs.RamContents.{Held, IsRamOf, capacity_in, empty, empty_ram, held_by, ram_capacity}
 use Rattle.step_machine.specs.declared.spot.Spot.{Spot}
 use Rattle.step_machine.specs.declared.spot.Spot.TheVariants as spots
 use Rattle.step_machine.specs.declared.spot.Standing.{Standing}
@@ -17,6 +17,11 @@ use Rattle.step_machine.specs.declared.world.SlotChoice.{SlotChoice}
 use Rattle.step_machine.specs.Devices.{AreSpotsClear}
 use Rattle.step_machine.specs.Spots.{IsSpot, room_at}
 use Rattle.step_machine.specs.Worlds.{AreDistinct, AreStandings, HaveAtMost, HaveTwo, IsChoice, IsStandingAt, StandAs, StandAtMost, spot_of, standing_of}
+
+-- memory is made for its layout
+pub made_empty : (layout : List Entry) → IsRamOf layout (empty_ram layout)
+made_empty [] = refl
+made_empty (e ∷ rest) = ap (λ (l : List ℕ). ram_capacity e ∷ l) (made_empty rest)
 
 no_entry : Entry
 no_entry = record {
@@ -50,16 +55,24 @@ module _ (frame : Frame) (size : ℕ) (layout : List Entry) (is : IsLayout frame
   start_at e number flash lt =
       ap (λ (k : Memory). get_or (starts_in k (take e.slots e.starts)) number 0) flash ∙ taken e.slots number e.starts 0 lt
 
-  spot_fits : (e : Entry) (index number : ℕ) (kind : Memory) → e.memory ≡ kind → get_or layout index no_entry ≡ e → index < length layout → IsOfMemory size e kind → length e.starts ≡ 2 → number < e.slots → e.slots ≤ 2
-      → IsSpot size (empty_ram layout) (spot_of kind e index number) × (room_at (spot_of kind e index number) (empty_ram layout) ≡ e.capacity)
-  spot_fits e index number memory.Flash kind at inside held two lt few =
+  -- memory that was made for the layout
+  made_long : (ram : List Held) → IsRamOf layout ram → length ram ≡ length layout
+  made_long ram made = omega (arith, length-map ram (λ (h : Held). h.capacity), ap length made, length-map layout ram_capacity)
+
+  made_room : (ram : List Held) (index : ℕ) → IsRamOf layout ram → index < length layout → (held_by ram index).capacity ≡ ram_capacity (get_or layout index no_entry)
+  made_room ram index made inside =
+      let here : index < length ram = omega (arith, inside, made_long ram made) in
+      sym (get_or-map (λ (h : Held). h.capacity) ram index (empty 0) 0 here) ∙ ap (λ (l : List ℕ). get_or l index 0) made ∙ get_or-map ram_capacity layout index no_entry 0 inside
+
+  spot_fits : (ram : List Held) → IsRamOf layout ram → (e : Entry) (index number : ℕ) (kind : Memory) → e.memory ≡ kind → get_or layout index no_entry ≡ e → index < length layout → IsOfMemory size e kind → length e.starts ≡ 2 → number < e.slots → e.slots ≤ 2
+      → IsSpot size ram (spot_of kind e index number) × (room_at (spot_of kind e index number) ram ≡ e.capacity)
+  spot_fits ram made e index number memory.Flash kind at inside held two lt few =
       let there = held.4 number 0 (start_is e number kind two lt few) in
       let same = start_at e number kind lt in
       (omega (arith, there.1, same), refl)
-  spot_fits e index number memory.Ram kind at inside held two lt few =
-      let long : length (empty_ram layout) ≡ length layout = length-map layout (λ (x : Entry). empty (ram_capacity x)) in
-      let here : held_by (empty_ram layout) index ≡ empty (ram_capacity (get_or layout index no_entry)) = get_or-map (λ (x : Entry). empty (ram_capacity x)) layout index no_entry (empty 0) inside in
-      (omega (arith, long, inside), ap (λ (h : Held). h.capacity) here ∙ ap (λ (x : Entry). ram_capacity x) at ∙ ap (λ (k : Memory). capacity_in k e.capacity) kind)
+  spot_fits ram made e index number memory.Ram kind at inside held two lt few =
+      let long = made_long ram made in
+      (omega (arith, long, inside), made_room ram index made inside ∙ ap (λ (x : Entry). ram_capacity x) at ∙ ap (λ (k : Memory). capacity_in k e.capacity) kind)
 
   -- two components share no byte
   starts_clear : (a b : Entry) (i j : ℕ) → a.memory ≡ memory.Flash → b.memory ≡ memory.Flash → length a.starts ≡ 2 → length b.starts ≡ 2 → i < a.slots → j < b.slots → a.slots ≤ 2 → b.slots ≤ 2 → AreApart a b
@@ -88,13 +101,13 @@ module _ (frame : Frame) (size : ℕ) (layout : List Entry) (is : IsLayout frame
       → get_or list k d ≡ standing_of (get_or layout (slice_index places.layout_index k) no_entry) k (slice_index places.layout_index k) (slice_index slots.number (slice_index places.layout_index k))
   stood k d lt = stand.each k d no_entry lt
 
-  one_fits : (k : ℕ) (d : Standing) → k < places.count → IsStandingAt size (empty_ram layout) k (get_or list k d)
-  one_fits k d lt =
+  one_fits : (ram : List Held) → IsRamOf layout ram → (k : ℕ) (d : Standing) → k < places.count → IsStandingAt size ram k (get_or list k d)
+  one_fits ram made k d lt =
       let index = slice_index places.layout_index k in
       let e = get_or layout index no_entry in
       let inside = distinct.inside k lt in
-      let fits = spot_fits frame size layout is e index (slice_index slots.number index) e.memory refl refl inside (is.each index no_entry inside).held (two k no_entry lt) (choice.one index no_entry inside) (choice.two index no_entry inside) in
-      subst (λ (s : Standing). IsStandingAt size (empty_ram layout) k s) (sym (stood k d lt)) (record { component = refl; spot = fits.0; room = fits.1 })
+      let fits = spot_fits frame size layout is ram made e index (slice_index slots.number index) e.memory refl refl inside (is.each index no_entry inside).held (two k no_entry lt) (choice.one index no_entry inside) (choice.two index no_entry inside) in
+      subst (λ (s : Standing). IsStandingAt size ram k s) (sym (stood k d lt)) (record { component = refl; spot = fits.0; room = fits.1 })
 
   pair_clear : (i j : ℕ) → i < length layout → j < length layout → i < j → (x y : ℕ) (d : Standing) → x < places.count → y < places.count → slice_index places.layout_index x ≡ i → slice_index places.layout_index y ≡ j
       → AreSpotsClear (get_or list x d).spot (get_or list y d).spot
@@ -119,10 +132,10 @@ module _ (frame : Frame) (size : ℕ) (layout : List Entry) (is : IsLayout frame
       (λ le. let lt : x < y = omega (arith, le, other) in distinct.other x y lt ly (sym same))
       (cases_lt y x)
 
-  pub world_fits : AreStandings size (empty_ram layout) list
-  world_fits = record {
+  pub world_fits : (ram : List Held) → IsRamOf layout ram → AreStandings size ram list
+  world_fits ram made = record {
     few = omega (arith, stand.count, distinct.few);
-    each = λ k d lt. one_fits k d (omega (arith, lt, stand.count));
+    each = λ k d lt. one_fits ram made k d (omega (arith, lt, stand.count));
     apart = λ x lx y d ly other.
         let ax : x < places.count = omega (arith, lx, stand.count) in
         let ay : y < places.count = omega (arith, ly, stand.count) in

@@ -35,3 +35,4 @@ pub mod Reading
 pub mod Replaced
 pub mod Counting
 mod Leaving
+mod Overridden

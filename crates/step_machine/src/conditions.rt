@@ -16,8 +16,9 @@ use crate::{Spot, Standing};
 use flash_layout::FlashFault;
 use flash_slots::Ram;
 use suit_commands::TestKind;
+use suit_cursor::SliceParams;
 use suit_edge::Disk;
-use suit_params::{Digest, ParamKey, Params};
+use suit_params::{Digest, ParamKey};
 
 fn is_same_id(wanted: Option<[u8; 16]>, own: Option<[u8; 16]>) -> bool
     ensures { result ≡ same_identifier wanted own }
@@ -86,7 +87,7 @@ fn holds_at<D: Disk>(
     ram: &Ram,
     kind: TestKind,
     standing: &Standing,
-    params: &Params<'_>,
+    params: &SliceParams<'_>,
     room: &mut [u8],
 ) -> Result<bool, FlashFault>
     requires room { 0 < length room.old }
@@ -136,7 +137,7 @@ pub fn passes<D: Disk>(
     disk: &mut D,
     ram: &Ram,
     standing: &Standing,
-    params: &Params<'_>,
+    params: &SliceParams<'_>,
     kind: TestKind,
     room: &mut [u8],
 ) -> Result<bool, FlashFault>

@@ -15,8 +15,9 @@ use crate::params_in_force::bytes;
 use flash_layout::FlashFault;
 use flash_slots::Ram;
 use path_model::Cause;
+use suit_cursor::SliceParams;
 use suit_edge::Disk;
-use suit_params::{ParamKey, Params};
+use suit_params::ParamKey;
 
 /// Write: the content becomes the parameter (draft-ietf-suit-manifest-25, section 8.4.10). Where it is refused nothing
 /// changes, and after a fault of the flash the component holds any content. A power loss on the way leaves the slot empty,
@@ -25,7 +26,7 @@ pub fn write<D: Disk>(
     disk: &mut D,
     ram: &mut Ram,
     standing: &Standing,
-    params: &Params<'_>,
+    params: &SliceParams<'_>,
 ) -> Result<(), Cause>
     requires component { standing.now.component < 8 }
     requires spot { IsSpot (D.extent disk.old) ram.old standing.now.spot }

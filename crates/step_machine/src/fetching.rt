@@ -17,9 +17,10 @@ use crate::uris::name_of;
 use crate::{Sources, Standing, Uris};
 use flash_slots::Ram;
 use path_model::Cause;
+use suit_cursor::SliceParams;
 use suit_edge::{Disk, Host, Started};
 use suit_envelope::Envelope;
-use suit_params::{ParamKey, Params};
+use suit_params::ParamKey;
 
 // Whether a URI is the key of a payload.
 fn is_key(uri: &[u8]) -> bool
@@ -156,7 +157,7 @@ pub fn fetch<H: Host, D: Disk>(
     ram: &mut Ram,
     sources: &Sources<'_>,
     standing: &Standing,
-    params: &Params<'_>,
+    params: &SliceParams<'_>,
     room: &mut [u8],
 ) -> Result<(), Cause>
     requires component { standing.now.component < 8 }

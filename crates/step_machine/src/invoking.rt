@@ -12,13 +12,14 @@ ghost use Rattle.suit_params.specs.InForce.{bytes_of, digest_in, in_force, size_
 ghost use Rattle.suit_params.specs.declared.param.ParamKey.TheVariants as keys;
 
 use crate::outside::Steps;
-use crate::params_in_force::{bytes, named_digest, number};
+use crate::params_in_force::{bytes, digest, number};
 use crate::{Spot, Standing};
 use flash_layout::{FlashFault, LENGTH_SIZE, Slot};
 use flash_slots::{Ram, length};
 use path_model::Cause;
+use suit_cursor::SliceParams;
 use suit_edge::{Disk, Image, Label, Launched, Launcher};
-use suit_params::{ParamKey, Params};
+use suit_params::{Digest, ParamKey};
 
 // ---- the image
 
@@ -58,21 +59,30 @@ fn image_at<'a, D: Disk>(disk: &mut D, ram: &'a Ram, spot: Spot) -> Result<Image
 
 // ---- the parameters beside it
 
-fn digest_for<'a>(params: &Params<'a>, component: u32) -> Option<&'a [u8]>
+fn digest_for(params: &SliceParams<'_>, component: u32) -> Option<Digest>
     requires { component < 8 }
-    ensures { option_copied result ≡ digest_bytes (digest_in params.now component) }
+    ensures { result ≡ digest_in params.now component }
 {
-    named_digest(params.get(component, ParamKey::Digest))
+    digest(params.get(component, ParamKey::Digest))
 }
 
-fn size_for(params: &Params<'_>, component: u32) -> Option<u64>
+fn digest_bytes(digest: &Option<Digest>) -> Option<&[u8]>
+    ensures { option_copied result ≡ digest_bytes digest.now }
+{
+    match digest {
+        Some(digest) => Some(&digest.bytes[..]),
+        None => None,
+    }
+}
+
+fn size_for(params: &SliceParams<'_>, component: u32) -> Option<u64>
     requires { component < 8 }
     ensures { result ≡ size_in params.now component }
 {
     number(params.get(component, ParamKey::Size))
 }
 
-fn args_for<'a>(params: &Params<'a>, component: u32) -> Option<&'a [u8]>
+fn args_for<'a>(params: &SliceParams<'a>, component: u32) -> Option<&'a [u8]>
     requires { component < 8 }
     ensures { option_copied result ≡ bytes_of (in_force params.now component keys.Args) }
 {
@@ -98,7 +108,7 @@ pub fn invoke<D: Disk, L: Launcher>(
     launcher: &mut L,
     ram: &Ram,
     standing: &Standing,
-    params: &Params<'_>,
+    params: &SliceParams<'_>,
 ) -> Result<(), Cause>
     requires component { standing.now.component < 8 }
     requires spot { IsSpot (D.extent disk.old) ram.now standing.now.spot }
@@ -116,7 +126,8 @@ pub fn invoke<D: Disk, L: Launcher>(
         Err(FlashFault) => return Err(Cause::FlashFault),
     };
     let component = standing.component;
-    let digest = digest_for(params, component);
+    let in_force = digest_for(params, component);
+    let digest = digest_bytes(&in_force);
     let size = size_for(params, component);
     let args = args_for(params, component);
     let label = Label {

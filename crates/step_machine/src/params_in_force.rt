@@ -1,38 +1,50 @@
 //! Values of parameters in force.
 
 ghost use Rattle.std.specs.Option.{option_copied};
-ghost use Rattle.std.specs.Prelude.{◌≡◌};
-ghost use Rattle.step_machine.specs.Invoking.{digest_bytes};
-ghost use Rattle.suit_params.specs.InForce.{bytes_of, digest_of};
+ghost use Rattle.std.specs.Prelude.{◌≡◌, option_map};
+ghost use Rattle.suit_params.specs.InForce.{bytes_of, digest_of, identifier_of, number_of};
+ghost use Rattle.suit_params.specs.ParamSlices.{param_of};
 
-use suit_params::{Digest, Param};
-pub(crate) use suit_params::{identifier_of as identifier, number_of as number};
+use suit_params::{Digest, ParamSlice};
 
-pub(crate) fn digest(param: Option<&Param>) -> Option<Digest>
-    ensures { result ≡ digest_of (option_copied param.entry) }
+pub(crate) fn identifier(param: Option<ParamSlice<'_>>) -> Option<[u8; 16]>
+    ensures { result ≡ identifier_of (option_map param_of param.entry) }
 {
     match param {
-        Some(Param::Digest(digest)) => Some(*digest),
+        Some(ParamSlice::Vendor(id)) => Some(id),
+        Some(ParamSlice::Class(id)) => Some(id),
+        Some(ParamSlice::Device(id)) => Some(id),
         _ => None,
     }
 }
 
-pub(crate) fn named_digest<'a>(param: Option<&'a Param>) -> Option<&'a [u8]>
-    ensures { option_copied result ≡ digest_bytes (digest_of (option_copied param.entry)) }
+pub(crate) fn number(param: Option<ParamSlice<'_>>) -> Option<u64>
+    ensures { result ≡ number_of (option_map param_of param.entry) }
 {
     match param {
-        Some(Param::Digest(digest)) => Some(&digest.bytes[..]),
+        Some(ParamSlice::Slot(number)) => Some(number),
+        Some(ParamSlice::Size(size)) => Some(size),
+        Some(ParamSlice::Source(component)) => Some(component as u64),
         _ => None,
     }
 }
 
-pub(crate) fn bytes<'a>(param: Option<&'a Param>) -> Option<&'a [u8]>
-    ensures { option_copied result ≡ bytes_of (option_copied param.entry) }
+pub(crate) fn digest(param: Option<ParamSlice<'_>>) -> Option<Digest>
+    ensures { result ≡ digest_of (option_map param_of param.entry) }
 {
     match param {
-        Some(Param::Content(bytes)) => Some(bytes.as_slice()),
-        Some(Param::Uri(text)) => Some(text.as_str().as_bytes()),
-        Some(Param::Args(bytes)) => Some(bytes.as_slice()),
+        Some(ParamSlice::Digest(digest)) => Some(digest),
+        _ => None,
+    }
+}
+
+pub(crate) fn bytes<'a>(param: Option<ParamSlice<'a>>) -> Option<&'a [u8]>
+    ensures { option_copied result ≡ bytes_of (option_map param_of param.entry) }
+{
+    match param {
+        Some(ParamSlice::Content(bytes)) => Some(bytes),
+        Some(ParamSlice::Uri(text)) => Some(text.as_bytes()),
+        Some(ParamSlice::Args(bytes)) => Some(bytes),
         _ => None,
     }
 }

@@ -23,8 +23,8 @@ use crate::running::sequence;
 use crate::{PlanEnd, Stop, World};
 use flash_slots::Ram;
 use suit_commands::{Plan, Sequence};
+use suit_cursor::SliceParams;
 use suit_edge::{Disk, Host, Launcher};
-use suit_params::Params;
 
 // Runs a member or the shared sequence, where there is one. It begins with component 0 selected and soft failure false.
 fn part<'p, H: Host, D: Disk, L: Launcher>(
@@ -92,7 +92,7 @@ fn started<H: Host, D: Disk, L: Launcher>(
         (⟦<D as Moments<H, L>>⟧.of_work work.new) }
     ensures leaves { LeavesWork machine.now work.old work.new }
 {
-    let params = Params::new();
+    let params = SliceParams::new();
     let mut state = Progress {
         params,
         selected: Selected::One(0),

@@ -6,7 +6,7 @@ ghost use Rattle.step_machine.specs.Running.{selected_list, state_of};
 ghost use Rattle.suit_commands.specs.Selections.{selected_by};
 
 use suit_commands::{IndexList, Selection};
-use suit_params::Params;
+use suit_cursor::SliceParams;
 
 /// The selected components, in order.
 #[derive(Clone, Copy)]
@@ -19,7 +19,7 @@ pub(crate) enum Selected<'p> {
 /// The parameters in force, the selected components, and soft failure.
 #[derive(Drop)]
 pub(crate) struct Progress<'p> {
-    pub params: Params<'p>,
+    pub params: SliceParams<'p>,
     pub selected: Selected<'p>,
     pub soft_failure: bool,
 }

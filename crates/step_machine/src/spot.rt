@@ -21,3 +21,20 @@ pub struct Standing {
     pub capacity: u64,
     pub spot: Spot,
 }
+
+impl Default for Standing {
+    /// A component of no room, with no identifiers.
+    fn default() -> Standing {
+        Standing {
+            component: 0,
+            identity: Identity {
+                vendor: None,
+                class: None,
+                device: None,
+                slot: 0,
+            },
+            capacity: 0,
+            spot: Spot::Ram(0),
+        }
+    }
+}

@@ -2,12 +2,13 @@
 
 ghost use Rattle.flash_layout.specs.declared.frame.Frame.{Frame};
 ghost use Rattle.flash_layout.specs.Layouts.{IsLayout};
-ghost use Rattle.flash_slots.specs.RamContents.{empty_ram};
+ghost use Rattle.flash_slots.specs.RamContents.{IsRamOf, empty_ram};
 ghost use Rattle.std.specs.Prelude.{◌≡◌, ◌<◌, ℕ, IfOk, length};
 ghost use Rattle.step_machine.specs.Worlds.{AreDistinct, AreStandings, HaveAtMost, HaveTwo, IsChoice, StandAs, StandAtMost, spot_of, standing_of};
 
 use crate::{Spot, Standing, Uris};
-use flash_layout::{Entry, Layout, Memory, Places, Slot};
+use arrayvec::ArrayVec;
+use flash_layout::{Entry, Layout, MAX_COMPONENTS, Memory, Places, Slot};
 use flash_slots::Ram;
 use path_model::Identity;
 use std::alloc::{AllocError, Global};
@@ -23,7 +24,7 @@ pub struct SlotChoice {
 /// from: those of an envelope, if there is one, and files by their URIs.
 #[derive(Drop)]
 pub struct World<'a> {
-    pub(crate) standings: Vec<Standing>,
+    pub(crate) standings: ArrayVec<Standing, MAX_COMPONENTS>,
     pub(crate) ram: Ram,
     pub(crate) uris: &'a Uris,
     pub(crate) envelope: Option<&'a Envelope<'a>>,
@@ -68,26 +69,22 @@ fn standing_of(entry: &Entry, component: u32, index: u32, number: u8) -> Standin
     }
 }
 
-fn stand(
-    alloc: Global,
-    layout: &Layout,
-    places: &Places,
-    slots: &SlotChoice,
-) -> Result<Vec<Standing>, AllocError>
+// Where the components stand, in the manifest's order.
+fn stand(layout: &Layout, places: &Places, slots: &SlotChoice) -> ArrayVec<Standing, MAX_COMPONENTS>
     requires places { AreDistinct layout.now places.now }
     requires slots { IsChoice layout.now slots.now }
-    ensures stand { IfOk result (λ list. StandAs layout.now places.now slots.now list.items) }
-    ensures two { IfOk result (λ list. HaveTwo layout.now places.now places.now.count) }
+    ensures stand { StandAs layout.now places.now slots.now result.items }
+    ensures two { HaveTwo layout.now places.now places.now.count }
 {
     let entries = layout.as_slice();
-    let mut list = Vec::new(alloc);
+    let mut list = ArrayVec::new();
     for component in 0..places.count {
         let index = places.layout_index[component as usize];
         let entry = &entries[index as usize];
         has_two(entry);
-        list.push(standing_of(entry, component, index, slots.number[index as usize]))?;
+        list.push(standing_of(entry, component, index, slots.number[index as usize]));
     }
-    Ok(list)
+    list
 }
 
 impl<'a> World<'a> {
@@ -117,12 +114,36 @@ impl<'a> World<'a> {
             → StandAtMost world.standings.items room) }
     {
         let ram = Ram::new(alloc, layout)?;
-        let standings = stand(alloc, layout, places, slots)?;
-        Ok(World {
-            standings,
+        Ok(World::with_ram(ram, layout, places, slots, uris, envelope))
+    }
+
+    /// The same, where the contents in working memory stand in memory that was made for the layout before (`Ram::new`). They
+    /// stay as they are. Takes no memory.
+    pub fn with_ram(
+        ram: Ram,
+        layout: &Layout,
+        places: &Places,
+        slots: &SlotChoice,
+        uris: &'a Uris,
+        envelope: Option<&'a Envelope<'a>>,
+    ) -> World<'a>
+        requires places { AreDistinct layout.now places.now }
+        requires slots { IsChoice layout.now slots.now }
+        ensures stand { StandAs layout.now places.now slots.now result.standings.items }
+        ensures ram { result.ram ≡ ram }
+        ensures uris { result.uris.now ≡ uris.now }
+        ensures envelope { result.envelope ≡ envelope.entry }
+        ensures fit { IsRamOf layout.now ram → (frame : Frame) (size : ℕ)
+            → IsLayout frame size layout.now
+            → AreStandings size result.ram result.standings.items }
+        ensures rooms { (room : ℕ) → HaveAtMost layout.now room
+            → StandAtMost result.standings.items room }
+    {
+        World {
+            standings: stand(layout, places, slots),
             ram,
             uris,
             envelope,
-        })
+        }
     }
 }

@@ -11,31 +11,31 @@ use Rattle.step_machine.proofs.Leaves.{no_standing, one_stays, cause_counts}
 use Rattle.step_machine.proofs.acting.act_from_source.Goals as goal
 
 pub bounds-machine-source : goal.bounds-machine-source
-bounds-machine-source g c = source_below c.args.machine.now _ _ (state_of c.args.state.now) c.args.component c.in-Some.source c.requires.inside c.requires.ready c.requires.under_way (named_in (state_of c.args.state.now) c.args.component _ _ _ c.get.ensures c.number_of.ensures c.in-Some.is)
+bounds-machine-source g c = source_below c.args.machine.now _ _ (state_of c.args.state.now) c.args.component c.in-Some.source c.requires.inside c.requires.ready c.requires.under_way (named_in (state_of c.args.state.now) c.args.component _ _ _ c.get.ensures c.number.ensures c.in-Some.is)
 
 pub offset_bounds-machine-source : goal.offset_bounds-machine-source
 offset_bounds-machine-source g c =
-    let below = source_below c.args.machine.now _ _ (state_of c.args.state.now) c.args.component c.in-Some.source c.requires.inside c.requires.ready c.requires.under_way (named_in (state_of c.args.state.now) c.args.component _ _ _ c.get.ensures c.number_of.ensures c.in-Some.is) in
+    let below = source_below c.args.machine.now _ _ (state_of c.args.state.now) c.args.component c.in-Some.source c.requires.inside c.requires.ready c.requires.under_way (named_in (state_of c.args.state.now) c.args.component _ _ _ c.get.ensures c.number.ensures c.in-Some.is) in
     let bound : c.in-Some.source * 104 < 2 ^ 64 = omega (arith, below, c.requires.ready.standings.few) in
     search (arith, below, bound)
 
 pub copy-requires-clause-source : goal.copy-requires-clause-source
-copy-requires-clause-source g c = source_spot c.args.machine.now _ _ (state_of c.args.state.now) c.args.component c.in-Some.source c.requires.inside c.requires.ready c.requires.under_way (named_in (state_of c.args.state.now) c.args.component _ _ _ c.get.ensures c.number_of.ensures c.in-Some.is)
+copy-requires-clause-source g c = source_spot c.args.machine.now _ _ (state_of c.args.state.now) c.args.component c.in-Some.source c.requires.inside c.requires.ready c.requires.under_way (named_in (state_of c.args.state.now) c.args.component _ _ _ c.get.ensures c.number.ensures c.in-Some.is)
 
 pub copy-requires-clause-apart : goal.copy-requires-clause-apart
-copy-requires-clause-apart g c other = source_apart c.args.machine.now _ _ (state_of c.args.state.now) c.args.component c.in-Some.source c.requires.inside c.requires.ready c.requires.under_way (named_in (state_of c.args.state.now) c.args.component _ _ _ c.get.ensures c.number_of.ensures c.in-Some.is) other
+copy-requires-clause-apart g c other = source_apart c.args.machine.now _ _ (state_of c.args.state.now) c.args.component c.in-Some.source c.requires.inside c.requires.ready c.requires.under_way (named_in (state_of c.args.state.now) c.args.component _ _ _ c.get.ensures c.number.ensures c.in-Some.is) other
 
 pub swap-swapped-requires-clause-source : goal.swap-swapped-requires-clause-source
-swap-swapped-requires-clause-source g c = source_spot c.args.machine.now _ _ (state_of c.args.state.now) c.args.component c.in-Some.source c.requires.inside c.requires.ready c.requires.under_way (named_in (state_of c.args.state.now) c.args.component _ _ _ c.get.ensures c.number_of.ensures c.in-Some.is)
+swap-swapped-requires-clause-source g c = source_spot c.args.machine.now _ _ (state_of c.args.state.now) c.args.component c.in-Some.source c.requires.inside c.requires.ready c.requires.under_way (named_in (state_of c.args.state.now) c.args.component _ _ _ c.get.ensures c.number.ensures c.in-Some.is)
 
 pub swap-swapped-requires-clause-apart : goal.swap-swapped-requires-clause-apart
-swap-swapped-requires-clause-apart g c other = source_apart c.args.machine.now _ _ (state_of c.args.state.now) c.args.component c.in-Some.source c.requires.inside c.requires.ready c.requires.under_way (named_in (state_of c.args.state.now) c.args.component _ _ _ c.get.ensures c.number_of.ensures c.in-Some.is) other
+swap-swapped-requires-clause-apart g c other = source_apart c.args.machine.now _ _ (state_of c.args.state.now) c.args.component c.in-Some.source c.requires.inside c.requires.ready c.requires.under_way (named_in (state_of c.args.state.now) c.args.component _ _ _ c.get.ensures c.number.ensures c.in-Some.is) other
 
 pub returns-in_default : goal.returns-in_default
 returns-in_default g c =
     let r = c.requires in
     let w = c.copy.ensures in
-    let named : number_of (in_force (state_of c.args.state.now).parameters c.args.component keys.Source) ≡ Some c.in-Some.source = named_in (state_of c.args.state.now) c.args.component _ _ _ c.get.ensures c.number_of.ensures c.in-Some.is in
+    let named : number_of (in_force (state_of c.args.state.now).parameters c.args.component keys.Source) ≡ Some c.in-Some.source = named_in (state_of c.args.state.now) c.args.component _ _ _ c.get.ensures c.number.ensures c.in-Some.is in
     record {
       runs = act_as c.args.machine.now c.args.kind acts.Copy c.args.place c.args.component (copies c.args.kind c.requires.from c.in_default.not-Swap) _ _ _ _ _
           (copy_runs c.args.machine.now _ _ (state_of c.args.state.now) c.args.place c.args.component r.inside r.ready r.under_way (λ t. g.met.D.Disk.obeys c.args.work.now.disk.now t) c.copy.result _ c.stopped-in_default.ensures
@@ -48,7 +48,7 @@ pub returns-in-Swap : goal.returns-in-Swap
 returns-in-Swap g c =
     let r = c.requires in
     let w = c.swap-swapped.ensures in
-    let named : number_of (in_force (state_of c.args.state.now).parameters c.args.component keys.Source) ≡ Some c.in-Some.source = named_in (state_of c.args.state.now) c.args.component _ _ _ c.get.ensures c.number_of.ensures c.in-Some.is in
+    let named : number_of (in_force (state_of c.args.state.now).parameters c.args.component keys.Source) ≡ Some c.in-Some.source = named_in (state_of c.args.state.now) c.args.component _ _ _ c.get.ensures c.number.ensures c.in-Some.is in
     record {
       runs = act_as c.args.machine.now c.args.kind acts.Swap c.args.place c.args.component (c.in-Swap.is) _ _ _ _ _
           (swap_runs c.args.machine.now _ _ (state_of c.args.state.now) c.args.place c.args.component r.inside r.ready r.under_way (λ t. g.met.D.Disk.obeys c.args.work.now.disk.now t) c.swap-swapped.result _ c.stopped.ensures
@@ -59,7 +59,7 @@ returns-in-Swap g c =
 
 pub returns-in-None : goal.returns-in-None
 returns-in-None g c =
-    let none = named_in (state_of c.args.state.now) c.args.component _ _ _ c.get.ensures c.number_of.ensures c.in-None.is in
+    let none = named_in (state_of c.args.state.now) c.args.component _ _ _ c.get.ensures c.number.ensures c.in-None.is in
     record {
       runs = ⊎_elim
           (λ copy. act_as c.args.machine.now c.args.kind acts.Copy c.args.place c.args.component copy _ _ _ _ _

@@ -10,6 +10,6 @@ returns-clause-after c =
     let ps = c.args.state.now.params in
     let selection = selected_list c.args.state.now.selected in
     let list = c.args.list.now in
-    ap (λ (x : Parameters). record { parameters = x; selection = selection; soft_failure = c.soft_after_list-state.result }) c.override_with.ensures.exact
+    ap (λ (x : Parameters). record { parameters = x; selection = selection; soft_failure = c.soft_after_list-state.result }) c.override_each.ensures.exact
     ∙ ap (λ (b : Bool). record { parameters = overridden ps c.args.component list; selection = selection; soft_failure = b }) c.soft_after_list-state.ensures
     ∙ sym (override_is ps selection c.args.state.now.soft_failure c.args.component list)

@@ -17,7 +17,7 @@ loop-component-preserved c =
     let at : entry ≡ get_or layout index entry = c.index-entries-index.is ∙ ap (λ (l : List Entry). get_or l index entry) c.as_slice-entries.ensures in
     record {
       so = stand_more layout places slots c.loop-component.list.items n c.standing_of.result entry inside c.loop-component.invariant.so
-          (c.standing_of.ensures ∙ ap (λ (x : Entry). standing_of x n index (slice_index slots.number index)) at) c.push.new.self.items c.in_ok-push.ensures.items;
+          (c.standing_of.ensures ∙ ap (λ (x : Entry). standing_of x n index (slice_index slots.number index)) at) c.push.new.self.items c.push.ensures.items;
       two = two_more layout places slots c.loop-component.list.items n c.standing_of.result entry inside c.loop-component.invariant.two
           (ap (λ (x : Entry). length x.starts) (sym at) ∙ c.has_two.ensures);
     }
