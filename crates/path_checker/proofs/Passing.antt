@@ -13,7 +13,7 @@ use Rattle.path_checker.specs.declared.judge_plan.halt.Halt.{Halt}
 use Rattle.path_checker.specs.Halting.{Halts}
 use Rattle.path_checker.specs.Exploring.{Course, Kept, Stopped, Explores, Adds, Passes}
 use Rattle.path_checker.specs.Forking.{Learnt}
-use Rattle.path_checker.specs.Small.{IsStraight}
+use Rattle.path_checker.specs.Small.{IsAtEach, IsStraight}
 use Rattle.path_checker.specs.Steps.{with_events, knowing}
 use Rattle.path_checker.specs.Wanting.{wanted_by, TestsOwn}
 use Rattle.path_checker.proofs.ConditionLeaves.{told, missed_by, tests_course, tests_own, Adds-has, Adds-has_not, Adds-either}
@@ -80,7 +80,7 @@ Passed-step course from old rest rest' next next' more made k w popped rest_is n
 pub Passed-end : (course : Course) (from now next : List Kept) → Passed course from now next → now ≡ [] → Passes course from next
 Passed-end course from now next w none = Passes-added course from next w.0 (Pops-end course from [] now next w.0 w.1 none)
 
-pub not_straight : (cmd : Command) → ((kind : _) (report : _) → cmd ≡ commands.Test kind report → ⊥) → ((kind : _) (report : _) → cmd ≡ commands.Act kind report → ⊥) → ((list : _) → cmd ≡ commands.Override list → ⊥) → IsStraight (command_tree cmd) → ⊥
+pub not_straight : (cmd : Command) → ((kind : _) (report : _) → cmd ≡ commands.Test kind report → ⊥) → ((kind : _) (report : _) → cmd ≡ commands.Act kind report → ⊥) → ((list : _) → cmd ≡ commands.Override list → ⊥) → IsAtEach (command_tree cmd) → ⊥
 not_straight (commands.Test kind report) test act override straight = test kind report refl
 not_straight (commands.Act kind report) test act override straight = act kind report refl
 not_straight (commands.Index s) test act override straight = straight
@@ -88,7 +88,7 @@ not_straight (commands.Override list) test act override straight = override list
 not_straight (commands.TryEach bs) test act override straight = straight
 not_straight (commands.Run inner) test act override straight = straight
 
-pub straight_each : (cmd : Command) → IsStraight (command_tree cmd) → (count p : ℕ) (k : Kept) → Same k (each_course (command_tree cmd) count p k.state.selection) (does_course (command_tree cmd) count p)
+pub straight_each : (cmd : Command) → IsAtEach (command_tree cmd) → (count p : ℕ) (k : Kept) → Same k (each_course (command_tree cmd) count p k.state.selection) (does_course (command_tree cmd) count p)
 straight_each (commands.Test kind report) straight count p k = record { there = λ ids al es e r. r; back = λ ids al es e r. r }
 straight_each (commands.Act kind report) straight count p k = record { there = λ ids al es e r. r; back = λ ids al es e r. r }
 straight_each (commands.Index s) straight count p k = absurd straight
@@ -98,3 +98,13 @@ straight_each (commands.Run inner) straight count p k = absurd straight
 
 pub Passed-halt : (course : Course) (from old rest next : List Kept) (k : Kept) → Passed course from old next → old ≡ rest ++ k ∷ [] → (h : Halt) → Halts course (k ∷ []) h → Halts course from h
 Passed-halt course from old rest next k w popped h u = Pops-halt course from [] old rest next w.0 k w.1 popped h u
+
+-- ---- set component index
+
+pub at_each_of : (cmd : Command) → IsStraight (command_tree cmd) → ((s : _) → cmd ≡ commands.Index s → ⊥) → IsAtEach (command_tree cmd)
+at_each_of (commands.Test kind report) straight other = tt
+at_each_of (commands.Act kind report) straight other = tt
+at_each_of (commands.Index s) straight other = other s refl
+at_each_of (commands.Override list) straight other = tt
+at_each_of (commands.TryEach bs) straight other = straight
+at_each_of (commands.Run inner) straight other = straight

@@ -29,9 +29,15 @@ abbrev mutual
   AreSmallBranches count (NullThen rest) = AreSmallBranches count rest
   AreSmallBranches count (BranchThen inner rest) = IsSmallSequence count inner × AreSmallBranches count rest
 
--- neither a selection nor a command with a sequence inside
+-- a command that is done at each selected component, with no sequence inside
+abbrev pub IsAtEach : CommandTree → Type 0
+IsAtEach (Test kind report) = Unit {0}
+IsAtEach (Act kind report) = Unit {0}
+IsAtEach (Override list) = Unit {0}
+IsAtEach _ = ⊥
+
+-- a command with no sequence inside
 abbrev pub IsStraight : CommandTree → Type 0
-IsStraight (Test kind report) = Unit {0}
-IsStraight (Act kind report) = Unit {0}
-IsStraight (Override list) = Unit {0}
-IsStraight _ = ⊥
+IsStraight (TryEach branches) = ⊥
+IsStraight (RunSequence inner) = ⊥
+IsStraight _ = Unit {0}

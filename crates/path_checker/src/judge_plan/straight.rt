@@ -5,7 +5,7 @@ ghost use Rattle.suit_commands.specs.View.{command_tree};
 ghost use Rattle.path_model.specs.Behaviour.{Each};
 ghost use Rattle.path_model.specs.Runs.{Does};
 ghost use Rattle.path_checker.specs.Exploring.{Passes, kept_if};
-ghost use Rattle.path_checker.specs.Small.{IsStraight};
+ghost use Rattle.path_checker.specs.Small.{IsAtEach, IsSmallCommand, IsStraight};
 ghost use Rattle.path_checker.specs.Steps.{At};
 ghost use Rattle.path_checker.specs.Halting.{Halts};
 
@@ -15,15 +15,17 @@ use crate::judge_plan::halt::Halt;
 use crate::judge_plan::kept::{Kept, add_if};
 use crate::judge_plan::memory::Memory;
 use crate::judge_plan::reuse::reuse;
+use crate::judge_plan::selected::Selected;
 use suit_commands::{Command, Step};
 
-/// Whether a command holds no sequence and selects no components.
+/// Whether a command holds no sequence.
 pub(crate) fn is_straight(command: &Command) -> bool
     ensures { IsTrue result → IsStraight (command_tree command.now) }
 {
     match command {
         Command::Test { .. } => true,
         Command::Act { .. } => true,
+        Command::Index(_) => true,
         Command::Override(_) => true,
         _ => false,
     }
@@ -38,7 +40,7 @@ fn at_one<'a>(
     k: &mut Kept<'a>,
 ) -> Result<bool, Halt<'a>>
     requires room { component < 8 }
-    requires straight { IsStraight (command_tree step.now.command) }
+    requires straight { IsAtEach (command_tree step.now.command) }
     ensures ok { IfOk result
         (λ goes_on. Passes (At (command_tree step.now.command) count step.now.place component)
         (k.old ∷ []) (kept_if goes_on k.new)) }
@@ -67,7 +69,7 @@ fn at_next<'a>(
     k: &mut Kept<'a>,
 ) -> Result<bool, Halt<'a>>
     requires room { component < 8 }
-    requires straight { IsStraight (command_tree step.now.command) }
+    requires straight { IsAtEach (command_tree step.now.command) }
     ensures ok { IfOk result
         (λ still. Passes (At (command_tree step.now.command) count step.now.place component)
         (kept_if goes_on k.old) (kept_if still k.new)) }
@@ -88,7 +90,7 @@ fn at_each<'a>(
     step: &'a Step,
     k: &mut Kept<'a>,
 ) -> Result<bool, Halt<'a>>
-    requires straight { IsStraight (command_tree step.now.command) }
+    requires straight { IsAtEach (command_tree step.now.command) }
     ensures ok { IfOk result
         (λ goes_on. Passes
         (λ identities. Each
@@ -124,6 +126,7 @@ pub(crate) fn straight_in<'a>(
     step: &'a Step,
     k: &mut Kept<'a>,
 ) -> Result<bool, Halt<'a>>
+    requires small { IsSmallCommand count (command_tree step.now.command) }
     requires straight { IsStraight (command_tree step.now.command) }
     ensures ok { IfOk result
         (λ goes_on. Passes
@@ -134,6 +137,10 @@ pub(crate) fn straight_in<'a>(
         (λ identities. Does (command_tree step.now.command) identities count step.now.place)
         (k.old ∷ []) h) }
 {
+    if let Command::Index(selection) = &step.command {
+        k.selection = Selected::by(selection, count);
+        return Ok(true);
+    }
     at_each(memory, count, step, k)
 }
 
@@ -144,6 +151,7 @@ pub(crate) fn straight<'a>(
     step: &'a Step,
     from: Vec<Kept<'a>>,
 ) -> Result<Vec<Kept<'a>>, Halt<'a>>
+    requires small { IsSmallCommand count (command_tree step.now.command) }
     requires straight { IsStraight (command_tree step.now.command) }
     ensures ok { IfOk result
         (λ v. Passes

@@ -102,7 +102,10 @@ alone-loop-step-init t c = record {
 }
 
 pub alone-straight_in-requires : goal.alone-straight_in-requires
-alone-straight_in-requires t c = record { straight = c.in-Some.ensures.straight }
+alone-straight_in-requires t c = record {
+  small = subst (λ (s : Step). IsSmallCommand c.args.count (command_tree s.command)) (sym c.in-Some.ensures.is) (small_step c.args.count c.args.steps.now c.loop-step.at c.in-Some.step.now c.in-Some.ensures.within c.loop-step.invariant.small).0;
+  straight = c.in-Some.ensures.straight;
+}
 
 -- the walk after one more command
 pub alone-loop-step-preserved : goal.alone-loop-step-preserved
