@@ -16,7 +16,7 @@ use Rattle.suit_cli.specs.Outside.{Outside, Sunk}
 use Rattle.suit_cli.specs.Stages.{Ending, Says, FaultOf, NoMemory, Goes, Declines}
 use Rattle.suit_cli.specs.Statuses.{status_of, ending_status, ending_text}
 use Rattle.suit_cli.specs.Judgement.{AreSafe, AreJudged, JudgedSafe, JudgedUnsafe}
-use Rattle.suit_cli.specs.Program.{answers, PutsText, IsPut, IsCut, EndsIn, ChecksProcedures, IsCheck, ChecksSafe, ChecksUnsafe, IsUsage, Judges}
+use Rattle.suit_cli.specs.Program.{answers, PutsText, IsPut, IsCut, EndsIn, IsExcuse, ChecksNone, ChecksProcedures, IsCheck, ChecksSafe, ChecksUnsafe, IsUsage, Judges}
 use Rattle.suit_cli.proofs.Running.{Declining, IsJudged, checked, judged_when, judged_safe, judged_unsafe, done_safe, unsafe_shows, shown_plain, showed, status_done, status_unsafe, status_usage, not_seven, not_eight, not_ten_of, inited, begun, stated, drilled, plain_not, unsafe_refuted}
 use Rattle.suit_cli.proofs.Describing.{described}
 use Rattle.suit_cli.proofs.AcceptedFacts.{IsUnsafeFile, began}
@@ -163,6 +163,23 @@ module _ (words : List (List ℕ)) (b a : Outside) (sb sa : Sunk) (result : ℕ)
 
     pub unsafe_is_no : (AreSafe u i → ⊥) → EndsIn 1 result
     unsafe_is_no never = ends_in 1 (λ r answer. ap status_of (judged_unsafe u i r (judged_reply r answer) never))
+
+  -- an answer that is put is yes or no where there are such procedures
+  pub no_answer : EnvelopeLaws → ManifestLaws → MembersLaws → result ≢ 0 → result ≢ 1 → ChecksNone words b ⊎ IsExcuse result
+  no_answer envelopes manifests members not_yes not_no = of_puts runs.puts where
+    of_judged : (u i : PlanTree) (r : Reply) → result ≡ status_of r.outcome → AreJudged u i r → ⊥
+    of_judged u i r is (JudgedSafe safe says) = not_yes (is ∙ ap status_of says.outcome_is)
+    of_judged u i r is (JudgedUnsafe outcome unsafe) = not_no (is ∙ ap status_of outcome)
+
+    of_ending : (e : Ending) → answers words b a e → result ≡ ending_status e → ChecksNone words b ⊎ IsExcuse result
+    of_ending (Says r) answer is = inl (λ u i checks_it. of_judged u i r is (judged_reply envelopes manifests members u i checks_it r answer))
+    of_ending (FaultOf objects.Host) answer is = inr (inl is)
+    of_ending (FaultOf objects.Flash) answer is = inr (inr (inl is))
+    of_ending NoMemory answer is = inr (inr (inr (inr is)))
+
+    of_puts : PutsText sb sa (ending_status runs.ending) (ending_text runs.ending) result → ChecksNone words b ⊎ IsExcuse result
+    of_puts (IsPut is still puts) = of_ending runs.ending runs.answer is
+    of_puts (IsCut is faulted puts) = inr (inr (inr (inl is)))
 
   pub usage : result ≡ 2 → IsUsage words sb sa
   usage two =
