@@ -1,5 +1,5 @@
 -- How a run ends: in stages, by a boot or by an update.
-use Rattle.std.proofs.Common.{◌≡◌, ◌⊎◌, inr, refl, ℕ, List, [], ◌∷◌, length, append-nil, Option, Some, None, sym, ap, subst, ◌∙◌, ◌≤◌, arith}
+use Rattle.std.proofs.Common.{◌≡◌, ◌⊎◌, ℕ, List, [], length, append-nil, Option, Some, None, sym, ap, subst, ◌∙◌, ◌≤◌, arith}
 use Rattle.std.specs.Prelude.{IsTrue, ◌≢◌}
 use Rattle.suit_edge.specs.declared.launch.Launch.{Launch}
 use Rattle.suit_commands.specs.Tree.{PlanTree}
@@ -14,7 +14,7 @@ use Rattle.invoke_proc.specs.declared.boot_end.BootEnd.{BootEnd}
 use Rattle.invoke_proc.specs.declared.boot_end.BootEnd.TheVariants as ends
 use Rattle.invoke_proc.specs.Booting.{GainsSafe}
 use Rattle.invoke_proc.specs.Counting.{BootCounts}
-use Rattle.suit_cli.specs.Words.{Task, Make, Describe, Show, Check, RunInit, RunUpdate, RunBoot, RunStatus, task_of}
+use Rattle.suit_cli.specs.Words.{Task, Check, RunUpdate, RunBoot, task_of}
 use Rattle.suit_cli.specs.Outside.{Outside, Leaves, Sunk}
 use Rattle.suit_cli.specs.Judgement.{AreSafe}
 use Rattle.suit_cli.specs.Launching.{Launching}
@@ -134,7 +134,7 @@ module _ (words : List (List ℕ)) (l m : Launching) (b a : Outside) (sb sa : Su
   pub no_path : IsTrue b.told → result ≡ 1 → ChecksUnsafe words b sb sa
   no_path told one = of_way way where
     of_way : Way words l m b a sb sa result → ChecksUnsafe words b sb sa
-    of_way (InStages run same) = staged.no_path words b a sb sa result run told one
+    of_way (InStages run same) = staged.no_path words b a sb sa result run one
     of_way (AsBoot end lines word boots puts) = absurd (low_boot end lines puts (omega (arith, one)) (λ zero. omega (arith, one, zero)))
     of_way (AsUpdate name uris end lines word updates puts) = absurd (low_update end lines puts (omega (arith, one)) (λ zero. omega (arith, one, zero)))
 

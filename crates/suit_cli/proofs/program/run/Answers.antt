@@ -1,4 +1,4 @@
-use Rattle.std.proofs.Common.{refl, subst, sym}
+use Rattle.std.proofs.Common.{refl, subst}
 use Rattle.suit_edge.specs.Flash.{IsFlash}
 use Rattle.suit_cli.specs.Coming.{ended_of}
 use Rattle.suit_cli.proofs.Sounding.{as_it_boots, stays_by}
