@@ -1,6 +1,7 @@
 -- The result of a run, clause by clause.
 use Rattle.std.proofs.Common.{◌≡◌, ℕ, List, Option, Some, None, ◌⊎◌, inl, inr, refl, sym, ap, subst, ◌∙◌, ◌++◌, arith}
 use Rattle.std.specs.Prelude.{IsTrue, ◌≢◌, ◌<◌}
+use Rattle.std.proofs.lemmas.Option.{same_Some}
 use Rattle.suit_edge.specs.Faults.{Faulted}
 use Rattle.suit_commands.specs.Tree.{PlanTree}
 use Rattle.suit_envelope.specs.EnvelopeLaws.{EnvelopeLaws}
@@ -14,11 +15,11 @@ use Rattle.suit_cli.specs.declared.reply.Object.TheVariants as objects
 use Rattle.suit_cli.specs.Words.{Task, Check, task_of}
 use Rattle.suit_cli.specs.Commands.{does}
 use Rattle.suit_cli.specs.Outside.{Outside, Sunk}
-use Rattle.suit_cli.specs.Stages.{Ending, Says, FaultOf, NoMemory, Goes, Declines}
+use Rattle.suit_cli.specs.Stages.{Ending, Says, FaultOf, NoMemory, Goes, Declines, Faults}
 use Rattle.suit_cli.specs.Statuses.{status_of, ending_status, ending_text}
 use Rattle.suit_cli.specs.Judgement.{AreSafe, AreJudged, JudgedSafe, JudgedUnsafe}
 use Rattle.suit_cli.specs.Program.{answers, PutsText, IsPut, IsCut, EndsIn, IsExcuse, ChecksNone, ChecksProcedures, IsCheck, ChecksSafe, ChecksUnsafe, IsUsage, Judges}
-use Rattle.suit_cli.proofs.Running.{Declining, IsJudged, Plain, checked, judged_when, judged_safe, judged_unsafe, done_safe, status_done, status_unsafe, status_usage, not_seven, not_eight, not_ten_of, plain_not, unsafe_refuted}
+use Rattle.suit_cli.proofs.Running.{Declining, IsJudged, Plain, check_faults, checked, judged_when, judged_safe, judged_unsafe, done_safe, status_done, status_unsafe, status_usage, not_seven, not_eight, not_ten_of, plain_not, unsafe_refuted}
 use Rattle.suit_cli.proofs.TaskAnswers.{TellsUnsafe, does_of, reply_of}
 use Rattle.suit_cli.proofs.StagesKeep.{Counts}
 use Rattle.suit_cli.proofs.StagesLet.{answers_lets}
@@ -63,6 +64,11 @@ usage_of words b a r (Goes task m _ g rest) is =
 no_task_usage : (words : List (List ℕ)) (b a : Outside) (r : Reply) → task_of words ≡ None → answers words b a (Says r) → status_of r.outcome ≡ 2
 no_task_usage words b a r none (Declines _ d) = ap status_of d.1.1.outcome_is
 no_task_usage words b a r none (Goes task m _ g rest) = let never : None ≡ Some task = sym none ∙ g.1 in absurd cc
+
+checks_no_flash : (words : List (List ℕ)) → IsCheck words → (b a : Outside) → answers words b a (FaultOf objects.Flash) → ⊥
+checks_no_flash words check b a (Goes task m _ g rest) =
+    check_faults check.0 objects.Flash m a (subst (λ (t : Task). does t m a (FaultOf objects.Flash)) (same_Some task (Check check.0) (sym g.1 ∙ check.1)) rest)
+checks_no_flash words check b a (Faults _ f) = f
 
 -- ---- the clauses
 
@@ -156,6 +162,19 @@ module _ (words : List (List ℕ)) (b a : Outside) (sb sa : Sunk) (result : ℕ)
     of_puts : PutsText sb sa (ending_status runs.ending) (ending_text runs.ending) result → ChecksNone words b ⊎ IsExcuse result
     of_puts (IsPut is still puts) = of_ending runs.ending runs.answer is
     of_puts (IsCut is faulted puts) = inr (inr (inr (inl is)))
+
+  -- `check` looks at no flash
+  pub no_flash : IsCheck words → result ≢ 8
+  no_flash check eight = of_puts runs.puts where
+    of_ending : (e : Ending) → answers words b a e → ending_status e ≡ 8 → ⊥
+    of_ending (Says r) answer is = not_eight r.outcome is
+    of_ending (FaultOf objects.Host) answer is = omega (arith, is)
+    of_ending (FaultOf objects.Flash) answer is = checks_no_flash words check b a answer
+    of_ending NoMemory answer is = omega (arith, is)
+
+    of_puts : PutsText sb sa (ending_status runs.ending) (ending_text runs.ending) result → ⊥
+    of_puts (IsPut is still puts) = of_ending runs.ending runs.answer (sym is ∙ eight)
+    of_puts (IsCut is faulted puts) = omega (arith, is, eight)
 
   pub usage : result ≡ 2 → IsUsage words sb sa
   usage two =

@@ -1,5 +1,5 @@
 -- How a run ends: in stages, by a boot or by an update.
-use Rattle.std.proofs.Common.{◌≡◌, ◌⊎◌, ℕ, List, [], length, append-nil, Option, Some, None, sym, ap, subst, ◌∙◌, ◌≤◌, arith}
+use Rattle.std.proofs.Common.{◌≡◌, ℕ, List, [], length, append-nil, Option, Some, None, sym, ap, subst, ◌∙◌, ◌≤◌, arith}
 use Rattle.std.specs.Prelude.{IsTrue, ◌≢◌}
 use Rattle.suit_edge.specs.declared.launch.Launch.{Launch}
 use Rattle.suit_commands.specs.Tree.{PlanTree}
@@ -22,7 +22,7 @@ use Rattle.suit_cli.specs.Booting.{Boots, boot_status}
 use Rattle.suit_cli.specs.Coming.{Ended, Answered, Booted, Updated, ByStages, ByBoot, ByUpdate, ended_status}
 use Rattle.suit_cli.specs.Updating.{Updates, update_status}
 use Rattle.update_proc.specs.declared.update_end.UpdateEnd.{UpdateEnd}
-use Rattle.suit_cli.specs.Program.{ComesTo, Puts, PutsText, IsPut, IsCut, Performs, EndsIn, IsStatus, ChecksProcedures, IsCheck, ChecksSafe, ChecksUnsafe, IsUsage, IsCutOff, MayLaunch, AreCounted, AsFound, AsksForUpdate, IsForUpdate, LeavesBy, KeepsLauncher, most_pulled, stored_by, Checks, ChecksNone, IsExcuse, SaysYes, SaysNo, SaysNeither}
+use Rattle.suit_cli.specs.Program.{ComesTo, Puts, PutsText, IsPut, IsCut, Performs, EndsIn, IsStatus, ChecksProcedures, IsCheck, ChecksSafe, ChecksUnsafe, IsUsage, IsCutOff, MayLaunch, AreCounted, AsFound, AsksForUpdate, IsForUpdate, LeavesBy, KeepsLauncher, most_pulled, stored_by, Checks, SaysYes, SaysNo, SaysNeither}
 use Rattle.suit_cli.proofs.Running as running
 use Rattle.suit_cli.proofs.RunClauses as staged
 use Rattle.suit_cli.proofs.RunClauses.{Staged}
@@ -155,14 +155,13 @@ module _ (words : List (List ℕ)) (l m : Launching) (b a : Outside) (sb sa : Su
 
   -- of `check`, by its status
   pub checks : EnvelopeLaws → ManifestLaws → MembersLaws → IsTrue b.told → IsCheck words → Checks words b sb sa result
-  checks envelopes manifests members told check = by_status result (λ is. SaysYes is (yes told check is)) (λ is. SaysNo is (no_path told is)) neither where
-    of_way : Way words l m b a sb sa result → result ≢ 0 → result ≢ 1 → ChecksNone words b ⊎ IsExcuse result
-    of_way (InStages run same) = staged.no_answer words b a sb sa result run envelopes manifests members
+  checks envelopes manifests members told check = of_way way where
+    of_way : Way words l m b a sb sa result → Checks words b sb sa result
+    of_way (InStages run same) =
+        by_status result (λ is. SaysYes is (yes told check is)) (λ is. SaysNo is (no_path told is))
+        (λ not_yes not_no. SaysNeither not_yes not_no (staged.no_flash words b a sb sa result run check) (staged.no_answer words b a sb sa result run envelopes manifests members not_yes not_no))
     of_way (AsBoot end lines word boots puts) = let never : Some (Check check.0) ≡ Some RunBoot = sym check.1 ∙ word in absurd cc
     of_way (AsUpdate name uris end lines word updates puts) = let never : Some (Check check.0) ≡ Some (RunUpdate name uris) = sym check.1 ∙ word in absurd cc
-
-    neither : result ≢ 0 → result ≢ 1 → Checks words b sb sa result
-    neither not_yes not_no = SaysNeither not_yes not_no (of_way way not_yes not_no)
 
   pub usage : result ≡ 2 → IsUsage words sb sa
   usage two = of_way way where

@@ -121,14 +121,14 @@ ChecksNone words before =
     (update invocation : PlanTree) → ChecksProcedures words before update invocation → ⊥
 
 -- Yes, and both procedures are safe; no, with a path that shows that they are not; or neither, since the file has no such
--- procedures, or a fault came or memory ran out first.
+-- procedures, or a fault came or memory ran out first. The flash is not looked at, so a fault is not of the flash.
 pub data Checks (words : List (List ℕ)) (before : Outside) (sunk_before sunk_after : Sunk)
     (result : ℕ) : Type 0 where
   SaysYes : result ≡ 0 → ChecksSafe words before
       → Checks words before sunk_before sunk_after result
   SaysNo : result ≡ 1 → ChecksUnsafe words before sunk_before sunk_after
       → Checks words before sunk_before sunk_after result
-  SaysNeither : result ≢ 0 → result ≢ 1 → ChecksNone words before ⊎ IsExcuse result
+  SaysNeither : result ≢ 0 → result ≢ 1 → result ≢ 8 → ChecksNone words before ⊎ IsExcuse result
       → Checks words before sunk_before sunk_after result
 
 -- ---- usage
