@@ -41,7 +41,7 @@ use Rattle.suit_cli.proofs.Running.{Declining, status_done}
 use Rattle.suit_cli.proofs.UpdateEnds.{cause_not_low}
 use Rattle.completeness.specs.CompletenessLaws.{AsksUpdate}
 use Rattle.suit_cli.proofs.AcceptedFacts.{began, facts}
-use Rattle.suit_cli.proofs.OneStage.{alike_self, one_envelope, one_manifest, one_members, one_read}
+use Rattle.suit_cli.proofs.OneStage.{one_envelope, one_manifest, one_members, one_read}
 use Rattle.suit_cli.proofs.TaskAnswers.{does_of}
 use Rattle.completeness.specs.Outcomes.{AreTold, IsFaultless, LeavesFlash}
 use Rattle.completeness.specs.Updates.{Installs, Meets, Offers, ReadyToUpdate, Sets, digest_of, record_for}
@@ -92,15 +92,15 @@ module _ (name : List ℕ) (uris : List (List ℕ × List ℕ)) (l n : Launching
 module _ (envelopes : EnvelopeLaws) (manifests : ManifestLaws) (members : MembersLaws) (layout : List Entry) (key : Key) (bytes : List ℕ) (b : Outside) (told : IsTrue b.told)
     (x y : Accepted) (f : Meets layout key bytes x) (g : Meets layout key bytes y) where
   pub same_said : y.said ≡ x.said
-  same_said = ((one_envelope envelopes bytes).gives b b b b x.said y.said (alike_self b told) (refl, (f.are_bytes, f.envelope)) (refl, (g.are_bytes, g.envelope))).0
+  same_said = (one_envelope envelopes bytes).value x.said y.said (f.are_bytes, f.envelope) (g.are_bytes, g.envelope)
 
   pub same_manifest : y.manifest ≡ x.manifest
-  same_manifest = ((one_manifest envelopes manifests bytes x.said f.envelope).gives b b b b x.manifest y.manifest (alike_self b told) (refl, f.says)
-      (refl, subst (λ (s : EnvelopeSays). ManifestOf s y.manifest) same_said g.says)).0
+  same_manifest = (one_manifest envelopes manifests bytes x.said f.envelope).value x.manifest y.manifest f.says (subst (λ (s : EnvelopeSays). ManifestOf s y.manifest) same_said g.says)
 
   pub same_members : y.members ≡ x.members
-  same_members = ((one_members members bytes x.said x.manifest f.envelope).gives b b b b x.members y.members (alike_self b told) (refl, f.members)
-      (refl, subst (λ (m : Manifest). HasMembers x.said m y.members) same_manifest (subst (λ (s : EnvelopeSays). HasMembers s y.manifest y.members) same_said g.members))).0
+  same_members =
+      (one_members members bytes x.said x.manifest f.envelope).value x.members y.members f.members
+      (subst (λ (m : Manifest). HasMembers x.said m y.members) same_manifest (subst (λ (s : EnvelopeSays). HasMembers s y.manifest y.members) same_said g.members))
 
 -- ---- done, where it is ready
 
@@ -115,7 +115,7 @@ module _ (configs : OneAnswer) (envelopes : EnvelopeLaws) (manifests : ManifestL
           (u.held.1 ready.told.flash) (O.configured ready.told.flash))
 
       same_bytes : u.bytes ≡ O.bytes
-      same_bytes = one_read longest_file ready.name b b (alike_self b ready.told.host) O.bytes u.bytes O.read (read_there ready.name ready.uris l n b a end lines u ready.told)
+      same_bytes = one_read longest_file ready.name b ready.told.host O.bytes u.bytes O.read (read_there ready.name ready.uris l n b a end lines u ready.told)
 
       accepted_there : IsAccepted O.layout O.key O.bytes u.accepted
       accepted_there =

@@ -1,5 +1,5 @@
 -- The results of the code of `make`, stage by stage.
-use Rattle.std.proofs.Common.{◌≡◌, ◌∙◌, ℕ, ◌<◌, ◌+◌, Bool, true, false, List, [], ◌∷◌, ◌++◌, length, drop, get_or, Option, Some, None, Result, Ok, Err, ◌⊎◌, inl, inr, refl, sym, ap, subst}
+use Rattle.std.proofs.Common.{◌≡◌, ◌∙◌, ℕ, ◌<◌, ◌+◌, Bool, true, false, List, [], ◌∷◌, ◌++◌, length, drop, get_or, Some, Result, Ok, Err, inl, inr, refl, sym, ap, subst}
 use Rattle.std.specs.Prelude.{◌≢◌, IfOk, IsTrue, String, string_bytes, ◌&&◌, ◌||◌}
 use Rattle.std.specs.Str.{IsUtf8, bytes_eq}
 use Rattle.std.specs.Result.{IsErrAnd}
@@ -16,13 +16,11 @@ use Rattle.author.specs.declared.held.Description.{Description}
 use Rattle.author.specs.Faults.{IsDescription, RefusesDescription, IsFaultOf}
 use Rattle.author.specs.Held.{IsDescriptionOf, value_of}
 use Rattle.author.specs.Files.{has_file, has_files}
-use Rattle.suit_cli.specs.declared.reply.Object.{Object}
-use Rattle.suit_cli.specs.declared.reply.Outcome.TheVariants as outcomes
 use Rattle.suit_cli.specs.declared.reply.Stop.{Stop}
 use Rattle.suit_cli.specs.declared.reply.Stop.TheVariants as stops
 use Rattle.suit_cli.specs.Outside.{Outside, LeavesOthers}
 use Rattle.suit_cli.specs.Replies.{refused_by}
-use Rattle.suit_cli.specs.Stages.{Stage, Ending, Does, After, in_turn}
+use Rattle.suit_cli.specs.Stages.{Ending, Does}
 use Rattle.suit_cli.specs.Inputs.{file}
 use Rattle.suit_cli.proofs.Chains.{stops_with}
 use Rattle.suit_cli.specs.Json.{json_in}

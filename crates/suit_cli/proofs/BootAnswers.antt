@@ -1,5 +1,5 @@
 -- The answer to `run boot`.
-use Rattle.std.proofs.Common.{◌≡◌, ◌⊎◌, inl, inr, ℕ, List, Option, Some, None, Result, Ok, Err, refl, sym, ap, subst, ◌∙◌}
+use Rattle.std.proofs.Common.{◌≡◌, ◌⊎◌, inl, inr, ℕ, List, Some, None, Result, Err, refl, sym, ap, subst, ◌∙◌}
 use Rattle.suit_params.specs.declared.refusal.Refusal.{Refusal}
 use Rattle.flash_layout.specs.declared.key.Key.{Key}
 use Rattle.flash_layout.specs.declared.layout.Entry.{Entry}
@@ -20,7 +20,7 @@ use Rattle.suit_cli.proofs.Chains.{stopped, does_command, answers_usage}
 use Rattle.suit_cli.specs.Installed.{config_in}
 use Rattle.suit_cli.specs.Commands.{does}
 use Rattle.suit_cli.specs.Launching.{Launching}
-use Rattle.suit_cli.specs.Booting.{IsBoot, Boots, boot_line}
+use Rattle.suit_cli.specs.Booting.{IsBoot}
 use Rattle.suit_cli.specs.Coming.{BootsBy, Comes, ByStages, ByBoot, ByUpdate, Ended, Answered, Booted, Updated, IsStarved, IsTold}
 
 -- a boot that refused the bank is one whose memory ran out, too

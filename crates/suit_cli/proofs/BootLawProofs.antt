@@ -1,12 +1,12 @@
 -- Why `run boot` ends so.
 use Rattle.std.proofs.Common.{◌≡◌, ◌≢◌, ◌⊎◌, inl, inr, ℕ, List, Option, Some, None, refl, sym, ap, subst, ◌∙◌}
 use Rattle.std.specs.Prelude.{IsTrue, codes}
+use Rattle.std.proofs.lemmas.Option.{same_Some}
 use Rattle.flash_layout.specs.declared.frame.TheConstants.{VERSION_1}
 use Rattle.flash_layout.specs.declared.key.Key.{Key}
 use Rattle.flash_layout.specs.declared.layout.Entry.{Entry}
 use Rattle.flash_layout.specs.declared.slot.Record.{Record}
 use Rattle.flash_layout.specs.ConfigLaws.{OneAnswer as OneConfigAnswer}
-use Rattle.flash_layout.specs.Configs.{Configured}
 use Rattle.flash_layout.specs.Frames.{head_of}
 use Rattle.rollback_record.specs.RecordLaws.{OneAnswer}
 use Rattle.rollback_record.specs.SoundFlash.{key_bytes}
@@ -20,7 +20,7 @@ use Rattle.invoke_proc.specs.Starting.{IsDeclined}
 use Rattle.invoke_proc.specs.Booting.{Answers, PlayedSo, PlaysBoot, end_of}
 use Rattle.suit_cli.specs.declared.reply.Object.TheVariants as objects
 use Rattle.suit_cli.specs.declared.reply.Reply.{Reply}
-use Rattle.suit_cli.specs.BootEndLaws.{BootEndLaws, HasBank, HasBytes, HasStart, StartsNothing, AtConfig, AtRecord, AtBank, AtAuthenticity, AtComponents, Played, IsNoAnswer}
+use Rattle.suit_cli.specs.BootEndLaws.{BootEndLaws, HasBytes, HasStart, StartsNothing, AtConfig, AtRecord, AtBank, AtAuthenticity, AtComponents, Played, IsNoAnswer}
 use Rattle.suit_cli.specs.Booting.{Boots, boot_line}
 use Rattle.suit_cli.specs.Coming.{Comes, ByStages, ByBoot, ByUpdate, Ended, Answered, Booted}
 use Rattle.suit_cli.specs.Commands.{begins_boot}
@@ -29,7 +29,8 @@ use Rattle.suit_cli.specs.Launching.{Launching}
 use Rattle.suit_cli.specs.Outside.{Outside}
 use Rattle.suit_cli.specs.Stages.{Ending, Says, Last, Ends, EndsWithout, Goes, Declines, Faults, Lacks}
 use Rattle.suit_cli.specs.Words.{RunBoot}
-use Rattle.suit_cli.proofs.OneAnswers.{one_none, holds_not_none}
+use Rattle.suit_cli.proofs.OneAnswers.{one_config}
+use Rattle.suit_cli.proofs.OneCause.{Behind, Stops, Passes, HasOne, just_one, passes}
 
 module _ (launched now : Launching) (before after : Outside) where
   abbrev Caused : Ended → Type 0
@@ -97,79 +98,71 @@ module _ (launched now : Launching) (before after : Outside) where
 
 -- ---- one cause
 
--- a cause to start nothing, by configuration, record and bank
-data Cause (before : Outside) (ended : Ended) : Type 0 where
-  NoConfig : (reply : Reply) → HoldsNone before.flash reply → ended ≡ Answered (Says reply) → Cause before ended
-  NoRecord : (config : List Entry × Key) → Holds before.flash config → record_in before.flash.reads None → ended ≡ Booted ends.NothingInstalled (codes "nothing installed\n") → Cause before ended
-  NoStart : (layout : List Entry) (key : Key) (installed : Record) (end : BootEnd) → HasBank before layout key installed → end ≢ ends.NoMemory
-      → IsDeclined layout (key_bytes key) (bank_in before.flash.reads installed) end → ended ≡ Booted end (boot_line end) → Cause before ended
+-- nothing is started because of its bank, and so it ended
+abbrev BankStops : Outside → List Entry × Key → Record → Ended → Type 0
+BankStops before config installed ended =
+    (end : BootEnd) × (end ≢ ends.NoMemory) × IsDeclined config.0 (key_bytes config.1) (bank_in before.flash.reads installed) end × (ended ≡ Booted end (boot_line end))
 
-cause_of : (before : Outside) (ended : Ended) → StartsNothing before ended → Cause before ended
-cause_of before _ (AtConfig reply none) = NoConfig reply none refl
-cause_of before _ (AtRecord layout key holds none) = NoRecord (layout, key) holds none refl
-cause_of before _ (AtBank layout key installed refusal bank bad) = NoStart layout key installed (ends.BadBank refusal) bank (λ e. absurd cc) bad refl
-cause_of before _ (AtAuthenticity layout key installed lacking bank lacks) = NoStart layout key installed (ends.NotAuthentic lacking) bank (λ e. absurd cc) lacks refl
-cause_of before _ (AtComponents layout key installed component bank unknown) = NoStart layout key installed (ends.UnknownComponent component) bank (λ e. absurd cc) unknown refl
+-- the stages, as the start has them: configuration, record and bank
+abbrev NothingStarts : Outside → Ended → Type 0
+NothingStarts before =
+    Behind (Holds before.flash) (λ (ended : Ended). (reply : Reply) × HoldsNone before.flash reply × (ended ≡ Answered (Says reply))) (λ config.
+    Behind (λ (installed : Record). record_in before.flash.reads (Some installed)) (λ (ended : Ended). record_in before.flash.reads None × (ended ≡ Booted ends.NothingInstalled (codes "nothing installed\n"))) (λ installed.
+    BankStops before config installed))
+
+nothing_stages : (before : Outside) (ended : Ended) → StartsNothing before ended → NothingStarts before ended
+nothing_stages before _ (AtConfig reply none) = Stops (reply, none, refl)
+nothing_stages before _ (AtRecord layout key holds none) = Passes (layout, key) holds (Stops (none, refl))
+nothing_stages before _ (AtBank layout key installed refusal bank bad) = Passes (layout, key) bank.config (Passes installed bank.recorded (ends.BadBank refusal, (λ e. absurd cc), bad, refl))
+nothing_stages before _ (AtAuthenticity layout key installed lacking bank lacks) =
+    Passes (layout, key) bank.config (Passes installed bank.recorded (ends.NotAuthentic lacking, (λ e. absurd cc), lacks, refl))
+nothing_stages before _ (AtComponents layout key installed component bank unknown) =
+    Passes (layout, key) bank.config (Passes installed bank.recorded (ends.UnknownComponent component, (λ e. absurd cc), unknown, refl))
 
 module _ (configs : OneConfigAnswer) (records : OneAnswer) (laws : BankLaws) (before : Outside) (told : IsTrue before.flash.told) (bytes : HasBytes before) where
-  one_config : (c d : List Entry × Key) → Holds before.flash c → Holds before.flash d → Configured c.0 c.1 ≡ Configured d.0 d.1
-  one_config c d first second = configs VERSION_1 before.flash.size (head_of VERSION_1 before.flash.reads) (Configured c.0 c.1) (Configured d.0 d.1) (first told) (second told)
+  one_held : HasOne (Holds before.flash) (λ (ended : Ended). (reply : Reply) × HoldsNone before.flash reply × (ended ≡ Answered (Says reply)))
+  one_held = record {
+    value = (one_config configs before.flash told).value;
+    refusal = λ a b g h. h.2 ∙ ap (λ reply. Answered (Says reply)) ((one_config configs before.flash told).refusal g.0 h.0 g.1 h.1) ∙ sym g.2;
+    never = λ config a g h. (one_config configs before.flash told).never config h.0 g h.1;
+  }
 
-  one_record : (a b : Option Record) → record_in before.flash.reads a → record_in before.flash.reads b → a ≡ b
-  one_record a b first second = records VERSION_1 (head_of VERSION_1 before.flash.reads) a b first second
+  same_record : (x y : Record) → record_in before.flash.reads (Some x) → record_in before.flash.reads (Some y) → y ≡ x
+  same_record x y first second = same_Some y x (records VERSION_1 (head_of VERSION_1 before.flash.reads) (Some y) (Some x) second first)
 
-  never_both : (installed : Record) → record_in before.flash.reads None → record_in before.flash.reads (Some installed) → ⊥
-  never_both installed none some = let bad : None ≡ Some installed = one_record None (Some installed) none some in absurd cc
+  record_or_none : (x : Record) → record_in before.flash.reads (Some x) → record_in before.flash.reads None → ⊥
+  record_or_none x some none = let never : None ≡ Some x = records VERSION_1 (head_of VERSION_1 before.flash.reads) None (Some x) none some in absurd cc
 
-  one_end : (layout others : List Entry) (key other : Key) (r q : Record) (a b : BootEnd) → HasBank before layout key r → HasBank before others other q → a ≢ ends.NoMemory → b ≢ ends.NoMemory
-      → IsDeclined layout (key_bytes key) (bank_in before.flash.reads r) a → IsDeclined others (key_bytes other) (bank_in before.flash.reads q) b → a ≡ b
-  one_end layout others key other r q a b first second na nb da db =
-      let same : Configured others other ≡ Configured layout key = one_config (others, other) (layout, key) second.config first.config in
-      let layouts : others ≡ layout = cc in
-      let keys : other ≡ key = cc in
-      let both : Some q ≡ Some r = one_record (Some q) (Some r) second.recorded first.recorded in
-      let record_is : q ≡ r = cc in
-      let here : IsDeclined layout (key_bytes key) (bank_in before.flash.reads r) b =
-      subst (λ (l : List Entry). IsDeclined l (key_bytes key) (bank_in before.flash.reads r) b) layouts
-      (subst (λ (k : Key). IsDeclined others (key_bytes k) (bank_in before.flash.reads r) b) keys (subst (λ (x : Record). IsDeclined others (key_bytes other) (bank_in before.flash.reads x) b) record_is db)) in
-      laws.one layout (key_bytes key) (bank_in before.flash.reads r) a b (bytes r first.recorded) na nb da here
+  one_recorded : HasOne (λ (installed : Record). record_in before.flash.reads (Some installed))
+      (λ (ended : Ended). record_in before.flash.reads None × (ended ≡ Booted ends.NothingInstalled (codes "nothing installed\n")))
+  one_recorded = record { value = same_record; refusal = λ a b g h. h.1 ∙ sym g.1; never = λ x a g h. record_or_none x g h.0 }
 
-  one_cause : (a b : Ended) → Cause before a → Cause before b → b ≡ a
-  one_cause a b (NoConfig r x e) (NoConfig q y k) = k ∙ ap (λ reply. Answered (Says reply)) (one_none configs records before told r q x y) ∙ sym e
-  one_cause a b (NoConfig r x e) (NoRecord c h n k) = absurd (holds_not_none configs records before told c r h x)
-  one_cause a b (NoConfig r x e) (NoStart layout key installed end bank never d k) = absurd (holds_not_none configs records before told (layout, key) r bank.config x)
-  one_cause a b (NoRecord c h n k) (NoConfig r x e) = absurd (holds_not_none configs records before told c r h x)
-  one_cause a b (NoStart layout key installed end bank never d k) (NoConfig r x e) = absurd (holds_not_none configs records before told (layout, key) r bank.config x)
-  one_cause a b (NoRecord c h n e) (NoRecord c' h' n' k) = k ∙ sym e
-  one_cause a b (NoRecord c h n e) (NoStart layout key installed end bank never d k) = absurd (never_both installed n bank.recorded)
-  one_cause a b (NoStart layout key installed end bank never d k) (NoRecord c h n e) = absurd (never_both installed n bank.recorded)
-  one_cause a b (NoStart layout key r x first nx dx e) (NoStart others other q y second ny dy k) =
-      k ∙ ap (λ (end : BootEnd). Booted end (boot_line end)) (sym (one_end layout others key other r q x y first second nx ny dx dy)) ∙ sym e
+  one_stop : (config : List Entry × Key) (installed : Record) → record_in before.flash.reads (Some installed) → (a b : Ended) → BankStops before config installed a → BankStops before config installed b
+      → b ≡ a
+  one_stop config installed recorded a b x y =
+      let same = laws.one config.0 (key_bytes config.1) (bank_in before.flash.reads installed) x.0 y.0 (bytes installed recorded) x.1 y.1 x.2 y.2 in
+      y.3 ∙ ap (λ (end : BootEnd). Booted end (boot_line end)) (sym same) ∙ sym x.3
 
-  not_started : (a : Ended) → HasStart before → Cause before a → ⊥
-  not_started a s (NoConfig r x e) = holds_not_none configs records before told (s.layout, s.key) r s.config x
-  not_started a s (NoRecord c h n e) = never_both s.installed n s.starts.recorded
-  not_started a s (NoStart layout key r end bank never d e) =
-      let same : Configured layout key ≡ Configured s.layout s.key = one_config (layout, key) (s.layout, s.key) bank.config s.config in
-      let layouts : layout ≡ s.layout = cc in
-      let keys : key ≡ s.key = cc in
-      let both : Some r ≡ Some s.installed = one_record (Some r) (Some s.installed) bank.recorded s.starts.recorded in
-      let record_is : r ≡ s.installed = cc in
-      let here : IsDeclined s.layout (key_bytes s.key) (bank_in before.flash.reads s.installed) end =
-      subst (λ (l : List Entry). IsDeclined l (key_bytes s.key) (bank_in before.flash.reads s.installed) end) layouts
-      (subst (λ (k : Key). IsDeclined layout (key_bytes k) (bank_in before.flash.reads s.installed) end) keys (subst (λ (x : Record). IsDeclined layout (key_bytes key) (bank_in before.flash.reads x) end) record_is d)) in
-      never (laws.none s.layout (key_bytes s.key) (bank_in before.flash.reads s.installed) s.starts.said s.manifest end (bytes s.installed s.starts.recorded) s.starts.started here)
+  one_cause : (a b : Ended) → StartsNothing before a → StartsNothing before b → b ≡ a
+  one_cause a b first second =
+      just_one _ _ _ one_held (λ config held. just_one _ _ _ one_recorded (λ installed recorded. one_stop config installed recorded)) a b (nothing_stages before a first) (nothing_stages before b second)
+
+  not_started : (a : Ended) → HasStart before → StartsNothing before a → ⊥
+  not_started a s nothing =
+      let behind = passes _ _ _ one_held (s.layout, s.key) a s.config (nothing_stages before a nothing) in
+      let stops = passes _ _ _ one_recorded s.installed a s.starts.recorded behind in
+      stops.1 (laws.none s.layout (key_bytes s.key) (bank_in before.flash.reads s.installed) s.starts.said s.manifest stops.0 (bytes s.installed s.starts.recorded) s.starts.started stops.2)
 
   start_of : (launched now : Launching) (after : Outside) (ended : Ended) → Played launched now before after ended → HasStart before
   start_of launched now after ended p = record { layout = p.layout; key = p.key; config = p.config; installed = p.plays.installed; manifest = p.plays.manifest; starts = p.plays.starts }
 
   by_cause : (launched now : Launching) (after : Outside) (a b : Ended) → StartsNothing before a → Caused launched now before after b → (b ≡ a) ⊎ IsNoAnswer b
-  by_cause launched now after a b here (inl other) = inl (one_cause a b (cause_of before a here) (cause_of before b other))
-  by_cause launched now after a b here (inr (inl p)) = absurd (not_started a (start_of launched now after b p) (cause_of before a here))
+  by_cause launched now after a b here (inl other) = inl (one_cause a b here other)
+  by_cause launched now after a b here (inr (inl p)) = absurd (not_started a (start_of launched now after b p) here)
   by_cause launched now after a b here (inr (inr none)) = inr none
 
   by_start : (launched now : Launching) (after : Outside) (ended : Ended) → HasStart before → Caused launched now before after ended → Played launched now before after ended ⊎ IsNoAnswer ended
-  by_start launched now after ended s (inl other) = absurd (not_started ended s (cause_of before ended other))
+  by_start launched now after ended s (inl other) = absurd (not_started ended s other)
   by_start launched now after ended s (inr rest) = rest
 
 pub boot_end_laws : OneConfigAnswer → OneAnswer → BankLaws → BootEndLaws

@@ -1,5 +1,5 @@
 -- Where each command stops.
-use Rattle.std.proofs.Common.{◌≡◌, ℕ, ◌+◌, List, [], ◌∷◌, ◌++◌, ◌⊎◌, inl, inr, refl, sym, ap, subst, ◌∙◌}
+use Rattle.std.proofs.Common.{◌≡◌, ℕ, List, [], ◌∷◌, ◌++◌, ◌⊎◌, inl, inr, refl, sym, ap, subst, ◌∙◌}
 use Rattle.std.specs.Prelude.{IsTrue}
 use Rattle.std.proofs.lemmas.List.{append_assoc}
 use Rattle.suit_envelope.specs.Envelopes.{EnvelopeSays}
@@ -12,19 +12,20 @@ use Rattle.suit_manifest.specs.ManifestLaws.{ManifestLaws}
 use Rattle.suit_manifest.specs.MembersLaws.{MembersLaws}
 use Rattle.suit_cli.specs.declared.reply.Reply.{Reply}
 use Rattle.suit_cli.specs.declared.reply.Outcome.TheVariants as outcomes
-use Rattle.suit_cli.specs.Outside.{Outside, Asks, MayAsk, Reads}
+use Rattle.suit_cli.specs.Outside.{Outside, Asks, MayAsk}
 use Rattle.suit_cli.specs.declared.reply.Object.{Object}
 use Rattle.suit_cli.specs.declared.reply.Object.TheVariants as objects
 use Rattle.suit_cli.specs.Stages.{Says, FaultOf, at_host, Goes, Declines, Faults, Ends}
-use Rattle.suit_cli.specs.Inputs.{longest_key, IsNoKey}
+use Rattle.suit_cli.specs.Inputs.{IsKey, IsNoKey}
 use Rattle.suit_cli.specs.Holding.{HasManifest}
 use Rattle.suit_cli.specs.Shown.{IsShown, authenticity_outcome}
 use Rattle.suit_cli.specs.Commands.{shows_manifest, shows}
 use Rattle.suit_cli.specs.CommandCauses.{NoManifest}
 use Rattle.suit_cli.specs.CommandLaws.{CheckLaws, ShowSays, BeforeKey, AtKey, AtLines, ShowsUnder, AskBoth, ShowFaults, FaultsAtFile, FaultsAtKey, ShowLaws}
 use Rattle.suit_cli.proofs.SameFiles.{no_key_here, key_here}
-use Rattle.suit_cli.proofs.OneStage.{asks_for, asks_reads, passes, stands, one_key}
-use Rattle.suit_cli.proofs.Running.{Reached, reaches, reaches_fault, check_asks, check_faults, manifest_passed, no_manifest_stands, check_says, check_always, last_says}
+use Rattle.suit_cli.proofs.OneCause.{Behind, Stops, Passes, passes, stands}
+use Rattle.suit_cli.proofs.OneStage.{one_key}
+use Rattle.suit_cli.proofs.Running.{InManifest, Reached, reaches, reaches_fault, check_asks, check_faults, has_passed, manifest_passed, no_manifest_stands, stops_before, check_says, check_always}
 
 pub check_laws : EnvelopeLaws → ManifestLaws → MembersLaws → CheckLaws
 check_laws envelopes manifests members = record {
@@ -70,20 +71,30 @@ show_faults name key_name object b a answer = of_reached object (reaches_fault n
   of_reached objects.Flash (inl asks) = absurd asks
   of_reached o (inr at) = of_rest at.there at.said at.manifest at.has at.quiet.told at.asks o at.on
 
+-- the stages behind the manifest, as the start has them
+abbrev Shows : List ℕ → Outside → List ℕ → EnvelopeSays → Manifest → Reply → Type 0
+Shows key_name b bytes said manifest = Behind (IsKey key_name b) (IsNoKey key_name b) (IsShown said manifest)
+
+show_stages : (name key_name : List ℕ) (b : Outside) (r : Reply) → ShowSays name key_name b r → InManifest name b (Shows key_name b) r
+show_stages name key_name b r (BeforeKey none) = stops_before name b (Shows key_name b) r none
+show_stages name key_name b r (AtKey said manifest has none) = has_passed name b (Shows key_name b) r said manifest has (Stops none)
+show_stages name key_name b r (AtLines said manifest key has k shown) = has_passed name b (Shows key_name b) r said manifest has (Passes key k shown)
+
 module _ (envelopes : EnvelopeLaws) (manifests : ManifestLaws) (name key_name : List ℕ) (b a : Outside) (told : IsTrue b.told) (q : Reply) (answer : shows name key_name b a (Says q)) where
-  still_key : Reads (longest_key + 1) key_name b (asks_for key_name b)
-  still_key = asks_reads (longest_key + 1) key_name b
+  stages : InManifest name b (Shows key_name b) q
+  stages = show_stages name key_name b q (show_says name key_name b a q answer)
+
+  no_manifest : (r : Reply) → NoManifest name b r → q ≡ r
+  no_manifest r none = no_manifest_stands envelopes manifests name b told (Shows key_name b) r q none stages
+
+  behind_manifest : (said : EnvelopeSays) (manifest : Manifest) → HasManifest name b said manifest → Behind (IsKey key_name b) (IsNoKey key_name b) (IsShown said manifest) q
+  behind_manifest said manifest has = manifest_passed envelopes manifests name b told (Shows key_name b) said manifest has q stages
 
   key_stands : (said : EnvelopeSays) (manifest : Manifest) (r : Reply) → HasManifest name b said manifest → IsNoKey key_name b r → q ≡ r
-  key_stands said manifest r has none =
-      let s = manifest_passed envelopes manifests name (λ bytes. shows_manifest key_name) b a told q said manifest has answer in
-      stands _ _ (one_key key_name) b s.0 (asks_for key_name b) a q s.1 r (still_key, none) s.2
+  key_stands said manifest r has none = stands _ _ _ (one_key key_name b told) r q none (behind_manifest said manifest has)
 
   is_shown : (said : EnvelopeSays) (manifest : Manifest) (key : List ℕ) → ShowsUnder name key_name b said manifest key → IsShown said manifest key q
-  is_shown said manifest key under =
-      let s = manifest_passed envelopes manifests name (λ bytes. shows_manifest key_name) b a told q said manifest under.has answer in
-      let k = passes _ _ (one_key key_name) b s.0 (asks_for key_name b) a q s.1 key (still_key, under.has_key) s.2 in
-      last_says _ k.0 a q k.2
+  is_shown said manifest key under = passes _ _ _ (one_key key_name b told) key q under.has_key (behind_manifest said manifest under.has)
 
 module _ (said : EnvelopeSays) (manifest : Manifest) (key : List ℕ) (r : Reply) (shown : IsShown said manifest key r) where
   is_authentic : IsAuthentic said.wrapper said.manifest key → r.outcome ≡ outcomes.Done
@@ -100,7 +111,7 @@ module _ (said : EnvelopeSays) (manifest : Manifest) (key : List ℕ) (r : Reply
 pub show_laws : EnvelopeLaws → ManifestLaws → ShowLaws
 show_laws envelopes manifests = record {
   only = λ name key_name b a r answer. show_says name key_name b a r answer;
-  no_manifest = λ name key_name b a r q told none answer. no_manifest_stands envelopes manifests name (λ bytes. shows_manifest key_name) b a told q r none answer;
+  no_manifest = λ name key_name b a r q told none answer. no_manifest envelopes manifests name key_name b a told q answer r none;
   no_key = λ name key_name b a said manifest r q told has none answer. key_stands envelopes manifests name key_name b a told q answer said manifest r has none;
   shown = λ name key_name b a said manifest key r told under answer. is_shown envelopes manifests name key_name b a told r answer said manifest key under;
   faults = λ name key_name b a object answer. show_faults name key_name object b a answer;

@@ -15,7 +15,7 @@ use Rattle.suit_cli.specs.Commands.{describes_manifest, describes}
 use Rattle.suit_cli.specs.CommandCauses.{NoManifest}
 use Rattle.suit_cli.specs.DescribingCauses.{DescribingSays, BeforeMembers, AtMembers, AtText, AtDescription}
 use Rattle.suit_cli.proofs.OneStage.{one_reply}
-use Rattle.suit_cli.proofs.Running.{Declining, declining, no_manifest_declines, lack_told, Plain, Reached, reaches}
+use Rattle.suit_cli.proofs.Running.{declining, no_manifest_declines, lack_told, Plain, Reached, reaches}
 
 pub describing_says : (name : List ℕ) (b a : Outside) (r : Reply) → describes name b a (Says r) → DescribingSays name b r
 describing_says name b a r answer = of_reached (reaches name describes_manifest b a r answer) where

@@ -2,7 +2,6 @@
 use Rattle.std.proofs.Common.{◌≡◌, ℕ, ◌+◌, Bool, false, List, [], ◌∷◌, ◌++◌, length, map, Option, Some, None, refl, sym, ap, subst, ◌∙◌, arith, append_assoc, append-nil, cond}
 use Rattle.std.specs.Prelude.{option_map, not}
 use Rattle.std.specs.List.{AllByRecursion}
-use Rattle.std.specs.Str.{bytes_eq}
 use Rattle.std.proofs.lemmas.List.{append_cancel_left}
 use Rattle.std.proofs.lemmas.List.Sums.{sum_by-append, sum_by-cons}
 use Rattle.std.proofs.lemmas.Option.{same_Some}
@@ -21,10 +20,10 @@ use Rattle.suit_cli.specs.declared.reply.Outcome.TheVariants as outcomes
 use Rattle.suit_cli.specs.Beginnings.{begins_boot}
 use Rattle.suit_cli.specs.Coming.{Comes, ByStages, ByBoot, ByUpdate, Ended}
 use Rattle.suit_cli.specs.DrillLaws.{DrillLaws}
-use Rattle.suit_cli.specs.Drilling.{AreDrilled, IsDrilled, NoRound, RoundAfter, RunTo, counted_round, drill_line, is_wrong, launches_of, no_rounds, rounds_counted, tally_of, wrong_by, wrong_in}
-use Rattle.suit_cli.specs.DrillRounds.{BootComes, IsRound, RoundRun}
+use Rattle.suit_cli.specs.Drilling.{NoRound, RoundAfter, RunTo, counted_round, drill_line, is_wrong, launches_of, no_rounds, rounds_counted, tally_of, wrong_by, wrong_in}
+use Rattle.suit_cli.specs.DrillRounds.{BootComes, RoundRun}
 use Rattle.suit_cli.specs.Launching.{Launching}
-use Rattle.suit_cli.specs.Outside.{Files, Outside}
+use Rattle.suit_cli.specs.Outside.{Files}
 use Rattle.suit_cli.specs.Replies.{IsReply}
 use Rattle.suit_cli.specs.Words.{RunBoot, RunUpdate}
 use Rattle.suit_cli.proofs.RunEnds.{boot_safe}

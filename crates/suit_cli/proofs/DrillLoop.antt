@@ -8,7 +8,7 @@ use Rattle.suit_cli.specs.declared.reply.Reply.{Reply}
 use Rattle.suit_cli.specs.declared.reply.Outcome.TheVariants as outcomes
 use Rattle.suit_cli.specs.DrillDevice.{IsFirst}
 use Rattle.suit_cli.specs.DrillRounds.{IsReady, RoundRun, RunsRound}
-use Rattle.suit_cli.specs.Drilling.{AreDrilled, DrillsTo, IsDrilled, NoRound, RoundAfter, RunTo, counted_round, drill_line, launches_of, no_rounds, rounds_counted, tally_of, wrong_in}
+use Rattle.suit_cli.specs.Drilling.{DrillsTo, IsDrilled, NoRound, RoundAfter, RunTo, counted_round, drill_line, launches_of, no_rounds, rounds_counted, tally_of, wrong_in}
 use Rattle.suit_cli.proofs.DrillLawProofs.{adds_up, launches_then, tally_then}
 
 -- the rounds before one

@@ -1,5 +1,5 @@
 -- The files that `run update` asks for.
-use Rattle.std.proofs.Common.{◌≡◌, ℕ, ◌+◌, ◌*◌, ◌<◌, ◌≤◌, max, List, [], ◌∷◌, ◌++◌, Option, Some, length, take, get_or, inl, inr, ⊎_elim, refl, sym, ap, subst, ◌∙◌, append_assoc, arith}
+use Rattle.std.proofs.Common.{◌≡◌, ℕ, ◌+◌, ◌*◌, ◌≤◌, max, List, [], ◌∷◌, ◌++◌, Some, length, take, get_or, ⊎_elim, refl, sym, ap, subst, ◌∙◌, append_assoc, arith}
 use Rattle.std.specs.Prelude.{IsTrue}
 use Rattle.std.specs.List.{AllByRecursion}
 use Rattle.std.proofs.lemmas.List.{length-take-le}
@@ -10,7 +10,7 @@ use Rattle.flash_layout.specs.declared.layout.Entry.{Entry}
 use Rattle.flash_layout.specs.declared.layout.Memory.{Memory}
 use Rattle.flash_layout.specs.declared.layout.Memory.TheVariants as memory
 use Rattle.flash_layout.specs.Configs.{IsAllowed}
-use Rattle.flash_layout.specs.Layouts.{IsEntry, IsOfMemory, IsTypedEntry, slot_starts, starts_in}
+use Rattle.flash_layout.specs.Layouts.{IsOfMemory, IsTypedEntry, slot_starts, starts_in}
 use Rattle.step_machine.specs.Fetching.{IsFileOf}
 use Rattle.step_machine.specs.Worlds.{HaveAtMost}
 use Rattle.update_proc.specs.declared.update_end.UpdateEnd.{UpdateEnd}
@@ -18,11 +18,10 @@ use Rattle.suit_cli.specs.declared.reply.Object.{Object}
 use Rattle.suit_cli.specs.declared.reply.Object.TheVariants as objects
 use Rattle.suit_cli.specs.declared.reply.Reply.{Reply}
 use Rattle.suit_cli.specs.Words.{Task, RunUpdate, task_of}
-use Rattle.suit_cli.specs.Outside.{Outside, Flashed, Quiet, Reads, ReadsInVain, with_flash}
-use Rattle.suit_cli.specs.Stages.{Answers, Ending, Stage, judging, looking, Then, Goes, Declines, Faults, Lacks, Last, Ends, EndsWithout}
+use Rattle.suit_cli.specs.Outside.{Outside, Flashed, Reads, ReadsInVain, with_flash}
+use Rattle.suit_cli.specs.Stages.{Ending, Stage, judging, looking, Then, Goes, Declines, Faults, Lacks, Last, Ends, EndsWithout}
 use Rattle.suit_cli.specs.Acceptance.{accepts}
 use Rattle.suit_cli.specs.Inputs.{longest_file, file}
-use Rattle.suit_cli.specs.Installed.{config_in}
 use Rattle.suit_cli.specs.Commands.{begins_update, does}
 use Rattle.suit_cli.specs.Launching.{Launching}
 use Rattle.suit_commands.specs.Tree.{PlanTree}

@@ -1,6 +1,6 @@
 -- The state between the stages of `run init`.
 use Rattle.std.proofs.Common.{◌≡◌, ℕ, ◌≤◌, List, [], ◌∷◌, length, sym, subst, refl, arith, Result, Ok, Err}
-use Rattle.std.specs.Prelude.{◌≢◌, IfOk, IsTrue, Some, None, String, codes, string_bytes}
+use Rattle.std.specs.Prelude.{◌≢◌, IfOk, IsTrue, Some, String, codes, string_bytes}
 use Rattle.std.specs.Str.{IsUtf8}
 use Rattle.std.specs.declared.alloc.AllocError.{AllocError}
 use Rattle.std.specs.declared.alloc.Global.{Global}

@@ -1,13 +1,12 @@
 -- The images a power loss during a command may leave.
-use Rattle.std.proofs.Common.{◌≡◌, ℕ, List, Option, Some, None, inl, inr, sym, subst, refl}
-use Rattle.std.specs.Prelude.{IsTrue}
+use Rattle.std.proofs.Common.{◌≡◌, ℕ, List, Option, Some, inl, inr, sym, subst}
 use Rattle.suit_edge.specs.Flash.{Flash, Now, Passes, IsFlash, IsSame}
 use Rattle.suit_edge.specs.FlashLaws.{starts, weakens, joined, each_now}
 use Rattle.flash_layout.specs.declared.frame.TheConstants.{VERSION_1}
 use Rattle.flash_layout.specs.declared.key.Key.{Key}
 use Rattle.flash_layout.specs.declared.layout.Entry.{Entry}
 use Rattle.flash_layout.specs.Formats.{IsBlankOrFormatted}
-use Rattle.suit_cli.specs.Words.{Task, Make, Describe, Show, Check, RunInit, RunUpdate, RunBoot, RunStatus}
+use Rattle.suit_cli.specs.Words.{Task, RunInit, RunUpdate, RunBoot}
 use Rattle.suit_cli.specs.Outside.{Outside, Flashed, with_flash}
 use Rattle.suit_cli.specs.Inputs.{longest_device, IsRead, IsKey}
 use Rattle.suit_cli.specs.Devices.{IsDevice, key_of}

@@ -3,6 +3,7 @@ pub mod Chains
 pub mod MemberTexts
 pub mod Bytes
 pub mod Opened
+pub mod OneCause
 pub mod OneStage
 pub mod Running
 pub mod StagesKeep

@@ -1,5 +1,5 @@
 -- Where `make` stops, and what it stores.
-use Rattle.std.proofs.Common.{◌≡◌, ◌∙◌, ℕ, List, [], ◌∷◌, ◌++◌, ◌<◌, ◌≤◌, length, arith, Option, Some, None, Result, Ok, Err, ◌⊎◌, inl, inr, refl, sym, ap, subst}
+use Rattle.std.proofs.Common.{◌≡◌, ◌∙◌, ℕ, List, [], ◌∷◌, ◌++◌, length, arith, Option, Some, None, Result, Ok, Err, ◌⊎◌, inl, inr, refl, sym, ap, subst}
 use Rattle.std.specs.Prelude.{◌≢◌, IsTrue}
 use Rattle.std.proofs.lemmas.List.{append_assoc, append-nil}
 use Rattle.std.proofs.lemmas.Option.{same_Some}
@@ -15,13 +15,14 @@ use Rattle.suit_cli.specs.declared.reply.Reply.{Reply}
 use Rattle.suit_cli.specs.declared.reply.Outcome.TheVariants as outcomes
 use Rattle.suit_cli.specs.declared.reply.Object.TheVariants as objects
 use Rattle.suit_cli.specs.Replies.{IsReply}
-use Rattle.suit_cli.specs.Outside.{Outside, Reads, Quiet, Stores, StoresInVain}
-use Rattle.suit_cli.specs.Stages.{Ending, Says, FaultOf, NoMemory, Goes, Declines, Faults, Lacks, IsSaid, ◌>>=◌}
-use Rattle.suit_cli.specs.Inputs.{IsRead, IsUnread, IsKey, IsNoKey, IsUnreadKey, IsEmptyKey}
+use Rattle.suit_cli.specs.Outside.{Outside, Reads, Stores}
+use Rattle.suit_cli.specs.Stages.{Ending, Says, NoMemory, Goes, Declines, Faults, Lacks, IsSaid, ◌>>=◌}
+use Rattle.suit_cli.specs.Inputs.{IsRead, IsUnread, IsKey, IsNoKey}
 use Rattle.suit_cli.specs.Authoring.{longest_description, longest_named, IsAuthored, IsNotAuthored, IsNoText, IsNoDescription, IsDescriptionLine, TellsDescription, IsEnvelopeOf, IsLongEnvelope, files_after, files_in, made_in, stores, made_line, makes_described}
 use Rattle.suit_cli.specs.Commands.{makes}
-use Rattle.suit_cli.specs.MakeLaws.{HoldsDescription, AreRead, NoFile, FileThen, OneIsUnread, AtName, LaterName, HasParts, MakeSays, AtDescription, AtFields, AtKey, AtNamed, AtLength, AtStore, IsStored, MakeLaws}
-use Rattle.suit_cli.proofs.OneStage.{alike_self, one_reply, one_read, read_not_unread, one_unread, one_no_key, key_not_both}
+use Rattle.suit_cli.specs.MakeLaws.{HoldsDescription, AreRead, NoFile, FileThen, OneIsUnread, AtName, LaterName, MakeSays, AtDescription, AtFields, AtKey, AtNamed, AtLength, AtStore, IsStored, MakeLaws}
+use Rattle.suit_cli.proofs.OneCause.{Behind, Stops, Passes, HasOne, just_one}
+use Rattle.suit_cli.proofs.OneStage.{one_reply, one_read, read_not_unread, one_unread, one_file, one_key}
 use Rattle.suit_cli.proofs.Running.{Declining, declining, unread_declines, no_key_declines, Plain}
 use Rattle.suit_cli.proofs.SameFiles.{read_here, unread_here, no_key_here, key_here}
 use Rattle.suit_cli.proofs.Authoring.{Files}
@@ -197,112 +198,70 @@ made_not_long value files key x r made long =
     passes_not_short (made_parts key (parted made.made.said)) long.limit made.made.short
     (subst (λ p. ExceedsLimit (made_parts key (parted p)) long.limit) same long.passes.passes)
 
--- ---- the causes, one behind another
-
-data Behind (key_name : List ℕ) (b : Outside) (value : Data) (r : Reply) : Type 0 where
-  Keyless : IsNoKey key_name b r → Behind key_name b value r
-  Fileless : (key : List ℕ) → IsKey key_name b key → OneIsUnread b r (file_names value) → Behind key_name b value r
-  Long : (key : List ℕ) (files : Files) → IsKey key_name b key → AreRead b (file_names value) files → IsLongEnvelope value files key r → Behind key_name b value r
-  Made : (key : List ℕ) (files : Files) (envelope : List ℕ) → IsKey key_name b key → AreRead b (file_names value) files → IsEnvelopeOf value files key envelope
-      → IsReply r outcomes.Done (made_line (length envelope)) → Behind key_name b value r
-
-data Stops (description key_name : List ℕ) (b : Outside) (r : Reply) : Type 0 where
-  Unread : IsUnread longest_description description b r → Stops description key_name b r
-  Unauthored : (bytes : List ℕ) → IsRead longest_description description b bytes → IsNotAuthored bytes r → Stops description key_name b r
-  Authored : (value : Data) → HoldsDescription description b value → Behind key_name b value r → Stops description key_name b r
-
-stops_of : (description key_name : List ℕ) (b : Outside) (r : Reply) → MakeSays description key_name b r → Stops description key_name b r
-stops_of description key_name b r (AtDescription u) = Unread u
-stops_of description key_name b r (AtFields bytes read n) = Unauthored bytes read n
-stops_of description key_name b r (AtKey value holds n) = Authored value holds (Keyless n)
-stops_of description key_name b r (AtNamed value key holds k u) = Authored value holds (Fileless key k u)
-stops_of description key_name b r (AtLength value key files parts long) = Authored value parts.described (Long key files parts.has_key parts.are_read long)
-stops_of description key_name b r (AtStore value key files envelope parts is says) = Authored value parts.described (Made key files envelope parts.has_key parts.are_read is says)
-
--- ---- each cause excludes the others
+-- ---- each reply has one cause
 
 module _ (b : Outside) (told : IsTrue b.told) where
-  same_read : (limit : ℕ) (name x y : List ℕ) → IsRead limit name b x → IsRead limit name b y → y ≡ x
-  same_read limit name x y first second = one_read limit name b b (alike_self b told) x y first second
-
-  read_or : (limit : ℕ) (name x : List ℕ) (r : Reply) → IsRead limit name b x → IsUnread limit name b r → ⊥
-  read_or limit name x r first second = read_not_unread limit name b b (alike_self b told) x r first second
-
-  same_unread : (limit : ℕ) (name : List ℕ) (r q : Reply) → IsUnread limit name b r → IsUnread limit name b q → q ≡ r
-  same_unread limit name r q first second = one_unread limit name b b (alike_self b told) r q first second
-
   same_files : (names : List (List ℕ)) (x y : Files) → AreRead b names x → AreRead b names y → y ≡ x
   same_files _ _ _ NoFile NoFile = refl
   same_files _ _ _ (FileThen name bytes names files read rest) (FileThen _ bytes' _ files' read' rest') =
-      ap (λ (l : List ℕ). (name, l) ∷ files') (same_read longest_named name bytes bytes' read read') ∙ ap (λ (l : Files). (name, bytes) ∷ l) (same_files names files files' rest rest')
+      ap (λ (l : List ℕ). (name, l) ∷ files') (one_read longest_named name b told bytes bytes' read read') ∙ ap (λ (l : Files). (name, bytes) ∷ l) (same_files names files files' rest rest')
 
   files_or : (names : List (List ℕ)) (x : Files) (r : Reply) → AreRead b names x → OneIsUnread b r names → ⊥
   files_or _ _ r NoFile x = elim x [ ]
-  files_or _ _ r (FileThen name bytes names files read rest) (AtName _ _ unread) = read_or longest_named name bytes r read unread
+  files_or _ _ r (FileThen name bytes names files read rest) (AtName _ _ unread) = read_not_unread longest_named name b told bytes r read unread
   files_or _ _ r (FileThen name bytes names files read rest) (LaterName _ bytes' _ read' later) = files_or names files r rest later
 
   same_unread_file : (r q : Reply) (names : List (List ℕ)) → OneIsUnread b r names → OneIsUnread b q names → q ≡ r
-  same_unread_file r q _ (AtName name names unread) (AtName _ _ unread') = same_unread longest_named name r q unread unread'
-  same_unread_file r q _ (AtName name names unread) (LaterName _ bytes _ read later) = absurd (read_or longest_named name bytes r read unread)
-  same_unread_file r q _ (LaterName name bytes names read later) (AtName _ _ unread) = absurd (read_or longest_named name bytes q read unread)
+  same_unread_file r q _ (AtName name names unread) (AtName _ _ unread') = one_unread longest_named name b told r q unread unread'
+  same_unread_file r q _ (AtName name names unread) (LaterName _ bytes _ read later) = absurd (read_not_unread longest_named name b told bytes r read unread)
+  same_unread_file r q _ (LaterName name bytes names read later) (AtName _ _ unread) = absurd (read_not_unread longest_named name b told bytes q read unread)
   same_unread_file r q _ (LaterName name bytes names read later) (LaterName _ bytes' _ read' later') = same_unread_file r q names later later'
 
+  one_list : (names : List (List ℕ)) → HasOne (AreRead b names) (λ r. OneIsUnread b r names)
+  one_list names = record { value = same_files names; refusal = λ r q g h. same_unread_file r q names g h; never = files_or names }
+
+  one_authored : (bytes : List ℕ) → HasOne (IsAuthored bytes) (IsNotAuthored bytes)
+  one_authored bytes = record { value = one_value bytes; refusal = one_not_authored bytes; never = authored_not_both bytes }
+
+  one_made : (value : Data) (files : Files) (key : List ℕ) → HasOne (IsEnvelopeOf value files key) (IsLongEnvelope value files key)
+  one_made value files key = record {
+    value = one_envelope value files key;
+    refusal = λ r q g h. one_reply r q _ _ g.says h.says;
+    never = made_not_long value files key;
+  }
+
   module _ (description key_name : List ℕ) where
-    same_value : (x y : Data) → HoldsDescription description b x → HoldsDescription description b y → y ≡ x
-    same_value x y first second =
-        one_value first.bytes x y first.authored (subst (λ (l : List ℕ). IsAuthored l y) (same_read longest_description description first.bytes second.bytes first.read second.read) second.authored)
+    -- the stages, as the start has them
+    abbrev Makes : Reply → Type 0
+    Makes =
+        Behind (IsRead longest_description description b) (IsUnread longest_description description b) (λ bytes.
+        Behind (IsAuthored bytes) (IsNotAuthored bytes) (λ value.
+        Behind (IsKey key_name b) (IsNoKey key_name b) (λ key.
+        Behind (AreRead b (file_names value)) (λ r. OneIsUnread b r (file_names value)) (λ files.
+        Behind (IsEnvelopeOf value files key) (IsLongEnvelope value files key) (λ envelope r. IsReply r outcomes.Done (made_line (length envelope)))))))
 
-    same_key : (x y : List ℕ) → IsKey key_name b x → IsKey key_name b y → y ≡ x
-    same_key x y first second = same_read _ key_name x y first.read second.read
+    described : (r : Reply) (value : Data) (holds : HoldsDescription description b value)
+        → Behind (IsKey key_name b) (IsNoKey key_name b) (λ key.
+        Behind (AreRead b (file_names value)) (λ q. OneIsUnread b q (file_names value)) (λ files.
+        Behind (IsEnvelopeOf value files key) (IsLongEnvelope value files key) (λ envelope q. IsReply q outcomes.Done (made_line (length envelope))))) r
+        → Makes r
+    described r value holds rest = Passes holds.bytes holds.read (Passes value holds.authored rest)
 
-    key_or : (key : List ℕ) (r : Reply) → IsKey key_name b key → IsNoKey key_name b r → ⊥
-    key_or key r has none = key_not_both key_name b b (alike_self b told) key r has none
-
-    module _ (value : Data) (r q : Reply) where
-      by_parts : (P : List ℕ → Files → Type 0) (key key' : List ℕ) (files files' : Files) → IsKey key_name b key → IsKey key_name b key' → AreRead b (file_names value) files
-          → AreRead b (file_names value) files' → P key' files' → P key files
-      by_parts P key key' files files' k k' f f' p =
-          subst (λ (l : List ℕ). P l files) (same_key key key' k k') (subst (λ (l : Files). P key' l) (same_files (file_names value) files files' f f') p)
-
-      one_behind : Behind key_name b value r → Behind key_name b value q → q ≡ r
-      one_behind (Keyless n) (Keyless n') = one_no_key key_name b b (alike_self b told) r q n n'
-      one_behind (Keyless n) (Fileless key k u) = absurd (key_or key r k n)
-      one_behind (Keyless n) (Long key files k f l) = absurd (key_or key r k n)
-      one_behind (Keyless n) (Made key files envelope k f e says) = absurd (key_or key r k n)
-      one_behind (Fileless key k u) (Keyless n) = absurd (key_or key q k n)
-      one_behind (Long key files k f l) (Keyless n) = absurd (key_or key q k n)
-      one_behind (Made key files envelope k f e says) (Keyless n) = absurd (key_or key q k n)
-      one_behind (Fileless key k u) (Fileless key' k' u') = same_unread_file r q (file_names value) u u'
-      one_behind (Fileless key k u) (Long key' files k' f l) = absurd (files_or (file_names value) files r f u)
-      one_behind (Fileless key k u) (Made key' files envelope k' f e says) = absurd (files_or (file_names value) files r f u)
-      one_behind (Long key files k f l) (Fileless key' k' u) = absurd (files_or (file_names value) files q f u)
-      one_behind (Made key files envelope k f e says) (Fileless key' k' u) = absurd (files_or (file_names value) files q f u)
-      one_behind (Long key files k f l) (Long key' files' k' f' l') = one_reply r q _ _ l.says l'.says
-      one_behind (Long key files k f l) (Made key' files' envelope k' f' e says) =
-          absurd (made_not_long value files key envelope r (by_parts (λ x y. IsEnvelopeOf value y x envelope) key key' files files' k k' f f' e) l)
-      one_behind (Made key files envelope k f e says) (Long key' files' k' f' l) =
-          absurd (made_not_long value files key envelope q e (by_parts (λ x y. IsLongEnvelope value y x q) key key' files files' k k' f f' l))
-      one_behind (Made key files envelope k f e says) (Made key' files' envelope' k' f' e' says') =
-          let same : envelope' ≡ envelope = one_envelope value files key envelope envelope' e (by_parts (λ x y. IsEnvelopeOf value y x envelope') key key' files files' k k' f f' e') in
-          one_reply r q outcomes.Done (made_line (length envelope)) says (subst (λ (l : List ℕ). IsReply q outcomes.Done (made_line (length l))) same says')
-
-    one_stop : (r q : Reply) → Stops description key_name b r → Stops description key_name b q → q ≡ r
-    one_stop r q (Unread u) (Unread u') = same_unread longest_description description r q u u'
-    one_stop r q (Unread u) (Unauthored bytes read n) = absurd (read_or longest_description description bytes r read u)
-    one_stop r q (Unread u) (Authored value holds rest) = absurd (read_or longest_description description holds.bytes r holds.read u)
-    one_stop r q (Unauthored bytes read n) (Unread u) = absurd (read_or longest_description description bytes q read u)
-    one_stop r q (Authored value holds rest) (Unread u) = absurd (read_or longest_description description holds.bytes q holds.read u)
-    one_stop r q (Unauthored x read n) (Unauthored y read' n') =
-        one_not_authored x r q n (subst (λ (l : List ℕ). IsNotAuthored l q) (same_read longest_description description x y read read') n')
-    one_stop r q (Unauthored x read n) (Authored value holds rest) =
-        absurd (authored_not_both x value r (subst (λ (l : List ℕ). IsAuthored l value) (same_read longest_description description x holds.bytes read holds.read) holds.authored) n)
-    one_stop r q (Authored value holds rest) (Unauthored x read n) =
-        absurd (authored_not_both x value q (subst (λ (l : List ℕ). IsAuthored l value) (same_read longest_description description x holds.bytes read holds.read) holds.authored) n)
-    one_stop r q (Authored value holds rest) (Authored value' holds' rest') =
-        one_behind value r q rest (subst (λ (v : Data). Behind key_name b v q) (same_value value value' holds holds') rest')
+    make_stages : (r : Reply) → MakeSays description key_name b r → Makes r
+    make_stages r (AtDescription u) = Stops u
+    make_stages r (AtFields bytes read n) = Passes bytes read (Stops n)
+    make_stages r (AtKey value holds n) = described r value holds (Stops n)
+    make_stages r (AtNamed value key holds k u) = described r value holds (Passes key k (Stops u))
+    make_stages r (AtLength value key files parts long) = described r value parts.described (Passes key parts.has_key (Passes files parts.are_read (Stops long)))
+    make_stages r (AtStore value key files envelope parts is says) =
+        described r value parts.described (Passes key parts.has_key (Passes files parts.are_read (Passes envelope is says)))
 
     one_make : (r q : Reply) → MakeSays description key_name b r → MakeSays description key_name b q → q ≡ r
-    one_make r q first second = one_stop r q (stops_of description key_name b r first) (stops_of description key_name b q second)
+    one_make r q first second =
+        just_one _ _ _ (one_file longest_description description b told) (λ bytes read. just_one _ _ _ (one_authored bytes) (λ value authored.
+        just_one _ _ _ (one_key key_name b told) (λ key k. just_one _ _ _ (one_list (file_names value)) (λ files f. just_one _ _ _ (one_made value files key)
+        (λ envelope e x y says says'. one_reply x y _ _ says says')))))
+        r q (make_stages r first) (make_stages q second)
 
 -- ---- the files that are left
 

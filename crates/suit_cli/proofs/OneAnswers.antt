@@ -1,112 +1,117 @@
--- Each cause of a reply of `run init` and `run status` excludes the others.
-use Rattle.std.proofs.Common.{◌≡◌, ◌++◌, ℕ, List, [], Some, None, sym, ap, subst, ◌∙◌}
-use Rattle.std.specs.Prelude.{IsTrue}
+-- Each reply of `run init` and `run status` has one cause.
+use Rattle.std.proofs.Common.{◌≡◌, ◌++◌, ◌∙◌, ℕ, List, Some, None, refl, sym, ap, arith}
+use Rattle.std.specs.Prelude.{IsTrue, codes}
 use Rattle.std.proofs.lemmas.Option.{same_Some}
 use Rattle.flash_layout.specs.declared.frame.TheConstants.{VERSION_1}
 use Rattle.flash_layout.specs.declared.key.Key.{Key}
 use Rattle.flash_layout.specs.declared.layout.Entry.{Entry}
 use Rattle.flash_layout.specs.declared.slot.Record.{Record}
-use Rattle.flash_layout.specs.Configs.{Config, Configured, Blank, Bad}
+use Rattle.flash_layout.specs.Configs.{Config, ConfigOf, Configured, Blank, Bad}
 use Rattle.flash_layout.specs.Frames.{head_of}
 use Rattle.suit_cli.specs.declared.reply.Reply.{Reply}
 use Rattle.suit_cli.specs.declared.reply.Outcome.TheVariants as outcomes
 use Rattle.suit_cli.specs.Replies.{IsReply}
-use Rattle.suit_cli.specs.Outside.{Outside}
-use Rattle.suit_cli.specs.Inputs.{longest_device}
+use Rattle.suit_cli.specs.Outside.{Flashed, Outside}
+use Rattle.suit_cli.specs.Inputs.{longest_device, IsRead, IsUnread, IsKey, IsNoKey}
 use Rattle.suit_cli.specs.Devices.{IsDevice, IsNoDevice}
+use Rattle.suit_cli.specs.Formatting.{IsShut, IsInUse}
 use Rattle.suit_cli.specs.Installed.{Holds, HoldsNone, IsBlank, IsBad, IsInstalled, IsNothing, component_lines, record_lines}
 use Rattle.suit_cli.specs.FlashLaws.{InitSays, AtGate, AtDevice, AtDescription, AtKey, AtFormat, StatusSays, AtConfig, AtRecord, AtLines}
-use Rattle.suit_cli.proofs.OneFlaw.{device_not_both, one_no_device}
-use Rattle.suit_cli.proofs.OneStage.{alike_self, one_reply, one_read, read_not_unread, one_unread, one_no_key, key_not_both}
+use Rattle.suit_cli.proofs.OneCause.{Behind, Stops, Passes, HasOne, just_one}
+use Rattle.suit_cli.proofs.OneFlaw.{one_device}
+use Rattle.suit_cli.proofs.OneStage.{one_reply, one_file, one_key}
 
 -- ---- `run init`
 
-module _ (device key_name : List ℕ) (b : Outside) (told : IsTrue b.told) (t : IsTrue b.flash.told) where
-  unread_or : (bytes : List ℕ) (r : Reply) → Rattle.suit_cli.specs.Inputs.IsRead longest_device device b bytes → Rattle.suit_cli.specs.Inputs.IsUnread longest_device device b r → ⊥
-  unread_or bytes r read unread = read_not_unread longest_device device b b (alike_self b told) bytes r read unread
+-- the stages, as the start has them
+abbrev Inits : List ℕ → List ℕ → Outside → Reply → Type 0
+Inits device key_name b =
+    Behind (λ (u : Unit {0}). IsShut b.flash) (IsInUse b.flash) (λ u.
+    Behind (IsRead longest_device device b) (IsUnread longest_device device b) (λ bytes.
+    Behind (IsDevice b.flash.size bytes) (IsNoDevice b.flash.size bytes) (λ layout.
+    Behind (IsKey key_name b) (IsNoKey key_name b) (λ key r. IsReply r outcomes.Done (codes "ready\n")))))
 
-  same_bytes : (x y : List ℕ) → Rattle.suit_cli.specs.Inputs.IsRead longest_device device b x → Rattle.suit_cli.specs.Inputs.IsRead longest_device device b y → y ≡ x
-  same_bytes x y first second = one_read longest_device device b b (alike_self b told) x y first second
+init_stages : (device key_name : List ℕ) (b : Outside) (r : Reply) → InitSays device key_name b r → Inits device key_name b r
+init_stages device key_name b r (AtGate x) = Stops x
+init_stages device key_name b r (AtDevice shut u) = Passes tt shut (Stops u)
+init_stages device key_name b r (AtDescription bytes shut h n) = Passes tt shut (Passes bytes h (Stops n))
+init_stages device key_name b r (AtKey bytes layout shut h l n) = Passes tt shut (Passes bytes h (Passes layout l (Stops n)))
+init_stages device key_name b r (AtFormat bytes layout key shut h l k says) = Passes tt shut (Passes bytes h (Passes layout l (Passes key k says)))
 
-  described_or : (x y : List ℕ) (layout : List Entry) (r : Reply) → Rattle.suit_cli.specs.Inputs.IsRead longest_device device b x → Rattle.suit_cli.specs.Inputs.IsRead longest_device device b y
-      → IsDevice b.flash.size x layout → IsNoDevice b.flash.size y r → ⊥
-  described_or x y layout r first second describes none =
-      device_not_both b.flash.size x layout r describes (subst (λ (l : List ℕ). IsNoDevice b.flash.size l r) (same_bytes x y first second) none)
+one_gate : (flash : Flashed) → IsTrue flash.told → HasOne (λ (u : Unit {0}). IsShut flash) (IsInUse flash)
+one_gate flash t = record {
+  value = λ x y g h. refl;
+  refusal = λ r q g h. one_reply r q _ _ g.says h.says;
+  never = λ x q shut in_use. shut t (in_use.opened t);
+}
 
-  pub one_init : (r q : Reply) → InitSays device key_name b r → InitSays device key_name b q → q ≡ r
-  one_init r q (AtGate x) (AtGate y) = one_reply r q _ _ x.says y.says
-  one_init r q (AtGate x) (AtDevice shut u) = absurd (shut t (x.opened t))
-  one_init r q (AtGate x) (AtDescription bytes shut h n) = absurd (shut t (x.opened t))
-  one_init r q (AtGate x) (AtKey bytes layout shut h l k) = absurd (shut t (x.opened t))
-  one_init r q (AtGate x) (AtFormat bytes layout key shut h l k says) = absurd (shut t (x.opened t))
-  one_init r q (AtDevice shut u) (AtGate x) = absurd (shut t (x.opened t))
-  one_init r q (AtDescription bytes shut h n) (AtGate x) = absurd (shut t (x.opened t))
-  one_init r q (AtKey bytes layout shut h l k) (AtGate x) = absurd (shut t (x.opened t))
-  one_init r q (AtFormat bytes layout key shut h l k says) (AtGate x) = absurd (shut t (x.opened t))
-  one_init r q (AtDevice shut u) (AtDevice shut' v) = one_unread longest_device device b b (alike_self b told) r q u v
-  one_init r q (AtDevice shut u) (AtDescription bytes shut' h n) = absurd (unread_or bytes r h u)
-  one_init r q (AtDevice shut u) (AtKey bytes layout shut' h l k) = absurd (unread_or bytes r h u)
-  one_init r q (AtDevice shut u) (AtFormat bytes layout key shut' h l k says) = absurd (unread_or bytes r h u)
-  one_init r q (AtDescription bytes shut' h n) (AtDevice shut u) = absurd (unread_or bytes q h u)
-  one_init r q (AtKey bytes layout shut' h l k) (AtDevice shut u) = absurd (unread_or bytes q h u)
-  one_init r q (AtFormat bytes layout key shut' h l k says) (AtDevice shut u) = absurd (unread_or bytes q h u)
-  one_init r q (AtDescription x shut h n) (AtDescription y shut' k m) =
-      one_no_device b.flash.size x r q n (subst (λ (l : List ℕ). IsNoDevice b.flash.size l q) (same_bytes x y h k) m)
-  one_init r q (AtDescription y shut k m) (AtKey x layout shut' h l n) = absurd (described_or x y layout r h k l m)
-  one_init r q (AtDescription y shut k m) (AtFormat x layout key shut' h l n says) = absurd (described_or x y layout r h k l m)
-  one_init r q (AtKey x layout shut' h l n) (AtDescription y shut k m) = absurd (described_or x y layout q h k l m)
-  one_init r q (AtFormat x layout key shut' h l n says) (AtDescription y shut k m) = absurd (described_or x y layout q h k l m)
-  one_init r q (AtKey x layout shut h l n) (AtKey y layout' shut' k l' m) = one_no_key key_name b b (alike_self b told) r q n m
-  one_init r q (AtKey x layout shut h l n) (AtFormat y layout' key shut' k l' m says) = absurd (key_not_both key_name b b (alike_self b told) key r m n)
-  one_init r q (AtFormat y layout' key shut' k l' m says) (AtKey x layout shut h l n) = absurd (key_not_both key_name b b (alike_self b told) key q m n)
-  one_init r q (AtFormat x layout key shut h l n says) (AtFormat y layout' key' shut' k l' m says') = one_reply r q _ _ says says'
+pub one_init : (device key_name : List ℕ) (b : Outside) → IsTrue b.told → IsTrue b.flash.told → (r q : Reply) → InitSays device key_name b r → InitSays device key_name b q → q ≡ r
+one_init device key_name b told t r q first second =
+    just_one _ _ _ (one_gate b.flash t) (λ u shut. just_one _ _ _ (one_file longest_device device b told) (λ bytes h. just_one _ _ _ (one_device b.flash.size bytes)
+    (λ layout l. just_one _ _ _ (one_key key_name b told) (λ key k x y says says'. one_reply x y _ _ says says'))))
+    r q (init_stages device key_name b r first) (init_stages device key_name b q second)
+
+-- ---- the configuration
+
+same_config : (l m : List Entry) (k n : Key) → Configured l k ≡ Configured m n → (l ≡ m) × (k ≡ n)
+same_config l m k n same = grind (arith, same)
+
+module _ (configs : Rattle.flash_layout.specs.ConfigLaws.OneAnswer) (flash : Flashed) (t : IsTrue flash.told) where
+  once : (x y : Config) → (IsTrue flash.told → ConfigOf VERSION_1 flash.size (head_of VERSION_1 flash.reads) x) → (IsTrue flash.told → ConfigOf VERSION_1 flash.size (head_of VERSION_1 flash.reads) y)
+      → y ≡ x
+  once x y first second = configs VERSION_1 flash.size (head_of VERSION_1 flash.reads) y x (second t) (first t)
+
+  one_holds : (c d : List Entry × Key) → Holds flash c → Holds flash d → d ≡ c
+  one_holds c d first second =
+      let same = same_config d.0 c.0 d.1 c.1 (once (Configured c.0 c.1) (Configured d.0 d.1) first second) in
+      ap (λ (l : List Entry). (l, d.1)) same.0 ∙ ap (λ (k : Key). (c.0, k)) same.1
+
+  one_none : (r q : Reply) → HoldsNone flash r → HoldsNone flash q → q ≡ r
+  one_none r q (IsBlank x says) (IsBlank y says') = one_reply r q _ _ says says'
+  one_none r q (IsBad x says) (IsBad y says') = one_reply r q _ _ says says'
+  one_none r q (IsBlank x says) (IsBad y says') = let never : Bad ≡ Blank = once Blank Bad x y in absurd cc
+  one_none r q (IsBad x says) (IsBlank y says') = let never : Blank ≡ Bad = once Bad Blank x y in absurd cc
+
+  holds_not_none : (config : List Entry × Key) (r : Reply) → Holds flash config → HoldsNone flash r → ⊥
+  holds_not_none config r holds (IsBlank x says) = let never : Blank ≡ Configured config.0 config.1 = once (Configured config.0 config.1) Blank holds x in absurd cc
+  holds_not_none config r holds (IsBad x says) = let never : Bad ≡ Configured config.0 config.1 = once (Configured config.0 config.1) Bad holds x in absurd cc
+
+  pub one_config : HasOne (Holds flash) (HoldsNone flash)
+  one_config = record { value = one_holds; refusal = one_none; never = holds_not_none }
 
 -- ---- `run status`
 
-abbrev layout_part : Config → List Entry
-layout_part Blank = []
-layout_part Bad = []
-layout_part (Configured layout key) = layout
-
 module _ (configs : Rattle.flash_layout.specs.ConfigLaws.OneAnswer) (records : Rattle.rollback_record.specs.RecordLaws.OneAnswer) (b : Outside) (t : IsTrue b.flash.told) where
-  pub one_none : (r q : Reply) → HoldsNone b.flash r → HoldsNone b.flash q → q ≡ r
-  one_none r q (IsBlank x says) (IsBlank y says') = one_reply r q _ _ says says'
-  one_none r q (IsBad x says) (IsBad y says') = one_reply r q _ _ says says'
-  one_none r q (IsBlank x says) (IsBad y says') =
-      let never : Blank ≡ Bad = configs VERSION_1 b.flash.size (head_of VERSION_1 b.flash.reads) Blank Bad (x t) (y t) in absurd cc
-  one_none r q (IsBad x says) (IsBlank y says') =
-      let never : Blank ≡ Bad = configs VERSION_1 b.flash.size (head_of VERSION_1 b.flash.reads) Blank Bad (y t) (x t) in absurd cc
-
-  pub holds_not_none : (config : List Entry × Key) (r : Reply) → Holds b.flash config → HoldsNone b.flash r → ⊥
-  holds_not_none config r holds (IsBlank x says) =
-      let never : Configured config.0 config.1 ≡ Blank = configs VERSION_1 b.flash.size (head_of VERSION_1 b.flash.reads) (Configured config.0 config.1) Blank (holds t) (x t) in absurd cc
-  holds_not_none config r holds (IsBad x says) =
-      let never : Configured config.0 config.1 ≡ Bad = configs VERSION_1 b.flash.size (head_of VERSION_1 b.flash.reads) (Configured config.0 config.1) Bad (holds t) (x t) in absurd cc
-
-  one_layout : (c d : List Entry × Key) → Holds b.flash c → Holds b.flash d → d.0 ≡ c.0
-  one_layout c d first second =
-      ap layout_part (configs VERSION_1 b.flash.size (head_of VERSION_1 b.flash.reads) (Configured d.0 d.1) (Configured c.0 c.1) (second t) (first t))
-
-  one_installed : (x y : Record) → IsInstalled b.flash x → IsInstalled b.flash y → y ≡ x
-  one_installed x y first second = same_Some y x (records VERSION_1 (head_of VERSION_1 b.flash.reads) (Some y) (Some x) (second t) (first t))
-
-  nothing_not_installed : (r : Reply) (x : Record) → IsNothing b.flash r → IsInstalled b.flash x → ⊥
-  nothing_not_installed r x nothing installed =
+  nothing_not_installed : (x : Record) (r : Reply) → IsInstalled b.flash x → IsNothing b.flash r → ⊥
+  nothing_not_installed x r installed nothing =
       let never : None ≡ Some x = records VERSION_1 (head_of VERSION_1 b.flash.reads) None (Some x) (nothing.none t) (installed t) in absurd cc
 
+  one_record : HasOne (IsInstalled b.flash) (IsNothing b.flash)
+  one_record = record {
+    value = λ x y g h. same_Some y x (records VERSION_1 (head_of VERSION_1 b.flash.reads) (Some y) (Some x) (h t) (g t));
+    refusal = λ r q g h. one_reply r q _ _ g.says h.says;
+    never = nothing_not_installed;
+  }
+
+  abbrev AreLines : List Entry × Key → Record → List ℕ → Type 0
+  AreLines config installed lines = IsTrue b.flash.told → lines ≡ component_lines 0 config.0 installed.active b.flash.reads
+
+  one_lines : (config : List Entry × Key) (installed : Record) → HasOne (AreLines config installed) (λ (r : Reply). ⊥)
+  one_lines config installed = record { value = λ x y g h. h t ∙ sym (g t); refusal = λ r q g h. absurd g; never = λ x q g h. h }
+
+  abbrev TellsStatus : Reply → Type 0
+  TellsStatus =
+      Behind (Holds b.flash) (HoldsNone b.flash) (λ config.
+      Behind (IsInstalled b.flash) (IsNothing b.flash) (λ installed.
+      Behind (AreLines config installed) (λ r. ⊥) (λ lines r. IsReply r outcomes.Done (record_lines installed ++ lines))))
+
+  status_stages : (r : Reply) → StatusSays b r → TellsStatus r
+  status_stages r (AtConfig x) = Stops x
+  status_stages r (AtRecord c h n) = Passes c h (Stops n)
+  status_stages r (AtLines c i l h j e says) = Passes c h (Passes i j (Passes l e says))
+
   pub one_status : (r q : Reply) → StatusSays b r → StatusSays b q → q ≡ r
-  one_status r q (AtConfig x) (AtConfig y) = one_none r q x y
-  one_status r q (AtConfig x) (AtRecord c h n) = absurd (holds_not_none c r h x)
-  one_status r q (AtConfig x) (AtLines c i l h j e says) = absurd (holds_not_none c r h x)
-  one_status r q (AtRecord c h n) (AtConfig y) = absurd (holds_not_none c q h y)
-  one_status r q (AtLines c i l h j e says) (AtConfig y) = absurd (holds_not_none c q h y)
-  one_status r q (AtRecord c h n) (AtRecord d k m) = one_reply r q _ _ n.says m.says
-  one_status r q (AtRecord c h n) (AtLines d i l k j e says) = absurd (nothing_not_installed r i n j)
-  one_status r q (AtLines d i l k j e says) (AtRecord c h n) = absurd (nothing_not_installed q i n j)
-  one_status r q (AtLines c i l h j e says) (AtLines d i' l' k j' e' says') =
-      let is : i' ≡ i = one_installed i i' j j' in
-      let lines : l' ≡ l =
-      e' t ∙ ap (λ (x : Record). component_lines 0 d.0 x.active b.flash.reads) is
-      ∙ ap (λ (y : List Entry). component_lines 0 y i.active b.flash.reads) (one_layout c d h k) ∙ sym (e t) in
-      let same : record_lines i' ++ l' ≡ record_lines i ++ l = ap (λ (x : Record). record_lines x ++ l') is ∙ ap (λ (x : List ℕ). record_lines i ++ x) lines in
-      one_reply r q outcomes.Done (record_lines i ++ l) says (subst (λ (x : List ℕ). IsReply q outcomes.Done x) same says')
+  one_status r q first second =
+      just_one _ _ _ (one_config configs b.flash t) (λ config h. just_one _ _ _ one_record (λ installed j. just_one _ _ _ (one_lines config installed)
+      (λ lines e x y says says'. one_reply x y _ _ says says')))
+      r q (status_stages r first) (status_stages q second)

@@ -4,7 +4,7 @@ use Rattle.std.specs.Result.{IsErrAnd}
 use Rattle.suit_envelope.specs.Envelopes.{EnvelopeSays}
 use Rattle.suit_envelope.specs.Said.{said_by}
 use Rattle.suit_manifest.specs.declared.manifest.Manifest.{Manifest}
-use Rattle.suit_cli.specs.declared.accept.Opened.{Opened}
+use Rattle.admission.specs.declared.opening.Opened.{Opened}
 use Rattle.suit_cli.specs.declared.reply.Reply.{Reply}
 use Rattle.suit_cli.specs.declared.reply.Stop.{Stop}
 use Rattle.suit_cli.specs.Outside.{Outside}

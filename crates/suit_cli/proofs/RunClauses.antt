@@ -1,6 +1,7 @@
 -- The result of a run, clause by clause.
 use Rattle.std.proofs.Common.{◌≡◌, ℕ, List, Option, Some, None, ◌⊎◌, inl, inr, refl, sym, ap, subst, ◌∙◌, ◌++◌, arith}
 use Rattle.std.specs.Prelude.{IsTrue, ◌≢◌, ◌<◌}
+use Rattle.std.proofs.lemmas.Option.{same_Some}
 use Rattle.suit_edge.specs.Faults.{Faulted}
 use Rattle.suit_commands.specs.Tree.{PlanTree}
 use Rattle.suit_envelope.specs.EnvelopeLaws.{EnvelopeLaws}
@@ -11,17 +12,15 @@ use Rattle.suit_cli.specs.declared.reply.Outcome.{Outcome}
 use Rattle.suit_cli.specs.declared.reply.Outcome.TheVariants as outcomes
 use Rattle.suit_cli.specs.Texts.{usage_line}
 use Rattle.suit_cli.specs.declared.reply.Object.TheVariants as objects
-use Rattle.suit_cli.specs.Words.{Task, Make, Describe, Show, Check, RunInit, RunUpdate, RunBoot, RunStatus, Drill, task_of}
+use Rattle.suit_cli.specs.Words.{Task, Check, task_of}
+use Rattle.suit_cli.specs.Commands.{does}
 use Rattle.suit_cli.specs.Outside.{Outside, Sunk}
-use Rattle.suit_cli.specs.Stages.{Ending, Says, FaultOf, NoMemory, Goes, Declines}
+use Rattle.suit_cli.specs.Stages.{Ending, Says, FaultOf, NoMemory, Goes, Declines, Faults}
 use Rattle.suit_cli.specs.Statuses.{status_of, ending_status, ending_text}
 use Rattle.suit_cli.specs.Judgement.{AreSafe, AreJudged, JudgedSafe, JudgedUnsafe}
-use Rattle.suit_cli.specs.Program.{answers, PutsText, IsPut, IsCut, EndsIn, ChecksProcedures, IsCheck, ChecksSafe, ChecksUnsafe, IsUsage, Judges}
-use Rattle.suit_cli.proofs.Running.{Declining, IsJudged, checked, judged_when, judged_safe, judged_unsafe, done_safe, unsafe_shows, shown_plain, showed, status_done, status_unsafe, status_usage, not_seven, not_eight, not_ten_of, inited, begun, stated, drilled, plain_not, unsafe_refuted}
-use Rattle.suit_cli.proofs.Describing.{described}
-use Rattle.suit_cli.proofs.AcceptedFacts.{IsUnsafeFile, began}
-use Rattle.suit_cli.proofs.TaskAnswers.{ByCheck, ByUpdate, JudgesTask, does_of, judged_task}
-use Rattle.suit_cli.proofs.MakeLawProofs.{made_as}
+use Rattle.suit_cli.specs.Program.{answers, PutsText, IsPut, IsCut, EndsIn, IsExcuse, ChecksNone, ChecksProcedures, IsCheck, ChecksSafe, ChecksUnsafe, IsUsage, Judges}
+use Rattle.suit_cli.proofs.Running.{Declining, IsJudged, Plain, check_faults, checked, judged_when, judged_safe, judged_unsafe, done_safe, status_done, status_unsafe, status_usage, not_seven, not_eight, not_ten_of, plain_not, unsafe_refuted}
+use Rattle.suit_cli.proofs.TaskAnswers.{TellsUnsafe, does_of, reply_of}
 use Rattle.suit_cli.proofs.StagesKeep.{Counts}
 use Rattle.suit_cli.proofs.StagesLet.{answers_lets}
 
@@ -46,32 +45,30 @@ put_as : (sb sa : Sunk) (e : Ending) (result n : ℕ) → PutsText sb sa (ending
 put_as sb sa e result n (IsPut is still puts) same never = record { status = sym is ∙ same; puts = puts }
 put_as sb sa e result n (IsCut is faulted puts) same never = absurd (never (sym same ∙ is))
 
+-- a reply of this outcome, which is neither that of a stage that declines nor that all was done
+module _ (o : Outcome) (declines : Declining o → ⊥) (done : o ≡ outcomes.Done → ⊥) where
+  unsafe_reply : (task : Task) (m a : Outside) (r : Reply) → does task m a (Says r) → r.outcome ≡ o → TellsUnsafe task m r
+  unsafe_reply task m a r rest is = of_reply (reply_of task m a r rest) where
+    of_reply : Plain r.outcome ⊎ TellsUnsafe task m r → TellsUnsafe task m r
+    of_reply (inl plain) = absurd (plain_not r.outcome o plain is declines done)
+    of_reply (inr u) = u
+
 -- usage, by an answer
 usage_of : (words : List (List ℕ)) (b a : Outside) (r : Reply) → answers words b a (Says r) → r.outcome ≡ outcomes.Usage → (task_of words ≡ None) × (r.text ≡ usage_line)
 usage_of words b a r (Declines _ d) is = (d.1.0, d.1.1.text_is)
-usage_of words b a r (Goes (Make description key out) m _ g rest) is = absurd (plain_not r.outcome _ (made_as description key out m a r rest) is (λ d. d) (λ e. cc))
-usage_of words b a r (Goes (Describe name) m _ g rest) is = absurd (plain_not r.outcome _ (described name m a r rest) is (λ d. d) (λ e. cc))
-usage_of words b a r (Goes (Check name) m _ g rest) is = absurd (of_check (checked name m a r rest)) where
-  of_judged : (u i : PlanTree) → AreJudged u i r → ⊥
-  of_judged u i (JudgedSafe safe says) = let never = sym says.outcome_is ∙ is in cc
-  of_judged u i (JudgedUnsafe outcome unsafe) = let never = sym outcome ∙ is in cc
-
-  of_check : Declining r.outcome ⊎ IsJudged name m r → ⊥
-  of_check (inl d) = subst Declining is d
-  of_check (inr j) = of_judged j.update j.invocation j.judged
-usage_of words b a r (Goes (Show name key) m _ g rest) is = absurd (plain_not r.outcome _ (shown_plain r (showed name key m a r rest)) is (λ d. d) (λ e. cc))
-usage_of words b a r (Goes (RunInit device key) m _ g rest) is = absurd (plain_not r.outcome _ (inited device key m a r rest) is (λ d. d) (λ e. cc))
-usage_of words b a r (Goes (RunUpdate name uris) m _ g rest) is = absurd (of_way (began name m a r rest)) where
-  of_way : Declining r.outcome ⊎ IsUnsafeFile name m r → ⊥
-  of_way (inl d) = subst Declining is d
-  of_way (inr u) = let never = sym u.unsafe.outcome_is ∙ is in cc
-usage_of words b a r (Goes RunBoot m _ g rest) is = absurd (plain_not r.outcome _ (begun m a r rest) is (λ d. d) (λ e. cc))
-usage_of words b a r (Goes RunStatus m _ g rest) is = absurd (plain_not r.outcome _ (stated m a r rest) is (λ d. d) (λ e. cc))
-usage_of words b a r (Goes (Drill number) m _ g rest) is = absurd (plain_not r.outcome _ (drilled number m a r rest) is (λ d. d) (λ e. cc))
+usage_of words b a r (Goes task m _ g rest) is =
+    let u = unsafe_reply outcomes.Usage (λ d. d) (λ e. cc) task m a r rest is in
+    let never : outcomes.Unsafe ≡ outcomes.Usage = sym u.file.unsafe.outcome_is ∙ is in
+    absurd cc
 
 no_task_usage : (words : List (List ℕ)) (b a : Outside) (r : Reply) → task_of words ≡ None → answers words b a (Says r) → status_of r.outcome ≡ 2
 no_task_usage words b a r none (Declines _ d) = ap status_of d.1.1.outcome_is
 no_task_usage words b a r none (Goes task m _ g rest) = let never : None ≡ Some task = sym none ∙ g.1 in absurd cc
+
+checks_no_flash : (words : List (List ℕ)) → IsCheck words → (b a : Outside) → answers words b a (FaultOf objects.Flash) → ⊥
+checks_no_flash words check b a (Goes task m _ g rest) =
+    check_faults check.0 objects.Flash m a (subst (λ (t : Task). does t m a (FaultOf objects.Flash)) (same_Some task (Check check.0) (sym g.1 ∙ check.1)) rest)
+checks_no_flash words check b a (Faults _ f) = f
 
 -- ---- the clauses
 
@@ -112,46 +109,31 @@ module _ (words : List (List ℕ)) (b a : Outside) (sb sa : Sunk) (result : ℕ)
         are_safe = done_safe j.update j.invocation r j.judged done;
       }
 
-  pub no_path : IsTrue b.told → result ≡ 1 → ChecksUnsafe words b sb sa
-  no_path told one =
+  pub no_path : result ≡ 1 → ChecksUnsafe words b sb sa
+  no_path one =
       let put = put_as sb sa runs.ending result 1 runs.puts one (λ e. omega arith) in
       let said = said_with runs.ending 1 put.status (omega arith) in
-      let answer = subst (answers words b a) said.is runs.answer in
-      let outcome = status_unsafe said.reply.outcome said.status in
-      let task = judged_task words b a said.reply answer outcome in
       let puts : IsTrue sb.told → sa.put ≡ sb.put ++ said.reply.text = λ t. put.puts t ∙ ap (λ (e : Ending). sb.put ++ ending_text e) said.is in
-      of_task said.reply outcome puts task
+      of_answer said.reply (status_unsafe said.reply.outcome said.status) puts (subst (answers words b a) said.is runs.answer)
     where
-      of_check : (name : List ℕ) → task_of words ≡ Some (Check name) → (r : Reply) → r.outcome ≡ outcomes.Unsafe → (IsTrue sb.told → sa.put ≡ sb.put ++ r.text)
-          → Declining r.outcome ⊎ IsJudged name b r → ChecksUnsafe words b sb sa
-      of_check name word r outcome puts (inl d) = absurd (subst Declining outcome d)
-      of_check name word r outcome puts (inr j) =
-          let shown = unsafe_shows j.update j.invocation r j.judged outcome in
-          record {
-            update = j.update;
-            invocation = j.invocation;
-            name = name;
-            word = subst (λ (t : Option Task). Judges t name) (sym word) refl;
-            has = j.has;
-            not_safe = unsafe_refuted j.update j.invocation r.text shown;
-            text = r.text;
-            shows_path = shown;
-            puts = puts;
-          }
-
-      of_task : (r : Reply) → r.outcome ≡ outcomes.Unsafe → (IsTrue sb.told → sa.put ≡ sb.put ++ r.text) → JudgesTask words b a r → ChecksUnsafe words b sb sa
-      of_task r outcome puts (ByCheck name word answer) = of_check name word r outcome puts (checked name b a r answer)
-      of_task r outcome puts (ByUpdate name uris word u) = record {
-        update = u.update;
-        invocation = u.invocation;
-        name = name;
-        word = subst (λ (t : Option Task). Judges t name) (sym word) refl;
-        has = u.has;
-        not_safe = unsafe_refuted u.update u.invocation r.text u.unsafe.shows_path;
+      of_file : (task : Task) (r : Reply) → task_of words ≡ Some task → TellsUnsafe task b r → (IsTrue sb.told → sa.put ≡ sb.put ++ r.text) → ChecksUnsafe words b sb sa
+      of_file task r word u puts = record {
+        update = u.file.update;
+        invocation = u.file.invocation;
+        name = u.name;
+        word = subst (λ (t : Option Task). Judges t u.name) (sym word) u.judges;
+        has = u.file.has;
+        not_safe = unsafe_refuted u.file.update u.file.invocation r.text u.file.unsafe.shows_path;
         text = r.text;
-        shows_path = u.unsafe.shows_path;
+        shows_path = u.file.unsafe.shows_path;
         puts = puts;
       }
+
+      of_answer : (r : Reply) → r.outcome ≡ outcomes.Unsafe → (IsTrue sb.told → sa.put ≡ sb.put ++ r.text) → answers words b a (Says r) → ChecksUnsafe words b sb sa
+      of_answer r outcome puts (Declines _ d) = let never : outcomes.Usage ≡ outcomes.Unsafe = sym d.1.1.outcome_is ∙ outcome in absurd cc
+      of_answer r outcome puts (Goes task m _ g rest) =
+          let u = unsafe_reply outcomes.Unsafe (λ d. d) (λ e. cc) task m a r rest outcome in
+          of_file task r g.1 (subst (λ (o : Outside). TellsUnsafe task o r) g.0 u) puts
 
   module _ (envelopes : EnvelopeLaws) (manifests : ManifestLaws) (members : MembersLaws) (u i : PlanTree) (checks_it : ChecksProcedures words b u i) where
     judged_reply : (r : Reply) → answers words b a (Says r) → AreJudged u i r
@@ -163,6 +145,36 @@ module _ (words : List (List ℕ)) (b a : Outside) (sb sa : Sunk) (result : ℕ)
 
     pub unsafe_is_no : (AreSafe u i → ⊥) → EndsIn 1 result
     unsafe_is_no never = ends_in 1 (λ r answer. ap status_of (judged_unsafe u i r (judged_reply r answer) never))
+
+  -- an answer that is put is yes or no where there are such procedures
+  pub no_answer : EnvelopeLaws → ManifestLaws → MembersLaws → result ≢ 0 → result ≢ 1 → ChecksNone words b ⊎ IsExcuse result
+  no_answer envelopes manifests members not_yes not_no = of_puts runs.puts where
+    of_judged : (u i : PlanTree) (r : Reply) → result ≡ status_of r.outcome → AreJudged u i r → ⊥
+    of_judged u i r is (JudgedSafe safe says) = not_yes (is ∙ ap status_of says.outcome_is)
+    of_judged u i r is (JudgedUnsafe outcome unsafe) = not_no (is ∙ ap status_of outcome)
+
+    of_ending : (e : Ending) → answers words b a e → result ≡ ending_status e → ChecksNone words b ⊎ IsExcuse result
+    of_ending (Says r) answer is = inl (λ u i checks_it. of_judged u i r is (judged_reply envelopes manifests members u i checks_it r answer))
+    of_ending (FaultOf objects.Host) answer is = inr (inl is)
+    of_ending (FaultOf objects.Flash) answer is = inr (inr (inl is))
+    of_ending NoMemory answer is = inr (inr (inr (inr is)))
+
+    of_puts : PutsText sb sa (ending_status runs.ending) (ending_text runs.ending) result → ChecksNone words b ⊎ IsExcuse result
+    of_puts (IsPut is still puts) = of_ending runs.ending runs.answer is
+    of_puts (IsCut is faulted puts) = inr (inr (inr (inl is)))
+
+  -- `check` looks at no flash
+  pub no_flash : IsCheck words → result ≢ 8
+  no_flash check eight = of_puts runs.puts where
+    of_ending : (e : Ending) → answers words b a e → ending_status e ≡ 8 → ⊥
+    of_ending (Says r) answer is = not_eight r.outcome is
+    of_ending (FaultOf objects.Host) answer is = omega (arith, is)
+    of_ending (FaultOf objects.Flash) answer is = checks_no_flash words check b a answer
+    of_ending NoMemory answer is = omega (arith, is)
+
+    of_puts : PutsText sb sa (ending_status runs.ending) (ending_text runs.ending) result → ⊥
+    of_puts (IsPut is still puts) = of_ending runs.ending runs.answer (sym is ∙ eight)
+    of_puts (IsCut is faulted puts) = omega (arith, is, eight)
 
   pub usage : result ≡ 2 → IsUsage words sb sa
   usage two =

@@ -1,5 +1,5 @@
 -- How a run ends: in stages, by a boot or by an update.
-use Rattle.std.proofs.Common.{◌≡◌, ◌⊎◌, inr, refl, ℕ, List, [], ◌∷◌, length, append-nil, Option, Some, None, sym, ap, subst, ◌∙◌, ◌≤◌, arith}
+use Rattle.std.proofs.Common.{◌≡◌, ℕ, List, [], length, append-nil, Option, Some, None, sym, ap, subst, ◌∙◌, ◌≤◌, arith}
 use Rattle.std.specs.Prelude.{IsTrue, ◌≢◌}
 use Rattle.suit_edge.specs.declared.launch.Launch.{Launch}
 use Rattle.suit_commands.specs.Tree.{PlanTree}
@@ -14,7 +14,7 @@ use Rattle.invoke_proc.specs.declared.boot_end.BootEnd.{BootEnd}
 use Rattle.invoke_proc.specs.declared.boot_end.BootEnd.TheVariants as ends
 use Rattle.invoke_proc.specs.Booting.{GainsSafe}
 use Rattle.invoke_proc.specs.Counting.{BootCounts}
-use Rattle.suit_cli.specs.Words.{Task, Make, Describe, Show, Check, RunInit, RunUpdate, RunBoot, RunStatus, task_of}
+use Rattle.suit_cli.specs.Words.{Task, Check, RunUpdate, RunBoot, task_of}
 use Rattle.suit_cli.specs.Outside.{Outside, Leaves, Sunk}
 use Rattle.suit_cli.specs.Judgement.{AreSafe}
 use Rattle.suit_cli.specs.Launching.{Launching}
@@ -22,14 +22,14 @@ use Rattle.suit_cli.specs.Booting.{Boots, boot_status}
 use Rattle.suit_cli.specs.Coming.{Ended, Answered, Booted, Updated, ByStages, ByBoot, ByUpdate, ended_status}
 use Rattle.suit_cli.specs.Updating.{Updates, update_status}
 use Rattle.update_proc.specs.declared.update_end.UpdateEnd.{UpdateEnd}
-use Rattle.suit_cli.specs.Program.{ComesTo, Puts, PutsText, IsPut, IsCut, Performs, EndsIn, IsStatus, ChecksProcedures, IsCheck, ChecksSafe, ChecksUnsafe, IsUsage, IsCutOff, MayLaunch, AreCounted, AsFound, AsksForUpdate, IsForUpdate, LeavesBy, KeepsLauncher, most_pulled, stored_by}
+use Rattle.suit_cli.specs.Program.{ComesTo, Puts, PutsText, IsPut, IsCut, Performs, EndsIn, IsStatus, ChecksProcedures, IsCheck, ChecksSafe, ChecksUnsafe, IsUsage, IsCutOff, MayLaunch, AreCounted, AsFound, AsksForUpdate, IsForUpdate, LeavesBy, KeepsLauncher, most_pulled, stored_by, Checks, SaysYes, SaysNo, SaysNeither}
 use Rattle.suit_cli.proofs.Running as running
 use Rattle.suit_cli.proofs.RunClauses as staged
 use Rattle.suit_cli.proofs.RunClauses.{Staged}
 use Rattle.suit_cli.proofs.StagesLet.{answers_lets}
 use Rattle.suit_cli.proofs.FilesAsked.{stages_ask, update_asks}
 use Rattle.suit_cli.proofs.BootHosts.{boots_without, stages_without}
-use Rattle.suit_cli.proofs.StatusNumbers.{of_ended}
+use Rattle.suit_cli.proofs.StatusNumbers.{by_status, of_ended}
 use Rattle.suit_cli.proofs.Starving.{boot_starved, starved_near, update_starved}
 use Rattle.suit_cli.proofs.UpdateEnds.{ByStatus, by_cause, cause_not_low, cause_not_nine, flash_failed, unfaulted, update_counts, update_files, update_not, update_not_nine, update_safe, update_told}
 
@@ -134,7 +134,7 @@ module _ (words : List (List ℕ)) (l m : Launching) (b a : Outside) (sb sa : Su
   pub no_path : IsTrue b.told → result ≡ 1 → ChecksUnsafe words b sb sa
   no_path told one = of_way way where
     of_way : Way words l m b a sb sa result → ChecksUnsafe words b sb sa
-    of_way (InStages run same) = staged.no_path words b a sb sa result run told one
+    of_way (InStages run same) = staged.no_path words b a sb sa result run one
     of_way (AsBoot end lines word boots puts) = absurd (low_boot end lines puts (omega (arith, one)) (λ zero. omega (arith, one, zero)))
     of_way (AsUpdate name uris end lines word updates puts) = absurd (low_update end lines puts (omega (arith, one)) (λ zero. omega (arith, one, zero)))
 
@@ -152,6 +152,16 @@ module _ (words : List (List ℕ)) (l m : Launching) (b a : Outside) (sb sa : Su
       of_way (InStages run same) = staged.unsafe_is_no words b a sb sa result run envelopes manifests members u i checks_it refuted
       of_way (AsBoot end lines word boots puts) = let never : Some (Check checks_it.name) ≡ Some RunBoot = sym checks_it.word ∙ word in absurd cc
       of_way (AsUpdate name uris end lines word updates puts) = let never : Some (Check checks_it.name) ≡ Some (RunUpdate name uris) = sym checks_it.word ∙ word in absurd cc
+
+  -- of `check`, by its status
+  pub checks : EnvelopeLaws → ManifestLaws → MembersLaws → IsTrue b.told → IsCheck words → Checks words b sb sa result
+  checks envelopes manifests members told check = of_way way where
+    of_way : Way words l m b a sb sa result → Checks words b sb sa result
+    of_way (InStages run same) =
+        by_status result (λ is. SaysYes is (yes told check is)) (λ is. SaysNo is (no_path told is))
+        (λ not_yes not_no. SaysNeither not_yes not_no (staged.no_flash words b a sb sa result run check) (staged.no_answer words b a sb sa result run envelopes manifests members not_yes not_no))
+    of_way (AsBoot end lines word boots puts) = let never : Some (Check check.0) ≡ Some RunBoot = sym check.1 ∙ word in absurd cc
+    of_way (AsUpdate name uris end lines word updates puts) = let never : Some (Check check.0) ≡ Some (RunUpdate name uris) = sym check.1 ∙ word in absurd cc
 
   pub usage : result ≡ 2 → IsUsage words sb sa
   usage two = of_way way where

@@ -1,10 +1,20 @@
 -- The laws of a run.
+use Rattle.suit_envelope.specs.EnvelopeLaws.{EnvelopeLaws}
+use Rattle.suit_manifest.specs.ManifestLaws.{ManifestLaws}
+use Rattle.suit_manifest.specs.MembersLaws.{MembersLaws}
 use Rattle.flash_layout.specs.ConfigLaws.{OneAnswer}
 use Rattle.suit_cli.specs.RunLaws.{RunLaws}
 use Rattle.suit_cli.proofs.RunEnds as ends
 
-pub run_laws : OneAnswer → RunLaws
-run_laws configs words l m b a sb sa result runs = record {
+pub run_laws : OneAnswer → EnvelopeLaws → ManifestLaws → MembersLaws → RunLaws
+run_laws configs envelopes manifests members words l m b a sb sa result runs = record {
+  yes = ends.yes words l m b a sb sa result runs;
+  safe_is_yes = ends.safe_is_yes words l m b a sb sa result runs envelopes manifests members;
+  no = ends.no_path words l m b a sb sa result runs;
+  unsafe_is_no = ends.unsafe_is_no words l m b a sb sa result runs envelopes manifests members;
+  stays = ends.stays words l m b a sb sa result runs;
+  asks = ends.asks words l m b a sb sa result runs;
+  counts = ends.counts words l m b a sb sa result runs;
   usage = ends.usage words l m b a sb sa result runs;
   no_command_is_usage = ends.no_command_is_usage words l m b a sb sa result runs;
   status = ends.is_status words l m b a sb sa result runs;

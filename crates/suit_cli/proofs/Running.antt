@@ -1,5 +1,5 @@
 -- The status of a run that had an answer and put it.
-use Rattle.std.proofs.Common.{◌≡◌, ◌<◌, ◌≤◌, ap, ℕ, zero, suc, List, [], ◌∷◌, Some, None, ◌⊎◌, inl, inr, refl, sym, subst, ◌∙◌, ◌+◌, arith}
+use Rattle.std.proofs.Common.{◌≡◌, ◌<◌, ◌≤◌, ap, ℕ, zero, suc, List, [], ◌∷◌, ◌⊎◌, inl, inr, refl, sym, subst, ◌∙◌, ◌+◌, arith}
 use Rattle.std.specs.Prelude.{IsTrue}
 use Rattle.suit_commands.specs.Tree.{PlanTree}
 use Rattle.suit_envelope.specs.Envelopes.{EnvelopeSays}
@@ -10,6 +10,8 @@ use Rattle.suit_manifest.specs.declared.manifest.Manifest.{Manifest}
 use Rattle.suit_manifest.specs.declared.members.MemberFault.{MemberFault}
 use Rattle.suit_manifest.specs.declared.members.MemberFault.TheVariants as faults
 use Rattle.suit_manifest.specs.ManifestLaws.{ManifestLaws}
+use Rattle.suit_envelope.specs.Said.{EnvelopeOf, RefusesBytes}
+use Rattle.suit_manifest.specs.MembersApart.{HasMembers}
 use Rattle.suit_manifest.specs.MembersLaws.{MembersLaws}
 use Rattle.suit_manifest.specs.Procedures.{update_tree, invocation_tree}
 use Rattle.suit_cli.specs.declared.reply.Reply.{Reply}
@@ -18,22 +20,24 @@ use Rattle.suit_cli.specs.declared.reply.Outcome.TheVariants as outcomes
 use Rattle.suit_cli.specs.Replies.{IsReply}
 use Rattle.suit_cli.specs.declared.reply.Object.{Object}
 use Rattle.suit_cli.specs.declared.reply.Object.TheVariants as objects
-use Rattle.suit_cli.specs.Outside.{Outside, Flashed, Quiet, Asks, MayAsk, Reads}
-use Rattle.suit_cli.specs.Stages.{Ending, Says, FaultOf, NoMemory, Answers, at_host, Goes, Declines, Faults, Last, Ends, IsSaid}
+use Rattle.suit_cli.specs.Outside.{Outside, Flashed, Quiet, Asks, MayAsk}
+use Rattle.suit_cli.specs.Stages.{Ending, Says, FaultOf, NoMemory, Answers, at_host, Goes, Declines, Faults, Ends, IsSaid}
 use Rattle.suit_cli.specs.Statuses.{status_of, ending_status}
-use Rattle.suit_cli.specs.Inputs.{file, longest_file, longest_key, IsUnread, IsAbsent, IsTooLong, IsNoKey, IsUnreadKey, IsEmptyKey}
+use Rattle.suit_cli.specs.Inputs.{file, longest_file, longest_key, IsRead, IsUnread, IsAbsent, IsTooLong, IsNoKey, IsUnreadKey, IsEmptyKey}
 use Rattle.admission.specs.Refusals.{of_members}
 use Rattle.suit_cli.specs.Refusals.{TellsRefusal}
 use Rattle.suit_cli.specs.Envelopes as stages
+use Rattle.suit_cli.specs.Envelopes.{AreBytes, IsRefused, IsShort, IsLong, ManifestOf, RefusesItsManifest, IsLack}
 use Rattle.suit_cli.specs.Holding.{HasManifest, HasProcedures}
 use Rattle.suit_cli.specs.CommandCauses.{NoManifest, AtFile, AtEnvelope, AtLength, AtManifest, CheckSays, BeforeMembers, AtMembers, AtUpdateWidth, AtInvocationWidth, AtPaths, SameButPath}
-use Rattle.suit_cli.specs.Judgement.{IsNarrow, AreSafe, AreJudged, JudgedSafe, JudgedUnsafe, ShowUnsafe, UpdateUnsafe, InvocationUnsafe}
+use Rattle.suit_cli.specs.Judgement.{IsNarrow, IsWide, AreSafe, AreJudged, JudgedSafe, JudgedUnsafe, ShowUnsafe, UpdateUnsafe, InvocationUnsafe}
 use Rattle.suit_cli.specs.Shown.{IsShown, authenticity_outcome}
 use Rattle.suit_cli.specs.Devices.{IsNoDevice, IsNoJson, IsNoLayout}
 use Rattle.suit_cli.specs.Installed.{HoldsNone, IsBlank, IsBad}
-use Rattle.suit_cli.specs.Commands.{in_manifest, judges_manifest, checks, shows_manifest, shows, inits_as, inits, begins_boot, tells_status, drills, does}
+use Rattle.suit_cli.specs.Commands.{in_manifest, judges_manifest, checks, shows_manifest, shows, inits_as, inits, begins_boot, tells_status, drills}
 use Rattle.path_model.proofs.Refuting.{IsBadPath-not_safe}
-use Rattle.suit_cli.proofs.OneStage.{Alike, alike_self, asks_for, asks_reads, alike_asked, passes, stands, one_reply, one_file, one_envelope, one_short, one_manifest, one_members, one_narrow}
+use Rattle.suit_cli.proofs.OneCause.{Behind, Stops, Passes, passes, one_way}
+use Rattle.suit_cli.proofs.OneStage.{one_reply, one_file, one_envelope, one_short, one_manifest, one_members, one_narrow}
 
 -- ---- the outcomes of stages that decline
 
@@ -143,37 +147,50 @@ no_manifest_declines name b r (AtEnvelope bytes read all bad) = declining r _ _ 
 no_manifest_declines name b r (AtLength said has long) = declining r _ _ long.says tt
 no_manifest_declines name b r (AtManifest said has short bad) = declining r _ _ bad.says tt
 
-module _ (envelopes : EnvelopeLaws) (manifests : ManifestLaws) (name : List ℕ) (next : List ℕ → EnvelopeSays → Manifest → Answers) (b a : Outside) (told : IsTrue b.told) (q : Reply) where
-  still : Reads (longest_file + 1) name b (asks_for name b)
-  still = asks_reads (longest_file + 1) name b
+-- the stages up to the manifest, as the start has them, and what is behind them
+abbrev pub InManifest : List ℕ → Outside → (List ℕ → EnvelopeSays → Manifest → Reply → Type 0) → Reply → Type 0
+InManifest name b next =
+    Behind (IsRead longest_file name b) (IsUnread longest_file name b) (λ bytes.
+    Behind (λ (said : EnvelopeSays). AreBytes bytes × EnvelopeOf bytes said) (λ r. AreBytes bytes × IsRefused (RefusesBytes bytes) r) (λ said.
+    Behind (λ (u : Unit {0}). IsShort said) (IsLong said) (λ u.
+    Behind (ManifestOf said) (IsRefused (RefusesItsManifest said)) (next bytes said))))
 
-  alike : Alike b b
-  alike = alike_self b told
+module _ (name : List ℕ) (b : Outside) (next : List ℕ → EnvelopeSays → Manifest → Reply → Type 0) (r : Reply) where
+  pub stops_before : NoManifest name b r → InManifest name b next r
+  stops_before (AtFile u) = Stops u
+  stops_before (AtEnvelope bytes read all bad) = Passes bytes read (Stops (all, bad))
+  stops_before (AtLength said e long) = Passes e.bytes e.read (Passes said (e.are_bytes, e.envelope) (Stops long))
+  stops_before (AtManifest said e short bad) = Passes e.bytes e.read (Passes said (e.are_bytes, e.envelope) (Passes tt short (Stops bad)))
 
-  -- a manifest is passed
-  pub manifest_passed : (said : EnvelopeSays) (manifest : Manifest) (has : HasManifest name b said manifest) → in_manifest name next b a (Says q) → (m : Outside) × Alike b m × next has.in_envelope.bytes said manifest m a (Says q)
-  manifest_passed said manifest has answer =
+  pub has_passed : (said : EnvelopeSays) (manifest : Manifest) (has : HasManifest name b said manifest) → next has.in_envelope.bytes said manifest r → InManifest name b next r
+  has_passed said manifest has rest =
       let e = has.in_envelope in
-      let s0 = passes _ _ (one_file longest_file name) b b (asks_for name b) a q alike e.bytes (still, e.read) answer in
-      let s1 = passes _ _ (one_envelope envelopes e.bytes) b s0.0 b a q (alike_asked name b s0.0 s0.1) said (refl, (e.are_bytes, e.envelope)) s0.2 in
-      let s2 = passes _ _ (one_short said) b s1.0 b a q s1.1 tt (refl, has.is_short) s1.2 in
-      passes _ _ (one_manifest envelopes manifests e.bytes said e.envelope) b s2.0 b a q s2.1 manifest (refl, has.says) s2.2
+      Passes e.bytes e.read (Passes said (e.are_bytes, e.envelope) (Passes tt has.is_short (Passes manifest has.says rest)))
 
-  -- and what stops it before has the last word
-  pub no_manifest_stands : (r : Reply) → NoManifest name b r → in_manifest name next b a (Says q) → q ≡ r
-  no_manifest_stands r (AtFile u) answer = stands _ _ (one_file longest_file name) b b (asks_for name b) a q alike r (still, u) answer
-  no_manifest_stands r (AtEnvelope bytes read all bad) answer =
-      let s0 = passes _ _ (one_file longest_file name) b b (asks_for name b) a q alike bytes (still, read) answer in
-      stands _ _ (one_envelope envelopes bytes) b s0.0 b a q (alike_asked name b s0.0 s0.1) r (refl, (all, bad)) s0.2
-  no_manifest_stands r (AtLength said e long) answer =
-      let s0 = passes _ _ (one_file longest_file name) b b (asks_for name b) a q alike e.bytes (still, e.read) answer in
-      let s1 = passes _ _ (one_envelope envelopes e.bytes) b s0.0 b a q (alike_asked name b s0.0 s0.1) said (refl, (e.are_bytes, e.envelope)) s0.2 in
-      stands _ _ (one_short said) b s1.0 b a q s1.1 r (refl, long) s1.2
-  no_manifest_stands r (AtManifest said e short bad) answer =
-      let s0 = passes _ _ (one_file longest_file name) b b (asks_for name b) a q alike e.bytes (still, e.read) answer in
-      let s1 = passes _ _ (one_envelope envelopes e.bytes) b s0.0 b a q (alike_asked name b s0.0 s0.1) said (refl, (e.are_bytes, e.envelope)) s0.2 in
-      let s2 = passes _ _ (one_short said) b s1.0 b a q s1.1 tt (refl, short) s1.2 in
-      stands _ _ (one_manifest envelopes manifests e.bytes said e.envelope) b s2.0 b a q s2.1 r (refl, bad) s2.2
+module _ (envelopes : EnvelopeLaws) (manifests : ManifestLaws) (name : List ℕ) (b : Outside) (told : IsTrue b.told) where
+  -- a manifest is passed
+  pub manifest_passed : (next : List ℕ → EnvelopeSays → Manifest → Reply → Type 0) (said : EnvelopeSays) (manifest : Manifest) (has : HasManifest name b said manifest) (q : Reply)
+      → InManifest name b next q → next has.in_envelope.bytes said manifest q
+  manifest_passed next said manifest has q answer =
+      let e = has.in_envelope in
+      let s0 = passes _ _ _ (one_file longest_file name b told) e.bytes q e.read answer in
+      let s1 = passes _ _ _ (one_envelope envelopes e.bytes) said q (e.are_bytes, e.envelope) s0 in
+      let s2 = passes _ _ _ (one_short said) tt q has.is_short s1 in
+      passes _ _ _ (one_manifest envelopes manifests e.bytes said e.envelope) manifest q has.says s2
+
+  -- two replies are the same where they are behind the manifest
+  pub one_in_manifest : (first second : List ℕ → EnvelopeSays → Manifest → Reply → Type 0) (Same : Reply → Reply → Type 0) → ((r q : Reply) → q ≡ r → Same r q)
+      → ((bytes : List ℕ) (said : EnvelopeSays) (manifest : Manifest) → EnvelopeOf bytes said → (r q : Reply) → first bytes said manifest r → second bytes said manifest q → Same r q)
+      → (r q : Reply) → InManifest name b first r → InManifest name b second q → Same r q
+  one_in_manifest first second Same more rest =
+      one_way _ _ _ _ (one_file longest_file name b told) Same more (λ bytes read. one_way _ _ _ _ (one_envelope envelopes bytes) Same more (λ said e. one_way _ _ _ _ (one_short said) Same more
+      (λ u short. one_way _ _ _ _ (one_manifest envelopes manifests bytes said e.1) Same more (λ manifest says. rest bytes said manifest e.1))))
+
+  -- what stops before it has the last word
+  pub no_manifest_stands : (next : List ℕ → EnvelopeSays → Manifest → Reply → Type 0) (r q : Reply) → NoManifest name b r → InManifest name b next q → q ≡ r
+  no_manifest_stands next r q none answer =
+      one_in_manifest (λ bytes said manifest s. ⊥) next (λ x y. y ≡ x) (λ x y same. same) (λ bytes said manifest is x y never. absurd never) r q
+      (stops_before name b (λ bytes said manifest s. ⊥) r none) answer
 
 -- ---- an answer of `check`
 
@@ -257,47 +274,55 @@ checked name b a r answer = of_says (check_says name b a r answer) where
   of_says (AtInvocationWidth said manifest members has mem narrow_is wide) = inl (declining r _ _ wide.says tt)
   of_says (AtPaths update invocation has judged) = inr (record { update = update; invocation = invocation; has = has; judged = judged })
 
-pub last_says : (says : Reply → Type 0) (m n : Outside) (q : Reply) → Last says m n (Says q) → says q
-last_says says m n q (Ends _ same is) = is
+-- ---- the causes of `check`
+
+-- the stages behind the manifest
+abbrev Judges : List ℕ → EnvelopeSays → Manifest → Reply → Type 0
+Judges bytes said manifest =
+    Behind (HasMembers said manifest) (IsLack said manifest) (λ members.
+    Behind (λ (u : Unit {0}). IsNarrow (update_tree manifest members)) (IsWide (update_tree manifest members)) (λ u.
+    Behind (λ (v : Unit {0}). IsNarrow (invocation_tree manifest)) (IsWide (invocation_tree manifest)) (λ v. AreJudged (update_tree manifest members) (invocation_tree manifest))))
+
+procedures_passed : (name : List ℕ) (b : Outside) (r : Reply) (update invocation : PlanTree) → HasProcedures name b update invocation → AreJudged update invocation r → InManifest name b Judges r
+procedures_passed name b r update invocation has judged =
+    has_passed name b Judges r has.said has.manifest has.has_manifest (Passes has.members has.has_members
+    (Passes tt (subst IsNarrow has.update_is has.update_narrow) (Passes tt (subst IsNarrow has.invocation_is has.invocation_narrow)
+    (subst (λ (p : PlanTree). AreJudged p (invocation_tree has.manifest) r) has.update_is (subst (λ (p : PlanTree). AreJudged update p r) has.invocation_is judged)))))
+
+check_stages : (name : List ℕ) (b : Outside) (r : Reply) → CheckSays name b r → InManifest name b Judges r
+check_stages name b r (BeforeMembers none) = stops_before name b Judges r none
+check_stages name b r (AtMembers said manifest has lack) = has_passed name b Judges r said manifest has (Stops lack)
+check_stages name b r (AtUpdateWidth said manifest members has mem wide) = has_passed name b Judges r said manifest has (Passes members mem (Stops wide))
+check_stages name b r (AtInvocationWidth said manifest members has mem small wide) = has_passed name b Judges r said manifest has (Passes members mem (Passes tt small (Stops wide)))
+check_stages name b r (AtPaths update invocation has judged) = procedures_passed name b r update invocation has judged
+
+one_judged : (u i : PlanTree) (r q : Reply) → AreJudged u i r → AreJudged u i q → SameButPath r q
+one_judged u i r q (JudgedSafe safe says) (JudgedSafe safe' says') = inl (one_reply r q _ _ says says')
+one_judged u i r q (JudgedUnsafe is unsafe) (JudgedUnsafe is' unsafe') = inr (is, is')
+one_judged u i r q (JudgedSafe safe says) (JudgedUnsafe is unsafe) = absurd (unsafe_refuted u i q.text unsafe safe)
+one_judged u i r q (JudgedUnsafe is unsafe) (JudgedSafe safe says) = absurd (unsafe_refuted u i r.text unsafe safe)
 
 module _ (envelopes : EnvelopeLaws) (manifests : ManifestLaws) (members : MembersLaws) (name : List ℕ) (b a : Outside) (told : IsTrue b.told) (q : Reply) (answer : checks name b a (Says q)) where
   -- where the file has such procedures, they are judged
   pub judged_when : (update invocation : PlanTree) → HasProcedures name b update invocation → AreJudged update invocation q
   judged_when update invocation has =
       let e = has.has_manifest.in_envelope in
-      let s3 = manifest_passed envelopes manifests name (λ bytes. judges_manifest) b a told q has.said has.manifest has.has_manifest answer in
-      let s4 = passes _ _ (one_members members e.bytes has.said has.manifest e.envelope) b s3.0 b a q s3.1 has.members (refl, has.has_members) s3.2 in
-      let n0 = subst IsNarrow has.update_is has.update_narrow in
-      let n1 = subst IsNarrow has.invocation_is has.invocation_narrow in
-      let s5 = passes _ _ (one_narrow (update_tree has.manifest has.members)) b s4.0 b a q s4.1 tt (refl, n0) s4.2 in
-      let s6 = passes _ _ (one_narrow (invocation_tree has.manifest)) b s5.0 b a q s5.1 tt (refl, n1) s5.2 in
+      let s3 = manifest_passed envelopes manifests name b told Judges has.said has.manifest has.has_manifest q (check_stages name b q (check_says name b a q answer)) in
+      let s4 = passes _ _ _ (one_members members e.bytes has.said has.manifest e.envelope) has.members q has.has_members s3 in
+      let s5 = passes _ _ _ (one_narrow (update_tree has.manifest has.members)) tt q (subst IsNarrow has.update_is has.update_narrow) s4 in
+      let s6 = passes _ _ _ (one_narrow (invocation_tree has.manifest)) tt q (subst IsNarrow has.invocation_is has.invocation_narrow) s5 in
       subst (λ (p : PlanTree). AreJudged p invocation q) (sym has.update_is)
-      (subst (λ (p : PlanTree). AreJudged (update_tree has.manifest has.members) p q) (sym has.invocation_is) (last_says _ s6.0 a q s6.2))
+      (subst (λ (p : PlanTree). AreJudged (update_tree has.manifest has.members) p q) (sym has.invocation_is) s6)
 
-  one_judged : (u i : PlanTree) (r : Reply) → AreJudged u i r → AreJudged u i q → SameButPath r q
-  one_judged u i r (JudgedSafe safe says) (JudgedSafe safe' says') = inl (one_reply r q _ _ says says')
-  one_judged u i r (JudgedUnsafe is unsafe) (JudgedUnsafe is' unsafe') = inr (is, is')
-  one_judged u i r (JudgedSafe safe says) (JudgedUnsafe is unsafe) = absurd (unsafe_refuted u i q.text unsafe safe)
-  one_judged u i r (JudgedUnsafe is unsafe) (JudgedSafe safe says) = absurd (unsafe_refuted u i r.text unsafe safe)
+  one_behind : (bytes : List ℕ) (said : EnvelopeSays) (manifest : Manifest) → EnvelopeOf bytes said → (r s : Reply) → Judges bytes said manifest r → Judges bytes said manifest s → SameButPath r s
+  one_behind bytes said manifest is =
+      one_way _ _ _ _ (one_members members bytes said manifest is) SameButPath (λ x y same. inl same) (λ taken mem.
+      one_way _ _ _ _ (one_narrow (update_tree manifest taken)) SameButPath (λ x y same. inl same) (λ u first.
+      one_way _ _ _ _ (one_narrow (invocation_tree manifest)) SameButPath (λ x y same. inl same) (λ v second. one_judged (update_tree manifest taken) (invocation_tree manifest))))
 
   pub check_always : (r : Reply) → CheckSays name b r → SameButPath r q
-  check_always r (BeforeMembers none) = inl (no_manifest_stands envelopes manifests name (λ bytes. judges_manifest) b a told q r none answer)
-  check_always r (AtMembers said manifest has lack) =
-      let e = has.in_envelope in
-      let s3 = manifest_passed envelopes manifests name (λ bytes. judges_manifest) b a told q said manifest has answer in
-      inl (stands _ _ (one_members members e.bytes said manifest e.envelope) b s3.0 b a q s3.1 r (refl, lack) s3.2)
-  check_always r (AtUpdateWidth said manifest taken has mem wide) =
-      let e = has.in_envelope in
-      let s3 = manifest_passed envelopes manifests name (λ bytes. judges_manifest) b a told q said manifest has answer in
-      let s4 = passes _ _ (one_members members e.bytes said manifest e.envelope) b s3.0 b a q s3.1 taken (refl, mem) s3.2 in
-      inl (stands _ _ (one_narrow (update_tree manifest taken)) b s4.0 b a q s4.1 r (refl, wide) s4.2)
-  check_always r (AtInvocationWidth said manifest taken has mem small wide) =
-      let e = has.in_envelope in
-      let s3 = manifest_passed envelopes manifests name (λ bytes. judges_manifest) b a told q said manifest has answer in
-      let s4 = passes _ _ (one_members members e.bytes said manifest e.envelope) b s3.0 b a q s3.1 taken (refl, mem) s3.2 in
-      let s5 = passes _ _ (one_narrow (update_tree manifest taken)) b s4.0 b a q s4.1 tt (refl, small) s4.2 in
-      inl (stands _ _ (one_narrow (invocation_tree manifest)) b s5.0 b a q s5.1 r (refl, wide) s5.2)
-  check_always r (AtPaths update invocation has judged) = one_judged update invocation r judged (judged_when update invocation has)
+  check_always r says =
+      one_in_manifest envelopes manifests name b told Judges Judges SameButPath (λ x y same. inl same) one_behind r q (check_stages name b r says) (check_stages name b q (check_says name b a q answer))
 
 -- ---- an answer of `show`
 

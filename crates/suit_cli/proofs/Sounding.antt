@@ -1,5 +1,5 @@
 -- A settled flash stays sound.
-use Rattle.std.proofs.Common.{◌≡◌, ◌⊎◌, inl, inr, ℕ, List, length, Option, Some, None, refl, sym, ap, subst, ◌∙◌, arith}
+use Rattle.std.proofs.Common.{◌≡◌, ◌⊎◌, inl, inr, ℕ, List, length, Option, Some, sym, ap, subst, ◌∙◌, arith}
 use Rattle.std.specs.Prelude.{IsTrue}
 use Rattle.std.proofs.lemmas.List.Edits.{get_or-between}
 use Rattle.suit_edge.specs.Gate.{IsOpen}
@@ -8,7 +8,7 @@ use Rattle.suit_edge.specs.FlashLaws.{same_flash, starts, weakens, joined}
 use Rattle.flash_layout.specs.declared.frame.TheConstants.{VERSION_1}
 use Rattle.flash_layout.specs.declared.key.Key.{Key}
 use Rattle.flash_layout.specs.declared.layout.Entry.{Entry}
-use Rattle.flash_layout.specs.Configs.{ConfigOf, IsAllowed, IsBlank, Blank, Configured}
+use Rattle.flash_layout.specs.Configs.{ConfigOf, IsAllowed, IsBlank, Configured}
 use Rattle.flash_layout.specs.Formats.{IsFormatted}
 use Rattle.flash_layout.specs.Frames.{head_of}
 use Rattle.flash_layout.specs.declared.slot.Record.{Record}
@@ -19,7 +19,7 @@ use Rattle.rollback_record.specs.SettledLaws.{both, each_sound, settled_still}
 use Rattle.invoke_proc.specs.declared.boot_end.BootEnd.{BootEnd}
 use Rattle.invoke_proc.specs.declared.boot_end.BootEnd.TheVariants as ends
 use Rattle.invoke_proc.specs.Booting.{KeepsBoot, KeptSo}
-use Rattle.suit_cli.specs.Words.{Task, Make, Describe, Show, Check, RunInit, RunUpdate, RunBoot, RunStatus, task_said}
+use Rattle.suit_cli.specs.Words.{Task, RunInit, RunUpdate, RunBoot, task_said}
 use Rattle.suit_cli.specs.declared.words.Command.{Command}
 use Rattle.suit_cli.specs.Outside.{Outside}
 use Rattle.suit_cli.specs.Devices.{key_of}

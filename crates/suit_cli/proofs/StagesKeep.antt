@@ -1,9 +1,8 @@
 -- How an answer's stages keep the outside, and count faults.
-use Rattle.std.proofs.Common.{◌≡◌, ℕ, List, Some, refl, sym, ap, subst, ◌∙◌, ◌+◌, arith}
+use Rattle.std.proofs.Common.{◌≡◌, ℕ, List, refl, sym, ap, subst, ◌∙◌, ◌+◌, arith}
 use Rattle.std.specs.Prelude.{IsTrue}
 use Rattle.suit_edge.specs.Faults.{Faulted}
 use Rattle.suit_cli.specs.declared.reply.Reply.{Reply}
-use Rattle.suit_cli.specs.Words.{Task, Describe, Show, Check, RunInit, RunStatus, task_of}
 use Rattle.suit_cli.specs.declared.reply.Object.{Object}
 use Rattle.suit_cli.specs.declared.reply.Object.TheVariants as objects
 use Rattle.suit_cli.specs.Outside.{Outside, Flashed, Quiet, Reads, ReadsInVain, Looks, LooksInVain, with_flash}
@@ -12,8 +11,8 @@ use Rattle.flash_layout.specs.declared.key.Key.{Key}
 use Rattle.flash_layout.specs.declared.layout.Entry.{Entry}
 use Rattle.suit_cli.specs.Formatting.{formatting, FormatsInVain}
 use Rattle.suit_cli.specs.Inputs.{longest_file, longest_device, longest_key}
-use Rattle.suit_cli.specs.Commands.{describes, shows, checks, inits, inits_as, begins_boot, tells_status, drills, does}
-use Rattle.suit_cli.specs.Program.{answers, most_pulled}
+use Rattle.suit_cli.specs.Commands.{describes, shows, checks, inits, inits_as, begins_boot, tells_status, drills}
+use Rattle.suit_cli.specs.Program.{answers}
 
 -- only an answer that is a fault counted one, of its object
 pub record Unfaulted (b a : Outside) : Type 0 where

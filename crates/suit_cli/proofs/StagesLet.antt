@@ -1,6 +1,6 @@
 -- How an answer keeps the files, and counts faults.
-use Rattle.std.proofs.Common.{◌≡◌, ◌∙◌, ℕ, ◌≤◌, ◌+◌, List, [], ◌∷◌, ◌++◌, Option, Some, None, inl, inr, refl, sym, ap, subst, arith}
-use Rattle.std.specs.Prelude.{IsTrue, ◌≢◌}
+use Rattle.std.proofs.Common.{◌≡◌, ◌∙◌, ℕ, ◌+◌, List, [], ◌∷◌, ◌++◌, Option, Some, None, inl, inr, refl, sym, ap, subst, arith}
+use Rattle.std.specs.Prelude.{IsTrue}
 use Rattle.serde_json.specs.Data.{Data}
 use Rattle.author.specs.FileNames.{file_names}
 use Rattle.suit_cli.specs.declared.reply.Reply.{Reply}
@@ -10,7 +10,7 @@ use Rattle.suit_cli.specs.Words.{Task, Make, Describe, Show, Check, RunInit, Run
 use Rattle.suit_cli.specs.Outside.{Outside, Files, Quiet, LeavesOthers, FilesStay, Leaves}
 use Rattle.suit_cli.specs.Stages.{Ending, Says, FaultOf, NoMemory, Answers, Stage, in_turn, Then, Goes, Declines, Faults, Lacks, IsSaid}
 use Rattle.suit_cli.specs.Inputs.{longest_key, file}
-use Rattle.suit_cli.specs.Authoring.{longest_description, longest_named, files_after, names_read, names_held, most_named, stores, makes_described}
+use Rattle.suit_cli.specs.Authoring.{longest_description, files_after, names_read, names_held, most_named, stores, makes_described}
 use Rattle.flash_layout.specs.declared.key.Key.{Key}
 use Rattle.flash_layout.specs.declared.layout.Entry.{Entry}
 use Rattle.suit_cli.specs.Acceptance.{accepts}

@@ -1,5 +1,5 @@
 -- The files and the flash where memory ran out.
-use Rattle.std.proofs.Common.{◌≡◌, ◌⊎◌, ⊎_elim, ℕ, List, [], ◌∷◌, ◌++◌, Option, Some, None, length, sym, ap, subst, ◌∙◌, arith}
+use Rattle.std.proofs.Common.{◌≡◌, ⊎_elim, ℕ, List, [], ◌∷◌, ◌++◌, Option, Some, None, length, sym, ap, subst, ◌∙◌, arith}
 use Rattle.std.specs.Prelude.{IsTrue}
 use Rattle.suit_params.specs.declared.digest.Digest.{Digest}
 use Rattle.suit_envelope.specs.Members.{string_digest}
@@ -20,14 +20,12 @@ use Rattle.invoke_proc.specs.declared.boot_end.BootEnd.TheVariants as boot_ends
 use Rattle.invoke_proc.proofs.Booted.{payloads_in}
 use Rattle.update_proc.specs.declared.update_end.UpdateEnd.{UpdateEnd}
 use Rattle.update_proc.specs.declared.update_end.UpdateEnd.TheVariants as update_ends
-use Rattle.suit_cli.specs.declared.reply.Outcome.{Outcome}
-use Rattle.suit_cli.specs.declared.reply.Outcome.TheVariants as outcomes
 use Rattle.suit_cli.specs.declared.reply.Object.TheVariants as objects
 use Rattle.suit_cli.specs.declared.reply.Reply.{Reply}
 use Rattle.suit_cli.specs.Words.{Task, Make, Describe, Show, Check, RunInit, RunUpdate, RunBoot, RunStatus, Drill}
 use Rattle.suit_cli.specs.Outside.{Outside, Flashed}
 use Rattle.suit_cli.specs.Stages.{Ending, Says, FaultOf, NoMemory, Answers, Stage, judging, reading, looking, in_turn, Then, Goes, Lacks, Last, EndsWithout}
-use Rattle.suit_cli.specs.Statuses.{ending_status, status_of}
+use Rattle.suit_cli.specs.Statuses.{ending_status}
 use Rattle.suit_cli.specs.Authoring.{files_after, stores}
 use Rattle.suit_cli.specs.Acceptance.{accepts}
 use Rattle.suit_cli.specs.Formatting.{formats}

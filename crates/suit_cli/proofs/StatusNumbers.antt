@@ -1,5 +1,6 @@
 -- Each status is a number of the table.
-use Rattle.std.proofs.Common.{◌≤◌, ℕ, arith}
+use Rattle.std.proofs.Common.{◌≡◌, ◌≤◌, ℕ, zero, suc, refl, arith}
+use Rattle.std.specs.Prelude.{◌≢◌}
 use Rattle.path_model.specs.declared.cause.Cause.{Cause}
 use Rattle.path_model.specs.declared.cause.Cause.TheVariants as causes
 use Rattle.invoke_proc.specs.declared.boot_end.BootEnd.{BootEnd}
@@ -15,6 +16,12 @@ use Rattle.suit_cli.specs.Launching.{cause_status}
 use Rattle.suit_cli.specs.Stages.{Ending, Says, FaultOf, NoMemory}
 use Rattle.suit_cli.specs.Statuses.{ending_status, status_of}
 use Rattle.suit_cli.specs.Updating.{update_status}
+
+-- 0, 1, or another
+pub by_status : {P : Type 0} (n : ℕ) → (n ≡ 0 → P) → (n ≡ 1 → P) → (n ≢ 0 → n ≢ 1 → P) → P
+by_status zero none one other = none refl
+by_status (suc zero) none one other = one refl
+by_status (suc (suc n)) none one other = other (λ e. omega (arith, e)) (λ e. omega (arith, e))
 
 of_outcome : (outcome : Outcome) → status_of outcome ≤ 21
 of_outcome outcomes.Done = omega arith

@@ -1,5 +1,5 @@
 -- How the code's steps make one stage of several in turn.
-use Rattle.std.proofs.Common.{◌≡◌, inl, inr, Result, Ok, Err}
+use Rattle.std.proofs.Common.{inl, inr, Result, Ok, Err}
 use Rattle.suit_cli.specs.declared.reply.Reply.{Reply}
 use Rattle.suit_cli.specs.declared.reply.Stop.{Stop}
 use Rattle.suit_cli.specs.declared.reply.Stop.TheVariants as stops

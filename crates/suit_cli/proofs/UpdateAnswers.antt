@@ -1,6 +1,6 @@
 -- The answer to `run update`.
 use Rattle.std.specs.Prelude.{IsTrue}
-use Rattle.std.proofs.Common.{◌≡◌, ℕ, List, Option, Result, Ok, Err, refl, sym, subst}
+use Rattle.std.proofs.Common.{◌≡◌, ℕ, List, Option, Err, refl, sym, subst}
 use Rattle.suit_edge.specs.Flash.{Flash, IsFlash, IsSame}
 use Rattle.suit_edge.specs.FlashLaws.{same_flash_then}
 use Rattle.suit_envelope.specs.Trimmed.{trimmed}
@@ -21,7 +21,7 @@ use Rattle.suit_cli.specs.declared.reply.Reply.{Reply}
 use Rattle.suit_cli.specs.declared.reply.Stop.{Stop}
 use Rattle.suit_cli.specs.Words.{RunUpdate}
 use Rattle.suit_cli.specs.Outside.{Files, Outside}
-use Rattle.suit_cli.specs.Stages.{Ending, NoMemory, Answers, Goes, Last, EndsWithout, Does, ending_of, ◌>>=◌}
+use Rattle.suit_cli.specs.Stages.{Ending, Answers, Goes, Last, EndsWithout, Does, ending_of, ◌>>=◌}
 use Rattle.suit_cli.specs.Inputs.{longest_file, IsRead, file}
 use Rattle.suit_cli.specs.Installed.{config_in}
 use Rattle.suit_cli.specs.Launching.{Launching}

@@ -33,7 +33,7 @@ use Rattle.suit_cli.specs.Outside.{Flashed, Outside, with_flash}
 use Rattle.suit_cli.specs.Updating.{Updates, Offer, offer, tree_of}
 use Rattle.suit_cli.specs.UpdateEndLaws.{Beside, UpdateEnds, IsLower, IsOther, IsWorn, IsInstalled, IsStopped, IsFailed, FlashFailed, MemoryRanOut, UpdateEndLaws, UpdateIsCaused, IsOffered, IsEndOf, IsNoEnd}
 use Rattle.suit_cli.proofs.AcceptedFacts.{facts}
-use Rattle.suit_cli.proofs.OneStage.{alike_self, one_envelope, one_manifest, one_read}
+use Rattle.suit_cli.proofs.OneStage.{one_envelope, one_manifest, one_read}
 
 module _ (o : Offer) (launched now : Launching) (before after : Outside) where
   abbrev IsJudgedSo : UpdateEnd → Type 0
@@ -164,7 +164,7 @@ module _ (configs : OneAnswer) (envelopes : EnvelopeLaws) (manifests : ManifestL
     same_config = configs VERSION_1 before.flash.size (head_of VERSION_1 before.flash.reads) (Configured u.layout u.key) (Configured f.layout f.key) (u.config flash_told) (f.config flash_told)
 
     same_bytes : u.bytes ≡ f.bytes
-    same_bytes = one_read longest_file name before before (alike_self before told) f.bytes u.bytes f.read u.read
+    same_bytes = one_read longest_file name before told f.bytes u.bytes f.read u.read
 
     accepted_there : IsAccepted f.layout f.key f.bytes u.accepted
     accepted_there =
@@ -180,13 +180,12 @@ module _ (configs : OneAnswer) (envelopes : EnvelopeLaws) (manifests : ManifestL
     y = facts f.layout f.key f.bytes u.accepted accepted_there
 
     same_said : u.accepted.said ≡ f.accepted.said
-    same_said =
-        ((one_envelope envelopes f.bytes).gives before before before before f.accepted.said u.accepted.said (alike_self before told) (refl, (x.are_bytes, x.envelope)) (refl, (y.are_bytes, y.envelope))).0
+    same_said = (one_envelope envelopes f.bytes).value f.accepted.said u.accepted.said (x.are_bytes, x.envelope) (y.are_bytes, y.envelope)
 
     same_manifest : u.accepted.manifest ≡ f.accepted.manifest
     same_manifest =
-        ((one_manifest envelopes manifests f.bytes f.accepted.said x.envelope).gives before before before before f.accepted.manifest u.accepted.manifest (alike_self before told) (refl, x.says)
-        (refl, subst (λ (s : EnvelopeSays). ManifestOf s u.accepted.manifest) same_said y.says)).0
+        (one_manifest envelopes manifests f.bytes f.accepted.said x.envelope).value f.accepted.manifest u.accepted.manifest x.says
+        (subst (λ (s : EnvelopeSays). ManifestOf s u.accepted.manifest) same_said y.says)
 
     states : WrapperSays u.accepted.said.wrapper f.digest.bytes f.blocks
     states = subst (λ (s : EnvelopeSays). WrapperSays s.wrapper f.digest.bytes f.blocks) (sym same_said) f.states

@@ -14,11 +14,10 @@ use Rattle.author.specs.MadeEnvelopes.{IsMadeOf, IsTooLong, IsAuthenticUnder, Ho
 use Rattle.suit_cli.specs.declared.reply.Reply.{Reply}
 use Rattle.suit_cli.specs.declared.reply.Stop.{Stop}
 use Rattle.suit_cli.specs.declared.reply.Outcome.TheVariants as outcomes
-use Rattle.suit_cli.specs.declared.reply.Object.TheVariants as objects
 use Rattle.suit_cli.specs.Lines.{joined, number_line}
 use Rattle.suit_cli.specs.Texts.{too_long_line}
 use Rattle.suit_cli.specs.Replies.{IsReply}
-use Rattle.suit_cli.specs.Outside.{Outside, Stores, StoresInVain}
+use Rattle.suit_cli.specs.Outside.{Stores, StoresInVain}
 use Rattle.suit_cli.specs.Stages.{Stage, Answers, judging, at_host, in_turn, ◌>>=◌, Said}
 use Rattle.suit_cli.specs.Inputs.{file, key_in}
 use Rattle.suit_cli.specs.Json.{bad_json_line}

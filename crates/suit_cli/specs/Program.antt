@@ -1,5 +1,5 @@
 -- The result of a run of the program.
-use Rattle.std.specs.Prelude.{◌≡◌, ◌≢◌, ◌⊎◌, ◌≤◌, ◌+◌, ◌*◌, ℕ, IsTrue, List, [], ◌∷◌, ◌++◌, length, take, Option, Some, None}
+use Rattle.std.specs.Prelude.{◌≡◌, ◌≢◌, ◌⊎◌, ◌≤◌, ◌+◌, ◌*◌, ℕ, IsTrue, List, ◌∷◌, ◌++◌, length, take, Option, Some, None}
 use Rattle.std.specs.List.{AllByRecursion}
 use Rattle.suit_edge.specs.Faults.{Faulted}
 use Rattle.suit_edge.specs.Flash.{Flash, Now, Passes}
@@ -9,10 +9,10 @@ use Rattle.rollback_record.specs.SoundFlash.{Settled}
 use Rattle.path_model.specs.Settings.{found_under}
 use Rattle.suit_cli.specs.declared.reply.Outcome.TheVariants as outcomes
 use Rattle.suit_cli.specs.Texts.{usage_line}
-use Rattle.suit_cli.specs.Words.{Task, Make, Describe, Show, Check, RunInit, RunUpdate, RunBoot, RunStatus, task_of}
+use Rattle.suit_cli.specs.Words.{Task, Make, Describe, Show, Check, RunInit, RunUpdate, RunBoot, task_of}
 use Rattle.suit_cli.specs.Replies.{IsReply}
 use Rattle.suit_cli.specs.Outside.{Outside, Files, Sunk, Leaves}
-use Rattle.suit_cli.specs.Stages.{Stage, judging, Ending, Answers, ◌>>=◌}
+use Rattle.suit_cli.specs.Stages.{Stage, judging, Answers, ◌>>=◌}
 use Rattle.suit_cli.specs.Statuses.{sink_fault_status}
 use Rattle.suit_cli.specs.Launching.{Launching}
 use Rattle.suit_cli.specs.Updating.{most_room}
@@ -114,6 +114,22 @@ pub record ChecksUnsafe (words : List (List ℕ)) (before : Outside) (sunk_befor
   pub text : List ℕ
   pub shows_path : ShowUnsafe update invocation text
   pub puts : IsTrue sunk_before.told → sunk_after.put ≡ sunk_before.put ++ text
+
+-- the words check no file with procedures that can be judged
+abbrev pub ChecksNone : List (List ℕ) → Outside → Type 0
+ChecksNone words before =
+    (update invocation : PlanTree) → ChecksProcedures words before update invocation → ⊥
+
+-- Yes, and both procedures are safe; no, with a path that shows that they are not; or neither, since the file has no such
+-- procedures, or a fault came or memory ran out first. The flash is not looked at, so a fault is not of the flash.
+pub data Checks (words : List (List ℕ)) (before : Outside) (sunk_before sunk_after : Sunk)
+    (result : ℕ) : Type 0 where
+  SaysYes : result ≡ 0 → ChecksSafe words before
+      → Checks words before sunk_before sunk_after result
+  SaysNo : result ≡ 1 → ChecksUnsafe words before sunk_before sunk_after
+      → Checks words before sunk_before sunk_after result
+  SaysNeither : result ≢ 0 → result ≢ 1 → result ≢ 8 → ChecksNone words before ⊎ IsExcuse result
+      → Checks words before sunk_before sunk_after result
 
 -- ---- usage
 
@@ -269,9 +285,32 @@ pub record FlashPasses (task : Option Task) (launched later : Launching) (before
   pub settled : StaysSettled old now before.flash.faults after.flash.faults
   pub keeps : KeepsFor task launched later before ended old now
 
--- the words had an answer that was put, and so the flash was kept with that very answer
-pub record KeepsAsTold (words : List (List ℕ)) (launched later : Launching) (before after : Outside)
-    (sunk_before sunk_after : Sunk) (result : ℕ)
-    (old now : Flash) : Type 0 where
-  pub runs : Performs words launched later before after sunk_before sunk_after result
-  pub keeps : KeepsFor (task_of words) launched later before runs.ended old now
+-- ---- the whole of a run
+
+-- All that a run may change, at a moment: the files beside the flash, the launcher, the sink, and what a power loss may leave of
+-- the flash.
+pub record World : Type 1 where
+  pub outside : Outside
+  pub launcher : Launching
+  pub sink : Sunk
+  pub flash : Flash
+
+abbrev pub world : Outside → Launching → Sunk → Flash → World
+world outside launcher sink flash = record {
+  outside = outside;
+  launcher = launcher;
+  sink = sink;
+  flash = flash;
+}
+
+-- The words had an answer, which was put. A flash that tells was kept at each moment as that very answer says, and so that a
+-- power loss leaves no other image than these.
+pub record Runs (words : List (List ℕ)) (before after : World) (result : ℕ) : Type 0 where
+  pub performs :
+      Performs words before.launcher after.launcher before.outside after.outside before.sink
+      after.sink result
+  pub any_moment : IsTrue before.outside.flash.told
+      → Passes before.flash after.flash (MayBeLeft (task_of words) before.outside before.flash)
+  pub keeps : IsTrue before.outside.flash.told
+      → KeepsFor (task_of words) before.launcher after.launcher before.outside performs.ended
+      before.flash after.flash

@@ -2,14 +2,35 @@
 use Rattle.std.specs.Prelude.{◌≡◌, ℕ, IsTrue, List, length, Some, None}
 use Rattle.flash_layout.specs.declared.frame.TheConstants.{VERSION_1}
 use Rattle.rollback_record.specs.SoundFlash.{Sound}
-use Rattle.suit_cli.specs.Words.{RunBoot, task_of}
+use Rattle.suit_commands.specs.Tree.{PlanTree}
+use Rattle.suit_cli.specs.Words.{RunBoot, RunUpdate, task_of}
 use Rattle.suit_cli.specs.Outside.{Outside, Sunk}
+use Rattle.suit_cli.specs.Judgement.{AreSafe}
 use Rattle.suit_cli.specs.Launching.{Launching}
-use Rattle.suit_cli.specs.Program.{Performs, IsStatus, EndsIn, IsUsage, IsCutOff, IsForUpdate, KeepsLauncher, AsFound}
+use Rattle.suit_cli.specs.Program.{Performs, IsStatus, EndsIn, IsCheck, ChecksProcedures, ChecksSafe, ChecksUnsafe, LeavesBy, AsksForUpdate, AreCounted, IsUsage, IsCutOff, IsForUpdate, KeepsLauncher, AsFound}
 
 -- of one run
 pub record HoldsOfRun (words : List (List ℕ)) (launched now : Launching) (before after : Outside)
     (sunk_before sunk_after : Sunk) (result : ℕ) : Type 0 where
+  -- `check` says yes only where both procedures are safe,
+  pub yes : IsTrue before.told → IsCheck words → result ≡ 0 → ChecksSafe words before
+  -- and wherever they are, unless a fault came or memory ran out first
+  pub safe_is_yes : (update invocation : PlanTree) → ChecksProcedures words before update invocation
+      → AreSafe update invocation → EndsIn 0 result
+  -- no comes with a path that shows it, of `run update` too,
+  pub no : IsTrue before.told → result ≡ 1 → ChecksUnsafe words before sunk_before sunk_after
+  -- and `check` says it wherever they are not safe
+  pub unsafe_is_no : (update invocation : PlanTree)
+      → ChecksProcedures words before update invocation
+      → (AreSafe update invocation → ⊥) → EndsIn 1 result
+  -- No file changes but the one that `make` stores, and there is a limit to what is read.
+  pub stays : LeavesBy (task_of words) before after
+  -- `run update` asks for its file, and then only for files that its words name
+  pub asks : (name : List ℕ) (uris : List (List ℕ × List ℕ))
+      → task_of words ≡ Some (RunUpdate name uris) → IsTrue before.told
+      → AsksForUpdate name uris before after
+  -- statuses 7 to 10 come of faults, and the counts stand otherwise
+  pub counts : AreCounted words launched now before after sunk_before sunk_after result
   -- usage, only where the words are no command,
   pub usage : result ≡ 2 → IsUsage words sunk_before sunk_after
   -- and wherever they are none

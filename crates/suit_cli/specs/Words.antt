@@ -1,5 +1,5 @@
 -- The words of the command line.
-use Rattle.std.specs.Prelude.{ℕ, List, map, Option, Some, None, option_and_then}
+use Rattle.std.specs.Prelude.{ℕ, List, map, Option, Some, option_and_then}
 use Rattle.command_words.specs.Tasks.{Answer}
 use Rattle.command_words.specs.Tasks as asked
 use Rattle.command_words.specs.Table as table

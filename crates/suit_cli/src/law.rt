@@ -122,13 +122,17 @@ pub fn boot_end_laws()
 }
 
 /// Does nothing. Its contract has the laws of every run, which follow from its answer and the put of it, as `run` has
-/// them: usage, exactly where the words are no command; which statuses there are; which part of the lines is put where the
-/// output failed; what stays where memory ran out; that `run boot` does not end with a fault of the host; and that no
-/// other command but `run update` launches anything.
+/// them: yes and no of `check`, in both directions; which files stay, and which are asked for; what each status of a
+/// fault says of the counts; usage, exactly where the words are no command; which statuses there are; which part of the
+/// lines is put where the output failed; what stays where memory ran out; that `run boot` does not end with a fault of
+/// the host; and that no other command but `run update` launches anything.
 pub fn run_laws()
     ensures { RunLaws }
 {
     config_laws();
+    envelope_laws();
+    manifest_laws();
+    members_laws();
 }
 
 /// Does nothing. Its contract has the law of `drill NUMBER`: the line's counts of rounds add up to 200, and no launch is

@@ -1,33 +1,23 @@
 //! The top call: all that the program does.
 
-ghost use Rattle.std.specs.Prelude.{◌≡◌, ◌≤◌, ℕ, IsTrue, List, Some};
-ghost use Rattle.suit_edge.specs.Flash.{Passes};
+ghost use Rattle.std.specs.Prelude.{◌≡◌, ◌≤◌, IsTrue, Some};
 ghost use Rattle.flash_layout.specs.declared.frame.TheConstants.{VERSION_1};
-ghost use Rattle.suit_commands.specs.Tree.{PlanTree};
-ghost use Rattle.suit_cli.specs.Words.{RunBoot, RunUpdate, task_of, task_said};
+ghost use Rattle.suit_cli.specs.Words.{RunBoot, task_of, task_said};
 ghost use Rattle.suit_cli.specs.Stages.{ending_of};
 ghost use Rattle.suit_cli.specs.Commands.{does};
-ghost use Rattle.suit_cli.specs.Judgement.{AreSafe};
 ghost use Rattle.suit_cli.specs.Program.{
-  Puts,
-  PutsText,
-  Performs,
-  EndsIn,
-  IsCheck,
-  ChecksProcedures,
-  ChecksSafe,
-  ChecksUnsafe,
-  AreCounted,
-  AsksForUpdate,
-  LeavesBy,
-  MayBeLeft,
+  Checks,
   ComesTo,
   FlashPasses,
   IfBoots,
-  KeepsAsTold,
+  IsCheck,
+  Puts,
+  PutsText,
+  Runs,
+  world,
 };
-ghost use Rattle.suit_cli.specs.Settling.{StaysSettled};
-ghost use Rattle.suit_cli.specs.Coming.{Answered, Comes, StaysSound, ended_of};
+ghost use Rattle.suit_cli.specs.Settling.{LeavesSound};
+ghost use Rattle.suit_cli.specs.Coming.{Answered, Comes, ended_of};
 ghost use Rattle.invoke_proc.specs.Booting.{GainsSafe};
 ghost use Rattle.rollback_record.specs.SoundFlash.{Settled, Sound};
 
@@ -169,7 +159,7 @@ fn put<K: Sink>(out: &mut K, answer: Answer) -> Status
 }
 
 /// Runs the program. The words leave out its name. The flash must have at least 49,152 bytes, where the configuration, the
-/// records and the banks are. `run_laws` has the laws of the answer.
+/// records and the banks are. What follows of each run is the law `run_laws`.
 pub fn run<H: Host, D: Disk, L: Launcher, K: Sink>(
     alloc: Global,
     words: &Names,
@@ -182,42 +172,22 @@ pub fn run<H: Host, D: Disk, L: Launcher, K: Sink>(
 
     // The answer to the words: stage by stage from what the host and the flash tell, or from a boot or an update, of
     // which the launcher tells as well. Its lines are put, whole or up to a fault of the sink, and its status is returned.
-    ensures runs { Performs words.now
-        (⟦<L as SeenLauncher>⟧.seen launcher.old) (⟦<L as SeenLauncher>⟧.seen launcher.new)
-        (⟦<H as SeenHost>⟧.seen host.old (⟦<D as SeenDisk>⟧.seen flash.old))
-        (⟦<H as SeenHost>⟧.seen host.new (⟦<D as SeenDisk>⟧.seen flash.new))
-        (⟦<K as SeenSink>⟧.seen out.old) (⟦<K as SeenSink>⟧.seen out.new) result.0 }
+    // By this very answer the flash was kept at each moment. Of a settled flash, `run update` leaves the old record and the
+    // contents of all slots that it may not write, or the new record and the contents that its procedure made, which was
+    // played to its end; where it was not, the old record stands. `run boot` leaves all but slots that its procedure may write.
+    ensures runs { Runs words.now
+        (world (⟦<H as SeenHost>⟧.seen host.old (⟦<D as SeenDisk>⟧.seen flash.old))
+        (⟦<L as SeenLauncher>⟧.seen launcher.old) (⟦<K as SeenSink>⟧.seen out.old)
+        (D.flash flash.old))
+        (world (⟦<H as SeenHost>⟧.seen host.new (⟦<D as SeenDisk>⟧.seen flash.new))
+        (⟦<L as SeenLauncher>⟧.seen launcher.new) (⟦<K as SeenSink>⟧.seen out.new)
+        (D.flash flash.new)) result.0 }
 
     // The headline: yes exactly where each invoke is covered on every path of both procedures, and otherwise a path
     // where one is not.
-    ensures yes { IsTrue H.told → IsCheck words.now → result.0 ≡ 0 → ChecksSafe words.now
-        (⟦<H as SeenHost>⟧.seen host.old (⟦<D as SeenDisk>⟧.seen flash.old)) }
-    ensures safe_is_yes { (update invocation : PlanTree) → ChecksProcedures words.now
-        (⟦<H as SeenHost>⟧.seen host.old (⟦<D as SeenDisk>⟧.seen flash.old)) update invocation →
-        AreSafe update invocation → EndsIn 0 result.0 }
-    ensures no { IsTrue H.told → result.0 ≡ 1 → ChecksUnsafe words.now
+    ensures check { IsTrue H.told → IsCheck words.now → Checks words.now
         (⟦<H as SeenHost>⟧.seen host.old (⟦<D as SeenDisk>⟧.seen flash.old))
-        (⟦<K as SeenSink>⟧.seen out.old) (⟦<K as SeenSink>⟧.seen out.new) }
-    ensures unsafe_is_no { (update invocation : PlanTree) → ChecksProcedures words.now
-        (⟦<H as SeenHost>⟧.seen host.old (⟦<D as SeenDisk>⟧.seen flash.old)) update invocation →
-        (AreSafe update invocation → ⊥) → EndsIn 1 result.0 }
-
-    // No file changes but the one that `make` stores, and there is a limit to what is read. `run update` asks for its file,
-    // and then only for files that its words name.
-    ensures stays { LeavesBy (task_of words.now)
-        (⟦<H as SeenHost>⟧.seen host.old (⟦<D as SeenDisk>⟧.seen flash.old))
-        (⟦<H as SeenHost>⟧.seen host.new (⟦<D as SeenDisk>⟧.seen flash.new)) }
-    ensures asks { (name : List ℕ) (uris : List (List ℕ × List ℕ))
-        → task_of words.now ≡ Some (RunUpdate name uris) → IsTrue H.told
-        → AsksForUpdate name uris
-        (⟦<H as SeenHost>⟧.seen host.old (⟦<D as SeenDisk>⟧.seen flash.old))
-        (⟦<H as SeenHost>⟧.seen host.new (⟦<D as SeenDisk>⟧.seen flash.new)) }
-
-    // The flash keeps its size. A power loss at any moment of the run leaves one of these images.
-    ensures size { D.extent flash.new ≡ D.extent flash.old }
-    ensures any_moment { IsTrue D.told → Passes (D.flash flash.old) (D.flash flash.new)
-        (MayBeLeft (task_of words.now)
-        (⟦<H as SeenHost>⟧.seen host.old (⟦<D as SeenDisk>⟧.seen flash.old)) (D.flash flash.old)) }
+        (⟦<K as SeenSink>⟧.seen out.old) (⟦<K as SeenSink>⟧.seen out.new) result.0 }
 
     // Each launch has its digest, and its size where one is in force, whatever the host is and gives: of `run boot` on a sound
     // flash.
@@ -225,32 +195,14 @@ pub fn run<H: Host, D: Disk, L: Launcher, K: Sink>(
         → (task_of words.now ≡ Some RunBoot → Sound VERSION_1 (D.flash flash.old).reads)
         → GainsSafe (L.launches launcher.old) (L.launches launcher.new) }
 
-    // A settled flash stays sound at each moment, and each image goes on from what was read at the start; at the end it is
-    // settled again, unless it counted a fault.
+    // What power loss leaves of a settled flash is sound at each moment, and goes on from what was read at the start; at the
+    // end the flash is settled again, unless it counted a fault.
     ensures sound { IsTrue D.told → Settled VERSION_1 (D.flash flash.old)
-        → StaysSound (D.flash flash.old) (D.flash flash.new) }
-    ensures settled { IsTrue D.told → StaysSettled (D.flash flash.old) (D.flash flash.new)
+        → LeavesSound (D.flash flash.old) (D.flash flash.new)
         (D.faults flash.old) (D.faults flash.new) }
 
-    // Of a settled flash, `run update` leaves at each moment the old record and the contents of all slots that it may not
-    // write, or the new record and the contents that its procedure made, which was played to its end; where it was not, the
-    // old record stands at each moment. This is so by the very end that was answered. `run boot` leaves all but slots that
-    // its procedure may write.
-    ensures keeps { IsTrue D.told → KeepsAsTold words.now
-        (⟦<L as SeenLauncher>⟧.seen launcher.old) (⟦<L as SeenLauncher>⟧.seen launcher.new)
-        (⟦<H as SeenHost>⟧.seen host.old (⟦<D as SeenDisk>⟧.seen flash.old))
-        (⟦<H as SeenHost>⟧.seen host.new (⟦<D as SeenDisk>⟧.seen flash.new))
-        (⟦<K as SeenSink>⟧.seen out.old) (⟦<K as SeenSink>⟧.seen out.new) result.0
-        (D.flash flash.old) (D.flash flash.new) }
-
-    // Faults.
-    ensures counts { AreCounted words.now
-        (⟦<L as SeenLauncher>⟧.seen launcher.old) (⟦<L as SeenLauncher>⟧.seen launcher.new)
-        (⟦<H as SeenHost>⟧.seen host.old (⟦<D as SeenDisk>⟧.seen flash.old))
-        (⟦<H as SeenHost>⟧.seen host.new (⟦<D as SeenDisk>⟧.seen flash.new))
-        (⟦<K as SeenSink>⟧.seen out.old) (⟦<K as SeenSink>⟧.seen out.new) result.0 }
-
-    // `run boot` leaves the host alone.
+    // The flash keeps its size, and `run boot` leaves the host alone.
+    ensures size { D.extent flash.new ≡ D.extent flash.old }
     ensures unasked { task_of words.now ≡ Some RunBoot → host.new ≡ host.old }
 {
     envelope_laws();

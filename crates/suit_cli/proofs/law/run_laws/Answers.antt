@@ -2,4 +2,5 @@ use Rattle.suit_cli.proofs.RunLawProofs as proofs
 use Rattle.suit_cli.proofs.law.run_laws.Goals as goal
 
 pub returns : goal.returns
-returns c = proofs.run_laws c.config_laws.ensures.answer
+returns c =
+    proofs.run_laws c.config_laws.ensures.answer c.envelope_laws.ensures c.manifest_laws.ensures c.members_laws.ensures

@@ -1,7 +1,6 @@
-use Rattle.std.proofs.Common.{List, ℕ, Ok, Err, sym, subst}
+use Rattle.std.proofs.Common.{List, ℕ, Ok, Err, subst}
 use Rattle.std.specs.Prelude.{IsTrue}
 use Rattle.author.specs.Files.{has_files}
-use Rattle.author.specs.Held.{value_of}
 use Rattle.suit_cli.specs.Stages.{Goes}
 use Rattle.suit_cli.proofs.Chains.{ends_second, ends_there}
 use Rattle.suit_cli.proofs.Authoring.{files_by, made_by, stores_by}

@@ -1,6 +1,5 @@
-use Rattle.std.proofs.Common.{List, ℕ, Ok, Err}
+use Rattle.std.proofs.Common.{Ok, Err}
 use Rattle.author.specs.Held.{value_of}
-use Rattle.suit_cli.specs.Outside.{Outside}
 use Rattle.suit_cli.specs.Stages.{Goes}
 use Rattle.suit_cli.proofs.Chains.{ends_second, ends_there}
 use Rattle.suit_cli.proofs.Authoring.{described_by}

@@ -1,4 +1,4 @@
-use Rattle.std.proofs.Common.{refl, sym, ap, ◌∙◌, Option, Some, None}
+use Rattle.std.proofs.Common.{refl, sym, ap, ◌∙◌, Option}
 use Rattle.std.specs.Prelude.{option_map}
 use Rattle.command_words.specs.Tasks.{texts}
 use Rattle.suit_cli.specs.Words.{task_of, task_said}
