@@ -1,0 +1,2 @@
+pub mod NotedLaunch
+pub mod Pieces

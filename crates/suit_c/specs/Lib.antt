@@ -1,0 +1,4 @@
+pub mod Answers
+pub mod Authentic
+pub mod Reading
+pub mod Recorded

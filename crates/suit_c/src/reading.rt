@@ -1,0 +1,74 @@
+//! An envelope's numbers.
+
+ghost use Rattle.std.specs.Prelude.{◌≡◌, ◌⊎◌, IfErr, IfOk, IsOk};
+ghost use Rattle.suit_c.specs.Answers.{code_of};
+ghost use Rattle.suit_c.specs.Reading.{IsFile, IsReadAs, IsRefusedAt, IsRefusedFor};
+ghost use Rattle.suit_c.specs.declared.answer.Answer.TheVariants as answers;
+ghost use Rattle.suit_envelope.specs.Envelopes.{EnvelopeSays};
+ghost use Rattle.suit_manifest.specs.declared.manifest.Manifest.{Manifest};
+
+use crate::answer::Answer;
+use manifest_view::ManifestView;
+use suit_envelope::{decode_envelope, stated_digest, trimmed_length};
+use suit_params::Refusal;
+
+/// The numbers of an envelope (draft-ietf-suit-manifest-25, sections 8.2 to 8.4).
+#[repr(C)]
+#[derive(Clone, Copy)]
+pub struct SuitEnvelope {
+    /// The manifest's sequence number.
+    pub sequence: u64,
+    /// Where the manifest begins, in bytes from the envelope's first.
+    pub manifest_place: u64,
+    /// How many bytes it has.
+    pub manifest_length: u64,
+    /// How many bytes the envelope has with its wrapper and manifest alone. Saturates at 64 bits.
+    pub trimmed_length: u64,
+    /// The digest that the wrapper states.
+    pub digest: [u8; 32],
+    /// How many components the manifest has.
+    pub components: u32,
+}
+
+// The numbers of the envelope that the bytes spell.
+fn read(file: &[u8]) -> Result<SuitEnvelope, Refusal>
+    ensures ok { IfOk result (IsReadAs file.now) }
+    ensures every_file { (said : EnvelopeSays) (manifest : Manifest)
+        → IsFile file.now said manifest → IsOk result }
+    ensures refused { IfErr result (IsRefusedFor file.now) }
+{
+    let envelope = decode_envelope(file)?;
+    let manifest = ManifestView::read(envelope.manifest, envelope.manifest_place)?;
+    let digest = stated_digest(&envelope).bytes;
+    Ok(SuitEnvelope {
+        sequence: manifest.sequence,
+        manifest_place: envelope.manifest_place,
+        manifest_length: envelope.manifest.len() as u64,
+        trimmed_length: trimmed_length(&envelope),
+        digest,
+        components: manifest.components.len() as u32,
+    })
+}
+
+/// Reads an envelope's numbers: 0, and 3 where the bytes spell none or its manifest is refused. Then `out` stays as it was,
+/// and `place` is that of the fault, in bytes from the first. Whether the envelope is authentic is not asked.
+#[unsafe(no_mangle)]
+pub extern "C" fn suit_read(file: &[u8], out: &mut SuitEnvelope, place: &mut u64) -> i32
+    ensures answers { (result ≡ code_of answers.Done) ⊎ (result ≡ code_of answers.Refused) }
+    ensures read { result ≡ code_of answers.Done → IsReadAs file.now out.new }
+    ensures every_file { (said : EnvelopeSays) (manifest : Manifest)
+        → IsFile file.now said manifest → result ≡ code_of answers.Done }
+    ensures refused { result ≡ code_of answers.Refused → IsRefusedAt file.now place.new }
+    ensures stays { result ≡ code_of answers.Refused → out.new ≡ out.old }
+{
+    match read(file) {
+        Ok(numbers) => {
+            *out = numbers;
+            Answer::Done.code()
+        }
+        Err(refusal) => {
+            *place = refusal.place;
+            Answer::Refused.code()
+        }
+    }
+}

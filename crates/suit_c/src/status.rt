@@ -1,0 +1,69 @@
+//! The record of a flash.
+
+ghost use Rattle.flash_layout.specs.Frames.{head_of};
+ghost use Rattle.flash_layout.specs.declared.frame.TheConstants.{VERSION_1};
+ghost use Rattle.rollback_record.specs.HeadRecord.{HoldsNone};
+ghost use Rattle.std.specs.Prelude.{◌≡◌, ◌≢◌};
+ghost use Rattle.suit_c.specs.Answers.{code_of};
+ghost use Rattle.suit_c.specs.Recorded.{IsRecordAs, IsRecordedAs};
+ghost use Rattle.suit_c.specs.declared.answer.Answer.TheVariants as answers;
+
+use crate::answer::Answer;
+use flash_layout::{FlashFault, Record};
+use flash_view::ViewDisk;
+use rollback_record::load_record;
+
+/// The manifest that is installed.
+#[repr(C)]
+#[derive(Clone, Copy)]
+pub struct SuitRecord {
+    /// Its sequence number.
+    pub sequence: u64,
+    /// How many records were committed before, and one.
+    pub generation: u64,
+    /// How many bytes its envelope has.
+    pub length: u64,
+    /// The bank that holds the envelope, 0 or 1.
+    pub bank: u32,
+    /// The digest of the manifest.
+    pub digest: [u8; 32],
+    /// The slot in use of each component of the layout, 0 or 1.
+    pub active: [u8; 8],
+}
+
+// A record for a caller in C.
+fn record_of(held: Record) -> SuitRecord
+    ensures { IsRecordAs held result }
+{
+    let digest = held.digest.bytes;
+    let active = held.active;
+    SuitRecord {
+        sequence: held.sequence,
+        generation: held.generation,
+        length: held.length,
+        bank: u32::from(held.bank),
+        digest,
+        active,
+    }
+}
+
+/// Reads the record of a flash: 0, 15 where it has none, and 8 where the flash failed. Unless it answers 0, `out` stays as it
+/// was.
+#[unsafe(no_mangle)]
+pub extern "C" fn suit_status(flash: &[u8], out: &mut SuitRecord) -> i32
+    ensures recorded { result ≡ code_of answers.Done
+        → IsRecordedAs VERSION_1 (head_of VERSION_1 flash.now) out.new }
+    ensures none { result ≡ code_of answers.NothingInstalled
+        → HoldsNone VERSION_1 (head_of VERSION_1 flash.now) }
+    ensures stays { result ≢ code_of answers.Done → out.new ≡ out.old }
+{
+    let mut disk = ViewDisk::new(flash);
+    match load_record(&mut disk) {
+        Ok(Some(record)) => {
+            *out = record_of(record);
+            Answer::Done.code()
+        }
+        Ok(None) => Answer::NothingInstalled.code(),
+        Err(FlashFault) => Answer::FlashFault.code(),
+    }
+}
