@@ -4,5 +4,6 @@
 
 mod answer;
 mod authentic;
+mod checking;
 mod reading;
 mod status;
