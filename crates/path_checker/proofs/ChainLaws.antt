@@ -5,7 +5,7 @@ use Rattle.std.proofs.lemmas.List.{append-nil}
 use Rattle.path_model.specs.declared.event.Event.{Event}
 use Rattle.path_model.specs.declared.event.Event.TheVariants.{Failed}
 use Rattle.path_checker.specs.declared.judge_plan.trace.Told.{Told}
-use Rattle.path_checker.specs.Happening.{told_by}
+use Rattle.path_checker.specs.Happening.{told_by, all_told}
 use Rattle.path_checker.specs.Standing.{all_in_order}
 
 all_in_order-last : (ps : List (List Event)) (p : List Event) → all_in_order (ps ++ p ∷ []) ≡ p ++ all_in_order ps
@@ -30,3 +30,8 @@ parts_more whole rest hs hs' h so_far pushed =
 -- an end by two events
 pub end_told : (past missed : List Event) (e : Event) (place : ℕ) (all : List Event) → missed ≡ past ++ e ∷ [] → all ≡ past ++ e ∷ Failed place ∷ [] → missed ++ Failed place ∷ [] ≡ all
 end_told past missed e place all one told = ap (λ (xs : List Event). xs ++ Failed place ∷ []) one ∙ append_assoc past (e ∷ []) (Failed place ∷ []) ∙ sym told
+
+-- those of a list of its own
+pub all_told-last : (ts : List Told) (t : Told) → all_told (ts ++ t ∷ []) ≡ all_told ts ++ told_by t
+all_told-last [] t = append-nil (told_by t)
+all_told-last (x ∷ ts) t = ap (λ (es : List Event). told_by x ++ es) (all_told-last ts t) ∙ sym (append_assoc (told_by x) (all_told ts) (told_by t))

@@ -37,8 +37,12 @@ told_by (told.Missed component) = events.Missed component ∷ []
 told_by (told.Wrote component) = events.Wrote component ∷ []
 told_by (told.Matched component own) = match_event component (match_of own.now) ∷ []
 told_by (told.Failed place) = events.Failed place ∷ []
-told_by (told.Invoked invoke) = invoke_event invoke.now ∷ []
+told_by (told.Invoked invoke) = invoke_event invoke ∷ []
 told_by (told.Sets components list) = sets_at (components_of components) list.now
+
+abbrev pub all_told : List Told → List Event
+all_told [] = []
+all_told (told ∷ rest) = told_by told ++ all_told rest
 
 -- the events up to a failed condition at a place
 abbrev pub after_end : List Event → Ended → ℕ → List Event

@@ -38,6 +38,6 @@ IsAtEach _ = ⊥
 
 -- a command with no sequence inside
 abbrev pub IsStraight : CommandTree → Type 0
-IsStraight (TryEach branches) = ⊥
-IsStraight (RunSequence inner) = ⊥
+IsStraight (TryEach _) = ⊥
+IsStraight (RunSequence _) = ⊥
 IsStraight _ = Unit {0}

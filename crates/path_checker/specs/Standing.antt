@@ -12,6 +12,11 @@ abbrev pub all_in_order : List (List Event) → List Event
 all_in_order [] = []
 all_in_order (part ∷ parts) = all_in_order parts ++ part
 
+-- events, and those since then
+abbrev pub with_since : List Event → Option (List Event) → List Event
+with_since past None = past
+with_since past (Some since) = past ++ since
+
 -- the matches of a component
 abbrev pub held_in : Option (Option (List Match)) → List Match
 held_in None = []

@@ -54,7 +54,7 @@ fn own_test<'a>(
             Ok(())
         }
         Fork::Either(has, has_not) => {
-            let other = k.copy_with(memory.alloc, has_not)?;
+            let other = k.copy_with(memory, has_not)?;
             pass(memory, under(k, has), passed, next)?;
             stop(other, place, missed, failed)?;
             Ok(())
@@ -116,7 +116,7 @@ fn image_match<'a>(
                 digest,
                 size,
             };
-            pass(memory, k.copy(memory.alloc)?, matched, next)?;
+            pass(memory, k.copy(memory)?, matched, next)?;
             stop(k, place, Ended::Missed { component }, failed)?;
             Ok(())
         }
@@ -146,7 +146,7 @@ fn check_content<'a>(
             kind: TestKind::CheckContent,
             passed: true,
         };
-        pass(memory, k.copy(memory.alloc)?, passed, next)?;
+        pass(memory, k.copy(memory)?, passed, next)?;
         stop(k, place, missed, failed)?;
         return Ok(());
     }

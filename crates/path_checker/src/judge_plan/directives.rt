@@ -119,7 +119,7 @@ fn invoke<'a>(
                 passed: false,
             };
             happens(memory, k, bad)?;
-            Err(Halt::Uncovered(k.copy(memory.alloc)?))
+            Err(Halt::Uncovered(k.copy(memory)?))
         }
         Some(digest) => {
             let covered = k.history.has_matched(component, digest, size);
@@ -133,7 +133,7 @@ fn invoke<'a>(
             if covered {
                 Ok(true)
             } else {
-                Err(Halt::Uncovered(k.copy(memory.alloc)?))
+                Err(Halt::Uncovered(k.copy(memory)?))
             }
         }
     }

@@ -3,7 +3,6 @@
 ghost use Rattle.std.specs.Prelude.{◌≡◌, ◌≤◌};
 ghost use Rattle.std.specs.Option.{option_copied};
 
-use crate::judge_plan::fingerprint::{mixed, of_bytes, of_number};
 use suit_commands::TestKind;
 use suit_params::Digest;
 
@@ -37,8 +36,8 @@ pub(crate) enum Happened<'a> {
     },
 }
 
-// An even number of its own for each kind.
-fn even_number(kind: TestKind) -> u64
+/// An even number of its own for each kind.
+pub(crate) fn even_number(kind: TestKind) -> u64
     ensures { result ≤ 12 }
 {
     match kind {
@@ -49,39 +48,6 @@ fn even_number(kind: TestKind) -> u64
         TestKind::ImageMatch => 8,
         TestKind::CheckContent => 10,
         TestKind::Abort => 12,
-    }
-}
-
-impl<'a> Happened<'a> {
-    /// The component where it happened.
-    pub(crate) fn component(&self) -> u32 {
-        match self {
-            Happened::Tried { component, .. } => *component,
-            Happened::Matched { component, .. } => *component,
-            Happened::Missed { component } => *component,
-            Happened::Wrote { component } => *component,
-            Happened::Invoked { component, .. } => *component,
-            Happened::Failed { .. } => 0,
-        }
-    }
-
-    /// A fingerprint. It tells most events apart.
-    pub(crate) fn print(&self) -> u64 {
-        let component = u64::from(self.component());
-        match self {
-            Happened::Matched { digest, size, .. } => {
-                let digest = of_bytes(&digest.bytes[..4]);
-                mixed(component, mixed(digest, of_number(*size)))
-            }
-            Happened::Tried { kind, passed, .. } => mixed(
-                even_number(*kind) + (*passed as u64),
-                component,
-            ),
-            Happened::Failed { place } => mixed(20, *place),
-            Happened::Wrote { .. } => mixed(21, component),
-            Happened::Missed { .. } => mixed(22, component),
-            Happened::Invoked { passed, .. } => mixed(23 + (*passed as u64), component),
-        }
     }
 }
 

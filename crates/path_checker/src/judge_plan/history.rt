@@ -11,9 +11,10 @@ ghost use Rattle.path_checker.specs.Standing.{StandsAfter};
 use crate::judge_plan::happened::{Ended, Happened};
 use crate::judge_plan::matches::Match;
 use crate::judge_plan::memory::Memory;
+use crate::judge_plan::past::Past;
 use crate::judge_plan::selected::Components;
 use crate::judge_plan::standing::StandingMatches;
-use crate::judge_plan::trace::{Told, Trace};
+use crate::judge_plan::trace::Told;
 use path_model::Events;
 use std::alloc::{AllocError, Global};
 use std::marker::Model;
@@ -22,7 +23,7 @@ use suit_params::{Digest, ParamList};
 /// The events that led to a state, and the matches that stand after them.
 #[derive(Drop)]
 pub(crate) struct History<'a> {
-    all: Trace<'a>,
+    past: Past<'a>,
     standing: StandingMatches<'a>,
 }
 
@@ -32,11 +33,11 @@ impl<'a> Model for History<'a> {
 
     ghost Value = { List Event };
 
-    ghost use Rattle.path_checker.specs.Standing.{all_in_order, Stands};
+    ghost use Rattle.path_checker.specs.Standing.{Stands};
 
-    ghost view = { λ a. all_in_order a.all };
+    ghost view = { λ a. a.past };
 
-    ghost invariant = { λ a. Stands a.standing (all_in_order a.all) };
+    ghost invariant = { λ a. Stands a.standing a.past };
 }
 
 // The matches that stand after one more event.
@@ -65,33 +66,51 @@ impl<'a> History<'a> {
     {
         let standing = StandingMatches::new(alloc)?;
         Ok(History {
-            all: Trace::new(),
+            past: Past::new(),
             standing,
         })
     }
 
     /// The same.
-    pub(crate) fn copy(&self, alloc: Global) -> Result<History<'a>, AllocError>
+    pub(crate) fn copy(&self, memory: Memory<'a>) -> Result<History<'a>, AllocError>
         ensures { IfOk result (λ history. history ≡ self.now) }
     {
-        let all = self.all.copy();
-        let standing = self.standing.copy(alloc)?;
-        Ok(History { all, standing })
+        let past = self.past.copy(memory)?;
+        let standing = self.standing.copy(memory.alloc)?;
+        Ok(History { past, standing })
+    }
+
+    /// The same. The next events are in memory of its own.
+    pub(crate) fn set_apart(self, alloc: Global) -> History<'a>
+        ensures { result ≡ self.entry }
+    {
+        History {
+            past: self.past.set_apart(alloc),
+            standing: self.standing,
+        }
+    }
+
+    /// The same, in memory that all states share.
+    pub(crate) fn shared(self, memory: Memory<'a>) -> Result<History<'a>, AllocError>
+        ensures { IfOk result (λ history. history ≡ self.entry) }
+    {
+        let past = self.past.copy(memory)?;
+        Ok(History {
+            past,
+            standing: self.standing,
+        })
     }
 
     /// One event more. Where memory runs out, none is left.
     pub(crate) fn add(&mut self, memory: Memory<'a>, event: Happened<'a>) -> Result<(), AllocError>
         ensures { OnOk result (self.new ≡ self.old ++ event_of event.entry ∷ []) }
     {
-        let told = Told::event(memory, event)?;
-        let all = self.all.with(memory.events, told)?;
-        match stand_after(memory.alloc, &mut self.standing, told) {
-            Ok(()) => {
-                self.all = all;
-                Ok(())
-            }
+        let told = Told::of(memory, event)?;
+        self.past.add(memory, told)?;
+        match stand_after(memory.alloc, &mut self.standing, &told) {
+            Ok(()) => Ok(()),
             Err(error) => {
-                self.all = Trace::new();
+                self.past = Past::new();
                 self.standing = StandingMatches::none(memory.alloc);
                 Err(error)
             }
@@ -108,9 +127,7 @@ impl<'a> History<'a> {
         ensures { OnOk result
             (self.new ≡ self.old ++ sets_at (components_of components.entry) list.now) }
     {
-        let told = Told::sets(memory, components, list)?;
-        let all = self.all.with(memory.events, told)?;
-        self.all = all;
+        self.past.add(memory, Told::Sets { components, list })?;
         Ok(())
     }
 
@@ -166,6 +183,6 @@ impl<'a> History<'a> {
     pub(crate) fn told(&self, alloc: Global) -> Result<Events, AllocError>
         ensures { IfOk result (λ events. events ≡ self.now) }
     {
-        self.all.told(alloc)
+        self.past.told(alloc)
     }
 }

@@ -126,19 +126,19 @@ impl<'a> Standing for Kept<'a> {
 
 impl<'a> Kept<'a> {
     /// The same.
-    pub(crate) fn copy(&self, alloc: Global) -> Result<Kept<'a>, AllocError>
+    pub(crate) fn copy(&self, memory: Memory<'a>) -> Result<Kept<'a>, AllocError>
         ensures { IfOk result (λ k. k ≡ self.now) }
     {
         let facts = self.facts.copy()?;
-        self.copy_with(alloc, facts)
+        self.copy_with(memory, facts)
     }
 
     /// The same under other facts.
-    pub(crate) fn copy_with(&self, alloc: Global, facts: Facts) -> Result<Kept<'a>, AllocError>
+    pub(crate) fn copy_with(&self, memory: Memory<'a>, facts: Facts) -> Result<Kept<'a>, AllocError>
         ensures { IfOk result (λ k. k ≡ knowing self.now facts) }
     {
         let params = self.params.copy()?;
-        let history = self.history.copy(alloc)?;
+        let history = self.history.copy(memory)?;
         Ok(Kept {
             facts,
             history,
@@ -146,6 +146,24 @@ impl<'a> Kept<'a> {
             selection: self.selection.copy(),
             soft_failure: self.soft_failure,
         })
+    }
+
+    /// The same. The next events are in memory of its own.
+    pub(crate) fn set_apart(self, alloc: Global) -> Kept<'a>
+        ensures { result ≡ self.entry }
+    {
+        let mut k = self;
+        k.history = k.history.set_apart(alloc);
+        k
+    }
+
+    /// The same, with its events in memory that all states share.
+    pub(crate) fn shared(self, memory: Memory<'a>) -> Result<Kept<'a>, AllocError>
+        ensures { IfOk result (λ k. k ≡ self.entry) }
+    {
+        let mut k = self;
+        k.history = k.history.shared(memory)?;
+        Ok(k)
     }
 }
 

@@ -6,8 +6,8 @@ ghost use Rattle.path_checker.specs.Matches.{Match as TheMatch, match_of, matche
 
 use crate::judge_plan::fingerprint::{mixed, of_bytes, of_number};
 use crate::judge_plan::links::Links;
+use crate::judge_plan::memory::Memory;
 use crate::judge_plan::same_param::same_digest;
-use bumpalo::Bump;
 use path_model::Event;
 use std::alloc::{AllocError, Global};
 use std::marker::Model;
@@ -28,6 +28,11 @@ fn print_of(digest: &Digest, size: Option<u64>) -> u64 {
     mixed(one, other) ^ mixed(other, one.rotate_left(32)).wrapping_add(one)
 }
 
+// A fingerprint that is soon made.
+fn short_print(digest: &Digest, size: Option<u64>) -> u64 {
+    mixed(of_bytes(&digest.bytes[..4]), of_number(size))
+}
+
 impl<'a> Match<'a> {
     pub(crate) fn new(digest: &'a Digest, size: Option<u64>) -> Match<'a>
         ensures { match_of result ≡ (digest.now, size) }
@@ -40,12 +45,31 @@ impl<'a> Match<'a> {
         }
     }
 
-    /// In memory that all states share.
-    pub(crate) fn lent(self, bump: &'a Bump) -> Result<&'a Match<'a>, AllocError>
-        ensures { IfOk result (λ lent. match_of lent.now ≡ match_of self.entry) }
+    /// In memory that all states share. The next state mostly comes to the same.
+    pub(crate) fn lent(
+        memory: Memory<'a>,
+        component: u32,
+        digest: &'a Digest,
+        size: Option<u64>,
+    ) -> Result<&'a Match<'a>, AllocError>
+        ensures { IfOk result (λ own. match_of own.now ≡ (digest.now, size)) }
     {
-        match bump.try_alloc(self) {
-            Ok(lent) => Ok(lent),
+        let print = short_print(digest, size);
+        if let Some(last) = memory.last_match(component, print) {
+            if last.is_under(digest, size) {
+                return Ok(last);
+            }
+        }
+        if let Some(other) = memory.other_match(print) {
+            if other.is_under(digest, size) {
+                return Ok(other);
+            }
+        }
+        match memory.events.try_alloc(Match::new(digest, size)) {
+            Ok(own) => {
+                memory.keep_match(component, print, own);
+                Ok(own)
+            }
             Err(_) => Err(AllocError),
         }
     }
@@ -73,6 +97,11 @@ impl<'a> Match<'a> {
         ensures { IsTrue result ↔ (match_of self.now ≡ match_of other.now) }
     {
         self.size == other.size && same_digest(self.digest, other.digest)
+    }
+
+    /// The fingerprint.
+    pub(crate) fn print(&self) -> u64 {
+        self.print
     }
 
     /// Some bits of the fingerprint.

@@ -2,6 +2,7 @@
 
 use crate::judge_plan::facts::Shared;
 use crate::judge_plan::in_force::InForce;
+use crate::judge_plan::matches::Match;
 use crate::judge_plan::trace::Told;
 use bumpalo::Bump;
 use std::alloc::{AllocError, Global};
@@ -17,6 +18,9 @@ const LEAST: u64 = 32;
 // How many events are kept where states go on alone, each of which comes to the same events: a power of two.
 const EVENTS: usize = 16_384;
 
+// How many matches are kept there: a power of two, above the number of pairs of a digest and a size of a procedure.
+const MATCHES: usize = 262_144;
+
 /// The allocators of a judgement, and how many matches it may still compare. Events are freed together, when it ends.
 #[derive(Clone, Copy)]
 pub(crate) struct Memory<'a> {
@@ -30,12 +34,17 @@ pub(crate) struct Memory<'a> {
 /// The last event at each component that there is room for, and the last override, lent.
 type LastTold<'a> = [Option<&'a Told<'a>>; 9];
 
+/// The last match at each component that there is room for, lent.
+type LastMatch<'a> = [Option<&'a Match<'a>>; 8];
+
 /// The values made last, in any state.
 #[derive(Drop)]
 pub(crate) struct Last<'a> {
     told: Cell<LastTold<'a>>,
     // The same by their fingerprints, where states go on alone.
     more: Cell<&'a [Cell<Option<&'a Told<'a>>>]>,
+    matches: Cell<LastMatch<'a>>,
+    more_matches: Cell<&'a [Cell<Option<&'a Match<'a>>>]>,
     /// The parameters after an override.
     pub params: Cell<Option<InForce<'a>>>,
     // The knowledge of each component where it has something of its own, and where it has not.
@@ -62,6 +71,8 @@ impl<'a> Last<'a> {
         Last {
             told: Cell::new([None; 9]),
             more: Cell::new(&[]),
+            matches: Cell::new([None; 8]),
+            more_matches: Cell::new(&[]),
             params: Cell::new(None),
             having: none_known(),
             lacking: none_known(),
@@ -69,14 +80,14 @@ impl<'a> Last<'a> {
     }
 }
 
-// Where an event of a fingerprint is kept.
-fn first_place(print: u64) -> usize {
-    print as usize & (EVENTS - 1)
+// Where one of so many is kept, by its fingerprint.
+fn first_place(print: u64, count: usize) -> usize {
+    print as usize & count.wrapping_sub(1)
 }
 
 // Where it is kept if another one is kept there.
-fn second_place(print: u64) -> usize {
-    (print >> 40) as usize & (EVENTS - 1)
+fn second_place(print: u64, count: usize) -> usize {
+    (print >> 40) as usize & count.wrapping_sub(1)
 }
 
 impl<'a> Memory<'a> {
@@ -125,13 +136,17 @@ impl<'a> Memory<'a> {
                 .events
                 .try_alloc_slice_fill_clone(EVENTS, Cell::new(None))?;
             self.last.more.set(more);
+            let matches = self
+                .events
+                .try_alloc_slice_fill_clone(MATCHES, Cell::new(None))?;
+            self.last.more_matches.set(matches);
         }
         Ok(())
     }
 
     /// The last event at a component, or one with a fingerprint, in any state.
     pub(crate) fn last_told(&self, component: u32, print: u64) -> Option<&'a Told<'a>> {
-        if let Some(first) = self.last.more.get().get(first_place(print)) {
+        if let Some(first) = self.last.more.get().get(first_place(print, EVENTS)) {
             return first.get();
         }
         let told = self.last.told.get();
@@ -143,7 +158,7 @@ impl<'a> Memory<'a> {
 
     /// Another one with a fingerprint, in any state.
     pub(crate) fn other_told(&self, print: u64) -> Option<&'a Told<'a>> {
-        match self.last.more.get().get(second_place(print)) {
+        match self.last.more.get().get(second_place(print, EVENTS)) {
             Some(second) => second.get(),
             None => None,
         }
@@ -153,8 +168,8 @@ impl<'a> Memory<'a> {
     pub(crate) fn keep_told(&self, component: u32, print: u64, last: &'a Told<'a>) {
         let more = self.last.more.get();
         if let (Some(first), Some(second)) = (
-            more.get(first_place(print)),
-            more.get(second_place(print)),
+            more.get(first_place(print, EVENTS)),
+            more.get(second_place(print, EVENTS)),
         ) {
             match first.get() {
                 Some(_) => second.set(Some(last)),
@@ -166,6 +181,56 @@ impl<'a> Memory<'a> {
         if let Some(place) = told.get_mut(component as usize) {
             *place = Some(last);
             self.last.told.set(told);
+        }
+    }
+
+    /// The last match at a component, or one with a fingerprint, in any state.
+    pub(crate) fn last_match(&self, component: u32, print: u64) -> Option<&'a Match<'a>> {
+        if let Some(first) = self
+            .last
+            .more_matches
+            .get()
+            .get(first_place(print, MATCHES))
+        {
+            return first.get();
+        }
+        let matches = self.last.matches.get();
+        match matches.get(component as usize) {
+            Some(last) => *last,
+            None => None,
+        }
+    }
+
+    /// Another one with a fingerprint, in any state.
+    pub(crate) fn other_match(&self, print: u64) -> Option<&'a Match<'a>> {
+        match self
+            .last
+            .more_matches
+            .get()
+            .get(second_place(print, MATCHES))
+        {
+            Some(second) => second.get(),
+            None => None,
+        }
+    }
+
+    /// Keeps the last match at a component, or with a fingerprint. Two with one fingerprint are kept.
+    pub(crate) fn keep_match(&self, component: u32, print: u64, last: &'a Match<'a>) {
+        let more = self.last.more_matches.get();
+        if let (Some(first), Some(second)) = (
+            more.get(first_place(print, MATCHES)),
+            more.get(second_place(print, MATCHES)),
+        ) {
+            match first.get() {
+                Some(_) => second.set(Some(last)),
+                None => first.set(Some(last)),
+            }
+            return;
+        }
+        let mut matches = self.last.matches.get();
+        if let Some(place) = matches.get_mut(component as usize) {
+            *place = Some(last);
+            self.last.matches.set(matches);
         }
     }
 

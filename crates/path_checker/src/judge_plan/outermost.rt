@@ -116,7 +116,7 @@ fn alone<'a>(
         (λ h. Halts (λ identities. Runs (sequence_tree steps.now) identities count)
         (from.entry ∷ []) h) }
 {
-    let mut k = from;
+    let mut k = from.set_apart(memory.alloc);
     let mut at = 0;
     while let Some(step) = straight_at(steps, at) {
         let goes_on = straight_in(memory, count, step, &mut k)?;
@@ -130,7 +130,7 @@ fn alone<'a>(
         return Ok(kept_alone(memory, wanted, k)?);
     }
     let mut one = Vec::new(memory.alloc);
-    one.push(k)?;
+    one.push(k.shared(memory)?)?;
     commands(memory, count, &steps[at..], wanted, one)
 }
 
@@ -156,7 +156,7 @@ fn kept_alone<'a>(
 {
     let mut kept = Vec::new(memory.alloc);
     if wanted {
-        kept.push(k)?;
+        kept.push(k.shared(memory)?)?;
     }
     Ok(kept)
 }

@@ -44,10 +44,8 @@ fn same(one: &Param, other: &Param) -> bool
     }
 }
 
-// Longer values and lists are not compared.
-const SHORT: usize = 64;
-
-const FEW: usize = 4;
+// Longer values are not compared.
+const SHORT: usize = 1024;
 
 // Whether they are equal, and short.
 fn is_short(one: &Param, other: &Param) -> bool
@@ -67,7 +65,7 @@ pub(crate) fn same_short(ones: &ParamList, others: &ParamList) -> bool
     ensures { IsTrue result → ones.now ≡ others.now }
 {
     let (mine, theirs) = (ones.as_slice(), others.as_slice());
-    if mine.len() > FEW || mine.len() != theirs.len() {
+    if mine.len() != theirs.len() {
         return false;
     }
     let mut index = 0;

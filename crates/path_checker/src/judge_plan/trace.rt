@@ -7,7 +7,7 @@ ghost use Rattle.path_checker.specs.Selecting.{components_of};
 ghost use Rattle.path_checker.specs.Standing.{all_in_order};
 
 use crate::judge_plan::fingerprint::{mixed, of_beginning};
-use crate::judge_plan::happened::{Happened, copied};
+use crate::judge_plan::happened::{Happened, copied, even_number};
 use crate::judge_plan::matches::Match;
 use crate::judge_plan::memory::Memory;
 use crate::judge_plan::same_param::{same_lent, same_short};
@@ -31,7 +31,7 @@ pub(crate) struct Invoke<'a> {
     passed: bool,
 }
 
-/// Events that follow one another: one alone, or all of an override at some components. Large ones are lent.
+/// Events that follow one another: one alone, or all of an override at some components.
 #[derive(Clone, Copy)]
 pub(crate) enum Told<'a> {
     Tried {
@@ -52,7 +52,7 @@ pub(crate) enum Told<'a> {
     Failed {
         place: u64,
     },
-    Invoked(&'a Invoke<'a>),
+    Invoked(Invoke<'a>),
     Sets {
         components: Components<'a>,
         list: &'a ParamList,
@@ -144,11 +144,21 @@ impl<'a> Invoke<'a> {
             passed: self.passed,
         }
     }
+
+    // Whether it is told alike.
+    fn is_same(&self, other: &Invoke<'_>) -> bool
+        ensures { IsTrue result → invoke_event self.now ≡ invoke_event other.now }
+    {
+        self.component == other.component
+            && self.passed == other.passed
+            && self.size == other.size
+            && same_lent(self.digest, other.digest)
+    }
 }
 
 impl<'a> Told<'a> {
-    // One event.
-    fn of(bump: &'a Bump, happened: Happened<'a>) -> Result<Told<'a>, AllocError>
+    /// One event.
+    pub(crate) fn of(memory: Memory<'a>, happened: Happened<'a>) -> Result<Told<'a>, AllocError>
         ensures { IfOk result (λ told. told_by told ≡ event_of happened.entry ∷ []) }
     {
         match happened {
@@ -169,7 +179,7 @@ impl<'a> Told<'a> {
                 digest,
                 size,
             } => {
-                let own = Match::new(digest, size).lent(bump)?;
+                let own = Match::lent(memory, component, digest, size)?;
                 Ok(Told::Matched { component, own })
             }
             Happened::Invoked {
@@ -177,91 +187,101 @@ impl<'a> Told<'a> {
                 digest,
                 size,
                 passed,
-            } => match bump.try_alloc(Invoke {
+            } => Ok(Told::Invoked(Invoke {
                 component,
                 digest,
                 size,
                 passed,
-            }) {
-                Ok(lent) => Ok(Told::Invoked(lent)),
-                Err(_) => Err(AllocError),
-            },
+            })),
         }
     }
 
-    // Whether it is this event.
-    fn tells(&self, event: &Happened<'_>) -> bool
-        ensures { IsTrue result → told_by self.now ≡ event_of event.now ∷ [] }
+    // Whether they are the same events. May be false of equal ones that are long.
+    fn is_same(&self, other: &Told<'_>) -> bool
+        ensures { IsTrue result → told_by self.now ≡ told_by other.now }
     {
-        match (self, event) {
+        match (self, other) {
             (
                 Told::Tried {
                     component,
                     kind,
                     passed,
                 },
-                Happened::Tried {
+                Told::Tried {
                     component: other,
                     kind: other_kind,
                     passed: other_passed,
                 },
             ) => *component == *other && *kind == *other_kind && *passed == *other_passed,
-            (Told::Missed { component }, Happened::Missed { component: other }) => {
+            (Told::Missed { component }, Told::Missed { component: other }) => {
                 *component == *other
             }
-            (Told::Wrote { component }, Happened::Wrote { component: other }) => {
-                *component == *other
-            }
+            (Told::Wrote { component }, Told::Wrote { component: other }) => *component == *other,
             (
                 Told::Matched { component, own },
-                Happened::Matched {
+                Told::Matched {
                     component: other,
-                    digest,
-                    size,
+                    own: other_own,
                 },
-            ) => *component == *other && own.is_under(digest, *size),
-            (Told::Failed { place }, Happened::Failed { place: other }) => *place == *other,
+            ) => *component == *other && own.is(other_own),
+            (Told::Failed { place }, Told::Failed { place: other }) => *place == *other,
+            (Told::Invoked(invoke), Told::Invoked(other)) => invoke.is_same(other),
             (
-                Told::Invoked(invoke),
-                Happened::Invoked {
-                    component,
-                    digest,
-                    size,
-                    passed,
+                Told::Sets { components, list },
+                Told::Sets {
+                    components: others,
+                    list: other_list,
                 },
-            ) => {
-                invoke.component == *component
-                    && invoke.passed == *passed
-                    && invoke.size == *size
-                    && same_lent(invoke.digest, *digest)
-            }
+            ) => same_components(components, others) && same_short(list, other_list),
             _ => false,
         }
     }
 
-    // Whether they are the events of an override at some components. May be false of some that are.
-    fn tells_sets(&self, components: Components<'_>, list: &ParamList) -> bool
-        ensures { IsTrue result
-            → told_by self.now ≡ sets_at (components_of components.entry) list.now }
-    {
+    // The component where they happened, or the number for an override.
+    fn component(&self) -> u32 {
         match self {
-            Told::Sets {
-                components: others,
-                list: other,
-            } => same_components(others, &components) && same_short(other, list),
-            _ => false,
+            Told::Tried { component, .. } => *component,
+            Told::Missed { component } => *component,
+            Told::Wrote { component } => *component,
+            Told::Matched { component, .. } => *component,
+            Told::Failed { .. } => 0,
+            Told::Invoked(invoke) => invoke.component,
+            Told::Sets { .. } => SETS,
         }
     }
 
-    // In memory that all states share. The next state mostly comes to the same.
-    fn lent(
-        self,
-        memory: Memory<'a>,
-        component: u32,
-        print: u64,
-    ) -> Result<&'a Told<'a>, AllocError>
-        ensures { IfOk result (λ lent. lent.now ≡ self.entry) }
+    // A fingerprint. It tells most events apart.
+    fn print(&self) -> u64 {
+        let component = u64::from(self.component());
+        match self {
+            Told::Tried { kind, passed, .. } => mixed(
+                even_number(*kind) + (*passed as u64),
+                component,
+            ),
+            Told::Missed { .. } => mixed(22, component),
+            Told::Wrote { .. } => mixed(21, component),
+            Told::Matched { own, .. } => mixed(component, own.print()),
+            Told::Failed { place } => mixed(20, *place),
+            Told::Invoked(invoke) => mixed(23 + (invoke.passed as u64), component),
+            Told::Sets { components, list } => of_sets(components, list),
+        }
+    }
+
+    /// The same in memory that all states share. The next state mostly comes to the same.
+    pub(crate) fn lent(self, memory: Memory<'a>) -> Result<&'a Told<'a>, AllocError>
+        ensures { IfOk result (λ lent. told_by lent.now ≡ told_by self.entry) }
     {
+        let (component, print) = (self.component(), self.print());
+        if let Some(last) = memory.last_told(component, print) {
+            if last.is_same(&self) {
+                return Ok(last);
+            }
+        }
+        if let Some(other) = memory.other_told(print) {
+            if other.is_same(&self) {
+                return Ok(other);
+            }
+        }
         match memory.events.try_alloc(self) {
             Ok(lent) => {
                 memory.keep_told(component, print, lent);
@@ -271,50 +291,8 @@ impl<'a> Told<'a> {
         }
     }
 
-    /// One event, lent.
-    pub(crate) fn event(memory: Memory<'a>, event: Happened<'a>) -> Result<&'a Told<'a>, AllocError>
-        ensures { IfOk result (λ told. told_by told.now ≡ event_of event.entry ∷ []) }
-    {
-        let (component, print) = (event.component(), event.print());
-        if let Some(last) = memory.last_told(component, print) {
-            if last.tells(&event) {
-                return Ok(last);
-            }
-        }
-        if let Some(other) = memory.other_told(print) {
-            if other.tells(&event) {
-                return Ok(other);
-            }
-        }
-        let told = Told::of(memory.events, event)?;
-        told.lent(memory, component, print)
-    }
-
-    /// The events of an override at some components, lent.
-    pub(crate) fn sets(
-        memory: Memory<'a>,
-        components: Components<'a>,
-        list: &'a ParamList,
-    ) -> Result<&'a Told<'a>, AllocError>
-        ensures { IfOk result
-            (λ told. told_by told.now ≡ sets_at (components_of components.entry) list.now) }
-    {
-        let print = of_sets(&components, list);
-        if let Some(last) = memory.last_told(SETS, print) {
-            if last.tells_sets(components, list) {
-                return Ok(last);
-            }
-        }
-        if let Some(other) = memory.other_told(print) {
-            if other.tells_sets(components, list) {
-                return Ok(other);
-            }
-        }
-        Told::Sets { components, list }.lent(memory, SETS, print)
-    }
-
-    // Adds the events, in memory of their own.
-    fn tell(&self, alloc: Global, events: &mut Events) -> Result<(), AllocError>
+    /// Adds the events, in memory of their own.
+    pub(crate) fn tell(&self, alloc: Global, events: &mut Events) -> Result<(), AllocError>
         ensures { OnOk result (events.new ≡ events.old ++ told_by self.now) }
     {
         let event = match *self {

@@ -98,7 +98,7 @@ pub alone-loop-step-init : goal.alone-loop-step-init
 alone-loop-step-init t c = record {
   within = search rules;
   small = c.requires.small;
-  walks = ([], Walks-start (runs_course (sequence_tree c.args.steps.now) c.args.count) (c.args.from ∷ []) []);
+  walks = ([], subst (λ (k : Kept). Walks (runs_course (sequence_tree c.args.steps.now) c.args.count) (c.args.from ∷ []) [] (runs_course (sequence_tree c.args.steps.now) c.args.count) (k ∷ []) []) (sym c.set_apart-k.ensures) (Walks-start (runs_course (sequence_tree c.args.steps.now) c.args.count) (c.args.from ∷ []) []));
 }
 
 pub alone-straight_in-requires : goal.alone-straight_in-requires
@@ -151,7 +151,7 @@ pub alone-returns-clause-ok : goal.alone-returns-clause-ok
 alone-returns-clause-ok t c =
     let whole = runs_course (sequence_tree c.args.steps.now) c.args.count in
     let rest = runs_course (sequence_tree (drop c.loop-step.at c.args.steps.now)) c.args.count in
-    let one : c.push.new.self.items ≡ c.loop-step.k ∷ [] = c.in_ok-push.ensures.items ∙ ap (λ (x : List Kept). x ++ c.loop-step.k ∷ []) c.new-one.ensures.items in
+    let one : c.push.new.self.items ≡ c.loop-step.k ∷ [] = c.in_ok-push.ensures.items ∙ ap (λ (x : List Kept). x ++ c.in_ok-shared.field-0 ∷ []) c.new-one.ensures.items ∙ ap (λ (x : Kept). x ∷ []) c.in_ok-shared.ensures in
     IfOk-weaker c.commands.result (λ v. PassesTo rest (c.loop-step.k ∷ []) c.args.wanted v.items) (λ v. PassesTo whole (c.args.from ∷ []) c.args.wanted v.items)
     (λ v a. (a.0, Passes-rest whole rest (c.args.from ∷ []) (c.loop-step.k ∷ []) a.0 c.loop-step.invariant.walks.0 c.loop-step.invariant.walks.1 a.1, a.2))
     (subst (λ (ks : List Kept). IfOk c.commands.result (λ v. PassesTo rest ks c.args.wanted v.items)) one (subst (λ (s : List Step). IfOk c.commands.result (λ v. PassesTo (runs_course (sequence_tree s) c.args.count) c.push.new.self.items c.args.wanted v.items)) (same_rest c.args.steps.now c.loop-step.at) c.commands.ensures.ok))
@@ -160,7 +160,7 @@ pub alone-returns-clause-err : goal.alone-returns-clause-err
 alone-returns-clause-err t c =
     let whole = runs_course (sequence_tree c.args.steps.now) c.args.count in
     let rest = runs_course (sequence_tree (drop c.loop-step.at c.args.steps.now)) c.args.count in
-    let one : c.push.new.self.items ≡ c.loop-step.k ∷ [] = c.in_ok-push.ensures.items ∙ ap (λ (x : List Kept). x ++ c.loop-step.k ∷ []) c.new-one.ensures.items in
+    let one : c.push.new.self.items ≡ c.loop-step.k ∷ [] = c.in_ok-push.ensures.items ∙ ap (λ (x : List Kept). x ++ c.in_ok-shared.field-0 ∷ []) c.new-one.ensures.items ∙ ap (λ (x : Kept). x ∷ []) c.in_ok-shared.ensures in
     IfErr-weaker c.commands.result (λ h. Halts rest (c.loop-step.k ∷ []) h) (λ h. Halts whole (c.args.from ∷ []) h)
     (λ h u. Halts-rest whole rest (c.args.from ∷ []) (c.loop-step.k ∷ []) c.loop-step.invariant.walks.0 c.loop-step.invariant.walks.1 h u)
     (subst (λ (ks : List Kept). IfErr c.commands.result (λ h. Halts rest ks h)) one (subst (λ (s : List Step). IfErr c.commands.result (λ h. Halts (runs_course (sequence_tree s) c.args.count) c.push.new.self.items h)) (same_rest c.args.steps.now c.loop-step.at) c.commands.ensures.err))

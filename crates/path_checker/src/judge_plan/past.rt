@@ -1,0 +1,160 @@
+//! The events that led to a state.
+
+ghost use Rattle.std.specs.Prelude.{◌≡◌, [], ◌++◌, IfOk, OnOk, OnErr};
+ghost use Rattle.path_checker.specs.Happening.{told_by};
+ghost use Rattle.path_checker.specs.Standing.{all_in_order};
+
+use crate::judge_plan::memory::Memory;
+use crate::judge_plan::trace::{Told, Trace};
+use path_model::Events;
+use std::alloc::{AllocError, Global};
+use std::marker::Model;
+
+// Events in memory of their own.
+#[derive(Drop)]
+pub(crate) struct Since<'a> {
+    told: Vec<Told<'a>>,
+}
+
+impl<'a> Model for Since<'a> {
+    ghost use Rattle.std.specs.Prelude.{List};
+    ghost use Rattle.path_model.specs.declared.event.Event.{Event};
+
+    ghost Value = { List Event };
+
+    ghost use Rattle.path_checker.specs.Happening.{all_told};
+
+    ghost view = { λ a. all_told a.told.items };
+}
+
+/// The events that led to a state: those that other states share, and where it goes on alone those since then, in memory of
+/// its own.
+#[derive(Drop)]
+pub(crate) struct Past<'a> {
+    shared: Trace<'a>,
+    since: Option<Since<'a>>,
+}
+
+impl<'a> Model for Past<'a> {
+    ghost use Rattle.std.specs.Prelude.{List};
+    ghost use Rattle.path_model.specs.declared.event.Event.{Event};
+
+    ghost Value = { List Event };
+
+    ghost use Rattle.path_checker.specs.Standing.{all_in_order, with_since};
+
+    ghost view = { λ a. with_since (all_in_order a.shared) a.since };
+}
+
+impl<'a> Since<'a> {
+    // None. Takes no memory.
+    fn new(alloc: Global) -> Since<'a>
+        ensures { result ≡ [] }
+    {
+        Since {
+            told: Vec::new(alloc),
+        }
+    }
+
+    fn add(&mut self, told: Told<'a>) -> Result<(), AllocError>
+        ensures ok { OnOk result (self.new ≡ self.old ++ told_by told.entry) }
+        ensures err { OnErr result (self.new ≡ self.old) }
+    {
+        self.told.push(told)?;
+        Ok(())
+    }
+
+    // Behind others, in memory that all states share.
+    fn behind(&self, memory: Memory<'a>, shared: Trace<'a>) -> Result<Trace<'a>, AllocError>
+        ensures { IfOk result
+            (λ trace. all_in_order trace ≡ all_in_order shared.entry ++ self.now) }
+    {
+        let mut trace = shared;
+        for told in self.told.as_slice() {
+            let lent = told.lent(memory)?;
+            trace = trace.with(memory.events, lent)?;
+        }
+        Ok(trace)
+    }
+
+    // Adds them to others, in memory of their own.
+    fn tell(&self, alloc: Global, events: &mut Events) -> Result<(), AllocError>
+        ensures { OnOk result (events.new ≡ events.old ++ self.now) }
+    {
+        for told in self.told.as_slice() {
+            told.tell(alloc, events)?;
+        }
+        Ok(())
+    }
+}
+
+impl<'a> Past<'a> {
+    /// Nothing has happened.
+    pub(crate) fn new() -> Past<'a>
+        ensures { result ≡ [] }
+    {
+        Past {
+            shared: Trace::new(),
+            since: None,
+        }
+    }
+
+    /// More events.
+    pub(crate) fn add(&mut self, memory: Memory<'a>, told: Told<'a>) -> Result<(), AllocError>
+        ensures ok { OnOk result (self.new ≡ self.old ++ told_by told.entry) }
+        ensures err { OnErr result (self.new ≡ self.old) }
+    {
+        match &mut self.since {
+            Some(since) => since.add(told),
+            None => {
+                let lent = told.lent(memory)?;
+                self.shared = self.shared.with(memory.events, lent)?;
+                Ok(())
+            }
+        }
+    }
+
+    /// The same. The next events are in memory of its own.
+    pub(crate) fn set_apart(self, alloc: Global) -> Past<'a>
+        ensures { result ≡ self.entry }
+    {
+        let mut past = self;
+        if past.since.is_none() {
+            past.since = Some(Since::new(alloc));
+        }
+        past
+    }
+
+    // All, in memory that all states share.
+    fn lent(&self, memory: Memory<'a>) -> Result<Trace<'a>, AllocError>
+        ensures { IfOk result (λ trace. all_in_order trace ≡ self.now) }
+    {
+        let shared = self.shared.copy();
+        match &self.since {
+            Some(since) => since.behind(memory, shared),
+            None => Ok(shared),
+        }
+    }
+
+    /// The same, in memory that all states share.
+    pub(crate) fn copy(&self, memory: Memory<'a>) -> Result<Past<'a>, AllocError>
+        ensures { IfOk result (λ past. past ≡ self.now) }
+    {
+        let shared = self.lent(memory)?;
+        Ok(Past {
+            shared,
+            since: None,
+        })
+    }
+
+    /// The events in the order in which they happened, in memory of their own.
+    pub(crate) fn told(&self, alloc: Global) -> Result<Events, AllocError>
+        ensures { IfOk result (λ events. events ≡ self.now) }
+    {
+        let mut events = self.shared.told(alloc)?;
+        if let Some(since) = &self.since {
+            since.tell(alloc, &mut events)?;
+        }
+        Ok(events)
+    }
+}
