@@ -5,8 +5,8 @@
  * bytes that are passed.
  *
  * What the caller owes, and nothing checks: a buffer is not null, also where its length is 0; the buffers of one call do not
- * overlap; nothing else writes them while the call runs. No call keeps a pointer, or writes more than what it answers. `suit_check`
- * alone takes memory, by malloc, realloc and free.
+ * overlap; nothing else writes them while the call runs. No call keeps a pointer, takes memory, or writes more than what it
+ * answers.
  */
 #ifndef SUIT_H
 #define SUIT_H
@@ -21,16 +21,10 @@ extern "C" {
 /* What a call answers: the exit status of the program for the same. */
 enum suit_answer {
   SUIT_DONE = 0,
-  SUIT_UNSAFE = 1,
   SUIT_REFUSED = 3,
   SUIT_NOT_AUTHENTIC = 4,
   SUIT_FLASH_FAULT = 8,
-  SUIT_NO_MEMORY = 11,
-  SUIT_TOO_WIDE = 12,
-  SUIT_NOTHING_INSTALLED = 15,
-  SUIT_SEVERED = 16,
-  SUIT_DIFFERS = 17,
-  SUIT_TOO_LONG = 21
+  SUIT_NOTHING_INSTALLED = 15
 };
 
 /* The numbers of an envelope. Places and lengths are bytes; a place counts from the envelope's first byte. */
@@ -60,11 +54,6 @@ int32_t suit_read(const uint8_t *file, size_t length, struct suit_envelope *out,
 /* SUIT_DONE exactly where the envelope's wrapper states the digest of its manifest and one of its blocks verifies under the
  * key; SUIT_REFUSED where the bytes spell no envelope, and SUIT_NOT_AUTHENTIC otherwise. */
 int32_t suit_authentic(const uint8_t *file, size_t length, const uint8_t *key, size_t key_length);
-
-/* SUIT_DONE exactly where on each path of both procedures of the manifest each invoke is covered, unless memory runs out, which is
- * SUIT_NO_MEMORY; SUIT_UNSAFE where on some path one is not. The other answers are those of the program's `check`; where the grammar
- * refuses the bytes, which is SUIT_REFUSED, *place is that of the fault. */
-int32_t suit_check(const uint8_t *file, size_t length, uint64_t *place);
 
 /* SUIT_DONE; SUIT_NOTHING_INSTALLED where the flash has no record, and SUIT_FLASH_FAULT where it failed: then *out stays as it
  * was. */

@@ -1,5 +1,4 @@
 pub mod Answers
 pub mod Authentic
-pub mod Checking
 pub mod Reading
 pub mod Recorded

@@ -8,28 +8,14 @@ ghost use Rattle.suit_c.specs.Answers.{code_of};
 pub enum Answer {
     /// It was done, or it is so.
     Done,
-    /// On some path an invoke is not covered.
-    Unsafe,
     /// The bytes are refused.
     Refused,
     /// The envelope is not authentic.
     NotAuthentic,
     /// A call of the flash failed.
     FlashFault,
-    /// Memory ran out.
-    NoMemory,
-    /// There is too much to judge.
-    TooWide,
     /// Nothing is installed.
     NothingInstalled,
-    /// A member stands apart, and the envelope does not hold it.
-    Severed,
-    /// A member does not have the digest that the manifest states.
-    Differs,
-    /// The layout lacks a component.
-    UnknownComponent,
-    /// The envelope is too long, though it is trimmed.
-    TooLong,
 }
 
 impl Answer {
@@ -39,17 +25,10 @@ impl Answer {
     {
         match self {
             Answer::Done => 0,
-            Answer::Unsafe => 1,
             Answer::Refused => 3,
             Answer::NotAuthentic => 4,
             Answer::FlashFault => 8,
-            Answer::NoMemory => 11,
-            Answer::TooWide => 12,
             Answer::NothingInstalled => 15,
-            Answer::Severed => 16,
-            Answer::Differs => 17,
-            Answer::UnknownComponent => 18,
-            Answer::TooLong => 21,
         }
     }
 }

@@ -4,6 +4,5 @@
 
 mod answer;
 mod authentic;
-mod checking;
 mod reading;
 mod status;
