@@ -12,7 +12,8 @@ use suit_envelope::{Authenticity, authentic, decode_envelope, envelope_laws};
 
 // See `suit_authentic`.
 fn judge(file: &[u8], key: &[u8]) -> Answer
-    ensures answers { (result ≡ answers.Done) ⊎ (result ≡ answers.NotAuthentic) ⊎ (result ≡ answers.Refused) }
+    ensures answers { (result ≡ answers.Done) ⊎ (result ≡ answers.NotAuthentic)
+        ⊎ (result ≡ answers.Refused) }
     ensures yes { result ≡ answers.Done → IsAuthenticFile file.now key.now }
     ensures every_yes { IsAuthenticFile file.now key.now → result ≡ answers.Done }
     ensures refused { result ≡ answers.Refused → (r : Refusal) × RefusesBytes file.now r }
