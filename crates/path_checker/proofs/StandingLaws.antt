@@ -113,7 +113,7 @@ told_other standing (tells.Wrote c) no_match no_write event one = absurd (no_wri
 told_other standing (tells.Matched c own) no_match no_write event one = absurd (no_match c own refl)
 told_other standing (tells.Failed p) no_match no_write event one = by_plain standing _ event (λ c' d' s'. (λ is. absurd cc, λ w. w)) one
 told_other standing (tells.Invoked i) no_match no_write event one = by_plain standing _ event (λ c' d' s'. (λ is. absurd cc, λ w. w)) one
-told_other standing (tells.Sets components list) no_match no_write event one = sets (components_of components) list.now one
+told_other standing (tells.Sets bits components list) no_match no_write event one = sets (components_of components) list.now one
   where
     sets : (cs : List ℕ) (params : List Param) → sets_at cs params ≡ event ∷ [] → StandsAfter standing event standing
     sets [] params is = absurd cc

@@ -38,7 +38,7 @@ told_by (told.Wrote component) = events.Wrote component ∷ []
 told_by (told.Matched component own) = match_event component (match_of own.now) ∷ []
 told_by (told.Failed place) = events.Failed place ∷ []
 told_by (told.Invoked invoke) = invoke_event invoke ∷ []
-told_by (told.Sets components list) = sets_at (components_of components) list.now
+told_by (told.Sets bits components list) = sets_at (components_of components) list.now
 
 abbrev pub all_told : List Told → List Event
 all_told [] = []

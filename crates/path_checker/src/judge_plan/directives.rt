@@ -210,6 +210,7 @@ fn soft_after_all(soft_failure: bool, list: &ParamList) -> bool
 /// Override parameters.
 pub(crate) fn override_in<'a>(
     memory: Memory<'a>,
+    place: u64,
     list: &'a ParamList,
     component: u32,
     k: &mut Kept<'a>,
@@ -220,7 +221,7 @@ pub(crate) fn override_in<'a>(
 {
     k.params.override_with(memory.alloc, component, list)?;
     k.history
-        .add_sets(memory, Components::One(component), list)?;
+        .add_sets(memory, place, Components::One(component), list)?;
     k.soft_failure = soft_after_all(k.soft_failure, list);
     Ok(())
 }
@@ -254,6 +255,7 @@ fn soft_at(soft_failure: bool, list: &ParamList, components: &[u32]) -> bool
 /// Override parameters at each selected component.
 pub(crate) fn override_each_in<'a>(
     memory: Memory<'a>,
+    place: u64,
     list: &'a ParamList,
     k: &mut Kept<'a>,
 ) -> Result<(), AllocError>
@@ -265,7 +267,8 @@ pub(crate) fn override_each_in<'a>(
     let components = k.selection.listed(memory.alloc)?;
     override_all(memory.alloc, list, &components, &mut k.params)?;
     k.soft_failure = soft_at(k.soft_failure, list, &components);
-    k.history.add_sets(memory, k.selection.components(), list)?;
+    k.history
+        .add_sets(memory, place, k.selection.components(), list)?;
     Ok(())
 }
 
@@ -285,6 +288,7 @@ fn settled<'a>(memory: Memory<'a>, k: Kept<'a>, was_own: bool) -> Result<Kept<'a
 /// Override parameters: the state after it.
 pub(crate) fn overrides<'a>(
     memory: Memory<'a>,
+    place: u64,
     list: &'a ParamList,
     component: u32,
     k: Kept<'a>,
@@ -295,13 +299,14 @@ pub(crate) fn overrides<'a>(
 {
     let mut k = k;
     let was_own = k.params.is_own();
-    override_in(memory, list, component, &mut k)?;
+    override_in(memory, place, list, component, &mut k)?;
     settled(memory, k, was_own)
 }
 
 /// Override parameters at each selected component: the state after it.
 pub(crate) fn overrides_each<'a>(
     memory: Memory<'a>,
+    place: u64,
     list: &'a ParamList,
     k: Kept<'a>,
 ) -> Result<Kept<'a>, AllocError>
@@ -312,6 +317,6 @@ pub(crate) fn overrides_each<'a>(
 {
     let mut k = k;
     let was_own = k.params.is_own();
-    override_each_in(memory, list, &mut k)?;
+    override_each_in(memory, place, list, &mut k)?;
     settled(memory, k, was_own)
 }

@@ -41,14 +41,3 @@ pub(crate) fn of_param(param: Option<&Param>) -> u64 {
         _ => 0,
     }
 }
-
-/// A fingerprint of a parameter that is soon made: by its first bytes alone.
-pub(crate) fn of_beginning(param: &Param) -> u64 {
-    match param {
-        Param::Vendor(id) => of_bytes(&id[..4]),
-        Param::Class(id) => of_bytes(&id[..4]),
-        Param::Device(id) => of_bytes(&id[..4]),
-        Param::Digest(digest) => of_bytes(&digest.bytes[..4]),
-        _ => of_param(Some(param)),
-    }
-}

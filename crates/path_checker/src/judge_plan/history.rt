@@ -117,17 +117,18 @@ impl<'a> History<'a> {
         }
     }
 
-    /// The events of an override at some components more. They end no match.
+    /// The events of an override at a place more, at some components. They end no match.
     pub(crate) fn add_sets(
         &mut self,
         memory: Memory<'a>,
+        place: u64,
         components: Components<'a>,
         list: &'a ParamList,
     ) -> Result<(), AllocError>
         ensures { OnOk result
             (self.new ≡ self.old ++ sets_at (components_of components.entry) list.now) }
     {
-        self.past.add(memory, Told::Sets { components, list })?;
+        self.past.add(memory, Told::sets(place, components, list))?;
         Ok(())
     }
 

@@ -15,11 +15,9 @@ pub(crate) const COMPARED: u64 = 4_194_304;
 // The cost of comparing two states that hold no match.
 const LEAST: u64 = 32;
 
-// How many events are kept where states go on alone, each of which comes to the same events: a power of two.
-const EVENTS: usize = 16_384;
-
-// How many matches are kept there: a power of two, above the number of pairs of a digest and a size of a procedure.
-const MATCHES: usize = 262_144;
+// How many events are kept where states go on alone, each of which comes to the same events, and how many matches: a power
+// of two, above the number of pairs of a digest and a size in a manifest of 16,384 bytes.
+const KEPT: usize = 262_144;
 
 /// The allocators of a judgement, and how many matches it may still compare. Events are freed together, when it ends.
 #[derive(Clone, Copy)]
@@ -134,11 +132,11 @@ impl<'a> Memory<'a> {
         if self.last.more.get().is_empty() {
             let more = self
                 .events
-                .try_alloc_slice_fill_clone(EVENTS, Cell::new(None))?;
+                .try_alloc_slice_fill_clone(KEPT, Cell::new(None))?;
             self.last.more.set(more);
             let matches = self
                 .events
-                .try_alloc_slice_fill_clone(MATCHES, Cell::new(None))?;
+                .try_alloc_slice_fill_clone(KEPT, Cell::new(None))?;
             self.last.more_matches.set(matches);
         }
         Ok(())
@@ -146,7 +144,7 @@ impl<'a> Memory<'a> {
 
     /// The last event at a component, or one with a fingerprint, in any state.
     pub(crate) fn last_told(&self, component: u32, print: u64) -> Option<&'a Told<'a>> {
-        if let Some(first) = self.last.more.get().get(first_place(print, EVENTS)) {
+        if let Some(first) = self.last.more.get().get(first_place(print, KEPT)) {
             return first.get();
         }
         let told = self.last.told.get();
@@ -158,7 +156,7 @@ impl<'a> Memory<'a> {
 
     /// Another one with a fingerprint, in any state.
     pub(crate) fn other_told(&self, print: u64) -> Option<&'a Told<'a>> {
-        match self.last.more.get().get(second_place(print, EVENTS)) {
+        match self.last.more.get().get(second_place(print, KEPT)) {
             Some(second) => second.get(),
             None => None,
         }
@@ -168,8 +166,8 @@ impl<'a> Memory<'a> {
     pub(crate) fn keep_told(&self, component: u32, print: u64, last: &'a Told<'a>) {
         let more = self.last.more.get();
         if let (Some(first), Some(second)) = (
-            more.get(first_place(print, EVENTS)),
-            more.get(second_place(print, EVENTS)),
+            more.get(first_place(print, KEPT)),
+            more.get(second_place(print, KEPT)),
         ) {
             match first.get() {
                 Some(_) => second.set(Some(last)),
@@ -186,12 +184,7 @@ impl<'a> Memory<'a> {
 
     /// The last match at a component, or one with a fingerprint, in any state.
     pub(crate) fn last_match(&self, component: u32, print: u64) -> Option<&'a Match<'a>> {
-        if let Some(first) = self
-            .last
-            .more_matches
-            .get()
-            .get(first_place(print, MATCHES))
-        {
+        if let Some(first) = self.last.more_matches.get().get(first_place(print, KEPT)) {
             return first.get();
         }
         let matches = self.last.matches.get();
@@ -203,12 +196,7 @@ impl<'a> Memory<'a> {
 
     /// Another one with a fingerprint, in any state.
     pub(crate) fn other_match(&self, print: u64) -> Option<&'a Match<'a>> {
-        match self
-            .last
-            .more_matches
-            .get()
-            .get(second_place(print, MATCHES))
-        {
+        match self.last.more_matches.get().get(second_place(print, KEPT)) {
             Some(second) => second.get(),
             None => None,
         }
@@ -218,8 +206,8 @@ impl<'a> Memory<'a> {
     pub(crate) fn keep_match(&self, component: u32, print: u64, last: &'a Match<'a>) {
         let more = self.last.more_matches.get();
         if let (Some(first), Some(second)) = (
-            more.get(first_place(print, MATCHES)),
-            more.get(second_place(print, MATCHES)),
+            more.get(first_place(print, KEPT)),
+            more.get(second_place(print, KEPT)),
         ) {
             match first.get() {
                 Some(_) => second.set(Some(last)),

@@ -52,7 +52,7 @@ fn at_one<'a>(
         Command::Test { kind, .. } => Ok(pass_test(memory, step.place, *kind, component, k)?),
         Command::Act { kind, .. } => act_in(memory, step.place, *kind, component, k),
         Command::Override(list) => {
-            override_in(memory, list, component, k)?;
+            override_in(memory, step.place, list, component, k)?;
             Ok(true)
         }
         _ => Ok(true),
@@ -108,7 +108,7 @@ fn at_each<'a>(
         return at_one(memory, count, step, component, k);
     }
     if let Command::Override(list) = &step.command {
-        override_each_in(memory, list, k)?;
+        override_each_in(memory, step.place, list, k)?;
         return Ok(true);
     }
     let selection = k.selection.listed(memory.alloc)?;

@@ -6,7 +6,7 @@ ghost use Rattle.path_checker.specs.Happening.{event_of, invoke_event, sets_at, 
 ghost use Rattle.path_checker.specs.Selecting.{components_of};
 ghost use Rattle.path_checker.specs.Standing.{all_in_order};
 
-use crate::judge_plan::fingerprint::{mixed, of_beginning};
+use crate::judge_plan::fingerprint::mixed;
 use crate::judge_plan::happened::{Happened, copied, even_number};
 use crate::judge_plan::matches::Match;
 use crate::judge_plan::memory::Memory;
@@ -54,6 +54,8 @@ pub(crate) enum Told<'a> {
     },
     Invoked(Invoke<'a>),
     Sets {
+        // Some bits of the place.
+        bits: u32,
         components: Components<'a>,
         list: &'a ParamList,
     },
@@ -89,15 +91,6 @@ impl<'a> Model for Trace<'a> {
     ghost use Rattle.std.proofs.Common.{arith};
 
     ghost size_decreases = { λ a h. Prim.grind (arith) };
-}
-
-// A fingerprint of the events of an override at some components.
-fn of_sets(components: &Components<'_>, list: &ParamList) -> u64 {
-    let mut print = mixed(24, number_of(components));
-    for param in list.as_slice() {
-        print = mixed(print, of_beginning(param));
-    }
-    print
 }
 
 // Adds the events of an override at some components, in memory of their own.
@@ -157,6 +150,18 @@ impl<'a> Invoke<'a> {
 }
 
 impl<'a> Told<'a> {
+    /// Those of an override at a place, at some components.
+    pub(crate) fn sets(place: u64, components: Components<'a>, list: &'a ParamList) -> Told<'a>
+        ensures { told_by result ≡ sets_at (components_of components.entry) list.now }
+    {
+        let bits = u32::try_from(place & 0xffff_ffff).unwrap_or(0);
+        Told::Sets {
+            bits,
+            components,
+            list,
+        }
+    }
+
     /// One event.
     pub(crate) fn of(memory: Memory<'a>, happened: Happened<'a>) -> Result<Told<'a>, AllocError>
         ensures { IfOk result (λ told. told_by told ≡ event_of happened.entry ∷ []) }
@@ -227,10 +232,15 @@ impl<'a> Told<'a> {
             (Told::Failed { place }, Told::Failed { place: other }) => *place == *other,
             (Told::Invoked(invoke), Told::Invoked(other)) => invoke.is_same(other),
             (
-                Told::Sets { components, list },
+                Told::Sets {
+                    components,
+                    list,
+                    ..
+                },
                 Told::Sets {
                     components: others,
                     list: other_list,
+                    ..
                 },
             ) => same_components(components, others) && same_short(list, other_list),
             _ => false,
@@ -263,7 +273,11 @@ impl<'a> Told<'a> {
             Told::Matched { own, .. } => mixed(component, own.print()),
             Told::Failed { place } => mixed(20, *place),
             Told::Invoked(invoke) => mixed(23 + (invoke.passed as u64), component),
-            Told::Sets { components, list } => of_sets(components, list),
+            Told::Sets {
+                bits,
+                components,
+                ..
+            } => mixed(mixed(25, u64::from(*bits)), number_of(components)),
         }
     }
 
@@ -310,7 +324,11 @@ impl<'a> Told<'a> {
             Told::Matched { component, own } => own.told(component),
             Told::Failed { place } => Event::Failed { place },
             Told::Invoked(invoke) => invoke.told(),
-            Told::Sets { components, list } => {
+            Told::Sets {
+                components,
+                list,
+                ..
+            } => {
                 return tell_all_sets(alloc, components, list, events);
             }
         };

@@ -133,7 +133,7 @@ fn each<'a>(
         return one(memory, count, step, component, k, next, failed);
     }
     if let Command::Override(list) = &step.command {
-        put(overrides_each(memory, list, k)?, next)?;
+        put(overrides_each(memory, step.place, list, k)?, next)?;
         return Ok(());
     }
     let selection = k.selection.listed(memory.alloc)?;
@@ -199,7 +199,10 @@ fn one<'a>(
         }
         Command::Act { kind, .. } => Ok(add(act(memory, step.place, *kind, component, k)?, next)?),
         Command::Index(_) => Ok(next.push(k)?),
-        Command::Override(list) => Ok(put(overrides(memory, list, component, k)?, next)?),
+        Command::Override(list) => Ok(put(
+            overrides(memory, step.place, list, component, k)?,
+            next,
+        )?),
         Command::TryEach(branches) => {
             try_each(
                 memory, count, branches, step.place, component, k, next, failed,

@@ -1,0 +1,188 @@
+"""Envelopes of `suit check` that are made against the way it judges: forks that leave many states behind them, and then commands
+that are dear in each, at each place where states are kept: outside inner sequences, inside one, in a loop over components, in a
+branch, and before a member that follows. Each is filled up to the width that is judged and to the length of a manifest."""
+
+from drawn import digest
+from inputs import byte_string, head, parts_of
+
+WIDEST = 4_194_304
+LONGEST = 16_000
+MATCH = ("test", b"\x03\x0f")
+IMAGE = b"\x11" * 32
+
+
+def override(*pairs):
+    return ("override", b"\x14" + head(5, len(pairs)) + b"".join(head(0, key) + value for key, value in sorted(pairs)))
+
+
+def size(number):
+    return override((14, head(0, number)))
+
+
+def index(*indices):
+    return ("index", b"\x0c" + (head(0, indices[0]) if len(indices) == 1 else head(4, len(indices)) + b"".join(head(0, one) for one in indices)), len(indices))
+
+
+def run(*commands):
+    return ("run", list(commands))
+
+
+def tries(*branches):
+    return ("tries", list(branches))
+
+
+# ---- as bytes, and how wide they are
+
+def spelled(commands):
+    return head(4, 2 * len(commands)) + b"".join(map(spelled_one, commands))
+
+
+def spelled_one(command):
+    if command[0] == "run":
+        return b"\x18\x20" + byte_string(spelled(command[1]))
+    if command[0] == "tries":
+        return b"\x0f" + head(4, len(command[1])) + b"".join(b"\xf6" if one is None else byte_string(spelled(one)) for one in command[1])
+    return command[1]
+
+
+def measured(commands, selected=1):
+    """Work, and the ways to complete and to end by a condition."""
+    work, on, off = 0, 1, 0
+    for command in commands:
+        kind = command[0]
+        if kind == "index":
+            work, selected = work + 1, command[2]
+        elif kind == "run":
+            inner_work, inner_on, inner_off = measured(command[1])
+            work += selected * (1 + inner_work)
+            for _ in range(selected):
+                on, off = on * (inner_on + inner_off), off + on * inner_off
+        elif kind == "tries":
+            parts = [None if one is None else measured(one) for one in command[1]]
+            work += selected * (1 + sum(part[0] for part in parts if part))
+            done, failed = 0, 1
+            for part in reversed(parts):
+                done, failed = (1, 0) if part is None else (part[1] + part[2] * done, part[2] * failed)
+            for _ in range(selected):
+                on, off = on * done, off + on * failed
+        else:
+            work += selected
+            if kind == "test":
+                off += selected * on
+    return work, on, off
+
+
+# ---- what is dear
+
+def fork_by_size(number):
+    return tries([size(1000 + number), MATCH], None)
+
+
+def fork_by_slot(number):
+    return tries([override((5, head(0, number))), ("test", b"\x05\x0f")], None)
+
+
+def fork_by_three(number):
+    return tries([size(1000 + number), MATCH], [size(3000 + number), MATCH], [size(5000 + number), MATCH], None)
+
+
+def forks_of_pairs(number):
+    return tries([override((24, byte_string(bytes([number]) * 16)), (14, head(0, number))), ("test", b"\x18\x18\x0f"), MATCH], None)
+
+
+FORKS = (fork_by_size, fork_by_slot, fork_by_three, forks_of_pairs)
+SOME_IDS = tuple((key, byte_string(b"\x00" * 16)) for key in (1, 2, 24))
+ALL_KEYS = SOME_IDS + ((3, digest(IMAGE)), (5, b"\x00"), (13, b"\xf4"), (18, b"\x41\xaa"), (21, b"\x61u"), (22, b"\x00"), (23, b"\x41\xaa"))
+
+TAILS = {
+    "sizes": lambda n: [size(n), MATCH],
+    "few sizes": lambda n: [size(n % 7), MATCH],
+    "one match": lambda n: [MATCH],
+    "sizes alone": lambda n: [size(n)],
+    "digests": lambda n: [override((3, digest(bytes([n % 256, n // 256 % 256]) * 16)), (14, head(0, n))), MATCH],
+    "writes": lambda n: [override((18, byte_string(bytes([n % 256])))), MATCH, ("act", b"\x12\x0f")],
+    "swaps": lambda n: [override((22, b"\x01")), MATCH, ("act", b"\x18\x1f\x0f")],
+    "contents of 64": lambda n: [override((18, byte_string(bytes([n % 256]) * 64)))],
+    "contents of 65": lambda n: [override((18, byte_string(bytes([n % 256]) * 65)))],
+    "contents of 1000": lambda n: [override((18, byte_string(bytes([n % 256]) * 1000)))],
+    "contents of 1100": lambda n: [override((18, byte_string(bytes([n % 256]) * 1100)))],
+    "all keys": lambda n: [override((14, head(0, n)), *ALL_KEYS)],
+    "slots": lambda n: [override((5, head(0, n))), ("test", b"\x05\x0f")],
+    "slot": lambda n: [override((5, head(0, n % 3))), ("test", b"\x05\x0f")],
+    "invokes": lambda n: [MATCH, ("act", b"\x17\x0f")],
+    "indices": lambda n: [index(n % 2), MATCH],
+    "lists": lambda n: [index(0, 1, 0, 1), MATCH],
+    "checked contents": lambda n: [override((18, byte_string(bytes([n % 256])))), ("test", b"\x06\x0f")],
+    "runs": lambda n: [run(size(n))],
+    "tries": lambda n: [tries([size(n)], None)],
+}
+
+
+def outside(forks, tail):
+    return forks + tail
+
+
+def in_a_run(forks, tail):
+    return [run(*forks, *tail)]
+
+
+def tail_in_a_run(forks, tail):
+    return forks + [run(*tail)]
+
+
+def in_a_branch(forks, tail):
+    return [tries(forks + tail, None)]
+
+
+def in_a_loop(forks, tail):
+    return forks + [index(*[0, 1] * 50), run(*tail), index(0)]
+
+
+PLACES = (outside, in_a_run, tail_in_a_run, in_a_branch, in_a_loop)
+
+
+def is_judged(commands):
+    """Whether they are within the width, with what stands before and behind them, and within the length."""
+    work, on, _ = measured(commands)
+    return (work + 60) * on <= WIDEST and len(spelled(commands)) <= LONGEST
+
+
+def filled(place, forks, tail):
+    """As many of the tail's commands as are judged."""
+    low, high = 0, LONGEST // len(spelled(tail(0))[1:]) + 1
+    while low < high:
+        count = (low + high + 1) // 2
+        if is_judged(place(forks, [command for n in range(count) for command in tail(n)])):
+            low = count
+        else:
+            high = count - 1
+    return place(forks, [command for n in range(low) for command in tail(n)])
+
+
+def enclosed(stored, commands, is_wanted, count):
+    """They are in the validate member where the states behind them are wanted, else in the invoke member."""
+    ids = b"".join(b"\x81\x41" + bytes([number]) for number in range(count))
+    start = spelled([override((3, digest(IMAGE)))])
+    common = head(5, 2) + b"\x02" + head(4, count) + ids + b"\x04" + byte_string(start)
+    end = [index(0), size(3), override((3, digest(IMAGE))), MATCH, ("act", b"\x17\x0f")]
+    pairs = [b"\x01\x01", b"\x02\x01", b"\x03" + byte_string(common)]
+    if is_wanted:
+        pairs += [b"\x07" + byte_string(spelled(commands)), b"\x09" + byte_string(spelled(end))]
+    else:
+        pairs.append(b"\x09" + byte_string(spelled(commands + end)))
+    manifest = head(5, len(pairs)) + b"".join(pairs)
+    return bytes.fromhex("d86b") + head(5, 2) + parts_of(stored)[0] + b"\x03" + byte_string(manifest)
+
+
+def worst(stored, count):
+    """So many envelopes, each behind its name: all combinations, or each so many-th of them."""
+    all = [
+        (name, place, fork, many, is_wanted)
+        for place in PLACES for is_wanted in (False, True) for fork in FORKS for many in (6, 12, 15) for name in TAILS
+        if is_judged(place([fork(number) for number in range(many)], TAILS[name](0)))
+    ]
+    for at in range(count):
+        name, place, fork, many, is_wanted = all[at * len(all) // count]
+        commands = filled(place, [fork(number) for number in range(many)], TAILS[name])
+        shows = "%s %s behind %d times %s%s" % (name, place.__name__, many, fork.__name__, ", with a member behind" if is_wanted else "")
+        yield shows, enclosed(stored, commands, is_wanted, 2)
