@@ -5,14 +5,12 @@ ghost use Rattle.suit_cli.specs.Program.{
   AsFound,
   EndsIn,
   IsCutOff,
-  IsForUpdate,
   IsStatus,
   IsUsage,
   KeepsLauncher,
 };
 ghost use Rattle.suit_cli.specs.Words.{RunBoot, task_of};
 ghost use Rattle.flash_layout.specs.declared.frame.TheConstants.{VERSION_1};
-ghost use Rattle.rollback_record.specs.SoundFlash.{Sound};
 
 use det_cbor::Names;
 use std::alloc::Global;
@@ -39,8 +37,6 @@ pub(crate) fn run_by_laws<H: Host, D: Disk, L: Launcher, K: Sink>(
     ensures no_host { IsTrue D.told → IsTrue L.told → task_of words.now ≡ Some RunBoot
         → result.0 ≡ 7 → ⊥ }
     ensures starved { result.0 ≡ 11
-        → (IsTrue D.told → IsForUpdate (task_of words.now)
-        → Sound VERSION_1 (D.flash flash.old).reads)
         → AsFound
         (⟦<L as SeenLauncher>⟧.seen launcher.old) (⟦<L as SeenLauncher>⟧.seen launcher.new)
         (⟦<H as SeenHost>⟧.seen host.old (⟦<D as SeenDisk>⟧.seen flash.old))

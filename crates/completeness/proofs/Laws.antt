@@ -1,12 +1,14 @@
 -- The laws of completeness.
-use Rattle.std.proofs.Common.{ℕ, List, refl, ap}
+use Rattle.std.proofs.Common.{ℕ, List, ap}
 use Rattle.suit_envelope.specs.EnvelopeLaws.{EnvelopeLaws}
 use Rattle.suit_manifest.specs.ManifestLaws.{ManifestLaws}
 use Rattle.suit_manifest.specs.MembersLaws.{MembersLaws}
 use Rattle.flash_layout.specs.declared.key.Key.{Key}
 use Rattle.flash_layout.specs.declared.layout.Entry.{Entry}
 use Rattle.flash_layout.specs.ConfigLaws.{OneAnswer as OneConfigAnswer}
-use Rattle.rollback_record.specs.RecordLaws.{OneAnswer}
+use Rattle.flash_layout.specs.Frames.{head_of}
+use Rattle.flash_layout.specs.declared.frame.TheConstants.{VERSION_1}
+use Rattle.rollback_record.specs.RecordLaws.{OneAnswer, SomeAnswer}
 use Rattle.invoke_proc.specs.BootLaws.{BootLaws}
 use Rattle.suit_cli.specs.Acceptance.{Accepted, IsAccepted}
 use Rattle.suit_cli.specs.Coming.{ended_status}
@@ -42,18 +44,21 @@ module _ (layout : List Entry) (key : Key) (bytes : List ℕ) (a : Accepted) whe
     };
   }
 
-pub completeness_laws : OneConfigAnswer → OneAnswer → EnvelopeLaws → ManifestLaws → MembersLaws → BootLaws → UpdateLaws → SoundnessLaws → CompletenessLaws
-completeness_laws configs records envelopes manifests members boots updates soundness = record {
+pub completeness_laws : OneConfigAnswer → OneAnswer → SomeAnswer → EnvelopeLaws → ManifestLaws → MembersLaws → BootLaws → UpdateLaws → SoundnessLaws → CompletenessLaws
+completeness_laws configs records some envelopes manifests members boots updates soundness = record {
   accepts = λ layout key bytes a. (meets layout key bytes a, accepted layout key bytes a);
   can_set = can_set;
   can_activate = can_activate;
   update = λ words l n b a ended ready faultless comes. update_completes configs envelopes manifests members updates words l n b a ready ended faultless comes;
   update_ends = λ words l n b a sb sa result ready faultless runs. ends_well _ _ sb sa result runs.ended (λ done. ap ended_status done.ended_is) (λ starved. starved.lacks.status)
       (update_completes configs envelopes manifests members updates words l n b a ready runs.ended faultless runs.comes) runs.puts;
-  only_update = λ words l n b a ended held asks told recorded comes zero.
-      only_update configs envelopes manifests members updates words l n b a held told recorded ended asks comes zero;
-  update_says = λ words l n b a sb sa held asks told recorded runs. says_so (λ ready. Installs words l b ready n a) sb sa runs.ended
-      (only_update configs envelopes manifests members updates words l n b a held told recorded runs.ended asks runs.comes) runs.puts;
+  only_update = λ words l n b a ended asks told comes zero.
+      let r = some VERSION_1 (head_of VERSION_1 b.flash.reads) in
+      only_update configs envelopes manifests members updates words l n b a r.0 told r.1 ended asks comes zero;
+  update_says = λ words l n b a sb sa asks told runs.
+      let r = some VERSION_1 (head_of VERSION_1 b.flash.reads) in
+      says_so (λ ready. Installs words l b ready n a) sb sa runs.ended
+      (only_update configs envelopes manifests members updates words l n b a r.0 told r.1 runs.ended asks runs.comes) runs.puts;
   boot = λ words l n b a ended ready faultless comes. boot_completes configs records boots words l n b a ready ended faultless comes;
   boot_ends = λ words l n b a sb sa result ready faultless runs. ends_well _ _ sb sa result runs.ended (λ done. ap ended_status done.ended_is) (λ starved. starved.lacks.status)
       (boot_completes configs records boots words l n b a ready runs.ended faultless runs.comes) runs.puts;

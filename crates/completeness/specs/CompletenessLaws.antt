@@ -1,11 +1,8 @@
 -- Given what it needs, a command is done; and it is done only then.
-use Rattle.std.specs.Prelude.{◌≡◌, ◌⊎◌, ◌↔◌, ℕ, IsTrue, List, length, Option, Some}
+use Rattle.std.specs.Prelude.{◌≡◌, ◌⊎◌, ◌↔◌, ℕ, IsTrue, List, length, Some}
 use Rattle.flash_layout.specs.declared.frame.TheConstants.{VERSION_1}
 use Rattle.flash_layout.specs.declared.key.Key.{Key}
 use Rattle.flash_layout.specs.declared.layout.Entry.{Entry}
-use Rattle.flash_layout.specs.declared.slot.Record.{Record}
-use Rattle.flash_layout.specs.Frames.{head_of}
-use Rattle.rollback_record.specs.HeadRecord.{RecordOf}
 use Rattle.rollback_record.specs.SoundFlash.{Sound}
 use Rattle.suit_cli.specs.Acceptance.{Accepted, IsAccepted}
 use Rattle.suit_cli.specs.Coming.{Ended, ended_status}
@@ -71,18 +68,18 @@ AcceptsWhatMeets = (layout : List Entry) (key : Key) (bytes : List ℕ) (a : Acc
 abbrev pub AsksUpdate : List (List ℕ) → Type 0
 AsksUpdate words = (name : List ℕ) × (uris : List (List ℕ × List ℕ)) × (task_of words ≡ Some (RunUpdate name uris))
 
--- it is done only where it was ready, whatever record the flash holds
+-- it is done only where it was ready
 abbrev pub OnlyReadyUpdates : Type 0
 OnlyReadyUpdates =
-    (words : List (List ℕ)) (launched now : Launching) (before after : Outside) (ended : Ended) (held : Option Record) → AsksUpdate words → AreTold launched before
-    → RecordOf VERSION_1 (head_of VERSION_1 before.flash.reads) held → ComesTo words launched now before after ended → ended_status ended ≡ 0
+    (words : List (List ℕ)) (launched now : Launching) (before after : Outside) (ended : Ended) → AsksUpdate words → AreTold launched before
+    → ComesTo words launched now before after ended → ended_status ended ≡ 0
     → (ready : ReadyToUpdate words launched before) × Installs words launched before ready now after ended
 
 -- so status 0 comes only of that
 abbrev pub UpdateSaysSo : Type 0
 UpdateSaysSo =
-    (words : List (List ℕ)) (launched now : Launching) (before after : Outside) (sunk_before sunk_after : Sunk) (held : Option Record) → AsksUpdate words → AreTold launched before
-    → RecordOf VERSION_1 (head_of VERSION_1 before.flash.reads) held → Performs words launched now before after sunk_before sunk_after 0
+    (words : List (List ℕ)) (launched now : Launching) (before after : Outside) (sunk_before sunk_after : Sunk) → AsksUpdate words → AreTold launched before
+    → Performs words launched now before after sunk_before sunk_after 0
     → (ready : ReadyToUpdate words launched before) × PutsDone (Installs words launched before ready now after) sunk_before sunk_after
 
 -- ---- `run boot`

@@ -1,14 +1,13 @@
--- The launches of an update of a sound flash.
+-- The launches of an update.
 use Rattle.std.proofs.Common.{◌≡◌, ◌⊎◌, inl, inr, ⊎_elim, ℕ, List, length, Option, sym, ◌∙◌, ap, subst}
 use Rattle.std.specs.Prelude.{IsTrue}
 use Rattle.suit_params.specs.declared.digest.Digest.{Digest}
 use Rattle.flash_layout.specs.declared.frame.TheConstants.{VERSION_1}
-use Rattle.flash_layout.specs.ConfigLaws.{OneAnswer}
 use Rattle.flash_layout.specs.Configs.{ConfigOf, Configured}
 use Rattle.flash_layout.specs.Frames.{head_of}
 use Rattle.flash_layout.specs.declared.slot.Record.{Record}
 use Rattle.rollback_record.specs.HeadRecord.{RecordOf}
-use Rattle.rollback_record.specs.SoundFlash.{Sound}
+use Rattle.rollback_record.specs.RecordLaws.{SomeAnswer}
 use Rattle.step_machine.specs.declared.plan_end.PlanEnd.{PlanEnd}
 use Rattle.invoke_proc.proofs.Booted.{payloads_in}
 use Rattle.update_proc.specs.declared.update_end.UpdateEnd.{UpdateEnd}
@@ -17,15 +16,13 @@ use Rattle.update_proc.proofs.Finished.{some_play}
 use Rattle.suit_cli.specs.Inputs.{IsRead, longest_file}
 use Rattle.suit_cli.specs.Launching.{Launching}
 use Rattle.suit_cli.specs.LaunchedLaws.{Holds}
-use Rattle.suit_cli.specs.LaunchedUpdateLaws.{LaunchedUpdateLaws, LaunchesAccepted, UpdatesAccepted}
-use Rattle.suit_cli.specs.LifeLaws.{LifeLaws}
+use Rattle.suit_cli.specs.LaunchedUpdateLaws.{LaunchedUpdateLaws, LaunchesAccepted}
 use Rattle.suit_cli.specs.Outside.{Flashed, Outside, with_flash}
 use Rattle.suit_cli.specs.Updating.{Updates, tree_of}
 use Rattle.suit_cli.proofs.AcceptedFacts.{facts}
-use Rattle.suit_cli.proofs.Starving.{recorded_in}
 
-module _ (configs : OneAnswer) where
-  module _ (image : List ℕ) (sound : Sound VERSION_1 image) (name : List ℕ) (uris : List (List ℕ × List ℕ)) (launched now : Launching) (before after : Outside) (end : UpdateEnd) (lines : List ℕ)
+module _ (records : SomeAnswer) where
+  module _ (image : List ℕ) (name : List ℕ) (uris : List (List ℕ × List ℕ)) (launched now : Launching) (before after : Outside) (end : UpdateEnd) (lines : List ℕ)
       (holds : Holds image launched before) (u : Updates name uris launched now before after end lines) where
     flash_told : IsTrue u.middle.flash.told
     flash_told = subst IsTrue (sym (ap (λ (f : Flashed). f.told) u.read.0.flash ∙ u.held.0.still.told)) holds.flash
@@ -51,7 +48,7 @@ module _ (configs : OneAnswer) where
     launches : (now.launches ≡ launched.launches) ⊎ LaunchesAccepted uris u.layout u.key u.bytes image launched.launches now.launches
     launches =
         let f = facts u.layout u.key u.bytes u.accepted u.is_accepted in
-        let some = recorded_in configs u.layout u.key image config sound in
+        let some = records VERSION_1 (head_of VERSION_1 image) in
         let digest : Digest = record { bytes = f.authentic.digest } in
         let payloads = payloads_in u.bytes u.accepted.said f.envelope in
         let recorded : RecordOf VERSION_1 (head_of VERSION_1 u.middle.flash.reads) some.0 = subst (λ (l : List ℕ). RecordOf VERSION_1 (head_of VERSION_1 l) some.0) (sym reads) some.1 in
@@ -73,14 +70,8 @@ module _ (configs : OneAnswer) where
         }))
         (some_play (Plays some.0 payloads.0 u.middle.flash.reads) _ u.layout after.flash.reads launched.launches now.launches end played)
 
-  updates_accepted : (image : List ℕ) → Sound VERSION_1 image → UpdatesAccepted image
-  updates_accepted image sound name uris launched now before after end lines holds u =
+  pub laws : LaunchedUpdateLaws
+  laws image name uris launched now before after end lines holds u =
       ⊎_elim (λ same. inl same)
-      (λ some. inr (u.layout, u.key, u.bytes, (there image sound name uris launched now before after end lines holds u).holds, some))
-      (launches image sound name uris launched now before after end lines holds u)
-
-  pub laws : LifeLaws → LaunchedUpdateLaws
-  laws lives = record {
-    sound = updates_accepted;
-    life = λ images life k d lt. updates_accepted _ (lives.sound VERSION_1 images life k d lt);
-  }
+      (λ some. inr (u.layout, u.key, u.bytes, (there image name uris launched now before after end lines holds u).holds, some))
+      (launches image name uris launched now before after end lines holds u)

@@ -1,5 +1,5 @@
 -- How a run ends: in stages, by a boot or by an update.
-use Rattle.std.proofs.Common.{◌≡◌, ℕ, List, [], length, append-nil, Option, Some, None, sym, ap, subst, ◌∙◌, ◌≤◌, arith}
+use Rattle.std.proofs.Common.{◌≡◌, ℕ, List, [], append-nil, Option, Some, None, sym, ap, subst, ◌∙◌, ◌≤◌, arith}
 use Rattle.std.specs.Prelude.{IsTrue, ◌≢◌}
 use Rattle.suit_edge.specs.declared.launch.Launch.{Launch}
 use Rattle.suit_commands.specs.Tree.{PlanTree}
@@ -7,7 +7,7 @@ use Rattle.suit_envelope.specs.EnvelopeLaws.{EnvelopeLaws}
 use Rattle.suit_manifest.specs.ManifestLaws.{ManifestLaws}
 use Rattle.suit_manifest.specs.MembersLaws.{MembersLaws}
 use Rattle.flash_layout.specs.declared.frame.TheConstants.{VERSION_1}
-use Rattle.flash_layout.specs.ConfigLaws.{OneAnswer}
+use Rattle.rollback_record.specs.RecordLaws.{SomeAnswer}
 use Rattle.rollback_record.specs.SoundFlash.{Sound}
 use Rattle.step_machine.specs.PlanRuns.{Counts, counts_of}
 use Rattle.invoke_proc.specs.declared.boot_end.BootEnd.{BootEnd}
@@ -22,7 +22,7 @@ use Rattle.suit_cli.specs.Booting.{Boots, boot_status}
 use Rattle.suit_cli.specs.Coming.{Ended, Answered, Booted, Updated, ByStages, ByBoot, ByUpdate, ended_status}
 use Rattle.suit_cli.specs.Updating.{Updates, update_status}
 use Rattle.update_proc.specs.declared.update_end.UpdateEnd.{UpdateEnd}
-use Rattle.suit_cli.specs.Program.{ComesTo, Puts, PutsText, IsPut, IsCut, Performs, EndsIn, IsStatus, ChecksProcedures, IsCheck, ChecksSafe, ChecksUnsafe, IsUsage, IsCutOff, MayLaunch, AreCounted, AsFound, AsksForUpdate, IsForUpdate, LeavesBy, KeepsLauncher, most_pulled, stored_by, Checks, SaysYes, SaysNo, SaysNeither}
+use Rattle.suit_cli.specs.Program.{ComesTo, Puts, PutsText, IsPut, IsCut, Performs, EndsIn, IsStatus, ChecksProcedures, IsCheck, ChecksSafe, ChecksUnsafe, IsUsage, IsCutOff, MayLaunch, AreCounted, AsFound, AsksForUpdate, LeavesBy, KeepsLauncher, most_pulled, stored_by, Checks, SaysYes, SaysNo, SaysNeither}
 use Rattle.suit_cli.proofs.Running as running
 use Rattle.suit_cli.proofs.RunClauses as staged
 use Rattle.suit_cli.proofs.RunClauses.{Staged}
@@ -273,17 +273,15 @@ module _ (words : List (List ℕ)) (l m : Launching) (b a : Outside) (sb sa : Su
         boots_without l m b a end lines boots flash_told launcher_told (sym (put_status _ _ puts (λ nine. omega (arith, seven, nine))) ∙ seven)
     of_way (AsUpdate name uris end lines word updates puts) = let never : Some (RunUpdate name uris) ≡ Some RunBoot = sym word ∙ is_boot in absurd cc
 
-  pub starved : OneAnswer → (IsTrue b.flash.told → b.flash.size ≡ length b.flash.reads) → result ≡ 11
-      → (IsTrue b.flash.told → IsForUpdate (task_of words) → Sound VERSION_1 b.flash.reads) → AsFound l m b a
-  starved configs size eleven sound = of_way way where
+  pub starved : SomeAnswer → result ≡ 11 → AsFound l m b a
+  starved records eleven = of_way way where
     of_way : Way words l m b a sb sa result → AsFound l m b a
     of_way (InStages run same) =
         let near = starved_near words b a run.ending (sym (put_status _ _ run.puts (λ nine. omega (arith, eleven, nine))) ∙ eleven) run.answer in
         record { files = near.files; reads = near.flash.reads; launches = λ flash launcher. ap (λ (x : Launching). x.launches) same }
     of_way (AsBoot end lines word boots puts) = boot_starved l m b a end lines boots (sym (put_status _ _ puts (λ nine. omega (arith, eleven, nine))) ∙ eleven)
     of_way (AsUpdate name uris end lines word updates puts) =
-        update_starved name uris l m b a configs end lines updates (sym (put_status _ _ puts (λ nine. omega (arith, eleven, nine))) ∙ eleven) size
-        (λ told. sound told (subst IsForUpdate (sym word) tt))
+        update_starved name uris l m b a records end lines updates (sym (put_status _ _ puts (λ nine. omega (arith, eleven, nine))) ∙ eleven)
 
   pub cut_off : result ≡ 9 → IsCutOff words l m b a sb sa
   cut_off nine = of_puts runs.puts where

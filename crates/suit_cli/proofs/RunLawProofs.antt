@@ -2,12 +2,12 @@
 use Rattle.suit_envelope.specs.EnvelopeLaws.{EnvelopeLaws}
 use Rattle.suit_manifest.specs.ManifestLaws.{ManifestLaws}
 use Rattle.suit_manifest.specs.MembersLaws.{MembersLaws}
-use Rattle.flash_layout.specs.ConfigLaws.{OneAnswer}
+use Rattle.rollback_record.specs.RecordLaws.{SomeAnswer}
 use Rattle.suit_cli.specs.RunLaws.{RunLaws}
 use Rattle.suit_cli.proofs.RunEnds as ends
 
-pub run_laws : OneAnswer → EnvelopeLaws → ManifestLaws → MembersLaws → RunLaws
-run_laws configs envelopes manifests members words l m b a sb sa result runs = record {
+pub run_laws : SomeAnswer → EnvelopeLaws → ManifestLaws → MembersLaws → RunLaws
+run_laws records envelopes manifests members words l m b a sb sa result runs = record {
   yes = ends.yes words l m b a sb sa result runs;
   safe_is_yes = ends.safe_is_yes words l m b a sb sa result runs envelopes manifests members;
   no = ends.no_path words l m b a sb sa result runs;
@@ -19,7 +19,7 @@ run_laws configs envelopes manifests members words l m b a sb sa result runs = r
   no_command_is_usage = ends.no_command_is_usage words l m b a sb sa result runs;
   status = ends.is_status words l m b a sb sa result runs;
   cut_off = ends.cut_off words l m b a sb sa result runs;
-  starved = λ eleven size. ends.starved words l m b a sb sa result runs configs size eleven;
+  starved = ends.starved words l m b a sb sa result runs records;
   no_host = ends.no_host words l m b a sb sa result runs;
   only_launching = ends.only_launching words l m b a sb sa result runs;
 }

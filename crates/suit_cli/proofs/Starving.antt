@@ -1,5 +1,5 @@
 -- The files and the flash where memory ran out.
-use Rattle.std.proofs.Common.{◌≡◌, ⊎_elim, ℕ, List, [], ◌∷◌, ◌++◌, Option, Some, None, length, sym, ap, subst, ◌∙◌, arith}
+use Rattle.std.proofs.Common.{◌≡◌, ⊎_elim, ℕ, List, [], ◌∷◌, ◌++◌, Option, sym, ap, subst, ◌∙◌, arith}
 use Rattle.std.specs.Prelude.{IsTrue}
 use Rattle.suit_params.specs.declared.digest.Digest.{Digest}
 use Rattle.suit_envelope.specs.Members.{string_digest}
@@ -10,11 +10,9 @@ use Rattle.flash_layout.specs.declared.frame.TheConstants.{VERSION_1}
 use Rattle.flash_layout.specs.declared.key.Key.{Key}
 use Rattle.flash_layout.specs.declared.layout.Entry.{Entry}
 use Rattle.flash_layout.specs.declared.slot.Record.{Record}
-use Rattle.flash_layout.specs.ConfigLaws.{OneAnswer}
-use Rattle.flash_layout.specs.Configs.{Blank, ConfigOf, Configured}
 use Rattle.flash_layout.specs.Frames.{head_of}
 use Rattle.rollback_record.specs.HeadRecord.{RecordOf}
-use Rattle.rollback_record.specs.SoundFlash.{Sound, SoundBlank, SoundEmpty, SoundInstalled}
+use Rattle.rollback_record.specs.RecordLaws.{SomeAnswer}
 use Rattle.invoke_proc.specs.declared.boot_end.BootEnd.{BootEnd}
 use Rattle.invoke_proc.specs.declared.boot_end.BootEnd.TheVariants as boot_ends
 use Rattle.invoke_proc.proofs.Booted.{payloads_in}
@@ -150,14 +148,6 @@ boot_starved l m b a end lines u eleven =
 
 -- ---- an update
 
--- a sound flash with a configuration has a record, or none
-pub recorded_in : OneAnswer → (layout : List Entry) (key : Key) (reads : List ℕ) → ConfigOf VERSION_1 (length reads) (head_of VERSION_1 reads) (Configured layout key) → Sound VERSION_1 reads
-    → (held : Option Record) × RecordOf VERSION_1 (head_of VERSION_1 reads) held
-recorded_in configs layout key reads config (SoundBlank blank) =
-    let never = configs VERSION_1 (length reads) (head_of VERSION_1 reads) (Configured layout key) Blank config blank in absurd cc
-recorded_in configs layout key reads config (SoundEmpty l k c none) = (None, none)
-recorded_in configs layout key reads config (SoundInstalled l k r c some is) = (Some r, some)
-
 module _ (name : List ℕ) (uris : List (List ℕ × List ℕ)) (l m : Launching) (b a : Outside) where
   update_found : (lines : List ℕ) (u : Updates name uris l m b a update_ends.NoMemory lines)
       → (IsTrue b.flash.told → (held : Option Record) × RecordOf VERSION_1 (head_of VERSION_1 b.flash.reads) held) → AsFound l m b a
@@ -179,9 +169,7 @@ module _ (name : List ℕ) (uris : List (List ℕ × List ℕ)) (l m : Launching
             (recorded flash).0 digest f.authentic.blocks (there flash) states payloads.0 payloads.1;
       }
 
-  pub update_starved : OneAnswer → (end : UpdateEnd) (lines : List ℕ) → Updates name uris l m b a end lines → update_status end ≡ 11
-      → (IsTrue b.flash.told → b.flash.size ≡ length b.flash.reads) → (IsTrue b.flash.told → Sound VERSION_1 b.flash.reads) → AsFound l m b a
-  update_starved configs update_ends.NoMemory lines u eleven size sound = update_found lines u (λ t. recorded_in configs u.layout u.key b.flash.reads
-      (subst (λ (n : ℕ). ConfigOf VERSION_1 n (head_of VERSION_1 b.flash.reads) (Configured u.layout u.key)) (size t) (u.held.1 t)) (sound t))
-  update_starved configs (update_ends.Stopped place cause) lines u eleven size sound = absurd (cause_not_eleven cause eleven)
-  update_starved configs _ lines u eleven size sound = absurd (omega (arith, eleven))
+  pub update_starved : SomeAnswer → (end : UpdateEnd) (lines : List ℕ) → Updates name uris l m b a end lines → update_status end ≡ 11 → AsFound l m b a
+  update_starved records update_ends.NoMemory lines u eleven = update_found lines u (λ t. records VERSION_1 (head_of VERSION_1 b.flash.reads))
+  update_starved records (update_ends.Stopped place cause) lines u eleven = absurd (cause_not_eleven cause eleven)
+  update_starved records _ lines u eleven = absurd (omega (arith, eleven))

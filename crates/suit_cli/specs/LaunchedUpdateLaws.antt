@@ -1,5 +1,5 @@
--- The launches of an update of a sound flash.
-use Rattle.std.specs.Prelude.{◌≡◌, ◌⊎◌, ℕ, IsTrue, List, length, Option, Some, All}
+-- The launches of an update.
+use Rattle.std.specs.Prelude.{◌≡◌, ◌⊎◌, ℕ, IsTrue, List, length, Option, Some}
 use Rattle.suit_edge.specs.declared.launch.Launch.{Launch}
 use Rattle.suit_envelope.specs.Payloads.{HasPayloads}
 use Rattle.flash_layout.specs.declared.frame.TheConstants.{VERSION_1}
@@ -9,7 +9,6 @@ use Rattle.flash_layout.specs.declared.slot.Record.{Record}
 use Rattle.flash_layout.specs.Configs.{ConfigOf, Configured}
 use Rattle.flash_layout.specs.Frames.{head_of}
 use Rattle.rollback_record.specs.HeadRecord.{RecordOf}
-use Rattle.rollback_record.specs.SoundFlash.{Sound}
 use Rattle.step_machine.specs.declared.plan_end.PlanEnd.{PlanEnd}
 use Rattle.invoke_proc.specs.Booting.{GainsSafe}
 use Rattle.update_proc.specs.declared.update_end.UpdateEnd.{UpdateEnd}
@@ -17,7 +16,6 @@ use Rattle.update_proc.specs.Updates.{Hosted, PlaysUpdate, sources}
 use Rattle.suit_cli.specs.Acceptance.{Accepted, IsAccepted}
 use Rattle.suit_cli.specs.Launching.{Launching}
 use Rattle.suit_cli.specs.LaunchedLaws.{Holds}
-use Rattle.suit_cli.specs.LifeLaws.{IsLife}
 use Rattle.suit_cli.specs.Outside.{Outside}
 use Rattle.suit_cli.specs.Updating.{Updates, tree_of}
 
@@ -53,7 +51,6 @@ UpdatesAccepted image =
     × (IsTrue before.told → before.files name ≡ Some bytes)
     × LaunchesAccepted uris layout key bytes image launched.launches now.launches)
 
--- so it is with a sound image, and with each image of a life, whatever the host is and gives
-pub record LaunchedUpdateLaws : Type 0 where
-  pub sound : (image : List ℕ) → Sound VERSION_1 image → UpdatesAccepted image
-  pub life : (images : List (List ℕ)) → IsLife VERSION_1 images → All UpdatesAccepted images
+-- so it is with each image, whatever the host is and gives
+abbrev pub LaunchedUpdateLaws : Type 0
+LaunchedUpdateLaws = (image : List ℕ) → UpdatesAccepted image

@@ -242,11 +242,6 @@ pub record AsFound (launched now : Launching) (before after : Outside) : Type 0 
   pub launches : IsTrue before.flash.told → IsTrue launched.told
       → now.launches ≡ launched.launches
 
--- an update stands beside the flash's record, which a sound flash has, or says to be none
-abbrev pub IsForUpdate : Option Task → Type 0
-IsForUpdate (Some (RunUpdate name uris)) = Unit {0}
-IsForUpdate _ = ⊥
-
 -- ---- launches
 
 -- only `run boot` and `run update` launch, or fail at the launcher

@@ -1,13 +1,11 @@
 -- Consequences of the answer to the words and its put, whatever the objects are.
-use Rattle.std.specs.Prelude.{◌≡◌, ℕ, IsTrue, List, length, Some, None}
-use Rattle.flash_layout.specs.declared.frame.TheConstants.{VERSION_1}
-use Rattle.rollback_record.specs.SoundFlash.{Sound}
+use Rattle.std.specs.Prelude.{◌≡◌, ℕ, IsTrue, List, Some, None}
 use Rattle.suit_commands.specs.Tree.{PlanTree}
 use Rattle.suit_cli.specs.Words.{RunBoot, RunUpdate, task_of}
 use Rattle.suit_cli.specs.Outside.{Outside, Sunk}
 use Rattle.suit_cli.specs.Judgement.{AreSafe}
 use Rattle.suit_cli.specs.Launching.{Launching}
-use Rattle.suit_cli.specs.Program.{Performs, IsStatus, EndsIn, IsCheck, ChecksProcedures, ChecksSafe, ChecksUnsafe, LeavesBy, AsksForUpdate, AreCounted, IsUsage, IsCutOff, IsForUpdate, KeepsLauncher, AsFound}
+use Rattle.suit_cli.specs.Program.{Performs, IsStatus, EndsIn, IsCheck, ChecksProcedures, ChecksSafe, ChecksUnsafe, LeavesBy, AsksForUpdate, AreCounted, IsUsage, IsCutOff, KeepsLauncher, AsFound}
 
 -- of one run
 pub record HoldsOfRun (words : List (List ℕ)) (launched now : Launching) (before after : Outside)
@@ -39,12 +37,8 @@ pub record HoldsOfRun (words : List (List ℕ)) (launched now : Launching) (befo
   pub status : IsStatus result
   -- of output that failed, the beginning of the answer's lines
   pub cut_off : result ≡ 9 → IsCutOff words launched now before after sunk_before sunk_after
-  -- Status 11: no file changed, the flash reads as it did, and nothing was launched; for `run update`, on a sound flash. What reads
-  -- give is as long as the flash, as of each `Disk` that tells.
-  pub starved : result ≡ 11
-      → (IsTrue before.flash.told → before.flash.size ≡ length before.flash.reads)
-      → (IsTrue before.flash.told → IsForUpdate (task_of words) → Sound VERSION_1 before.flash.reads)
-      → AsFound launched now before after
+  -- status 11: no file changed, the flash reads as it did, and nothing was launched
+  pub starved : result ≡ 11 → AsFound launched now before after
   -- status 7 does not come of `run boot`, where flash and launcher tell
   pub no_host : IsTrue before.flash.told → IsTrue launched.told → task_of words ≡ Some RunBoot
       → result ≡ 7 → ⊥

@@ -129,7 +129,7 @@ pub fn boot_end_laws()
 pub fn run_laws()
     ensures { RunLaws }
 {
-    config_laws();
+    record_laws();
     envelope_laws();
     manifest_laws();
     members_laws();

@@ -58,11 +58,10 @@ pub fn launched_laws()
     life_laws();
 }
 
-/// An update of a sound flash, and so of each image of a life, launches nothing, or just what the update procedure of the
-/// accepted file invokes, each with the digest that was in force, and the size where one was, whatever a host gives.
+/// An update launches nothing, or just what the update procedure of the accepted file invokes, each with the digest that was in
+/// force, and the size where one was, whatever the flash holds and a host gives.
 pub fn launched_update_laws()
     ensures { LaunchedUpdateLaws }
 {
-    config_laws();
-    life_laws();
+    record_laws();
 }

@@ -1,4 +1,3 @@
-use Rattle.std.proofs.Common.{sym}
 use Rattle.cli_tests.proofs.laws.run_by_laws.Goals as goal
 
 pub returns-clause-usage : goal.returns-clause-usage
@@ -17,8 +16,7 @@ pub returns-clause-no_host : goal.returns-clause-no_host
 returns-clause-no_host g c = (c.run_laws.ensures _ _ _ _ _ _ _ _ c.run.ensures.runs.performs).no_host
 
 pub returns-clause-starved : goal.returns-clause-starved
-returns-clause-starved g c eleven =
-    (c.run_laws.ensures _ _ _ _ _ _ _ _ c.run.ensures.runs.performs).starved eleven (λ told. sym (g.met.D.Disk.obeys c.args.flash.now told).fits)
+returns-clause-starved g c = (c.run_laws.ensures _ _ _ _ _ _ _ _ c.run.ensures.runs.performs).starved
 
 pub returns-clause-cut_off : goal.returns-clause-cut_off
 returns-clause-cut_off g c = (c.run_laws.ensures _ _ _ _ _ _ _ _ c.run.ensures.runs.performs).cut_off

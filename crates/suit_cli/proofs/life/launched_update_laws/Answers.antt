@@ -1,5 +1,5 @@
-use Rattle.suit_cli.proofs.LaunchedUpdateLawProofs as proofs
+use Rattle.suit_cli.proofs.LaunchedUpdateLawProofs.{laws}
 use Rattle.suit_cli.proofs.life.launched_update_laws.Goals as goal
 
 pub returns : goal.returns
-returns c = proofs.laws c.config_laws.ensures.answer c.life_laws.ensures
+returns c = laws c.record_laws.ensures.some
