@@ -24,6 +24,7 @@ pub mod InPlace
 pub mod KeyedLaws
 pub mod Smallness
 pub mod Starting
+pub mod Going
 pub mod PlanSmall
 pub mod PlanJudging
 pub mod OwnTests

@@ -122,7 +122,7 @@ is_covered past (Wrote c) quiet = (tt, tt)
 is_covered past (Invoked c d size passed) quiet = absurd (quiet tt)
 is_covered past (Failed p) quiet = (tt, tt)
 
-quiet_covered : (past es : List Event) → AreQuiet es → CoveredFrom past es
+pub quiet_covered : (past es : List Event) → AreQuiet es → CoveredFrom past es
 quiet_covered past [] quiet = tt
 quiet_covered past (e ∷ es) quiet = ((is_covered past e quiet.0).0, quiet_covered (past ++ e ∷ []) es quiet.1)
 

@@ -27,7 +27,7 @@ abbrev pub does_course : CommandTree → ℕ → ℕ → Course
 does_course command count place ids = Does command ids count place
 
 -- the rest of a sequence is its next step, and the rest of that
-rest-is : (steps : List Step) (i count : ℕ) (d : Step) → i < length steps → runs_course (sequence_tree (drop i steps)) count ≡ then_course (does_course (command_tree (get_or steps i d).command) count (get_or steps i d).place) (runs_course (sequence_tree (drop (i + 1) steps)) count)
+pub rest-is : (steps : List Step) (i count : ℕ) (d : Step) → i < length steps → runs_course (sequence_tree (drop i steps)) count ≡ then_course (does_course (command_tree (get_or steps i d).command) count (get_or steps i d).place) (runs_course (sequence_tree (drop (i + 1) steps)) count)
 rest-is steps i count d lt =
     ap (λ (xs : List Step). runs_course (sequence_tree xs) count) (drop-cons steps i d lt)
     ∙ ap (λ (n : ℕ). then_course (does_course (command_tree (get_or steps i d).command) count (get_or steps i d).place) (runs_course (sequence_tree (drop n steps)) count)) (sym (add-one i))

@@ -15,6 +15,5 @@ pub mod Small
 pub mod Selecting
 pub mod Steps
 pub mod Procedures
-pub mod Keeping
 pub mod Halting
 pub mod PlanVerdicts

@@ -1,7 +1,7 @@
 //! Entering and leaving inner sequences.
 
 ghost use Rattle.std.specs.Prelude.{◌≡◌, ◌<◌, true, [], ◌∷◌, ◌++◌, OnOk, IfOk};
-ghost use Rattle.path_checker.specs.Inner.{entered, all_entered, all_left, resumed, softly, hardly, exhausted, all_restarted};
+ghost use Rattle.path_checker.specs.Inner.{entered, all_entered, all_left, resumed, softly, hardly, exhausted, restarted, all_restarted};
 
 use crate::judge_plan::happened::Ended;
 use crate::judge_plan::in_force::InForce;
@@ -155,6 +155,16 @@ pub(crate) fn exhaust<'a>(
         })?;
     }
     Ok(())
+}
+
+/// The state in which a member or the shared sequence begins.
+pub(crate) fn restart<'a>(from: Kept<'a>) -> Kept<'a>
+    ensures { result ≡ restarted from.entry }
+{
+    let mut started = from;
+    started.selection = Selected::one(0);
+    started.soft_failure = false;
+    started
 }
 
 /// The states in which a member or the shared sequence begins.

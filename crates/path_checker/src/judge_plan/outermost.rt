@@ -1,20 +1,22 @@
-//! The commands of a member or of the shared sequence. A failure there ends the procedure, so none is kept.
+//! The parts of a procedure, and their commands outside any inner sequence. A failure there ends the procedure, so none is kept.
 
-ghost use Rattle.std.specs.Prelude.{◌≡◌, ◌<◌, [], ◌∷◌, ◌++◌, length, get_or, IfSome, IsTrue, OnOk, IfOk, IfErr};
+ghost use Rattle.std.specs.Prelude.{◌≡◌, ◌<◌, [], ◌∷◌, length, get_or, IfSome, OnOk, IfOk, IfErr};
+ghost use Rattle.suit_commands.specs.Plans.{lent_tree};
 ghost use Rattle.suit_commands.specs.View.{command_tree, sequence_tree};
-ghost use Rattle.path_model.specs.Runs.{Runs, Does};
+ghost use Rattle.path_model.specs.Runs.{Does};
 ghost use Rattle.path_checker.specs.Exploring.{Passes};
-ghost use Rattle.path_checker.specs.Keeping.{PassesTo};
+ghost use Rattle.path_checker.specs.Invoking.{Covers};
+ghost use Rattle.path_checker.specs.Procedures.{RunsParts, RunsThen, AreSmallParts};
 ghost use Rattle.path_checker.specs.Small.{IsSmallSequence, IsSmallCommand, IsStraight};
 ghost use Rattle.path_checker.specs.Halting.{Halts};
 
 use crate::judge_plan::halt::Halt;
+use crate::judge_plan::inner::{restart, restart_all};
 use crate::judge_plan::kept::Kept;
 use crate::judge_plan::memory::Memory;
 use crate::judge_plan::straight::{is_straight, straight, straight_in};
 use crate::judge_plan::walk::command;
-use std::alloc::AllocError;
-use suit_commands::Step;
+use suit_commands::{Sequence, Step};
 
 // More states than these go on alone, one after another. Equal ones are then looked for among those that follow one alone.
 const MANY: usize = 8;
@@ -43,22 +45,50 @@ fn outermost<'a>(
     command(memory, count, step, from, &mut ended)
 }
 
-/// Runs commands. The states after them are kept only where they are wanted.
+// The commands of a sequence, of which an absent one has none.
+fn steps_of<'a>(lent: Option<&'a Sequence>) -> &'a [Step]
+    ensures { sequence_tree result.now ≡ lent_tree lent.entry }
+{
+    match lent {
+        Some(sequence) => sequence.as_slice(),
+        None => &[],
+    }
+}
+
+/// Runs parts of a procedure from each of the states: the shared sequence and members, one after another.
 #[cycle(alone)]
-pub(crate) fn commands<'a>(
+pub(crate) fn parts<'a>(
+    memory: Memory<'a>,
+    count: u32,
+    parts: &[Option<&'a Sequence>],
+    from: Vec<Kept<'a>>,
+) -> Result<(), Halt<'a>>
+    requires small { AreSmallParts count parts.now }
+    ensures ok { OnOk result (Covers (RunsParts parts.now count) from.entry.items) }
+    ensures err { IfErr result (λ h. Halts (RunsParts parts.now count) from.entry.items h) }
+{
+    let Some((lent, rest)) = parts.split_first() else {
+        return Ok(());
+    };
+    let started = restart_all(from);
+    commands(memory, count, steps_of(*lent), rest, started)
+}
+
+// Runs commands, and then parts.
+#[cycle(alone)]
+fn commands<'a>(
     memory: Memory<'a>,
     count: u32,
     steps: &'a [Step],
-    wanted: bool,
+    rest: &[Option<&'a Sequence>],
     from: Vec<Kept<'a>>,
-) -> Result<Vec<Kept<'a>>, Halt<'a>>
+) -> Result<(), Halt<'a>>
     requires small { IsSmallSequence count (sequence_tree steps.now) }
-    ensures ok { IfOk result
-        (λ v. PassesTo (λ identities. Runs (sequence_tree steps.now) identities count)
-        from.entry.items wanted v.items) }
+    requires rest { AreSmallParts count rest.now }
+    ensures ok { OnOk result
+        (Covers (RunsThen (sequence_tree steps.now) rest.now count) from.entry.items) }
     ensures err { IfErr result
-        (λ h. Halts (λ identities. Runs (sequence_tree steps.now) identities count)
-        from.entry.items h) }
+        (λ h. Halts (RunsThen (sequence_tree steps.now) rest.now count) from.entry.items h) }
 {
     let mut now = from;
     let mut at = 0;
@@ -66,55 +96,51 @@ pub(crate) fn commands<'a>(
         now = outermost(memory, count, &steps[at], now)?;
         at += 1;
         if now.len() > MANY {
-            return each_alone(memory, count, &steps[at..], wanted, now);
+            return each_alone(memory, count, &steps[at..], rest, now);
         }
     }
-    Ok(now)
+    parts(memory, count, rest, now)
 }
 
-// Runs commands from each of the states, alone.
+// The same from each of the states, alone.
 #[cycle(alone)]
 fn each_alone<'a>(
     memory: Memory<'a>,
     count: u32,
     steps: &'a [Step],
-    wanted: bool,
+    rest: &[Option<&'a Sequence>],
     from: Vec<Kept<'a>>,
-) -> Result<Vec<Kept<'a>>, Halt<'a>>
+) -> Result<(), Halt<'a>>
     requires small { IsSmallSequence count (sequence_tree steps.now) }
-    ensures ok { IfOk result
-        (λ v. PassesTo (λ identities. Runs (sequence_tree steps.now) identities count)
-        from.entry.items wanted v.items) }
+    requires rest { AreSmallParts count rest.now }
+    ensures ok { OnOk result
+        (Covers (RunsThen (sequence_tree steps.now) rest.now count) from.entry.items) }
     ensures err { IfErr result
-        (λ h. Halts (λ identities. Runs (sequence_tree steps.now) identities count)
-        from.entry.items h) }
+        (λ h. Halts (RunsThen (sequence_tree steps.now) rest.now count) from.entry.items h) }
 {
     memory.keep_more()?;
     let mut now = from;
-    let mut next = Vec::new(memory.alloc);
     while let Some(k) = now.pop() {
-        let done = alone(memory, count, steps, wanted, k)?;
-        keep(wanted, done, &mut next)?;
+        alone(memory, count, steps, rest, k)?;
     }
-    Ok(next)
+    Ok(())
 }
 
-// Runs commands from one state: in place, as long as they hold no sequence.
+// The same from one state: in place, as long as they hold no sequence.
 #[cycle(alone)]
 fn alone<'a>(
     memory: Memory<'a>,
     count: u32,
     steps: &'a [Step],
-    wanted: bool,
+    rest: &[Option<&'a Sequence>],
     from: Kept<'a>,
-) -> Result<Vec<Kept<'a>>, Halt<'a>>
+) -> Result<(), Halt<'a>>
     requires small { IsSmallSequence count (sequence_tree steps.now) }
-    ensures ok { IfOk result
-        (λ v. PassesTo (λ identities. Runs (sequence_tree steps.now) identities count)
-        (from.entry ∷ []) wanted v.items) }
+    requires rest { AreSmallParts count rest.now }
+    ensures ok { OnOk result
+        (Covers (RunsThen (sequence_tree steps.now) rest.now count) (from.entry ∷ [])) }
     ensures err { IfErr result
-        (λ h. Halts (λ identities. Runs (sequence_tree steps.now) identities count)
-        (from.entry ∷ []) h) }
+        (λ h. Halts (RunsThen (sequence_tree steps.now) rest.now count) (from.entry ∷ []) h) }
 {
     let mut k = from.set_apart(memory.alloc);
     let mut at = 0;
@@ -123,15 +149,34 @@ fn alone<'a>(
         if goes_on {
             at += 1;
         } else {
-            return Ok(Vec::new(memory.alloc));
+            return Ok(());
         }
     }
     if at == steps.len() {
-        return Ok(kept_alone(memory, wanted, k)?);
+        return parts_alone(memory, count, rest, k);
     }
     let mut one = Vec::new(memory.alloc);
     one.push(k.shared(memory)?)?;
-    commands(memory, count, &steps[at..], wanted, one)
+    commands(memory, count, &steps[at..], rest, one)
+}
+
+// Runs parts from one state, alone.
+#[cycle(alone)]
+fn parts_alone<'a>(
+    memory: Memory<'a>,
+    count: u32,
+    parts: &[Option<&'a Sequence>],
+    from: Kept<'a>,
+) -> Result<(), Halt<'a>>
+    requires small { AreSmallParts count parts.now }
+    ensures ok { OnOk result (Covers (RunsParts parts.now count) (from.entry ∷ [])) }
+    ensures err { IfErr result (λ h. Halts (RunsParts parts.now count) (from.entry ∷ []) h) }
+{
+    let Some((lent, rest)) = parts.split_first() else {
+        return Ok(());
+    };
+    let started = restart(from);
+    alone(memory, count, steps_of(*lent), rest, started)
 }
 
 // The command at an index, if it holds no sequence.
@@ -144,32 +189,4 @@ fn straight_at(steps: &[Step], at: usize) -> Option<&Step>
         return Some(&steps[at]);
     }
     None
-}
-
-// A state, where it is wanted.
-fn kept_alone<'a>(
-    memory: Memory<'a>,
-    wanted: bool,
-    k: Kept<'a>,
-) -> Result<Vec<Kept<'a>>, AllocError>
-    ensures { IfOk result (λ v. IsTrue wanted → v.items ≡ k.entry ∷ []) }
-{
-    let mut kept = Vec::new(memory.alloc);
-    if wanted {
-        kept.push(k.shared(memory)?)?;
-    }
-    Ok(kept)
-}
-
-// Adds states, where they are wanted.
-fn keep<'a>(wanted: bool, done: Vec<Kept<'a>>, next: &mut Vec<Kept<'a>>) -> Result<(), AllocError>
-    ensures { OnOk result
-        (IsTrue wanted → next.new.items ≡ next.old.items ++ done.entry.items) }
-{
-    if !wanted {
-        return Ok(());
-    }
-    let mut done = done;
-    next.append(&mut done)?;
-    Ok(())
 }
