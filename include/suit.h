@@ -1,6 +1,6 @@
 /* suit.h: SUIT envelopes and the flash of `suit`, read in C.
  *
- * The archive is crates/suit_c/out/libsuit_c.a, made by `rt lib suit_c` and linked with the C library's memcpy, memmove and
+ * The archive is crates/suit_c/out/libsuit_c.a, made by `rt lib` in crates/suit_c and linked with the C library's memcpy, memmove and
  * memset; 64-bit targets alone. What is proved of each call stands in docs/proved.md under `suit_c`, and is said of the very
  * bytes that are passed.
  *
