@@ -32,6 +32,8 @@ fn judge(file: &[u8], key: &[u8]) -> Answer
 /// block of the wrapper verifies; 3 where the bytes spell no envelope, and 4 otherwise.
 #[unsafe(no_mangle)]
 pub extern "C" fn suit_authentic(file: &[u8], key: &[u8]) -> i32
+    ensures answers { (result ≡ code_of answers.Done) ⊎ (result ≡ code_of answers.NotAuthentic)
+        ⊎ (result ≡ code_of answers.Refused) }
     ensures yes { result ≡ code_of answers.Done → IsAuthenticFile file.now key.now }
     ensures every_yes { IsAuthenticFile file.now key.now → result ≡ code_of answers.Done }
     ensures refused { result ≡ code_of answers.Refused → (r : Refusal) × RefusesBytes file.now r }

@@ -3,7 +3,7 @@
 ghost use Rattle.flash_layout.specs.Frames.{head_of};
 ghost use Rattle.flash_layout.specs.declared.frame.TheConstants.{VERSION_1};
 ghost use Rattle.rollback_record.specs.HeadRecord.{HoldsNone};
-ghost use Rattle.std.specs.Prelude.{◌≡◌, ◌≢◌};
+ghost use Rattle.std.specs.Prelude.{◌≡◌, ◌≢◌, ◌⊎◌};
 ghost use Rattle.suit_c.specs.Answers.{code_of};
 ghost use Rattle.suit_c.specs.Recorded.{IsRecordAs, IsRecordedAs};
 ghost use Rattle.suit_c.specs.declared.answer.Answer.TheVariants as answers;
@@ -51,6 +51,8 @@ fn record_of(held: Record) -> SuitRecord
 /// was.
 #[unsafe(no_mangle)]
 pub extern "C" fn suit_status(flash: &[u8], out: &mut SuitRecord) -> i32
+    ensures answers { (result ≡ code_of answers.Done) ⊎ (result ≡ code_of answers.FlashFault)
+        ⊎ (result ≡ code_of answers.NothingInstalled) }
     ensures recorded { result ≡ code_of answers.Done
         → IsRecordedAs VERSION_1 (head_of VERSION_1 flash.now) out.new }
     ensures none { result ≡ code_of answers.NothingInstalled
