@@ -274,12 +274,12 @@ pub(crate) fn override_each_in<'a>(
 
 // ---- where many states are kept at once
 
-// The same state. Where its parameters were made anew, they are shared with those that were made last.
+// The same state. Where its parameters were made anew and many states are kept, they are shared with those that were made last.
 fn settled<'a>(memory: Memory<'a>, k: Kept<'a>, was_own: bool) -> Result<Kept<'a>, AllocError>
     ensures { IfOk result (λ settled. settled ≡ k.entry) }
 {
     let mut k = k;
-    if !was_own {
+    if !was_own && memory.is_crowded() {
         k.params = k.params.shared(&memory.last.params)?;
     }
     Ok(k)

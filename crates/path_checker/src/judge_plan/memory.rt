@@ -15,6 +15,9 @@ pub(crate) const COMPARED: u64 = 4_194_304;
 // The cost of comparing two states that hold no match.
 const LEAST: u64 = 32;
 
+// More states than these share their parameters, even where each has to be compared for it.
+const CROWD: usize = 16_384;
+
 // How many events are kept where states go on alone, each of which comes to the same events, and how many matches: a power
 // of two, above the number of pairs of a digest and a size in a manifest of 16,384 bytes.
 const KEPT: usize = 262_144;
@@ -43,6 +46,8 @@ pub(crate) struct Last<'a> {
     more: Cell<&'a [Cell<Option<&'a Told<'a>>>]>,
     matches: Cell<LastMatch<'a>>,
     more_matches: Cell<&'a [Cell<Option<&'a Match<'a>>>]>,
+    // How many states are kept at once.
+    states: Cell<usize>,
     /// The parameters after an override.
     pub params: Cell<Option<InForce<'a>>>,
     // The knowledge of each component where it has something of its own, and where it has not.
@@ -71,6 +76,7 @@ impl<'a> Last<'a> {
             more: Cell::new(&[]),
             matches: Cell::new([None; 8]),
             more_matches: Cell::new(&[]),
+            states: Cell::new(0),
             params: Cell::new(None),
             having: none_known(),
             lacking: none_known(),
@@ -113,6 +119,23 @@ impl<'a> Memory<'a> {
         for known in &self.last.lacking {
             known.set(None);
         }
+    }
+
+    /// So many states are kept at once, or more round them, until `keep` is told what this answers.
+    pub(crate) fn gather(&self, states: usize) -> usize {
+        let round = self.last.states.get();
+        self.last.states.set(round.max(states));
+        round
+    }
+
+    /// So many states are kept at once.
+    pub(crate) fn keep(&self, states: usize) {
+        self.last.states.set(states);
+    }
+
+    /// Whether so many states are kept at once that each is to share what it holds.
+    pub(crate) fn is_crowded(&self) -> bool {
+        self.last.states.get() > CROWD
     }
 
     /// The knowledge that was made last of a component that has something of its own.

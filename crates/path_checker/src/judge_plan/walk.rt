@@ -82,6 +82,7 @@ pub(crate) fn command<'a>(
         (λ identities. Does (command_tree step.now.command) identities count step.now.place)
         from.entry.items h) }
 {
+    let round = memory.gather(from.len());
     let mut now = from;
     let mut next = Vec::new(memory.alloc);
     while let Some(k) = now.pop() {
@@ -91,6 +92,7 @@ pub(crate) fn command<'a>(
             _ => each(memory, count, step, k, &mut next, failed)?,
         }
     }
+    memory.keep(round);
     let merged = merged_states(memory, &step.command, next)?;
     Ok(merged)
 }
