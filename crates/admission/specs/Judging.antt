@@ -3,6 +3,9 @@ use Rattle.std.specs.Prelude.{◌≡◌, ◌<◌, ◌≤◌, ℕ}
 use Rattle.suit_commands.specs.Capped.{capped}
 use Rattle.suit_commands.specs.Numbers.{width_number}
 use Rattle.suit_commands.specs.Tree.{PlanTree}
+use Rattle.suit_manifest.specs.declared.manifest.Manifest.{Manifest}
+use Rattle.suit_manifest.specs.declared.manifest.Members.{Members}
+use Rattle.suit_manifest.specs.Procedures.{invocation_tree, update_tree}
 use Rattle.path_model.specs.BadPaths.{IsBadPath}
 use Rattle.path_model.specs.Safe.{Safe}
 use Rattle.path_checker.specs.PlanVerdicts.{widest}
@@ -37,3 +40,11 @@ IsNotSafe update invocation (refusals.Unsafe procedures.Update path) =
 IsNotSafe update invocation (refusals.Unsafe procedures.Invocation path) =
     AreNarrow update invocation × Safe update × IsBadPath invocation path
 IsNotSafe update invocation refusals.NoMemory = ⊥
+
+-- ---- of a manifest with its members
+
+abbrev pub MayRun : Manifest → Members → Type 0
+MayRun manifest members = AreSafe (update_tree manifest members) (invocation_tree manifest)
+
+abbrev pub MayNotRun : Manifest → Members → NotSafe → Type 0
+MayNotRun manifest members = IsNotSafe (update_tree manifest members) (invocation_tree manifest)

@@ -8,7 +8,7 @@ ghost use Rattle.suit_manifest.specs.Procedures.{invocation_tree, update_tree};
 ghost use Rattle.path_model.specs.BadPaths.{IsBadPath};
 ghost use Rattle.path_model.specs.Safe.{Safe};
 ghost use Rattle.admission.specs.AdmissionLaws.{JudgeAlike};
-ghost use Rattle.admission.specs.Judging.{AreSafe, IsNarrow, IsNotSafe};
+ghost use Rattle.admission.specs.Judging.{AreSafe, IsNarrow, IsNotSafe, MayNotRun, MayRun};
 ghost use Rattle.admission.specs.declared.refusal.NotSafe.{NotSafe};
 ghost use Rattle.admission.specs.declared.refusal.NotSafe.TheVariants.{NoMemory};
 
@@ -65,11 +65,9 @@ fn judge_both(alloc: Global, manifest: &Manifest, members: &Members) -> Result<(
     requires components { length manifest.now.components < 2 ^ 32 }
     requires update { IsPlan (update_tree manifest.now members.now) }
     requires invocation { IsPlan (invocation_tree manifest.now) }
-    ensures safe { IsOk result
-        → AreSafe (update_tree manifest.now members.now) (invocation_tree manifest.now) }
+    ensures safe { IsOk result → MayRun manifest.now members.now }
     ensures refused { IfErr result
-        (λ e. e ≢ NoMemory
-        → IsNotSafe (update_tree manifest.now members.now) (invocation_tree manifest.now) e) }
+        (λ e. e ≢ NoMemory → MayNotRun manifest.now members.now e) }
 {
     let update = update_plan(manifest, members);
     let invocation = invocation_plan(manifest);
@@ -91,15 +89,11 @@ pub fn judge(alloc: Global, manifest: &Manifest, members: &Members) -> Result<()
     requires components { length manifest.now.components < 2 ^ 32 }
     requires update { IsPlan (update_tree manifest.now members.now) }
     requires invocation { IsPlan (invocation_tree manifest.now) }
-    ensures safe { IsOk result
-        → AreSafe (update_tree manifest.now members.now) (invocation_tree manifest.now) }
+    ensures safe { IsOk result → MayRun manifest.now members.now }
     ensures refused { IfErr result
-        (λ e. e ≢ NoMemory
-        → IsNotSafe (update_tree manifest.now members.now) (invocation_tree manifest.now) e) }
-    ensures every_safe { AreSafe (update_tree manifest.now members.now) (invocation_tree manifest.now)
-        → IfErr result (λ e. e ≡ NoMemory) }
-    ensures every_refusal { (r : NotSafe)
-        → IsNotSafe (update_tree manifest.now members.now) (invocation_tree manifest.now) r
+        (λ e. e ≢ NoMemory → MayNotRun manifest.now members.now e) }
+    ensures every_safe { MayRun manifest.now members.now → IfErr result (λ e. e ≡ NoMemory) }
+    ensures every_refusal { (r : NotSafe) → MayNotRun manifest.now members.now r
         → IsErrAnd result (λ e. JudgeAlike e r ⊎ (e ≡ NoMemory)) }
 {
     admission_laws();
