@@ -22,6 +22,7 @@ use rollback_record::{record_laws, sound_laws};
 use std::alloc::Global;
 use step_machine::has_identifiers;
 use suit_edge::{Disk, Host, Launcher};
+use suit_envelope::envelope_laws;
 use suit_manifest::{manifest_laws, procedure_laws};
 
 // The answer where no envelope is read.
@@ -67,6 +68,7 @@ fn start_installed<H: Host, D: Disk, L: Launcher>(
         → KeptSo (KeepsBoot layout.now key.now (D.flash disk.old) (D.flash disk.new))
         (IsSame (D.flash disk.old) (D.flash disk.new)) result }
 {
+    envelope_laws();
     manifest_laws();
     procedure_laws();
     let bank = match find_bank(alloc, disk, layout) {

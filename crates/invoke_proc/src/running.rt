@@ -1,22 +1,27 @@
 //! Running the invocation procedure.
 
+ghost use Rattle.admission.specs.Opening.{HasManifest};
 ghost use Rattle.flash_layout.specs.declared.frame.TheConstants.{VERSION_1};
 ghost use Rattle.flash_layout.specs.Layouts.{IsLayout};
 ghost use Rattle.flash_layout.specs.Placement.{ArePlaces};
 ghost use Rattle.invoke_proc.specs.Booting.{IfUnfaulted, IsStartEnd, KeepsOthers, KeptSo, PlayedSo, PlaysOn, SettledSo, WritesNothing, end_of};
 ghost use Rattle.invoke_proc.specs.Counting.{BootCounts};
-ghost use Rattle.std.specs.Prelude.{◌≡◌, ◌≤◌, ◌⊎◌, ℕ, IsTrue, List, length};
+ghost use Rattle.std.specs.Prelude.{◌≡◌, ◌≤◌, ◌^◌, ◌⊎◌, ℕ, IsTrue, List, length};
 ghost use Rattle.step_machine.specs.PlanRuns.{counts_of};
 ghost use Rattle.step_machine.specs.Worlds.{AreDistinct};
 ghost use Rattle.suit_commands.specs.Allowed.{IsPlan};
 ghost use Rattle.suit_commands.specs.Plans.{plan_tree};
 ghost use Rattle.suit_edge.specs.Flash.{Grows, IsSame, IsSettled};
+ghost use Rattle.suit_envelope.specs.Places.{PartsEndBelow};
+ghost use Rattle.suit_envelope.specs.Said.{said_by};
 ghost use Rattle.suit_manifest.specs.Procedures.{invocation_tree};
 
 use crate::BootEnd;
 use crate::components::world_in;
 use admission::Start;
 use flash_layout::{Layout, Record};
+use manifest_programs::invocation_program;
+use manifest_view::ManifestView;
 use path_model::Cause;
 use std::alloc::{AllocError, Global};
 use step_machine::{PlanEnd, Steps, Uris, run_plan};
@@ -75,6 +80,8 @@ pub(crate) fn start<H: Host, D: Disk, L: Launcher>(
     requires distinct { AreDistinct layout.now startable.now.places }
     requires few { length startable.now.manifest.components ≤ 8 }
     requires plan { IsPlan (invocation_tree startable.now.manifest) }
+    requires manifest { HasManifest (said_by startable.now.envelope) startable.now.manifest }
+    requires ends { PartsEndBelow (2 ^ 64) (said_by startable.now.envelope) }
     ensures size { D.extent disk.new ≡ D.extent disk.old }
     ensures starts { IsStartEnd result }
     ensures counts { BootCounts result
@@ -102,7 +109,10 @@ pub(crate) fn start<H: Host, D: Disk, L: Launcher>(
         Ok(world) => world,
         Err(AllocError) => return BootEnd::NoMemory,
     };
+    let envelope = &startable.envelope;
+    let view = ManifestView::read(envelope.manifest, envelope.manifest_place).unwrap();
+    let program = invocation_program(view);
+    let end = run_plan(host, disk, launcher, &mut world, program);
     let plan = invocation_plan(&startable.manifest);
-    let end = run_plan(host, disk, launcher, &mut world, &plan);
     settle(disk, &plan, end)
 }

@@ -3,14 +3,12 @@ use Rattle.std.proofs.Common.{◌≡◌, ℕ, ◌+◌, ◌<◌, ◌≤◌, List,
 use Rattle.std.proofs.Math.Seq.{drop-cons}
 use Rattle.std.specs.List.{AllByRecursion, range_with_len}
 use Rattle.flash_slots.specs.RamContents.{Held}
-use Rattle.suit_commands.specs.declared.command.Step.{Step}
 use Rattle.suit_commands.specs.declared.selection.Selection.TheVariants.{One, All, Listed}
 use Rattle.suit_commands.specs.declared.kinds.ActKind.TheVariants as acts
 use Rattle.suit_commands.specs.Indexed.{IsIndexed}
 use Rattle.suit_commands.specs.Selections.{Among, selected_after}
 use Rattle.suit_commands.specs.Targets.{CommandWrites}
-use Rattle.suit_commands.specs.Tree.{CommandTree, Test, Act, Index, Override, TryEach, RunSequence, SequenceTree, StepThen, BranchThen}
-use Rattle.suit_commands.specs.View.{sequence_tree, command_tree, branches_tree}
+use Rattle.suit_commands.specs.Tree.{CommandTree, Test, Act, Index, Override, TryEach, RunSequence, SequenceTree, StepThen, BranchesTree, BranchThen}
 use Rattle.step_machine.specs.declared.machine.Machine.{Machine}
 use Rattle.step_machine.specs.declared.spot.Spot.{Spot}
 use Rattle.step_machine.specs.declared.spot.Spot.TheVariants as spots
@@ -20,7 +18,7 @@ use Rattle.step_machine.specs.Spots.{IsSpot, room_at}
 
 -- ---- steps
 
-first_step : (machine : Machine) (p : ℕ) (command : CommandTree) (rest : SequenceTree) (selection : List ℕ) → AllowsSequence machine (StepThen p command rest) selection → AllowsCommand machine command selection
+pub first_step : (machine : Machine) (p : ℕ) (command : CommandTree) (rest : SequenceTree) (selection : List ℕ) → AllowsSequence machine (StepThen p command rest) selection → AllowsCommand machine command selection
 first_step machine p command rest selection a = record {
   indexed = a.indexed.0;
   writes = λ c w. a.writes c (inl w);
@@ -30,7 +28,7 @@ first_step machine p command rest selection a = record {
   uris = λ u w. a.uris u (inl w);
 }
 
-later_steps : (machine : Machine) (p : ℕ) (command : CommandTree) (rest : SequenceTree) (selection : List ℕ) → AllowsSequence machine (StepThen p command rest) selection → AllowsSequence machine rest (selected_after command machine.plan.now.count selection)
+pub later_steps : (machine : Machine) (p : ℕ) (command : CommandTree) (rest : SequenceTree) (selection : List ℕ) → AllowsSequence machine (StepThen p command rest) selection → AllowsSequence machine rest (selected_after command machine.program.now.count selection)
 later_steps machine p command rest selection a = record {
   indexed = a.indexed.1;
   writes = λ c w. a.writes c (inr w);
@@ -40,23 +38,12 @@ later_steps machine p command rest selection a = record {
   uris = λ u w. a.uris u (inr w);
 }
 
-module _ (machine : Machine) (steps : List Step) (i : ℕ) (d : Step) (lt : i < length steps) (selection : List ℕ) (a : AllowsSequence machine (sequence_tree (drop i steps)) selection) where
-  here : AllowsSequence machine (StepThen (get_or steps i d).place (command_tree (get_or steps i d).command) (sequence_tree (drop (i + 1) steps))) selection
-  here = subst (λ (xs : List Step). AllowsSequence machine (StepThen (get_or steps i d).place (command_tree (get_or steps i d).command) (sequence_tree xs)) selection) (ap (λ (n : ℕ). drop n steps) (sym (add-one i)))
-      (subst (λ (xs : List Step). AllowsSequence machine (sequence_tree xs) selection) (drop-cons steps i d lt) a)
-
-  pub allows_step : AllowsCommand machine (command_tree (get_or steps i d).command) selection
-  allows_step = first_step machine (get_or steps i d).place (command_tree (get_or steps i d).command) (sequence_tree (drop (i + 1) steps)) selection here
-
-  pub allows_rest : AllowsSequence machine (sequence_tree (drop (i + 1) steps)) (selected_after (command_tree (get_or steps i d).command) machine.plan.now.count selection)
-  allows_rest = later_steps machine (get_or steps i d).place (command_tree (get_or steps i d).command) (sequence_tree (drop (i + 1) steps)) selection here
-
 -- ---- one of the selected components
 
-pub among_at : (list : List ℕ) (i d : ℕ) → i < length list → Among (get_or list i d) list
-among_at [] i d lt = absurd (omega (arith, lt))
-among_at (x ∷ list) zero d lt = inl refl
-among_at (x ∷ list) (suc i) d lt = inr (among_at list i d (omega (arith, lt)))
+pub below_among : (list : List ℕ) (k bound : ℕ) → Among k list → AllByRecursion (λ c. c < bound) list → k < bound
+below_among [] k bound among all = absurd among
+below_among (x ∷ list) k bound (inl e) all = let lt : x < bound = all.0 in omega (arith, lt, e)
+below_among (x ∷ list) k bound (inr h) all = below_among list k bound h all.1
 
 only : (c k : ℕ) → Among c (k ∷ []) → c ≡ k
 only c k (inl e) = e
@@ -73,7 +60,7 @@ narrow (RunSequence inner) count selection k c among (outer, at, w) = (outer, su
 pub allows_at : (machine : Machine) (command : CommandTree) (selection : List ℕ) (k : ℕ) → Among k selection → AllowsCommand machine command selection → AllowsCommand machine command (k ∷ [])
 allows_at machine command selection k among a = record {
   indexed = a.indexed;
-  writes = λ c w. a.writes c (narrow command machine.plan.now.count selection k c among w);
+  writes = λ c w. a.writes c (narrow command machine.program.now.count selection k c among w);
   swaps = a.swaps;
   fetches = a.fetches;
   sources = a.sources;
@@ -82,13 +69,7 @@ allows_at machine command selection k among a = record {
 
 -- ---- branches
 
-module _ (machine : Machine) (branches : List (Option SequenceTree)) (i k : ℕ) (d : Option SequenceTree) (inner : SequenceTree) (lt : i < length branches) (some : get_or branches i d ≡ Some inner) (a : AllowsBranches machine (branches_tree (drop i branches)) k) where
-  these : AllowsBranches machine (BranchThen inner (branches_tree (drop (i + 1) branches))) k
-  these =
-      subst (λ (xs : List (Option SequenceTree)). AllowsBranches machine (BranchThen inner (branches_tree xs)) k) (ap (λ (n : ℕ). drop n branches) (sym (add-one i)))
-      (subst (λ (b : Option SequenceTree). AllowsBranches machine (branches_tree (b ∷ drop (suc i) branches)) k) some
-      (subst (λ (xs : List (Option SequenceTree)). AllowsBranches machine (branches_tree xs) k) (drop-cons branches i d lt) a))
-
+module _ (machine : Machine) (inner : SequenceTree) (rest : BranchesTree) (k : ℕ) (these : AllowsBranches machine (BranchThen inner rest) k) where
   pub allows_branch : AllowsSequence machine inner (k ∷ [])
   allows_branch = record {
     indexed = these.indexed.0;
@@ -99,7 +80,7 @@ module _ (machine : Machine) (branches : List (Option SequenceTree)) (i k : ℕ)
     uris = λ u w. these.uris u (inl w);
   }
 
-  pub allows_others : AllowsBranches machine (branches_tree (drop (i + 1) branches)) k
+  pub allows_others : AllowsBranches machine rest k
   allows_others = record {
     indexed = these.indexed.1;
     writes = λ c w. these.writes c (inr w);
@@ -125,17 +106,12 @@ below_by (Override list) count selection i b = b
 below_by (TryEach branches) count selection i b = b
 below_by (RunSequence inner) count selection i b = b
 
-pub below_after : (machine : Machine) (command : CommandTree) (selection : List ℕ) → machine.plan.now.count ≡ length machine.standings.now → IsIndexed machine.plan.now.count command
-    → AllByRecursion (λ c. c < length machine.standings.now) selection → AllByRecursion (λ c. c < length machine.standings.now) (selected_after command machine.plan.now.count selection)
+pub below_after : (machine : Machine) (command : CommandTree) (selection : List ℕ) → machine.program.now.count ≡ length machine.standings.now → IsIndexed machine.program.now.count command
+    → AllByRecursion (λ c. c < length machine.standings.now) selection → AllByRecursion (λ c. c < length machine.standings.now) (selected_after command machine.program.now.count selection)
 below_after machine command selection same i b =
-    let bound : ℕ → Type 0 = λ n. AllByRecursion (λ c. c < n) (selected_after command machine.plan.now.count selection) in
-    subst (λ (n : ℕ). AllByRecursion (λ c. c < n) (selected_after command machine.plan.now.count selection)) same
-    (below_by command machine.plan.now.count selection i (subst (λ (n : ℕ). AllByRecursion (λ c. c < n) selection) (sym same) b))
-
-pub below_at : (list : List ℕ) (i d bound : ℕ) → i < length list → AllByRecursion (λ c. c < bound) list → get_or list i d < bound
-below_at [] i d bound lt all = absurd (omega (arith, lt))
-below_at (x ∷ list) zero d bound lt all = all.0
-below_at (x ∷ list) (suc i) d bound lt all = below_at list i d bound (omega (arith, lt)) all.1
+    let bound : ℕ → Type 0 = λ n. AllByRecursion (λ c. c < n) (selected_after command machine.program.now.count selection) in
+    subst (λ (n : ℕ). AllByRecursion (λ c. c < n) (selected_after command machine.program.now.count selection)) same
+    (below_by command machine.program.now.count selection i (subst (λ (n : ℕ). AllByRecursion (λ c. c < n) selection) (sym same) b))
 
 -- ---- readiness stays
 

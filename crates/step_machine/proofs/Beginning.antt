@@ -6,7 +6,7 @@ use Rattle.std.proofs.lemmas.List.{append-nil, length-append}
 use Rattle.suit_edge.specs.declared.launch.Launch.{Launch}
 use Rattle.suit_edge.specs.Flash.{IsFlash}
 use Rattle.suit_edge.specs.FlashLaws.{keeps_start, keeps_then, grows_start, grows_then}
-use Rattle.suit_commands.specs.Plans.{plan_tree}
+use Rattle.step_machine.specs.Programs.{program_tree}
 use Rattle.path_model.specs.Behaviour.{State}
 use Rattle.path_model.specs.Settings.{Setting}
 use Rattle.path_model.specs.DevicePlays.{Device, Launched}
@@ -35,8 +35,8 @@ stays_start machine m = record {
   size = refl;
   rooms = refl;
   files = λ t. refl;
-  asks = λ t room rooms. asks_none (plan_tree machine.plan.now) machine.uris.now room m.host.asked;
-  keeps = λ t. keeps_start (OutsideTargets (plan_tree machine.plan.now) machine.standings.now) m.disk.flash;
+  asks = λ t room rooms. asks_none (program_tree machine.program.now) machine.uris.now room m.host.asked;
+  keeps = λ t. keeps_start (OutsideTargets (program_tree machine.program.now) machine.standings.now) m.disk.flash;
   grows = λ t. grows_start m.disk.flash;
 }
 
@@ -51,10 +51,10 @@ stays_then machine a b c law first second = record {
   size = second.size ∙ first.size;
   rooms = second.rooms ∙ first.rooms;
   files = λ known. second.files (known_then machine a b first.host known) ∙ first.files known;
-  asks = λ t room rooms. asks_then (plan_tree machine.plan.now) machine.uris.now room a.host.asked b.host.asked c.host.asked (first.asks t room rooms) (second.asks (subst IsTrue (sym first.host) t) room rooms);
+  asks = λ t room rooms. asks_then (program_tree machine.program.now) machine.uris.now room a.host.asked b.host.asked c.host.asked (first.asks t room rooms) (second.asks (subst IsTrue (sym first.host) t) room rooms);
   keeps = λ t.
       let u = subst IsTrue (sym first.disk) t in
-      keeps_then (OutsideTargets (plan_tree machine.plan.now) machine.standings.now) a.disk.flash b.disk.flash c.disk.flash b.disk.size (law u) (first.keeps t) (second.keeps u);
+      keeps_then (OutsideTargets (program_tree machine.program.now) machine.standings.now) a.disk.flash b.disk.flash c.disk.flash b.disk.size (law u) (first.keeps t) (second.keeps u);
   grows = λ t.
       let u = subst IsTrue (sym first.disk) t in
       grows_then a.disk.flash b.disk.flash c.disk.flash (first.keeps t).images.later (first.grows t) (second.grows u);

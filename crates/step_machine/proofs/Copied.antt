@@ -5,7 +5,7 @@ use Rattle.suit_edge.specs.Flash.{Flash, Grows, Keeps}
 use Rattle.suit_edge.specs.FlashLaws.{keeps_fewer}
 use Rattle.suit_params.specs.declared.param.ParamKey.TheVariants as keys
 use Rattle.suit_params.specs.InForce.{in_force, number_of}
-use Rattle.suit_commands.specs.Plans.{plan_tree}
+use Rattle.step_machine.specs.Programs.{program_tree}
 use Rattle.suit_commands.specs.declared.kinds.ActKind.TheVariants as acts
 use Rattle.path_model.specs.declared.cause.Cause.TheVariants as causes
 use Rattle.path_model.specs.declared.event.Event.TheVariants.{Wrote}
@@ -101,8 +101,8 @@ module _ (machine : Machine) (m n : Moment) (i j : ℕ) (d : Standing) (lt : i <
     size = size;
     rooms = same_rooms (get_or machine.standings.now j d).spot but.0 n.ram but.2 ∙ same_rooms (get_or machine.standings.now i d).spot m.ram but.0 but.1;
     files = files;
-    asks = λ t room rooms. asks_same (plan_tree machine.plan.now) machine.uris.now room m.host.asked n.host.asked asked;
-    keeps = λ t. keeps_fewer (OutsideTargets (plan_tree machine.plan.now) machine.standings.now) (OutsideBoth (get_or machine.standings.now i d).spot (get_or machine.standings.now j d).spot) (λ x out. (out i d lt may, out j d below other)) m.disk.flash n.disk.flash (keeps t);
+    asks = λ t room rooms. asks_same (program_tree machine.program.now) machine.uris.now room m.host.asked n.host.asked asked;
+    keeps = λ t. keeps_fewer (OutsideTargets (program_tree machine.program.now) machine.standings.now) (OutsideBoth (get_or machine.standings.now i d).spot (get_or machine.standings.now j d).spot) (λ x out. (out i d lt may, out j d below other)) m.disk.flash n.disk.flash (keeps t);
     grows = grows;
   }
 

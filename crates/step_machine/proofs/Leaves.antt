@@ -4,7 +4,7 @@ use Rattle.std.specs.Prelude.{IsTrue, slice_set}
 use Rattle.std.proofs.lemmas.List.{get_or-map, length-map}
 use Rattle.suit_edge.specs.Flash.{Grows, Keeps}
 use Rattle.suit_edge.specs.FlashLaws.{keeps_fewer}
-use Rattle.suit_commands.specs.Plans.{plan_tree}
+use Rattle.step_machine.specs.Programs.{program_tree}
 use Rattle.path_model.specs.declared.cause.Cause.{Cause}
 use Rattle.path_model.specs.declared.cause.Cause.TheVariants as causes
 use Rattle.path_model.specs.Behaviour.{State}
@@ -102,7 +102,7 @@ module _ (machine : Machine) (m : Moment) (c : ℕ) (d : Standing) (lt : c < len
 
 module _ (machine : Machine) (m n : Moment) (c : ℕ) (d : Standing) (lt : c < length machine.standings.now) (ready : IsReady machine m.disk.size m.ram)
     (but : IsRamBut (get_or machine.standings.now c d).spot m.ram n.ram) where
-  pub one_stays : n.host.told ≡ m.host.told → n.disk.told ≡ m.disk.told → n.launcher.told ≡ m.launcher.told → n.disk.size ≡ m.disk.size → (AreFilesKnown machine m → n.host.files ≡ m.host.files) → (IsTrue m.host.told → (room : ℕ) → StandAtMost machine.standings.now room → AsksAmong (plan_tree machine.plan.now) machine.uris.now room m.host.asked n.host.asked) → MayWrite machine c
+  pub one_stays : n.host.told ≡ m.host.told → n.disk.told ≡ m.disk.told → n.launcher.told ≡ m.launcher.told → n.disk.size ≡ m.disk.size → (AreFilesKnown machine m → n.host.files ≡ m.host.files) → (IsTrue m.host.told → (room : ℕ) → StandAtMost machine.standings.now room → AsksAmong (program_tree machine.program.now) machine.uris.now room m.host.asked n.host.asked) → MayWrite machine c
       → (IsTrue m.disk.told → Keeps (OutsideSpot (get_or machine.standings.now c d).spot) m.disk.flash n.disk.flash) → (IsTrue m.disk.told → Grows m.disk.flash n.disk.flash) → Stays machine m n
   one_stays host disk launcher size files asks may keeps grows = record {
     host = host;
@@ -112,7 +112,7 @@ module _ (machine : Machine) (m n : Moment) (c : ℕ) (d : Standing) (lt : c < l
     rooms = same_rooms (get_or machine.standings.now c d).spot m.ram n.ram but;
     files = files;
     asks = asks;
-    keeps = λ t. keeps_fewer (OutsideTargets (plan_tree machine.plan.now) machine.standings.now) (OutsideSpot (get_or machine.standings.now c d).spot) (λ i out. out c d lt may) m.disk.flash n.disk.flash (keeps t);
+    keeps = λ t. keeps_fewer (OutsideTargets (program_tree machine.program.now) machine.standings.now) (OutsideSpot (get_or machine.standings.now c d).spot) (λ i out. out c d lt may) m.disk.flash n.disk.flash (keeps t);
     grows = grows;
   }
 

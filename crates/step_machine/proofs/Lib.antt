@@ -22,6 +22,7 @@ pub mod Sourcing
 pub mod Looking
 pub mod Copied
 pub mod Procedures
+pub mod Played
 pub mod Keys
 pub mod TakenFiles
 pub mod Both
@@ -35,4 +36,3 @@ pub mod Reading
 pub mod Replaced
 pub mod Counting
 mod Leaving
-mod Overridden

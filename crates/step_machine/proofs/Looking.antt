@@ -6,7 +6,7 @@ use Rattle.suit_edge.specs.Flash.{Grows, IsSame}
 use Rattle.suit_edge.specs.FlashLaws.{keeps_same}
 use Rattle.suit_params.specs.declared.digest.Digest.{Digest}
 use Rattle.suit_params.specs.InForce.{digest_in, size_in}
-use Rattle.suit_commands.specs.Plans.{plan_tree}
+use Rattle.step_machine.specs.Programs.{program_tree}
 use Rattle.suit_commands.specs.declared.kinds.TestKind.{TestKind}
 use Rattle.suit_commands.specs.declared.kinds.TestKind.TheVariants as tests
 use Rattle.suit_commands.specs.declared.kinds.ActKind.TheVariants as acts
@@ -83,8 +83,8 @@ looked machine m n host disk launcher size ram files asked same grows = record {
   size = size;
   rooms = ap (λ r. map (λ held. held.capacity) r) ram;
   files = files;
-  asks = λ t room rooms. asks_same (plan_tree machine.plan.now) machine.uris.now room m.host.asked n.host.asked asked;
-  keeps = λ t. keeps_same (OutsideTargets (plan_tree machine.plan.now) machine.standings.now) m.disk.flash n.disk.flash (same t);
+  asks = λ t room rooms. asks_same (program_tree machine.program.now) machine.uris.now room m.host.asked n.host.asked asked;
+  keeps = λ t. keeps_same (OutsideTargets (program_tree machine.program.now) machine.standings.now) m.disk.flash n.disk.flash (same t);
   grows = grows;
 }
 

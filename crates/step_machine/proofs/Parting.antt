@@ -1,11 +1,8 @@
 -- Sequences, selections and the sequences of a try each, by their first and the rest.
 use Rattle.std.proofs.Common.{◌≡◌, ℕ, ◌+◌, ◌<◌, add-one, Bool, true, false, List, ◌∷◌, Option, Some, None, Result, Ok, Err, length, get_or, drop, refl, sym, ap, ◌∙◌, subst, suc}
-use Rattle.std.proofs.Math.Seq.{drop-cons}
-use Rattle.suit_commands.specs.declared.command.Step.{Step}
 use Rattle.suit_commands.specs.Tree.{CommandTree, Index, Override, SequenceTree, NoBranches}
 use Rattle.suit_commands.specs.Selections.{selected_by}
 use Rattle.suit_commands.specs.declared.selection.Selection.{Selection}
-use Rattle.suit_commands.specs.View.{sequence_tree, command_tree, branches_tree}
 use Rattle.suit_params.specs.declared.param.Param.{Param}
 use Rattle.path_model.specs.Behaviour.{State, Done}
 use Rattle.path_model.specs.Directives.{after_override}
@@ -25,46 +22,13 @@ use Rattle.step_machine.proofs.Beginning.{Obeys, Begun, begun_after, runs_as, ru
 use Rattle.step_machine.proofs.Composing.{comes_by, stops_as}
 use Rattle.step_machine.proofs.Inner.{run_completes, run_fails_softly, run_passes_on, try_completes, try_passes_on, others_come}
 
--- ---- the first and the rest
-
-pub rest_of_steps : (steps : List Step) (i count : ℕ) (d : Step) → i < length steps
-    → sequence_part (sequence_tree (drop i steps)) count
-    ≡ then_part (command_part (command_tree (get_or steps i d).command) count (get_or steps i d).place) (sequence_part (sequence_tree (drop (i + 1) steps)) count)
-rest_of_steps steps i count d lt =
-    ap (λ (xs : List Step). sequence_part (sequence_tree xs) count) (drop-cons steps i d lt)
-    ∙ ap (λ (n : ℕ). then_part (command_part (command_tree (get_or steps i d).command) count (get_or steps i d).place) (sequence_part (sequence_tree (drop n steps)) count)) (sym (add-one i))
-
-pub rest_of_each : (command : CommandTree) (count place : ℕ) (list : List ℕ) (i d : ℕ) → i < length list
-    → each_part command count place (drop i list)
-    ≡ then_part (at_part command count place (get_or list i d)) (each_part command count place (drop (i + 1) list))
-rest_of_each command count place list i d lt =
-    ap (λ (xs : List ℕ). each_part command count place xs) (drop-cons list i d lt)
-    ∙ ap (λ (n : ℕ). then_part (at_part command count place (get_or list i d)) (each_part command count place (drop n list))) (sym (add-one i))
+-- ---- the sequences of a try each, and inner ones
 
 abbrev pub trying_part : Part → Part → ℕ → Part
 trying_part inner others component setting = trying_branch Device (inner setting) (others setting) component
 
 abbrev pub inner_part : Part → ℕ → Part
 inner_part inner component setting = running_inner Device (inner setting) component
-
-branch_then : (branch : Option SequenceTree) (rest : List (Option SequenceTree)) (count place component : ℕ) (inner : SequenceTree) → branch ≡ Some inner
-    → branches_part (branches_tree (branch ∷ rest)) count place component ≡ trying_part (sequence_part inner count) (branches_part (branches_tree rest) count place component) component
-branch_then branch rest count place component inner e =
-    ap (λ (b : Option SequenceTree). branches_part (branches_tree (b ∷ rest)) count place component) e
-
-pub rest_of_branches : (branches : List (Option SequenceTree)) (i count place component : ℕ) (d : Option SequenceTree) (inner : SequenceTree) → i < length branches → get_or branches i d ≡ Some inner
-    → branches_part (branches_tree (drop i branches)) count place component
-    ≡ trying_part (sequence_part inner count) (branches_part (branches_tree (drop (i + 1) branches)) count place component) component
-rest_of_branches branches i count place component d inner lt some =
-    ap (λ (xs : List (Option SequenceTree)). branches_part (branches_tree xs) count place component) (drop-cons branches i d lt)
-    ∙ branch_then (get_or branches i d) _ count place component inner some
-    ∙ ap (λ (n : ℕ). trying_part (sequence_part inner count) (branches_part (branches_tree (drop n branches)) count place component) component) (sym (add-one i))
-
-pub null_branch : (branches : List (Option SequenceTree)) (i count place component : ℕ) (d : Option SequenceTree) → i < length branches → get_or branches i d ≡ None
-    → branches_part (branches_tree (drop i branches)) count place component ≡ nothing_part
-null_branch branches i count place component d lt none =
-    ap (λ (xs : List (Option SequenceTree)). branches_part (branches_tree xs) count place component) (drop-cons branches i d lt)
-    ∙ ap (λ (b : Option SequenceTree). branches_part (branches_tree (b ∷ drop (suc i) branches)) count place component) none
 
 -- ---- plays that come to the same
 

@@ -6,8 +6,7 @@ use Rattle.suit_params.specs.declared.param.Param.{Param}
 use Rattle.suit_params.specs.declared.param.ParamKey.TheVariants as keys
 use Rattle.suit_params.specs.InForce.{bytes_of, in_force, number_of, none_in_force, held_at, cell}
 use Rattle.suit_commands.specs.Allowed.{IsPlan}
-use Rattle.std.specs.Borrow.{Bor}
-use Rattle.suit_commands.specs.Plans.{lent_tree, plan_tree}
+use Rattle.step_machine.specs.Programs.{part_tree, program_tree}
 use Rattle.suit_commands.specs.Indexed.{AreIndexed}
 use Rattle.suit_commands.specs.Targets.{InSome, Sources, Swaps, Writes}
 use Rattle.suit_commands.specs.Touches.{HasAct}
@@ -18,6 +17,7 @@ use Rattle.path_model.specs.Behaviour.{State}
 use Rattle.path_model.specs.Path.{start_state, first_state}
 use Rattle.path_model.specs.Settings.{Setting, steady}
 use Rattle.step_machine.specs.declared.machine.Machine.{Machine}
+use Rattle.step_machine.specs.declared.program.Program.{Program}
 use Rattle.step_machine.specs.declared.plan_end.PlanEnd.{PlanEnd}
 use Rattle.step_machine.specs.declared.spot.Standing.{Standing}
 use Rattle.step_machine.specs.declared.stop.Stop.{Stop}
@@ -34,52 +34,52 @@ use Rattle.step_machine.proofs.Parting.{comes_same}
 
 -- ---- the permissions of its sequences
 
-allows_placed : (machine : Machine) (sequence : SequenceTree) → AreIndexed machine.plan.now.count sequence → ((has : SequenceTree → Type 0) → has sequence → InSome (plan_tree machine.plan.now) has) → AllowsSequence machine sequence (0 ∷ [])
+allows_placed : (machine : Machine) (sequence : SequenceTree) → AreIndexed machine.program.now.count sequence → ((has : SequenceTree → Type 0) → has sequence → InSome (program_tree machine.program.now) has) → AllowsSequence machine sequence (0 ∷ [])
 allows_placed machine sequence indexed place = record {
   indexed = indexed;
-  writes = λ c w. inl (place (λ s. Writes s machine.plan.now.count (0 ∷ []) c) w);
+  writes = λ c w. inl (place (λ s. Writes s machine.program.now.count (0 ∷ []) c) w);
   swaps = λ w. place Swaps w;
   fetches = λ w. place (HasAct acts.Fetch) w;
   sources = λ c w. place (λ s. Sources s c) w;
   uris = λ u w. place (λ s. Sets s u) w;
 }
 
-module _ (machine : Machine) (is : IsPlan (plan_tree machine.plan.now)) where
-  pub allows_shared : AllowsSequence machine (plan_tree machine.plan.now).shared (0 ∷ [])
-  allows_shared = allows_placed machine (plan_tree machine.plan.now).shared (shared_indexed machine.plan.now.count (plan_tree machine.plan.now).shared is.shared) (λ has w. inl w)
+module _ (machine : Machine) (is : IsPlan (program_tree machine.program.now)) where
+  pub allows_shared : AllowsSequence machine (program_tree machine.program.now).shared (0 ∷ [])
+  allows_shared = allows_placed machine (program_tree machine.program.now).shared (shared_indexed machine.program.now.count (program_tree machine.program.now).shared is.shared) (λ has w. inl w)
 
-  pub allows_first : AllowsSequence machine (plan_tree machine.plan.now).first (0 ∷ [])
-  allows_first = allows_placed machine (plan_tree machine.plan.now).first (member_indexed machine.plan.now.count (plan_tree machine.plan.now).first is.first) (λ has w. inr (inl w))
+  pub allows_first : AllowsSequence machine (program_tree machine.program.now).first (0 ∷ [])
+  allows_first = allows_placed machine (program_tree machine.program.now).first (member_indexed machine.program.now.count (program_tree machine.program.now).first is.first) (λ has w. inr (inl w))
 
-  pub allows_second : AllowsSequence machine (plan_tree machine.plan.now).second (0 ∷ [])
-  allows_second = allows_placed machine (plan_tree machine.plan.now).second (member_indexed machine.plan.now.count (plan_tree machine.plan.now).second is.second) (λ has w. inr (inr (inl w)))
+  pub allows_second : AllowsSequence machine (program_tree machine.program.now).second (0 ∷ [])
+  allows_second = allows_placed machine (program_tree machine.program.now).second (member_indexed machine.program.now.count (program_tree machine.program.now).second is.second) (λ has w. inr (inr (inl w)))
 
-  pub allows_third : AllowsSequence machine (plan_tree machine.plan.now).third (0 ∷ [])
-  allows_third = allows_placed machine (plan_tree machine.plan.now).third (member_indexed machine.plan.now.count (plan_tree machine.plan.now).third is.third) (λ has w. inr (inr (inr w)))
+  pub allows_third : AllowsSequence machine (program_tree machine.program.now).third (0 ∷ [])
+  allows_third = allows_placed machine (program_tree machine.program.now).third (member_indexed machine.program.now.count (program_tree machine.program.now).third is.third) (λ has w. inr (inr (inr w)))
 
 -- ---- one after another
 
 abbrev pub shared_part : Machine → Part
-shared_part machine = starting_part (plan_tree machine.plan.now).shared machine.plan.now.count
+shared_part machine = starting_part (program_tree machine.program.now).shared machine.program.now.count
 
 -- the parts after the first so many
 abbrev pub left_5 : Machine → Part
-left_5 machine = starting_part (plan_tree machine.plan.now).third machine.plan.now.count
+left_5 machine = starting_part (program_tree machine.program.now).third machine.program.now.count
 
 abbrev pub left_4 : Machine → Part
 left_4 machine = then_part (shared_part machine) (left_5 machine)
 
 abbrev pub left_3 : Machine → Part
-left_3 machine = then_part (starting_part (plan_tree machine.plan.now).second machine.plan.now.count) (left_4 machine)
+left_3 machine = then_part (starting_part (program_tree machine.program.now).second machine.program.now.count) (left_4 machine)
 
 abbrev pub left_2 : Machine → Part
 left_2 machine = then_part (shared_part machine) (left_3 machine)
 
 abbrev pub left_1 : Machine → Part
-left_1 machine = then_part (starting_part (plan_tree machine.plan.now).first machine.plan.now.count) (left_2 machine)
+left_1 machine = then_part (starting_part (program_tree machine.program.now).first machine.program.now.count) (left_2 machine)
 
-pub members_begun : (machine : Machine) (s : State) (m : Moment) → AreSources machine s.parameters → Begun machine (plan_part (plan_tree machine.plan.now)) (then_part (shared_part machine) (left_1 machine)) s m s m
-members_begun machine s m sources = begun machine (plan_part (plan_tree machine.plan.now)) s m sources
+pub members_begun : (machine : Machine) (s : State) (m : Moment) → AreSources machine s.parameters → Begun machine (plan_part (program_tree machine.program.now)) (then_part (shared_part machine) (left_1 machine)) s m s m
+members_begun machine s m sources = begun machine (plan_part (program_tree machine.program.now)) s m sources
 
 -- ---- one of them
 
@@ -93,10 +93,28 @@ pub runs_absent : (machine : Machine) (count : ℕ) (s : State) (m : Moment) →
 runs_absent machine count s m sources =
     runs_at_once machine (starting_part NoSteps count) s m (Ok tt) (start_state s) refl sources (λ setting w. (refl, refl))
 
-pub lent_as : (machine : Machine) (x y : Option (Bor SequenceTree)) → x ≡ y → (s : State) (m : Moment) (r : Result (Unit {0}) Stop) (t : State) (n : Moment)
-    → RunsPart machine (starting_part (lent_tree y) machine.plan.now.count) s m r t n → RunsPart machine (starting_part (lent_tree x) machine.plan.now.count) s m r t n
+pub lent_as : (machine : Machine) (x y : Option SequenceTree) → x ≡ y → (s : State) (m : Moment) (r : Result (Unit {0}) Stop) (t : State) (n : Moment)
+    → RunsPart machine (starting_part (part_tree y) machine.program.now.count) s m r t n → RunsPart machine (starting_part (part_tree x) machine.program.now.count) s m r t n
 lent_as machine x y is s m r t n runs =
-    subst (λ (o : Option (Bor SequenceTree)). RunsPart machine (starting_part (lent_tree o) machine.plan.now.count) s m r t n) (sym is) runs
+    subst (λ (o : Option SequenceTree). RunsPart machine (starting_part (part_tree o) machine.program.now.count) s m r t n) (sym is) runs
+
+pub part_as : (machine : Machine) (x : Option SequenceTree) (tree : SequenceTree) → part_tree x ≡ tree → (s : State) (m : Moment) (r : Result (Unit {0}) Stop) (t : State) (n : Moment)
+    → RunsPart machine (starting_part (part_tree x) machine.program.now.count) s m r t n → RunsPart machine (starting_part tree machine.program.now.count) s m r t n
+part_as machine x tree is s m r t n runs =
+    subst (λ (o : SequenceTree). RunsPart machine (starting_part o machine.program.now.count) s m r t n) is runs
+
+-- the sequences of a program that is lent again are those of the program
+pub shared_is : (program now : Program) (x : Option SequenceTree) → x ≡ program.shared → program ≡ now → part_tree x ≡ (program_tree now).shared
+shared_is program now x is same = ap part_tree (is ∙ ap (λ (p : Program). p.shared) same)
+
+pub first_is : (program now : Program) → program ≡ now → part_tree program.first ≡ (program_tree now).first
+first_is program now same = ap (λ (p : Program). part_tree p.first) same
+
+pub second_is : (program now : Program) → program ≡ now → part_tree program.second ≡ (program_tree now).second
+second_is program now same = ap (λ (p : Program). part_tree p.second) same
+
+pub third_is : (program now : Program) → program ≡ now → part_tree program.third ≡ (program_tree now).third
+third_is program now same = ap (λ (p : Program). part_tree p.third) same
 
 -- ---- at first
 
@@ -129,8 +147,8 @@ nothing_past : Past
 nothing_past = record { launches = []; asked = [] }
 
 module _ (machine : Machine) (m n : Moment) (t : State) (setting : Setting) (fits : Fits machine setting) where
-  pub plan_plays : (r : Result (Unit {0}) Stop) (goes : Goes machine (plan_part (plan_tree machine.plan.now)) first_state m r t n) → AreGiven setting.files 0 goes.more.requests
-      → (p : PlaysPlan (plan_tree machine.plan.now) setting (end_of r) (contents_of machine.standings.now m.ram m.disk.flash.reads) (contents_of machine.standings.now n.ram n.disk.flash.reads) m.launcher.launches n.launcher.launches)
+  pub plan_plays : (r : Result (Unit {0}) Stop) (goes : Goes machine (plan_part (program_tree machine.program.now)) first_state m r t n) → AreGiven setting.files 0 goes.more.requests
+      → (p : PlaysPlan (program_tree machine.program.now) setting (end_of r) (contents_of machine.standings.now m.ram m.disk.flash.reads) (contents_of machine.standings.now n.ram n.disk.flash.reads) m.launcher.launches n.launcher.launches)
       × (p.asks ≡ names_of goes.more.requests)
   unfolding nothing_past
   plan_plays (Ok u) goes given =

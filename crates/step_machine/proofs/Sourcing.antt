@@ -8,10 +8,10 @@ use Rattle.suit_params.specs.declared.param.ParamKey.TheVariants as keys
 use Rattle.suit_params.specs.InForce.{Parameters, bytes_of, in_force, number_of, last_of, rank, with_param, overridden, IsOverridden}
 use Rattle.suit_params.specs.ParamKeys.{key_of}
 use Rattle.suit_params.specs.ParamMaking.{IsBelow}
-use Rattle.suit_commands.specs.declared.command.Command.{Command}
-use Rattle.suit_commands.specs.declared.command.Command.TheVariants as commands
+use Rattle.suit_cursor.specs.declared.command.LentCommand.{LentCommand}
+use Rattle.suit_cursor.specs.declared.command.LentCommand.TheVariants as commands
+use Rattle.suit_cursor.specs.Lending.{command_of}
 use Rattle.suit_commands.specs.Targets.{NamesSource}
-use Rattle.suit_commands.specs.View.{command_tree}
 use Rattle.flash_slots.specs.RamContents.{Held}
 use Rattle.suit_commands.specs.Tree.{Override}
 use Rattle.path_model.specs.Directives.{after_override, soft_after}
@@ -64,14 +64,14 @@ named_uri (p ∷ list) uri before e =
     ⊎_elim (λ h. inl (later_uri p list uri h)) (λ h. first_uri p list uri before h)
     (named_uri list uri (if rank (key_of p) == 8 then Some p else before) e)
 
-pub sources_after : (machine : Machine) (old new : Parameters) (component : ℕ) (list : List Param) (k : ℕ) → component < 8 → machine.plan.now.count ≡ length machine.standings.now
+pub sources_after : (machine : Machine) (old new : Parameters) (component : ℕ) (list : List Param) (k : ℕ) → component < 8 → machine.program.now.count ≡ length machine.standings.now
     → AllowsCommand machine (Override list) (k ∷ []) → IsOverridden old new component list → AreSources machine old → AreSources machine new
 sources_after machine old new component list k few count allowed is sources = record {
   components = λ other source lt e.
       ⊎_elim
       (λ here.
       ⊎_elim
-      (λ h. let b : source < machine.plan.now.count = below list machine.plan.now.count source allowed.indexed h in
+      (λ h. let b : source < machine.program.now.count = below list machine.program.now.count source allowed.indexed h in
       (omega (arith, b, count), allowed.sources source h))
       (λ h. sources.components component source few h)
       (named list source (in_force old component keys.Source) (sym (ap number_of here) ∙ e)))
@@ -86,11 +86,11 @@ sources_after machine old new component list k few count allowed is sources = re
       (chosen (other == component) (last_of list keys.Uri (in_force old component keys.Uri)) (in_force old other keys.Uri) (in_force new other keys.Uri) (is other keys.Uri lt));
 }
 
-pub sources_overridden : (machine : Machine) (old new : Parameters) (component : ℕ) (list : List Param) (size : ℕ) (ram : List Held) → component < length machine.standings.now → IsReady machine size ram → (command : Command) → command ≡ commands.Override list
-    → AllowsCommand machine (command_tree command) (component ∷ []) → IsOverridden old new component list → AreSources machine old → AreSources machine new
+pub sources_overridden : (machine : Machine) (old new : Parameters) (component : ℕ) (list : List Param) (size : ℕ) (ram : List Held) → component < length machine.standings.now → IsReady machine size ram → (command : LentCommand) → command ≡ commands.Override list
+    → AllowsCommand machine (command_of command) (component ∷ []) → IsOverridden old new component list → AreSources machine old → AreSources machine new
 sources_overridden machine old new component list size ram inside ready command command_is allowed is sources =
     sources_after machine old new component list component (omega (arith, inside, ready.standings.few)) ready.count
-    (subst (λ (x : Command). AllowsCommand machine (command_tree x) (component ∷ [])) command_is allowed) is sources
+    (subst (λ (x : LentCommand). AllowsCommand machine (command_of x) (component ∷ [])) command_is allowed) is sources
 
 -- ---- the state after it
 

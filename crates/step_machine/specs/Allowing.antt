@@ -3,7 +3,7 @@
 use Rattle.std.specs.Prelude.{ℕ, List}
 use Rattle.suit_commands.specs.Tree.{CommandTree, SequenceTree, BranchesTree}
 use Rattle.suit_commands.specs.Indexed.{AreIndexed, IsIndexed, BranchesIndexed}
-use Rattle.suit_commands.specs.Plans.{plan_tree}
+use Rattle.step_machine.specs.Programs.{program_tree}
 use Rattle.suit_commands.specs.Targets.{InSome, IsTarget, Writes, CommandWrites, BranchesWrite, Swaps, CommandSwaps, BranchesSwap, Sources, CommandSources, BranchesSource}
 use Rattle.suit_commands.specs.Touches.{HasAct, CommandHasAct, BranchesHaveAct}
 use Rattle.suit_commands.specs.declared.kinds.ActKind.TheVariants as acts
@@ -11,19 +11,19 @@ use Rattle.step_machine.specs.declared.machine.Machine.{Machine}
 use Rattle.step_machine.specs.UrisSet.{BranchesSet, CommandSets, HasFetch, Sets, SetsUri}
 
 abbrev pub MaySwap : Machine → Type 0
-MaySwap machine = InSome (plan_tree machine.plan.now) Swaps
+MaySwap machine = InSome (program_tree machine.program.now) Swaps
 
 abbrev pub MayFetch : Machine → Type 0
-MayFetch machine = HasFetch (plan_tree machine.plan.now)
+MayFetch machine = HasFetch (program_tree machine.program.now)
 
 abbrev pub MayName : Machine → ℕ → Type 0
-MayName machine source = InSome (plan_tree machine.plan.now) (λ s. Sources s source)
+MayName machine source = InSome (program_tree machine.program.now) (λ s. Sources s source)
 
 abbrev pub MaySet : Machine → List ℕ → Type 0
-MaySet machine uri = SetsUri (plan_tree machine.plan.now) uri
+MaySet machine uri = SetsUri (program_tree machine.program.now) uri
 
 abbrev pub MayWrite : Machine → ℕ → Type 0
-MayWrite machine component = IsTarget (plan_tree machine.plan.now) component
+MayWrite machine component = IsTarget (program_tree machine.program.now) component
 
 -- a part with this alone
 pub record Allows (machine : Machine) (IsRight : Type 0) (WritesTo : ℕ → Type 0) (HasSwap : Type 0)
@@ -37,19 +37,19 @@ pub record Allows (machine : Machine) (IsRight : Type 0) (WritesTo : ℕ → Typ
 
 abbrev pub AllowsSequence : Machine → SequenceTree → List ℕ → Type 0
 AllowsSequence machine sequence selection =
-    Allows machine (AreIndexed machine.plan.now.count sequence)
-    (Writes sequence machine.plan.now.count selection) (Swaps sequence)
+    Allows machine (AreIndexed machine.program.now.count sequence)
+    (Writes sequence machine.program.now.count selection) (Swaps sequence)
     (HasAct acts.Fetch sequence) (Sources sequence) (Sets sequence)
 
 abbrev pub AllowsCommand : Machine → CommandTree → List ℕ → Type 0
 AllowsCommand machine command selection =
-    Allows machine (IsIndexed machine.plan.now.count command)
-    (CommandWrites command machine.plan.now.count selection) (CommandSwaps command)
+    Allows machine (IsIndexed machine.program.now.count command)
+    (CommandWrites command machine.program.now.count selection) (CommandSwaps command)
     (CommandHasAct acts.Fetch command) (CommandSources command) (CommandSets command)
 
 -- for one of the selected components
 abbrev pub AllowsBranches : Machine → BranchesTree → ℕ → Type 0
 AllowsBranches machine branches outer =
-    Allows machine (BranchesIndexed machine.plan.now.count branches)
-    (BranchesWrite branches machine.plan.now.count outer) (BranchesSwap branches)
+    Allows machine (BranchesIndexed machine.program.now.count branches)
+    (BranchesWrite branches machine.program.now.count outer) (BranchesSwap branches)
     (BranchesHaveAct acts.Fetch branches) (BranchesSource branches) (BranchesSet branches)

@@ -12,6 +12,7 @@ pub mod Copying
 pub mod Worlds
 pub mod Typing
 pub mod PlanRuns
+pub mod Programs
 pub mod Running
 pub mod Allowing
 pub mod Parts

@@ -1,11 +1,11 @@
 -- The effect of a part of a procedure on a device, from a moment to a later one.
-use Rattle.std.specs.Prelude.{◌≡◌, ◌⊎◌, ◌<◌, ℕ, Bool, IsTrue, List, [], ◌∷◌, ◌++◌, Option, Some, Result, Ok, Err, length, map}
+use Rattle.std.specs.Prelude.{◌≡◌, ◌⊎◌, ◌<◌, ◌-◌, ℕ, Bool, IsTrue, List, [], ◌∷◌, ◌++◌, Option, Some, Result, Ok, Err, length, map}
 use Rattle.std.specs.List.{AllByRecursion, range_with_len}
 use Rattle.suit_edge.specs.Flash.{Grows, Keeps}
 use Rattle.suit_edge.specs.declared.launch.Launch.{Launch}
 use Rattle.suit_params.specs.InForce.{Parameters, bytes_of, in_force, number_of}
 use Rattle.suit_params.specs.declared.param.ParamKey.TheVariants as keys
-use Rattle.suit_commands.specs.Plans.{plan_tree}
+use Rattle.step_machine.specs.Programs.{program_tree}
 use Rattle.suit_commands.specs.Targets.{InSome, Sources}
 use Rattle.path_model.specs.Behaviour.{State}
 use Rattle.path_model.specs.Settings.{Setting}
@@ -86,8 +86,8 @@ followed past more = record {
 
 abbrev pub selected_list : Selected → List ℕ
 selected_list (selected.One component) = component ∷ []
-selected_list (selected.All count) = range_with_len 0 count
-selected_list (selected.Listed list) = list.now
+selected_list (selected.Range first end) = range_with_len first (end - first)
+selected_list (selected.Listed list) = list
 
 abbrev pub state_of : Progress → State
 state_of progress = record {
@@ -101,7 +101,7 @@ pub record AreSources (machine : Machine) (parameters : Parameters) : Type 0 whe
   pub components : (component source : ℕ) → component < 8
       → number_of (in_force parameters component keys.Source) ≡ Some source
       → (source < length machine.standings.now)
-      × InSome (plan_tree machine.plan.now) (λ s. Sources s source)
+      × InSome (program_tree machine.program.now) (λ s. Sources s source)
   pub uris : (component : ℕ) (uri : List ℕ) → component < 8
       → bytes_of (in_force parameters component keys.Uri) ≡ Some uri
       → MaySet machine uri
@@ -113,7 +113,7 @@ pub record IsUnderWay (machine : Machine) (state : State) : Type 0 where
 -- the components stand within this flash and this memory
 pub record IsReady (machine : Machine) (size : ℕ) (ram : List Held) : Type 0 where
   pub standings : AreStandings size ram machine.standings.now
-  pub count : machine.plan.now.count ≡ length machine.standings.now
+  pub count : machine.program.now.count ≡ length machine.standings.now
 
 -- the references are those that were lent, and a host is left alone where no name of a file is known, or no fetch stands in
 -- the procedure
@@ -143,10 +143,10 @@ pub record Stays (machine : Machine) (before after : Moment) : Type 0 where
       ≡ map (λ (held : Held). held.capacity) before.ram
   pub files : AreFilesKnown machine before → after.host.files ≡ before.host.files
   pub asks : IsTrue before.host.told → (room : ℕ) → StandAtMost machine.standings.now room
-      → AsksAmong (plan_tree machine.plan.now) machine.uris.now room before.host.asked
+      → AsksAmong (program_tree machine.program.now) machine.uris.now room before.host.asked
       after.host.asked
   pub keeps : IsTrue before.disk.told
-      → Keeps (OutsideTargets (plan_tree machine.plan.now) machine.standings.now) before.disk.flash
+      → Keeps (OutsideTargets (program_tree machine.program.now) machine.standings.now) before.disk.flash
       after.disk.flash
   pub grows : IsTrue before.disk.told → Grows before.disk.flash after.disk.flash
 

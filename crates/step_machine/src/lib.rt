@@ -3,6 +3,7 @@
 
 mod acting;
 mod areas;
+mod command_again;
 mod conditions;
 mod contents;
 mod copying;
@@ -20,6 +21,7 @@ mod payloads;
 mod pieces;
 mod plan_end;
 mod procedure;
+mod program;
 mod progress;
 mod running;
 mod sizing;
@@ -41,6 +43,7 @@ pub use invoking::invoke;
 pub use outside::Steps;
 pub use plan_end::PlanEnd;
 pub use procedure::run_plan;
+pub use program::Program;
 pub use sources::Sources;
 pub use spot::{Spot, Standing};
 pub use stop::Stop;

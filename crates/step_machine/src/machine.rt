@@ -1,14 +1,13 @@
 //! The parts of a running procedure that do not change.
 
-use crate::{Standing, Uris};
+use crate::{Program, Standing, Uris};
 use flash_slots::Ram;
-use suit_commands::Plan;
 use suit_envelope::Envelope;
 
 /// The procedure, where its components stand, and where payloads come from: the envelope's own, if it is given one, and files.
 #[derive(Clone, Copy)]
 pub(crate) struct Machine<'m> {
-    pub plan: &'m Plan<'m>,
+    pub program: &'m Program<'m>,
     pub standings: &'m [Standing],
     pub uris: &'m Uris,
     pub envelope: Option<&'m Envelope<'m>>,

@@ -13,32 +13,32 @@ ghost use Rattle.step_machine.specs.Fetching.{ArePayloads, AsksAmong, asked_at};
 ghost use Rattle.step_machine.specs.UrisSet.{HasFetch};
 ghost use Rattle.step_machine.specs.Worlds.{AreStandings, StandAtMost};
 ghost use Rattle.suit_commands.specs.Allowed.{IsPlan};
-ghost use Rattle.suit_commands.specs.Plans.{lent_tree, plan_tree};
+ghost use Rattle.step_machine.specs.Programs.{part_tree, program_tree};
 ghost use Rattle.suit_edge.specs.Flash.{Grows, Keeps};
 
 use crate::machine::{Machine, Pieces, Work};
 use crate::outside::Moments;
+use crate::program::lent_again;
 use crate::progress::{Progress, Selected};
 use crate::running::sequence;
-use crate::{PlanEnd, Stop, World};
+use crate::{PlanEnd, Program, Stop, World};
 use flash_slots::Ram;
-use suit_commands::{Plan, Sequence};
-use suit_cursor::SliceParams;
+use suit_cursor::{LentSequence, SliceParams};
 use suit_edge::{Disk, Host, Launcher};
 
 // Runs a member or the shared sequence, where there is one. It begins with component 0 selected and soft failure false.
 fn part<'p, H: Host, D: Disk, L: Launcher>(
     machine: &Machine<'_>,
     work: &mut Work<'_, H, D, L>,
-    lent: Option<&'p Sequence>,
+    lent: Option<LentSequence<'p>>,
     state: &mut Progress<'p>,
 ) -> Result<(), Stop>
     requires ready { IsReady machine.now (D.extent work.old.disk.now) work.old.ram.now }
     requires some { 0 < length machine.now.standings.now }
-    requires allowed { AllowsSequence machine.now (lent_tree lent) (0 ∷ []) }
+    requires allowed { AllowsSequence machine.now (part_tree lent) (0 ∷ []) }
     requires sources { AreSources machine.now state.old.params }
     ensures runs { RunsPart machine.now
-        (starting_part (lent_tree lent.entry) machine.now.plan.now.count) (state_of state.old)
+        (starting_part (part_tree lent.entry) machine.now.program.now.count) (state_of state.old)
         (⟦<D as Moments<H, L>>⟧.of_work work.old)
         result (state_of state.new)
         (⟦<D as Moments<H, L>>⟧.of_work work.new) }
@@ -54,39 +54,48 @@ fn part<'p, H: Host, D: Disk, L: Launcher>(
 
 // Runs the shared sequence before each of the three members.
 fn procedure<'p, H: Host, D: Disk, L: Launcher>(
-    machine: &Machine<'p>,
+    machine: &Machine<'_>,
     work: &mut Work<'_, H, D, L>,
+    program: Program<'p>,
     state: &mut Progress<'p>,
 ) -> Result<(), Stop>
     requires ready { IsReady machine.now (D.extent work.old.disk.now) work.old.ram.now }
-    requires plan { IsPlan (plan_tree machine.now.plan.now) }
+    requires same { program ≡ machine.now.program.now }
+    requires plan { IsPlan (program_tree machine.now.program.now) }
     requires sources { AreSources machine.now state.old.params }
-    ensures runs { RunsPart machine.now (plan_part (plan_tree machine.now.plan.now))
+    ensures runs { RunsPart machine.now (plan_part (program_tree machine.now.program.now))
         (state_of state.old)
         (⟦<D as Moments<H, L>>⟧.of_work work.old)
         result (state_of state.new)
         (⟦<D as Moments<H, L>>⟧.of_work work.new) }
     ensures leaves { LeavesWork machine.now work.old work.new }
 {
-    let plan = machine.plan;
-    let (shared, second) = (plan.shared, plan.second);
-    part(machine, work, shared, state)?;
-    part(machine, work, plan.first, state)?;
-    part(machine, work, shared, state)?;
+    let Program {
+        mut shared,
+        first,
+        second,
+        third,
+        ..
+    } = program;
+    part(machine, work, lent_again(&mut shared), state)?;
+    part(machine, work, first, state)?;
+    part(machine, work, lent_again(&mut shared), state)?;
     part(machine, work, second, state)?;
     part(machine, work, shared, state)?;
-    part(machine, work, plan.third, state)
+    part(machine, work, third, state)
 }
 
 // Runs the procedure from its first state.
 fn started<H: Host, D: Disk, L: Launcher>(
     machine: &Machine<'_>,
     work: &mut Work<'_, H, D, L>,
+    program: Program<'_>,
 ) -> Result<(), Stop>
     requires ready { IsReady machine.now (D.extent work.old.disk.now) work.old.ram.now }
-    requires plan { IsPlan (plan_tree machine.now.plan.now) }
+    requires same { program ≡ machine.now.program.now }
+    requires plan { IsPlan (program_tree machine.now.program.now) }
     ensures runs { (next : State)
-        × RunsPart machine.now (plan_part (plan_tree machine.now.plan.now)) first_state
+        × RunsPart machine.now (plan_part (program_tree machine.now.program.now)) first_state
         (⟦<D as Moments<H, L>>⟧.of_work work.old)
         result next
         (⟦<D as Moments<H, L>>⟧.of_work work.new) }
@@ -98,7 +107,7 @@ fn started<H: Host, D: Disk, L: Launcher>(
         selected: Selected::One(0),
         soft_failure: false,
     };
-    procedure(machine, work, &mut state)
+    procedure(machine, work, program, &mut state)
 }
 
 // Lends a running procedure the objects that it works with.
@@ -129,6 +138,7 @@ fn lent<'w, H: Host, D: Disk, L: Launcher>(
 // Runs the procedure with these objects.
 fn run_lent<H: Host, D: Disk, L: Launcher>(
     machine: &Machine<'_>,
+    program: Program<'_>,
     host: &mut H,
     disk: &mut D,
     launcher: &mut L,
@@ -136,9 +146,10 @@ fn run_lent<H: Host, D: Disk, L: Launcher>(
     pieces: &mut Pieces,
 ) -> Result<(), Stop>
     requires ready { IsReady machine.now (D.extent disk.old) ram.old }
-    requires plan { IsPlan (plan_tree machine.now.plan.now) }
+    requires same { program ≡ machine.now.program.now }
+    requires plan { IsPlan (program_tree machine.now.program.now) }
     ensures runs { (next : State)
-        × RunsPart machine.now (plan_part (plan_tree machine.now.plan.now)) first_state
+        × RunsPart machine.now (plan_part (program_tree machine.now.program.now)) first_state
         (⟦<D as Moments<H, L>>⟧.at host.old disk.old launcher.old ram.old)
         result next
         (⟦<D as Moments<H, L>>⟧.at host.new disk.new launcher.new ram.new) }
@@ -146,7 +157,7 @@ fn run_lent<H: Host, D: Disk, L: Launcher>(
     ensures unfetched { (MayFetch machine.now → ⊥) → host.new ≡ host.old }
 {
     let mut work = lent(host, disk, launcher, ram, pieces);
-    started(machine, &mut work)
+    started(machine, &mut work, program)
 }
 
 fn end_of(ended: Result<(), Stop>) -> PlanEnd
@@ -169,11 +180,11 @@ pub fn run_plan<H: Host, D: Disk, L: Launcher>(
     disk: &mut D,
     launcher: &mut L,
     world: &mut World<'_>,
-    plan: &Plan<'_>,
+    mut program: Program<'_>,
 ) -> PlanEnd
     requires standings { AreStandings (D.extent disk.old) world.old.ram world.old.standings.items }
-    requires plan { IsPlan (plan_tree plan.now) }
-    requires count { plan.now.count ≡ length world.old.standings.items }
+    requires plan { IsPlan (program_tree program) }
+    requires count { program.count ≡ length world.old.standings.items }
     ensures standings { world.new.standings.items ≡ world.old.standings.items }
     ensures rooms { map (λ (held : Held). held.capacity) world.new.ram
         ≡ map (λ (held : Held). held.capacity) world.old.ram }
@@ -183,29 +194,30 @@ pub fn run_plan<H: Host, D: Disk, L: Launcher>(
         (counts_of (H.faults host.new) (D.faults disk.new) (L.faults launcher.new)) }
     ensures files { IsTrue H.told → H.file host.new ≡ H.file host.old }
     ensures unasked { world.old.uris.now ≡ [] → host.new ≡ host.old }
-    ensures unfetched { (HasFetch (plan_tree plan.now) → ⊥) → host.new ≡ host.old }
+    ensures unfetched { (HasFetch (program_tree program.entry) → ⊥) → host.new ≡ host.old }
     ensures asked { IsTrue H.told → (room : ℕ) → StandAtMost world.old.standings.items room
-        → AsksAmong (plan_tree plan.now) world.old.uris.now room
+        → AsksAmong (program_tree program.entry) world.old.uris.now room
         (asked_at (H.asked host.old) (H.pulled host.old))
         (asked_at (H.asked host.new) (H.pulled host.new)) }
     ensures plays { IsTrue D.told → IsTrue L.told → (payloads : List (List ℕ × List ℕ))
         → ArePayloads world.old.envelope payloads
         → (given : ℕ → List ℕ → Option (List ℕ))
         × GivesAs H.told world.old.uris.now (H.file host.old) given
-        × (plays : PlaysPlan (plan_tree plan.now)
+        × (plays : PlaysPlan (program_tree program.entry)
         (setting_of world.old.standings.items payloads world.old.uris.now given) result
         (contents_of world.old.standings.items world.old.ram (D.flash disk.old).reads)
         (contents_of world.old.standings.items world.new.ram (D.flash disk.new).reads)
         (L.launches launcher.old) (L.launches launcher.new))
         × (IsTrue H.told → H.asked host.new ≡ H.asked host.old ++ plays.asks) }
     ensures keeps { IsTrue D.told
-        → Keeps (OutsideTargets (plan_tree plan.now) world.old.standings.items)
+        → Keeps (OutsideTargets (program_tree program.entry) world.old.standings.items)
         (D.flash disk.old) (D.flash disk.new) }
     ensures grows { IsTrue D.told → Grows (D.flash disk.old) (D.flash disk.new) }
 {
+    let again = program.copy();
     let standings = world.standings.as_slice();
     let machine = Machine {
-        plan,
+        program: &again,
         standings,
         uris: world.uris,
         envelope: world.envelope,
@@ -214,6 +226,14 @@ pub fn run_plan<H: Host, D: Disk, L: Launcher>(
         one: [0; 4096],
         other: [0; 4096],
     };
-    let ended = run_lent(&machine, host, disk, launcher, &mut world.ram, &mut pieces);
+    let ended = run_lent(
+        &machine,
+        program,
+        host,
+        disk,
+        launcher,
+        &mut world.ram,
+        &mut pieces,
+    );
     end_of(ended)
 }

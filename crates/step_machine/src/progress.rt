@@ -1,19 +1,20 @@
 //! The state of a running sequence.
 
 ghost use Rattle.path_model.specs.Runs.{entry_state};
-ghost use Rattle.std.specs.Prelude.{◌≡◌, ◌<◌, get_or, length};
+ghost use Rattle.std.specs.Prelude.{◌≡◌};
 ghost use Rattle.step_machine.specs.Running.{selected_list, state_of};
 ghost use Rattle.suit_commands.specs.Selections.{selected_by};
+ghost use Rattle.suit_cursor.specs.Lending.{LendsIndex, selection_of};
 
-use suit_commands::{IndexList, Selection};
-use suit_cursor::SliceParams;
+use suit_cursor::{LentIndices, LentSelection, SliceParams};
 
-/// The selected components, in order.
-#[derive(Clone, Copy)]
+/// The selected components that are left, in order.
+#[derive(Drop)]
 pub(crate) enum Selected<'p> {
     One(u32),
-    All(u32),
-    Listed(&'p IndexList),
+    /// Those from the first on, up to the second, which is none of them.
+    Range(u32, u32),
+    Listed(LentIndices<'p>),
 }
 
 /// The parameters in force, the selected components, and soft failure.
@@ -26,37 +27,48 @@ pub(crate) struct Progress<'p> {
 
 impl<'p> Selected<'p> {
     /// Those that a selection names, of so many components.
-    pub(crate) fn by(selection: &'p Selection, count: u32) -> Selected<'p>
-        ensures { selected_list result ≡ selected_by selection.now count }
+    pub(crate) fn by(selection: LentSelection<'p>, count: u32) -> Selected<'p>
+        ensures { selected_list result ≡ selected_by (selection_of selection.entry) count }
     {
         match selection {
-            Selection::One(component) => Selected::One(*component),
-            Selection::All => Selected::All(count),
-            Selection::Listed(list) => Selected::Listed(list),
+            LentSelection::One(component) => Selected::One(component),
+            LentSelection::All => Selected::Range(0, count),
+            LentSelection::Listed(list) => Selected::Listed(list),
         }
     }
 
-    /// How many there are.
-    pub(crate) fn len(self) -> usize
-        ensures { result ≡ length (selected_list self.entry) }
+    /// The same components, lent again.
+    pub(crate) fn copy(&mut self) -> Selected<'p>
+        ensures copied { result ≡ self.old }
+        ensures same { self.new ≡ self.old }
     {
         match self {
-            Selected::One(_) => 1,
-            Selected::All(count) => count as usize,
-            Selected::Listed(list) => list.len(),
+            Selected::One(component) => Selected::One(*component),
+            Selected::Range(first, end) => Selected::Range(*first, *end),
+            Selected::Listed(list) => Selected::Listed(list.copy()),
         }
     }
 
-    /// The one at a position.
-    pub(crate) fn at(self, position: usize) -> u32
-        requires inside { position < length (selected_list self) }
-        requires few { get_or (selected_list self) position 0 < 8 }
-        ensures { result ≡ get_or (selected_list self.entry) position 0 }
+    /// The next one. `None` stands exactly at the end.
+    pub(crate) fn next(&mut self) -> Option<u32>
+        ensures { LendsIndex (selected_list self.old) (selected_list self.new) result }
     {
         match self {
-            Selected::One(component) => component,
-            Selected::All(_) => position as u32,
-            Selected::Listed(list) => list.as_slice()[position],
+            Selected::One(component) => {
+                let component = *component;
+                *self = Selected::Range(0, 0);
+                Some(component)
+            }
+            Selected::Range(first, end) => {
+                if *first < *end {
+                    let component = *first;
+                    *first = component + 1;
+                    Some(component)
+                } else {
+                    None
+                }
+            }
+            Selected::Listed(list) => list.next(),
         }
     }
 }

@@ -8,15 +8,16 @@ ghost use Rattle.path_model.specs.Plays.{running_inner};
 ghost use Rattle.path_model.specs.DevicePlays.{Device};
 ghost use Rattle.suit_commands.specs.Selections.{selected_after};
 ghost use Rattle.suit_commands.specs.Tree.{Override, RunSequence, TryEach};
-ghost use Rattle.suit_commands.specs.View.{command_tree};
+ghost use Rattle.suit_cursor.specs.Lending.{command_of};
 
 use crate::Stop;
 use crate::acting::{act, test};
+use crate::command_again::command_again;
 use crate::machine::{Machine, Work};
 use crate::outside::Moments;
 use crate::overriding::override_with;
 use crate::progress::{Progress, Selected};
-use suit_commands::{Branches, Command, Sequence, Step};
+use suit_cursor::{LentBranch, LentBranches, LentCommand, LentSequence};
 use suit_edge::{Disk, Host, Launcher};
 
 // How a stopped inner sequence stops the outer one; none if it failed softly.
@@ -41,21 +42,21 @@ fn passed_on(stop: Stop, soft_failure: bool) -> Option<Stop>
 pub(crate) fn sequence<'p, H: Host, D: Disk, L: Launcher>(
     machine: &Machine<'_>,
     work: &mut Work<'_, H, D, L>,
-    sequence: &'p Sequence,
+    mut steps: LentSequence<'p>,
     state: &mut Progress<'p>,
 ) -> Result<(), Stop>
     requires ready { IsReady machine.now (D.extent work.old.disk.now) work.old.ram.now }
-    requires allowed { AllowsSequence machine.now sequence.now (selected_list state.old.selected) }
+    requires allowed { AllowsSequence machine.now steps (selected_list state.old.selected) }
     requires under_way { IsUnderWay machine.now (state_of state.old) }
-    ensures runs { RunsPart machine.now (sequence_part sequence.now machine.now.plan.now.count)
+    ensures runs { RunsPart machine.now (sequence_part steps.entry machine.now.program.now.count)
         (state_of state.old)
         (⟦<D as Moments<H, L>>⟧.of_work work.old)
         result (state_of state.new)
         (⟦<D as Moments<H, L>>⟧.of_work work.new) }
     ensures leaves { LeavesWork machine.now work.old work.new }
 {
-    for step in sequence.as_slice() {
-        command(machine, work, step, state)?;
+    while let Some(step) = steps.next() {
+        command(machine, work, step.place, step.command, state)?;
     }
     Ok(())
 }
@@ -65,34 +66,31 @@ pub(crate) fn sequence<'p, H: Host, D: Disk, L: Launcher>(
 fn command<'p, H: Host, D: Disk, L: Launcher>(
     machine: &Machine<'_>,
     work: &mut Work<'_, H, D, L>,
-    step: &'p Step,
+    place: u64,
+    command: LentCommand<'p>,
     state: &mut Progress<'p>,
 ) -> Result<(), Stop>
     requires ready { IsReady machine.now (D.extent work.old.disk.now) work.old.ram.now }
-    requires allowed { AllowsCommand machine.now (command_tree step.now.command)
+    requires allowed { AllowsCommand machine.now (command_of command)
         (selected_list state.old.selected) }
     requires under_way { IsUnderWay machine.now (state_of state.old) }
     ensures runs { RunsPart machine.now
-        (command_part (command_tree step.now.command) machine.now.plan.now.count step.now.place)
+        (command_part (command_of command.entry) machine.now.program.now.count place)
         (state_of state.old)
         (⟦<D as Moments<H, L>>⟧.of_work work.old)
         result (state_of state.new)
         (⟦<D as Moments<H, L>>⟧.of_work work.new) }
     ensures leaves { LeavesWork machine.now work.old work.new }
     ensures selected { OnOk result (selected_list state.new.selected
-        ≡ selected_after (command_tree step.now.command) machine.now.plan.now.count
+        ≡ selected_after (command_of command.entry) machine.now.program.now.count
         (selected_list state.old.selected)) }
 {
-    match &step.command {
-        Command::Index(selection) => {
-            state.selected = Selected::by(selection, machine.plan.count);
+    match command {
+        LentCommand::Index(selection) => {
+            state.selected = Selected::by(selection, machine.program.count);
             Ok(())
         }
-        Command::Test { .. } => each(machine, work, step, state),
-        Command::Act { .. } => each(machine, work, step, state),
-        Command::Override(_) => each(machine, work, step, state),
-        Command::TryEach(_) => each(machine, work, step, state),
-        Command::Run(_) => each(machine, work, step, state),
+        other => each(machine, work, place, other, state),
     }
 }
 
@@ -101,15 +99,16 @@ fn command<'p, H: Host, D: Disk, L: Launcher>(
 fn each<'p, H: Host, D: Disk, L: Launcher>(
     machine: &Machine<'_>,
     work: &mut Work<'_, H, D, L>,
-    step: &'p Step,
+    place: u64,
+    mut command: LentCommand<'p>,
     state: &mut Progress<'p>,
 ) -> Result<(), Stop>
     requires ready { IsReady machine.now (D.extent work.old.disk.now) work.old.ram.now }
-    requires allowed { AllowsCommand machine.now (command_tree step.now.command)
+    requires allowed { AllowsCommand machine.now (command_of command)
         (selected_list state.old.selected) }
     requires under_way { IsUnderWay machine.now (state_of state.old) }
     ensures runs { RunsPart machine.now
-        (each_part (command_tree step.now.command) machine.now.plan.now.count step.now.place
+        (each_part (command_of command.entry) machine.now.program.now.count place
         (selected_list state.old.selected))
         (state_of state.old)
         (⟦<D as Moments<H, L>>⟧.of_work work.old)
@@ -118,10 +117,10 @@ fn each<'p, H: Host, D: Disk, L: Launcher>(
     ensures leaves { LeavesWork machine.now work.old work.new }
     ensures selected { state.new.selected ≡ state.old.selected }
 {
-    let selected = state.selected;
-    for position in 0..selected.len() {
-        let component = selected.at(position);
-        at(machine, work, step, component, state)?;
+    let mut left = state.selected.copy();
+    while let Some(component) = left.next() {
+        let again = command_again(&mut command);
+        at(machine, work, place, again, component, state)?;
     }
     Ok(())
 }
@@ -131,16 +130,17 @@ fn each<'p, H: Host, D: Disk, L: Launcher>(
 fn at<'p, H: Host, D: Disk, L: Launcher>(
     machine: &Machine<'_>,
     work: &mut Work<'_, H, D, L>,
-    step: &'p Step,
+    place: u64,
+    command: LentCommand<'p>,
     component: u32,
     state: &mut Progress<'p>,
 ) -> Result<(), Stop>
     requires ready { IsReady machine.now (D.extent work.old.disk.now) work.old.ram.now }
     requires inside { component < length machine.now.standings.now }
-    requires allowed { AllowsCommand machine.now (command_tree step.now.command) (component ∷ []) }
+    requires allowed { AllowsCommand machine.now (command_of command) (component ∷ []) }
     requires under_way { IsUnderWay machine.now (state_of state.old) }
     ensures runs { RunsPart machine.now
-        (at_part (command_tree step.now.command) machine.now.plan.now.count step.now.place
+        (at_part (command_of command.entry) machine.now.program.now.count place
         component)
         (state_of state.old)
         (⟦<D as Moments<H, L>>⟧.of_work work.old)
@@ -149,18 +149,18 @@ fn at<'p, H: Host, D: Disk, L: Launcher>(
     ensures leaves { LeavesWork machine.now work.old work.new }
     ensures selected { state.new.selected ≡ state.old.selected }
 {
-    match &step.command {
-        Command::Test { kind, .. } => test(machine, work, *kind, step.place, component, state),
-        Command::Act { kind, .. } => act(machine, work, *kind, step.place, component, state),
-        Command::Index(_) => Ok(()),
-        Command::Override(list) => {
+    match command {
+        LentCommand::Test { kind, .. } => test(machine, work, kind, place, component, state),
+        LentCommand::Act { kind, .. } => act(machine, work, kind, place, component, state),
+        LentCommand::Index(_) => Ok(()),
+        LentCommand::Override(list) => {
             override_with(component, list, state);
             Ok(())
         }
-        Command::TryEach(branches) => {
-            try_each(machine, work, branches, step.place, component, state)
+        LentCommand::TryEach(branches) => {
+            try_each(machine, work, branches, place, component, state)
         }
-        Command::Run(inner) => run_inner(machine, work, inner, component, state),
+        LentCommand::Run(inner) => run_inner(machine, work, inner, component, state),
     }
 }
 
@@ -169,17 +169,17 @@ fn at<'p, H: Host, D: Disk, L: Launcher>(
 fn run_inner<'p, H: Host, D: Disk, L: Launcher>(
     machine: &Machine<'_>,
     work: &mut Work<'_, H, D, L>,
-    inner: &'p Sequence,
+    inner: LentSequence<'p>,
     component: u32,
     state: &mut Progress<'p>,
 ) -> Result<(), Stop>
     requires ready { IsReady machine.now (D.extent work.old.disk.now) work.old.ram.now }
     requires inside { component < length machine.now.standings.now }
-    requires allowed { AllowsSequence machine.now inner.now (component ∷ []) }
+    requires allowed { AllowsSequence machine.now inner (component ∷ []) }
     requires under_way { IsUnderWay machine.now (state_of state.old) }
     ensures runs { RunsPart machine.now
         (λ setting. running_inner Device
-        (sequence_part inner.now machine.now.plan.now.count setting) component)
+        (sequence_part inner.entry machine.now.program.now.count setting) component)
         (state_of state.old)
         (⟦<D as Moments<H, L>>⟧.of_work work.old)
         result (state_of state.new)
@@ -205,27 +205,27 @@ fn run_inner<'p, H: Host, D: Disk, L: Launcher>(
 fn try_each<'p, H: Host, D: Disk, L: Launcher>(
     machine: &Machine<'_>,
     work: &mut Work<'_, H, D, L>,
-    branches: &'p Branches,
+    mut branches: LentBranches<'p>,
     place: u64,
     component: u32,
     state: &mut Progress<'p>,
 ) -> Result<(), Stop>
     requires ready { IsReady machine.now (D.extent work.old.disk.now) work.old.ram.now }
     requires inside { component < length machine.now.standings.now }
-    requires allowed { AllowsBranches machine.now branches.now component }
+    requires allowed { AllowsBranches machine.now branches component }
     requires under_way { IsUnderWay machine.now (state_of state.old) }
     ensures runs { RunsPart machine.now
-        (branches_part branches.now machine.now.plan.now.count place component) (state_of state.old)
+        (branches_part branches.entry machine.now.program.now.count place component) (state_of state.old)
         (⟦<D as Moments<H, L>>⟧.of_work work.old)
         result (state_of state.new)
         (⟦<D as Moments<H, L>>⟧.of_work work.new) }
     ensures leaves { LeavesWork machine.now work.old work.new }
     ensures selected { state.new.selected ≡ state.old.selected }
 {
-    for branch in branches.as_slice() {
+    while let Some(branch) = branches.next() {
         match branch {
-            None => return Ok(()),
-            Some(inner) => {
+            LentBranch::Null => return Ok(()),
+            LentBranch::Inner(inner) => {
                 let mut inside = state.entered(component, true);
                 match sequence(machine, work, inner, &mut inside) {
                     Ok(()) => {

@@ -36,6 +36,7 @@ use rollback_record::sound_laws;
 use std::alloc::Global;
 use step_machine::{Uris, has_identifiers};
 use suit_edge::{Disk, Host, Launcher};
+use suit_envelope::envelope_laws;
 use suit_manifest::{manifest_laws, procedure_laws};
 use update_proc::update;
 
@@ -74,6 +75,7 @@ fn update_by<H: Host, D: Disk, L: Launcher>(
     sound_laws();
     config_laws();
     play_laws();
+    envelope_laws();
     manifest_laws();
     procedure_laws();
     installation_laws();

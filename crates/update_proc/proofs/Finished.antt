@@ -177,9 +177,10 @@ Runs tree standings payloads words host end before after launched now =
 pub plays_update : (layout : List Entry) (places : Places) (tree : PlanTree) (held : Option Record) (payloads words uris : List (List ℕ × List ℕ)) (host : Hosted)
     (before made : List ℕ) (launched now : List Launch) (end : PlanEnd) (numbers : List ℕ) (standings : List Standing) (ram left : List Held)
     → AreChosen layout places tree (active_slots held) numbers → IsChoice layout (record { number = numbers }) → StandAs layout places (record { number = numbers }) standings → ram ≡ empty_ram layout → words ≡ uris
-    → Runs tree standings payloads words host end (contents_of standings ram before) (contents_of standings left made) launched now
+    → (program : PlanTree) → program ≡ tree → Runs program standings payloads words host end (contents_of standings ram before) (contents_of standings left made) launched now
     → PlaysUpdate layout places tree held (sources payloads uris host) before made launched now end
-plays_update layout places tree held payloads words uris host before made launched now end numbers standings ram left chosen choice stand none same played =
+plays_update layout places tree held payloads words uris host before made launched now end numbers standings ram left chosen choice stand none same program is played_so =
+    let played = subst (λ (x : PlanTree). Runs x standings payloads words host end (contents_of standings ram before) (contents_of standings left made) launched now) is played_so in
     let run = subst (λ (r : List Held). Runs tree standings payloads uris host end (contents_of standings r before) (contents_of standings left made) launched now) none
     (subst (λ (u : List (List ℕ × List ℕ)). Runs tree standings payloads u host end (contents_of standings ram before) (contents_of standings left made) launched now) same played) in
     record {

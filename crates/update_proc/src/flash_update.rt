@@ -1,8 +1,13 @@
 //! An update of a flash: the record is read, and then the envelope is judged, played and installed beside it.
 
+ghost use Rattle.suit_envelope.specs.Places.{PartsEndBelow};
+ghost use Rattle.suit_envelope.specs.Said.{said_by};
+ghost use Rattle.suit_manifest.specs.Manifests.{IsManifest};
+ghost use Rattle.suit_manifest.specs.MembersApart.{HasMembers};
+ghost use Rattle.suit_params.specs.Refusing.{SaysWhole};
 ghost use Rattle.flash_layout.specs.Layouts.{IsLayout};
 ghost use Rattle.rollback_record.specs.SoundFlash.{Follows, Settled, Sound};
-ghost use Rattle.std.specs.Prelude.{◌≡◌, ◌≤◌, ◌⊎◌, [], ℕ, IsTrue, List, length};
+ghost use Rattle.std.specs.Prelude.{◌^◌, ◌≡◌, ◌≤◌, ◌⊎◌, [], ℕ, IsTrue, List, length};
 ghost use Rattle.step_machine.specs.Fetching.{AsksAmong, asked_at};
 ghost use Rattle.step_machine.specs.PlanRuns.{counts_of};
 ghost use Rattle.step_machine.specs.UrisSet.{HasFetch};
@@ -52,6 +57,10 @@ pub fn update<H: Host, D: Disk, L: Launcher>(
     requires distinct { AreDistinct layout.now places.now }
     requires count { length manifest.now.components ≡ places.now.count }
     requires plan { IsPlan (update_tree manifest.now members.now) }
+    requires manifest { SaysWhole IsManifest envelope.now.manifest_place envelope.now.manifest.now
+        manifest.now }
+    requires members { HasMembers (said_by envelope.now) manifest.now members.now }
+    requires ends { PartsEndBelow (2 ^ 64) (said_by envelope.now) }
     requires wrapper { HasWrapper envelope.now.wrapper.now }
     requires fits { length (trimmed envelope.now.wrapper.now envelope.now.manifest.now)
         ≤ VERSION_1.bank_size }

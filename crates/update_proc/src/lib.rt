@@ -11,6 +11,7 @@ mod in_use;
 mod installing;
 mod law;
 mod offer;
+mod program;
 mod starting;
 mod update_end;
 

@@ -6,12 +6,20 @@ ghost use Rattle.rollback_record.specs.Committing.{HasSpare};
 ghost use Rattle.rollback_record.specs.HeadRecord.{IsLoadable, RecordOf};
 ghost use Rattle.rollback_record.specs.Judging.{IsAcceptable};
 ghost use Rattle.rollback_record.specs.SoundFlash.{Follows, Settled, Sound};
-ghost use Rattle.std.specs.Prelude.{◌≡◌, ◌<◌, ◌≤◌, ◌⊎◌, [], ℕ, IfSome, IsTrue, List, length, option_map};
+ghost use Rattle.std.specs.Prelude.{◌^◌, ◌≡◌, ◌<◌, ◌≤◌, ◌⊎◌, [], ℕ, IfSome, IsTrue, List, length, option_map};
 ghost use Rattle.step_machine.specs.Fetching.{AsksAmong, asked_at};
 ghost use Rattle.step_machine.specs.PlanRuns.{counts_of};
 ghost use Rattle.step_machine.specs.UrisSet.{HasFetch};
 ghost use Rattle.step_machine.specs.Worlds.{AreDistinct, HaveAtMost};
 ghost use Rattle.suit_commands.specs.Allowed.{IsPlan};
+ghost use Rattle.suit_envelope.specs.Places.{PartsEndBelow};
+ghost use Rattle.suit_envelope.specs.Said.{said_by};
+ghost use Rattle.suit_manifest.specs.declared.manifest.Manifest.{Manifest};
+ghost use Rattle.suit_manifest.specs.declared.manifest.Members.{Members};
+ghost use Rattle.suit_manifest.specs.Manifests.{IsManifest};
+ghost use Rattle.suit_manifest.specs.MembersApart.{HasMembers};
+ghost use Rattle.suit_manifest.specs.Procedures.{update_tree};
+ghost use Rattle.suit_params.specs.Refusing.{SaysWhole};
 ghost use Rattle.suit_commands.specs.Plans.{plan_tree};
 ghost use Rattle.suit_edge.specs.Flash.{Grows, IsSame, IsSettled, Passes};
 ghost use Rattle.suit_envelope.specs.Payloads.{HasPayloads};
@@ -23,6 +31,7 @@ ghost use Rattle.update_proc.specs.Updates.{KeepsUpdate, KeptSo, LeavesUpdate, P
 
 use crate::finishing::finish;
 use crate::in_use::choose_slots;
+use crate::program::program_of;
 use crate::{Offer, UpdateEnd, choice_laws, moment_laws};
 use flash_layout::{Layout, Places, Record, VERSION_1};
 use rollback_record::{Spare, record_laws, sound_laws};
@@ -64,6 +73,12 @@ pub(crate) fn start<H: Host, D: Disk, L: Launcher>(
         → HasLayout (D.extent disk.old) (D.flash disk.old).reads layout.now }
     requires distinct { AreDistinct layout.now places.now }
     requires plan { IsPlan (plan_tree accepted.now.plan.now) }
+    requires ends { PartsEndBelow (2 ^ 64) (said_by accepted.now.envelope.now) }
+    requires said { (manifest : Manifest) × (members : Members)
+        × SaysWhole IsManifest accepted.now.envelope.now.manifest_place
+        accepted.now.envelope.now.manifest.now manifest
+        × HasMembers (said_by accepted.now.envelope.now) manifest members
+        × (plan_tree accepted.now.plan.now ≡ update_tree manifest members) }
     requires count { accepted.now.plan.now.count ≡ places.now.count }
     requires loadable { IfSome (option_map (λ r. r.now) accepted.now.held) (IsLoadable VERSION_1) }
     requires held { IsTrue D.told
@@ -151,7 +166,8 @@ pub(crate) fn start<H: Host, D: Disk, L: Launcher>(
         active: slots.number,
     };
     let mut room = [0u8; 4096];
-    let end = run_plan(host, disk, launcher, &mut world, plan);
+    let program = program_of(accepted.envelope);
+    let end = run_plan(host, disk, launcher, &mut world, program);
     let spare = accepted.spare;
     let bytes = accepted.bytes;
     finish(disk, end, held, spare, &offer, bytes, &mut room)

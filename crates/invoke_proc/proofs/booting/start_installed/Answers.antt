@@ -1,4 +1,4 @@
-use Rattle.std.proofs.Common.{◌≡◌, ◌∙◌, sym, subst}
+use Rattle.std.proofs.Common.{◌≡◌, ◌∙◌, ◌<◌, ◌^◌, length, sym, subst, arith}
 use Rattle.suit_edge.specs.Flash.{IsSame}
 use Rattle.suit_edge.specs.FlashLaws.{same_flash_then}
 use Rattle.invoke_proc.specs.declared.boot_end.BootEnd.{BootEnd}
@@ -32,6 +32,14 @@ start-requires-clause-distinct g c =
     let holds = c.in-Ok-startable.ensures.startable.spell.says in
     let grammar = c.manifest_laws.ensures.grammatical _ holds.item m holds.says_so in
     are_distinct c.args.layout.now m.components c.in-Ok-startable.startable.places grammar.few grammar.apart c.in-Ok-startable.ensures.startable.placed c.in-Ok-startable.ensures.other
+
+pub start-requires-clause-manifest : goal.start-requires-clause-manifest
+start-requires-clause-manifest g c = c.in-Ok-startable.ensures.startable.spell.says
+
+pub start-requires-clause-ends : goal.start-requires-clause-ends
+start-requires-clause-ends g c =
+    let fits : length c.as_slice.result.now < 2 ^ 64 = omega arith in
+    c.envelope_laws.ensures.ends c.as_slice.result.now _ (2 ^ 64) c.in-Ok-startable.ensures.startable.spell.spell.envelope fits
 
 pub start-requires-clause-plan : goal.start-requires-clause-plan
 start-requires-clause-plan g c =

@@ -1,6 +1,6 @@
 use Rattle.std.proofs.Common.{⊎_elim, ap, refl, arith}
 use Rattle.std.specs.Prelude.{get_or}
-use Rattle.suit_commands.specs.Plans.{plan_tree}
+use Rattle.step_machine.specs.Programs.{program_tree}
 use Rattle.suit_commands.specs.declared.kinds.ActKind.TheVariants as acts
 use Rattle.step_machine.specs.Running.{state_of}
 use Rattle.step_machine.proofs.Asking.{asks_none, asks_one}
@@ -17,7 +17,7 @@ returns-in-Write g c =
     record {
       runs = act_as c.args.machine.now c.args.kind acts.Write c.args.place c.args.component c.in-Write.is _ _ _ _ _
           (write_runs c.args.machine.now _ _ (state_of c.args.state.now) c.args.place c.args.component r.inside r.ready r.under_way (λ t. g.met.D.Disk.obeys c.args.work.now.disk.now t) c.write.result _ c.stopped.ensures
-          (one_stays c.args.machine.now _ _ c.args.component no_standing r.inside r.ready w.ram refl refl refl w.size (λ t. refl) (λ t room rooms. asks_none (plan_tree c.args.machine.now.plan.now) c.args.machine.now.uris.now room _) may w.keeps w.grows) refl
+          (one_stays c.args.machine.now _ _ c.args.component no_standing r.inside r.ready w.ram refl refl refl w.size (λ t. refl) (λ t room rooms. asks_none (program_tree c.args.machine.now.program.now) c.args.machine.now.uris.now room _) may w.keeps w.grows) refl
           (cause_counts c.write.result c.args.place _ _ _ _ w.counts) w.ram w.keeps refl w.writes);
       leaves = record { unasked = λ none. refl; unfetched = λ none. refl; host = refl; disk = refl; launcher = refl; ram = refl; pieces = refl };
     }
@@ -31,7 +31,7 @@ returns-in-Fetch g c =
       runs = act_as c.args.machine.now c.args.kind acts.Fetch c.args.place c.args.component c.in-Fetch.is _ _ _ _ _
           (fetch_runs c.args.machine.now _ _ (state_of c.args.state.now) c.args.place c.args.component r.inside r.ready r.under_way (λ t. g.met.D.Disk.obeys c.args.work.now.disk.now t) c.fetch-fetched.result _ c.stopped-in-Fetch.ensures
           (one_stays c.args.machine.now _ _ c.args.component no_standing r.inside r.ready w.ram refl refl refl w.size (⊎_elim w.files (λ none. ap g.H.Host.file (w.unasked none)))
-          (λ t room rooms. asks_one (plan_tree c.args.machine.now.plan.now) c.args.machine.now.uris.now room (get_or c.args.machine.now.standings.now c.args.component no_standing).component _ c.args.state.now.params _ _ (λ uri in_use. r.under_way.sources.uris (get_or c.args.machine.now.standings.now c.args.component no_standing).component uri (omega (arith, (r.ready.standings.each c.args.component no_standing r.inside).component, r.inside, r.ready.standings.few)) in_use) (rooms c.args.component no_standing r.inside) (w.asked t)) may w.keeps w.grows) refl
+          (λ t room rooms. asks_one (program_tree c.args.machine.now.program.now) c.args.machine.now.uris.now room (get_or c.args.machine.now.standings.now c.args.component no_standing).component _ c.args.state.now.params _ _ (λ uri in_use. r.under_way.sources.uris (get_or c.args.machine.now.standings.now c.args.component no_standing).component uri (omega (arith, (r.ready.standings.each c.args.component no_standing r.inside).component, r.inside, r.ready.standings.few)) in_use) (rooms c.args.component no_standing r.inside) (w.asked t)) may w.keeps w.grows) refl
           (fetch_counts c.fetch-fetched.result c.args.place _ _ _ _ _ w.counts) w.ram w.keeps w.fetches);
       leaves = record { unasked = w.unasked; unfetched = λ none. absurd (none (r.fetches c.in-Fetch.is)); host = refl; disk = refl; launcher = refl; ram = refl; pieces = refl };
     }

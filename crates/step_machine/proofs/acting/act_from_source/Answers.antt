@@ -1,5 +1,5 @@
 use Rattle.std.proofs.Common.{◌^◌, ◌≡◌, ◌<◌, ◌*◌, Some, refl, ⊎_elim, arith, inr}
-use Rattle.suit_commands.specs.Plans.{plan_tree}
+use Rattle.step_machine.specs.Programs.{program_tree}
 use Rattle.suit_commands.specs.declared.kinds.ActKind.TheVariants as acts
 use Rattle.suit_params.specs.declared.param.ParamKey.TheVariants as keys
 use Rattle.suit_params.specs.InForce.{in_force, number_of}
@@ -39,7 +39,7 @@ returns-in_default g c =
     record {
       runs = act_as c.args.machine.now c.args.kind acts.Copy c.args.place c.args.component (copies c.args.kind c.requires.from c.in_default.not-Swap) _ _ _ _ _
           (copy_runs c.args.machine.now _ _ (state_of c.args.state.now) c.args.place c.args.component r.inside r.ready r.under_way (λ t. g.met.D.Disk.obeys c.args.work.now.disk.now t) c.copy.result _ c.stopped-in_default.ensures
-          (one_stays c.args.machine.now _ _ c.args.component no_standing r.inside r.ready w.ram refl refl refl w.size (λ t. refl) (λ t room rooms. asks_none (plan_tree c.args.machine.now.plan.now) c.args.machine.now.uris.now room _) r.target w.keeps w.grows) refl
+          (one_stays c.args.machine.now _ _ c.args.component no_standing r.inside r.ready w.ram refl refl refl w.size (λ t. refl) (λ t room rooms. asks_none (program_tree c.args.machine.now.program.now) c.args.machine.now.uris.now room _) r.target w.keeps w.grows) refl
           (cause_counts c.copy.result c.args.place _ _ _ _ w.counts) w.ram w.keeps refl c.in-Some.source named w.copies);
       leaves = record { unasked = λ none. refl; unfetched = λ none. refl; host = refl; disk = refl; launcher = refl; ram = refl; pieces = refl };
     }

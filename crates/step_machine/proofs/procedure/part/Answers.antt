@@ -1,6 +1,5 @@
 use Rattle.std.proofs.Common.{[], ◌∷◌, Option, subst}
-use Rattle.std.specs.Borrow.{Bor}
-use Rattle.suit_commands.specs.Plans.{lent_tree}
+use Rattle.step_machine.specs.Programs.{part_tree}
 use Rattle.suit_commands.specs.Tree.{SequenceTree}
 use Rattle.step_machine.specs.Allowing.{AllowsSequence}
 use Rattle.step_machine.specs.Running.{state_of}
@@ -10,15 +9,15 @@ use Rattle.step_machine.proofs.procedure.part.Goals as goal
 
 pub sequence-requires-clause-allowed : goal.sequence-requires-clause-allowed
 sequence-requires-clause-allowed g c =
-    subst (λ (o : Option (Bor SequenceTree)). AllowsSequence c.args.machine.now (lent_tree o) (0 ∷ [])) c.in-Some.is c.requires.allowed
+    subst (λ (o : Option SequenceTree). AllowsSequence c.args.machine.now (part_tree o) (0 ∷ [])) c.in-Some.is c.requires.allowed
 
 pub sequence-requires-clause-under_way : goal.sequence-requires-clause-under_way
 sequence-requires-clause-under_way g c = record { sources = c.requires.sources; selection = (c.requires.some, tt) }
 
 pub returns-in-Some : goal.returns-in-Some
 returns-in-Some g c =
-    record { runs = lent_as c.args.machine.now _ _ c.in-Some.is _ _ _ _ _ (runs_started c.args.machine.now c.in-Some.inner.now c.args.machine.now.plan.now.count _ _ _ _ _ c.sequence.ensures.runs); leaves = c.sequence.ensures.leaves }
+    record { runs = lent_as c.args.machine.now _ _ c.in-Some.is _ _ _ _ _ (runs_started c.args.machine.now c.in-Some.inner c.args.machine.now.program.now.count _ _ _ _ _ c.sequence.ensures.runs); leaves = c.sequence.ensures.leaves }
 
 pub returns-in-None : goal.returns-in-None
 returns-in-None g c =
-    record { runs = lent_as c.args.machine.now _ _ c.in-None.is _ _ _ _ _ (runs_absent c.args.machine.now c.args.machine.now.plan.now.count (state_of c.args.state.now) _ c.requires.sources); leaves = leaves_start _ _ }
+    record { runs = lent_as c.args.machine.now _ _ c.in-None.is _ _ _ _ _ (runs_absent c.args.machine.now c.args.machine.now.program.now.count (state_of c.args.state.now) _ c.requires.sources); leaves = leaves_start _ _ }

@@ -1,6 +1,6 @@
 use Rattle.std.proofs.Common.{false, [], ◌∷◌, sym, subst}
 use Rattle.suit_params.specs.InForce.{Parameters}
-use Rattle.suit_commands.specs.Plans.{plan_tree}
+use Rattle.step_machine.specs.Programs.{program_tree}
 use Rattle.path_model.specs.Behaviour.{State}
 use Rattle.step_machine.specs.Parts.{plan_part}
 use Rattle.step_machine.specs.Fetching.{asked_at}
@@ -20,7 +20,7 @@ returns g c =
     record {
       runs = (
         t,
-        subst (λ (ps : Parameters). RunsPart machine (plan_part (plan_tree machine.plan.now)) (record { parameters = ps; selection = 0 ∷ []; soft_failure = false }) start c.procedure.result t n)
+        subst (λ (ps : Parameters). RunsPart machine (plan_part (program_tree machine.program.now)) (record { parameters = ps; selection = 0 ∷ []; soft_failure = false }) start c.procedure.result t n)
             c.new-params.ensures c.procedure.ensures.runs,
       );
       leaves = c.procedure.ensures.leaves;

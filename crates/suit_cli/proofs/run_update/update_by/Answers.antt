@@ -1,4 +1,4 @@
-use Rattle.std.proofs.Common.{ℕ, inr, ⊎_elim, refl, sym, ap, subst}
+use Rattle.std.proofs.Common.{ℕ, ◌<◌, ◌^◌, inr, length, ⊎_elim, refl, sym, ap, subst, arith}
 use Rattle.suit_edge.specs.FlashLaws.{same_flash}
 use Rattle.flash_layout.specs.declared.frame.TheConstants.{VERSION_1}
 use Rattle.flash_layout.specs.Configs.{ConfigOf, Configured}
@@ -34,6 +34,17 @@ pub update-end-requires-clause-plan : goal.update-end-requires-clause-plan
 update-end-requires-clause-plan g c =
     let f = facts c.args.config.now.0 c.args.config.now.1 c.args.accepted.now.envelope.whole.now (admission_of c.args.accepted.now) c.requires.accepted in
     c.procedure_laws.ensures.update _ f.says.item _ _ _ f.says.says_so f.members
+
+pub update-end-requires-clause-manifest : goal.update-end-requires-clause-manifest
+update-end-requires-clause-manifest g c = (facts c.args.config.now.0 c.args.config.now.1 c.args.accepted.now.envelope.whole.now (admission_of c.args.accepted.now) c.requires.accepted).says
+
+pub update-end-requires-clause-members : goal.update-end-requires-clause-members
+update-end-requires-clause-members g c = (facts c.args.config.now.0 c.args.config.now.1 c.args.accepted.now.envelope.whole.now (admission_of c.args.accepted.now) c.requires.accepted).members
+
+pub update-end-requires-clause-ends : goal.update-end-requires-clause-ends
+update-end-requires-clause-ends g c =
+    let fits : length c.args.accepted.now.envelope.whole.now < 2 ^ 64 = omega arith in
+    c.envelope_laws.ensures.ends c.args.accepted.now.envelope.whole.now _ (2 ^ 64) (facts c.args.config.now.0 c.args.config.now.1 c.args.accepted.now.envelope.whole.now (admission_of c.args.accepted.now) c.requires.accepted).envelope fits
 
 pub update-end-requires-clause-wrapper : goal.update-end-requires-clause-wrapper
 update-end-requires-clause-wrapper g c = c.requires.wrapper

@@ -41,6 +41,9 @@ pub returns-in-Err-clause-follows : goal.returns-in-Err-clause-follows
 returns-in-Err-clause-follows g c t settled =
     weakens (g.D.Disk.flash c.args.disk.now) (g.D.Disk.flash c.load_pages_by.new.disk) (Now (g.D.Disk.flash c.args.disk.now)) (Follows VERSION_1 (g.D.Disk.flash c.args.disk.now).reads) (follows_now c.sound_laws.ensures (g.D.Disk.flash c.args.disk.now) settled) (c.in-Err.ensures.same t).images
 
+pub start-requires-clause-said : goal.start-requires-clause-said
+start-requires-clause-said g c = (c.args.manifest.now, c.args.members.now, c.requires.manifest, c.requires.members, c.update_plan-plan.ensures)
+
 pub start-requires-clause-held : goal.start-requires-clause-held
 start-requires-clause-held g c t =
     subst (λ (l : List ℕ). RecordOf VERSION_1 (head_of VERSION_1 l) (held_of c.as_ref-held.result)) (sym (c.in-Ok.ensures.same t).reads) (recorded_as (head_of VERSION_1 (g.D.Disk.flash c.args.disk.now).reads) c.as_ref-held.result c.in-Ok.pages.held c.as_ref-held.ensures.value (c.in-Ok.ensures.exact t).held)
