@@ -1,6 +1,6 @@
 //! The command `run update`: an envelope is accepted, its update procedure run, and the envelope installed.
 
-ghost use Rattle.std.specs.Prelude.{◌≡◌, IsTrue};
+ghost use Rattle.std.specs.Prelude.{◌≡◌, ◌<◌, ◌^◌, IsTrue, length};
 ghost use Rattle.flash_layout.specs.declared.frame.TheConstants.{VERSION_1};
 ghost use Rattle.flash_layout.specs.Configs.{IsAllowed};
 ghost use Rattle.flash_layout.specs.Placement.{HaveOtherPlaces};
@@ -57,6 +57,7 @@ fn update_by<H: Host, D: Disk, L: Launcher>(
         (admission_of accepted.now) }
     requires wrapper { HasWrapper accepted.now.envelope.wrapper.now }
     requires other { HaveOtherPlaces accepted.now.manifest.components accepted.now.places }
+    requires fits { length accepted.now.envelope.whole.now < 2 ^ 64 }
     ensures answer { UpdatesBy (offer config.now.0 accepted.now.envelope.whole.now
         (admission_of accepted.now) uris.now)
         (⟦<L as SeenLauncher>⟧.seen launcher.old) (⟦<L as SeenLauncher>⟧.seen launcher.new)

@@ -1,4 +1,4 @@
-use Rattle.std.proofs.Common.{refl, sym, subst, ◌∙◌}
+use Rattle.std.proofs.Common.{List, ℕ, ◌<◌, ◌^◌, length, arith, refl, sym, subst, ◌∙◌}
 use Rattle.suit_edge.specs.Flash.{IsFlash}
 use Rattle.suit_cli.specs.Launching.{Launching}
 use Rattle.suit_cli.specs.Coming.{ended_of}
@@ -58,6 +58,12 @@ update_by-requires-clause-wrapper g c = c.in-Ok-accept.ensures.wrapper
 
 pub update_by-requires-clause-other : goal.update_by-requires-clause-other
 update_by-requires-clause-other g c = c.in-Ok-accept.ensures.other
+
+pub update_by-requires-clause-fits : goal.update_by-requires-clause-fits
+update_by-requires-clause-fits g c =
+    let short = (c.in-Ok-read.ensures anywhere.flash).1.fits in
+    let fits : length c.in-Ok-read.bytes < 2 ^ 64 = omega arith in
+    subst (λ (bytes : List ℕ). length bytes < 2 ^ 64) (sym (c.in-Ok-accept.ensures.whole ∙ c.as_slice.ensures)) fits
 
 pub returns-clause-answer : goal.returns-clause-answer
 returns-clause-answer g c =

@@ -1,4 +1,4 @@
-use Rattle.std.proofs.Common.{ℕ, ◌<◌, ◌^◌, inr, length, ⊎_elim, refl, sym, ap, subst, arith}
+use Rattle.std.proofs.Common.{ℕ, ◌^◌, inr, ⊎_elim, refl, sym, ap, subst}
 use Rattle.suit_edge.specs.FlashLaws.{same_flash}
 use Rattle.flash_layout.specs.declared.frame.TheConstants.{VERSION_1}
 use Rattle.flash_layout.specs.Configs.{ConfigOf, Configured}
@@ -43,8 +43,7 @@ update-end-requires-clause-members g c = (facts c.args.config.now.0 c.args.confi
 
 pub update-end-requires-clause-ends : goal.update-end-requires-clause-ends
 update-end-requires-clause-ends g c =
-    let fits : length c.args.accepted.now.envelope.whole.now < 2 ^ 64 = omega arith in
-    c.envelope_laws.ensures.ends c.args.accepted.now.envelope.whole.now _ (2 ^ 64) (facts c.args.config.now.0 c.args.config.now.1 c.args.accepted.now.envelope.whole.now (admission_of c.args.accepted.now) c.requires.accepted).envelope fits
+    c.envelope_laws.ensures.ends c.args.accepted.now.envelope.whole.now _ (2 ^ 64) (facts c.args.config.now.0 c.args.config.now.1 c.args.accepted.now.envelope.whole.now (admission_of c.args.accepted.now) c.requires.accepted).envelope c.requires.fits
 
 pub update-end-requires-clause-wrapper : goal.update-end-requires-clause-wrapper
 update-end-requires-clause-wrapper g c = c.requires.wrapper
