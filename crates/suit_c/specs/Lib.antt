@@ -1,4 +1,3 @@
-pub mod Answers
 pub mod Authentic
 pub mod Reading
 pub mod Recorded

@@ -1,13 +1,13 @@
 //! Whether an envelope is authentic.
 
 ghost use Rattle.std.specs.Prelude.{◌≡◌, ◌⊎◌};
-ghost use Rattle.suit_c.specs.Answers.{code_of};
+ghost use Rattle.suit_answers.specs.Answers.{code_of};
 ghost use Rattle.suit_c.specs.Authentic.{IsAuthenticFile, IsNoAuthenticFile};
-ghost use Rattle.suit_c.specs.declared.answer.Answer.TheVariants as answers;
+ghost use Rattle.suit_answers.specs.declared.answer.Answer.TheVariants as answers;
 ghost use Rattle.suit_params.specs.declared.refusal.Refusal.{Refusal};
 ghost use Rattle.suit_envelope.specs.Said.{RefusesBytes};
 
-use crate::answer::Answer;
+use suit_answers::Answer;
 use suit_envelope::{Authenticity, authentic, decode_envelope, envelope_laws};
 
 // See `suit_authentic`.

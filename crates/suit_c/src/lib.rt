@@ -2,7 +2,6 @@
 //! than what it answers.
 #![tactic(auto)]
 
-mod answer;
 mod authentic;
 mod reading;
 mod status;

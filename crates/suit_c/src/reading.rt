@@ -1,14 +1,14 @@
 //! An envelope's numbers.
 
 ghost use Rattle.std.specs.Prelude.{◌≡◌, ◌⊎◌, IfErr, IfOk, IsOk};
-ghost use Rattle.suit_c.specs.Answers.{code_of};
+ghost use Rattle.suit_answers.specs.Answers.{code_of};
 ghost use Rattle.suit_c.specs.Reading.{IsFile, IsReadAs, IsRefusedAt, IsRefusedFor};
-ghost use Rattle.suit_c.specs.declared.answer.Answer.TheVariants as answers;
+ghost use Rattle.suit_answers.specs.declared.answer.Answer.TheVariants as answers;
 ghost use Rattle.suit_envelope.specs.Envelopes.{EnvelopeSays};
 ghost use Rattle.suit_manifest.specs.declared.manifest.Manifest.{Manifest};
 
-use crate::answer::Answer;
 use manifest_view::ManifestView;
+use suit_answers::Answer;
 use suit_envelope::{decode_envelope, stated_digest, trimmed_length};
 use suit_params::Refusal;
 

@@ -4,14 +4,14 @@ ghost use Rattle.flash_layout.specs.Frames.{head_of};
 ghost use Rattle.flash_layout.specs.declared.frame.TheConstants.{VERSION_1};
 ghost use Rattle.rollback_record.specs.HeadRecord.{HoldsNone};
 ghost use Rattle.std.specs.Prelude.{◌≡◌, ◌≢◌, ◌⊎◌};
-ghost use Rattle.suit_c.specs.Answers.{code_of};
+ghost use Rattle.suit_answers.specs.Answers.{code_of};
 ghost use Rattle.suit_c.specs.Recorded.{IsRecordAs, IsRecordedAs};
-ghost use Rattle.suit_c.specs.declared.answer.Answer.TheVariants as answers;
+ghost use Rattle.suit_answers.specs.declared.answer.Answer.TheVariants as answers;
 
-use crate::answer::Answer;
 use flash_layout::{FlashFault, Record};
 use flash_view::ViewDisk;
 use rollback_record::load_record;
+use suit_answers::Answer;
 
 /// The manifest that is installed.
 #[repr(C)]
