@@ -1,0 +1,139 @@
+//! Whether each invoke of a manifest is covered.
+
+ghost use Rattle.admission.specs.Opening.{HasManifest};
+ghost use Rattle.admission.specs.declared.refusal.NotOpened.TheVariants as refusals;
+ghost use Rattle.admission.specs.declared.refusal.NotSafe.{NotSafe};
+ghost use Rattle.check_c.specs.Checking.{
+  IsMemberRefusalAt,
+  IsNotSafeFile,
+  IsNotSafeManifest,
+  IsRefusalAt,
+  IsRefusedAt,
+  IsSafeFile,
+  IsSafeManifest,
+  RefusesMemberAt,
+  tells_not_safe,
+};
+ghost use Rattle.std.specs.Prelude.{◌≡◌, ◌≢◌, ◌⊎◌, ◌<◌, ◌^◌, length};
+ghost use Rattle.suit_answers.specs.Answers.{code_of};
+ghost use Rattle.suit_answers.specs.declared.answer.Answer.TheVariants as answers;
+ghost use Rattle.suit_envelope.specs.Places.{MembersEndBelow};
+ghost use Rattle.suit_envelope.specs.Said.{said_by};
+ghost use Rattle.suit_manifest.specs.declared.members.MemberFault.TheVariants as faults;
+
+use admission::{LONGEST_TRIMMED, NotOpened, NotSafe, Opened, admission_laws, judge, open};
+use std::alloc::Global;
+use suit_answers::Answer;
+use suit_manifest::{MemberFault, members_of, procedure_laws};
+
+// Why a file is not opened, with the place of a refusal.
+fn not_opened(refusal: NotOpened, place: &mut u64) -> Answer
+    ensures done { result ≢ answers.Done }
+    ensures covered { result ≢ answers.Unsafe }
+    ensures narrow { result ≢ answers.TooWide }
+    ensures refused { result ≡ answers.Refused → IsRefusalAt refusal place.new }
+    ensures starved { refusal ≡ refusals.NoMemory → result ≡ answers.NoMemory }
+{
+    match refusal {
+        NotOpened::NoEnvelope(refusal) | NotOpened::NoManifest(refusal) => {
+            *place = refusal.place;
+            Answer::Refused
+        }
+        NotOpened::TooLong(_) => Answer::TooLong,
+        NotOpened::NoMemory => Answer::NoMemory,
+    }
+}
+
+// Why its members are not taken, with the place of a refusal.
+fn not_taken(fault: MemberFault, place: &mut u64) -> Answer
+    ensures done { result ≢ answers.Done }
+    ensures covered { result ≢ answers.Unsafe }
+    ensures narrow { result ≢ answers.TooWide }
+    ensures refused { result ≡ answers.Refused → IsMemberRefusalAt fault place.new }
+    ensures starved { fault ≡ faults.NoMemory → result ≡ answers.NoMemory }
+{
+    match fault {
+        MemberFault::Severed(_) => Answer::Severed,
+        MemberFault::Differs { .. } => Answer::Differs,
+        MemberFault::Refused(refusal) => {
+            *place = refusal.place;
+            Answer::Refused
+        }
+        MemberFault::NoMemory => Answer::NoMemory,
+    }
+}
+
+// Why its procedures are not to be run.
+fn not_safe(refusal: &NotSafe) -> Answer
+    ensures { result ≡ tells_not_safe refusal.now }
+{
+    match refusal {
+        NotSafe::TooWide { .. } => Answer::TooWide,
+        NotSafe::Unsafe { .. } => Answer::Unsafe,
+        NotSafe::NoMemory => Answer::NoMemory,
+    }
+}
+
+// Judges the procedures of an envelope that was opened.
+fn judge_opened(alloc: Global, file: &Opened<'_>, place: &mut u64) -> Answer
+    requires few { length file.now.manifest.components < 2 ^ 32 }
+    requires places { MembersEndBelow (2 ^ 64) (said_by file.now.envelope) }
+    requires manifest { HasManifest (said_by file.now.envelope) file.now.manifest }
+    ensures safe { result ≡ answers.Done
+        → IsSafeManifest (said_by file.now.envelope) file.now.manifest }
+    ensures every_safe { IsSafeManifest (said_by file.now.envelope) file.now.manifest
+        → (result ≡ answers.Done) ⊎ (result ≡ answers.NoMemory) }
+    ensures not_safe { (result ≡ answers.Unsafe) ⊎ (result ≡ answers.TooWide)
+        → (why : NotSafe) × (result ≡ tells_not_safe why)
+        × IsNotSafeManifest (said_by file.now.envelope) file.now.manifest why }
+    ensures every_refusal { (why : NotSafe)
+        → IsNotSafeManifest (said_by file.now.envelope) file.now.manifest why
+        → (result ≡ tells_not_safe why) ⊎ (result ≡ answers.NoMemory) }
+    ensures refused { result ≡ answers.Refused
+        → RefusesMemberAt (said_by file.now.envelope) file.now.manifest place.new }
+{
+    procedure_laws();
+    let members = match members_of(alloc, &file.envelope, &file.manifest) {
+        Ok(members) => members,
+        Err(fault) => return not_taken(fault, place),
+    };
+    match judge(alloc, &file.manifest, &members) {
+        Ok(()) => Answer::Done,
+        Err(refusal) => not_safe(&refusal),
+    }
+}
+
+// Judges a file.
+fn judge_file(alloc: Global, bytes: &[u8], place: &mut u64) -> Answer
+    ensures safe { result ≡ answers.Done → IsSafeFile bytes.now }
+    ensures every_safe { IsSafeFile bytes.now
+        → (result ≡ answers.Done) ⊎ (result ≡ answers.NoMemory) }
+    ensures not_safe { (result ≡ answers.Unsafe) ⊎ (result ≡ answers.TooWide)
+        → (why : NotSafe) × (result ≡ tells_not_safe why) × IsNotSafeFile bytes.now why }
+    ensures every_refusal { (why : NotSafe) → IsNotSafeFile bytes.now why
+        → (result ≡ tells_not_safe why) ⊎ (result ≡ answers.NoMemory) }
+    ensures refused { result ≡ answers.Refused → IsRefusedAt bytes.now place.new }
+{
+    admission_laws();
+    match open(alloc, bytes, LONGEST_TRIMMED) {
+        Ok(file) => judge_opened(alloc, &file, place),
+        Err(refusal) => not_opened(refusal, place),
+    }
+}
+
+/// Judges a file, as the program's `check`: 0 exactly where on each path of both procedures each invoke is covered, 1 where on
+/// one it is not, 12 where there is too much to judge, and 11 where memory ran out. Where the grammar refuses the bytes, which
+/// is 3, `place` is that of the fault, in bytes from the first. The other answers are those of the program too.
+#[unsafe(no_mangle)]
+pub extern "C" fn suit_check(alloc: Global, file: &[u8], place: &mut u64) -> i32
+    ensures safe { result ≡ code_of answers.Done → IsSafeFile file.now }
+    ensures every_safe { IsSafeFile file.now
+        → (result ≡ code_of answers.Done) ⊎ (result ≡ code_of answers.NoMemory) }
+    ensures not_safe { (result ≡ code_of answers.Unsafe) ⊎ (result ≡ code_of answers.TooWide)
+        → (why : NotSafe) × (result ≡ code_of (tells_not_safe why)) × IsNotSafeFile file.now why }
+    ensures every_refusal { (why : NotSafe) → IsNotSafeFile file.now why
+        → (result ≡ code_of (tells_not_safe why)) ⊎ (result ≡ code_of answers.NoMemory) }
+    ensures refused { result ≡ code_of answers.Refused → IsRefusedAt file.now place.new }
+{
+    judge_file(alloc, file, place).code()
+}
