@@ -41,6 +41,13 @@ impl<'a> ViewLauncher<'a> {
         }
     }
 
+    /// The flash that it looks at.
+    pub fn flash(&self) -> &[u8]
+        ensures { result.now ≡ self.now.flash }
+    {
+        self.flash
+    }
+
     /// The image that is to be started, if one was noted.
     pub fn noted(&self) -> Option<&NotedImage>
         ensures { option_copied result ≡ self.now.noted }

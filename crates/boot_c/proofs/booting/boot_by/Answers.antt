@@ -1,0 +1,51 @@
+use Rattle.std.proofs.Common.{◌≡◌, ◌∙◌, ap, inl, refl, subst, sym, ℕ, List, [], ◌∷◌, Some, None}
+use Rattle.boot_c.specs.Images.{IsLaunched}
+use Rattle.step_machine.specs.declared.plan_end.PlanEnd.TheVariants as plays
+use Rattle.boot_c.specs.BootAnswers.{boot_answer}
+use Rattle.boot_c.proofs.Images.{one_safe, only_ended}
+use Rattle.flash_layout.specs.declared.frame.TheConstants.{VERSION_1}
+use Rattle.flash_view.specs.Noting.{launches_in, launches_of, noted_launch}
+use Rattle.flash_view.specs.ViewDisk.{ViewState}
+use Rattle.invoke_proc.specs.Booting.{Answers, PlayedSo, PlaysBoot}
+use Rattle.invoke_proc.specs.declared.boot_end.BootEnd.{BootEnd}
+use Rattle.rollback_record.specs.SoundFlash.{Sound}
+use Rattle.suit_edge.specs.declared.launch.Launch.{Launch}
+use Rattle.boot_c.proofs.booting.boot_by.Goals as goal
+
+pub returns-in_default : goal.returns-in_default
+returns-in_default c = record {
+  ends = record {
+    layout = c.args.layout.now;
+    key = c.args.key.now;
+    config = c.requires.held;
+    end = c.boot-end.result;
+    ended = subst (λ (d : ViewState). Answers c.args.layout.now c.args.key.now d.bytes c.boot-end.result) c.new-disk.ensures (c.boot-end.ensures.answers refl);
+    told = inl c.boot_answer-answer.ensures;
+  };
+  image = tt;
+  none = λ done. λ none. absurd (c.in_default.not-Ended (only_ended c.boot-end.result (sym c.boot_answer-answer.ensures ∙ done)));
+}
+
+pub returns-in-Some-image_in-clause-image : goal.returns-in-Some-image_in-clause-image
+returns-in-Some-image_in-clause-image c =
+    let launcher = c.boot-end.new.launcher in
+    let launch = noted_launch launcher.flash c.in-Some.note.now in
+    let none : launches_of c.new-launcher.result ≡ [] = ap launches_of c.new-launcher.ensures in
+    let noted : launcher.noted ≡ Some c.in-Some.note.now = sym c.in-Some.ensures in
+    let one : launches_of launcher ≡ launch ∷ [] = ap (launches_in launcher.flash) noted in
+    let played = subst (λ (e : BootEnd). PlayedSo (PlaysBoot c.args.layout.now c.args.key.now (λ _. None) c.new-disk.result.bytes c.boot-end.new.disk.bytes (launches_of c.new-launcher.result) (launches_of launcher)) (c.boot-end.new.disk.bytes ≡ c.new-disk.result.bytes) (launches_of c.new-launcher.result) (launches_of launcher) e) c.in-Ended.is (c.boot-end.ensures.plays refl refl) in (
+      c.boot_answer-answer.ensures ∙ ap boot_answer c.in-Ended.is,
+      c.in-Some-image_in.ensures.found,
+      record {
+        layout = c.args.layout.now;
+        key = c.args.key.now;
+        config = c.requires.held;
+        launch = launch;
+        launched = subst (λ (seen : List ℕ). IsLaunched c.args.flash.now c.in-Some-image_in.image (noted_launch seen c.in-Some.note.now)) c.flash.ensures c.in-Some-image_in.ensures.launched;
+        after = c.boot-end.new.disk.bytes;
+        plays = subst (λ (d : ViewState). PlaysBoot c.args.layout.now c.args.key.now (λ _. None) d.bytes c.boot-end.new.disk.bytes [] (launch ∷ []) plays.Done) c.new-disk.ensures
+            (subst (λ (l : List Launch). PlaysBoot c.args.layout.now c.args.key.now (λ _. None) c.new-disk.result.bytes c.boot-end.new.disk.bytes l (launch ∷ []) plays.Done) none
+            (subst (λ (l : List Launch). PlaysBoot c.args.layout.now c.args.key.now (λ _. None) c.new-disk.result.bytes c.boot-end.new.disk.bytes (launches_of c.new-launcher.result) l plays.Done) one played));
+        safe = λ sound. one_safe (launches_of c.new-launcher.result) (launches_of launcher) launch none one (c.boot-end.ensures.safe refl refl (subst (λ (d : ViewState). Sound VERSION_1 d.bytes) (sym c.new-disk.ensures) sound));
+      },
+    )

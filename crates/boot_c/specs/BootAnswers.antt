@@ -1,0 +1,54 @@
+-- What a boot answers.
+use Rattle.std.specs.Prelude.{◌≡◌, ◌⊎◌, ℕ, List, length}
+use Rattle.flash_layout.specs.Configs.{Bad, Blank, ConfigOf}
+use Rattle.flash_layout.specs.Frames.{head_of}
+use Rattle.flash_layout.specs.declared.frame.TheConstants.{VERSION_1}
+use Rattle.flash_layout.specs.declared.key.Key.{Key}
+use Rattle.flash_layout.specs.declared.layout.Entry.{Entry}
+use Rattle.invoke_proc.specs.Banks.{config_in}
+use Rattle.invoke_proc.specs.Booting.{Answers}
+use Rattle.invoke_proc.specs.declared.boot_end.BootEnd.{BootEnd}
+use Rattle.invoke_proc.specs.declared.boot_end.BootEnd.TheVariants as ends
+use Rattle.path_model.specs.declared.cause.Cause.{Cause}
+use Rattle.path_model.specs.declared.cause.Cause.TheVariants as causes
+use Rattle.suit_answers.specs.declared.answer.Answer.{Answer}
+use Rattle.suit_answers.specs.declared.answer.Answer.TheVariants as answers
+
+abbrev pub cause_answer : Cause → Answer
+cause_answer causes.HostFault = answers.HostFault
+cause_answer causes.FlashFault = answers.FlashFault
+cause_answer causes.LaunchFault = answers.LaunchFault
+cause_answer _ = answers.Stopped
+
+-- the answer of a boot that ended so
+abbrev pub boot_answer : BootEnd → Answer
+boot_answer ends.Ended = answers.Done
+boot_answer ends.NothingInstalled = answers.NothingInstalled
+boot_answer (ends.BadBank refusal) = answers.Refused
+boot_answer (ends.NotAuthentic lacking) = answers.NotAuthentic
+boot_answer (ends.UnknownComponent component) = answers.UnknownComponent
+boot_answer (ends.Condition place) = answers.Stopped
+boot_answer (ends.Stopped place cause) = cause_answer cause
+boot_answer ends.FlashFault = answers.FlashFault
+boot_answer ends.NoMemory = answers.NoMemory
+
+-- a boot by the configuration of the flash ended so; an image whose digest is not of 32 bytes is no image
+pub record Ends (flash : List ℕ) (answer : Answer) : Type 0 where
+  pub layout : List Entry
+  pub key : Key
+  pub config : config_in (length flash) flash layout key
+  pub end : BootEnd
+  pub ended : Answers layout key flash end
+  pub told : (answer ≡ boot_answer end) ⊎ ((end ≡ ends.Ended) × (answer ≡ answers.LaunchFault))
+
+abbrev pub HasNoConfig : List ℕ → Type 0
+HasNoConfig flash =
+    ConfigOf VERSION_1 (length flash) (head_of VERSION_1 flash) Blank
+    ⊎ ConfigOf VERSION_1 (length flash) (head_of VERSION_1 flash) Bad
+
+-- the flash has no configuration; it did not read, or memory ran out for that; or a boot ended so
+abbrev pub IsAnswer : List ℕ → Answer → Type 0
+IsAnswer flash answer =
+    ((answer ≡ answers.Unconfigured) × HasNoConfig flash)
+    ⊎ (answer ≡ answers.FlashFault) ⊎ (answer ≡ answers.NoMemory)
+    ⊎ Ends flash answer

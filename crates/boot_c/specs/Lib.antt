@@ -1,0 +1,2 @@
+pub mod BootAnswers
+pub mod Images

@@ -1,0 +1,81 @@
+//! The image to be started.
+
+ghost use Rattle.boot_c.specs.Images.{IsLaunched, IsNoted};
+ghost use Rattle.flash_view.specs.Noting.{noted_bytes, noted_launch};
+ghost use Rattle.std.specs.Prelude.{◌≡◌, IfSome, IsTrue};
+
+use flash_view::NotedImage;
+use lane_bytes::same;
+
+/// The image to be started: so many bytes of the flash from a place on.
+#[repr(C)]
+#[derive(Clone, Copy)]
+pub struct SuitImage {
+    /// Where it begins, in bytes from the start of the flash.
+    pub place: u64,
+    /// How many bytes it has.
+    pub length: u64,
+    /// The index of its component in the manifest.
+    pub component: u32,
+    /// 1 where there is an image to be started, and otherwise 0.
+    pub found: u32,
+    /// The SHA-256 that the manifest names for it.
+    pub digest: [u8; 32],
+}
+
+impl SuitImage {
+    /// No image.
+    pub(crate) fn none() -> SuitImage
+        ensures { result.found ≡ 0 }
+    {
+        SuitImage {
+            place: 0,
+            length: 0,
+            component: 0,
+            found: 0,
+            digest: [0; 32],
+        }
+    }
+}
+
+// What was noted, for a caller in C; none where the note names no digest of 32 bytes.
+fn image_of(note: &NotedImage) -> Option<SuitImage>
+    ensures noted { IfSome result (IsNoted note.now) }
+    ensures found { IfSome result (λ image. image.found ≡ 1) }
+{
+    let noted = note.digest.as_ref()?.as_slice();
+    if noted.len() != 32 {
+        return None;
+    }
+    let mut digest = [0; 32];
+    digest.copy_from_slice(noted);
+    Some(SuitImage {
+        place: note.place,
+        length: note.length,
+        component: note.component,
+        found: 1,
+        digest,
+    })
+}
+
+// Whether a note is of the same bytes in both.
+fn is_same(note: &NotedImage, seen: &[u8], flash: &[u8]) -> bool
+    ensures { IsTrue result → noted_bytes seen.now note.now ≡ noted_bytes flash.now note.now }
+{
+    match (note.bytes_in(seen), note.bytes_in(flash)) {
+        (Some(one), Some(other)) => same(one, other),
+        _ => false,
+    }
+}
+
+/// The image of a flash that was noted of what a launcher had seen; none where the note names no digest of 32 bytes.
+pub(crate) fn image_in(note: &NotedImage, seen: &[u8], flash: &[u8]) -> Option<SuitImage>
+    ensures found { IfSome result (λ image. image.found ≡ 1) }
+    ensures launched { IfSome result (λ image.
+        IsLaunched flash.now image (noted_launch seen.now note.now)) }
+{
+    if !is_same(note, seen, flash) {
+        return None;
+    }
+    image_of(note)
+}
