@@ -1,0 +1,57 @@
+//! A command over a port.
+
+ghost use Rattle.flash_layout.specs.declared.frame.TheConstants.{VERSION_1};
+ghost use Rattle.port_c.specs.Commands.{HasRun};
+ghost use Rattle.std.specs.Prelude.{◌≡◌, ◌<◌, ◌≤◌, ℤ, IfOk, OnErr, pos};
+ghost use Rattle.suit_cli.specs.Program.{IsStatus, world};
+
+use crate::words::words_of;
+use flash_layout::VERSION_1;
+use std::alloc::{AllocError, Global};
+use suit_cli::{SeenDisk, SeenHost, SeenLauncher, SeenSink, Status, run};
+use suit_edge::{Disk, Host, Launcher, Sink};
+use suit_port::{PortDisk, PortHost, PortLauncher, PortSink};
+
+// Runs the command whose words stand in the bytes.
+fn command<H: Host, D: Disk, L: Launcher, K: Sink>(
+    alloc: Global,
+    bytes: &[u8],
+    host: &mut H,
+    flash: &mut D,
+    launcher: &mut L,
+    out: &mut K,
+) -> Result<Status, AllocError>
+    requires { VERSION_1.size ≤ D.extent flash.old }
+    ensures ran { IfOk result (λ status. HasRun bytes.now
+        (world (⟦<H as SeenHost>⟧.seen host.old (⟦<D as SeenDisk>⟧.seen flash.old))
+        (⟦<L as SeenLauncher>⟧.seen launcher.old) (⟦<K as SeenSink>⟧.seen out.old)
+        (D.flash flash.old))
+        (world (⟦<H as SeenHost>⟧.seen host.new (⟦<D as SeenDisk>⟧.seen flash.new))
+        (⟦<L as SeenLauncher>⟧.seen launcher.new) (⟦<K as SeenSink>⟧.seen out.new)
+        (D.flash flash.new)) status.0) }
+    ensures starved { OnErr result ((host.new ≡ host.old) × (flash.new ≡ flash.old)
+        × (launcher.new ≡ launcher.old) × (out.new ≡ out.old)) }
+{
+    let words = words_of(alloc, bytes)?;
+    Ok(run(alloc, &words, host, flash, launcher, out))
+}
+
+/// Runs a command of the program `suit` over the port with this number: the bytes are its words with zeros between them, such
+/// as `run`, `update`, `e.suit`, and the flash has so many bytes. Answers the status of the program: 8 where the flash is of
+/// fewer than 49,152 bytes, and 11 where memory runs out for the words; then no message is sent.
+#[unsafe(no_mangle)]
+pub extern "C" fn suit_command(alloc: Global, words: &[u8], port: i32, flash_size: u64) -> i32
+    ensures small { flash_size < VERSION_1.size → result ≡ pos 8 }
+{
+    if flash_size < u64::from(VERSION_1.size) {
+        return 8;
+    }
+    let mut host = PortHost::new(port);
+    let mut flash = PortDisk::new(port, flash_size);
+    let mut launcher = PortLauncher::new(port);
+    let mut out = PortSink::new(port);
+    match command(alloc, words, &mut host, &mut flash, &mut launcher, &mut out) {
+        Ok(Status(status)) => i32::from(status),
+        Err(AllocError) => 11,
+    }
+}
