@@ -1,12 +1,17 @@
-/* suit.h: SUIT envelopes and the flash of `suit`, read in C.
+/* suit.h: SUIT envelopes and the flash of `suit`, for programs in C, on 64-bit targets.
  *
- * The archive is crates/suit_c/out/libsuit_c.a, made by `rt lib` in crates/suit_c and linked with the C library's memcpy, memmove and
- * memset; 64-bit targets alone. What is proved of each call stands in docs/proved.md under `suit_c`, and is said of the very
- * bytes that are passed.
+ * Each archive is made by `rt lib` in the folder of its crate, and stands there as out/libNAME.a:
+ *
+ *   suit_c    suit_read, suit_authentic, suit_status; wants memcpy, memmove and memset
+ *   check_c   suit_check; takes memory
+ *   boot_c    suit_boot; takes memory
+ *   port_c    suit_command; takes memory, and wants the two functions of the port
+ *
+ * What is proved of a call stands in docs/proved.md under the name of its crate, and is said of the very bytes that are passed.
  *
  * What the caller owes, and nothing checks: a buffer is not null, also where its length is 0; the buffers of one call do not
- * overlap; nothing else writes them while the call runs. No call keeps a pointer, takes memory, or writes more than what it
- * answers.
+ * overlap; nothing else writes them while the call runs. No call keeps a pointer, or writes more than what it answers. A call that
+ * takes memory has given it back when it returns.
  */
 #ifndef SUIT_H
 #define SUIT_H
@@ -21,10 +26,21 @@ extern "C" {
 /* What a call answers: the exit status of the program for the same. */
 enum suit_answer {
   SUIT_DONE = 0,
+  SUIT_UNSAFE = 1,
   SUIT_REFUSED = 3,
   SUIT_NOT_AUTHENTIC = 4,
+  SUIT_STOPPED = 6,
+  SUIT_HOST_FAULT = 7,
   SUIT_FLASH_FAULT = 8,
-  SUIT_NOTHING_INSTALLED = 15
+  SUIT_LAUNCH_FAULT = 10,
+  SUIT_NO_MEMORY = 11,
+  SUIT_TOO_WIDE = 12,
+  SUIT_UNCONFIGURED = 13,
+  SUIT_NOTHING_INSTALLED = 15,
+  SUIT_SEVERED = 16,
+  SUIT_DIFFERS = 17,
+  SUIT_UNKNOWN_COMPONENT = 18,
+  SUIT_TOO_LONG = 21
 };
 
 /* The numbers of an envelope. Places and lengths are bytes; a place counts from the envelope's first byte. */
@@ -58,6 +74,71 @@ int32_t suit_authentic(const uint8_t *file, size_t length, const uint8_t *key, s
 /* SUIT_DONE; SUIT_NOTHING_INSTALLED where the flash has no record, and SUIT_FLASH_FAULT where it failed: then *out stays as it
  * was. */
 int32_t suit_status(const uint8_t *flash, size_t length, struct suit_record *out);
+
+/* SUIT_DONE exactly where on each path of both procedures of the manifest each invoke is covered, unless memory runs out, which
+ * is SUIT_NO_MEMORY; SUIT_UNSAFE where on some path one is not, and SUIT_TOO_WIDE where there is too much to judge. The other
+ * answers are those of the program's `check`; where the grammar refuses the bytes, which is SUIT_REFUSED, *place is that of the
+ * fault, and otherwise it stays as it was. */
+int32_t suit_check(const uint8_t *file, size_t length, uint64_t *place);
+
+/* The image that a boot starts: so many bytes of the flash from a place on. */
+struct suit_image {
+  uint64_t place;
+  uint64_t length;
+  uint32_t component; /* its index in the manifest */
+  uint32_t found;     /* 1 where there is an image, and otherwise 0 */
+  uint8_t digest[32]; /* that the manifest names for it */
+};
+
+/* SUIT_DONE where the invocation procedure of what is installed ran to its end: where it invoked an image, out->found is 1, the
+ * manifest is that of the flash's record and authentic under its key, and on a sound flash the bytes from that place on have that
+ * digest. The caller jumps. Otherwise out->found is 0, and the answer is that of `suit run boot`. Nothing is written: a procedure
+ * that writes the flash, and a second invoke, are stopped by a fault. */
+int32_t suit_boot(const uint8_t *flash, size_t length, struct suit_image *out);
+
+/* ---- over a port ---- */
+
+/* Runs a command of the program over the port with this number. The words have zeros between them, such as
+ * "run\0update\0first.suit", and the flash so many bytes. Answers the status of the program. Where the flash has fewer than 49,152
+ * bytes, which is SUIT_FLASH_FAULT, and where memory runs out for the words, no message is sent. */
+int32_t suit_command(const uint8_t *words, size_t length, int32_t port, uint64_t flash_size);
+
+/* What a message asks. */
+enum suit_request {
+  SUIT_PORT_READ = 1,          /* so many bytes of the flash from a place on: 0, and then they */
+  SUIT_PORT_WRITE = 2,         /* the bytes that follow, to the flash from a place on */
+  SUIT_PORT_SYNC = 3,          /* what was written is durable when this is answered */
+  SUIT_PORT_START = 4,         /* the file whose name follows, from its first byte on: 0, or 1 where it is absent */
+  SUIT_PORT_PULL = 5,          /* at most so many bytes more of it: their number, and then they; 0 at its end */
+  SUIT_PORT_STORE = 6,         /* a name of `place` bytes follows, and `length` bytes, which are to be its file */
+  SUIT_PORT_ARGUMENTS = 7,     /* the bytes that follow are the arguments of the image that is launched next */
+  SUIT_PORT_LAUNCH_FLASH = 8,  /* the image is so many bytes of the flash from a place on */
+  SUIT_PORT_LAUNCH_MEMORY = 9, /* the image is the bytes that follow */
+  SUIT_PORT_PUT = 10           /* the bytes that follow are text for the user */
+};
+
+/* A message as it is sent, the lowest byte of each number first; then come the bytes that follow it. */
+struct suit_message {
+  uint32_t request;
+  uint32_t component; /* that is launched, and otherwise 0 */
+  uint64_t serial;
+  uint64_t place;
+  uint64_t length;
+};
+
+/* Its answer: the serial number of the message, and 0 where it was done, unless the request says else. Each other number is a
+ * failure. After an answer that did not come whole, or to another message, its object sends no more. */
+struct suit_port_answer {
+  uint64_t serial;
+  uint64_t number;
+};
+
+/* The port's two functions are read and write, by those names: on a POSIX system they are there, and the port's number is that of a
+ * socket or of a pair of pipes. Others supply them, taking or giving at least one byte, or -1:
+ *
+ *   ssize_t write(int port, const void *bytes, size_t most);
+ *   ssize_t read(int port, void *room, size_t most);
+ */
 
 #ifdef __cplusplus
 }

@@ -1,0 +1,96 @@
+/* An arena: blocks side by side in one room, each behind its length and whether it is in use. The first that is large enough is
+ * taken, and its rest is left as a block; blocks that are free side by side are joined when they are passed. */
+#include "arena.h"
+
+#include <stdint.h>
+#include <string.h>
+
+struct block {
+  size_t length; /* of what follows, a multiple of 16 */
+  size_t used;
+};
+
+/* What the proved code is given: whether there is memory, and where. */
+struct taken {
+  uint64_t there;
+  void *bytes;
+};
+
+static uint8_t *room;
+static size_t room_length, in_use, peak;
+
+static struct block *at(size_t place) { return (struct block *)(room + place); }
+
+static size_t behind(size_t place) { return place + sizeof(struct block) + at(place)->length; }
+
+void suit_arena(void *given, size_t length) {
+  room = given;
+  room_length = length - length % 16;
+  in_use = peak = 0;
+  *at(0) = (struct block){room_length - sizeof(struct block), 0};
+}
+
+size_t suit_arena_peak(void) { return peak; }
+
+static void count(size_t more) {
+  in_use += more;
+  if (peak < in_use)
+    peak = in_use;
+}
+
+static void join(size_t place) {
+  while (behind(place) < room_length && !at(behind(place))->used)
+    at(place)->length += sizeof(struct block) + at(behind(place))->length;
+}
+
+static void *take_at(size_t place, size_t length) {
+  struct block *block = at(place);
+  if (block->length >= length + 2 * sizeof(struct block)) {
+    size_t rest = block->length - length - sizeof(struct block);
+    block->length = length;
+    *at(behind(place)) = (struct block){rest, 0};
+  }
+  block->used = 1;
+  count(sizeof(struct block) + block->length);
+  return block + 1;
+}
+
+static void *take(uint64_t wanted) {
+  if (wanted > room_length)
+    return NULL;
+  size_t length = (size_t)(wanted + 15) / 16 * 16;
+  for (size_t place = 0; place < room_length; place = behind(place)) {
+    if (at(place)->used)
+      continue;
+    join(place);
+    if (at(place)->length >= length)
+      return take_at(place, length);
+  }
+  return NULL;
+}
+
+static struct taken taken(void *bytes) {
+  static uint8_t nothing[16];
+  return bytes ? (struct taken){1, bytes} : (struct taken){0, nothing};
+}
+
+struct taken rattle_alloc(uint64_t length, uint64_t alignment) { return taken(take(length ? length : alignment)); }
+
+void rattle_dealloc(void *bytes) {
+  struct block *block = (struct block *)bytes - 1;
+  block->used = 0;
+  in_use -= sizeof(struct block) + block->length;
+}
+
+struct taken rattle_realloc(void *bytes, uint64_t kept, uint64_t length, uint64_t alignment) {
+  if (length == 0)
+    length = alignment;
+  if (length <= ((struct block *)bytes - 1)->length)
+    return taken(bytes);
+  struct taken other = rattle_alloc(length, alignment);
+  if (other.there) {
+    memcpy(other.bytes, bytes, kept);
+    rattle_dealloc(bytes);
+  }
+  return other;
+}

@@ -1,0 +1,15 @@
+/* arena.h: memory for the calls of suit.h that take some, out of one room that the caller gives, in place of malloc. Link arena.c in place
+ * of the kit's liblibc_c.a.
+ */
+#ifndef SUIT_ARENA_H
+#define SUIT_ARENA_H
+
+#include <stddef.h>
+
+/* The room, from now on; at least 64 bytes, which stand at a multiple of 16. What was taken of another one is given back no more. */
+void suit_arena(void *room, size_t length);
+
+/* The most bytes that were in use at once, with what each block costs besides. */
+size_t suit_arena_peak(void);
+
+#endif

@@ -1,0 +1,43 @@
+/* boot: tells which image of a flash is to be started; a boot loader would jump there.
+ *
+ *     boot FLASH [IMAGE]
+ *
+ * The image is written to the second file. Memory is taken of 64 kB alone.
+ */
+#include "arena.h"
+#include "suit.h"
+
+#include <inttypes.h>
+#include <stdio.h>
+
+static uint8_t flash[4194304];
+static _Alignas(16) uint8_t room[65536];
+
+int main(int argc, char **argv) {
+  if (argc != 2 && argc != 3)
+    return 2;
+  FILE *file = fopen(argv[1], "rb");
+  if (!file || fread(flash, 1, sizeof flash, file) != sizeof flash) {
+    perror(argv[1]);
+    return 70;
+  }
+  fclose(file);
+  suit_arena(room, sizeof room);
+  struct suit_image image;
+  int32_t answer = suit_boot(flash, sizeof flash, &image);
+  if (image.found) {
+    printf("component %" PRIu32 ": %" PRIu64 " bytes at %" PRIu64 "\ndigest ", image.component, image.length, image.place);
+    for (size_t i = 0; i < sizeof image.digest; i++)
+      printf("%02x", image.digest[i]);
+    printf("\n");
+  }
+  fprintf(stderr, "%zu bytes of memory\n", suit_arena_peak());
+  if (image.found && argc == 3) {
+    file = fopen(argv[2], "wb");
+    if (!file || fwrite(flash + image.place, 1, image.length, file) != image.length || fclose(file) != 0) {
+      perror(argv[2]);
+      return 70;
+    }
+  }
+  return answer;
+}

@@ -1,0 +1,244 @@
+/* over_port: runs a command of `suit` over a port. At its other end a second process has the flash in the file suit.flash, and
+ * the files of the working directory.
+ *
+ *     over_port [-r N] WORD...
+ *
+ * The exit status is that of the command. With -r the N-th message is refused, and the status is 99 where there were fewer.
+ */
+#define _XOPEN_SOURCE 700
+#include "suit.h"
+
+#include <fcntl.h>
+#include <stdio.h>
+#include <stdlib.h>
+#include <string.h>
+#include <sys/socket.h>
+#include <sys/wait.h>
+#include <unistd.h>
+
+enum { FLASH_SIZE = 4194304, FEWER = 99 };
+
+/* The end of the port that answers. */
+struct server {
+  int line;
+  int flash;
+  FILE *file;     /* that was started last */
+  uint64_t count; /* of the messages so far */
+  uint64_t refused;
+};
+
+static void fail(const char *what) {
+  perror(what);
+  exit(70);
+}
+
+/* Reads so many bytes. Nothing at all is the end of the line. */
+static int take(int line, void *room, size_t length) {
+  for (size_t done = 0; done < length;) {
+    ssize_t count = read(line, (uint8_t *)room + done, length - done);
+    if (count <= 0)
+      return 0;
+    done += (size_t)count;
+  }
+  return 1;
+}
+
+static void give(int line, const void *bytes, size_t length) {
+  for (size_t done = 0; done < length;) {
+    ssize_t count = write(line, (const uint8_t *)bytes + done, length - done);
+    if (count <= 0)
+      exit(0);
+    done += (size_t)count;
+  }
+}
+
+static void answer(struct server *server, const struct suit_message *message, uint64_t number) {
+  struct suit_port_answer said = {message->serial, number};
+  give(server->line, &said, sizeof said);
+}
+
+/* What follows a message: none, its bytes, or a name before them. */
+static size_t follows(const struct suit_message *message) {
+  switch (message->request) {
+  case SUIT_PORT_WRITE:
+  case SUIT_PORT_START:
+  case SUIT_PORT_ARGUMENTS:
+  case SUIT_PORT_LAUNCH_MEMORY:
+  case SUIT_PORT_PUT:
+    return message->length;
+  case SUIT_PORT_STORE:
+    return message->place + message->length;
+  default:
+    return 0;
+  }
+}
+
+static uint64_t store(const char *name, const uint8_t *bytes, size_t length) {
+  FILE *file = fopen(name, "wb");
+  if (!file)
+    return 1;
+  int whole = fwrite(bytes, 1, length, file) == length;
+  return fclose(file) == 0 && whole ? 0 : 1;
+}
+
+/* Keeps a launched image where the program does. */
+static uint64_t launch(const struct suit_message *message, const uint8_t *bytes) {
+  char name[32];
+  snprintf(name, sizeof name, "boot-%u.img", (unsigned)message->component);
+  return store(name, bytes, message->length);
+}
+
+static void launch_flash(struct server *server, const struct suit_message *message) {
+  uint8_t *bytes = malloc(message->length + 1);
+  if (!bytes)
+    fail("over_port");
+  int read = pread(server->flash, bytes, message->length, (off_t)message->place) == (ssize_t)message->length;
+  answer(server, message, read ? launch(message, bytes) : 1);
+  free(bytes);
+}
+
+static void read_flash(struct server *server, const struct suit_message *message) {
+  uint8_t *bytes = malloc(message->length + 1);
+  if (!bytes)
+    fail("over_port");
+  int read = pread(server->flash, bytes, message->length, (off_t)message->place) == (ssize_t)message->length;
+  answer(server, message, read ? 0 : 1);
+  if (read)
+    give(server->line, bytes, message->length);
+  free(bytes);
+}
+
+static void pull(struct server *server, const struct suit_message *message) {
+  uint8_t *bytes = malloc(message->length + 1);
+  if (!bytes)
+    fail("over_port");
+  size_t count = server->file ? fread(bytes, 1, message->length, server->file) : 0;
+  answer(server, message, count);
+  give(server->line, bytes, count);
+  free(bytes);
+}
+
+static uint64_t start(struct server *server, const uint8_t *name, size_t length) {
+  char text[4096];
+  if (server->file)
+    fclose(server->file);
+  server->file = NULL;
+  if (length >= sizeof text)
+    return 2;
+  memcpy(text, name, length);
+  text[length] = 0;
+  server->file = fopen(text, "rb");
+  return server->file ? 0 : 1;
+}
+
+static uint64_t store_named(const struct suit_message *message, const uint8_t *bytes) {
+  char name[4096];
+  if (message->place >= sizeof name)
+    return 1;
+  memcpy(name, bytes, message->place);
+  name[message->place] = 0;
+  return store(name, bytes + message->place, message->length);
+}
+
+static void perform(struct server *server, const struct suit_message *message, const uint8_t *bytes) {
+  switch (message->request) {
+  case SUIT_PORT_READ:
+    read_flash(server, message);
+    break;
+  case SUIT_PORT_WRITE:
+    answer(server, message,
+           pwrite(server->flash, bytes, message->length, (off_t)message->place) == (ssize_t)message->length ? 0 : 1);
+    break;
+  case SUIT_PORT_SYNC:
+    answer(server, message, fsync(server->flash) == 0 ? 0 : 1);
+    break;
+  case SUIT_PORT_START:
+    answer(server, message, start(server, bytes, message->length));
+    break;
+  case SUIT_PORT_PULL:
+    pull(server, message);
+    break;
+  case SUIT_PORT_STORE:
+    answer(server, message, store_named(message, bytes));
+    break;
+  case SUIT_PORT_ARGUMENTS:
+    answer(server, message, 0);
+    break;
+  case SUIT_PORT_LAUNCH_FLASH:
+    launch_flash(server, message);
+    break;
+  case SUIT_PORT_LAUNCH_MEMORY:
+    answer(server, message, launch(message, bytes));
+    break;
+  case SUIT_PORT_PUT:
+    answer(server, message, fwrite(bytes, 1, message->length, stdout) == message->length && fflush(stdout) == 0 ? 0 : 1);
+    break;
+  default:
+    answer(server, message, UINT64_MAX);
+  }
+}
+
+/* Answers messages until the line ends. */
+static void serve(struct server *server) {
+  struct suit_message message;
+  while (take(server->line, &message, sizeof message)) {
+    size_t length = follows(&message);
+    uint8_t *bytes = malloc(length + 1);
+    if (!bytes || !take(server->line, bytes, length))
+      fail("over_port");
+    server->count++;
+    if (server->count == server->refused)
+      answer(server, &message, UINT64_MAX);
+    else
+      perform(server, &message, bytes);
+    free(bytes);
+  }
+}
+
+/* The words with zeros between them. */
+static size_t joined(char *words, size_t room, int count, char **word) {
+  size_t length = 0;
+  for (int i = 0; i < count; i++) {
+    size_t more = strlen(word[i]);
+    if (length + more + 1 > room)
+      fail("over_port: too many words");
+    if (i > 0)
+      words[length++] = 0;
+    memcpy(words + length, word[i], more);
+    length += more;
+  }
+  return length;
+}
+
+int main(int argc, char **argv) {
+  static char words[65536];
+  int first = 1;
+  uint64_t refused = 0;
+  if (argc > 2 && strcmp(argv[1], "-r") == 0) {
+    refused = strtoull(argv[2], NULL, 10);
+    first = 3;
+  }
+  size_t length = joined(words, sizeof words, argc - first, argv + first);
+  int ends[2];
+  if (socketpair(AF_UNIX, SOCK_STREAM, 0, ends) != 0)
+    fail("socketpair");
+  pid_t child = fork();
+  if (child < 0)
+    fail("fork");
+  if (child == 0) {
+    close(ends[0]);
+    int flash = open("suit.flash", O_RDWR | O_CREAT, 0666);
+    if (flash < 0 || ftruncate(flash, FLASH_SIZE) != 0)
+      fail("suit.flash");
+    struct server server = {ends[1], flash, NULL, 0, refused};
+    serve(&server);
+    return refused > server.count ? FEWER : 0;
+  }
+  close(ends[1]);
+  int status = suit_command((const uint8_t *)words, length, ends[0], FLASH_SIZE);
+  close(ends[0]);
+  int ended;
+  if (waitpid(child, &ended, 0) != child || !WIFEXITED(ended))
+    fail("over_port: the other end");
+  return WEXITSTATUS(ended) == 0 ? status : WEXITSTATUS(ended);
+}
