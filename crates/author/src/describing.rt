@@ -7,7 +7,6 @@ ghost use Rattle.author.specs.Faults.{AreFewAndApart, RefusesComponents, IsDescr
 ghost use Rattle.author.specs.Held.{IsDescriptionOf};
 
 use crate::alike::first_alike;
-use crate::fault::told;
 use crate::fields::Described;
 use crate::file_names::file_names;
 use crate::{Description, DescriptionFault, FileList};
@@ -34,10 +33,9 @@ fn judged(alloc: Global, value: &Value) -> Result<(), DescriptionFault>
     ensures { MatchResult result (λ _. IsDescription (view value.now))
         (IsFaultOf (view value.now)) }
 {
-    match Described::read(alloc, value, &FileList::new(alloc)) {
-        Ok(parts) => judge_components(&parts.manifest.components),
-        Err(fault) => Err(told(fault)),
-    }
+    let none = FileList::new(alloc);
+    let parts = Described::read(alloc, value, &none)?;
+    judge_components(&parts.manifest.components)
 }
 
 // See `description`.

@@ -31,17 +31,18 @@ pub enum DescriptionFault {
     NoMemory,
 }
 
-/// The fault for a flaw of the fields.
-pub(crate) fn told(fault: JsonFault) -> DescriptionFault
-    ensures { result ≡ fault_told fault }
-{
-    match fault {
-        JsonFault::NoMemory => DescriptionFault::NoMemory,
-        JsonFault::Flawed(flaw) => match flaw.kind {
-            FlawKind::Field => DescriptionFault::BadField(flaw.pointer),
-            FlawKind::Hex => DescriptionFault::BadHex(flaw.pointer),
-            FlawKind::Uuid => DescriptionFault::BadUuid(flaw.pointer),
-        },
+impl From<JsonFault> for DescriptionFault {
+    ghost from_gives = { λ fault told. told ≡ fault_told fault };
+
+    fn from(fault: JsonFault) -> DescriptionFault {
+        match fault {
+            JsonFault::NoMemory => DescriptionFault::NoMemory,
+            JsonFault::Flawed(flaw) => match flaw.kind {
+                FlawKind::Field => DescriptionFault::BadField(flaw.pointer),
+                FlawKind::Hex => DescriptionFault::BadHex(flaw.pointer),
+                FlawKind::Uuid => DescriptionFault::BadUuid(flaw.pointer),
+            },
+        }
     }
 }
 

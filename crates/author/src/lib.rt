@@ -41,3 +41,4 @@ pub use made_envelope::make;
 pub use make_fault::MakeFault;
 pub use making::manifest_of;
 pub use member_fields::is_one_item;
+pub use severing::Severed;

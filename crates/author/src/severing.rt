@@ -11,12 +11,12 @@ use serde_json::Value;
 use std::alloc::Global;
 use suit_envelope::MemberName;
 
-/// A set of members that may be severed from the manifest.
+/// A set of the members that may be severed from the manifest.
 #[derive(Clone, Copy, Debug, PartialEq, Eq)]
-pub(crate) struct Severed {
-    pub(crate) payload_fetch: bool,
-    pub(crate) install: bool,
-    pub(crate) text: bool,
+pub struct Severed {
+    pub payload_fetch: bool,
+    pub install: bool,
+    pub text: bool,
 }
 
 impl Severed {

@@ -24,7 +24,7 @@ use Rattle.describe.proofs.FieldsTaken.{ReadsTo, reads_to, components_taken, num
 use Rattle.describe.proofs.IdentifiersRead.{IsReadable}
 use Rattle.describe.proofs.PayloadFacts.{HoldBytes}
 use Rattle.describe.proofs.ReadTypes.{Fields, Described}
-use Rattle.describe.proofs.SeverRead.{read_severed, AreGiven}
+use Rattle.describe.proofs.SeverRead.{AreGiven}
 
 -- ---- severed members are given with their content
 
@@ -94,7 +94,7 @@ module _ (said : EnvelopeSays) (payloads : List (List ℕ × List ℕ)) (m : Man
   t8 list = record (t7 list) { sequence = Some m.sequence }
 
   abbrev t9 : List (List ℕ × List ℕ) → Fields
-  t9 list = record (t8 list) { severed = read_severed (severed_in said m apart) }
+  t9 list = record (t8 list) { severed = severed_in said m apart }
 
   abbrev t10 : List (List ℕ × List ℕ) → Fields
   t10 list = record (t9 list) { shared = unplaced_held m.shared }

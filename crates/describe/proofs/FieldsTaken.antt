@@ -20,7 +20,7 @@ use Rattle.suit_manifest.specs.ManifestWriting.{IsDigestBytes}
 use Rattle.author.specs.Descriptions.{scope_of, field_sequence, takes_field}
 use Rattle.author.specs.Members.{described_member, is_one_item}
 use Rattle.author.specs.Severing.{none_severed, severed_from}
-use Rattle.describe.specs.declared.severing.Severed.{Severed}
+use Rattle.author.specs.declared.severing.Severed.{Severed}
 use Rattle.describe.specs.ValueData.{number_data, identifiers_data}
 use Rattle.describe.specs.CommandData.{sequence_data, sequence_if}
 use Rattle.describe.specs.MemberData.{digest_data, member_data, text_data}
@@ -33,7 +33,7 @@ use Rattle.describe.proofs.IdentifiersRead.{IsReadable, identifiers_read}
 use Rattle.describe.proofs.MembersRead.{here_read, apart_read, text_read, apart_text_read}
 use Rattle.describe.proofs.PayloadsRead.{payloads_read}
 use Rattle.describe.proofs.ReadTypes.{Fields}
-use Rattle.describe.proofs.SeverRead.{read_severed, AreGiven, severed_read}
+use Rattle.describe.proofs.SeverRead.{AreGiven, severed_read}
 use Rattle.describe.proofs.ValuesRead.{number_read}
 
 -- ---- one field, and one after another
@@ -157,13 +157,13 @@ text_taken t (texts.Apart digest) None empty h = rw (apart_text_read digest.byte
 ok_inj : {A : Type 0} (x y : A) → ◌≡◌ {A = Result A Flaw} (Ok x) (Ok y) → x ≡ y
 ok_inj x y e = ap (λ r. unwrap_or (result_ok r) x) e
 
-sever_by : (t : Fields) (s : Severed) (ds : Items) → t.severed ≡ none_severed → severed_from t.source.given 0 none_severed ds ≡ Ok (read_severed s)
-    → TakesIf t (codes "sever") (sever_data ds) (record t { severed = read_severed s })
-sever_by t s no_items empty h = ap (λ x. record t { severed = x }) (empty ∙ ok_inj none_severed (read_severed s) h)
+sever_by : (t : Fields) (s : Severed) (ds : Items) → t.severed ≡ none_severed → severed_from t.source.given 0 none_severed ds ≡ Ok s
+    → TakesIf t (codes "sever") (sever_data ds) (record t { severed = s })
+sever_by t s no_items empty h = ap (λ x. record t { severed = x }) (empty ∙ ok_inj none_severed s h)
 sever_by t s (item d ds) empty h = rw h refl
 
 pub sever_taken : (t : Fields) (s : Severed) → t.severed ≡ none_severed → AreGiven t.source.given s
-    → TakesIf t (codes "sever") (sever_data (severed_names s)) (record t { severed = read_severed s })
+    → TakesIf t (codes "sever") (sever_data (severed_names s)) (record t { severed = s })
 sever_taken t s empty given = sever_by t s (severed_names s) empty (severed_read t.source.given s given)
 
 -- ---- payloads

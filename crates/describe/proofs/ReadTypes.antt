@@ -1,10 +1,6 @@
 -- Types of what is read of a description.
 use Rattle.author.specs.Descriptions.{scope_of}
 use Rattle.author.specs.Making.{made_manifest}
-use Rattle.author.specs.Severing.{none_severed}
-
-abbrev type_of : {A : Type 0} → A → Type 0
-type_of {A} x = A
 
 abbrev domain_of : {A B : Type 0} → (A → B) → Type 0
 domain_of {A} f = A
@@ -16,7 +12,3 @@ Fields = domain_of scope_of
 -- all of it
 abbrev pub Described : Type 0
 Described = domain_of made_manifest
-
--- which members are severed
-abbrev pub ReadSevered : Type 0
-ReadSevered = type_of none_severed

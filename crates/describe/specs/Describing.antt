@@ -4,7 +4,7 @@ use Rattle.serde_json.specs.Data.{Data, string, object, Members, no_members, put
 use Rattle.suit_envelope.specs.Envelopes.{EnvelopeSays}
 use Rattle.suit_manifest.specs.declared.manifest.Manifest.{Manifest}
 use Rattle.suit_manifest.specs.declared.manifest.Members.{Members as ApartMembers}
-use Rattle.describe.specs.declared.severing.Severed.{Severed}
+use Rattle.author.specs.declared.severing.Severed.{Severed}
 use Rattle.describe.specs.ValueData.{number_data, identifiers_data}
 use Rattle.describe.specs.CommandData.{sequence_if}
 use Rattle.describe.specs.MemberData.{member_data, is_severed, apart_text, text_data}

@@ -1,7 +1,7 @@
 -- The names of members that stand apart and are there, in the order of their numbers in an envelope.
 use Rattle.std.specs.Prelude.{ℕ, Bool, true, false, List, codes, Option, Some, None}
 use Rattle.serde_json.specs.Data.{Data, string, array, Items, no_items, item}
-use Rattle.describe.specs.declared.severing.Severed.{Severed}
+use Rattle.author.specs.declared.severing.Severed.{Severed}
 
 abbrev pub name_if : Bool → List ℕ → Items → Items
 name_if true name names = item (string name) names

@@ -10,7 +10,8 @@ ghost use Rattle.describe.specs.Describing.{with_field, with_fields, head_fields
 use crate::identifiers::identifiers;
 use crate::members::{apart_text, is_severed, member_value, sequence_if, text_value};
 use crate::payloads::payloads_value;
-use crate::severing::{Severed, sever_value};
+use crate::severing::sever_value;
+use author::Severed;
 use det_cbor::Text;
 use serde_json::{Map, Value, put};
 use std::alloc::{AllocError, Global};

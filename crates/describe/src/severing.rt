@@ -6,16 +6,9 @@ ghost use Rattle.serde_json.specs.View.{view, items_view};
 ghost use Rattle.describe.specs.Growing.{joined};
 ghost use Rattle.describe.specs.SeverData.{name_if, severed_names, sever_data};
 
+use author::Severed;
 use serde_json::Value;
 use std::alloc::{AllocError, Global};
-
-/// Which members stand apart and are there.
-#[derive(Clone, Copy, Debug, PartialEq, Eq)]
-pub(crate) struct Severed {
-    pub(crate) payload_fetch: bool,
-    pub(crate) install: bool,
-    pub(crate) text: bool,
-}
 
 // Adds a name, of a member that is severed.
 fn push_name(

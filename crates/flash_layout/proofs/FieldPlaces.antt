@@ -12,47 +12,38 @@ use Rattle.suit_params.specs.Identifiers.{spelled_id}
 use Rattle.flash_layout.specs.Layouts.{IsTypedEntry, AreTyped}
 use Rattle.flash_layout.specs.ConfigPage.{memory_byte, optional_id, number_bytes, entry_bytes, entries_bytes, config_page}
 use Rattle.flash_layout.specs.PageReading.{number_at}
-use Rattle.flash_layout.specs.PagePlaces.{IsMemoryByte, IsIdField, IsNumberField, HasEntryPlaces, HasPagePlaces, PagePlaces}
+use Rattle.flash_layout.specs.PagePlaces.{IsMemoryByte, IsIdField, IsNumberField, IsIdentifierField, HasEntryPlaces, HasPagePlaces, PagePlaces}
 use Rattle.flash_layout.proofs.PageFields.{field, number_read}
 use Rattle.flash_layout.proofs.Laws.{IsShort, entry_fields, entry_long, entries_long, short_of}
 
 -- ---- one component
 
-memory_placed : (m : Memory) → IsMemoryByte m (memory_byte m)
-memory_placed memory.Flash = refl
-memory_placed memory.Ram = refl
+-- by the bytes of the two memories
+pub memory_placed : (m : Memory) → memory_byte memory.Flash ≡ 0 → memory_byte memory.Ram ≡ 1
+    → IsMemoryByte m (memory_byte m)
+memory_placed memory.Flash flash ram = flash
+memory_placed memory.Ram flash ram = ram
 
-id_placed : (id : Option (List ℕ)) (bytes : List ℕ) → bytes ≡ optional_id id → IsIdField id bytes
+pub id_placed : (id : Option (List ℕ)) (bytes : List ℕ) → bytes ≡ optional_id id → IsIdField id bytes
 id_placed None bytes is = is
 id_placed (Some id) bytes is = is
 
-number_placed : (n : ℕ) (bytes : List ℕ) → n < 2 ^ 64 → bytes ≡ number_bytes n → IsNumberField n bytes
+pub number_placed : (n : ℕ) (bytes : List ℕ) → n < 2 ^ 64 → bytes ≡ number_bytes n → IsNumberField n bytes
 unfolding number_at
 number_placed n bytes fits is = ap number_at is ∙ number_read n fits
 
-entry_placed : (e : Entry) → IsTypedEntry e → IsShort e → HasEntryPlaces e (entry_bytes e)
+pub identifier_placed : (e : Entry) → IsTypedEntry e → IsShort e → IsIdentifierField (length (spelled_id e.identifier)) e.identifier (slice_range (entry_bytes e) 3 67)
 unfolding entry_bytes
-entry_placed e typed short =
+identifier_placed e typed short =
     let f = entry_fields e typed short in
     let spelling = spelled_id e.identifier in
     let n = length spelling in
     let zeros : List ℕ = replicate (64 - n) 0 in
-    let long : length zeros ≡ 64 - n = length-replicate {A = ℕ} (64 - n) 0 in
-    record {
-      memory = memory_placed e.memory;
-      slots = refl;
-      identifier = (
-        refl,
-        ap (λ (l : List ℕ). slice_range l 0 n) f.padded ∙ field [] spelling zeros (spelling ++ zeros) 0 n refl refl (omega arith),
-        ap (λ (l : List ℕ). slice_range l n 64) f.padded ∙ field spelling zeros [] (spelling ++ zeros) n 64 (ap (λ (l : List ℕ). spelling ++ l) (sym (append-nil zeros))) refl long,
-      );
-      vendor = id_placed e.vendor _ f.one;
-      class = id_placed e.class _ f.two;
-      device = id_placed e.device _ f.three;
-      capacity = number_placed e.capacity _ typed.capacity f.size;
-      first = number_placed (get_or e.starts 0 0) _ typed.first f.start;
-      second = number_placed (get_or e.starts 1 0) _ typed.second f.other;
-    }
+    let long : length zeros ≡ 64 - n = length-replicate {A = ℕ} (64 - n) 0 in (
+      refl,
+      ap (λ (l : List ℕ). slice_range l 0 n) f.padded ∙ field [] spelling zeros (spelling ++ zeros) 0 n refl refl (omega arith),
+      ap (λ (l : List ℕ). slice_range l n 64) f.padded ∙ field spelling zeros [] (spelling ++ zeros) n 64 (ap (λ (l : List ℕ). spelling ++ l) (sym (append-nil zeros))) refl long,
+    )
 
 -- ---- components
 
@@ -75,9 +66,11 @@ entry_slice (e ∷ es) before after (suc i) k d typed short inside long =
 
 -- ---- the page
 
-page_placed : (layout : List Entry) (key : Key) → AreTyped layout key → All IsShort layout → length layout ≤ 8 → HasPagePlaces layout key (config_page VERSION_1 layout key)
+-- where each component's fields stand in its bytes
+page_placed : ((e : Entry) → IsTypedEntry e → IsShort e → HasEntryPlaces e (entry_bytes e)) → (layout : List Entry) (key : Key) → AreTyped layout key → All IsShort layout → length layout ≤ 8
+    → HasPagePlaces layout key (config_page VERSION_1 layout key)
 unfolding config_page
-page_placed layout key typed short few =
+page_placed placed layout key typed short few =
     let entries = entries_bytes layout in
     let zeros : List ℕ = replicate (142 * 8 - length entries) 0 in
     let front : List ℕ = 0xA5 ∷ 1 ∷ key.length ∷ length layout ∷ key.bytes in
@@ -93,11 +86,11 @@ page_placed layout key typed short few =
       count = refl;
       key_bytes = field (0xA5 ∷ 1 ∷ key.length ∷ length layout ∷ []) key.bytes (entries ++ zeros) (front ++ (entries ++ zeros)) 4 68 refl refl typed.room;
       each = λ i d inside. subst (HasEntryPlaces (get_or layout i d)) (sym (entry_slice layout front zeros i 68 d typed.entries short inside room))
-          (entry_placed (get_or layout i d) (typed.entries i d inside) (short i d inside));
+          (placed (get_or layout i d) (typed.entries i d inside) (short i d inside));
       rest = field (front ++ entries) zeros [] (front ++ (entries ++ zeros)) (68 + 142 * length layout) 1204
           (sym (append_assoc front entries zeros) ∙ ap (λ (l : List ℕ). (front ++ entries) ++ l) (sym (append-nil zeros))) last (length-replicate {A = ℕ} (142 * 8 - length entries) 0 ∙ padding)
           ∙ ap (λ (n : ℕ). replicate n 0) padding;
     }
 
-pub page_places : PagePlaces
-page_places size page layout key typed is = subst (HasPagePlaces layout key) (sym is.is) (page_placed layout key typed (short_of VERSION_1 size layout is.allowed) is.allowed.few)
+pub page_places : ((e : Entry) → IsTypedEntry e → IsShort e → HasEntryPlaces e (entry_bytes e)) → PagePlaces
+page_places placed size page layout key typed is = subst (HasPagePlaces layout key) (sym is.is) (page_placed placed layout key typed (short_of VERSION_1 size layout is.allowed) is.allowed.few)

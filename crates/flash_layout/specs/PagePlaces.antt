@@ -1,13 +1,13 @@
 -- Where the fields of the configuration page stand, by their places in it. All numbers are big-endian.
-use Rattle.std.specs.Prelude.{◌≡◌, ◌<◌, ◌+◌, ◌-◌, ◌*◌, ℕ, List, ◌∷◌, length, replicate, slice_index, slice_index_or, slice_range, Option, Some, None}
+use Rattle.std.specs.Prelude.{◌≡◌, ◌<◌, ◌≤◌, ◌+◌, ◌-◌, ◌*◌, ℕ, List, ◌∷◌, length, replicate, slice_index, slice_index_or, slice_range, Option, Some, None}
 use Rattle.std.specs.Int.{w64, from_be_bytes}
 use Rattle.flash_layout.specs.declared.frame.TheConstants.{VERSION_1}
 use Rattle.flash_layout.specs.declared.layout.Entry.{Entry}
 use Rattle.flash_layout.specs.declared.layout.Memory.{Memory}
 use Rattle.flash_layout.specs.declared.layout.Memory.TheVariants as memory
 use Rattle.flash_layout.specs.declared.key.Key.{Key}
-use Rattle.flash_layout.specs.Layouts.{AreTyped}
-use Rattle.flash_layout.specs.ConfigPage.{IsConfigPage}
+use Rattle.flash_layout.specs.Layouts.{IsTypedEntry, AreTyped}
+use Rattle.flash_layout.specs.ConfigPage.{entry_bytes, IsConfigPage}
 use Rattle.suit_params.specs.Identifiers.{spelled_id}
 
 abbrev pub IsMemoryByte : Memory → ℕ → Type 0
@@ -39,6 +39,11 @@ pub record HasEntryPlaces (e : Entry) (bytes : List ℕ) : Type 0 where
   pub capacity : IsNumberField e.capacity (slice_range bytes 118 126)
   pub first : IsNumberField (slice_index e.starts 0) (slice_range bytes 126 134)
   pub second : IsNumberField (slice_index e.starts 1) (slice_range bytes 134 142)
+
+-- of each component whose identifier has at most 64 bytes, and its 142 bytes
+abbrev pub OfEachEntry : (Entry → List ℕ → Type 0) → Type 0
+OfEachEntry P = (e : Entry) → IsTypedEntry e → length (spelled_id e.identifier) ≤ 64
+    → P e (entry_bytes e)
 
 -- where a component of the page starts
 abbrev pub entry_place : ℕ → ℕ

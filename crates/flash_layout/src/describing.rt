@@ -1,17 +1,16 @@
 //! Values of JSON as layouts.
 
-ghost use Rattle.std.specs.Prelude.{◌≡◌, ◌≤◌, All, IfOk, IfErr, MatchResult, List};
+ghost use Rattle.std.specs.Prelude.{◌≤◌, All, IfOk, IfErr, MatchResult, List};
 ghost use Rattle.serde_json.specs.View.{view};
 ghost use Rattle.flash_layout.specs.declared.layout.Entry.{Entry};
 ghost use Rattle.flash_layout.specs.declared.layout_fault.LayoutFault.{LayoutFault};
 ghost use Rattle.flash_layout.specs.Layouts.{IsLayout};
-ghost use Rattle.flash_layout.specs.LayoutFaults.{AreHeld, RefusesEntries, IsLayoutOf, RefusesLayout, IsFaultOf, fault_told, IsAccepted, IsRefusedFor};
+ghost use Rattle.flash_layout.specs.LayoutFaults.{AreHeld, RefusesEntries, IsLayoutOf, RefusesLayout, IsFaultOf, IsAccepted, IsRefusedFor};
 
 use crate::device_fields::device;
 use crate::first_faults::{first_alike, first_outside, first_overlap};
 use crate::frame::{MAX_ENTRIES, VERSION_1};
 use crate::{Layout, LayoutFault};
-use json_fields::{FlawKind, JsonFault};
 use serde_json::Value;
 use std::alloc::Global;
 
@@ -37,32 +36,14 @@ fn judge(size: u64, layout: &Layout) -> Result<(), LayoutFault>
     }
 }
 
-// The fault for a flaw of the fields.
-fn told(fault: JsonFault) -> LayoutFault
-    ensures { result ≡ fault_told fault }
-{
-    match fault {
-        JsonFault::NoMemory => LayoutFault::NoMemory,
-        JsonFault::Flawed(flaw) => match flaw.kind {
-            FlawKind::Field => LayoutFault::BadField(flaw.pointer),
-            FlawKind::Hex => LayoutFault::BadHex(flaw.pointer),
-            FlawKind::Uuid => LayoutFault::BadUuid(flaw.pointer),
-        },
-    }
-}
-
 // As `layout_of`, which says what this means.
 fn read_layout(alloc: Global, value: &Value, size: u64) -> Result<Layout, LayoutFault>
     ensures ok { IfOk result (IsLayoutOf size (view value.now)) }
     ensures refused { IfErr result (IsFaultOf size (view value.now)) }
 {
-    match device(alloc, value) {
-        Ok(layout) => {
-            judge(size, &layout)?;
-            Ok(layout)
-        }
-        Err(fault) => Err(told(fault)),
-    }
+    let layout = device(alloc, value)?;
+    judge(size, &layout)?;
+    Ok(layout)
 }
 
 /// A device's description in JSON as the layout of a flash of this size: an object with `components`, an array of

@@ -1,6 +1,10 @@
 //! Why a value describes no layout.
 
+ghost use Rattle.std.specs.Prelude.{◌≡◌};
+ghost use Rattle.flash_layout.specs.LayoutFaults.{fault_told};
+
 use det_cbor::Text;
+use json_fields::{FlawKind, JsonFault};
 
 /// Why a value describes no layout of a flash. The texts are JSON Pointers (RFC 6901): where the first wrong value
 /// stands. Components go by their numbers.
@@ -21,4 +25,19 @@ pub enum LayoutFault {
     /// The first component with a slot that starts in the head of the flash or ends behind the flash.
     Outside(u32),
     NoMemory,
+}
+
+impl From<JsonFault> for LayoutFault {
+    ghost from_gives = { λ fault told. told ≡ fault_told fault };
+
+    fn from(fault: JsonFault) -> LayoutFault {
+        match fault {
+            JsonFault::NoMemory => LayoutFault::NoMemory,
+            JsonFault::Flawed(flaw) => match flaw.kind {
+                FlawKind::Field => LayoutFault::BadField(flaw.pointer),
+                FlawKind::Hex => LayoutFault::BadHex(flaw.pointer),
+                FlawKind::Uuid => LayoutFault::BadUuid(flaw.pointer),
+            },
+        }
+    }
 }

@@ -5,23 +5,21 @@ ghost use Rattle.flash_layout.specs.ConfigPage.{number_bytes};
 ghost use Rattle.flash_layout.specs.PageReading.{number_at};
 
 use crate::frame::ENTRIES_SIZE;
+use arrayvec::ArrayVec;
 use std::marker::Model;
 
 /// Up to so many bytes.
 #[derive(Drop)]
 pub struct Page<const MOST: usize> {
-    room: [u8; MOST],
-    used: usize,
+    bytes: ArrayVec<u8, MOST>,
 }
 
 impl<const MOST: usize> Model for Page<MOST> {
-    ghost use Rattle.std.specs.Prelude.{List, ℕ, ◌≤◌, take};
+    ghost use Rattle.std.specs.Prelude.{List, ℕ};
 
     ghost Value = { List ℕ };
 
-    ghost view = { λ p. take p.used p.room };
-
-    ghost invariant = { λ p. p.used ≤ MOST };
+    ghost view = { λ p. p.bytes.items };
 }
 
 impl<const MOST: usize> Page<MOST> {
@@ -30,8 +28,7 @@ impl<const MOST: usize> Page<MOST> {
         ensures { result ≡ [] }
     {
         Page {
-            room: [0; MOST],
-            used: 0,
+            bytes: ArrayVec::new(),
         }
     }
 
@@ -41,10 +38,10 @@ impl<const MOST: usize> Page<MOST> {
         ensures bytes { self.new ≡ self.old ++ bytes.now }
         ensures long { length self.new ≡ length self.old + length bytes.now }
     {
-        let end = self.used + bytes.len();
-        let room = &mut self.room[..];
-        room[self.used..end].copy_from_slice(bytes);
-        self.used = end;
+        match self.bytes.try_extend_from_slice(bytes) {
+            Ok(()) => {}
+            Err(_) => unreachable!(),
+        }
     }
 
     /// Adds zeros at the end.
@@ -80,8 +77,7 @@ impl<const MOST: usize> Page<MOST> {
     pub fn as_slice(&self) -> &[u8]
         ensures { result.now ≡ self.now }
     {
-        let room = &self.room[..];
-        &room[..self.used]
+        self.bytes.as_slice()
     }
 }
 

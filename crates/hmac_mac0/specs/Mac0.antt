@@ -26,7 +26,8 @@ kid_pairs (Some kid) = PairThen (UnsignedInteger 4) (ByteString kid) NoPairs
 abbrev pub mac_header : Option (List ℕ) → DataItem
 mac_header kid = MapOf (PairThen (UnsignedInteger 1) (UnsignedInteger 5) (kid_pairs kid))
 
--- tag 17 round [protected, unprotected, payload, tag], whose payload is detached (RFC 9052, section 6.2)
+-- tag 17 round [protected, unprotected, payload, tag], whose payload is detached (RFC 9052, section
+-- 6.2)
 abbrev pub mac0_item : List ℕ → DataPairs → List ℕ → DataItem
 mac0_item protected unprotected tag =
     TaggedItem 17

@@ -19,14 +19,13 @@ pub(crate) fn padded(key: &[u8]) -> [u8; 64]
     }
 }
 
+// A key of at most a block, with zeros behind it.
 fn filled(key: &[u8]) -> [u8; 64]
     requires { length key.now ≤ 64 }
     ensures { result ≡ key.now ++ replicate (64 - length key.now) 0 }
 {
     let mut block = [0u8; 64];
-    'bytes: for i in 0..key.len() {
-        block[i] = key[i];
-    }
+    block[..key.len()].copy_from_slice(key);
     block
 }
 

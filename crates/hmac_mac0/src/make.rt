@@ -13,7 +13,8 @@ use std::alloc::{AllocError, Global};
 
 /// The block whose tag is that of the key and the payload.
 ///
-/// The protected header holds the algorithm alone; a kid, which is a name for the key, stands unprotected.
+/// The protected header holds the algorithm alone; a kid, which is a name for the key, stands
+/// unprotected.
 pub fn make_block(
     alloc: Global,
     key: &[u8],

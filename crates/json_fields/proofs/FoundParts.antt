@@ -6,12 +6,11 @@ use Rattle.std.proofs.lemmas.Bool.{cases_eq}
 use Rattle.std.proofs.lemmas.Fmt.{decimal_is_IsNumeral, decimal_nonempty, first_decimal, length-decimal-le}
 use Rattle.std.specs.Float.Numeral.{Parts, IsWellFormed, scan_numeral}
 use Rattle.std.proofs.lemmas.Float.Parse.{scan_numeral-text_of}
-use Rattle.serde_json.specs.Data.{Data, array, object, Items, Members, put}
+use Rattle.serde_json.specs.Data.{Data, array, object, Items, Members}
 use Rattle.serde_json.specs.Find.{pointer, walk, step, unescape, index_of, get_item, get_member}
 use Rattle.serde_json.proofs.Paths.{Lacks, walk_part, walk_last}
-use Rattle.serde_json.proofs.Views.{get_member-put}
 use Rattle.json_fields.specs.Pointers.{escaped, escape, key_token, index_token}
-use Rattle.json_fields.specs.PointerLaws.{IsPointer, PointerLaws}
+use Rattle.json_fields.specs.PointerLaws.{Escapes, IsPointer}
 
 -- ---- one token and what follows it
 
@@ -46,7 +45,7 @@ record IsName (key : List ℕ) : Type 0 where
   same : unescape (escape key) ≡ key
   lacks : Lacks 47 (escape key)
 
-module _ (c : ℕ) (key : List ℕ) (later : IsName key) where
+module _ (escapes : Escapes) (c : ℕ) (key : List ℕ) (later : IsName key) where
   of_bytes : (bytes : List ℕ) → bytes ≡ escaped c → unescape (bytes ++ escape key) ≡ c ∷ unescape (escape key) → Lacks 47 (bytes ++ escape key) → IsName (c ∷ key)
   of_bytes bytes is back lacks = record {
     same = ap (λ (l : List ℕ). unescape (l ++ escape key)) (sym is) ∙ back ∙ ap (λ (l : List ℕ). c ∷ l) later.same;
@@ -54,27 +53,27 @@ module _ (c : ℕ) (key : List ℕ) (later : IsName key) where
   }
 
   tilde : c ≡ 126 → IsName (c ∷ key)
-  tilde e = of_bytes (126 ∷ 48 ∷ []) (rw e refl) (unescape_tilde (escape key) ∙ ap (λ (x : ℕ). x ∷ unescape (escape key)) (sym e))
+  tilde e = of_bytes (126 ∷ 48 ∷ []) (sym (ap escaped e ∙ escapes.tilde)) (unescape_tilde (escape key) ∙ ap (λ (x : ℕ). x ∷ unescape (escape key)) (sym e))
       (lacks_more 126 (48 ∷ escape key) (λ x. omega (arith, x)) (lacks_more 48 (escape key) (λ x. omega (arith, x)) later.lacks))
 
   slash : c ≡ 47 → IsName (c ∷ key)
-  slash e = of_bytes (126 ∷ 49 ∷ []) (rw e refl) (unescape_slash (escape key) ∙ ap (λ (x : ℕ). x ∷ unescape (escape key)) (sym e))
+  slash e = of_bytes (126 ∷ 49 ∷ []) (sym (ap escaped e ∙ escapes.slash)) (unescape_slash (escape key) ∙ ap (λ (x : ℕ). x ∷ unescape (escape key)) (sym e))
       (lacks_more 126 (49 ∷ escape key) (λ x. omega (arith, x)) (lacks_more 49 (escape key) (λ x. omega (arith, x)) later.lacks))
 
   plain : c ≢ 126 → c ≢ 47 → IsName (c ∷ key)
-  plain other apart = of_bytes (c ∷ []) (rw (ne_eqb c 126 other, ne_eqb c 47 apart) refl) (unescape_plain c (escape key) other) (lacks_more c (escape key) apart later.lacks)
+  plain other apart = of_bytes (c ∷ []) (sym (escapes.others c other apart)) (unescape_plain c (escape key) other) (lacks_more c (escape key) apart later.lacks)
 
   name_more : IsName (c ∷ key)
   name_more = ⊎_elim tilde (λ other. ⊎_elim slash (plain other) (cases_eq c 47)) (cases_eq c 126)
 
-is_name : (key : List ℕ) → IsName key
+is_name : Escapes → (key : List ℕ) → IsName key
 unfolding unescape
-is_name [] = record { same = refl; lacks = λ i inside. absurd (omega (arith, inside)) }
-is_name (c ∷ key) = name_more c key (is_name key)
+is_name escapes [] = record { same = refl; lacks = λ i inside. absurd (omega (arith, inside)) }
+is_name escapes (c ∷ key) = name_more escapes c key (is_name escapes key)
 
-pub found_member : (key rest : List ℕ) (ms : Members) → IsPointer rest → pointer (key_token key ++ rest) (object ms) ≡ option_and_then (pointer rest) (get_member key ms)
-found_member key rest ms is =
-    let name = is_name key in
+pub found_member : Escapes → (key rest : List ℕ) (ms : Members) → IsPointer rest → pointer (key_token key ++ rest) (object ms) ≡ option_and_then (pointer rest) (get_member key ms)
+found_member escapes key rest ms is =
+    let name = is_name escapes key in
     found_part (escape key) rest (object ms) name.lacks is ∙ ap (λ (k : List ℕ). option_and_then (pointer rest) (get_member k ms)) name.same
 
 -- ---- indices
@@ -119,15 +118,3 @@ pub found_element : (i : ℕ) (rest : List ℕ) (ds : Items) → i < 2 ^ 64 → 
 found_element i rest ds fits is =
     found_part (decimal i) rest (array ds) (digits_lack (decimal i) (decimal_is_IsNumeral i fits).0.1) is
     ∙ ap (λ (o : Option ℕ). option_and_then (pointer rest) (option_and_then (λ n. get_item n ds) o)) (index_read i fits)
-
--- ---- flaws
-
-pub pointer_laws : PointerLaws
-pointer_laws = record {
-  itself = λ kind d. refl;
-  member = λ key f ms is. found_member key f.pointer ms is;
-  element = λ i f ds fits is. found_element i f.pointer ds fits is;
-  missing = λ key d ms. found_member key [] (put key d ms) tt ∙ ap (option_and_then (pointer [])) (get_member-put key d ms);
-  members_pointer = λ key f. refl;
-  elements_pointer = λ i f. refl;
-}

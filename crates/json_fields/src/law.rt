@@ -1,8 +1,11 @@
 //! Laws of the places of flaws. The call here does nothing: its contract is the law.
 
-ghost use Rattle.json_fields.specs.PointerLaws.{PointerLaws};
+ghost use Rattle.json_fields.specs.PointerLaws.{Escapes, MissingPlaces, PointerLaws};
 
-/// A flaw is told at the part of the value that it is of, and a missing field where it would be (RFC 6901).
+/// A flaw is told at the part of the value that it is of, and a missing field where it would be
+/// (RFC 6901).
 pub fn pointer_laws()
-    ensures { PointerLaws }
+    ensures escapes { Escapes }
+    ensures missing { MissingPlaces }
+    ensures places { PointerLaws }
 {}

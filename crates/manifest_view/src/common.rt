@@ -3,15 +3,15 @@
 ghost use Rattle.std.specs.Prelude.{◌≡◌, ◌≤◌, length, IfOk};
 ghost use Rattle.det_cbor.specs.HeadReading.{map_ok};
 ghost use Rattle.suit_manifest.specs.Elements.{held_at, only_at};
-ghost use Rattle.suit_manifest.specs.CommonReading.{common_found, common_values_from, common_pairs_from, common_at};
+ghost use Rattle.suit_manifest.specs.CommonReading.{common_values_from, common_pairs_from, common_at};
 ghost use Rattle.manifest_view.specs.Views.{common_of};
 
 use crate::LentIdentifiers;
 use crate::components::lend_components;
-use crate::pairs::{Pairs, needed};
 use crate::values::lend_optional;
 use det_cbor::Cursor;
 use suit_cursor::LentSequence;
+use suit_manifest::{CommonValues, common_values, needed};
 use suit_params::{Refusal, only_item, read_content, read_map};
 
 /// The common part of a manifest (draft-ietf-suit-manifest-25, section 8.4.5).
@@ -21,28 +21,10 @@ pub(crate) struct Common<'a> {
     pub(crate) shared: Option<LentSequence<'a>>,
 }
 
-/// The values of the map, as they stand in it.
-#[derive(Drop)]
-pub(crate) struct CommonValues<'a> {
-    components: Option<Cursor<'a>>,
-    shared: Option<Cursor<'a>>,
-}
-
-fn find_values<'a>(mut pairs: Pairs<'a>) -> Result<CommonValues<'a>, Refusal>
-    ensures { common_found (record { map = pairs.entry.map; left = pairs.entry.left })
-        ≡ map_ok (λ v. record { components = v.components; shared = v.shared }) result }
-{
-    let components = pairs.take(2)?;
-    let shared = pairs.take(4)?;
-    pairs.end()?;
-    Ok(CommonValues { components, shared })
-}
-
 // The common part, by the values of a map.
 fn lend_values<'a>(place: u64, values: CommonValues<'a>) -> Result<Common<'a>, Refusal>
     ensures says { map_ok common_of result
-        ≡ common_values_from place
-        (record { components = values.entry.components; shared = values.entry.shared }) }
+        ≡ common_values_from place values.entry }
     ensures few { IfOk result (λ common. length common.components ≤ 8) }
 {
     let item = needed(place, 2, values.components)?;
@@ -56,12 +38,12 @@ fn lend_pairs<'a>(map: Cursor<'a>, place: u64, pairs: u64) -> Result<Common<'a>,
     ensures says { map_ok common_of result ≡ common_pairs_from place pairs map.entry }
     ensures few { IfOk result (λ common. length common.components ≤ 8) }
 {
-    let values = find_values(Pairs { map, left: pairs })?;
+    let values = common_values(map, pairs)?;
     lend_values(place, values)
 }
 
-// A whole item as the common part: unknown keys are refused first, then missing ones, and then the first value that is
-// refused.
+// A whole item as the common part: unknown keys are refused first, then missing ones, and then the
+// first value that is refused.
 fn lend_item<'a>(mut item: Cursor<'a>) -> Result<Common<'a>, Refusal>
     ensures says { map_ok common_of result ≡ common_at item.entry }
     ensures few { IfOk result (λ common. length common.components ≤ 8) }

@@ -69,8 +69,8 @@ fn lend_identifiers<'a>(mut items: Cursor<'a>, count: u64) -> Result<LentIdentif
     })
 }
 
-// Refuses two that are alike: the second is found first, and then the first that it is like. No identifier is before the
-// first.
+// Refuses two that are alike: the second is found first, and then the first that it is like. No
+// identifier is before the first.
 fn judge_apart(ids: &mut LentIdentifiers<'_>, mut items: Cursor<'_>) -> Result<(), Refusal>
     ensures apart { result ≡ apart_from ids.old 1 (length ids.old - 1) items.entry }
     ensures same { ids.new ≡ ids.old }
@@ -112,8 +112,8 @@ fn lend_counted<'a>(
     }
 }
 
-/// The identifiers of components that a whole item is: too many are refused first, then the first that is no identifier or
-/// too long, and then two that are alike.
+/// The identifiers of components that a whole item is: too many are refused first, then the first
+/// that is no identifier or too long, and then two that are alike.
 pub(crate) fn lend_components<'a>(mut item: Cursor<'a>) -> Result<LentIdentifiers<'a>, Refusal>
     ensures says { result ≡ components_at item.entry }
     ensures few { IfOk result (λ ids. length ids ≤ 8) }

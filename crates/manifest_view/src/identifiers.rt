@@ -7,7 +7,8 @@ use det_cbor::Cursor;
 use std::marker::Model;
 use suit_params::{bytes_left, read_array, read_content, read_item, same_place};
 
-/// The identifiers of components that are left (draft-ietf-suit-manifest-25, section 8.4.5), lent by bytes that were judged.
+/// The identifiers of components that are left (draft-ietf-suit-manifest-25, section 8.4.5), lent
+/// by bytes that were judged.
 #[derive(Drop)]
 pub struct LentIdentifiers<'a> {
     pub(crate) cursor: Cursor<'a>,

@@ -1,6 +1,8 @@
-//! Manifests (draft-ietf-suit-manifest-25, section 8.4) in the bytes of an envelope: judged once, and then lent by parts.
+//! Manifests (draft-ietf-suit-manifest-25, section 8.4) in the bytes of an envelope: judged once,
+//! and then lent by parts.
 //!
-//! Nothing is copied and no memory is taken. A contract sees a lent manifest as the one that its bytes spell.
+//! Nothing is copied and no memory is taken. A contract sees a lent manifest as the one that its
+//! bytes spell.
 #![tactic(auto)]
 
 mod alike;
@@ -9,7 +11,6 @@ mod components;
 mod identifiers;
 mod later;
 mod member;
-mod pairs;
 #[cfg(test)]
 mod tests;
 mod values;

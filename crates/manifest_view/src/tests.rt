@@ -1,4 +1,5 @@
-//! The tests: the manifest of a first envelope, at its place there, and with another byte at each place.
+//! The tests: the manifest of a first envelope, at its place there, and with another byte at each
+//! place.
 
 use crate::ManifestView;
 use std::alloc::{AllocError, Global};

@@ -6,64 +6,21 @@ ghost use Rattle.suit_commands.specs.Allowed.{levels_inside};
 ghost use Rattle.suit_commands.specs.SequenceReading.{whole_sequence};
 ghost use Rattle.suit_manifest.specs.Elements.{held_at};
 ghost use Rattle.suit_manifest.specs.MapReading.{may};
-ghost use Rattle.suit_manifest.specs.ManifestReading.{number_at, version_at, text_at, severed_at, text_member_at, severed_in, text_in};
+ghost use Rattle.suit_manifest.specs.ManifestReading.{text_at, severed_at, text_member_at, severed_in, text_in};
 ghost use Rattle.manifest_view.specs.Views.{member_of, text_of, lent_text, content_at};
 
 use crate::{MemberView, TextView};
-use det_cbor::{Cursor, HeadKind, Reason, as_text};
+use det_cbor::{Cursor, HeadKind};
 use suit_cursor::LentSequence;
-use suit_params::{
-    Refusal, Why, bytes_left, digest_of, only_item, read_bytes, read_content, read_head, refused,
-    same_place,
-};
-
-/// Reads an unsigned number.
-#[tactic(auto, unfolding(suit_manifest::specs::ManifestReading::number_at))]
-pub(crate) fn read_number(mut item: Cursor<'_>) -> Result<u64, Refusal>
-    ensures { result ≡ number_at item.entry }
-{
-    let place = item.place();
-    let head = read_head(&mut item)?;
-    match head.kind {
-        HeadKind::Unsigned => Ok(head.value),
-        _ => refused(place, Why::Shape),
-    }
-}
-
-/// Reads the version, which is 1.
-pub(crate) fn read_version(item: Cursor<'_>) -> Result<u64, Refusal>
-    ensures { result ≡ version_at item.entry }
-{
-    let place = item.place();
-    let version = read_number(item)?;
-    if version == 1 {
-        Ok(version)
-    } else {
-        refused(place, Why::Version(version))
-    }
-}
-
-#[tactic(auto, unfolding(suit_manifest::specs::ManifestReading::text_at))]
-fn lend_text<'a>(mut item: Cursor<'a>) -> Result<&'a str, Refusal>
-    ensures { map_ok (λ t. t.now) result ≡ text_at item.entry }
-{
-    let place = item.place();
-    let head = read_head(&mut item)?;
-    match head.kind {
-        HeadKind::Text => match as_text(read_bytes(&mut item, head.value)?) {
-            Some(text) => Ok(text),
-            None => refused(place, Why::Cbor(Reason::BadText)),
-        },
-        _ => refused(place, Why::Shape),
-    }
-}
+use suit_manifest::read_text;
+use suit_params::{Refusal, bytes_left, digest_of, only_item, read_content, read_head, same_place};
 
 /// A text, if there is one.
 pub(crate) fn lend_reference<'a>(item: Option<Cursor<'a>>) -> Result<Option<&'a str>, Refusal>
     ensures { map_ok lent_text result ≡ may text_at item.entry }
 {
     match item {
-        Some(item) => Ok(Some(lend_text(item)?)),
+        Some(item) => Ok(Some(read_text(item)?)),
         None => Ok(None),
     }
 }

@@ -6,20 +6,19 @@ ghost use Rattle.suit_params.specs.declared.refusal.Refusal.{Refusal};
 ghost use Rattle.suit_params.specs.Refusing.{RefusesWhole, SaysWhole};
 ghost use Rattle.suit_manifest.specs.declared.manifest.Manifest.{Manifest};
 ghost use Rattle.suit_manifest.specs.Manifests.{IsManifest, RefusesManifest};
-ghost use Rattle.suit_manifest.specs.ManifestReading.{manifest_found, values_from, pairs_from, manifest_at, manifest_from};
+ghost use Rattle.suit_manifest.specs.ManifestReading.{values_from, pairs_from, manifest_at, manifest_from};
 ghost use Rattle.manifest_view.specs.Views.{manifest_of};
 
 use crate::common::lend_common;
-use crate::later::{LaterValues, find_later, lend_later};
-use crate::pairs::{Pairs, needed};
-use crate::values::{read_number, read_version};
+use crate::later::lend_later;
 use crate::{LentIdentifiers, MemberView, TextView};
 use det_cbor::Cursor;
 use suit_cursor::LentSequence;
+use suit_manifest::{ManifestValues, manifest_values, needed, read_number, read_version};
 use suit_params::{Refusal, only_item, read_map};
 
-/// A manifest (draft-ietf-suit-manifest-25, section 8.4), lent by its bytes. Its sequences were judged, and are entered by
-/// their heads. Places are counted in bytes from the envelope's first.
+/// A manifest (draft-ietf-suit-manifest-25, section 8.4), lent by its bytes. Its sequences were
+/// judged, and are entered by their heads. Places are counted in bytes from the envelope's first.
 #[derive(Drop)]
 pub struct ManifestView<'a> {
     /// The number that grows with each manifest of a device.
@@ -36,62 +35,9 @@ pub struct ManifestView<'a> {
     pub text: TextView<'a>,
 }
 
-/// The values of a manifest's map, each as an item by itself.
-#[derive(Drop)]
-pub(crate) struct ManifestValues<'a> {
-    version: Option<Cursor<'a>>,
-    sequence: Option<Cursor<'a>>,
-    common: Option<Cursor<'a>>,
-    later: LaterValues<'a>,
-}
-
-// The values of a map that has no other keys; or the first key that is not known.
-fn find_values<'a>(mut pairs: Pairs<'a>) -> Result<ManifestValues<'a>, Refusal>
-    ensures { manifest_found (record { map = pairs.entry.map; left = pairs.entry.left })
-        ≡ map_ok (λ v. record {
-          version = v.version;
-          sequence = v.sequence;
-          common = v.common;
-          later = record {
-            reference = v.later.reference;
-            validate = v.later.validate;
-            load = v.later.load;
-            invoke = v.later.invoke;
-            payload_fetch = v.later.payload_fetch;
-            install = v.later.install;
-            text = v.later.text;
-          };
-        }) result }
-{
-    let version = pairs.take(1)?;
-    let sequence = pairs.take(2)?;
-    let common = pairs.take(3)?;
-    let later = find_later(pairs)?;
-    Ok(ManifestValues {
-        version,
-        sequence,
-        common,
-        later,
-    })
-}
-
 // A manifest, by the values of a map.
 fn lend_values<'a>(place: u64, values: ManifestValues<'a>) -> Result<ManifestView<'a>, Refusal>
-    ensures { map_ok manifest_of result ≡ values_from place
-        (record {
-          version = values.entry.version;
-          sequence = values.entry.sequence;
-          common = values.entry.common;
-          later = record {
-            reference = values.entry.later.reference;
-            validate = values.entry.later.validate;
-            load = values.entry.later.load;
-            invoke = values.entry.later.invoke;
-            payload_fetch = values.entry.later.payload_fetch;
-            install = values.entry.later.install;
-            text = values.entry.later.text;
-          };
-        }) }
+    ensures { map_ok manifest_of result ≡ values_from place values.entry }
 {
     let version = needed(place, 1, values.version)?;
     let sequence = needed(place, 2, values.sequence)?;
@@ -118,7 +64,7 @@ fn lend_values<'a>(place: u64, values: ManifestValues<'a>) -> Result<ManifestVie
 fn lend_pairs<'a>(map: Cursor<'a>, place: u64, pairs: u64) -> Result<ManifestView<'a>, Refusal>
     ensures { map_ok manifest_of result ≡ pairs_from place pairs map.entry }
 {
-    let values = find_values(Pairs { map, left: pairs })?;
+    let values = manifest_values(map, pairs)?;
     lend_values(place, values)
 }
 
@@ -142,8 +88,9 @@ fn lend_manifest<'a>(bytes: &'a [u8], place: u64) -> Result<ManifestView<'a>, Re
 }
 
 impl<'a> ManifestView<'a> {
-    /// The manifest that the bytes spell. The bytes start at this place in the envelope, from which the places of commands
-    /// and refusals count. They are judged once, here, as `decode_manifest` judges them. Takes no memory.
+    /// The manifest that the bytes spell. The bytes start at this place in the envelope, from which
+    /// the places of commands and refusals count. They are judged once, here, as `decode_manifest`
+    /// judges them. Takes no memory.
     pub fn read(bytes: &'a [u8], place: u64) -> Result<ManifestView<'a>, Refusal>
         requires { place + length bytes.now < 2 ^ 64 }
         ensures ok { IfOk result (λ view. SaysWhole IsManifest place bytes.now (manifest_of view)) }

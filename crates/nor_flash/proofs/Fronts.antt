@@ -3,9 +3,6 @@ use Rattle.std.proofs.Common.{◌≡◌, ◌<◌, ◌≤◌, ◌+◌, ◌*◌, �
 use Rattle.std.specs.List.{slice_range}
 use Rattle.std.proofs.lemmas.List.{ext_get_or}
 use Rattle.std.proofs.lemmas.List.Edits.{length-between, get_or-between}
-use Rattle.suit_edge.specs.Edge.{IfDone}
-use Rattle.suit_edge.specs.declared.edge.Edge.{Edge}
-use Rattle.suit_edge.specs.declared.edge.Edge.TheVariants as edge
 use Rattle.nor_flash.specs.declared.phase.Phase.{Phase}
 use Rattle.nor_flash.specs.declared.phase.Phase.TheVariants as phases
 use Rattle.nor_flash.specs.Blocks.{front, name_in, named, plain}
@@ -37,13 +34,3 @@ module _ (m : ℕ) (few : m ≤ blank_name) (a : List ℕ) (fits : length a ≡ 
 
   pub settled_part : AreErased m a → (from to : ℕ) → from ≤ to → to ≤ 4096 * m → slice_range (plain m a) from to ≡ slice_range a from to
   settled_part erased from to low high = ap (λ (l : List ℕ). slice_range l from to) (settled_front erased) ∙ front_part from to low high
-
--- what follows where a call is done
-pub if_done_then : (answer : Edge) (P Q : Type 0) → IfDone answer P → (P → Q) → IfDone answer Q
-if_done_then edge.Done P Q is to = to is
-if_done_then edge.Failed P Q is to = tt
-
--- what holds in any case
-pub always : (answer : Edge) (P : Type 0) → P → IfDone answer P
-always edge.Done P is = is
-always edge.Failed P is = tt

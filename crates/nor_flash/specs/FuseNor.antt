@@ -6,8 +6,8 @@ use Rattle.suit_edge.specs.Faults.{counted}
 use Rattle.suit_edge.specs.FuseDisk.{counts_answer}
 use Rattle.nor_flash.specs.MemoryNor.{NorState}
 
--- the device, the number of calls that it is still to take, the count of those that failed, and how often a block was to
--- be erased
+-- the device, the number of calls that it is still to take, the count of those that failed, and how
+-- often a block was to be erased
 pub record FuseState : Type 0 where
   pub nor : NorState
   pub passes : ℕ

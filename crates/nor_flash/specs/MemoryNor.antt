@@ -10,8 +10,8 @@ use Rattle.nor_flash.specs.Blocks.{ands}
 use Rattle.nor_flash.specs.declared.step.Step.{Step}
 use Rattle.nor_flash.specs.declared.step.Step.TheVariants as step
 
--- how many blocks it has, the calls that changed it since all its bytes were 0xFF, how often a block was to be erased, and
--- the counts of all calls
+-- how many blocks it has, the calls that changed it since all its bytes were 0xFF, how often a
+-- block was to be erased, and the counts of all calls
 pub record NorState : Type 0 where
   pub blocks : ℕ
   pub steps : List Step
@@ -65,8 +65,8 @@ IsLeft reads [] image = image ≡ reads
 IsLeft reads (s ∷ later) image =
     SameOn (Outside (range_of s).place (range_of s).size) reads image × AreBytes image
 
--- A power loss at some moment since t may leave the image. A moment is told by the number of steps before it, and the
--- loss comes there or in the step that follows.
+-- A power loss at some moment since t may leave the image. A moment is told by the number of steps
+-- before it, and the loss comes there or in the step that follows.
 pub record MayLeave (blocks : ℕ) (steps : List Step) (t : ℕ) (image : List ℕ) : Type 0 where
   pub moment : ℕ
   pub since : t ≤ moment
@@ -120,8 +120,8 @@ ReadsExactly edge.Failed before now place room filled =
 abbrev pub spoiling : Step → Step
 spoiling s = step.Spoiled (record { place = (range_of s).place; size = (range_of s).size })
 
--- A program or an erase takes its step. By its number it fails and spoils its range; where memory runs out it fails and
--- changes nothing.
+-- A program or an erase takes its step. By its number it fails and spoils its range; where memory
+-- runs out it fails and changes nothing.
 abbrev pub StepsExactly : Edge → NorState → NorState → Step → Type 0
 StepsExactly edge.Done before now s = Succeeds before.calls now.calls × TakesStep before now s
 StepsExactly edge.Failed before now s =

@@ -9,6 +9,7 @@ pub record NorLossLaw : Type 0 where
   -- between two calls it leaves what stands
   pub between : (blocks : ℕ) (steps : List Step) (image : List ℕ)
       → Now (flash_of blocks steps) image ↔ (image ≡ nor_reads blocks steps)
-  -- at the start of the last call, in it or behind it: any bytes in its range, and all else as it stood before
+  -- at the start of the last call, in it or behind it: any bytes in its range, and all else as it
+  -- stood before
   pub within : (blocks : ℕ) (steps : List Step) (last : Step) (image : List ℕ)
       → MayLeave blocks (steps ++ last ∷ []) (length steps) image ↔ (SameOn (Outside (range_of last).place (range_of last).size) (nor_reads blocks steps) image × AreBytes image)

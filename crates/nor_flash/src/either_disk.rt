@@ -21,7 +21,8 @@ impl<A: Disk + Drop, B: Disk + Drop> Disk for EitherDisk<A, B> {
 
     ghost faults = { λ d. either_number A.faults B.faults d };
 
-    ghost obeys = { λ d t. either_obeys A.told B.told A.extent B.extent A.flash B.flash A.obeys B.obeys d t };
+    ghost obeys = { λ d t.
+        either_obeys A.told B.told A.extent B.extent A.flash B.flash A.obeys B.obeys d t };
 
     fn size(&self) -> u64 {
         match self {

@@ -23,9 +23,10 @@ const SIZE: u64 = 4_210_688;
 /// The bytes of an erased block.
 const ERASED: [u8; BLOCK] = [0xff; BLOCK];
 
-/// NOR flash of 4,210,688 bytes in the file `suit.nor` of the working directory. The file is opened at the first call.
-/// One that is missing is made, a shorter one is filled with 0xFF, and of a longer one the rest is left alone. Each
-/// program and erase is synced. It tells nothing of what it holds.
+/// NOR flash of 4,210,688 bytes in the file `suit.nor` of the working directory. The file is opened
+/// at the first call. One that is missing is made, a shorter one is filled with 0xFF, and of a
+/// longer one the rest is left alone. Each program and erase is synced. It tells nothing of what it
+/// holds.
 #[derive(Drop)]
 pub struct FileNor<R: Files<File = File> + Drop> {
     rt: R,
@@ -52,8 +53,8 @@ impl<R: Files<File = File> + Drop> FileNor<R> {
         }
     }
 
-    /// Whether the file is there, which is not made here. Where that cannot be told it counts as there, so that its
-    /// first call fails.
+    /// Whether the file is there, which is not made here. Where that cannot be told it counts as
+    /// there, so that its first call fails.
     pub fn is_there(rt: &R) -> bool {
         fs::exists(rt, NAME).unwrap_or(true)
     }

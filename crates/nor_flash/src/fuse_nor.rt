@@ -18,8 +18,9 @@ use crate::{MemoryNor, Nor};
 use std::marker::Model;
 use suit_edge::Edge;
 
-/// NOR flash in memory that takes so many calls, and then fails each and changes nothing, as if its power were gone.
-/// `size` is not counted. It counts its own erases, also those that are not passed on.
+/// NOR flash in memory that takes so many calls, and then fails each and changes nothing, as if its
+/// power were gone. `size` is not counted. It counts its own erases, also those that are not passed
+/// on.
 #[derive(Drop)]
 pub struct FuseNor {
     nor: MemoryNor,

@@ -24,8 +24,8 @@ use suit_edge::Edge;
 /// What a failed program or erase leaves in each second byte of its range.
 const SPOILED: u8 = 0x55;
 
-/// NOR flash in memory. It remembers each program and erase, and so takes memory in each of them; without it they fail
-/// and change nothing.
+/// NOR flash in memory. It remembers each program and erase, and so takes memory in each of them;
+/// without it they fail and change nothing.
 #[derive(Drop)]
 pub struct MemoryNor {
     alloc: Global,
@@ -48,8 +48,9 @@ impl Model for MemoryNor {
 }
 
 impl MemoryNor {
-    /// So many blocks, all of whose bytes are 0xFF. The calls with these numbers fail: each call but `size` is counted,
-    /// from 0. A program or an erase that fails by its number leaves 0x55 in the bytes 0, 2, 4 and so on of its range.
+    /// So many blocks, all of whose bytes are 0xFF. The calls with these numbers fail: each call
+    /// but `size` is counted, from 0. A program or an erase that fails by its number leaves 0x55 in
+    /// the bytes 0, 2, 4 and so on of its range.
     pub fn new(alloc: Global, blocks: usize, fails: &[u64]) -> Result<MemoryNor, AllocError>
         requires five { 5 ≤ blocks }
         requires fits { 4096 * blocks ≤ usize.MAX }
@@ -209,7 +210,8 @@ fn note_program(
     place: usize,
     bytes: &[u8],
 ) -> Result<(), AllocError>
-    ensures ok { OnOk result (steps.new.items ≡ steps.old.items ++ program_of place bytes.now ∷ []) }
+    ensures ok { OnOk result
+        (steps.new.items ≡ steps.old.items ++ program_of place bytes.now ∷ []) }
     ensures err { OnErr result (steps.new.items ≡ steps.old.items) }
 {
     let bytes = Bytes::from_slice(alloc, bytes)?;

@@ -44,8 +44,8 @@ pub trait Nor {
         ensures grows { IsTrue told → Grows (flash self.old) (flash self.new) }
         ensures erases { IsTrue told → erases self.new ≡ erases self.old };
 
-    /// Clears, in the bytes from the place on, all bits that are not set in these. The range lies in one block.
-    /// If it fails, the range holds any bytes.
+    /// Clears, in the bytes from the place on, all bits that are not set in these. The range lies
+    /// in one block. If it fails, the range holds any bytes.
     fn program(&mut self, place: u64, bytes: &[u8]) -> Edge
         requires fits { place + length bytes.now ≤ extent self.old }
         requires block { place % 4096 + length bytes.now ≤ 4096 }

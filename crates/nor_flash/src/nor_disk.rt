@@ -17,9 +17,9 @@ use crate::{BLOCK, Nor, Phase, blocks};
 use std::marker::Model;
 use suit_edge::{Disk, Edge};
 
-/// A disk over NOR flash: the device's blocks without the last four. Those are the image block and three names.
-/// A block that is to be rewritten stands in the image block while the names tell its number, so that a power loss
-/// leaves either the old block or the new one.
+/// A disk over NOR flash: the device's blocks without the last four. Those are the image block and
+/// three names. A block that is to be rewritten stands in the image block while the names tell its
+/// number, so that a power loss leaves either the old block or the new one.
 #[derive(Drop)]
 pub struct NorDisk<N: Nor + Drop> {
     nor: N,
@@ -35,7 +35,10 @@ impl<N: Nor + Drop> Model for NorDisk<N> {
 
     ghost view = { λ d. (d.nor, d.phase) };
 
-    ghost invariant = { λ d. IsOfDisk (blocks_of (N.extent d.nor)) d.phase × (IsTrue N.told → HoldsPhase (blocks_of (N.extent d.nor)) d.phase (N.flash d.nor).reads) };
+    ghost invariant = { λ d.
+        IsOfDisk (blocks_of (N.extent d.nor)) d.phase
+        × (IsTrue N.told
+        → HoldsPhase (blocks_of (N.extent d.nor)) d.phase (N.flash d.nor).reads) };
 }
 
 impl<N: Nor + Drop> NorDisk<N> {
@@ -66,7 +69,9 @@ impl<N: Nor + Drop> Disk for NorDisk<N> {
 
     ghost faults = { λ d. N.faults d.0 };
 
-    ghost obeys = { λ d t. nor_obeys (N.extent d.0) d.1 (N.flash d.0) (N.obeys d.0 t) (N.rests d.0 t) (N.cells d.0 t) };
+    ghost obeys = { λ d t.
+        nor_obeys (N.extent d.0) d.1 (N.flash d.0) (N.obeys d.0 t) (N.rests d.0 t)
+        (N.cells d.0 t) };
 
     fn size(&self) -> u64
         ensures { result ≡ 4096 * blocks_of (N.extent self.now.0) }

@@ -59,9 +59,10 @@ fn read_named<N: Nor>(nor: &mut N, block: u64, place: u64, room: &mut [u8]) -> E
     requires within { block < blocks_of (N.extent nor.old) }
     ensures size { N.extent nor.new ≡ N.extent nor.old }
     ensures counts { EdgeCounts result (N.faults nor.old) (N.faults nor.new) }
-    ensures bytes { IsTrue N.told → IfDone result (room.new
-        ≡ slice_range (with_block (blocks_of (N.extent nor.old)) block (N.flash nor.old).reads) place
-        (place + length room.old)) }
+    ensures bytes { IsTrue N.told → IfDone result
+        (room.new
+        ≡ slice_range (with_block (blocks_of (N.extent nor.old)) block (N.flash nor.old).reads)
+        place (place + length room.old)) }
     ensures same { IsTrue N.told → IsSame (N.flash nor.old) (N.flash nor.new) }
     ensures grows { IsTrue N.told → Grows (N.flash nor.old) (N.flash nor.new) }
 {

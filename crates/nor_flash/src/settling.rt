@@ -93,7 +93,8 @@ fn rewrite<N: Nor>(nor: &mut N, block: u64) -> Edge
     nor.program(BLOCK as u64 * block, &room)
 }
 
-/// Rewrites the block that is named, and erases the names. Where that fails, the phase says what is left to do.
+/// Rewrites the block that is named, and erases the names. Where that fails, the phase says what is
+/// left to do.
 pub(crate) fn finish<N: Nor>(nor: &mut N, phase: &mut Phase, block: u64) -> Edge
     requires phase { phase.old ≡ phases.Rewriting block }
     requires within { block < blocks_of (N.extent nor.old) }

@@ -2,7 +2,8 @@
 use Rattle.std.specs.Prelude.{◌≡◌, ◌⊎◌, ℕ, List, Contains}
 use Rattle.suit_edge.specs.Faults.{Faulted, counted}
 
--- the numbers of the calls that fail, the number of the next call, and the counts of faults and of memory running out
+-- the numbers of the calls that fail, the number of the next call, and the counts of faults and of
+-- memory running out
 pub record CallCounts : Type 0 where
   pub fails : List ℕ
   pub number : ℕ

@@ -4,8 +4,8 @@ use Rattle.suit_edge.specs.Flash.{Flash, ImageOn}
 use Rattle.suit_edge.specs.Gate.{IsOpen, IsOldPage, IsNewPage, page_at}
 use Rattle.suit_edge.specs.Ranges.{Range, OutsideEach}
 
--- An open page is that of the start, or it is the new one, and all other places are as they were made before it. Outside
--- the ranges and the page the image is one of the start.
+-- An open page is that of the start, or it is the new one, and all other places are as they were
+-- made before it. Outside the ranges and the page the image is one of the start.
 pub record IsVouched (ranges : List Range) (gate place : ℕ) (body made : List ℕ) (start : Flash)
     (image : List ℕ) : Type 0 where
   pub apart : ImageOn (OutsideEach (page_at gate place (length body) ++ ranges)) start image

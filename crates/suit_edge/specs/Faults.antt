@@ -3,7 +3,8 @@ use Rattle.std.specs.Prelude.{◌≡◌, ◌<◌, ◌≤◌, ◌-◌, ◌+◌, �
 use Rattle.suit_edge.specs.declared.edge.Edge.{Edge}
 use Rattle.suit_edge.specs.declared.edge.Edge.TheVariants as edge
 
--- A fault was counted. A count is kept in 64 bits and stands still at its end, so it is claimed to rise below it.
+-- A fault was counted. A count is kept in 64 bits and stands still at its end, so it is claimed to
+-- rise below it.
 pub record Faulted (before now : ℕ) : Type 0 where
   pub later : before ≤ now
   pub rose : now < 2 ^ 64 - 1 → before < now

@@ -1,5 +1,5 @@
--- Laws of flashes: how runs of calls on a disk are composed. They range over flashes and over predicates on images, so
--- that no clause can say them.
+-- Laws of flashes: how runs of calls on a disk are composed. They range over flashes and over
+-- predicates on images, so that no clause can say them.
 use Rattle.std.proofs.Common.{inl, inr, ⊎_elim, ◌≤◌, ℕ, List, refl, sym, ◌∙◌, subst, arith}
 use Rattle.suit_edge.specs.Ranges.{SameOn}
 use Rattle.suit_edge.specs.Flash.{Flash, Now, Grows, Passes, ImageOn, Keeps, IsSame, IsSettled, IsFirmOn, IsFlash}

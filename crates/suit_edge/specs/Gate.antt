@@ -1,4 +1,5 @@
--- A page: bytes, and a gate byte that is open only while they stand whole. The gate may stand before or behind them.
+-- A page: bytes, and a gate byte that is open only while they stand whole. The gate may stand
+-- before or behind them.
 use Rattle.std.specs.Prelude.{◌≡◌, ◌⊎◌, ◌+◌, ℕ, List, [], ◌∷◌, length, slice_index, slice_range}
 use Rattle.suit_edge.specs.declared.page.TheConstants.{OPEN, CLOSED}
 use Rattle.suit_edge.specs.declared.gate.Gate.{Gate}
@@ -47,7 +48,8 @@ pub record IsNewPage (gate place : ℕ) (body old image : List ℕ) : Type 0 whe
   pub bytes : body_at image place (length body) ≡ body
   pub rest : SameOn (OutsideEach (page_at gate place (length body))) old image
 
--- Outside the page an image of the start. Where none of those has an open gate, an open page is the new one.
+-- Outside the page an image of the start. Where none of those has an open gate, an open page is the
+-- new one.
 pub record IsOpening (gate place : ℕ) (body : List ℕ) (start : Flash) (image : List ℕ)
     : Type 0 where
   pub apart : ImageOn (OutsideEach (page_at gate place (length body))) start image

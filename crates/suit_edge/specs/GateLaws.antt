@@ -1,4 +1,5 @@
--- Laws of gates: what a power loss leaves while a gate is closed, and while a page is written behind a closed one.
+-- Laws of gates: what a power loss leaves while a gate is closed, and while a page is written
+-- behind a closed one.
 use Rattle.std.proofs.Common.{◌≡◌, ◌≢◌, ◌⊎◌, inl, inr, ⊎_elim, ◌<◌, ◌≤◌, ℕ, ◌+◌, List, [], ◌∷◌, length, get_or, sym, ◌∙◌, ap, subst, arith}
 use Rattle.std.specs.List.{slice_range}
 use Rattle.std.proofs.lemmas.List.Edits.{get_or-between}

@@ -26,7 +26,8 @@ pub record HostLaws : Type 0 where
   -- the stored file is the one started then
   pub stored : (file : Option (List ℕ)) (bytes rest : List ℕ) → Stores edge.Done file bytes
       → Starts started.Done file rest → rest ≡ bytes
-  -- a name that was started, or is absent, was asked for; and no start asks for another name, whatever it answers
+  -- a name that was started, or is absent, was asked for; and no start asks for another name,
+  -- whatever it answers
   pub asked_done : (name : List ℕ) (before now : List (List ℕ))
       → StartAsks started.Done name before now → now ≡ before ++ name ∷ []
   pub asked_absent : (name : List ℕ) (before now : List (List ℕ))

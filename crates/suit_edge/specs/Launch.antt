@@ -12,7 +12,8 @@ abbrev pub LiesWithin : ℕ → Image → Type 0
 LiesWithin size (image.Flash place n) = place + n ≤ size
 LiesWithin size (image.Ram bytes) = Unit {0}
 
--- The bytes of an image: those at its place, as far as the disk tells what it reads, or those in memory.
+-- The bytes of an image: those at its place, as far as the disk tells what it reads, or those in
+-- memory.
 abbrev pub AreImage : Image → Bool → List ℕ → List ℕ → Type 0
 AreImage (image.Flash place n) told reads bytes =
     (length bytes ≡ n) × (IsTrue told → bytes ≡ slice_range reads place (place + n))
@@ -35,8 +36,8 @@ AddsLaunch launched.Done before now IsAsked =
 AddsLaunch launched.DiskFailed before now IsAsked = now ≡ before
 AddsLaunch launched.Failed before now IsAsked = now ≡ before
 
--- The launcher's count before and now, and the disk's. Failed comes only where the launcher's rose, DiskFailed only
--- where the disk's rose, and a launch that is done leaves both as they were.
+-- The launcher's count before and now, and the disk's. Failed comes only where the launcher's rose,
+-- DiskFailed only where the disk's rose, and a launch that is done leaves both as they were.
 abbrev pub LaunchCounts : Launched → ℕ → ℕ → ℕ → ℕ → Type 0
 LaunchCounts launched.Done before now disk_before disk_now =
     (now ≡ before) × (disk_now ≡ disk_before)

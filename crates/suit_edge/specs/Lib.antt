@@ -2,6 +2,7 @@ pub mod Calls
 pub mod Client
 pub mod DiskLaws
 pub mod Edge
+pub mod EdgeLaws
 pub mod FaultLaws
 pub mod Faults
 pub mod FileDisk

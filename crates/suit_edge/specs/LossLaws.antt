@@ -8,8 +8,9 @@ use Rattle.suit_edge.specs.Flash.{Now}
 use Rattle.suit_edge.specs.Moment.{OutsideAll}
 use Rattle.suit_edge.specs.MemoryDisk.{flash_of}
 
--- Where these are the writes since the last sync, or since the beginning, and reads give bytes, it leaves just the images
--- of the disk's size that hold what reads give at each place outside their ranges. In the ranges they hold any bytes.
+-- Where these are the writes since the last sync, or since the beginning, and reads give bytes, it
+-- leaves just the images of the disk's size that hold what reads give at each place outside their
+-- ranges. In the ranges they hold any bytes.
 abbrev pub Leaves : List ℕ → List Step → List Write → Type 0
 Leaves first steps writes = AreBytes (flash_of first steps).reads
     → (image : List ℕ) → Now (flash_of first steps) image ↔ (SameOn (OutsideAll writes) (flash_of first steps).reads image × AreBytes image)

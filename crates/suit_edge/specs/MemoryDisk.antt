@@ -18,7 +18,8 @@ pub record DiskState : Type 0 where
 abbrev pub moment_now : DiskState → Moment
 moment_now s = moment_of s.first s.steps
 
--- A power loss at some moment since t may leave the image. A moment is told by the number of steps before it.
+-- A power loss at some moment since t may leave the image. A moment is told by the number of steps
+-- before it.
 pub record MayLeave (first : List ℕ) (steps : List Step) (t : ℕ) (image : List ℕ) : Type 0 where
   pub moment : ℕ
   pub since : t ≤ moment

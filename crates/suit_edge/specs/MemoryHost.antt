@@ -24,8 +24,8 @@ with_file (file ∷ files) name bytes =
 
 -- ---- the host
 
--- The files, what is left of the file that was started last, the number of bytes handed out, and the names of the files
--- that were started, the last one at the end.
+-- The files, what is left of the file that was started last, the number of bytes handed out, and
+-- the names of the files that were started, the last one at the end.
 pub record HostState : Type 0 where
   pub files : List (List ℕ × List ℕ)
   pub rest : List ℕ

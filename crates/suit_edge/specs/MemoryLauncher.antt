@@ -10,8 +10,8 @@ pub record LauncherState : Type 0 where
   pub launches : List Launch
   pub calls : CallCounts
 
--- It fails by its number or because memory ran out, and then leaves the disk's count as it was. Where the disk failed
--- it is itself as after a call that is done.
+-- It fails by its number or because memory ran out, and then leaves the disk's count as it was.
+-- Where the disk failed it is itself as after a call that is done.
 abbrev pub LaunchesExactly : Launched → LauncherState → LauncherState → ℕ → ℕ → Type 0
 LaunchesExactly launched.Done before now disk_before disk_now = Succeeds before.calls now.calls
 LaunchesExactly launched.DiskFailed before now disk_before disk_now =

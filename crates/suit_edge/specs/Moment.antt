@@ -38,7 +38,8 @@ abbrev pub OutsideAll : List Write → ℕ → Type 0
 OutsideAll [] i = Unit {0}
 OutsideAll (w ∷ writes) i = Outside w.place (length w.bytes) i × OutsideAll writes i
 
--- A power loss at this moment may leave the image: each pending range holds any bytes, and all others stay.
+-- A power loss at this moment may leave the image: each pending range holds any bytes, and all
+-- others stay.
 pub record IsImage (m : Moment) (image : List ℕ) : Type 0 where
   pub stays : SameOn (OutsideAll m.pending) m.reads image
   -- a byte, or what reads give

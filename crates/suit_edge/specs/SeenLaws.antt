@@ -1,5 +1,6 @@
--- A disk over another one. It reads what that holds through a function of its bytes, or from a state of its own; a power
--- loss leaves what the one below then shows, or what it reads. So is a disk over a device.
+-- A disk over another one. It reads what that holds through a function of its bytes, or from a
+-- state of its own; a power loss leaves what the one below then shows, or what it reads. So is a
+-- disk over a device.
 use Rattle.std.proofs.Common.{◌≡◌, ◌⊎◌, inl, inr, ⊎_elim, ◌≤◌, ℕ, List, length, refl, sym, ◌∙◌, ap, subst, arith}
 use Rattle.suit_edge.specs.Ranges.{AreBytes, SameOn}
 use Rattle.suit_edge.specs.Flash.{Flash, Now, Grows, Passes, ImageOn, Keeps, IsSame, IsSettled, IsFlash}
@@ -23,7 +24,8 @@ seen_obeys shows reads f size n long fits bytes law = record {
 }
 
 module _ (shows : List ℕ → List ℕ) (old new : List ℕ) (a b : Flash) where
-  -- The images of a moment stay, where the disk still reads what it read, or the one below has shown it since.
+  -- The images of a moment stay, where the disk still reads what it read, or the one below has
+  -- shown it since.
   pub seen_grows : (size : ℕ) → IsFlash b size → a.clock ≤ b.clock → Grows a b
       → (old ≡ new) ⊎ ((below : List ℕ) × b.may a.clock below × (old ≡ shows below))
       → Grows (seen shows old a) (seen shows new b)
@@ -44,7 +46,8 @@ module _ (shows : List ℕ → List ℕ) (old new : List ℕ) (a b : Flash) wher
         may;
   }
 
-  -- a read that makes writes below, as one that settles does, where each image that they may leave shows one of the start
+  -- a read that makes writes below, as one that settles does, where each image that they may leave
+  -- shows one of the start
   pub seen_steady : new ≡ old → Passes a b (λ below. Now (seen shows old a) (shows below))
       → IsSame (seen shows old a) (seen shows new b)
   seen_steady same below = record {

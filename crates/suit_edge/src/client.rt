@@ -39,8 +39,9 @@ fn keep_pieces<D: Disk>(disk: &mut D, place: u64, bytes: &[u8]) -> Edge
     disk.sync()
 }
 
-/// Writes the bytes in pieces, and then the page beside them. At any moment an open page is the old one, or the new
-/// one over the new bytes; at the end it is the new one. After a failed call either may stand.
+/// Writes the bytes in pieces, and then the page beside them. At any moment an open page is the old
+/// one, or the new one over the new bytes; at the end it is the new one. After a failed call either
+/// may stand.
 pub fn vouch<D: Disk>(
     disk: &mut D,
     place: u64,
@@ -74,8 +75,5 @@ pub fn vouch<D: Disk>(
         Edge::Done => {}
         Edge::Failed => return Edge::Failed,
     }
-    match write_gated(disk, gate, page, body) {
-        Edge::Done => Edge::Done,
-        Edge::Failed => Edge::Failed,
-    }
+    write_gated(disk, gate, page, body)
 }

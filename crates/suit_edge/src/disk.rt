@@ -37,7 +37,8 @@ pub trait Disk {
         ensures same { IsTrue told → IsSame (flash self.old) (flash self.new) }
         ensures grows { IsTrue told → Grows (flash self.old) (flash self.new) };
 
-    /// Writes the bytes from the place on. Durable only after a `sync`. If it fails, its range holds any bytes.
+    /// Writes the bytes from the place on. Durable only after a `sync`. If it fails, its range
+    /// holds any bytes.
     fn write_at(&mut self, place: u64, bytes: &[u8]) -> Edge
         requires { place + length bytes.now ≤ extent self.old }
         ensures size { extent self.new ≡ extent self.old }

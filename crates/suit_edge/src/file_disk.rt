@@ -19,9 +19,9 @@ const NAME: &str = "suit.flash";
 /// The number of bytes of the disk.
 const SIZE: u64 = 4_194_304;
 
-/// A disk of 4,194,304 bytes in the file `suit.flash` of the working directory. The file is opened at the first
-/// call. One that is missing is made of zeros, a shorter one is filled with zeros, and of a longer one the rest is
-/// left alone. It tells nothing of what it holds.
+/// A disk of 4,194,304 bytes in the file `suit.flash` of the working directory. The file is opened
+/// at the first call. One that is missing is made of zeros, a shorter one is filled with zeros, and
+/// of a longer one the rest is left alone. It tells nothing of what it holds.
 #[derive(Drop)]
 pub struct FileDisk<R: Files<File = File> + Drop> {
     rt: R,

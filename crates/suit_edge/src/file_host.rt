@@ -41,7 +41,8 @@ impl<R: Files + Drop> Host for FileHost<R> {
 
     ghost faults = { λ h. h };
 
-    /// A name of which a part is missing is `Absent`. A directory is started, and fails at its first pull.
+    /// A name of which a part is missing is `Absent`. A directory is started, and fails at its
+    /// first pull.
     fn start(&mut self, name: &str) -> Started {
         self.started = None;
         match fs::open(&self.rt, name) {

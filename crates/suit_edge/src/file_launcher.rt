@@ -19,9 +19,9 @@ const LONGEST_NAME: usize = 19;
 /// How many bytes of an image are read at once.
 const PIECE: usize = 4096;
 
-/// A launcher that writes the image of component C into the file `boot-C.img` of the working directory, and starts
-/// nothing. Where it fails, the file may hold a part of the image. It takes no memory, and tells nothing of what it
-/// launched.
+/// A launcher that writes the image of component C into the file `boot-C.img` of the working
+/// directory, and starts nothing. Where it fails, the file may hold a part of the image. It takes
+/// no memory, and tells nothing of what it launched.
 #[derive(Drop)]
 pub struct FileLauncher<R: Files<File = File> + Drop> {
     rt: R,

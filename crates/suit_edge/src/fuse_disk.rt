@@ -14,7 +14,8 @@ ghost use Rattle.suit_edge.specs.declared.step.Step.TheVariants as step;
 use crate::{Disk, Edge, MemoryDisk};
 use std::marker::Model;
 
-/// A disk in memory that takes so many calls, and then fails each, as if its power were gone. `size` is not counted.
+/// A disk in memory that takes so many calls, and then fails each, as if its power were gone.
+/// `size` is not counted.
 #[derive(Drop)]
 pub struct FuseDisk {
     disk: MemoryDisk,

@@ -28,7 +28,8 @@ pub enum Pulled {
 
 /// A keeper of files, each under a name. One file is read at a time.
 pub trait Host {
-    /// Whether the members below tell what the host holds. A host that tells nothing writes only its count of faults.
+    /// Whether the members below tell what the host holds. A host that tells nothing writes only
+    /// its count of faults.
     ghost told: { Bool };
 
     /// The bytes of the file with a name, where one has it.
@@ -40,15 +41,15 @@ pub trait Host {
     /// The number of bytes handed out so far.
     ghost pulled: { Self → ℕ } = { λ _. 0 };
 
-    /// The names of the files that were started, the last one at the end. An absent file is among them; one whose start
-    /// failed may be.
+    /// The names of the files that were started, the last one at the end. An absent file is among
+    /// them; one whose start failed may be.
     ghost asked: { Self → List (List ℕ) } = { λ _. [] };
 
     /// The count of faults, which never falls.
     ghost faults: { Self → ℕ };
 
-    /// Begins a file at its first byte. After `Failed` nothing is known of what a pull would give, until a start that
-    /// does not fail.
+    /// Begins a file at its first byte. After `Failed` nothing is known of what a pull would give,
+    /// until a start that does not fail.
     fn start(&mut self, name: &str) -> Started
         ensures files { IsTrue told → file self.new ≡ file self.old }
         ensures pulled { IsTrue told → pulled self.new ≡ pulled self.old }
@@ -56,8 +57,8 @@ pub trait Host {
         ensures asked { IsTrue told → StartAsks result name.now (asked self.old) (asked self.new) }
         ensures counts { StartCounts result (faults self.old) (faults self.new) };
 
-    /// The next bytes of the file, at the front of the room. After `Failed` nothing is known of what a further pull
-    /// would give, until a start that does not fail.
+    /// The next bytes of the file, at the front of the room. After `Failed` nothing is known of
+    /// what a further pull would give, until a start that does not fail.
     fn pull(&mut self, room: &mut [u8]) -> Pulled
         ensures fits { count_of result ≤ length room.old }
         ensures files { IsTrue told → file self.new ≡ file self.old }

@@ -17,7 +17,8 @@ pub enum Image<'a> {
     Ram(&'a [u8]),
 }
 
-/// The label of a launched image: its component, and the digest, size and arguments that its parameters name.
+/// The label of a launched image: its component, and the digest, size and arguments that its
+/// parameters name.
 #[derive(Clone, Copy, Debug)]
 pub struct Label<'a> {
     /// The index of the component in the manifest.

@@ -1,5 +1,5 @@
-//! Laws of disks, of disks in memory, of counts, hosts, sinks and launchers. Each call here does nothing: its contract is
-//! the law.
+//! Laws of disks, of disks in memory, of counts, hosts, sinks and launchers. Each call here does
+//! nothing: its contract is the law.
 
 ghost use Rattle.std.specs.Prelude.{IsTrue};
 ghost use Rattle.suit_edge.specs.DiskLaws.{DiskLaw};
@@ -11,16 +11,17 @@ ghost use Rattle.suit_edge.specs.SinkLaws.{SinkLaws};
 
 use crate::Disk;
 
-/// Bounds on every disk between two moments of its life. They refuse a sync that leaves a write pending, a clock that
-/// goes back, an image of another length, and reads that give no image. A disk whose clock stands still while its bytes
-/// change never again makes them durable: none of its syncs is done.
+/// Bounds on every disk between two moments of its life. They refuse a sync that leaves a write
+/// pending, a clock that goes back, an image of another length, and reads that give no image. A
+/// disk whose clock stands still while its bytes change never again makes them durable: none of its
+/// syncs is done.
 pub fn disk_laws<D: Disk>(before: &D, after: &D)
     ensures { IsTrue D.told
         → DiskLaw (D.extent before.now) (D.flash before.now) (D.flash after.now) }
 {}
 
-/// The images that a power loss leaves of a disk in memory: any bytes in each range written since the last sync, and all else as
-/// reads give it.
+/// The images that a power loss leaves of a disk in memory: any bytes in each range written since
+/// the last sync, and all else as reads give it.
 pub fn loss_laws()
     ensures { LossLaw }
 {}

@@ -1,4 +1,5 @@
-//! The outside: files, output, flash and launched images, as traits, as objects in memory and as real adapters.
+//! The outside: files, output, flash and launched images, as traits, as objects in memory and as
+//! real adapters.
 #![tactic(auto)]
 
 mod calls;

@@ -18,8 +18,8 @@ use det_cbor::Bytes;
 use std::alloc::{AllocError, Global};
 use std::marker::Model;
 
-/// A disk in memory, which can be seen as a power loss leaves it. It remembers each write and sync, and so takes
-/// memory in each of them; without it they fail.
+/// A disk in memory, which can be seen as a power loss leaves it. It remembers each write and sync,
+/// and so takes memory in each of them; without it they fail.
 #[derive(Drop)]
 pub struct MemoryDisk {
     alloc: Global,
@@ -43,8 +43,8 @@ impl Model for MemoryDisk {
 }
 
 impl MemoryDisk {
-    /// A disk of zero bytes with nothing pending. The calls with these numbers fail: each call but `size` is
-    /// counted, from 0.
+    /// A disk of zero bytes with nothing pending. The calls with these numbers fail: each call but
+    /// `size` is counted, from 0.
     pub fn new(alloc: Global, size: usize, fails: &[u64]) -> Result<MemoryDisk, AllocError>
         ensures state { IfOk result
             (λ disk. disk
@@ -75,8 +75,9 @@ impl MemoryDisk {
         })
     }
 
-    /// A disk as a power loss now may leave this one, with nothing pending and no calls that fail. The n-th of
-    /// the writes since the last sync, counted from 0, is kept where bit n modulo 64 of the choice is set.
+    /// A disk as a power loss now may leave this one, with nothing pending and no calls that fail.
+    /// The n-th of the writes since the last sync, counted from 0, is kept where bit n modulo 64 of
+    /// the choice is set.
     pub fn after_loss(&self, alloc: Global, choice: u64) -> Result<MemoryDisk, AllocError>
         ensures left { IfOk result
             (λ disk. disk

@@ -62,7 +62,8 @@ impl MemoryHost {
         })
     }
 
-    /// Adds a file, or gives the file of this name these bytes. This is no call of `Host`, and is not counted.
+    /// Adds a file, or gives the file of this name these bytes. This is no call of `Host`, and is
+    /// not counted.
     pub fn add(&mut self, name: &str, bytes: &[u8]) -> Result<(), AllocError>
         ensures ok { OnOk result
             (self.new ≡ record self.old { files = with_file self.old.files name.now bytes.now }) }

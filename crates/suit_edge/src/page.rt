@@ -1,4 +1,5 @@
-//! Writes that a power loss does not tear: bytes and a gate, which is open only while they stand whole.
+//! Writes that a power loss does not tear: bytes and a gate, which is open only while they stand
+//! whole.
 
 ghost use Rattle.std.specs.Prelude.{◌≡◌, ◌+◌, ◌≤◌, length, slice_index, IsTrue};
 ghost use Rattle.suit_edge.specs.Edge.{IfDone};
@@ -54,14 +55,12 @@ fn close_if_open<D: Disk>(disk: &mut D, gate: u64) -> Edge
     if byte[0] != OPEN {
         return Edge::Done;
     }
-    match disk.write_at(gate, &[CLOSED]) {
-        Edge::Failed => Edge::Failed,
-        Edge::Done => Edge::Done,
-    }
+    disk.write_at(gate, &[CLOSED])
 }
 
-/// Closes a gate, if it reads open, and syncs all that is pending. A power loss at any moment leaves an image of the
-/// start, or one that differs from it at the gate alone. If it fails, the gate may be open or closed.
+/// Closes a gate, if it reads open, and syncs all that is pending. A power loss at any moment
+/// leaves an image of the start, or one that differs from it at the gate alone. If it fails, the
+/// gate may be open or closed.
 pub fn close_gate<D: Disk>(disk: &mut D, gate: u64) -> Edge
     requires { gate + 1 ≤ D.extent disk.old }
     ensures size { D.extent disk.new ≡ D.extent disk.old }
@@ -78,10 +77,7 @@ pub fn close_gate<D: Disk>(disk: &mut D, gate: u64) -> Edge
         Edge::Failed => return Edge::Failed,
         Edge::Done => {}
     }
-    match disk.sync() {
-        Edge::Failed => Edge::Failed,
-        Edge::Done => Edge::Done,
-    }
+    disk.sync()
 }
 
 // Closes an open gate, and syncs that. A closed one is left, and nothing is synced.
@@ -103,14 +99,12 @@ fn shut_gate<D: Disk>(disk: &mut D, gate: u64, known: Gate) -> Edge
         Gate::Closed => return Edge::Done,
         Gate::Open => {}
     }
-    match write_and_sync(disk, gate, &[CLOSED]) {
-        Edge::Failed => Edge::Failed,
-        Edge::Done => Edge::Done,
-    }
+    write_and_sync(disk, gate, &[CLOSED])
 }
 
-/// Writes the bytes of a page and syncs them, and then opens its gate. Where no power loss at the start could leave the
-/// gate open, an open page is the new one at any moment. If it fails, the page is then the new one, or closed.
+/// Writes the bytes of a page and syncs them, and then opens its gate. Where no power loss at the
+/// start could leave the gate open, an open page is the new one at any moment. If it fails, the
+/// page is then the new one, or closed.
 pub fn open_written<D: Disk>(disk: &mut D, gate: u64, place: u64, body: &[u8]) -> Edge
     requires gate { gate + 1 ≤ D.extent disk.old }
     requires body { place + length body.now ≤ D.extent disk.old }
@@ -134,15 +128,12 @@ pub fn open_written<D: Disk>(disk: &mut D, gate: u64, place: u64, body: &[u8]) -
         Edge::Failed => return Edge::Failed,
         Edge::Done => {}
     }
-    match write_and_sync(disk, gate, &[OPEN]) {
-        Edge::Failed => Edge::Failed,
-        Edge::Done => Edge::Done,
-    }
+    write_and_sync(disk, gate, &[OPEN])
 }
 
-/// Writes the bytes of a page, of whose gate is known how it reads, while that is closed, so that a power loss at any
-/// moment leaves the old page, the new one, or none. The page must be durable before. If it fails, the page is the old
-/// one, the new one, or closed.
+/// Writes the bytes of a page, of whose gate is known how it reads, while that is closed, so that a
+/// power loss at any moment leaves the old page, the new one, or none. The page must be durable
+/// before. If it fails, the page is the old one, the new one, or closed.
 pub fn write_known<D: Disk>(disk: &mut D, gate: u64, known: Gate, place: u64, body: &[u8]) -> Edge
     requires gate { gate + 1 ≤ D.extent disk.old }
     requires known { IsTrue D.told → IsGate known (slice_index (D.flash disk.old).reads gate) }
@@ -169,14 +160,12 @@ pub fn write_known<D: Disk>(disk: &mut D, gate: u64, known: Gate, place: u64, bo
         Edge::Failed => return Edge::Failed,
         Edge::Done => {}
     }
-    match open_written(disk, gate, place, body) {
-        Edge::Failed => Edge::Failed,
-        Edge::Done => Edge::Done,
-    }
+    open_written(disk, gate, place, body)
 }
 
-/// Looks at the gate of a page, and then writes its bytes while that is closed, so that a power loss at any moment leaves the old page, the new
-/// one, or none. The page must be durable before. If it fails, the page is the old one, the new one, or closed.
+/// Looks at the gate of a page, and then writes its bytes while that is closed, so that a power
+/// loss at any moment leaves the old page, the new one, or none. The page must be durable before.
+/// If it fails, the page is the old one, the new one, or closed.
 pub fn write_gated<D: Disk>(disk: &mut D, gate: u64, place: u64, body: &[u8]) -> Edge
     requires gate { gate + 1 ≤ D.extent disk.old }
     requires body { place + length body.now ≤ D.extent disk.old }
@@ -203,8 +192,5 @@ pub fn write_gated<D: Disk>(disk: &mut D, gate: u64, place: u64, body: &[u8]) ->
         Edge::Failed => return Edge::Failed,
         Edge::Done => {}
     }
-    match write_known(disk, gate, gate_of(mark[0]), place, body) {
-        Edge::Failed => Edge::Failed,
-        Edge::Done => Edge::Done,
-    }
+    write_known(disk, gate, gate_of(mark[0]), place, body)
 }

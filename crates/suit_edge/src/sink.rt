@@ -17,7 +17,8 @@ pub trait Sink {
     /// The count of faults, which never falls.
     ghost faults: { Self → ℕ };
 
-    /// Puts bytes after those put before. After `Failed` some of the piece, from its first byte on, may be put.
+    /// Puts bytes after those put before. After `Failed` some of the piece, from its first byte on,
+    /// may be put.
     fn put(&mut self, piece: &[u8]) -> Edge
         ensures puts { IsTrue told
             → Puts result (put_bytes self.old) (put_bytes self.new) piece.now }

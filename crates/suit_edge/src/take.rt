@@ -25,10 +25,12 @@ pub enum Taken {
 /// The bytes asked for in one pull.
 const PIECE: usize = 4096;
 
-/// The room that is made for a file which is longer than a piece, in bytes. A list of this size grows in place.
+/// The room that is made for a file which is longer than a piece, in bytes. A list of this size
+/// grows in place.
 const ROOM: usize = 262_144;
 
-/// The whole file with a name, where it has at most `limit` bytes. It asks for no more than one byte beyond the limit.
+/// The whole file with a name, where it has at most `limit` bytes. It asks for no more than one
+/// byte beyond the limit.
 pub fn take_all<H: Host>(alloc: Global, host: &mut H, name: &str, limit: u64) -> Taken
     ensures files { IsTrue H.told → H.file host.new ≡ H.file host.old }
     ensures takes { IsTrue H.told → TakesAll result (H.file host.old name.now) limit }

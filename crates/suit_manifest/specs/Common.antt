@@ -1,5 +1,5 @@
--- The common part of a manifest (draft-ietf-suit-manifest-25, section 8.4.5): the components, and the
--- shared sequence.
+-- The common part of a manifest (draft-ietf-suit-manifest-25, section 8.4.5): the components, and
+-- the shared sequence.
 use Rattle.std.specs.Prelude.{ℕ, true, List, [], ◌∷◌, length, Option}
 use Rattle.det_cbor.specs.DataItem.{DataItem}
 use Rattle.suit_params.specs.declared.refusal.Refusal.{Refusal}

@@ -17,7 +17,8 @@ abbrev pub identifier_at : Position → Result (List (List ℕ)) Refusal
 identifier_at p =
     array_from p >>= λ h. all_from part_at h.0 h.1 >>= short_enough p.place (length p.left)
 
--- identifiers behind one, of which there are so many: the place of each is found by passing the one before it
+-- identifiers behind one, of which there are so many: the place of each is found by passing the one
+-- before it
 abbrev pub apart_from : List (List (List ℕ)) → ℕ → ℕ → Position → Result Unit Refusal
 apart_from ids last zero p = Ok tt
 apart_from ids last (suc n) p =

@@ -1,4 +1,5 @@
--- Elements of an array, each judged from its place on, and how they are read of an array that was judged before.
+-- Elements of an array, each judged from its place on, and how they are read of an array that was
+-- judged before.
 use Rattle.std.specs.Prelude.{ℕ, zero, suc, List, [], ◌∷◌, Result, Ok, Err}
 use Rattle.det_cbor.specs.DataItem.{DataItem, ArrayOf, MapOf, DataItems, NoItems, ItemThen, DataPairs}
 use Rattle.det_cbor.specs.HeadReading.{◌>>=◌}

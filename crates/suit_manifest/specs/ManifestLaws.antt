@@ -30,10 +30,11 @@ NumbersAscend [] = Unit {0}
 NumbersAscend (e ∷ es) =
     ((n : ℕ) → e.key ≡ UnsignedInteger n → AllByRecursion (IsAboveNumber n) es) × NumbersAscend es
 
--- the laws: each valid item says one manifest or has one refusal, and never both, and so do all bytes. Each manifest
--- that is said is one that the grammar allows; the item that says it is the one that it is written as, its places are
--- those of that item's spelling, and bytes that say it are that spelling. Manifests that are equal places apart are
--- written alike. And the keys of a map are in order
+-- the laws: each valid item says one manifest or has one refusal, and never both, and so do all
+-- bytes. Each manifest that is said is one that the grammar allows; the item that says it is the
+-- one that it is written as, its places are those of that item's spelling, and bytes that say it
+-- are that spelling. Manifests that are equal places apart are written alike. And the keys of a map
+-- are in order
 pub record ManifestLaws : Type 0 where
   pub one_reading : (place : ℕ) (x : DataItem) → IsValid x
       → HasOneManifest place x ⊎ HasOneRefusal place x

@@ -1,4 +1,5 @@
--- The item that a manifest is written as, and where its sequences then stand (draft-ietf-suit-manifest-25, section 8.4).
+-- The item that a manifest is written as, and where its sequences then stand
+-- (draft-ietf-suit-manifest-25, section 8.4).
 use Rattle.std.specs.Prelude.{ℕ, ◌+◌, ◌==◌, if◌then◌else◌, List, [], ◌∷◌, length, Option, Some, None}
 use Rattle.det_cbor.specs.DataItem.{DataItem, UnsignedInteger, ByteString, TextString, ArrayOf, MapOf, DataPairs, NoPairs, PairThen, spell}
 use Rattle.suit_params.specs.Refusing.{content_place}

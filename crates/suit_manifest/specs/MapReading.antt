@@ -65,7 +65,8 @@ key_is n p = head_from p >>= λ h. key_after n h.0.value h.1 h.0.kind
 abbrev pub up_to : Position → Position → Result (Position × Position) Refusal
 up_to p q = string_from (length p.left - length q.left) p
 
--- the next value, of a map that was judged before: a number or a string is passed by its head, and no other
+-- the next value, of a map that was judged before: a number or a string is passed by its head, and
+-- no other
 abbrev pub value_after : Position → ℕ → Position → HeadKind → Result (Position × Position) Refusal
 value_after p n q kinds.Unsigned = up_to p q
 value_after p n q kinds.Bytes = bytes_from n q >>= λ b. up_to p b.1

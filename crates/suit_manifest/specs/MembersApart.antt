@@ -1,5 +1,8 @@
--- The members that stand apart from a manifest, in its envelope (draft-ietf-suit-manifest-25, sections 8.4 and 8.5).
+-- The members that stand apart from a manifest, in its envelope (draft-ietf-suit-manifest-25,
+-- sections 8.4 and 8.5).
 use Rattle.std.specs.Prelude.{◌≡◌, ◌≢◌, ◌<◌, ◌⊎◌, ◌^◌, ℕ, false, length, List, Option, Some, None, Result, MatchResult, IsErrAnd}
+use Rattle.suit_params.specs.declared.refusal.Fault.{Fault}
+use Rattle.suit_params.specs.declared.refusal.Fault.TheVariants as faults
 use Rattle.suit_params.specs.declared.refusal.Refusal.{Refusal}
 use Rattle.suit_params.specs.declared.digest.Digest.{Digest}
 use Rattle.suit_params.specs.Refusing.{SaysWhole, RefusesWhole}
@@ -83,7 +86,8 @@ LacksInstall said manifest fault =
 
 -- ---- both members
 
--- the manifest's number of components fits 32 bits, and each place in the envelope's members fits 64
+-- the manifest's number of components fits 32 bits, and each place in the envelope's members fits
+-- 64
 abbrev pub CanTakeMembers : EnvelopeSays → Manifest → Type 0
 CanTakeMembers said manifest =
     (length manifest.components < 2 ^ 32) × MembersEndBelow (2 ^ 64) said
@@ -107,6 +111,11 @@ RefusesContent count place content (Refused r) =
     RefusesWhole (RefusesSequence false count levels_allowed) place content r
 RefusesContent count place content NoMemory = Unit {0}
 RefusesContent count place content _ = ⊥
+
+-- why a content was not decoded
+abbrev pub content_fault : Fault → MemberFault
+content_fault (faults.Refused r) = Refused r
+content_fault faults.NoMemory = NoMemory
 
 -- a fault by such a cause, or because memory ran out
 abbrev pub IsLackBy : (MemberFault → Type 0) → MemberFault → Type 0

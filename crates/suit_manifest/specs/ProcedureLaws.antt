@@ -42,8 +42,8 @@ pub record InvokesInOrder (manifest : Manifest) (plan : PlanTree) : Type 0 where
   pub third : StandsFor manifest.invoke plan.third
   pub count : plan.count ≡ length manifest.components
 
--- the laws: each procedure has its members in their order, and is one of the grammar, the update procedure with
--- whatever members an envelope has
+-- the laws: each procedure has its members in their order, and is one of the grammar, the update
+-- procedure with whatever members an envelope has
 pub record ProcedureLaws : Type 0 where
   pub update : (place : ℕ) (x : DataItem) (said : EnvelopeSays) (manifest : Manifest)
       (members : Members)

@@ -53,16 +53,19 @@ pub(crate) fn read_optional(
     }
 }
 
-/// The values of the map, as they stand in it.
+/// The values of the common part's map, each as an item by itself.
 #[derive(Debug, Drop)]
-pub(crate) struct CommonValues<'a> {
-    components: Option<Cursor<'a>>,
-    shared: Option<Cursor<'a>>,
+pub struct CommonValues<'a> {
+    pub components: Option<Cursor<'a>>,
+    pub shared: Option<Cursor<'a>>,
 }
 
-fn find_values<'a>(mut pairs: Pairs<'a>) -> Result<CommonValues<'a>, Refusal>
-    ensures { result ≡ common_found pairs.entry }
+/// The values of a map of so many pairs that has no other keys; or the first key that is not known.
+/// The map was judged before, and the cursor stands behind its head. Takes no memory.
+pub fn common_values<'a>(map: Cursor<'a>, count: u64) -> Result<CommonValues<'a>, Refusal>
+    ensures { result ≡ common_found (record { map = map.entry; left = count }) }
 {
+    let mut pairs = Pairs { map, left: count };
     let components = pairs.take(2)?;
     let shared = pairs.take(4)?;
     pairs.end()?;
@@ -87,7 +90,7 @@ fn read_pairs(alloc: Global, map: Cursor<'_>, place: u64, pairs: u64) -> Result<
         (common_pairs_from place pairs map.entry) }
     ensures few { IfOk result (λ c. length c.components ≤ 8) }
 {
-    let values = find_values(Pairs { map, left: pairs })?;
+    let values = common_values(map, pairs)?;
     read_values(alloc, place, values)
 }
 

@@ -64,7 +64,8 @@ fn read_identifiers(alloc: Global, mut items: Cursor<'_>, count: u64) -> Result<
     Ok(ids)
 }
 
-// Refuses two that are alike: the second is found first, and then the first that it is like. No identifier is before the first.
+// Refuses two that are alike: the second is found first, and then the first that it is like. No
+// identifier is before the first.
 fn judge_apart(ids: &Identifiers, mut items: Cursor<'_>) -> Result<(), Refusal>
     ensures { result ≡ apart_from ids.now 1 (length ids.now - 1) items.entry }
 {

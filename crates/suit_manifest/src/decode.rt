@@ -14,8 +14,8 @@ ghost use Rattle.suit_manifest.specs.ManifestReading.{values_from, pairs_from, m
 use crate::Manifest;
 use crate::common::{Common, read_common};
 use crate::later::{Later, read_later};
-use crate::manifest_map::{ManifestValues, find_values};
-use crate::pairs::{Pairs, needed};
+use crate::manifest_map::{ManifestValues, manifest_values};
+use crate::pairs::needed;
 use crate::values::{read_number, read_version};
 use det_cbor::Cursor;
 use std::alloc::Global;
@@ -70,7 +70,7 @@ fn read_values(alloc: Global, place: u64, values: ManifestValues<'_>) -> Result<
 fn read_pairs(alloc: Global, map: Cursor<'_>, place: u64, pairs: u64) -> Result<Manifest, Fault>
     ensures { Gives (λ m. m) result (pairs_from place pairs map.entry) }
 {
-    let values = find_values(Pairs { map, left: pairs })?;
+    let values = manifest_values(map, pairs)?;
     read_values(alloc, place, values)
 }
 

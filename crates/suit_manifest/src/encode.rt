@@ -14,10 +14,12 @@ use crate::rows::{push_held, push_reference, push_severed, push_text_member};
 use det_cbor::{Bytes, push_number};
 use std::alloc::{AllocError, Global};
 
-/// Encodes a manifest's map in its one spelling (draft-ietf-suit-manifest-25, section 8.4). The common part and each
-/// sequence are first written to bytes of their own, which stand in byte strings.
+/// Encodes a manifest's map in its one spelling (draft-ietf-suit-manifest-25, section 8.4). The
+/// common part and each sequence are first written to bytes of their own, which stand in byte
+/// strings.
 ///
-/// Any manifest is written, even one that the grammar refuses. The places of its sequences are ignored.
+/// Any manifest is written, even one that the grammar refuses. The places of its sequences are
+/// ignored.
 pub fn encode_manifest(alloc: Global, manifest: &Manifest) -> Result<Bytes, AllocError>
     ensures spelling { IfOk result (λ bytes. bytes ≡ spell (manifest_item manifest.now)) }
     ensures written { IfOk result (IsWrittenManifest manifest.now) }

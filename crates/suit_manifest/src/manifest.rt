@@ -11,7 +11,8 @@ pub enum Member {
     Empty,
     /// The manifest holds it.
     Here(Sequence),
-    /// The manifest states its digest: the SHA-256 of the member's whole byte string in the envelope.
+    /// The manifest states its digest: the SHA-256 of the member's whole byte string in the
+    /// envelope.
     Apart(Digest),
 }
 
@@ -23,7 +24,8 @@ pub enum TextMember {
     Apart(Digest),
 }
 
-/// A manifest (draft-ietf-suit-manifest-25, section 8.4). Places are counted in bytes from the envelope's first.
+/// A manifest (draft-ietf-suit-manifest-25, section 8.4). Places are counted in bytes from the
+/// envelope's first.
 #[derive(Debug, Drop)]
 pub struct Manifest {
     /// The number that grows with each manifest of a device.

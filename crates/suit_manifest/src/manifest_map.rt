@@ -7,25 +7,26 @@ use crate::pairs::Pairs;
 use det_cbor::Cursor;
 use suit_params::Refusal;
 
-/// The values of a manifest's map (draft-ietf-suit-manifest-25, section 8.4), each as an item by itself.
+/// The values of a manifest's map (draft-ietf-suit-manifest-25, section 8.4), each as an item by
+/// itself.
 #[derive(Debug, Drop)]
-pub(crate) struct ManifestValues<'a> {
-    pub(crate) version: Option<Cursor<'a>>,
-    pub(crate) sequence: Option<Cursor<'a>>,
-    pub(crate) common: Option<Cursor<'a>>,
-    pub(crate) later: LaterValues<'a>,
+pub struct ManifestValues<'a> {
+    pub version: Option<Cursor<'a>>,
+    pub sequence: Option<Cursor<'a>>,
+    pub common: Option<Cursor<'a>>,
+    pub later: LaterValues<'a>,
 }
 
-/// The values after common.
+/// The values after common, each as an item by itself.
 #[derive(Debug, Drop)]
-pub(crate) struct LaterValues<'a> {
-    pub(crate) reference: Option<Cursor<'a>>,
-    pub(crate) validate: Option<Cursor<'a>>,
-    pub(crate) load: Option<Cursor<'a>>,
-    pub(crate) invoke: Option<Cursor<'a>>,
-    pub(crate) payload_fetch: Option<Cursor<'a>>,
-    pub(crate) install: Option<Cursor<'a>>,
-    pub(crate) text: Option<Cursor<'a>>,
+pub struct LaterValues<'a> {
+    pub reference: Option<Cursor<'a>>,
+    pub validate: Option<Cursor<'a>>,
+    pub load: Option<Cursor<'a>>,
+    pub invoke: Option<Cursor<'a>>,
+    pub payload_fetch: Option<Cursor<'a>>,
+    pub install: Option<Cursor<'a>>,
+    pub text: Option<Cursor<'a>>,
 }
 
 // The values after common, which are the last of the map.
@@ -51,10 +52,12 @@ fn find_later<'a>(mut pairs: Pairs<'a>) -> Result<LaterValues<'a>, Refusal>
     })
 }
 
-/// The values of a map that has no other keys; or the first key that is not known.
-pub(crate) fn find_values<'a>(mut pairs: Pairs<'a>) -> Result<ManifestValues<'a>, Refusal>
-    ensures { result ≡ manifest_found pairs.entry }
+/// The values of a map of so many pairs that has no other keys; or the first key that is not known.
+/// The map was judged before, and the cursor stands behind its head. Takes no memory.
+pub fn manifest_values<'a>(map: Cursor<'a>, count: u64) -> Result<ManifestValues<'a>, Refusal>
+    ensures { result ≡ manifest_found (record { map = map.entry; left = count }) }
 {
+    let mut pairs = Pairs { map, left: count };
     let version = pairs.take(1)?;
     let sequence = pairs.take(2)?;
     let common = pairs.take(3)?;

@@ -1,17 +1,17 @@
 //! The members that stand apart from their manifest, taken from its envelope.
 
-ghost use Rattle.std.specs.Prelude.{IfOk, IfErr};
+ghost use Rattle.std.specs.Prelude.{◌≡◌, IfOk, IfErr};
 ghost use Rattle.suit_envelope.specs.Said.{said_by};
 ghost use Rattle.suit_manifest.specs.declared.manifest.Members.{Members};
 ghost use Rattle.suit_manifest.specs.declared.members.MemberFault.{MemberFault};
-ghost use Rattle.suit_manifest.specs.MembersApart.{CanTakeMembers, HasMembers, LacksMembers, IsLackBy, IsTakenAs, IsLackedAs};
+ghost use Rattle.suit_manifest.specs.MembersApart.{CanTakeMembers, HasMembers, content_fault, LacksMembers, IsLackBy, IsTakenAs, IsLackedAs};
 
 use crate::plans::component_count;
 use crate::severable::apart;
 use crate::{Manifest, Members};
 use std::alloc::Global;
 use suit_envelope::{Envelope, MemberName};
-use suit_params::{Digest, Refusal};
+use suit_params::{Digest, Fault, Refusal};
 
 /// Why a member that stands apart is not there, or why there is no answer.
 #[derive(Clone, Copy, Debug, PartialEq, Eq)]
@@ -29,6 +29,17 @@ pub enum MemberFault {
     /// counted from the envelope's first byte.
     Refused(Refusal),
     NoMemory,
+}
+
+impl From<Fault> for MemberFault {
+    ghost from_gives = { λ f m. m ≡ content_fault f };
+
+    fn from(fault: Fault) -> MemberFault {
+        match fault {
+            Fault::Refused(refusal) => MemberFault::Refused(refusal),
+            Fault::NoMemory => MemberFault::NoMemory,
+        }
+    }
 }
 
 // See `members_of`.

@@ -103,11 +103,7 @@ impl<'a> Pairs<'a> {
 }
 
 /// A value required under a number, in the map at a place.
-pub(crate) fn needed<'a>(
-    place: u64,
-    number: u64,
-    value: Option<Cursor<'a>>,
-) -> Result<Cursor<'a>, Refusal>
+pub fn needed<'a>(place: u64, number: u64, value: Option<Cursor<'a>>) -> Result<Cursor<'a>, Refusal>
     ensures { result ≡ needed place number value.entry }
 {
     match value {

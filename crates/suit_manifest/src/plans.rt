@@ -11,10 +11,7 @@ use suit_commands::{Plan, Sequence};
 fn lent(sequence: &Option<Sequence>) -> Option<&Sequence>
     ensures { lent_tree result ≡ tree_or_empty sequence.now }
 {
-    match sequence {
-        None => None,
-        Some(sequence) => Some(sequence),
-    }
+    sequence.as_ref()
 }
 
 // A member that may stand apart, wherever it stands.

@@ -11,7 +11,7 @@ use crate::{Member, MemberFault};
 use std::alloc::Global;
 use suit_commands::{Sequence, decode_sequence};
 use suit_envelope::{Envelope, MemberBytes, MemberName, member};
-use suit_params::{Digest, Fault};
+use suit_params::Digest;
 
 // The sequence that a member's content spells.
 fn decoded(alloc: Global, content: &[u8], place: u64, count: u32) -> Result<Sequence, MemberFault>
@@ -20,11 +20,7 @@ fn decoded(alloc: Global, content: &[u8], place: u64, count: u32) -> Result<Sequ
         (λ s. SaysWhole (SaysSequence false count levels_allowed) place content.now s) }
     ensures refused { IfErr result (RefusesContent count place content.now) }
 {
-    match decode_sequence(alloc, content, place, false, count) {
-        Ok(sequence) => Ok(sequence),
-        Err(Fault::Refused(refusal)) => Err(MemberFault::Refused(refusal)),
-        Err(Fault::NoMemory) => Err(MemberFault::NoMemory),
-    }
+    Ok(decode_sequence(alloc, content, place, false, count)?)
 }
 
 // The sequence of a member whose digest is stated, where its content stands at this place.

@@ -15,9 +15,9 @@ use suit_params::{
     refused, same_place,
 };
 
-/// Reads an unsigned number.
+/// Reads an unsigned number, of an item that was judged before.
 #[tactic(auto, unfolding(crate::specs::ManifestReading::number_at))]
-pub(crate) fn read_number(mut item: Cursor<'_>) -> Result<u64, Refusal>
+pub fn read_number(mut item: Cursor<'_>) -> Result<u64, Refusal>
     ensures { result ≡ number_at item.entry }
 {
     let place = item.place();
@@ -28,8 +28,8 @@ pub(crate) fn read_number(mut item: Cursor<'_>) -> Result<u64, Refusal>
     }
 }
 
-/// Reads the version, which is 1.
-pub(crate) fn read_version(item: Cursor<'_>) -> Result<u64, Refusal>
+/// Reads the version, which is 1, of an item that was judged before.
+pub fn read_version(item: Cursor<'_>) -> Result<u64, Refusal>
     ensures { result ≡ version_at item.entry }
 {
     let place = item.place();
@@ -41,8 +41,9 @@ pub(crate) fn read_version(item: Cursor<'_>) -> Result<u64, Refusal>
     }
 }
 
+/// Reads a text, of an item that was judged before. Takes no memory.
 #[tactic(auto, unfolding(crate::specs::ManifestReading::text_at))]
-fn read_text<'a>(mut item: Cursor<'a>) -> Result<&'a str, Refusal>
+pub fn read_text<'a>(mut item: Cursor<'a>) -> Result<&'a str, Refusal>
     ensures { map_ok (λ t. t.now) result ≡ text_at item.entry }
 {
     let place = item.place();

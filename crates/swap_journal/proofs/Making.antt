@@ -7,9 +7,6 @@ use Rattle.suit_edge.specs.Ranges.{Outside, OutsideEach, SameOn, written}
 use Rattle.suit_edge.specs.RangeLaws.{written_within, written_outside}
 use Rattle.suit_edge.specs.Flash.{Flash, Passes, ImageOn, Keeps, IsSettled}
 use Rattle.suit_edge.specs.FlashLaws.{weakens, keeps_fewer}
-use Rattle.suit_edge.specs.declared.edge.Edge.{Edge}
-use Rattle.suit_edge.specs.declared.edge.Edge.TheVariants as edge
-use Rattle.suit_edge.specs.Edge.{IfDone}
 use Rattle.swap_journal.specs.declared.contents.Exchange.{Exchange}
 use Rattle.swap_journal.specs.Exchanges.{AreApart, FitsDisk, IsCopy, RecoversSame, areas, longest, copies, copy_from, copy_to, copy_size, piece_from, piece_to, piece_size}
 use Rattle.swap_journal.proofs.Copies.{torn, in_contents, step_of}
@@ -69,11 +66,6 @@ to_fits x k size fits lt = to_fits_by x size fits (k / 3) (in_contents x k lt) (
 pub kept_areas : (x : Exchange) (k : ℕ) (a b : Flash) → k < copies x → Keeps (Outside (copy_to x k) (copy_size x k)) a b → Keeps (OutsideEach (areas x)) a b
 kept_areas x k a b lt kept =
     keeps_fewer (OutsideEach (areas x)) (Outside (copy_to x k) (copy_size x k)) (λ i out. out_by x (k / 3) (in_contents x k lt) i out (k % 3) (step_of k)) a b kept
-
--- what is told of a call that is done
-pub done_then : (e : Edge) (P Q : Type 0) → (P → Q) → IfDone e P → IfDone e Q
-done_then edge.Done P Q to p = to p
-done_then edge.Failed P Q to p = tt
 
 -- the copy and its range by the numbers that the code computes
 pub as_copy : (x : Exchange) (k from to n : ℕ) (old new : List ℕ) → from ≡ copy_from x k → to ≡ copy_to x k → n ≡ copy_size x k → IsCopy from to n old new

@@ -9,4 +9,4 @@ whatever (Err e) P p = p
 
 pub returns-in_err-put_string-clause-err : goal.returns-in_err-put_string-clause-err
 returns-in_err-put_string-clause-err c = whatever c.from_residual.result _
-    (put_long c.args.out.now c.loop-part.out c.args.parts.now c.loop-part.part-index c.part-item.result c.part-item.result c.loop-part-test.true c.part-item.is c.loop-part.invariant c.in_err-put_string.ensures.err)
+    (put_long c.args.out.now.items c.loop-part.out.items c.args.parts.now c.loop-part.part-index c.part-item.result c.part-item.result c.loop-part-test.true c.part-item.is c.loop-part.invariant c.in_err-put_string.ensures.err)

@@ -5,4 +5,4 @@ use Rattle.flash_layout.proofs.spelling.put_strings.Given as goal
 
 -- the rest makes the whole
 abbrev pub invariant-loop-part : goal.invariant-loop-part
-invariant-loop-part l = l.out ++ spell_items (string_items (drop l.part-index l.parts)) ≡ l.fn.out ++ spell_items (string_items l.fn.parts)
+invariant-loop-part l = l.out.items ++ spell_items (string_items (drop l.part-index l.parts)) ≡ l.fn.out.items ++ spell_items (string_items l.fn.parts)

@@ -5,7 +5,8 @@ use Rattle.nor_flash.specs.declared.phase.Phase.{Phase}
 use Rattle.nor_flash.specs.Blocks.{front, named, with_block}
 use Rattle.nor_flash.specs.NorDisks.{HoldsPhase, blocks_of, seen}
 use Rattle.nor_flash.proofs.BlockLemmas.{blank_name, plain_named}
-use Rattle.nor_flash.proofs.Fronts.{front_part, if_done_then}
+use Rattle.suit_edge.specs.EdgeLaws.{if_done_then}
+use Rattle.nor_flash.proofs.Fronts.{front_part}
 use Rattle.nor_flash.proofs.NameSteps.{IsCalm, calm_disk}
 use Rattle.nor_flash.proofs.Steadiness.{read_step, steady_then}
 use Rattle.nor_flash.proofs.reading.read.Goals as goal

@@ -5,7 +5,7 @@ use Rattle.suit_edge.specs.Edge.{IfDone}
 use Rattle.suit_edge.specs.Ranges.{written}
 use Rattle.nor_flash.specs.Blocks.{with_block}
 use Rattle.nor_flash.specs.NorDisks.{blocks_of}
-use Rattle.nor_flash.proofs.Fronts.{if_done_then}
+use Rattle.suit_edge.specs.EdgeLaws.{if_done_then}
 use Rattle.nor_flash.proofs.NamedRead.{none_named, some_named}
 use Rattle.nor_flash.proofs.reading.read_named.Goals as goal
 

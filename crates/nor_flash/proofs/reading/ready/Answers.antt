@@ -3,7 +3,8 @@ use Rattle.nor_flash.specs.declared.phase.Phase.TheVariants as phases
 use Rattle.nor_flash.specs.Blocks.{front}
 use Rattle.nor_flash.specs.NorDisks.{blocks_of, seen}
 use Rattle.nor_flash.proofs.BlockLemmas.{blank_name}
-use Rattle.nor_flash.proofs.Fronts.{if_done_then, settled_sees}
+use Rattle.suit_edge.specs.EdgeLaws.{if_done_then}
+use Rattle.nor_flash.proofs.Fronts.{settled_sees}
 use Rattle.nor_flash.proofs.reading.ready.Goals as goal
 
 pub returns-in_default : goal.returns-in_default

@@ -3,7 +3,7 @@ use Rattle.nor_flash.specs.Blocks.{name_in, named, plain, with_block}
 use Rattle.nor_flash.specs.NorDisks.{blocks_of}
 use Rattle.nor_flash.proofs.BlockLemmas.{blank_name}
 use Rattle.nor_flash.proofs.Commit.{committed, named_then, not_committed, shown_then}
-use Rattle.nor_flash.proofs.Fronts.{if_done_then}
+use Rattle.suit_edge.specs.EdgeLaws.{if_done_then}
 use Rattle.nor_flash.proofs.NameSteps.{IsCalm, calm_at}
 use Rattle.nor_flash.proofs.replacing.commit.Goals as goal
 

@@ -5,7 +5,7 @@ use Rattle.nor_flash.specs.declared.phase.Phase.TheVariants as phases
 use Rattle.nor_flash.specs.Blocks.{IsErased, OutsideBlock, name_in}
 use Rattle.nor_flash.specs.NorDisks.{IsPrepared, blocks_of}
 use Rattle.nor_flash.proofs.BlockLemmas.{blank_name}
-use Rattle.nor_flash.proofs.Fronts.{if_done_then}
+use Rattle.suit_edge.specs.EdgeLaws.{if_done_then}
 use Rattle.nor_flash.proofs.NameSteps.{IsCalm, calm_at, calm_disk}
 use Rattle.nor_flash.proofs.Replacement.{blank_stays, name_stays, name_steady, shown_stays}
 use Rattle.nor_flash.proofs.Steadiness.{steady_then}

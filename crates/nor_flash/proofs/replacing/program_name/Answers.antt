@@ -6,7 +6,7 @@ use Rattle.suit_edge.specs.Ranges.{AreBytes, Outside}
 use Rattle.nor_flash.specs.Blocks.{OutsideBlock, cleared, name_in}
 use Rattle.nor_flash.specs.NorDisks.{blocks_of}
 use Rattle.nor_flash.proofs.Commit.{number_bytes, programmed_name}
-use Rattle.nor_flash.proofs.Fronts.{if_done_then}
+use Rattle.suit_edge.specs.EdgeLaws.{if_done_then}
 use Rattle.nor_flash.proofs.replacing.program_name.Goals as goal
 
 pub returns-clause-keeps : goal.returns-clause-keeps

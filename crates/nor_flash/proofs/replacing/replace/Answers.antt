@@ -5,7 +5,8 @@ use Rattle.nor_flash.specs.declared.phase.Phase.TheVariants as phases
 use Rattle.nor_flash.specs.Blocks.{front, plain, with_block}
 use Rattle.nor_flash.specs.NorDisks.{IsCommit, IsReplaced, IsSteady, blocks_of, nor_flash, seen}
 use Rattle.nor_flash.proofs.BlockLemmas.{blank_name}
-use Rattle.nor_flash.proofs.Fronts.{always, settled_front}
+use Rattle.suit_edge.specs.EdgeLaws.{always}
+use Rattle.nor_flash.proofs.Fronts.{settled_front}
 use Rattle.nor_flash.proofs.NameSteps.{IsCalm, calm_at, calm_disk}
 use Rattle.nor_flash.proofs.Replacement.{replaced_then, same_replaced, settled_disk, stored_shows, then_replaced}
 use Rattle.nor_flash.proofs.Steadiness.{phase_step, steady_then}

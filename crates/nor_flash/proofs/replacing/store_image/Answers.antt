@@ -6,7 +6,7 @@ use Rattle.suit_edge.specs.Ranges.{Outside}
 use Rattle.nor_flash.specs.Blocks.{IsErased, OutsideBlock, cleared, image_block}
 use Rattle.nor_flash.specs.NorDisks.{blocks_of}
 use Rattle.nor_flash.proofs.BlockLemmas.{blank_name}
-use Rattle.nor_flash.proofs.Fronts.{if_done_then}
+use Rattle.suit_edge.specs.EdgeLaws.{if_done_then}
 use Rattle.nor_flash.proofs.NameSteps.{IsCalm, calm_at}
 use Rattle.nor_flash.proofs.Replacement.{image_erased, image_front, image_steady, image_stored}
 use Rattle.nor_flash.proofs.replacing.store_image.Goals as goal

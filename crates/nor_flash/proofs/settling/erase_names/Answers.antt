@@ -5,7 +5,7 @@ use Rattle.nor_flash.specs.Blocks.{IsErased, OutsideBlock}
 use Rattle.nor_flash.specs.NorDisks.{AreErased, blocks_of}
 use Rattle.nor_flash.proofs.BlockLemmas.{blank_name}
 use Rattle.nor_flash.proofs.NameSteps.{IsCalm, all_erased, one_name, two_names, three_names}
-use Rattle.nor_flash.proofs.Fronts.{if_done_then}
+use Rattle.suit_edge.specs.EdgeLaws.{if_done_then}
 use Rattle.nor_flash.proofs.settling.erase_names.Goals as goal
 
 pub returns-in-Failed-clause-steady : goal.returns-in-Failed-clause-steady

@@ -4,7 +4,8 @@ use Rattle.nor_flash.specs.Blocks.{cleared, front, plain}
 use Rattle.nor_flash.specs.NorDisks.{blocks_of}
 use Rattle.nor_flash.proofs.BlockLemmas.{blank_name}
 use Rattle.nor_flash.proofs.Direct.{cleared_written, direct_grows, direct_keeps, front_written, still_erased}
-use Rattle.nor_flash.proofs.Fronts.{if_done_then, settled_front}
+use Rattle.suit_edge.specs.EdgeLaws.{if_done_then}
+use Rattle.nor_flash.proofs.Fronts.{settled_front}
 use Rattle.nor_flash.proofs.NameSteps.{IsCalm}
 use Rattle.nor_flash.proofs.writing.clear_bits.Goals as goal
 

@@ -9,7 +9,8 @@ use Rattle.nor_flash.specs.declared.phase.Phase.TheVariants as phases
 use Rattle.nor_flash.specs.Blocks.{plain}
 use Rattle.nor_flash.specs.NorDisks.{IsReplaced, IsSteady, blocks_of, nor_flash, seen}
 use Rattle.nor_flash.proofs.BlockLemmas.{blank_name}
-use Rattle.nor_flash.proofs.Fronts.{if_done_then, settled_part}
+use Rattle.suit_edge.specs.EdgeLaws.{if_done_then}
+use Rattle.nor_flash.proofs.Fronts.{settled_part}
 use Rattle.nor_flash.proofs.NameSteps.{IsCalm, calm_at, calm_disk}
 use Rattle.nor_flash.proofs.Pieces.{block_written, replaced_keeps}
 use Rattle.nor_flash.proofs.Replacement.{settled_disk, then_replaced}

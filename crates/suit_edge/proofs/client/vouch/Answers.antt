@@ -1,12 +1,10 @@
-use Rattle.std.proofs.Common.{◌≡◌, IsTrue, List, ℕ, length, subst}
+use Rattle.std.proofs.Common.{List, ℕ, length, subst}
 use Rattle.suit_edge.specs.Client.{IsVouched, bytes_at}
 use Rattle.suit_edge.specs.Flash.{IsFlash, Passes}
-use Rattle.suit_edge.specs.Ranges.{Outside, OutsideEach, written}
+use Rattle.suit_edge.specs.Ranges.{Outside, OutsideEach}
 use Rattle.suit_edge.specs.FlashLaws.{keeps_fewer}
 use Rattle.suit_edge.specs.VouchLaws.{vouching, writing}
-use Rattle.suit_edge.proofs.client.vouch.Given as given
 use Rattle.suit_edge.proofs.client.vouch.Goals as goal
-use Rattle.suit_edge.proofs.client.vouch.Goals.{After-write_gated}
 
 pub returns-in-Failed-clause-any_moment : goal.returns-in-Failed-clause-any_moment
 returns-in-Failed-clause-any_moment g c t =
@@ -14,21 +12,10 @@ returns-in-Failed-clause-any_moment g c t =
     writing _ _ (bytes_at c.args.place (length c.args.bytes.now)) c.args.gate c.args.page c.args.body.now (g.met.D.Disk.obeys c.args.disk.now t) c.requires.gate c.requires.body c.requires.clear (c.requires.firm t) _ _ kept
 
 -- the bytes, and then the page
-both : (g : given.Over) (c : After-write_gated g) → IsTrue g.D.Disk.told
-    → (g.D.Disk.flash c.keep_pieces.new.disk).reads ≡ written (g.D.Disk.flash c.args.disk.now).reads c.args.place c.args.bytes.now
-    → Passes (g.D.Disk.flash c.args.disk.now) (g.D.Disk.flash c.write_gated.new.disk)
-    (IsVouched (bytes_at c.args.place (length c.args.bytes.now)) c.args.gate c.args.page c.args.body.now (written (g.D.Disk.flash c.args.disk.now).reads c.args.place c.args.bytes.now) (g.D.Disk.flash c.args.disk.now))
-both g c t wrote =
+pub returns-clause-any_moment : goal.returns-clause-any_moment
+returns-clause-any_moment g c t =
     let law_b = subst (IsFlash (g.D.Disk.flash c.keep_pieces.new.disk)) c.keep_pieces.ensures.size (g.met.D.Disk.obeys c.keep_pieces.new.disk t) in
     let ranges = bytes_at c.args.place (length c.args.bytes.now) in
     let kept = keeps_fewer (OutsideEach ranges) (Outside c.args.place (length c.args.bytes.now)) (λ i o. o.0) _ _ (c.keep_pieces.ensures.keeps t) in
-    subst (λ (l : List ℕ). Passes (g.D.Disk.flash c.args.disk.now) (g.D.Disk.flash c.write_gated.new.disk) (IsVouched ranges c.args.gate c.args.page c.args.body.now l (g.D.Disk.flash c.args.disk.now))) wrote
+    subst (λ (l : List ℕ). Passes (g.D.Disk.flash c.args.disk.now) (g.D.Disk.flash c.write_gated.new.disk) (IsVouched ranges c.args.gate c.args.page c.args.body.now l (g.D.Disk.flash c.args.disk.now))) (c.in-Done.ensures.written t)
     (vouching _ _ ranges c.args.gate c.args.page c.args.body.now (g.met.D.Disk.obeys c.args.disk.now t) c.requires.gate c.requires.body c.requires.clear (c.requires.firm t) _ _ law_b kept (c.write_gated.ensures.any_moment t))
-
-pub returns-in-Done-write_gated-clause-any_moment :
-    goal.returns-in-Done-write_gated-clause-any_moment
-returns-in-Done-write_gated-clause-any_moment g c t = both g (goal.at.returns-in-Done-write_gated-clause-any_moment g c).After-write_gated t (c.in-Done.ensures.written t)
-
-pub returns-in-Failed-write_gated-clause-any_moment :
-    goal.returns-in-Failed-write_gated-clause-any_moment
-returns-in-Failed-write_gated-clause-any_moment g c t = both g (goal.at.returns-in-Failed-write_gated-clause-any_moment g c).After-write_gated t (c.in-Done.ensures.written t)

@@ -1,44 +1,26 @@
-use Rattle.std.proofs.Common.{IsTrue, length, subst}
-use Rattle.suit_edge.specs.Flash.{IsFlash, Keeps, Passes}
+use Rattle.std.proofs.Common.{length, subst}
+use Rattle.suit_edge.specs.Flash.{IsFlash}
 use Rattle.suit_edge.specs.FlashLaws.{firm_then, keeps_same, keeps_then}
-use Rattle.suit_edge.specs.Gate.{IsGated, page_at}
+use Rattle.suit_edge.specs.Gate.{page_at}
 use Rattle.suit_edge.specs.Ranges.{InSome, OutsideEach}
 use Rattle.suit_edge.specs.GateLaws.{gated_look, gated_since}
-use Rattle.suit_edge.proofs.page.write_gated.Given as given
 use Rattle.suit_edge.proofs.page.write_gated.Goals as goal
-use Rattle.suit_edge.proofs.page.write_gated.Goals.{After-write_known}
 
 pub returns-in-Failed-clause-any_moment : goal.returns-in-Failed-clause-any_moment
 returns-in-Failed-clause-any_moment g c t =
     gated_look _ _ c.args.gate c.args.place c.args.body.now (g.met.D.Disk.obeys c.args.disk.now t) c.requires.gate c.requires.body c.requires.apart (c.requires.firm t) _ (c.read_at.ensures.same t)
 
 -- the look, and then the page
-both : (g : given.Over) (c : After-write_known g) → IsTrue g.D.Disk.told
-    → Passes (g.D.Disk.flash c.args.disk.now) (g.D.Disk.flash c.write_known.new.disk) (IsGated c.args.gate c.args.place c.args.body.now (g.D.Disk.flash c.args.disk.now))
-both g c t =
+pub returns-clause-any_moment : goal.returns-clause-any_moment
+returns-clause-any_moment g c t =
     let law_b = subst (IsFlash (g.D.Disk.flash c.read_at.new.self)) c.read_at.ensures.size (g.met.D.Disk.obeys c.read_at.new.self t) in
     gated_since _ _ c.args.gate c.args.place c.args.body.now (g.met.D.Disk.obeys c.args.disk.now t) c.requires.gate c.requires.body c.requires.apart (c.requires.firm t) _ _ law_b
     (c.read_at.ensures.same t) (c.write_known.ensures.any_moment t)
 
-both_keep : (g : given.Over) (c : After-write_known g) → IsTrue g.D.Disk.told
-    → Keeps (OutsideEach (page_at c.args.gate c.args.place (length c.args.body.now))) (g.D.Disk.flash c.args.disk.now) (g.D.Disk.flash c.write_known.new.disk)
-both_keep g c t =
+pub returns-clause-keeps : goal.returns-clause-keeps
+returns-clause-keeps g c t =
     let beside = OutsideEach (page_at c.args.gate c.args.place (length c.args.body.now)) in
     keeps_then beside _ _ _ _ (g.met.D.Disk.obeys c.read_at.new.self t) (keeps_same beside _ _ (c.read_at.ensures.same t)) (c.write_known.ensures.keeps t)
-
-pub returns-in-Failed-write_known-clause-any_moment :
-    goal.returns-in-Failed-write_known-clause-any_moment
-returns-in-Failed-write_known-clause-any_moment g c = both g (goal.at.returns-in-Failed-write_known-clause-any_moment g c).After-write_known
-
-pub returns-in-Done-write_known-clause-any_moment :
-    goal.returns-in-Done-write_known-clause-any_moment
-returns-in-Done-write_known-clause-any_moment g c = both g (goal.at.returns-in-Done-write_known-clause-any_moment g c).After-write_known
-
-pub returns-in-Failed-write_known-clause-keeps : goal.returns-in-Failed-write_known-clause-keeps
-returns-in-Failed-write_known-clause-keeps g c = both_keep g (goal.at.returns-in-Failed-write_known-clause-keeps g c).After-write_known
-
-pub returns-in-Done-write_known-clause-keeps : goal.returns-in-Done-write_known-clause-keeps
-returns-in-Done-write_known-clause-keeps g c = both_keep g (goal.at.returns-in-Done-write_known-clause-keeps g c).After-write_known
 
 pub write_known-requires-clause-firm : goal.write_known-requires-clause-firm
 write_known-requires-clause-firm g c t =

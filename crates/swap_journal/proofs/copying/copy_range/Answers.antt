@@ -1,17 +1,17 @@
 use Rattle.std.proofs.Common.{◌∙◌, ℕ, List, ap, subst, arith, length}
+use Rattle.suit_edge.specs.EdgeLaws.{if_done_then}
 use Rattle.suit_edge.specs.Flash.{Keeps}
 use Rattle.suit_edge.specs.FlashLaws.{keeps_then, keeps_same}
 use Rattle.suit_edge.specs.Ranges.{Outside, written}
-use Rattle.swap_journal.proofs.Making.{copied, done_then}
+use Rattle.swap_journal.proofs.Making.{copied}
 use Rattle.swap_journal.proofs.copying.copy_range.Goals as goal
 
 pub returns-clause-copied : goal.returns-clause-copied
 returns-clause-copied g c t =
     let law = g.met.D.Disk.obeys c.args.disk.now t in
-    done_then c.write_and_sync.result _ _
+    if_done_then c.write_and_sync.result _ _ (c.write_and_sync.ensures.written t)
     (λ wrote. copied c.args.from c.args.to (length c.args.room.now) _ _ c.read_at.new.room (omega (arith, law.fits, c.requires.from)) (omega (arith, law.fits, c.requires.to)) (c.in-Done.ensures.bytes t)
     (wrote ∙ ap (λ (l : List ℕ). written l c.args.to c.read_at.new.room) (c.in-Done.ensures.same t).reads))
-    (c.write_and_sync.ensures.written t)
 
 pub returns-clause-keeps : goal.returns-clause-keeps
 returns-clause-keeps g c t =

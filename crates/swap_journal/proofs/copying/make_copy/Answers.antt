@@ -1,9 +1,10 @@
 use Rattle.std.proofs.Common.{◌≡◌, ◌∙◌, IsTrue, arith, length, take}
+use Rattle.suit_edge.specs.EdgeLaws.{if_done_then}
 use Rattle.suit_edge.specs.Flash.{Keeps}
 use Rattle.suit_edge.specs.Ranges.{Outside}
 use Rattle.swap_journal.specs.Exchanges.{copy_size, copy_to}
 use Rattle.swap_journal.proofs.Copies.{made}
-use Rattle.swap_journal.proofs.Making.{as_copy, as_kept, done_then, kept_areas, part_long, short_copy, torn_images}
+use Rattle.swap_journal.proofs.Making.{as_copy, as_kept, kept_areas, part_long, short_copy, torn_images}
 use Rattle.swap_journal.proofs.copying.make_copy.Given as given
 use Rattle.swap_journal.proofs.copying.make_copy.Goals as goal
 use Rattle.swap_journal.proofs.copying.make_copy.Goals.{After-copy_range}
@@ -19,10 +20,9 @@ kept g c t = as_kept c.args.exchange.now c.args.copy c.copy_to.result _ _ _ c.co
 
 pub returns-clause-copied : goal.returns-clause-copied
 returns-clause-copied g c t =
-    done_then c.copy_range.result _ _
+    if_done_then c.copy_range.result _ _ (c.copy_range.ensures.copied t)
     (λ copy. made c.args.exchange.now c.args.copy _ _ c.requires.apart c.requires.copy
     (as_copy c.args.exchange.now c.args.copy c.copy_from.result c.copy_to.result _ _ _ c.copy_from.ensures c.copy_to.ensures (used g c) copy))
-    (c.copy_range.ensures.copied t)
 
 pub returns-clause-any_moment : goal.returns-clause-any_moment
 returns-clause-any_moment g c t = torn_images c.args.exchange.now c.args.copy _ _ c.requires.apart c.requires.copy (c.requires.settled t) (kept g c t)

@@ -1,6 +1,6 @@
 use Rattle.std.proofs.Common.{length, ap, arith}
+use Rattle.suit_edge.specs.EdgeLaws.{if_done_then}
 use Rattle.suit_edge.specs.FlashLaws.{keeps_then}
-use Rattle.swap_journal.proofs.Making.{done_then}
 use Rattle.swap_journal.proofs.Swapping.{first_kept, first_stored, second_kept, second_stored}
 use Rattle.swap_journal.proofs.lengths.set_lengths.Goals as goal
 
@@ -16,14 +16,12 @@ returns-clause-keeps g c t =
 pub returns-clause-first : goal.returns-clause-first
 returns-clause-first g c t =
     let law = g.met.D.Disk.obeys c.args.disk.now t in
-    done_then c.write_and_sync.result _ _
+    if_done_then c.write_and_sync.result _ _ (c.write_and_sync.ensures.written t)
     (λ wrote. first_stored c.args.first c.args.second c.args.first_length c.args.second_length _ _ _ c.to_be_bytes.result c.to_be_bytes-2.result c.to_be_bytes.ensures c.to_be_bytes-2.ensures
     c.ranges.first_length.fits (omega (arith, law.fits, c.requires.first)) (omega (arith, law.fits, c.requires.second)) c.requires.apart (c.in-Done.ensures.written t) wrote)
-    (c.write_and_sync.ensures.written t)
 
 pub returns-clause-second : goal.returns-clause-second
 returns-clause-second g c t =
     let law = g.met.D.Disk.obeys c.write_at.new.self t in
-    done_then c.write_and_sync.result _ _
+    if_done_then c.write_and_sync.result _ _ (c.write_and_sync.ensures.written t)
     (λ wrote. second_stored c.args.second c.args.second_length _ _ c.to_be_bytes-2.result c.to_be_bytes-2.ensures c.ranges.second_length.fits (omega (arith, law.fits, c.write_at.ensures.size, c.requires.second)) wrote)
-    (c.write_and_sync.ensures.written t)
