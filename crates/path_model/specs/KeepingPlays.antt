@@ -44,29 +44,35 @@ IsDone (Done state) = Unit {0}
 IsDone (Condition place soft_failure) = ⊥
 IsDone (Directive place) = ⊥
 
+-- a condition whose outcome could not be kept tells nothing
+abbrev pub IsLateTest : Bool → ℕ → Recalling → Outcome Device → FreeStep → Outcome Recalling → Type 0
+IsLateTest may_fail place before done step late =
+    IsTrue may_fail × (late ≡ unkept place [] before.kept done.world)
+
+-- a directive whose outcome could not be kept tells what a failure does
+abbrev pub IsLateAct : Bool → ℕ → Recalling → Outcome Device → FreeStep → Outcome Recalling → Type 0
+IsLateAct may_fail place before done step late =
+    IsTrue may_fail × IsDone done.ending
+    × (late ≡ unkept place (failed_told step) before.kept done.world)
+
 -- ---- plays, where keeping may fail or may not
 
 module _ (may_fail : Bool) where
-  -- a condition whose outcome could not be kept tells nothing
   abbrev pub keeping_condition : Setting → TestKind → ℕ → ℕ → Play Recalling
   keeping_condition setting kind place component = record {
     comes = (recalled_condition setting kind place component).comes;
     IsCut = λ state world outcome. let play = condition_play setting kind place component in
         StepIsCut (play.IsCut state world.device)
-        (λ step late. IsTrue may_fail
-        × (late ≡ unkept place [] world.kept (play.comes state world.device).world))
+        (IsLateTest may_fail place world (play.comes state world.device))
         world outcome (free_test kind place component state);
   }
 
-  -- a directive tells what a failure does
   abbrev pub keeping_directive : Setting → ActKind → ℕ → ℕ → Play Recalling
   keeping_directive setting kind place component = record {
     comes = (recalled_directive setting kind place component).comes;
     IsCut = λ state world outcome. let play = directive_play setting kind place component in
         StepIsCut (play.IsCut state world.device)
-        (λ step late. IsTrue may_fail × IsDone (play.comes state world.device).ending
-        × (late
-        ≡ unkept place (failed_told step) world.kept (play.comes state world.device).world))
+        (IsLateAct may_fail place world (play.comes state world.device))
         world outcome (free_act kind place component state);
   }
 
