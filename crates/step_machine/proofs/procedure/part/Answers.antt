@@ -20,4 +20,4 @@ returns-in-Some g c =
 
 pub returns-in-None : goal.returns-in-None
 returns-in-None g c =
-    record { runs = lent_as c.args.machine.now _ _ c.in-None.is _ _ _ _ _ (runs_absent c.args.machine.now c.args.machine.now.program.now.count (state_of c.args.state.now) _ c.requires.sources); leaves = leaves_start _ _ }
+    record { runs = lent_as c.args.machine.now _ _ c.in-None.is _ _ _ _ _ (runs_absent c.args.machine.now c.args.machine.now.program.now.count (state_of c.args.state.now) _ c.requires.sources c.requires.trailed); leaves = leaves_start _ _ }

@@ -12,29 +12,29 @@ use Rattle.step_machine.specs.declared.progress.Selected.{Selected}
 use Rattle.step_machine.specs.Allowing.{AllowsBranches, AllowsCommand}
 use Rattle.step_machine.specs.Running.{IsUnderWay, selected_list, state_of}
 use Rattle.step_machine.proofs.Allowed.{allows_at, allows_others, below_among, ready_after}
-use Rattle.step_machine.proofs.Beginning.{begun}
+use Rattle.step_machine.proofs.Going.{begun}
 use Rattle.step_machine.proofs.Leaving.{leaves_start, leaves_then}
 use Rattle.step_machine.proofs.Parting.{runs_index, runs_nothing, runs_override}
 use Rattle.step_machine.proofs.Sourcing.{sources_overridden}
-use Rattle.step_machine.proofs.Turns.{at_as, each_as, each_begun, is_each, none_selected, on_ok, index_as, step_allowed, later_allowed, step_done, step_stopped, step_selects, steps_done, rest_smaller, first_among, rest_among, one_done, one_stopped, each_done, branch_smaller, none_left, null_done, try_done, try_stopped, try_next, inner_out}
+use Rattle.step_machine.proofs.Turns.{at_as, each_as, each_begun, is_each, none_selected, on_ok, index_as, step_allowed, later_allowed, step_done, step_stopped, step_selects, steps_done, rest_smaller, first_among, rest_among, one_done, one_stopped, each_done, branch_smaller, none_left, null_done, try_done, try_stopped, try_next, inner_out, inner_ran, inner_softly}
 use Rattle.step_machine.proofs.running.+running.Goals as goal
 
 -- ---- one command
 
 pub at-returns-in-Index-clause-runs : goal.at-returns-in-Index-clause-runs
 at-returns-in-Index-clause-runs g t c =
-    at_as c.args.machine.now c.args.machine.now.program.now.count c.args.place c.args.component _ _ c.in-Index.is _ _ _ _ _ (runs_nothing c.args.machine.now _ _ c.requires.under_way.sources)
+    at_as c.args.machine.now c.args.machine.now.program.now.count c.args.place c.args.component _ _ c.in-Index.is _ _ _ _ _ (runs_nothing c.args.machine.now _ _ c.requires.under_way.sources c.requires.trailed)
 
 pub at-returns-in-Override-clause-runs : goal.at-returns-in-Override-clause-runs
 at-returns-in-Override-clause-runs g t c =
     let sources = sources_overridden c.args.machine.now c.args.state.now.params c.override_with.new.state.params c.args.component c.in-Override.list _ _ c.requires.inside c.requires.ready c.args.command c.in-Override.is c.requires.allowed c.override_with.ensures.last c.requires.under_way.sources in
-    at_as c.args.machine.now c.args.machine.now.program.now.count c.args.place c.args.component _ _ c.in-Override.is _ _ _ _ _ (runs_override c.args.machine.now c.in-Override.list c.args.machine.now.program.now.count c.args.place c.args.component _ _ _ sources c.override_with.ensures.after)
+    at_as c.args.machine.now c.args.machine.now.program.now.count c.args.place c.args.component _ _ c.in-Override.is _ _ _ _ _ (runs_override c.args.machine.now c.in-Override.list c.args.machine.now.program.now.count c.args.place c.args.component _ _ _ sources c.requires.trailed c.override_with.ensures.after)
 
 pub command-returns-in-Index-clause-runs : goal.command-returns-in-Index-clause-runs
 command-returns-in-Index-clause-runs g t c =
     let state = c.args.state.now in
     index_as c.args.machine.now c.args.command _ c.args.machine.now.program.now.count c.args.place c.in-Index.is _ _ _ _ _
-    (runs_index c.args.machine.now (selection_of c.in-Index.selection) c.args.machine.now.program.now.count c.args.place (state_of state) _ _ c.requires.under_way.sources
+    (runs_index c.args.machine.now (selection_of c.in-Index.selection) c.args.machine.now.program.now.count c.args.place (state_of state) _ _ c.requires.under_way.sources c.requires.trailed
     (ap (λ (l : List ℕ). record { parameters = state.params; selection = l; soft_failure = state.soft_failure }) c.by-state.ensures))
 
 pub command-returns-in_default : goal.command-returns-in_default
@@ -57,7 +57,7 @@ each-loop-component-init g t c =
       under_way = subst (λ (x : Selected). IsUnderWay c.args.machine.now (state_of (record { params = state.params; selected = x; soft_failure = state.soft_failure }))) (sym c.copy-left.ensures.same) c.requires.under_way;
       same = c.copy-left.ensures.same;
       among = λ k h. subst (λ (x : Selected). Among k (selected_list x)) c.copy-left.ensures.copied h;
-      begun = each_begun c.args.machine.now (command_of c.args.command) c.args.place state c.copy-left.result c.copy-left.new.self _ c.copy-left.ensures.copied c.copy-left.ensures.same c.requires.under_way.sources;
+      begun = each_begun c.args.machine.now (command_of c.args.command) c.args.place state c.copy-left.result c.copy-left.new.self _ c.copy-left.ensures.copied c.copy-left.ensures.same c.requires.under_way.sources c.requires.trailed;
       leaves = leaves_start _ _;
     }
 
@@ -69,7 +69,7 @@ each-at-requires g t c κs within =
     let among = inv.among c.in-Some.component (first_among c.args.machine.now (command_of c.args.command) c.args.place (selected_list c.loop-component.left) (selected_list c.next.new.self) c.in-Some.component c.in-Some.ensures) in
     let inside = below_among (selected_list c.args.state.now.selected) c.in-Some.component (length c.args.machine.now.standings.now) among c.requires.under_way.selection in
     let allowed = subst (λ (x : LentCommand). AllowsCommand c.args.machine.now (command_of x) (c.in-Some.component ∷ [])) (sym same) (allows_at c.args.machine.now (command_of c.args.command) (selected_list c.args.state.now.selected) c.in-Some.component among c.requires.allowed) in
-    (omega (arith, e, c.decreases), (within.0, (within.1.0, (within.1.1, (inv.ready, (inside, (allowed, inv.under_way)))))))
+    (omega (arith, e, c.decreases), (within.0, (within.1.0, (within.1.1.0, (within.1.1.1, (inv.ready, (inside, (allowed, (inv.under_way, inv.begun.trailed)))))))))
 
 pub each-loop-component-preserved : goal.each-loop-component-preserved
 each-loop-component-preserved g t c =
@@ -78,7 +78,7 @@ each-loop-component-preserved g t c =
     let same : c.command_again-again.result ≡ c.args.command = c.command_again-again.ensures.copied ∙ inv.kept in
     record {
       kept = c.command_again-again.ensures.same ∙ inv.kept;
-      ready = ready_after c.args.machine.now _ _ done.runs.stays inv.ready;
+      ready = ready_after c.args.machine.now _ _ done.runs.stays.outside inv.ready;
       under_way = record {
         sources = done.runs.sources;
         selection = subst (λ (x : Selected). AllByRecursion (λ k. k < length c.args.machine.now.standings.now) (selected_list x)) (sym done.selected) inv.under_way.selection;
@@ -114,7 +114,7 @@ sequence-loop-step-init g t c =
       ready = c.requires.ready;
       under_way = c.requires.under_way;
       allowed = c.requires.allowed;
-      begun = begun c.args.machine.now _ _ _ c.requires.under_way.sources;
+      begun = begun c.args.machine.now _ _ _ c.requires.under_way.sources c.requires.trailed;
       leaves = leaves_start _ _;
     }
 
@@ -127,7 +127,7 @@ sequence-loop-step-preserved g t c =
     let after = selected_list c.command.new.state.selected in
     record {
       few = omega (arith, inv.few, rest_smaller c.args.machine.now c.loop-step.steps c.next.new.self step.place (command_of step.command) c.in-Some.ensures);
-      ready = ready_after c.args.machine.now _ _ done.runs.stays inv.ready;
+      ready = ready_after c.args.machine.now _ _ done.runs.stays.outside inv.ready;
       under_way = record {
         sources = done.runs.sources;
         selection = step_selects c.args.machine.now (command_of step.command) before after inv.ready.count (step_allowed c.args.machine.now c.loop-step.steps c.next.new.self step.place (command_of step.command) c.in-Some.ensures before inv.allowed) done.selected inv.under_way.selection;
@@ -156,13 +156,21 @@ pub run_inner-returns-in-Some-clause-runs : goal.run_inner-returns-in-Some-claus
 run_inner-returns-in-Some-clause-runs g t c =
     inner_out c.args.machine.now c.args.inner c.args.component (state_of c.args.state.now) (state_of c.entered-inside.result) c.entered-inside.ensures _ _ (state_of c.sequence.new.state) c.in-Err.stop c.in-Some.stop (sym c.passed_on.ensures ∙ c.in-Some.is) c.requires.under_way.sources c.in-Err.ensures.runs
 
+pub run_inner-returns-in-Ok-clause-runs : goal.run_inner-returns-in-Ok-clause-runs
+run_inner-returns-in-Ok-clause-runs g t c =
+    inner_ran c.args.machine.now c.args.inner c.args.component (state_of c.args.state.now) (state_of c.entered-inside.result) c.entered-inside.ensures _ _ (state_of c.sequence.new.state) _ c.copy-state.ensures c.in-Ok.ensures.runs
+
+pub run_inner-returns-in-None-clause-runs : goal.run_inner-returns-in-None-clause-runs
+run_inner-returns-in-None-clause-runs g t c =
+    inner_softly c.args.machine.now c.args.inner c.args.component (state_of c.args.state.now) (state_of c.entered-inside.result) c.entered-inside.ensures _ _ (state_of c.sequence.new.state) c.in-Err.stop (sym c.passed_on.ensures ∙ c.in-None.is) c.requires.under_way.sources c.in-Err.ensures.runs
+
 pub try_each-loop-branch-init : goal.try_each-loop-branch-init
 try_each-loop-branch-init g t c = record {
   few = omega arith;
   same = refl;
   ready = c.requires.ready;
   allowed = c.requires.allowed;
-  begun = begun c.args.machine.now _ _ _ c.requires.under_way.sources;
+  begun = begun c.args.machine.now _ _ _ c.requires.under_way.sources c.requires.trailed;
   leaves = leaves_start _ _;
 }
 
@@ -179,7 +187,7 @@ try_each-loop-branch-preserved g t c =
     record {
       few = omega (arith, inv.few, smaller.1);
       same = inv.same;
-      ready = ready_after c.args.machine.now _ _ c.in-Err.ensures.runs.stays inv.ready;
+      ready = ready_after c.args.machine.now _ _ c.in-Err.ensures.runs.stays.outside inv.ready;
       allowed = allows_others c.args.machine.now c.in-Inner.inner c.next.new.self c.args.component (subst (λ (x : BranchesTree). AllowsBranches c.args.machine.now x c.args.component) lends inv.allowed);
       begun = try_next c.args.machine.now c.loop-branch.branches c.args.place c.args.component _ c.args.state.now _ c.loop-branch.state _ inv.begun (λ told. g.met.D.Disk.obeys c.loop-branch.work.disk.now told) inv.same c.in-Inner.inner c.next.new.self lends (state_of c.entered-inside.result) c.entered-inside.ensures (state_of c.sequence.new.state) _ c.in-Err.stop (sym c.passed_on.ensures ∙ c.in_default-passed_on.is) c.in-Err.ensures.runs;
       leaves = leaves_then inv.leaves c.in-Err.ensures.leaves;
