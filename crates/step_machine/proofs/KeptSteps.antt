@@ -1,6 +1,6 @@
 -- A step of a procedure over the trail, from a stage to a later one.
 use Rattle.std.proofs.Common.{◌≡◌, ◌≤◌, ◌<◌, ◌+◌, ◌⊎◌, ℕ, Bool, true, false, List, [], ◌∷◌, ◌++◌, Option, Some, None, Result, Ok, Err, length, get_or, refl, sym, ap, subst, ◌∙◌, inl, inr, arith}
-use Rattle.std.specs.Prelude.{IfSome, IsTrue, not}
+use Rattle.std.specs.Prelude.{IsTrue, not}
 use Rattle.std.proofs.lemmas.List.{append-nil}
 use Rattle.std.proofs.lemmas.Bool.{cases_lt}
 use Rattle.suit_edge.specs.declared.edge.Edge.{Edge}
@@ -87,7 +87,6 @@ device_trailed machine m n t law rests stays trailed = record {
   holds = λ told.
       let before = subst IsTrue stays.disk told in
       carried (t.holds t.list) t.ranges (OutsideWritten machine) m.disk.flash n.disk.flash n.disk.size (law told) (rests t.list) (λ i h k d lt may. trailed.clear i h k d lt) (stays.keeps before) (trailed.holds before);
-  endless = trailed.endless;
 }
 
 -- ---- the trail is asked for an outcome
@@ -110,12 +109,11 @@ module _ (machine : Machine) (m : Stage) (t : TrailAt) (taken : Option Bool) (as
     clear = λ i h. trailed.clear i (subst (λ (rs : List Range). InSome rs i) asked.ranges h);
     within = subst (λ (rs : List Range). LieWithin m.outside.disk.size rs) (sym asked.ranges) trailed.within;
     holds = λ told image now. asked.holds image (trailed.holds told image now);
-    endless = λ told. asked.room ∙ trailed.endless (subst IsTrue asked.told told);
   }
 
 -- ---- a step that is not free
 
-goes_on : (r : Result (Unit {0}) Stop) (P : Type 0) → P → IfGoesOn r P
+pub goes_on : (r : Result (Unit {0}) Stop) (P : Type 0) → P → IfGoesOn r P
 goes_on (Ok u) P p = p
 goes_on (Err (stops.Condition place soft)) P p = p
 goes_on (Err (stops.Directive place cause)) P p = tt
@@ -316,9 +314,6 @@ module _ (machine : Machine) (s : Stage) (ended : Result (Unit {0}) Stop) (passe
   pub keep_within : LieWithin s.outside.disk.size s.trail.ranges
   keep_within = there.within
 
-  pub keep_room : IsTrue s.trail.told → IfSome s.trail.room (λ n. length s.trail.list < n)
-  keep_room told = subst (λ (r : Option ℕ). IfSome r (λ n. length s.trail.list < n)) (sym (there.endless told)) tt
-
 loud : (silent : Bool) → (IsTrue silent → edge.Failed ≡ edge.Done) → IsTrue (not silent)
 loud true quiet = let wrong = quiet refl in absurd cc
 loud false quiet = refl
@@ -393,7 +388,6 @@ module _ (machine : Machine) (host : HostAt) (launcher : LauncherAt) (ram : List
           clear = λ i h. (goes_of ended passed (IsTrailed machine old) is may).clear i (subst (λ (rs : List Range). InSome rs i) says.ranges h);
           within = subst (λ (n : ℕ). LieWithin n u.ranges) (sym says.size) (subst (λ (rs : List Range). LieWithin before.size rs) (sym says.ranges) (goes_of ended passed (IsTrailed machine old) is may).within);
           holds = λ told. says.holds (subst IsTrue says.told told);
-          endless = λ told. says.room ∙ (goes_of ended passed (IsTrailed machine old) is may).endless (subst IsTrue says.told_same told);
         },
       ))
 

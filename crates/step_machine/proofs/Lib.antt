@@ -17,6 +17,7 @@ pub mod Beginning
 pub mod Going
 pub mod Recalling
 pub mod KeptSteps
+pub mod Spending
 pub mod Inner
 pub mod Leaves
 pub mod Parting

@@ -90,7 +90,7 @@ passed_counts (stops.Condition p false) out soft a b e h =
 passed_counts (stops.Directive p cause) out soft a b e h =
     let same : stops.Directive p cause ≡ out = cc in subst (λ (o : Stop). StopCounts (Err o) a b) same h
 
-passed_trailed : (stop out : Stop) (soft : Bool) (P : Type 0) → passed_on stop soft ≡ Some out → IfGoesOn (Err stop) P → IfGoesOn (Err out) P
+pub passed_trailed : (stop out : Stop) (soft : Bool) (P : Type 0) → passed_on stop soft ≡ Some out → IfGoesOn (Err stop) P → IfGoesOn (Err out) P
 passed_trailed (stops.Condition p true) out soft P e h = absurd cc
 passed_trailed (stops.Condition p false) out soft P e h =
     let same : stops.Condition p soft ≡ out = cc in subst (λ (o : Stop). IfGoesOn (Err o) P) same h

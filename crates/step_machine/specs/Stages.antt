@@ -1,5 +1,5 @@
 -- The effect of a part of a procedure that recalls and keeps the outcomes of its free steps, from a stage to a later one.
-use Rattle.std.specs.Prelude.{◌≡◌, ◌<◌, ℕ, Bool, not, IsTrue, List, ◌++◌, Option, None, Result, Ok, Err, length, get_or}
+use Rattle.std.specs.Prelude.{◌≡◌, ◌<◌, ◌≤◌, ◌+◌, ℕ, Bool, not, IfSome, IsTrue, List, ◌++◌, Option, Result, Ok, Err, length, get_or}
 use Rattle.suit_edge.specs.Ranges.{InSome, OutsideEach, Range}
 use Rattle.path_model.specs.Behaviour.{State}
 use Rattle.path_model.specs.Settings.{Setting}
@@ -49,13 +49,17 @@ abbrev pub OutsideStandings : List Standing → ℕ → Type 0
 OutsideStandings standings i =
     (k : ℕ) (d : Standing) → k < length standings → OutsideSpot (get_or standings k d).spot i
 
--- The trail has places of its own, within the flash, where the flash bears its list, and room for each outcome.
+-- the trail has places of its own, within the flash, where the flash bears its list
 pub record IsTrailed (machine : Machine) (s : Stage) : Type 0 where
   pub clear : (i : ℕ) → InSome s.trail.ranges i → OutsideStandings machine.standings.now i
   pub within : LieWithin s.outside.disk.size s.trail.ranges
   pub holds : IsTrue s.outside.disk.told
       → HoldsNow (s.trail.holds s.trail.list) s.outside.disk.flash
-  pub endless : IsTrue s.trail.told → s.trail.room ≡ None
+
+-- a trail that tells its list has room for so many outcomes more
+pub record HasRoom (s : Stage) (n : ℕ) : Type 0 where
+  pub fits : IsTrue s.trail.told
+      → IfSome s.trail.room (λ room. length s.trail.list + n ≤ room)
 
 -- where the procedure may go on behind this
 abbrev pub IfGoesOn : Result (Unit {0}) Stop → Type 0 → Type 0
@@ -115,3 +119,8 @@ pub record RunsKept (machine : Machine) (part : KeptPart) (state : State) (befor
   pub trailed : IfGoesOn result (IsTrailed machine after)
   pub goes : IsTrue before.outside.disk.told → IsTrue before.outside.launcher.told
       → GoesKept machine part state before result next after
+
+-- it keeps at most so many outcomes: the room for others stays
+pub record Spends (work : ℕ) (before : Stage) (result : Result (Unit {0}) Stop) (after : Stage)
+    : Type 0 where
+  pub others : (n : ℕ) → HasRoom before (work + n) → IfGoesOn result (HasRoom after n)

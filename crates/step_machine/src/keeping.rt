@@ -7,7 +7,7 @@ ghost use Rattle.step_machine.specs.Allowing.{MayFetch, MaySwap, MayWrite};
 ghost use Rattle.step_machine.specs.Keeping.{KeptSo, is_free_act, is_free_test, outcome_of};
 ghost use Rattle.step_machine.specs.Parts.{kept_act_part, kept_test_part};
 ghost use Rattle.step_machine.specs.Running.{IsReady, IsUnderWay, LeavesWork, state_of};
-ghost use Rattle.step_machine.specs.Stages.{IfGoesOn, IsTrailed, RunsKept};
+ghost use Rattle.step_machine.specs.Stages.{HasRoom, IfGoesOn, IsTrailed, RunsKept, Spends};
 ghost use Rattle.suit_commands.specs.Targets.{IsWriting};
 ghost use Rattle.suit_commands.specs.declared.kinds.ActKind.TheVariants as acts;
 
@@ -72,10 +72,13 @@ fn kept<H: Host, D: Disk, L: Launcher, T: Trail>(
     requires all_recalled { T.left trail.old ≡ [] }
     requires trailed { IfGoesOn ended
         (IsTrailed machine.now (⟦<D as Stages<H, L, T>>⟧.of_work work.old trail.old)) }
+    requires room { HasRoom (⟦<D as Stages<H, L, T>>⟧.of_work work.old trail.old) 1 }
     ensures kept { KeptSo machine.now place ended
         (⟦<D as Stages<H, L, T>>⟧.of_work work.old trail.old) result
         (⟦<D as Stages<H, L, T>>⟧.of_work work.new trail.new) }
     ensures leaves { LeavesWork machine.now work.old work.new }
+    ensures room { Spends 1 (⟦<D as Stages<H, L, T>>⟧.of_work work.old trail.old) result
+        (⟦<D as Stages<H, L, T>>⟧.of_work work.new trail.new) }
 {
     match outcome_of(&ended) {
         None => ended,
@@ -104,11 +107,14 @@ pub(crate) fn test_kept<H: Host, D: Disk, L: Launcher, T: Trail>(
     requires under_way { IsUnderWay machine.now (state_of state.now) }
     requires trailed { IsTrailed machine.now
         (⟦<D as Stages<H, L, T>>⟧.of_work work.old trail.old) }
+    requires room { HasRoom (⟦<D as Stages<H, L, T>>⟧.of_work work.old trail.old) 1 }
     ensures runs { RunsKept machine.now (kept_test_part kind place component) (state_of state.now)
         (⟦<D as Stages<H, L, T>>⟧.of_work work.old trail.old)
         result (state_of state.now)
         (⟦<D as Stages<H, L, T>>⟧.of_work work.new trail.new) }
     ensures leaves { LeavesWork machine.now work.old work.new }
+    ensures room { Spends 1 (⟦<D as Stages<H, L, T>>⟧.of_work work.old trail.old) result
+        (⟦<D as Stages<H, L, T>>⟧.of_work work.new trail.new) }
 {
     if !is_free_test(kind, component, &state.params) {
         return test(machine, work, kind, place, component, state);
@@ -144,11 +150,14 @@ pub(crate) fn act_kept<H: Host, D: Disk, L: Launcher, T: Trail>(
     requires fetches { kind ≡ acts.Fetch → MayFetch machine.now }
     requires trailed { IsTrailed machine.now
         (⟦<D as Stages<H, L, T>>⟧.of_work work.old trail.old) }
+    requires room { HasRoom (⟦<D as Stages<H, L, T>>⟧.of_work work.old trail.old) 1 }
     ensures runs { RunsKept machine.now (kept_act_part kind place component) (state_of state.now)
         (⟦<D as Stages<H, L, T>>⟧.of_work work.old trail.old)
         result (state_of state.now)
         (⟦<D as Stages<H, L, T>>⟧.of_work work.new trail.new) }
     ensures leaves { LeavesWork machine.now work.old work.new }
+    ensures room { Spends 1 (⟦<D as Stages<H, L, T>>⟧.of_work work.old trail.old) result
+        (⟦<D as Stages<H, L, T>>⟧.of_work work.new trail.new) }
 {
     if !is_free_act(kind, component, &state.params) {
         return act(machine, work, kind, place, component, state);

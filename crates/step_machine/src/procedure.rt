@@ -4,18 +4,19 @@ ghost use Rattle.flash_layout.specs.Trails.{HoldsNow, LieWithin};
 ghost use Rattle.flash_slots.specs.RamContents.{Held};
 ghost use Rattle.path_model.specs.Behaviour.{State};
 ghost use Rattle.path_model.specs.Path.{first_state};
-ghost use Rattle.std.specs.Prelude.{◌≡◌, ◌<◌, ◌∷◌, ◌++◌, [], ℕ, IsTrue, List, None, Option, length, map};
+ghost use Rattle.std.specs.Prelude.{◌≡◌, ◌+◌, ◌<◌, ◌≤◌, ◌∷◌, ◌++◌, [], ℕ, IfSome, IsTrue, List, Option, length, map};
 ghost use Rattle.step_machine.specs.Allowing.{AllowsSequence, MayFetch};
 ghost use Rattle.step_machine.specs.Devices.{contents_of};
 ghost use Rattle.step_machine.specs.KeptRuns.{IfNoFault, OutsideWrites, PlaysKept, kept_at, terms_of};
 ghost use Rattle.step_machine.specs.Parts.{plan_part, starting_part};
 ghost use Rattle.step_machine.specs.PlanRuns.{EndCounts, GivesAs, OutsideTargets, PlaysPlan, counts_of, end_of, setting_of};
 ghost use Rattle.step_machine.specs.Running.{AreSources, IsReady, LeavesWork, state_of};
-ghost use Rattle.step_machine.specs.Stages.{IsTrailed, OutsideStandings, RunsKept};
+ghost use Rattle.step_machine.specs.Stages.{HasRoom, IsTrailed, OutsideStandings, RunsKept, Spends};
 ghost use Rattle.step_machine.specs.Fetching.{ArePayloads, AsksAmong, asked_at};
 ghost use Rattle.step_machine.specs.UrisSet.{HasFetch};
 ghost use Rattle.step_machine.specs.Worlds.{AreStandings, StandAtMost};
 ghost use Rattle.suit_commands.specs.Allowed.{IsPlan};
+ghost use Rattle.suit_commands.specs.Numbers.{work_number, work_of};
 ghost use Rattle.step_machine.specs.Programs.{part_tree, program_tree};
 ghost use Rattle.suit_edge.specs.Flash.{Grows, Keeps};
 ghost use Rattle.suit_edge.specs.Ranges.{InSome};
@@ -45,12 +46,17 @@ fn part<'p, H: Host, D: Disk, L: Launcher, T: Trail>(
     requires sources { AreSources machine.now state.old.params }
     requires trailed { IsTrailed machine.now
         (⟦<D as Stages<H, L, T>>⟧.of_work work.old trail.old) }
+    requires room { HasRoom (⟦<D as Stages<H, L, T>>⟧.of_work work.old trail.old)
+        (work_of (part_tree lent) machine.now.program.now.count 1) }
     ensures runs { RunsKept machine.now
         (starting_part (part_tree lent.entry) machine.now.program.now.count) (state_of state.old)
         (⟦<D as Stages<H, L, T>>⟧.of_work work.old trail.old)
         result (state_of state.new)
         (⟦<D as Stages<H, L, T>>⟧.of_work work.new trail.new) }
     ensures leaves { LeavesWork machine.now work.old work.new }
+    ensures room { Spends (work_of (part_tree lent.entry) machine.now.program.now.count 1)
+        (⟦<D as Stages<H, L, T>>⟧.of_work work.old trail.old) result
+        (⟦<D as Stages<H, L, T>>⟧.of_work work.new trail.new) }
 {
     state.selected = Selected::One(0);
     state.soft_failure = false;
@@ -74,6 +80,8 @@ fn procedure<'p, H: Host, D: Disk, L: Launcher, T: Trail>(
     requires sources { AreSources machine.now state.old.params }
     requires trailed { IsTrailed machine.now
         (⟦<D as Stages<H, L, T>>⟧.of_work work.old trail.old) }
+    requires room { HasRoom (⟦<D as Stages<H, L, T>>⟧.of_work work.old trail.old)
+        (work_number (program_tree machine.now.program.now)) }
     ensures runs { RunsKept machine.now (plan_part (program_tree machine.now.program.now))
         (state_of state.old)
         (⟦<D as Stages<H, L, T>>⟧.of_work work.old trail.old)
@@ -108,6 +116,8 @@ fn started<H: Host, D: Disk, L: Launcher, T: Trail>(
     requires plan { IsPlan (program_tree machine.now.program.now) }
     requires trailed { IsTrailed machine.now
         (⟦<D as Stages<H, L, T>>⟧.of_work work.old trail.old) }
+    requires room { HasRoom (⟦<D as Stages<H, L, T>>⟧.of_work work.old trail.old)
+        (work_number (program_tree machine.now.program.now)) }
     ensures runs { (next : State)
         × RunsKept machine.now (plan_part (program_tree machine.now.program.now)) first_state
         (⟦<D as Stages<H, L, T>>⟧.of_work work.old trail.old)
@@ -164,6 +174,9 @@ fn run_lent<H: Host, D: Disk, L: Launcher, T: Trail>(
     requires plan { IsPlan (program_tree machine.now.program.now) }
     requires trailed { IsTrailed machine.now
         (⟦<D as Stages<H, L, T>>⟧.at host.old disk.old launcher.old ram.old trail.old) }
+    requires room { HasRoom
+        (⟦<D as Stages<H, L, T>>⟧.at host.old disk.old launcher.old ram.old trail.old)
+        (work_number (program_tree machine.now.program.now)) }
     ensures runs { (next : State)
         × RunsKept machine.now (plan_part (program_tree machine.now.program.now)) first_state
         (⟦<D as Stages<H, L, T>>⟧.at host.old disk.old launcher.old ram.old trail.old)
@@ -216,7 +229,8 @@ pub fn run_plan<H: Host, D: Disk, L: Launcher, T: Trail>(
     requires within { LieWithin (D.extent disk.old) (T.ranges trail.old) }
     requires holds { IsTrue D.told
         → HoldsNow (T.holds trail.old (T.list trail.old)) (D.flash disk.old) }
-    requires room { IsTrue T.told → T.room trail.old ≡ None }
+    requires room { IsTrue T.told → IfSome (T.room trail.old)
+        (λ room. length (T.list trail.old) + work_number (program_tree program) ≤ room) }
     ensures standings { world.new.standings.items ≡ world.old.standings.items }
     ensures rooms { map (λ (held : Held). held.capacity) world.new.ram
         ≡ map (λ (held : Held). held.capacity) world.old.ram }

@@ -1,12 +1,13 @@
 //! Sequences and commands of a running procedure.
 
-ghost use Rattle.std.specs.Prelude.{◌≡◌, ◌<◌, ◌∷◌, [], OnOk, length};
+ghost use Rattle.std.specs.Prelude.{◌≡◌, ◌*◌, ◌<◌, ◌∷◌, [], OnOk, length};
 ghost use Rattle.step_machine.specs.Allowing.{AllowsBranches, AllowsCommand, AllowsSequence};
 ghost use Rattle.step_machine.specs.Parts.{at_part, branches_part, command_part, each_part, passed_on, sequence_part};
 ghost use Rattle.step_machine.specs.Running.{IsReady, IsUnderWay, LeavesWork, selected_list, state_of};
-ghost use Rattle.step_machine.specs.Stages.{IsTrailed, RunsKept};
+ghost use Rattle.step_machine.specs.Stages.{HasRoom, IsTrailed, RunsKept, Spends};
 ghost use Rattle.path_model.specs.Plays.{running_inner};
 ghost use Rattle.path_model.specs.RecalledPlays.{Recalling};
+ghost use Rattle.suit_commands.specs.Numbers.{branches_work, command_work, work_of};
 ghost use Rattle.suit_commands.specs.Selections.{selected_after};
 ghost use Rattle.suit_commands.specs.Tree.{Override, RunSequence, TryEach};
 ghost use Rattle.suit_cursor.specs.Lending.{command_of};
@@ -53,12 +54,20 @@ pub(crate) fn sequence<'p, H: Host, D: Disk, L: Launcher, T: Trail>(
     requires under_way { IsUnderWay machine.now (state_of state.old) }
     requires trailed { IsTrailed machine.now
         (⟦<D as Stages<H, L, T>>⟧.of_work work.old trail.old) }
+    requires room { HasRoom (⟦<D as Stages<H, L, T>>⟧.of_work work.old trail.old)
+        (work_of steps machine.now.program.now.count
+        (length (selected_list state.old.selected))) }
     ensures runs { RunsKept machine.now (sequence_part steps.entry machine.now.program.now.count)
         (state_of state.old)
         (⟦<D as Stages<H, L, T>>⟧.of_work work.old trail.old)
         result (state_of state.new)
         (⟦<D as Stages<H, L, T>>⟧.of_work work.new trail.new) }
     ensures leaves { LeavesWork machine.now work.old work.new }
+    ensures room { Spends
+        (work_of steps.entry machine.now.program.now.count
+        (length (selected_list state.old.selected)))
+        (⟦<D as Stages<H, L, T>>⟧.of_work work.old trail.old) result
+        (⟦<D as Stages<H, L, T>>⟧.of_work work.new trail.new) }
 {
     while let Some(step) = steps.next() {
         command(machine, work, trail, step.place, step.command, state)?;
@@ -82,6 +91,9 @@ fn command<'p, H: Host, D: Disk, L: Launcher, T: Trail>(
     requires under_way { IsUnderWay machine.now (state_of state.old) }
     requires trailed { IsTrailed machine.now
         (⟦<D as Stages<H, L, T>>⟧.of_work work.old trail.old) }
+    requires room { HasRoom (⟦<D as Stages<H, L, T>>⟧.of_work work.old trail.old)
+        (command_work (command_of command) machine.now.program.now.count
+        (length (selected_list state.old.selected))) }
     ensures runs { RunsKept machine.now
         (command_part (command_of command.entry) machine.now.program.now.count place)
         (state_of state.old)
@@ -89,6 +101,11 @@ fn command<'p, H: Host, D: Disk, L: Launcher, T: Trail>(
         result (state_of state.new)
         (⟦<D as Stages<H, L, T>>⟧.of_work work.new trail.new) }
     ensures leaves { LeavesWork machine.now work.old work.new }
+    ensures room { Spends
+        (command_work (command_of command.entry) machine.now.program.now.count
+        (length (selected_list state.old.selected)))
+        (⟦<D as Stages<H, L, T>>⟧.of_work work.old trail.old) result
+        (⟦<D as Stages<H, L, T>>⟧.of_work work.new trail.new) }
     ensures selected { OnOk result (selected_list state.new.selected
         ≡ selected_after (command_of command.entry) machine.now.program.now.count
         (selected_list state.old.selected)) }
@@ -118,6 +135,9 @@ fn each<'p, H: Host, D: Disk, L: Launcher, T: Trail>(
     requires under_way { IsUnderWay machine.now (state_of state.old) }
     requires trailed { IsTrailed machine.now
         (⟦<D as Stages<H, L, T>>⟧.of_work work.old trail.old) }
+    requires room { HasRoom (⟦<D as Stages<H, L, T>>⟧.of_work work.old trail.old)
+        (length (selected_list state.old.selected) * command_work (command_of command) machine.now.program.now.count
+        1) }
     ensures runs { RunsKept machine.now
         (each_part (command_of command.entry) machine.now.program.now.count place
         (selected_list state.old.selected))
@@ -126,6 +146,11 @@ fn each<'p, H: Host, D: Disk, L: Launcher, T: Trail>(
         result (state_of state.new)
         (⟦<D as Stages<H, L, T>>⟧.of_work work.new trail.new) }
     ensures leaves { LeavesWork machine.now work.old work.new }
+    ensures room { Spends
+        (length (selected_list state.old.selected) * command_work (command_of command.entry) machine.now.program.now.count
+        1)
+        (⟦<D as Stages<H, L, T>>⟧.of_work work.old trail.old) result
+        (⟦<D as Stages<H, L, T>>⟧.of_work work.new trail.new) }
     ensures selected { state.new.selected ≡ state.old.selected }
 {
     let mut left = state.selected.copy();
@@ -153,6 +178,8 @@ fn at<'p, H: Host, D: Disk, L: Launcher, T: Trail>(
     requires under_way { IsUnderWay machine.now (state_of state.old) }
     requires trailed { IsTrailed machine.now
         (⟦<D as Stages<H, L, T>>⟧.of_work work.old trail.old) }
+    requires room { HasRoom (⟦<D as Stages<H, L, T>>⟧.of_work work.old trail.old)
+        (command_work (command_of command) machine.now.program.now.count 1) }
     ensures runs { RunsKept machine.now
         (at_part (command_of command.entry) machine.now.program.now.count place
         component)
@@ -161,6 +188,11 @@ fn at<'p, H: Host, D: Disk, L: Launcher, T: Trail>(
         result (state_of state.new)
         (⟦<D as Stages<H, L, T>>⟧.of_work work.new trail.new) }
     ensures leaves { LeavesWork machine.now work.old work.new }
+    ensures room { Spends
+        (command_work (command_of command.entry) machine.now.program.now.count
+        1)
+        (⟦<D as Stages<H, L, T>>⟧.of_work work.old trail.old) result
+        (⟦<D as Stages<H, L, T>>⟧.of_work work.new trail.new) }
     ensures selected { state.new.selected ≡ state.old.selected }
 {
     match command {
@@ -198,6 +230,8 @@ fn run_inner<'p, H: Host, D: Disk, L: Launcher, T: Trail>(
     requires under_way { IsUnderWay machine.now (state_of state.old) }
     requires trailed { IsTrailed machine.now
         (⟦<D as Stages<H, L, T>>⟧.of_work work.old trail.old) }
+    requires room { HasRoom (⟦<D as Stages<H, L, T>>⟧.of_work work.old trail.old)
+        (work_of inner machine.now.program.now.count 1) }
     ensures runs { RunsKept machine.now
         (λ terms. running_inner Recalling
         (sequence_part inner.entry machine.now.program.now.count terms) component)
@@ -206,6 +240,10 @@ fn run_inner<'p, H: Host, D: Disk, L: Launcher, T: Trail>(
         result (state_of state.new)
         (⟦<D as Stages<H, L, T>>⟧.of_work work.new trail.new) }
     ensures leaves { LeavesWork machine.now work.old work.new }
+    ensures room { Spends
+        (work_of inner.entry machine.now.program.now.count 1)
+        (⟦<D as Stages<H, L, T>>⟧.of_work work.old trail.old) result
+        (⟦<D as Stages<H, L, T>>⟧.of_work work.new trail.new) }
     ensures selected { state.new.selected ≡ state.old.selected }
 {
     let mut inside = state.entered(component, false);
@@ -238,12 +276,18 @@ fn try_each<'p, H: Host, D: Disk, L: Launcher, T: Trail>(
     requires under_way { IsUnderWay machine.now (state_of state.old) }
     requires trailed { IsTrailed machine.now
         (⟦<D as Stages<H, L, T>>⟧.of_work work.old trail.old) }
+    requires room { HasRoom (⟦<D as Stages<H, L, T>>⟧.of_work work.old trail.old)
+        (branches_work branches machine.now.program.now.count) }
     ensures runs { RunsKept machine.now
         (branches_part branches.entry machine.now.program.now.count place component) (state_of state.old)
         (⟦<D as Stages<H, L, T>>⟧.of_work work.old trail.old)
         result (state_of state.new)
         (⟦<D as Stages<H, L, T>>⟧.of_work work.new trail.new) }
     ensures leaves { LeavesWork machine.now work.old work.new }
+    ensures room { Spends
+        (branches_work branches.entry machine.now.program.now.count)
+        (⟦<D as Stages<H, L, T>>⟧.of_work work.old trail.old) result
+        (⟦<D as Stages<H, L, T>>⟧.of_work work.new trail.new) }
     ensures selected { state.new.selected ≡ state.old.selected }
 {
     while let Some(branch) = branches.next() {

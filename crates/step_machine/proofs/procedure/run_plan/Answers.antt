@@ -1,5 +1,6 @@
 use Rattle.std.proofs.Common.{inl, ◌≡◌, ◌++◌, ◌∙◌, ℕ, length, refl, sym, ap, subst, rules}
-use Rattle.std.specs.Prelude.{List}
+use Rattle.std.specs.Prelude.{◌+◌, ◌≤◌, IfSome, List}
+use Rattle.suit_commands.specs.Numbers.{work_number}
 use Rattle.step_machine.specs.declared.plan_end.PlanEnd.{PlanEnd}
 use Rattle.step_machine.specs.declared.program.Program.{Program}
 use Rattle.step_machine.specs.declared.spot.Standing.{Standing}
@@ -37,7 +38,11 @@ run_lent-ended-requires-clause-trailed g c = record {
   clear = λ i h. subst (λ (l : List Standing). OutsideStandings l i) (sym c.as_slice-standings.ensures.value) (c.requires.clear i h);
   within = c.requires.within;
   holds = c.requires.holds;
-  endless = c.requires.room;
+}
+
+pub run_lent-ended-requires-clause-room : goal.run_lent-ended-requires-clause-room
+run_lent-ended-requires-clause-room g c = record {
+  fits = λ told. subst (λ (x : Program). IfSome (g.T.Trail.room c.args.trail.now) (λ n. length (g.T.Trail.list c.args.trail.now) + work_number (program_tree x) ≤ n)) (sym c.copy-again.ensures.copied) (c.requires.room told);
 }
 
 pub returns : goal.returns
