@@ -16,3 +16,4 @@ pub mod SlotLaws
 pub mod Overlaps
 pub mod LayoutFaults
 pub mod FaultCounts
+pub mod Trails

@@ -24,6 +24,7 @@ mod slot;
 mod spelled_places;
 mod spelling;
 mod starts;
+mod trail;
 mod typing;
 
 pub use describing::layout_of;
@@ -43,4 +44,5 @@ pub use placing::places;
 pub use rules::{MAX_RAM, is_layout, slots_of};
 pub use slot::{FlashFault, Record, Slot};
 pub use spelled_places::places_spelled;
+pub use trail::{NoTrail, Trail};
 pub use typing::{in_range, sized};

@@ -19,7 +19,7 @@ ghost use Rattle.suit_manifest.specs.Procedures.{invocation_tree};
 use crate::BootEnd;
 use crate::components::world_in;
 use admission::Start;
-use flash_layout::{Layout, Record};
+use flash_layout::{Layout, NoTrail, Record};
 use manifest_programs::invocation_program;
 use manifest_view::ManifestView;
 use path_model::Cause;
@@ -112,7 +112,7 @@ pub(crate) fn start<H: Host, D: Disk, L: Launcher>(
     let envelope = &startable.envelope;
     let view = ManifestView::read(envelope.manifest, envelope.manifest_place).unwrap();
     let program = invocation_program(view);
-    let end = run_plan(host, disk, launcher, &mut world, program);
+    let end = run_plan(host, disk, launcher, &mut world, program, &mut NoTrail);
     let plan = invocation_plan(&startable.manifest);
     settle(disk, &plan, end)
 }

@@ -35,3 +35,4 @@ pub mod Unrecalled
 pub mod RecalledRuns
 pub mod KeptFew
 pub mod ResumeLaws
+pub mod Keeping

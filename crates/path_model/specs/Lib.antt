@@ -25,3 +25,4 @@ pub mod PlayLaws
 pub mod DeviceLaws
 pub mod RecalledPlays
 pub mod ResumeLaws
+pub mod KeepingPlays

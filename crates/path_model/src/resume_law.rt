@@ -1,5 +1,6 @@
 //! The laws of procedures that go on where they lost their power.
 
+ghost use Rattle.path_model.specs.KeepingPlays.{KeepingLaws};
 ghost use Rattle.path_model.specs.ResumeLaws.{ResumeLaws};
 
 /// Does nothing. Its contract has the laws. A procedure without an invoke whose play ends without a failed directive
@@ -8,4 +9,11 @@ ghost use Rattle.path_model.specs.ResumeLaws.{ResumeLaws};
 /// recalled touch no content. So it is with each command, wherever it stands.
 pub fn resume_laws()
     ensures { ResumeLaws }
+{}
+
+/// Does nothing. Its contract has the laws of faults in a recalled play. A fault falls in a free step that is done on the
+/// device, or in the keeping of its outcome. What the play told before is a path of its procedure. With nothing to recall,
+/// and where keeping does not fail, it is the play on the device, and a fault falls where one does there.
+pub fn keeping_laws()
+    ensures { KeepingLaws }
 {}

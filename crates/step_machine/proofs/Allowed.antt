@@ -13,7 +13,7 @@ use Rattle.step_machine.specs.declared.machine.Machine.{Machine}
 use Rattle.step_machine.specs.declared.spot.Spot.{Spot}
 use Rattle.step_machine.specs.declared.spot.Spot.TheVariants as spots
 use Rattle.step_machine.specs.Allowing.{AllowsSequence, AllowsCommand, AllowsBranches}
-use Rattle.step_machine.specs.Running.{Moment, Stays, IsReady}
+use Rattle.step_machine.specs.Running.{Moment, StaysOn, IsReady}
 use Rattle.step_machine.specs.Spots.{IsSpot, room_at}
 
 -- ---- steps
@@ -136,7 +136,7 @@ room_stays : (spot : Spot) (old new : List Held) → map (λ (held : Held). held
 room_stays (spots.Flash slot) old new rooms = refl
 room_stays (spots.Ram c) old new rooms = capacities_at old new c (record { capacity = 0; content = [] }) rooms
 
-pub ready_after : (machine : Machine) (m n : Moment) → Stays machine m n → IsReady machine m.disk.size m.ram → IsReady machine n.disk.size n.ram
+pub ready_after : {Left : ℕ → Type 0} (machine : Machine) (m n : Moment) → StaysOn Left machine m n → IsReady machine m.disk.size m.ram → IsReady machine n.disk.size n.ram
 ready_after machine m n stays ready = record {
   standings = record {
     few = ready.standings.few;

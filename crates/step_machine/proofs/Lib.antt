@@ -14,6 +14,10 @@ pub mod FetchPlays
 pub mod Fetched
 pub mod Asking
 pub mod Beginning
+pub mod Going
+pub mod Recalling
+pub mod KeptSteps
+pub mod Spending
 pub mod Inner
 pub mod Leaves
 pub mod Parting

@@ -27,9 +27,11 @@ use Rattle.step_machine.specs.UrisSet.{Sets}
 use Rattle.step_machine.specs.Devices.{contents_of}
 use Rattle.step_machine.specs.Fetching.{AreGiven, AreRequests, Request, names_of}
 use Rattle.step_machine.specs.Parts.{sequence_part, starting_part, then_part, plan_part}
-use Rattle.step_machine.specs.PlanRuns.{Counts, EndCounts, GivesAs, PlaysPlan, end_of}
-use Rattle.step_machine.specs.Running.{Moment, Past, Part, StopCounts, Fits, Goes, RunsPart, AreSources}
-use Rattle.step_machine.proofs.Beginning.{Begun, begun, runs_as, runs_at_once}
+use Rattle.step_machine.specs.PlanRuns.{Counts, EndCounts, GivesAs, end_of}
+use Rattle.step_machine.specs.KeptRuns.{KeptAt, PlaysKept, kept_at}
+use Rattle.step_machine.specs.Running.{Past, StopCounts, AreSources}
+use Rattle.step_machine.specs.Stages.{FitsKept, GoesKept, IsTrailed, KeptPart, RunsKept, Stage, Terms}
+use Rattle.step_machine.proofs.Going.{Begun, begun, runs_as, runs_at_once}
 use Rattle.step_machine.proofs.Parting.{comes_same}
 
 -- ---- the permissions of its sequences
@@ -59,49 +61,49 @@ module _ (machine : Machine) (is : IsPlan (program_tree machine.program.now)) wh
 
 -- ---- one after another
 
-abbrev pub shared_part : Machine → Part
+abbrev pub shared_part : Machine → KeptPart
 shared_part machine = starting_part (program_tree machine.program.now).shared machine.program.now.count
 
 -- the parts after the first so many
-abbrev pub left_5 : Machine → Part
+abbrev pub left_5 : Machine → KeptPart
 left_5 machine = starting_part (program_tree machine.program.now).third machine.program.now.count
 
-abbrev pub left_4 : Machine → Part
+abbrev pub left_4 : Machine → KeptPart
 left_4 machine = then_part (shared_part machine) (left_5 machine)
 
-abbrev pub left_3 : Machine → Part
+abbrev pub left_3 : Machine → KeptPart
 left_3 machine = then_part (starting_part (program_tree machine.program.now).second machine.program.now.count) (left_4 machine)
 
-abbrev pub left_2 : Machine → Part
+abbrev pub left_2 : Machine → KeptPart
 left_2 machine = then_part (shared_part machine) (left_3 machine)
 
-abbrev pub left_1 : Machine → Part
+abbrev pub left_1 : Machine → KeptPart
 left_1 machine = then_part (starting_part (program_tree machine.program.now).first machine.program.now.count) (left_2 machine)
 
-pub members_begun : (machine : Machine) (s : State) (m : Moment) → AreSources machine s.parameters → Begun machine (plan_part (program_tree machine.program.now)) (then_part (shared_part machine) (left_1 machine)) s m s m
-members_begun machine s m sources = begun machine (plan_part (program_tree machine.program.now)) s m sources
+pub members_begun : (machine : Machine) (s : State) (m : Stage) → AreSources machine s.parameters → IsTrailed machine m → Begun machine (plan_part (program_tree machine.program.now)) (then_part (shared_part machine) (left_1 machine)) s m s m
+members_begun machine s m sources trailed = begun machine (plan_part (program_tree machine.program.now)) s m sources trailed
 
 -- ---- one of them
 
-pub runs_started : (machine : Machine) (sequence : SequenceTree) (count : ℕ) (s : State) (m : Moment) (r : Result (Unit {0}) Stop) (t : State) (n : Moment)
-    → RunsPart machine (sequence_part sequence count) (start_state s) m r t n → RunsPart machine (starting_part sequence count) s m r t n
+pub runs_started : (machine : Machine) (sequence : SequenceTree) (count : ℕ) (s : State) (m : Stage) (r : Result (Unit {0}) Stop) (t : State) (n : Stage)
+    → RunsKept machine (sequence_part sequence count) (start_state s) m r t n → RunsKept machine (starting_part sequence count) s m r t n
 runs_started machine sequence count s m r t n one =
-    runs_as machine (sequence_part sequence count) (starting_part sequence count) (start_state s) s m n r r t t one one.counts one.sources
-    (λ setting w v h. comes_same (sequence_part sequence count setting) (starting_part sequence count setting) (start_state s) s w refl (λ o cut. cut) r t v h)
+    runs_as machine (sequence_part sequence count) (starting_part sequence count) (start_state s) s m n r r t t one one.counts one.trailed one.sources
+    (λ terms w v h. comes_same (sequence_part sequence count terms) (starting_part sequence count terms) (start_state s) s w refl (λ o cut. cut) r t v h)
 
-pub runs_absent : (machine : Machine) (count : ℕ) (s : State) (m : Moment) → AreSources machine s.parameters → RunsPart machine (starting_part NoSteps count) s m (Ok tt) (start_state s) m
-runs_absent machine count s m sources =
-    runs_at_once machine (starting_part NoSteps count) s m (Ok tt) (start_state s) refl sources (λ setting w. (refl, refl))
+pub runs_absent : (machine : Machine) (count : ℕ) (s : State) (m : Stage) → AreSources machine s.parameters → IsTrailed machine m → RunsKept machine (starting_part NoSteps count) s m (Ok tt) (start_state s) m
+runs_absent machine count s m sources trailed =
+    runs_at_once machine (starting_part NoSteps count) s m (Ok tt) (start_state s) refl trailed sources (λ terms w. (refl, refl))
 
-pub lent_as : (machine : Machine) (x y : Option SequenceTree) → x ≡ y → (s : State) (m : Moment) (r : Result (Unit {0}) Stop) (t : State) (n : Moment)
-    → RunsPart machine (starting_part (part_tree y) machine.program.now.count) s m r t n → RunsPart machine (starting_part (part_tree x) machine.program.now.count) s m r t n
+pub lent_as : (machine : Machine) (x y : Option SequenceTree) → x ≡ y → (s : State) (m : Stage) (r : Result (Unit {0}) Stop) (t : State) (n : Stage)
+    → RunsKept machine (starting_part (part_tree y) machine.program.now.count) s m r t n → RunsKept machine (starting_part (part_tree x) machine.program.now.count) s m r t n
 lent_as machine x y is s m r t n runs =
-    subst (λ (o : Option SequenceTree). RunsPart machine (starting_part (part_tree o) machine.program.now.count) s m r t n) (sym is) runs
+    subst (λ (o : Option SequenceTree). RunsKept machine (starting_part (part_tree o) machine.program.now.count) s m r t n) (sym is) runs
 
-pub part_as : (machine : Machine) (x : Option SequenceTree) (tree : SequenceTree) → part_tree x ≡ tree → (s : State) (m : Moment) (r : Result (Unit {0}) Stop) (t : State) (n : Moment)
-    → RunsPart machine (starting_part (part_tree x) machine.program.now.count) s m r t n → RunsPart machine (starting_part tree machine.program.now.count) s m r t n
+pub part_as : (machine : Machine) (x : Option SequenceTree) (tree : SequenceTree) → part_tree x ≡ tree → (s : State) (m : Stage) (r : Result (Unit {0}) Stop) (t : State) (n : Stage)
+    → RunsKept machine (starting_part (part_tree x) machine.program.now.count) s m r t n → RunsKept machine (starting_part tree machine.program.now.count) s m r t n
 part_as machine x tree is s m r t n runs =
-    subst (λ (o : SequenceTree). RunsPart machine (starting_part o machine.program.now.count) s m r t n) is runs
+    subst (λ (o : SequenceTree). RunsKept machine (starting_part o machine.program.now.count) s m r t n) is runs
 
 -- the sequences of a program that is lent again are those of the program
 pub shared_is : (program now : Program) (x : Option SequenceTree) → x ≡ program.shared → program ≡ now → part_tree x ≡ (program_tree now).shared
@@ -146,30 +148,37 @@ end_counts (Err (stops.Directive place cause)) a b h = h
 nothing_past : Past
 nothing_past = record { launches = []; asked = [] }
 
-module _ (machine : Machine) (m n : Moment) (t : State) (setting : Setting) (fits : Fits machine setting) where
-  pub plan_plays : (r : Result (Unit {0}) Stop) (goes : Goes machine (plan_part (program_tree machine.program.now)) first_state m r t n) → AreGiven setting.files 0 goes.more.requests
-      → (p : PlaysPlan (program_tree machine.program.now) setting (end_of r) (contents_of machine.standings.now m.ram m.disk.flash.reads) (contents_of machine.standings.now n.ram n.disk.flash.reads) m.launcher.launches n.launcher.launches)
-      × (p.asks ≡ names_of goes.more.requests)
+-- the contents of these components at a stage
+abbrev pub held_at_stage : List Standing → Stage → KeptAt
+held_at_stage standings m = kept_at (contents_of standings m.outside.ram m.outside.disk.flash.reads) m.trail.left
+
+abbrev pub PlaysAt : PlanTree → Terms → PlanEnd → List Standing → Stage → Stage → Type 0
+PlaysAt plan terms end standings m n = PlaysKept plan terms end (held_at_stage standings m) (held_at_stage standings n) m.outside.launcher.launches n.outside.launcher.launches
+
+module _ (machine : Machine) (m n : Stage) (t : State) (terms : Terms) (fits : FitsKept machine m.trail.silent terms) where
+  pub plan_plays : (r : Result (Unit {0}) Stop) (goes : GoesKept machine (plan_part (program_tree machine.program.now)) first_state m r t n) → AreGiven terms.setting.files 0 goes.more.requests
+      → (p : PlaysAt (program_tree machine.program.now) terms (end_of r) machine.standings.now m n) × (p.asks ≡ names_of goes.more.requests) × (p.noted ≡ goes.noted)
   unfolding nothing_past
   plan_plays (Ok u) goes given =
-      let comes = goes.comes setting fits nothing_past given in
-      (record { gained = goes.more.launches; added = goes.launches; asks = names_of goes.more.requests; ends = (t, comes.0, comes.1) }, refl)
+      let comes = goes.comes terms fits nothing_past [] given in
+      (record { gained = goes.more.launches; added = goes.launches; asks = names_of goes.more.requests; noted = goes.noted; ends = (t, comes.0, comes.1) }, refl, refl)
   plan_plays (Err (stops.Condition place soft)) goes given =
-      let comes = goes.comes setting fits nothing_past given in
-      (record { gained = goes.more.launches; added = goes.launches; asks = names_of goes.more.requests; ends = (soft, comes.0, comes.1) }, refl)
+      let comes = goes.comes terms fits nothing_past [] given in
+      (record { gained = goes.more.launches; added = goes.launches; asks = names_of goes.more.requests; noted = goes.noted; ends = (soft, comes.0, comes.1) }, refl, refl)
   plan_plays (Err (stops.Directive place cause)) goes given =
-      (record { gained = goes.more.launches; added = goes.launches; asks = names_of goes.more.requests; ends = goes.comes setting fits nothing_past given }, refl)
+      (record { gained = goes.more.launches; added = goes.launches; asks = names_of goes.more.requests; noted = goes.noted; ends = goes.comes terms fits nothing_past [] given }, refl, refl)
 
--- the play, and the names that the host was asked for
-abbrev pub PlaysAsking : PlanTree → (List Standing → Setting) → Moment → Moment → List Standing → PlanEnd → Type 0
-PlaysAsking plan setting m n standings end =
-    (p : PlaysPlan plan (setting standings) end (contents_of standings m.ram m.disk.flash.reads) (contents_of standings n.ram n.disk.flash.reads) m.launcher.launches n.launcher.launches)
-    × (IsTrue m.host.told → n.host.asked.names ≡ m.host.asked.names ++ p.asks)
+-- the play, the names that the host was asked for, and the list of the trail
+abbrev pub PlaysAsking : PlanTree → (List Standing → Terms) → Stage → Stage → List Standing → PlanEnd → Type 0
+PlaysAsking plan terms m n standings end =
+    (p : PlaysAt plan (terms standings) end standings m n)
+    × (IsTrue m.outside.host.told → n.outside.host.asked.names ≡ m.outside.host.asked.names ++ p.asks)
+    × (IsTrue m.trail.told → n.trail.list ≡ m.trail.list ++ p.noted)
 
-pub asking_as : (plan : PlanTree) (setting : List Standing → Setting) (m n : Moment) (standings items : List Standing) (end x : PlanEnd) → standings ≡ items → end ≡ x
-    → PlaysAsking plan setting m n standings end → PlaysAsking plan setting m n items x
-asking_as plan setting m n standings items end x same ended plays =
-    subst (PlaysAsking plan setting m n items) ended (subst (λ (l : List Standing). PlaysAsking plan setting m n l end) same plays)
+pub asking_as : (plan : PlanTree) (terms : List Standing → Terms) (m n : Stage) (standings items : List Standing) (end x : PlanEnd) → standings ≡ items → end ≡ x
+    → PlaysAsking plan terms m n standings end → PlaysAsking plan terms m n items x
+asking_as plan terms m n standings items end x same ended plays =
+    subst (PlaysAsking plan terms m n items) ended (subst (λ (l : List Standing). PlaysAsking plan terms m n l end) same plays)
 
 -- ---- what the requests are given
 

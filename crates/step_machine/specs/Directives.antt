@@ -11,20 +11,20 @@ use Rattle.path_model.specs.Plays.{Outcome, Play}
 use Rattle.path_model.specs.DevicePlays.{Device, content_at, with_content, directive_play}
 
 -- an outcome that stops at this place, for this cause, and leaves this
-pub record Stops (place : ℕ) (cause : Cause) (after : Device) (outcome : Outcome Device)
-    : Type 0 where
+pub record Stops {World : Type 0} (place : ℕ) (cause : Cause) (after : World)
+    (outcome : Outcome World) : Type 0 where
   pub ending : outcome.ending ≡ Directive place
   pub named : outcome.cause ≡ Some cause
   pub world : outcome.world ≡ after
 
 -- a play that a fault cut
-pub record IsCutSo (play : Play Device) (place : ℕ) (state : State) (before : Device)
-    (cause : Cause) (after : Device) : Type 0 where
-  pub outcome : Outcome Device
+pub record IsCutSo {World : Type 0} (play : Play World) (place : ℕ) (state : State) (before : World)
+    (cause : Cause) (after : World) : Type 0 where
+  pub outcome : Outcome World
   pub cut : play.IsCut state before outcome
   pub stops : Stops place cause after outcome
 
-abbrev pub StopsSo : Play Device → ℕ → State → Device → Cause → Device → Type 0
+abbrev pub StopsSo : {World : Type 0} → Play World → ℕ → State → World → Cause → World → Type 0
 StopsSo play place state before causes.HostFault after =
     IsCutSo play place state before causes.HostFault after
 StopsSo play place state before causes.FlashFault after =

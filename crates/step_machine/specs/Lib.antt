@@ -20,3 +20,6 @@ pub mod Overriding
 pub mod Areas
 pub mod InUse
 pub mod Replacing
+pub mod Stages
+pub mod KeptRuns
+pub mod Keeping

@@ -3,38 +3,16 @@ use Rattle.std.specs.Prelude.{ℕ, Bool, true, false, List, Option, Some, None}
 use Rattle.suit_commands.specs.Tree.{CommandTree, Test, Act, Index, Override, TryEach, RunSequence, SequenceTree, BranchesTree, PlanTree}
 use Rattle.suit_commands.specs.declared.kinds.TestKind.{TestKind}
 use Rattle.suit_commands.specs.declared.kinds.ActKind.{ActKind}
-use Rattle.path_model.specs.Plays.{nothing, in_turn, each, overriding, running_inner, sequence_play, command_play, branches_play, starting}
-use Rattle.path_model.specs.DevicePlays.{Device, condition_play, directive_play, plan_play}
+use Rattle.path_model.specs.Plays.{Play, nothing, in_turn, each, overriding, running_inner, sequence_play, command_play, branches_play, starting}
+use Rattle.path_model.specs.DevicePlays.{condition_play, directive_play}
+use Rattle.path_model.specs.RecalledPlays.{Recalling}
+use Rattle.path_model.specs.KeepingPlays.{keeping_condition, keeping_directive, keeping_play}
 use Rattle.step_machine.specs.declared.stop.Stop.{Stop}
 use Rattle.step_machine.specs.declared.stop.Stop.TheVariants as stops
 use Rattle.step_machine.specs.Running.{Part}
+use Rattle.step_machine.specs.Stages.{KeptPart, Terms}
 
-abbrev pub nothing_part : Part
-nothing_part setting = nothing Device
-
-abbrev pub then_part : Part → Part → Part
-then_part first second setting = in_turn Device (first setting) (second setting)
-
-abbrev pub sequence_part : SequenceTree → ℕ → Part
-sequence_part sequence count setting =
-    sequence_play Device (condition_play setting) (directive_play setting) count sequence
-
--- a shared sequence or a member
-abbrev pub starting_part : SequenceTree → ℕ → Part
-starting_part sequence count setting =
-    starting Device (condition_play setting) (directive_play setting) count sequence
-
-abbrev pub plan_part : PlanTree → Part
-plan_part plan setting = plan_play plan setting
-
-abbrev pub command_part : CommandTree → ℕ → ℕ → Part
-command_part command count place setting =
-    command_play Device (condition_play setting) (directive_play setting) count command place
-
-abbrev pub branches_part : BranchesTree → ℕ → ℕ → ℕ → Part
-branches_part branches count place component setting =
-    branches_play Device (condition_play setting) (directive_play setting) count branches place
-    component
+-- ---- on the device alone
 
 abbrev pub test_part : TestKind → ℕ → ℕ → Part
 test_part kind place component setting = condition_play setting kind place component
@@ -42,20 +20,61 @@ test_part kind place component setting = condition_play setting kind place compo
 abbrev pub act_part : ActKind → ℕ → ℕ → Part
 act_part kind place component setting = directive_play setting kind place component
 
+-- ---- where outcomes are recalled and kept
+
+abbrev pub keeping_tests : Terms → TestKind → ℕ → ℕ → Play Recalling
+keeping_tests terms = keeping_condition terms.may_fail terms.setting
+
+abbrev pub keeping_acts : Terms → ActKind → ℕ → ℕ → Play Recalling
+keeping_acts terms = keeping_directive terms.may_fail terms.setting
+
+abbrev pub nothing_part : KeptPart
+nothing_part terms = nothing Recalling
+
+abbrev pub then_part : KeptPart → KeptPart → KeptPart
+then_part first second terms = in_turn Recalling (first terms) (second terms)
+
+abbrev pub sequence_part : SequenceTree → ℕ → KeptPart
+sequence_part sequence count terms =
+    sequence_play Recalling (keeping_tests terms) (keeping_acts terms) count sequence
+
+-- a shared sequence or a member
+abbrev pub starting_part : SequenceTree → ℕ → KeptPart
+starting_part sequence count terms =
+    starting Recalling (keeping_tests terms) (keeping_acts terms) count sequence
+
+abbrev pub plan_part : PlanTree → KeptPart
+plan_part plan terms = keeping_play terms.may_fail plan terms.setting
+
+abbrev pub command_part : CommandTree → ℕ → ℕ → KeptPart
+command_part command count place terms =
+    command_play Recalling (keeping_tests terms) (keeping_acts terms) count command place
+
+abbrev pub branches_part : BranchesTree → ℕ → ℕ → ℕ → KeptPart
+branches_part branches count place component terms =
+    branches_play Recalling (keeping_tests terms) (keeping_acts terms) count branches place
+    component
+
+abbrev pub kept_test_part : TestKind → ℕ → ℕ → KeptPart
+kept_test_part kind place component terms = keeping_tests terms kind place component
+
+abbrev pub kept_act_part : ActKind → ℕ → ℕ → KeptPart
+kept_act_part kind place component terms = keeping_acts terms kind place component
+
 -- a command at one component; which are selected next is no matter of one
-abbrev pub at_part : CommandTree → ℕ → ℕ → ℕ → Part
-at_part (Test kind report) count place component = test_part kind place component
-at_part (Act kind report) count place component = act_part kind place component
+abbrev pub at_part : CommandTree → ℕ → ℕ → ℕ → KeptPart
+at_part (Test kind report) count place component = kept_test_part kind place component
+at_part (Act kind report) count place component = kept_act_part kind place component
 at_part (Index selection) count place component = nothing_part
-at_part (Override list) count place component = λ setting. overriding Device list component
+at_part (Override list) count place component = λ terms. overriding Recalling list component
 at_part (TryEach branches) count place component = branches_part branches count place component
 at_part (RunSequence inner) count place component =
-    λ setting. running_inner Device (sequence_part inner count setting) component
+    λ terms. running_inner Recalling (sequence_part inner count terms) component
 
 -- at each of these components
-abbrev pub each_part : CommandTree → ℕ → ℕ → List ℕ → Part
-each_part command count place components setting =
-    each Device (λ c. at_part command count place c setting) components
+abbrev pub each_part : CommandTree → ℕ → ℕ → List ℕ → KeptPart
+each_part command count place components terms =
+    each Recalling (λ c. at_part command count place c terms) components
 
 -- how an inner sequence that was stopped stops the outer one, which holds this soft failure; not where it failed softly
 abbrev pub passed_on : Stop → Bool → Option Stop

@@ -132,8 +132,8 @@ pub record LeavesWork {H D L : Type 0} (machine : Machine) (before after : Work 
 abbrev pub AreFilesKnown : Machine → Moment → Type 0
 AreFilesKnown machine at = IsTrue at.host.told ⊎ (machine.uris.now ≡ [])
 
--- the properties that hold however it ends
-pub record Stays (machine : Machine) (before after : Moment) : Type 0 where
+-- the properties that hold however it ends, where it leaves these places alone
+pub record StaysOn (Left : ℕ → Type 0) (machine : Machine) (before after : Moment) : Type 0 where
   pub host : after.host.told ≡ before.host.told
   pub disk : after.disk.told ≡ before.disk.told
   pub launcher : after.launcher.told ≡ before.launcher.told
@@ -145,10 +145,16 @@ pub record Stays (machine : Machine) (before after : Moment) : Type 0 where
   pub asks : IsTrue before.host.told → (room : ℕ) → StandAtMost machine.standings.now room
       → AsksAmong (program_tree machine.program.now) machine.uris.now room before.host.asked
       after.host.asked
-  pub keeps : IsTrue before.disk.told
-      → Keeps (OutsideTargets (program_tree machine.program.now) machine.standings.now) before.disk.flash
-      after.disk.flash
+  pub keeps : IsTrue before.disk.told → Keeps Left before.disk.flash after.disk.flash
   pub grows : IsTrue before.disk.told → Grows before.disk.flash after.disk.flash
+
+-- all but the slots that the procedure may write
+abbrev pub OutsideWritten : Machine → ℕ → Type 0
+OutsideWritten machine =
+    OutsideTargets (program_tree machine.program.now) machine.standings.now
+
+abbrev pub Stays : Machine → Moment → Moment → Type 0
+Stays machine before after = StaysOn (OutsideWritten machine) machine before after
 
 -- where it was stopped by a fault, the count of its object rose
 abbrev pub StopCounts : Result (Unit {0}) Stop → Counts → Counts → Type 0

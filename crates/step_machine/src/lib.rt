@@ -13,6 +13,7 @@ mod fetching;
 mod filling;
 mod in_use;
 mod invoking;
+mod keeping;
 mod machine;
 mod outside;
 mod overriding;

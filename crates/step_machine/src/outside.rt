@@ -1,5 +1,6 @@
 //! The flash beside a host and a launcher, and what calls leave of it.
 
+use flash_layout::Trail;
 use suit_edge::{Disk, Host, Launcher};
 
 /// Moments of a flash beside a host and a launcher.
@@ -45,6 +46,44 @@ impl<H: Host, D: Disk, L: Launcher> Moments<H, L> for D {
           launches = L.launches work.launcher.now;
           faults = L.faults work.launcher.now;
         }) work.ram.now };
+}
+
+/// Stages of a procedure: moments of what it works with, beside a trail.
+pub(crate) trait Stages<H: Host, L: Launcher, T: Trail>: Disk {
+    ghost use Rattle.flash_slots.specs.RamContents.{Held};
+    ghost use Rattle.std.specs.Prelude.{List};
+    ghost use Rattle.step_machine.specs.Stages.{Stage};
+    ghost use Rattle.step_machine.specs.declared.machine.Work.{Work};
+
+    /// The moment, with this in working memory, and the meanings of the trail.
+    ghost at: { H → Self → L → List Held → T → Stage };
+
+    /// The same of the objects that a running procedure works with.
+    ghost of_work: { Work H Self L → T → Stage };
+}
+
+impl<H: Host, D: Disk, L: Launcher, T: Trail> Stages<H, L, T> for D {
+    ghost use Rattle.step_machine.specs.Stages.{stage};
+
+    ghost at = { λ h d l ram t. stage (⟦<D as Moments<H, L>>⟧.at h d l ram) (record {
+      told = T.told;
+      silent = T.silent;
+      left = T.left t;
+      list = T.list t;
+      room = T.room t;
+      ranges = T.ranges t;
+      holds = T.holds t;
+    }) };
+
+    ghost of_work = { λ work t. stage (⟦<D as Moments<H, L>>⟧.of_work work) (record {
+      told = T.told;
+      silent = T.silent;
+      left = T.left t;
+      list = T.list t;
+      room = T.room t;
+      ranges = T.ranges t;
+      holds = T.holds t;
+    }) };
 }
 
 /// Calls of a flash, from before to behind.

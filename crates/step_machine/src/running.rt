@@ -1,22 +1,25 @@
 //! Sequences and commands of a running procedure.
 
-ghost use Rattle.std.specs.Prelude.{◌≡◌, ◌<◌, ◌∷◌, [], OnOk, length};
+ghost use Rattle.std.specs.Prelude.{◌≡◌, ◌*◌, ◌<◌, ◌∷◌, [], OnOk, length};
 ghost use Rattle.step_machine.specs.Allowing.{AllowsBranches, AllowsCommand, AllowsSequence};
 ghost use Rattle.step_machine.specs.Parts.{at_part, branches_part, command_part, each_part, passed_on, sequence_part};
-ghost use Rattle.step_machine.specs.Running.{IsReady, IsUnderWay, LeavesWork, RunsPart, selected_list, state_of};
+ghost use Rattle.step_machine.specs.Running.{IsReady, IsUnderWay, LeavesWork, selected_list, state_of};
+ghost use Rattle.step_machine.specs.Stages.{HasRoom, IsTrailed, RunsKept, Spends};
 ghost use Rattle.path_model.specs.Plays.{running_inner};
-ghost use Rattle.path_model.specs.DevicePlays.{Device};
+ghost use Rattle.path_model.specs.RecalledPlays.{Recalling};
+ghost use Rattle.suit_commands.specs.Numbers.{branches_work, command_work, work_of};
 ghost use Rattle.suit_commands.specs.Selections.{selected_after};
 ghost use Rattle.suit_commands.specs.Tree.{Override, RunSequence, TryEach};
 ghost use Rattle.suit_cursor.specs.Lending.{command_of};
 
 use crate::Stop;
-use crate::acting::{act, test};
 use crate::command_again::command_again;
+use crate::keeping::{act_kept, test_kept};
 use crate::machine::{Machine, Work};
-use crate::outside::Moments;
+use crate::outside::Stages;
 use crate::overriding::override_with;
 use crate::progress::{Progress, Selected};
+use flash_layout::Trail;
 use suit_cursor::{LentBranch, LentBranches, LentCommand, LentSequence};
 use suit_edge::{Disk, Host, Launcher};
 
@@ -39,33 +42,45 @@ fn passed_on(stop: Stop, soft_failure: bool) -> Option<Stop>
 
 /// Runs a sequence.
 #[cycle(running)]
-pub(crate) fn sequence<'p, H: Host, D: Disk, L: Launcher>(
+pub(crate) fn sequence<'p, H: Host, D: Disk, L: Launcher, T: Trail>(
     machine: &Machine<'_>,
     work: &mut Work<'_, H, D, L>,
+    trail: &mut T,
     mut steps: LentSequence<'p>,
     state: &mut Progress<'p>,
 ) -> Result<(), Stop>
     requires ready { IsReady machine.now (D.extent work.old.disk.now) work.old.ram.now }
     requires allowed { AllowsSequence machine.now steps (selected_list state.old.selected) }
     requires under_way { IsUnderWay machine.now (state_of state.old) }
-    ensures runs { RunsPart machine.now (sequence_part steps.entry machine.now.program.now.count)
+    requires trailed { IsTrailed machine.now
+        (⟦<D as Stages<H, L, T>>⟧.of_work work.old trail.old) }
+    requires room { HasRoom (⟦<D as Stages<H, L, T>>⟧.of_work work.old trail.old)
+        (work_of steps machine.now.program.now.count
+        (length (selected_list state.old.selected))) }
+    ensures runs { RunsKept machine.now (sequence_part steps.entry machine.now.program.now.count)
         (state_of state.old)
-        (⟦<D as Moments<H, L>>⟧.of_work work.old)
+        (⟦<D as Stages<H, L, T>>⟧.of_work work.old trail.old)
         result (state_of state.new)
-        (⟦<D as Moments<H, L>>⟧.of_work work.new) }
+        (⟦<D as Stages<H, L, T>>⟧.of_work work.new trail.new) }
     ensures leaves { LeavesWork machine.now work.old work.new }
+    ensures room { Spends
+        (work_of steps.entry machine.now.program.now.count
+        (length (selected_list state.old.selected)))
+        (⟦<D as Stages<H, L, T>>⟧.of_work work.old trail.old) result
+        (⟦<D as Stages<H, L, T>>⟧.of_work work.new trail.new) }
 {
     while let Some(step) = steps.next() {
-        command(machine, work, step.place, step.command, state)?;
+        command(machine, work, trail, step.place, step.command, state)?;
     }
     Ok(())
 }
 
 // Does a command.
 #[cycle(running)]
-fn command<'p, H: Host, D: Disk, L: Launcher>(
+fn command<'p, H: Host, D: Disk, L: Launcher, T: Trail>(
     machine: &Machine<'_>,
     work: &mut Work<'_, H, D, L>,
+    trail: &mut T,
     place: u64,
     command: LentCommand<'p>,
     state: &mut Progress<'p>,
@@ -74,13 +89,23 @@ fn command<'p, H: Host, D: Disk, L: Launcher>(
     requires allowed { AllowsCommand machine.now (command_of command)
         (selected_list state.old.selected) }
     requires under_way { IsUnderWay machine.now (state_of state.old) }
-    ensures runs { RunsPart machine.now
+    requires trailed { IsTrailed machine.now
+        (⟦<D as Stages<H, L, T>>⟧.of_work work.old trail.old) }
+    requires room { HasRoom (⟦<D as Stages<H, L, T>>⟧.of_work work.old trail.old)
+        (command_work (command_of command) machine.now.program.now.count
+        (length (selected_list state.old.selected))) }
+    ensures runs { RunsKept machine.now
         (command_part (command_of command.entry) machine.now.program.now.count place)
         (state_of state.old)
-        (⟦<D as Moments<H, L>>⟧.of_work work.old)
+        (⟦<D as Stages<H, L, T>>⟧.of_work work.old trail.old)
         result (state_of state.new)
-        (⟦<D as Moments<H, L>>⟧.of_work work.new) }
+        (⟦<D as Stages<H, L, T>>⟧.of_work work.new trail.new) }
     ensures leaves { LeavesWork machine.now work.old work.new }
+    ensures room { Spends
+        (command_work (command_of command.entry) machine.now.program.now.count
+        (length (selected_list state.old.selected)))
+        (⟦<D as Stages<H, L, T>>⟧.of_work work.old trail.old) result
+        (⟦<D as Stages<H, L, T>>⟧.of_work work.new trail.new) }
     ensures selected { OnOk result (selected_list state.new.selected
         ≡ selected_after (command_of command.entry) machine.now.program.now.count
         (selected_list state.old.selected)) }
@@ -90,15 +115,16 @@ fn command<'p, H: Host, D: Disk, L: Launcher>(
             state.selected = Selected::by(selection, machine.program.count);
             Ok(())
         }
-        other => each(machine, work, place, other, state),
+        other => each(machine, work, trail, place, other, state),
     }
 }
 
 // Does a command at each selected component.
 #[cycle(running)]
-fn each<'p, H: Host, D: Disk, L: Launcher>(
+fn each<'p, H: Host, D: Disk, L: Launcher, T: Trail>(
     machine: &Machine<'_>,
     work: &mut Work<'_, H, D, L>,
+    trail: &mut T,
     place: u64,
     mut command: LentCommand<'p>,
     state: &mut Progress<'p>,
@@ -107,29 +133,40 @@ fn each<'p, H: Host, D: Disk, L: Launcher>(
     requires allowed { AllowsCommand machine.now (command_of command)
         (selected_list state.old.selected) }
     requires under_way { IsUnderWay machine.now (state_of state.old) }
-    ensures runs { RunsPart machine.now
+    requires trailed { IsTrailed machine.now
+        (⟦<D as Stages<H, L, T>>⟧.of_work work.old trail.old) }
+    requires room { HasRoom (⟦<D as Stages<H, L, T>>⟧.of_work work.old trail.old)
+        (length (selected_list state.old.selected) * command_work (command_of command) machine.now.program.now.count
+        1) }
+    ensures runs { RunsKept machine.now
         (each_part (command_of command.entry) machine.now.program.now.count place
         (selected_list state.old.selected))
         (state_of state.old)
-        (⟦<D as Moments<H, L>>⟧.of_work work.old)
+        (⟦<D as Stages<H, L, T>>⟧.of_work work.old trail.old)
         result (state_of state.new)
-        (⟦<D as Moments<H, L>>⟧.of_work work.new) }
+        (⟦<D as Stages<H, L, T>>⟧.of_work work.new trail.new) }
     ensures leaves { LeavesWork machine.now work.old work.new }
+    ensures room { Spends
+        (length (selected_list state.old.selected) * command_work (command_of command.entry) machine.now.program.now.count
+        1)
+        (⟦<D as Stages<H, L, T>>⟧.of_work work.old trail.old) result
+        (⟦<D as Stages<H, L, T>>⟧.of_work work.new trail.new) }
     ensures selected { state.new.selected ≡ state.old.selected }
 {
     let mut left = state.selected.copy();
     while let Some(component) = left.next() {
         let again = command_again(&mut command);
-        at(machine, work, place, again, component, state)?;
+        at(machine, work, trail, place, again, component, state)?;
     }
     Ok(())
 }
 
 // Does a command at one component.
 #[cycle(running)]
-fn at<'p, H: Host, D: Disk, L: Launcher>(
+fn at<'p, H: Host, D: Disk, L: Launcher, T: Trail>(
     machine: &Machine<'_>,
     work: &mut Work<'_, H, D, L>,
+    trail: &mut T,
     place: u64,
     command: LentCommand<'p>,
     component: u32,
@@ -139,36 +176,50 @@ fn at<'p, H: Host, D: Disk, L: Launcher>(
     requires inside { component < length machine.now.standings.now }
     requires allowed { AllowsCommand machine.now (command_of command) (component ∷ []) }
     requires under_way { IsUnderWay machine.now (state_of state.old) }
-    ensures runs { RunsPart machine.now
+    requires trailed { IsTrailed machine.now
+        (⟦<D as Stages<H, L, T>>⟧.of_work work.old trail.old) }
+    requires room { HasRoom (⟦<D as Stages<H, L, T>>⟧.of_work work.old trail.old)
+        (command_work (command_of command) machine.now.program.now.count 1) }
+    ensures runs { RunsKept machine.now
         (at_part (command_of command.entry) machine.now.program.now.count place
         component)
         (state_of state.old)
-        (⟦<D as Moments<H, L>>⟧.of_work work.old)
+        (⟦<D as Stages<H, L, T>>⟧.of_work work.old trail.old)
         result (state_of state.new)
-        (⟦<D as Moments<H, L>>⟧.of_work work.new) }
+        (⟦<D as Stages<H, L, T>>⟧.of_work work.new trail.new) }
     ensures leaves { LeavesWork machine.now work.old work.new }
+    ensures room { Spends
+        (command_work (command_of command.entry) machine.now.program.now.count
+        1)
+        (⟦<D as Stages<H, L, T>>⟧.of_work work.old trail.old) result
+        (⟦<D as Stages<H, L, T>>⟧.of_work work.new trail.new) }
     ensures selected { state.new.selected ≡ state.old.selected }
 {
     match command {
-        LentCommand::Test { kind, .. } => test(machine, work, kind, place, component, state),
-        LentCommand::Act { kind, .. } => act(machine, work, kind, place, component, state),
+        LentCommand::Test { kind, .. } => test_kept(
+            machine, work, trail, kind, place, component, state,
+        ),
+        LentCommand::Act { kind, .. } => act_kept(
+            machine, work, trail, kind, place, component, state,
+        ),
         LentCommand::Index(_) => Ok(()),
         LentCommand::Override(list) => {
             override_with(component, list, state);
             Ok(())
         }
         LentCommand::TryEach(branches) => {
-            try_each(machine, work, branches, place, component, state)
+            try_each(machine, work, trail, branches, place, component, state)
         }
-        LentCommand::Run(inner) => run_inner(machine, work, inner, component, state),
+        LentCommand::Run(inner) => run_inner(machine, work, trail, inner, component, state),
     }
 }
 
 // Runs an inner sequence.
 #[cycle(running)]
-fn run_inner<'p, H: Host, D: Disk, L: Launcher>(
+fn run_inner<'p, H: Host, D: Disk, L: Launcher, T: Trail>(
     machine: &Machine<'_>,
     work: &mut Work<'_, H, D, L>,
+    trail: &mut T,
     inner: LentSequence<'p>,
     component: u32,
     state: &mut Progress<'p>,
@@ -177,18 +228,26 @@ fn run_inner<'p, H: Host, D: Disk, L: Launcher>(
     requires inside { component < length machine.now.standings.now }
     requires allowed { AllowsSequence machine.now inner (component ∷ []) }
     requires under_way { IsUnderWay machine.now (state_of state.old) }
-    ensures runs { RunsPart machine.now
-        (λ setting. running_inner Device
-        (sequence_part inner.entry machine.now.program.now.count setting) component)
+    requires trailed { IsTrailed machine.now
+        (⟦<D as Stages<H, L, T>>⟧.of_work work.old trail.old) }
+    requires room { HasRoom (⟦<D as Stages<H, L, T>>⟧.of_work work.old trail.old)
+        (work_of inner machine.now.program.now.count 1) }
+    ensures runs { RunsKept machine.now
+        (λ terms. running_inner Recalling
+        (sequence_part inner.entry machine.now.program.now.count terms) component)
         (state_of state.old)
-        (⟦<D as Moments<H, L>>⟧.of_work work.old)
+        (⟦<D as Stages<H, L, T>>⟧.of_work work.old trail.old)
         result (state_of state.new)
-        (⟦<D as Moments<H, L>>⟧.of_work work.new) }
+        (⟦<D as Stages<H, L, T>>⟧.of_work work.new trail.new) }
     ensures leaves { LeavesWork machine.now work.old work.new }
+    ensures room { Spends
+        (work_of inner.entry machine.now.program.now.count 1)
+        (⟦<D as Stages<H, L, T>>⟧.of_work work.old trail.old) result
+        (⟦<D as Stages<H, L, T>>⟧.of_work work.new trail.new) }
     ensures selected { state.new.selected ≡ state.old.selected }
 {
     let mut inside = state.entered(component, false);
-    match sequence(machine, work, inner, &mut inside) {
+    match sequence(machine, work, trail, inner, &mut inside) {
         Ok(()) => {
             state.params = inside.params.copy();
             Ok(())
@@ -202,9 +261,10 @@ fn run_inner<'p, H: Host, D: Disk, L: Launcher>(
 
 // Tries the sequences in order.
 #[cycle(running)]
-fn try_each<'p, H: Host, D: Disk, L: Launcher>(
+fn try_each<'p, H: Host, D: Disk, L: Launcher, T: Trail>(
     machine: &Machine<'_>,
     work: &mut Work<'_, H, D, L>,
+    trail: &mut T,
     mut branches: LentBranches<'p>,
     place: u64,
     component: u32,
@@ -214,12 +274,20 @@ fn try_each<'p, H: Host, D: Disk, L: Launcher>(
     requires inside { component < length machine.now.standings.now }
     requires allowed { AllowsBranches machine.now branches component }
     requires under_way { IsUnderWay machine.now (state_of state.old) }
-    ensures runs { RunsPart machine.now
+    requires trailed { IsTrailed machine.now
+        (⟦<D as Stages<H, L, T>>⟧.of_work work.old trail.old) }
+    requires room { HasRoom (⟦<D as Stages<H, L, T>>⟧.of_work work.old trail.old)
+        (branches_work branches machine.now.program.now.count) }
+    ensures runs { RunsKept machine.now
         (branches_part branches.entry machine.now.program.now.count place component) (state_of state.old)
-        (⟦<D as Moments<H, L>>⟧.of_work work.old)
+        (⟦<D as Stages<H, L, T>>⟧.of_work work.old trail.old)
         result (state_of state.new)
-        (⟦<D as Moments<H, L>>⟧.of_work work.new) }
+        (⟦<D as Stages<H, L, T>>⟧.of_work work.new trail.new) }
     ensures leaves { LeavesWork machine.now work.old work.new }
+    ensures room { Spends
+        (branches_work branches.entry machine.now.program.now.count)
+        (⟦<D as Stages<H, L, T>>⟧.of_work work.old trail.old) result
+        (⟦<D as Stages<H, L, T>>⟧.of_work work.new trail.new) }
     ensures selected { state.new.selected ≡ state.old.selected }
 {
     while let Some(branch) = branches.next() {
@@ -227,7 +295,7 @@ fn try_each<'p, H: Host, D: Disk, L: Launcher>(
             LentBranch::Null => return Ok(()),
             LentBranch::Inner(inner) => {
                 let mut inside = state.entered(component, true);
-                match sequence(machine, work, inner, &mut inside) {
+                match sequence(machine, work, trail, inner, &mut inside) {
                     Ok(()) => {
                         state.params = inside.params.copy();
                         return Ok(());

@@ -33,7 +33,7 @@ use crate::finishing::finish;
 use crate::in_use::choose_slots;
 use crate::program::program_of;
 use crate::{Offer, UpdateEnd, choice_laws, moment_laws};
-use flash_layout::{Layout, Places, Record, VERSION_1};
+use flash_layout::{Layout, NoTrail, Places, Record, VERSION_1};
 use rollback_record::{Spare, record_laws, sound_laws};
 use std::alloc::{AllocError, Global};
 use step_machine::{Uris, World, run_plan};
@@ -167,7 +167,7 @@ pub(crate) fn start<H: Host, D: Disk, L: Launcher>(
     };
     let mut room = [0u8; 4096];
     let program = program_of(accepted.envelope);
-    let end = run_plan(host, disk, launcher, &mut world, program);
+    let end = run_plan(host, disk, launcher, &mut world, program, &mut NoTrail);
     let spare = accepted.spare;
     let bytes = accepted.bytes;
     finish(disk, end, held, spare, &offer, bytes, &mut room)

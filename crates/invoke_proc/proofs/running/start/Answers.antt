@@ -58,7 +58,7 @@ returns-clause-plays g c td tl =
     let files = g.H.Host.file c.args.host.now in
     let launched = g.L.Launcher.launches c.args.launcher.now in
     let now = g.L.Launcher.launches c.run_plan-end.new.launcher in
-    let run = c.run_plan-end.ensures.plays td tl [] (subst (λ (e : Option (Bor Envelope)). ArePayloads e []) (sym c.in-Ok.ensures.envelope) refl) in
+    let run = c.run_plan-end.ensures.plays refl refl td tl [] (subst (λ (e : Option (Bor Envelope)). ArePayloads e []) (sym c.in-Ok.ensures.envelope) refl) in
     plays_after c.run_plan-end.result c.settle.result _ _ c.settle.ensures.read.counts
     (PlaysOn c.args.layout.now c.args.startable.now.manifest c.args.installed.now.active files before after launched now) (after ≡ before) launched now
     (plays_on c.args.layout.now c.args.startable.now.manifest c.args.installed.now.active w.uris.now files before between after launched now c.run_plan-end.result

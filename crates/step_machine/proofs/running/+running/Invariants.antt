@@ -1,4 +1,5 @@
 use Rattle.std.proofs.Common.{◌≡◌, ◌+◌, ◌*◌, ◌≤◌, ℕ, length}
+use Rattle.suit_commands.specs.Numbers.{branches_work, command_work, work_of}
 use Rattle.suit_commands.specs.Selections.{Among}
 use Rattle.suit_commands.specs.Size.{sequence_size, command_size, branches_size}
 use Rattle.suit_cursor.specs.Lending.{command_of}
@@ -6,7 +7,9 @@ use Rattle.step_machine.specs.Allowing.{AllowsBranches, AllowsSequence}
 use Rattle.step_machine.specs.Fetching.{asked_at}
 use Rattle.step_machine.specs.Parts.{branches_part, each_part, sequence_part}
 use Rattle.step_machine.specs.Running.{IsReady, IsUnderWay, LeavesWork, moment, selected_list, state_of}
-use Rattle.step_machine.proofs.Beginning.{Begun}
+use Rattle.step_machine.specs.Stages.{stage}
+use Rattle.step_machine.proofs.Going.{Begun}
+use Rattle.step_machine.proofs.Spending.{Leaves}
 use Rattle.step_machine.proofs.running.+running.Given as goal
 
 -- ---- each call is of something smaller, or of the same for less
@@ -49,7 +52,9 @@ invariant-each-loop-component g l = record {
   among : (k : ℕ) → Among k (selected_list l.left) → Among k (selected_list l.fn.state.selected);
   begun : Begun l.machine (each_part (command_of l.fn.command) l.machine.program.now.count l.place (selected_list l.fn.state.selected))
       (each_part (command_of l.fn.command) l.machine.program.now.count l.place (selected_list l.left))
-      (state_of l.fn.state) (moment (record { told = g.H.Host.told; files = g.H.Host.file l.fn.work.host.now; asked = asked_at (g.H.Host.asked l.fn.work.host.now) (g.H.Host.pulled l.fn.work.host.now); faults = g.H.Host.faults l.fn.work.host.now }) (record { told = g.D.Disk.told; size = g.D.Disk.extent l.fn.work.disk.now; flash = g.D.Disk.flash l.fn.work.disk.now; faults = g.D.Disk.faults l.fn.work.disk.now }) (record { told = g.L.Launcher.told; launches = g.L.Launcher.launches l.fn.work.launcher.now; faults = g.L.Launcher.faults l.fn.work.launcher.now }) l.fn.work.ram.now) (state_of l.state) (moment (record { told = g.H.Host.told; files = g.H.Host.file l.work.host.now; asked = asked_at (g.H.Host.asked l.work.host.now) (g.H.Host.pulled l.work.host.now); faults = g.H.Host.faults l.work.host.now }) (record { told = g.D.Disk.told; size = g.D.Disk.extent l.work.disk.now; flash = g.D.Disk.flash l.work.disk.now; faults = g.D.Disk.faults l.work.disk.now }) (record { told = g.L.Launcher.told; launches = g.L.Launcher.launches l.work.launcher.now; faults = g.L.Launcher.faults l.work.launcher.now }) l.work.ram.now);
+      (state_of l.fn.state) (stage (moment (record { told = g.H.Host.told; files = g.H.Host.file l.fn.work.host.now; asked = asked_at (g.H.Host.asked l.fn.work.host.now) (g.H.Host.pulled l.fn.work.host.now); faults = g.H.Host.faults l.fn.work.host.now }) (record { told = g.D.Disk.told; size = g.D.Disk.extent l.fn.work.disk.now; flash = g.D.Disk.flash l.fn.work.disk.now; faults = g.D.Disk.faults l.fn.work.disk.now }) (record { told = g.L.Launcher.told; launches = g.L.Launcher.launches l.fn.work.launcher.now; faults = g.L.Launcher.faults l.fn.work.launcher.now }) l.fn.work.ram.now) (record { told = g.T.Trail.told; silent = g.T.Trail.silent; left = g.T.Trail.left l.fn.trail; list = g.T.Trail.list l.fn.trail; room = g.T.Trail.room l.fn.trail; ranges = g.T.Trail.ranges l.fn.trail; holds = g.T.Trail.holds l.fn.trail })) (state_of l.state) (stage (moment (record { told = g.H.Host.told; files = g.H.Host.file l.work.host.now; asked = asked_at (g.H.Host.asked l.work.host.now) (g.H.Host.pulled l.work.host.now); faults = g.H.Host.faults l.work.host.now }) (record { told = g.D.Disk.told; size = g.D.Disk.extent l.work.disk.now; flash = g.D.Disk.flash l.work.disk.now; faults = g.D.Disk.faults l.work.disk.now }) (record { told = g.L.Launcher.told; launches = g.L.Launcher.launches l.work.launcher.now; faults = g.L.Launcher.faults l.work.launcher.now }) l.work.ram.now) (record { told = g.T.Trail.told; silent = g.T.Trail.silent; left = g.T.Trail.left l.trail; list = g.T.Trail.list l.trail; room = g.T.Trail.room l.trail; ranges = g.T.Trail.ranges l.trail; holds = g.T.Trail.holds l.trail }));
+  room : Leaves (length (selected_list l.fn.state.selected) * command_work (command_of l.fn.command) l.machine.program.now.count 1) (length (selected_list l.left) * command_work (command_of l.fn.command) l.machine.program.now.count 1)
+      (stage (moment (record { told = g.H.Host.told; files = g.H.Host.file l.fn.work.host.now; asked = asked_at (g.H.Host.asked l.fn.work.host.now) (g.H.Host.pulled l.fn.work.host.now); faults = g.H.Host.faults l.fn.work.host.now }) (record { told = g.D.Disk.told; size = g.D.Disk.extent l.fn.work.disk.now; flash = g.D.Disk.flash l.fn.work.disk.now; faults = g.D.Disk.faults l.fn.work.disk.now }) (record { told = g.L.Launcher.told; launches = g.L.Launcher.launches l.fn.work.launcher.now; faults = g.L.Launcher.faults l.fn.work.launcher.now }) l.fn.work.ram.now) (record { told = g.T.Trail.told; silent = g.T.Trail.silent; left = g.T.Trail.left l.fn.trail; list = g.T.Trail.list l.fn.trail; room = g.T.Trail.room l.fn.trail; ranges = g.T.Trail.ranges l.fn.trail; holds = g.T.Trail.holds l.fn.trail })) (stage (moment (record { told = g.H.Host.told; files = g.H.Host.file l.work.host.now; asked = asked_at (g.H.Host.asked l.work.host.now) (g.H.Host.pulled l.work.host.now); faults = g.H.Host.faults l.work.host.now }) (record { told = g.D.Disk.told; size = g.D.Disk.extent l.work.disk.now; flash = g.D.Disk.flash l.work.disk.now; faults = g.D.Disk.faults l.work.disk.now }) (record { told = g.L.Launcher.told; launches = g.L.Launcher.launches l.work.launcher.now; faults = g.L.Launcher.faults l.work.launcher.now }) l.work.ram.now) (record { told = g.T.Trail.told; silent = g.T.Trail.silent; left = g.T.Trail.left l.trail; list = g.T.Trail.list l.trail; room = g.T.Trail.room l.trail; ranges = g.T.Trail.ranges l.trail; holds = g.T.Trail.holds l.trail }));
   leaves : LeavesWork l.machine l.fn.work l.work;
 }
 
@@ -60,7 +65,9 @@ invariant-sequence-loop-step g l = record {
   under_way : IsUnderWay l.machine (state_of l.state);
   allowed : AllowsSequence l.machine l.steps (selected_list l.state.selected);
   begun : Begun l.machine (sequence_part l.fn.steps l.machine.program.now.count) (sequence_part l.steps l.machine.program.now.count)
-      (state_of l.fn.state) (moment (record { told = g.H.Host.told; files = g.H.Host.file l.fn.work.host.now; asked = asked_at (g.H.Host.asked l.fn.work.host.now) (g.H.Host.pulled l.fn.work.host.now); faults = g.H.Host.faults l.fn.work.host.now }) (record { told = g.D.Disk.told; size = g.D.Disk.extent l.fn.work.disk.now; flash = g.D.Disk.flash l.fn.work.disk.now; faults = g.D.Disk.faults l.fn.work.disk.now }) (record { told = g.L.Launcher.told; launches = g.L.Launcher.launches l.fn.work.launcher.now; faults = g.L.Launcher.faults l.fn.work.launcher.now }) l.fn.work.ram.now) (state_of l.state) (moment (record { told = g.H.Host.told; files = g.H.Host.file l.work.host.now; asked = asked_at (g.H.Host.asked l.work.host.now) (g.H.Host.pulled l.work.host.now); faults = g.H.Host.faults l.work.host.now }) (record { told = g.D.Disk.told; size = g.D.Disk.extent l.work.disk.now; flash = g.D.Disk.flash l.work.disk.now; faults = g.D.Disk.faults l.work.disk.now }) (record { told = g.L.Launcher.told; launches = g.L.Launcher.launches l.work.launcher.now; faults = g.L.Launcher.faults l.work.launcher.now }) l.work.ram.now);
+      (state_of l.fn.state) (stage (moment (record { told = g.H.Host.told; files = g.H.Host.file l.fn.work.host.now; asked = asked_at (g.H.Host.asked l.fn.work.host.now) (g.H.Host.pulled l.fn.work.host.now); faults = g.H.Host.faults l.fn.work.host.now }) (record { told = g.D.Disk.told; size = g.D.Disk.extent l.fn.work.disk.now; flash = g.D.Disk.flash l.fn.work.disk.now; faults = g.D.Disk.faults l.fn.work.disk.now }) (record { told = g.L.Launcher.told; launches = g.L.Launcher.launches l.fn.work.launcher.now; faults = g.L.Launcher.faults l.fn.work.launcher.now }) l.fn.work.ram.now) (record { told = g.T.Trail.told; silent = g.T.Trail.silent; left = g.T.Trail.left l.fn.trail; list = g.T.Trail.list l.fn.trail; room = g.T.Trail.room l.fn.trail; ranges = g.T.Trail.ranges l.fn.trail; holds = g.T.Trail.holds l.fn.trail })) (state_of l.state) (stage (moment (record { told = g.H.Host.told; files = g.H.Host.file l.work.host.now; asked = asked_at (g.H.Host.asked l.work.host.now) (g.H.Host.pulled l.work.host.now); faults = g.H.Host.faults l.work.host.now }) (record { told = g.D.Disk.told; size = g.D.Disk.extent l.work.disk.now; flash = g.D.Disk.flash l.work.disk.now; faults = g.D.Disk.faults l.work.disk.now }) (record { told = g.L.Launcher.told; launches = g.L.Launcher.launches l.work.launcher.now; faults = g.L.Launcher.faults l.work.launcher.now }) l.work.ram.now) (record { told = g.T.Trail.told; silent = g.T.Trail.silent; left = g.T.Trail.left l.trail; list = g.T.Trail.list l.trail; room = g.T.Trail.room l.trail; ranges = g.T.Trail.ranges l.trail; holds = g.T.Trail.holds l.trail }));
+  room : Leaves (work_of l.fn.steps l.machine.program.now.count (length (selected_list l.fn.state.selected))) (work_of l.steps l.machine.program.now.count (length (selected_list l.state.selected)))
+      (stage (moment (record { told = g.H.Host.told; files = g.H.Host.file l.fn.work.host.now; asked = asked_at (g.H.Host.asked l.fn.work.host.now) (g.H.Host.pulled l.fn.work.host.now); faults = g.H.Host.faults l.fn.work.host.now }) (record { told = g.D.Disk.told; size = g.D.Disk.extent l.fn.work.disk.now; flash = g.D.Disk.flash l.fn.work.disk.now; faults = g.D.Disk.faults l.fn.work.disk.now }) (record { told = g.L.Launcher.told; launches = g.L.Launcher.launches l.fn.work.launcher.now; faults = g.L.Launcher.faults l.fn.work.launcher.now }) l.fn.work.ram.now) (record { told = g.T.Trail.told; silent = g.T.Trail.silent; left = g.T.Trail.left l.fn.trail; list = g.T.Trail.list l.fn.trail; room = g.T.Trail.room l.fn.trail; ranges = g.T.Trail.ranges l.fn.trail; holds = g.T.Trail.holds l.fn.trail })) (stage (moment (record { told = g.H.Host.told; files = g.H.Host.file l.work.host.now; asked = asked_at (g.H.Host.asked l.work.host.now) (g.H.Host.pulled l.work.host.now); faults = g.H.Host.faults l.work.host.now }) (record { told = g.D.Disk.told; size = g.D.Disk.extent l.work.disk.now; flash = g.D.Disk.flash l.work.disk.now; faults = g.D.Disk.faults l.work.disk.now }) (record { told = g.L.Launcher.told; launches = g.L.Launcher.launches l.work.launcher.now; faults = g.L.Launcher.faults l.work.launcher.now }) l.work.ram.now) (record { told = g.T.Trail.told; silent = g.T.Trail.silent; left = g.T.Trail.left l.trail; list = g.T.Trail.list l.trail; room = g.T.Trail.room l.trail; ranges = g.T.Trail.ranges l.trail; holds = g.T.Trail.holds l.trail }));
   leaves : LeavesWork l.machine l.fn.work l.work;
 }
 
@@ -71,6 +78,8 @@ invariant-try_each-loop-branch g l = record {
   ready : IsReady l.machine (g.D.Disk.extent l.work.disk.now) l.work.ram.now;
   allowed : AllowsBranches l.machine l.branches l.component;
   begun : Begun l.machine (branches_part l.fn.branches l.machine.program.now.count l.place l.component) (branches_part l.branches l.machine.program.now.count l.place l.component)
-      (state_of l.fn.state) (moment (record { told = g.H.Host.told; files = g.H.Host.file l.fn.work.host.now; asked = asked_at (g.H.Host.asked l.fn.work.host.now) (g.H.Host.pulled l.fn.work.host.now); faults = g.H.Host.faults l.fn.work.host.now }) (record { told = g.D.Disk.told; size = g.D.Disk.extent l.fn.work.disk.now; flash = g.D.Disk.flash l.fn.work.disk.now; faults = g.D.Disk.faults l.fn.work.disk.now }) (record { told = g.L.Launcher.told; launches = g.L.Launcher.launches l.fn.work.launcher.now; faults = g.L.Launcher.faults l.fn.work.launcher.now }) l.fn.work.ram.now) (state_of l.fn.state) (moment (record { told = g.H.Host.told; files = g.H.Host.file l.work.host.now; asked = asked_at (g.H.Host.asked l.work.host.now) (g.H.Host.pulled l.work.host.now); faults = g.H.Host.faults l.work.host.now }) (record { told = g.D.Disk.told; size = g.D.Disk.extent l.work.disk.now; flash = g.D.Disk.flash l.work.disk.now; faults = g.D.Disk.faults l.work.disk.now }) (record { told = g.L.Launcher.told; launches = g.L.Launcher.launches l.work.launcher.now; faults = g.L.Launcher.faults l.work.launcher.now }) l.work.ram.now);
+      (state_of l.fn.state) (stage (moment (record { told = g.H.Host.told; files = g.H.Host.file l.fn.work.host.now; asked = asked_at (g.H.Host.asked l.fn.work.host.now) (g.H.Host.pulled l.fn.work.host.now); faults = g.H.Host.faults l.fn.work.host.now }) (record { told = g.D.Disk.told; size = g.D.Disk.extent l.fn.work.disk.now; flash = g.D.Disk.flash l.fn.work.disk.now; faults = g.D.Disk.faults l.fn.work.disk.now }) (record { told = g.L.Launcher.told; launches = g.L.Launcher.launches l.fn.work.launcher.now; faults = g.L.Launcher.faults l.fn.work.launcher.now }) l.fn.work.ram.now) (record { told = g.T.Trail.told; silent = g.T.Trail.silent; left = g.T.Trail.left l.fn.trail; list = g.T.Trail.list l.fn.trail; room = g.T.Trail.room l.fn.trail; ranges = g.T.Trail.ranges l.fn.trail; holds = g.T.Trail.holds l.fn.trail })) (state_of l.fn.state) (stage (moment (record { told = g.H.Host.told; files = g.H.Host.file l.work.host.now; asked = asked_at (g.H.Host.asked l.work.host.now) (g.H.Host.pulled l.work.host.now); faults = g.H.Host.faults l.work.host.now }) (record { told = g.D.Disk.told; size = g.D.Disk.extent l.work.disk.now; flash = g.D.Disk.flash l.work.disk.now; faults = g.D.Disk.faults l.work.disk.now }) (record { told = g.L.Launcher.told; launches = g.L.Launcher.launches l.work.launcher.now; faults = g.L.Launcher.faults l.work.launcher.now }) l.work.ram.now) (record { told = g.T.Trail.told; silent = g.T.Trail.silent; left = g.T.Trail.left l.trail; list = g.T.Trail.list l.trail; room = g.T.Trail.room l.trail; ranges = g.T.Trail.ranges l.trail; holds = g.T.Trail.holds l.trail }));
+  room : Leaves (branches_work l.fn.branches l.machine.program.now.count) (branches_work l.branches l.machine.program.now.count)
+      (stage (moment (record { told = g.H.Host.told; files = g.H.Host.file l.fn.work.host.now; asked = asked_at (g.H.Host.asked l.fn.work.host.now) (g.H.Host.pulled l.fn.work.host.now); faults = g.H.Host.faults l.fn.work.host.now }) (record { told = g.D.Disk.told; size = g.D.Disk.extent l.fn.work.disk.now; flash = g.D.Disk.flash l.fn.work.disk.now; faults = g.D.Disk.faults l.fn.work.disk.now }) (record { told = g.L.Launcher.told; launches = g.L.Launcher.launches l.fn.work.launcher.now; faults = g.L.Launcher.faults l.fn.work.launcher.now }) l.fn.work.ram.now) (record { told = g.T.Trail.told; silent = g.T.Trail.silent; left = g.T.Trail.left l.fn.trail; list = g.T.Trail.list l.fn.trail; room = g.T.Trail.room l.fn.trail; ranges = g.T.Trail.ranges l.fn.trail; holds = g.T.Trail.holds l.fn.trail })) (stage (moment (record { told = g.H.Host.told; files = g.H.Host.file l.work.host.now; asked = asked_at (g.H.Host.asked l.work.host.now) (g.H.Host.pulled l.work.host.now); faults = g.H.Host.faults l.work.host.now }) (record { told = g.D.Disk.told; size = g.D.Disk.extent l.work.disk.now; flash = g.D.Disk.flash l.work.disk.now; faults = g.D.Disk.faults l.work.disk.now }) (record { told = g.L.Launcher.told; launches = g.L.Launcher.launches l.work.launcher.now; faults = g.L.Launcher.faults l.work.launcher.now }) l.work.ram.now) (record { told = g.T.Trail.told; silent = g.T.Trail.silent; left = g.T.Trail.left l.trail; list = g.T.Trail.list l.trail; room = g.T.Trail.room l.trail; ranges = g.T.Trail.ranges l.trail; holds = g.T.Trail.holds l.trail }));
   leaves : LeavesWork l.machine l.fn.work l.work;
 }

@@ -201,7 +201,7 @@ returns-clause-keeps g c t settled =
       g.H.Host.asked c.run_plan-end.new.host,
       told_plays _ _ _ _ _ _ _ _ _ _ _ _ _ _ _ th (subst (λ (end : PlanEnd). PlaysUpdate c.args.layout.now c.args.places.now (plan_tree c.args.accepted.now.plan.now) (held_of c.args.accepted.now.held) (sources payloads c.args.accepted.now.uris.now (hosted g.H.Host.told (g.H.Host.file c.args.host.now) (g.H.Host.asked c.args.host.now) (g.H.Host.asked c.run_plan-end.new.host))) (g.D.Disk.flash c.args.disk.now).reads b.reads (g.L.Launcher.launches c.args.launcher.now) (g.L.Launcher.launches c.run_plan-end.new.launcher) end) ended
           (plays_update c.args.layout.now c.args.places.now (plan_tree c.args.accepted.now.plan.now) (held_of c.args.accepted.now.held) payloads c.in-Ok.world.uris.now c.args.accepted.now.uris.now (hosted g.H.Host.told (g.H.Host.file c.args.host.now) (g.H.Host.asked c.args.host.now) (g.H.Host.asked c.run_plan-end.new.host)) (g.D.Disk.flash c.args.disk.now).reads (g.D.Disk.flash c.run_plan-end.new.disk).reads (g.L.Launcher.launches c.args.launcher.now) (g.L.Launcher.launches c.run_plan-end.new.launcher) c.run_plan-end.result c.choose_slots-slots.result.number c.in-Ok.world.standings.items c.in-Ok.world.ram c.run_plan-end.new.world.ram chosen c.choose_slots-slots.ensures.choice c.in-Ok.ensures.stand c.in-Ok.ensures.ram c.in-Ok.ensures.uris
-          (program_tree c.program_of-program.result) (c.program_of-program.ensures c.requires.said.0 c.requires.said.1 c.requires.said.2 c.requires.said.3 ∙ sym c.requires.said.4) (c.run_plan-end.ensures.plays t tl payloads (subst (λ (e : Option (Bor Envelope)). ArePayloads e payloads) (sym c.in-Ok.ensures.envelope) has)))),
+          (program_tree c.program_of-program.result) (c.program_of-program.ensures c.requires.said.0 c.requires.said.1 c.requires.said.2 c.requires.said.3 ∙ sym c.requires.said.4) (c.run_plan-end.ensures.plays refl refl t tl payloads (subst (λ (e : Option (Bor Envelope)). ArePayloads e payloads) (sym c.in-Ok.ensures.envelope) has)))),
     ) in
     let others = contents_made c.sound_laws.ensures c.moment_laws.ensures c.choice_laws.ensures (g.D.Disk.extent c.args.disk.now) c.requires.size c.args.layout.now c.requires.layout c.args.places.now (plan_tree c.args.accepted.now.plan.now) (held_of c.args.accepted.now.held) c.requires.loadable c.choose_slots-slots.result.number c.in-Ok.world.standings.items c.requires.distinct c.choose_slots-slots.ensures.choice c.in-Ok.ensures.stand chosen (g.D.Disk.flash c.args.disk.now) (g.D.Disk.flash c.run_plan-end.new.disk) (g.met.D.Disk.obeys c.args.disk.now t) law_b (c.requires.config t).0 (c.requires.config t).1 (c.requires.held t) (subst (λ (x : PlanTree). Keeps (OutsideTargets x c.in-Ok.world.standings.items) (g.D.Disk.flash c.args.disk.now) (g.D.Disk.flash c.run_plan-end.new.disk)) (c.program_of-program.ensures c.requires.said.0 c.requires.said.1 c.requires.said.2 c.requires.said.3 ∙ sym c.requires.said.4) (c.run_plan-end.ensures.keeps t)) in
     let stays = old_all c.sound_laws.ensures c.moment_laws.ensures c.choice_laws.ensures (g.D.Disk.extent c.args.disk.now) c.requires.size c.args.layout.now c.requires.layout c.args.places.now (plan_tree c.args.accepted.now.plan.now) (held_of c.args.accepted.now.held) c.requires.loadable c.choose_slots-slots.result.number c.in-Ok.world.standings.items c.requires.distinct c.choose_slots-slots.ensures.choice c.in-Ok.ensures.stand chosen (g.D.Disk.flash c.args.disk.now) (g.D.Disk.flash c.run_plan-end.new.disk) (g.met.D.Disk.obeys c.args.disk.now t) law_b (c.requires.config t).0 (c.requires.config t).1 (c.requires.held t) (subst (λ (x : PlanTree). Keeps (OutsideTargets x c.in-Ok.world.standings.items) (g.D.Disk.flash c.args.disk.now) (g.D.Disk.flash c.run_plan-end.new.disk)) (c.program_of-program.ensures c.requires.said.0 c.requires.said.1 c.requires.said.2 c.requires.said.3 ∙ sym c.requires.said.4) (c.run_plan-end.ensures.keeps t)) settled c.args.accepted.now.bytes.now c.args.accepted.now.sequence c.args.accepted.now.digest c.requires.fits (g.D.Disk.flash c.finish.new.disk) law_d in
@@ -251,7 +251,7 @@ returns-clause-plays g c t tl payloads has =
     let law_d = (subst (λ (n : ℕ). IsFlash (g.D.Disk.flash c.finish.new.disk) n) (c.finish.ensures.size ∙ c.run_plan-end.ensures.size) (g.met.D.Disk.obeys c.finish.new.disk t)) in
     let Plays : List ℕ → PlanEnd → Type 0 = λ made end. PlaysUpdate c.args.layout.now c.args.places.now (plan_tree c.args.accepted.now.plan.now) (held_of c.args.accepted.now.held) (sources payloads c.args.accepted.now.uris.now (hosted g.H.Host.told (g.H.Host.file c.args.host.now) (g.H.Host.asked c.args.host.now) (g.H.Host.asked c.run_plan-end.new.host))) (g.D.Disk.flash c.args.disk.now).reads made (g.L.Launcher.launches c.args.launcher.now) (g.L.Launcher.launches c.run_plan-end.new.launcher) end in
     let play : Plays (g.D.Disk.flash c.run_plan-end.new.disk).reads c.run_plan-end.result = plays_update c.args.layout.now c.args.places.now (plan_tree c.args.accepted.now.plan.now) (held_of c.args.accepted.now.held) payloads c.in-Ok.world.uris.now c.args.accepted.now.uris.now (hosted g.H.Host.told (g.H.Host.file c.args.host.now) (g.H.Host.asked c.args.host.now) (g.H.Host.asked c.run_plan-end.new.host)) (g.D.Disk.flash c.args.disk.now).reads (g.D.Disk.flash c.run_plan-end.new.disk).reads (g.L.Launcher.launches c.args.launcher.now) (g.L.Launcher.launches c.run_plan-end.new.launcher) c.run_plan-end.result c.choose_slots-slots.result.number c.in-Ok.world.standings.items c.in-Ok.world.ram c.run_plan-end.new.world.ram chosen c.choose_slots-slots.ensures.choice c.in-Ok.ensures.stand c.in-Ok.ensures.ram c.in-Ok.ensures.uris
-    (program_tree c.program_of-program.result) (c.program_of-program.ensures c.requires.said.0 c.requires.said.1 c.requires.said.2 c.requires.said.3 ∙ sym c.requires.said.4) (c.run_plan-end.ensures.plays t tl payloads (subst (λ (e : Option (Bor Envelope)). ArePayloads e payloads) (sym c.in-Ok.ensures.envelope) has)) in
+    (program_tree c.program_of-program.result) (c.program_of-program.ensures c.requires.said.0 c.requires.said.1 c.requires.said.2 c.requires.said.3 ∙ sym c.requires.said.4) (c.run_plan-end.ensures.plays refl refl t tl payloads (subst (λ (e : Option (Bor Envelope)). ArePayloads e payloads) (sym c.in-Ok.ensures.envelope) has)) in
     after c.run_plan-end.result c.finish.result _ _ c.finish.ensures.answer
     (λ answer. PlayedSo Plays ((g.D.Disk.flash c.finish.new.disk).reads ≡ (g.D.Disk.flash c.args.disk.now).reads) c.args.layout.now (g.D.Disk.flash c.finish.new.disk).reads (g.L.Launcher.launches c.args.launcher.now) (g.L.Launcher.launches c.run_plan-end.new.launcher) answer)
     (λ r same ended. record { made = (g.D.Disk.flash c.run_plan-end.new.disk).reads; plays = subst (Plays (g.D.Disk.flash c.run_plan-end.new.disk).reads) ended play; left = behind (g.D.Disk.extent c.args.disk.now) c.args.layout.now c.requires.layout (c.requires.config t).1.typed.entries (g.D.Disk.flash c.run_plan-end.new.disk).reads (g.D.Disk.flash c.finish.new.disk).reads law_b.fits (c.finish.ensures.behind t) })

@@ -1,0 +1,73 @@
+-- How a procedure ends that recalls and keeps the outcomes of its free steps, by its play.
+use Rattle.std.specs.Prelude.{◌≡◌, ◌⊎◌, ℕ, Bool, not, List, [], ◌∷◌, ◌++◌, map}
+use Rattle.suit_edge.specs.declared.launch.Launch.{Launch}
+use Rattle.suit_edge.specs.Ranges.{OutsideEach, Range}
+use Rattle.suit_commands.specs.Tree.{PlanTree}
+use Rattle.path_model.specs.Behaviour.{State, Done, Condition}
+use Rattle.path_model.specs.Path.{first_state}
+use Rattle.path_model.specs.Settings.{Setting}
+use Rattle.path_model.specs.Plays.{Outcome}
+use Rattle.path_model.specs.RecalledPlays.{Recalling, recalling}
+use Rattle.path_model.specs.KeepingPlays.{first_recalling, keeping_play}
+use Rattle.step_machine.specs.declared.plan_end.PlanEnd.{PlanEnd}
+use Rattle.step_machine.specs.declared.plan_end.PlanEnd.TheVariants as ends
+use Rattle.step_machine.specs.declared.spot.Standing.{Standing}
+use Rattle.step_machine.specs.Directives.{StopsSo}
+use Rattle.step_machine.specs.Invoking.{launched_as}
+use Rattle.step_machine.specs.PlanRuns.{OutsideTargets}
+use Rattle.step_machine.specs.Stages.{Terms}
+
+-- a setting, with a trail that is silent or is not
+abbrev pub terms_of : Bool → Setting → Terms
+terms_of silent setting = record { setting = setting; may_fail = not silent }
+
+-- the contents, and the outcomes that are left to recall
+pub record KeptAt : Type 0 where
+  pub contents : List (List ℕ)
+  pub left : List Bool
+
+abbrev pub kept_at : List (List ℕ) → List Bool → KeptAt
+kept_at contents left = record { contents = contents; left = left }
+
+abbrev pub kept_played : PlanTree → Terms → KeptAt → Outcome Recalling
+kept_played plan terms before =
+    (keeping_play terms.may_fail plan terms.setting).comes first_state (first_recalling before.left before.contents)
+
+-- Without a fault it ends as its play does, and leaves what that leaves. With a fault it ends as some play does that the
+-- fault cut short.
+abbrev pub KeptEndsAs : PlanTree → Terms → KeptAt → PlanEnd → Recalling → Type 0
+KeptEndsAs plan terms before ends.Done after =
+    (next : State) × ((kept_played plan terms before).ending ≡ Done next)
+    × ((kept_played plan terms before).world ≡ after)
+KeptEndsAs plan terms before (ends.ConditionFailed place) after =
+    (soft_failure : Bool)
+    × ((kept_played plan terms before).ending ≡ Condition place soft_failure)
+    × ((kept_played plan terms before).world ≡ after)
+KeptEndsAs plan terms before (ends.DirectiveFailed place cause) after =
+    StopsSo (keeping_play terms.may_fail plan terms.setting) place first_state
+    (first_recalling before.left before.contents) cause after
+
+-- the launches that were gained and the names that were asked for are the play's, and so are the outcomes that were
+-- recalled or kept
+pub record PlaysKept (plan : PlanTree) (terms : Terms) (end : PlanEnd) (before after : KeptAt)
+    (launched now : List Launch) : Type 0 where
+  pub gained : List Launch
+  pub added : now ≡ launched ++ gained
+  pub asks : List (List ℕ)
+  pub noted : List Bool
+  pub ends :
+      KeptEndsAs plan terms before end
+      (recalling after.left noted
+      (record { contents = after.contents; launches = map launched_as gained; asked = asks }))
+
+-- outside the slots that the procedure may write, and outside these places
+abbrev pub OutsideWrites : PlanTree → List Standing → List Range → ℕ → Type 0
+OutsideWrites plan standings [] = OutsideTargets plan standings
+OutsideWrites plan standings (range ∷ ranges) =
+    λ i. OutsideTargets plan standings i × OutsideEach (range ∷ ranges) i
+
+-- where no directive failed, and no fault came
+abbrev pub IfNoFault : PlanEnd → Type 0 → Type 0
+IfNoFault ends.Done P = P
+IfNoFault (ends.ConditionFailed place) P = P
+IfNoFault (ends.DirectiveFailed place cause) P = Unit {0}
