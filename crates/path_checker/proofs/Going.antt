@@ -30,13 +30,13 @@ use Rattle.path_checker.proofs.Walking.{Halts-lift, runs_course, does_course, re
 
 -- ---- one after another, grouped either way
 
-then-left : (a b c : Behaviour) (s : State) (es : List Event) (e : Ending) → Then (Then a b) c s es e → Then a (Then b c) s es e
+pub then-left : (a b c : Behaviour) (s : State) (es : List Event) (e : Ending) → Then (Then a b) c s es e → Then a (Then b c) s es e
 then-left a b c s es e (inl (f, inl (g, r))) = inl (f, r)
 then-left a b c s es e (inl (f, inr (m, x, y, is, r, q))) = inr (m, x, y, is, r, inl (f, q))
 then-left a b c s es e (inr (m, x, y, is, inl (f, r), q)) = absurd f
 then-left a b c s es e (inr (m, x, y, is, inr (n, v, w, is', r, p), q)) = inr (n, v, w ++ y, is ∙ ap (λ (z : List Event). z ++ y) is' ∙ append_assoc v w y, r, inr (m, w, y, refl, p, q))
 
-then-right : (a b c : Behaviour) (s : State) (es : List Event) (e : Ending) → Then a (Then b c) s es e → Then (Then a b) c s es e
+pub then-right : (a b c : Behaviour) (s : State) (es : List Event) (e : Ending) → Then a (Then b c) s es e → Then (Then a b) c s es e
 then-right a b c s es e (inl (f, r)) = inl (f, inl (f, r))
 then-right a b c s es e (inr (m, x, y, is, r, inl (f, q))) = inl (f, inr (m, x, y, is, r, q))
 then-right a b c s es e (inr (m, x, y, is, r, inr (n, v, w, is', p, q))) = inr (n, x ++ v, w, is ∙ ap (λ (z : List Event). x ++ z) is' ∙ sym (append_assoc x v w), inr (m, x, v, refl, r, p), q)

@@ -34,3 +34,4 @@ pub mod Counting
 pub mod StandingLaws
 pub mod Passing
 pub mod OverridesEach
+pub mod Overriding

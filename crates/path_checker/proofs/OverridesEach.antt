@@ -22,10 +22,10 @@ set_at k cs list = record { facts = k.facts; events = k.events ++ sets_at cs lis
 set_once : Kept → ℕ → List Param → Kept
 set_once k c list = record { facts = k.facts; events = k.events ++ set_events c list; state = record { parameters = overridden k.state.parameters c list; selection = k.state.selection; soft_failure = soft_after_all k.state.soft_failure list } }
 
-abbrev each_override : List ℕ → List Param → Course
+abbrev pub each_override : List ℕ → List Param → Course
 each_override cs list ids = Each (λ c. Overrides list c) cs
 
-Explores-set : (list : List Param) (cs : List ℕ) (k : Kept) → Explores (each_override cs list) (k ∷ []) (set_at k cs list ∷ []) []
+pub Explores-set : (list : List Param) (cs : List ℕ) (k : Kept) → Explores (each_override cs list) (k ∷ []) (set_at k cs list ∷ []) []
 unfolding set_once
 Explores-set list [] k =
     subst (λ (es : List Event). Explores nothing_course (k ∷ []) (record { facts = k.facts; events = es; state = k.state } ∷ []) []) (sym (append-nil k.events)) (Explores-nothing (k ∷ []))

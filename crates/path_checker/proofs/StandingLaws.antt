@@ -17,7 +17,9 @@ use Rattle.path_checker.specs.declared.judge_plan.trace.Told.{Told}
 use Rattle.path_checker.specs.declared.judge_plan.trace.Told.TheVariants as tells
 use Rattle.path_checker.specs.declared.judge_plan.happened.Ended.{Ended}
 use Rattle.path_checker.specs.declared.judge_plan.happened.Ended.TheVariants as ends
-use Rattle.path_checker.specs.Happening.{after_end, sets_at, told_by}
+use Rattle.suit_commands.specs.Tree.{CommandTree, Test, Act, Index, Override, TryEach, RunSequence, SequenceTree, NoSteps, StepThen}
+use Rattle.suit_commands.specs.View.{sequence_tree}
+use Rattle.path_checker.specs.Happening.{after_end, sets_at, command_sets, sequence_sets, told_by}
 use Rattle.path_checker.specs.Selecting.{components_of}
 use Rattle.std.specs.Prelude.{◌↔◌, slice_get}
 use Rattle.path_checker.specs.Exploring.{In}
@@ -106,20 +108,6 @@ told_wrote standing after told c is loses event one =
 by_plain : (standing : StandingMatches) (plain event : Event) → IsPlain plain → plain ∷ [] ≡ event ∷ [] → StandsAfter standing event standing
 by_plain standing plain event is one = subst (λ (e : Event). StandsAfter standing e standing) (same_one plain event one) (after_plain standing plain is)
 
-pub told_other : (standing : StandingMatches) (told : Told) → ((c : _) (own : _) → told ≡ tells.Matched c own → ⊥) → ((c : ℕ) → told ≡ tells.Wrote c → ⊥) → (event : Event) → told_by told ≡ event ∷ [] → StandsAfter standing event standing
-told_other standing (tells.Tried c k p) no_match no_write event one = by_plain standing _ event (λ c' d' s'. (λ is. absurd cc, λ w. w)) one
-told_other standing (tells.Missed c) no_match no_write event one = by_plain standing _ event (λ c' d' s'. (λ is. absurd cc, λ w. w)) one
-told_other standing (tells.Wrote c) no_match no_write event one = absurd (no_write c refl)
-told_other standing (tells.Matched c own) no_match no_write event one = absurd (no_match c own refl)
-told_other standing (tells.Failed p) no_match no_write event one = by_plain standing _ event (λ c' d' s'. (λ is. absurd cc, λ w. w)) one
-told_other standing (tells.Invoked i) no_match no_write event one = by_plain standing _ event (λ c' d' s'. (λ is. absurd cc, λ w. w)) one
-told_other standing (tells.Sets bits components list) no_match no_write event one = sets (components_of components) list.now one
-  where
-    sets : (cs : List ℕ) (params : List Param) → sets_at cs params ≡ event ∷ [] → StandsAfter standing event standing
-    sets [] params is = absurd cc
-    sets (c ∷ cs) [] is = sets cs [] is
-    sets (c ∷ cs) (param ∷ params) is = subst (λ (e : Event). StandsAfter standing e standing) (same_head (Set c param) event (set_events c params ++ sets_at cs (param ∷ params)) [] is) (after_plain standing (Set c param) (λ c' d' s'. (λ is. absurd cc, λ w. w)))
-
 -- and after those of an override
 pub stands_set : (matches : StandingMatches) (events : List Event) (c : ℕ) (list : List Param) → Stands matches events → Stands matches (events ++ set_events c list)
 stands_set matches events c [] stand = subst (Stands matches) (sym (append-nil events)) stand
@@ -132,6 +120,37 @@ pub stands_sets : (matches : StandingMatches) (events : List Event) (cs : List �
 stands_sets matches events [] list stand = subst (Stands matches) (sym (append-nil events)) stand
 stands_sets matches events (c ∷ cs) list stand =
     subst (Stands matches) (append_assoc events (set_events c list) (sets_at cs list)) (stands_sets matches (events ++ set_events c list) cs list (stands_set matches events c list stand))
+
+-- of overrides that follow one another
+stands_command : (matches : StandingMatches) (events : List Event) (command : CommandTree) (cs : List ℕ) → Stands matches events → Stands matches (events ++ command_sets command cs)
+stands_command matches events (Override list) cs stand = stands_sets matches events cs list stand
+stands_command matches events (Test kind report) cs stand = subst (Stands matches) (sym (append-nil events)) stand
+stands_command matches events (Act kind report) cs stand = subst (Stands matches) (sym (append-nil events)) stand
+stands_command matches events (Index selection) cs stand = subst (Stands matches) (sym (append-nil events)) stand
+stands_command matches events (TryEach _) cs stand = subst (Stands matches) (sym (append-nil events)) stand
+stands_command matches events (RunSequence inner) cs stand = subst (Stands matches) (sym (append-nil events)) stand
+
+pub stands_sequence : (matches : StandingMatches) (events : List Event) (s : SequenceTree) (cs : List ℕ) → Stands matches events → Stands matches (events ++ sequence_sets s cs)
+stands_sequence matches events NoSteps cs stand = subst (Stands matches) (sym (append-nil events)) stand
+stands_sequence matches events (StepThen place command rest) cs stand =
+    subst (Stands matches) (append_assoc events (command_sets command cs) (sequence_sets rest cs)) (stands_sequence matches (events ++ command_sets command cs) rest cs (stands_command matches events command cs stand))
+
+-- ---- another event alone
+
+pub told_other : (standing : StandingMatches) (told : Told) → ((c : _) (own : _) → told ≡ tells.Matched c own → ⊥) → ((c : ℕ) → told ≡ tells.Wrote c → ⊥) → (event : Event) → told_by told ≡ event ∷ [] → StandsAfter standing event standing
+told_other standing (tells.Tried c k p) no_match no_write event one = by_plain standing _ event (λ c' d' s'. (λ is. absurd cc, λ w. w)) one
+told_other standing (tells.Missed c) no_match no_write event one = by_plain standing _ event (λ c' d' s'. (λ is. absurd cc, λ w. w)) one
+told_other standing (tells.Wrote c) no_match no_write event one = absurd (no_write c refl)
+told_other standing (tells.Matched c own) no_match no_write event one = absurd (no_match c own refl)
+told_other standing (tells.Failed p) no_match no_write event one = by_plain standing _ event (λ c' d' s'. (λ is. absurd cc, λ w. w)) one
+told_other standing (tells.Invoked i) no_match no_write event one = by_plain standing _ event (λ c' d' s'. (λ is. absurd cc, λ w. w)) one
+told_other standing (tells.Several bits components steps) no_match no_write event one = λ events stand. subst (λ (es : List Event). Stands standing (events ++ es)) one (stands_sequence standing events (sequence_tree steps.now) (components_of components) stand)
+told_other standing (tells.Sets bits components list) no_match no_write event one = sets (components_of components) list.now one
+  where
+    sets : (cs : List ℕ) (params : List Param) → sets_at cs params ≡ event ∷ [] → StandsAfter standing event standing
+    sets [] params is = absurd cc
+    sets (c ∷ cs) [] is = sets cs [] is
+    sets (c ∷ cs) (param ∷ params) is = subst (λ (e : Event). StandsAfter standing e standing) (same_head (Set c param) event (set_events c params ++ sets_at cs (param ∷ params)) [] is) (after_plain standing (Set c param) (λ c' d' s'. (λ is. absurd cc, λ w. w)))
 
 -- ---- where the same matches are held
 

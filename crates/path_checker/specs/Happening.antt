@@ -9,6 +9,8 @@ use Rattle.path_checker.specs.declared.judge_plan.happened.Happened.TheVariants 
 use Rattle.path_checker.specs.declared.judge_plan.happened.Ended.{Ended}
 use Rattle.path_checker.specs.declared.judge_plan.happened.Ended.TheVariants as ends
 use Rattle.suit_params.specs.declared.param.Param.{Param}
+use Rattle.suit_commands.specs.Tree.{CommandTree, Override, SequenceTree, NoSteps, StepThen}
+use Rattle.suit_commands.specs.View.{sequence_tree}
 use Rattle.path_checker.specs.Selecting.{components_of}
 use Rattle.path_checker.specs.Matches.{match_of, match_event}
 use Rattle.path_checker.specs.declared.judge_plan.trace.Invoke.{Invoke}
@@ -31,6 +33,15 @@ abbrev pub sets_at : List ℕ → List Param → List Event
 sets_at [] list = []
 sets_at (component ∷ components) list = set_events component list ++ sets_at components list
 
+abbrev pub command_sets : CommandTree → List ℕ → List Event
+command_sets (Override list) components = sets_at components list
+command_sets _ components = []
+
+-- those of overrides that follow one another, at the same components
+abbrev pub sequence_sets : SequenceTree → List ℕ → List Event
+sequence_sets NoSteps components = []
+sequence_sets (StepThen place command rest) components = command_sets command components ++ sequence_sets rest components
+
 abbrev pub told_by : Told → List Event
 told_by (told.Tried component kind passed) = events.Tried component kind passed ∷ []
 told_by (told.Missed component) = events.Missed component ∷ []
@@ -39,6 +50,7 @@ told_by (told.Matched component own) = match_event component (match_of own.now) 
 told_by (told.Failed place) = events.Failed place ∷ []
 told_by (told.Invoked invoke) = invoke_event invoke ∷ []
 told_by (told.Sets bits components list) = sets_at (components_of components) list.now
+told_by (told.Several bits components steps) = sequence_sets (sequence_tree steps.now) (components_of components)
 
 abbrev pub all_told : List Told → List Event
 all_told [] = []

@@ -14,6 +14,7 @@ pub mod Wanting
 pub mod Small
 pub mod Selecting
 pub mod Steps
+pub mod Overriding
 pub mod Procedures
 pub mod Halting
 pub mod PlanVerdicts

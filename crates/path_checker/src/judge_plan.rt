@@ -24,6 +24,7 @@ mod matches;
 mod memory;
 mod merged;
 mod outermost;
+mod overriding;
 mod past;
 mod procedure_walk;
 mod reuse;

@@ -226,8 +226,8 @@ pub(crate) fn override_in<'a>(
     Ok(())
 }
 
-// Overrides the parameters of some components, one after another.
-fn override_all<'a>(
+/// Overrides the parameters of some components, one after another.
+pub(crate) fn override_all<'a>(
     alloc: Global,
     list: &'a ParamList,
     components: &[u32],
@@ -242,7 +242,8 @@ fn override_all<'a>(
     Ok(())
 }
 
-fn soft_at(soft_failure: bool, list: &ParamList, components: &[u32]) -> bool
+/// Soft failure after an override at some components.
+pub(crate) fn soft_at(soft_failure: bool, list: &ParamList, components: &[u32]) -> bool
     ensures { result ≡ soft_at soft_failure components.now list.now }
 {
     let mut soft_failure = soft_failure;
@@ -274,8 +275,12 @@ pub(crate) fn override_each_in<'a>(
 
 // ---- where many states are kept at once
 
-// The same state. Where its parameters were made anew and many states are kept, they are shared with those that were made last.
-fn settled<'a>(memory: Memory<'a>, k: Kept<'a>, was_own: bool) -> Result<Kept<'a>, AllocError>
+/// The same state. Where its parameters were made anew and many states are kept, they are shared with those that were made last.
+pub(crate) fn settled<'a>(
+    memory: Memory<'a>,
+    k: Kept<'a>,
+    was_own: bool,
+) -> Result<Kept<'a>, AllocError>
     ensures { IfOk result (λ settled. settled ≡ k.entry) }
 {
     let mut k = k;

@@ -4,7 +4,8 @@ ghost use Rattle.std.specs.Prelude.{◌≡◌, ◌↔◌, [], ◌∷◌, ◌++�
 ghost use Rattle.path_model.specs.Safe.{HasMatched};
 ghost use Rattle.path_model.specs.Following.{SameMatches};
 ghost use Rattle.path_model.specs.declared.event.Event.{Event as TheEvent};
-ghost use Rattle.path_checker.specs.Happening.{event_of, after_end, sets_at, told_by};
+ghost use Rattle.suit_commands.specs.View.{sequence_tree};
+ghost use Rattle.path_checker.specs.Happening.{event_of, after_end, sets_at, sequence_sets, told_by};
 ghost use Rattle.path_checker.specs.Selecting.{components_of};
 ghost use Rattle.path_checker.specs.Standing.{StandsAfter};
 
@@ -18,6 +19,7 @@ use crate::judge_plan::trace::Told;
 use path_model::Events;
 use std::alloc::{AllocError, Global};
 use std::marker::Model;
+use suit_commands::Step;
 use suit_params::{Digest, ParamList};
 
 /// The events that led to a state, and the matches that stand after them.
@@ -129,6 +131,25 @@ impl<'a> History<'a> {
             (self.new ≡ self.old ++ sets_at (components_of components.entry) list.now) }
     {
         self.past.add(memory, Told::sets(place, components, list))?;
+        Ok(())
+    }
+
+    /// The events of overrides at the same components more, which are lent already. They end no match.
+    pub(crate) fn add_lent(
+        &mut self,
+        memory: Memory<'a>,
+        steps: &[Step],
+        components: Components<'_>,
+        told: &'a Told<'a>,
+    ) -> Result<(), AllocError>
+        requires { told_by told.now
+            ≡ sequence_sets (sequence_tree steps.now) (components_of components) }
+        ensures { OnOk result
+            (self.new
+            ≡ self.old
+            ++ sequence_sets (sequence_tree steps.now) (components_of components.entry)) }
+    {
+        self.past.add_lent(memory, told)?;
         Ok(())
     }
 

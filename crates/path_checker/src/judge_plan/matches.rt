@@ -55,7 +55,7 @@ impl<'a> Match<'a> {
         ensures { IfOk result (λ own. match_of own.now ≡ (digest.now, size)) }
     {
         let print = short_print(digest, size);
-        if let Some(last) = memory.last_match(component, print) {
+        if let Some(last) = memory.last_match(print) {
             if last.is_under(digest, size) {
                 return Ok(last);
             }
@@ -67,7 +67,7 @@ impl<'a> Match<'a> {
         }
         match memory.events.try_alloc(Match::new(digest, size)) {
             Ok(own) => {
-                memory.keep_match(component, print, own);
+                memory.keep_match(print, own);
                 Ok(own)
             }
             Err(_) => Err(AllocError),

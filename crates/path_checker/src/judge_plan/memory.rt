@@ -22,6 +22,9 @@ const CROWD: usize = 16_384;
 // of two, above the number of pairs of a digest and a size in a manifest of 16,384 bytes.
 const KEPT: usize = 262_144;
 
+// How many are kept before that: a power of two.
+const FIRST: usize = 64;
+
 /// The allocators of a judgement, and how many matches it may still compare. Events are freed together, when it ends.
 #[derive(Clone, Copy)]
 pub(crate) struct Memory<'a> {
@@ -32,20 +35,12 @@ pub(crate) struct Memory<'a> {
     pub last: &'a Last<'a>,
 }
 
-/// The last event at each component that there is room for, and the last override, lent.
-type LastTold<'a> = [Option<&'a Told<'a>>; 9];
-
-/// The last match at each component that there is room for, lent.
-type LastMatch<'a> = [Option<&'a Match<'a>>; 8];
-
 /// The values made last, in any state.
 #[derive(Drop)]
 pub(crate) struct Last<'a> {
-    told: Cell<LastTold<'a>>,
-    // The same by their fingerprints, where states go on alone.
-    more: Cell<&'a [Cell<Option<&'a Told<'a>>>]>,
-    matches: Cell<LastMatch<'a>>,
-    more_matches: Cell<&'a [Cell<Option<&'a Match<'a>>>]>,
+    // The last events and matches, by their fingerprints.
+    told: Cell<&'a [Cell<Option<&'a Told<'a>>>]>,
+    matches: Cell<&'a [Cell<Option<&'a Match<'a>>>]>,
     // How many states are kept at once.
     states: Cell<usize>,
     /// The parameters after an override.
@@ -72,10 +67,8 @@ impl<'a> Last<'a> {
     // Nothing.
     fn new() -> Last<'a> {
         Last {
-            told: Cell::new([None; 9]),
-            more: Cell::new(&[]),
-            matches: Cell::new([None; 8]),
-            more_matches: Cell::new(&[]),
+            told: Cell::new(&[]),
+            matches: Cell::new(&[]),
             states: Cell::new(0),
             params: Cell::new(None),
             having: none_known(),
@@ -102,12 +95,27 @@ impl<'a> Memory<'a> {
         left: &'a Cell<u64>,
     ) -> Result<Memory<'a>, AllocError> {
         let last = events.try_alloc(Last::new())?;
-        Ok(Memory {
+        let memory = Memory {
             alloc,
             events,
             left,
             last,
-        })
+        };
+        memory.keep_lent(FIRST)?;
+        Ok(memory)
+    }
+
+    // Keeps so much of what happens from now on.
+    fn keep_lent(&self, count: usize) -> Result<(), AllocError> {
+        let told = self
+            .events
+            .try_alloc_slice_fill_clone(count, Cell::new(None))?;
+        self.last.told.set(told);
+        let matches = self
+            .events
+            .try_alloc_slice_fill_clone(count, Cell::new(None))?;
+        self.last.matches.set(matches);
+        Ok(())
     }
 
     /// Frees what was made last.
@@ -150,98 +158,75 @@ impl<'a> Memory<'a> {
         &known[component % 8]
     }
 
-    /// Keeps more of what happened from now on.
+    /// Keeps more of what happens from now on.
     pub(crate) fn keep_more(&self) -> Result<(), AllocError> {
-        if self.last.more.get().is_empty() {
-            let more = self
-                .events
-                .try_alloc_slice_fill_clone(KEPT, Cell::new(None))?;
-            self.last.more.set(more);
-            let matches = self
-                .events
-                .try_alloc_slice_fill_clone(KEPT, Cell::new(None))?;
-            self.last.more_matches.set(matches);
+        if self.last.told.get().len() < KEPT {
+            return self.keep_lent(KEPT);
         }
         Ok(())
     }
 
-    /// The last event at a component, or one with a fingerprint, in any state.
-    pub(crate) fn last_told(&self, component: u32, print: u64) -> Option<&'a Told<'a>> {
-        if let Some(first) = self.last.more.get().get(first_place(print, KEPT)) {
-            return first.get();
-        }
+    /// The last events with a fingerprint, in any state.
+    pub(crate) fn last_told(&self, print: u64) -> Option<&'a Told<'a>> {
         let told = self.last.told.get();
-        match told.get(component as usize) {
-            Some(last) => *last,
+        match told.get(first_place(print, told.len())) {
+            Some(first) => first.get(),
             None => None,
         }
     }
 
     /// Another one with a fingerprint, in any state.
     pub(crate) fn other_told(&self, print: u64) -> Option<&'a Told<'a>> {
-        match self.last.more.get().get(second_place(print, KEPT)) {
+        let told = self.last.told.get();
+        match told.get(second_place(print, told.len())) {
             Some(second) => second.get(),
             None => None,
         }
     }
 
-    /// Keeps what happened last at a component, or with a fingerprint. Two with one fingerprint are kept.
-    pub(crate) fn keep_told(&self, component: u32, print: u64, last: &'a Told<'a>) {
-        let more = self.last.more.get();
+    /// Keeps events with a fingerprint. Two with one fingerprint are kept.
+    pub(crate) fn keep_told(&self, print: u64, last: &'a Told<'a>) {
+        let told = self.last.told.get();
         if let (Some(first), Some(second)) = (
-            more.get(first_place(print, KEPT)),
-            more.get(second_place(print, KEPT)),
+            told.get(first_place(print, told.len())),
+            told.get(second_place(print, told.len())),
         ) {
             match first.get() {
                 Some(_) => second.set(Some(last)),
                 None => first.set(Some(last)),
             }
-            return;
-        }
-        let mut told = self.last.told.get();
-        if let Some(place) = told.get_mut(component as usize) {
-            *place = Some(last);
-            self.last.told.set(told);
         }
     }
 
-    /// The last match at a component, or one with a fingerprint, in any state.
-    pub(crate) fn last_match(&self, component: u32, print: u64) -> Option<&'a Match<'a>> {
-        if let Some(first) = self.last.more_matches.get().get(first_place(print, KEPT)) {
-            return first.get();
-        }
+    /// The last match with a fingerprint, in any state.
+    pub(crate) fn last_match(&self, print: u64) -> Option<&'a Match<'a>> {
         let matches = self.last.matches.get();
-        match matches.get(component as usize) {
-            Some(last) => *last,
+        match matches.get(first_place(print, matches.len())) {
+            Some(first) => first.get(),
             None => None,
         }
     }
 
     /// Another one with a fingerprint, in any state.
     pub(crate) fn other_match(&self, print: u64) -> Option<&'a Match<'a>> {
-        match self.last.more_matches.get().get(second_place(print, KEPT)) {
+        let matches = self.last.matches.get();
+        match matches.get(second_place(print, matches.len())) {
             Some(second) => second.get(),
             None => None,
         }
     }
 
-    /// Keeps the last match at a component, or with a fingerprint. Two with one fingerprint are kept.
-    pub(crate) fn keep_match(&self, component: u32, print: u64, last: &'a Match<'a>) {
-        let more = self.last.more_matches.get();
+    /// Keeps a match with a fingerprint. Two with one fingerprint are kept.
+    pub(crate) fn keep_match(&self, print: u64, last: &'a Match<'a>) {
+        let matches = self.last.matches.get();
         if let (Some(first), Some(second)) = (
-            more.get(first_place(print, KEPT)),
-            more.get(second_place(print, KEPT)),
+            matches.get(first_place(print, matches.len())),
+            matches.get(second_place(print, matches.len())),
         ) {
             match first.get() {
                 Some(_) => second.set(Some(last)),
                 None => first.set(Some(last)),
             }
-            return;
-        }
-        let mut matches = self.last.matches.get();
-        if let Some(place) = matches.get_mut(component as usize) {
-            *place = Some(last);
-            self.last.matches.set(matches);
         }
     }
 

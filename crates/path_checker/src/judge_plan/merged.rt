@@ -6,6 +6,7 @@ ghost use Rattle.path_checker.specs.Merging.{Merges, SameState, SameStop};
 
 use crate::judge_plan::kept::{Kept, Standing, Stopped};
 use crate::judge_plan::memory::Memory;
+use crate::judge_plan::overriding::{are_overrides, first_overrides};
 use std::alloc::AllocError;
 use std::collections::HashMap;
 use suit_commands::Command;
@@ -65,8 +66,8 @@ fn merged<T: Standing>(memory: Memory<'_>, from: Vec<T>) -> Result<Vec<T>, Alloc
 // Whether a command runs other sequences: where none is run, a state is followed by one state at most.
 fn has_inner(command: &Command) -> bool {
     match command {
-        Command::TryEach(_) => true,
-        Command::Run(_) => true,
+        Command::TryEach(branches) => first_overrides(branches).is_none(),
+        Command::Run(inner) => !are_overrides(inner.as_slice()),
         _ => false,
     }
 }

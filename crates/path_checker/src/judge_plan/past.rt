@@ -114,6 +114,24 @@ impl<'a> Past<'a> {
         }
     }
 
+    /// More events, which are lent already.
+    pub(crate) fn add_lent(
+        &mut self,
+        memory: Memory<'a>,
+        told: &'a Told<'a>,
+    ) -> Result<(), AllocError>
+        ensures ok { OnOk result (self.new ≡ self.old ++ told_by told.now) }
+        ensures err { OnErr result (self.new ≡ self.old) }
+    {
+        match &mut self.since {
+            Some(since) => since.add(*told),
+            None => {
+                self.shared = self.shared.with(memory.events, told)?;
+                Ok(())
+            }
+        }
+    }
+
     /// The same. The next events are in memory of its own.
     pub(crate) fn set_apart(self, alloc: Global) -> Past<'a>
         ensures { result ≡ self.entry }

@@ -36,16 +36,18 @@ fn same(one: &Param, other: &Param) -> bool
         (Param::Strict(value), Param::Strict(other)) => *value == *other,
         (Param::Soft(value), Param::Soft(other)) => *value == *other,
         (Param::Size(size), Param::Size(other)) => *size == *other,
-        (Param::Content(bytes), Param::Content(other)) => bytes.as_slice() == other.as_slice(),
+        (Param::Content(bytes), Param::Content(other)) => {
+            same_bytes(bytes.as_slice(), other.as_slice())
+        }
         (Param::Uri(text), Param::Uri(other)) => text.as_str() == other.as_str(),
         (Param::Source(component), Param::Source(other)) => *component == *other,
-        (Param::Args(bytes), Param::Args(other)) => bytes.as_slice() == other.as_slice(),
+        (Param::Args(bytes), Param::Args(other)) => same_bytes(bytes.as_slice(), other.as_slice()),
         _ => false,
     }
 }
 
 // Longer values are not compared.
-const SHORT: usize = 1024;
+const SHORT: usize = 4096;
 
 // Whether they are equal, and short.
 fn is_short(one: &Param, other: &Param) -> bool

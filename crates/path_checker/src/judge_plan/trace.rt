@@ -1,8 +1,10 @@
 //! The events of a path. Paths that begin alike share their beginning.
 
-ghost use Rattle.std.specs.Prelude.{◌≡◌, [], ◌∷◌, ◌++◌, map, IsTrue, IfOk, OnOk};
+ghost use Rattle.std.specs.Prelude.{◌≡◌, ℕ, List, [], ◌∷◌, ◌++◌, map, IsTrue, IfOk, OnOk};
 ghost use Rattle.path_model.specs.Directives.{set_events};
-ghost use Rattle.path_checker.specs.Happening.{event_of, invoke_event, sets_at, told_by};
+ghost use Rattle.suit_commands.specs.View.{command_tree, sequence_tree};
+ghost use Rattle.path_checker.specs.Happening.{event_of, invoke_event, sets_at, command_sets, sequence_sets, told_by};
+ghost use Rattle.path_checker.specs.Overriding.{AreOverrides};
 ghost use Rattle.path_checker.specs.Selecting.{components_of};
 ghost use Rattle.path_checker.specs.Standing.{all_in_order};
 
@@ -16,7 +18,7 @@ use bumpalo::Bump;
 use path_model::{Event, Events};
 use std::alloc::{AllocError, Global};
 use std::marker::Model;
-use suit_commands::TestKind;
+use suit_commands::{Command, Step, TestKind};
 use suit_params::{Digest, ParamList};
 
 // Where the last override is kept, beside the last event of each component.
@@ -58,6 +60,12 @@ pub(crate) enum Told<'a> {
         bits: u32,
         components: Components<'a>,
         list: &'a ParamList,
+    },
+    // Those of overrides that follow one another, at the same components.
+    Several {
+        bits: u32,
+        components: Components<'a>,
+        steps: &'a [Step],
     },
 }
 
@@ -126,6 +134,59 @@ fn tell_sets(
     Ok(())
 }
 
+// Adds the events of overrides that follow one another, in memory of their own.
+fn tell_several(
+    alloc: Global,
+    components: Components<'_>,
+    steps: &[Step],
+    events: &mut Events,
+) -> Result<(), AllocError>
+    ensures { OnOk result
+        (events.new
+        ≡ events.old ++ sequence_sets (sequence_tree steps.now) (components_of components.entry)) }
+{
+    for step in steps {
+        if let Command::Override(list) = &step.command {
+            tell_all_sets(alloc, components, list, events)?;
+        }
+    }
+    Ok(())
+}
+
+// More overrides than these are not compared.
+const FEW: usize = 8;
+
+// Whether both are overrides of the same parameters. May be false of equal ones.
+fn same_overrides(one: &Command, other: &Command) -> bool
+    ensures { IsTrue result → (components : List ℕ)
+        → command_sets (command_tree one.now) components
+        ≡ command_sets (command_tree other.now) components }
+{
+    match (one, other) {
+        (Command::Override(list), Command::Override(other)) => same_short(list, other),
+        _ => false,
+    }
+}
+
+// Whether both are few overrides of the same parameters. May be false of equal ones.
+fn same_steps(ones: &[Step], others: &[Step]) -> bool
+    ensures { IsTrue result → (components : List ℕ)
+        → sequence_sets (sequence_tree ones.now) components
+        ≡ sequence_sets (sequence_tree others.now) components }
+{
+    if ones.len() != others.len() || ones.len() > FEW {
+        return false;
+    }
+    let mut index = 0;
+    while index < ones.len() {
+        if !same_overrides(&ones[index].command, &others[index].command) {
+            return false;
+        }
+        index += 1;
+    }
+    true
+}
+
 impl<'a> Invoke<'a> {
     fn told(&self) -> Event
         ensures { result ≡ invoke_event self.now }
@@ -149,16 +210,42 @@ impl<'a> Invoke<'a> {
     }
 }
 
+// Some bits of a place.
+fn short(place: u64) -> u32 {
+    u32::try_from(place & 0xffff_ffff).unwrap_or(0)
+}
+
 impl<'a> Told<'a> {
     /// Those of an override at a place, at some components.
     pub(crate) fn sets(place: u64, components: Components<'a>, list: &'a ParamList) -> Told<'a>
         ensures { told_by result ≡ sets_at (components_of components.entry) list.now }
     {
-        let bits = u32::try_from(place & 0xffff_ffff).unwrap_or(0);
         Told::Sets {
-            bits,
+            bits: short(place),
             components,
             list,
+        }
+    }
+
+    /// Those of overrides that follow one another, at some components.
+    pub(crate) fn several(components: Components<'a>, steps: &'a [Step]) -> Told<'a>
+        requires { AreOverrides (sequence_tree steps.now) }
+        ensures { told_by result
+            ≡ sequence_sets (sequence_tree steps.now) (components_of components.entry) }
+    {
+        if let [step] = steps {
+            if let Command::Override(list) = &step.command {
+                return Told::sets(step.place, components, list);
+            }
+        }
+        let place = match steps.first() {
+            Some(step) => step.place,
+            None => 0,
+        };
+        Told::Several {
+            bits: short(place),
+            components,
+            steps,
         }
     }
 
@@ -243,6 +330,18 @@ impl<'a> Told<'a> {
                     ..
                 },
             ) => same_components(components, others) && same_short(list, other_list),
+            (
+                Told::Several {
+                    components,
+                    steps,
+                    ..
+                },
+                Told::Several {
+                    components: others,
+                    steps: other_steps,
+                    ..
+                },
+            ) => same_components(components, others) && same_steps(steps, other_steps),
             _ => false,
         }
     }
@@ -257,6 +356,7 @@ impl<'a> Told<'a> {
             Told::Failed { .. } => 0,
             Told::Invoked(invoke) => invoke.component,
             Told::Sets { .. } => SETS,
+            Told::Several { .. } => SETS,
         }
     }
 
@@ -278,6 +378,11 @@ impl<'a> Told<'a> {
                 components,
                 ..
             } => mixed(mixed(25, u64::from(*bits)), number_of(components)),
+            Told::Several {
+                bits,
+                components,
+                ..
+            } => mixed(mixed(26, u64::from(*bits)), number_of(components)),
         }
     }
 
@@ -285,8 +390,8 @@ impl<'a> Told<'a> {
     pub(crate) fn lent(self, memory: Memory<'a>) -> Result<&'a Told<'a>, AllocError>
         ensures { IfOk result (λ lent. told_by lent.now ≡ told_by self.entry) }
     {
-        let (component, print) = (self.component(), self.print());
-        if let Some(last) = memory.last_told(component, print) {
+        let print = self.print();
+        if let Some(last) = memory.last_told(print) {
             if last.is_same(&self) {
                 return Ok(last);
             }
@@ -298,7 +403,7 @@ impl<'a> Told<'a> {
         }
         match memory.events.try_alloc(self) {
             Ok(lent) => {
-                memory.keep_told(component, print, lent);
+                memory.keep_told(print, lent);
                 Ok(lent)
             }
             Err(_) => Err(AllocError),
@@ -330,6 +435,13 @@ impl<'a> Told<'a> {
                 ..
             } => {
                 return tell_all_sets(alloc, components, list, events);
+            }
+            Told::Several {
+                components,
+                steps,
+                ..
+            } => {
+                return tell_several(alloc, components, steps, events);
             }
         };
         events.push(event)?;

@@ -18,10 +18,16 @@ use crate::judge_plan::inner::{Outer, enter, enter_all, exhaust, leave_all, oute
 use crate::judge_plan::kept::{Kept, Stopped, add, put};
 use crate::judge_plan::memory::Memory;
 use crate::judge_plan::merged::{merged_states, settled};
+use crate::judge_plan::overriding::{
+    are_overrides, first_overrides, overrides_from, overrides_in_all, run_overrides,
+};
 use crate::judge_plan::reuse::reuse;
 use crate::judge_plan::selected::Selected;
 use std::alloc::AllocError;
 use suit_commands::{Branches, Command, Selection, Sequence, Step};
+
+// More overrides than these, one after another, are done in one state after another.
+const FEW: usize = 3;
 
 /// Runs a sequence from each of the states.
 #[cycle(walk)]
@@ -42,9 +48,18 @@ pub(crate) fn sequence<'a>(
     let mut now = from;
     let mut stops = Vec::new(memory.alloc);
     let mut left = 0;
-    for step in sequence.as_slice() {
-        now = command(memory, count, step, now, &mut stops)?;
-        stops = settled(memory, stops, &mut left)?;
+    let steps = sequence.as_slice();
+    let mut at = 0;
+    while at < steps.len() {
+        let overrides = overrides_from(steps, at);
+        if overrides.len() > FEW {
+            now = overrides_in_all(memory, overrides, now)?;
+            at += overrides.len();
+        } else {
+            now = command(memory, count, &steps[at], now, &mut stops)?;
+            stops = settled(memory, stops, &mut left)?;
+            at += 1;
+        }
     }
     join(failed, stops)?;
     Ok(now)
@@ -234,6 +249,10 @@ fn run<'a>(
         (λ h. Halts (λ identities. RunsInner (Runs inner.now identities count) component)
         (k.entry ∷ []) h) }
 {
+    let steps = inner.as_slice();
+    if are_overrides(steps) {
+        return Ok(put(run_overrides(memory, steps, component, false, k)?, next)?);
+    }
     let outer = outer_of(&k)?;
     let mut from = Vec::new(memory.alloc);
     from.push(enter(component, false, k))?;
@@ -264,6 +283,9 @@ fn try_each<'a>(
         (λ h. Halts (λ identities. Tries branches.now identities count place component)
         (k.entry ∷ []) h) }
 {
+    if let Some(steps) = first_overrides(branches) {
+        return Ok(put(run_overrides(memory, steps, component, true, k)?, next)?);
+    }
     let outer = outer_of(&k)?;
     let outer = &outer;
     let mut now = Vec::new(memory.alloc);

@@ -1,4 +1,4 @@
-use Rattle.std.proofs.Common.{rules, ◌≡◌, ◌<◌, ◌≤◌, ◌+◌, [], ◌∷◌, ◌++◌, List, drop, sym, ap, ◌∙◌, subst, arith}
+use Rattle.std.proofs.Common.{rules, true, false, ◌≡◌, ◌<◌, ◌≤◌, ◌+◌, [], ◌∷◌, ◌++◌, List, drop, sym, ap, ◌∙◌, subst, arith}
 use Rattle.std.proofs.lemmas.List.{drop_all}
 use Rattle.std.proofs.lemmas.Result.{err_from_is_err_and, on_ok_weaker, IfErr-weaker}
 use Rattle.std.specs.Prelude.{OnOk, IfErr}
@@ -15,6 +15,9 @@ use Rattle.path_checker.specs.Steps.{At}
 use Rattle.path_checker.specs.Halting.{Halts}
 use Rattle.path_checker.specs.Small.{IsSmallSequence, IsSmallCommand, AreSmallBranches, AreSmall}
 use Rattle.path_checker.proofs.DirectiveLeaves.{never_true}
+use Rattle.path_checker.specs.Inner.{entered, left}
+use Rattle.path_checker.specs.Overriding.{AreOverrides, overridden_by}
+use Rattle.path_checker.proofs.Overriding.{Walks-steps, small_steps, Adds-run_overrides, Adds-try_overrides}
 use Rattle.path_checker.proofs.Smallness.{small_step, small_index, small_branch}
 use Rattle.path_checker.proofs.Walking.{Walks, Walks-start, Walks-step, Walks-stops, Walks-end, runs_course, does_course}
 use Rattle.path_checker.proofs.Popping.{Pops-start, Pops-step, Pops-halt, Pops-moved, Pops-end, none_left, each_course, each_sole, does_each, Adds-same, Halts-same, Adds-index, Adds-at_index, Each-step, Each-stops}
@@ -126,35 +129,47 @@ run-returns-clause-ok t c =
     let one : c.push.new.self.items ≡ c.enter.result ∷ [] = c.in_ok-push.ensures.items ∙ ap (λ x. x ++ c.enter.result ∷ []) c.new-from.ensures.items in
     Adds-run (runs_course c.args.inner.now c.args.count) c.in_ok-outer.outer c.args.component c.args.k c.enter.result c.push.new.self.items c.in_ok-done.done.items c.args.next.now.items c.leave_all.new.next.items c.split.new.next.items c.sequence.new.failed.items c.args.failed.now.items c.split.new.failed.items c.new-stops.result.items c.in_ok-outer.ensures c.enter.ensures one c.new-stops.ensures.items c.in_ok-done.ensures.ok c.in_ok-leave_all.ensures c.in_ok-split.ensures.soft c.in_ok-split.ensures.hard
 
-pub sequence-loop-step-init : goal.sequence-loop-step-init
-sequence-loop-step-init t c = record {
-  whole = c.as_slice-step-items.ensures;
-  small = subst (λ (s : SequenceTree). IsSmallSequence c.args.count s) (sym c.as_slice-step-items.ensures) c.requires.small;
-  walks = subst (λ (s : SequenceTree). Walks (runs_course c.args.sequence.now c.args.count) c.args.from.items [] (runs_course s c.args.count) c.args.from.items c.new-stops.result.items) (sym c.as_slice-step-items.ensures) (subst (λ (f : List Stopped). Walks (runs_course c.args.sequence.now c.args.count) c.args.from.items [] (runs_course c.args.sequence.now c.args.count) c.args.from.items f) (sym c.new-stops.ensures.items) (Walks-start (runs_course c.args.sequence.now c.args.count) c.args.from.items []));
+pub sequence-loop-at-init : goal.sequence-loop-at-init
+sequence-loop-at-init t c = record {
+  within = search rules;
+  small = subst (λ (s : SequenceTree). IsSmallSequence c.args.count s) (sym c.as_slice-steps.ensures) c.requires.small;
+  walks = subst (λ (s : SequenceTree). Walks (runs_course c.args.sequence.now c.args.count) c.args.from.items [] (runs_course s c.args.count) c.args.from.items c.new-stops.result.items) (sym c.as_slice-steps.ensures) (subst (λ (f : List Stopped). Walks (runs_course c.args.sequence.now c.args.count) c.args.from.items [] (runs_course c.args.sequence.now c.args.count) c.args.from.items f) (sym c.new-stops.ensures.items) (Walks-start (runs_course c.args.sequence.now c.args.count) c.args.from.items []));
 }
 
 pub sequence-command-requires : goal.sequence-command-requires
 sequence-command-requires t c =
-    let e : deep-Step c.step-item.result ≤ sequence_size c.args.sequence.now = step_smaller c.as_slice-step-items.result.now c.loop-step.step-index c.step-item.result c.step-item.result c.args.sequence.now c.loop-step-test.true c.step-item.is c.loop-step.invariant.whole in
-    let small : IsSmallCommand c.args.count (command_tree c.step-item.result.command) = subst (λ (s : Step). IsSmallCommand c.args.count (command_tree s.command)) (sym c.step-item.is) (small_step c.args.count c.as_slice-step-items.result.now c.loop-step.step-index c.step-item.result c.loop-step-test.true c.loop-step.invariant.small).0 in
+    let e : deep-Step c.index-steps-at.result ≤ sequence_size c.args.sequence.now = step_smaller c.as_slice-steps.result.now c.loop-at.at c.index-steps-at.result c.index-steps-at.result c.args.sequence.now c.loop-at-test.true c.index-steps-at.is c.as_slice-steps.ensures in
+    let small : IsSmallCommand c.args.count (command_tree c.index-steps-at.result.command) = subst (λ (s : Step). IsSmallCommand c.args.count (command_tree s.command)) (sym c.index-steps-at.is) (small_step c.args.count c.as_slice-steps.result.now c.loop-at.at c.index-steps-at.result c.loop-at-test.true c.loop-at.invariant.small).0 in
     (omega (arith, e, c.decreases), small)
 
-pub sequence-returns-in_err-now-clause-err : goal.sequence-returns-in_err-now-clause-err
-sequence-returns-in_err-now-clause-err t c =
-    let p = err_from_is_err_and c.from_residual.result c.from_residual.ensures.1 in rw (p.1, p.2) (Walks-stops c.as_slice-step-items.result.now c.loop-step.step-index c.args.count c.step-item.result c.loop-step-test.true (runs_course c.args.sequence.now c.args.count) c.args.from.items c.loop-step.now.items [] c.loop-step.stops.items c.loop-step.invariant.walks c.in_err-now.field-0.0 (subst (λ (s : Step). Halts (does_course (command_tree s.command) c.args.count s.place) c.loop-step.now.items c.in_err-now.field-0.0) c.step-item.is c.in_err-now.ensures.err))
+pub sequence-returns-in_err-now-2-clause-err : goal.sequence-returns-in_err-now-2-clause-err
+sequence-returns-in_err-now-2-clause-err t c =
+    let p = err_from_is_err_and c.from_residual-in_err-now-2.result c.from_residual-in_err-now-2.ensures.1 in
+    rw (p.1, p.2) (Walks-stops c.as_slice-steps.result.now c.loop-at.at c.args.count c.index-steps-at.result c.loop-at-test.true (runs_course c.args.sequence.now c.args.count) c.args.from.items c.loop-at.now.items [] c.loop-at.stops.items c.loop-at.invariant.walks c.in_err-now-2.field-0.0 (subst (λ (s : Step). Halts (does_course (command_tree s.command) c.args.count s.place) c.loop-at.now.items c.in_err-now-2.field-0.0) c.index-steps-at.is c.in_err-now-2.ensures.err))
 
-pub sequence-loop-step-preserved : goal.sequence-loop-step-preserved
-sequence-loop-step-preserved t c = record {
-  whole = c.loop-step.invariant.whole;
-  small = (small_step c.args.count c.as_slice-step-items.result.now c.loop-step.step-index c.step-item.result c.loop-step-test.true c.loop-step.invariant.small).1;
-  walks = Walks-stops_merged (runs_course c.args.sequence.now c.args.count) _ c.args.from.items c.in_ok-now.now.items c.command.new.failed.items c.in_ok-stops.stops.items (Walks-step c.as_slice-step-items.result.now c.loop-step.step-index c.args.count c.step-item.result c.loop-step-test.true (runs_course c.args.sequence.now c.args.count) c.args.from.items c.loop-step.now.items [] c.loop-step.stops.items c.loop-step.invariant.walks c.in_ok-now.now.items c.command.new.failed.items (subst (λ (s : Step). Adds (does_course (command_tree s.command) c.args.count s.place) c.loop-step.now.items [] c.in_ok-now.now.items c.loop-step.stops.items c.command.new.failed.items) c.step-item.is c.in_ok-now.ensures.ok)) c.in_ok-stops.ensures;
+pub sequence-loop-at-preserved-then-overrides-gt-FEW : goal.sequence-loop-at-preserved-then-overrides-gt-FEW
+sequence-loop-at-preserved-then-overrides-gt-FEW t c = record {
+  within = omega (arith, c.overrides_from-overrides.ensures.fits);
+  small = small_steps c.as_slice-steps.result.now c.overrides_from-overrides.result.now c.loop-at.at c.args.count c.overrides_from-overrides.ensures.part c.loop-at.invariant.small;
+  walks = Walks-steps c.as_slice-steps.result.now c.overrides_from-overrides.result.now c.loop-at.at c.args.count (runs_course c.args.sequence.now c.args.count) c.args.from.items c.loop-at.now.items c.in_ok-now.now.items [] c.loop-at.stops.items c.loop-at.invariant.walks c.overrides_from-overrides.ensures.part (c.in_ok-now.ensures c.args.count);
+}
+
+pub sequence-loop-at-preserved : goal.sequence-loop-at-preserved
+sequence-loop-at-preserved t c = record {
+  within = omega (arith, c.loop-at-test.true);
+  small = (small_step c.args.count c.as_slice-steps.result.now c.loop-at.at c.index-steps-at.result c.loop-at-test.true c.loop-at.invariant.small).1;
+  walks = Walks-stops_merged (runs_course c.args.sequence.now c.args.count) _ c.args.from.items c.in_ok-now-2.now.items c.command.new.failed.items c.in_ok-stops.stops.items (Walks-step c.as_slice-steps.result.now c.loop-at.at c.args.count c.index-steps-at.result c.loop-at-test.true (runs_course c.args.sequence.now c.args.count) c.args.from.items c.loop-at.now.items [] c.loop-at.stops.items c.loop-at.invariant.walks c.in_ok-now-2.now.items c.command.new.failed.items (subst (λ (s : Step). Adds (does_course (command_tree s.command) c.args.count s.place) c.loop-at.now.items [] c.in_ok-now-2.now.items c.loop-at.stops.items c.command.new.failed.items) c.index-steps-at.is c.in_ok-now-2.ensures.ok)) c.in_ok-stops.ensures;
 }
 
 pub sequence-returns-clause-ok : goal.sequence-returns-clause-ok
 sequence-returns-clause-ok t c =
-    let none : drop c.loop-step.step-index c.as_slice-step-items.result.now ≡ [] = drop_all c.loop-step.step-index c.as_slice-step-items.result.now c.loop-step-test.false in
-    Adds-behind (runs_course c.args.sequence.now c.args.count) c.args.from.items c.loop-step.now.items c.args.failed.now.items c.join.new.failed.items c.loop-step.stops.items
-    (Walks-end (runs_course c.args.sequence.now c.args.count) c.args.from.items c.loop-step.now.items [] c.loop-step.stops.items (subst (λ xs. Walks (runs_course c.args.sequence.now c.args.count) c.args.from.items [] (runs_course (sequence_tree xs) c.args.count) c.loop-step.now.items c.loop-step.stops.items) none c.loop-step.invariant.walks)) c.in_ok-join.ensures
+    let none : drop c.loop-at.at c.as_slice-steps.result.now ≡ [] = drop_all c.loop-at.at c.as_slice-steps.result.now c.loop-at-test.false in
+    Adds-behind (runs_course c.args.sequence.now c.args.count) c.args.from.items c.loop-at.now.items c.args.failed.now.items c.join.new.failed.items c.loop-at.stops.items
+    (Walks-end (runs_course c.args.sequence.now c.args.count) c.args.from.items c.loop-at.now.items [] c.loop-at.stops.items (subst (λ xs. Walks (runs_course c.args.sequence.now c.args.count) c.args.from.items [] (runs_course (sequence_tree xs) c.args.count) c.loop-at.now.items c.loop-at.stops.items) none c.loop-at.invariant.walks)) c.in_ok-join.ensures
+
+pub run-returns-then-are_overrides-clause-ok : goal.run-returns-then-are_overrides-clause-ok
+run-returns-then-are_overrides-clause-ok t c =
+    Adds-run_overrides c.args.inner.now (subst AreOverrides c.as_slice-steps.ensures (c.are_overrides.ensures c.if-are_overrides.true)) c.args.count c.args.component c.args.k c.in_ok-run_overrides.field-0 c.args.next.now.items c.put.new.next.items c.args.failed.now.items (subst (λ (s : SequenceTree). c.in_ok-run_overrides.field-0 ≡ left c.args.k.state (overridden_by (entered c.args.k.state c.args.component false c.args.k) s)) c.as_slice-steps.ensures c.in_ok-run_overrides.ensures) c.in_ok-put.ensures
 
 pub try_each-loop-branch-init : goal.try_each-loop-branch-init
 try_each-loop-branch-init t c =
@@ -168,15 +183,19 @@ try_each-loop-branch-init t c =
 pub try_each-returns-in-None-clause-ok : goal.try_each-returns-in-None-clause-ok
 try_each-returns-in-None-clause-ok t c = Trying-null (rest_course c.args.branches.now c.args.count c.args.place c.args.component) c.args.k c.in_ok-outer.outer c.args.next.now.items c.loop-branch.next.items c.append.new.self.items c.args.failed.now.items c.loop-branch.failed.items c.loop-branch.now.items (subst (λ (r : Course). Trying (rest_course c.args.branches.now c.args.count c.args.place c.args.component) c.args.k c.in_ok-outer.outer c.args.next.now.items c.loop-branch.next.items c.args.failed.now.items c.loop-branch.failed.items r c.loop-branch.now.items) (at_none c.as_slice-branch-items.result.now c.loop-branch.branch-index c.args.count c.args.place c.args.component c.branch-item.result c.loop-branch-test.true (sym c.branch-item.is ∙ c.in-None.is)) c.loop-branch.invariant.trying) c.in_ok-append-in-None.ensures.items
 
-pub try_each-returns-in_err-now-in-Some-clause-err : goal.try_each-returns-in_err-now-in-Some-clause-err
-try_each-returns-in_err-now-in-Some-clause-err t c =
-    let p = err_from_is_err_and c.from_residual-in_err-now-in-Some.result c.from_residual-in_err-now-in-Some.ensures.1 in rw (p.1, p.2) (Trying-halt (rest_course c.args.branches.now c.args.count c.args.place c.args.component) (runs_course c.in-Some.inner c.args.count) (rest_course (branches_tree (drop (c.loop-branch.branch-index + 1) c.as_slice-branch-items.result.now)) c.args.count c.args.place) c.args.k c.in_ok-outer.outer c.args.component c.args.next.now.items c.loop-branch.next.items c.args.failed.now.items c.loop-branch.failed.items c.loop-branch.now.items (subst (λ (r : Course). Trying (rest_course c.args.branches.now c.args.count c.args.place c.args.component) c.args.k c.in_ok-outer.outer c.args.next.now.items c.loop-branch.next.items c.args.failed.now.items c.loop-branch.failed.items r c.loop-branch.now.items) (at_some c.as_slice-branch-items.result.now c.loop-branch.branch-index c.args.count c.args.place c.args.component c.branch-item.result c.in-Some.inner c.loop-branch-test.true (sym c.branch-item.is ∙ c.in-Some.is)) c.loop-branch.invariant.trying) c.in_err-now-in-Some.field-0.0 c.in_err-now-in-Some.ensures.err)
+pub try_each-returns-in-Some-clause-ok : goal.try_each-returns-in-Some-clause-ok
+try_each-returns-in-Some-clause-ok t c =
+    Adds-try_overrides (sequence_tree c.in-Some.steps.now) c.in-Some.ensures.first.0 c.args.branches.now c.in-Some.ensures.overrides c.in-Some.ensures.first.1 c.args.count c.args.place c.args.component c.args.k c.in_ok-run_overrides.field-0 c.args.next.now.items c.put.new.next.items c.args.failed.now.items c.in_ok-run_overrides.ensures c.in_ok-put.ensures
+
+pub try_each-returns-in_err-now-in-Some-branch-clause-err : goal.try_each-returns-in_err-now-in-Some-branch-clause-err
+try_each-returns-in_err-now-in-Some-branch-clause-err t c =
+    let p = err_from_is_err_and c.from_residual-in_err-now-in-Some-branch.result c.from_residual-in_err-now-in-Some-branch.ensures.1 in rw (p.1, p.2) (Trying-halt (rest_course c.args.branches.now c.args.count c.args.place c.args.component) (runs_course c.in-Some-branch.inner c.args.count) (rest_course (branches_tree (drop (c.loop-branch.branch-index + 1) c.as_slice-branch-items.result.now)) c.args.count c.args.place) c.args.k c.in_ok-outer.outer c.args.component c.args.next.now.items c.loop-branch.next.items c.args.failed.now.items c.loop-branch.failed.items c.loop-branch.now.items (subst (λ (r : Course). Trying (rest_course c.args.branches.now c.args.count c.args.place c.args.component) c.args.k c.in_ok-outer.outer c.args.next.now.items c.loop-branch.next.items c.args.failed.now.items c.loop-branch.failed.items r c.loop-branch.now.items) (at_some c.as_slice-branch-items.result.now c.loop-branch.branch-index c.args.count c.args.place c.args.component c.branch-item.result c.in-Some-branch.inner c.loop-branch-test.true (sym c.branch-item.is ∙ c.in-Some-branch.is)) c.loop-branch.invariant.trying) c.in_err-now-in-Some-branch.field-0.0 c.in_err-now-in-Some-branch.ensures.err)
 
 pub try_each-loop-branch-preserved : goal.try_each-loop-branch-preserved
 try_each-loop-branch-preserved t c = record {
   whole = c.loop-branch.invariant.whole;
-  small = (small_branch c.args.count c.as_slice-branch-items.result.now c.loop-branch.branch-index c.branch-item.result c.in-Some.inner c.loop-branch-test.true (sym c.branch-item.is ∙ c.in-Some.is) c.loop-branch.invariant.small).1;
-  trying = Trying-branch (rest_course c.args.branches.now c.args.count c.args.place c.args.component) (runs_course c.in-Some.inner c.args.count) (rest_course (branches_tree (drop (c.loop-branch.branch-index + 1) c.as_slice-branch-items.result.now)) c.args.count c.args.place) c.args.k c.in_ok-outer.outer c.args.component c.args.next.now.items c.loop-branch.next.items c.one_branch.new.next.items c.args.failed.now.items c.loop-branch.failed.items c.one_branch.new.failed.items c.loop-branch.now.items c.in_ok-now-in-Some.now.items (subst (λ (r : Course). Trying (rest_course c.args.branches.now c.args.count c.args.place c.args.component) c.args.k c.in_ok-outer.outer c.args.next.now.items c.loop-branch.next.items c.args.failed.now.items c.loop-branch.failed.items r c.loop-branch.now.items) (at_some c.as_slice-branch-items.result.now c.loop-branch.branch-index c.args.count c.args.place c.args.component c.branch-item.result c.in-Some.inner c.loop-branch-test.true (sym c.branch-item.is ∙ c.in-Some.is)) c.loop-branch.invariant.trying) c.in_ok-now-in-Some.ensures.ok;
+  small = (small_branch c.args.count c.as_slice-branch-items.result.now c.loop-branch.branch-index c.branch-item.result c.in-Some-branch.inner c.loop-branch-test.true (sym c.branch-item.is ∙ c.in-Some-branch.is) c.loop-branch.invariant.small).1;
+  trying = Trying-branch (rest_course c.args.branches.now c.args.count c.args.place c.args.component) (runs_course c.in-Some-branch.inner c.args.count) (rest_course (branches_tree (drop (c.loop-branch.branch-index + 1) c.as_slice-branch-items.result.now)) c.args.count c.args.place) c.args.k c.in_ok-outer.outer c.args.component c.args.next.now.items c.loop-branch.next.items c.one_branch.new.next.items c.args.failed.now.items c.loop-branch.failed.items c.one_branch.new.failed.items c.loop-branch.now.items c.in_ok-now-in-Some-branch.now.items (subst (λ (r : Course). Trying (rest_course c.args.branches.now c.args.count c.args.place c.args.component) c.args.k c.in_ok-outer.outer c.args.next.now.items c.loop-branch.next.items c.args.failed.now.items c.loop-branch.failed.items r c.loop-branch.now.items) (at_some c.as_slice-branch-items.result.now c.loop-branch.branch-index c.args.count c.args.place c.args.component c.branch-item.result c.in-Some-branch.inner c.loop-branch-test.true (sym c.branch-item.is ∙ c.in-Some-branch.is)) c.loop-branch.invariant.trying) c.in_ok-now-in-Some-branch.ensures.ok;
 }
 
 pub try_each-returns-clause-ok : goal.try_each-returns-clause-ok
@@ -186,9 +205,9 @@ try_each-returns-clause-ok t c =
 
 pub try_each-one_branch-requires : goal.try_each-one_branch-requires
 try_each-one_branch-requires t c =
-    let e : sequence_size c.in-Some.inner + 1 ≤ branches_size (branches_tree c.as_slice-branch-items.result.now) = branch_smaller c.as_slice-branch-items.result.now c.loop-branch.branch-index c.branch-item.result c.in-Some.inner c.loop-branch-test.true (sym c.branch-item.is ∙ c.in-Some.is) in
+    let e : sequence_size c.in-Some-branch.inner + 1 ≤ branches_size (branches_tree c.as_slice-branch-items.result.now) = branch_smaller c.as_slice-branch-items.result.now c.loop-branch.branch-index c.branch-item.result c.in-Some-branch.inner c.loop-branch-test.true (sym c.branch-item.is ∙ c.in-Some-branch.is) in
     let w : branches_size (branches_tree c.as_slice-branch-items.result.now) ≡ branches_size c.args.branches.now = ap branches_size c.loop-branch.invariant.whole in
-    let small : IsSmallSequence c.args.count c.in-Some.inner = (small_branch c.args.count c.as_slice-branch-items.result.now c.loop-branch.branch-index c.branch-item.result c.in-Some.inner c.loop-branch-test.true (sym c.branch-item.is ∙ c.in-Some.is) c.loop-branch.invariant.small).0 in
+    let small : IsSmallSequence c.args.count c.in-Some-branch.inner = (small_branch c.args.count c.as_slice-branch-items.result.now c.loop-branch.branch-index c.branch-item.result c.in-Some-branch.inner c.loop-branch-test.true (sym c.branch-item.is ∙ c.in-Some-branch.is) c.loop-branch.invariant.small).0 in
     (omega (arith, e, w, c.decreases), (c.requires.room, small))
 
 pub command-returns-clause-ok : goal.command-returns-clause-ok

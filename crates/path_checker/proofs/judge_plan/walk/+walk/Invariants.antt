@@ -1,4 +1,4 @@
-use Rattle.std.proofs.Common.{◌≡◌, [], ◌∷◌, drop, length}
+use Rattle.std.proofs.Common.{◌≡◌, ◌≤◌, ◌-◌, [], ◌∷◌, drop, length}
 use Rattle.suit_commands.specs.View.{sequence_tree, branches_tree, command_tree}
 use Rattle.path_checker.specs.Small.{AreSmall, IsSmallSequence, AreSmallBranches}
 use Rattle.path_checker.specs.Steps.{At}
@@ -20,12 +20,15 @@ invariant-all_at-loop-k l = Pops (At (command_tree l.step.command) l.count l.ste
 abbrev pub decreases-all_at-loop-k : goal.decreases-all_at-loop-k
 decreases-all_at-loop-k l = length l.now.items
 
-abbrev pub invariant-sequence-loop-step : goal.invariant-sequence-loop-step
-invariant-sequence-loop-step l = record {
-  whole : sequence_tree l.step-items ≡ l.sequence;
-  small : IsSmallSequence l.count (sequence_tree (drop l.step-index l.step-items));
-  walks : Walks (runs_course l.sequence l.count) l.fn.from.items [] (runs_course (sequence_tree (drop l.step-index l.step-items)) l.count) l.now.items l.stops.items;
+abbrev pub invariant-sequence-loop-at : goal.invariant-sequence-loop-at
+invariant-sequence-loop-at l = record {
+  within : l.at ≤ length l.steps;
+  small : IsSmallSequence l.count (sequence_tree (drop l.at l.steps));
+  walks : Walks (runs_course l.sequence l.count) l.fn.from.items [] (runs_course (sequence_tree (drop l.at l.steps)) l.count) l.now.items l.stops.items;
 }
+
+abbrev pub decreases-sequence-loop-at : goal.decreases-sequence-loop-at
+decreases-sequence-loop-at l = length l.steps - l.at
 
 abbrev pub invariant-each-loop-component : goal.invariant-each-loop-component
 invariant-each-loop-component l = record {
