@@ -2,6 +2,7 @@
 use Rattle.std.proofs.Common.{◌≡◌, ◌≢◌, ◌⊎◌, inl, inr, ⊎_elim, ℕ, List, Result, Ok, Err, refl}
 use Rattle.std.specs.Prelude.{IfErr, IfOk}
 use Rattle.std.specs.Result.{IsErrAnd, IsOk}
+use Rattle.manifest_view.specs.Views.{manifest_of}
 use Rattle.suit_commands.specs.Tree.{PlanTree}
 use Rattle.suit_envelope.specs.Envelopes.{EnvelopeSays}
 use Rattle.suit_envelope.specs.Said.{said_by}
@@ -18,7 +19,6 @@ use Rattle.admission.specs.declared.refusal.NotOpened.TheVariants as not_opened
 use Rattle.admission.specs.declared.refusal.NotSafe.{NotSafe}
 use Rattle.admission.specs.declared.refusal.NotSafe.TheVariants as not_safe
 use Rattle.admission.specs.declared.refusal.NotStartable.{NotStartable}
-use Rattle.admission.specs.declared.refusal.NotStartable.TheVariants as not_startable
 use Rattle.admission.specs.Opening.{IsNotOpened, IsOpened}
 use Rattle.admission.specs.Judging.{AreSafe, IsNotSafe}
 use Rattle.admission.specs.Starting.{IsNotStartable, IsStartable}
@@ -96,23 +96,14 @@ module _ (laws : AdmittingLaws) (layout : List Entry) (key bytes : List ℕ) whe
 
 -- ---- a start
 
-starting_or : (P : Type 0) (e : NotStartable) → (e ≢ not_startable.NoMemory → P) → P ⊎ (e ≡ not_startable.NoMemory)
-starting_or P (not_startable.NoEnvelope r) x = inl (x (λ (same : not_startable.NoEnvelope r ≡ not_startable.NoMemory). absurd cc))
-starting_or P (not_startable.NoManifest r) x = inl (x (λ (same : not_startable.NoManifest r ≡ not_startable.NoMemory). absurd cc))
-starting_or P (not_startable.NotAuthentic a) x = inl (x (λ (same : not_startable.NotAuthentic a ≡ not_startable.NoMemory). absurd cc))
-starting_or P (not_startable.UnknownComponent n) x = inl (x (λ (same : not_startable.UnknownComponent n ≡ not_startable.NoMemory). absurd cc))
-starting_or P not_startable.NoMemory x = inr refl
-
 module _ (laws : StartingLaws) (layout : List Entry) (key bytes : List ℕ) where
-  pub startable_exactly : (result : Result Start NotStartable) → IfErr result (λ e. e ≢ not_startable.NoMemory → IsNotStartable layout key bytes e)
-      → (said : EnvelopeSays) (manifest : Manifest) (places : Places) → IsStartable layout key bytes said manifest places → IfErr result (λ e. e ≡ not_startable.NoMemory)
-  startable_exactly (Ok o) refused said manifest places is = tt
-  startable_exactly (Err e) refused said manifest places is =
-      ⊎_elim (λ not. absurd (laws.never_both layout key bytes said manifest places e is not)) (λ none. none) (starting_or (IsNotStartable layout key bytes e) e refused)
+  pub startable_exactly : (result : Result Start NotStartable) → IfErr result (IsNotStartable layout key bytes)
+      → (said : EnvelopeSays) (manifest : Manifest) (places : Places) → IsStartable layout key bytes said manifest places → IsOk result
+  startable_exactly (Ok s) refused said manifest places is = refl
+  startable_exactly (Err e) refused said manifest places is = absurd (laws.never_both layout key bytes said manifest places e is refused)
 
-  pub not_startable_exactly : (result : Result Start NotStartable) → IfOk result (λ s. IsStartable layout key bytes (said_by s.envelope) s.manifest s.places)
-      → IfErr result (λ e. e ≢ not_startable.NoMemory → IsNotStartable layout key bytes e)
-      → (r : NotStartable) → IsNotStartable layout key bytes r → IsErrAnd result (λ e. StartAlike e r ⊎ (e ≡ not_startable.NoMemory))
-  not_startable_exactly (Ok s) startable refused r not = absurd (laws.never_both layout key bytes (said_by s.envelope) s.manifest s.places r startable not)
-  not_startable_exactly (Err e) startable refused r not =
-      ⊎_elim (λ x. inl (laws.one_refusal layout key bytes e r x not)) (λ none. inr none) (starting_or (IsNotStartable layout key bytes e) e refused)
+  pub not_startable_exactly : (result : Result Start NotStartable)
+      → IfOk result (λ s. IsStartable layout key bytes (said_by s.envelope) (manifest_of s.manifest) s.places) → IfErr result (IsNotStartable layout key bytes)
+      → (r : NotStartable) → IsNotStartable layout key bytes r → IsErrAnd result (λ e. StartAlike e r)
+  not_startable_exactly (Ok s) startable refused r not = absurd (laws.never_both layout key bytes (said_by s.envelope) (manifest_of s.manifest) s.places r startable not)
+  not_startable_exactly (Err e) startable refused r not = laws.one_refusal layout key bytes e r refused not

@@ -4,4 +4,5 @@ pub mod OneOpening
 pub mod OneAdmission
 pub mod OneStart
 pub mod Refusing
+pub mod LentIds
 pub mod Exact

@@ -39,7 +39,6 @@ module _ (layout : List Entry) (key bytes : List ℕ) where
   stops_so (refusals.NotAuthentic answer) x = past_manifest x.said x.manifest (refusals.NotAuthentic answer) x.spell (inl (Stopped answer x.unauthentic))
   stops_so (refusals.UnknownComponent component) x =
       past_manifest x.said x.manifest (refusals.UnknownComponent component) x.spell (inr (tt, x.authentic, inl (Stopped component x.unknown)))
-  stops_so refusals.NoMemory x = absurd x
 
   goes_so : (said : EnvelopeSays) (manifest : Manifest) (places : Places) → IsStartable layout key bytes said manifest places → all.goes
   goes_so said manifest places is = (said, is.spell.spell, (manifest, is.spell.says, (tt, is.authentic, (tt, (places, is.placed), tt))))

@@ -56,7 +56,6 @@ StartAlike (not_startable.NotAuthentic answer) (not_startable.NotAuthentic other
     TellSame answer other
 StartAlike (not_startable.UnknownComponent component) (not_startable.UnknownComponent other) =
     component ≡ other
-StartAlike not_startable.NoMemory not_startable.NoMemory = Unit {0}
 StartAlike _ _ = ⊥
 
 -- two admissions are of the same envelope, manifest and members

@@ -51,4 +51,3 @@ IsNotStartable layout key bytes (refusals.NoManifest r) = SpellNoManifest bytes 
 IsNotStartable layout key bytes (refusals.NotAuthentic answer) = IsStartUnauthentic key bytes answer
 IsNotStartable layout key bytes (refusals.UnknownComponent component) =
     IsStartUnknown layout key bytes component
-IsNotStartable layout key bytes refusals.NoMemory = ⊥

@@ -6,6 +6,7 @@
 mod admitting;
 mod judging;
 mod law;
+mod lent_places;
 mod opening;
 mod refusal;
 mod starting;

@@ -87,7 +87,6 @@ pub enum NotStartable<'a> {
     NotAuthentic(Authenticity<'a>),
     /// The first component that the layout lacks, by its index in the manifest.
     UnknownComponent(u32),
-    NoMemory,
 }
 
 impl<'a> From<NotOpened> for NotAdmitted<'a> {

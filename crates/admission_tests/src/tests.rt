@@ -76,6 +76,6 @@ fn layout_of_one(alloc: Global) -> Result<Layout, AllocError>
 fn the_authentic_envelope_is_admitted_and_started(rt: HostRuntime) -> Result<(), AllocError> {
     let layout = layout_of_one(rt.alloc())?;
     assert!(rt; admit(rt.alloc(), &layout, &[1], &AUTHENTIC).is_ok());
-    assert!(rt; startable(rt.alloc(), &layout, &[1], &AUTHENTIC).is_ok());
+    assert!(rt; startable(&layout, &[1], &AUTHENTIC).is_ok());
     Ok(())
 }

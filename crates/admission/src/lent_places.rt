@@ -1,0 +1,68 @@
+//! Where the components of a lent manifest stand in a layout.
+
+ghost use Rattle.std.specs.Prelude.{◌≡◌, ◌↔◌, ◌≤◌, ◌<◌, [], get_or, length, IfErr, IfOk, IsTrue, MatchOption};
+ghost use Rattle.flash_layout.specs.Placement.{ArePlaces, HasPlace, HaveOtherPlaces, IsFirstUnknown, IsUnknown};
+
+use flash_layout::{Entry, Layout, MAX_COMPONENTS, Places, Unknown};
+use manifest_view::{LentIdentifier, LentIdentifiers};
+use suit_params::Identifier;
+
+// Whether the bytes lend this identifier.
+fn is_lent(identifier: &Identifier, mut lent: LentIdentifier<'_>) -> bool
+    ensures { IsTrue result ↔ (identifier.now ≡ lent.entry) }
+{
+    for part in identifier.as_slice() {
+        match lent.next() {
+            Some(found) => {
+                if found != part.as_slice() {
+                    return false;
+                }
+            }
+            None => return false,
+        }
+    }
+    lent.next().is_none()
+}
+
+// The index of the component whose identifier is lent next.
+fn find_next(entries: &[Entry], ids: &mut LentIdentifiers<'_>) -> Option<usize>
+    requires { 0 < length ids.old }
+    ensures found { MatchOption result (IsUnknown entries.now (get_or ids.old 0 []))
+        (HasPlace entries.now (get_or ids.old 0 [])) }
+    ensures same { ids.new ≡ ids.old }
+{
+    for i in 0..entries.len() {
+        let mut again = ids.copy();
+        let next = again.next().unwrap();
+        if is_lent(&entries[i].identifier, next) {
+            return Some(i);
+        }
+    }
+    None
+}
+
+/// The places of a manifest's components in a layout, or the first component that the layout lacks. Takes no memory.
+pub(crate) fn places_lent(layout: &Layout, mut ids: LentIdentifiers<'_>) -> Result<Places, Unknown>
+    requires entries { length layout.now ≤ 8 }
+    requires components { length ids ≤ MAX_COMPONENTS }
+    ensures ok { IfOk result (ArePlaces layout.now ids.entry) }
+    ensures other { IfOk result (HaveOtherPlaces ids.entry) }
+    ensures unknown { IfErr result (λ u. IsFirstUnknown layout.now ids.entry u.component) }
+{
+    let entries = layout.as_slice();
+    let count = ids.len() as usize;
+    let mut layout_index = [0u32; MAX_COMPONENTS];
+    for k in 0..count {
+        match find_next(entries, &mut ids) {
+            Some(i) => layout_index[k] = i as u32,
+            None => return Err(Unknown {
+                component: k as u32,
+            }),
+        }
+        ids.next();
+    }
+    Ok(Places {
+        count: count as u32,
+        layout_index,
+    })
+}
