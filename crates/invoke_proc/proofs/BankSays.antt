@@ -1,5 +1,5 @@
 -- The bytes of a bank start one manifest, or nothing for one cause.
-use Rattle.std.proofs.Common.{◌≡◌, ◌≢◌, ⊎_elim, inl, inr, ℕ, List, refl, sym, ◌∙◌, ap}
+use Rattle.std.proofs.Common.{◌≡◌, ⊎_elim, inl, inr, ℕ, List, refl, sym, ◌∙◌, ap}
 use Rattle.suit_params.specs.declared.refusal.Refusal.{Refusal}
 use Rattle.suit_envelope.specs.declared.authenticity.Authenticity.{Authenticity}
 use Rattle.suit_envelope.specs.declared.authenticity.Authenticity.TheVariants as answers
@@ -35,48 +35,44 @@ same_end (refusals.NoEnvelope r) (refusals.NoEnvelope s) same = ap (λ (t : Refu
 same_end (refusals.NoManifest r) (refusals.NoManifest s) same = ap (λ (t : Refusal). ends.BadBank t) same
 same_end (refusals.NotAuthentic a) (refusals.NotAuthentic b) same = ap (λ (t : Lacking). ends.NotAuthentic t) (same_lacking a b same)
 same_end (refusals.UnknownComponent i) (refusals.UnknownComponent j) same = ap (λ (t : ℕ). ends.UnknownComponent t) same
-same_end refusals.NoMemory refusals.NoMemory same = refl
 same_end _ _ same = absurd same
 
 module _ (layout : List Entry) (key bytes : List ℕ) where
   -- ---- bytes that are refused are declined, and those that are declined refused
 
-  pub declined : (r : NotStartable) → (r ≢ refusals.NoMemory → IsNotStartable layout key bytes r) → IsDeclined layout key bytes (declined_as r)
-  declined (refusals.NoEnvelope r) is = inl (is (λ (same : refusals.NoEnvelope r ≡ refusals.NoMemory). absurd cc))
-  declined (refusals.NoManifest r) is = inr (is (λ (same : refusals.NoManifest r ≡ refusals.NoMemory). absurd cc))
-  declined (refusals.NotAuthentic a) is = (a, refl, is (λ (same : refusals.NotAuthentic a ≡ refusals.NoMemory). absurd cc))
-  declined (refusals.UnknownComponent i) is = is (λ (same : refusals.UnknownComponent i ≡ refusals.NoMemory). absurd cc)
-  declined refusals.NoMemory is = tt
+  pub declined : (r : NotStartable) → IsNotStartable layout key bytes r → IsDeclined layout key bytes (declined_as r)
+  declined (refusals.NoEnvelope r) is = inl is
+  declined (refusals.NoManifest r) is = inr is
+  declined (refusals.NotAuthentic a) is = (a, refl, is)
+  declined (refusals.UnknownComponent i) is = is
 
   abbrev Refused : BootEnd → Type 0
   Refused end = (r : NotStartable) × (declined_as r ≡ end) × IsNotStartable layout key bytes r
 
-  refused : (end : BootEnd) → end ≢ ends.NoMemory → IsDeclined layout key bytes end → Refused end
-  refused (ends.BadBank r) some x = ⊎_elim (λ none. (refusals.NoEnvelope r, refl, none)) (λ none. (refusals.NoManifest r, refl, none)) x
-  refused (ends.NotAuthentic lacking) some x = (refusals.NotAuthentic x.0, ap (λ (t : Lacking). ends.NotAuthentic t) x.1, x.2)
-  refused (ends.UnknownComponent i) some x = (refusals.UnknownComponent i, refl, x)
-  refused ends.NoMemory some x = absurd (some refl)
-  refused _ some x = absurd x
+  refused : (end : BootEnd) → IsDeclined layout key bytes end → Refused end
+  refused (ends.BadBank r) x = ⊎_elim (λ none. (refusals.NoEnvelope r, refl, none)) (λ none. (refusals.NoManifest r, refl, none)) x
+  refused (ends.NotAuthentic lacking) x = (refusals.NotAuthentic x.0, ap (λ (t : Lacking). ends.NotAuthentic t) x.1, x.2)
+  refused (ends.UnknownComponent i) x = (refusals.UnknownComponent i, refl, x)
+  refused _ x = absurd x
 
   -- ---- one cause, or a start
 
   module _ (laws : StartingLaws) where
-    pub one_cause : (a b : BootEnd) → a ≢ ends.NoMemory → b ≢ ends.NoMemory → IsDeclined layout key bytes a → IsDeclined layout key bytes b → a ≡ b
-    one_cause a b some other x y =
-        let r = refused a some x in
-        let q = refused b other y in
+    pub one_cause : (a b : BootEnd) → IsDeclined layout key bytes a → IsDeclined layout key bytes b → a ≡ b
+    one_cause a b x y =
+        let r = refused a x in
+        let q = refused b y in
         sym r.1 ∙ same_end r.0 q.0 (laws.one_refusal layout key bytes r.0 q.0 r.2 q.2) ∙ q.1
 
     module _ (said : EnvelopeSays) (m : Manifest) (is : IsStarted layout key bytes said m) where
       never : (r : NotStartable) → IsNotStartable layout key bytes r → ⊥
       never r is_not = laws.never_both layout key bytes said m is.0 r is.1 is_not
 
-      pub no_cause : (end : BootEnd) → IsDeclined layout key bytes end → end ≡ ends.NoMemory
-      no_cause (ends.BadBank r) x = absurd (⊎_elim (never (refusals.NoEnvelope r)) (never (refusals.NoManifest r)) x)
-      no_cause (ends.NotAuthentic lacking) x = absurd (never (refusals.NotAuthentic x.0) x.2)
-      no_cause (ends.UnknownComponent i) x = absurd (never (refusals.UnknownComponent i) x)
-      no_cause ends.NoMemory x = refl
-      no_cause _ x = absurd x
+      pub no_cause : (end : BootEnd) → IsDeclined layout key bytes end → ⊥
+      no_cause (ends.BadBank r) x = ⊎_elim (never (refusals.NoEnvelope r)) (never (refusals.NoManifest r)) x
+      no_cause (ends.NotAuthentic lacking) x = never (refusals.NotAuthentic x.0) x.2
+      no_cause (ends.UnknownComponent i) x = never (refusals.UnknownComponent i) x
+      no_cause _ x = x
 
 -- an installed envelope is started
 pub is_started : (layout : List Entry) (key : Key) (bytes : List ℕ) (r : Record) (is : IsInstalled layout key bytes r)

@@ -1,5 +1,5 @@
 -- The clauses of a boot about the flash, from those of its stages.
-use Rattle.std.proofs.Common.{◌≡◌, ◌≢◌, ◌⊎◌, inl, inr, ⊎_elim, ℕ, List, Option, Some, refl, sym, subst}
+use Rattle.std.proofs.Common.{◌≡◌, ◌⊎◌, inl, inr, ⊎_elim, ℕ, List, Option, Some, refl, sym, subst}
 use Rattle.suit_edge.specs.Flash.{Flash, IsFlash, IsSame, IsSettled}
 use Rattle.suit_edge.specs.FlashLaws.{keeps_same, keeps_then, same_flash_then}
 use Rattle.suit_edge.specs.declared.launch.Launch.{Launch}
@@ -7,6 +7,7 @@ use Rattle.suit_envelope.specs.Envelopes.{EnvelopeSays, map_entries}
 use Rattle.suit_envelope.specs.Payloads.{HasPayloads, integrated_payloads}
 use Rattle.suit_envelope.specs.Said.{EnvelopeOf, said_by}
 use Rattle.suit_manifest.specs.declared.manifest.Manifest.{Manifest}
+use Rattle.manifest_view.specs.Views.{manifest_of}
 use Rattle.suit_manifest.specs.Procedures.{invocation_tree}
 use Rattle.path_model.specs.declared.cause.Cause.TheVariants as causes
 use Rattle.flash_layout.specs.declared.key.Key.{Key}
@@ -14,7 +15,6 @@ use Rattle.flash_layout.specs.declared.layout.Entry.{Entry}
 use Rattle.flash_layout.specs.declared.slot.Record.{Record}
 use Rattle.rollback_record.specs.SoundFlash.{key_bytes}
 use Rattle.admission.specs.declared.refusal.NotStartable.{NotStartable}
-use Rattle.admission.specs.declared.refusal.NotStartable.TheVariants as refusals
 use Rattle.admission.specs.declared.starting.Start.{Start}
 use Rattle.admission.specs.Starting.{IsNotStartable, IsStartable}
 use Rattle.step_machine.specs.declared.plan_end.PlanEnd.{PlanEnd}
@@ -34,12 +34,10 @@ use Rattle.invoke_proc.proofs.BankSays.{declined}
 pub none_answers : (layout : List Entry) (key : Key) (reads : List ℕ) (fault : NoBank) → IsNoBank reads fault → Answers layout key reads (without_bank fault)
 none_answers layout key reads banks.NothingInstalled is = is
 none_answers layout key reads banks.FlashFault is = is
-none_answers layout key reads banks.NoMemory is = is
 
 pub none_plays : (P : PlanEnd → Type 0) (Same : Type 0) (launches : List Launch) (fault : NoBank) → Same → PlayedSo P Same launches launches (without_bank fault)
 none_plays P Same launches banks.NothingInstalled same = refl
 none_plays P Same launches banks.FlashFault same = inl (refl, same)
-none_plays P Same launches banks.NoMemory same = refl
 
 -- ---- of any answer
 
@@ -58,7 +56,6 @@ played_as P Q Same Also launched now (ends.UnknownComponent i) to also p = p
 played_as P Q Same Also launched now (ends.Condition place) to also p = to (plays.ConditionFailed place) p
 played_as P Q Same Also launched now (ends.Stopped place cause) to also p = to (plays.DirectiveFailed place cause) p
 played_as P Q Same Also launched now ends.FlashFault to also p = ⊎_elim (λ none. inl (none.0, also none.1)) (λ some. inr (some.0, to some.0 some.1, some.2)) p
-played_as P Q Same Also launched now ends.NoMemory to also p = p
 
 pub kept_as : (P Q R S : Type 0) (answer : BootEnd) → (P → Q) → (R → S) → KeptSo P R answer → KeptSo Q S answer
 kept_as P Q R S ends.Ended to also p = to p
@@ -69,7 +66,6 @@ kept_as P Q R S (ends.UnknownComponent i) to also p = also p
 kept_as P Q R S (ends.Condition place) to also p = to p
 kept_as P Q R S (ends.Stopped place cause) to also p = to p
 kept_as P Q R S ends.FlashFault to also p = ⊎_elim (λ same. inl (also same)) (λ kept. inr (to kept)) p
-kept_as P Q R S ends.NoMemory to also p = also p
 
 -- ---- where it is declined
 
@@ -78,11 +74,10 @@ module _ (layout : List Entry) (key : Key) (reads : List ℕ) (r : Record) (reco
   declined_answers (ends.BadBank refusal) is = (r, recorded, is)
   declined_answers (ends.NotAuthentic l) is = (r, recorded, is)
   declined_answers (ends.UnknownComponent i) is = (r, recorded, is)
-  declined_answers ends.NoMemory is = (r, recorded)
   declined_answers _ is = absurd is
 
   pub refused_answers : (word bytes : List ℕ) (refusal : NotStartable) (end : BootEnd) → word ≡ key_bytes key → bytes ≡ bank_in reads r → end ≡ declined_as refusal
-      → (refusal ≢ refusals.NoMemory → IsNotStartable layout word bytes refusal) → Answers layout key reads end
+      → IsNotStartable layout word bytes refusal → Answers layout key reads end
   refused_answers word bytes refusal end key_is bytes_is end_is refused =
       subst (λ (e : BootEnd). Answers layout key reads e) (sym end_is)
       (declined_answers (declined_as refusal)
@@ -97,18 +92,17 @@ module _ (layout : List Entry) (key : Key) (reads : List ℕ) (r : Record) (reco
     start_answers (ends.Condition place) is = (r, m, starts)
     start_answers (ends.Stopped place cause) is = (r, m, starts)
     start_answers ends.FlashFault is = tt
-    start_answers ends.NoMemory is = (r, recorded)
     start_answers _ is = absurd is
 
 -- ---- from the moment before the bank was read
 
 pub started_from : (layout : List Entry) (key : Key) (reads word bytes : List ℕ) (r : Record) (start : Start) → record_in reads (Some r) → word ≡ key_bytes key
-    → bytes ≡ bank_in reads r → IsStartable layout word bytes (said_by start.envelope) start.manifest start.places → Starts layout key reads r start.manifest
+    → bytes ≡ bank_in reads r → IsStartable layout word bytes (said_by start.envelope) (manifest_of start.manifest) start.places → Starts layout key reads r (manifest_of start.manifest)
 started_from layout key reads word bytes r start recorded key_is bytes_is is = record {
   recorded = recorded;
   said = said_by start.envelope;
-  started = subst (λ (l : List ℕ). IsStarted layout (key_bytes key) l (said_by start.envelope) start.manifest) bytes_is
-      (subst (λ (k : List ℕ). IsStarted layout k bytes (said_by start.envelope) start.manifest) key_is (start.places, is));
+  started = subst (λ (l : List ℕ). IsStarted layout (key_bytes key) l (said_by start.envelope) (manifest_of start.manifest)) bytes_is
+      (subst (λ (k : List ℕ). IsStarted layout k bytes (said_by start.envelope) (manifest_of start.manifest)) key_is (start.places, is));
 }
 
 pub payloads_in : (bytes : List ℕ) (said : EnvelopeSays) → EnvelopeOf bytes said → (payloads : List (List ℕ × List ℕ)) × HasPayloads bytes payloads

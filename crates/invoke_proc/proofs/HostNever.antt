@@ -8,7 +8,6 @@ use Rattle.path_model.specs.PlayLaws.{FaultedEnds, IsFaultIn}
 use Rattle.path_model.specs.Settings.{NamesFile, Setting}
 use Rattle.flash_layout.specs.declared.key.Key.{Key}
 use Rattle.flash_layout.specs.declared.layout.Entry.{Entry}
-use Rattle.step_machine.specs.declared.plan_end.PlanEnd.{PlanEnd}
 use Rattle.step_machine.specs.declared.plan_end.PlanEnd.TheVariants as plays
 use Rattle.step_machine.specs.PlanRuns.{PlaysPlan}
 use Rattle.invoke_proc.specs.declared.boot_end.BootEnd.{BootEnd}
@@ -52,4 +51,3 @@ module _ (laws : FaultedEnds) (layout : List Entry) (key : Key) (files : List â„
   never_host Same (ends.UnknownComponent i) p = tt
   never_host Same (ends.Condition place) p = tt
   never_host Same ends.FlashFault p = tt
-  never_host Same ends.NoMemory p = tt

@@ -6,3 +6,4 @@ pub mod HostNever
 pub mod BankRange
 pub mod Booted
 pub mod SoundBoot
+pub mod WritingSteps

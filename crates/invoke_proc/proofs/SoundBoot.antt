@@ -74,12 +74,12 @@ module _ (configs : OneConfigAnswer) (records : OneAnswer) (laws : BootLaws) (la
       (subst (λ (l : Key). IsInstalled layout l (bank_in reads s) s) same.1
       (subst (λ (l : List Entry). IsInstalled l k (bank_in reads s) s) same.0 installed))
 
-  -- so its bank is declined for want of memory alone
+  -- so its bank is not declined
   declined : (answer : BootEnd) (r : Record) → Sound VERSION_1 reads → record_in reads (Some r) → IsDeclined layout (key_bytes key) (bank_in reads r) answer → IsUnrefused answer
   declined answer r sound recorded is =
       let installed = installed_of r sound recorded in
       let start = laws.installed layout key (bank_in reads r) r installed in
-      subst IsUnrefused (sym (laws.none layout (key_bytes key) (bank_in reads r) start.0 installed.said answer installed.are_bytes start.1 is)) tt
+      absurd (laws.none layout (key_bytes key) (bank_in reads r) start.0 installed.said answer installed.are_bytes start.1 is)
 
   pub unrefused : (answer : BootEnd) → Sound VERSION_1 reads → Answers layout key reads answer → IsUnrefused answer
   unrefused (ends.BadBank refusal) sound is = declined (ends.BadBank refusal) is.0 sound is.1 is.2
@@ -146,7 +146,6 @@ module _ (safe : SafeLaunches) (faulted : FaultedSafeLaunches) (manifests : Mani
   played_gains P Same (ends.BadBank r) to p = nothing_gained p
   played_gains P Same (ends.NotAuthentic l) to p = nothing_gained p
   played_gains P Same (ends.UnknownComponent i) to p = nothing_gained p
-  played_gains P Same ends.NoMemory to p = nothing_gained p
 
 -- ---- the head
 
@@ -169,7 +168,6 @@ module _ (manifests : ManifestLaws) (size : ℕ) (layout : List Entry) (is : IsL
   head_kept (ends.BadBank r) k = keeps_same (InHead VERSION_1) a b k
   head_kept (ends.NotAuthentic l) k = keeps_same (InHead VERSION_1) a b k
   head_kept (ends.UnknownComponent i) k = keeps_same (InHead VERSION_1) a b k
-  head_kept ends.NoMemory k = keeps_same (InHead VERSION_1) a b k
 
 -- at the end, where nothing is pending, or nothing was started
 pub settled_end : (a b : Flash) (size : ℕ) → IsFlash b size → Settled VERSION_1 a → Passes a b (Sound VERSION_1) → IsSame a b ⊎ IsSettled b → Settled VERSION_1 b

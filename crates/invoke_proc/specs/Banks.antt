@@ -1,5 +1,5 @@
 -- The flash's configuration, its record, and the record's bank, as they are read.
-use Rattle.std.specs.Prelude.{◌≡◌, ℕ, List, Option, Some, None, Result, Err}
+use Rattle.std.specs.Prelude.{◌≡◌, ℕ, List, Option, None, Result, Err}
 use Rattle.suit_edge.specs.Faults.{Faulted}
 use Rattle.flash_layout.specs.declared.frame.TheConstants.{VERSION_1}
 use Rattle.flash_layout.specs.declared.key.Key.{Key}
@@ -26,11 +26,10 @@ record_in reads held = RecordOf VERSION_1 (head_of VERSION_1 reads) held
 abbrev pub bank_in : List ℕ → Record → List ℕ
 bank_in reads r = recorded_bank VERSION_1 (head_of VERSION_1 reads) r
 
--- no record is there; or one is, and memory runs out for its envelope
+-- no record is there
 abbrev pub IsNoBank : List ℕ → NoBank → Type 0
 IsNoBank reads banks.NothingInstalled = record_in reads None
 IsNoBank reads banks.FlashFault = Unit {0}
-IsNoBank reads banks.NoMemory = (r : Record) × record_in reads (Some r)
 
 -- the flash's count rose for its fault, and stayed otherwise
 abbrev pub BankCounts : {A : Type 0} → Result A NoBank → ℕ → ℕ → Type 0
@@ -41,4 +40,3 @@ BankCounts _ before now = now ≡ before
 abbrev pub without_bank : NoBank → BootEnd
 without_bank banks.NothingInstalled = ends.NothingInstalled
 without_bank banks.FlashFault = ends.FlashFault
-without_bank banks.NoMemory = ends.NoMemory

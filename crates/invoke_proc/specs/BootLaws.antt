@@ -1,5 +1,5 @@
 -- Laws of what the bank of a record says.
-use Rattle.std.specs.Prelude.{◌≡◌, ◌≢◌, ℕ, List}
+use Rattle.std.specs.Prelude.{◌≡◌, ℕ, List}
 use Rattle.std.specs.List.{AllByRecursion}
 use Rattle.det_cbor.specs.DataItem.{IsByte}
 use Rattle.suit_envelope.specs.Envelopes.{EnvelopeSays}
@@ -9,19 +9,17 @@ use Rattle.flash_layout.specs.declared.layout.Entry.{Entry}
 use Rattle.flash_layout.specs.declared.slot.Record.{Record}
 use Rattle.rollback_record.specs.SoundFlash.{IsInstalled, key_bytes}
 use Rattle.invoke_proc.specs.declared.boot_end.BootEnd.{BootEnd}
-use Rattle.invoke_proc.specs.declared.boot_end.BootEnd.TheVariants as ends
 use Rattle.invoke_proc.specs.Starting.{IsDeclined, IsStarted}
 
 pub record BootLaws : Type 0 where
   -- bytes have one cause to start nothing, at most
   pub one : (layout : List Entry) (key bytes : List ℕ) (a b : BootEnd) → AllByRecursion IsByte bytes
-      → a ≢ ends.NoMemory → b ≢ ends.NoMemory
       → IsDeclined layout key bytes a → IsDeclined layout key bytes b → a ≡ b
   -- and none where they start a manifest
   pub none : (layout : List Entry) (key bytes : List ℕ) (said : EnvelopeSays) (manifest : Manifest)
       (end : BootEnd)
       → AllByRecursion IsByte bytes
-      → IsStarted layout key bytes said manifest → IsDeclined layout key bytes end → end ≡ ends.NoMemory
+      → IsStarted layout key bytes said manifest → IsDeclined layout key bytes end → ⊥
   -- which is one
   pub same : (layout : List Entry) (key bytes : List ℕ) (said other : EnvelopeSays)
       (manifest next : Manifest)

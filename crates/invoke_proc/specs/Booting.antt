@@ -71,7 +71,6 @@ Answers layout key reads (ends.Condition place) =
 Answers layout key reads (ends.Stopped place cause) =
     (r : Record) × (m : Manifest) × Starts layout key reads r m
 Answers layout key reads ends.FlashFault = Unit {0}
-Answers layout key reads ends.NoMemory = (r : Record) × record_in reads (Some r)
 
 -- ---- the play
 

@@ -4,3 +4,4 @@ pub mod Banks
 pub mod BootLaws
 pub mod Booting
 pub mod Sound
+pub mod Writing

@@ -48,7 +48,6 @@ abbrev pub IsDeclined : List Entry → List ℕ → List ℕ → BootEnd → Typ
 IsDeclined layout key bytes (ends.BadBank r) = IsBad bytes r
 IsDeclined layout key bytes (ends.NotAuthentic lacking) = IsUnauthentic key bytes lacking
 IsDeclined layout key bytes (ends.UnknownComponent component) = IsUnknown layout key bytes component
-IsDeclined layout key bytes ends.NoMemory = Unit {0}
 IsDeclined layout key bytes _ = ⊥
 
 -- ---- the code's answer
@@ -58,4 +57,3 @@ declined_as (refusals.NoEnvelope r) = ends.BadBank r
 declined_as (refusals.NoManifest r) = ends.BadBank r
 declined_as (refusals.NotAuthentic answer) = ends.NotAuthentic (lacking_in answer)
 declined_as (refusals.UnknownComponent component) = ends.UnknownComponent component
-declined_as refusals.NoMemory = ends.NoMemory

@@ -1,30 +1,22 @@
 //! The installed record, and the envelope in its bank.
 
 ghost use Rattle.flash_layout.specs.declared.key.Key.{Key};
+ghost use Rattle.flash_layout.specs.declared.frame.TheConstants.{VERSION_1};
 ghost use Rattle.invoke_proc.specs.Banks.{BankCounts, IsNoBank, bank_in, config_in, record_in};
-ghost use Rattle.std.specs.Prelude.{◌≡◌, ◌≤◌, ◌<◌, IfErr, IfOk, IsTrue, Some, length};
+ghost use Rattle.std.specs.Prelude.{◌≡◌, ◌≤◌, ◌<◌, IfErr, IfOk, IsTrue, Some, length, take};
 ghost use Rattle.suit_edge.specs.Edge.{IfDone};
 ghost use Rattle.suit_edge.specs.Faults.{EdgeCounts};
 ghost use Rattle.suit_edge.specs.Flash.{Grows, IsSame};
 
-use flash_layout::{FlashFault, Layout, Record, VERSION_1, bank};
+use flash_layout::{FlashFault, Layout, Record, bank};
 use rollback_record::load_record_by;
-use std::alloc::{AllocError, Global};
 use suit_edge::{Disk, Edge};
-
-/// A record, and the envelope in its bank.
-#[derive(Drop)]
-pub(crate) struct Bank {
-    pub(crate) installed: Record,
-    pub(crate) bytes: Vec<u8>,
-}
 
 /// Why there is no envelope.
 #[derive(Clone, Copy, Debug, PartialEq, Eq)]
 pub(crate) enum NoBank {
     NothingInstalled,
     FlashFault,
-    NoMemory,
 }
 
 // Reads as much of a record's bank as the envelope takes.
@@ -43,60 +35,41 @@ fn read_into<D: Disk>(disk: &mut D, installed: &Record, room: &mut [u8]) -> Edge
     disk.read_at(bank(u64::from(installed.bank)), room)
 }
 
-fn read_over<D: Disk>(disk: &mut D, installed: &Record, bytes: &mut Vec<u8>) -> Edge
+// Reads the envelope in the bank of a record, to the front of a room for a whole bank.
+fn read_bank<D: Disk>(disk: &mut D, installed: &Record, room: &mut [u8]) -> Edge
     requires large { VERSION_1.size ≤ D.extent disk.old }
     requires bank { installed.now.bank < 2 }
     requires length { installed.now.length ≤ VERSION_1.bank_size }
-    requires room { length bytes.old.items ≡ installed.now.length }
+    requires room { length room.old ≡ VERSION_1.bank_size }
     ensures size { D.extent disk.new ≡ D.extent disk.old }
     ensures counts { EdgeCounts result (D.faults disk.old) (D.faults disk.new) }
-    ensures bytes { IsTrue D.told
-        → IfDone result (bytes.new.items ≡ bank_in (D.flash disk.old).reads installed.now) }
+    ensures room { length room.new ≡ length room.old }
+    ensures bytes { IsTrue D.told → IfDone result
+        (take installed.now.length room.new ≡ bank_in (D.flash disk.old).reads installed.now) }
     ensures same { IsTrue D.told → IsSame (D.flash disk.old) (D.flash disk.new) }
     ensures grows { IsTrue D.told → Grows (D.flash disk.old) (D.flash disk.new) }
 {
-    read_into(disk, installed, bytes)
+    read_into(disk, installed, &mut room[..installed.length as usize])
 }
 
-// The envelope in the bank of a record. Changes nothing, whatever it answers.
-fn read_bank<D: Disk>(alloc: Global, disk: &mut D, installed: &Record) -> Result<Vec<u8>, NoBank>
-    requires large { VERSION_1.size ≤ D.extent disk.old }
-    requires bank { installed.now.bank < 2 }
-    requires length { installed.now.length ≤ VERSION_1.bank_size }
-    requires recorded { IsTrue D.told → record_in (D.flash disk.old).reads (Some installed.now) }
-    ensures size { D.extent disk.new ≡ D.extent disk.old }
-    ensures counts { BankCounts result (D.faults disk.old) (D.faults disk.new) }
-    ensures bytes { IsTrue D.told
-        → IfOk result (λ bytes. bytes.items ≡ bank_in (D.flash disk.old).reads installed.now) }
-    ensures none { IsTrue D.told → IfErr result (IsNoBank (D.flash disk.old).reads) }
-    ensures same { IsTrue D.told → IsSame (D.flash disk.old) (D.flash disk.new) }
-    ensures grows { IsTrue D.told → Grows (D.flash disk.old) (D.flash disk.new) }
-{
-    let mut bytes = match vec![in alloc; 0u8; installed.length as usize] {
-        Ok(bytes) => bytes,
-        Err(AllocError) => return Err(NoBank::NoMemory),
-    };
-    match read_over(disk, installed, &mut bytes) {
-        Edge::Done => Ok(bytes),
-        Edge::Failed => Err(NoBank::FlashFault),
-    }
-}
-
-/// Reads the record of a flash with this layout and its bank's envelope. Changes nothing, whatever it answers.
+/// Reads the record of a flash with this layout, and its bank's envelope to the front of a room. Changes nothing on the
+/// flash, whatever it answers.
 pub(crate) fn find_bank<D: Disk>(
-    alloc: Global,
     disk: &mut D,
     layout: &Layout,
-) -> Result<Bank, NoBank>
+    room: &mut [u8],
+) -> Result<Record, NoBank>
     requires size { VERSION_1.size ≤ D.extent disk.old }
     requires config { IsTrue D.told
         → (key : Key) × config_in (D.extent disk.old) (D.flash disk.old).reads layout.now key }
+    requires room { length room.old ≡ VERSION_1.bank_size }
     ensures size { D.extent disk.new ≡ D.extent disk.old }
     ensures counts { BankCounts result (D.faults disk.old) (D.faults disk.new) }
     ensures recorded { IsTrue D.told
-        → IfOk result (λ b. record_in (D.flash disk.old).reads (Some b.installed)) }
+        → IfOk result (λ r. record_in (D.flash disk.old).reads (Some r)) }
+    ensures length { IfOk result (λ r. r.length ≤ length room.new) }
     ensures bytes { IsTrue D.told
-        → IfOk result (λ b. b.bytes.items ≡ bank_in (D.flash disk.old).reads b.installed) }
+        → IfOk result (λ r. take r.length room.new ≡ bank_in (D.flash disk.old).reads r) }
     ensures none { IsTrue D.told → IfErr result (IsNoBank (D.flash disk.old).reads) }
     ensures same { IsTrue D.told → IsSame (D.flash disk.old) (D.flash disk.new) }
     ensures grows { IsTrue D.told → Grows (D.flash disk.old) (D.flash disk.new) }
@@ -106,6 +79,8 @@ pub(crate) fn find_bank<D: Disk>(
         Ok(None) => return Err(NoBank::NothingInstalled),
         Err(FlashFault) => return Err(NoBank::FlashFault),
     };
-    let bytes = read_bank(alloc, disk, &installed)?;
-    Ok(Bank { installed, bytes })
+    match read_bank(disk, &installed, room) {
+        Edge::Done => Ok(installed),
+        Edge::Failed => Err(NoBank::FlashFault),
+    }
 }

@@ -38,8 +38,6 @@ pub enum BootEnd {
     Stopped { place: u64, cause: Cause },
     /// A call of the flash failed before the procedure, or the sync behind it, and its count of faults rose.
     FlashFault,
-    /// Memory ran out. Nothing was launched or written.
-    NoMemory,
 }
 
 impl<'a> From<Authenticity<'a>> for Lacking {
@@ -64,7 +62,6 @@ impl<'a> From<NotStartable<'a>> for BootEnd {
             NotStartable::NoManifest(refusal) => BootEnd::BadBank(refusal),
             NotStartable::NotAuthentic(answer) => BootEnd::NotAuthentic(Lacking::from(answer)),
             NotStartable::UnknownComponent(component) => BootEnd::UnknownComponent(component),
-            NotStartable::NoMemory => BootEnd::NoMemory,
         }
     }
 }

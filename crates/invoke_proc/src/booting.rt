@@ -2,6 +2,7 @@
 
 ghost use Rattle.flash_layout.specs.declared.frame.TheConstants.{VERSION_1};
 ghost use Rattle.flash_layout.specs.Configs.{IsAllowed};
+ghost use Rattle.flash_slots.specs.RamContents.{empty_ram};
 ghost use Rattle.invoke_proc.specs.Banks.{config_in, without_bank};
 ghost use Rattle.invoke_proc.specs.Booting.{Answers, GainsSafe, IfUnfaulted, KeepsBoot, KeptSo, NeverHost, PlayedSo, PlaysBoot};
 ghost use Rattle.invoke_proc.specs.Counting.{BootCounts};
@@ -14,15 +15,13 @@ ghost use Rattle.suit_edge.specs.Flash.{Grows, IsSame, IsSettled, Passes};
 use crate::bank::{NoBank, find_bank};
 use crate::law::boot_laws;
 use crate::running::start;
-use crate::{BootEnd, key_bytes};
+use crate::{BootBuffer, BootEnd, key_bytes};
 use admission::startable;
 use flash_layout::{Key, Layout, config_laws};
 use path_model::play_laws;
 use rollback_record::{record_laws, sound_laws};
-use std::alloc::Global;
 use step_machine::has_identifiers;
 use suit_edge::{Disk, Host, Launcher};
-use suit_envelope::envelope_laws;
 use suit_manifest::{manifest_laws, procedure_laws};
 
 // The answer where no envelope is read.
@@ -32,19 +31,19 @@ fn without_bank(fault: NoBank) -> BootEnd
     match fault {
         NoBank::NothingInstalled => BootEnd::NothingInstalled,
         NoBank::FlashFault => BootEnd::FlashFault,
-        NoBank::NoMemory => BootEnd::NoMemory,
     }
 }
 
 // Starts what the flash has, whether it is sound or not.
 fn start_installed<H: Host, D: Disk, L: Launcher>(
-    alloc: Global,
-    layout: &Layout,
-    key: &Key,
+    buffer: BootBuffer,
     host: &mut H,
     disk: &mut D,
     launcher: &mut L,
+    layout: &Layout,
+    key: &Key,
 ) -> BootEnd
+    requires room { buffer ≡ empty_ram layout.now }
     requires allowed { IsAllowed VERSION_1 (D.extent disk.old) layout.now key.now }
     requires held { IsTrue D.told
         → config_in (D.extent disk.old) (D.flash disk.old).reads layout.now key.now }
@@ -68,42 +67,37 @@ fn start_installed<H: Host, D: Disk, L: Launcher>(
         → KeptSo (KeepsBoot layout.now key.now (D.flash disk.old) (D.flash disk.new))
         (IsSame (D.flash disk.old) (D.flash disk.new)) result }
 {
-    envelope_laws();
     manifest_laws();
     procedure_laws();
-    let bank = match find_bank(alloc, disk, layout) {
-        Ok(bank) => bank,
+    let BootBuffer { mut bank, working } = buffer;
+    let installed = match find_bank(disk, layout, &mut bank) {
+        Ok(installed) => installed,
         Err(fault) => return without_bank(fault),
     };
-    let startable = match startable(alloc, layout, key_bytes(key), bank.bytes.as_slice()) {
+    let bytes = &bank[..installed.length as usize];
+    let startable = match startable(layout, key_bytes(key), bytes) {
         Ok(startable) => startable,
         Err(refusal) => return BootEnd::from(refusal),
     };
-    start(
-        alloc,
-        host,
-        disk,
-        launcher,
-        layout,
-        &bank.installed,
-        &startable,
-    )
+    start(host, disk, launcher, layout, &installed, startable, working)
 }
 
 /// Starts what is installed (draft-ietf-suit-manifest-25, section 6): the invocation procedure of the manifest in the
 /// bank of the flash's record, on the active slots, with working memory empty.
 ///
 /// The bank is judged first: the envelope and its manifest, whether the envelope is authentic under the key, and whether
-/// the layout has the manifest's components. All memory is taken before anything is launched or written. The layout and
-/// the key are those of the flash. Names of files are answered by none, so the host is not called.
+/// the layout has the manifest's components. The buffer is one that was made for the layout; no other memory is taken, so
+/// that it cannot run out. The layout and the key are those of the flash. Names of files are answered by none, so the host
+/// is not called.
 pub fn boot<H: Host, D: Disk, L: Launcher>(
-    alloc: Global,
+    buffer: BootBuffer,
     host: &mut H,
     disk: &mut D,
     launcher: &mut L,
     layout: &Layout,
     key: &Key,
 ) -> BootEnd
+    requires room { buffer ≡ empty_ram layout.now }
     requires allowed { IsAllowed VERSION_1 (D.extent disk.old) layout.now key.now }
     requires held { IsTrue D.told
         → config_in (D.extent disk.old) (D.flash disk.old).reads layout.now key.now }
@@ -145,5 +139,5 @@ pub fn boot<H: Host, D: Disk, L: Launcher>(
     manifest_laws();
     play_laws();
     boot_laws();
-    start_installed(alloc, layout, key, host, disk, launcher)
+    start_installed(buffer, host, disk, launcher, layout, key)
 }

@@ -1,33 +1,29 @@
 //! Running the invocation procedure.
 
-ghost use Rattle.admission.specs.Opening.{HasManifest};
 ghost use Rattle.flash_layout.specs.declared.frame.TheConstants.{VERSION_1};
 ghost use Rattle.flash_layout.specs.Layouts.{IsLayout};
 ghost use Rattle.flash_layout.specs.Placement.{ArePlaces};
-ghost use Rattle.invoke_proc.specs.Booting.{IfUnfaulted, IsStartEnd, KeepsOthers, KeptSo, PlayedSo, PlaysOn, SettledSo, WritesNothing, end_of};
+ghost use Rattle.flash_slots.specs.RamContents.{empty_ram};
+ghost use Rattle.invoke_proc.specs.Booting.{IfUnfaulted, IsStartEnd, KeepsOthers, KeptSo, PlayedSo, PlaysOn, SettledSo, end_of};
 ghost use Rattle.invoke_proc.specs.Counting.{BootCounts};
-ghost use Rattle.std.specs.Prelude.{◌≡◌, ◌≤◌, ◌^◌, ◌⊎◌, ℕ, IsTrue, List, length};
+ghost use Rattle.manifest_view.specs.Views.{manifest_of};
+ghost use Rattle.std.specs.Prelude.{◌≡◌, ◌≤◌, ◌⊎◌, [], IsTrue, false, length};
 ghost use Rattle.step_machine.specs.PlanRuns.{counts_of};
 ghost use Rattle.step_machine.specs.Worlds.{AreDistinct};
 ghost use Rattle.suit_commands.specs.Allowed.{IsPlan};
-ghost use Rattle.suit_commands.specs.Plans.{plan_tree};
 ghost use Rattle.suit_edge.specs.Flash.{Grows, IsSame, IsSettled};
-ghost use Rattle.suit_envelope.specs.Places.{PartsEndBelow};
-ghost use Rattle.suit_envelope.specs.Said.{said_by};
 ghost use Rattle.suit_manifest.specs.Procedures.{invocation_tree};
 
 use crate::BootEnd;
+use crate::buffer::Working;
 use crate::components::world_in;
+use crate::writing::may_write;
 use admission::Start;
 use flash_layout::{Layout, NoTrail, Record};
 use manifest_programs::invocation_program;
-use manifest_view::ManifestView;
 use path_model::Cause;
-use std::alloc::{AllocError, Global};
-use step_machine::{PlanEnd, Steps, Uris, run_plan};
-use suit_commands::{Plan, targets};
+use step_machine::{PlanEnd, Steps, run_plan};
 use suit_edge::{Disk, Edge, Host, Launcher};
-use suit_manifest::invocation_plan;
 
 // The answer of a procedure that ended so.
 fn end_of(end: PlanEnd) -> BootEnd
@@ -41,13 +37,12 @@ fn end_of(end: PlanEnd) -> BootEnd
 }
 
 // Syncs what a procedure wrote, unless it writes nothing or a fault of the flash ended it.
-fn settle<D: Disk>(disk: &mut D, plan: &Plan<'_>, end: PlanEnd) -> BootEnd
-    requires { IsPlan (plan_tree plan.now) }
+fn settle<D: Disk>(disk: &mut D, writes: bool, end: PlanEnd) -> BootEnd
     ensures read { ⟦<D as Steps>⟧.only_reads (SettledSo end result) disk.old disk.new }
     ensures settled { IsTrue D.told
-        → IfUnfaulted result (WritesNothing (plan_tree plan.now) ⊎ IsSettled (D.flash disk.new)) }
+        → IfUnfaulted result ((writes ≡ false) ⊎ IsSettled (D.flash disk.new)) }
 {
-    if targets(plan).bits == 0 {
+    if !writes {
         return end_of(end);
     }
     match end {
@@ -64,24 +59,23 @@ fn settle<D: Disk>(disk: &mut D, plan: &Plan<'_>, end: PlanEnd) -> BootEnd
 }
 
 /// Starts what was judged: runs the invocation procedure of the manifest on its active slots, with working memory empty. It
-/// has no payloads: those of the envelope in the bank are not fetched.
-/// All memory is taken before anything is launched or written.
+/// has no payloads: those of the envelope in the bank are not fetched. Takes no memory.
 pub(crate) fn start<H: Host, D: Disk, L: Launcher>(
-    alloc: Global,
     host: &mut H,
     disk: &mut D,
     launcher: &mut L,
     layout: &Layout,
     installed: &Record,
-    startable: &Start<'_>,
+    startable: Start<'_>,
+    working: Working,
 ) -> BootEnd
     requires layout { IsLayout VERSION_1 (D.extent disk.old) layout.now }
-    requires placed { ArePlaces layout.now startable.now.manifest.components startable.now.places }
-    requires distinct { AreDistinct layout.now startable.now.places }
-    requires few { length startable.now.manifest.components ≤ 8 }
-    requires plan { IsPlan (invocation_tree startable.now.manifest) }
-    requires manifest { HasManifest (said_by startable.now.envelope) startable.now.manifest }
-    requires ends { PartsEndBelow (2 ^ 64) (said_by startable.now.envelope) }
+    requires placed { ArePlaces layout.now startable.manifest.components startable.places }
+    requires distinct { AreDistinct layout.now startable.places }
+    requires few { length startable.manifest.components ≤ 8 }
+    requires plan { IsPlan (invocation_tree (manifest_of startable.manifest)) }
+    requires ram { working.ram ≡ empty_ram layout.now }
+    requires uris { working.uris ≡ [] }
     ensures size { D.extent disk.new ≡ D.extent disk.old }
     ensures starts { IsStartEnd result }
     ensures counts { BootCounts result
@@ -91,28 +85,23 @@ pub(crate) fn start<H: Host, D: Disk, L: Launcher>(
     ensures unasked { host.new ≡ host.old }
     ensures plays { IsTrue D.told → IsTrue L.told
         → PlayedSo
-        (PlaysOn layout.now startable.now.manifest installed.now.active (H.file host.old)
+        (PlaysOn layout.now (manifest_of startable.entry.manifest) installed.now.active (H.file host.old)
         (D.flash disk.old).reads (D.flash disk.new).reads (L.launches launcher.old)
         (L.launches launcher.new))
         ((D.flash disk.new).reads ≡ (D.flash disk.old).reads)
         (L.launches launcher.old) (L.launches launcher.new) result }
     ensures keeps { IsTrue D.told → KeptSo
-        (KeepsOthers layout.now startable.now.manifest installed.now.active (D.flash disk.old)
+        (KeepsOthers layout.now (manifest_of startable.entry.manifest) installed.now.active (D.flash disk.old)
         (D.flash disk.new))
         (IsSame (D.flash disk.old) (D.flash disk.new)) result }
     ensures settled { IsTrue D.told → IfUnfaulted result
         (IsSame (D.flash disk.old) (D.flash disk.new) ⊎ IsSettled (D.flash disk.new)) }
     ensures grows { IsTrue D.told → Grows (D.flash disk.old) (D.flash disk.new) }
 {
-    let uris = Uris::new(alloc);
-    let mut world = match world_in(alloc, layout, installed, &uris, startable) {
-        Ok(world) => world,
-        Err(AllocError) => return BootEnd::NoMemory,
-    };
-    let envelope = &startable.envelope;
-    let view = ManifestView::read(envelope.manifest, envelope.manifest_place).unwrap();
-    let program = invocation_program(view);
+    let Working { ram, uris } = working;
+    let mut world = world_in(layout, installed, ram, &uris, &startable);
+    let mut program = invocation_program(startable.manifest);
+    let writes = may_write(program.copy());
     let end = run_plan(host, disk, launcher, &mut world, program, &mut NoTrail);
-    let plan = invocation_plan(&startable.manifest);
-    settle(disk, &plan, end)
+    settle(disk, writes, end)
 }

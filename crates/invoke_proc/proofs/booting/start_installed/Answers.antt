@@ -1,4 +1,5 @@
-use Rattle.std.proofs.Common.{◌≡◌, ◌∙◌, ◌<◌, ◌^◌, length, sym, subst, arith}
+use Rattle.std.proofs.Common.{◌≡◌, ◌∙◌, sym, subst}
+use Rattle.manifest_view.specs.Views.{manifest_of}
 use Rattle.suit_edge.specs.Flash.{IsSame}
 use Rattle.suit_edge.specs.FlashLaws.{same_flash_then}
 use Rattle.invoke_proc.specs.declared.boot_end.BootEnd.{BootEnd}
@@ -10,8 +11,8 @@ use Rattle.invoke_proc.proofs.booting.start_installed.Goals as goal
 
 pub returns-in-Err-startable-clause-answers : goal.returns-in-Err-startable-clause-answers
 returns-in-Err-startable-clause-answers g c t =
-    booted.refused_answers c.args.layout.now c.args.key.now (g.D.Disk.flash c.args.disk.now).reads c.in-Ok.bank.installed (c.in-Ok.ensures.recorded t) c.key_bytes.result.now
-    c.as_slice.result.now c.in-Err-startable.refusal c.from.result c.key_bytes.ensures (c.as_slice.ensures.value ∙ c.in-Ok.ensures.bytes t) c.from.ensures c.in-Err-startable.ensures.refused
+    booted.refused_answers c.args.layout.now c.args.key.now (g.D.Disk.flash c.args.disk.now).reads c.in-Ok.installed (c.in-Ok.ensures.recorded t) c.key_bytes.result.now
+    _ c.in-Err-startable.refusal c.from.result c.key_bytes.ensures (c.in-Ok.ensures.bytes t) c.from.ensures c.in-Err-startable.ensures.refused
 
 pub returns-in-Err-clause-answers : goal.returns-in-Err-clause-answers
 returns-in-Err-clause-answers g c t =
@@ -28,33 +29,25 @@ returns-in-Err-clause-plays g c td tl =
 
 pub start-requires-clause-distinct : goal.start-requires-clause-distinct
 start-requires-clause-distinct g c =
-    let m = c.in-Ok-startable.startable.manifest in
+    let m = manifest_of c.in-Ok-startable.startable.manifest in
     let holds = c.in-Ok-startable.ensures.startable.spell.says in
     let grammar = c.manifest_laws.ensures.grammatical _ holds.item m holds.says_so in
     are_distinct c.args.layout.now m.components c.in-Ok-startable.startable.places grammar.few grammar.apart c.in-Ok-startable.ensures.startable.placed c.in-Ok-startable.ensures.other
 
-pub start-requires-clause-manifest : goal.start-requires-clause-manifest
-start-requires-clause-manifest g c = c.in-Ok-startable.ensures.startable.spell.says
-
-pub start-requires-clause-ends : goal.start-requires-clause-ends
-start-requires-clause-ends g c =
-    let fits : length c.as_slice.result.now < 2 ^ 64 = omega arith in
-    c.envelope_laws.ensures.ends c.as_slice.result.now _ (2 ^ 64) c.in-Ok-startable.ensures.startable.spell.spell.envelope fits
-
 pub start-requires-clause-plan : goal.start-requires-clause-plan
 start-requires-clause-plan g c =
     let holds = c.in-Ok-startable.ensures.startable.spell.says in
-    c.procedure_laws.ensures.invocation _ holds.item c.in-Ok-startable.startable.manifest holds.says_so
+    c.procedure_laws.ensures.invocation _ holds.item (manifest_of c.in-Ok-startable.startable.manifest) holds.says_so
 
 pub returns-clause-answers : goal.returns-clause-answers
 returns-clause-answers g c t =
     let reads = (g.D.Disk.flash c.args.disk.now).reads in
-    let r = c.in-Ok.bank.installed in
+    let r = c.in-Ok.installed in
     let recorded = c.in-Ok.ensures.recorded t in
-    let m = c.in-Ok-startable.startable.manifest in
+    let m = manifest_of c.in-Ok-startable.startable.manifest in
     booted.start_answers c.args.layout.now c.args.key.now reads r recorded m
-    (booted.started_from c.args.layout.now c.args.key.now reads c.key_bytes.result.now c.as_slice.result.now r c.in-Ok-startable.startable recorded c.key_bytes.ensures
-    (c.as_slice.ensures.value ∙ c.in-Ok.ensures.bytes t) c.in-Ok-startable.ensures.startable)
+    (booted.started_from c.args.layout.now c.args.key.now reads c.key_bytes.result.now _ r c.in-Ok-startable.startable recorded c.key_bytes.ensures
+    (c.in-Ok.ensures.bytes t) c.in-Ok-startable.ensures.startable)
     c.start.result c.start.ensures.starts
 
 pub returns-clause-plays : goal.returns-clause-plays
@@ -66,10 +59,10 @@ returns-clause-plays g c td tl =
     let files = g.H.Host.file c.args.host.now in
     let launched = g.L.Launcher.launches c.args.launcher.now in
     let now = g.L.Launcher.launches c.start.new.launcher in
-    let r = c.in-Ok.bank.installed in
-    let m = c.in-Ok-startable.startable.manifest in
-    let same = c.as_slice.ensures.value ∙ c.in-Ok.ensures.bytes td in
-    let starts = booted.started_from c.args.layout.now c.args.key.now reads c.key_bytes.result.now c.as_slice.result.now r c.in-Ok-startable.startable (c.in-Ok.ensures.recorded td) c.key_bytes.ensures
+    let r = c.in-Ok.installed in
+    let m = manifest_of c.in-Ok-startable.startable.manifest in
+    let same = c.in-Ok.ensures.bytes td in
+    let starts = booted.started_from c.args.layout.now c.args.key.now reads c.key_bytes.result.now _ r c.in-Ok-startable.startable (c.in-Ok.ensures.recorded td) c.key_bytes.ensures
     same c.in-Ok-startable.ensures.startable in
     booted.played_as (PlaysOn c.args.layout.now m r.active files before after launched now) (PlaysBoot c.args.layout.now c.args.key.now files reads after launched now)
     (after ≡ before) (after ≡ reads) launched now c.start.result
@@ -83,11 +76,11 @@ returns-clause-keeps g c t =
     let a = d.flash c.args.disk.now in
     let b = d.flash c.find_bank.new.disk in
     let e = d.flash c.start.new.disk in
-    let r = c.in-Ok.bank.installed in
-    let m = c.in-Ok-startable.startable.manifest in
+    let r = c.in-Ok.installed in
+    let m = manifest_of c.in-Ok-startable.startable.manifest in
     let law = g.met.D.Disk.obeys c.find_bank.new.disk t in
-    let starts = booted.started_from c.args.layout.now c.args.key.now a.reads c.key_bytes.result.now c.as_slice.result.now r c.in-Ok-startable.startable (c.in-Ok.ensures.recorded t) c.key_bytes.ensures
-    (c.as_slice.ensures.value ∙ c.in-Ok.ensures.bytes t) c.in-Ok-startable.ensures.startable in
+    let starts = booted.started_from c.args.layout.now c.args.key.now a.reads c.key_bytes.result.now _ r c.in-Ok-startable.startable (c.in-Ok.ensures.recorded t) c.key_bytes.ensures
+    (c.in-Ok.ensures.bytes t) c.in-Ok-startable.ensures.startable in
     booted.kept_as (KeepsOthers c.args.layout.now m r.active b e) (KeepsBoot c.args.layout.now c.args.key.now a e) (IsSame b e) (IsSame a e) c.start.result
     (booted.keeps_boot c.args.layout.now c.args.key.now r m a b e _ law (c.in-Ok.ensures.same t) starts)
     (same_flash_then a b e _ law (c.in-Ok.ensures.same t)) (c.start.ensures.keeps t)
