@@ -140,7 +140,7 @@ module _ (configs : OneConfigAnswer) (records : OneAnswer) (laws : BootLaws) whe
               (contents_of t (empty_ram R.layout) b.flash.reads) (contents_of t on.ram a.flash.reads) l.launches n.launches) standings on.plays;
         }
 
-    never_declined : (r : Record) → RecordOf VERSION_1 (head_of VERSION_1 b.flash.reads) (Some r) → (end : BootEnd) → IsDeclined R.layout (key_bytes R.key) (bank_in b.flash.reads r) end → end ≡ ends.NoMemory
+    never_declined : (r : Record) → RecordOf VERSION_1 (head_of VERSION_1 b.flash.reads) (Some r) → (end : BootEnd) → IsDeclined R.layout (key_bytes R.key) (bank_in b.flash.reads r) end → ⊥
     never_declined r recorded end declined =
         let start = laws.installed R.layout R.key Bank R.installed R.is in
         laws.none R.layout (key_bytes R.key) Bank start.0 R.is.said end R.is.are_bytes start.1
@@ -158,7 +158,7 @@ module _ (configs : OneConfigAnswer) (records : OneAnswer) (laws : BootLaws) whe
       recorded_there : (r : Option Record) → RecordOf VERSION_1 (head_of VERSION_1 mid.flash.reads) r → RecordOf VERSION_1 (head_of VERSION_1 b.flash.reads) r
       recorded_there r recorded = subst (λ (z : List ℕ). RecordOf VERSION_1 (head_of VERSION_1 z) r) sees.reads recorded
 
-      declined_there : (r : Record) → RecordOf VERSION_1 (head_of VERSION_1 mid.flash.reads) (Some r) → (end : BootEnd) → IsDeclined R.layout (key_bytes R.key) (bank_in mid.flash.reads r) end → end ≡ ends.NoMemory
+      declined_there : (r : Record) → RecordOf VERSION_1 (head_of VERSION_1 mid.flash.reads) (Some r) → (end : BootEnd) → IsDeclined R.layout (key_bytes R.key) (bank_in mid.flash.reads r) end → ⊥
       declined_there r recorded end declined = never_declined r (recorded_there (Some r) recorded) end
           (subst (λ (z : List ℕ). IsDeclined R.layout (key_bytes R.key) (bank_in z r) end) sees.reads declined)
 
@@ -174,18 +174,16 @@ module _ (configs : OneConfigAnswer) (records : OneAnswer) (laws : BootLaws) whe
 
       data Way : BootEnd → Type 0 where
         Whole : LeavesPlay ready.on.standings (boot_play R.layout R.is.said R.installed b ready.on) l.launches n.launches a.flash.reads → Way ends.Ended
-        Starved : n.launches ≡ l.launches → a.flash.reads ≡ b.flash.reads → Way ends.NoMemory
 
       way : (end : BootEnd) → IsBoot R.layout R.key l n mid a end → Way end
       way ends.Ended u =
           let p = plays_there plays.Done (u.plays mid_flash_told ready.told.launcher) in
           Whole (leaves (invocation_tree R.is.said) _ _ _ _ _ ready.on.standings p.ram a.flash.reads refl p.plays_so)
-      way ends.NoMemory u = Starved (u.plays mid_flash_told ready.told.launcher) (u.left mid_flash_told ∙ sees.reads)
       way ends.NothingInstalled u =
           let never = records VERSION_1 (head_of VERSION_1 b.flash.reads) None (Some R.installed) (recorded_there None (u.answers mid_flash_told)) R.recorded in absurd cc
-      way (ends.BadBank refusal) u = let x = u.answers mid_flash_told in let never = declined_there x.0 x.1 (ends.BadBank refusal) x.2 in absurd cc
-      way (ends.NotAuthentic lacking) u = let x = u.answers mid_flash_told in let never = declined_there x.0 x.1 (ends.NotAuthentic lacking) x.2 in absurd cc
-      way (ends.UnknownComponent component) u = let x = u.answers mid_flash_told in let never = declined_there x.0 x.1 (ends.UnknownComponent component) x.2 in absurd cc
+      way (ends.BadBank refusal) u = let x = u.answers mid_flash_told in absurd (declined_there x.0 x.1 (ends.BadBank refusal) x.2)
+      way (ends.NotAuthentic lacking) u = let x = u.answers mid_flash_told in absurd (declined_there x.0 x.1 (ends.NotAuthentic lacking) x.2)
+      way (ends.UnknownComponent component) u = let x = u.answers mid_flash_told in absurd (declined_there x.0 x.1 (ends.UnknownComponent component) x.2)
       way (ends.Condition place) u =
           absurd (never_condition (invocation_tree R.is.said) _ _ _ _ _ place ready.completes
           (plays_there (plays.ConditionFailed place) (u.plays mid_flash_told ready.told.launcher)).plays_so)
@@ -193,13 +191,8 @@ module _ (configs : OneConfigAnswer) (records : OneAnswer) (laws : BootLaws) whe
       way ends.FlashFault u = absurd (faultless.flash (subst (λ (z : ℕ). Faulted z a.flash.faults) sees.flash_faults u.counts.1))
 
     of_way : (end : BootEnd) (lines : List ℕ) (u : Boots l n b a end lines) (faultless : IsFaultless l n b a) → Way u.middle (boot_sees l n b a end lines u ready.told) faultless end
-        → BootsWhole words l b ready n a (Booted end lines) ⊎ LeavesFlash l n b a (Booted end lines)
-    of_way _ lines u faultless (Whole left) =
-        inl (record { ended_is = ap (λ (z : List ℕ). Booted ends.Ended z) u.lines_are; left = left; files = boot_files l n b a ends.Ended lines u ready.told })
-    of_way _ lines u faultless (Starved same reads) = inr (record {
-      lacks = record { status = refl; line = u.lines_are; launches = same; files = boot_files l n b a ends.NoMemory lines u ready.told };
-      reads = reads;
-    })
+        → BootsWhole words l b ready n a (Booted end lines)
+    of_way _ lines u faultless (Whole left) = record { ended_is = ap (λ (z : List ℕ). Booted ends.Ended z) u.lines_are; left = left; files = boot_files l n b a ends.Ended lines u ready.told }
 
     boot_there : (end : BootEnd) (lines : List ℕ) (u : Boots l n b a end lines) → IsBoot R.layout R.key l n u.middle a end
     boot_there end lines u =
@@ -216,7 +209,7 @@ module _ (configs : OneConfigAnswer) (records : OneAnswer) (laws : BootLaws) whe
     pub boot_completes : (ended : Ended) → IsFaultless l n b a → ComesTo words l n b a ended → BootsWhole words l b ready n a ended ⊎ LeavesFlash l n b a ended
     boot_completes _ faultless (ByStages e answer same) = of_stages e answer same faultless
     boot_completes _ faultless (ByBoot end lines word u) =
-        of_way end lines u faultless (way u.middle (boot_sees l n b a end lines u ready.told) faultless end (boot_there end lines u))
+        inl (of_way end lines u faultless (way u.middle (boot_sees l n b a end lines u ready.told) faultless end (boot_there end lines u)))
     boot_completes _ faultless (ByUpdate name uris end lines word updates) = let never : Some (RunUpdate name uris) ≡ Some RunBoot = sym word ∙ ready.asks in absurd cc
 
   -- ---- and only there
@@ -282,7 +275,6 @@ module _ (configs : OneConfigAnswer) (records : OneAnswer) (laws : BootLaws) whe
     of_end (ends.Condition place) lines u zero = absurd (omega (arith, zero))
     of_end (ends.Stopped place cause) lines u zero = absurd (cause_not_low cause 0 zero (omega arith))
     of_end ends.FlashFault lines u zero = absurd (omega (arith, zero))
-    of_end ends.NoMemory lines u zero = absurd (omega (arith, zero))
 
     never_stages : (e : Ending) → answers words b a e → ending_status e ≡ 0 → ⊥
     never_stages (Says reply) answer zero = never_done b a (Says reply) (does_of words b a reply RunBoot word answer) zero

@@ -1,10 +1,7 @@
 -- The answer to `run boot`.
-use Rattle.std.proofs.Common.{◌≡◌, ◌⊎◌, inl, inr, ℕ, List, Some, None, Result, Err, refl, sym, ap, subst, ◌∙◌}
-use Rattle.suit_params.specs.declared.refusal.Refusal.{Refusal}
+use Rattle.std.proofs.Common.{◌≡◌, ℕ, List, Some, None, Result, Err, refl, sym, ap, subst, ◌∙◌}
 use Rattle.flash_layout.specs.declared.key.Key.{Key}
 use Rattle.flash_layout.specs.declared.layout.Entry.{Entry}
-use Rattle.invoke_proc.specs.declared.boot_end.BootEnd.{BootEnd}
-use Rattle.invoke_proc.specs.declared.boot_end.BootEnd.TheVariants as ends
 use Rattle.std.specs.declared.alloc.AllocError.{AllocError}
 use Rattle.suit_cli.specs.declared.words.Command.{Command}
 use Rattle.suit_cli.specs.declared.reply.Reply.{Reply}
@@ -20,36 +17,7 @@ use Rattle.suit_cli.proofs.Chains.{stopped, does_command, answers_usage}
 use Rattle.suit_cli.specs.Installed.{config_in}
 use Rattle.suit_cli.specs.Commands.{does}
 use Rattle.suit_cli.specs.Launching.{Launching}
-use Rattle.suit_cli.specs.Booting.{IsBoot}
-use Rattle.suit_cli.specs.Coming.{BootsBy, Comes, ByStages, ByBoot, ByUpdate, Ended, Answered, Booted, Updated, IsStarved, IsTold}
-
--- a boot that refused the bank is one whose memory ran out, too
-starved_boot : (layout : List Entry) (key : Key) (l m : Launching) (b a : Outside) (refusal : Refusal) → IsBoot layout key l m b a (ends.BadBank refusal)
-    → IsBoot layout key l m b a ends.NoMemory
-starved_boot layout key l m b a refusal boot = record {
-  alone = boot.alone;
-  counts = boot.counts;
-  answers = λ told. let found = boot.answers told in (found.0, found.1);
-  unrefused = λ told sound. tt;
-  no_host = λ flash_told launcher_told. tt;
-  left = boot.left;
-  plays = boot.plays;
-  safe = boot.safe;
-}
-
-module _ (layout : List Entry) (key : Key) (l m : Launching) (b a : Outside) where
-  of_starved : (end told : BootEnd) → IsStarved end told → IsBoot layout key l m b a end → IsBoot layout key l m b a told
-  of_starved (ends.BadBank refusal) told is boot = subst (λ (e : BootEnd). IsBoot layout key l m b a e) (sym is) (starved_boot layout key l m b a refusal boot)
-  of_starved _ told is boot = absurd is
-
-  -- a boot whose end was told
-  pub boots_told : (end : BootEnd) (ended : Ended) → IsTold end ended → IsBoot layout key l m b a end → BootsBy layout key l m b a ended
-  boots_told end (Answered ending) says boot = absurd says
-  boots_told end (Updated told lines) says boot = absurd says
-  boots_told end (Booted told lines) says boot = (of_way says.0, says.1) where
-    of_way : (told ≡ end) ⊎ IsStarved end told → IsBoot layout key l m b a told
-    of_way (inl same) = subst (λ (e : BootEnd). IsBoot layout key l m b a e) (sym same) boot
-    of_way (inr starved) = of_starved end told starved boot
+use Rattle.suit_cli.specs.Coming.{BootsBy, Comes, ByStages, ByBoot, ByUpdate, Ended, Answered, Booted, Updated}
 
 -- behind the configuration
 pub comes_by : (layout : List Entry) (key : Key) (l m : Launching) (b middle a : Outside) → config_in.gives b middle (layout, key)

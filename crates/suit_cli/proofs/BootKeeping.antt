@@ -1,5 +1,5 @@
 -- The flash at each moment of a boot.
-use Rattle.std.proofs.Common.{◌≡◌, inl, inr, ℕ, List, sym, subst}
+use Rattle.std.proofs.Common.{◌≡◌, inl, inr, ℕ, List, subst}
 use Rattle.suit_edge.specs.Flash.{Flash, IsFlash, IsSame}
 use Rattle.suit_edge.specs.FlashLaws.{keeps_same, keeps_then, same_flash_then}
 use Rattle.flash_layout.specs.declared.frame.TheConstants.{VERSION_1}
@@ -12,7 +12,7 @@ use Rattle.invoke_proc.specs.declared.boot_end.BootEnd.TheVariants as ends
 use Rattle.invoke_proc.specs.Booting.{KeepsBoot, KeptSo, Starts}
 use Rattle.suit_cli.specs.Outside.{Outside}
 use Rattle.suit_cli.specs.Booting.{KeepsBooted}
-use Rattle.suit_cli.specs.Coming.{Answered, Booted, BootedSo, BootKeeps, BootKeepsBy, Ended, IsTold, Updated}
+use Rattle.suit_cli.specs.Coming.{Answered, Booted, BootKeeps, BootKeepsBy, Ended, Updated}
 
 -- by how it ended
 kept_map : (K S L R : Type 0) → (K → L) → (S → R) → (end : BootEnd) → KeptSo K S end → KeptSo L R end
@@ -26,14 +26,6 @@ kept_map K S L R k s _ same = s same
 -- so the flash reads as before, where nothing was played
 pub reads_left : (Kept : Type 0) (a b : Flash) (end : BootEnd) → KeptSo Kept (IsSame a b) end → KeptSo (Unit {0}) (b.reads ≡ a.reads) end
 reads_left Kept a b end kept = kept_map Kept (IsSame a b) (Unit {0}) (b.reads ≡ a.reads) (λ _. tt) (λ same. same.reads) end kept
-
--- by the end that was told
-pub kept_told : (Kept Same : Type 0) (end : BootEnd) (ended : Ended) → IsTold end ended → KeptSo Kept Same end → BootedSo Kept Same ended
-kept_told Kept Same end (Booted told lines) (inl same, is) kept = subst (λ (e : BootEnd). KeptSo Kept Same e) (sym same) kept
-kept_told Kept Same (ends.BadBank refusal) (Booted told lines) (inr starved, is) kept = subst (λ (e : BootEnd). KeptSo Kept Same e) (sym starved) kept
-kept_told Kept Same _ (Booted told lines) (inr starved, is) kept = absurd starved
-kept_told Kept Same end (Answered ending) never kept = absurd never
-kept_told Kept Same end (Updated update lines) never kept = absurd never
 
 -- behind a look at the configuration
 module _ (before : Outside) (a b c : Flash) (size : ℕ) (law : IsFlash b size) (same : IsSame a b) (layout : List Entry) (key : Key)

@@ -1,5 +1,5 @@
 -- Why `run boot` ends so.
-use Rattle.std.proofs.Common.{◌≡◌, ◌≢◌, ◌⊎◌, inl, inr, ℕ, List, Option, Some, None, refl, sym, ap, subst, ◌∙◌}
+use Rattle.std.proofs.Common.{◌≡◌, ◌⊎◌, inl, inr, ℕ, List, Option, Some, None, refl, sym, ap, subst, ◌∙◌, arith}
 use Rattle.std.specs.Prelude.{IsTrue, codes}
 use Rattle.std.proofs.lemmas.Option.{same_Some}
 use Rattle.flash_layout.specs.declared.frame.TheConstants.{VERSION_1}
@@ -20,16 +20,19 @@ use Rattle.invoke_proc.specs.Starting.{IsDeclined}
 use Rattle.invoke_proc.specs.Booting.{Answers, PlayedSo, PlaysBoot, end_of}
 use Rattle.suit_cli.specs.declared.reply.Object.TheVariants as objects
 use Rattle.suit_cli.specs.declared.reply.Reply.{Reply}
-use Rattle.suit_cli.specs.BootEndLaws.{BootEndLaws, HasBytes, HasStart, StartsNothing, AtConfig, AtRecord, AtBank, AtAuthenticity, AtComponents, Played, IsNoAnswer}
+use Rattle.suit_cli.specs.BootEndLaws.{BootEndLaws, HasBytes, HasStart, StartsNothing, AtConfig, AtRecord, AtBank, AtAuthenticity, AtComponents, Played, IsNoAnswer, OnlyLooked}
 use Rattle.suit_cli.specs.Booting.{Boots, boot_line}
-use Rattle.suit_cli.specs.Coming.{Comes, ByStages, ByBoot, ByUpdate, Ended, Answered, Booted}
+use Rattle.suit_cli.specs.Coming.{Comes, ByStages, ByBoot, ByUpdate, Ended, Answered, Booted, ended_status}
 use Rattle.suit_cli.specs.Commands.{begins_boot}
 use Rattle.suit_cli.specs.Installed.{Holds, HoldsNone}
 use Rattle.suit_cli.specs.Launching.{Launching}
-use Rattle.suit_cli.specs.Outside.{Outside}
+use Rattle.suit_cli.specs.Outside.{Looks, Outside}
 use Rattle.suit_cli.specs.Stages.{Ending, Says, Last, Ends, EndsWithout, Goes, Declines, Faults, Lacks}
+use Rattle.suit_cli.specs.Statuses.{ending_status}
 use Rattle.suit_cli.specs.Words.{RunBoot}
 use Rattle.suit_cli.proofs.OneAnswers.{one_config}
+use Rattle.suit_cli.proofs.Running.{not_eleven}
+use Rattle.suit_cli.proofs.Starving.{boot_not_eleven}
 use Rattle.suit_cli.proofs.OneCause.{Behind, Stops, Passes, HasOne, just_one, passes}
 
 module _ (launched now : Launching) (before after : Outside) where
@@ -89,7 +92,6 @@ module _ (launched now : Launching) (before after : Outside) where
     of_end (ends.Condition place) lines b = of_play (ends.Condition place) lines b (plays.ConditionFailed place) refl (played (ends.Condition place) lines b)
     of_end (ends.Stopped place cause) lines b = of_play (ends.Stopped place cause) lines b (plays.DirectiveFailed place cause) refl (played (ends.Stopped place cause) lines b)
     of_end ends.FlashFault lines b = inr (inr tt)
-    of_end ends.NoMemory lines b = inr (inr tt)
 
     pub only : (ended : Ended) → Comes begins_boot (λ task. RunBoot ≡ task) launched now before after ended → Caused ended
     only _ (ByStages ending stages same) = by_stages ending stages
@@ -101,7 +103,7 @@ module _ (launched now : Launching) (before after : Outside) where
 -- nothing is started because of its bank, and so it ended
 abbrev BankStops : Outside → List Entry × Key → Record → Ended → Type 0
 BankStops before config installed ended =
-    (end : BootEnd) × (end ≢ ends.NoMemory) × IsDeclined config.0 (key_bytes config.1) (bank_in before.flash.reads installed) end × (ended ≡ Booted end (boot_line end))
+    (end : BootEnd) × IsDeclined config.0 (key_bytes config.1) (bank_in before.flash.reads installed) end × (ended ≡ Booted end (boot_line end))
 
 -- the stages, as the start has them: configuration, record and bank
 abbrev NothingStarts : Outside → Ended → Type 0
@@ -113,11 +115,11 @@ NothingStarts before =
 nothing_stages : (before : Outside) (ended : Ended) → StartsNothing before ended → NothingStarts before ended
 nothing_stages before _ (AtConfig reply none) = Stops (reply, none, refl)
 nothing_stages before _ (AtRecord layout key holds none) = Passes (layout, key) holds (Stops (none, refl))
-nothing_stages before _ (AtBank layout key installed refusal bank bad) = Passes (layout, key) bank.config (Passes installed bank.recorded (ends.BadBank refusal, (λ e. absurd cc), bad, refl))
+nothing_stages before _ (AtBank layout key installed refusal bank bad) = Passes (layout, key) bank.config (Passes installed bank.recorded (ends.BadBank refusal, bad, refl))
 nothing_stages before _ (AtAuthenticity layout key installed lacking bank lacks) =
-    Passes (layout, key) bank.config (Passes installed bank.recorded (ends.NotAuthentic lacking, (λ e. absurd cc), lacks, refl))
+    Passes (layout, key) bank.config (Passes installed bank.recorded (ends.NotAuthentic lacking, lacks, refl))
 nothing_stages before _ (AtComponents layout key installed component bank unknown) =
-    Passes (layout, key) bank.config (Passes installed bank.recorded (ends.UnknownComponent component, (λ e. absurd cc), unknown, refl))
+    Passes (layout, key) bank.config (Passes installed bank.recorded (ends.UnknownComponent component, unknown, refl))
 
 module _ (configs : OneConfigAnswer) (records : OneAnswer) (laws : BankLaws) (before : Outside) (told : IsTrue before.flash.told) (bytes : HasBytes before) where
   one_held : HasOne (Holds before.flash) (λ (ended : Ended). (reply : Reply) × HoldsNone before.flash reply × (ended ≡ Answered (Says reply)))
@@ -140,8 +142,8 @@ module _ (configs : OneConfigAnswer) (records : OneAnswer) (laws : BankLaws) (be
   one_stop : (config : List Entry × Key) (installed : Record) → record_in before.flash.reads (Some installed) → (a b : Ended) → BankStops before config installed a → BankStops before config installed b
       → b ≡ a
   one_stop config installed recorded a b x y =
-      let same = laws.one config.0 (key_bytes config.1) (bank_in before.flash.reads installed) x.0 y.0 (bytes installed recorded) x.1 y.1 x.2 y.2 in
-      y.3 ∙ ap (λ (end : BootEnd). Booted end (boot_line end)) (sym same) ∙ sym x.3
+      let same = laws.one config.0 (key_bytes config.1) (bank_in before.flash.reads installed) x.0 y.0 (bytes installed recorded) x.1 y.1 in
+      y.2 ∙ ap (λ (end : BootEnd). Booted end (boot_line end)) (sym same) ∙ sym x.2
 
   one_cause : (a b : Ended) → StartsNothing before a → StartsNothing before b → b ≡ a
   one_cause a b first second =
@@ -151,7 +153,7 @@ module _ (configs : OneConfigAnswer) (records : OneAnswer) (laws : BankLaws) (be
   not_started a s nothing =
       let behind = passes _ _ _ one_held (s.layout, s.key) a s.config (nothing_stages before a nothing) in
       let stops = passes _ _ _ one_recorded s.installed a s.starts.recorded behind in
-      stops.1 (laws.none s.layout (key_bytes s.key) (bank_in before.flash.reads s.installed) s.starts.said s.manifest stops.0 (bytes s.installed s.starts.recorded) s.starts.started stops.2)
+      laws.none s.layout (key_bytes s.key) (bank_in before.flash.reads s.installed) s.starts.said s.manifest stops.0 (bytes s.installed s.starts.recorded) s.starts.started stops.1
 
   start_of : (launched now : Launching) (after : Outside) (ended : Ended) → Played launched now before after ended → HasStart before
   start_of launched now after ended p = record { layout = p.layout; key = p.key; config = p.config; installed = p.plays.installed; manifest = p.plays.manifest; starts = p.plays.starts }
@@ -165,6 +167,25 @@ module _ (configs : OneConfigAnswer) (records : OneAnswer) (laws : BankLaws) (be
   by_start launched now after ended s (inl other) = absurd (not_started ended s other)
   by_start launched now after ended s (inr rest) = rest
 
+-- ---- where memory runs out
+
+module _ (launched now : Launching) (before after : Outside) where
+  ran_out_behind : (middle : Outside) (ending : Ending) → Looks before middle → Last (λ reply. ⊥) middle after ending → Looks before after
+  ran_out_behind middle _ looks (Ends reply same none) = absurd none
+  ran_out_behind middle _ looks (EndsWithout same) = subst (Looks before) (sym same) looks
+
+  ran_out : (ending : Ending) → begins_boot before after ending → ending_status ending ≡ 11 → Looks before after
+  ran_out _ (Goes config middle ending gives rest) eleven = ran_out_behind middle ending gives.0 rest
+  ran_out _ (Declines reply d) eleven = absurd (not_eleven reply.outcome eleven)
+  ran_out _ (Faults objects.Flash f) eleven = absurd (omega (arith, eleven))
+  ran_out _ (Faults objects.Host f) eleven = absurd f
+  ran_out _ (Lacks looks) eleven = looks
+
+  starved : (ended : Ended) → Comes begins_boot (λ task. RunBoot ≡ task) launched now before after ended → ended_status ended ≡ 11 → OnlyLooked launched now before after
+  starved _ (ByStages ending stages same) eleven = (same, ran_out ending stages eleven)
+  starved _ (ByBoot end lines is boots) eleven = absurd (boot_not_eleven end eleven)
+  starved _ (ByUpdate name uris end lines is updates) eleven = absurd cc
+
 pub boot_end_laws : OneConfigAnswer → OneAnswer → BankLaws → BootEndLaws
 boot_end_laws configs records laws = record {
   only = λ launched now before after ended told launcher comes. only launched now before after told launcher ended comes;
@@ -172,4 +193,5 @@ boot_end_laws configs records laws = record {
       by_cause configs records laws before told bytes launched now after ended other here (only launched now before after told launcher other comes);
   started = λ launched now before after ended told launcher bytes start comes.
       by_start configs records laws before told bytes launched now after ended start (only launched now before after told launcher ended comes);
+  starved = starved;
 }

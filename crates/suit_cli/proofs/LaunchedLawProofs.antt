@@ -58,7 +58,6 @@ module _ (configs : OneConfigAnswer) (records : OneAnswer) (laws : BootLaws) whe
     of_end Same (ends.BadBank refusal) p = inl p
     of_end Same (ends.NotAuthentic lacking) p = inl p
     of_end Same (ends.UnknownComponent component) p = inl p
-    of_end Same ends.NoMemory p = inl p
 
   -- ---- a boot
 

@@ -30,7 +30,7 @@ use Rattle.suit_cli.proofs.StagesLet.{answers_lets}
 use Rattle.suit_cli.proofs.FilesAsked.{stages_ask, update_asks}
 use Rattle.suit_cli.proofs.BootHosts.{boots_without, stages_without}
 use Rattle.suit_cli.proofs.StatusNumbers.{by_status, of_ended}
-use Rattle.suit_cli.proofs.Starving.{boot_starved, starved_near, update_starved}
+use Rattle.suit_cli.proofs.Starving.{boot_not_eleven, starved_near, update_starved}
 use Rattle.suit_cli.proofs.UpdateEnds.{ByStatus, by_cause, cause_not_low, cause_not_nine, flash_failed, unfaulted, update_counts, update_files, update_not, update_not_nine, update_safe, update_told}
 
 -- ---- one way or the other
@@ -69,7 +69,6 @@ by_end (ends.UnknownComponent component) before now c = unfaulted 18 before now 
 by_end (ends.Condition place) before now c = unfaulted 6 before now (λ e. omega (arith, e)) (λ e. omega (arith, e)) (λ e. omega (arith, e)) c
 by_end (ends.Stopped place cause) before now c = by_cause cause before now c
 by_end ends.FlashFault before now c = flash_failed before now c.1
-by_end ends.NoMemory before now c = unfaulted 11 before now (λ e. omega (arith, e)) (λ e. omega (arith, e)) (λ e. omega (arith, e)) c
 
 -- ---- a boot, seen from the start of the run
 
@@ -279,7 +278,7 @@ module _ (words : List (List ℕ)) (l m : Launching) (b a : Outside) (sb sa : Su
     of_way (InStages run same) =
         let near = starved_near words b a run.ending (sym (put_status _ _ run.puts (λ nine. omega (arith, eleven, nine))) ∙ eleven) run.answer in
         record { files = near.files; reads = near.flash.reads; launches = λ flash launcher. ap (λ (x : Launching). x.launches) same }
-    of_way (AsBoot end lines word boots puts) = boot_starved l m b a end lines boots (sym (put_status _ _ puts (λ nine. omega (arith, eleven, nine))) ∙ eleven)
+    of_way (AsBoot end lines word boots puts) = absurd (boot_not_eleven end (sym (put_status _ _ puts (λ nine. omega (arith, eleven, nine))) ∙ eleven))
     of_way (AsUpdate name uris end lines word updates puts) =
         update_starved name uris l m b a records end lines updates (sym (put_status _ _ puts (λ nine. omega (arith, eleven, nine))) ∙ eleven)
 

@@ -29,7 +29,7 @@ use Rattle.suit_cli.specs.Acceptance.{accepts}
 use Rattle.suit_cli.specs.Formatting.{formats}
 use Rattle.suit_cli.specs.Commands.{does}
 use Rattle.suit_cli.specs.Launching.{Launching, cause_status}
-use Rattle.suit_cli.specs.Booting.{Boots, IsBoot, boot_status}
+use Rattle.suit_cli.specs.Booting.{boot_status}
 use Rattle.suit_cli.specs.Updating.{Updates, update_status}
 use Rattle.suit_cli.specs.Program.{AsFound, answers}
 use Rattle.suit_cli.proofs.AcceptedFacts.{facts}
@@ -128,23 +128,11 @@ cause_not_eleven : (cause : Cause) → cause_status cause ≡ 11 → ⊥
 cause_not_eleven causes.HostFault e = omega (arith, e)
 cause_not_eleven _ e = omega (arith, e)
 
--- ---- a boot
+-- ---- a boot, which takes all its memory before
 
-module _ (layout : List Entry) (key : Key) (l m : Launching) (b mid a : Outside) (same_told : mid.told ≡ b.told) (same_files : mid.files ≡ b.files)
-    (flash_told : mid.flash.told ≡ b.flash.told) (reads : IsTrue b.flash.told → mid.flash.reads ≡ b.flash.reads) where
-  boot_found : (end : BootEnd) → boot_status end ≡ 11 → IsBoot layout key l m mid a end → AsFound l m b a
-  boot_found boot_ends.NoMemory eleven u = record {
-    files = λ t. u.alone.files (subst IsTrue (sym same_told) t) ∙ same_files;
-    reads = λ t. u.left (subst IsTrue (sym flash_told) t) ∙ reads t;
-    launches = λ flash launcher. u.plays (subst IsTrue (sym flash_told) flash) launcher;
-  }
-  boot_found (boot_ends.Stopped place cause) eleven u = absurd (cause_not_eleven cause eleven)
-  boot_found _ eleven u = absurd (omega (arith, eleven))
-
-pub boot_starved : (l m : Launching) (b a : Outside) (end : BootEnd) (lines : List ℕ) → Boots l m b a end lines → boot_status end ≡ 11 → AsFound l m b a
-boot_starved l m b a end lines u eleven =
-    boot_found u.layout u.key l m b u.middle a (ap (λ (o : Outside). o.told) u.held.0.beside) (ap (λ (o : Outside). o.files) u.held.0.beside)
-    u.held.0.still.told u.held.0.still.reads end eleven u.boot
+pub boot_not_eleven : (end : BootEnd) → boot_status end ≡ 11 → ⊥
+boot_not_eleven (boot_ends.Stopped place cause) eleven = cause_not_eleven cause eleven
+boot_not_eleven _ eleven = omega (arith, eleven)
 
 -- ---- an update
 

@@ -63,7 +63,6 @@ of_boot (boots.UnknownComponent component) = omega arith
 of_boot (boots.Condition place) = omega arith
 of_boot (boots.Stopped place cause) = of_cause cause
 of_boot boots.FlashFault = omega arith
-of_boot boots.NoMemory = omega arith
 
 of_update : (end : UpdateEnd) → update_status end ≤ 21
 of_update (updates.Installed installed) = omega arith

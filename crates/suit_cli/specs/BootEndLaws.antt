@@ -15,13 +15,13 @@ use Rattle.invoke_proc.specs.Starting.{IsBad, IsUnauthentic, IsUnknown}
 use Rattle.suit_cli.specs.declared.reply.Object.TheVariants as objects
 use Rattle.suit_cli.specs.declared.reply.Reply.{Reply}
 use Rattle.suit_cli.specs.Booting.{boot_line, lacking_line}
-use Rattle.suit_cli.specs.Coming.{Comes, Ended, Answered, Booted}
+use Rattle.suit_cli.specs.Coming.{Comes, Ended, Answered, Booted, ended_status}
 use Rattle.suit_cli.specs.Commands.{begins_boot}
 use Rattle.suit_cli.specs.Envelopes.{AreBytes}
 use Rattle.suit_cli.specs.Installed.{Holds, HoldsNone}
 use Rattle.suit_cli.specs.Launching.{Launching}
 use Rattle.suit_cli.specs.Lines.{number_line}
-use Rattle.suit_cli.specs.Outside.{Outside}
+use Rattle.suit_cli.specs.Outside.{Looks, Outside}
 use Rattle.suit_cli.specs.Stages.{Says, FaultOf, NoMemory}
 use Rattle.suit_cli.specs.Texts.{refusal_line}
 use Rattle.suit_cli.specs.Words.{RunBoot}
@@ -91,8 +91,11 @@ abbrev pub IsNoAnswer : Ended → Type 0
 IsNoAnswer (Answered (FaultOf objects.Flash)) = Unit {0}
 IsNoAnswer (Answered NoMemory) = Unit {0}
 IsNoAnswer (Booted ends.FlashFault lines) = Unit {0}
-IsNoAnswer (Booted ends.NoMemory lines) = Unit {0}
 IsNoAnswer _ = ⊥
+
+-- nothing was done but a look at the flash
+abbrev pub OnlyLooked : Launching → Launching → Outside → Outside → Type 0
+OnlyLooked launched now before after = (now ≡ launched) × Looks before after
 
 pub record BootEndLaws : Type 0 where
   -- each end has its cause
@@ -111,3 +114,7 @@ pub record BootEndLaws : Type 0 where
       → IsTrue before.flash.told → IsTrue launched.told → HasBytes before → HasStart before
       → Comes begins_boot (λ task. RunBoot ≡ task) launched now before after ended
       → Played launched now before after ended ⊎ IsNoAnswer ended
+  -- status 11 comes before anything is launched or written alone
+  pub starved : (launched now : Launching) (before after : Outside) (ended : Ended)
+      → Comes begins_boot (λ task. RunBoot ≡ task) launched now before after ended
+      → ended_status ended ≡ 11 → OnlyLooked launched now before after

@@ -18,7 +18,7 @@ use Rattle.invoke_proc.specs.Counting.{BootCounts}
 use Rattle.invoke_proc.specs.Sound.{IsUnrefused}
 use Rattle.suit_cli.specs.Lines.{number_line}
 use Rattle.suit_cli.specs.Launching.{Launching, LeavesAlone, cause_status, cause_text, stopped_line}
-use Rattle.suit_cli.specs.Texts.{refusal_line, flash_fault_line, out_of_memory_line}
+use Rattle.suit_cli.specs.Texts.{refusal_line, flash_fault_line}
 use Rattle.suit_cli.specs.Outside.{Outside}
 use Rattle.suit_cli.specs.Installed.{config_in}
 
@@ -38,7 +38,6 @@ boot_line (ends.UnknownComponent component) = number_line (codes "unknown compon
 boot_line (ends.Condition place) = stopped_line place (codes "condition failed")
 boot_line (ends.Stopped place cause) = stopped_line place (cause_text cause)
 boot_line ends.FlashFault = flash_fault_line
-boot_line ends.NoMemory = out_of_memory_line
 
 -- ---- the statuses
 
@@ -51,7 +50,6 @@ boot_status (ends.UnknownComponent component) = 18
 boot_status (ends.Condition place) = 6
 boot_status (ends.Stopped place cause) = cause_status cause
 boot_status ends.FlashFault = 8
-boot_status ends.NoMemory = 11
 
 -- ---- the boot
 

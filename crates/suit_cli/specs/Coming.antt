@@ -1,12 +1,11 @@
 -- How a command ends: with an answer in stages, a boot, or an update.
-use Rattle.std.specs.Prelude.{◌≡◌, ◌⊎◌, ℕ, List}
+use Rattle.std.specs.Prelude.{◌≡◌, ℕ, List}
 use Rattle.suit_edge.specs.Flash.{Flash, IsSame, Passes}
 use Rattle.flash_layout.specs.declared.frame.TheConstants.{VERSION_1}
 use Rattle.flash_layout.specs.declared.key.Key.{Key}
 use Rattle.flash_layout.specs.declared.layout.Entry.{Entry}
 use Rattle.rollback_record.specs.SoundFlash.{Follows, Settled, Sound}
 use Rattle.invoke_proc.specs.declared.boot_end.BootEnd.{BootEnd}
-use Rattle.invoke_proc.specs.declared.boot_end.BootEnd.TheVariants as ends
 use Rattle.invoke_proc.specs.Booting.{KeepsBoot, KeptSo}
 use Rattle.update_proc.specs.declared.update_end.UpdateEnd.{UpdateEnd}
 use Rattle.suit_cli.specs.declared.answer.Answer.{Answer}
@@ -91,22 +90,12 @@ KeepsAccepted o launched later before _ old now = IsSame old now
 abbrev pub PassesAny : Flash → Flash → Type 0
 PassesAny old new = Passes old new (λ image. Unit {0})
 
--- a refused bank of which nothing is told because memory ran out, since nothing was started
-abbrev pub IsStarved : BootEnd → BootEnd → Type 0
-IsStarved (ends.BadBank refusal) told = told ≡ ends.NoMemory
-IsStarved _ told = ⊥
-
--- the lines of an end
-abbrev pub IsTold : BootEnd → Ended → Type 0
-IsTold end (Booted told lines) = ((told ≡ end) ⊎ IsStarved end told) × (lines ≡ boot_line told)
-IsTold end _ = ⊥
-
 -- nothing was done, because memory ran out
 abbrev pub IsUndone : Launching → Launching → Outside → Outside → Ending → Type 0
 IsUndone launched now before after ending =
     (ending ≡ NoMemory) × (after ≡ before) × (now ≡ launched)
 
--- from the configuration on: memory runs out for the lines; or it is a boot
+-- from the configuration on: memory runs out before anything is done; or it is a boot
 abbrev pub BootsBy : List Entry → Key → Launching → Launching → Outside → Outside → Ended → Type 0
 BootsBy layout key launched now before after (Answered ending) =
     IsUndone launched now before after ending

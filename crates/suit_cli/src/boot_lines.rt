@@ -2,17 +2,18 @@
 
 ghost use Rattle.std.specs.Prelude.{◌≡◌, ◌≤◌, ◌+◌, ◌++◌, length, string_bytes};
 ghost use Rattle.std.specs.String.{string_capacity, string_len};
-ghost use Rattle.suit_cli.specs.Booting.{boot_status};
+ghost use Rattle.suit_cli.specs.Booting.{boot_line, boot_status, lacking_line};
 ghost use Rattle.suit_cli.specs.Launching.{cause_status, cause_text, stopped_line};
 ghost use Rattle.suit_cli.specs.Lines.{number_line};
 
+use crate::why::{REFUSAL_ROOM, refusal_line};
 use det_cbor::Text;
-use invoke_proc::BootEnd;
+use invoke_proc::{BootEnd, Lacking};
 use itoa::Buffer;
 use path_model::Cause;
 
-/// The room for any of these lines, in bytes.
-pub(crate) const ROOM: usize = 64;
+/// The room for any of these lines, in bytes: as much as for a refusal's, which is the longest.
+pub(crate) const BOOT_ROOM: usize = REFUSAL_ROOM;
 
 /// Appends a text that fits.
 pub(crate) fn push(line: &mut String, text: &str)
@@ -97,6 +98,38 @@ pub(crate) fn cause_status(cause: Cause) -> u8
     }
 }
 
+fn lacking_line(line: String, lacking: Lacking) -> Text
+    requires empty { string_len line ≡ 0 }
+    requires room { 64 ≤ string_capacity line }
+    ensures { result ≡ lacking_line lacking }
+{
+    match lacking {
+        Lacking::DigestDiffers => plain(line, "not authentic: digest differs\n"),
+        Lacking::NoMac => plain(line, "not authentic: no mac\n"),
+        Lacking::MacDiffers => plain(line, "not authentic: mac differs\n"),
+    }
+}
+
+/// The line of a boot that ended so, in this room.
+pub(crate) fn boot_line(line: String, end: BootEnd) -> Text
+    requires empty { string_len line ≡ 0 }
+    requires room { 100 ≤ string_capacity line }
+    ensures { result ≡ boot_line end }
+{
+    match end {
+        BootEnd::Ended => plain(line, "ended\n"),
+        BootEnd::NothingInstalled => plain(line, "nothing installed\n"),
+        BootEnd::BadBank(refusal) => refusal_line(line, refusal),
+        BootEnd::NotAuthentic(lacking) => lacking_line(line, lacking),
+        BootEnd::UnknownComponent(component) => {
+            numbered(line, "unknown component", u64::from(component))
+        }
+        BootEnd::Condition { place } => stopped(line, place, "condition failed"),
+        BootEnd::Stopped { place, cause } => stopped(line, place, cause_text(cause)),
+        BootEnd::FlashFault => plain(line, "flash fault\n"),
+    }
+}
+
 /// The status of a boot.
 pub(crate) fn boot_status(end: &BootEnd) -> u8
     ensures { result ≡ boot_status end.now }
@@ -110,6 +143,5 @@ pub(crate) fn boot_status(end: &BootEnd) -> u8
         BootEnd::Condition { .. } => 6,
         BootEnd::Stopped { cause, .. } => cause_status(*cause),
         BootEnd::FlashFault => 8,
-        BootEnd::NoMemory => 11,
     }
 }

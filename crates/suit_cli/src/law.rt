@@ -112,7 +112,8 @@ pub fn update_end_laws()
 /// Does nothing. Its contract has the laws of `run boot` over a flash and a launcher that tell what they hold: each end has
 /// its cause. Nothing was started for the first thing that is wrong in configuration, record and bank; or the recorded
 /// manifest's procedure was played to that end; or the flash failed outside of it, or memory ran out. And where one of these
-/// things is wrong, or a manifest is started, each end is of that cause, but for such a failure.
+/// things is wrong, or a manifest is started, each end is of that cause, but for such a failure. Memory runs out only before
+/// anything is launched or written.
 pub fn boot_end_laws()
     ensures { BootEndLaws }
 {

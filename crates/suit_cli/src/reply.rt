@@ -9,7 +9,7 @@ ghost use Rattle.suit_cli.specs.Lines.{path_lines};
 ghost use Rattle.suit_cli.specs.Texts.{refusal_line};
 
 use crate::lines::push_path;
-use crate::why::{refused_line, why_text};
+use crate::why::{REFUSAL_ROOM, refusal_line};
 use det_cbor::Text;
 use path_model::BadPath;
 use std::alloc::{AllocError, Global};
@@ -148,11 +148,11 @@ impl Reply {
     pub(crate) fn refused(alloc: Global, refusal: &Refusal) -> Result<Reply, AllocError>
         ensures { Makes result outcomes.Refused (refusal_line refusal.now) }
     {
-        let why = why_text(alloc, refusal.why)?;
-        let line = refused_line(alloc, refusal.place, why.as_str())?;
+        let mut line = String::new(alloc);
+        line.reserve(REFUSAL_ROOM)?;
         Ok(Reply {
             outcome: Outcome::Refused,
-            text: Text::from_string(line),
+            text: refusal_line(line, *refusal),
         })
     }
 
