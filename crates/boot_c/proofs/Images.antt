@@ -43,4 +43,3 @@ only_ended (ends.Stopped place causes.HostFault) e = absurd cc
 only_ended (ends.Stopped place causes.FlashFault) e = absurd cc
 only_ended (ends.Stopped place causes.LaunchFault) e = absurd cc
 only_ended ends.FlashFault e = absurd cc
-only_ended ends.NoMemory e = absurd cc

@@ -30,7 +30,6 @@ boot_answer (ends.UnknownComponent component) = answers.UnknownComponent
 boot_answer (ends.Condition place) = answers.Stopped
 boot_answer (ends.Stopped place cause) = cause_answer cause
 boot_answer ends.FlashFault = answers.FlashFault
-boot_answer ends.NoMemory = answers.NoMemory
 
 -- a boot by the configuration of the flash ended so; an image whose digest is not of 32 bytes is no image
 pub record Ends (flash : List ℕ) (answer : Answer) : Type 0 where

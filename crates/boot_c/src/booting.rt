@@ -1,6 +1,6 @@
 //! Booting from a flash that stands in memory.
 
-ghost use Rattle.boot_c.specs.BootAnswers.{Ends, IsAnswer, boot_answer, cause_answer};
+ghost use Rattle.boot_c.specs.BootAnswers.{IsAnswer, boot_answer, cause_answer};
 ghost use Rattle.boot_c.specs.Images.{Starts, StartsNone};
 ghost use Rattle.flash_layout.specs.Configs.{IsAllowed};
 ghost use Rattle.flash_layout.specs.declared.frame.TheConstants.{VERSION_1};
@@ -13,7 +13,7 @@ ghost use Rattle.suit_answers.specs.declared.answer.Answer.TheVariants as answer
 use crate::image::{SuitImage, image_in};
 use flash_layout::{Key, Layout, Loaded, load_config};
 use flash_view::{NoFiles, ViewDisk, ViewLauncher};
-use invoke_proc::{BootEnd, boot};
+use invoke_proc::{BootBuffer, BootEnd, boot};
 use path_model::Cause;
 use std::alloc::Global;
 use suit_answers::Answer;
@@ -50,7 +50,6 @@ fn boot_answer(end: &BootEnd) -> Answer
         BootEnd::Condition { .. } => Answer::Stopped,
         BootEnd::Stopped { cause, .. } => cause_answer(*cause),
         BootEnd::FlashFault => Answer::FlashFault,
-        BootEnd::NoMemory => Answer::NoMemory,
     }
 }
 
@@ -58,15 +57,21 @@ fn boot_answer(end: &BootEnd) -> Answer
 fn boot_by(alloc: Global, flash: &[u8], layout: &Layout, key: &Key) -> Told
     requires allowed { IsAllowed VERSION_1 (length flash.now) layout.now key.now }
     requires held { config_in (length flash.now) flash.now layout.now key.now }
-    ensures ends { Ends flash.now result.answer }
+    ensures answers { IsAnswer flash.now result.answer }
     ensures image { IfSome result.image (λ image. (result.answer ≡ answers.Done)
         × (image.found ≡ 1) × Starts flash.now image) }
     ensures none { result.answer ≡ answers.Done → IsNone result.image → StartsNone flash.now }
 {
+    let Ok(buffer) = BootBuffer::new(alloc, layout) else {
+        return Told {
+            answer: Answer::NoMemory,
+            image: None,
+        };
+    };
     let mut disk = ViewDisk::new(flash);
     let mut host = NoFiles::new();
     let mut launcher = ViewLauncher::new(flash);
-    let end = boot(alloc, &mut host, &mut disk, &mut launcher, layout, key);
+    let end = boot(buffer, &mut host, &mut disk, &mut launcher, layout, key);
     let answer = boot_answer(&end);
     match end {
         BootEnd::Ended => {}

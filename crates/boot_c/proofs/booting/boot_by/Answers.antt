@@ -1,4 +1,4 @@
-use Rattle.std.proofs.Common.{◌≡◌, ◌∙◌, ap, inl, refl, subst, sym, ℕ, List, [], ◌∷◌, Some, None}
+use Rattle.std.proofs.Common.{◌≡◌, ◌∙◌, ap, inl, inr, refl, subst, sym, ℕ, List, [], ◌∷◌, Some, None}
 use Rattle.boot_c.specs.Images.{IsLaunched}
 use Rattle.step_machine.specs.declared.plan_end.PlanEnd.TheVariants as plays
 use Rattle.boot_c.specs.BootAnswers.{boot_answer}
@@ -12,18 +12,18 @@ use Rattle.rollback_record.specs.SoundFlash.{Sound}
 use Rattle.suit_edge.specs.declared.launch.Launch.{Launch}
 use Rattle.boot_c.proofs.booting.boot_by.Goals as goal
 
-pub returns-in_default : goal.returns-in_default
-returns-in_default c = record {
-  ends = record {
+pub returns-in_default-end : goal.returns-in_default-end
+returns-in_default-end c = record {
+  answers = inr (inr (inr (record {
     layout = c.args.layout.now;
     key = c.args.key.now;
     config = c.requires.held;
     end = c.boot-end.result;
     ended = subst (λ (d : ViewState). Answers c.args.layout.now c.args.key.now d.bytes c.boot-end.result) c.new-disk.ensures (c.boot-end.ensures.answers refl);
     told = inl c.boot_answer-answer.ensures;
-  };
+  })));
   image = tt;
-  none = λ done. λ none. absurd (c.in_default.not-Ended (only_ended c.boot-end.result (sym c.boot_answer-answer.ensures ∙ done)));
+  none = λ done. λ none. absurd (c.in_default-end.not-Ended (only_ended c.boot-end.result (sym c.boot_answer-answer.ensures ∙ done)));
 }
 
 pub returns-in-Some-image_in-clause-image : goal.returns-in-Some-image_in-clause-image
