@@ -3,7 +3,7 @@
  * Each archive is made by `rt lib` in the folder of its crate, and stands there as out/libNAME.a:
  *
  *   suit_c    suit_read, suit_authentic, suit_status; wants memcpy, memmove and memset
- *   check_c   suit_check; takes memory
+ *   check_c   suit_check, suit_trim; both take memory
  *   boot_c    suit_boot; takes memory
  *   port_c    suit_command; takes memory, and wants the two functions of the port
  *
@@ -80,6 +80,11 @@ int32_t suit_status(const uint8_t *flash, size_t length, struct suit_record *out
  * answers are those of the program's `check`; where the grammar refuses the bytes, which is SUIT_REFUSED, *place is that of the
  * fault, and otherwise it stays as it was. */
 int32_t suit_check(const uint8_t *file, size_t length, uint64_t *place);
+
+/* The envelope with its wrapper and manifest alone, to the front of the room: SUIT_DONE, and *count bytes of it; the rest of the room
+ * stays. SUIT_REFUSED where the bytes spell no envelope, SUIT_NO_MEMORY, and SUIT_TOO_LONG where the room has fewer than *count
+ * bytes: then the room stays as it was. */
+int32_t suit_trim(const uint8_t *file, size_t length, uint8_t *room, size_t most, uint64_t *count);
 
 /* The image that a boot starts: so many bytes of the flash from a place on. */
 struct suit_image {
